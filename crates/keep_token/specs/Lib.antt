@@ -1,0 +1,9 @@
+pub mod Abnf
+pub mod Strings
+pub mod Numbers
+pub mod Dates
+pub mod Leaves
+pub mod Words
+pub mod Pieces
+pub mod Scanning
+pub mod Encoded
