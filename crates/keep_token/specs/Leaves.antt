@@ -76,6 +76,10 @@ is_many_lines leaf.MlBasic = true
 is_many_lines leaf.MlLiteral = true
 is_many_lines _ = false
 
+-- a key part, or a string
+abbrev pub is_string_leaf : Leaf → Bool
+is_string_leaf l = is_key_leaf l || is_many_lines l
+
 abbrev pub is_scalar_leaf : Leaf → Bool
 is_scalar_leaf l = (is_word_leaf l || is_one_line l) || is_many_lines l
 

@@ -5,5 +5,9 @@ pub mod Dates
 pub mod Leaves
 pub mod Words
 pub mod Pieces
+pub mod PieceLens
 pub mod Scanning
 pub mod Encoded
+pub mod Escapes
+pub mod Decoding
+pub mod Laws

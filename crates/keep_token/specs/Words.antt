@@ -3,7 +3,7 @@ use Rattle.std.specs.Prelude.{ℕ, ◌+◌, ◌-◌, ◌*◌, Bool, true, false,
 use Rattle.std.specs.List.{prefix_len, list_all}
 use Rattle.std.specs.Char.{is_ascii_digit}
 use Rattle.keep_token.specs.declared.leaf.Profile.{Profile}
-use Rattle.keep_token.specs.declared.leaf.Profile.TheVariants.{Strict, Wide}
+use Rattle.keep_token.specs.declared.leaf.Profile.TheVariants.{Wide}
 use Rattle.keep_token.specs.declared.leaf.Leaf.{Leaf}
 use Rattle.keep_token.specs.declared.leaf.Leaf.TheVariants as leaf
 use Rattle.keep_token.specs.Numbers.{is_decimal, is_digits, is_in_base, is_sign, integer_value}
@@ -81,10 +81,13 @@ is_boolean _ = false
 abbrev pub pair : ℕ → ℕ → ℕ
 pair a b = (a - 48) * 10 + (b - 48)
 
+-- the calendar has this day
+abbrev pub is_day : ℕ → ℕ → ℕ → Bool
+is_day year month day = (nat_le 1 month && nat_le month 12) && (nat_le 1 day && nat_le day (month_length year month))
+
 abbrev pub is_date : List ℕ → Bool
 is_date (a ∷ b ∷ c ∷ d ∷ e ∷ f ∷ g ∷ h ∷ i ∷ j ∷ []) =
-    has_date_shape (a ∷ b ∷ c ∷ d ∷ e ∷ f ∷ g ∷ h ∷ i ∷ j ∷ [])
-    && ((nat_le 1 (pair f g) && nat_le (pair f g) 12) && (nat_le 1 (pair i j) && nat_le (pair i j) (month_length (pair a b * 100 + pair c d) (pair f g))))
+    has_date_shape (a ∷ b ∷ c ∷ d ∷ e ∷ f ∷ g ∷ h ∷ i ∷ j ∷ []) && is_day (pair a b * 100 + pair c d) (pair f g) (pair i j)
 is_date _ = false
 
 abbrev pub is_minutes : List ℕ → Bool
@@ -122,11 +125,16 @@ is_date_time profile t = is_date (take 10 t) && (is_between_date_and_time (slice
 abbrev pub is_zulu : ℕ → Bool
 is_zulu c = c == 0x5A || c == 0x7A
 
--- Z at the end, or a sign, hours and minutes
+-- Z behind a date and a time
+abbrev pub ends_in_zulu : Profile → List ℕ → Bool
+ends_in_zulu profile t = is_zulu (slice_index t (length t - 1)) && is_date_time profile (take (length t - 1) t)
+
+-- a sign, hours and minutes behind a date and a time
+abbrev pub ends_in_minutes : Profile → List ℕ → Bool
+ends_in_minutes profile t = (is_sign (slice_index t (length t - 6)) && is_minutes (drop (length t - 5) t)) && is_date_time profile (take (length t - 6) t)
+
 abbrev pub is_offset_date_time : Profile → List ℕ → Bool
-is_offset_date_time profile t =
-    (is_zulu (slice_index t (length t - 1)) && is_date_time profile (take (length t - 1) t))
-    || ((is_sign (slice_index t (length t - 6)) && is_minutes (drop (length t - 5) t)) && is_date_time profile (take (length t - 6) t))
+is_offset_date_time profile t = ends_in_zulu profile t || ends_in_minutes profile t
 
 -- ---- all kinds without quotation marks
 

@@ -1,10 +1,31 @@
 //! The leaves of a TOML document: their kinds, where they end, what they mean, and how they are written.
 #![tactic(auto)]
 
+mod basic;
+mod bytes;
+mod dates;
+mod decode;
+mod encode;
+mod escape;
 mod fault;
+mod gap;
+mod key;
+mod laws;
 mod leaf;
+mod literal;
+mod numbers;
+mod scalar;
+mod strings;
 mod text;
+mod word;
 
+pub use decode::decode_string;
+pub use encode::{encode_int, encode_key, encode_string, encoded_key_len};
 pub use fault::{LeafFault, What};
+pub use gap::scan_gap;
+pub use key::scan_key;
+pub use laws::{means_one_text, scalars_share_no_text, wide_has_strict};
 pub use leaf::{Leaf, Profile};
+pub use numbers::integer_of;
+pub use scalar::scan_scalar;
 pub use text::text_of;

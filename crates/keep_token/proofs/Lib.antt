@@ -1,0 +1,44 @@
+pub mod GapLaws
+pub mod GapLeaves
+pub mod Ends
+pub mod DigitLaws
+pub mod BlankLaws
+pub mod EscapeLaws
+pub mod Reaching
+pub mod StringScans
+pub mod AsciiPieces
+pub mod DecodeLaws
+pub mod StringBodies
+pub mod StringSteps
+pub mod StringOneLine
+pub mod StringManyLines
+pub mod StringPieces
+pub mod StringKinds
+pub mod StringFronts
+pub mod KeyLaws
+mod StringVectors
+pub mod StringUtf8
+pub mod StringMeans
+pub mod RunLaws
+pub mod NumberLaws
+pub mod FloatLaws
+pub mod ValueLaws
+pub mod IntegerLaws
+pub mod DateLaws
+pub mod DateShapes
+pub mod DateWords
+pub mod NumberWords
+pub mod NumberShapes
+pub mod WordLaws
+pub mod DateCode
+mod DateVectors
+pub mod DateNumbers
+pub mod DecimalLaws
+pub mod EncodedLaws
+pub mod ProfileLaws
+pub mod ScalarLaws
+pub mod EncodedStrings
+pub mod ScanEnds
+pub mod Scans
+mod NumberVectors
+pub mod ClassLaws

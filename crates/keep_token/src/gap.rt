@@ -1,0 +1,47 @@
+//! What stands between the parts: white space, newlines and comments. (TOML v1.0.0, "Comment"; toml.abnf: `ws`,
+//! `newline`, `comment`)
+ghost use Rattle.std.specs.Prelude.{◌≡◌, ℕ, ◌+◌, ◌-◌, ◌<◌, ◌≤◌, length, drop, IfSome, IsCharBoundary};
+ghost use Rattle.keep_token.specs.declared.leaf.Leaf.{Leaf};
+ghost use Rattle.keep_token.specs.Leaves.{GapLeaf};
+ghost use Rattle.keep_token.specs.Scanning.{gap_at, moved};
+
+use crate::bytes::{comment_run, is_ws, ws_run};
+use crate::leaf::Leaf;
+
+// The leaf in front, and its length.
+#[tactic(auto, unfolding(crate::specs::Scanning::gap_at))]
+fn gap_of(bytes: &[u8]) -> Option<(Leaf, usize)>
+    ensures value { result ≡ gap_at bytes.now }
+    ensures within { IfSome result (λ found. found.1 ≤ length bytes.now) }
+{
+    match bytes {
+        [] => None,
+        [first, rest @ ..] => {
+            if is_ws(*first) {
+                Some((Leaf::Ws, ws_run(bytes)))
+            } else if *first == b'\n' {
+                Some((Leaf::Newline, 1))
+            } else if *first == b'\r' && rest.first() == Some(&b'\n') {
+                Some((Leaf::Newline, 2))
+            } else if *first == b'#' {
+                Some((Leaf::Comment, 1 + comment_run(rest)))
+            } else {
+                None
+            }
+        }
+    }
+}
+
+/// The longest white space, the newline or the longest comment that begins at the byte `at`, with the byte at which
+/// it ends, or nothing where none begins.
+pub fn scan_gap(text: &str, at: usize) -> Option<(Leaf, usize)>
+    requires { IsCharBoundary text.now at }
+    ensures found { IfSome result (λ found. (at < found.1) × GapLeaf (drop at text.now) found.0 (found.1 - at)) }
+    ensures only { (leaf : Leaf) → (n : ℕ) → GapLeaf (drop at text.now) leaf n → result ≡ Some (leaf, at + n) }
+    ensures ends { IfSome result (λ found. IsCharBoundary text.now found.1) }
+    // the same by the function on lists, for proofs above
+    ensures value { result ≡ moved at (gap_at (drop at text.now)) }
+{
+    let (leaf, len) = gap_of(&text.as_bytes()[at..])?;
+    Some((leaf, at + len))
+}
