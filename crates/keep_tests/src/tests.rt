@@ -1,0 +1,4 @@
+mod leaves;
+mod scalars;
+mod strings;
+mod written;
