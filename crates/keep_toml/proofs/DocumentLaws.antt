@@ -1,0 +1,72 @@
+-- What getting and setting a value promise.
+use Rattle.std.proofs.Common.{◌≡◌, ℕ, true, List, ◌++◌, length, take, drop, Option, Some, None, refl, sym, ap, ◌∙◌, subst, arith, eqb-true}
+use Rattle.std.specs.Prelude.{Ok, Err, slice_range, string_bytes}
+use Rattle.keep_token.specs.declared.leaf.Leaf.{Leaf}
+use Rattle.keep_token.proofs.RunLaws.{take_all}
+use Rattle.keep_toml.specs.declared.lines.Entry.{Entry}
+use Rattle.keep_toml.specs.declared.document.Document.{Document}
+use Rattle.keep_toml.specs.declared.edit.EditFault.{EditFault}
+use Rattle.keep_toml.specs.declared.edit.EditFault.TheVariants as fault
+use Rattle.keep_toml.specs.declared.edit.Splice.{Splice}
+use Rattle.keep_toml.specs.declared.path.Path.{Path}
+use Rattle.keep_toml.specs.declared.path.Path.TheVariants.{Root, Key}
+use Rattle.keep_toml.specs.SmallLeaves.{small_value_at, is_small_value, is_whole}
+use Rattle.keep_toml.specs.SmallTree.{Tree}
+use Rattle.keep_toml.specs.SmallGrammar.{IsSmallValue, Reads}
+use Rattle.keep_toml.specs.Documents.{bytes_of, IsRead, IsReadAs, get_of, EntryAt, written_value, Replaces, SetAt}
+use Rattle.keep_toml.proofs.SmallLeafLaws.{value_found}
+use Rattle.keep_toml.proofs.SmallSetLaws.{named_value, named_none, new_reads}
+
+pub get_is : (d : Document) (path : Path) (entry : Entry) (text : List ℕ) → IsRead d → EntryAt d path (Ok entry) → text ≡ slice_range (bytes_of d) entry.value_start entry.value_end → (t : Tree) → Reads (bytes_of d) t → get_of path t ≡ Ok text
+get_is d Root entry text h e is t r = absurd e
+get_is d (Key key) entry text h e is t r =
+    let v = named_value (bytes_of d) (string_bytes key) d.entries.items d.counts entry h e.0 t r in
+    rw v (ap (λ (x : List ℕ). Ok x) (sym is))
+
+pub get_fault : (d : Document) (path : Path) (f : EditFault) → IsRead d → EntryAt d path (Err f) → (t : Tree) → Reads (bytes_of d) t → get_of path t ≡ Err f
+get_fault d Root f h e t r = ap (λ (x : EditFault). Err x) (sym e)
+get_fault d (Key key) f h e t r =
+    let v = named_none (bytes_of d) (string_bytes key) d.entries.items d.counts h e.0 t r in
+    rw v (ap (λ (x : EditFault). Err x) (sym e.1))
+
+-- a value text is a value
+pub value_is : (text : List ℕ) → is_small_value text ≡ true → IsSmallValue (written_value text)
+value_is text h = by (small_value_at text) refl h
+  where
+    by : (o : Option (Leaf × ℕ)) → small_value_at text ≡ o → is_whole o (length text) ≡ true → IsSmallValue (written_value text)
+    by None e k = absurd cc
+    by (Some (l, n)) e k =
+        let f = value_found text l n e in
+        let whole : take n text ≡ text = ap (λ (m : ℕ). take m text) (eqb-true n (length text) k) ∙ take_all text in
+        let v : IsSmallValue (record { leaf = l; text = text }) = subst (λ (x : List ℕ). IsSmallValue (record { leaf = l; text = x })) whole f.valid in
+        rw e v
+
+pub set_fault : (d new : Document) (path : Path) (value : List ℕ) (f : EditFault) → IsRead d → EntryAt d path (Err f) → (t : Tree) → Reads (bytes_of d) t → SetAt (bytes_of d) path value t new (Err f)
+set_fault d new Root value f h e t r = ap (λ (x : EditFault). Err x) e
+set_fault d new (Key key) value f h e t r =
+    let v = named_none (bytes_of d) (string_bytes key) d.entries.items d.counts h e.0 t r in
+    rw v (ap (λ (x : EditFault). Err x) e.1)
+
+pub set_memory : (d new : Document) (path : Path) (entry : Entry) (value : List ℕ) → IsRead d → EntryAt d path (Ok entry) → (t : Tree) → Reads (bytes_of d) t → SetAt (bytes_of d) path value t new (Err fault.Memory)
+set_memory d new Root entry value h e t r = absurd e
+set_memory d new (Key key) entry value h e t r =
+    let v = named_value (bytes_of d) (string_bytes key) d.entries.items d.counts entry h e.0 t r in
+    rw v refl
+
+pub set_is : (d new : Document) (path : Path) (entry : Entry) (value made : List ℕ) (splice : Splice) → IsRead d → EntryAt d path (Ok entry) → is_small_value value ≡ true → made ≡ take entry.value_start (bytes_of d) ++ (value ++ drop entry.value_end (bytes_of d)) → IsReadAs made new
+    → splice.start ≡ entry.value_start → splice.end ≡ entry.value_end → splice.added ≡ length value → (t : Tree) → Reads (bytes_of d) t → SetAt (bytes_of d) path value t new (Ok splice)
+set_is d new Root entry value made splice h e v is k start end added t r = absurd e
+set_is d new (Key key) entry value made splice h e v is k start end added t r =
+    let old = bytes_of d in
+    let named = named_value old (string_bytes key) d.entries.items d.counts entry h e.0 t r in
+    let text : bytes_of new ≡ take entry.value_start old ++ (value ++ drop entry.value_end old) = k.text ∙ is in
+    let tree = new_reads old (string_bytes key) d.entries.items d.counts (written_value value) entry (bytes_of new) new.entries.items new.counts h e.0 (value_is value v) text k.read t r in
+    let same : slice_range old entry.value_start entry.value_end ≡ slice_range old splice.start splice.end = ap (λ (n : ℕ). slice_range old n entry.value_end) (sym start) ∙ ap (λ (n : ℕ). slice_range old splice.start n) (sym end) in
+    let all : Replaces old (string_bytes key) value t (bytes_of new) splice = record {
+      within = (omega (arith, start, end, e.1.value), omega (arith, end, e.1.value_end));
+      replaced = named ∙ ap (λ (x : List ℕ). Some x) same;
+      added = added;
+      text = text ∙ ap (λ (n : ℕ). take n old ++ (value ++ drop entry.value_end old)) (sym start) ∙ ap (λ (n : ℕ). take splice.start old ++ (value ++ drop n old)) (sym end);
+      tree = tree;
+    } in
+    rw named all

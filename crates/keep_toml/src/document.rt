@@ -1,0 +1,231 @@
+//! Small documents: their text, and where their keyvals stand.
+ghost use Rattle.std.specs.Prelude.{◌≡◌, ◌+◌, ◌++◌, length, take, drop, string_bytes, Ok, Err, OnErr, IfOk, IfSome, MatchResult, ◌==◌, if◌then◌else◌};
+ghost use Rattle.std.specs.List.{AllByRecursion};
+ghost use Rattle.keep_toml.specs.SmallFind as find;
+ghost use Rattle.keep_toml.specs.SmallCode as code;
+ghost use Rattle.keep_toml.specs.SmallDocument as spec;
+
+use crate::edit::{EditFault, Splice};
+use crate::fault::{ReadFault, Why};
+use crate::lines::{Entry, Found, bom_len, lines};
+use crate::path::Path;
+use crate::value::ValueText;
+use keep_token::text_of;
+use std::alloc::{AllocError, Global};
+
+/// How many tokens and nodes a document has.
+#[derive(Clone, Copy, Debug, PartialEq, Eq)]
+pub struct Counts {
+    pub tokens: usize,
+    pub nodes: usize,
+}
+
+/// A document that was read.
+#[derive(Debug, Drop)]
+pub struct Document {
+    text: String,
+    entries: Vec<Entry>,
+    counts: Counts,
+    alloc: Global,
+}
+
+// The key of a keyval.
+fn key_of(text: &[u8], entry: Entry) -> &[u8]
+    requires { find.EntryFits text.now entry }
+    ensures { result.now ≡ find.key_bytes text.now entry }
+{
+    &text[entry.key_start..entry.key_end]
+}
+
+/// The first keyval with this key.
+pub fn entry_named(text: &[u8], entries: &[Entry], key: &[u8]) -> Option<Entry>
+    requires { AllByRecursion (find.EntryFits text.now) entries.now }
+    ensures { result ≡ find.entry_named text.now key.now entries.now }
+{
+    for entry in entries {
+        if key_of(text, *entry) == key {
+            return Some(*entry);
+        }
+    }
+    None
+}
+
+// Whether no key stands twice.
+fn distinct(text: &[u8], entries: &[Entry]) -> Result<(), ReadFault>
+    requires { AllByRecursion (find.EntryFits text.now) entries.now }
+    ensures { find.DistinctRead text.now entries.now result }
+{
+    for i in 0..entries.len() {
+        let entry = entries[i];
+        match entry_named(text, &entries[..i], key_of(text, entry)) {
+            Some(_) => return Err(ReadFault::Define {
+                at: entry.key_start,
+                why: Why::DuplicateKey,
+            }),
+            None => {}
+        }
+    }
+    Ok(())
+}
+
+impl Document {
+    ghost use Rattle.keep_toml.specs.Documents.{IsRead, IsReadAs, IsCounts};
+
+    /// Reads a document.
+    ///
+    /// # Errors
+    ///
+    /// `Utf8` exactly where the bytes are no text, with the length of their longest front that is; `Syntax` only where
+    /// the grammar has no such text; `Define` exactly where a key stands twice, with the place of the first that does;
+    /// `Memory` where a growth was refused.
+    pub fn read(alloc: Global, bytes: &[u8]) -> Result<Document, ReadFault>
+        ensures { MatchResult result (IsReadAs bytes.now) (spec.IsReadFault bytes.now) }
+    {
+        let text = match text_of(bytes) {
+            Ok(text) => text,
+            Err(at) => return Err(ReadFault::Utf8 { at }),
+        };
+        let start = bom_len(bytes);
+        let found = lines(alloc, bytes, start)?;
+        distinct(bytes, found.entries.as_slice())?;
+        let counts = match counts_of(start, &found) {
+            Some(counts) => counts,
+            None => return Err(ReadFault::Memory),
+        };
+        let Ok(text) = String::from_str(alloc, text) else {
+            return Err(ReadFault::Memory);
+        };
+        Ok(Document {
+            text,
+            entries: found.entries,
+            counts,
+            alloc,
+        })
+    }
+
+    /// How many tokens and nodes the document has.
+    pub fn check(&self) -> Counts
+        requires { IsRead self.now }
+        ensures { IsCounts self.now result }
+    {
+        self.counts
+    }
+}
+
+impl Document {
+    ghost use Rattle.keep_toml.specs.Documents.{IsRead, EntryAt, SetAt, bytes_of, get_of};
+    ghost use Rattle.keep_toml.specs.SmallTree.{Tree};
+    ghost use Rattle.keep_toml.specs.SmallGrammar.{Reads};
+
+    // The keyval that a path names, or why it names none.
+    fn entry_at(&self, path: &Path) -> Result<Entry, EditFault>
+        requires { IsRead self.now }
+        ensures { EntryAt self.now path.now result }
+    {
+        match path {
+            Path::Root => Err(EditFault::NotValue),
+            Path::Key(key) => {
+                let text = self.text.as_str().as_bytes();
+                match entry_named(text, self.entries.as_slice(), key.as_str().as_bytes()) {
+                    Some(entry) => Ok(entry),
+                    None => Err(EditFault::NotFound),
+                }
+            }
+        }
+    }
+
+    /// The text of the value at a path, as it is written.
+    ///
+    /// # Errors
+    ///
+    /// `NotValue` for the root, `NotFound` exactly if no key is named so.
+    pub fn get(&self, path: &Path) -> Result<&str, EditFault>
+        requires { IsRead self.now }
+        ensures { (t : Tree) → Reads (bytes_of self.now) t → MatchResult result (λ text. get_of path.now t ≡ Ok text.now) (λ fault. get_of path.now t ≡ Err fault) }
+    {
+        let entry = self.entry_at(path)?;
+        Ok(&self.text.as_str()[entry.value_start..entry.value_end])
+    }
+
+    /// Writes a value in place of the one that stands at a path. After a refusal the document is as before.
+    ///
+    /// # Errors
+    ///
+    /// `NotValue` for the root, `NotFound` exactly if no key is named so, whatever memory there is; `Memory` where a
+    /// growth was refused.
+    pub fn set(&mut self, path: &Path, value: &ValueText) -> Result<Splice, EditFault>
+        requires { IsRead self.old }
+        ensures read { IsRead self.new }
+        ensures refused { OnErr result (self.new ≡ self.old) }
+        ensures set { (t : Tree) → Reads (bytes_of self.old) t → SetAt (bytes_of self.old) path.now (string_bytes value.now.text) t self.new result }
+    {
+        let entry = self.entry_at(path)?;
+        let value = value.as_str().as_bytes();
+        let Ok(bytes) = spliced(self.alloc, self.text.as_str().as_bytes(), entry, value) else {
+            return Err(EditFault::Memory);
+        };
+        match Document::read(self.alloc, bytes.as_slice()) {
+            Ok(new) => {
+                *self = new;
+                Ok(Splice {
+                    start: entry.value_start,
+                    end: entry.value_end,
+                    added: value.len(),
+                })
+            }
+            Err(fault) => Err(growth_refused(fault)),
+        }
+    }
+}
+
+impl Document {
+    ghost use Rattle.keep_toml.specs.Documents.{bytes_of};
+
+    /// The text.
+    pub fn into_text(self) -> String
+        ensures { string_bytes result ≡ bytes_of self }
+    {
+        let Document {
+            text,
+            entries: _,
+            counts: _,
+            alloc: _,
+        } = self;
+        text
+    }
+}
+
+// The text with this value in place of that of a keyval.
+fn spliced(alloc: Global, text: &[u8], entry: Entry, value: &[u8]) -> Result<Vec<u8>, AllocError>
+    requires { find.EntryFits text.now entry }
+    ensures { IfOk result (λ bytes. bytes.items ≡ take entry.value_start text.now ++ (value.now ++ drop entry.value_end text.now)) }
+{
+    let mut bytes = text[..entry.value_start].to_vec(alloc)?;
+    bytes.extend_from_slice(value)?;
+    bytes.extend_from_slice(&text[entry.value_end..])?;
+    Ok(bytes)
+}
+
+// The text with a new value is a document, so nothing but memory refuses it.
+fn growth_refused(fault: ReadFault) -> EditFault
+    requires { fault ≡ ReadFault.Memory }
+    ensures { result ≡ EditFault.Memory }
+{
+    match fault {
+        ReadFault::Memory => EditFault::Memory,
+        _ => unreachable!(),
+    }
+}
+
+// The tokens are those of the lines, the byte order mark and the end. No text in memory has so many that they don't fit.
+fn counts_of(start: usize, found: &Found) -> Option<Counts>
+    ensures { IfSome result (λ counts. (counts.tokens ≡ (if start == 0 then found.now.tokens + 1 else found.now.tokens + 2)) × (counts.nodes ≡ length found.now.entries.items + 1)) }
+{
+    let marks = if start == 0 { 1 } else { 2 };
+    let tokens = found.tokens.checked_add(marks)?;
+    let nodes = found.entries.len().checked_add(1)?;
+    Some(Counts { tokens, nodes })
+}
+
+#[cfg(test)]
+mod tests;

@@ -1,0 +1,99 @@
+//! Why a document can't be read, a command's words can't be taken, or a run stops.
+ghost use Rattle.std.specs.Prelude.{◌≡◌};
+ghost use Rattle.keep_toml.specs.Status.{run_status, use_status};
+
+use crate::edit::EditFault;
+use keep_token::What;
+use thiserror::Error;
+
+/// Which rule of the definitions a document breaks.
+#[derive(Clone, Copy, Debug, PartialEq, Eq)]
+pub enum Why {
+    /// A key stands twice.
+    DuplicateKey,
+}
+
+/// Why a document or a value can't be read. Places count bytes from the start of the text.
+#[derive(Debug, Drop, Error)]
+pub enum ReadFault {
+    /// The bytes up to here are text, and no longer front is.
+    #[error("not UTF-8 at {at}")]
+    Utf8 { at: usize },
+    /// The text goes against the grammar.
+    #[error("syntax at {at}: {what:?}")]
+    Syntax { at: usize, what: What },
+    /// The first key that goes against the definitions begins here.
+    #[error("definition at {at}: {why:?}")]
+    Define { at: usize, why: Why },
+    /// A growth was refused.
+    #[error("out of memory")]
+    Memory,
+}
+
+/// Why the words of the command line ask for nothing.
+#[derive(Debug, Drop, Error)]
+pub enum UseFault {
+    /// What `clap` refuses, and its help.
+    #[error(transparent)]
+    Words(clap::Error),
+    /// A path can't be read at this byte of its word.
+    #[error("path at {at}")]
+    Path { at: usize },
+    /// A value can't be read. This is never `ReadFault::Memory`.
+    #[error("value: {0}")]
+    Value(ReadFault),
+    /// A growth was refused.
+    #[error("out of memory")]
+    Memory,
+}
+
+/// Why a run stops.
+#[derive(Debug, Drop, Error)]
+pub enum RunFault {
+    /// The input failed.
+    #[error("read failed")]
+    Read,
+    /// The input is longer than the limit.
+    #[error("input longer than 16777216 bytes")]
+    TooLong,
+    /// The input is no document. This is never `ReadFault::Memory`.
+    #[error(transparent)]
+    Document(ReadFault),
+    /// The edit of this number, from 0, is refused. This is never `EditFault::Memory`.
+    #[error("edit {index}: {fault}")]
+    Edit { index: usize, fault: EditFault },
+    /// The output failed, and took so many bytes before.
+    #[error("write failed after {written} bytes")]
+    Write { written: usize },
+    /// A growth was refused.
+    #[error("out of memory")]
+    Memory,
+}
+
+impl UseFault {
+    /// The exit status of the program.
+    pub fn status(&self) -> u8
+        ensures { result ≡ use_status self.now }
+    {
+        match self {
+            UseFault::Words(_) | UseFault::Path { .. } | UseFault::Value(_) => 2,
+            UseFault::Memory => 4,
+        }
+    }
+}
+
+impl RunFault {
+    /// The exit status of the program.
+    pub fn status(&self) -> u8
+        ensures { result ≡ run_status self.now }
+    {
+        match self {
+            RunFault::Document(_) | RunFault::Edit { .. } => 1,
+            RunFault::Read | RunFault::TooLong | RunFault::Write { .. } => 3,
+            RunFault::Memory => 4,
+        }
+    }
+}
+
+#[cfg(test)]
+mod tests;

@@ -1,0 +1,79 @@
+//! Reads a TOML document from standard input, and answers on standard output.
+#![tactic(auto)]
+
+mod answer;
+mod command;
+mod counted;
+mod document;
+mod edit;
+mod fault;
+mod gap;
+mod leaf;
+mod lines;
+mod path;
+mod run;
+mod value;
+mod words;
+
+use command::{Command, command_of};
+use counted::Counted;
+use fault::{RunFault, UseFault};
+use std::io::Write;
+use std::process::ExitCode;
+use std::{env, io};
+
+/// Ends with the status of the fault, 0 if there is none. A refused write to standard error ends with 3.
+fn main(rt: HostRuntime) -> ExitCode {
+    match status(&rt) {
+        Ok(status) => ExitCode::from(status),
+        Err(_) => ExitCode::from(3),
+    }
+}
+
+fn status(rt: &HostRuntime) -> io::Result<u8> {
+    let words = match given_words(rt) {
+        Ok(words) => words,
+        Err(io::ErrorKind::OutOfMemory) => return refused(rt, &UseFault::Memory),
+        Err(_) => {
+            eprintln!(rt; "keep-toml: a word is not UTF-8")?;
+            return Ok(2);
+        }
+    };
+    match command_of(rt.alloc(), words.as_slice()) {
+        Ok(command) => answered(rt, &command),
+        Err(fault) => refused(rt, &fault),
+    }
+}
+
+// The words of the command line, or the kind of the error.
+fn given_words(rt: &HostRuntime) -> Result<Vec<String>, io::ErrorKind> {
+    let words = env::args(rt).map_err(|error| error.kind())?;
+    words
+        .collect(rt.alloc())
+        .map_err(|_| io::ErrorKind::OutOfMemory)
+}
+
+fn refused(rt: &HostRuntime, fault: &UseFault) -> io::Result<u8> {
+    match fault {
+        // The text of clap stands alone, and ends its line.
+        UseFault::Words(error) => eprint!(rt; "{error}")?,
+        other => eprintln!(rt; "keep-toml: {other}")?,
+    }
+    Ok(fault.status())
+}
+
+fn answered(rt: &HostRuntime, command: &Command) -> io::Result<u8> {
+    let mut input = Counted::new(rt.stdin());
+    let mut output = Counted::new(rt.stdout());
+    let fault = match run::run(rt.alloc(), command, &mut input, &mut output) {
+        Ok(done) => match output.into_inner().flush() {
+            Ok(()) => return Ok(0),
+            Err(_) => RunFault::Write {
+                written: done.written,
+            },
+        },
+        Err(fault) => fault,
+    };
+    eprintln!(rt; "keep-toml: {fault}")?;
+    Ok(fault.status())
+}

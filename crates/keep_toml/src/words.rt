@@ -1,0 +1,131 @@
+//! The words of the command line, read by `clap`.
+ghost use Rattle.std.specs.Prelude.{◌≡◌, ◌⊎◌, true, IfOk, MatchResult, map, string_bytes};
+ghost use Rattle.clap.specs.Words.{app_of, found_of, rows_of, subcommand_rows_of};
+ghost use Rattle.clap.specs.Simple.{with_subcommand};
+ghost use Rattle.keep_toml.specs.KeepApp.{keep_app, no_words, one_word, two_words};
+ghost use Rattle.keep_toml.specs.Chosen.{IsChosen, IsUnchosen, read_named, read_rows, wanted_of_chosen, word_in};
+ghost use Rattle.keep_toml.specs.Wanted.{has_plain_words, wanted_of};
+
+use crate::fault::UseFault;
+use clap::error::ErrorKind;
+use clap::{Arg, ArgMatches, Command};
+use std::alloc::{AllocError, Global};
+
+/// A subcommand and its words.
+#[derive(Debug, Drop)]
+pub enum Chosen {
+    Check,
+    Get(String),
+    Set(String, String),
+}
+
+/// The subcommand that the words name, and its words. The first word is the program's name.
+///
+/// # Errors
+///
+/// `Words` with the answer of `clap`; `Memory` where a growth was refused.
+pub fn chosen_of<'a>(alloc: Global, words: &'a [String]) -> Result<Chosen, UseFault>
+    ensures { has_plain_words (map string_bytes words.now) ≡ true
+        → MatchResult result (IsChosen (wanted_of (map string_bytes words.now)))
+        (λ fault. (fault ≡ UseFault.Memory) ⊎ IsUnchosen (wanted_of (map string_bytes words.now)) fault) }
+{
+    let Ok(command) = keep_command(alloc) else {
+        return Err(UseFault::Memory);
+    };
+    let matches = match command.try_get_matches_from(words) {
+        Ok(matches) => matches,
+        Err(error) if error.kind() == ErrorKind::OutOfMemory => return Err(UseFault::Memory),
+        Err(error) => return Err(UseFault::Words(error)),
+    };
+    match chosen_in(alloc, &matches) {
+        Ok(chosen) => Ok(chosen),
+        Err(AllocError) => Err(UseFault::Memory),
+    }
+}
+
+// What the words are matched against: one level of subcommands, each with required words.
+fn keep_command<'a>(alloc: Global) -> Result<Command<'a>, AllocError>
+    ensures { IfOk result (λ c. app_of c ≡ keep_app) }
+{
+    let command = Command::new(alloc, "keep-toml")
+        .subcommand_required(true)
+        .disable_help_subcommand(true);
+    let command = with_none(alloc, command, "check")?;
+    let command = with_word(alloc, command, "get", "path")?;
+    with_words(alloc, command, "set", "path", "value")
+}
+
+// A further subcommand, without words.
+fn with_none<'a>(
+    alloc: Global,
+    command: Command<'a>,
+    name: &'a str,
+) -> Result<Command<'a>, AllocError>
+    ensures { IfOk result (λ c. app_of c ≡ with_subcommand (app_of command.entry) (no_words name.entry.now).top) }
+{
+    command.subcommand(Command::new(alloc, name))
+}
+
+// A further subcommand with one word.
+fn with_word<'a>(
+    alloc: Global,
+    command: Command<'a>,
+    name: &'a str,
+    first: &'a str,
+) -> Result<Command<'a>, AllocError>
+    ensures { IfOk result (λ c. app_of c ≡ with_subcommand (app_of command.entry) (one_word name.entry.now first.entry.now).top) }
+{
+    let first = Arg::new(alloc, first).required(true);
+    command.subcommand(Command::new(alloc, name).arg(first)?)
+}
+
+// A further subcommand with two words.
+fn with_words<'a>(
+    alloc: Global,
+    command: Command<'a>,
+    name: &'a str,
+    first: &'a str,
+    second: &'a str,
+) -> Result<Command<'a>, AllocError>
+    ensures { IfOk result (λ c. app_of c ≡ with_subcommand (app_of command.entry) (two_words name.entry.now first.entry.now second.entry.now).top) }
+{
+    let first = Arg::new(alloc, first).required(true);
+    let second = Arg::new(alloc, second).required(true);
+    command.subcommand(Command::new(alloc, name).arg(first)?.arg(second)?)
+}
+
+#[tactic(auto, using(crate::proofs::Rows::rows_met))]
+fn chosen_in(alloc: Global, matches: &ArgMatches<'_>) -> Result<Chosen, AllocError>
+    ensures { IfOk result (λ c. wanted_of_chosen c ≡ read_rows (subcommand_rows_of matches.now)) }
+{
+    let Some((name, inner)) = matches.subcommand() else {
+        return Ok(Chosen::Check);
+    };
+    named(alloc, name, inner)
+}
+
+fn named(alloc: Global, name: &str, matches: &ArgMatches<'_>) -> Result<Chosen, AllocError>
+    ensures { IfOk result (λ c. wanted_of_chosen c ≡ read_named name.now (rows_of (found_of matches.now))) }
+{
+    if name == "get" {
+        let path = String::from_str(alloc, word_of(matches, "path"))?;
+        return Ok(Chosen::Get(path));
+    }
+    if name == "set" {
+        let path = String::from_str(alloc, word_of(matches, "path"))?;
+        let value = String::from_str(alloc, word_of(matches, "value"))?;
+        return Ok(Chosen::Set(path, value));
+    }
+    Ok(Chosen::Check)
+}
+
+// The word of an argument. A command that was taken has all of its words.
+#[tactic(auto, using(crate::proofs::Rows::word_met))]
+fn word_of<'a>(matches: &ArgMatches<'a>, id: &str) -> &'a str
+    ensures { result.now ≡ word_in id.now (rows_of (found_of matches.now)) }
+{
+    match matches.get_str(id) {
+        Some(text) => text,
+        None => "",
+    }
+}
