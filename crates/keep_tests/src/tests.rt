@@ -1,4 +1,7 @@
+mod documents;
 mod leaves;
 mod scalars;
 mod strings;
+mod syntax_faults;
+mod values;
 mod written;

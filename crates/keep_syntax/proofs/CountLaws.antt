@@ -1,0 +1,173 @@
+-- No leaf but End is empty, so there are at most as many tokens as bytes, and End.
+use Rattle.std.proofs.Common.{◌≡◌, ℕ, ◌+◌, ◌<◌, ◌≤◌, Bool, true, false, List, [], ◌∷◌, ◌++◌, length, Option, Some, None, refl, sym, ap, subst, arith, append_assoc}
+use Rattle.std.specs.List.{flat_map, AllByRecursion}
+use Rattle.std.proofs.lemmas.List.{length-append}
+use Rattle.keep_token.specs.declared.leaf.Profile.{Profile}
+use Rattle.keep_token.specs.declared.leaf.Leaf.{Leaf}
+use Rattle.keep_token.specs.declared.leaf.Leaf.TheVariants as leaf
+use Rattle.keep_syntax.specs.declared.info.Brackets.{Brackets}
+use Rattle.keep_syntax.specs.declared.info.Brackets.TheVariants as brackets
+use Rattle.keep_syntax.specs.Tree.{Written, Gap, Further, Key, Name, Body, scalar, array, inline, Entries, none, entry, Value, Content, blank, keyval, header, element, Line, Ended, Document, text_of, mark, further_leaves, key_leaves, name_leaves, named_leaves, opening, closing, comma_leaves, entries_leaves, value_leaves, content_leaves, comment_leaves, line_leaves, ended_leaves, bom_leaves, leaves}
+use Rattle.keep_syntax.specs.Grammar.{IsSpace, IsBlank, IsKeyPart, IsFurther, IsKey, IsName, place_in, IsNamed, IsBody, AreEntries, IsValue, IsContent, IsAfter, IsComment, IsLine, IsEnded, IsDocument, Reads, ReadsValue}
+use Rattle.keep_syntax.specs.Numbered.{width, marks}
+use Rattle.keep_syntax.specs.Reading.{Item}
+use Rattle.keep_syntax.proofs.SpaceLaws.{text_of-append, place_of, gap_blank, space_blank, gap_leaf_some}
+use Rattle.keep_syntax.proofs.KeyLaws.{part_begins}
+use Rattle.keep_syntax.proofs.ValueLaws.{item_leaves, entry_leaves}
+use Rattle.keep_syntax.proofs.AgainLaws.{scalar_begins}
+use Rattle.keep_syntax.proofs.DeepLaws.{comma_blank}
+use Rattle.keep_syntax.proofs.DocumentLaws.{lines_leaves}
+
+-- none of these leaves is empty
+abbrev pub AreSome : List Written → Type 0
+AreSome ws = AllByRecursion (λ (w : Written). 0 < length w.text) ws
+
+pub some-append : (a b : List Written) → AreSome a → AreSome b → AreSome (a ++ b)
+some-append [] b h g = g
+some-append (w ∷ ws) b h g = (h.0, some-append ws b h.1 g)
+
+one_some : (w : Written) → 0 < length w.text → AreSome (w ∷ [])
+one_some w h = (h, tt)
+
+-- as many leaves as bytes, or fewer
+pub some_count : (ws : List Written) → AreSome ws → length ws ≤ width ws
+some_count [] h = omega arith
+some_count (w ∷ ws) h = omega (arith, h.0, some_count ws h.1, length-append w.text (text_of ws))
+
+-- ---- each part
+
+blank_some : (g : Gap) → IsBlank g → AreSome g
+blank_some [] h = tt
+blank_some (w ∷ more) h = (gap_leaf_some w.leaf w.text h.0 h.1, blank_some more h.3)
+
+space_some : (g : Gap) → IsSpace g → AreSome g
+space_some g h = blank_some g (space_blank g h)
+
+part_some : (profile : Profile) (w : Written) → IsKeyPart profile w → AreSome (w ∷ [])
+part_some profile w h = one_some w (part_begins profile w [] h).0
+
+further_some : (profile : Profile) (f : Further) → IsFurther profile f → AreSome (further_leaves f)
+further_some profile f h =
+    let dot = mark leaf.Dot (0x2E ∷ []) in
+    some-append f.before (dot ++ (f.behind ++ (f.part ∷ []))) (space_some f.before h.before)
+    (some-append dot (f.behind ++ (f.part ∷ [])) (omega arith, tt) (some-append f.behind (f.part ∷ []) (space_some f.behind h.behind) (part_some profile f.part h.part)))
+
+more_some : (profile : Profile) (fs : List Further) → AllByRecursion (IsFurther profile) fs → AreSome (flat_map further_leaves fs)
+more_some profile [] h = tt
+more_some profile (f ∷ fs) h = some-append (further_leaves f) (flat_map further_leaves fs) (further_some profile f h.0) (more_some profile fs h.1)
+
+key_some : (profile : Profile) (k : Key) → IsKey profile k → AreSome (key_leaves k)
+key_some profile k h = some-append (k.first ∷ []) (flat_map further_leaves k.more) (part_some profile k.first h.first) (more_some profile k.more h.more)
+
+name_some : (profile : Profile) (n : Name) → IsName profile n → AreSome (name_leaves n)
+name_some profile n h =
+    let equals = mark leaf.Equals (0x3D ∷ []) in
+    some-append (key_leaves n.key) (n.before ++ (equals ++ n.behind)) (key_some profile n.key h.key)
+    (some-append n.before (equals ++ n.behind) (space_some n.before h.before) (some-append equals n.behind (omega arith, tt) (space_some n.behind h.behind)))
+
+named_some : (profile : Profile) (b : Brackets) (n : Option Name) → IsNamed profile (place_of b) n → AreSome (named_leaves n)
+named_some profile b None h = tt
+named_some profile brackets.Array (Some n) h = absurd h
+named_some profile brackets.Inline (Some n) h = name_some profile n h
+
+comma_some : (comma : Option Gap) → ((g : Gap) → comma ≡ Some g → IsBlank g) → AreSome (comma_leaves comma)
+comma_some None h = tt
+comma_some (Some g) h = some-append (mark leaf.Comma (0x2C ∷ [])) g (omega arith, tt) (blank_some g (h g refl))
+
+body_some : (profile : Profile) (body : Body) (inside : Entries) → IsBody profile body → AreEntries profile (place_in body) inside → ((b : Brackets) → AreEntries profile (place_of b) inside → AreSome (entries_leaves inside)) → AreSome (value_leaves (record { body = body; inside = inside }))
+body_some profile (scalar w) none h i ih = one_some w (scalar_begins profile w [] h).0
+body_some profile (scalar w) (entry name body inside after comma rest) h i ih = absurd i.0
+body_some profile (array g) inside h i ih =
+    some-append (opening (array g)) (entries_leaves inside ++ closing (array g)) (omega arith, blank_some g (gap_blank profile brackets.Array g h)) (some-append (entries_leaves inside) (closing (array g)) (ih brackets.Array i) (omega arith, tt))
+body_some profile (inline g) inside h i ih =
+    some-append (opening (inline g)) (entries_leaves inside ++ closing (inline g)) (omega arith, blank_some g (gap_blank profile brackets.Inline g h)) (some-append (entries_leaves inside) (closing (inline g)) (ih brackets.Inline i) (omega arith, tt))
+
+entries_some : (profile : Profile) (es : Entries) (b : Brackets) → AreEntries profile (place_of b) es → AreSome (entries_leaves es)
+entries_some profile none b h = tt
+entries_some profile (entry name body inside after comma rest) b h =
+    let i : Item = record { name = name; value = record { body = body; inside = inside }; after = after; comma = comma } in
+    let v = value_leaves i.value in
+    subst (λ (ws : List Written). AreSome ws) (sym (entry_leaves i rest))
+    (some-append (item_leaves i) (entries_leaves rest)
+    (some-append (named_leaves name) (v ++ (after ++ comma_leaves comma)) (named_some profile b name h.0)
+    (some-append v (after ++ comma_leaves comma) (body_some profile body inside h.1 h.2 (λ c k. entries_some profile inside c k))
+    (some-append after (comma_leaves comma) (blank_some after (gap_blank profile b after h.3)) (comma_some comma (comma_blank profile b comma rest h.4)))))
+    (entries_some profile rest b h.5))
+
+pub value_some : (profile : Profile) (v : Value) → IsValue profile v → AreSome (value_leaves v)
+value_some profile v h = body_some profile v.body v.inside h.body h.inside (λ b k. entries_some profile v.inside b k)
+
+header_some : (profile : Profile) (l m : Leaf) (s t : List ℕ) (before : Gap) (k : Key) (behind : Gap) → 0 < length s → 0 < length t → IsContent profile (header before k behind) → AreSome (mark l s ++ (before ++ (key_leaves k ++ (behind ++ mark m t))))
+header_some profile l m s t before k behind e f h =
+    some-append (mark l s) (before ++ (key_leaves k ++ (behind ++ mark m t))) (e, tt)
+    (some-append before (key_leaves k ++ (behind ++ mark m t)) (space_some before h.0)
+    (some-append (key_leaves k) (behind ++ mark m t) (key_some profile k h.1)
+    (some-append behind (mark m t) (space_some behind h.2) (f, tt))))
+
+content_some : (profile : Profile) (c : Content) → IsContent profile c → AreSome (content_leaves c)
+content_some profile blank h = tt
+content_some profile (keyval n v) h = some-append (name_leaves n) (value_leaves v) (name_some profile n h.0) (value_some profile v h.1)
+content_some profile (header before k behind) h = header_some profile leaf.HeadOpen leaf.HeadClose (0x5B ∷ []) (0x5D ∷ []) before k behind (omega arith) (omega arith) h
+content_some profile (element before k behind) h = header_some profile leaf.ElemOpen leaf.ElemClose (0x5B ∷ 0x5B ∷ []) (0x5D ∷ 0x5D ∷ []) before k behind (omega arith) (omega arith) h
+
+after_some : (c : Content) (g : Gap) → IsAfter c g → AreSome g
+after_some blank g h = subst (λ (ws : List Written). AreSome ws) (sym h) tt
+after_some (keyval n v) g h = space_some g h
+after_some (header before k behind) g h = space_some g h
+after_some (element before k behind) g h = space_some g h
+
+comment_some : (o : Option Written) → IsComment o → AreSome (comment_leaves o)
+comment_some None h = tt
+comment_some (Some w) h = one_some w (gap_leaf_some leaf.Comment w.text refl h.1)
+
+line_some : (profile : Profile) (l : Line) → IsLine profile l → AreSome (line_leaves l)
+line_some profile l h =
+    some-append l.before (content_leaves l.content ++ (l.after ++ comment_leaves l.comment)) (space_some l.before h.before)
+    (some-append (content_leaves l.content) (l.after ++ comment_leaves l.comment) (content_some profile l.content h.content)
+    (some-append l.after (comment_leaves l.comment) (after_some l.content l.after h.after) (comment_some l.comment h.comment)))
+
+ended_some : (profile : Profile) (es : List Ended) → AllByRecursion (IsEnded profile) es → AreSome (flat_map ended_leaves es)
+ended_some profile [] h = tt
+ended_some profile (e ∷ es) h =
+    some-append (ended_leaves e) (flat_map ended_leaves es) (some-append (line_leaves e.line) (e.newline ∷ []) (line_some profile e.line h.0.line) (one_some e.newline (gap_leaf_some leaf.Newline e.newline.text refl h.0.newline))) (ended_some profile es h.1)
+
+bom_some : (s : Document) → AreSome (bom_leaves s.bom)
+bom_some s = by s.bom
+  where
+    by : (b : Bool) → AreSome (bom_leaves b)
+    by true = (omega arith, tt)
+    by false = tt
+
+-- all leaves but End
+abbrev pub inner_leaves : Document → List Written
+inner_leaves s = bom_leaves s.bom ++ lines_leaves s.ended s.last
+
+pub leaves_end : (s : Document) → leaves s ≡ inner_leaves s ++ mark leaf.End []
+leaves_end s = simp append_assoc
+
+-- No leaf of a document but End is empty.
+pub document_some : (profile : Profile) (s : Document) → IsDocument profile s → AreSome (inner_leaves s)
+document_some profile s h = some-append (bom_leaves s.bom) (lines_leaves s.ended s.last) (bom_some s) (some-append (flat_map ended_leaves s.ended) (line_leaves s.last) (ended_some profile s.ended h.ended) (line_some profile s.last h.last))
+
+-- There are at most as many leaves as bytes, and End.
+pub leaves_count : (profile : Profile) (limit : ℕ) (bytes : List ℕ) (s : Document) → Reads profile limit bytes s → length (leaves s) ≤ length bytes + 1
+leaves_count profile limit bytes s h =
+    let end = mark leaf.End [] in
+    omega (
+      arith,
+      some_count (inner_leaves s) (document_some profile s h.valid),
+      ap length (leaves_end s),
+      length-append (inner_leaves s) end,
+      ap length h.spelled,
+      ap width (leaves_end s),
+      ap length (text_of-append (inner_leaves s) end),
+      length-append (text_of (inner_leaves s)) (text_of end),
+    )
+
+pub value_leaves_count : (profile : Profile) (limit : ℕ) (bytes : List ℕ) (v : Value) → ReadsValue profile limit bytes v → length (value_leaves v) ≤ length bytes
+value_leaves_count profile limit bytes v h = omega (arith, some_count (value_leaves v) (value_some profile v h.valid), ap length h.spelled)
+
+-- as many tokens as leaves
+pub marks_count : (at : ℕ) (ws : List Written) → length (marks at ws) ≡ length ws
+marks_count at [] = refl
+marks_count at (w ∷ ws) = omega (arith, marks_count (at + length w.text) ws)

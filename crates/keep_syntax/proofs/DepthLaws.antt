@@ -1,0 +1,76 @@
+-- No value has more brackets open than the limit, itself counted.
+use Rattle.std.proofs.Common.{◌≡◌, ℕ, suc, ◌+◌, ◌≤◌, List, [], ◌∷◌, ◌++◌, None, refl, sym, ap, subst, arith}
+use Rattle.std.specs.List.{AllByRecursion}
+use Rattle.keep_token.specs.declared.leaf.Profile.{Profile}
+use Rattle.keep_syntax.specs.declared.info.ValueInfo.{ValueInfo}
+use Rattle.keep_syntax.specs.declared.info.Start.{Start}
+use Rattle.keep_syntax.specs.declared.info.Owner.TheVariants as owner
+use Rattle.keep_syntax.specs.Tree.{Body, scalar, array, inline, Entries, none, entry, Value, Content, blank, keyval, header, element, Line, Ended, Document, name_leaves, around, entries_depth, value_depth, content_depth, lines_depth}
+use Rattle.keep_syntax.specs.Grammar.{Place, place_in, IsBody, AreEntries, IsValue, IsContent, IsLine, IsEnded, Reads, ReadsValue}
+use Rattle.keep_syntax.specs.Deep.{open_by}
+use Rattle.keep_syntax.specs.Numbered.{width, leaf_of, value_start, name_count, key_count, inside_of, rest_of, entries_values, value_values, content_values, Count, line_start, line_values, next_line, first_line, over_lines, values}
+use Rattle.keep_syntax.proofs.DeepLaws.{scalar_opens}
+
+-- a value, with so many brackets open at most, its own counted
+abbrev pub IsWithin : ℕ → ValueInfo → Type 0
+IsWithin limit v = open_by v.leaf v.depth ≤ limit
+
+abbrev pub AreWithin : ℕ → List ValueInfo → Type 0
+AreWithin limit vs = AllByRecursion (IsWithin limit) vs
+
+within-append : (limit : ℕ) (a b : List ValueInfo) → AreWithin limit a → AreWithin limit b → AreWithin limit (a ++ b)
+within-append limit [] b h g = g
+within-append limit (v ∷ vs) b h g = (h.0, within-append limit vs b h.1 g)
+
+-- the value itself
+body_within : (profile : Profile) (limit d : ℕ) (body : Body) (inside : Entries) → IsBody profile body → d + around body (entries_depth inside) ≤ limit → open_by (leaf_of body) d ≤ limit
+body_within profile limit d (scalar w) inside h le = omega (arith, scalar_opens w.leaf h.0 d)
+body_within profile limit d (array g) inside h le = omega arith
+body_within profile limit d (inline g) inside h le = omega arith
+
+-- what is inside a value is one deeper
+inside_within : (profile : Profile) (limit d : ℕ) (body : Body) (inside : Entries) → AreEntries profile (place_in body) inside → d + around body (entries_depth inside) ≤ limit → (vs : List ValueInfo) → (inside ≡ none → vs ≡ []) → (suc d + entries_depth inside ≤ limit → AreWithin limit vs) → AreWithin limit vs
+inside_within profile limit d (scalar w) none i le vs empty ih = subst (λ (x : List ValueInfo). AreWithin limit x) (sym (empty refl)) tt
+inside_within profile limit d (scalar w) (entry name body inside after comma rest) i le vs empty ih = absurd i.0
+inside_within profile limit d (array g) inside i le vs empty ih = ih (omega arith)
+inside_within profile limit d (inline g) inside i le vs empty ih = ih (omega arith)
+
+none_values : (p : Start) (es : Entries) → es ≡ none → entries_values p es ≡ []
+none_values p es e = ap (entries_values p) e
+
+entries_within : (profile : Profile) (limit : ℕ) (es : Entries) (place : Place) (p : Start) → AreEntries profile place es → p.depth + entries_depth es ≤ limit → AreWithin limit (entries_values p es)
+entries_within profile limit none place p h le = tt
+entries_within profile limit (entry name body inside after comma rest) place p h le =
+    let at = value_start p.at name in
+    let q = inside_of p at (name_count name) body in (
+      body_within profile limit p.depth body inside h.1 (omega arith),
+      within-append limit (entries_values q inside) (entries_values (rest_of p name body inside after comma) rest)
+          (inside_within profile limit p.depth body inside h.2 (omega arith) (entries_values q inside) (none_values q inside) (λ k. entries_within profile limit inside (place_in body) q h.2 k))
+          (entries_within profile limit rest place (rest_of p name body inside after comma) h.5 (omega arith)),
+    )
+
+value_within : (profile : Profile) (limit : ℕ) (p : Start) (at keys : ℕ) (v : Value) → IsValue profile v → p.depth + value_depth v ≤ limit → AreWithin limit (value_values p at keys v)
+value_within profile limit p at keys v h le =
+    let q = inside_of p at keys v.body in
+    (body_within profile limit p.depth v.body v.inside h.body le, inside_within profile limit p.depth v.body v.inside h.inside le (entries_values q v.inside) (none_values q v.inside) (λ k. entries_within profile limit v.inside (place_in v.body) q h.inside k))
+
+content_within : (profile : Profile) (limit : ℕ) (p : Start) (c : Content) → p.depth ≡ 0 → IsContent profile c → content_depth c ≤ limit → AreWithin limit (content_values p c)
+content_within profile limit p blank e h le = tt
+content_within profile limit p (keyval n v) e h le = value_within profile limit p (p.at + width (name_leaves n)) (key_count n.key) v h.1 (omega (arith, e))
+content_within profile limit p (header before k behind) e h le = tt
+content_within profile limit p (element before k behind) e h le = tt
+
+lines_within : (profile : Profile) (limit : ℕ) (c : Count) (es : List Ended) (last : Line) → AllByRecursion (IsEnded profile) es → IsLine profile last → lines_depth es ≤ limit → content_depth last.content ≤ limit
+    → AreWithin limit (over_lines (λ c l line_end. line_values c l) c es last)
+lines_within profile limit c [] last h k le le' = content_within profile limit (line_start c last) last.content refl k.content le'
+lines_within profile limit c (e ∷ es) last h k le le' =
+    within-append limit (line_values c e.line) (over_lines (λ c l line_end. line_values c l) (next_line c e) es last) (content_within profile limit (line_start c e.line) e.line.content refl h.0.line.content (omega arith)) (lines_within profile limit (next_line c e) es last h.1 k (omega arith) le')
+
+-- In a document.
+pub values_within : (profile : Profile) (limit : ℕ) (bytes : List ℕ) (s : Document) → Reads profile limit bytes s → AreWithin limit (values s)
+values_within profile limit bytes s h = lines_within profile limit (first_line s) s.ended s.last h.valid.ended h.valid.last (omega (arith, h.shallow)) (omega (arith, h.shallow))
+
+-- In a value alone.
+pub value_values_within : (profile : Profile) (limit : ℕ) (bytes : List ℕ) (v : Value) → ReadsValue profile limit bytes v
+    → AreWithin limit (value_values (record { at = 0; values = 0; parts = 0; owner = owner.Line 0; depth = 0; comma = None }) 0 0 v)
+value_values_within profile limit bytes v h = value_within profile limit (record { at = 0; values = 0; parts = 0; owner = owner.Line 0; depth = 0; comma = None }) 0 0 v h.valid (omega (arith, h.shallow))

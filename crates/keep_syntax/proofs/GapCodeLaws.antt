@@ -1,0 +1,164 @@
+-- What the code keeps of gaps, and how a fault goes through.
+use Rattle.std.proofs.Common.{◌≡◌, ℕ, ◌+◌, ◌<◌, ◌≤◌, true, false, List, [], ◌∷◌, ◌++◌, length, get_or, take, drop, Option, Some, None, Result, Ok, Err, refl, sym, ap, ◌∙◌, arith, add-zero, append_assoc, IsCharBoundary}
+use Rattle.std.proofs.lemmas.List.{append-nil, drop-drop, get_or-drop, length-drop, length-take}
+use Rattle.keep_token.specs.declared.leaf.Leaf.{Leaf}
+use Rattle.keep_token.specs.declared.leaf.Leaf.TheVariants as leaf
+use Rattle.keep_token.specs.declared.leaf.Profile.{Profile}
+use Rattle.keep_token.specs.Scanning.{first, gap_at, moved}
+use Rattle.keep_token.proofs.GapLaws.{white, line, comment, nothing, gap_cases}
+use Rattle.std.specs.List.{prefix_len}
+use Rattle.keep_token.specs.Abnf.{is_ws}
+use Rattle.keep_syntax.specs.declared.fault.ReadFault.{ReadFault}
+use Rattle.keep_syntax.specs.declared.fault.ReadFault.TheVariants as faults
+use Rattle.keep_syntax.specs.declared.info.Brackets.{Brackets}
+use Rattle.keep_syntax.specs.Tree.{Gap, mark}
+use Rattle.keep_syntax.specs.Reading.{Fault, Bad, Deep, written, space_at, blank_at, in_front, is_free, gap_in}
+use Rattle.keep_syntax.specs.Flat.{Flat, only, with_mark, Grows, PartRead, Fails, SignIs, SpaceRead, BlankRead, IsSyntax}
+use Rattle.keep_syntax.proofs.LoopLaws.{done}
+use Rattle.keep_syntax.proofs.SpaceLaws.{blank_step, blank_stop}
+use Rattle.keep_syntax.proofs.FlatLaws.{grows_nothing, grows_then, grows_mark}
+
+-- ---- places
+
+-- a scan's leaf, with its length in place of its end
+pub moved_some : (at : ℕ) (o : Option (Leaf × ℕ)) (l : Leaf) (end : ℕ) → Some (l, end) ≡ moved at o → (n : ℕ) × (o ≡ Some (l, n)) × (at + n ≡ end)
+moved_some at None l end e = absurd cc
+moved_some at (Some (k, n)) l end e =
+    let f : (l, end) ≡ (k, at + n) = cc in
+    (n, ap (λ (p : Leaf × ℕ). Some (p.0, n)) (sym f), sym (ap (λ (p : Leaf × ℕ). p.1) f))
+
+pub moved_none : (at : ℕ) (o : Option (Leaf × ℕ)) → None ≡ moved at o → o ≡ None
+moved_none at None e = refl
+moved_none at (Some p) e = absurd cc
+
+pub first-drop : (text : List ℕ) (at : ℕ) → first (drop at text) ≡ get_or text at 0
+first-drop text at = rw (get_or-drop at text 0 0, add-zero) refl
+
+-- the text behind a leaf of n bytes, and its length
+pub behind_leaf : (text : List ℕ) (at n end : ℕ) → at + n ≡ end → drop n (drop at text) ≡ drop end text
+behind_leaf text at n end e = drop-drop n at text ∙ ap (λ (m : ℕ). drop m text) e
+
+pub leaf_end : (text : List ℕ) (at n end : ℕ) → at + n ≡ end → end ≤ length text → end ≡ at + length (take n (drop at text))
+leaf_end text at n end e within = omega (arith, length-take n (drop at text), length-drop at text)
+
+pub leaf_grows : (text : List ℕ) (at n end : ℕ) (l : Leaf) (old new : Flat) → at + n ≡ end → end ≤ length text → IsCharBoundary text at → new ≡ with_mark l at old → Grows text old new at end (only (mark l (take n (drop at text))))
+leaf_grows text at n end l old new e within bound is = grows_mark text (take n (drop at text)) l old new at end (leaf_end text at n end e within) bound is
+
+pub sign_grows : (text t : List ℕ) (at len : ℕ) (l : Leaf) (old new : Flat) (end : ℕ) → length t ≡ len → SignIs text at len l old new end → Grows text old new at end (only (mark l t))
+sign_grows text t at len l old new end e s = grows_mark text t l old new at end (omega (arith, s.end_is)) s.start s.kept
+
+-- the text behind a sign of one byte
+pub behind_sign : (text : List ℕ) (at end : ℕ) → end ≡ at + 1 → drop 1 (drop at text) ≡ drop end text
+behind_sign text at end e = behind_leaf text at 1 end (sym e)
+
+-- ---- faults
+
+pub fails_memory : {A : Type 0} (text : List ℕ) (e : ReadFault) (r : Result A Fault) → e ≡ faults.Memory → Fails text e r
+fails_memory text e r is = rw is tt
+
+pub fails_through : {A B : Type 0} (text : List ℕ) (e : ReadFault) (r : Result A Fault) (s : Result B Fault) → ((f : Fault) → r ≡ Err f → s ≡ Err f) → Fails text e r → Fails text e s
+fails_through text (faults.Utf8 at) r s h k = k
+fails_through text (faults.Syntax at what) r s h k = h Bad k
+fails_through text (faults.TooDeep at) r s h k = (k.0, h (Deep (drop at text)) k.1)
+fails_through text (faults.Define at why) r s h k = k
+fails_through text faults.Memory r s h k = tt
+
+-- a fault of the grammar, where nothing fits
+pub fails_bad : {A : Type 0} (text : List ℕ) (e : ReadFault) (r : Result A Fault) → IsSyntax e → r ≡ Err Bad → Fails text e r
+fails_bad text (faults.Utf8 at) r is bad = absurd is
+fails_bad text (faults.Syntax at what) r is bad = bad
+fails_bad text (faults.TooDeep at) r is bad = absurd is
+fails_bad text (faults.Define at why) r is bad = absurd is
+fails_bad text faults.Memory r is bad = absurd is
+
+-- what cannot fail fails for want of memory alone
+pub fails_only : {A B : Type 0} (text : List ℕ) (e : ReadFault) (x : A) (s : Result B Fault) → Fails text e (done x) → Fails text e s
+fails_only {A} text e x s k = fails_through text e (done x) s (λ f h. let never : done x ≡ Err f = h in absurd cc) k
+
+-- ---- white space
+
+space_ws : (text : List ℕ) (n : ℕ) → gap_at text ≡ Some (leaf.Ws, n) → space_at text ≡ (mark leaf.Ws (take n text), drop n text)
+unfolding space_at
+space_ws text n e = rw e refl
+
+space_other : (text : List ℕ) (l : Leaf) (n : ℕ) → gap_at text ≡ Some (l, n) → (l ≡ leaf.Ws → ⊥) → space_at text ≡ ([], text)
+unfolding space_at
+space_other text l n e other =
+    elim (gap_cases text) [
+      | white r f ↦ absurd (other (let g : Some (l, n) ≡ Some (leaf.Ws, prefix_len is_ws text) = sym e ∙ r in let k : (l, n) ≡ (leaf.Ws, prefix_len is_ws text) = cc in ap (λ (p : Leaf × ℕ). p.0) k))
+      | line m r f found ↦ rw r refl
+      | comment m r f found stop ↦ rw r refl
+      | nothing r f ↦ rw r refl
+    ]
+
+space_nothing : (text : List ℕ) → gap_at text ≡ None → space_at text ≡ ([], text)
+unfolding space_at
+space_nothing text e = rw e refl
+
+pub no_space : (text : List ℕ) (at : ℕ) (f : Flat) → IsCharBoundary text at → space_at (drop at text) ≡ ([], drop at text) → SpaceRead text at f f (Ok at)
+no_space text at f bound e = record { part = []; bound = bound; forward = omega arith; is_read = ap done e; grows = grows_nothing text f at }
+
+pub other_leaf : (text : List ℕ) (at : ℕ) (f : Flat) (l : Leaf) (end : ℕ) → IsCharBoundary text at → Some (l, end) ≡ moved at (gap_at (drop at text)) → (l ≡ leaf.Ws → ⊥) → SpaceRead text at f f (Ok at)
+other_leaf text at f l end bound e other =
+    let m = moved_some at (gap_at (drop at text)) l end e in
+    no_space text at f bound (space_other (drop at text) l m.0 m.1 other)
+
+pub no_leaf : (text : List ℕ) (at : ℕ) (f : Flat) → IsCharBoundary text at → None ≡ moved at (gap_at (drop at text)) → SpaceRead text at f f (Ok at)
+no_leaf text at f bound e = no_space text at f bound (space_nothing (drop at text) (moved_none at (gap_at (drop at text)) e))
+
+pub white_leaf : (text : List ℕ) (at : ℕ) (old new : Flat) (end : ℕ) → IsCharBoundary text at → IsCharBoundary text end → Some (leaf.Ws, end) ≡ moved at (gap_at (drop at text)) → new ≡ with_mark leaf.Ws at old → SpaceRead text at old new (Ok end)
+white_leaf text at old new end bound bound' e is =
+    let m = moved_some at (gap_at (drop at text)) leaf.Ws end e in
+    let n = m.0 in
+    record {
+      part = mark leaf.Ws (take n (drop at text));
+      bound = bound';
+      forward = omega (arith, m.2);
+      is_read = ap done (space_ws (drop at text) n m.1 ∙ ap (λ (t : List ℕ). (mark leaf.Ws (take n (drop at text)), t)) (behind_leaf text at n end m.2));
+      grows = leaf_grows text at n end leaf.Ws old new m.2 bound'.0 bound is;
+    }
+
+-- ---- white space, newlines and comments
+
+-- the leaves so far
+pub record BlankSoFar (text : List ℕ) (at here : ℕ) (old now : Flat) : Type 0 where
+  pub front : Gap
+  pub bound : IsCharBoundary text here
+  pub read : blank_at (drop at text) ≡ (front ++ (blank_at (drop here text)).0, (blank_at (drop here text)).1)
+  pub grows : Grows text old now at here (only front)
+
+pub blank_none : (text : List ℕ) (at : ℕ) (old : Flat) → IsCharBoundary text at → BlankSoFar text at at old old
+blank_none text at old bound = record { front = []; bound = bound; read = refl; grows = grows_nothing text old at }
+
+pub blank_more : (text : List ℕ) (at here : ℕ) (old now new : Flat) (l : Leaf) (end : ℕ) → BlankSoFar text at here old now → Some (l, end) ≡ moved here (gap_at (drop here text)) → here < end → IsCharBoundary text end → new ≡ with_mark l here now → BlankSoFar text at end old new
+blank_more text at here old now new l end s e lt bound is =
+    let m = moved_some here (gap_at (drop here text)) l end e in
+    let n = m.0 in
+    let w = written l n (drop here text) in
+    let step : blank_at (drop here text) ≡ in_front w (blank_at (drop n (drop here text))) = blank_step (drop here text) l n (omega (arith, m.2)) (omega (arith, m.2, length-drop here text, bound.0)) m.1 in
+    let step' : blank_at (drop here text) ≡ in_front w (blank_at (drop end text)) = step ∙ ap (λ (t : List ℕ). in_front w (blank_at t)) (behind_leaf text here n end m.2) in
+    record {
+      front = s.front ++ (w ∷ []);
+      bound = bound;
+      read = s.read ∙ ap (λ (x : Gap × List ℕ). (s.front ++ x.0, x.1)) step' ∙ ap (λ (g : Gap). (g, (blank_at (drop end text)).1)) (sym (append_assoc s.front (w ∷ []) (blank_at (drop end text)).0));
+      grows = grows_then s.grows (leaf_grows text here n end l now new m.2 bound.0 s.bound is);
+    }
+
+pub blank_done : (text : List ℕ) (at here : ℕ) (old now : Flat) → BlankSoFar text at here old now → None ≡ moved here (gap_at (drop here text)) → BlankRead text at old now (Ok here)
+blank_done text at here old now s e =
+    let stop : blank_at (drop here text) ≡ ([], drop here text) = blank_stop (drop here text) (moved_none here (gap_at (drop here text)) e) in
+    record {
+      part = s.front;
+      bound = s.bound;
+      forward = omega (arith, s.grows.place);
+      is_read = ap done (s.read ∙ ap (λ (x : Gap × List ℕ). (s.front ++ x.0, x.1)) stop ∙ ap (λ (g : Gap). (g, drop here text)) (append-nil s.front));
+      grows = s.grows;
+    }
+
+-- ---- the gap that a place allows
+
+pub gap_free : (profile : Profile) (b : Brackets) (text : List ℕ) (at : ℕ) (old new : Flat) (r : Result ℕ ReadFault) → is_free profile b ≡ true → BlankRead text at old new r → PartRead text at 0 (done (gap_in profile b (drop at text))) only old new r
+gap_free profile b text at old new r free h = rw free h
+
+pub gap_tight : (profile : Profile) (b : Brackets) (text : List ℕ) (at : ℕ) (old new : Flat) (r : Result ℕ ReadFault) → is_free profile b ≡ false → SpaceRead text at old new r → PartRead text at 0 (done (gap_in profile b (drop at text))) only old new r
+gap_tight profile b text at old new r free h = rw free h

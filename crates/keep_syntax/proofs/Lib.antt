@@ -1,0 +1,34 @@
+pub mod TokenLaws
+pub mod LoopLaws
+pub mod SpaceLaws
+pub mod KeyLaws
+pub mod ValueLaws
+pub mod AgainLaws
+pub mod WholeLaws
+pub mod DeepLaws
+pub mod FlatLaws
+pub mod LineLaws
+pub mod DocumentLaws
+pub mod DeepLineLaws
+pub mod WiderLaws
+pub mod CountLaws
+pub mod DepthLaws
+pub mod GapCodeLaws
+pub mod KeyCodeLaws
+pub mod StepLaws
+pub mod NumberingLaws
+mod Vectors
+mod Rows
+pub mod PlaceLaws
+pub mod LineNumberingLaws
+pub mod CutLaws
+pub mod DeepestLaws
+pub mod LawLaws
+pub mod ReadLaws
+pub mod LineCodeLaws
+pub mod LineContentLaws
+pub mod LineLoopLaws
+pub mod NumberLaws
+pub mod ValueCodeLaws
+pub mod NestingLaws
+pub mod WholeCodeLaws

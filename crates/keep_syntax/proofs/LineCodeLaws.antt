@@ -1,0 +1,192 @@
+-- What the code keeps of comments, newlines and lines.
+use Rattle.std.proofs.Common.{◌≡◌, ℕ, ◌+◌, ◌<◌, true, List, [], ◌∷◌, length, get_or, drop, Option, Some, None, Ok, Err, refl, sym, ap, ◌∙◌, subst, arith, IsCharBoundary}
+use Rattle.std.proofs.lemmas.List.{append-nil}
+use Rattle.keep_token.specs.declared.leaf.Leaf.{Leaf}
+use Rattle.keep_token.specs.declared.leaf.Leaf.TheVariants as leaf
+use Rattle.keep_token.specs.declared.leaf.Profile.{Profile}
+use Rattle.keep_token.specs.Scanning.{gap_at, moved}
+use Rattle.keep_token.proofs.GapLaws.{white, line, comment, nothing, gap_cases}
+use Rattle.keep_syntax.specs.declared.fault.ReadFault.{ReadFault}
+use Rattle.keep_syntax.specs.declared.info.Start.{Start}
+use Rattle.keep_syntax.specs.declared.info.Statement.{Statement}
+use Rattle.keep_syntax.specs.declared.info.Owner.TheVariants as owner
+use Rattle.keep_syntax.specs.declared.line.Head.{Head}
+use Rattle.keep_syntax.specs.declared.info.StatementKind.TheVariants.{KeyVal, Header, Element}
+use Rattle.keep_syntax.specs.Tree.{Written, Gap, Content, blank, keyval, header, element, Line, content_leaves, line_leaves}
+use Rattle.keep_syntax.specs.Numbered.{width, span, key_count, content_parts, content_values, Count, line_start, line_statements}
+use Rattle.keep_syntax.specs.Reading.{Bad, written, space_at, is_line_end, content_at, after_of, comment_at, line_at}
+use Rattle.keep_syntax.specs.Flat.{Flat, Taken, only, with_mark, Grows, Fails, IsSyntax, SpaceRead}
+use Rattle.keep_syntax.specs.FlatLines.{content_head, content_taken, ContentIs, CommentRead, count_at, line_taken, LineIs, newline_by, NewlineRead}
+use Rattle.keep_syntax.proofs.LoopLaws.{done, ok_is}
+use Rattle.keep_syntax.proofs.FlatLaws.{same_taken, grows_nothing, grows_then, grows_as, grown_keys, grown_values}
+use Rattle.keep_syntax.proofs.GapCodeLaws.{moved_some, moved_none, first-drop, behind_leaf, leaf_grows, fails_bad, fails_through}
+
+-- ---- a comment
+
+comment_other : (text : List ℕ) (l : Leaf) (n : ℕ) → gap_at text ≡ Some (l, n) → (l ≡ leaf.Comment → ⊥) → comment_at text ≡ (None, text)
+unfolding comment_at
+comment_other text l n e other =
+    elim (gap_cases text) [
+      | white r f ↦ rw r refl
+      | line m r f found ↦ rw r refl
+      | comment m r f found stop ↦ absurd (other (let g : Some (l, n) ≡ Some (leaf.Comment, m) = sym e ∙ r in let k : (l, n) ≡ (leaf.Comment, m) = cc in ap (λ (p : Leaf × ℕ). p.0) k))
+      | nothing r f ↦ rw r refl
+    ]
+
+comment_nothing : (text : List ℕ) → gap_at text ≡ None → comment_at text ≡ (None, text)
+unfolding comment_at
+comment_nothing text e = rw e refl
+
+comment_some : (text : List ℕ) (n : ℕ) → gap_at text ≡ Some (leaf.Comment, n) → comment_at text ≡ (Some (written leaf.Comment n text), drop n text)
+unfolding comment_at
+comment_some text n e = rw e refl
+
+no_comment : (text : List ℕ) (at : ℕ) (f : Flat) → IsCharBoundary text at → comment_at (drop at text) ≡ (None, drop at text) → CommentRead text at f f (Ok at)
+no_comment text at f bound e = record { part = None; bound = bound; forward = omega arith; is_read = ap done e; grows = grows_nothing text f at }
+
+pub other_comment : (text : List ℕ) (at : ℕ) (f : Flat) (l : Leaf) (end : ℕ) → IsCharBoundary text at → Some (l, end) ≡ moved at (gap_at (drop at text)) → (l ≡ leaf.Comment → ⊥) → CommentRead text at f f (Ok at)
+other_comment text at f l end bound e other =
+    let m = moved_some at (gap_at (drop at text)) l end e in
+    no_comment text at f bound (comment_other (drop at text) l m.0 m.1 other)
+
+pub none_comment : (text : List ℕ) (at : ℕ) (f : Flat) → IsCharBoundary text at → None ≡ moved at (gap_at (drop at text)) → CommentRead text at f f (Ok at)
+none_comment text at f bound e = no_comment text at f bound (comment_nothing (drop at text) (moved_none at (gap_at (drop at text)) e))
+
+pub some_comment : (text : List ℕ) (at : ℕ) (old new : Flat) (end : ℕ) → IsCharBoundary text at → IsCharBoundary text end → Some (leaf.Comment, end) ≡ moved at (gap_at (drop at text)) → new ≡ with_mark leaf.Comment at old → CommentRead text at old new (Ok end)
+some_comment text at old new end bound bound' e is =
+    let m = moved_some at (gap_at (drop at text)) leaf.Comment end e in
+    let n = m.0 in
+    let w = written leaf.Comment n (drop at text) in
+    record {
+      part = Some w;
+      bound = bound';
+      forward = omega (arith, m.2);
+      is_read = ap done (comment_some (drop at text) n m.1 ∙ ap (λ (t : List ℕ). (Some w, t)) (behind_leaf text at n end m.2));
+      grows = leaf_grows text at n end leaf.Comment old new m.2 bound'.0 bound is;
+    }
+
+-- ---- a newline
+
+newline_other : (text : List ℕ) (l : Leaf) (n : ℕ) → gap_at text ≡ Some (l, n) → (l ≡ leaf.Newline → ⊥) → newline_by text (gap_at text) ≡ Err Bad
+newline_other text l n e other =
+    elim (gap_cases text) [
+      | white r f ↦ rw r refl
+      | line m r f found ↦ absurd (other (let g : Some (l, n) ≡ Some (leaf.Newline, m) = sym e ∙ r in let k : (l, n) ≡ (leaf.Newline, m) = cc in ap (λ (p : Leaf × ℕ). p.0) k))
+      | comment m r f found stop ↦ rw r refl
+      | nothing r f ↦ rw r refl
+    ]
+
+pub other_newline : (text : List ℕ) (at : ℕ) (f : Flat) (l : Leaf) (end : ℕ) (e : ReadFault) → Some (l, end) ≡ moved at (gap_at (drop at text)) → (l ≡ leaf.Newline → ⊥) → IsSyntax e → NewlineRead text at f f (Err e)
+other_newline text at f l end e is other fault =
+    let m = moved_some at (gap_at (drop at text)) l end is in
+    fails_bad text e (newline_by (drop at text) (gap_at (drop at text))) fault (newline_other (drop at text) l m.0 m.1 other)
+
+pub none_newline : (text : List ℕ) (at : ℕ) (f : Flat) (e : ReadFault) → None ≡ moved at (gap_at (drop at text)) → IsSyntax e → NewlineRead text at f f (Err e)
+none_newline text at f e is fault =
+    fails_bad text e (newline_by (drop at text) (gap_at (drop at text))) fault (ap (newline_by (drop at text)) (moved_none at (gap_at (drop at text)) is))
+
+pub some_newline : (text : List ℕ) (at : ℕ) (old new : Flat) (end : ℕ) → at < end → IsCharBoundary text at → IsCharBoundary text end → Some (leaf.Newline, end) ≡ moved at (gap_at (drop at text)) → new ≡ with_mark leaf.Newline at old → NewlineRead text at old new (Ok end)
+some_newline text at old new end lt bound bound' e is =
+    let m = moved_some at (gap_at (drop at text)) leaf.Newline end e in
+    let n = m.0 in
+    let w = written leaf.Newline n (drop at text) in
+    record {
+      part = w;
+      bound = bound';
+      forward = omega arith;
+      is_read = ap (newline_by (drop at text)) m.1 ∙ ap (λ (t : List ℕ). done (w, t)) (behind_leaf text at n end m.2);
+      grows = leaf_grows text at n end leaf.Newline old new m.2 bound'.0 bound is;
+    }
+
+-- ---- a line
+
+-- white space adds no value and no key part
+pub space_grown : (text : List ℕ) (at begin : ℕ) (old new : Flat) → SpaceRead text at old new (Ok begin) → (length new.values ≡ length old.values) × (length new.keys ≡ length old.keys)
+space_grown text at begin old new s = (omega (arith, grown_values (only s.part) s.grows), omega (arith, grown_keys (only s.part) s.grows))
+
+pub line_fails : (profile : Profile) (room : ℕ) (text : List ℕ) (at begin : ℕ) (old new : Flat) (e : ReadFault) → SpaceRead text at old new (Ok begin) → Fails text e (content_at profile room (drop begin text)) → Fails text e (line_at profile room (drop at text))
+unfolding line_at
+line_fails profile room text at begin old new e s k =
+    fails_through text e (content_at profile room (drop begin text)) (line_at profile room (drop at text)) (λ f h. rw (ok_is (space_at (drop at text)) (s.part, drop begin text) s.is_read, h) refl) k
+
+line_reads : (profile : Profile) (room : ℕ) (text : List ℕ) (at begin close behind end : ℕ) (g a : Gap) (c : Content) (k : Option Written) → space_at (drop at text) ≡ (g, drop begin text) → content_at profile room (drop begin text) ≡ Ok (c, drop close text)
+    → after_of c (drop close text) ≡ (a, drop behind text) → comment_at (drop behind text) ≡ (k, drop end text) → line_at profile room (drop at text) ≡ Ok (record { before = g; content = c; after = a; comment = k }, drop end text)
+unfolding line_at
+line_reads profile room text at begin close behind end g a c k e1 e2 e3 e4 = rw (e1, e2, e3, e4) refl
+
+blank_content : (profile : Profile) (room : ℕ) (text : List ℕ) (at : ℕ) → is_line_end (get_or text at 0) ≡ true → content_at profile room (drop at text) ≡ Ok (blank, drop at text)
+unfolding content_at
+blank_content profile room text at e = rw (first-drop text at, e) refl
+
+-- a line without a keyval or a header
+pub line_blank : (profile : Profile) (room : ℕ) (text : List ℕ) (at begin end : ℕ) (old f1 new : Flat) → SpaceRead text at old f1 (Ok begin) → is_line_end (get_or text begin 0) ≡ true → CommentRead text begin f1 new (Ok end) → LineIs profile room text at old new end None
+line_blank profile room text at begin end old f1 new s e k =
+    let l : Line = record { before = s.part; content = blank; after = []; comment = k.part } in
+    record {
+      read = record {
+        part = l;
+        bound = k.bound;
+        forward = omega (arith, s.forward, k.forward);
+        is_read = line_reads profile room text at begin begin begin end s.part [] blank k.part (ok_is (space_at (drop at text)) (s.part, drop begin text) s.is_read) (blank_content profile room text begin e) refl (ok_is (comment_at (drop begin text)) (k.part, drop end text) k.is_read);
+        grows = grows_then s.grows k.grows;
+      };
+      told = refl;
+    }
+
+-- white space may follow what is not blank
+after_space : (p : Start) (c : Content) (h : Head) (text : List ℕ) → content_head p c ≡ Some h → after_of c text ≡ space_at text
+after_space p blank h text e = absurd cc
+after_space p (keyval name value) h text e = refl
+after_space p (header before key behind) h text e = refl
+after_space p (element before key behind) h text e = refl
+
+abbrev told_by : Head → ℕ → ℕ → ℕ → ℕ → ℕ → Statement
+told_by h begin close at end parts = record { kind = h.kind; span = span begin close; line = span at end; first_key = parts; keys = h.keys; value = h.value }
+
+-- the statement of a line with this content
+told_is : (p : Start) (c : Content) (h : Head) (n : Count) (g a : Gap) (k : Option Written) (begin close end : ℕ) → content_head p c ≡ Some h → begin ≡ n.at + width g → close ≡ begin + width (content_leaves c) → p.values ≡ n.values
+    → told_by h begin close n.at end n.parts ∷ [] ≡ line_statements n (record { before = g; content = c; after = a; comment = k }) end
+told_is p blank h n g a k begin close end e e1 e2 e3 = absurd cc
+told_is p (keyval name value) h n g a k begin close end e e1 e2 e3 =
+    let w = width (content_leaves (keyval name value)) in
+    let head : ℕ → Head = λ v. record { kind = KeyVal; keys = key_count name.key; value = Some v } in
+    let is : head p.values ≡ h = cc in
+    let told : ℕ → ℕ → Head → List Statement = λ b x q. told_by q b x n.at end n.parts ∷ [] in
+    ap (told begin close) (sym is) ∙ ap (λ (x : ℕ). told begin x (head p.values)) e2 ∙ ap (λ (b : ℕ). told b (b + w) (head p.values)) e1 ∙ ap (λ (v : ℕ). told (n.at + width g) ((n.at + width g) + w) (head v)) e3
+told_is p (header before key behind) h n g a k begin close end e e1 e2 e3 =
+    let w = width (content_leaves (header before key behind)) in
+    let head : Head = record { kind = Header; keys = key_count key; value = None } in
+    let is : head ≡ h = cc in
+    let told : ℕ → ℕ → Head → List Statement = λ b x q. told_by q b x n.at end n.parts ∷ [] in
+    ap (told begin close) (sym is) ∙ ap (λ (x : ℕ). told begin x head) e2 ∙ ap (λ (b : ℕ). told b (b + w) head) e1
+told_is p (element before key behind) h n g a k begin close end e e1 e2 e3 =
+    let w = width (content_leaves (element before key behind)) in
+    let head : Head = record { kind = Element; keys = key_count key; value = None } in
+    let is : head ≡ h = cc in
+    let told : ℕ → ℕ → Head → List Statement = λ b x q. told_by q b x n.at end n.parts ∷ [] in
+    ap (told begin close) (sym is) ∙ ap (λ (x : ℕ). told begin x head) e2 ∙ ap (λ (b : ℕ). told b (b + w) head) e1
+
+pub line_is : (profile : Profile) (room : ℕ) (text : List ℕ) (at begin close behind end : ℕ) (old f1 f2 f3 new : Flat) (p : Start) (h : Head) → SpaceRead text at old f1 (Ok begin)
+    → p ≡ record { at = begin; values = length old.values; parts = length old.keys; owner = owner.Line (length old.statements); depth = 0; comma = None } → ContentIs profile room text p f1 f2 close h
+    → SpaceRead text close f2 f3 (Ok behind) → CommentRead text behind f3 new (Ok end) → LineIs profile room text at old new end (Some (told_by h begin close at end (length old.keys)))
+line_is profile room text at begin close behind end old f1 f2 f3 new p h s pe con a k =
+    let n = count_at at old in
+    let r = con.read in
+    let c = r.part in
+    let l : Line = record { before = s.part; content = c; after = a.part; comment = k.part } in
+    let pat : p.at ≡ begin = ap (λ (q : Start). q.at) pe in
+    let ps : p ≡ line_start n l = pe ∙ ap (λ (m : ℕ). let q : Start = record { at = m; values = length old.values; parts = length old.keys; owner = owner.Line (length old.statements); depth = 0; comma = None } in q) s.grows.place in
+    let grown : Grows text f1 f2 begin close (content_taken p c) = subst (λ (m : ℕ). Grows text f1 f2 m close (content_taken p c)) pat r.grows in
+    let g = grows_then s.grows (grows_then grown (grows_then a.grows k.grows)) in
+    let taken : Start → Taken = λ q. record { leaves = line_leaves l; statements = []; keys = content_parts q.at c; values = content_values q c } in
+    record {
+      read = record {
+        part = l;
+        bound = k.bound;
+        forward = omega (arith, s.forward, pat, r.forward, a.forward, k.forward);
+        is_read = line_reads profile room text at begin close behind end s.part a.part c k.part (ok_is (space_at (drop at text)) (s.part, drop begin text) s.is_read) (ap (λ (m : ℕ). content_at profile room (drop m text)) (sym pat) ∙ r.is_read)
+            (after_space p c h (drop close text) con.told ∙ ok_is (space_at (drop close text)) (a.part, drop behind text) a.is_read) (ok_is (comment_at (drop behind text)) (k.part, drop end text) k.is_read);
+        grows = grows_as (line_taken n l) (same_taken _ (taken p) refl refl (append-nil (content_parts p.at c)) (append-nil (content_values p c)) ∙ ap taken ps) g;
+      };
+      told = told_is p c h n s.part a.part k.part begin close end con.told s.grows.place (omega (arith, r.grows.place, pat)) (ap (λ (q : Start). q.values) pe);
+    }

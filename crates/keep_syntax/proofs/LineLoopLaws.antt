@@ -1,0 +1,205 @@
+-- What the code keeps of lines, one behind the other.
+use Rattle.std.proofs.Common.{◌≡◌, ℕ, ◌+◌, ◌<◌, List, [], ◌∷◌, ◌++◌, length, drop, Option, Some, None, Result, Ok, Err, refl, sym, ap, ◌∙◌, subst, arith, IsCharBoundary}
+use Rattle.std.specs.Prelude.{OnOk, IsOkUnless}
+use Rattle.std.specs.List.{flat_map}
+use Rattle.std.proofs.lemmas.List.{append-nil, drop_all, length-drop}
+use Rattle.std.proofs.lemmas.Grind.{flat_map-append}
+use Rattle.keep_token.specs.declared.leaf.Leaf.TheVariants as leaf
+use Rattle.keep_token.specs.declared.leaf.Profile.{Profile}
+use Rattle.keep_token.specs.Scanning.{gap_at}
+use Rattle.keep_token.proofs.GapLaws.{Gaps, white, line, comment, nothing, gap_cases}
+use Rattle.keep_syntax.specs.declared.fault.ReadFault.{ReadFault}
+use Rattle.keep_syntax.specs.declared.fault.ReadFault.TheVariants as faults
+use Rattle.keep_syntax.specs.declared.info.Statement.{Statement}
+use Rattle.keep_syntax.specs.Tree.{Written, Content, blank, keyval, header, element, Line, Ended, line_leaves, ended_leaves}
+use Rattle.keep_syntax.specs.Numbered.{width, Count, line_parts, line_values, line_statements, content_statements, behind_lines}
+use Rattle.keep_syntax.specs.Reading.{Fault, Bad, written, line_at, lines_of}
+use Rattle.keep_syntax.specs.Flat.{Flat, Taken, only, both, add_at, Grows, PartIs, Fails}
+use Rattle.keep_syntax.specs.FlatLines.{count_at, statement_list, LineIs, newline_by, NewlineRead, ended_list, with_statements, lines_taken, LinesRead}
+use Rattle.keep_syntax.proofs.LoopLaws.{done}
+use Rattle.keep_syntax.proofs.StepLaws.{lines_newline, lines_last, lines_err, lines_bad}
+use Rattle.keep_syntax.proofs.LineNumberingLaws.{over_ended, ended-snoc, over-last, behind_lines-at, behind_lines-statements, behind_lines-parts, behind_lines-values}
+use Rattle.keep_syntax.proofs.FlatLaws.{same_flat, same_taken, grows_nothing, grows_then, grows_as, grown_keys, grown_values, grown_statements}
+use Rattle.keep_syntax.proofs.GapCodeLaws.{fails_memory, fails_through}
+
+-- ---- a newline
+
+newline_found : (text : List ℕ) (w : Written) (rest : List ℕ) → newline_by text (gap_at text) ≡ Ok (w, rest) → (n : ℕ) × (gap_at text ≡ Some (leaf.Newline, n)) × (w ≡ written leaf.Newline n text) × (rest ≡ drop n text)
+newline_found text w rest e = by (gap_cases text)
+  where
+    by : Gaps text (gap_at text) → (n : ℕ) × (gap_at text ≡ Some (leaf.Newline, n)) × (w ≡ written leaf.Newline n text) × (rest ≡ drop n text)
+    by (white r f) = absurd (let never = rw r at e in cc)
+    by (line n r f found) =
+        let is : done (written leaf.Newline n text, drop n text) ≡ done (w, rest) = rw r at e in
+        let pair : (written leaf.Newline n text, drop n text) ≡ (w, rest) = cc in
+        (n, r, sym (ap (λ (p : Written × List ℕ). p.0) pair), sym (ap (λ (p : Written × List ℕ). p.1) pair))
+    by (comment n r f found stop) = absurd (let never = rw r at e in cc)
+    by (nothing r f) = absurd (let never = rw r at e in cc)
+
+newline_bad : (text : List ℕ) (d : Fault) → newline_by text (gap_at text) ≡ Err d → d ≡ Bad
+newline_bad text d e = by (gap_cases text)
+  where
+    by : Gaps text (gap_at text) → d ≡ Bad
+    by (white r f) = let is = rw r at e in cc
+    by (line n r f found) = absurd (let never = rw r at e in cc)
+    by (comment n r f found stop) = let is = rw r at e in cc
+    by (nothing r f) = let is = rw r at e in cc
+
+newline_not : (text : List ℕ) (d : Fault) (n : ℕ) → newline_by text (gap_at text) ≡ Err d → gap_at text ≡ Some (leaf.Newline, n) → ⊥
+newline_not text d n e g = let never = rw g at e in absurd cc
+
+-- ---- a line's statement, with another end of the line
+
+ended_content : (c : Count) (l : Line) (s : Option Statement) (x y : ℕ) (k : Content) → statement_list s ≡ content_statements c l x k → ended_list y s ≡ content_statements c l y k
+ended_content c l None x y blank e = refl
+ended_content c l (Some s) x y blank e = absurd cc
+ended_content c l None x y (keyval name value) e = absurd cc
+ended_content c l (Some s) x y (keyval name value) e = moved s _ e
+  where
+    moved : (s t : Statement) → statement_list (Some s) ≡ t ∷ [] → ended_list y (Some s) ≡ ended_list y (Some t)
+    moved s t e = let is : s ≡ t = cc in ap (λ (q : Statement). ended_list y (Some q)) is
+ended_content c l None x y (header before key behind) e = absurd cc
+ended_content c l (Some s) x y (header before key behind) e = moved s _ e
+  where
+    moved : (s t : Statement) → statement_list (Some s) ≡ t ∷ [] → ended_list y (Some s) ≡ ended_list y (Some t)
+    moved s t e = let is : s ≡ t = cc in ap (λ (q : Statement). ended_list y (Some q)) is
+ended_content c l None x y (element before key behind) e = absurd cc
+ended_content c l (Some s) x y (element before key behind) e = moved s _ e
+  where
+    moved : (s t : Statement) → statement_list (Some s) ≡ t ∷ [] → ended_list y (Some s) ≡ ended_list y (Some t)
+    moved s t e = let is : s ≡ t = cc in ap (λ (q : Statement). ended_list y (Some q)) is
+
+ended_is : (c : Count) (l : Line) (s : Option Statement) (x y : ℕ) → statement_list s ≡ line_statements c l x → ended_list y s ≡ line_statements c l y
+ended_is c l s x y e = ended_content c l s x y l.content e
+
+-- ---- what is kept
+
+abbrev told_taken : List Statement → Taken
+told_taken ss = record { leaves = []; statements = ss; keys = []; values = [] }
+
+grows_told : (text : List ℕ) (ss : List Statement) (old new : Flat) (at : ℕ) → new ≡ with_statements ss old → Grows text old new at at (told_taken ss)
+unfolding add_at
+grows_told text ss old new at e = record {
+  place = omega arith;
+  kept = e ∙ same_flat (with_statements ss old) (add_at old at (told_taken ss)) (sym (append-nil old.kinds)) (sym (append-nil old.starts)) refl (sym (append-nil old.keys)) (sym (append-nil old.values));
+  bounds = tt;
+}
+
+-- a line with its newline
+abbrev one_taken : Count → Ended → Taken
+one_taken c e = record { leaves = ended_leaves e; statements = line_statements c e.line (c.at + width (ended_leaves e)); keys = line_parts c e.line; values = line_values c e.line }
+
+-- the last line
+abbrev last_taken : Count → Line → Taken
+last_taken c l = record { leaves = line_leaves l; statements = line_statements c l (c.at + width (line_leaves l)); keys = line_parts c l; values = line_values c l }
+
+abbrev pub all_taken : Count → List Ended → Taken
+all_taken c es = record {
+  leaves = flat_map ended_leaves es;
+  statements = over_ended line_statements c es;
+  keys = over_ended (λ c l line_end. line_parts c l) c es;
+  values = over_ended (λ c l line_end. line_values c l) c es;
+}
+
+all_snoc : (c : Count) (es : List Ended) (e : Ended) → both (all_taken c es) (one_taken (behind_lines c es) e) ≡ all_taken c (es ++ (e ∷ []))
+all_snoc c es e =
+    same_taken _ (all_taken c (es ++ (e ∷ [])))
+    (ap (λ (ws : List Written). flat_map ended_leaves es ++ ws) (sym (append-nil (ended_leaves e))) ∙ sym (flat_map-append ended_leaves es (e ∷ [])))
+    (sym (ended-snoc line_statements c es e))
+    (sym (ended-snoc (λ c l line_end. line_parts c l) c es e))
+    (sym (ended-snoc (λ c l line_end. line_values c l) c es e))
+
+all_last : (c : Count) (es : List Ended) (l : Line) → both (all_taken c es) (last_taken (behind_lines c es) l) ≡ lines_taken c (es, l)
+all_last c es l =
+    same_taken _ (lines_taken c (es, l)) refl
+    (sym (over-last line_statements c es l))
+    (sym (over-last (λ c l line_end. line_parts c l) c es l))
+    (sym (over-last (λ c l line_end. line_values c l) c es l))
+
+pub same_count : (a b : Count) → a.at ≡ b.at → a.statements ≡ b.statements → a.parts ≡ b.parts → a.values ≡ b.values → a ≡ b
+same_count a b e1 e2 e3 e4 =
+    ap (λ (x : ℕ). record a { at = x }) e1 ∙ ap (λ (x : ℕ). record a { at = b.at; statements = x }) e2 ∙ ap (λ (x : ℕ). record b { parts = x; values = a.values }) e3 ∙ ap (λ (x : ℕ). record b { values = x }) e4
+
+-- what is kept tells what comes before the next line
+count_is : (text : List ℕ) (begin here : ℕ) (old now : Flat) (es : List Ended) → Grows text old now begin here (all_taken (count_at begin old) es) → count_at here now ≡ behind_lines (count_at begin old) es
+count_is text begin here old now es g =
+    let c = count_at begin old in
+    same_count (count_at here now) (behind_lines c es)
+    (g.place ∙ sym (behind_lines-at c es))
+    (grown_statements (all_taken c es) g ∙ sym (behind_lines-statements c es))
+    (grown_keys (all_taken c es) g ∙ sym (behind_lines-parts c es))
+    (grown_values (all_taken c es) g ∙ sym (behind_lines-values c es))
+
+-- ---- the loop
+
+-- the lines so far
+pub record LinesSoFar (profile : Profile) (room : ℕ) (text : List ℕ) (begin here : ℕ) (old now : Flat) : Type 0 where
+  pub front : List Ended
+  pub bound : IsCharBoundary text here
+  pub read : lines_of profile room [] (drop begin text) ≡ lines_of profile room front (drop here text)
+  pub grows : Grows text old now begin here (all_taken (count_at begin old) front)
+
+pub lines_none : (profile : Profile) (room : ℕ) (text : List ℕ) (begin : ℕ) (old : Flat) → IsCharBoundary text begin → LinesSoFar profile room text begin begin old old
+lines_none profile room text begin old bound = record { front = []; bound = bound; read = refl; grows = grows_nothing text old begin }
+
+pub lines_fail : (profile : Profile) (room : ℕ) (text : List ℕ) (begin here : ℕ) (old now : Flat) (e : ReadFault) → LinesSoFar profile room text begin here old now → Fails text e (line_at profile room (drop here text)) → Fails text e (lines_of profile room [] (drop begin text))
+lines_fail profile room text begin here old now e s k =
+    fails_through text e (line_at profile room (drop here text)) (lines_of profile room [] (drop begin text)) (λ d h. s.read ∙ lines_err profile room s.front (drop here text) d h) k
+
+pub lines_refuse : (profile : Profile) (room : ℕ) (text : List ℕ) (begin here close : ℕ) (st : Option Statement) (old now f1 f2 : Flat) (e : ReadFault) → LinesSoFar profile room text begin here old now → LineIs profile room text here now f1 close st → (close ≡ length text → ⊥)
+    → NewlineRead text close f1 f2 (Err e) → Fails text e (lines_of profile room [] (drop begin text))
+lines_refuse profile room text begin here close st old now f1 f2 e s i more k =
+    let rest = drop close text in
+    let some : 0 < length rest = omega (arith, length-drop close text, i.read.bound.0, more) in
+    fails_through text e (newline_by rest (gap_at rest)) (lines_of profile room [] (drop begin text))
+    (λ d h. s.read ∙ lines_bad profile room s.front (drop here text) i.read.part rest i.read.is_read some (λ n g. newline_not rest d n h g) ∙ ap Err (sym (newline_bad rest d h))) k
+
+pub lines_more : (profile : Profile) (room : ℕ) (text : List ℕ) (begin here close end : ℕ) (st : Option Statement) (old now f1 f2 new : Flat) → LinesSoFar profile room text begin here old now → LineIs profile room text here now f1 close st
+    → NewlineRead text close f1 f2 (Ok end) → new ≡ with_statements (ended_list end st) f2 → LinesSoFar profile room text begin end old new
+lines_more profile room text begin here close end st old now f1 f2 new s i nl is =
+    let c = count_at begin old in
+    let n = count_at here now in
+    let l = i.read.part in
+    let w = nl.part in
+    let e : Ended = record { line = l; newline = w } in
+    let found = newline_found (drop close text) w (drop end text) nl.is_read in
+    let ss = ended_list end st in
+    let g = grows_then i.read.grows (grows_then nl.grows (grows_told text ss f2 new end is)) in
+    let told : ss ≡ line_statements n l (n.at + width (ended_leaves e)) = ended_is n l st close end i.told ∙ ap (line_statements n l) g.place in
+    let one : Grows text now new here end (one_taken n e) = grows_as (one_taken n e) (same_taken _ (one_taken n e) refl told (append-nil (line_parts n l)) (append-nil (line_values n l))) g in
+    let counted : Grows text now new here end (one_taken (behind_lines c s.front) e) = grows_as (one_taken (behind_lines c s.front) e) (ap (λ (m : Count). one_taken m e) (count_is text begin here old now s.front s.grows)) one in
+    record {
+      front = s.front ++ (e ∷ []);
+      bound = nl.bound;
+      read = s.read ∙ lines_newline profile room s.front (drop here text) l (drop close text) found.0 i.read.is_read found.1
+          ∙ ap (λ (x : Written). let d : Ended = record { line = l; newline = x } in lines_of profile room (s.front ++ (d ∷ [])) (drop found.0 (drop close text))) (sym found.2)
+          ∙ ap (λ (t : List ℕ). lines_of profile room (s.front ++ (e ∷ [])) t) (sym found.3);
+      grows = grows_as (all_taken c (s.front ++ (e ∷ []))) (all_snoc c s.front e) (grows_then s.grows counted);
+    }
+
+lines_end : (profile : Profile) (room : ℕ) (text : List ℕ) (begin here close : ℕ) (st : Option Statement) (old now f1 new : Flat) → LinesSoFar profile room text begin here old now → LineIs profile room text here now f1 close st
+    → new ≡ with_statements (ended_list close st) f1 → close ≡ length text → PartIs text begin 0 (lines_of profile room [] (drop begin text)) (lines_taken (count_at begin old)) old new (length text)
+lines_end profile room text begin here close st old now f1 new s i is at_end =
+    let c = count_at begin old in
+    let n = count_at here now in
+    let l = i.read.part in
+    let ss = ended_list close st in
+    let g = grows_then i.read.grows (grows_told text ss f1 new close is) in
+    let told : ss ≡ line_statements n l (n.at + width (line_leaves l)) = ended_is n l st close close i.told ∙ ap (line_statements n l) i.read.grows.place in
+    let one : Grows text now new here close (last_taken n l) = grows_as (last_taken n l) (same_taken _ (last_taken n l) (append-nil (line_leaves l)) told (append-nil (line_parts n l)) (append-nil (line_values n l))) g in
+    let counted : Grows text now new here close (last_taken (behind_lines c s.front) l) = grows_as (last_taken (behind_lines c s.front) l) (ap (λ (m : Count). last_taken m l) (count_is text begin here old now s.front s.grows)) one in
+    let whole : Grows text old new begin close (lines_taken c (s.front, l)) = grows_as (lines_taken c (s.front, l)) (all_last c s.front l) (grows_then s.grows counted) in
+    let nothing_left : drop close text ≡ [] = drop_all close text (omega (arith, at_end)) in
+    let nothing_behind : drop (length text) text ≡ [] = drop_all (length text) text (omega arith) in
+    record {
+      part = (s.front, l);
+      bound = subst (λ (m : ℕ). IsCharBoundary text m) at_end i.read.bound;
+      forward = omega (arith, s.grows.place, i.read.forward, at_end);
+      is_read = s.read ∙ lines_last profile room s.front (drop here text) l (i.read.is_read ∙ ap (λ (t : List ℕ). done (l, t)) nothing_left) ∙ ap (λ (t : List ℕ). done ((s.front, l), t)) (sym nothing_behind);
+      grows = subst (λ (m : ℕ). Grows text old new begin m (lines_taken c (s.front, l))) at_end whole;
+    }
+
+pub lines_told : {A : Type 0} (profile : Profile) (room : ℕ) (text : List ℕ) (begin here close : ℕ) (st : Option Statement) (old now f1 new : Flat) (r : Result A ReadFault) → LinesSoFar profile room text begin here old now → LineIs profile room text here now f1 close st
+    → OnOk r (new ≡ with_statements (ended_list close st) f1) → IsOkUnless r faults.Memory → close ≡ length text → LinesRead profile room text begin old new r
+lines_told profile room text begin here close st old now f1 new (Ok x) s i is only at_end = lines_end profile room text begin here close st old now f1 new s i is at_end
+lines_told profile room text begin here close st old now f1 new (Err e) s i is only at_end = fails_memory text e (lines_of profile room [] (drop begin text)) only

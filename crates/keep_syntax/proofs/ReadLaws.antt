@@ -1,0 +1,153 @@
+-- What was kept of a text is the syntax of its document, or of its value, and a fault tells what the grammar says.
+use Rattle.std.proofs.Common.{◌≡◌, ℕ, ◌+◌, ◌≤◌, List, [], ◌∷◌, ◌++◌, length, Result, Ok, refl, sym, ap, ◌∙◌, subst, arith, add-one, IsCharBoundary}
+use Rattle.std.specs.List.{AllByRecursion}
+use Rattle.std.proofs.lemmas.List.{append-nil}
+use Rattle.std.proofs.lemmas.Str.{IsCharBoundary-end}
+use Rattle.keep_token.specs.declared.leaf.Profile.{Profile}
+use Rattle.keep_token.specs.declared.leaf.Leaf.TheVariants as leaf
+use Rattle.keep_syntax.specs.declared.fault.ReadFault.{ReadFault}
+use Rattle.keep_syntax.specs.declared.fault.ReadFault.TheVariants as faults
+use Rattle.keep_syntax.specs.declared.parts.Parts.{Parts}
+use Rattle.keep_syntax.specs.declared.info.ValueInfo.{ValueInfo}
+use Rattle.keep_syntax.specs.declared.syntax.Syntax.{Syntax}
+use Rattle.keep_syntax.specs.declared.alone.ValueSyntax.{ValueSyntax}
+use Rattle.keep_syntax.specs.Tree.{Document, Value, text_of, mark, leaves, text}
+use Rattle.keep_syntax.specs.Grammar.{Reads, ReadsValue}
+use Rattle.keep_syntax.specs.Numbered.{placed, tokens}
+use Rattle.keep_syntax.specs.Reading.{Fault, read_document, read_one_value}
+use Rattle.keep_syntax.specs.Flat.{Flat, flat, kinds, starts, add_at, Fails}
+use Rattle.keep_syntax.specs.Cut.{start_in, cut, cut_by}
+use Rattle.keep_syntax.specs.FlatLines.{DocumentIs, OneIs}
+use Rattle.keep_syntax.specs.Contract.{IsSyntaxOf, IsTextOf, IsValueSyntaxOf, tokens_of, values_of, values_alone, IsFaultOf, IsValueFaultOf}
+use Rattle.keep_syntax.specs.Nesting.{IsWithin, deepest}
+use Rattle.keep_syntax.proofs.LoopLaws.{ok_is}
+use Rattle.keep_syntax.proofs.SpaceLaws.{text_of-append}
+use Rattle.keep_syntax.proofs.WholeLaws.{value_found, value_read, value_bad}
+use Rattle.keep_syntax.proofs.DocumentLaws.{document_found, document_read, document_bad}
+use Rattle.keep_syntax.proofs.DeepLaws.{value_deep}
+use Rattle.keep_syntax.proofs.DeepLineLaws.{document_deep}
+use Rattle.keep_syntax.proofs.CountLaws.{inner_leaves, leaves_end, leaves_count, marks_count}
+use Rattle.keep_syntax.proofs.PlaceLaws.{marks_placed}
+use Rattle.keep_syntax.proofs.DepthLaws.{values_within, value_values_within}
+use Rattle.keep_syntax.proofs.DeepestLaws.{deepest_alone}
+use Rattle.keep_syntax.proofs.CutLaws.{cut_placed, start_holds, start_forward}
+
+-- ---- documents
+
+abbrev syntax_of : Parts → Syntax
+syntax_of p = record { parts = p }
+
+inner_text : (d : Document) → text d ≡ text_of (inner_leaves d)
+inner_text d = ap text_of (leaves_end d) ∙ text_of-append (inner_leaves d) (mark leaf.End []) ∙ append-nil (text_of (inner_leaves d))
+
+tokens_are : (d : Document) → cut (text d) (kinds (inner_leaves d) ++ (leaf.End ∷ [])) (starts 0 (inner_leaves d)) ≡ tokens d
+tokens_are d = cut_placed (text d) [] (inner_leaves d) 0 refl (inner_text d) ∙ ap (placed 0) (sym (leaves_end d))
+
+pub is_syntax : (profile : Profile) (limit : ℕ) (bytes : List ℕ) (p : Parts) (h : DocumentIs profile limit bytes (flat p)) → IsSyntaxOf (syntax_of p) h.document
+unfolding add_at
+is_syntax profile limit bytes p h =
+    let d = h.document in
+    let kept = h.grows.kept in
+    record {
+      tokens = ap (λ (f : Flat). cut_by f (text d)) kept ∙ tokens_are d;
+      statements = ap (λ (f : Flat). f.statements) kept;
+      parts = ap (λ (f : Flat). f.keys) kept;
+      values = ap (λ (f : Flat). f.values) kept;
+    }
+
+pub is_read : (profile : Profile) (limit : ℕ) (bytes : List ℕ) (p : Parts) (h : DocumentIs profile limit bytes (flat p)) → Reads profile limit bytes h.document
+is_read profile limit bytes p h = document_found profile limit bytes h.document h.is_read
+
+pub found : (profile : Profile) (limit : ℕ) (bytes : List ℕ) (p : Parts) → DocumentIs profile limit bytes (flat p) → (d : Document) × Reads profile limit bytes d × IsSyntaxOf (syntax_of p) d
+found profile limit bytes p h = (h.document, is_read profile limit bytes p h, is_syntax profile limit bytes p h)
+
+pub only : (profile : Profile) (limit : ℕ) (bytes : List ℕ) (p : Parts) → DocumentIs profile limit bytes (flat p) → (d : Document) → Reads profile limit bytes d → IsSyntaxOf (syntax_of p) d
+only profile limit bytes p h d r =
+    subst (λ (x : Document). IsSyntaxOf (syntax_of p) x) (ok_is h.document d (sym h.is_read ∙ document_read profile limit bytes d r)) (is_syntax profile limit bytes p h)
+
+pub of_text : (profile : Profile) (limit : ℕ) (bytes : List ℕ) (p : Parts) → DocumentIs profile limit bytes (flat p) → IsTextOf (syntax_of p) bytes
+unfolding add_at
+of_text profile limit bytes p h =
+    let d = h.document in
+    let inner = inner_leaves d in
+    let spelled = (is_read profile limit bytes p h).spelled in
+    let begin : (flat p).starts ≡ starts 0 inner = ap (λ (f : Flat). f.starts) h.grows.kept in
+    record {
+      document = d;
+      spelled = spelled;
+      is = is_syntax profile limit bytes p h;
+      cuts = λ n. subst (λ (ss : List ℕ). IsCharBoundary bytes (start_in bytes ss n)) (sym begin) (start_holds (IsCharBoundary bytes) bytes (starts 0 inner) h.grows.bounds (IsCharBoundary-end bytes) n);
+      forward = λ n. subst (λ (ss : List ℕ). start_in bytes ss n ≤ start_in bytes ss (n + 1)) (sym begin)
+          (subst (λ (m : ℕ). start_in bytes (starts 0 inner) n ≤ start_in bytes (starts 0 inner) m) (sym (add-one n)) (start_forward bytes 0 inner (omega (arith, ap length (spelled ∙ inner_text d))) n));
+    }
+
+pub within : (profile : Profile) (limit : ℕ) (bytes : List ℕ) (p : Parts) → DocumentIs profile limit bytes (flat p) → AllByRecursion (IsWithin limit) (values_of (syntax_of p))
+within profile limit bytes p h =
+    subst (λ (vs : List ValueInfo). AllByRecursion (IsWithin limit) vs) (sym (is_syntax profile limit bytes p h).values) (values_within profile limit bytes h.document (is_read profile limit bytes p h))
+
+pub few : (profile : Profile) (limit : ℕ) (bytes : List ℕ) (p : Parts) → DocumentIs profile limit bytes (flat p) → length (tokens_of (syntax_of p) bytes) ≤ length bytes + 1
+few profile limit bytes p h =
+    let r = is_read profile limit bytes p h in
+    let same : length (tokens_of (syntax_of p) bytes) ≡ length (tokens h.document) = ap (λ (b : List ℕ). length (tokens_of (syntax_of p) b)) r.spelled ∙ ap length (is_syntax profile limit bytes p h).tokens in
+    omega (arith, same, marks_placed 0 (leaves h.document), marks_count 0 (leaves h.document), leaves_count profile limit bytes h.document r)
+
+-- what is read leaves no fault but want of memory
+memory_only : {A : Type 0} (bytes : List ℕ) (e : ReadFault) (r : Result A Fault) (x : A) → Fails bytes e r → r ≡ Ok x → e ≡ faults.Memory
+memory_only bytes faults.Memory r x f k = refl
+memory_only bytes (faults.Syntax at what) r x f k = absurd (let clash = sym f ∙ k in cc)
+memory_only bytes (faults.TooDeep at) r x f k = absurd (let clash = sym f.1 ∙ k in cc)
+memory_only bytes (faults.Utf8 at) r x f k = absurd f
+memory_only bytes (faults.Define at why) r x f k = absurd f
+
+pub only_memory : (profile : Profile) (limit : ℕ) (bytes : List ℕ) (e : ReadFault) → Fails bytes e (read_document profile limit bytes) → (d : Document) → Reads profile limit bytes d → e ≡ faults.Memory
+only_memory profile limit bytes e f d r = memory_only bytes e (read_document profile limit bytes) d f (document_read profile limit bytes d r)
+
+pub is_fault : (profile : Profile) (limit : ℕ) (bytes : List ℕ) (e : ReadFault) → Fails bytes e (read_document profile limit bytes) → IsFaultOf profile limit bytes e
+is_fault profile limit bytes faults.Memory f = tt
+is_fault profile limit bytes (faults.Syntax at what) f = λ d v e. document_bad profile limit bytes f d v e
+is_fault profile limit bytes (faults.TooDeep at) f = document_deep profile limit bytes at f.0 f.1
+is_fault profile limit bytes (faults.Utf8 at) f = absurd f
+is_fault profile limit bytes (faults.Define at why) f = absurd f
+
+-- ---- values
+
+abbrev value_syntax_of : Parts → ℕ → ValueSyntax
+value_syntax_of p depth = record { parts = p; depth = depth }
+
+pub value_is_read : (profile : Profile) (limit : ℕ) (bytes : List ℕ) (p : Parts) (h : OneIs profile limit bytes (flat p)) → ReadsValue profile limit bytes h.value
+value_is_read profile limit bytes p h = value_found profile limit bytes h.value h.is_read
+
+values_are : (profile : Profile) (limit : ℕ) (bytes : List ℕ) (p : Parts) (h : OneIs profile limit bytes (flat p)) → (flat p).values ≡ values_alone h.value
+unfolding add_at
+values_are profile limit bytes p h = ap (λ (f : Flat). f.values) h.grows.kept
+
+pub is_value_syntax : (profile : Profile) (limit : ℕ) (bytes : List ℕ) (p : Parts) (h : OneIs profile limit bytes (flat p)) (depth : ℕ) → depth ≡ deepest (flat p).values → IsValueSyntaxOf (value_syntax_of p depth) h.value
+unfolding add_at
+is_value_syntax profile limit bytes p h depth e =
+    let is = values_are profile limit bytes p h in
+    record {
+      parts = ap (λ (f : Flat). f.keys) h.grows.kept;
+      values = is;
+      depth = e ∙ ap deepest is ∙ deepest_alone profile h.value (value_is_read profile limit bytes p h).valid;
+    }
+
+pub found_value : (profile : Profile) (limit : ℕ) (bytes : List ℕ) (p : Parts) (depth : ℕ) → OneIs profile limit bytes (flat p) → depth ≡ deepest (flat p).values → (v : Value) × ReadsValue profile limit bytes v × IsValueSyntaxOf (value_syntax_of p depth) v
+found_value profile limit bytes p depth h e = (h.value, value_is_read profile limit bytes p h, is_value_syntax profile limit bytes p h depth e)
+
+pub only_value : (profile : Profile) (limit : ℕ) (bytes : List ℕ) (p : Parts) (depth : ℕ) → OneIs profile limit bytes (flat p) → depth ≡ deepest (flat p).values → (v : Value) → ReadsValue profile limit bytes v → IsValueSyntaxOf (value_syntax_of p depth) v
+only_value profile limit bytes p depth h e v r =
+    subst (λ (x : Value). IsValueSyntaxOf (value_syntax_of p depth) x) (ok_is h.value v (sym h.is_read ∙ value_read profile limit bytes v r)) (is_value_syntax profile limit bytes p h depth e)
+
+pub value_within : (profile : Profile) (limit : ℕ) (bytes : List ℕ) (p : Parts) → OneIs profile limit bytes (flat p) → AllByRecursion (IsWithin limit) (flat p).values
+value_within profile limit bytes p h =
+    subst (λ (vs : List ValueInfo). AllByRecursion (IsWithin limit) vs) (sym (values_are profile limit bytes p h)) (value_values_within profile limit bytes h.value (value_is_read profile limit bytes p h))
+
+pub value_only_memory : (profile : Profile) (limit : ℕ) (bytes : List ℕ) (e : ReadFault) → Fails bytes e (read_one_value profile limit bytes) → (v : Value) → ReadsValue profile limit bytes v → e ≡ faults.Memory
+value_only_memory profile limit bytes e f v r = memory_only bytes e (read_one_value profile limit bytes) v f (value_read profile limit bytes v r)
+
+pub is_value_fault : (profile : Profile) (limit : ℕ) (bytes : List ℕ) (e : ReadFault) → Fails bytes e (read_one_value profile limit bytes) → IsValueFaultOf profile limit bytes e
+is_value_fault profile limit bytes faults.Memory f = tt
+is_value_fault profile limit bytes (faults.Syntax at what) f = λ v k e. value_bad profile limit bytes f v k e
+is_value_fault profile limit bytes (faults.TooDeep at) f = value_deep profile limit bytes at f.0 f.1
+is_value_fault profile limit bytes (faults.Utf8 at) f = absurd f
+is_value_fault profile limit bytes (faults.Define at why) f = absurd f

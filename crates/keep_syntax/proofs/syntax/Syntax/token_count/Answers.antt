@@ -1,0 +1,12 @@
+use Rattle.std.proofs.Common.{arith, [], ◌∷◌}
+use Rattle.std.proofs.lemmas.List.{length-append}
+use Rattle.keep_token.specs.declared.leaf.Leaf.TheVariants as leaf
+use Rattle.keep_syntax.specs.Flat.{flat}
+use Rattle.keep_syntax.specs.Cut.{all_kinds}
+use Rattle.keep_syntax.proofs.CutLaws.{cut_count}
+use Rattle.keep_syntax.proofs.syntax.Syntax.token_count.Goals as goal
+
+pub returns : goal.returns
+returns c = λ bytes.
+    let f = flat c.args.self.now.parts in
+    omega (arith, c.mark_count.ensures, length-append f.kinds (leaf.End ∷ []), cut_count bytes (all_kinds f) f.starts)

@@ -1,0 +1,100 @@
+-- What the public functions ensure: which document, or which value, was read of a text, and what a fault tells.
+use Rattle.std.specs.Prelude.{◌≡◌, ℕ, ◌+◌, ◌≤◌, List, drop, None, ⊤, IsCharBoundary}
+use Rattle.keep_token.specs.declared.leaf.Profile.{Profile}
+use Rattle.keep_syntax.specs.declared.fault.ReadFault.{ReadFault}
+use Rattle.keep_syntax.specs.declared.fault.ReadFault.TheVariants as faults
+use Rattle.keep_syntax.specs.declared.info.Statement.{Statement}
+use Rattle.keep_syntax.specs.declared.info.KeyPart.{KeyPart}
+use Rattle.keep_syntax.specs.declared.info.ValueInfo.{ValueInfo}
+use Rattle.keep_syntax.specs.declared.info.Start.{Start}
+use Rattle.keep_syntax.specs.declared.info.Owner.TheVariants as owner
+use Rattle.keep_syntax.specs.declared.info.Token.{Token}
+use Rattle.keep_syntax.specs.declared.syntax.Syntax.{Syntax}
+use Rattle.keep_syntax.specs.declared.alone.ValueSyntax.{ValueSyntax}
+use Rattle.keep_syntax.specs.declared.tokens.Tokens.{Tokens}
+use Rattle.keep_syntax.specs.Tree.{Value, Document, text, value_text, value_depth}
+use Rattle.keep_syntax.specs.Grammar.{IsValue, IsDocument}
+use Rattle.keep_syntax.specs.Numbered.{Placed, tokens, statements, parts, values, inside_start, entries_parts, value_values}
+use Rattle.keep_syntax.specs.Deep.{IsTooDeep, IsValueTooDeep}
+use Rattle.keep_syntax.specs.Flat.{flat}
+use Rattle.keep_syntax.specs.Cut.{start_in, cut_by}
+
+-- ---- what a syntax holds
+
+-- the tokens that it tells of a text, End the last
+abbrev pub tokens_of : Syntax → List ℕ → List Placed
+tokens_of s bytes = cut_by (flat s.parts) bytes
+
+abbrev pub statements_of : Syntax → List Statement
+statements_of s = (flat s.parts).statements
+
+abbrev pub parts_of : Syntax → List KeyPart
+parts_of s = (flat s.parts).keys
+
+abbrev pub values_of : Syntax → List ValueInfo
+values_of s = (flat s.parts).values
+
+-- Its tokens, statements, key parts and values are those of the document, each in text order.
+pub record IsSyntaxOf (s : Syntax) (d : Document) : Type 0 where
+  pub tokens : tokens_of s (text d) ≡ tokens d
+  pub statements : statements_of s ≡ statements d
+  pub parts : parts_of s ≡ parts d
+  pub values : values_of s ≡ values d
+
+-- It was read of this text: each token begins at the start of a character, and none behind the next.
+pub record IsTextOf (s : Syntax) (bytes : List ℕ) : Type 0 where
+  pub document : Document
+  pub spelled : bytes ≡ text document
+  pub is : IsSyntaxOf s document
+  pub cuts : (n : ℕ) → IsCharBoundary bytes (start_in bytes (flat s.parts).starts n)
+  pub forward : (n : ℕ) → start_in bytes (flat s.parts).starts n ≤ start_in bytes (flat s.parts).starts (n + 1)
+
+-- ---- one value
+
+abbrev pub value_parts_of : ValueSyntax → List KeyPart
+value_parts_of s = (flat s.parts).keys
+
+abbrev pub value_values_of : ValueSyntax → List ValueInfo
+value_values_of s = (flat s.parts).values
+
+-- A value alone begins its text, and is told as one of a keyval with no key.
+abbrev pub alone : Start
+alone = record { at = 0; values = 0; parts = 0; owner = owner.Line 0; depth = 0; comma = None }
+
+abbrev pub parts_alone : Value → List KeyPart
+parts_alone v = entries_parts (inside_start 0 v.body) v.inside
+
+abbrev pub values_alone : Value → List ValueInfo
+values_alone v = value_values alone 0 0 v
+
+-- Its key parts and values are those of the value, each in text order, and its depth is the value's.
+pub record IsValueSyntaxOf (s : ValueSyntax) (v : Value) : Type 0 where
+  pub parts : value_parts_of s ≡ parts_alone v
+  pub values : value_values_of s ≡ values_alone v
+  pub depth : s.depth ≡ value_depth v
+
+-- ---- faults
+
+-- `Syntax` only where no document of any depth has the text, `TooDeep` only where some document goes on behind the
+-- bracket at that place with as many brackets open as the limit allows.
+abbrev pub IsFaultOf : Profile → ℕ → List ℕ → ReadFault → Type 0
+IsFaultOf profile limit bytes faults.Memory = ⊤
+IsFaultOf profile limit bytes (faults.Syntax at what) = (d : Document) → IsDocument profile d → bytes ≡ text d → ⊥
+IsFaultOf profile limit bytes (faults.TooDeep at) = IsTooDeep profile limit bytes at
+IsFaultOf profile limit bytes _ = ⊥
+
+-- the same of one value
+abbrev pub IsValueFaultOf : Profile → ℕ → List ℕ → ReadFault → Type 0
+IsValueFaultOf profile limit bytes faults.Memory = ⊤
+IsValueFaultOf profile limit bytes (faults.Syntax at what) = (v : Value) → IsValue profile v → bytes ≡ value_text v → ⊥
+IsValueFaultOf profile limit bytes (faults.TooDeep at) = IsValueTooDeep profile limit bytes at
+IsValueFaultOf profile limit bytes _ = ⊥
+
+-- ---- the iterator over tokens
+
+abbrev pub shown_token : Token → Placed
+shown_token t = record { leaf = t.leaf; at = t.at; text = t.text.now }
+
+-- the tokens that it has not given yet
+abbrev pub left : Tokens → List Placed
+left t = drop t.next (cut_by (flat t.parts.now) t.text.now)

@@ -1,0 +1,11 @@
+pub mod Tree
+pub mod Grammar
+pub mod Numbered
+pub mod Deep
+pub mod Reading
+pub mod Flat
+pub mod Cut
+pub mod Nesting
+pub mod Contract
+pub mod Laws
+pub mod FlatLines

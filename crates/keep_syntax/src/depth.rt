@@ -1,0 +1,33 @@
+//! How deep arrays and inline tables enclose one another.
+ghost use Rattle.std.specs.Prelude.{◌≡◌};
+ghost use Rattle.std.specs.List.{AllByRecursion};
+ghost use Rattle.keep_syntax.specs.Flat.{flat};
+ghost use Rattle.keep_syntax.specs.Nesting as spec;
+
+use crate::info::ValueInfo;
+use crate::parts::{Parts, value_at, value_count};
+use keep_token::Leaf;
+
+// how many arrays and inline tables are open in a value, itself counted
+fn open_in(value: ValueInfo, limit: u16) -> u16
+    requires { spec.IsWithin limit value }
+    ensures { result ≡ spec.open_in value }
+{
+    match value.leaf {
+        Leaf::ArrayOpen | Leaf::InlineOpen => value.depth + 1,
+        _ => value.depth,
+    }
+}
+
+/// How many arrays and inline tables at most are open in the values that are kept, if no value has more than the limit.
+#[tactic(auto, using(crate::proofs::DeepestLaws::deepest_turn))]
+pub(crate) fn deepest(parts: &Parts, limit: u16) -> u16
+    requires { AllByRecursion (spec.IsWithin limit) (flat parts.now).values }
+    ensures { result ≡ spec.deepest (flat parts.now).values }
+{
+    let mut most = 0u16;
+    'values: for number in 0..value_count(parts) {
+        most = most.max(open_in(value_at(parts, number), limit));
+    }
+    most
+}

@@ -1,0 +1,70 @@
+//! Gaps: what stands between the parts. (TOML v1.0.0, "Comment"; toml.abnf: `ws`, `ws-comment-newline`)
+ghost use Rattle.std.specs.Prelude.{◌≡◌, IsCharBoundary};
+ghost use Rattle.keep_syntax.specs.Flat as spec;
+ghost use Rattle.keep_syntax.specs.Reading.{is_free};
+
+use crate::fault::ReadFault;
+use crate::info::Brackets;
+use crate::parts::{Parts, push_mark};
+use keep_token::{Leaf, Profile, scan_gap};
+
+/// `ws`: white space from the byte `at` on, if there is some, and where it ends.
+pub fn space(text: &str, at: usize, out: &mut Parts) -> Result<usize, ReadFault>
+    requires { IsCharBoundary text.now at }
+    ensures { spec.SpaceRead text.now at (spec.flat out.old) (spec.flat out.new) result }
+{
+    match scan_gap(text, at) {
+        Some((leaf, end)) => match leaf {
+            Leaf::Ws => {
+                push_mark(out, Leaf::Ws, at)?;
+                Ok(end)
+            }
+            _ => Ok(at),
+        },
+        None => Ok(at),
+    }
+}
+
+/// `ws-comment-newline`: white space, newlines and comments from the byte `at` on, and where they end.
+fn blank(text: &str, at: usize, out: &mut Parts) -> Result<usize, ReadFault>
+    requires { IsCharBoundary text.now at }
+    ensures { spec.BlankRead text.now at (spec.flat out.old) (spec.flat out.new) result }
+{
+    let mut here = at;
+    'leaves: while let Some((leaf, end)) = scan_gap(text, here) {
+        push_mark(out, leaf, here)?;
+        here = end;
+    }
+    Ok(here)
+}
+
+/// Whether newlines and comments may stand between the parts, and a comma behind the last.
+pub fn is_free(profile: Profile, brackets: Brackets) -> bool
+    ensures { result ≡ is_free profile brackets }
+{
+    match brackets {
+        Brackets::Array => true,
+        Brackets::Inline => match profile {
+            Profile::Strict => false,
+            Profile::Wide => true,
+        },
+    }
+}
+
+/// The gap between two parts of an array or an inline table, from the byte `at` on, and where it ends.
+pub fn gap_in(
+    text: &str,
+    at: usize,
+    profile: Profile,
+    brackets: Brackets,
+    out: &mut Parts,
+) -> Result<usize, ReadFault>
+    requires { IsCharBoundary text.now at }
+    ensures { spec.GapRead profile brackets text.now at (spec.flat out.old) (spec.flat out.new) result }
+{
+    if is_free(profile, brackets) {
+        blank(text, at, out)
+    } else {
+        space(text, at, out)
+    }
+}

@@ -1,0 +1,62 @@
+//! Keys. (TOML v1.0.0, "Keys"; toml.abnf: `key`, `keyval-sep`)
+ghost use Rattle.std.specs.Prelude.{◌≡◌, IsCharBoundary};
+ghost use Rattle.keep_syntax.specs.Flat as spec;
+
+use crate::fault::ReadFault;
+use crate::gap::space;
+use crate::info::{KeyPart, Span};
+use crate::parts::{Parts, push_key, push_mark};
+use crate::text::{byte_at, misplaced, sign};
+use keep_token::{Leaf, Profile, scan_key};
+
+/// `simple-key`: the key part at the byte `at`, and where it ends.
+fn key_part(text: &str, at: usize, profile: Profile, out: &mut Parts) -> Result<usize, ReadFault>
+    requires { IsCharBoundary text.now at }
+    ensures { spec.KeyPartRead profile text.now at (spec.flat out.old) (spec.flat out.new) result }
+{
+    let (leaf, end) = scan_key(text, at, profile)?;
+    push_mark(out, leaf, at)?;
+    let span = Span { start: at, end };
+    push_key(out, KeyPart { leaf, span })?;
+    Ok(end)
+}
+
+/// `*( dot-sep simple-key )`: the further parts of a key from the byte `at` on, and the gap behind the key; where that
+/// ends.
+fn further(text: &str, at: usize, profile: Profile, out: &mut Parts) -> Result<usize, ReadFault>
+    requires { IsCharBoundary text.now at }
+    ensures { spec.FurtherRead profile text.now at (spec.flat out.old) (spec.flat out.new) result }
+{
+    let mut here = at;
+    'parts: loop {
+        let dot = space(text, here, out)?;
+        if byte_at(text, dot) != b'.' {
+            return Ok(dot);
+        }
+        let behind = sign(text, dot, 1, Leaf::Dot, out)?;
+        let begin = space(text, behind, out)?;
+        here = key_part(text, begin, profile, out)?;
+    }
+}
+
+/// `key`: the key at the byte `at`, and the gap behind it; where that ends.
+pub fn key(text: &str, at: usize, profile: Profile, out: &mut Parts) -> Result<usize, ReadFault>
+    requires { IsCharBoundary text.now at }
+    ensures { spec.KeyRead profile text.now at (spec.flat out.old) (spec.flat out.new) result }
+{
+    let end = key_part(text, at, profile, out)?;
+    further(text, end, profile, out)
+}
+
+/// `key keyval-sep`: the key at the byte `at`, the equals sign and the gaps round it; where the value begins.
+pub fn name(text: &str, at: usize, profile: Profile, out: &mut Parts) -> Result<usize, ReadFault>
+    requires { IsCharBoundary text.now at }
+    ensures { spec.NameRead profile text.now at (spec.flat out.old) (spec.flat out.new) result }
+{
+    let equals = key(text, at, profile, out)?;
+    if byte_at(text, equals) != b'=' {
+        return Err(misplaced(text, equals));
+    }
+    let behind = sign(text, equals, 1, Leaf::Equals, out)?;
+    space(text, behind, out)
+}

@@ -1,0 +1,25 @@
+//! The syntax of a TOML document, without loss: its tokens, statements, key parts and values, each exactly once.
+#![tactic(auto)]
+
+mod alone;
+mod depth;
+mod fault;
+mod gap;
+mod info;
+mod key;
+pub mod laws;
+mod line;
+mod parts;
+mod syntax;
+mod text;
+mod tokens;
+mod value;
+mod whole;
+
+pub use alone::ValueSyntax;
+pub use fault::{ReadFault, Why};
+pub use info::{
+    Brackets, KeyPart, Limits, Mark, Owner, Span, Start, Statement, StatementKind, Token, ValueInfo,
+};
+pub use syntax::Syntax;
+pub use tokens::Tokens;

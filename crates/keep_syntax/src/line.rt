@@ -1,0 +1,248 @@
+//! Lines: keyvals, headers, comments and newlines. (TOML v1.0.0, "Key/Value Pair", "Table", "Array of Tables";
+//! toml.abnf: `expression`)
+ghost use Rattle.std.specs.Prelude.{◌≡◌, ◌+◌, ◌==◌, false, length, slice_index, IsCharBoundary, OnOk, IsOkUnless};
+ghost use Rattle.keep_syntax.specs.declared.fault.ReadFault.TheVariants.{Memory};
+ghost use Rattle.keep_syntax.specs.Flat as spec;
+ghost use Rattle.keep_syntax.specs.FlatLines as lines_spec;
+ghost use Rattle.keep_syntax.specs.Reading.{is_line_end};
+
+use crate::fault::ReadFault;
+use crate::gap::space;
+use crate::info::{Limits, Owner, Span, Start, Statement, StatementKind};
+use crate::key::{key, name};
+use crate::parts::{Parts, key_count, push_mark, push_statement, statement_count, value_count};
+use crate::text::{byte_at, misplaced, sign};
+use crate::value::value;
+use keep_token::{Leaf, scan_gap};
+
+/// A statement but for its places: how many key parts it has, and the number of a keyval's value.
+#[derive(Clone, Copy, Debug)]
+pub struct Head {
+    kind: StatementKind,
+    keys: usize,
+    value: Option<usize>,
+}
+
+/// Whether the content of a line cannot begin with this byte: a newline, a comment, and 0 for the text's end.
+fn is_line_end(byte: u8) -> bool
+    ensures { result ≡ is_line_end byte }
+{
+    byte == 0 || byte == b'\n' || byte == b'\r' || byte == b'#'
+}
+
+/// `keyval` from `start` on, and where it ends.
+fn keyval(
+    text: &str,
+    limits: Limits,
+    start: &Start,
+    out: &mut Parts,
+) -> Result<(usize, Head), ReadFault>
+    requires bound { IsCharBoundary text.now start.now.at }
+    requires values { start.now.values ≡ length (spec.flat out.old).values }
+    requires parts { start.now.parts ≡ length (spec.flat out.old).keys }
+    requires depth { start.now.depth ≡ 0 }
+    requires begins { is_line_end (slice_index text.now start.now.at) ≡ false }
+    requires named { (slice_index text.now start.now.at == 0x5B) ≡ false }
+    ensures { lines_spec.ContentRead limits.profile limits.depth text.now start.now (spec.flat out.old) (spec.flat out.new) result }
+{
+    let begin = name(text, start.at, limits.profile, out)?;
+    let keys = key_count(out) - start.parts;
+    let end = value(text, begin, limits, keys, start, out)?;
+    let head = Head {
+        kind: StatementKind::KeyVal,
+        keys,
+        value: Some(start.values),
+    };
+    Ok((end, head))
+}
+
+/// `std-table`: the header of a table from `start` on, and where it ends.
+fn header(
+    text: &str,
+    limits: Limits,
+    start: &Start,
+    out: &mut Parts,
+) -> Result<(usize, Head), ReadFault>
+    requires bound { IsCharBoundary text.now start.now.at }
+    requires parts { start.now.parts ≡ length (spec.flat out.old).keys }
+    requires opens { slice_index text.now start.now.at ≡ 0x5B }
+    requires once { (slice_index text.now (start.now.at + 1) == 0x5B) ≡ false }
+    ensures { lines_spec.ContentRead limits.profile limits.depth text.now start.now (spec.flat out.old) (spec.flat out.new) result }
+{
+    let behind = sign(text, start.at, 1, Leaf::HeadOpen, out)?;
+    let begin = space(text, behind, out)?;
+    let close = key(text, begin, limits.profile, out)?;
+    if byte_at(text, close) != b']' {
+        return Err(misplaced(text, close));
+    }
+    let head = Head {
+        kind: StatementKind::Header,
+        keys: key_count(out) - start.parts,
+        value: None,
+    };
+    let end = sign(text, close, 1, Leaf::HeadClose, out)?;
+    Ok((end, head))
+}
+
+/// `array-table`: the header of an element of an array of tables from `start` on, and where it ends.
+fn element(
+    text: &str,
+    limits: Limits,
+    start: &Start,
+    out: &mut Parts,
+) -> Result<(usize, Head), ReadFault>
+    requires bound { IsCharBoundary text.now start.now.at }
+    requires parts { start.now.parts ≡ length (spec.flat out.old).keys }
+    requires opens { slice_index text.now start.now.at ≡ 0x5B }
+    requires twice { slice_index text.now (start.now.at + 1) ≡ 0x5B }
+    ensures { lines_spec.ContentRead limits.profile limits.depth text.now start.now (spec.flat out.old) (spec.flat out.new) result }
+{
+    let behind = sign(text, start.at, 2, Leaf::ElemOpen, out)?;
+    let begin = space(text, behind, out)?;
+    let close = key(text, begin, limits.profile, out)?;
+    if byte_at(text, close) != b']' || byte_at(text, close + 1) != b']' {
+        return Err(misplaced(text, close));
+    }
+    let head = Head {
+        kind: StatementKind::Element,
+        keys: key_count(out) - start.parts,
+        value: None,
+    };
+    let end = sign(text, close, 2, Leaf::ElemClose, out)?;
+    Ok((end, head))
+}
+
+/// The keyval or header from `start` on, and where it ends.
+fn content(
+    text: &str,
+    limits: Limits,
+    start: &Start,
+    out: &mut Parts,
+) -> Result<(usize, Head), ReadFault>
+    requires bound { IsCharBoundary text.now start.now.at }
+    requires values { start.now.values ≡ length (spec.flat out.old).values }
+    requires parts { start.now.parts ≡ length (spec.flat out.old).keys }
+    requires depth { start.now.depth ≡ 0 }
+    requires begins { is_line_end (slice_index text.now start.now.at) ≡ false }
+    ensures { lines_spec.ContentRead limits.profile limits.depth text.now start.now (spec.flat out.old) (spec.flat out.new) result }
+{
+    if byte_at(text, start.at) != b'[' {
+        keyval(text, limits, start, out)
+    } else if byte_at(text, start.at + 1) == b'[' {
+        element(text, limits, start, out)
+    } else {
+        header(text, limits, start, out)
+    }
+}
+
+/// `comment` at the byte `at`, if there is one, and where it ends.
+fn comment(text: &str, at: usize, out: &mut Parts) -> Result<usize, ReadFault>
+    requires { IsCharBoundary text.now at }
+    ensures { lines_spec.CommentRead text.now at (spec.flat out.old) (spec.flat out.new) result }
+{
+    match scan_gap(text, at) {
+        Some((leaf, end)) => match leaf {
+            Leaf::Comment => {
+                push_mark(out, Leaf::Comment, at)?;
+                Ok(end)
+            }
+            _ => Ok(at),
+        },
+        None => Ok(at),
+    }
+}
+
+/// `expression`: the line at the byte `at` without its newline, where it ends, and its statement as if the line ended
+/// there.
+fn line(
+    text: &str,
+    at: usize,
+    limits: Limits,
+    out: &mut Parts,
+) -> Result<(usize, Option<Statement>), ReadFault>
+    requires { IsCharBoundary text.now at }
+    ensures { lines_spec.LineRead limits.profile limits.depth text.now at (spec.flat out.old) (spec.flat out.new) result }
+{
+    let number = statement_count(out);
+    let first_key = key_count(out);
+    let values = value_count(out);
+    let begin = space(text, at, out)?;
+    if is_line_end(byte_at(text, begin)) {
+        let end = comment(text, begin, out)?;
+        return Ok((end, None));
+    }
+    let start = Start {
+        at: begin,
+        values,
+        parts: first_key,
+        owner: Owner::Line(number),
+        depth: 0,
+        comma: None,
+    };
+    let (close, head) = content(text, limits, &start, out)?;
+    let behind = space(text, close, out)?;
+    let end = comment(text, behind, out)?;
+    let statement = Statement {
+        kind: head.kind,
+        span: Span {
+            start: begin,
+            end: close,
+        },
+        line: Span { start: at, end },
+        first_key,
+        keys: head.keys,
+        value: head.value,
+    };
+    Ok((end, Some(statement)))
+}
+
+/// `newline` at the byte `at`, and where it ends.
+fn newline(text: &str, at: usize, out: &mut Parts) -> Result<usize, ReadFault>
+    requires { IsCharBoundary text.now at }
+    ensures { lines_spec.NewlineRead text.now at (spec.flat out.old) (spec.flat out.new) result }
+{
+    match scan_gap(text, at) {
+        Some((leaf, end)) => match leaf {
+            Leaf::Newline => {
+                push_mark(out, Leaf::Newline, at)?;
+                Ok(end)
+            }
+            _ => Err(misplaced(text, at)),
+        },
+        None => Err(misplaced(text, at)),
+    }
+}
+
+/// Keeps a line's statement, now that the line's end is known.
+fn tell(out: &mut Parts, statement: Option<Statement>, end: usize) -> Result<(), ReadFault>
+    ensures ok { OnOk result (spec.flat out.new ≡ lines_spec.with_statements (lines_spec.ended_list end statement) (spec.flat out.old)) }
+    ensures err { IsOkUnless result Memory }
+{
+    match statement {
+        Some(found) => {
+            let line = Span {
+                start: found.line.start,
+                end,
+            };
+            push_statement(out, Statement { line, ..found })
+        }
+        None => Ok(()),
+    }
+}
+
+/// All lines from the byte `begin` on.
+pub fn lines(text: &str, begin: usize, limits: Limits, out: &mut Parts) -> Result<(), ReadFault>
+    requires { IsCharBoundary text.now begin }
+    ensures { lines_spec.LinesRead limits.profile limits.depth text.now begin (spec.flat out.old) (spec.flat out.new) result }
+{
+    let mut at = begin;
+    'lines: loop {
+        let (close, statement) = line(text, at, limits, out)?;
+        if close == text.len() {
+            return tell(out, statement, close);
+        }
+        let end = newline(text, close, out)?;
+        tell(out, statement, end)?;
+        at = end;
+    }
+}

@@ -1,0 +1,104 @@
+//! Reading a document, and what is known of it then.
+ghost use Rattle.std.specs.Prelude.{◌≡◌, ℕ, ◌+◌, ◌<◌, ◌≤◌, List, length, slice_get, IfOk, IfErr, MatchResult, Some};
+ghost use Rattle.std.specs.List.{AllByRecursion};
+ghost use Rattle.keep_syntax.specs.declared.fault.ReadFault.TheVariants.{Memory};
+ghost use Rattle.keep_syntax.specs.Tree.{Document};
+ghost use Rattle.keep_syntax.specs.Grammar.{Reads};
+ghost use Rattle.keep_syntax.specs.Nesting.{IsWithin};
+ghost use Rattle.keep_syntax.specs.Contract as spec;
+
+use crate::fault::ReadFault;
+use crate::info::{KeyPart, Limits, Statement, ValueInfo};
+use crate::parts::{
+    Parts, key_at, key_count, mark_count, statement_at, statement_count, value_at, value_count,
+};
+use crate::tokens::Tokens;
+use crate::whole::read_lines;
+use std::alloc::Global;
+
+/// What was read of a document: its tokens, statements, key parts and values, each in text order.
+#[derive(Debug, Drop)]
+pub struct Syntax {
+    parts: Parts,
+}
+
+impl Syntax {
+    /// Reads a document. (toml.abnf: `toml`)
+    ///
+    /// # Errors
+    ///
+    /// `Syntax` if the text is no document, `TooDeep` if a value has more brackets open than the limit allows, whichever
+    /// is met first, and `Memory`.
+    pub fn read(alloc: Global, text: &str, limits: Limits) -> Result<Syntax, ReadFault>
+        ensures found { IfOk result (λ s. (d : Document) × Reads limits.profile limits.depth text.now d × spec.IsSyntaxOf s d) }
+        ensures only { (d : Document) → Reads limits.profile limits.depth text.now d
+            → MatchResult result (λ s. spec.IsSyntaxOf s d) (λ e. e ≡ Memory) }
+        ensures faults { IfErr result (spec.IsFaultOf limits.profile limits.depth text.now) }
+        ensures of_text { IfOk result (λ s. spec.IsTextOf s text.now) }
+        ensures within { IfOk result (λ s. AllByRecursion (IsWithin limits.depth) (spec.values_of s)) }
+        ensures few { IfOk result (λ s. length (spec.tokens_of s text.now) ≤ length text.now + 1) }
+    {
+        let parts = read_lines(alloc, text, limits)?;
+        Ok(Syntax { parts })
+    }
+
+    /// How many tokens there are, `End` counted.
+    pub fn token_count(&self) -> usize
+        ensures { (bytes : List ℕ) → result ≡ length (spec.tokens_of self.now bytes) }
+    {
+        mark_count(&self.parts) + 1
+    }
+
+    /// The tokens of the text that was read.
+    pub fn tokens<'a>(&'a self, text: &'a str) -> Tokens<'a>
+        requires { spec.IsTextOf self.now text.now }
+        ensures { spec.left result ≡ spec.tokens_of self.now text.now }
+    {
+        Tokens::new(&self.parts, text)
+    }
+
+    /// How many statements there are.
+    pub fn statement_count(&self) -> usize
+        ensures { result ≡ length (spec.statements_of self.now) }
+    {
+        statement_count(&self.parts)
+    }
+
+    /// The statement of this number, from 0.
+    pub fn statement(&self, number: usize) -> Statement
+        requires { number < length (spec.statements_of self.now) }
+        ensures { slice_get (spec.statements_of self.now) number ≡ Some result }
+    {
+        statement_at(&self.parts, number)
+    }
+
+    /// How many key parts there are.
+    pub fn key_count(&self) -> usize
+        ensures { result ≡ length (spec.parts_of self.now) }
+    {
+        key_count(&self.parts)
+    }
+
+    /// The key part of this number, from 0.
+    pub fn key_part(&self, number: usize) -> KeyPart
+        requires { number < length (spec.parts_of self.now) }
+        ensures { slice_get (spec.parts_of self.now) number ≡ Some result }
+    {
+        key_at(&self.parts, number)
+    }
+
+    /// How many values there are.
+    pub fn value_count(&self) -> usize
+        ensures { result ≡ length (spec.values_of self.now) }
+    {
+        value_count(&self.parts)
+    }
+
+    /// The value of this number, from 0. A value comes before those inside it.
+    pub fn value(&self, number: usize) -> ValueInfo
+        requires { number < length (spec.values_of self.now) }
+        ensures { slice_get (spec.values_of self.now) number ≡ Some result }
+    {
+        value_at(&self.parts, number)
+    }
+}

@@ -1,0 +1,54 @@
+//! Single bytes of a text.
+ghost use Rattle.std.specs.Prelude.{◌≡◌, ℕ, ◌+◌, ◌-◌, ◌<◌, ◌≤◌, List, length, slice_index, IsCharBoundary};
+ghost use Rattle.keep_syntax.specs.Flat as spec;
+
+use crate::fault::ReadFault;
+use crate::parts::{Parts, push_mark};
+use keep_token::{Leaf, What};
+
+/// The byte at a place, or 0 past the end.
+pub fn byte_at(text: &str, at: usize) -> u8
+    ensures { result ≡ slice_index text.now at }
+{
+    match text.as_bytes().get(at) {
+        Some(byte) => *byte,
+        None => 0,
+    }
+}
+
+/// Keeps a token of `len` bytes, the last of them an ASCII one, and tells where it ends.
+pub fn sign(
+    text: &str,
+    at: usize,
+    len: usize,
+    leaf: Leaf,
+    out: &mut Parts,
+) -> Result<usize, ReadFault>
+    requires bound { IsCharBoundary text.now at }
+    requires some { 0 < len }
+    requires within { at + len ≤ length text.now }
+    requires ascii { slice_index text.now (at + len - 1) < 128 }
+    ensures { spec.SignRead text.now at len leaf (spec.flat out.old) (spec.flat out.new) result }
+{
+    push_mark(out, leaf, at)?;
+    Ok(at + len)
+}
+
+// a control character of the standard, but for a carriage return
+fn is_control(byte: u8) -> bool {
+    byte <= 0x08 || byte == 0x0B || byte == 0x0C || (0x0E <= byte && byte <= 0x1F) || byte == 0x7F
+}
+
+/// The fault of a text that fits no rule of the grammar from the byte `at` on.
+pub fn misplaced(text: &str, at: usize) -> ReadFault
+    ensures { spec.IsSyntax result }
+{
+    let byte = byte_at(text, at);
+    let lone = byte == b'\r' && byte_at(text, at.saturating_add(1)) != b'\n';
+    let what = if at < text.len() && (lone || is_control(byte)) {
+        What::Control
+    } else {
+        What::Structure
+    };
+    ReadFault::Syntax { at, what }
+}

@@ -1,0 +1,63 @@
+//! Whole texts: a document, or one value, and nothing else. (toml.abnf: `toml`, `val`)
+ghost use Rattle.std.specs.Prelude.{◌≡◌};
+ghost use Rattle.keep_syntax.specs.Flat as spec;
+ghost use Rattle.keep_syntax.specs.FlatLines as lines_spec;
+ghost use Rattle.keep_syntax.specs.Reading.{has_bom};
+
+use crate::fault::ReadFault;
+use crate::info::{Limits, Owner, Start};
+use crate::line::lines;
+use crate::parts::{Parts, push_mark};
+use crate::text::{byte_at, misplaced};
+use crate::value::value;
+use keep_token::Leaf;
+use std::alloc::Global;
+
+/// Whether the text begins with a byte order mark: U+FEFF in UTF-8.
+fn has_bom(text: &str) -> bool
+    ensures { result ≡ has_bom text.now }
+{
+    byte_at(text, 0) == 0xEF && byte_at(text, 1) == 0xBB && byte_at(text, 2) == 0xBF
+}
+
+/// A byte order mark, if the text begins with one, and where it ends.
+fn bom(text: &str, out: &mut Parts) -> Result<usize, ReadFault>
+    ensures { lines_spec.BomRead text.now (spec.flat out.old) (spec.flat out.new) result }
+{
+    if has_bom(text) {
+        push_mark(out, Leaf::Bom, 0)?;
+        Ok(3)
+    } else {
+        Ok(0)
+    }
+}
+
+/// The parts of a document.
+pub fn read_lines(alloc: Global, text: &str, limits: Limits) -> Result<Parts, ReadFault>
+    ensures { lines_spec.DocumentRead limits.profile limits.depth text.now result }
+{
+    let mut out = Parts::new(alloc);
+    let begin = bom(text, &mut out)?;
+    lines(text, begin, limits, &mut out)?;
+    Ok(out)
+}
+
+/// The parts of one value.
+pub fn read_one(alloc: Global, text: &str, limits: Limits) -> Result<Parts, ReadFault>
+    ensures { lines_spec.OneRead limits.profile limits.depth text.now result }
+{
+    let mut out = Parts::new(alloc);
+    let start = Start {
+        at: 0,
+        values: 0,
+        parts: 0,
+        owner: Owner::Line(0),
+        depth: 0,
+        comma: None,
+    };
+    let end = value(text, 0, limits, 0, &start, &mut out)?;
+    if end < text.len() {
+        return Err(misplaced(text, end));
+    }
+    Ok(out)
+}

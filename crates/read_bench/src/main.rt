@@ -1,0 +1,39 @@
+//! Reads a TOML document from standard input, and prints how many parts it has.
+#![tactic(auto)]
+
+use keep_syntax::{Limits, ReadFault, Syntax};
+use keep_token::text_of;
+use std::alloc::Global;
+use std::io;
+use std::io::Read;
+use std::process::ExitCode;
+
+fn main(rt: HostRuntime) -> io::Result<ExitCode> {
+    let mut bytes = Vec::new(rt.alloc());
+    rt.stdin().read_to_end(&mut bytes)?;
+    match read(rt.alloc(), bytes.as_slice()) {
+        Ok(syntax) => {
+            print_counts(&rt, &syntax)?;
+            Ok(ExitCode::SUCCESS)
+        }
+        Err(fault) => {
+            eprintln!(rt; "read_bench: {fault}")?;
+            Ok(ExitCode::FAILURE)
+        }
+    }
+}
+
+fn read(alloc: Global, bytes: &[u8]) -> Result<Syntax, ReadFault> {
+    match text_of(bytes) {
+        Ok(text) => Syntax::read(alloc, text, Limits::STANDARD),
+        Err(at) => Err(ReadFault::Utf8 { at }),
+    }
+}
+
+fn print_counts(rt: &HostRuntime, syntax: &Syntax) -> io::Result<()> {
+    let tokens = syntax.token_count();
+    let statements = syntax.statement_count();
+    let keys = syntax.key_count();
+    let values = syntax.value_count();
+    println!(rt; "tokens={tokens} statements={statements} keys={keys} values={values}")
+}
