@@ -1,5 +1,6 @@
 mod documents;
 mod leaves;
+mod paths;
 mod scalars;
 mod strings;
 mod syntax_faults;

@@ -1,0 +1,201 @@
+-- A header goes past a key.
+use Rattle.std.proofs.Common.{◌≡◌, ℕ, ◌-◌, ◌<◌, Bool, true, false, cond, ◌&&◌, List, [], ◌∷◌, ◌++◌, length, refl, sym, ◌∙◌, ap, subst, arith, Option, Some, None, inl, inr}
+use Rattle.std.specs.Prelude.{Contains, ◌==◌}
+use Rattle.std.specs.List.{list_all}
+use Rattle.std.proofs.lemmas.List.{append-nil, append_assoc}
+use Rattle.std.proofs.lemmas.List.Folds.{list_all-append}
+use Rattle.std.proofs.lemmas.Bool.Decides.{Decides-eqb}
+use Rattle.std.proofs.lemmas.Bool.{cases_Bool}
+use Rattle.keep_rules.specs.declared.role.Role.{Role}
+use Rattle.keep_rules.specs.declared.role.Role.TheVariants.{Through, Past, Define, Element, Dotted, Value}
+use Rattle.keep_rules.specs.Path.{Part, key, index}
+use Rattle.keep_rules.specs.Rules.{allows}
+use Rattle.keep_rules.specs.Marks.{through, past, passed, Mention, elements_of, passing_mentions, entered_path}
+use Rattle.keep_rules.specs.Trie.{Twig, Holding, by_key, by_index, IsTrie, paths_of, path_at, states_of, state_at, holds_at, children_of}
+use Rattle.keep_rules.specs.State.{IsState}
+use Rattle.keep_rules.specs.Tables.{is_tables, Fits, IsShaped}
+use Rattle.keep_rules.specs.Known.{roles_said, Knows, IsIndexOf}
+use Rattle.keep_rules.specs.Standing.{Keeps, IsMarked, IsWorld, Passes, IsLastElement, HasNoElement}
+use Rattle.keep_rules.proofs.TrieLemmas.{length-paths_of, child_at}
+use Rattle.keep_rules.proofs.KnownLemmas.{known_same, obeys_push, obeys_bare, false_ne}
+use Rattle.keep_rules.proofs.TablesLemmas.{first, tables_listed}
+use Rattle.keep_rules.proofs.MarkLemmas.{state_known}
+
+-- what a header says of a path without elements, and of one with some
+pub passing-none : (tables : List (List Part)) (path : List Part) → elements_of path tables ≡ 0 → passing_mentions tables path ≡ record { path = path; says = through } ∷ []
+passing-none tables path none = ap (λ c. cond (0 == c) (record { path = path; says = through } ∷ []) (record { path = path; says = past } ∷ record { path = entered_path tables path; says = passed } ∷ [])) none
+
+entered-none : (tables : List (List Part)) (path : List Part) → elements_of path tables ≡ 0 → entered_path tables path ≡ path
+entered-none tables path none = ap (λ c. cond (0 == c) path (path ++ index (c - 1) ∷ [])) none
+
+apart : (c : ℕ) → 0 < c → (0 == c) ≡ false
+apart c h = false_ne (0 == c) (λ t. absurd (omega (arith, (Decides-eqb 0 c).0 t, h)))
+
+pub passing-some : (tables : List (List Part)) (path : List Part) → 0 < elements_of path tables → passing_mentions tables path ≡ record { path = path; says = past } ∷ record { path = entered_path tables path; says = passed } ∷ []
+passing-some tables path some = ap (λ b. cond b (record { path = path; says = through } ∷ []) (record { path = path; says = past } ∷ record { path = entered_path tables path; says = passed } ∷ [])) (apart _ some)
+
+pub entered-some : (tables : List (List Part)) (path : List Part) → 0 < elements_of path tables → entered_path tables path ≡ path ++ index (elements_of path tables - 1) ∷ []
+entered-some tables path some = ap (λ b. cond b path (path ++ index (elements_of path tables - 1) ∷ [])) (apart _ some)
+
+-- a mark that names no array of tables
+pub world_marked : {old new : List Twig} {path : List Part} {role : Role} {holds : Holding} {id : ℕ} → IsMarked old new path role holds id → allows role Element ≡ false
+    → (ms w : List Mention) (tables : List (List Part)) → IsIndexOf new (ms ++ w) → IsWorld old ms tables → IsWorld new (ms ++ w) tables
+world_marked marked other ms w tables known world = record {
+  index = known;
+  shaped = marked.shaped;
+  tables_are = marked.tables tables world.tables_are;
+  begun = marked.begun other world.begun;
+}
+
+-- a key without elements
+pub passes_marked : (old new : List Twig) (parent id : ℕ) (k : List ℕ) → IsMarked old new (path_at old parent ++ key k ∷ []) Through by_key id → HasNoElement old (path_at old parent ++ key k ∷ []) → Passes old new parent id k
+passes_marked old new parent id k marked none =
+    let p : List Part = path_at old parent ++ key k ∷ [] in
+    record {
+      keeps = marked.keeps;
+      world = λ ms tables world.
+          let zero : elements_of p tables ≡ 0 = none tables world.tables_are world.begun in
+          let grown : IsIndexOf new (ms ++ record { path = p; says = through } ∷ []) = marked.index ms through refl world.index in
+          world_marked marked refl ms (passing_mentions tables p) tables
+          (subst (λ (w : List Mention). IsIndexOf new (ms ++ w)) (sym (passing-none tables p zero)) grown) world;
+      stands = λ ms tables world.
+          let zero : elements_of p tables ≡ 0 = none tables world.tables_are world.begun in
+          record {
+            inside = marked.inside;
+            here = marked.here ∙ sym (entered-none tables p zero);
+            open_to = marked.opened refl;
+          };
+    }
+
+-- an array of tables stays one after `Past`
+as_past : (s r : Role) → allows s Element ≡ true → allows s r ≡ (allows s r && allows Past r)
+as_past Through r h = cc
+as_past Define r h = cc
+as_past Dotted r h = cc
+as_past Value r h = cc
+as_past Past Through h = refl
+as_past Past Past h = refl
+as_past Past Define h = refl
+as_past Past Element h = refl
+as_past Past Dotted h = refl
+as_past Past Value h = refl
+as_past Element Through h = refl
+as_past Element Past h = refl
+as_past Element Define h = refl
+as_past Element Element h = refl
+as_past Element Dotted h = refl
+as_past Element Value h = refl
+
+lets_past : (s : Role) → allows s Element ≡ true → allows s Past ≡ true
+lets_past Through h = cc
+lets_past Define h = cc
+lets_past Dotted h = cc
+lets_past Value h = cc
+lets_past Past h = refl
+lets_past Element h = refl
+
+and_true : (b : Bool) → b ≡ (b && true)
+and_true true = refl
+and_true false = refl
+
+state_past : (o : Option Role) (roles : List Role) → is_tables o ≡ true → IsState o roles → IsState o (roles ++ Past ∷ [])
+state_past None roles t is = cc
+state_past (Some s) roles t is = λ r.
+    as_past s r t ∙ ap (λ b. b && allows Past r) (is r) ∙ ap (λ b. list_all (λ e. allows e r) roles && b) (and_true (allows Past r)) ∙ sym (list_all-append (λ e. allows e r) roles (Past ∷ []))
+
+all_past : (o : Option Role) (roles : List Role) → is_tables o ≡ true → IsState o roles → list_all (λ e. allows e Past) roles ≡ true
+all_past None roles t is = cc
+all_past (Some s) roles t is = sym (is Past) ∙ lets_past s t
+
+pub keeps_same : (nodes : List Twig) → Keeps nodes nodes
+keeps_same nodes = record { longer = omega arith; paths = λ i h. refl; holdings = λ i h. refl; kinds = λ i h. refl }
+
+-- past an array of tables to its last element
+pub passes_element : (nodes : List Twig) (parent to : ℕ) (k : List ℕ) → IsLastElement nodes (path_at nodes parent ++ key k ∷ []) to → Passes nodes nodes parent to k
+passes_element nodes parent to k last =
+    let kids : ℕ = length (children_of nodes last.child) in
+    let p : List Part = path_at nodes parent ++ key k ∷ [] in
+    let low : kids - 1 < kids = omega (arith, last.some) in
+    let counted : (tables : List (List Part)) (ms : List Mention) → IsWorld nodes ms tables → elements_of p tables ≡ kids = λ tables ms world.
+    ap (λ q. elements_of q tables) (sym last.here) ∙ world.tables_are.counts last.child last.inside ∙ ap (λ t. cond t kids 0) last.tables in
+    let placed : (tables : List (List Part)) (ms : List Mention) → IsWorld nodes ms tables → path_at nodes to ≡ entered_path tables p = λ tables ms world.
+    ap (path_at nodes) last.last ∙ world.shaped.elements last.child (kids - 1) last.inside (tables_listed nodes world.shaped last.child last.inside last.tables) low
+    ∙ ap (λ q. q ++ index (kids - 1) ∷ []) last.here ∙ ap (λ c. p ++ index (c - 1) ∷ []) (sym (counted tables ms world)) ∙ sym (entered-some tables p (omega (arith, last.some, counted tables ms world))) in
+    let in_place : (trie : IsTrie nodes) → to < length nodes = λ trie.
+    subst (λ (x : ℕ). x < length nodes) (sym last.last) (child_at nodes trie last.child (kids - 1) (first nodes trie) last.inside low).inside in
+    record {
+      keeps = keeps_same nodes;
+      world = λ ms tables world.
+          let trie : IsTrie nodes = world.index.trie in
+          let some : 0 < elements_of p tables = omega (arith, last.some, counted tables ms world) in
+          let goal_path = placed tables ms world in
+          let m1 : Mention = record { path = p; says = past } in
+          let m2 : Mention = record { path = entered_path tables p; says = passed } in
+          let own : IsState (state_at nodes last.child) (roles_said p ms) = state_known nodes ms world.index last.child p last.inside last.here in
+          let size : length (paths_of nodes) ≡ length nodes = length-paths_of nodes trie.root in
+          let one : Knows (paths_of nodes) (states_of nodes) (ms ++ m1 ∷ []) =
+          known_same (paths_of nodes) (states_of nodes) ms m1 last.child world.index.knows trie.distinct (omega (arith, last.inside)) (sym last.here)
+          (state_past (state_at nodes last.child) (roles_said p ms) last.tables own)
+          (obeys_push ms m1 Past refl (all_past (state_at nodes last.child) (roles_said p ms) last.tables own) world.index.knows.obeys) in
+          let rest : IsState (state_at nodes to) (roles_said (entered_path tables p) (ms ++ m1 ∷ [])) =
+          subst (λ (q : List Part). IsState (state_at nodes to) (roles_said q (ms ++ m1 ∷ []))) goal_path (one.states_are to (omega (arith, in_place trie))) in
+          let two : Knows (paths_of nodes) (states_of nodes) ((ms ++ m1 ∷ []) ++ m2 ∷ []) =
+          known_same (paths_of nodes) (states_of nodes) (ms ++ m1 ∷ []) m2 to one trie.distinct (omega (arith, in_place trie)) (sym goal_path)
+          (subst (λ (rs : List Role). IsState (state_at nodes to) rs) (sym (append-nil (roles_said (entered_path tables p) (ms ++ m1 ∷ [])))) rest)
+          (obeys_bare (ms ++ m1 ∷ []) m2 refl one.obeys) in
+          let whole : (ms ++ m1 ∷ []) ++ m2 ∷ [] ≡ ms ++ passing_mentions tables p = append_assoc ms (m1 ∷ []) (m2 ∷ []) ∙ ap (λ w. ms ++ w) (sym (passing-some tables p some)) in
+          record {
+            index = record { trie = trie; knows = subst (λ (w : List Mention). Knows (paths_of nodes) (states_of nodes) w) whole two };
+            shaped = world.shaped;
+            tables_are = world.tables_are;
+            begun = world.begun;
+          };
+      stands = λ ms tables world.
+          let bare = world.shaped.plain last.child (kids - 1) last.inside last.tables low in
+          record {
+            inside = in_place world.index.trie;
+            here = placed tables ms world;
+            open_to = ap (holds_at nodes) last.last ∙ bare.1;
+          };
+    }
+
+pub none_unmet : (nodes : List Twig) (path : List Part) → (Contains (paths_of nodes) path → ⊥) → HasNoElement nodes path
+none_unmet nodes path fresh = λ ts are begun. are.unmet path fresh
+
+pub none_plain : (nodes : List Twig) (path : List Part) (child : ℕ) → child < length nodes → path_at nodes child ≡ path → is_tables (state_at nodes child) ≡ false → HasNoElement nodes path
+none_plain nodes path child h here plain = λ ts are begun.
+    ap (λ p. elements_of p ts) (sym here) ∙ are.counts child h ∙ ap (λ t. cond t (length (children_of nodes child)) 0) plain
+
+pub none_empty : (nodes : List Twig) (path : List Part) (child : ℕ) → child < length nodes → path_at nodes child ≡ path → length (children_of nodes child) ≡ 0 → HasNoElement nodes path
+none_empty nodes path child h here empty = λ ts are begun.
+    elim (cases_Bool (is_tables (state_at nodes child))) [
+      | inl t ↦ absurd (omega (arith, begun child h t, empty))
+      | inr f ↦ none_plain nodes path child h here f ts are begun
+    ]
+
+-- a key that fits its role
+pub fits_through : (h : Holding) → h ≡ by_key → Fits Through h
+fits_through h e = record { listed = λ t. absurd cc; opened = λ t. e }
+
+pub fits_dotted : (h : Holding) → h ≡ by_key → Fits Dotted h
+fits_dotted h e = record { listed = λ t. absurd cc; opened = λ t. e }
+
+pub fits_define : (h : Holding) → h ≡ by_key → Fits Define h
+fits_define h e = record { listed = λ t. absurd cc; opened = λ t. e }
+
+pub fits_element : (h : Holding) → h ≡ by_index → Fits Element h
+fits_element h e = record { listed = λ t. e; opened = λ t. absurd cc }
+
+pub fits_value : (h : Holding) → Fits Value h
+fits_value h = record { listed = λ t. absurd cc; opened = λ t. absurd cc }
+
+-- the element is a table
+pub element_inside : (nodes : List Twig) (path : List Part) (to : ℕ) → IsTrie nodes → IsLastElement nodes path to → to < length nodes
+element_inside nodes path to trie last =
+    let low : length (children_of nodes last.child) - 1 < length (children_of nodes last.child) = omega (arith, last.some) in
+    subst (λ (x : ℕ). x < length nodes) (sym last.last) (child_at nodes trie last.child (length (children_of nodes last.child) - 1) (first nodes trie) last.inside low).inside
+
+pub element_keyed : (nodes : List Twig) (path : List Part) (to : ℕ) → IsShaped nodes → IsLastElement nodes path to → holds_at nodes to ≡ by_key
+element_keyed nodes path to shaped last =
+    let low : length (children_of nodes last.child) - 1 < length (children_of nodes last.child) = omega (arith, last.some) in
+    ap (holds_at nodes) last.last ∙ (shaped.plain last.child (length (children_of nodes last.child) - 1) last.inside last.tables low).1

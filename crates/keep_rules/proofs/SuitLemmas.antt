@@ -1,0 +1,85 @@
+-- The values of a document fit what they stand in: items arrays, and what has a key inline tables and bodies.
+use Rattle.std.proofs.Common.{◌≡◌, ℕ, suc, ◌+◌, ◌<◌, List, [], ◌∷◌, ◌++◌, length, refl, sym, ◌∙◌, ap, subst, arith, Option, Some, None}
+use Rattle.keep_token.specs.declared.leaf.Profile.{Profile}
+use Rattle.keep_syntax.specs.Tree.{Name, Body, scalar, array, inline, Entries, none, entry, Value}
+use Rattle.std.proofs.lemmas.List.{append-nil}
+use Rattle.keep_syntax.specs.Grammar.{Place, in_scalar, in_array, in_inline, place_in, IsNamed, AreEntries, IsValue}
+use Rattle.keep_syntax.specs.Numbered.{value_count}
+use Rattle.keep_rules.specs.Fact.{Fact}
+use Rattle.keep_rules.specs.Path.{Part}
+use Rattle.keep_rules.specs.Meaning.{body_fact}
+use Rattle.keep_rules.specs.Trie.{Holding, nothing, by_key, by_index}
+use Rattle.keep_rules.specs.Inside.{Turn, holding_of, entry_turn, turns, Inside, holding_of_value, next_inside, inside_after, Suits, AllSuit, NameSuits, EntriesSuit, body_inside, value_inside, keyval_turns}
+use Rattle.keep_rules.proofs.InsideLemmas.{HasValues, next_values, new_holding, turns_stay, Stays, next_stays, fact_is, owner_is}
+
+pub all_suit-append : (s : Inside) (xs ys : List Turn) → AllSuit s xs → AllSuit (inside_after s xs) ys → AllSuit s (xs ++ ys)
+all_suit-append s [] ys h g = g
+all_suit-append s (x ∷ xs) ys h g = (h.0, all_suit-append (next_inside s x) xs ys h.1 g)
+
+suits_entry : (s : Inside) (owner : ℕ) (name : Option Name) (f : Fact) (h : Holding) → holding_of_value s owner ≡ h → NameSuits h name → owner < length s.paths → Suits s (entry_turn owner name f)
+suits_entry s owner None f by_index is suits low = (low, is)
+suits_entry s owner (Some name) f by_key is suits low = (low, is)
+suits_entry s owner None f by_key is suits low = absurd suits
+suits_entry s owner None f nothing is suits low = absurd suits
+suits_entry s owner (Some name) f by_index is suits low = absurd suits
+suits_entry s owner (Some name) f nothing is suits low = absurd suits
+
+-- entries that fit their value give values that fit theirs
+pub turns_suit : (s : Inside) (owner v : ℕ) (es : Entries) → HasValues s v → owner < v → EntriesSuit (holding_of_value s owner) es → AllSuit s (turns owner v es)
+turns_suit s owner v none has low suits = tt
+turns_suit s owner v (entry name body inside after comma rest) has low suits =
+    let f : Fact = body_fact body in
+    let t : Turn = entry_turn owner name f in
+    let a : Inside = next_inside s t in
+    let ins : List Turn = turns v (suc v) inside in
+    let b : Inside = inside_after a ins in
+    let has' = next_values s t v has in
+    let first : Stays s a owner v 1 = subst (λ (o : ℕ). Stays s a o v 1) (owner_is owner name f) (next_stays s t v has) in
+    let second = turns_stay a v (suc v) inside has' (omega arith) in
+    let own : holding_of_value a v ≡ holding_of f = new_holding s t v has ∙ ap holding_of (fact_is owner name f) in
+    let same : holding_of_value b owner ≡ holding_of_value s owner = second.holdings owner (omega arith) ∙ first.holdings owner low in (
+      suits_entry s owner name f (holding_of_value s owner) refl suits.0 (omega (arith, has.paths)),
+      all_suit-append a ins (turns owner (suc v + value_count inside) rest)
+          (turns_suit a v (suc v) inside has' (omega arith) (subst (λ (h : Holding). EntriesSuit h inside) (sym own) suits.1))
+          (turns_suit b owner (suc v + value_count inside) rest second.has (omega arith) (subst (λ (h : Holding). EntriesSuit h rest) (sym same) suits.2)),
+    )
+
+-- ---- by the grammar
+
+-- what stands at such a place is held so
+abbrev PlaceHolds : Place → Holding → Type 0
+PlaceHolds in_scalar h = Unit {0}
+PlaceHolds in_array h = h ≡ by_index
+PlaceHolds in_inline h = h ≡ by_key
+
+name_suits : (profile : Profile) (place : Place) (h : Holding) (name : Option Name) → PlaceHolds place h → IsNamed profile place name → NameSuits h name
+name_suits profile in_scalar h None fits is = absurd is
+name_suits profile in_scalar h (Some name) fits is = absurd is
+name_suits profile in_array h None fits is = subst (λ (x : Holding). NameSuits x None) (sym fits) tt
+name_suits profile in_array h (Some name) fits is = absurd is
+name_suits profile in_inline h None fits is = absurd is
+name_suits profile in_inline h (Some name) fits is = subst (λ (x : Holding). NameSuits x (Some name)) (sym fits) tt
+
+body_holds : (body : Body) → PlaceHolds (place_in body) (holding_of (body_fact body))
+body_holds (scalar w) = tt
+body_holds (array first) = refl
+body_holds (inline first) = refl
+
+pub entries_suit : (profile : Profile) (place : Place) (h : Holding) (es : Entries) → PlaceHolds place h → AreEntries profile place es → EntriesSuit h es
+entries_suit profile place h none fits are = tt
+entries_suit profile place h (entry name body inside after comma rest) fits are =
+    (name_suits profile place h name fits are.0, entries_suit profile (place_in body) (holding_of (body_fact body)) inside (body_holds body) are.2, entries_suit profile place h rest fits are.5)
+
+-- a keyval in a body
+pub keyval_suits : (profile : Profile) (path : List Part) (name : Name) (v : Value) → IsValue profile v → AllSuit (body_inside path) (keyval_turns name v)
+keyval_suits profile path name v is =
+    let e : Entries = entry (Some name) v.body v.inside [] None none in
+    subst (λ (ts : List Turn). AllSuit (body_inside path) (entry_turn 0 (Some name) (body_fact v.body) ∷ ts)) (append-nil (turns 1 2 v.inside))
+    (turns_suit (body_inside path) 0 1 e record { paths = refl; holdings = refl; entries = refl } (omega arith)
+    (tt, entries_suit profile (place_in v.body) (holding_of (body_fact v.body)) v.inside (body_holds v.body) is.inside, tt))
+
+-- the values in one that stands alone
+pub value_suits : (profile : Profile) (v : Value) → IsValue profile v → AllSuit (value_inside (body_fact v.body)) (turns 0 1 v.inside)
+value_suits profile v is =
+    turns_suit (value_inside (body_fact v.body)) 0 1 v.inside record { paths = refl; holdings = refl; entries = refl } (omega arith)
+    (entries_suit profile (place_in v.body) (holding_of (body_fact v.body)) v.inside (body_holds v.body) is.inside)

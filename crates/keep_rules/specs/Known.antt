@@ -1,0 +1,27 @@
+-- How paths and states stand for what was said so far.
+use Rattle.std.specs.Prelude.{◌≡◌, ℕ, ◌<◌, List, [], length, Option, None, slice_index_or, Contains}
+use Rattle.std.specs.List.{filter_map}
+use Rattle.keep_rules.specs.declared.role.Role.{Role}
+use Rattle.keep_rules.specs.Path.{Part}
+use Rattle.keep_rules.specs.Rules.{ObeysRules}
+use Rattle.keep_rules.specs.Marks.{Mention, marks, role_of}
+use Rattle.keep_rules.specs.Nodes.{node_paths, says_at}
+use Rattle.keep_rules.specs.State.{IsState}
+use Rattle.keep_rules.specs.Trie.{Twig, IsTrie, paths_of, states_of}
+
+-- the roles of the marks at a path
+abbrev pub roles_said : List Part → List Mention → List Role
+roles_said path ms = filter_map role_of (says_at path ms)
+
+-- paths and states are those of what was said
+pub record Knows (paths : List (List Part)) (states : List (Option Role)) (ms : List Mention) : Type 0 where
+  pub paths_are : paths ≡ node_paths ms
+  pub many : length states ≡ length paths
+  pub states_are : (i : ℕ) → i < length paths → IsState (slice_index_or states i None) (roles_said (slice_index_or paths i []) ms)
+  pub silent : (p : List Part) → (Contains paths p → ⊥) → says_at p ms ≡ []
+  pub obeys : ObeysRules (marks ms)
+
+-- the nodes are those of what was said, and its marks obey the rules
+pub record IsIndexOf (nodes : List Twig) (ms : List Mention) : Type 0 where
+  pub trie : IsTrie nodes
+  pub knows : Knows (paths_of nodes) (states_of nodes) ms

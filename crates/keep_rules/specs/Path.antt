@@ -1,0 +1,24 @@
+-- Paths: lists of keys and indexes, from the root, or from a value. (TOML 1.0.0: Keys, Array, Array of Tables)
+use Rattle.std.specs.Prelude.{ℕ, Bool, false, ◌==◌, List, [], ◌∷◌}
+use Rattle.std.specs.Str.{bytes_eq}
+use Rattle.std.specs.Cmp.Lexicographic.{pointwise}
+
+-- one step of a path: a key, by its decoded bytes, or the number of an item or element
+pub data Part : Type 0 where
+  key : List ℕ → Part
+  index : ℕ → Part
+
+abbrev pub same_part : Part → Part → Bool
+same_part (key a) (key b) = bytes_eq a b
+same_part (index m) (index n) = m == n
+same_part (key a) (index n) = false
+same_part (index m) (key b) = false
+
+abbrev pub same_path : List Part → List Part → Bool
+same_path = pointwise same_part
+
+-- a path from the root: its first step is a key
+abbrev pub IsRooted : List Part → Type 0
+IsRooted [] = Unit {0}
+IsRooted (key text ∷ parts) = Unit {0}
+IsRooted (index n ∷ parts) = ⊥
