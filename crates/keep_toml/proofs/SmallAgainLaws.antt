@@ -11,7 +11,6 @@ use Rattle.keep_token.specs.Abnf.{is_word}
 use Rattle.keep_token.proofs.GapLaws.{tested}
 use Rattle.keep_toml.specs.declared.lines.Entry.{Entry}
 use Rattle.keep_toml.specs.declared.document.Counts.{Counts}
-use Rattle.keep_toml.specs.declared.document.Document.{Document}
 use Rattle.keep_toml.specs.declared.fault.ReadFault.{ReadFault}
 use Rattle.keep_toml.specs.declared.fault.ReadFault.TheVariants as fault
 use Rattle.keep_toml.specs.declared.path.Path.{Path}
@@ -21,7 +20,7 @@ use Rattle.keep_toml.specs.SmallTree.{Written, Keyval, Line, Ended, Tree, text, 
 use Rattle.keep_toml.specs.SmallGrammar.{AreDistinct, IsSmallValue, Reads}
 use Rattle.keep_toml.specs.SmallFind.{entry_named}
 use Rattle.keep_toml.specs.SmallDocument.{Holds, IsReadFault}
-use Rattle.keep_toml.specs.Documents.{bytes_of, IsRead, EntryAt, written_value}
+use Rattle.keep_toml.specs.Documents.{EntryAt, written_value}
 use Rattle.keep_toml.proofs.SmallLeafLaws.{value_is_word}
 use Rattle.keep_toml.proofs.SmallTreeLaws.{one_tree}
 use Rattle.keep_toml.proofs.SmallKeyLaws.{lines_keyvals}
@@ -102,8 +101,8 @@ pub made_is : (made joined text old word value : List ℕ) (start end : ℕ) →
 made_is made joined text old word value start end whole is same same_word =
     whole ∙ is ∙ ap (λ (x : List ℕ). take start x ++ (word ++ drop end x)) same ∙ ap (λ (x : List ℕ). take start old ++ (x ++ drop end old)) same_word
 
-pub set_again : (d : Document) (path : Path) (entry : Entry) (value made : List ℕ) (e : ReadFault) → IsRead d → EntryAt d path (Ok entry) → is_small_value value ≡ true → made ≡ take entry.value_start (bytes_of d) ++ (value ++ drop entry.value_end (bytes_of d)) → IsReadFault made e → e ≡ fault.Memory
-set_again d Root entry value made e h at v is k = absurd at
-set_again d (Key key) entry value made e h at v is k =
-    let reads = again_reads (bytes_of d) (string_bytes key) d.entries.items d.counts (written_value value) entry made h at.0 (value_is value v) is in
+pub set_again : (bytes : List ℕ) (entries : List Entry) (counts : Counts) (path : Path) (entry : Entry) (value made : List ℕ) (e : ReadFault) → Holds bytes entries counts → EntryAt bytes entries path (Ok entry) → is_small_value value ≡ true → made ≡ take entry.value_start bytes ++ (value ++ drop entry.value_end bytes) → IsReadFault made e → e ≡ fault.Memory
+set_again bytes entries counts Root entry value made e h at v is k = absurd at
+set_again bytes entries counts (Key key) entry value made e h at v is k =
+    let reads = again_reads bytes (string_bytes key) entries counts (written_value value) entry made h at.0 (value_is value v) is in
     only_memory made (with_value (string_bytes key) (written_value value) h.tree) e reads k

@@ -9,7 +9,7 @@ use Rattle.keep_token.proofs.GapLaws.{tested}
 use Rattle.keep_toml.specs.declared.lines.Entry.{Entry}
 use Rattle.keep_toml.specs.declared.document.Counts.{Counts}
 use Rattle.keep_toml.specs.SmallTree.{Written, Gap, Keyval, Line, Ended, Tree, text_of, text, line_leaves, ended_leaves, bom_leaves, line_keyvals, keyvals, value_named, keyval_list, keyval_with, content_with, line_with, ended_with, with_value}
-use Rattle.keep_toml.specs.SmallGrammar.{AreDistinct, IsSmallValue, IsKeyval, IsContent, IsAfter, IsLine, IsEnded, IsTree, Spells, Reads}
+use Rattle.keep_toml.specs.SmallGrammar.{AreDistinct, IsSmallValue, IsKeyval, IsContent, IsAfter, IsLine, IsEnded, IsTree, Spells, Reads, IsAccepted}
 use Rattle.keep_toml.specs.SmallPlaces.{width, entry_at, keyval_places, line_places, lines_places}
 use Rattle.keep_toml.specs.SmallCode.{lines_text}
 use Rattle.keep_toml.specs.SmallFind.{EntryFits, has_key, entry_named}
@@ -312,11 +312,11 @@ named_none bytes key entries counts h found t r =
     subst (λ (u : Tree). value_named key (keyvals u) ≡ None) (same_tree bytes entries counts h t r) n
 
 -- the document with the new value has the changed tree
-pub new_reads : (bytes key : List ℕ) (entries : List Entry) (counts : Counts) (w : Written) (e : Entry) (new : List ℕ) (new_entries : List Entry) (new_counts : Counts) → Holds bytes entries counts → entry_named bytes key entries ≡ Some e → IsSmallValue w
-    → new ≡ take e.value_start bytes ++ (w.text ++ drop e.value_end bytes) → Holds new new_entries new_counts → (t : Tree) → Reads bytes t → Reads new (with_value key w t)
-new_reads bytes key entries counts w e new new_entries new_counts h found v is k t r =
+pub new_reads : (bytes key : List ℕ) (entries : List Entry) (counts : Counts) (w : Written) (e : Entry) (new : List ℕ) → Holds bytes entries counts → entry_named bytes key entries ≡ Some e → IsSmallValue w
+    → new ≡ take e.value_start bytes ++ (w.text ++ drop e.value_end bytes) → IsAccepted new → (t : Tree) → Reads bytes t → Reads new (with_value key w t)
+new_reads bytes key entries counts w e new h found v is k t r =
     let c = cut_tree bytes key entries counts w e h found in
     let spelled : new ≡ text (with_value key w h.tree) = is ∙ spliced bytes (text (with_value key w h.tree)) w e c in
     let spells : Spells new (with_value key w h.tree) = record { valid = with_valid key w h.tree v h.reads.spells.valid; spelled = spelled } in
-    let same : k.tree ≡ with_value key w t = one_tree new k.tree (with_value key w h.tree) k.reads.spells spells ∙ ap (with_value key w) (same_tree bytes entries counts h t r) in
-    subst (λ (u : Tree). Reads new u) same k.reads
+    let same : k.0 ≡ with_value key w t = one_tree new k.0 (with_value key w h.tree) k.1.spells spells ∙ ap (with_value key w) (same_tree bytes entries counts h t r) in
+    subst (λ (u : Tree). Reads new u) same k.1

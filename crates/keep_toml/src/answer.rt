@@ -2,7 +2,6 @@
 ghost use Rattle.std.specs.Prelude.{◌≡◌, ◌⊎◌, ◌++◌, codes, IfOk, MatchResult, string_bytes};
 ghost use Rattle.keep_toml.specs.Answer.{counts_line, AppliesTo, IsRefusal, IsText};
 ghost use Rattle.keep_toml.specs.Answer as spec;
-ghost use Rattle.keep_toml.specs.Documents.{bytes_of, IsRead};
 
 use crate::command::Command;
 use crate::document::{Counts, Document};
@@ -54,8 +53,7 @@ fn of_edit(index: usize, fault: EditFault) -> RunFault
 }
 
 fn checked(alloc: Global, document: &Document) -> Result<String, RunFault>
-    requires { IsRead document.now }
-    ensures { MatchResult result (λ text. IsText Command.Check (bytes_of document.now) (string_bytes text)) (λ fault. fault ≡ RunFault.Memory) }
+    ensures { MatchResult result (λ text. IsText Command.Check document.now (string_bytes text)) (λ fault. fault ≡ RunFault.Memory) }
 {
     let Ok(text) = counts_text(alloc, document.check()) else {
         return Err(RunFault::Memory);
@@ -64,9 +62,8 @@ fn checked(alloc: Global, document: &Document) -> Result<String, RunFault>
 }
 
 fn got(alloc: Global, document: &Document, path: &Path) -> Result<String, RunFault>
-    requires { IsRead document.now }
-    ensures { MatchResult result (λ text. IsText (Command.Get path.now) (bytes_of document.now) (string_bytes text))
-        (λ fault. (fault ≡ RunFault.Memory) ⊎ IsRefusal (Command.Get path.now) (bytes_of document.now) fault) }
+    ensures { MatchResult result (λ text. IsText (Command.Get path.now) document.now (string_bytes text))
+        (λ fault. (fault ≡ RunFault.Memory) ⊎ IsRefusal (Command.Get path.now) document.now fault) }
 {
     match document.get(path) {
         Ok(value) => {
@@ -89,8 +86,7 @@ fn parts_of(edit: &Edit) -> (&Path, &ValueText)
 
 // The text after the edits in order, or the first refusal.
 fn applied(document: Document, edits: &[Edit]) -> Result<String, RunFault>
-    requires { IsRead document }
-    ensures { MatchResult result (λ text. AppliesTo edits.now (bytes_of document) (string_bytes text)) (spec.Refused edits.now (bytes_of document)) }
+    ensures { MatchResult result (λ text. AppliesTo edits.now document (string_bytes text)) (spec.Refused edits.now document) }
 {
     let mut changed = document;
     for index in 0..edits.len() {

@@ -34,11 +34,7 @@ impl<T> Counted<T> {
     pub fn into_inner(self) -> T
         ensures { result ≡ inner_of self }
     {
-        let Counted {
-            inner,
-            turns: _,
-            failed: _,
-        } = self;
+        let Counted { inner, .. } = self;
         inner
     }
 
@@ -46,14 +42,16 @@ impl<T> Counted<T> {
     pub fn turns(&self) -> u64
         ensures { result ≡ turns_of self.now }
     {
-        self.turns
+        let Counted { turns, .. } = self;
+        *turns
     }
 
     /// Whether a call answered an error, or a write of something took nothing.
     pub fn failed(&self) -> bool
         ensures { result ≡ has_failed self.now }
     {
-        self.failed
+        let Counted { failed, .. } = self;
+        *failed
     }
 
     /// Reads once: the inner one's answer.

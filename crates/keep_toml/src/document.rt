@@ -12,6 +12,7 @@ use crate::path::Path;
 use crate::value::ValueText;
 use keep_token::text_of;
 use std::alloc::{AllocError, Global};
+use std::marker::Model;
 
 /// How many tokens and nodes a document has.
 #[derive(Clone, Copy, Debug, PartialEq, Eq)]
@@ -20,13 +21,24 @@ pub struct Counts {
     pub nodes: usize,
 }
 
-/// A document that was read.
+/// A document that was read: a text that the grammar has, in which no key stands twice.
 #[derive(Debug, Drop)]
 pub struct Document {
     text: String,
     entries: Vec<Entry>,
     counts: Counts,
     alloc: Global,
+}
+
+impl Model for Document {
+    ghost use Rattle.std.specs.Prelude.{ℕ, List, string_bytes};
+    ghost use Rattle.keep_toml.specs.SmallDocument.{Holds};
+
+    ghost Value = { List ℕ };
+
+    ghost view = { λ d. string_bytes d.text };
+
+    ghost invariant = { λ d. Holds (string_bytes d.text) d.entries.items d.counts };
 }
 
 // The key of a keyval.
@@ -69,7 +81,8 @@ fn distinct(text: &[u8], entries: &[Entry]) -> Result<(), ReadFault>
 }
 
 impl Document {
-    ghost use Rattle.keep_toml.specs.Documents.{IsRead, IsReadAs, IsCounts};
+    ghost use Rattle.keep_toml.specs.Documents.{IsReadAs, IsCounts};
+    ghost use Rattle.keep_toml.specs.SmallGrammar.{IsAccepted};
 
     /// Reads a document.
     ///
@@ -105,32 +118,29 @@ impl Document {
 
     /// How many tokens and nodes the document has.
     pub fn check(&self) -> Counts
-        requires { IsRead self.now }
-        ensures { IsCounts self.now result }
+        ensures accepted { IsAccepted self.now }
+        ensures counts { IsCounts self.now result }
     {
         self.counts
     }
 }
 
 impl Document {
-    ghost use Rattle.keep_toml.specs.Documents.{IsRead, EntryAt, SetAt, bytes_of, get_of};
+    ghost use Rattle.keep_toml.specs.Documents.{EntryAt, SetAt, get_of};
     ghost use Rattle.keep_toml.specs.SmallTree.{Tree};
-    ghost use Rattle.keep_toml.specs.SmallGrammar.{Reads};
+    ghost use Rattle.keep_toml.specs.SmallGrammar.{IsAccepted, Reads};
 
     // The keyval that a path names, or why it names none.
-    fn entry_at(&self, path: &Path) -> Result<Entry, EditFault>
-        requires { IsRead self.now }
-        ensures { EntryAt self.now path.now result }
+    fn entry_at(text: &[u8], entries: &[Entry], path: &Path) -> Result<Entry, EditFault>
+        requires { (counts : Counts) × spec.Holds text.now entries.now counts }
+        ensures { EntryAt text.now entries.now path.now result }
     {
         match path {
             Path::Root => Err(EditFault::NotValue),
-            Path::Key(key) => {
-                let text = self.text.as_str().as_bytes();
-                match entry_named(text, self.entries.as_slice(), key.as_str().as_bytes()) {
-                    Some(entry) => Ok(entry),
-                    None => Err(EditFault::NotFound),
-                }
-            }
+            Path::Key(key) => match entry_named(text, entries, key.as_str().as_bytes()) {
+                Some(entry) => Ok(entry),
+                None => Err(EditFault::NotFound),
+            },
         }
     }
 
@@ -140,11 +150,12 @@ impl Document {
     ///
     /// `NotValue` for the root, `NotFound` exactly if no key is named so.
     pub fn get(&self, path: &Path) -> Result<&str, EditFault>
-        requires { IsRead self.now }
-        ensures { (t : Tree) → Reads (bytes_of self.now) t → MatchResult result (λ text. get_of path.now t ≡ Ok text.now) (λ fault. get_of path.now t ≡ Err fault) }
+        ensures accepted { IsAccepted self.now }
+        ensures value { (t : Tree) → Reads self.now t → MatchResult result (λ text. get_of path.now t ≡ Ok text.now) (λ fault. get_of path.now t ≡ Err fault) }
     {
-        let entry = self.entry_at(path)?;
-        Ok(&self.text.as_str()[entry.value_start..entry.value_end])
+        let text = self.text.as_str();
+        let entry = Document::entry_at(text.as_bytes(), self.entries.as_slice(), path)?;
+        Ok(&text[entry.value_start..entry.value_end])
     }
 
     /// Writes a value in place of the one that stands at a path. After a refusal the document is as before.
@@ -154,14 +165,15 @@ impl Document {
     /// `NotValue` for the root, `NotFound` exactly if no key is named so, whatever memory there is; `Memory` where a
     /// growth was refused.
     pub fn set(&mut self, path: &Path, value: &ValueText) -> Result<Splice, EditFault>
-        requires { IsRead self.old }
-        ensures read { IsRead self.new }
+        ensures accepted { IsAccepted self.old }
+        ensures read { IsAccepted self.new }
         ensures refused { OnErr result (self.new ≡ self.old) }
-        ensures set { (t : Tree) → Reads (bytes_of self.old) t → SetAt (bytes_of self.old) path.now (string_bytes value.now.text) t self.new result }
+        ensures set { (t : Tree) → Reads self.old t → SetAt self.old path.now (string_bytes value.now.text) t self.new result }
     {
-        let entry = self.entry_at(path)?;
+        let text = self.text.as_str().as_bytes();
+        let entry = Document::entry_at(text, self.entries.as_slice(), path)?;
         let value = value.as_str().as_bytes();
-        let Ok(bytes) = spliced(self.alloc, self.text.as_str().as_bytes(), entry, value) else {
+        let Ok(bytes) = spliced(self.alloc, text, entry, value) else {
             return Err(EditFault::Memory);
         };
         match Document::read(self.alloc, bytes.as_slice()) {
@@ -179,11 +191,9 @@ impl Document {
 }
 
 impl Document {
-    ghost use Rattle.keep_toml.specs.Documents.{bytes_of};
-
     /// The text.
     pub fn into_text(self) -> String
-        ensures { string_bytes result ≡ bytes_of self }
+        ensures { string_bytes result ≡ self }
     {
         let Document {
             text,

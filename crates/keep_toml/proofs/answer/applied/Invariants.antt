@@ -1,7 +1,6 @@
 use Rattle.std.proofs.Common.{take}
-use Rattle.keep_toml.specs.Documents.{bytes_of, IsRead}
 use Rattle.keep_toml.specs.Answer.{AppliesTo}
 use Rattle.keep_toml.proofs.answer.applied.Given as goal
 
 abbrev pub invariant-loop-index : goal.invariant-loop-index
-invariant-loop-index l = AppliesTo (take l.index l.edits) (bytes_of l.fn.document) (bytes_of l.changed) × IsRead l.changed
+invariant-loop-index l = AppliesTo (take l.index l.edits) l.fn.document l.changed

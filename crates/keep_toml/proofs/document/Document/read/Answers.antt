@@ -3,6 +3,7 @@ use Rattle.std.specs.Prelude.{Err, string_bytes}
 use Rattle.std.proofs.lemmas.Result.{err_from_is_err_and}
 use Rattle.keep_toml.specs.declared.lines.Entry.{Entry}
 use Rattle.keep_toml.specs.SmallFind.{DistinctRead}
+use Rattle.keep_toml.specs.SmallGrammar.{IsAccepted}
 use Rattle.keep_toml.specs.SmallDocument.{Holds}
 use Rattle.keep_toml.proofs.SmallDocumentLaws.{tree_is, entries_fit, holds, lines_fault, distinct_fault}
 use Rattle.keep_toml.proofs.document.Document.read.Goals as goal
@@ -21,9 +22,16 @@ returns-in_err-distinct c =
     let t = tree_is c.args.bytes.now c.bom_len-start.result c.in_ok-found.found.entries.items c.in_ok-found.found.tokens c.bom_len-start.ensures c.in_ok-found.ensures in
     rw (p.1, p.2) (distinct_fault c.args.bytes.now c.in_ok-found.found.entries.items c.in_ok-found.found.tokens c.in_err-distinct.field-0.0 t (c.in-Ok.ensures.ok.0 refl) (subst (λ (x : List Entry). DistinctRead c.args.bytes.now x (Err c.in_err-distinct.field-0.0)) c.as_slice.ensures.value c.in_err-distinct.ensures))
 
+pub invariant_of-result : goal.invariant_of-result
+invariant_of-result c =
+    let t = tree_is c.args.bytes.now c.bom_len-start.result c.in_ok-found.found.entries.items c.in_ok-found.found.tokens c.bom_len-start.ensures c.in_ok-found.ensures in
+    let text : string_bytes c.in-Ok-from_str.text ≡ c.args.bytes.now = c.in-Ok-from_str.ensures.ok ∙ c.in-Ok.ensures.text in
+    let h = holds c.args.bytes.now c.bom_len-start.result c.in_ok-found.found.entries.items c.in_ok-found.found.tokens c.in-Some.counts c.bom_len-start.ensures t (c.in-Ok.ensures.ok.0 refl) (rw c.as_slice.ensures.value at c.in_ok-distinct.ensures) c.in-Some.ensures.0 c.in-Some.ensures.1 in
+    subst (λ (x : List ℕ). Holds x c.in_ok-found.found.entries.items c.in-Some.counts) (sym text) h
+
 pub returns : goal.returns
 returns c =
     let t = tree_is c.args.bytes.now c.bom_len-start.result c.in_ok-found.found.entries.items c.in_ok-found.found.tokens c.bom_len-start.ensures c.in_ok-found.ensures in
     let text : string_bytes c.in-Ok-from_str.text ≡ c.args.bytes.now = c.in-Ok-from_str.ensures.ok ∙ c.in-Ok.ensures.text in
     let h = holds c.args.bytes.now c.bom_len-start.result c.in_ok-found.found.entries.items c.in_ok-found.found.tokens c.in-Some.counts c.bom_len-start.ensures t (c.in-Ok.ensures.ok.0 refl) (rw c.as_slice.ensures.value at c.in_ok-distinct.ensures) c.in-Some.ensures.0 c.in-Some.ensures.1 in
-    record { text = text; read = subst (λ (x : List ℕ). Holds x c.in_ok-found.found.entries.items c.in-Some.counts) (sym text) h }
+    record { text = text; accepted = subst IsAccepted (sym text) (h.tree, h.reads) }
