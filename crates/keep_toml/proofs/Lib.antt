@@ -9,6 +9,7 @@ pub mod Loses
 pub mod Parse
 pub mod PathLaws
 pub mod Rows
+pub mod SmallTokenLaws
 pub mod SmallCodeLaws
 pub mod SmallTreeLaws
 pub mod SmallKeyLaws

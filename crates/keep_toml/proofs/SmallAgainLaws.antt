@@ -10,7 +10,7 @@ use Rattle.std.proofs.lemmas.Str.{IsUtf8-append, IsUtf8-take, IsUtf8-drop, IsUtf
 use Rattle.keep_token.specs.Abnf.{is_word}
 use Rattle.keep_token.proofs.GapLaws.{tested}
 use Rattle.keep_toml.specs.declared.lines.Entry.{Entry}
-use Rattle.keep_toml.specs.declared.document.Counts.{Counts}
+use Rattle.keep_toml.specs.declared.lines.Token.{Token}
 use Rattle.keep_toml.specs.declared.fault.ReadFault.{ReadFault}
 use Rattle.keep_toml.specs.declared.fault.ReadFault.TheVariants as fault
 use Rattle.keep_toml.specs.declared.path.Path.{Path}
@@ -60,14 +60,14 @@ words_are_ascii [] h i = lit< tt
 words_are_ascii (c ∷ cs) h zero = let here = (and_parts (is_word c) (list_all is_word cs) h).0 in grind (arith, nat_tests)
 words_are_ascii (c ∷ cs) h (suc i) = words_are_ascii cs (and_parts (is_word c) (list_all is_word cs) h).1 i
 
-pub again_reads : (bytes key : List ℕ) (entries : List Entry) (counts : Counts) (w : Written) (e : Entry) (new : List ℕ) → (h : Holds bytes entries counts) → entry_named bytes key entries ≡ Some e → IsSmallValue w
+pub again_reads : (bytes key : List ℕ) (entries : List Entry) (tokens : List Token) (w : Written) (e : Entry) (new : List ℕ) → (h : Holds bytes entries tokens) → entry_named bytes key entries ≡ Some e → IsSmallValue w
     → new ≡ take e.value_start bytes ++ (w.text ++ drop e.value_end bytes) → Reads new (with_value key w h.tree)
-again_reads bytes key entries counts w e new h found v is =
-    let cuts = (entry_is bytes key entries counts e h found).1 in
+again_reads bytes key entries tokens w e new h found v is =
+    let cuts = (entry_is bytes key entries tokens e h found).1 in
     let word = IsUtf8-from_ascii w.text (words_are_ascii w.text (value_is_word w v).0) in
     let back = IsUtf8-append w.text (drop e.value_end bytes) word (IsUtf8-drop bytes e.value_end h.reads.utf8 cuts.1) in
     let all = IsUtf8-append (take e.value_start bytes) (w.text ++ drop e.value_end bytes) (IsUtf8-take bytes e.value_start h.reads.utf8 cuts.0) back in
-    let cut = cut_tree bytes key entries counts w e h found in
+    let cut = cut_tree bytes key entries tokens w e h found in
     record {
       utf8 = subst IsUtf8 (sym is) all;
       spells = record { valid = with_valid key w h.tree v h.reads.spells.valid; spelled = is ∙ spliced bytes (text (with_value key w h.tree)) w e cut };
@@ -101,8 +101,8 @@ pub made_is : (made joined text old word value : List ℕ) (start end : ℕ) →
 made_is made joined text old word value start end whole is same same_word =
     whole ∙ is ∙ ap (λ (x : List ℕ). take start x ++ (word ++ drop end x)) same ∙ ap (λ (x : List ℕ). take start old ++ (x ++ drop end old)) same_word
 
-pub set_again : (bytes : List ℕ) (entries : List Entry) (counts : Counts) (path : Path) (entry : Entry) (value made : List ℕ) (e : ReadFault) → Holds bytes entries counts → EntryAt bytes entries path (Ok entry) → is_small_value value ≡ true → made ≡ take entry.value_start bytes ++ (value ++ drop entry.value_end bytes) → IsReadFault made e → e ≡ fault.Memory
-set_again bytes entries counts Root entry value made e h at v is k = absurd at
-set_again bytes entries counts (Key key) entry value made e h at v is k =
-    let reads = again_reads bytes (string_bytes key) entries counts (written_value value) entry made h at.0 (value_is value v) is in
+pub set_again : (bytes : List ℕ) (entries : List Entry) (tokens : List Token) (path : Path) (entry : Entry) (value made : List ℕ) (e : ReadFault) → Holds bytes entries tokens → EntryAt bytes entries path (Ok entry) → is_small_value value ≡ true → made ≡ take entry.value_start bytes ++ (value ++ drop entry.value_end bytes) → IsReadFault made e → e ≡ fault.Memory
+set_again bytes entries tokens Root entry value made e h at v is k = absurd at
+set_again bytes entries tokens (Key key) entry value made e h at v is k =
+    let reads = again_reads bytes (string_bytes key) entries tokens (written_value value) entry made h at.0 (value_is value v) is in
     only_memory made (with_value (string_bytes key) (written_value value) h.tree) e reads k

@@ -1,9 +1,9 @@
 -- What the code finds of a part is what reading finds.
-use Rattle.std.proofs.Common.{◌≡◌, ℕ, ◌+◌, ◌-◌, ◌<◌, ◌≤◌, Bool, true, false, ◌==◌, List, [], ◌∷◌, ◌++◌, length, get_or, take, drop, Option, Some, None, refl, sym, ap, ◌∙◌, subst, inl, inr, arith, add-zero, get_or-drop}
+use Rattle.std.proofs.Common.{◌≡◌, ℕ, ◌+◌, ◌-◌, ◌<◌, ◌≤◌, Bool, true, false, ◌==◌, List, [], ◌∷◌, ◌++◌, length, get_or, take, drop, Option, Some, None, refl, sym, ap, ◌∙◌, subst, inl, inr, arith, add-zero, get_or-drop, append_assoc}
 use Rattle.std.specs.Prelude.{IfSome}
 use Rattle.std.specs.List.{prefix_len}
 use Rattle.std.proofs.lemmas.Bool.{cases_lt}
-use Rattle.std.proofs.lemmas.List.{get_or_past, length-append, length-drop, length-take, drop-drop}
+use Rattle.std.proofs.lemmas.List.{get_or_past, length-drop, length-take, drop-drop}
 use Rattle.std.proofs.lemmas.List.Sums.{prefix_len-le-length}
 use Rattle.keep_token.specs.declared.leaf.Leaf.{Leaf}
 use Rattle.keep_token.specs.declared.leaf.Leaf.TheVariants as leaf
@@ -11,19 +11,27 @@ use Rattle.keep_token.specs.Abnf.{is_ws, is_bare}
 use Rattle.keep_token.specs.Scanning.{first, gap_at}
 use Rattle.keep_token.proofs.GapLaws.{tested, white, line, comment, nothing, gap_cases, prefix_len-positive}
 use Rattle.keep_token.proofs.RunLaws.{take_all}
+use Rattle.keep_toml.specs.declared.fault.ReadFault.{ReadFault}
+use Rattle.keep_toml.specs.declared.fault.ReadFault.TheVariants as fault
 use Rattle.keep_toml.specs.declared.lines.Entry.{Entry}
 use Rattle.keep_toml.specs.declared.lines.Part.{Part}
+use Rattle.keep_toml.specs.declared.lines.Token.{Token}
 use Rattle.keep_toml.specs.SmallLeaves.{small_key_at, small_value_at}
-use Rattle.keep_toml.specs.SmallTree.{Written, Gap, Keyval, Line, mark, text_of, keyval_leaves, comment_leaves}
+use Rattle.keep_toml.specs.SmallTree.{Written, Gap, Keyval, Line, mark, keyval_leaves, comment_leaves, line_leaves}
 use Rattle.keep_toml.specs.SmallReading.{written, space_at, value_by, behind_by, equals_by, keyval_of, keyval_at, after_of, comment_at, line_at}
-use Rattle.keep_toml.specs.SmallPlaces.{width, keyval_places}
-use Rattle.keep_toml.specs.SmallCode.{listed, SpaceIs, CommentIs, KeyvalIs, AfterOf, AfterIs, LineIs}
+use Rattle.keep_toml.specs.SmallPlaces.{width, token, keyval_places}
+use Rattle.keep_toml.specs.SmallCode.{listed, Adds, Refuses, SpaceIs, CommentIs, KeyvalIs, AfterOf, LineIs, NewlineIs}
 use Rattle.keep_toml.proofs.SmallLeafLaws.{value_found, key_found, key_none}
-use Rattle.keep_toml.proofs.SmallSpaceLaws.{space_takes, space_ws, space_other, space_nothing}
+use Rattle.keep_toml.proofs.SmallSpaceLaws.{space_ws, space_other, space_nothing}
 use Rattle.keep_toml.proofs.SmallLineLaws.{some_is}
+use Rattle.keep_toml.proofs.SmallTokenLaws.{adds_none, adds_one, adds_more}
 
-pub place_is : (text : List ℕ) (a b : ℕ) (t : List ℕ) → a ≤ length text → b ≤ length text → drop a text ≡ t ++ drop b text → b ≡ a + length t
-place_is text a b t le le' e = omega (arith, ap length e, length-append t (drop b text), length-drop a text, length-drop b text)
+-- what follows from a refusal
+pub refused_by : {A B : Type 0} (e : ReadFault) → (A → B) → Refuses A e → Refuses B e
+refused_by (fault.Syntax at what) f h = f h
+refused_by fault.Memory f h = tt
+refused_by (fault.Utf8 at) f h = absurd h
+refused_by (fault.Define at why) f h = absurd h
 
 -- the rest of a slice is what stands from the place on
 pub rest_is : (text : List ℕ) (at : ℕ) → take (length text - at) (drop at text) ≡ drop at text
@@ -44,30 +52,34 @@ found_some text l n e =
 
 -- ---- white space
 
-pub no_space : (text : List ℕ) (at : ℕ) (part : Part) → at ≤ length text → space_at (drop at text) ≡ ([], drop at text) → part.end ≡ at → part.tokens ≡ 0 → SpaceIs text at part
-no_space text at part within e end tokens = record { gap = []; within = omega arith; read = e ∙ ap (λ (n : ℕ). let x : Gap × List ℕ = ([], drop n text) in x) (sym end); count = tokens; fits = omega arith }
+pub no_space : (text : List ℕ) (at end : ℕ) (old new : List Token) → at ≤ length text → space_at (drop at text) ≡ ([], drop at text) → end ≡ at → new ≡ old → SpaceIs text at old new end
+no_space text at end old new within e is same = record { gap = []; within = omega arith; read = e ∙ ap (λ (n : ℕ). let x : Gap × List ℕ = ([], drop n text) in x) (sym is); adds = adds_none at end old new is same }
 
-pub white_space : (text : List ℕ) (at n : ℕ) (part : Part) → at ≤ length text → gap_at (drop at text) ≡ Some (leaf.Ws, n) → at + n ≤ length text → part.end ≡ at + n → part.tokens ≡ 1 → SpaceIs text at part
-white_space text at n part within e le end tokens =
-    let g = mark leaf.Ws (take n (drop at text)) in
+-- the length of what is taken from a place on
+taken : (text : List ℕ) (at n : ℕ) → at + n ≤ length text → length (take n (drop at text)) ≡ n
+taken text at n le = omega (arith, length-take n (drop at text), length-drop at text)
+
+pub white_space : (text : List ℕ) (at n end : ℕ) (old new : List Token) → at ≤ length text → gap_at (drop at text) ≡ Some (leaf.Ws, n) → at + n ≤ length text → end ≡ at + n → new ≡ old ++ token leaf.Ws at end ∷ [] → SpaceIs text at old new end
+white_space text at n end old new within e le is kept =
+    let t = take n (drop at text) in
+    let g = mark leaf.Ws t in
     record {
       gap = g;
       within = omega arith;
-      read = space_ws (drop at text) n e ∙ ap (λ (x : List ℕ). let y : Gap × List ℕ = (g, x) in y) (drop-drop n at text ∙ ap (λ (m : ℕ). drop m text) (sym end));
-      count = tokens;
-      fits = omega (arith, found_some (drop at text) leaf.Ws n e);
+      read = space_ws (drop at text) n e ∙ ap (λ (x : List ℕ). let y : Gap × List ℕ = (g, x) in y) (drop-drop n at text ∙ ap (λ (m : ℕ). drop m text) (sym is));
+      adds = adds_one at end leaf.Ws t old new (omega (arith, is, taken text at n le)) kept;
     }
 
-pub other_space : (text : List ℕ) (at : ℕ) (l : Leaf) (n : ℕ) (part : Part) → at ≤ length text → gap_at (drop at text) ≡ Some (l, n) → (l ≡ leaf.Ws → ⊥) → part.end ≡ at → part.tokens ≡ 0 → SpaceIs text at part
-other_space text at l n part within e other end tokens = no_space text at part within (space_other (drop at text) l n e other) end tokens
+pub other_space : (text : List ℕ) (at : ℕ) (l : Leaf) (n end : ℕ) (old new : List Token) → at ≤ length text → gap_at (drop at text) ≡ Some (l, n) → (l ≡ leaf.Ws → ⊥) → end ≡ at → new ≡ old → SpaceIs text at old new end
+other_space text at l n end old new within e other is same = no_space text at end old new within (space_other (drop at text) l n e other) is same
 
-pub without_space : (text : List ℕ) (at : ℕ) (part : Part) → at ≤ length text → gap_at (drop at text) ≡ None → part.end ≡ at → part.tokens ≡ 0 → SpaceIs text at part
-without_space text at part within e end tokens = no_space text at part within (space_nothing (drop at text) e) end tokens
+pub without_space : (text : List ℕ) (at end : ℕ) (old new : List Token) → at ≤ length text → gap_at (drop at text) ≡ None → end ≡ at → new ≡ old → SpaceIs text at old new end
+without_space text at end old new within e is same = no_space text at end old new within (space_nothing (drop at text) e) is same
 
 -- ---- comments
 
-no_comment : (text : List ℕ) (at : ℕ) (part : Part) → at ≤ length text → comment_at (drop at text) ≡ (None, drop at text) → part.end ≡ at → part.tokens ≡ 0 → CommentIs text at part
-no_comment text at part within e end tokens = record { comment = None; within = omega arith; read = e ∙ ap (λ (n : ℕ). let x : Option Written × List ℕ = (None, drop n text) in x) (sym end); count = tokens; fits = omega arith }
+no_comment : (text : List ℕ) (at end : ℕ) (old new : List Token) → at ≤ length text → comment_at (drop at text) ≡ (None, drop at text) → end ≡ at → new ≡ old → CommentIs text at old new end
+no_comment text at end old new within e is same = record { comment = None; within = omega arith; read = e ∙ ap (λ (n : ℕ). let x : Option Written × List ℕ = (None, drop n text) in x) (sym is); adds = adds_none at end old new is same }
 
 comment_other : (text : List ℕ) (l : Leaf) (n : ℕ) → gap_at text ≡ Some (l, n) → (l ≡ leaf.Comment → ⊥) → comment_at text ≡ (None, text)
 unfolding comment_at
@@ -87,30 +99,28 @@ comment_some : (text : List ℕ) (n : ℕ) → gap_at text ≡ Some (leaf.Commen
 unfolding comment_at
 comment_some text n e = rw e refl
 
-pub other_comment : (text : List ℕ) (at : ℕ) (l : Leaf) (n : ℕ) (part : Part) → at ≤ length text → gap_at (drop at text) ≡ Some (l, n) → (l ≡ leaf.Comment → ⊥) → part.end ≡ at → part.tokens ≡ 0 → CommentIs text at part
-other_comment text at l n part within e other end tokens = no_comment text at part within (comment_other (drop at text) l n e other) end tokens
+pub other_comment : (text : List ℕ) (at : ℕ) (l : Leaf) (n end : ℕ) (old new : List Token) → at ≤ length text → gap_at (drop at text) ≡ Some (l, n) → (l ≡ leaf.Comment → ⊥) → end ≡ at → new ≡ old → CommentIs text at old new end
+other_comment text at l n end old new within e other is same = no_comment text at end old new within (comment_other (drop at text) l n e other) is same
 
-pub without_comment : (text : List ℕ) (at : ℕ) (part : Part) → at ≤ length text → gap_at (drop at text) ≡ None → part.end ≡ at → part.tokens ≡ 0 → CommentIs text at part
-without_comment text at part within e end tokens = no_comment text at part within (comment_nothing (drop at text) e) end tokens
+pub without_comment : (text : List ℕ) (at end : ℕ) (old new : List Token) → at ≤ length text → gap_at (drop at text) ≡ None → end ≡ at → new ≡ old → CommentIs text at old new end
+without_comment text at end old new within e is same = no_comment text at end old new within (comment_nothing (drop at text) e) is same
 
-pub some_comment : (text : List ℕ) (at n : ℕ) (part : Part) → at ≤ length text → gap_at (drop at text) ≡ Some (leaf.Comment, n) → at + n ≤ length text → part.end ≡ at + n → part.tokens ≡ 1 → CommentIs text at part
-some_comment text at n part within e le end tokens =
+pub some_comment : (text : List ℕ) (at n end : ℕ) (old new : List Token) → at ≤ length text → gap_at (drop at text) ≡ Some (leaf.Comment, n) → at + n ≤ length text → end ≡ at + n → new ≡ old ++ token leaf.Comment at end ∷ [] → CommentIs text at old new end
+some_comment text at n end old new within e le is kept =
     let w : Option Written = Some (written leaf.Comment n (drop at text)) in
     record {
       comment = w;
       within = omega arith;
-      read = comment_some (drop at text) n e ∙ ap (λ (x : List ℕ). let y : Option Written × List ℕ = (w, x) in y) (drop-drop n at text ∙ ap (λ (m : ℕ). drop m text) (sym end));
-      count = tokens;
-      fits = omega (arith, found_some (drop at text) leaf.Comment n e);
+      read = comment_some (drop at text) n e ∙ ap (λ (x : List ℕ). let y : Option Written × List ℕ = (w, x) in y) (drop-drop n at text ∙ ap (λ (m : ℕ). drop m text) (sym is));
+      adds = adds_one at end leaf.Comment (take n (drop at text)) old new (omega (arith, is, taken text at n le)) kept;
     }
 
 -- ---- newlines
 
-pub newline_is : (text : List ℕ) (at n : ℕ) → at ≤ length text → gap_at (drop at text) ≡ Some (leaf.Newline, n) → at + n ≤ length text
-    → (m : ℕ) × (gap_at (drop at text) ≡ Some (leaf.Newline, m)) × (at + m ≡ at + n) × (at < at + n) × (at + n ≤ length text)
-newline_is text at n within e le =
+pub newline_is : (text : List ℕ) (at n end : ℕ) (old new : List Token) → at ≤ length text → gap_at (drop at text) ≡ Some (leaf.Newline, n) → at + n ≤ length text → end ≡ at + n → new ≡ old ++ token leaf.Newline at end ∷ [] → NewlineIs text at old new end
+newline_is text at n end old new within e le is kept =
     let some = found_some (drop at text) leaf.Newline n e in
-    (n, e, refl, omega arith, le)
+    record { len = n; read = e; end_is = sym is; forward = omega arith; within = omega arith; tokens = kept }
 
 -- ---- what the scans find lies within the text
 
@@ -145,17 +155,16 @@ run_none p text none h =
       | inl e ↦ absurd (let k = prefix_len-positive p text none e in omega arith)
     ]
 
-pub keyval_blank : (text : List ℕ) (at : ℕ) (part : Part) → at ≤ length text → prefix_len is_bare (drop at text) ≡ 0 → part.end ≡ at → part.tokens ≡ 0 → part.entry ≡ None → KeyvalIs text at part
+pub keyval_blank : (text : List ℕ) (at : ℕ) (old new : List Token) (part : Part) → at ≤ length text → prefix_len is_bare (drop at text) ≡ 0 → part.end ≡ at → part.entry ≡ None → new ≡ old → KeyvalIs text at old new part
 unfolding keyval_at
-keyval_blank text at part le run end tokens entry =
+keyval_blank text at old new part le run end entry same =
     let none = key_none (drop at text) (run_none is_bare (drop at text) refl run) in
     record {
       keyval = None;
       within = omega arith;
       read = rw none (ap (λ (n : ℕ). let x : Option Keyval × List ℕ = (None, drop n text) in Some x) (sym end));
       place = ap listed entry;
-      count = tokens;
-      fits = omega arith;
+      adds = adds_none at part.end old new end same;
     }
 
 -- the key and the equals sign are there
@@ -166,25 +175,25 @@ key_read text at n is lt =
     let k : small_key_at (drop at text) ≡ Some (leaf.BareKey, n) = (key_found (drop at text) (run_first is_bare (drop at text) run)).0 ∙ ap (λ (m : ℕ). let x : Leaf × ℕ = (leaf.BareKey, m) in Some x) (sym is) in
     ap (keyval_of (drop at text)) k ∙ ap (λ (x : List ℕ). equals_by (written leaf.BareKey n (drop at text)) (space_at x)) (drop-drop n at text)
 
-pub keyval_unequal : (text : List ℕ) (at n : ℕ) (before : Part) → n ≡ prefix_len is_bare (drop at text) → 0 < n → SpaceIs text (at + n) before → (get_or text before.end 0 == 0x3D) ≡ false → keyval_at (drop at text) ≡ None
-keyval_unequal text at n before is lt b other =
+pub keyval_unequal : (text : List ℕ) (at n before : ℕ) (old new : List Token) → n ≡ prefix_len is_bare (drop at text) → 0 < n → SpaceIs text (at + n) old new before → (get_or text before 0 == 0x3D) ≡ false → keyval_at (drop at text) ≡ None
+keyval_unequal text at n before old new is lt b other =
     let w = written leaf.BareKey n (drop at text) in
-    let e : (first (drop before.end text) == 0x3D) ≡ false = ap (λ (c : ℕ). c == 0x3D) (first-drop text before.end) ∙ other in
-    let none : equals_by w (b.gap, drop before.end text) ≡ None = rw e refl in
+    let e : (first (drop before text) == 0x3D) ≡ false = ap (λ (c : ℕ). c == 0x3D) (first-drop text before) ∙ other in
+    let none : equals_by w (b.gap, drop before text) ≡ None = rw e refl in
     key_read text at n is lt ∙ ap (equals_by w) b.read ∙ none
 
-equals_read : (text : List ℕ) (at n : ℕ) (before behind : Part) → n ≡ prefix_len is_bare (drop at text) → 0 < n → (b : SpaceIs text (at + n) before) → get_or text before.end 0 ≡ 0x3D → (g : SpaceIs text (before.end + 1) behind)
-    → keyval_at (drop at text) ≡ value_by (written leaf.BareKey n (drop at text)) b.gap g.gap (drop behind.end text) (small_value_at (drop behind.end text))
-equals_read text at n before behind is lt b equal g =
+equals_read : (text : List ℕ) (at n before behind : ℕ) (o1 o2 o3 o4 : List Token) → n ≡ prefix_len is_bare (drop at text) → 0 < n → (b : SpaceIs text (at + n) o1 o2 before) → get_or text before 0 ≡ 0x3D → (g : SpaceIs text (before + 1) o3 o4 behind)
+    → keyval_at (drop at text) ≡ value_by (written leaf.BareKey n (drop at text)) b.gap g.gap (drop behind text) (small_value_at (drop behind text))
+equals_read text at n before behind o1 o2 o3 o4 is lt b equal g =
     let w = written leaf.BareKey n (drop at text) in
-    let byte : first (drop before.end text) ≡ 0x3D = first-drop text before.end ∙ equal in
-    let e : (first (drop before.end text) == 0x3D) ≡ true = rw byte refl in
-    let there : equals_by w (b.gap, drop before.end text) ≡ behind_by w b.gap (space_at (drop 1 (drop before.end text))) = rw e refl in
-    key_read text at n is lt ∙ ap (equals_by w) b.read ∙ there ∙ ap (λ (x : List ℕ). behind_by w b.gap (space_at x)) (drop-drop 1 before.end text) ∙ ap (behind_by w b.gap) g.read
+    let byte : first (drop before text) ≡ 0x3D = first-drop text before ∙ equal in
+    let e : (first (drop before text) == 0x3D) ≡ true = rw byte refl in
+    let there : equals_by w (b.gap, drop before text) ≡ behind_by w b.gap (space_at (drop 1 (drop before text))) = rw e refl in
+    key_read text at n is lt ∙ ap (equals_by w) b.read ∙ there ∙ ap (λ (x : List ℕ). behind_by w b.gap (space_at x)) (drop-drop 1 before text) ∙ ap (behind_by w b.gap) g.read
 
-pub keyval_no_value : (text : List ℕ) (at n : ℕ) (before behind : Part) → n ≡ prefix_len is_bare (drop at text) → 0 < n → SpaceIs text (at + n) before → get_or text before.end 0 ≡ 0x3D → SpaceIs text (before.end + 1) behind → small_value_at (drop behind.end text) ≡ None → keyval_at (drop at text) ≡ None
-keyval_no_value text at n before behind is lt b equal g none =
-    equals_read text at n before behind is lt b equal g ∙ ap (value_by (written leaf.BareKey n (drop at text)) b.gap g.gap (drop behind.end text)) none
+pub keyval_no_value : (text : List ℕ) (at n before behind : ℕ) (o1 o2 o3 o4 : List Token) → n ≡ prefix_len is_bare (drop at text) → 0 < n → SpaceIs text (at + n) o1 o2 before → get_or text before 0 ≡ 0x3D → SpaceIs text (before + 1) o3 o4 behind → small_value_at (drop behind text) ≡ None → keyval_at (drop at text) ≡ None
+keyval_no_value text at n before behind o1 o2 o3 o4 is lt b equal g none =
+    equals_read text at n before behind o1 o2 o3 o4 is lt b equal g ∙ ap (value_by (written leaf.BareKey n (drop at text)) b.gap g.gap (drop behind text)) none
 
 entry_is : (a b c d a' b' c' d' : ℕ) → a ≡ a' → b ≡ b' → c ≡ c' → d ≡ d' → (let e : Entry = record { key_start = a; key_end = b; value_start = c; value_end = d } in e) ≡ record { key_start = a'; key_end = b'; value_start = c'; value_end = d' }
 entry_is a b c d a' b' c' d' p q r s =
@@ -193,33 +202,38 @@ entry_is a b c d a' b' c' d' p q r s =
     ∙ ap (λ (x : ℕ). let e : Entry = record { key_start = a'; key_end = b'; value_start = x; value_end = d } in e) r
     ∙ ap (λ (x : ℕ). let e : Entry = record { key_start = a'; key_end = b'; value_start = c'; value_end = x } in e) s
 
--- where white space ends
-pub space_end : (text : List ℕ) (at : ℕ) (part : Part) → at ≤ length text → (s : SpaceIs text at part) → part.end ≡ at + width s.gap
-space_end text at part le s =
-    let t = space_takes (drop at text) in
-    let spelled : drop at text ≡ text_of s.gap ++ drop part.end text = subst (λ (x : Gap × List ℕ). drop at text ≡ text_of x.0 ++ x.1) s.read t.spelled in
-    place_is text at part.end (text_of s.gap) le s.within spelled
+-- the tokens of a keyval, part by part
+keyval_adds : (at key_end before behind end : ℕ) (k : Keyval) (o0 o1 o2 o3 o4 o5 : List Token) → k.key.leaf ≡ leaf.BareKey → key_end ≡ at + length k.key.text → end ≡ behind + length k.value.text
+    → o1 ≡ o0 ++ token leaf.BareKey at key_end ∷ [] → Adds key_end k.before o1 o2 before → o3 ≡ o2 ++ token leaf.Equals before (before + 1) ∷ [] → Adds (before + 1) k.behind o3 o4 behind → o5 ≡ o4 ++ token k.value.leaf behind end ∷ []
+    → Adds at (keyval_leaves (Some k)) o0 o5 end
+keyval_adds at key_end before behind end k o0 o1 o2 o3 o4 o5 kind key_is end_is k1 b k3 g k5 =
+    let sign = mark leaf.Equals (0x3D ∷ []) in
+    let a1 = adds_one at key_end k.key.leaf k.key.text o0 o1 key_is (k1 ∙ ap (λ (l : Leaf). o0 ++ token l at key_end ∷ []) (sym kind)) in
+    let a2 = adds_more at key_end before (k.key ∷ []) k.before o0 o1 o2 a1 b in
+    let a3 = adds_more at before (before + 1) (k.key ∷ [] ++ k.before) sign o0 o2 o3 a2 (adds_one before (before + 1) leaf.Equals (0x3D ∷ []) o2 o3 refl k3) in
+    let a4 = adds_more at (before + 1) behind ((k.key ∷ [] ++ k.before) ++ sign) k.behind o0 o3 o4 a3 g in
+    let a5 = adds_more at behind end (((k.key ∷ [] ++ k.before) ++ sign) ++ k.behind) (k.value ∷ []) o0 o4 o5 a4 (adds_one behind end k.value.leaf k.value.text o4 o5 end_is k5) in
+    let regrouped : ((((k.key ∷ [] ++ k.before) ++ sign) ++ k.behind) ++ (k.value ∷ [])) ≡ keyval_leaves (Some k) = simp append_assoc in
+    subst (λ (ws : List Written). Adds at ws o0 o5 end) regrouped a5
 
-pub keyval_is : (text : List ℕ) (at n : ℕ) (before behind : Part) (l : Leaf) (m : ℕ) (part : Part) → at ≤ length text → n ≡ prefix_len is_bare (drop at text) → 0 < n → at + n ≤ length text → SpaceIs text (at + n) before → get_or text before.end 0 ≡ 0x3D → before.end + 1 ≤ length text → SpaceIs text (before.end + 1) behind
-    → small_value_at (drop behind.end text) ≡ Some (l, m) → part.end ≡ behind.end + m → part.tokens ≡ (before.tokens + behind.tokens) + 3 → part.entry ≡ Some (record { key_start = at; key_end = at + n; value_start = behind.end; value_end = behind.end + m }) → KeyvalIs text at part
-keyval_is text at n before behind l m part le is lt within b equal within' g value end tokens entry =
+pub keyval_is : (text : List ℕ) (at n before behind : ℕ) (l : Leaf) (m : ℕ) (o0 o1 o2 o3 o4 o5 : List Token) (part : Part) → at ≤ length text → n ≡ prefix_len is_bare (drop at text) → 0 < n → at + n ≤ length text → o1 ≡ o0 ++ token leaf.BareKey at (at + n) ∷ [] → SpaceIs text (at + n) o1 o2 before → get_or text before 0 ≡ 0x3D → o3 ≡ o2 ++ token leaf.Equals before (before + 1) ∷ []
+    → SpaceIs text (before + 1) o3 o4 behind → small_value_at (drop behind text) ≡ Some (l, m) → o5 ≡ o4 ++ token l behind (behind + m) ∷ [] → part.end ≡ behind + m → part.entry ≡ Some (record { key_start = at; key_end = at + n; value_start = behind; value_end = behind + m }) → KeyvalIs text at o0 o5 part
+keyval_is text at n before behind l m o0 o1 o2 o3 o4 o5 part le is lt within k1 b equal k3 g value k5 end entry =
     let w = written leaf.BareKey n (drop at text) in
-    let v = written l m (drop behind.end text) in
+    let v = written l m (drop behind text) in
     let k : Keyval = record { key = w; before = b.gap; behind = g.gap; value = v } in
-    let f = value_found (drop behind.end text) l m value in
-    let read = equals_read text at n before behind is lt b equal g ∙ ap (value_by w b.gap g.gap (drop behind.end text)) value in
-    let key_len : length w.text ≡ n = omega (arith, length-take n (drop at text), length-drop at text) in
-    let value_len : length v.text ≡ m = omega (arith, length-take m (drop behind.end text), f.within) in
-    let e1 = space_end text (at + n) before within b in
-    let e2 = space_end text (before.end + 1) behind within' g in
-    let start : behind.end ≡ (((at + length w.text) + width b.gap) + 1) + width g.gap = omega (arith, key_len, e1, e2) in
+    let f = value_found (drop behind text) l m value in
+    let read = equals_read text at n before behind o1 o2 o3 o4 is lt b equal g ∙ ap (value_by w b.gap g.gap (drop behind text)) value in
+    let key_len : length w.text ≡ n = taken text at n within in
+    let value_len : length v.text ≡ m = omega (arith, length-take m (drop behind text), f.within) in
+    let start : behind ≡ (((at + length w.text) + width b.gap) + 1) + width g.gap = omega (arith, key_len, b.adds.end_is, g.adds.end_is) in
+    let adds = keyval_adds at (at + n) before behind (behind + m) k o0 o1 o2 o3 o4 o5 refl (omega (arith, key_len)) (omega (arith, value_len)) k1 b.adds k3 g.adds k5 in
     record {
       keyval = Some k;
-      within = omega (arith, f.within, length-drop behind.end text, g.within);
-      read = read ∙ ap (λ (x : List ℕ). let y : Option Keyval × List ℕ = (Some k, x) in Some y) (drop-drop m behind.end text ∙ ap (λ (j : ℕ). drop j text) (sym end));
-      place = ap listed entry ∙ ap (λ (e : Entry). e ∷ []) (entry_is at (at + n) behind.end (behind.end + m) at (at + length w.text) ((((at + length w.text) + width b.gap) + 1) + width g.gap) (((((at + length w.text) + width b.gap) + 1) + width g.gap) + length v.text) refl (omega (arith, key_len)) start (omega (arith, start, value_len)));
-      count = omega (arith, tokens, b.count, g.count, length-append b.gap (mark leaf.Equals (0x3D ∷ []) ++ (g.gap ++ (v ∷ []))), length-append g.gap (v ∷ []));
-      fits = omega (arith, tokens, end, b.fits, g.fits, f.some);
+      within = omega (arith, f.within, length-drop behind text, g.within);
+      read = read ∙ ap (λ (x : List ℕ). let y : Option Keyval × List ℕ = (Some k, x) in Some y) (drop-drop m behind text ∙ ap (λ (j : ℕ). drop j text) (sym end));
+      place = ap listed entry ∙ ap (λ (e : Entry). e ∷ []) (entry_is at (at + n) behind (behind + m) at (at + length w.text) ((((at + length w.text) + width b.gap) + 1) + width g.gap) (((((at + length w.text) + width b.gap) + 1) + width g.gap) + length v.text) refl (omega (arith, key_len)) start (omega (arith, start, value_len)));
+      adds = subst (λ (e : ℕ). Adds at (keyval_leaves (Some k)) o0 o5 e) (sym end) adds;
     }
 
 -- a byte that is not 0 stands within the text
@@ -232,39 +246,43 @@ byte_there text at b some e =
 
 -- ---- lines
 
-pub line_fails : (text : List ℕ) (at : ℕ) (before : Part) → SpaceIs text at before → keyval_at (drop before.end text) ≡ None → line_at (drop at text) ≡ None
+pub line_none : (text : List ℕ) (at before : ℕ) (old new : List Token) → SpaceIs text at old new before → keyval_at (drop before text) ≡ None → line_at (drop at text) ≡ None
 unfolding line_at
-line_fails text at before b none = rw (b.read, none) refl
+line_none text at before old new b none = rw (b.read, none) refl
 
 line_reads : (text : List ℕ) (at b c a k : ℕ) (g after : Gap) (keyval : Option Keyval) (noted : Option Written) → space_at (drop at text) ≡ (g, drop b text) → keyval_at (drop b text) ≡ Some (keyval, drop c text)
     → after_of keyval (drop c text) ≡ (after, drop a text) → comment_at (drop a text) ≡ (noted, drop k text) → line_at (drop at text) ≡ Some (record { before = g; keyval = keyval; after = after; comment = noted }, drop k text)
 unfolding line_at
 line_reads text at b c a k g after keyval noted e1 e2 e3 e4 = rw (e1, e2, e3, e4) refl
 
-record After (text : List ℕ) (end : ℕ) (keyval : Option Keyval) (part : Part) : Type 0 where
+record After (text : List ℕ) (at : ℕ) (keyval : Option Keyval) (old new : List Token) (end : ℕ) : Type 0 where
   gap : Gap
-  within : part.end ≤ length text
-  read : after_of keyval (drop end text) ≡ (gap, drop part.end text)
-  count : part.tokens ≡ length gap
-  fits : end + part.tokens ≤ part.end
+  within : end ≤ length text
+  read : after_of keyval (drop at text) ≡ (gap, drop end text)
+  adds : Adds at gap old new end
 
-after_is : (text : List ℕ) (at end : ℕ) (entry : Option Entry) (keyval : Option Keyval) (part : Part) → end ≤ length text → listed entry ≡ keyval_places at keyval → AfterOf text end entry part → After text end keyval part
-after_is text at end None None part le place h = record { gap = []; within = omega (arith, h.0); read = ap (λ (n : ℕ). let x : Gap × List ℕ = ([], drop n text) in x) (sym h.0); count = h.1; fits = omega (arith, h.0, h.1) }
-after_is text at end None (Some k) part le place h = absurd cc
-after_is text at end (Some e) None part le place h = absurd cc
-after_is text at end (Some e) (Some k) part le place h = record { gap = h.gap; within = h.within; read = h.read; count = h.count; fits = h.fits }
+after_is : (text : List ℕ) (start at : ℕ) (entry : Option Entry) (keyval : Option Keyval) (old new : List Token) (end : ℕ) → at ≤ length text → listed entry ≡ keyval_places start keyval → AfterOf text at entry old new end → After text at keyval old new end
+after_is text start at None None old new end le place h = record { gap = []; within = omega (arith, h.0); read = ap (λ (n : ℕ). let x : Gap × List ℕ = ([], drop n text) in x) (sym h.0); adds = adds_none at end old new h.0 h.1 }
+after_is text start at None (Some k) old new end le place h = absurd cc
+after_is text start at (Some e) None old new end le place h = absurd cc
+after_is text start at (Some e) (Some k) old new end le place h = record { gap = h.gap; within = h.within; read = h.read; adds = h.adds }
 
-pub line_is : (text : List ℕ) (at : ℕ) (before content after noted part : Part) → at ≤ length text → SpaceIs text at before → KeyvalIs text before.end content → AfterIs text content after → CommentIs text after.end noted
-    → part.end ≡ noted.end → part.tokens ≡ ((before.tokens + content.tokens) + after.tokens) + noted.tokens → part.entry ≡ content.entry → LineIs text at part
-line_is text at before content after noted part le b c a k end tokens entry =
-    let s = after_is text before.end content.end content.entry c.keyval after c.within c.place a in
+pub line_is : (text : List ℕ) (at before : ℕ) (content : Part) (after noted : ℕ) (o0 o1 o2 o3 o4 : List Token) (part : Part) → at ≤ length text → SpaceIs text at o0 o1 before → KeyvalIs text before o1 o2 content → AfterOf text content.end content.entry o2 o3 after → CommentIs text after o3 o4 noted
+    → part.end ≡ noted → part.entry ≡ content.entry → LineIs text at o0 o4 part
+line_is text at before content after noted o0 o1 o2 o3 o4 part le b c a k end entry =
+    let s = after_is text before content.end content.entry c.keyval o2 o3 after c.within c.place a in
     let l : Line = record { before = b.gap; keyval = c.keyval; after = s.gap; comment = k.comment } in
-    let read = line_reads text at before.end content.end after.end noted.end b.gap s.gap c.keyval k.comment b.read c.read s.read k.read in
+    let read = line_reads text at before content.end after noted b.gap s.gap c.keyval k.comment b.read c.read s.read k.read in
+    let ks = keyval_leaves c.keyval in
+    let cs = comment_leaves k.comment in
+    let a2 = adds_more at before content.end b.gap ks o0 o1 o2 b.adds c.adds in
+    let a3 = adds_more at content.end after (b.gap ++ ks) s.gap o0 o2 o3 a2 s.adds in
+    let a4 = adds_more at after noted ((b.gap ++ ks) ++ s.gap) cs o0 o3 o4 a3 k.adds in
+    let regrouped : (((b.gap ++ ks) ++ s.gap) ++ cs) ≡ line_leaves l = simp append_assoc in
     record {
       line = l;
       within = omega (arith, k.within);
       read = read ∙ ap (λ (n : ℕ). let x : Line × List ℕ = (l, drop n text) in Some x) (sym end);
-      place = ap listed entry ∙ c.place ∙ ap (λ (n : ℕ). keyval_places n c.keyval) (space_end text at before le b);
-      count = omega (arith, tokens, b.count, c.count, s.count, k.count, length-append b.gap (keyval_leaves c.keyval ++ (s.gap ++ comment_leaves k.comment)), length-append (keyval_leaves c.keyval) (s.gap ++ comment_leaves k.comment), length-append s.gap (comment_leaves k.comment));
-      fits = omega (arith, tokens, end, b.fits, c.fits, s.fits, k.fits);
+      place = ap listed entry ∙ c.place ∙ ap (λ (n : ℕ). keyval_places n c.keyval) b.adds.end_is;
+      adds = subst (λ (e : ℕ). Adds at (line_leaves l) o0 o4 e) (sym end) (subst (λ (ws : List Written). Adds at ws o0 o4 noted) regrouped a4);
     }

@@ -1,5 +1,5 @@
 -- Keys and values stand where the places say, and a new value changes the text there alone.
-use Rattle.std.proofs.Common.{◌≡◌, ℕ, ◌+◌, ◌-◌, Bool, cond, List, [], ◌∷◌, ◌++◌, length, take, map, Option, Some, None, refl, sym, ap, ◌∙◌, subst, inl, inr, arith, append_assoc, take_at, drop_at}
+use Rattle.std.proofs.Common.{◌≡◌, ℕ, ◌+◌, Bool, cond, List, [], ◌∷◌, ◌++◌, length, map, Option, Some, None, refl, sym, ap, ◌∙◌, subst, inl, inr, arith, append_assoc}
 use Rattle.std.specs.Prelude.{slice_range, bytes_eq}
 use Rattle.std.specs.List.{flat_map, AllByRecursion}
 use Rattle.std.proofs.lemmas.List.{append-nil, length-append}
@@ -11,15 +11,10 @@ use Rattle.keep_toml.specs.SmallCode.{lines_text}
 use Rattle.keep_toml.specs.SmallFind.{EntryFits, key_bytes, has_key, entry_named}
 use Rattle.keep_toml.proofs.SmallLineLaws.{text_of-append, keyval_text, line_text}
 use Rattle.keep_toml.proofs.SmallTreeLaws.{lines-cons}
+use Rattle.keep_toml.proofs.SmallTokenLaws.{part_is}
 
 abbrev pub lines_keyvals : List Ended → Line → List Keyval
 lines_keyvals es last = flat_map (λ e. line_keyvals e.line) es ++ line_keyvals last
-
--- ---- a part of a text, by what stands in front
-
-pub part_is : (pre part post : List ℕ) (a b : ℕ) → a ≡ length pre → b ≡ a + length part → slice_range (pre ++ (part ++ post)) a b ≡ part
-part_is pre part post a b ea eb =
-    ap (λ (x : List ℕ). take (b - a) x) (drop_at pre (part ++ post) a (sym ea)) ∙ take_at part post (b - a) (omega arith)
 
 -- a keyval stands at an entry
 pub record Placed (text : List ℕ) (e : Entry) (k : Keyval) : Type 0 where

@@ -7,7 +7,7 @@ use Rattle.std.proofs.lemmas.Slice.Eq.{bytes_eq-Decides}
 use Rattle.keep_token.specs.Abnf.{is_word}
 use Rattle.keep_token.proofs.GapLaws.{tested}
 use Rattle.keep_toml.specs.declared.lines.Entry.{Entry}
-use Rattle.keep_toml.specs.declared.document.Counts.{Counts}
+use Rattle.keep_toml.specs.declared.lines.Token.{Token}
 use Rattle.keep_toml.specs.SmallTree.{Written, Gap, Keyval, Line, Ended, Tree, text_of, text, line_leaves, ended_leaves, bom_leaves, line_keyvals, keyvals, value_named, keyval_list, keyval_with, content_with, line_with, ended_with, with_value}
 use Rattle.keep_toml.specs.SmallGrammar.{AreDistinct, IsSmallValue, IsKeyval, IsContent, IsAfter, IsLine, IsEnded, IsTree, Spells, Reads, IsAccepted}
 use Rattle.keep_toml.specs.SmallPlaces.{width, entry_at, keyval_places, line_places, lines_places}
@@ -39,8 +39,8 @@ lines_valid (e ∷ es) last h k =
     subst (λ (x : List Keyval). AllByRecursion IsKeyval x) (sym (append_assoc (line_keyvals e.line) (flat_map (λ f. line_keyvals f.line) es) (line_keyvals last)))
     (keyvals-append IsKeyval (line_keyvals e.line) (lines_keyvals es last) (line_valid e.line h.0.line) (lines_valid es last h.1 k))
 
-pub holds_placed : (bytes : List ℕ) (entries : List Entry) (counts : Counts) → (h : Holds bytes entries counts) → AllPlaced bytes entries (keyvals h.tree)
-holds_placed bytes entries counts h =
+pub holds_placed : (bytes : List ℕ) (entries : List Entry) (tokens : List Token) → (h : Holds bytes entries tokens) → AllPlaced bytes entries (keyvals h.tree)
+holds_placed bytes entries tokens h =
     subst (λ (x : List Entry). AllPlaced bytes x (keyvals h.tree)) (sym h.place)
     (lines_placed bytes (text_of (bom_leaves h.tree.bom)) (width (bom_leaves h.tree.bom)) h.tree.ended h.tree.last refl (h.reads.spells.spelled ∙ tree-text h.tree))
 
@@ -60,8 +60,8 @@ placed_word text key (e ∷ es) (k ∷ ks) h v =
       | inr b ↦ subst (λ (x : Bool). WordAt text (cond x (Some e) (entry_named text key es))) (sym b) (placed_word text key es ks h.1 v.1)
     ]
 
-pub holds_word : (bytes key : List ℕ) (entries : List Entry) (counts : Counts) → Holds bytes entries counts → WordAt bytes (entry_named bytes key entries)
-holds_word bytes key entries counts h = placed_word bytes key entries (keyvals h.tree) (holds_placed bytes entries counts h) (lines_valid h.tree.ended h.tree.last h.reads.spells.valid.ended h.reads.spells.valid.last)
+pub holds_word : (bytes key : List ℕ) (entries : List Entry) (tokens : List Token) → Holds bytes entries tokens → WordAt bytes (entry_named bytes key entries)
+holds_word bytes key entries tokens h = placed_word bytes key entries (keyvals h.tree) (holds_placed bytes entries tokens h) (lines_valid h.tree.ended h.tree.last h.reads.spells.valid.ended h.reads.spells.valid.last)
 
 -- ---- the tree with a new value is valid
 
@@ -264,8 +264,8 @@ cut_lines text pre key at (f ∷ es) last w e len is distinct found =
 
 -- ---- the whole text
 
-pub cut_tree : (bytes key : List ℕ) (entries : List Entry) (counts : Counts) (w : Written) (e : Entry) → (h : Holds bytes entries counts) → entry_named bytes key entries ≡ Some e → Cut bytes (text (with_value key w h.tree)) 0 w e
-cut_tree bytes key entries counts w e h found =
+pub cut_tree : (bytes key : List ℕ) (entries : List Entry) (tokens : List Token) (w : Written) (e : Entry) → (h : Holds bytes entries tokens) → entry_named bytes key entries ≡ Some e → Cut bytes (text (with_value key w h.tree)) 0 w e
+cut_tree bytes key entries tokens w e h found =
     let t = h.tree in
     let mark_text = text_of (bom_leaves t.bom) in
     let whole : bytes ≡ mark_text ++ lines_text t.ended t.last = h.reads.spells.spelled ∙ tree-text t in
@@ -286,37 +286,37 @@ spliced old new w e c =
 
 -- ---- what an entry says, whatever tree the text has
 
-pub holds_fit : (bytes : List ℕ) (entries : List Entry) (counts : Counts) → Holds bytes entries counts → AllByRecursion (EntryFits bytes) entries
-holds_fit bytes entries counts h = placed_fit bytes entries (keyvals h.tree) (holds_placed bytes entries counts h)
+pub holds_fit : (bytes : List ℕ) (entries : List Entry) (tokens : List Token) → Holds bytes entries tokens → AllByRecursion (EntryFits bytes) entries
+holds_fit bytes entries tokens h = placed_fit bytes entries (keyvals h.tree) (holds_placed bytes entries tokens h)
 
-holds_named : (bytes key : List ℕ) (entries : List Entry) (counts : Counts) → (h : Holds bytes entries counts) → Named bytes (entry_named bytes key entries) (value_named key (keyvals h.tree))
-holds_named bytes key entries counts h = placed_named bytes key entries (keyvals h.tree) (holds_placed bytes entries counts h)
+holds_named : (bytes key : List ℕ) (entries : List Entry) (tokens : List Token) → (h : Holds bytes entries tokens) → Named bytes (entry_named bytes key entries) (value_named key (keyvals h.tree))
+holds_named bytes key entries tokens h = placed_named bytes key entries (keyvals h.tree) (holds_placed bytes entries tokens h)
 
-same_tree : (bytes : List ℕ) (entries : List Entry) (counts : Counts) → (h : Holds bytes entries counts) → (t : Tree) → Reads bytes t → h.tree ≡ t
-same_tree bytes entries counts h t r = one_tree bytes h.tree t h.reads.spells r.spells
+same_tree : (bytes : List ℕ) (entries : List Entry) (tokens : List Token) → (h : Holds bytes entries tokens) → (t : Tree) → Reads bytes t → h.tree ≡ t
+same_tree bytes entries tokens h t r = one_tree bytes h.tree t h.reads.spells r.spells
 
-pub entry_is : (bytes key : List ℕ) (entries : List Entry) (counts : Counts) (e : Entry) → Holds bytes entries counts → entry_named bytes key entries ≡ Some e → EntryFits bytes e × (IsCharBoundary bytes e.value_start × IsCharBoundary bytes e.value_end)
-entry_is bytes key entries counts e h found =
-    let n = subst (λ (o : Option Entry). Named bytes o (value_named key (keyvals h.tree))) found (holds_named bytes key entries counts h) in
-    let w = subst (WordAt bytes) found (holds_word bytes key entries counts h) in
+pub entry_is : (bytes key : List ℕ) (entries : List Entry) (tokens : List Token) (e : Entry) → Holds bytes entries tokens → entry_named bytes key entries ≡ Some e → EntryFits bytes e × (IsCharBoundary bytes e.value_start × IsCharBoundary bytes e.value_end)
+entry_is bytes key entries tokens e h found =
+    let n = subst (λ (o : Option Entry). Named bytes o (value_named key (keyvals h.tree))) found (holds_named bytes key entries tokens h) in
+    let w = subst (WordAt bytes) found (holds_word bytes key entries tokens h) in
     (n.0, value_bounds bytes e.value_start e.value_end h.reads.utf8 n.0.value n.0.value_end w.0 w.1)
 
-pub named_value : (bytes key : List ℕ) (entries : List Entry) (counts : Counts) (e : Entry) → Holds bytes entries counts → entry_named bytes key entries ≡ Some e → (t : Tree) → Reads bytes t → value_named key (keyvals t) ≡ Some (slice_range bytes e.value_start e.value_end)
-named_value bytes key entries counts e h found t r =
-    let n = subst (λ (o : Option Entry). Named bytes o (value_named key (keyvals h.tree))) found (holds_named bytes key entries counts h) in
-    subst (λ (u : Tree). value_named key (keyvals u) ≡ Some (slice_range bytes e.value_start e.value_end)) (same_tree bytes entries counts h t r) n.1
+pub named_value : (bytes key : List ℕ) (entries : List Entry) (tokens : List Token) (e : Entry) → Holds bytes entries tokens → entry_named bytes key entries ≡ Some e → (t : Tree) → Reads bytes t → value_named key (keyvals t) ≡ Some (slice_range bytes e.value_start e.value_end)
+named_value bytes key entries tokens e h found t r =
+    let n = subst (λ (o : Option Entry). Named bytes o (value_named key (keyvals h.tree))) found (holds_named bytes key entries tokens h) in
+    subst (λ (u : Tree). value_named key (keyvals u) ≡ Some (slice_range bytes e.value_start e.value_end)) (same_tree bytes entries tokens h t r) n.1
 
-pub named_none : (bytes key : List ℕ) (entries : List Entry) (counts : Counts) → Holds bytes entries counts → entry_named bytes key entries ≡ None → (t : Tree) → Reads bytes t → value_named key (keyvals t) ≡ None
-named_none bytes key entries counts h found t r =
-    let n = subst (λ (o : Option Entry). Named bytes o (value_named key (keyvals h.tree))) found (holds_named bytes key entries counts h) in
-    subst (λ (u : Tree). value_named key (keyvals u) ≡ None) (same_tree bytes entries counts h t r) n
+pub named_none : (bytes key : List ℕ) (entries : List Entry) (tokens : List Token) → Holds bytes entries tokens → entry_named bytes key entries ≡ None → (t : Tree) → Reads bytes t → value_named key (keyvals t) ≡ None
+named_none bytes key entries tokens h found t r =
+    let n = subst (λ (o : Option Entry). Named bytes o (value_named key (keyvals h.tree))) found (holds_named bytes key entries tokens h) in
+    subst (λ (u : Tree). value_named key (keyvals u) ≡ None) (same_tree bytes entries tokens h t r) n
 
 -- the document with the new value has the changed tree
-pub new_reads : (bytes key : List ℕ) (entries : List Entry) (counts : Counts) (w : Written) (e : Entry) (new : List ℕ) → Holds bytes entries counts → entry_named bytes key entries ≡ Some e → IsSmallValue w
+pub new_reads : (bytes key : List ℕ) (entries : List Entry) (tokens : List Token) (w : Written) (e : Entry) (new : List ℕ) → Holds bytes entries tokens → entry_named bytes key entries ≡ Some e → IsSmallValue w
     → new ≡ take e.value_start bytes ++ (w.text ++ drop e.value_end bytes) → IsAccepted new → (t : Tree) → Reads bytes t → Reads new (with_value key w t)
-new_reads bytes key entries counts w e new h found v is k t r =
-    let c = cut_tree bytes key entries counts w e h found in
+new_reads bytes key entries tokens w e new h found v is k t r =
+    let c = cut_tree bytes key entries tokens w e h found in
     let spelled : new ≡ text (with_value key w h.tree) = is ∙ spliced bytes (text (with_value key w h.tree)) w e c in
     let spells : Spells new (with_value key w h.tree) = record { valid = with_valid key w h.tree v h.reads.spells.valid; spelled = spelled } in
-    let same : k.0 ≡ with_value key w t = one_tree new k.0 (with_value key w h.tree) k.1.spells spells ∙ ap (with_value key w) (same_tree bytes entries counts h t r) in
+    let same : k.0 ≡ with_value key w t = one_tree new k.0 (with_value key w h.tree) k.1.spells spells ∙ ap (with_value key w) (same_tree bytes entries tokens h t r) in
     subst (λ (u : Tree). Reads new u) same k.1

@@ -1,10 +1,9 @@
 -- At most one tree has a text, and what the code keeps of all lines is what the tree says.
 use Rattle.std.proofs.Common.{◌≡◌, ℕ, ◌+◌, ◌<◌, ◌≤◌, Bool, true, false, cond, ◌&&◌, ◌==◌, List, [], ◌∷◌, ◌++◌, length, get_or, take, drop, Some, None, refl, sym, ap, ◌∙◌, subst, inl, inr, arith, append_assoc, take_at, drop_at}
-use Rattle.std.specs.Prelude.{Ok}
 use Rattle.std.specs.List.{flat_map, AllByRecursion, prefix_len}
 use Rattle.keep_token.specs.Abnf.{is_ws}
 use Rattle.std.proofs.lemmas.Bool.{and_parts}
-use Rattle.std.proofs.lemmas.List.{append-nil, take-append-drop, length-append, length-drop, drop-drop, nil_from_length}
+use Rattle.std.proofs.lemmas.List.{append-nil, take-append-drop, length-append, length-take, length-drop, drop-drop, nil_from_length}
 use Rattle.std.proofs.lemmas.List.Concat.{flat_map-append}
 use Rattle.keep_token.specs.declared.leaf.Leaf.{Leaf}
 use Rattle.keep_token.specs.declared.leaf.Leaf.TheVariants as leaf
@@ -14,13 +13,14 @@ use Rattle.keep_token.specs.Scanning.{first, gap_at}
 use Rattle.keep_token.proofs.GapLaws.{tested, newline_again, white, line, comment, nothing, gap_cases}
 use Rattle.keep_toml.specs.declared.lines.Entry.{Entry}
 use Rattle.keep_toml.specs.declared.lines.Part.{Part}
+use Rattle.keep_toml.specs.declared.lines.Token.{Token}
 use Rattle.keep_toml.specs.SmallTree.{Written, Line, Ended, Tree, mark, text_of, line_leaves, ended_leaves, bom_leaves, leaves, text}
 use Rattle.keep_toml.specs.SmallGrammar.{IsLine, IsEnded, IsTree, Spells}
 use Rattle.keep_toml.specs.SmallReading.{space_at, keyval_at, comment_at, line_at}
 use Rattle.keep_toml.specs.SmallPlaces.{width, line_places, ended_places, lines_places}
-use Rattle.keep_toml.specs.SmallCode.{listed, LineIs, NewlineRead, LinesIs, NoLines, lines_text, has_bom, bom_len}
+use Rattle.keep_toml.specs.SmallCode.{listed, Adds, LineIs, NewlineIs, LinesIs, NoLines, lines_text, has_bom, bom_len}
 use Rattle.keep_toml.proofs.SmallLineLaws.{LineEnd, at_end, at_newline, line_again, line_takes, some_is, text_of-append, first_is}
-use Rattle.keep_toml.proofs.SmallCodeLaws.{place_is}
+use Rattle.keep_toml.proofs.SmallTokenLaws.{adds_none, adds_one, adds_more}
 
 pub lines-cons : (e : Ended) (es : List Ended) (last : Line) → lines_text (e ∷ es) last ≡ text_of (line_leaves e.line) ++ (e.newline.text ++ lines_text es last)
 lines-cons e es last =
@@ -171,18 +171,16 @@ one_tree bytes t u s k =
 
 -- ---- what the loop keeps
 
-pub record LinesSoFar (text : List ℕ) (start at : ℕ) (entries : List Entry) (tokens : ℕ) : Type 0 where
+pub record LinesSoFar (text : List ℕ) (start at : ℕ) (entries : List Entry) (old new : List Token) : Type 0 where
   pub front : List Ended
   pub within : at ≤ length text
   pub valid : AllByRecursion IsEnded front
   pub spelled : drop start text ≡ text_of (flat_map ended_leaves front) ++ drop at text
-  pub at_is : at ≡ start + width (flat_map ended_leaves front)
   pub place : entries ≡ ended_places start front
-  pub count : tokens ≡ length (flat_map ended_leaves front)
-  pub fits : start + tokens ≤ at
+  pub adds : Adds start (flat_map ended_leaves front) old new at
 
-pub lines_none : (text : List ℕ) (start : ℕ) (entries : List Entry) → start ≤ length text → entries ≡ [] → LinesSoFar text start start entries 0
-lines_none text start entries le e = record { front = []; within = le; valid = tt; spelled = refl; at_is = omega arith; place = e; count = refl; fits = omega arith }
+pub lines_none : (text : List ℕ) (start at : ℕ) (entries : List Entry) (old new : List Token) → start ≤ length text → at ≡ start → entries ≡ [] → new ≡ old → LinesSoFar text start at entries old new
+lines_none text start at entries old new le here e same = record { front = []; within = omega arith; valid = tt; spelled = ap (λ (n : ℕ). drop n text) (sym here); place = e; adds = adds_none start at old new here same }
 
 all-append : {A : Type 0} (P : A → Type 0) (xs ys : List A) → AllByRecursion P xs → AllByRecursion P ys → AllByRecursion P (xs ++ ys)
 all-append P [] ys h k = k
@@ -218,55 +216,56 @@ newline_found text n e =
       | nothing r f ↦ absurd (let clash : Some (leaf.Newline, n) ≡ None = sym e ∙ r in cc)
     ]
 
-pub lines_more : (text : List ℕ) (start at : ℕ) (old new : List Entry) (tokens count end : ℕ) (part : Part) → LinesSoFar text start at old tokens → LineIs text at part → new ≡ old ++ listed part.entry → NewlineRead text part.end (Ok end) → count ≡ (tokens + part.tokens) + 1 → LinesSoFar text start end new count
-lines_more text start at old new tokens count end part so l is (n, gap, place, forward, within) counted =
+pub lines_more : (text : List ℕ) (start at : ℕ) (before entries : List Entry) (old o1 o2 o3 : List Token) (end : ℕ) (part : Part) → LinesSoFar text start at before old o1 → LineIs text at o1 o2 part → entries ≡ before ++ listed part.entry → NewlineIs text part.end o2 o3 end → LinesSoFar text start end entries old o3
+lines_more text start at before entries old o1 o2 o3 end part so l is nl =
     let t = line_takes (drop at text) (l.line, drop part.end text) l.read in
-    let g = newline_found (drop part.end text) n gap in
-    let w : Written = record { leaf = leaf.Newline; text = take n (drop part.end text) } in
+    let g = newline_found (drop part.end text) nl.len nl.read in
+    let w : Written = record { leaf = leaf.Newline; text = take nl.len (drop part.end text) } in
     let e : Ended = record { line = l.line; newline = w } in
-    let rest : drop part.end text ≡ w.text ++ drop end text = sym (take-append-drop n (drop part.end text)) ∙ ap (λ (x : List ℕ). w.text ++ x) (drop-drop n part.end text ∙ ap (λ (m : ℕ). drop m text) place) in
+    let rest : drop part.end text ≡ w.text ++ drop end text = sym (take-append-drop nl.len (drop part.end text)) ∙ ap (λ (x : List ℕ). w.text ++ x) (drop-drop nl.len part.end text ∙ ap (λ (m : ℕ). drop m text) nl.end_is) in
     let leaves = flat_map ended_leaves so.front in
     let snoc = leaves-snoc so.front e in
     let here : drop at text ≡ text_of (ended_leaves e) ++ drop end text =
     t.spelled ∙ ap (λ (x : List ℕ). text_of (line_leaves l.line) ++ x) rest ∙ sym (append_assoc (text_of (line_leaves l.line)) w.text (drop end text))
     ∙ ap (λ (x : List ℕ). x ++ drop end text) (ap (λ (x : List ℕ). text_of (line_leaves l.line) ++ x) (sym (append-nil w.text)) ∙ sym (text_of-append (line_leaves l.line) (w ∷ []))) in
     let whole : text_of (flat_map ended_leaves (so.front ++ e ∷ [])) ≡ text_of leaves ++ text_of (ended_leaves e) = ap text_of snoc ∙ text_of-append leaves (ended_leaves e) in
-    let end_is : end ≡ at + width (ended_leaves e) = place_is text at end (text_of (ended_leaves e)) so.within within here in
+    let len : length w.text ≡ nl.len = omega (arith, length-take nl.len (drop part.end text), length-drop part.end text, nl.end_is, nl.within) in
+    let last = adds_one part.end end leaf.Newline w.text o2 o3 (omega (arith, nl.end_is, len)) nl.tokens in
+    let line = adds_more at part.end end (line_leaves l.line) (w ∷ []) o1 o2 o3 l.adds last in
+    let all = adds_more start at end leaves (ended_leaves e) old o1 o3 so.adds line in
     record {
       front = so.front ++ e ∷ [];
-      within = within;
+      within = nl.within;
       valid = all-append IsEnded so.front (e ∷ []) so.valid (record { line = t.valid; kind = refl; newline = g }, tt);
       spelled = so.spelled ∙ ap (λ (x : List ℕ). text_of leaves ++ x) here ∙ sym (append_assoc (text_of leaves) (text_of (ended_leaves e)) (drop end text)) ∙ ap (λ (x : List ℕ). x ++ drop end text) (sym whole);
-      at_is = omega (arith, end_is, so.at_is, ap length whole, length-append (text_of leaves) (text_of (ended_leaves e)));
-      place = is ∙ ap (λ (x : List Entry). x ++ listed part.entry) so.place ∙ ap (λ (x : List Entry). ended_places start so.front ++ x) (l.place ∙ ap (λ (m : ℕ). line_places m l.line) so.at_is) ∙ sym (places-snoc start so.front e);
-      count = omega (arith, counted, so.count, l.count, ap length snoc, length-append leaves (ended_leaves e), length-append (line_leaves l.line) (w ∷ []));
-      fits = omega (arith, so.fits, l.fits, forward, counted);
+      place = is ∙ ap (λ (x : List Entry). x ++ listed part.entry) so.place ∙ ap (λ (x : List Entry). ended_places start so.front ++ x) (l.place ∙ ap (λ (m : ℕ). line_places m l.line) so.adds.end_is) ∙ sym (places-snoc start so.front e);
+      adds = subst (λ (ws : List Written). Adds start ws old o3 end) (sym snoc) all;
     }
 
-pub lines_last : (text : List ℕ) (start at : ℕ) (old new : List Entry) (tokens count : ℕ) (part : Part) → LinesSoFar text start at old tokens → LineIs text at part → new ≡ old ++ listed part.entry → part.end ≡ length text → count ≡ tokens + part.tokens → LinesIs text start new count
-lines_last text start at old new tokens count part so l is end counted =
+pub lines_last : (text : List ℕ) (start at : ℕ) (before entries : List Entry) (old o1 o2 : List Token) (part : Part) → LinesSoFar text start at before old o1 → LineIs text at o1 o2 part → entries ≡ before ++ listed part.entry → part.end ≡ length text → LinesIs text start entries old o2
+lines_last text start at before entries old o1 o2 part so l is end =
     let t = line_takes (drop at text) (l.line, drop part.end text) l.read in
     let none : drop part.end text ≡ [] = nil_from_length (drop part.end text) (omega (arith, length-drop part.end text)) in
     let leaves = flat_map ended_leaves so.front in
+    let all = adds_more start at part.end leaves (line_leaves l.line) old o1 o2 so.adds l.adds in
     record {
       ended = so.front;
       last = l.line;
       valid = so.valid;
       valid_last = t.valid;
       spelled = so.spelled ∙ ap (λ (x : List ℕ). text_of leaves ++ x) (t.spelled ∙ ap (λ (x : List ℕ). text_of (line_leaves l.line) ++ x) none ∙ append-nil (text_of (line_leaves l.line))) ∙ sym (lines-split so.front l.line);
-      place = is ∙ ap (λ (x : List Entry). x ++ listed part.entry) so.place ∙ ap (λ (x : List Entry). ended_places start so.front ++ x) (l.place ∙ ap (λ (m : ℕ). line_places m l.line) so.at_is) ∙ sym (places-end start so.front l.line);
-      count = omega (arith, counted, so.count, l.count, length-append leaves (line_leaves l.line));
-      fits = omega (arith, so.fits, l.fits, l.within, counted);
+      place = is ∙ ap (λ (x : List Entry). x ++ listed part.entry) so.place ∙ ap (λ (x : List Entry). ended_places start so.front ++ x) (l.place ∙ ap (λ (m : ℕ). line_places m l.line) so.adds.end_is) ∙ sym (places-end start so.front l.line);
+      adds = subst (λ (e : ℕ). Adds start (leaves ++ line_leaves l.line) old o2 e) end all;
     }
 
-pub lines_bad : (text : List ℕ) (start at : ℕ) (entries : List Entry) (tokens : ℕ) → LinesSoFar text start at entries tokens → line_at (drop at text) ≡ None → NoLines text start
-lines_bad text start at entries tokens so none es last h k e =
+pub lines_bad : (text : List ℕ) (start at : ℕ) (entries : List Entry) (old new : List Token) → LinesSoFar text start at entries old new → line_at (drop at text) ≡ None → NoLines text start
+lines_bad text start at entries old new so none es last h k e =
     let r = front_is so.front es last (drop at text) so.valid h k (sym so.spelled ∙ e) in
     let f = line_found r.0 last r.2 k in
     absurd (let clash : None ≡ Some (f.0, f.1) = sym none ∙ ap line_at r.3 ∙ f.2 in cc)
 
-pub lines_unended : (text : List ℕ) (start at : ℕ) (entries : List Entry) (tokens : ℕ) (part : Part) → LinesSoFar text start at entries tokens → LineIs text at part → (part.end ≡ length text → ⊥) → ((n : ℕ) → gap_at (drop part.end text) ≡ Some (leaf.Newline, n) → ⊥) → NoLines text start
-lines_unended text start at entries tokens part so l more none es last h k e =
+pub lines_unended : (text : List ℕ) (start at : ℕ) (entries : List Entry) (old o1 o2 : List Token) (part : Part) → LinesSoFar text start at entries old o1 → LineIs text at o1 o2 part → (part.end ≡ length text → ⊥) → ((n : ℕ) → gap_at (drop part.end text) ≡ Some (leaf.Newline, n) → ⊥) → NoLines text start
+lines_unended text start at entries old o1 o2 part so l more none es last h k e =
     let r = front_is so.front es last (drop at text) so.valid h k (sym so.spelled ∙ e) in
     let f = line_found r.0 last r.2 k in
     let p : Line × List ℕ = (l.line, drop part.end text) in

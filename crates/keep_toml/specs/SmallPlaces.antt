@@ -1,11 +1,33 @@
--- Where the keys and the values of a small document stand.
-use Rattle.std.specs.Prelude.{◌≡◌, ℕ, ◌+◌, List, [], ◌∷◌, ◌++◌, length, map, take, slice_get, Contains, Option, Some, None}
+-- Where the leaves, the keys and the values of a small document stand.
+use Rattle.std.specs.Prelude.{◌≡◌, ℕ, ◌+◌, List, [], ◌∷◌, ◌++◌, length, map, take, slice_get, slice_range, Contains, Option, Some, None}
+use Rattle.std.specs.List.{flat_map}
+use Rattle.keep_token.specs.declared.leaf.Leaf.{Leaf}
 use Rattle.keep_toml.specs.declared.lines.Entry.{Entry}
-use Rattle.keep_toml.specs.SmallTree.{Written, Keyval, Line, Ended, Tree, text_of, bom_leaves, ended_leaves, keys}
+use Rattle.keep_toml.specs.declared.lines.Token.{Token}
+use Rattle.keep_toml.specs.SmallTree.{Written, Keyval, Line, Ended, Tree, text_of, bom_leaves, ended_leaves, leaves, keys}
 use Rattle.keep_toml.specs.SmallGrammar.{AreDistinct}
 
 abbrev pub width : List Written → ℕ
 width ws = length (text_of ws)
+
+-- ---- leaves
+
+abbrev pub token : Leaf → ℕ → ℕ → Token
+token l start end = record { leaf = l; start = start; end = end }
+
+-- of leaves that begin at a place
+abbrev pub tokens_at : ℕ → List Written → List Token
+tokens_at at [] = []
+tokens_at at (w ∷ ws) = token w.leaf at (at + length w.text) ∷ tokens_at (at + length w.text) ws
+
+abbrev pub tokens_of : Tree → List Token
+tokens_of t = tokens_at 0 (leaves t)
+
+-- the bytes where the tokens stand, joined
+abbrev pub joined : List ℕ → List Token → List ℕ
+joined bytes ks = flat_map (λ k. slice_range bytes k.start k.end) ks
+
+-- ---- keys and values
 
 abbrev pub value_start : ℕ → Keyval → ℕ
 value_start at k = (((at + length k.key.text) + width k.before) + 1) + width k.behind

@@ -1,13 +1,12 @@
 //! Small documents: their text, and where their keyvals stand.
-ghost use Rattle.std.specs.Prelude.{◌≡◌, ◌+◌, ◌++◌, length, take, drop, string_bytes, Ok, Err, OnErr, IfOk, IfSome, MatchResult, ◌==◌, if◌then◌else◌};
+ghost use Rattle.std.specs.Prelude.{◌≡◌, ◌++◌, List, take, drop, string_bytes, Ok, Err, OnErr, IfOk, MatchResult};
 ghost use Rattle.std.specs.List.{AllByRecursion};
 ghost use Rattle.keep_toml.specs.SmallFind as find;
-ghost use Rattle.keep_toml.specs.SmallCode as code;
 ghost use Rattle.keep_toml.specs.SmallDocument as spec;
 
 use crate::edit::{EditFault, Splice};
 use crate::fault::{ReadFault, Why};
-use crate::lines::{Entry, Found, bom_len, lines};
+use crate::lines::{Entry, Token, found_in};
 use crate::path::Path;
 use crate::value::ValueText;
 use keep_token::text_of;
@@ -26,7 +25,7 @@ pub struct Counts {
 pub struct Document {
     text: String,
     entries: Vec<Entry>,
-    counts: Counts,
+    tokens: Vec<Token>,
     alloc: Global,
 }
 
@@ -38,7 +37,7 @@ impl Model for Document {
 
     ghost view = { λ d. string_bytes d.text };
 
-    ghost invariant = { λ d. Holds (string_bytes d.text) d.entries.items d.counts };
+    ghost invariant = { λ d. Holds (string_bytes d.text) d.entries.items d.tokens.items };
 }
 
 // The key of a keyval.
@@ -82,7 +81,9 @@ fn distinct(text: &[u8], entries: &[Entry]) -> Result<(), ReadFault>
 
 impl Document {
     ghost use Rattle.keep_toml.specs.Documents.{IsReadAs, IsCounts};
-    ghost use Rattle.keep_toml.specs.SmallGrammar.{IsAccepted};
+    ghost use Rattle.keep_toml.specs.SmallTree.{Tree};
+    ghost use Rattle.keep_toml.specs.SmallGrammar.{IsAccepted, Reads};
+    ghost use Rattle.keep_toml.specs.SmallPlaces.{joined, tokens_of};
 
     /// Reads a document.
     ///
@@ -98,20 +99,15 @@ impl Document {
             Ok(text) => text,
             Err(at) => return Err(ReadFault::Utf8 { at }),
         };
-        let start = bom_len(bytes);
-        let found = lines(alloc, bytes, start)?;
+        let found = found_in(alloc, bytes)?;
         distinct(bytes, found.entries.as_slice())?;
-        let counts = match counts_of(start, &found) {
-            Some(counts) => counts,
-            None => return Err(ReadFault::Memory),
-        };
         let Ok(text) = String::from_str(alloc, text) else {
             return Err(ReadFault::Memory);
         };
         Ok(Document {
             text,
             entries: found.entries,
-            counts,
+            tokens: found.tokens,
             alloc,
         })
     }
@@ -121,7 +117,18 @@ impl Document {
         ensures accepted { IsAccepted self.now }
         ensures counts { IsCounts self.now result }
     {
-        self.counts
+        Counts {
+            tokens: self.tokens.len(),
+            nodes: self.entries.len() + 1,
+        }
+    }
+
+    /// The leaves in order, each with its place. `End`, with the empty text, is the last.
+    pub fn tokens(&self) -> &[Token]
+        ensures leaves { (t : Tree) → Reads self.now t → result.now ≡ tokens_of t }
+        ensures joined { joined self.now result.now ≡ self.now }
+    {
+        self.tokens.as_slice()
     }
 }
 
@@ -132,7 +139,7 @@ impl Document {
 
     // The keyval that a path names, or why it names none.
     fn entry_at(text: &[u8], entries: &[Entry], path: &Path) -> Result<Entry, EditFault>
-        requires { (counts : Counts) × spec.Holds text.now entries.now counts }
+        requires { (tokens : List Token) × spec.Holds text.now entries.now tokens }
         ensures { EntryAt text.now entries.now path.now result }
     {
         match path {
@@ -198,7 +205,7 @@ impl Document {
         let Document {
             text,
             entries: _,
-            counts: _,
+            tokens: _,
             alloc: _,
         } = self;
         text
@@ -225,16 +232,6 @@ fn growth_refused(fault: ReadFault) -> EditFault
         ReadFault::Memory => EditFault::Memory,
         _ => unreachable!(),
     }
-}
-
-// The tokens are those of the lines, the byte order mark and the end. No text in memory has so many that they don't fit.
-fn counts_of(start: usize, found: &Found) -> Option<Counts>
-    ensures { IfSome result (λ counts. (counts.tokens ≡ (if start == 0 then found.now.tokens + 1 else found.now.tokens + 2)) × (counts.nodes ≡ length found.now.entries.items + 1)) }
-{
-    let marks = if start == 0 { 1 } else { 2 };
-    let tokens = found.tokens.checked_add(marks)?;
-    let nodes = found.entries.len().checked_add(1)?;
-    Some(Counts { tokens, nodes })
 }
 
 #[cfg(test)]

@@ -4,6 +4,7 @@ ghost use Rattle.std.specs.List.{prefix_len};
 ghost use Rattle.keep_token.specs.Abnf.{is_bare};
 ghost use Rattle.keep_token.specs.Scanning as scanning;
 ghost use Rattle.keep_toml.specs.SmallLeaves.{small_value_at};
+ghost use Rattle.keep_toml.specs.SmallPlaces.{token};
 ghost use Rattle.keep_toml.specs.SmallCode as spec;
 
 use crate::fault::ReadFault;
@@ -21,19 +22,26 @@ pub struct Entry {
     pub value_end: usize,
 }
 
-/// What was read of a line: where it ends, how many leaves it has, and its keyval.
+/// A leaf, and where it stands, in bytes from the start of the text.
+#[derive(Clone, Copy, Debug, PartialEq, Eq)]
+pub struct Token {
+    pub leaf: Leaf,
+    pub start: usize,
+    pub end: usize,
+}
+
+/// What was read of a line: where it ends, and its keyval.
 #[derive(Clone, Copy, Debug)]
 pub struct Part {
     pub end: usize,
-    pub tokens: usize,
     pub entry: Option<Entry>,
 }
 
-/// What was read of all lines: the keyvals in order, and how many leaves they have.
+/// What was read of a text: the keyvals and the leaves, in order.
 #[derive(Debug, Drop)]
 pub struct Found {
     pub entries: Vec<Entry>,
-    pub tokens: usize,
+    pub tokens: Vec<Token>,
 }
 
 /// The byte at a place, or 0 past the end.
@@ -92,6 +100,25 @@ fn word_fault(text: &[u8], at: usize) -> LeafFault {
     }
 }
 
+fn syntax(fault: LeafFault) -> ReadFault
+    ensures { result ≡ ReadFault.Syntax fault.at fault.what }
+{
+    ReadFault::Syntax {
+        at: fault.at,
+        what: fault.what,
+    }
+}
+
+// Keeps a leaf.
+fn keep_leaf(tokens: &mut Vec<Token>, leaf: Leaf, start: usize, end: usize) -> Result<(), ReadFault>
+    ensures { spec.TokenKept (token leaf start end) tokens.old.items tokens.new.items result }
+{
+    let Ok(()) = tokens.push(Token { leaf, start, end }) else {
+        return Err(ReadFault::Memory);
+    };
+    Ok(())
+}
+
 // The white space, newline or comment that begins at a place.
 fn gap_at(text: &[u8], at: usize) -> Option<(Leaf, usize)>
     requires { at ≤ length text.now }
@@ -119,124 +146,101 @@ fn value_at(text: &[u8], at: usize) -> Option<(Leaf, usize)>
     value_leaf(&text[at..])
 }
 
-/// `ws = *wschar`
-fn space(text: &[u8], at: usize) -> Part
+/// `ws = *wschar`: where it ends.
+fn space(text: &[u8], at: usize, tokens: &mut Vec<Token>) -> Result<usize, ReadFault>
     requires { at ≤ length text.now }
-    ensures { spec.SpaceIs text.now at result }
+    ensures { spec.SpaceRead text.now at tokens.old.items tokens.new.items result }
 {
     match gap_at(text, at) {
         Some((leaf, len)) => match leaf {
-            Leaf::Ws => Part {
-                end: at + len,
-                tokens: 1,
-                entry: None,
-            },
-            _ => Part {
-                end: at,
-                tokens: 0,
-                entry: None,
-            },
+            Leaf::Ws => {
+                keep_leaf(tokens, Leaf::Ws, at, at + len)?;
+                Ok(at + len)
+            }
+            _ => Ok(at),
         },
-        None => Part {
-            end: at,
-            tokens: 0,
-            entry: None,
-        },
+        None => Ok(at),
     }
 }
 
-/// The comment at a place, if there is one.
-fn comment(text: &[u8], at: usize) -> Part
+/// The comment at a place, if there is one: where it ends.
+fn comment(text: &[u8], at: usize, tokens: &mut Vec<Token>) -> Result<usize, ReadFault>
     requires { at ≤ length text.now }
-    ensures { spec.CommentIs text.now at result }
+    ensures { spec.CommentRead text.now at tokens.old.items tokens.new.items result }
 {
     match gap_at(text, at) {
         Some((leaf, len)) => match leaf {
-            Leaf::Comment => Part {
-                end: at + len,
-                tokens: 1,
-                entry: None,
-            },
-            _ => Part {
-                end: at,
-                tokens: 0,
-                entry: None,
-            },
+            Leaf::Comment => {
+                keep_leaf(tokens, Leaf::Comment, at, at + len)?;
+                Ok(at + len)
+            }
+            _ => Ok(at),
         },
-        None => Part {
-            end: at,
-            tokens: 0,
-            entry: None,
-        },
+        None => Ok(at),
     }
 }
 
 /// `keyval = key keyval-sep val`, if a key begins here.
-fn keyval(text: &[u8], at: usize) -> Result<Part, LeafFault>
+fn keyval(text: &[u8], at: usize, tokens: &mut Vec<Token>) -> Result<Part, ReadFault>
     requires { at ≤ length text.now }
-    ensures { spec.KeyvalRead text.now at result }
+    ensures { spec.KeyvalRead text.now at tokens.old.items tokens.new.items result }
 {
     let key_len = key_len_at(text, at);
     if key_len == 0 {
         return Ok(Part {
             end: at,
-            tokens: 0,
             entry: None,
         });
     }
     let key_end = at + key_len;
-    let before = space(text, key_end);
-    if byte_at(text, before.end) != b'=' {
-        return Err(fault_at(text, before.end, What::Structure));
+    keep_leaf(tokens, Leaf::BareKey, at, key_end)?;
+    let equals = space(text, key_end, tokens)?;
+    if byte_at(text, equals) != b'=' {
+        return Err(syntax(fault_at(text, equals, What::Structure)));
     }
-    let behind = space(text, before.end + 1);
-    match value_at(text, behind.end) {
-        None => Err(word_fault(text, behind.end)),
-        Some((_, len)) => {
-            let end = behind.end + len;
+    keep_leaf(tokens, Leaf::Equals, equals, equals + 1)?;
+    let value_start = space(text, equals + 1, tokens)?;
+    match value_at(text, value_start) {
+        None => Err(syntax(word_fault(text, value_start))),
+        Some((leaf, len)) => {
+            let value_end = value_start + len;
+            keep_leaf(tokens, leaf, value_start, value_end)?;
             let entry = Entry {
                 key_start: at,
                 key_end,
-                value_start: behind.end,
-                value_end: end,
+                value_start,
+                value_end,
             };
             Ok(Part {
-                end,
-                tokens: before.tokens + behind.tokens + 3,
+                end: value_end,
                 entry: Some(entry),
             })
         }
     }
 }
 
-/// White space behind a keyval, if there is one.
-fn after(text: &[u8], part: Part) -> Part
+/// White space behind a keyval, if there is one: where it ends.
+fn after(text: &[u8], part: Part, tokens: &mut Vec<Token>) -> Result<usize, ReadFault>
     requires { part.end ≤ length text.now }
-    ensures { spec.AfterIs text.now part result }
+    ensures { spec.AfterRead text.now part tokens.old.items tokens.new.items result }
 {
     match part.entry {
-        Some(_) => space(text, part.end),
-        None => Part {
-            end: part.end,
-            tokens: 0,
-            entry: None,
-        },
+        Some(_) => space(text, part.end, tokens),
+        None => Ok(part.end),
     }
 }
 
 /// `expression = ws [ keyval ws ] [ comment ]`
-fn line(text: &[u8], at: usize) -> Result<Part, LeafFault>
+fn line(text: &[u8], at: usize, tokens: &mut Vec<Token>) -> Result<Part, ReadFault>
     requires { at ≤ length text.now }
-    ensures { spec.LineRead text.now at result }
+    ensures { spec.LineRead text.now at tokens.old.items tokens.new.items result }
 {
-    let before = space(text, at);
-    let content = keyval(text, before.end)?;
-    let after = after(text, content);
-    let comment = comment(text, after.end);
-    let tokens = before.tokens + content.tokens + after.tokens + comment.tokens;
+    let before = space(text, at, tokens)?;
+    let content = keyval(text, before, tokens)?;
+    let after = after(text, content, tokens)?;
+    let end = comment(text, after, tokens)?;
     Ok(Part {
-        end: comment.end,
-        tokens,
+        end,
         entry: content.entry,
     })
 }
@@ -250,17 +254,20 @@ fn end_fault(text: &[u8], part: Part) -> LeafFault {
 }
 
 /// Where the newline ends that stands behind a line.
-fn newline(text: &[u8], part: Part) -> Result<usize, LeafFault>
+fn newline(text: &[u8], part: Part, tokens: &mut Vec<Token>) -> Result<usize, ReadFault>
     requires { part.end ≤ length text.now }
-    ensures { spec.NewlineRead text.now part.end result }
+    ensures { spec.NewlineRead text.now part.end tokens.old.items tokens.new.items result }
 {
     let at = part.end;
     match gap_at(text, at) {
         Some((leaf, len)) => match leaf {
-            Leaf::Newline => Ok(at + len),
-            _ => Err(end_fault(text, part)),
+            Leaf::Newline => {
+                keep_leaf(tokens, Leaf::Newline, at, at + len)?;
+                Ok(at + len)
+            }
+            _ => Err(syntax(end_fault(text, part))),
         },
-        None => Err(end_fault(text, part)),
+        None => Err(syntax(end_fault(text, part))),
     }
 }
 
@@ -275,47 +282,32 @@ fn keep(entries: &mut Vec<Entry>, entry: Option<Entry>) -> Result<(), AllocError
     Ok(())
 }
 
-fn syntax(fault: LeafFault) -> ReadFault
-    ensures { result ≡ ReadFault.Syntax fault.at fault.what }
-{
-    ReadFault::Syntax {
-        at: fault.at,
-        what: fault.what,
-    }
-}
-
-/// All lines from a place on, with a newline between two.
-pub fn lines(alloc: Global, text: &[u8], start: usize) -> Result<Found, ReadFault>
+/// The keyvals of all lines from a place on, with a newline between two. The leaves are added to the tokens.
+fn lines(
+    alloc: Global,
+    text: &[u8],
+    start: usize,
+    tokens: &mut Vec<Token>,
+) -> Result<Vec<Entry>, ReadFault>
     requires { start ≤ length text.now }
-    ensures { spec.LinesRead text.now start result }
+    ensures { spec.LinesRead text.now start tokens.old.items tokens.new.items result }
 {
     let mut entries = Vec::new(alloc);
-    let mut tokens = 0;
     let mut at = start;
     'lines: loop {
-        let part = match line(text, at) {
-            Ok(part) => part,
-            Err(fault) => return Err(syntax(fault)),
-        };
+        let part = line(text, at, tokens)?;
         let Ok(()) = keep(&mut entries, part.entry) else {
             return Err(ReadFault::Memory);
         };
         if part.end == text.len() {
-            return Ok(Found {
-                entries,
-                tokens: tokens + part.tokens,
-            });
+            return Ok(entries);
         }
-        match newline(text, part) {
-            Ok(end) => at = end,
-            Err(fault) => return Err(syntax(fault)),
-        }
-        tokens = tokens + part.tokens + 1;
+        at = newline(text, part, tokens)?;
     }
 }
 
 /// How long the byte order mark is that a text begins with, or 0.
-pub fn bom_len(text: &[u8]) -> usize
+fn bom_len(text: &[u8]) -> usize
     ensures { result ≡ spec.bom_len text.now }
 {
     if byte_at(text, 0) == 0xEF && byte_at(text, 1) == 0xBB && byte_at(text, 2) == 0xBF {
@@ -323,4 +315,26 @@ pub fn bom_len(text: &[u8]) -> usize
     } else {
         0
     }
+}
+
+/// Where the lines begin: behind the byte order mark, if there is one.
+fn bom(text: &[u8], tokens: &mut Vec<Token>) -> Result<usize, ReadFault>
+    ensures { spec.BomRead text.now tokens.old.items tokens.new.items result }
+{
+    let end = bom_len(text);
+    if end > 0 {
+        keep_leaf(tokens, Leaf::Bom, 0, end)?;
+    }
+    Ok(end)
+}
+
+/// The keyvals and the leaves of a text; `End`, with the empty text, is the last.
+pub fn found_in(alloc: Global, text: &[u8]) -> Result<Found, ReadFault>
+    ensures { spec.FoundRead text.now result }
+{
+    let mut tokens = Vec::new(alloc);
+    let start = bom(text, &mut tokens)?;
+    let entries = lines(alloc, text, start, &mut tokens)?;
+    keep_leaf(&mut tokens, Leaf::End, text.len(), text.len())?;
+    Ok(Found { entries, tokens })
 }

@@ -1,5 +1,5 @@
 use super::*;
-use keep_token::What;
+use keep_token::{Leaf, What};
 use std::test::Fail;
 
 // What a document with this text has.
@@ -31,6 +31,33 @@ fn an_accepted_text_has_so_many_tokens_and_nodes(rt: HostRuntime) -> Result<(), 
     ] {
         let counts = counted(rt.alloc(), text)?;
         assert_eq!(rt; counts, Counts { tokens, nodes }, "of {text}");
+    }
+    Ok(())
+}
+
+#[test]
+fn the_tokens_are_the_leaves_with_their_places(rt: HostRuntime) -> Result<(), Fail> {
+    let text = "\u{feff}a = true # x\r\n\tb=-7";
+    let document = Document::read(rt.alloc(), text.as_bytes())?;
+    let want = [
+        (Leaf::Bom, 0, 3),
+        (Leaf::BareKey, 3, 4),
+        (Leaf::Ws, 4, 5),
+        (Leaf::Equals, 5, 6),
+        (Leaf::Ws, 6, 7),
+        (Leaf::Boolean, 7, 11),
+        (Leaf::Ws, 11, 12),
+        (Leaf::Comment, 12, 15),
+        (Leaf::Newline, 15, 17),
+        (Leaf::Ws, 17, 18),
+        (Leaf::BareKey, 18, 19),
+        (Leaf::Equals, 19, 20),
+        (Leaf::Integer, 20, 22),
+        (Leaf::End, 22, 22),
+    ];
+    assert_eq!(rt; document.tokens().len(), want.len());
+    for (token, (leaf, start, end)) in document.tokens().iter().zip(want) {
+        assert_eq!(rt; *token, Token { leaf, start, end });
     }
     Ok(())
 }

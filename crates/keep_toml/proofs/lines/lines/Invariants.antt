@@ -6,4 +6,4 @@ abbrev pub decreases-lines : goal.decreases-lines
 decreases-lines l = length l.text - l.at
 
 abbrev pub invariant-lines : goal.invariant-lines
-invariant-lines l = LinesSoFar l.text l.start l.at l.entries.items l.tokens
+invariant-lines l = LinesSoFar l.text l.start l.at l.entries.items l.fn.tokens.items l.tokens.items
