@@ -328,7 +328,11 @@ fn bom(text: &[u8], tokens: &mut Vec<Token>) -> Result<usize, ReadFault>
     Ok(end)
 }
 
-/// The keyvals and the leaves of a text; `End`, with the empty text, is the last.
+/// The keyvals and the leaves of a text. `End`, with the empty text, is the last leaf.
+///
+/// # Errors
+///
+/// `Syntax` only where the grammar has no such text; `Memory` where a growth was refused.
 pub fn found_in(alloc: Global, text: &[u8]) -> Result<Found, ReadFault>
     ensures { spec.FoundRead text.now result }
 {
