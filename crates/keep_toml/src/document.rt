@@ -125,6 +125,7 @@ impl Document {
 
     /// The leaves in order, each with its place. `End`, with the empty text, is the last.
     pub fn tokens(&self) -> &[Token]
+        ensures accepted { IsAccepted self.now }
         ensures leaves { (t : Tree) → Reads self.now t → result.now ≡ tokens_of t }
         ensures joined { joined self.now result.now ≡ self.now }
     {
