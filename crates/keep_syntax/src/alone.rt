@@ -10,7 +10,7 @@ ghost use Rattle.keep_syntax.specs.Contract as spec;
 use crate::depth::deepest;
 use crate::fault::ReadFault;
 use crate::info::{KeyPart, Limits, ValueInfo};
-use crate::parts::{Parts, key_at, key_count, value_at, value_count};
+use crate::parts::Parts;
 use crate::whole::read_one;
 use std::alloc::Global;
 
@@ -52,7 +52,7 @@ impl ValueSyntax {
     pub fn key_count(&self) -> usize
         ensures { result ≡ length (spec.value_parts_of self.now) }
     {
-        key_count(&self.parts)
+        self.parts.key_count()
     }
 
     /// The key part of this number, from 0.
@@ -60,14 +60,14 @@ impl ValueSyntax {
         requires { number < length (spec.value_parts_of self.now) }
         ensures { slice_get (spec.value_parts_of self.now) number ≡ Some result }
     {
-        key_at(&self.parts, number)
+        self.parts.key_part(number)
     }
 
     /// How many values there are.
     pub fn value_count(&self) -> usize
         ensures { result ≡ length (spec.value_values_of self.now) }
     {
-        value_count(&self.parts)
+        self.parts.value_count()
     }
 
     /// The value of this number, from 0. A value comes before those inside it.
@@ -75,6 +75,13 @@ impl ValueSyntax {
         requires { number < length (spec.value_values_of self.now) }
         ensures { slice_get (spec.value_values_of self.now) number ≡ Some result }
     {
-        value_at(&self.parts, number)
+        self.parts.value(number)
+    }
+
+    /// What is kept of the text, each part by its number.
+    pub fn parts(&self) -> &Parts
+        ensures { result.now ≡ self.now.parts }
+    {
+        &self.parts
     }
 }

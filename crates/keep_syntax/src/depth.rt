@@ -5,7 +5,7 @@ ghost use Rattle.keep_syntax.specs.Flat.{flat};
 ghost use Rattle.keep_syntax.specs.Nesting as spec;
 
 use crate::info::ValueInfo;
-use crate::parts::{Parts, value_at, value_count};
+use crate::parts::Parts;
 use keep_token::Leaf;
 
 // how many arrays and inline tables are open in a value, itself counted
@@ -26,8 +26,8 @@ pub(crate) fn deepest(parts: &Parts, limit: u16) -> u16
     ensures { result ≡ spec.deepest (flat parts.now).values }
 {
     let mut most = 0u16;
-    'values: for number in 0..value_count(parts) {
-        most = most.max(open_in(value_at(parts, number), limit));
+    'values: for number in 0..parts.value_count() {
+        most = most.max(open_in(parts.value(number), limit));
     }
     most
 }

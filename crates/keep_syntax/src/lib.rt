@@ -21,5 +21,6 @@ pub use fault::{ReadFault, Why};
 pub use info::{
     Brackets, KeyPart, Limits, Mark, Owner, Span, Start, Statement, StatementKind, Token, ValueInfo,
 };
+pub use parts::Parts;
 pub use syntax::Syntax;
 pub use tokens::Tokens;

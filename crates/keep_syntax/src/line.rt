@@ -10,7 +10,7 @@ use crate::fault::ReadFault;
 use crate::gap::space;
 use crate::info::{Limits, Owner, Span, Start, Statement, StatementKind};
 use crate::key::{key, name};
-use crate::parts::{Parts, key_count, push_mark, push_statement, statement_count, value_count};
+use crate::parts::{Parts, push_mark, push_statement, statement_count};
 use crate::text::{byte_at, misplaced, sign};
 use crate::value::value;
 use keep_token::{Leaf, scan_gap};
@@ -46,7 +46,7 @@ fn keyval(
     ensures { lines_spec.ContentRead limits.profile limits.depth text.now start.now (spec.flat out.old) (spec.flat out.new) result }
 {
     let begin = name(text, start.at, limits.profile, out)?;
-    let keys = key_count(out) - start.parts;
+    let keys = out.key_count() - start.parts;
     let end = value(text, begin, limits, keys, start, out)?;
     let head = Head {
         kind: StatementKind::KeyVal,
@@ -77,7 +77,7 @@ fn header(
     }
     let head = Head {
         kind: StatementKind::Header,
-        keys: key_count(out) - start.parts,
+        keys: out.key_count() - start.parts,
         value: None,
     };
     let end = sign(text, close, 1, Leaf::HeadClose, out)?;
@@ -105,7 +105,7 @@ fn element(
     }
     let head = Head {
         kind: StatementKind::Element,
-        keys: key_count(out) - start.parts,
+        keys: out.key_count() - start.parts,
         value: None,
     };
     let end = sign(text, close, 2, Leaf::ElemClose, out)?;
@@ -164,8 +164,8 @@ fn line(
     ensures { lines_spec.LineRead limits.profile limits.depth text.now at (spec.flat out.old) (spec.flat out.new) result }
 {
     let number = statement_count(out);
-    let first_key = key_count(out);
-    let values = value_count(out);
+    let first_key = out.key_count();
+    let values = out.value_count();
     let begin = space(text, at, out)?;
     if is_line_end(byte_at(text, begin)) {
         let end = comment(text, begin, out)?;

@@ -46,6 +46,53 @@ impl Parts {
             values: Vec::new(alloc),
         }
     }
+
+    /// How many key parts are kept.
+    pub fn key_count(&self) -> usize
+        ensures { result ≡ length (spec.flat self.now).keys }
+    {
+        self.keys.len()
+    }
+
+    /// The key part of this number.
+    pub fn key_part(&self, number: usize) -> KeyPart
+        requires { number < length (spec.flat self.now).keys }
+        ensures { slice_get (spec.flat self.now).keys number ≡ Some result }
+    {
+        self.keys[number]
+    }
+
+    /// How many values are kept.
+    pub fn value_count(&self) -> usize
+        ensures { result ≡ length (spec.flat self.now).values }
+    {
+        self.values.len()
+    }
+
+    /// The value of this number.
+    pub fn value(&self, number: usize) -> ValueInfo
+        requires { number < length (spec.flat self.now).values }
+        ensures { slice_get (spec.flat self.now).values number ≡ Some result }
+    {
+        let value = &self.values[number];
+        ValueInfo {
+            leaf: value.leaf,
+            span: Span {
+                start: value.start,
+                end: value.end,
+            },
+            whole: Span {
+                start: value.whole_start,
+                end: value.end,
+            },
+            owner: value.owner,
+            depth: value.depth,
+            first_key: value.first_key,
+            keys: value.keys,
+            comma_before: value.comma_before,
+            comma_after: value.comma_after,
+        }
+    }
 }
 
 /// Keeps a token that begins at the byte `at`.
@@ -136,59 +183,12 @@ pub fn statement_count(out: &Parts) -> usize
     out.statements.len()
 }
 
-/// How many key parts are kept.
-pub fn key_count(out: &Parts) -> usize
-    ensures { result ≡ length (spec.flat out.now).keys }
-{
-    out.keys.len()
-}
-
-/// How many values are kept.
-pub fn value_count(out: &Parts) -> usize
-    ensures { result ≡ length (spec.flat out.now).values }
-{
-    out.values.len()
-}
-
 /// The statement of this number.
 pub fn statement_at(out: &Parts, number: usize) -> Statement
     requires { number < length (spec.flat out.now).statements }
     ensures { slice_get (spec.flat out.now).statements number ≡ Some result }
 {
     out.statements[number]
-}
-
-/// The key part of this number.
-pub fn key_at(out: &Parts, number: usize) -> KeyPart
-    requires { number < length (spec.flat out.now).keys }
-    ensures { slice_get (spec.flat out.now).keys number ≡ Some result }
-{
-    out.keys[number]
-}
-
-/// The value of this number.
-pub fn value_at(out: &Parts, number: usize) -> ValueInfo
-    requires { number < length (spec.flat out.now).values }
-    ensures { slice_get (spec.flat out.now).values number ≡ Some result }
-{
-    let value = &out.values[number];
-    ValueInfo {
-        leaf: value.leaf,
-        span: Span {
-            start: value.start,
-            end: value.end,
-        },
-        whole: Span {
-            start: value.whole_start,
-            end: value.end,
-        },
-        owner: value.owner,
-        depth: value.depth,
-        first_key: value.first_key,
-        keys: value.keys,
-        comma_before: value.comma_before,
-        comma_after: value.comma_after,
-    }
 }
 
 /// The kind of the token of this number.

@@ -9,9 +9,7 @@ ghost use Rattle.keep_syntax.specs.Contract as spec;
 
 use crate::fault::ReadFault;
 use crate::info::{KeyPart, Limits, Statement, ValueInfo};
-use crate::parts::{
-    Parts, key_at, key_count, mark_count, statement_at, statement_count, value_at, value_count,
-};
+use crate::parts::{Parts, mark_count, statement_at, statement_count};
 use crate::tokens::Tokens;
 use crate::whole::read_lines;
 use std::alloc::Global;
@@ -76,7 +74,7 @@ impl Syntax {
     pub fn key_count(&self) -> usize
         ensures { result ≡ length (spec.parts_of self.now) }
     {
-        key_count(&self.parts)
+        self.parts.key_count()
     }
 
     /// The key part of this number, from 0.
@@ -84,14 +82,14 @@ impl Syntax {
         requires { number < length (spec.parts_of self.now) }
         ensures { slice_get (spec.parts_of self.now) number ≡ Some result }
     {
-        key_at(&self.parts, number)
+        self.parts.key_part(number)
     }
 
     /// How many values there are.
     pub fn value_count(&self) -> usize
         ensures { result ≡ length (spec.values_of self.now) }
     {
-        value_count(&self.parts)
+        self.parts.value_count()
     }
 
     /// The value of this number, from 0. A value comes before those inside it.
@@ -99,6 +97,13 @@ impl Syntax {
         requires { number < length (spec.values_of self.now) }
         ensures { slice_get (spec.values_of self.now) number ≡ Some result }
     {
-        value_at(&self.parts, number)
+        self.parts.value(number)
+    }
+
+    /// What is kept of the text, each part by its number.
+    pub fn parts(&self) -> &Parts
+        ensures { result.now ≡ self.now.parts }
+    {
+        &self.parts
     }
 }

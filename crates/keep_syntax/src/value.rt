@@ -10,7 +10,7 @@ use crate::fault::ReadFault;
 use crate::gap::{gap_in, is_free};
 use crate::info::{Brackets, Limits, Owner, Start};
 use crate::key::name;
-use crate::parts::{Parts, key_count, push_mark, push_value, set_comma, set_end, value_count};
+use crate::parts::{Parts, push_mark, push_value, set_comma, set_end};
 use crate::text::{byte_at, misplaced, sign};
 use keep_token::{Leaf, Profile, What, scan_scalar};
 
@@ -168,14 +168,14 @@ fn bracket(
     if limits.depth == 0 {
         return Err(ReadFault::TooDeep { at });
     }
-    let number = value_count(out);
+    let number = out.value_count();
     let open = sign(text, at, 1, open_leaf(brackets), out)?;
     push_value(out, open_leaf(brackets), at, at, keys, start)?;
     let first = gap_in(text, open, limits.profile, brackets, out)?;
     let inside = Start {
         at: first,
-        values: value_count(out),
-        parts: key_count(out),
+        values: out.value_count(),
+        parts: out.key_count(),
         owner: owner_in(brackets, number),
         depth: start.depth + 1,
         comma: None,
@@ -210,8 +210,8 @@ fn entries(
         let (at, comma) = item(text, limits, brackets, &here, out)?;
         here = Start {
             at,
-            values: value_count(out),
-            parts: key_count(out),
+            values: out.value_count(),
+            parts: out.key_count(),
             owner: here.owner,
             depth: here.depth,
             comma,
@@ -240,7 +240,7 @@ fn item(
     ensures { spec.ItemRead brackets limits.profile limits.depth text.now start.now (spec.flat out.old) (spec.flat out.new) result }
 {
     let begin = named(text, start.at, limits.profile, brackets, out)?;
-    let keys = key_count(out) - start.parts;
+    let keys = out.key_count() - start.parts;
     let end = value(text, begin, limits, keys, start, out)?;
     after(text, end, limits.profile, brackets, start.values, out)
 }
