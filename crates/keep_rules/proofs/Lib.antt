@@ -28,3 +28,5 @@ pub mod TextLemmas
 pub mod BuildLemmas
 pub mod SuitLemmas
 pub mod FactLemmas
+pub mod DecodeLaws
+pub mod KeyTextLemmas

@@ -25,3 +25,4 @@ pub mod Stored
 pub mod Stops
 pub mod Statements
 pub mod PathReading
+pub mod KeyText

@@ -7,6 +7,7 @@ mod children;
 mod fault;
 mod index;
 mod index_text;
+mod key_text;
 mod node;
 mod nodes;
 mod path;
