@@ -1,5 +1,5 @@
 -- Items and elements of the nodes as they are kept.
-use Rattle.std.proofs.Common.{◌≡◌, ℕ, ◌-◌, ◌<◌, true, false, List, [], ◌∷◌, ◌++◌, length, get_or, sym, ◌∙◌, ap, subst, arith, Option, Some, None, Ok, Err}
+use Rattle.std.proofs.Common.{◌≡◌, ℕ, ◌-◌, ◌<◌, true, false, List, [], ◌∷◌, ◌++◌, length, get_or, sym, ◌∙◌, ap, arith, Option, Some, None, Ok, Err}
 use Rattle.std.specs.Prelude.{Contains, IfOk, OnOk, IfSome, IfNone, Result}
 use Rattle.std.proofs.lemmas.List.{length-map}
 use Rattle.keep_rules.specs.declared.nodes.Node.{Node}
@@ -8,7 +8,7 @@ use Rattle.keep_rules.specs.Children.{holds_of, child_ids}
 use Rattle.keep_rules.specs.Trie.{by_index, paths_of, path_at, state_at, holds_at, children_of}
 use Rattle.keep_rules.specs.Tables.{is_tables, IsShaped}
 use Rattle.keep_rules.specs.Standing.{IsLastElement, HasNoElement}
-use Rattle.keep_rules.specs.Stored.{twig_of, twigs, IsStored}
+use Rattle.keep_rules.specs.Stored.{twig_in, twigs, IsStored}
 use Rattle.keep_rules.proofs.TablesLemmas.{next_fresh, tables_listed}
 use Rattle.keep_rules.proofs.PassLemmas.{none_empty, none_plain}
 use Rattle.keep_rules.proofs.StoredLemmas.{keyed_node, role_read}
@@ -29,43 +29,35 @@ pub if_none : {T : Type 0} (o : Option T) (P Q : Type 0) → (P → Q) → IfNon
 if_none (Some x) P Q f h = h
 if_none None P Q f h = f h
 
--- the number of an array's next item
-pub item_number : (nodes : List Node) → IsStored nodes → (i : ℕ) (d : Node) (n : ℕ) → i < length nodes → holds_at (twigs nodes) i ≡ by_index → d ≡ get_or nodes i d
-    → (holds_of d.children ≡ by_index → n ≡ length (child_ids d.children)) → n ≡ length (children_of (twigs nodes) i)
-item_number nodes stored i d n h listed is count =
-    count (ap (λ (x : Node). holds_of x.children) is ∙ sym (keyed_node nodes i d h) ∙ listed) ∙ ap length (ap (λ (x : Node). child_ids x.children) is ∙ stored.kids i d h)
-
-pub item_fresh : (nodes : List Node) → IsStored nodes → IsShaped (twigs nodes) → (i n : ℕ) → i < length nodes → holds_at (twigs nodes) i ≡ by_index → n ≡ length (children_of (twigs nodes) i)
-    → Contains (paths_of (twigs nodes)) (path_at (twigs nodes) i ++ index n ∷ []) → ⊥
-item_fresh nodes stored shaped i n h listed is =
-    subst (λ (k : ℕ). Contains (paths_of (twigs nodes)) (path_at (twigs nodes) i ++ index k ∷ []) → ⊥) (sym is) (next_fresh (twigs nodes) i stored.trie shaped (omega (arith, h, length-map nodes twig_of)) listed)
+-- an array's next item
+pub item_fresh : (nodes : List Node) → IsStored nodes → IsShaped (twigs nodes) → (i : ℕ) → i < length nodes → holds_at (twigs nodes) i ≡ by_index
+    → Contains (paths_of (twigs nodes)) (path_at (twigs nodes) i ++ index (length (children_of (twigs nodes) i)) ∷ []) → ⊥
+item_fresh nodes stored shaped i h listed = next_fresh (twigs nodes) i stored.trie shaped (omega (arith, h, length-map nodes (twig_in nodes))) listed
 
 -- the children of a node that was read
 kept_ids : (nodes : List Node) → IsStored nodes → (i : ℕ) (d : Node) → i < length nodes → d ≡ get_or nodes i d → child_ids d.children ≡ children_of (twigs nodes) i
 kept_ids nodes stored i d h is = ap (λ (x : Node). child_ids x.children) is ∙ stored.kids i d h
 
-tables_read : (nodes : List Node) (i : ℕ) (d : Node) → i < length nodes → d ≡ get_or nodes i d → is_tables (state_at (twigs nodes) i) ≡ is_tables d.role
-tables_read nodes i d h is = ap is_tables (role_read nodes i d h ∙ ap (λ (x : Node). x.role) (sym is))
+tables_read : (nodes : List Node) (i : ℕ) (d : Node) → i < length nodes → d ≡ get_or nodes i d → is_tables (state_at (twigs nodes) i) ≡ is_tables d.told.role
+tables_read nodes i d h is = ap is_tables (role_read nodes i d h ∙ ap (λ (x : Node). x.told.role) (sym is))
 
-pub last_found : (nodes : List Node) → IsStored nodes → (i : ℕ) (d : Node) (path : List Part) (o : Option ℕ) → i < length nodes → d ≡ get_or nodes i d → path_at (twigs nodes) i ≡ path → is_tables d.role ≡ true
-    → IfSome o (λ id. (0 < length (child_ids d.children)) × (id ≡ get_or (child_ids d.children) (length (child_ids d.children) - 1) 0)) → IfSome o (IsLastElement (twigs nodes) path)
-last_found nodes stored i d path o h is here tables found =
-    if_some o _ _ (λ id was. record {
-      child = i;
-      inside = omega (arith, h, length-map nodes twig_of);
-      here = here;
-      tables = tables_read nodes i d h is ∙ tables;
-      some = omega (arith, was.0, ap length (kept_ids nodes stored i d h is));
-      last = was.1 ∙ ap (λ ks. get_or ks (length ks - 1) 0) (kept_ids nodes stored i d h is);
-    }) found
+pub last_found : (nodes : List Node) → IsStored nodes → (i : ℕ) (d : Node) (path : List Part) (id : ℕ) → i < length nodes → d ≡ get_or nodes i d → path_at (twigs nodes) i ≡ path → is_tables d.told.role ≡ true
+    → (0 < length (child_ids d.children)) × (id ≡ get_or (child_ids d.children) (length (child_ids d.children) - 1) 0) → IsLastElement (twigs nodes) path i id
+last_found nodes stored i d path id h is here tables was = record {
+  inside = omega (arith, h, length-map nodes (twig_in nodes));
+  here = here;
+  tables = tables_read nodes i d h is ∙ tables;
+  some = omega (arith, was.0, ap length (kept_ids nodes stored i d h is));
+  last = was.1 ∙ ap (λ ks. get_or ks (length ks - 1) 0) (kept_ids nodes stored i d h is);
+}
 
-pub last_missing : (nodes : List Node) → IsStored nodes → IsShaped (twigs nodes) → (i : ℕ) (d : Node) (path : List Part) (o : Option ℕ) → i < length nodes → d ≡ get_or nodes i d → path_at (twigs nodes) i ≡ path → is_tables d.role ≡ true
-    → IfNone o (holds_of d.children ≡ by_index → length (child_ids d.children) ≡ 0) → IfNone o (HasNoElement (twigs nodes) path)
-last_missing nodes stored shaped i d path o h is here tables missing =
-    let h' : i < length (twigs nodes) = omega (arith, h, length-map nodes twig_of) in
+pub last_missing : (nodes : List Node) → IsStored nodes → IsShaped (twigs nodes) → (i : ℕ) (d : Node) (path : List Part) → i < length nodes → d ≡ get_or nodes i d → path_at (twigs nodes) i ≡ path → is_tables d.told.role ≡ true
+    → (holds_of d.children ≡ by_index → length (child_ids d.children) ≡ 0) → HasNoElement (twigs nodes) path
+last_missing nodes stored shaped i d path h is here tables empty =
+    let h' : i < length (twigs nodes) = omega (arith, h, length-map nodes (twig_in nodes)) in
     let listed : holds_of d.children ≡ by_index =
     ap (λ (x : Node). holds_of x.children) is ∙ sym (keyed_node nodes i d h) ∙ tables_listed (twigs nodes) shaped i h' (tables_read nodes i d h is ∙ tables) in
-    if_none o _ _ (λ empty. none_empty (twigs nodes) path i h' here (ap length (sym (kept_ids nodes stored i d h is)) ∙ empty listed)) missing
+    none_empty (twigs nodes) path i h' here (ap length (sym (kept_ids nodes stored i d h is)) ∙ empty listed)
 
-pub no_tables : (nodes : List Node) → (i : ℕ) (d : Node) (path : List Part) → i < length nodes → d ≡ get_or nodes i d → path_at (twigs nodes) i ≡ path → is_tables d.role ≡ false → HasNoElement (twigs nodes) path
-no_tables nodes i d path h is here plain = none_plain (twigs nodes) path i (omega (arith, h, length-map nodes twig_of)) here (tables_read nodes i d h is ∙ plain)
+pub no_tables : (nodes : List Node) → (i : ℕ) (d : Node) (path : List Part) → i < length nodes → d ≡ get_or nodes i d → path_at (twigs nodes) i ≡ path → is_tables d.told.role ≡ false → HasNoElement (twigs nodes) path
+no_tables nodes i d path h is here plain = none_plain (twigs nodes) path i (omega (arith, h, length-map nodes (twig_in nodes))) here (tables_read nodes i d h is ∙ plain)

@@ -1,7 +1,7 @@
 -- One more node, and another state of a node.
-use Rattle.std.proofs.Common.{◌≡◌, ◌≢◌, ℕ, ◌+◌, ◌<◌, List, [], ◌∷◌, ◌++◌, length, get_or, set, drop, map, sym, ◌∙◌, ap, subst, arith, length-append, cond, inl, inr, Some}
+use Rattle.std.proofs.Common.{◌≡◌, ◌≢◌, ℕ, suc, ◌+◌, ◌-◌, ◌<◌, List, [], ◌∷◌, ◌++◌, length, get_or, set, drop, map, refl, sym, ◌∙◌, ap, subst, arith, length-append, cond, inl, inr, Option, Some}
 use Rattle.std.specs.Prelude.{fold, ◌==◌, Contains, AllPairs}
-use Rattle.std.proofs.lemmas.List.{get_or_append_left, length-map, length-drop, map-append, drop-append-le, get_or_push, get_or-set_same, get_or-set_other, length-set, map-set}
+use Rattle.std.proofs.lemmas.List.{get_or_append_left, length-map, length-drop, map-append, drop-append-le, drop-map, ext_get_or, get_or-drop, get_or_push, get_or-set_same, get_or-set_other, length-set, map-set}
 use Rattle.std.proofs.lemmas.List.Elements.{Contains-get_or}
 use Rattle.std.proofs.lemmas.Bool.{cases_lt, cases_eq}
 use Rattle.std.proofs.Math.Seq.{map-set_same}
@@ -9,7 +9,7 @@ use Rattle.std.proofs.lemmas.List.Sums.{fold-append}
 use Rattle.std.proofs.lemmas.List.Quantifiers.{all_pairs_push}
 use Rattle.keep_rules.specs.declared.role.Role.{Role}
 use Rattle.keep_rules.specs.Path.{Part}
-use Rattle.keep_rules.specs.Trie.{Twig, link, path_after, paths_of, path_at, hanging_from, children_of, IsTrie}
+use Rattle.keep_rules.specs.Trie.{Twig, Holding, link, path_after, paths_of, path_at, states_of, holdings_of, hanging_from, children_of, IsTrie}
 use Rattle.keep_rules.specs.Growth.{Grows, Restates}
 use Rattle.keep_rules.proofs.TrieLemmas.{hanging-push}
 
@@ -57,6 +57,49 @@ grows_pushed old t trie within fresh = record {
   states = map-append (λ (n : Twig). n.state) old (t ∷ []);
   holdings = map-append (λ (n : Twig). n.holds) old (t ∷ []);
   children = children_pushed old t trie.root;
+}
+
+-- nodes that tell the same, but for the step of the root, which stands for nothing
+pub record IsAlike (us ts : List Twig) : Type 0 where
+  pub many : length us ≡ length ts
+  pub rest : drop 1 us ≡ drop 1 ts
+  pub states : states_of us ≡ states_of ts
+  pub holdings : holdings_of us ≡ holdings_of ts
+
+pub rest_same : (us ts : List Twig) → length us ≡ length ts → ((i : ℕ) (u : Twig) → 0 < i → i < length us → get_or us i u ≡ get_or ts i u) → drop 1 us ≡ drop 1 ts
+rest_same [] [] many same = refl
+rest_same [] (t ∷ ts) many same = absurd (omega arith)
+rest_same (u ∷ us) [] many same = absurd (omega arith)
+rest_same (u ∷ us) (t ∷ ts) many same = ext_get_or u us ts (omega arith) (λ i h. same (suc i) u (omega arith) (omega arith))
+
+links_alike : {us ts : List Twig} → IsAlike us ts → drop 1 (map link us) ≡ drop 1 (map link ts)
+links_alike {us = us} {ts = ts} alike = drop-map link 1 us ∙ ap (map link) alike.rest ∙ sym (drop-map link 1 ts)
+
+paths_alike : {us ts : List Twig} → IsAlike us ts → paths_of us ≡ paths_of ts
+paths_alike alike = ap (fold path_after ([] ∷ [])) (links_alike alike)
+
+behind_root : (us : List Twig) (i : ℕ) (u : Twig) → 0 < i → get_or us i u ≡ get_or (drop 1 us) (i - 1) u
+behind_root us i u low = sym (get_or-drop 1 us (i - 1) u ∙ ap (λ k. get_or us k u) (let k : 1 + (i - 1) ≡ i = omega arith in k))
+
+trie_alike : {us ts : List Twig} → IsAlike us ts → IsTrie ts → IsTrie us
+trie_alike {us = us} {ts = ts} alike trie = record {
+  root = omega (arith, alike.many, trie.root);
+  parents = λ i u low h.
+      let same : get_or us i u ≡ get_or ts i u = behind_root us i u low ∙ ap (λ r. get_or r (i - 1) u) alike.rest ∙ sym (behind_root ts i u low) in
+      omega (arith, ap (λ (t : Twig). t.parent) same, trie.parents i u low (omega (arith, alike.many)));
+  distinct = let P : List (List Part) → Type 0 = AllPairs (λ p q. p ≢ q) in subst P (sym (paths_alike alike)) trie.distinct;
+}
+
+pub grows_alike : {old us ts : List Twig} {parent : ℕ} {path : List Part} {state : Option Role} {holds : Holding} → Grows old ts parent path state holds → IsAlike us ts → Grows old us parent path state holds
+grows_alike g alike = record {
+  trie = g.trie;
+  trie' = trie_alike alike g.trie';
+  within = g.within;
+  fresh = g.fresh;
+  paths = paths_alike alike ∙ g.paths;
+  states = alike.states ∙ g.states;
+  holdings = alike.holdings ∙ g.holdings;
+  children = λ i. ap (hanging_from 1 i) (links_alike alike) ∙ g.children i;
 }
 
 -- a node that only takes another state

@@ -18,7 +18,7 @@ use Rattle.keep_rules.specs.Known.{roles_said, Knows}
 use Rattle.keep_rules.specs.State.{IsState}
 use Rattle.keep_rules.proofs.PathLemmas.{path_decides}
 
-one_place : (paths : List (List Part)) → AllPairs (λ p q. p ≢ q) paths → (i j : ℕ) → i < length paths → j < length paths → get_or paths i [] ≡ get_or paths j [] → i ≡ j
+pub one_place : (paths : List (List Part)) → AllPairs (λ p q. p ≢ q) paths → (i j : ℕ) → i < length paths → j < length paths → get_or paths i [] ≡ get_or paths j [] → i ≡ j
 one_place paths distinct i j h g same =
     elim (cases_lt i j) [
       | inl below ↦ absurd (distinct i j [] below g same)

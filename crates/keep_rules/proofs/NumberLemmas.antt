@@ -22,7 +22,7 @@ valued (m ∷ ms) = one_if (is_value m.says) + valued ms
 
 -- ---- the numbers are counts
 
-one_mark : (s : Saying) (p : List Part) (xs : List Mark) → length (cons_option (with_path p (role_of s)) xs) ≡ one_if (is_mark s) + length xs
+pub one_mark : (s : Saying) (p : List Part) (xs : List Mark) → length (cons_option (with_path p (role_of s)) xs) ≡ one_if (is_mark s) + length xs
 one_mark through p xs = omega arith
 one_mark past p xs = omega arith
 one_mark define p xs = omega arith
@@ -72,15 +72,15 @@ numbered_from-append c r (x ∷ xs) ys =
 
 -- ---- as many values as keep_syntax has
 
-valued-append : (xs ys : List Mention) → valued (xs ++ ys) ≡ valued xs + valued ys
+pub valued-append : (xs ys : List Mention) → valued (xs ++ ys) ≡ valued xs + valued ys
 valued-append [] ys = omega arith
 valued-append (x ∷ xs) ys = omega (arith, valued-append xs ys)
 
-valued-below : (at : List Part) (ms : List Mention) → valued (map (below at) ms) ≡ valued ms
+pub valued-below : (at : List Part) (ms : List Mention) → valued (map (below at) ms) ≡ valued ms
 valued-below at [] = refl
 valued-below at (m ∷ ms) = ap (λ n. one_if (is_value m.says) + n) (valued-below at ms)
 
-valued-keyed : (k : List ℕ) (ks : List (List ℕ)) (ms : List Mention) → valued (keyed_mentions (k ∷ ks) ms) ≡ valued ms
+pub valued-keyed : (k : List ℕ) (ks : List (List ℕ)) (ms : List Mention) → valued (keyed_mentions (k ∷ ks) ms) ≡ valued ms
 valued-keyed k [] ms = valued-below (key k ∷ []) ms
 valued-keyed k (l ∷ ks) ms = omega (arith, valued-below (key k ∷ []) (keyed_mentions (l ∷ ks) ms), valued-keyed l ks ms)
 
@@ -122,7 +122,7 @@ valued-way tables at (k ∷ l ∷ ks) =
       valued-way tables (entered_path tables (at ++ key k ∷ [])) (l ∷ ks),
     )
 
-valued-content : (r : Reading) (p : Start) (c : Content) → valued (elim (statement_of c) [ None ↦ [] | Some s ↦ statement_mentions r s ]) ≡ length (content_values p c)
+pub valued-content : (r : Reading) (p : Start) (c : Content) → valued (elim (statement_of c) [ None ↦ [] | Some s ↦ statement_mentions r s ]) ≡ length (content_values p c)
 valued-content r p blank = refl
 valued-content r p (keyval name v) =
     let inside : List Mention = entry_mentions 0 (Some name) (body_fact v.body) (entries_said 0 v.inside) in

@@ -110,19 +110,29 @@ all_past (Some s) roles t is = sym (is Past) ∙ lets_past s t
 pub keeps_same : (nodes : List Twig) → Keeps nodes nodes
 keeps_same nodes = record { longer = omega arith; paths = λ i h. refl; holdings = λ i h. refl; kinds = λ i h. refl }
 
+-- the elements of an array of tables, and where the last of them stands
+pub elements_there : (nodes : List Twig) (p : List Part) (child to : ℕ) → IsLastElement nodes p child to → (ms : List Mention) (tables : List (List Part)) → IsWorld nodes ms tables → elements_of p tables ≡ length (children_of nodes child)
+elements_there nodes p child to last ms tables world =
+    ap (λ q. elements_of q tables) (sym last.here) ∙ world.tables_are.counts child last.inside ∙ ap (λ t. cond t (length (children_of nodes child)) 0) last.tables
+
+pub element_place : (nodes : List Twig) (p : List Part) (child to : ℕ) → IsLastElement nodes p child to → (ms : List Mention) (tables : List (List Part)) → IsWorld nodes ms tables → path_at nodes to ≡ entered_path tables p
+element_place nodes p child to last ms tables world =
+    let kids : ℕ = length (children_of nodes child) in
+    let low : kids - 1 < kids = omega (arith, last.some) in
+    let counted : elements_of p tables ≡ kids = elements_there nodes p child to last ms tables world in
+    ap (path_at nodes) last.last ∙ world.shaped.elements child (kids - 1) last.inside (tables_listed nodes world.shaped child last.inside last.tables) low
+    ∙ ap (λ q. q ++ index (kids - 1) ∷ []) last.here ∙ ap (λ c. p ++ index (c - 1) ∷ []) (sym counted) ∙ sym (entered-some tables p (omega (arith, last.some, counted)))
+
 -- past an array of tables to its last element
-pub passes_element : (nodes : List Twig) (parent to : ℕ) (k : List ℕ) → IsLastElement nodes (path_at nodes parent ++ key k ∷ []) to → Passes nodes nodes parent to k
-passes_element nodes parent to k last =
-    let kids : ℕ = length (children_of nodes last.child) in
+pub passes_element : (nodes : List Twig) (parent child to : ℕ) (k : List ℕ) → IsLastElement nodes (path_at nodes parent ++ key k ∷ []) child to → Passes nodes nodes parent to k
+passes_element nodes parent child to k last =
+    let kids : ℕ = length (children_of nodes child) in
     let p : List Part = path_at nodes parent ++ key k ∷ [] in
     let low : kids - 1 < kids = omega (arith, last.some) in
-    let counted : (tables : List (List Part)) (ms : List Mention) → IsWorld nodes ms tables → elements_of p tables ≡ kids = λ tables ms world.
-    ap (λ q. elements_of q tables) (sym last.here) ∙ world.tables_are.counts last.child last.inside ∙ ap (λ t. cond t kids 0) last.tables in
-    let placed : (tables : List (List Part)) (ms : List Mention) → IsWorld nodes ms tables → path_at nodes to ≡ entered_path tables p = λ tables ms world.
-    ap (path_at nodes) last.last ∙ world.shaped.elements last.child (kids - 1) last.inside (tables_listed nodes world.shaped last.child last.inside last.tables) low
-    ∙ ap (λ q. q ++ index (kids - 1) ∷ []) last.here ∙ ap (λ c. p ++ index (c - 1) ∷ []) (sym (counted tables ms world)) ∙ sym (entered-some tables p (omega (arith, last.some, counted tables ms world))) in
+    let counted : (tables : List (List Part)) (ms : List Mention) → IsWorld nodes ms tables → elements_of p tables ≡ kids = λ tables ms world. elements_there nodes p child to last ms tables world in
+    let placed : (tables : List (List Part)) (ms : List Mention) → IsWorld nodes ms tables → path_at nodes to ≡ entered_path tables p = λ tables ms world. element_place nodes p child to last ms tables world in
     let in_place : (trie : IsTrie nodes) → to < length nodes = λ trie.
-    subst (λ (x : ℕ). x < length nodes) (sym last.last) (child_at nodes trie last.child (kids - 1) (first nodes trie) last.inside low).inside in
+    subst (λ (x : ℕ). x < length nodes) (sym last.last) (child_at nodes trie child (kids - 1) (first nodes trie) last.inside low).inside in
     record {
       keeps = keeps_same nodes;
       world = λ ms tables world.
@@ -131,12 +141,12 @@ passes_element nodes parent to k last =
           let goal_path = placed tables ms world in
           let m1 : Mention = record { path = p; says = past } in
           let m2 : Mention = record { path = entered_path tables p; says = passed } in
-          let own : IsState (state_at nodes last.child) (roles_said p ms) = state_known nodes ms world.index last.child p last.inside last.here in
+          let own : IsState (state_at nodes child) (roles_said p ms) = state_known nodes ms world.index child p last.inside last.here in
           let size : length (paths_of nodes) ≡ length nodes = length-paths_of nodes trie.root in
           let one : Knows (paths_of nodes) (states_of nodes) (ms ++ m1 ∷ []) =
-          known_same (paths_of nodes) (states_of nodes) ms m1 last.child world.index.knows trie.distinct (omega (arith, last.inside)) (sym last.here)
-          (state_past (state_at nodes last.child) (roles_said p ms) last.tables own)
-          (obeys_push ms m1 Past refl (all_past (state_at nodes last.child) (roles_said p ms) last.tables own) world.index.knows.obeys) in
+          known_same (paths_of nodes) (states_of nodes) ms m1 child world.index.knows trie.distinct (omega (arith, last.inside)) (sym last.here)
+          (state_past (state_at nodes child) (roles_said p ms) last.tables own)
+          (obeys_push ms m1 Past refl (all_past (state_at nodes child) (roles_said p ms) last.tables own) world.index.knows.obeys) in
           let rest : IsState (state_at nodes to) (roles_said (entered_path tables p) (ms ++ m1 ∷ [])) =
           subst (λ (q : List Part). IsState (state_at nodes to) (roles_said q (ms ++ m1 ∷ []))) goal_path (one.states_are to (omega (arith, in_place trie))) in
           let two : Knows (paths_of nodes) (states_of nodes) ((ms ++ m1 ∷ []) ++ m2 ∷ []) =
@@ -151,7 +161,7 @@ passes_element nodes parent to k last =
             begun = world.begun;
           };
       stands = λ ms tables world.
-          let bare = world.shaped.plain last.child (kids - 1) last.inside last.tables low in
+          let bare = world.shaped.plain child (kids - 1) last.inside last.tables low in
           record {
             inside = in_place world.index.trie;
             here = placed tables ms world;
@@ -190,12 +200,12 @@ pub fits_value : (h : Holding) → Fits Value h
 fits_value h = record { listed = λ t. absurd cc; opened = λ t. absurd cc }
 
 -- the element is a table
-pub element_inside : (nodes : List Twig) (path : List Part) (to : ℕ) → IsTrie nodes → IsLastElement nodes path to → to < length nodes
-element_inside nodes path to trie last =
-    let low : length (children_of nodes last.child) - 1 < length (children_of nodes last.child) = omega (arith, last.some) in
-    subst (λ (x : ℕ). x < length nodes) (sym last.last) (child_at nodes trie last.child (length (children_of nodes last.child) - 1) (first nodes trie) last.inside low).inside
+pub element_inside : (nodes : List Twig) (path : List Part) (child to : ℕ) → IsTrie nodes → IsLastElement nodes path child to → to < length nodes
+element_inside nodes path child to trie last =
+    let low : length (children_of nodes child) - 1 < length (children_of nodes child) = omega (arith, last.some) in
+    subst (λ (x : ℕ). x < length nodes) (sym last.last) (child_at nodes trie child (length (children_of nodes child) - 1) (first nodes trie) last.inside low).inside
 
-pub element_keyed : (nodes : List Twig) (path : List Part) (to : ℕ) → IsShaped nodes → IsLastElement nodes path to → holds_at nodes to ≡ by_key
-element_keyed nodes path to shaped last =
-    let low : length (children_of nodes last.child) - 1 < length (children_of nodes last.child) = omega (arith, last.some) in
-    ap (holds_at nodes) last.last ∙ (shaped.plain last.child (length (children_of nodes last.child) - 1) last.inside last.tables low).1
+pub element_keyed : (nodes : List Twig) (path : List Part) (child to : ℕ) → IsShaped nodes → IsLastElement nodes path child to → holds_at nodes to ≡ by_key
+element_keyed nodes path child to shaped last =
+    let low : length (children_of nodes child) - 1 < length (children_of nodes child) = omega (arith, last.some) in
+    ap (holds_at nodes) last.last ∙ (shaped.plain child (length (children_of nodes child) - 1) last.inside last.tables low).1

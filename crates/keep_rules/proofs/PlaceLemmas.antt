@@ -29,11 +29,11 @@ one_role : (o : Option Role) (p q : List Part) (xs ys : List Mark) → length xs
 one_role None p q xs ys h = h
 one_role (Some r) p q xs ys h = omega (arith, h)
 
-marked-below : (at : List Part) (ms : List Mention) → marked (map (below at) ms) ≡ marked ms
+pub marked-below : (at : List Part) (ms : List Mention) → marked (map (below at) ms) ≡ marked ms
 marked-below at [] = refl
 marked-below at (m ∷ ms) = one_role (role_of m.says) (at ++ m.path) m.path (marks (map (below at) ms)) (marks ms) (marked-below at ms)
 
-marked-keyed : (k : List ℕ) (ks : List (List ℕ)) (ms : List Mention) → marked (keyed_mentions (k ∷ ks) ms) ≡ length ks + marked ms
+pub marked-keyed : (k : List ℕ) (ks : List (List ℕ)) (ms : List Mention) → marked (keyed_mentions (k ∷ ks) ms) ≡ length ks + marked ms
 marked-keyed k [] ms = marked-below (key k ∷ []) ms ∙ omega arith
 marked-keyed k (l ∷ ks) ms = omega (arith, marked-below (key k ∷ []) (keyed_mentions (l ∷ ks) ms), marked-keyed l ks ms)
 
@@ -59,11 +59,11 @@ marked-entries n (entry name body inside after comma rest) =
 
 -- ---- key parts
 
-length-further : (at : ℕ) (fs : List Further) → length (further_parts at fs) ≡ length fs
+pub length-further : (at : ℕ) (fs : List Further) → length (further_parts at fs) ≡ length fs
 length-further at [] = refl
 length-further at (f ∷ fs) = ap suc (length-further (at + syntax.width f.before + 1 + syntax.width f.behind + length f.part.text) fs)
 
-length-named : (at : ℕ) (name : Option Name) → length (named_parts at name) ≡ name_count name
+pub length-named : (at : ℕ) (name : Option Name) → length (named_parts at name) ≡ name_count name
 length-named at None = refl
 length-named at (Some n) = ap suc (length-further (at + length n.key.first.text) n.key.more)
 
@@ -90,7 +90,7 @@ one_either false xs ys h g = g
 marked-passing_mentions : (tables : List (List Part)) (path : List Part) → marked (passing_mentions tables path) ≡ 1
 marked-passing_mentions tables path = one_either (0 == elements_of path tables) _ _ refl refl
 
-marked-way : (tables : List (List Part)) (at : List Part) (k : List ℕ) (ks : List (List ℕ)) → marked (header_way tables at (k ∷ ks)) ≡ length ks
+pub marked-way : (tables : List (List Part)) (at : List Part) (k : List ℕ) (ks : List (List ℕ)) → marked (header_way tables at (k ∷ ks)) ≡ length ks
 marked-way tables at k [] = refl
 marked-way tables at k (l ∷ ks) =
     omega (
@@ -100,7 +100,7 @@ marked-way tables at k (l ∷ ks) =
       marked-way tables (entered_path tables (at ++ key k ∷ [])) l ks,
     )
 
-marked-content : (r : Reading) (at : ℕ) (c : Content) → marked (elim (statement_of c) [ None ↦ [] | Some s ↦ statement_mentions r s ]) ≡ length (content_parts at c)
+pub marked-content : (r : Reading) (at : ℕ) (c : Content) → marked (elim (statement_of c) [ None ↦ [] | Some s ↦ statement_mentions r s ]) ≡ length (content_parts at c)
 marked-content r at blank = refl
 marked-content r at (keyval name v) =
     let inside : List Mention = entry_mentions 0 (Some name) (body_fact v.body) (entries_said 0 v.inside) in

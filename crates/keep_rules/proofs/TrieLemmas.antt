@@ -96,6 +96,7 @@ path_at-link nodes trie i d low h =
 pub record IsChildOf (nodes : List Twig) (i c : ℕ) : Type 0 where
   pub later : 0 < c
   pub inside : c < length nodes
+  pub parent : (d : Twig) → (get_or nodes c d).parent ≡ i
   pub path : (d : Twig) → path_at nodes c ≡ path_at nodes i ++ (link (get_or nodes c d)).1 ∷ []
 
 -- what the list of children tells
@@ -114,8 +115,19 @@ child_at nodes trie i k d h g =
     record {
       later = low;
       inside = here;
+      parent = own;
       path = λ x. path_at-link nodes trie c x low here ∙ ap (λ m. path_at nodes m ++ (link (get_or nodes c x)).1 ∷ []) (own x);
     }
+
+-- each node but the root is among the children of its parent
+pub child_placed : (nodes : List Twig) (j : ℕ) (d : Twig) → 0 < j → j < length nodes → IsHanging j (children_of nodes (get_or nodes j d).parent)
+child_placed nodes j d low h =
+    let ls : List (ℕ × Part) = drop 1 (map link nodes) in
+    let few : length ls ≡ length nodes - 1 = omega (arith, length-drop 1 (map link nodes), length-map nodes link) in
+    let placed : get_or ls (j - 1) (link d) ≡ link (get_or nodes j d) =
+    get_or-drop 1 (map link nodes) (j - 1) (link d) ∙ ap (λ m. get_or (map link nodes) m (link d)) (let m : 1 + (j - 1) ≡ j = omega arith in m) ∙ get_or-map link nodes j d (link d) h in
+    let at : 1 + (j - 1) ≡ j = omega arith in
+    subst (λ (n : ℕ). IsHanging n (children_of nodes (get_or nodes j d).parent)) at (hanging_all 1 (get_or nodes j d).parent ls (j - 1) (link d) (omega arith) (ap (λ (l : ℕ × Part). l.0) placed))
 
 pub push_same : {X : Type 0} (a b : List X) (x y : X) → a ++ x ∷ [] ≡ b ++ y ∷ [] → (a ≡ b) × (x ≡ y)
 push_same [] [] x y h = (refl, cc)
@@ -149,7 +161,6 @@ no_child nodes trie i p e h none there =
     let ls : List (ℕ × Part) = drop 1 (map link nodes) in
     let j : ℕ = there.0 in
     let many : length (paths_of nodes) ≡ length nodes = length-paths_of nodes trie.root in
-    let few : length ls ≡ length nodes - 1 = omega (arith, length-drop 1 (map link nodes), length-map nodes link) in
     let here : j < length nodes = omega (arith, there.1) in
     let is : path_at nodes j ≡ path_at nodes i ++ p ∷ [] = get_or_default (paths_of nodes) j [] (path_at nodes i ++ p ∷ []) there.1 ∙ there.2 in
     elim (cases_lt 0 j) [
@@ -161,11 +172,8 @@ no_child nodes trie i p e h none there =
           let up : (get_or nodes j e).parent < j = trie.parents j e low here in
           let split = push_same _ _ _ _ (sym (path_at-link nodes trie j e low here) ∙ is) in
           let same : (get_or nodes j e).parent ≡ i = one_node nodes trie _ i (omega arith) h split.0 in
-          let placed : get_or ls (j - 1) (link e) ≡ link (get_or nodes j e) =
-          get_or-drop 1 (map link nodes) (j - 1) (link e) ∙ ap (λ m. get_or (map link nodes) m (link e)) (let m : 1 + (j - 1) ≡ j = omega arith in m) ∙ get_or-map link nodes j e (link e) here in
-          let r = hanging_all 1 i ls (j - 1) (link e) (omega arith) (ap (λ (l : ℕ × Part). l.0) placed ∙ same) in
-          let number : get_or (children_of nodes i) r.place 0 ≡ j = omega (arith, r.number) in
-          none r.place r.inside (ap (λ m. (link (get_or nodes m e)).1) number ∙ split.1)
+          let r = subst (λ (m : ℕ). IsHanging j (children_of nodes m)) same (child_placed nodes j e low here) in
+          none r.place r.inside (ap (λ m. (link (get_or nodes m e)).1) r.number ∙ split.1)
     ]
 
 pub hanging-push : (n i : ℕ) (ls : List (ℕ × Part)) (l : ℕ × Part) (m : ℕ) → n + length ls ≡ m → hanging_from n i (ls ++ l ∷ []) ≡ hanging_from n i ls ++ cond (l.0 == i) (m ∷ []) []

@@ -58,9 +58,8 @@ pub record IsOpen (nodes : List Twig) (at : ℕ) (path : List Part) : Type 0 whe
 abbrev pub HasNoElement : List Twig → List Part → Type 0
 HasNoElement nodes path = (tables : List (List Part)) → AreTables nodes tables → AllBegun nodes → elements_of path tables ≡ 0
 
--- the last element of the array of tables at a path
-pub record IsLastElement (nodes : List Twig) (path : List Part) (to : ℕ) : Type 0 where
-  pub child : ℕ
+-- the array of tables at a path, and its last element
+pub record IsLastElement (nodes : List Twig) (path : List Part) (child to : ℕ) : Type 0 where
   pub inside : child < length nodes
   pub here : path_at nodes child ≡ path
   pub tables : is_tables (state_at nodes child) ≡ true

@@ -1,8 +1,8 @@
--- What a fault tells, and the bytes of texts.
-use Rattle.std.specs.Prelude.{ℕ, List, map, String}
-use Rattle.std.specs.String.{string_bytes}
-use Rattle.std.specs.Global.{Global}
+-- What a fault tells.
+use Rattle.std.specs.Prelude.{ℕ}
 use Rattle.keep_syntax.specs.declared.fault.Why.{Why}
+use Rattle.keep_rules.specs.declared.mark.Stop.{Stop}
+use Rattle.keep_rules.specs.declared.mark.Stop.TheVariants as stop
 use Rattle.keep_rules.specs.declared.ways.Fault.{Fault}
 use Rattle.keep_rules.specs.declared.ways.Fault.TheVariants.{Define, Memory}
 
@@ -11,5 +11,7 @@ abbrev pub FaultSays : Fault → (ℕ → Why → Type 0) → Type 0
 FaultSays (Define number why) P = P number why
 FaultSays Memory P = Unit {0}
 
-abbrev pub texts : List (String Global) → List (List ℕ)
-texts ts = map string_bytes ts
+-- the fault where the key of that number stops
+abbrev pub fault_of_key : Stop → ℕ → Why → Fault
+fault_of_key stop.Refused number why = Define number why
+fault_of_key stop.Memory number why = Memory

@@ -1,39 +1,57 @@
 //! What hangs at a node.
-ghost use Rattle.std.specs.Prelude.{◌≡◌, ◌<◌, ◌-◌, ◌∷◌, ◌++◌, [], None, Option, OnOk, IfSome, IfNone, length, slice_index_or, string_bytes};
-ghost use Rattle.keep_rules.specs.Children.{holds_of, named, child_ids, child_named};
-ghost use Rattle.keep_rules.specs.Trie.{nothing, by_key, by_index};
+ghost use Rattle.std.specs.Prelude.{◌≡◌, ◌<◌, ◌-◌, ◌∷◌, ◌++◌, [], None, Option, OnOk, IfOk, IfSome, IfNone, false, bytes_eq, length, option_copied, option_map, slice_get, slice_index_or, string_bytes};
+ghost use Rattle.keep_rules.specs.Children.{holding, holds_of, named, child_ids, child_named, child_numbered};
+ghost use Rattle.keep_rules.specs.Trie.{by_key, by_index};
 
 use indexmap::IndexMap;
 use std::alloc::{AllocError, Global};
+use std::mem;
+
+/// What may hang at a node.
+#[derive(Clone, Copy, Debug, PartialEq, Eq)]
+pub enum Holds {
+    /// At a scalar: nothing.
+    Nothing,
+    /// At a table: keys.
+    Keys,
+    /// At an array or an array of tables: items or elements.
+    Items,
+}
 
 /// What hangs at a node, each by its node's number, in the order of first meeting.
 #[derive(Drop)]
 pub enum Children {
     /// At a scalar: nothing.
     Nothing,
-    /// At a table: keys, decoded.
-    Keys(IndexMap<String, usize>),
+    /// At a table: no key yet.
+    NoKeys,
+    /// At a table with one key.
+    OneKey(Box<OneKey>),
+    /// At a table with more: by their keys, decoded.
+    Keys(Box<IndexMap<String, usize>>),
     /// At an array or an array of tables: items or elements.
-    Items(Vec<usize>),
+    Items(Box<Vec<usize>>),
+}
+
+/// A key, decoded, and its child: a table with no other keeps no map.
+#[derive(Drop)]
+pub struct OneKey {
+    pub key: String,
+    pub child: usize,
 }
 
 impl Children {
-    /// No keys yet.
-    pub fn no_keys(alloc: Global) -> Children
-        ensures holds { holds_of result ≡ by_key }
-        ensures bare { child_ids result ≡ [] }
-        ensures unnamed { named result ≡ [] }
+    /// None yet.
+    pub fn none(alloc: Global, holds: Holds) -> Result<Children, AllocError>
+        ensures holds { IfOk result (λ c. holds_of c ≡ holding holds) }
+        ensures bare { IfOk result (λ c. child_ids c ≡ []) }
+        ensures unnamed { IfOk result (λ c. named c ≡ []) }
     {
-        Children::Keys(IndexMap::new(alloc))
-    }
-
-    /// No items yet.
-    pub fn no_items(alloc: Global) -> Children
-        ensures holds { holds_of result ≡ by_index }
-        ensures bare { child_ids result ≡ [] }
-        ensures unnamed { named result ≡ [] }
-    {
-        Children::Items(Vec::new(alloc))
+        Ok(match holds {
+            Holds::Nothing => Children::Nothing,
+            Holds::Keys => Children::NoKeys,
+            Holds::Items => Children::Items(Box::new(alloc, Vec::new(alloc))?),
+        })
     }
 
     /// The child of that key.
@@ -41,23 +59,43 @@ impl Children {
         ensures { result ≡ child_named self.now text.now }
     {
         match self {
+            Children::OneKey(one) => (one.key.as_str() == text).then_some(one.child),
             Children::Keys(keys) => keys.get(text).copied(),
             _ => None,
         }
     }
 
-    /// Adds a child by a key that is not there yet.
-    pub fn add_key(&mut self, key: String, child: usize) -> Result<(), AllocError>
+    /// Adds a child by a key that is not there yet. When memory is refused, the children are lost.
+    pub fn add_key(&mut self, alloc: Global, key: String, child: usize) -> Result<(), AllocError>
         requires holds { holds_of self.old ≡ by_key }
         requires fresh { child_named self.old (string_bytes key) ≡ None }
         ensures holds { OnOk result (holds_of self.new ≡ by_key) }
         ensures added { OnOk result (child_ids self.new ≡ child_ids self.old ++ child ∷ []) }
         ensures named { OnOk result (named self.new ≡ named self.old ++ (string_bytes key, child) ∷ []) }
     {
+        let old = mem::replace(self, Children::NoKeys);
+        *self = old.with_key(alloc, key, child)?;
+        Ok(())
+    }
+
+    /// The children and one more, by a key that is not there yet.
+    fn with_key(self, alloc: Global, key: String, child: usize) -> Result<Children, AllocError>
+        requires holds { holds_of self ≡ by_key }
+        requires fresh { child_named self (string_bytes key) ≡ None }
+        ensures holds { IfOk result (λ c. holds_of c ≡ by_key) }
+        ensures added { IfOk result (λ c. child_ids c ≡ child_ids self ++ child ∷ []) }
+        ensures named { IfOk result (λ c. named c ≡ named self ++ (string_bytes key, child) ∷ []) }
+    {
+        let more = OneKey { key, child };
         match self {
-            Children::Keys(keys) => {
-                keys.insert(key, child)?;
-                Ok(())
+            Children::NoKeys => Ok(Children::OneKey(Box::new(alloc, more)?)),
+            Children::OneKey(one) => {
+                let keys = two_keys(alloc, Box::into_inner(one), more)?;
+                Ok(Children::Keys(Box::new(alloc, keys)?))
+            }
+            Children::Keys(mut keys) => {
+                keys.insert(more.key, more.child)?;
+                Ok(Children::Keys(keys))
             }
             _ => unreachable!(),
         }
@@ -79,13 +117,15 @@ impl Children {
         }
     }
 
-    /// How many items or elements there are; of keys none is counted.
-    pub fn item_count(&self) -> usize
-        ensures { holds_of self.now ≡ by_index → result ≡ length (child_ids self.now) }
+    /// How many there are.
+    pub fn len(&self) -> usize
+        ensures { result ≡ length (child_ids self.now) }
     {
         match self {
+            Children::Nothing | Children::NoKeys => 0,
+            Children::OneKey(_) => 1,
+            Children::Keys(keys) => keys.len(),
             Children::Items(items) => items.len(),
-            _ => 0,
         }
     }
 
@@ -99,4 +139,48 @@ impl Children {
             _ => None,
         }
     }
+
+    /// The item or element of that number.
+    pub fn item(&self, number: usize) -> Option<usize>
+        ensures { result ≡ child_numbered self.now number }
+    {
+        match self {
+            Children::Items(items) => items.get(number).copied(),
+            _ => None,
+        }
+    }
+
+    /// The child that was added after so many others.
+    pub fn at(&self, number: usize) -> Option<usize>
+        ensures { result ≡ slice_get (child_ids self.now) number }
+    {
+        match self {
+            Children::Nothing | Children::NoKeys => None,
+            Children::OneKey(one) => (number == 0).then_some(one.child),
+            Children::Keys(keys) => keys.get_index(number).map(|(_, child)| *child),
+            Children::Items(items) => items.get(number).copied(),
+        }
+    }
+
+    /// Its key, if it has one.
+    pub fn key_at(&self, number: usize) -> Option<&str>
+        ensures { option_copied result ≡ option_map (λ e. e.0) (slice_get (named self.now) number) }
+    {
+        match self {
+            Children::OneKey(one) => (number == 0).then_some(one.key.as_str()),
+            Children::Keys(keys) => keys.get_index(number).map(|(key, _)| key.as_str()),
+            _ => None,
+        }
+    }
+}
+
+/// A map of two keys, which differ.
+fn two_keys(alloc: Global, one: OneKey, more: OneKey) -> Result<IndexMap<String, usize>, AllocError>
+    requires apart { bytes_eq (string_bytes more.key) (string_bytes one.key) ≡ false }
+    ensures { IfOk result (λ keys. keys.entries ≡ (one.key, one.child) ∷ (more.key, more.child) ∷ []) }
+{
+    let mut keys = IndexMap::new(alloc);
+    keys.insert(one.key, one.child)?;
+    keys.insert(more.key, more.child)?;
+    Ok(keys)
 }

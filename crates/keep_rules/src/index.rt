@@ -1,147 +1,168 @@
-//! Making marks at the nodes.
-ghost use Rattle.std.specs.Prelude.{◌≡◌, ◌<◌, ◌∷◌, ◌++◌, [], length, IfOk, OnOk, Err, IfSome, IfNone, false};
-ghost use Rattle.keep_rules.specs.Children.{holds_of, named, child_ids};
-ghost use Rattle.keep_rules.specs.Path.{key};
-ghost use Rattle.keep_rules.specs.Standing.{IsMarked, WasRefused, IsLastElement, HasNoElement, Passes, Begins};
-ghost use Rattle.keep_rules.specs.Steps.{AddsItem};
-ghost use Rattle.keep_rules.specs.Stored.{IsStored, twigs};
-ghost use Rattle.keep_rules.specs.Tables.{Fits, IsShaped, is_tables};
-ghost use Rattle.keep_rules.specs.Trie.{by_key, by_index, children_of, holds_at, path_at, state_at};
+//! The nodes of a document, and what can be asked of them.
+ghost use Rattle.std.specs.Prelude.{◌≡◌, ℕ, ◌+◌, ◌<◌, ◌≤◌, ◌∷◌, ◌++◌, [], None, Some, IfOk, IfErr, IfSome, IsOkUnless, OnOk, if◌then◌else◌, length, nat_lt, slice_get, take};
+ghost use Rattle.keep_syntax.specs.Tree.{Document, Value};
+ghost use Rattle.keep_syntax.specs.declared.fault.ReadFault.TheVariants.{Memory};
+ghost use Rattle.keep_rules.specs.Lookup.{number_of, path_numbered, children_numbered, nth_child};
+ghost use Rattle.keep_rules.specs.Marks.{marks};
+ghost use Rattle.keep_rules.specs.Meaning.{said_in};
+ghost use Rattle.keep_rules.specs.Nodes.{node_number};
+ghost use Rattle.keep_rules.specs.Path.{key, index};
+ghost use Rattle.keep_rules.specs.ReadDocuments.{WasRead, WasReadAlone, IsIndexOf, ValueObeys, IsRefusal, IsValueRefusal};
+ghost use Rattle.keep_rules.specs.Rules.{ObeysRules};
 
-use crate::children::Children;
-use crate::nodes::{Node, add_item, add_key, child_of, set_role};
-use crate::role::{Role, names_tables, state_after};
-use std::alloc::AllocError;
+use crate::document::{read_alone, read_document};
+use crate::node::NodeInfo;
+use crate::nodes::Node;
+use crate::path::Path;
+use crate::queries::{child_by, path_to};
+use keep_syntax::{ReadFault, Syntax, ValueSyntax};
+use std::alloc::{AllocError, Global};
+use std::marker::Model;
 
-/// Why a mark was not made.
+/// A node's number in the order of first meeting, the root's being 0.
 #[derive(Clone, Copy, Debug, PartialEq, Eq)]
-pub enum Stop {
-    /// Some earlier mark does not allow it.
-    Refused,
-    /// Memory was refused.
-    Memory,
+pub struct NodeId(pub usize);
+
+/// The nodes of a document: the root table, and each table, array of tables and value below it, down to the items of
+/// arrays and the pairs of inline tables. They stand in the order in which the text, read from its start, first meets
+/// them: a key part that only leads on to further ones meets its table too. So each stands behind the one above it.
+#[derive(Drop)]
+pub struct Index {
+    nodes: Vec<Node>,
 }
 
-impl From<AllocError> for Stop {
+impl Model for Index {
     ghost use Rattle.std.specs.Prelude.{◌≡◌};
-    ghost use Rattle.keep_rules.specs.declared.index.Stop.{Stop};
-    ghost use Rattle.keep_rules.specs.declared.index.Stop.TheVariants.{Memory};
+    ghost use Rattle.keep_rules.specs.Told.{Telling};
 
-    ghost from_gives = { λ _ stop. stop ≡ Memory };
+    ghost Value = { Telling };
 
-    fn from(_: AllocError) -> Self {
-        Stop::Memory
-    }
+    ghost use Rattle.keep_rules.specs.Stored.{IsStored, telling, twigs};
+    ghost use Rattle.keep_rules.specs.Trie.{by_key, holds_at};
+
+    ghost view = { λ i. telling i.nodes.items };
+
+    ghost invariant = { λ i. IsStored i.nodes.items × (holds_at (twigs i.nodes.items) 0 ≡ by_key) };
 }
 
-/// Makes a mark of that role at a key of a table. A new node gets these children, of which there are none yet.
-pub fn mark(
-    nodes: &mut Vec<Node>,
-    parent: usize,
-    text: &str,
-    role: Role,
-    children: Children,
-) -> Result<usize, Stop>
-    requires stored { IsStored nodes.old.items }
-    requires shaped { IsShaped (twigs nodes.old.items) }
-    requires within { parent < length nodes.old.items }
-    requires keyed { holds_at (twigs nodes.old.items) parent ≡ by_key }
-    requires bare { child_ids children ≡ [] }
-    requires unnamed { named children ≡ [] }
-    requires fits { Fits role (holds_of children) }
-    ensures ok { IfOk result (λ id. IsMarked (twigs nodes.old.items) (twigs nodes.new.items) (path_at (twigs nodes.old.items) parent ++ key text.now ∷ []) role (holds_of children) id) }
-    ensures stored { OnOk result (IsStored nodes.new.items) }
-    ensures refused { result ≡ Err Stop.Refused → WasRefused (twigs nodes.old.items) (path_at (twigs nodes.old.items) parent ++ key text.now ∷ []) role }
-{
-    match child_of(nodes, parent, text) {
-        None => {
-            let own = String::from_str(*nodes.allocator(), text)?;
-            Ok(add_key(nodes, parent, own, role, children)?)
-        }
-        Some(child) => {
-            let Some(next) = state_after(nodes[child].role, role) else {
-                return Err(Stop::Refused);
-            };
-            set_role(nodes, child, next);
-            Ok(child)
-        }
+impl Index {
+    /// Reads the definitions of a document (TOML 1.0.0: Keys, Table, Inline Table, Array of Tables): the nodes that its
+    /// headers, key parts and values name, if of any two key parts that name one path the earlier lets the later stand.
+    /// `syntax` is what was read of that text. The nodes are no more than the bytes of the text and one.
+    ///
+    /// # Errors
+    ///
+    /// `Define` where the document breaks the rules: with the start of the first key part that an earlier one does not let
+    /// stand, in bytes from the start of the text, and the reason. `Memory` where memory was refused. No other.
+    pub fn build(alloc: Global, text: &str, syntax: &Syntax) -> Result<Index, ReadFault>
+        requires { (d : Document) × WasRead text.now syntax.now d }
+        ensures ok { (d : Document) → WasRead text.now syntax.now d → IfOk result (IsIndexOf d) }
+        ensures read { (d : Document) → WasRead text.now syntax.now d → ObeysRules (marks (said_in d)) → IsOkUnless result Memory }
+        ensures faults { (d : Document) → WasRead text.now syntax.now d → IfErr result (IsRefusal d) }
+        ensures few { IfOk result (λ index. length index.paths ≤ length text.now + 1) }
+    {
+        let nodes = read_document(alloc, text, syntax)?;
+        Ok(Index { nodes })
     }
-}
 
-/// The last element of the array of tables that a key names, if it names one.
-pub fn last_element(nodes: &[Node], parent: usize, text: &str) -> Option<usize>
-    requires stored { IsStored nodes.now }
-    requires shaped { IsShaped (twigs nodes.now) }
-    requires within { parent < length nodes.now }
-    requires keyed { holds_at (twigs nodes.now) parent ≡ by_key }
-    ensures some { IfSome result (IsLastElement (twigs nodes.now) (path_at (twigs nodes.now) parent ++ key text.now ∷ [])) }
-    ensures none { IfNone result (HasNoElement (twigs nodes.now) (path_at (twigs nodes.now) parent ++ key text.now ∷ [])) }
-{
-    let child = child_of(nodes, parent, text)?;
-    let node = &nodes[child];
-    if names_tables(node.role) {
-        node.children.last_item()
-    } else {
-        None
+    /// Whether the key parts in a value alone keep the definition rules (TOML 1.0.0: Keys, Inline Table). `syntax` is what
+    /// was read of that text.
+    ///
+    /// # Errors
+    ///
+    /// `Define` where the value breaks the rules: with the start of the first key part that an earlier one does not let
+    /// stand, in bytes from the start of the text, and the reason. `Memory` where memory was refused. No other.
+    pub fn check_value(alloc: Global, text: &str, syntax: &ValueSyntax) -> Result<(), ReadFault>
+        requires { (v : Value) × WasReadAlone text.now syntax.now v }
+        ensures ok { (v : Value) → WasReadAlone text.now syntax.now v → OnOk result (ValueObeys v) }
+        ensures read { (v : Value) → WasReadAlone text.now syntax.now v → ValueObeys v → IsOkUnless result Memory }
+        ensures faults { (v : Value) → WasReadAlone text.now syntax.now v → IfErr result (IsValueRefusal v) }
+    {
+        read_alone(alloc, text, syntax)
     }
-}
 
-/// Goes past a key of a header that is not the last: to the last element of an array of tables, else with a mark.
-pub fn pass(nodes: &mut Vec<Node>, parent: usize, text: &str) -> Result<usize, Stop>
-    requires stored { IsStored nodes.old.items }
-    requires shaped { IsShaped (twigs nodes.old.items) }
-    requires within { parent < length nodes.old.items }
-    requires keyed { holds_at (twigs nodes.old.items) parent ≡ by_key }
-    ensures stored { OnOk result (IsStored nodes.new.items) }
-    ensures shaped { OnOk result (IsShaped (twigs nodes.new.items)) }
-    ensures inside { IfOk result (λ to. to < length nodes.new.items) }
-    ensures keyed { IfOk result (λ to. holds_at (twigs nodes.new.items) to ≡ by_key) }
-    ensures ok { IfOk result (λ to. Passes (twigs nodes.old.items) (twigs nodes.new.items) parent to text.now) }
-    ensures refused { result ≡ Err Stop.Refused → WasRefused (twigs nodes.old.items) (path_at (twigs nodes.old.items) parent ++ key text.now ∷ []) Role.Through }
-    ensures plain { result ≡ Err Stop.Refused → HasNoElement (twigs nodes.old.items) (path_at (twigs nodes.old.items) parent ++ key text.now ∷ []) }
-{
-    match last_element(nodes, parent, text) {
-        Some(element) => Ok(element),
-        None => {
-            let children = Children::no_keys(*nodes.allocator());
-            mark(nodes, parent, text, Role::Through, children)
+    /// How many nodes there are: one at least, the root table.
+    pub fn node_count(&self) -> usize
+        ensures { result ≡ length self.now.paths }
+    {
+        self.nodes.len()
+    }
+
+    /// The node of that number; None from `node_count()` on.
+    pub fn node_at(&self, number: usize) -> Option<NodeId>
+        ensures numbered { number_of result ≡ (if nat_lt number (length self.now.paths) then Some number else None) }
+        ensures within { IfSome result (λ id. id.0 < length self.now.paths) }
+    {
+        if number < self.nodes.len() {
+            Some(NodeId(number))
+        } else {
+            None
         }
     }
-}
 
-/// Begins an element of the array of tables that a key names.
-pub fn begin(nodes: &mut Vec<Node>, parent: usize, text: &str) -> Result<usize, Stop>
-    requires stored { IsStored nodes.old.items }
-    requires shaped { IsShaped (twigs nodes.old.items) }
-    requires within { parent < length nodes.old.items }
-    requires keyed { holds_at (twigs nodes.old.items) parent ≡ by_key }
-    ensures stored { OnOk result (IsStored nodes.new.items) }
-    ensures ok { IfOk result (λ to. Begins (twigs nodes.old.items) (twigs nodes.new.items) parent to text.now) }
-    ensures refused { result ≡ Err Stop.Refused → WasRefused (twigs nodes.old.items) (path_at (twigs nodes.old.items) parent ++ key text.now ∷ []) Role.Element }
-{
-    let items = Children::no_items(*nodes.allocator());
-    let id = mark(nodes, parent, text, Role::Element, items)?;
-    let number = nodes[id].children.item_count();
-    let keys = Children::no_keys(*nodes.allocator());
-    Ok(add_item(nodes, id, number, keys)?)
-}
+    /// The path of the node: its keys, decoded, and the numbers of items and elements. The only error is want of memory.
+    pub fn path_of(&self, alloc: Global, id: NodeId) -> Result<Path, AllocError>
+        requires { id.0 < length self.now.paths }
+        ensures { IfOk result (λ path. path ≡ path_numbered self.now id.0) }
+    {
+        path_to(alloc, &self.nodes, id.0)
+    }
 
-/// Adds an item to an array, which gets these children, of which there are none yet.
-pub fn give_item(
-    nodes: &mut Vec<Node>,
-    array: usize,
-    children: Children,
-) -> Result<usize, AllocError>
-    requires stored { IsStored nodes.old.items }
-    requires shaped { IsShaped (twigs nodes.old.items) }
-    requires within { array < length nodes.old.items }
-    requires listed { holds_at (twigs nodes.old.items) array ≡ by_index }
-    requires plain { is_tables (state_at (twigs nodes.old.items) array) ≡ false }
-    requires bare { child_ids children ≡ [] }
-    requires unnamed { named children ≡ [] }
-    ensures ok { IfOk result (λ to. AddsItem (twigs nodes.old.items) (twigs nodes.new.items) array to (holds_of children)) }
-    ensures stored { OnOk result (IsStored nodes.new.items) }
-{
-    let number = nodes[array].children.item_count();
-    add_item(nodes, array, number, children)
+    /// The node of that path; None where the document has none there. It takes no memory, and one look-up for each step.
+    pub fn find(&self, path: &Path) -> Option<NodeId>
+        ensures found { number_of result ≡ node_number self.now.paths path.now }
+        ensures within { IfSome result (λ id. id.0 < length self.now.paths) }
+    {
+        self.find_first(path, path.len())
+    }
+
+    /// The node to which the first `n` steps of the path lead, or all where it has fewer; None where the document has none
+    /// there.
+    pub fn find_first(&self, path: &Path, n: usize) -> Option<NodeId>
+        ensures found { number_of result ≡ node_number self.now.paths (take n path.now) }
+        ensures within { IfSome result (λ id. id.0 < length self.now.paths) }
+    {
+        let mut id = 0;
+        for number in 0..n.min(path.len()) {
+            id = child_by(&self.nodes, id, path.step(number)?)?;
+        }
+        Some(NodeId(id))
+    }
+
+    /// The node of a table's key, decoded; None where the table has no such key, or where the node is no table.
+    pub fn child(&self, id: NodeId, text: &str) -> Option<NodeId>
+        requires { id.0 < length self.now.paths }
+        ensures found { number_of result ≡ node_number self.now.paths (path_numbered self.now id.0 ++ key text.now ∷ []) }
+        ensures within { IfSome result (λ id. id.0 < length self.now.paths) }
+    {
+        self.nodes[id.0].children.child(text).map(NodeId)
+    }
+
+    /// How many nodes stand one step below: a table's keys, an array's items or the elements of an array of tables; 0
+    /// where another value stands.
+    pub fn child_count(&self, id: NodeId) -> usize
+        requires { id.0 < length self.now.paths }
+        ensures { result ≡ length (children_numbered self.now id.0) }
+    {
+        self.nodes[id.0].children.len()
+    }
+
+    /// The node one step below that is met after `n` others there; None from `child_count(id)` on. In an array or an
+    /// array of tables it is the item or element of index `n`.
+    pub fn child_at(&self, id: NodeId, n: usize) -> Option<NodeId>
+        requires { id.0 < length self.now.paths }
+        ensures met { number_of result ≡ nth_child self.now id.0 n }
+        ensures indexed { (k : ℕ) → node_number self.now.paths (path_numbered self.now id.0 ++ index n ∷ []) ≡ Some k → number_of result ≡ Some k }
+        ensures within { IfSome result (λ child. child.0 < length self.now.paths) }
+    {
+        self.nodes[id.0].children.at(n).map(NodeId)
+    }
+
+    /// What stands at the node, and where it comes from.
+    pub fn node(&self, id: NodeId) -> NodeInfo
+        requires { id.0 < length self.now.paths }
+        ensures { slice_get self.now.infos id.0 ≡ Some result }
+    {
+        self.nodes[id.0].told.info()
+    }
 }

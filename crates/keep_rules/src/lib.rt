@@ -4,19 +4,28 @@
 
 mod build;
 mod children;
+mod document;
 mod fault;
 mod index;
 mod index_text;
+mod inside;
 mod key_text;
+mod keys;
+mod kinds;
+mod mark;
 mod node;
 mod nodes;
 mod path;
+mod queries;
 mod reading;
 mod role;
+mod statement;
 mod step;
+mod told;
 mod ways;
 
 pub use fault::PathFault;
+pub use index::{Index, NodeId};
 pub use keep_syntax::Why;
 pub use node::{Kind, NodeInfo, Place};
 pub use path::Path;

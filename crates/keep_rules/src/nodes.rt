@@ -1,24 +1,25 @@
 //! The nodes, in the order in which they are first met.
-ghost use Rattle.std.specs.Prelude.{◌≡◌, ◌<◌, ◌∷◌, ◌++◌, [], length, None, Some, IfNone, IfSome, IfOk, OnOk, Contains, string_bytes};
-ghost use Rattle.keep_rules.specs.Children.{holds_of, named, child_ids};
+ghost use Rattle.std.specs.Prelude.{◌≡◌, ◌<◌, ◌∷◌, ◌++◌, [], length, None, Some, IfNone, IfSome, IfOk, OnOk, Contains, slice_set};
+ghost use Rattle.keep_rules.specs.Children.{holding};
 ghost use Rattle.keep_rules.specs.Growth.{Grows, Restates};
 ghost use Rattle.keep_rules.specs.Path.{key, index};
-ghost use Rattle.keep_rules.specs.Stored.{IsStored, twigs};
+ghost use Rattle.keep_rules.specs.Stored.{IsStored, twigs, infos_of, info_at};
+ghost use Rattle.keep_rules.specs.Told.{again, info_of};
 ghost use Rattle.keep_rules.specs.Trie.{by_key, by_index, children_of, holds_at, paths_of, path_at};
 
-use crate::children::Children;
+use crate::children::{Children, Holds};
 use crate::role::Role;
-use crate::step::Step;
+use crate::told::Told;
 use std::alloc::AllocError;
 
-/// A node: its own step, where it hangs, and what hangs at it. The root stands first, and its step is never read.
+/// A node: where it hangs, what hangs at it, and what is told of it. The root stands first, and hangs nowhere.
 #[derive(Drop)]
 pub struct Node {
-    pub step: Step,
     pub parent: usize,
-    /// What stands for the roles of the marks here, if there are any.
-    pub role: Option<Role>,
+    /// Its number among the children of its parent: its step is the key that the parent has there, or that number.
+    pub number: usize,
     pub children: Children,
+    pub told: Told,
 }
 
 /// The child of a table by a key.
@@ -37,69 +38,93 @@ pub fn child_of(nodes: &[Node], parent: usize, text: &str) -> Option<usize>
 pub fn add_key(
     nodes: &mut Vec<Node>,
     parent: usize,
-    name: String,
+    text: &str,
     role: Role,
-    children: Children,
+    told: Told,
+    holds: Holds,
 ) -> Result<usize, AllocError>
     requires stored { IsStored nodes.old.items }
     requires within { parent < length nodes.old.items }
     requires keyed { holds_at (twigs nodes.old.items) parent ≡ by_key }
-    requires bare { child_ids children ≡ [] }
-    requires unnamed { named children ≡ [] }
-    requires fresh { Contains (paths_of (twigs nodes.old.items)) (path_at (twigs nodes.old.items) parent ++ key (string_bytes name) ∷ []) → ⊥ }
-    ensures grows { OnOk result (Grows (twigs nodes.old.items) (twigs nodes.new.items) parent (path_at (twigs nodes.old.items) parent ++ key (string_bytes name) ∷ []) (Some role) (holds_of children)) }
+    requires fresh { Contains (paths_of (twigs nodes.old.items)) (path_at (twigs nodes.old.items) parent ++ key text.now ∷ []) → ⊥ }
+    ensures grows { OnOk result (Grows (twigs nodes.old.items) (twigs nodes.new.items) parent (path_at (twigs nodes.old.items) parent ++ key text.now ∷ []) (Some role) (holding holds)) }
     ensures stored { OnOk result (IsStored nodes.new.items) }
+    ensures infos { OnOk result (infos_of nodes.new.items ≡ infos_of nodes.old.items ++ info_of told ∷ []) }
     ensures last { IfOk result (λ id. id ≡ length nodes.old.items) }
 {
+    let alloc = *nodes.allocator();
     let id = nodes.len();
-    let own = name.clone()?;
+    let children = Children::none(alloc, holds)?;
+    let name = String::from_str(alloc, text)?;
     let above = &mut nodes[parent];
-    above.children.add_key(name, id)?;
+    let number = above.children.len();
+    above.children.add_key(alloc, name, id)?;
     nodes.push(Node {
-        step: Step::Key(own),
         parent,
-        role: Some(role),
+        number,
         children,
+        told: Told {
+            role: Some(role),
+            ..told
+        },
     })?;
     Ok(id)
 }
 
-/// Hangs a new item at an array, or a new element at an array of tables.
+/// Hangs a new item at an array, or a new element at an array of tables, behind those that are there.
 pub fn add_item(
     nodes: &mut Vec<Node>,
     parent: usize,
-    number: usize,
-    children: Children,
+    told: Told,
+    holds: Holds,
 ) -> Result<usize, AllocError>
     requires stored { IsStored nodes.old.items }
     requires within { parent < length nodes.old.items }
     requires listed { holds_at (twigs nodes.old.items) parent ≡ by_index }
-    requires bare { child_ids children ≡ [] }
-    requires unnamed { named children ≡ [] }
-    requires fresh { Contains (paths_of (twigs nodes.old.items)) (path_at (twigs nodes.old.items) parent ++ index number ∷ []) → ⊥ }
-    ensures grows { OnOk result (Grows (twigs nodes.old.items) (twigs nodes.new.items) parent (path_at (twigs nodes.old.items) parent ++ index number ∷ []) None (holds_of children)) }
+    requires fresh { Contains (paths_of (twigs nodes.old.items)) (path_at (twigs nodes.old.items) parent ++ index (length (children_of (twigs nodes.old.items) parent)) ∷ []) → ⊥ }
+    ensures grows { OnOk result (Grows (twigs nodes.old.items) (twigs nodes.new.items) parent (path_at (twigs nodes.old.items) parent ++ index (length (children_of (twigs nodes.old.items) parent)) ∷ []) None (holding holds)) }
     ensures stored { OnOk result (IsStored nodes.new.items) }
+    ensures infos { OnOk result (infos_of nodes.new.items ≡ infos_of nodes.old.items ++ info_of told ∷ []) }
     ensures last { IfOk result (λ id. id ≡ length nodes.old.items) }
 {
+    let alloc = *nodes.allocator();
     let id = nodes.len();
+    let children = Children::none(alloc, holds)?;
     let above = &mut nodes[parent];
+    let number = above.children.len();
     above.children.add_item(id)?;
     nodes.push(Node {
-        step: Step::Index(number),
         parent,
-        role: None,
+        number,
         children,
+        told: Told { role: None, ..told },
     })?;
     Ok(id)
 }
 
-/// Gives a node another state.
-pub fn set_role(nodes: &mut Vec<Node>, id: usize, role: Role)
+/// Gives a node another state, with one thing more that is said of it.
+pub fn set_role(nodes: &mut Vec<Node>, id: usize, role: Role, more: Told)
     requires stored { IsStored nodes.old.items }
     requires within { id < length nodes.old.items }
     ensures restates { Restates (twigs nodes.old.items) (twigs nodes.new.items) id role }
     ensures stored { IsStored nodes.new.items }
+    ensures infos { infos_of nodes.new.items ≡ slice_set (infos_of nodes.old.items) id (again (info_at nodes.old.items id) (info_of more)) }
 {
     let node = &mut nodes[id];
-    node.role = Some(role);
+    node.told = Told {
+        role: Some(role),
+        ..node.told.again(more)
+    };
+}
+
+/// Tells one thing more of a node, whose state stays.
+pub fn tell_more(nodes: &mut Vec<Node>, id: usize, more: Told)
+    requires stored { IsStored nodes.old.items }
+    requires within { id < length nodes.old.items }
+    ensures same { twigs nodes.new.items ≡ twigs nodes.old.items }
+    ensures stored { IsStored nodes.new.items }
+    ensures infos { infos_of nodes.new.items ≡ slice_set (infos_of nodes.old.items) id (again (info_at nodes.old.items id) (info_of more)) }
+{
+    let node = &mut nodes[id];
+    node.told = node.told.again(more);
 }

@@ -1,51 +1,43 @@
-use Rattle.std.proofs.Common.{ℕ, List, [], ◌∷◌, ◌++◌, ap, sym, ◌∙◌, subst, String, Global, Err}
-use Rattle.std.specs.Prelude.{vec_len}
-use Rattle.std.specs.String.{string_bytes}
-use Rattle.std.proofs.lemmas.List.{length-map}
+use Rattle.std.proofs.Common.{◌≡◌, ℕ, ◌-◌, [], ◌∷◌, ◌++◌, ap, sym, ◌∙◌, subst, Err}
+use Rattle.std.proofs.lemmas.Result.{err_from_is_err_and}
 use Rattle.keep_syntax.specs.declared.fault.Why.{Why}
-use Rattle.keep_rules.specs.declared.role.Role.TheVariants.{Define}
-use Rattle.keep_syntax.specs.declared.fault.Why.TheVariants.{DefinedTwice}
-use Rattle.keep_rules.specs.Children.{holds_of}
-use Rattle.keep_rules.specs.Path.{Part, key}
-use Rattle.keep_rules.specs.Marks.{Mention}
-use Rattle.keep_rules.specs.Trie.{Holding, path_at}
-use Rattle.keep_rules.specs.Standing.{IsWorld, IsMarked, FaultIn, WasRefused}
-use Rattle.keep_rules.specs.Ways.{header_said}
-use Rattle.keep_rules.specs.Steps.{Walks}
-use Rattle.keep_rules.specs.Stops.{FaultSays, texts}
-use Rattle.keep_rules.specs.Stored.{twigs}
-use Rattle.keep_rules.specs.Statements.{header_of}
+use Rattle.keep_rules.specs.declared.node.NodeInfo.{NodeInfo}
+use Rattle.keep_rules.specs.Keys.{last_text}
+use Rattle.keep_rules.specs.Path.{key}
 use Rattle.keep_rules.specs.Reads.{FaultsIn}
-use Rattle.keep_rules.proofs.StopLemmas.{header_faults, header_way_faults}
-use Rattle.keep_rules.proofs.ReadLemmas.{header_reads}
-use Rattle.keep_rules.proofs.BuildLemmas.{says_fault, says_weaker}
+use Rattle.keep_rules.specs.Statements.{header_of}
+use Rattle.keep_rules.specs.Stored.{twigs}
+use Rattle.keep_rules.specs.Tells.{TellsOne}
+use Rattle.keep_rules.specs.Trie.{path_at}
+use Rattle.keep_rules.proofs.BuildLemmas.{says_fault, header_way_stops, header_read, header_stops, header_all_told}
+use Rattle.keep_rules.proofs.TellWayLemmas.{define_told}
 use Rattle.keep_rules.proofs.build.header.Goals as goal
 
-pub returns-in-Err-clause-define : goal.returns-in-Err-clause-define
-returns-in-Err-clause-define c =
-    let old = c.args.nodes.now.items in
-    says_weaker c.in-Err.fault (λ (number : ℕ) (why : Why). (ms : List Mention) (ts : List (List Part)) → IsWorld (twigs old) ms ts → FaultIn ms (header_said ts [] (texts c.args.keys.now.way.items)) number why) _
-    (λ number why faults. header_way_faults (twigs old) (texts c.args.keys.now.way.items) (string_bytes c.args.keys.now.last) number why faults)
-    (subst (λ (w : List (String Global)). FaultSays c.in-Err.fault (λ number why. (ms : List Mention) (ts : List (List Part)) → IsWorld (twigs old) ms ts → FaultIn ms (header_said ts [] (texts w)) number why)) c.as_slice.ensures.value c.in-Err.ensures.define)
+pub returns-in_err-parent-clause-define : goal.returns-in_err-parent-clause-define
+returns-in_err-parent-clause-define c =
+    let p = err_from_is_err_and c.from_residual.result c.from_residual.ensures.1 in
+    rw (p.1, p.2) (header_way_stops c.args.keys c.requires.keys (twigs c.args.nodes.now.items) _ c.in_err-parent.ensures.define)
 
-pub returns-in-Ok-mark-clause-ok : goal.returns-in-Ok-mark-clause-ok
-returns-in-Ok-mark-clause-ok c =
+pub returns-in-Ok-clause-ok : goal.returns-in-Ok-clause-ok
+returns-in-Ok-clause-ok c =
+    let is : c.as_str.result.now ≡ last_text c.args.keys = c.as_str.ensures ∙ c.in_ok-name.ensures.text in
+    header_read c.args.keys c.requires.keys c.as_str.result.now is (twigs c.args.nodes.now.items) (twigs c.walk.new.nodes.items) (twigs c.mark.new.nodes.items) c.in_ok-parent.parent c.in-Ok.to c.in_ok-parent.ensures.ok c.in-Ok.ensures.ok
+
+pub returns-in-Ok-clause-told : goal.returns-in-Ok-clause-told
+returns-in-Ok-clause-told c =
     let old = c.args.nodes.now.items in
     let mid = c.walk.new.nodes.items in
     let new = c.mark.new.nodes.items in
-    header_reads (twigs old) (twigs mid) (twigs new) c.in-Ok.parent c.in-Ok-mark.to (texts c.args.keys.now.way.items) (string_bytes c.args.keys.now.last)
-    (subst (λ (w : List (String Global)). Walks (twigs old) (twigs mid) c.in-Ok.parent (texts w)) c.as_slice.ensures.value c.in-Ok.ensures.ok)
-    (subst (λ (h : Holding). IsMarked (twigs mid) (twigs new) (path_at (twigs mid) c.in-Ok.parent ++ key (string_bytes c.args.keys.now.last) ∷ []) Define h c.in-Ok-mark.to) c.no_keys-children.ensures.holds
-    (subst (λ (b : List ℕ). IsMarked (twigs mid) (twigs new) (path_at (twigs mid) c.in-Ok.parent ++ key b ∷ []) Define (holds_of c.no_keys-children.result) c.in-Ok-mark.to) c.as_str.ensures.value c.in-Ok-mark.ensures.ok))
+    let text = c.as_str.result.now in
+    let p = path_at (twigs mid) c.in_ok-parent.parent ++ key text ∷ [] in
+    let is : text ≡ last_text c.args.keys = c.as_str.ensures ∙ c.in_ok-name.ensures.text in
+    header_all_told c.args.keys c.requires.keys text is old mid new c.in_ok-parent.parent c.args.statement c.in_ok-name.name.span c.in_ok-name.ensures.span c.in_ok-parent.ensures.ok c.in_ok-parent.ensures.told
+    (define_told mid new p c.in_ok-name.name.span c.args.statement (subst (λ (i : NodeInfo). TellsOne mid new p i) c.named-told.ensures c.in-Ok.ensures.told))
 
-pub returns-in-Err-mark-clause-define : goal.returns-in-Err-mark-clause-define
-returns-in-Err-mark-clause-define c =
-    let old = c.args.nodes.now.items in
-    let mid = c.walk.new.nodes.items in
-    let way = texts c.args.keys.now.way.items in
-    says_fault c.in-Err-mark.stop c.args.keys.now c.why.result c.fault_of.result _ c.fault_of.ensures (λ is.
-    subst (λ (w : Why). (body : ℕ) → FaultsIn (twigs old) body (header_of c.args.keys.now) (vec_len c.args.keys.now.way) w) (sym c.why.ensures)
-    (subst (λ (n : ℕ). (body : ℕ) → FaultsIn (twigs old) body (header_of c.args.keys.now) n DefinedTwice) (length-map c.args.keys.now.way.items string_bytes ∙ sym c.args.keys.now.way.ok.0)
-    (header_faults (twigs old) (twigs mid) c.in-Ok.parent way (string_bytes c.args.keys.now.last)
-    (subst (λ (w : List (String Global)). Walks (twigs old) (twigs mid) c.in-Ok.parent (texts w)) c.as_slice.ensures.value c.in-Ok.ensures.ok)
-    (subst (λ (b : List ℕ). WasRefused (twigs mid) (path_at (twigs mid) c.in-Ok.parent ++ key b ∷ []) Define) c.as_str.ensures.value (c.in-Err-mark.ensures.refused (ap Err is))))))
+pub returns-clause-define : goal.returns-clause-define
+returns-clause-define c =
+    let old = twigs c.args.nodes.now.items in
+    let is : c.as_str.result.now ≡ last_text c.args.keys = c.as_str.ensures ∙ c.in_ok-name.ensures.text in
+    says_fault c.in-Err.stop (c.args.keys.count - 1) c.why.result c.fault_of.result (λ n w. (body : ℕ) → FaultsIn old body (header_of c.args.keys) n w) c.fault_of.ensures (λ stops.
+    subst (λ (w : Why). (body : ℕ) → FaultsIn old body (header_of c.args.keys) (c.args.keys.count - 1) w) (sym c.why.ensures)
+    (header_stops c.args.keys c.requires.keys c.as_str.result.now is old (twigs c.walk.new.nodes.items) c.in_ok-parent.parent c.in_ok-parent.ensures.ok (c.in-Err.ensures.refused (ap Err stops))))

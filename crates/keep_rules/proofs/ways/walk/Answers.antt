@@ -1,40 +1,56 @@
-use Rattle.std.proofs.Common.{List, [], ap, sym, subst, arith, String, Global, Err}
-use Rattle.std.proofs.lemmas.List.{take_all, length-map}
+use Rattle.std.proofs.Common.{◌≡◌, ℕ, ◌-◌, [], take, ap, sym, ◌∙◌, subst, arith, refl, Err}
+use Rattle.std.proofs.lemmas.List.{length-map}
 use Rattle.keep_syntax.specs.declared.fault.Why.{Why}
-use Rattle.keep_rules.specs.Steps.{Walks}
-use Rattle.keep_rules.specs.Stops.{texts}
-use Rattle.keep_rules.specs.Stored.{twig_of, twigs}
+use Rattle.keep_rules.specs.Keys.{parts_of, key_texts, key_text_at, way_texts}
+use Rattle.keep_rules.specs.Stored.{twig_in, twigs}
 use Rattle.keep_rules.specs.Standing.{FaultIn}
+use Rattle.keep_rules.specs.Steps.{Walks}
+use Rattle.keep_rules.specs.Tells.{HeaderTells}
 use Rattle.keep_rules.specs.Ways.{header_said}
 use Rattle.keep_rules.proofs.StepLemmas.{walks_none}
-use Rattle.keep_rules.proofs.TextLemmas.{text_walked, text_walk_fault}
+use Rattle.keep_rules.proofs.KeyLemmas.{walked_more, walk_stops, walked_told}
 use Rattle.keep_rules.proofs.ways.walk.Goals as goal
 
 pub loop-number-init : goal.loop-number-init
 loop-number-init c = record {
   stored = c.requires.stored;
   shaped = c.requires.shaped;
-  inside = omega (arith, c.requires.stored.trie.root, length-map c.args.nodes.now.items twig_of);
+  inside = omega (arith, c.requires.stored.trie.root, length-map c.args.nodes.now.items (twig_in c.args.nodes.now.items));
   keyed = c.requires.rooted;
   walked = walks_none (twigs c.args.nodes.now.items) c.requires.stored.trie.root c.requires.rooted;
+  told = λ ms tables world values d keys statements. refl;
 }
 
 pub loop-number-preserved : goal.loop-number-preserved
-loop-number-preserved c = record {
-  stored = c.in-Ok.ensures.stored;
-  shaped = c.in-Ok.ensures.shaped;
-  inside = c.in-Ok.ensures.inside;
-  keyed = c.in-Ok.ensures.keyed;
-  walked = text_walked (twigs c.args.nodes.now.items) (twigs c.loop-number.nodes.items) (twigs c.pass.new.nodes.items) c.loop-number.at c.in-Ok.to c.args.way.now c.loop-number.number c.index-way-number.result c.as_str.result.now
-      c.loop-number-test.true c.index-way-number.is c.as_str.ensures.value c.loop-number.invariant.walked c.in-Ok.ensures.ok;
-}
+loop-number-preserved c =
+    let old = c.args.nodes.now.items in
+    let mid = c.loop-number.nodes.items in
+    let new = c.pass.new.nodes.items in
+    let text = c.as_str.result.now in
+    let is : text ≡ key_text_at c.args.keys c.loop-number.number = c.as_str.ensures ∙ c.in_ok-name.ensures.text in
+    record {
+      stored = c.in-Ok.ensures.stored;
+      shaped = c.in-Ok.ensures.shaped;
+      inside = c.in-Ok.ensures.inside;
+      keyed = c.in-Ok.ensures.keyed;
+      walked = walked_more (twigs old) (twigs mid) (twigs new) c.loop-number.at c.in-Ok.to c.args.keys c.requires.keys c.loop-number.number text (omega arith) is c.loop-number.invariant.walked c.in-Ok.ensures.ok;
+      told = walked_told old mid new c.args.keys c.requires.keys c.loop-number.number text c.in_ok-name.name.span c.loop-number.at c.args.statement (omega arith) is c.in_ok-name.ensures.span c.loop-number.invariant.walked
+          c.loop-number.invariant.told c.in-Ok.ensures.told;
+    }
 
 pub returns-in-Err-Refused-clause-define : goal.returns-in-Err-Refused-clause-define
 returns-in-Err-Refused-clause-define c = λ ms tables world.
-    subst (λ (w : Why). FaultIn ms (header_said tables [] (texts c.args.way.now)) c.loop-number.number w) (sym c.why.ensures)
-    (text_walk_fault (twigs c.args.nodes.now.items) (twigs c.loop-number.nodes.items) c.loop-number.at c.args.way.now c.loop-number.number c.index-way-number.result c.as_str.result.now
-    c.loop-number-test.true c.index-way-number.is c.as_str.ensures.value c.loop-number.invariant.walked (c.in-Err-Refused.ensures.refused (ap Err c.in-Err-Refused.field-0-is)) (c.in-Err-Refused.ensures.plain (ap Err c.in-Err-Refused.field-0-is)) ms tables world)
+    let is : c.as_str.result.now ≡ key_text_at c.args.keys c.loop-number.number = c.as_str.ensures ∙ c.in_ok-name.ensures.text in
+    subst (λ (w : Why). FaultIn ms (header_said tables [] (way_texts c.args.keys)) c.loop-number.number w) (sym c.why.ensures)
+    (walk_stops (twigs c.args.nodes.now.items) (twigs c.loop-number.nodes.items) c.loop-number.at c.args.keys c.requires.keys c.loop-number.number c.as_str.result.now (omega arith) is c.loop-number.invariant.walked
+    (c.in-Err-Refused.ensures.refused (ap Err c.in-Err-Refused.field-0-is)) (c.in-Err-Refused.ensures.plain (ap Err c.in-Err-Refused.field-0-is)) ms tables world)
 
 pub returns-clause-ok : goal.returns-clause-ok
 returns-clause-ok c =
-    subst (λ (w : List (String Global)). Walks (twigs c.args.nodes.now.items) (twigs c.loop-number.nodes.items) c.loop-number.at (texts w)) (take_all c.loop-number.number c.args.way.now (omega arith)) c.loop-number.invariant.walked
+    let all : c.loop-number.number ≡ c.args.keys.count - 1 = omega arith in
+    subst (λ (n : ℕ). Walks (twigs c.args.nodes.now.items) (twigs c.loop-number.nodes.items) c.loop-number.at (take n (key_texts c.args.keys))) all c.loop-number.invariant.walked
+
+pub returns-clause-told : goal.returns-clause-told
+returns-clause-told c =
+    let all : c.loop-number.number ≡ c.args.keys.count - 1 = omega arith in
+    subst (λ (n : ℕ). HeaderTells c.args.nodes.now.items c.loop-number.nodes.items (parts_of c.args.keys) c.args.keys.first c.args.statement (λ tables. header_said tables [] (take n (key_texts c.args.keys)))) all c.loop-number.invariant.told

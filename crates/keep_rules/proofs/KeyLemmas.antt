@@ -1,0 +1,128 @@
+-- The texts of a key, and the ways of headers and keyvals over them.
+use Rattle.std.proofs.Common.{◌≡◌, ℕ, zero, suc, ◌+◌, ◌-◌, ◌<◌, ◌≤◌, List, [], ◌∷◌, ◌++◌, length, get_or, take, drop, refl, sym, ◌∙◌, ap, subst, arith, Some, None}
+use Rattle.std.specs.Prelude.{slice_get}
+use Rattle.std.proofs.lemmas.List.{get_or-map, get_or-take, get_or-drop, take_more, take_all, take-append-drop, drop_more, length-map, length-take, length-take-le, length-drop}
+use Rattle.std.proofs.lemmas.Option.{slice_get_within, get_or_from_slice_get}
+use Rattle.keep_syntax.specs.declared.info.Span.{Span}
+use Rattle.keep_syntax.specs.declared.info.KeyPart.{KeyPart}
+use Rattle.keep_syntax.specs.declared.fault.Why.TheVariants.{NotATable, NotByDots}
+use Rattle.keep_rules.specs.declared.keys.Keys.{Keys}
+use Rattle.keep_rules.specs.declared.role.Role.TheVariants.{Through, Dotted}
+use Rattle.keep_rules.specs.Path.{Part, key}
+use Rattle.keep_rules.specs.KeyText.{part_text}
+use Rattle.keep_rules.specs.Keys.{keys_in, AreKeys, parts_of, key_texts, key_text_at, way_texts, last_text}
+use Rattle.keep_rules.specs.declared.node.Kind.TheVariants as kind
+use Rattle.keep_rules.specs.declared.node.Place.TheVariants as place
+use Rattle.keep_rules.specs.declared.nodes.Node.{Node}
+use Rattle.keep_rules.specs.Marks.{Mention, passing_mentions}
+use Rattle.keep_rules.specs.Nodes.{key_span}
+use Rattle.keep_rules.specs.Told.{named_info}
+use Rattle.keep_rules.specs.Stored.{twigs}
+use Rattle.keep_rules.specs.Tells.{TellsOne, HeaderTells, KeyTells, WayTells}
+use Rattle.keep_rules.specs.Trie.{Twig, by_key, path_at}
+use Rattle.keep_rules.specs.Standing.{IsWorld, IsMarked, Passes, WasRefused, HasNoElement, FaultIn}
+use Rattle.keep_rules.specs.Steps.{Walks, Dots}
+use Rattle.keep_rules.specs.Ways.{header_said, dotted_way}
+use Rattle.keep_rules.proofs.StepLemmas.{walks_more, dots_more}
+use Rattle.keep_rules.proofs.StopLemmas.{walk_fault, dots_fault}
+use Rattle.keep_rules.proofs.TellWayLemmas.{walk_tells, dot_tells}
+
+-- ---- the texts
+
+pub keys_at : (bytes : List ℕ) (parts : List KeyPart) (first count number : ℕ) (p : KeyPart) → number < count → slice_get parts (first + number) ≡ Some p → part_text bytes p ≡ get_or (keys_in bytes parts first count) number []
+keys_at bytes parts first count number p low is =
+    let inside : first + number < length parts = slice_get_within parts (first + number) p is in
+    let many : number < length (take count (drop first parts)) = omega (arith, length-take count (drop first parts), length-drop first parts, inside, low) in
+    sym (
+    get_or-map (part_text bytes) (take count (drop first parts)) number p [] many
+    ∙ ap (part_text bytes) (get_or-take count (drop first parts) number p low ∙ get_or-drop first parts number p ∙ get_or_from_slice_get parts (first + number) p p is)
+    )
+
+pub length-keys_in : (bytes : List ℕ) (parts : List KeyPart) (first count : ℕ) → first + count ≤ length parts → length (keys_in bytes parts first count) ≡ count
+length-keys_in bytes parts first count h =
+    length-map (take count (drop first parts)) (part_text bytes) ∙ length-take-le count (drop first parts) (omega (arith, length-drop first parts))
+
+pub length-key_texts : (k : Keys) → AreKeys k → length (key_texts k) ≡ k.count
+length-key_texts k are = length-keys_in k.text.now (parts_of k) k.first k.count are.within
+
+-- a key is its way and its last part
+pub texts_split : (k : Keys) → AreKeys k → way_texts k ++ last_text k ∷ [] ≡ key_texts k
+texts_split k are =
+    let n : ℕ = k.count - 1 in
+    let many : length (key_texts k) ≡ k.count = length-key_texts k are in
+    sym (take_more (key_texts k) n [] (omega (arith, many, are.some))) ∙ take_all (n + 1) (key_texts k) (omega (arith, many, are.some))
+
+pub length-way_texts : (k : Keys) → AreKeys k → length (way_texts k) ≡ k.count - 1
+length-way_texts k are = length-take-le (k.count - 1) (key_texts k) (omega (arith, length-key_texts k are))
+
+-- ---- the keys on a way, one after another
+
+-- one more of them
+pub way_more : (k : Keys) → AreKeys k → (i : ℕ) (text : List ℕ) → i < k.count → text ≡ key_text_at k i → take (i + 1) (key_texts k) ≡ take i (key_texts k) ++ text ∷ []
+way_more k are i text h is = take_more (key_texts k) i [] (omega (arith, h, length-key_texts k are)) ∙ ap (λ t. take i (key_texts k) ++ t ∷ []) (sym is)
+
+pub so_many : (k : Keys) → AreKeys k → (i : ℕ) → i < k.count → length (take i (key_texts k)) ≡ i
+so_many k are i h = length-take-le i (key_texts k) (omega (arith, h, length-key_texts k are))
+
+-- the way up to one of them, that one, and those behind it
+take_less : {X : Type 0} (xs : List X) (i n : ℕ) → i ≤ n → take i (take n xs) ≡ take i xs
+take_less xs zero n h = refl
+take_less xs (suc i) zero h = absurd (omega (arith, h))
+take_less [] (suc i) (suc n) h = refl
+take_less (x ∷ xs) (suc i) (suc n) h = ap (λ t. x ∷ t) (take_less xs i n (omega (arith, h)))
+
+pub way_split : (k : Keys) → AreKeys k → (i : ℕ) (text : List ℕ) → i < k.count - 1 → text ≡ key_text_at k i → way_texts k ≡ take i (key_texts k) ++ text ∷ drop (i + 1) (way_texts k)
+way_split k are i text h is =
+    let way : List (List ℕ) = way_texts k in
+    let low : i < length way = omega (arith, h, length-way_texts k are) in
+    sym (take-append-drop i way) ∙ ap (λ r. take i way ++ r) (drop_more way i [] low)
+    ∙ ap (λ ts. ts ++ get_or way i [] ∷ drop (i + 1) way) (take_less (key_texts k) i (k.count - 1) (omega (arith, h)))
+    ∙ ap (λ t. take i (key_texts k) ++ t ∷ drop (i + 1) way) (get_or-take (k.count - 1) (key_texts k) i [] h ∙ sym is)
+
+pub walked_more : (old mid new : List Twig) (at to : ℕ) (k : Keys) → AreKeys k → (i : ℕ) (text : List ℕ) → i < k.count → text ≡ key_text_at k i
+    → Walks old mid at (take i (key_texts k)) → Passes mid new at to text → Walks old new to (take (i + 1) (key_texts k))
+walked_more old mid new at to k are i text h is walked pass =
+    subst (λ (ks : List (List ℕ)). Walks old new to ks) (sym (way_more k are i text h is)) (walks_more old mid new at to (take i (key_texts k)) text walked pass)
+
+pub walk_stops : (old mid : List Twig) (at : ℕ) (k : Keys) → AreKeys k → (i : ℕ) (text : List ℕ) → i < k.count - 1 → text ≡ key_text_at k i
+    → Walks old mid at (take i (key_texts k)) → WasRefused mid (path_at mid at ++ key text ∷ []) Through → HasNoElement mid (path_at mid at ++ key text ∷ [])
+    → (ms : List Mention) (ts : List (List Part)) → IsWorld old ms ts → FaultIn ms (header_said ts [] (way_texts k)) i NotATable
+walk_stops old mid at k are i text h is walked was plain ms ts world =
+    subst (λ (n : ℕ). FaultIn ms (header_said ts [] (way_texts k)) n NotATable) (so_many k are i (omega (arith, h)))
+    (subst (λ (ks : List (List ℕ)). FaultIn ms (header_said ts [] ks) (length (take i (key_texts k))) NotATable) (sym (way_split k are i text h is))
+    (walk_fault old mid at (take i (key_texts k)) text (drop (i + 1) (way_texts k)) walked was plain ms ts world))
+
+pub dotted_more : (old mid new : List Twig) (at by to : ℕ) (k : Keys) → AreKeys k → (i : ℕ) (text : List ℕ) → i < k.count → text ≡ key_text_at k i
+    → Dots old mid at by (take i (key_texts k)) → IsMarked mid new (path_at mid by ++ key text ∷ []) Dotted by_key to → Dots old new at to (take (i + 1) (key_texts k))
+dotted_more old mid new at by to k are i text h is gone marked =
+    subst (λ (ks : List (List ℕ)). Dots old new at to ks) (sym (way_more k are i text h is)) (dots_more old mid new at by to (take i (key_texts k)) text gone marked)
+
+pub dots_stop : (old mid : List Twig) (at by : ℕ) (k : Keys) → AreKeys k → (i : ℕ) (text : List ℕ) → i < k.count - 1 → text ≡ key_text_at k i
+    → Dots old mid at by (take i (key_texts k)) → WasRefused mid (path_at mid by ++ key text ∷ []) Dotted
+    → (ms : List Mention) (ts : List (List Part)) → IsWorld old ms ts → FaultIn ms (dotted_way (path_at old at) (way_texts k)) i NotByDots
+dots_stop old mid at by k are i text h is gone was ms ts world =
+    subst (λ (n : ℕ). FaultIn ms (dotted_way (path_at old at) (way_texts k)) n NotByDots) (so_many k are i (omega (arith, h)))
+    (subst (λ (ks : List (List ℕ)). FaultIn ms (dotted_way (path_at old at) ks) (length (take i (key_texts k))) NotByDots) (sym (way_split k are i text h is))
+    (dots_fault old mid at by (take i (key_texts k)) text (drop (i + 1) (way_texts k)) gone was ms ts world))
+
+-- ---- what is told on the way
+
+module _ (old mid new : List Node) (k : Keys) (are : AreKeys k) (i : ℕ) (text : List ℕ) (span : Span) where
+  named_there : i < k.count → key_span (parts_of k) (k.first + i) ≡ Some span → key_span (parts_of k) (k.first + length (take i (key_texts k))) ≡ Some span
+  named_there h named = subst (λ (n : ℕ). key_span (parts_of k) (k.first + n) ≡ Some span) (sym (so_many k are i h)) named
+
+  pub walked_told : (at statement : ℕ) → i < k.count → text ≡ key_text_at k i → key_span (parts_of k) (k.first + i) ≡ Some span → Walks (twigs old) (twigs mid) at (take i (key_texts k))
+      → HeaderTells old mid (parts_of k) k.first statement (λ tables. header_said tables [] (take i (key_texts k)))
+      → KeyTells mid new span statement (λ tables. passing_mentions tables (path_at (twigs mid) at ++ key text ∷ []))
+      → HeaderTells old new (parts_of k) k.first statement (λ tables. header_said tables [] (take (i + 1) (key_texts k)))
+  walked_told at statement h is named walked told last =
+      subst (λ (ks : List (List ℕ)). HeaderTells old new (parts_of k) k.first statement (λ tables. header_said tables [] ks)) (sym (way_more k are i text h is))
+      (walk_tells old mid new at (take i (key_texts k)) text (parts_of k) k.first statement span walked told (named_there h named) last)
+
+  pub dotted_told : (from at number : ℕ) → i < k.count → text ≡ key_text_at k i → key_span (parts_of k) (k.first + i) ≡ Some span → Dots (twigs old) (twigs mid) from at (take i (key_texts k))
+      → WayTells old mid (parts_of k) k.first number (dotted_way (path_at (twigs old) from) (take i (key_texts k)))
+      → TellsOne mid new (path_at (twigs mid) at ++ key text ∷ []) (named_info kind.Table None span (place.Dotted number))
+      → WayTells old new (parts_of k) k.first number (dotted_way (path_at (twigs old) from) (take (i + 1) (key_texts k)))
+  dotted_told from at number h is named gone told one =
+      subst (λ (ks : List (List ℕ)). WayTells old new (parts_of k) k.first number (dotted_way (path_at (twigs old) from) ks)) (sym (way_more k are i text h is))
+      (dot_tells old mid new from at (take i (key_texts k)) text (parts_of k) k.first number span gone told (named_there h named) one)

@@ -1,0 +1,129 @@
+-- What the nodes as they are kept answer, told by the paths and by what is told of each.
+use Rattle.std.proofs.Common.{◌≡◌, ℕ, suc, ◌+◌, ◌<◌, ◌≤◌, true, false, if◌then◌else◌, List, [], ◌∷◌, ◌++◌, length, get_or, take, drop, take-take, refl, sym, ◌∙◌, ap, arith, Option, Some, None}
+use Rattle.std.specs.Prelude.{IfSome, slice_get, nat_lt, min}
+use Rattle.std.proofs.lemmas.Bool.Decides.{Decides-ltb}
+use Rattle.std.proofs.lemmas.List.{length-map, get_or-map, take-append-drop, take_min}
+use Rattle.std.proofs.lemmas.Option.{slice_get-get_or, slice_get_within, get_or_from_slice_get, option_and_then_some}
+use Rattle.std.proofs.Math.Seq.{take-suc}
+use Rattle.keep_rules.specs.declared.index.NodeId.{NodeId}
+use Rattle.keep_rules.specs.declared.nodes.Node.{Node}
+use Rattle.keep_rules.specs.Path.{Part, index}
+use Rattle.keep_rules.specs.Nodes.{node_number}
+use Rattle.keep_rules.specs.Children.{child_ids}
+use Rattle.keep_rules.specs.Lookup.{number_of, path_numbered, children_numbered, nth_child}
+use Rattle.keep_rules.specs.Stored.{twig_in, twigs, telling, infos_of, IsStored}
+use Rattle.keep_rules.specs.Told.{Telling, info_of}
+use Rattle.keep_rules.proofs.TrieLemmas.{length-paths_of, path_at-root}
+use Rattle.keep_rules.proofs.StoredLemmas.{length_twigs}
+use Rattle.keep_rules.proofs.LookupLemmas.{number_is, number_some, none_longer, nth_is, count_is}
+use Rattle.keep_rules.proofs.ChildLemmas.{child_by, stepped, index_is_place}
+
+-- a node that was read, and what is told of all
+pub record IsNode (nodes : List Node) (t : Telling) (i : ℕ) (n : Node) : Type 0 where
+  pub stored : IsStored nodes
+  pub view : telling nodes ≡ t
+  pub inside : i < length t.paths
+  pub node : n ≡ get_or nodes i n
+
+pub count_paths : (nodes : List Node) (t : Telling) → IsStored nodes → telling nodes ≡ t → length t.paths ≡ length nodes
+count_paths nodes t stored view = ap (λ (x : Telling). length x.paths) (sym view) ∙ length-paths_of (twigs nodes) stored.trie.root ∙ length_twigs nodes
+
+low : {nodes : List Node} {t : Telling} {i : ℕ} {n : Node} → IsNode nodes t i n → i < length nodes
+low {nodes} {t} r = omega (arith, r.inside, count_paths nodes t r.stored r.view)
+
+pub child_answer : (nodes : List Node) (t : Telling) (i : ℕ) (n : Node) (p : Part) → IsNode nodes t i n → child_by n.children p ≡ node_number t.paths (path_numbered t i ++ p ∷ [])
+child_answer nodes t i n p r =
+    ap (λ (x : Node). child_by x.children p) r.node ∙ stepped nodes r.stored i n p (low r) ∙ ap (λ (x : Telling). node_number x.paths (path_numbered x i ++ p ∷ [])) r.view
+
+pub count_answer : (nodes : List Node) (t : Telling) (i : ℕ) (n : Node) → IsNode nodes t i n → length (child_ids n.children) ≡ length (children_numbered t i)
+count_answer nodes t i n r =
+    ap (λ (x : Node). length (child_ids x.children)) r.node ∙ ap length (r.stored.kids i n (low r))
+    ∙ sym (count_is (twigs nodes) r.stored.trie i (twig_in nodes n) (omega (arith, low r, length_twigs nodes))) ∙ ap (λ (x : Telling). length (children_numbered x i)) r.view
+
+pub nth_answer : (nodes : List Node) (t : Telling) (i : ℕ) (n : Node) (k : ℕ) → IsNode nodes t i n → slice_get (child_ids n.children) k ≡ nth_child t i k
+nth_answer nodes t i n k r =
+    ap (λ (x : Node). slice_get (child_ids x.children) k) r.node ∙ ap (λ ids. slice_get ids k) (r.stored.kids i n (low r))
+    ∙ sym (nth_is (twigs nodes) r.stored.trie i k (twig_in nodes n) (omega (arith, low r, length_twigs nodes))) ∙ ap (λ (x : Telling). nth_child x i k) r.view
+
+pub indexed_answer : (nodes : List Node) (t : Telling) (i : ℕ) (n : Node) (k id : ℕ) → IsNode nodes t i n → node_number t.paths (path_numbered t i ++ index k ∷ []) ≡ Some id → slice_get (child_ids n.children) k ≡ Some id
+indexed_answer nodes t i n k id r is = index_is_place n.children k id (child_answer nodes t i n (index k) r ∙ is)
+
+pub info_answer : (nodes : List Node) (t : Telling) (i : ℕ) (n : Node) → IsNode nodes t i n → slice_get t.infos i ≡ Some (info_of n.told)
+info_answer nodes t i n r =
+    ap (λ (x : Telling). slice_get x.infos i) (sym r.view) ∙ slice_get-get_or (infos_of nodes) i (info_of n.told) (omega (arith, low r, length-map nodes (λ (x : Node). info_of x.told)))
+    ∙ ap Some (get_or-map (λ (x : Node). info_of x.told) nodes i n (info_of n.told) (low r) ∙ ap (λ (x : Node). info_of x.told) (sym r.node))
+
+-- ---- a number that was found is a node's
+
+pub number_within : (t : Telling) (path : List Part) (o : Option NodeId) → number_of o ≡ node_number t.paths path → IfSome o (λ id. id.0 < length t.paths)
+number_within t path None is = tt
+number_within t path (Some id) is = (number_is t.paths path id.0 (sym is)).0
+
+pub nth_within : (t : Telling) (i n : ℕ) (o : Option NodeId) → number_of o ≡ nth_child t i n → IfSome o (λ id. id.0 < length t.paths)
+nth_within t i n None is = tt
+nth_within t i n (Some id) is = option_and_then_some (node_number t.paths) (slice_get (children_numbered t i) n) id.0 (sym is) (λ path _ found. (number_is t.paths path id.0 found).0)
+
+-- ---- the node of a number
+
+pub node_there : (n m : ℕ) → n < m → Some n ≡ (if nat_lt n m then Some n else None)
+node_there n m h = ap (λ b. if b then Some n else None) (sym ((Decides-ltb n m).1 h))
+
+pub node_past : (n m : ℕ) → m ≤ n → None ≡ (if nat_lt n m then Some n else None)
+node_past n m h = (elim (nat_lt n m) as (λ b. nat_lt n m ≡ b → None ≡ (if b then Some n else None)) [
+  | true ↦ λ is. absurd (omega (arith, (Decides-ltb n m).0 is))
+  | false ↦ λ is. refl
+]) refl
+
+-- ---- step by step
+
+-- all nodes, and what is told of them
+pub record IsSeen (nodes : List Node) (t : Telling) : Type 0 where
+  pub stored : IsStored nodes
+  pub view : telling nodes ≡ t
+
+seen_root : (nodes : List Node) (t : Telling) → IsSeen nodes t → (0 < length t.paths) × (path_numbered t 0 ≡ [])
+seen_root nodes t s = (omega (arith, count_paths nodes t s.stored s.view, s.stored.trie.root, length_twigs nodes), ap (λ (x : Telling). path_numbered x 0) (sym s.view) ∙ path_at-root (twigs nodes))
+
+seen_number : (nodes : List Node) (t : Telling) → IsSeen nodes t → (i : ℕ) → i < length t.paths → node_number t.paths (path_numbered t i) ≡ Some i
+seen_number nodes t s i h =
+    ap (λ (x : Telling). node_number x.paths (path_numbered x i)) (sym s.view) ∙ number_some (twigs nodes) s.stored.trie i (omega (arith, h, count_paths nodes t s.stored s.view, length_twigs nodes))
+
+seen_longer : (nodes : List Node) (t : Telling) → IsSeen nodes t → (path more : List Part) → node_number t.paths path ≡ None → node_number t.paths (path ++ more) ≡ None
+seen_longer nodes t s path more is =
+    ap (λ (x : Telling). node_number x.paths (path ++ more)) (sym s.view) ∙ none_longer (twigs nodes) s.stored.trie path more (ap (λ (x : Telling). node_number x.paths path) s.view ∙ is)
+
+-- behind some steps: the node to which they lead
+pub record IsAt (t : Telling) (path : List Part) (done id : ℕ) : Type 0 where
+  pub inside : id < length t.paths
+  pub led : path_numbered t id ≡ take done path
+
+pub at_root : (nodes : List Node) (t : Telling) → IsSeen nodes t → (path : List Part) → IsAt t path 0 0
+at_root nodes t s path = record { inside = (seen_root nodes t s).0; led = (seen_root nodes t s).1 }
+
+step_taken : (path : List Part) (done : ℕ) (p : Part) → slice_get path done ≡ Some p → take (done + 1) path ≡ take done path ++ p ∷ []
+step_taken path done p is =
+    ap (λ k. take k path) (let k : done + 1 ≡ suc done = omega arith in k) ∙ take-suc path done p (slice_get_within path done p is) ∙ ap (λ q. take done path ++ q ∷ []) (get_or_from_slice_get path done p p is)
+
+-- the next step leads on
+pub at_next : (t : Telling) (path : List Part) (done id next : ℕ) (p : Part) → IsAt t path done id → slice_get path done ≡ Some p
+    → Some next ≡ node_number t.paths (path_numbered t id ++ p ∷ []) → IsAt t path (done + 1) next
+at_next t path done id next p at step is =
+    let r = number_is t.paths (path_numbered t id ++ p ∷ []) next (sym is) in
+    record { inside = r.0; led = r.1 ∙ ap (λ q. q ++ p ∷ []) at.led ∙ sym (step_taken path done p step) }
+
+-- or to no node, and so do all steps
+pub at_none : (nodes : List Node) (t : Telling) → IsSeen nodes t → (path : List Part) (done id n : ℕ) (p : Part) → IsAt t path done id → slice_get path done ≡ Some p → done < n
+    → None ≡ node_number t.paths (path_numbered t id ++ p ∷ []) → None ≡ node_number t.paths (take n path)
+at_none nodes t s path done id n p at step more is =
+    let front : take n path ≡ (path_numbered t id ++ p ∷ []) ++ drop (done + 1) (take n path) =
+    sym (take-append-drop (done + 1) (take n path)) ∙ ap (λ q. q ++ drop (done + 1) (take n path)) (take-take (done + 1) n path (omega arith) ∙ step_taken path done p step ∙ ap (λ q. q ++ p ∷ []) (sym at.led)) in
+    sym (ap (node_number t.paths) front ∙ seen_longer nodes t s (path_numbered t id ++ p ∷ []) (drop (done + 1) (take n path)) (sym is))
+
+-- no step is missing
+pub step_there : (path : List Part) (done : ℕ) → done < length path → slice_get path done ≡ None → ⊥
+step_there path done h is = let there = slice_get-get_or path done (index 0) h in absurd cc
+
+-- all steps are done
+pub at_end : (nodes : List Node) (t : Telling) → IsSeen nodes t → (path : List Part) (done n id : ℕ) → IsAt t path done id → done ≡ min n (length path) → Some id ≡ node_number t.paths (take n path)
+at_end nodes t s path done n id at is =
+    sym (seen_number nodes t s id at.inside) ∙ ap (node_number t.paths) (at.led ∙ ap (λ k. take k path) is ∙ take_min n path)

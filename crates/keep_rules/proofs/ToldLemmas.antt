@@ -1,0 +1,66 @@
+-- Telling mention after mention: part by part, and what one mention tells.
+use Rattle.std.proofs.Common.{◌≡◌, List, [], ◌∷◌, ◌++◌, refl, Some, None}
+use Rattle.keep_syntax.specs.declared.info.Span.{Span}
+use Rattle.keep_syntax.specs.declared.info.KeyPart.{KeyPart}
+use Rattle.keep_syntax.specs.declared.info.ValueInfo.{ValueInfo}
+use Rattle.keep_rules.specs.declared.node.Kind.TheVariants as kind
+use Rattle.keep_rules.specs.declared.node.Place.TheVariants as place
+use Rattle.keep_rules.specs.Fact.{Fact}
+use Rattle.keep_rules.specs.Path.{Part}
+use Rattle.keep_rules.specs.Marks.{through, past, define, element, dotted, value, begun, passed, item}
+use Rattle.keep_rules.specs.Counts.{Numbered}
+use Rattle.keep_rules.specs.Nodes.{fact_kind, key_span, value_span, paths_with}
+use Rattle.keep_rules.specs.Told.{Telling, tell, tell_all, named_info, unnamed_info, passed_info, info_said, paths_behind, ValuesAreNew}
+
+-- ---- part by part
+
+pub tell_all-append : (values : List ValueInfo) (parts : List KeyPart) (t : Telling) (xs ys : List Numbered) → tell_all values parts t (xs ++ ys) ≡ tell_all values parts (tell_all values parts t xs) ys
+tell_all-append values parts t [] ys = refl
+tell_all-append values parts t (x ∷ xs) ys = tell_all-append values parts (tell t x.mention.path (info_said values parts x)) xs ys
+
+pub paths_behind-append : (paths : List (List Part)) (xs ys : List Numbered) → paths_behind paths (xs ++ ys) ≡ paths_behind (paths_behind paths xs) ys
+paths_behind-append paths [] ys = refl
+paths_behind-append paths (x ∷ xs) ys = paths_behind-append (paths_with paths x.mention.path) xs ys
+
+pub values_new-append : (paths : List (List Part)) (xs ys : List Numbered) → ValuesAreNew paths xs → ValuesAreNew (paths_behind paths xs) ys → ValuesAreNew paths (xs ++ ys)
+values_new-append paths [] ys h g = g
+values_new-append paths (x ∷ xs) ys h g = (h.0, values_new-append (paths_with paths x.mention.path) xs ys h.1 g)
+
+pub values_new-first : (paths : List (List Part)) (xs ys : List Numbered) → ValuesAreNew paths (xs ++ ys) → ValuesAreNew paths xs
+values_new-first paths [] ys h = tt
+values_new-first paths (x ∷ xs) ys h = (h.0, values_new-first (paths_with paths x.mention.path) xs ys h.1)
+
+pub values_new-rest : (paths : List (List Part)) (xs ys : List Numbered) → ValuesAreNew paths (xs ++ ys) → ValuesAreNew (paths_behind paths xs) ys
+values_new-rest paths [] ys h = h
+values_new-rest paths (x ∷ xs) ys h = values_new-rest (paths_with paths x.mention.path) xs ys h.1
+
+-- ---- what one mention tells
+
+module _ (values : List ValueInfo) (parts : List KeyPart) (n : Numbered) where
+  pub through_info : (key : Span) → n.mention.says ≡ through → key_span parts n.before.keys ≡ Some key → info_said values parts n ≡ named_info kind.Table None key (place.Through n.before.statements)
+  through_info key is named = rw (is, named)
+
+  pub past_info : (key : Span) → n.mention.says ≡ past → key_span parts n.before.keys ≡ Some key → info_said values parts n ≡ named_info kind.Table None key place.Root
+  past_info key is named = rw (is, named)
+
+  pub define_info : (key : Span) → n.mention.says ≡ define → key_span parts n.before.keys ≡ Some key → info_said values parts n ≡ named_info kind.Table None key (place.Header n.before.statements)
+  define_info key is named = rw (is, named)
+
+  pub element_info : (key : Span) → n.mention.says ≡ element → key_span parts n.before.keys ≡ Some key → info_said values parts n ≡ named_info kind.Tables None key place.Tables
+  element_info key is named = rw (is, named)
+
+  pub dotted_info : (key : Span) → n.mention.says ≡ dotted → key_span parts n.before.keys ≡ Some key → info_said values parts n ≡ named_info kind.Table None key (place.Dotted n.before.values)
+  dotted_info key is named = rw (is, named)
+
+  pub value_info : (f : Fact) (span key : Span) → n.mention.says ≡ value f → key_span parts n.before.keys ≡ Some key → value_span values n.before.values ≡ Some span
+      → info_said values parts n ≡ named_info (fact_kind f) (Some span) key (place.Value n.before.values)
+  value_info f span key is named valued = rw (is, named, valued)
+
+  pub begun_info : n.mention.says ≡ begun → info_said values parts n ≡ unnamed_info kind.Table None (place.Element n.before.statements)
+  begun_info is = rw is
+
+  pub passed_is_info : n.mention.says ≡ passed → info_said values parts n ≡ passed_info
+  passed_is_info is = rw is
+
+  pub item_info : (f : Fact) (span : Span) → n.mention.says ≡ item f → value_span values n.before.values ≡ Some span → info_said values parts n ≡ unnamed_info (fact_kind f) (Some span) (place.Value n.before.values)
+  item_info f span is valued = rw (is, valued)

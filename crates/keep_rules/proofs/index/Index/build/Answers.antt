@@ -1,0 +1,24 @@
+-- The nodes of the document, or its first fault.
+use Rattle.std.proofs.lemmas.Result.{err_from_is_err_and}
+use Rattle.keep_syntax.specs.Tree.{Document}
+use Rattle.keep_rules.specs.Marks.{marks}
+use Rattle.keep_rules.specs.Meaning.{said_in}
+use Rattle.keep_rules.specs.ReadDocuments.{WasRead}
+use Rattle.keep_rules.specs.Rules.{ObeysRules}
+use Rattle.keep_rules.specs.Stored.{telling}
+use Rattle.keep_rules.proofs.DocumentLemmas.{index_few}
+use Rattle.keep_rules.proofs.RefusalLaws.{refused_memory}
+use Rattle.keep_rules.proofs.index.Index.build.Goals as goal
+
+pub returns-in_err-nodes-clause-read : goal.returns-in_err-nodes-clause-read
+returns-in_err-nodes-clause-read c = λ (d : Document) (was : WasRead c.args.text.now c.args.syntax.now d) (obeys : ObeysRules (marks (said_in d))).
+    let p = err_from_is_err_and c.from_residual.result c.from_residual.ensures.1 in
+    rw (p.1, p.2) (refused_memory d c.in_err-nodes.field-0.0 (c.in_err-nodes.ensures.faults d was) obeys)
+
+pub returns-in_err-nodes-clause-faults : goal.returns-in_err-nodes-clause-faults
+returns-in_err-nodes-clause-faults c = λ (d : Document) (was : WasRead c.args.text.now c.args.syntax.now d).
+    let p = err_from_is_err_and c.from_residual.result c.from_residual.ensures.1 in
+    rw (p.1, p.2) (c.in_err-nodes.ensures.faults d was)
+
+pub returns-clause-few : goal.returns-clause-few
+returns-clause-few c = index_few c.args.text.now c.args.syntax.now c.requires.0 (telling c.in_ok-nodes.nodes.items) c.requires.1 (c.in_ok-nodes.ensures.ok c.requires.0 c.requires.1)

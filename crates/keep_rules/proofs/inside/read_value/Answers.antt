@@ -1,0 +1,41 @@
+-- What the callees say of one value is what it says as a turn.
+use Rattle.std.proofs.Common.{◌≤◌, ◌-◌, ◌^◌, length, refl, arith}
+use Rattle.keep_syntax.specs.Flat.{flat}
+use Rattle.keep_rules.specs.declared.keys.Keys.{Keys}
+use Rattle.keep_rules.specs.Keys.{key_texts}
+use Rattle.keep_rules.proofs.PlanLemmas.{item_took_all, some_next_keys, keyed_took_all, keyed_fault_fits, keyed_fault_says}
+use Rattle.keep_rules.proofs.inside.read_value.Goals as goal
+use Rattle.keep_rules.proofs.inside.read_value.Goals.{In-Inline}
+
+pub give_value-requires-clause-keys : goal.give_value-requires-clause-keys
+give_value-requires-clause-keys c =
+    some_next_keys c.args.text.now (flat c.args.parts.now).keys _ _ c.args.base c.args.value c.in-Inline.table c.requires.readable c.in-Inline.is c.requires.next
+
+own_keys : In-Inline → Keys
+own_keys c = record { text = c.args.text; parts = c.args.parts; first = c.args.value.first_key; count = c.args.value.keys }
+
+pub fault_from-requires : goal.fault_from-requires
+unfolding own_keys
+fault_from-requires c =
+    let many : length c.args.parts.now.keys.items ≤ 2 ^ 64 - 1 = omega (arith, c.args.parts.now.keys.ok.0, c.args.parts.now.keys.ok.1, c.args.parts.now.keys.small) in
+    keyed_fault_fits c.args.text.now (flat c.args.parts.now).keys _ c.args.ids.now c.args.base c.args.value (key_texts (own_keys (goal.at.fault_from-requires c).In-Inline)) c.in-Inline.table _ (2 ^ 64 - 1) c.in-Err.fault
+    c.in-Inline.is refl refl c.requires.next c.requires.world many c.in-Err.ensures.define
+
+pub returns-in_ok-give_item-in-Item-clause-took : goal.returns-in_ok-give_item-in-Item-clause-took
+returns-in_ok-give_item-in-Item-clause-took c =
+    item_took_all c.args.text.now (flat c.args.parts.now) c.args.base c.args.value _ _ c.args.ids.now c.args.number c.in-Item.array _ _ _ _ c.in-Item.is refl c.kind_of-kind.ensures c.holds_of_leaf-holds.ensures c.requires.listed
+    c.in_ok-give_item-in-Item.ensures.ok c.in_ok-give_item-in-Item.ensures.told
+
+pub returns-in-Ok-clause-took : goal.returns-in-Ok-clause-took
+unfolding own_keys
+returns-in-Ok-clause-took c =
+    let listed = (goal.at.returns-in-Ok-clause-took c).In-Inline in
+    let keys = some_next_keys c.args.text.now (flat c.args.parts.now).keys _ _ c.args.base c.args.value c.in-Inline.table c.requires.readable c.in-Inline.is c.requires.next in
+    keyed_took_all c.args.text.now (flat c.args.parts.now) c.args.base c.args.value _ _ c.args.ids.now (own_keys listed) c.args.number c.in-Inline.table _ _ _ _ c.in-Inline.is refl c.kind_of-kind.ensures c.holds_of_leaf-holds.ensures c.requires.listed
+    keys refl c.in-Ok.ensures.ok c.in-Ok.ensures.told
+
+pub returns-in-Err-clause-define : goal.returns-in-Err-clause-define
+unfolding own_keys
+returns-in-Err-clause-define c =
+    keyed_fault_says c.args.text.now (flat c.args.parts.now) c.args.base c.args.value c.args.nodes.now.items c.args.ids.now (key_texts (own_keys (goal.at.returns-in-Err-clause-define c).In-Inline)) c.in-Inline.table _ c.in-Err.fault c.fault_from.result
+    c.in-Inline.is refl refl c.fault_from.ensures c.in-Err.ensures.define

@@ -1,0 +1,67 @@
+-- The statements of a document in one list, as what their text says.
+use Rattle.std.specs.Prelude.{◌≡◌, ℕ, ◌+◌, ◌<◌, ◌≤◌, List, length, take, drop, slice_get, Some, None}
+use Rattle.std.specs.List.{AllZip}
+use Rattle.keep_token.specs.declared.leaf.Profile.{Profile}
+use Rattle.keep_syntax.specs.declared.info.KeyPart.{KeyPart}
+use Rattle.keep_syntax.specs.declared.info.Owner.TheVariants as owner
+use Rattle.keep_syntax.specs.declared.info.Statement.{Statement}
+use Rattle.keep_syntax.specs.declared.info.StatementKind.TheVariants.{KeyVal, Header, Element}
+use Rattle.keep_syntax.specs.declared.info.ValueInfo.{ValueInfo}
+use Rattle.keep_syntax.specs.Tree.{Name, Value}
+use Rattle.keep_syntax.specs.Grammar.{IsValue}
+use Rattle.keep_syntax.specs.Numbered.{value_count}
+use Rattle.keep_rules.specs.Counts.{Count}
+use Rattle.keep_rules.specs.FlatValues.{leaf_kind, leaf_holding, SaysTurn}
+use Rattle.keep_rules.specs.FirstKeys.{FirstKeys}
+use Rattle.keep_rules.specs.Inside.{holding_of, turns}
+use Rattle.keep_rules.specs.Keys.{keys_in}
+use Rattle.keep_rules.specs.Marks as marks
+use Rattle.keep_rules.specs.Marks.{Mention}
+use Rattle.keep_rules.specs.Meaning.{keys_of, body_fact, keyval_said}
+use Rattle.keep_rules.specs.Nodes.{fact_kind}
+
+-- what stands there, if anything does, is the value of a line's keyval
+abbrev pub LineStarts : List ValueInfo → ℕ → Type 0
+LineStarts values n = (info : ValueInfo) → slice_get values n ≡ Some info → (i : ℕ) × (info.owner ≡ owner.Line i)
+
+-- the key parts of a statement mean these keys
+pub record SaysKeys (bytes : List ℕ) (parts : List KeyPart) (st : Statement) (ks : List (List ℕ)) : Type 0 where
+  pub keys : keys_in bytes parts st.first_key st.keys ≡ ks
+  pub some : 0 < st.keys
+  pub within : st.first_key + st.keys ≤ length parts
+
+-- the values of a statement are this value and those in it, and the next is another line's
+pub record SaysValues (bytes : List ℕ) (parts : List KeyPart) (values : List ValueInfo) (v : Value) (st : Statement) : Type 0 where
+  pub first : ℕ
+  pub valued : st.value ≡ Some first
+  pub own : ValueInfo
+  pub here : slice_get values first ≡ Some own
+  pub kind : fact_kind (body_fact v.body) ≡ leaf_kind own.leaf
+  pub holds : holding_of (body_fact v.body) ≡ leaf_holding own.leaf
+  pub within : first + 1 + value_count v.inside ≤ length values
+  pub inside : AllZip (SaysTurn bytes parts first) (turns 1 2 v.inside) (take (value_count v.inside) (drop (first + 1) values))
+  pub firsts : FirstKeys (st.first_key + st.keys) (turns 1 2 v.inside) (take (value_count v.inside) (drop (first + 1) values))
+  pub behind : LineStarts values (first + 1 + value_count v.inside)
+
+-- a statement is the keyval that says this
+pub record SaysKeyvalOf (bytes : List ℕ) (parts : List KeyPart) (values : List ValueInfo) (st : Statement) (said : List Mention) : Type 0 where
+  pub profile : Profile
+  pub name : Name
+  pub value : Value
+  pub is : IsValue profile value
+  pub says : said ≡ keyval_said name value
+  pub kind : st.kind ≡ KeyVal
+  pub keys : SaysKeys bytes parts st (keys_of name.key)
+  pub valued : SaysValues bytes parts values value st
+
+-- the statement of the list says this
+abbrev pub SaysStatement : List ℕ → List KeyPart → List ValueInfo → Statement → marks.Statement → Type 0
+SaysStatement bytes parts values st (marks.header ks) = (st.kind ≡ Header) × (st.value ≡ None) × SaysKeys bytes parts st ks
+SaysStatement bytes parts values st (marks.element_header ks) = (st.kind ≡ Element) × (st.value ≡ None) × SaysKeys bytes parts st ks
+SaysStatement bytes parts values st (marks.keyval ms) = SaysKeyvalOf bytes parts values st ms
+
+-- so many statements, values and key parts stand before it, which has that number
+pub record IsCountBefore (number : ℕ) (st : Statement) (c : Count) : Type 0 where
+  pub statements : c.statements ≡ number
+  pub keys : c.keys ≡ st.first_key
+  pub values : (first : ℕ) → st.value ≡ Some first → c.values ≡ first

@@ -1,0 +1,94 @@
+-- The values of a document in one list, as what their text says one after another.
+use Rattle.std.specs.Prelude.{◌≡◌, ℕ, ◌+◌, ◌≤◌, List, [], ◌∷◌, length, ⊤}
+use Rattle.std.specs.List.{AllZip}
+use Rattle.keep_token.specs.declared.leaf.Leaf.{Leaf}
+use Rattle.keep_token.specs.declared.leaf.Leaf.TheVariants as leaf
+use Rattle.keep_syntax.specs.declared.info.KeyPart.{KeyPart}
+use Rattle.keep_syntax.specs.declared.info.Owner.{Owner}
+use Rattle.keep_syntax.specs.declared.info.Owner.TheVariants as owner
+use Rattle.keep_syntax.specs.declared.info.ValueInfo.{ValueInfo}
+use Rattle.keep_syntax.specs.Tree.{Name, Value}
+use Rattle.keep_syntax.specs.Grammar.{Place, in_scalar, in_array, in_inline}
+use Rattle.keep_rules.specs.declared.node.Kind.{Kind}
+use Rattle.keep_rules.specs.declared.node.Kind.TheVariants as kind
+use Rattle.keep_rules.specs.Fact.{Fact}
+use Rattle.keep_rules.specs.Inside.{Turn, turn_item, turn_keyed, holding_of, turn_fact, turns}
+use Rattle.keep_rules.specs.Keys.{keys_in}
+use Rattle.keep_rules.specs.Meaning.{keys_of, body_fact}
+use Rattle.keep_rules.specs.Nodes.{fact_kind}
+use Rattle.keep_rules.specs.Trie.{Holding, nothing, by_key, by_index}
+
+-- ---- what a value's leaf tells
+
+abbrev pub leaf_kind : Leaf → Kind
+leaf_kind leaf.Basic = kind.Str
+leaf_kind leaf.Literal = kind.Str
+leaf_kind leaf.MlBasic = kind.Str
+leaf_kind leaf.MlLiteral = kind.Str
+leaf_kind leaf.Integer = kind.Integer
+leaf_kind leaf.Float = kind.Float
+leaf_kind leaf.Boolean = kind.Boolean
+leaf_kind leaf.OffsetDateTime = kind.OffsetDateTime
+leaf_kind leaf.LocalDateTime = kind.LocalDateTime
+leaf_kind leaf.LocalDate = kind.LocalDate
+leaf_kind leaf.LocalTime = kind.LocalTime
+leaf_kind leaf.ArrayOpen = kind.Array
+leaf_kind leaf.InlineOpen = kind.Inline
+leaf_kind _ = kind.Table
+
+-- what may stand in it
+abbrev pub leaf_holding : Leaf → Holding
+leaf_holding leaf.ArrayOpen = by_index
+leaf_holding leaf.InlineOpen = by_key
+leaf_holding _ = nothing
+
+-- the leaf tells what this means
+pub record LeafTells (l : Leaf) (f : Fact) : Type 0 where
+  pub kind : fact_kind f ≡ leaf_kind l
+  pub holds : holding_of f ≡ leaf_holding l
+
+-- ---- the values in one value
+
+-- An item stands in its array, and what has a key in its inline table. The value of the number `base` in the document
+-- is number 1 here, since number 0 is what the whole stands in.
+abbrev pub IsOwned : List ℕ → List KeyPart → ℕ → Turn → ValueInfo → Type 0
+IsOwned bytes parts base (turn_item o f) info = (g : ℕ) × (info.owner ≡ owner.Item g) × (g + 1 ≡ base + o)
+IsOwned bytes parts base (turn_keyed o ks f) info =
+    (g : ℕ) × (info.owner ≡ owner.Inline g) × (g + 1 ≡ base + o)
+    × (keys_in bytes parts info.first_key info.keys ≡ ks) × (info.first_key + info.keys ≤ length parts)
+
+-- this value of the list is that one
+pub record SaysTurn (bytes : List ℕ) (parts : List KeyPart) (base : ℕ) (t : Turn) (info : ValueInfo) : Type 0 where
+  pub kind : fact_kind (turn_fact t) ≡ leaf_kind info.leaf
+  pub holds : holding_of (turn_fact t) ≡ leaf_holding info.leaf
+  pub owned : IsOwned bytes parts base t info
+
+-- the value of a line's keyval, with its keys
+pub record SaysKeyval (bytes : List ℕ) (parts : List KeyPart) (ks : List (List ℕ)) (f : Fact) (info : ValueInfo) : Type 0 where
+  pub kind : fact_kind f ≡ leaf_kind info.leaf
+  pub holds : holding_of f ≡ leaf_holding info.leaf
+  pub keys : keys_in bytes parts info.first_key info.keys ≡ ks
+  pub within : info.first_key + info.keys ≤ length parts
+
+-- the values of a keyval: its own, which has this number, and those inside
+abbrev pub SayKeyval : List ℕ → List KeyPart → ℕ → Name → Value → List ValueInfo → Type 0
+SayKeyval bytes parts base name v [] = ⊥
+SayKeyval bytes parts base name v (first ∷ inside) =
+    SaysKeyval bytes parts (keys_of name.key) (body_fact v.body) first × AllZip (SaysTurn bytes parts base) (turns 1 2 v.inside) inside
+
+-- the values of a value alone
+abbrev pub SayAlone : List ℕ → List KeyPart → Value → List ValueInfo → Type 0
+SayAlone bytes parts v [] = ⊥
+SayAlone bytes parts v (first ∷ inside) = LeafTells first.leaf (body_fact v.body) × AllZip (SaysTurn bytes parts 1) (turns 0 1 v.inside) inside
+
+-- the entries of this owner stand in the value of the number o
+abbrev pub OwnsEntries : Place → ℕ → ℕ → Owner → Type 0
+OwnsEntries in_scalar base o w = ⊤
+OwnsEntries in_array base o w = (g : ℕ) × (w ≡ owner.Item g) × (g + 1 ≡ base + o)
+OwnsEntries in_inline base o w = (g : ℕ) × (w ≡ owner.Inline g) × (g + 1 ≡ base + o)
+
+-- in another value, and not in a line
+abbrev pub IsInside : Owner → Type 0
+IsInside (owner.Line s) = ⊥
+IsInside (owner.Inline g) = ⊤
+IsInside (owner.Item g) = ⊤

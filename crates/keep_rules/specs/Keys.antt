@@ -1,0 +1,36 @@
+-- A key of a document: so many of its key parts from one on.
+use Rattle.std.specs.Prelude.{◌≡◌, ℕ, ◌+◌, ◌-◌, ◌<◌, ◌≤◌, List, length, map, take, drop, Some, slice_get, slice_index_or, []}
+use Rattle.keep_syntax.specs.declared.info.KeyPart.{KeyPart}
+use Rattle.keep_syntax.specs.Flat.{flat}
+use Rattle.keep_rules.specs.declared.keys.Keys.{Keys}
+use Rattle.keep_rules.specs.KeyText.{IsKeyAt, part_text}
+
+-- the decoded texts of its parts
+abbrev pub keys_in : List ℕ → List KeyPart → ℕ → ℕ → List (List ℕ)
+keys_in bytes parts first count = map (part_text bytes) (take count (drop first parts))
+
+-- such a key stands in the document
+pub record AreKeysAt (bytes : List ℕ) (parts : List KeyPart) (first count : ℕ) : Type 0 where
+  pub some : 0 < count
+  pub within : first + count ≤ length parts
+  pub each : (n : ℕ) (p : KeyPart) → first ≤ n → n < first + count → slice_get parts n ≡ Some p → IsKeyAt bytes p
+
+-- the key parts of the document that a key stands in
+abbrev pub parts_of : Keys → List KeyPart
+parts_of k = (flat k.parts.now).keys
+
+abbrev pub key_texts : Keys → List (List ℕ)
+key_texts k = keys_in k.text.now (parts_of k) k.first k.count
+
+abbrev pub key_text_at : Keys → ℕ → List ℕ
+key_text_at k number = slice_index_or (key_texts k) number []
+
+-- all parts but the last
+abbrev pub way_texts : Keys → List (List ℕ)
+way_texts k = take (k.count - 1) (key_texts k)
+
+abbrev pub AreKeys : Keys → Type 0
+AreKeys k = AreKeysAt k.text.now (parts_of k) k.first k.count
+
+abbrev pub last_text : Keys → List ℕ
+last_text k = key_text_at k (k.count - 1)

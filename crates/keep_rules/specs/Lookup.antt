@@ -1,0 +1,34 @@
+-- What is asked of the nodes: the number of a path, the path of a number, and the nodes one step below.
+use Rattle.std.specs.Prelude.{◌≡◌, ℕ, ◌<◌, List, [], ◌∷◌, length, map, Option, slice_index_or, slice_get}
+use Rattle.std.specs.Option.{option_map, option_and_then}
+use Rattle.keep_rules.specs.declared.index.NodeId.{NodeId}
+use Rattle.keep_rules.specs.declared.nodes.Node.{Node}
+use Rattle.keep_rules.specs.Path.{Part}
+use Rattle.keep_rules.specs.Nodes.{node_number, children}
+use Rattle.keep_rules.specs.Told.{Telling}
+
+-- the number of the node that was found
+abbrev pub number_of : Option NodeId → Option ℕ
+number_of found = option_map (λ id. id.0) found
+
+-- the path of the node of that number
+abbrev pub path_numbered : Telling → ℕ → List Part
+path_numbered t i = slice_index_or t.paths i []
+
+-- the paths of the nodes one step below it, in the order of first meeting
+abbrev pub children_numbered : Telling → ℕ → List (List Part)
+children_numbered t i = children (path_numbered t i) t.paths
+
+-- the number of the child that stands at n among them
+abbrev pub nth_child : Telling → ℕ → ℕ → Option ℕ
+nth_child t i n = option_and_then (node_number t.paths) (slice_get (children_numbered t i) n)
+
+-- ---- the way up
+
+abbrev pub parent_at : List Node → ℕ → ℕ
+parent_at nodes i = slice_index_or (map (λ n. n.parent) nodes) i 0
+
+-- a node, its parent and so on, up to below another
+abbrev pub IsWay : List Node → ℕ → List ℕ → ℕ → Type 0
+IsWay nodes id [] top = id ≡ top
+IsWay nodes id (n ∷ way) top = (id ≡ n) × (0 < n) × (n < length nodes) × IsWay nodes (parent_at nodes n) way top

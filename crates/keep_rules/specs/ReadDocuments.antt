@@ -1,0 +1,57 @@
+-- What the index of a document tells, and where a document breaks the definition rules.
+use Rattle.std.specs.Prelude.{◌≡◌, ℕ, List, map, Some, slice_get}
+use Rattle.keep_token.specs.declared.leaf.Profile.{Profile}
+use Rattle.keep_syntax.specs.declared.alone.ValueSyntax.{ValueSyntax}
+use Rattle.keep_syntax.specs.declared.fault.ReadFault.{ReadFault}
+use Rattle.keep_syntax.specs.declared.fault.ReadFault.TheVariants as faults
+use Rattle.keep_syntax.specs.declared.info.KeyPart.{KeyPart}
+use Rattle.keep_syntax.specs.declared.syntax.Syntax.{Syntax}
+use Rattle.keep_syntax.specs.Contract.{IsSyntaxOf, IsValueSyntaxOf}
+use Rattle.keep_syntax.specs.Grammar.{Reads, ReadsValue}
+use Rattle.keep_syntax.specs.Tree.{Value, Document}
+use Rattle.keep_rules.specs.declared.ways.Fault.{Fault}
+use Rattle.keep_rules.specs.declared.ways.Fault.TheVariants.{Define, Memory}
+use Rattle.keep_rules.specs.Faults.{IsFaultIn, IsFaultInValue}
+use Rattle.keep_rules.specs.Marks.{marks}
+use Rattle.keep_rules.specs.Meaning.{said_in, value_said}
+use Rattle.keep_rules.specs.Nodes.{node_path, nodes_in, infos_in}
+use Rattle.keep_rules.specs.Rules.{ObeysRules}
+use Rattle.keep_rules.specs.Told.{Telling}
+
+-- The text was read as this document, in some profile and to some depth, and the syntax is what is known of it.
+pub record WasRead (bytes : List ℕ) (s : Syntax) (d : Document) : Type 0 where
+  pub profile : Profile
+  pub limit : ℕ
+  pub reads : Reads profile limit bytes d
+  pub is : IsSyntaxOf s d
+
+-- the same of one value
+pub record WasReadAlone (bytes : List ℕ) (s : ValueSyntax) (v : Value) : Type 0 where
+  pub profile : Profile
+  pub limit : ℕ
+  pub reads : ReadsValue profile limit bytes v
+  pub is : IsValueSyntaxOf s v
+
+-- The document obeys the rules, and this is told of its nodes.
+pub record IsIndexOf (d : Document) (t : Telling) : Type 0 where
+  pub obeys : ObeysRules (marks (said_in d))
+  pub told : t ≡ record { paths = map node_path (nodes_in d); infos = infos_in d }
+
+abbrev pub ValueObeys : Value → Type 0
+ValueObeys v = ObeysRules (marks (value_said v))
+
+-- A document is refused at its first faulty mark alone, or for want of memory.
+abbrev pub IsRefusal : Document → ReadFault → Type 0
+IsRefusal d (faults.Define at why) = IsFaultIn d at why
+IsRefusal d faults.Memory = Unit {0}
+IsRefusal d _ = ⊥
+
+abbrev pub IsValueRefusal : Value → ReadFault → Type 0
+IsValueRefusal v (faults.Define at why) = IsFaultInValue v at why
+IsValueRefusal v faults.Memory = Unit {0}
+IsValueRefusal v _ = ⊥
+
+-- the fault, with the start of its key part
+abbrev pub IsFaultAt : List KeyPart → Fault → ReadFault → Type 0
+IsFaultAt parts (Define number why) fault = (part : KeyPart) × (slice_get parts number ≡ Some part) × (fault ≡ faults.Define part.span.start why)
+IsFaultAt parts Memory fault = fault ≡ faults.Memory

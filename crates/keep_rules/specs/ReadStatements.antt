@@ -1,0 +1,44 @@
+-- What reading a statement of the flat list does to the nodes, and to what is told of them.
+use Rattle.std.specs.Prelude.{ℕ, List}
+use Rattle.keep_syntax.specs.declared.fault.Why.{Why}
+use Rattle.keep_syntax.specs.declared.info.Statement.{Statement}
+use Rattle.keep_syntax.specs.declared.info.StatementKind.{StatementKind}
+use Rattle.keep_syntax.specs.declared.info.StatementKind.TheVariants.{Element}
+use Rattle.keep_syntax.specs.Flat.{Flat}
+use Rattle.keep_rules.specs.declared.keys.Keys.{Keys}
+use Rattle.keep_rules.specs.declared.nodes.Node.{Node}
+use Rattle.keep_rules.specs.Marks as marks
+use Rattle.keep_rules.specs.Marks.{Mention, Reading, statement_mentions}
+use Rattle.keep_rules.specs.Counts.{Count}
+use Rattle.keep_rules.specs.Trie.{Twig}
+use Rattle.keep_rules.specs.Stored.{twigs}
+use Rattle.keep_rules.specs.Reads.{IsReading, Reads}
+use Rattle.keep_rules.specs.Tells.{TellsTurn}
+use Rattle.keep_rules.specs.Statements.{header_of, element_of}
+use Rattle.keep_rules.specs.FlatStatements.{SaysStatement, IsCountBefore}
+use Rattle.keep_rules.specs.Plans.{FaultFrom}
+
+-- the header with these keys
+abbrev pub head_of : StatementKind → Keys → marks.Statement
+head_of Element k = element_of k
+head_of _ k = header_of k
+
+-- The nodes stand for something that was said, with the body at that node.
+abbrev pub HasReading : List Twig → ℕ → Type 0
+HasReading nodes body = (ms : List Mention) × (r : Reading) × IsReading nodes body ms r
+
+-- the statement was read, and told
+pub record IsRead (f : Flat) (number : ℕ) (st : Statement) (old : List Node) (body : ℕ) (new : List Node) (to : ℕ) (s : marks.Statement) : Type 0 where
+  pub reads : Reads (twigs old) body (twigs new) to s
+  pub tells : (ms : List Mention) (r : Reading) → IsReading (twigs old) body ms r → (c : Count) → IsCountBefore number st c → TellsTurn f.values f.keys old new c (statement_mentions r s)
+
+-- it breaks the rules there
+abbrev pub Breaks : Statement → List Node → ℕ → marks.Statement → ℕ → Why → Type 0
+Breaks st old body s number why = (ms : List Mention) (r : Reading) → IsReading (twigs old) body ms r → FaultFrom ms (statement_mentions r s) st.first_key number why
+
+-- as every statement that it says
+abbrev pub IsReadAsSaid : List ℕ → Flat → ℕ → Statement → List Node → ℕ → List Node → ℕ → Type 0
+IsReadAsSaid bytes f number st old body new to = (s : marks.Statement) → SaysStatement bytes f.keys f.values st s → IsRead f number st old body new to s
+
+abbrev pub BreaksAsSaid : List ℕ → Flat → Statement → List Node → ℕ → ℕ → Why → Type 0
+BreaksAsSaid bytes f st old body number why = (s : marks.Statement) → SaysStatement bytes f.keys f.values st s → Breaks st old body s number why

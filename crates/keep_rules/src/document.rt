@@ -1,0 +1,90 @@
+//! Reading all definitions of a document, or of a value alone.
+ghost use Rattle.std.specs.Prelude.{◌≡◌, ◌<◌, length, IfOk, IfErr};
+ghost use Rattle.keep_syntax.specs.Flat.{flat};
+ghost use Rattle.keep_syntax.specs.Tree.{Document, Value};
+ghost use Rattle.keep_rules.specs.Children.{holding};
+ghost use Rattle.keep_rules.specs.ReadDocuments.{WasRead, WasReadAlone, IsIndexOf, ValueObeys, IsRefusal, IsValueRefusal, IsFaultAt};
+ghost use Rattle.keep_rules.specs.Roots.{IsRoot};
+ghost use Rattle.keep_rules.specs.Stops.{FaultSays};
+ghost use Rattle.keep_rules.specs.Stored.{IsStored, telling, twigs};
+ghost use Rattle.keep_rules.specs.Trie.{by_key, holds_at};
+
+use crate::children::{Children, Holds};
+use crate::inside::{push_id, read_inside};
+use crate::kinds::holds_of_leaf;
+use crate::node::{Kind, Place};
+use crate::nodes::Node;
+use crate::statement::read_statement;
+use crate::told::Told;
+use crate::ways::Fault;
+use keep_syntax::{Parts, ReadFault, Syntax, ValueSyntax};
+use std::alloc::{AllocError, Global};
+
+/// The root alone, which holds this.
+fn root(alloc: Global, holds: Holds) -> Result<Vec<Node>, AllocError>
+    ensures { IfOk result (λ nodes. IsRoot nodes.items (holding holds)) }
+{
+    let children = Children::none(alloc, holds)?;
+    let told = Told::unnamed(Kind::Table, None, Place::Root);
+    let mut nodes = Vec::new(alloc);
+    nodes.push(Node {
+        parent: 0,
+        number: 0,
+        children,
+        told,
+    })?;
+    Ok(nodes)
+}
+
+/// The fault, with the place of its key part in the text.
+fn read_fault(parts: &Parts, fault: Fault) -> ReadFault
+    requires { FaultSays fault (λ number why. number < length (flat parts.now).keys) }
+    ensures { IsFaultAt (flat parts.now).keys fault result }
+{
+    match fault {
+        Fault::Define { number, why } => ReadFault::Define {
+            at: parts.key_part(number).span.start,
+            why,
+        },
+        Fault::Memory => ReadFault::Memory,
+    }
+}
+
+/// Reads the statements of a document, and gives its nodes.
+pub fn read_document(alloc: Global, text: &str, syntax: &Syntax) -> Result<Vec<Node>, ReadFault>
+    requires { (d : Document) × WasRead text.now syntax.now d }
+    ensures stored { IfOk result (λ nodes. IsStored nodes.items) }
+    ensures rooted { IfOk result (λ nodes. holds_at (twigs nodes.items) 0 ≡ by_key) }
+    ensures ok { IfOk result (λ nodes. (d : Document) → WasRead text.now syntax.now d → IsIndexOf d (telling nodes.items)) }
+    ensures faults { IfErr result (λ fault. (d : Document) → WasRead text.now syntax.now d → IsRefusal d fault) }
+{
+    let parts = syntax.parts();
+    let mut nodes = root(alloc, Holds::Keys)?;
+    let mut ids = Vec::new(alloc);
+    let mut body = 0;
+    for number in 0..syntax.statement_count() {
+        let statement = syntax.statement(number);
+        body = match read_statement(&mut nodes, &mut ids, text, parts, body, number, statement) {
+            Ok(to) => to,
+            Err(fault) => return Err(read_fault(parts, fault)),
+        };
+    }
+    Ok(nodes)
+}
+
+/// Reads the values in a value alone.
+pub fn read_alone(alloc: Global, text: &str, syntax: &ValueSyntax) -> Result<(), ReadFault>
+    requires { (v : Value) × WasReadAlone text.now syntax.now v }
+    ensures ok { IfOk result (λ done. (v : Value) → WasReadAlone text.now syntax.now v → ValueObeys v) }
+    ensures faults { IfErr result (λ fault. (v : Value) → WasReadAlone text.now syntax.now v → IsValueRefusal v fault) }
+{
+    let parts = syntax.parts();
+    let holds = holds_of_leaf(syntax.value(0).leaf);
+    let mut nodes = root(alloc, holds)?;
+    let mut ids = Vec::new(alloc);
+    push_id(&mut ids, 0)?;
+    match read_inside(&mut nodes, &mut ids, text, parts, 1, 1) {
+        Ok(()) => Ok(()),
+        Err(fault) => Err(read_fault(parts, fault)),
+    }
+}

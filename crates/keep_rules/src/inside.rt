@@ -1,0 +1,116 @@
+//! Reading the values that stand in a value, one after another.
+ghost use Rattle.std.specs.Prelude.{◌≡◌, ◌+◌, ◌≤◌, ◌∷◌, ◌++◌, ℕ, [], List, Some, length, slice_get, IfOk, OnOk, IfErr};
+ghost use Rattle.keep_syntax.specs.Flat.{flat};
+ghost use Rattle.keep_rules.specs.Inside.{Inside, Turn};
+ghost use Rattle.keep_rules.specs.Plans.{AreReadable, IsNext, AreNext, HasWorld, TookTurn, TurnFaults, TookTurns, TurnsFault, fault_from};
+ghost use Rattle.keep_rules.specs.Stops.{FaultSays};
+ghost use Rattle.keep_rules.specs.Stored.{IsStored, twigs};
+ghost use Rattle.keep_rules.specs.Tables.{IsShaped};
+
+use crate::build::give_value;
+use crate::keys::Keys;
+use crate::kinds::{holds_of_leaf, kind_of};
+use crate::mark::give_item;
+use crate::nodes::Node;
+use crate::ways::Fault;
+use keep_syntax::{Owner, Parts, ValueInfo};
+use std::alloc::AllocError;
+
+/// The fault by its number in the document, where the key begins with the key part of the number `first`.
+pub fn fault_from(fault: Fault, first: usize) -> Fault
+    requires { FaultSays fault (λ number why. first + number ≤ usize.MAX) }
+    ensures { result ≡ fault_from fault first }
+{
+    match fault {
+        Fault::Define { number, why } => Fault::Define {
+            number: first + number,
+            why,
+        },
+        Fault::Memory => Fault::Memory,
+    }
+}
+
+/// Adds the node of one value more.
+pub fn push_id(ids: &mut Vec<usize>, id: usize) -> Result<(), AllocError>
+    ensures { OnOk result (ids.new.items ≡ ids.old.items ++ id ∷ []) }
+{
+    ids.push(id)?;
+    Ok(())
+}
+
+/// Reads the value of that number, which stands in an array or an inline table, and gives its node. `ids` are the nodes
+/// of the values so far, the one of the number `base` behind the first.
+fn read_value(
+    nodes: &mut Vec<Node>,
+    ids: &[usize],
+    text: &str,
+    parts: &Parts,
+    base: usize,
+    number: usize,
+    value: ValueInfo,
+) -> Result<usize, Fault>
+    requires stored { IsStored nodes.old.items }
+    requires shaped { IsShaped (twigs nodes.old.items) }
+    requires readable { AreReadable text.now (flat parts.now).keys }
+    requires numbered { base + length ids.now ≡ number + 1 }
+    requires listed { slice_get (flat parts.now).values number ≡ Some value }
+    requires next { (s : Inside) × (t : Turn) × IsNext text.now (flat parts.now).keys (twigs nodes.old.items) ids.now base value s t }
+    requires world { HasWorld (twigs nodes.old.items) }
+    ensures stored { OnOk result (IsStored nodes.new.items) }
+    ensures took { IfOk result (λ id. TookTurn text.now (flat parts.now) base value nodes.old.items ids.now nodes.new.items (ids.now ++ id ∷ []) number) }
+    ensures define { IfErr result (λ fault. FaultSays fault (TurnFaults text.now (flat parts.now) base value nodes.old.items ids.now)) }
+{
+    let kind = kind_of(value.leaf);
+    let holds = holds_of_leaf(value.leaf);
+    match value.owner {
+        Owner::Item(array) => {
+            let at = ids[array + 1 - base];
+            Ok(give_item(nodes, at, kind, value.span, number, holds)?)
+        }
+        Owner::Inline(table) => {
+            let at = ids[table + 1 - base];
+            let keys = Keys {
+                text,
+                parts,
+                first: value.first_key,
+                count: value.keys,
+            };
+            match give_value(nodes, at, keys, number, kind, value.span, holds) {
+                Ok(id) => Ok(id),
+                Err(fault) => Err(fault_from(fault, value.first_key)),
+            }
+        }
+        Owner::Line(_) => unreachable!(),
+    }
+}
+
+/// Reads the values from the number `from` on, up to the next that stands in a line, and adds their nodes to those of the
+/// values so far, of which the one of the number `base` stands behind the first.
+pub fn read_inside(
+    nodes: &mut Vec<Node>,
+    ids: &mut Vec<usize>,
+    text: &str,
+    parts: &Parts,
+    base: usize,
+    from: usize,
+) -> Result<(), Fault>
+    requires stored { IsStored nodes.old.items }
+    requires shaped { IsShaped (twigs nodes.old.items) }
+    requires readable { AreReadable text.now (flat parts.now).keys }
+    requires numbered { base + length ids.old.items ≡ from + 1 }
+    requires next { (s : Inside) × (ts : List Turn) × (first : ℕ) × AreNext text.now (flat parts.now) (twigs nodes.old.items) ids.old.items base from first s ts }
+    requires world { HasWorld (twigs nodes.old.items) }
+    ensures stored { OnOk result (IsStored nodes.new.items) }
+    ensures took { OnOk result (TookTurns text.now (flat parts.now) base from nodes.old.items ids.old.items nodes.new.items ids.new.items) }
+    ensures define { IfErr result (λ fault. FaultSays fault (TurnsFault text.now (flat parts.now) base from nodes.old.items ids.old.items)) }
+{
+    for number in from..parts.value_count() {
+        let value = parts.value(number);
+        if let Owner::Line(_) = value.owner {
+            return Ok(());
+        }
+        let id = read_value(nodes, ids.as_slice(), text, parts, base, number, value)?;
+        push_id(ids, id)?;
+    }
+    Ok(())
+}

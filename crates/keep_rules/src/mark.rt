@@ -1,0 +1,177 @@
+//! Making marks at the nodes.
+ghost use Rattle.std.specs.Prelude.{◌≡◌, ◌<◌, ◌∷◌, ◌++◌, [], length, IfOk, OnOk, Err, IfSome, IfNone, false};
+ghost use Rattle.keep_rules.specs.Children.{holding};
+ghost use Rattle.keep_rules.specs.Marks.{passing_mentions};
+ghost use Rattle.keep_rules.specs.Path.{key};
+ghost use Rattle.keep_rules.specs.Standing.{IsMarked, WasRefused, IsLastElement, HasNoElement, Passes, Begins};
+ghost use Rattle.keep_rules.specs.Steps.{AddsItem};
+ghost use Rattle.keep_rules.specs.Stored.{IsStored, twigs};
+ghost use Rattle.keep_rules.specs.Tables.{Fits, IsShaped, is_tables};
+ghost use Rattle.keep_rules.specs.Tells.{TellsOne, KeyTells, ItemTells, begin_mentions};
+ghost use Rattle.keep_rules.specs.Told.{info_of};
+ghost use Rattle.keep_rules.specs.Trie.{by_key, by_index, holds_at, path_at, state_at};
+
+use crate::children::Holds;
+use crate::node::{Kind, Place};
+use crate::nodes::{Node, add_item, add_key, child_of, set_role, tell_more};
+use crate::role::{Role, names_tables, state_after};
+use crate::told::Told;
+use keep_syntax::Span;
+use std::alloc::AllocError;
+
+/// Why a mark was not made.
+#[derive(Clone, Copy, Debug, PartialEq, Eq)]
+pub enum Stop {
+    /// Some earlier mark does not allow it.
+    Refused,
+    /// Memory was refused.
+    Memory,
+}
+
+impl From<AllocError> for Stop {
+    ghost use Rattle.std.specs.Prelude.{◌≡◌};
+    ghost use Rattle.keep_rules.specs.declared.mark.Stop.{Stop};
+    ghost use Rattle.keep_rules.specs.declared.mark.Stop.TheVariants.{Memory};
+
+    ghost from_gives = { λ _ stop. stop ≡ Memory };
+
+    fn from(_: AllocError) -> Self {
+        Stop::Memory
+    }
+}
+
+/// Makes a mark of that role at a key of a table, and tells this of its node, which holds this if it is new.
+pub fn mark(
+    nodes: &mut Vec<Node>,
+    parent: usize,
+    text: &str,
+    role: Role,
+    told: Told,
+    holds: Holds,
+) -> Result<usize, Stop>
+    requires stored { IsStored nodes.old.items }
+    requires shaped { IsShaped (twigs nodes.old.items) }
+    requires within { parent < length nodes.old.items }
+    requires keyed { holds_at (twigs nodes.old.items) parent ≡ by_key }
+    requires fits { Fits role (holding holds) }
+    ensures ok { IfOk result (λ id. IsMarked (twigs nodes.old.items) (twigs nodes.new.items) (path_at (twigs nodes.old.items) parent ++ key text.now ∷ []) role (holding holds) id) }
+    ensures stored { OnOk result (IsStored nodes.new.items) }
+    ensures told { IfOk result (λ id. TellsOne nodes.old.items nodes.new.items (path_at (twigs nodes.old.items) parent ++ key text.now ∷ []) (info_of told)) }
+    ensures refused { result ≡ Err Stop.Refused → WasRefused (twigs nodes.old.items) (path_at (twigs nodes.old.items) parent ++ key text.now ∷ []) role }
+{
+    match child_of(nodes, parent, text) {
+        None => Ok(add_key(nodes, parent, text, role, told, holds)?),
+        Some(child) => {
+            let Some(next) = state_after(nodes[child].told.role, role) else {
+                return Err(Stop::Refused);
+            };
+            set_role(nodes, child, next, told);
+            Ok(child)
+        }
+    }
+}
+
+/// An array of tables, and its last element.
+#[derive(Clone, Copy)]
+pub struct Elements {
+    pub tables: usize,
+    pub last: usize,
+}
+
+/// The array of tables that a key names, if it names one.
+pub fn last_element(nodes: &[Node], parent: usize, text: &str) -> Option<Elements>
+    requires stored { IsStored nodes.now }
+    requires shaped { IsShaped (twigs nodes.now) }
+    requires within { parent < length nodes.now }
+    requires keyed { holds_at (twigs nodes.now) parent ≡ by_key }
+    ensures some { IfSome result (λ e. IsLastElement (twigs nodes.now) (path_at (twigs nodes.now) parent ++ key text.now ∷ []) e.tables e.last) }
+    ensures none { IfNone result (HasNoElement (twigs nodes.now) (path_at (twigs nodes.now) parent ++ key text.now ∷ [])) }
+{
+    let tables = child_of(nodes, parent, text)?;
+    let node = &nodes[tables];
+    if !names_tables(node.told.role) {
+        return None;
+    }
+    let last = node.children.last_item()?;
+    Some(Elements { tables, last })
+}
+
+/// Goes past a key of a header that is not the last: to the last element of an array of tables, else with a mark.
+pub fn pass(
+    nodes: &mut Vec<Node>,
+    parent: usize,
+    text: &str,
+    span: Span,
+    statement: usize,
+) -> Result<usize, Stop>
+    requires stored { IsStored nodes.old.items }
+    requires shaped { IsShaped (twigs nodes.old.items) }
+    requires within { parent < length nodes.old.items }
+    requires keyed { holds_at (twigs nodes.old.items) parent ≡ by_key }
+    ensures stored { OnOk result (IsStored nodes.new.items) }
+    ensures shaped { OnOk result (IsShaped (twigs nodes.new.items)) }
+    ensures inside { IfOk result (λ to. to < length nodes.new.items) }
+    ensures keyed { IfOk result (λ to. holds_at (twigs nodes.new.items) to ≡ by_key) }
+    ensures ok { IfOk result (λ to. Passes (twigs nodes.old.items) (twigs nodes.new.items) parent to text.now) }
+    ensures told { IfOk result (λ to. KeyTells nodes.old.items nodes.new.items span statement (λ tables. passing_mentions tables (path_at (twigs nodes.old.items) parent ++ key text.now ∷ []))) }
+    ensures refused { result ≡ Err Stop.Refused → WasRefused (twigs nodes.old.items) (path_at (twigs nodes.old.items) parent ++ key text.now ∷ []) Role.Through }
+    ensures plain { result ≡ Err Stop.Refused → HasNoElement (twigs nodes.old.items) (path_at (twigs nodes.old.items) parent ++ key text.now ∷ []) }
+{
+    match last_element(nodes, parent, text) {
+        Some(elements) => {
+            let past = Told::named(Kind::Table, None, span, Place::Root);
+            tell_more(nodes, elements.tables, past);
+            tell_more(nodes, elements.last, Told::passed());
+            Ok(elements.last)
+        }
+        None => {
+            let through = Told::named(Kind::Table, None, span, Place::Through(statement));
+            mark(nodes, parent, text, Role::Through, through, Holds::Keys)
+        }
+    }
+}
+
+/// Begins an element of the array of tables that a key names.
+pub fn begin(
+    nodes: &mut Vec<Node>,
+    parent: usize,
+    text: &str,
+    span: Span,
+    statement: usize,
+) -> Result<usize, Stop>
+    requires stored { IsStored nodes.old.items }
+    requires shaped { IsShaped (twigs nodes.old.items) }
+    requires within { parent < length nodes.old.items }
+    requires keyed { holds_at (twigs nodes.old.items) parent ≡ by_key }
+    ensures stored { OnOk result (IsStored nodes.new.items) }
+    ensures ok { IfOk result (λ to. Begins (twigs nodes.old.items) (twigs nodes.new.items) parent to text.now) }
+    ensures told { IfOk result (λ to. KeyTells nodes.old.items nodes.new.items span statement (begin_mentions (path_at (twigs nodes.old.items) parent ++ key text.now ∷ []))) }
+    ensures refused { result ≡ Err Stop.Refused → WasRefused (twigs nodes.old.items) (path_at (twigs nodes.old.items) parent ++ key text.now ∷ []) Role.Element }
+{
+    let tables = Told::named(Kind::Tables, None, span, Place::Tables);
+    let id = mark(nodes, parent, text, Role::Element, tables, Holds::Items)?;
+    let element = Told::unnamed(Kind::Table, None, Place::Element(statement));
+    Ok(add_item(nodes, id, element, Holds::Keys)?)
+}
+
+/// Adds an item to an array: the value of that number, of this kind, which stands there and holds this.
+pub fn give_item(
+    nodes: &mut Vec<Node>,
+    array: usize,
+    kind: Kind,
+    span: Span,
+    value: usize,
+    holds: Holds,
+) -> Result<usize, AllocError>
+    requires stored { IsStored nodes.old.items }
+    requires shaped { IsShaped (twigs nodes.old.items) }
+    requires within { array < length nodes.old.items }
+    requires listed { holds_at (twigs nodes.old.items) array ≡ by_index }
+    requires plain { is_tables (state_at (twigs nodes.old.items) array) ≡ false }
+    ensures ok { IfOk result (λ to. AddsItem (twigs nodes.old.items) (twigs nodes.new.items) array to (holding holds)) }
+    ensures stored { OnOk result (IsStored nodes.new.items) }
+    ensures told { IfOk result (λ to. ItemTells nodes.old.items nodes.new.items array value kind span) }
+{
+    let told = Told::unnamed(kind, Some(span), Place::Value(value));
+    add_item(nodes, array, told, holds)
+}

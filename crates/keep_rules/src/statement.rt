@@ -1,0 +1,140 @@
+//! Reading the statements of a document, one after another.
+ghost use Rattle.std.specs.Prelude.{◌≡◌, ℕ, List, Some, None, IfOk, OnOk, IfErr};
+ghost use Rattle.keep_syntax.specs.Flat.{flat};
+ghost use Rattle.keep_rules.specs.FlatStatements.{SaysStatement};
+ghost use Rattle.keep_rules.specs.Keys.{AreKeys, parts_of};
+ghost use Rattle.keep_rules.specs.Marks as marks;
+ghost use Rattle.keep_rules.specs.Plans.{AreReadable};
+ghost use Rattle.keep_rules.specs.ReadStatements.{HasReading, IsReadAsSaid, BreaksAsSaid, head_of};
+ghost use Rattle.keep_rules.specs.Reads.{Reads, FaultsIn};
+ghost use Rattle.keep_rules.specs.Stops.{FaultSays};
+ghost use Rattle.keep_rules.specs.Stored.{IsStored, twigs};
+ghost use Rattle.keep_rules.specs.Tables.{IsShaped};
+ghost use Rattle.keep_rules.specs.Tells.{StatementTells};
+ghost use Rattle.keep_rules.specs.Trie.{by_key, holds_at};
+
+use crate::build::{element, give_value, header};
+use crate::inside::{fault_from, push_id, read_inside};
+use crate::keys::Keys;
+use crate::kinds::{holds_of_leaf, kind_of};
+use crate::nodes::Node;
+use crate::ways::Fault;
+use keep_syntax::{Parts, Statement, StatementKind};
+
+/// Reads a header of this kind, the statement of that number, and gives the node that it defines or begins.
+fn read_head(
+    nodes: &mut Vec<Node>,
+    keys: Keys<'_>,
+    kind: StatementKind,
+    number: usize,
+) -> Result<usize, Fault>
+    requires stored { IsStored nodes.old.items }
+    requires shaped { IsShaped (twigs nodes.old.items) }
+    requires rooted { holds_at (twigs nodes.old.items) 0 ≡ by_key }
+    requires keys { AreKeys keys }
+    ensures stored { OnOk result (IsStored nodes.new.items) }
+    ensures ok { IfOk result (λ to. (body : ℕ) → Reads (twigs nodes.old.items) body (twigs nodes.new.items) to (head_of kind keys.entry)) }
+    ensures told { IfOk result (λ to. StatementTells nodes.old.items nodes.new.items (parts_of keys.entry) keys.entry.first number (head_of kind keys.entry)) }
+    ensures define { IfErr result (λ fault. FaultSays fault (λ at why. (body : ℕ) → FaultsIn (twigs nodes.old.items) body (head_of kind keys.entry) at why)) }
+{
+    match kind {
+        StatementKind::Element => element(nodes, keys, number),
+        _ => header(nodes, keys, number),
+    }
+}
+
+/// Reads the header of that number, and gives the node that it defines or begins.
+fn read_header(
+    nodes: &mut Vec<Node>,
+    text: &str,
+    parts: &Parts,
+    number: usize,
+    statement: Statement,
+) -> Result<usize, Fault>
+    requires stored { IsStored nodes.old.items }
+    requires readable { AreReadable text.now (flat parts.now).keys }
+    requires says { (s : marks.Statement) × SaysStatement text.now (flat parts.now).keys (flat parts.now).values statement s }
+    requires reading { (body : ℕ) × HasReading (twigs nodes.old.items) body }
+    requires head { statement.value ≡ None }
+    ensures stored { OnOk result (IsStored nodes.new.items) }
+    ensures read { IfOk result (λ to. (body : ℕ) → IsReadAsSaid text.now (flat parts.now) number statement nodes.old.items body nodes.new.items to) }
+    ensures define { IfErr result (λ fault. FaultSays fault (λ at why. (body : ℕ) → BreaksAsSaid text.now (flat parts.now) statement nodes.old.items body at why)) }
+{
+    let keys = Keys {
+        text,
+        parts,
+        first: statement.first_key,
+        count: statement.keys,
+    };
+    match read_head(nodes, keys, statement.kind, number) {
+        Ok(to) => Ok(to),
+        Err(fault) => Err(fault_from(fault, statement.first_key)),
+    }
+}
+
+/// Reads a keyval of the body at that node, whose value has the number `number`. `ids` has room for the nodes of the values
+/// in it.
+fn read_keyval(
+    nodes: &mut Vec<Node>,
+    ids: &mut Vec<usize>,
+    text: &str,
+    parts: &Parts,
+    body: usize,
+    number: usize,
+    statement: Statement,
+) -> Result<(), Fault>
+    requires stored { IsStored nodes.old.items }
+    requires readable { AreReadable text.now (flat parts.now).keys }
+    requires says { (s : marks.Statement) × SaysStatement text.now (flat parts.now).keys (flat parts.now).values statement s }
+    requires reading { HasReading (twigs nodes.old.items) body }
+    requires valued { statement.value ≡ Some number }
+    ensures stored { OnOk result (IsStored nodes.new.items) }
+    ensures read { OnOk result ((n : ℕ) → IsReadAsSaid text.now (flat parts.now) n statement nodes.old.items body nodes.new.items body) }
+    ensures define { IfErr result (λ fault. FaultSays fault (BreaksAsSaid text.now (flat parts.now) statement nodes.old.items body)) }
+{
+    let value = parts.value(number);
+    let keys = Keys {
+        text,
+        parts,
+        first: statement.first_key,
+        count: statement.keys,
+    };
+    let kind = kind_of(value.leaf);
+    let holds = holds_of_leaf(value.leaf);
+    let top = match give_value(nodes, body, keys, number, kind, value.span, holds) {
+        Ok(top) => top,
+        Err(fault) => return Err(fault_from(fault, statement.first_key)),
+    };
+    ids.clear();
+    push_id(ids, body)?;
+    push_id(ids, top)?;
+    read_inside(nodes, ids, text, parts, number, number + 1)
+}
+
+/// Reads the statement of that number in the body at that node, and gives the node of the body behind it. `ids` has room
+/// for the nodes of the values in one statement.
+pub fn read_statement(
+    nodes: &mut Vec<Node>,
+    ids: &mut Vec<usize>,
+    text: &str,
+    parts: &Parts,
+    body: usize,
+    number: usize,
+    statement: Statement,
+) -> Result<usize, Fault>
+    requires stored { IsStored nodes.old.items }
+    requires readable { AreReadable text.now (flat parts.now).keys }
+    requires says { (s : marks.Statement) × SaysStatement text.now (flat parts.now).keys (flat parts.now).values statement s }
+    requires reading { HasReading (twigs nodes.old.items) body }
+    ensures stored { OnOk result (IsStored nodes.new.items) }
+    ensures read { IfOk result (λ to. IsReadAsSaid text.now (flat parts.now) number statement nodes.old.items body nodes.new.items to) }
+    ensures define { IfErr result (λ fault. FaultSays fault (BreaksAsSaid text.now (flat parts.now) statement nodes.old.items body)) }
+{
+    match statement.value {
+        Some(value) => {
+            read_keyval(nodes, ids, text, parts, body, value, statement)?;
+            Ok(body)
+        }
+        None => read_header(nodes, text, parts, number, statement),
+    }
+}
