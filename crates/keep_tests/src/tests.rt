@@ -1,4 +1,5 @@
 mod documents;
+mod index;
 mod leaves;
 mod paths;
 mod scalars;

@@ -1,6 +1,7 @@
-//! Reads a TOML document from standard input, and prints how many parts it has.
+//! Reads a TOML document from standard input, and prints how many parts and nodes it has.
 #![tactic(auto)]
 
+use keep_rules::Index;
 use keep_syntax::{Limits, ReadFault, Syntax};
 use keep_token::text_of;
 use std::alloc::Global;
@@ -12,8 +13,8 @@ fn main(rt: HostRuntime) -> io::Result<ExitCode> {
     let mut bytes = Vec::new(rt.alloc());
     rt.stdin().read_to_end(&mut bytes)?;
     match read(rt.alloc(), bytes.as_slice()) {
-        Ok(syntax) => {
-            print_counts(&rt, &syntax)?;
+        Ok((syntax, index)) => {
+            print_counts(&rt, &syntax, &index)?;
             Ok(ExitCode::SUCCESS)
         }
         Err(fault) => {
@@ -23,17 +24,23 @@ fn main(rt: HostRuntime) -> io::Result<ExitCode> {
     }
 }
 
-fn read(alloc: Global, bytes: &[u8]) -> Result<Syntax, ReadFault> {
-    match text_of(bytes) {
-        Ok(text) => Syntax::read(alloc, text, Limits::STANDARD),
-        Err(at) => Err(ReadFault::Utf8 { at }),
-    }
+fn read(alloc: Global, bytes: &[u8]) -> Result<(Syntax, Index), ReadFault> {
+    let text = match text_of(bytes) {
+        Ok(text) => text,
+        Err(at) => return Err(ReadFault::Utf8 { at }),
+    };
+    let syntax = Syntax::read(alloc, text, Limits::STANDARD)?;
+    let index = Index::build(alloc, text, &syntax)?;
+    Ok((syntax, index))
 }
 
-fn print_counts(rt: &HostRuntime, syntax: &Syntax) -> io::Result<()> {
+fn print_counts(rt: &HostRuntime, syntax: &Syntax, index: &Index) -> io::Result<()> {
     let tokens = syntax.token_count();
     let statements = syntax.statement_count();
     let keys = syntax.key_count();
     let values = syntax.value_count();
-    println!(rt; "tokens={tokens} statements={statements} keys={keys} values={values}")
+    let nodes = index.node_count();
+    println!(rt;
+        "tokens={tokens} statements={statements} keys={keys} values={values} nodes={nodes}"
+    )
 }
