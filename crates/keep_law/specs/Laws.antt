@@ -1,0 +1,118 @@
+-- What holds of every edit that is not refused, and of the text that is got.
+use Rattle.std.specs.Prelude.{◌≡◌, ℕ, ◌+◌, ◌≤◌, Bool, true, false, List, ◌++◌, length, map, Option, Some, None, IsUtf8}
+use Rattle.std.specs.List.{AllByRecursion}
+use Rattle.keep_token.specs.declared.leaf.Profile.{Profile}
+use Rattle.keep_token.specs.Encoded.{encoded_key}
+use Rattle.keep_syntax.specs.Tree.{Value, Document, text, value_text, depth}
+use Rattle.keep_syntax.specs.Grammar.{IsValue, IsDocument, Reads}
+use Rattle.keep_rules.specs.Path.{Part, key}
+use Rattle.keep_rules.specs.PathText.{encoded_path}
+use Rattle.keep_rules.specs.Rules.{ObeysRules}
+use Rattle.keep_rules.specs.Marks.{start, marks}
+use Rattle.keep_rules.specs.Meaning.{lines, said_in, value_said}
+use Rattle.keep_rules.specs.Nodes.{fact_at, has, is_begun}
+use Rattle.keep_law.specs.Changed.{Changed, put}
+use Rattle.keep_law.specs.Edits.{Edit, set, insert, rename, remove, append_table, append_element, change, end_of, edited_document, place}
+use Rattle.keep_law.specs.Look.{holder, item_number, keys_in}
+use Rattle.keep_law.specs.Lines.{last_line, goes_dotted, goes_through}
+use Rattle.keep_law.specs.Refusals.{refusal, has_value}
+use Rattle.keep_law.specs.Trees.{IsTreeOf}
+use Rattle.keep_law.specs.Answers.{value_at}
+
+-- how many bytes the edit gives, as they are written: its path or key, and its value
+abbrev pub given_size : Edit → ℕ
+given_size (set path value) = length (encoded_path path) + length (value_text value)
+given_size (insert path value) = length (encoded_path path) + length (value_text value)
+given_size (rename path name) = length (encoded_key name)
+given_size (remove path) = 0
+given_size (append_table keys) = length (encoded_path (map key keys))
+given_size (append_element keys) = length (encoded_path (map key keys))
+
+-- ---- an edit that is not refused
+
+-- There is a change. The new text is the old one with the stated place replaced, and it is read as the new document: within
+-- the limit, by the rules, with the stated tree; and it has grown by no more than stated.
+pub record IsLawfulEdit (profile : Profile) (limit : ℕ) (s : Document) (e : Edit) : Type 0 where
+  pub changed : Changed Document
+  pub is : change s e ≡ Some changed
+  pub reads : Reads profile limit (put (text s) (place s e)) (edited_document s e)
+  pub obeys : ObeysRules (marks (said_in (edited_document s e)))
+  pub tree : IsTreeOf (said_in s) e (said_in (edited_document s e))
+  pub growth : length (text (edited_document s e)) ≤ length (text s) + given_size e + 12
+
+-- the document is valid, within the limit, and obeys the rules
+pub record IsStanding (profile : Profile) (limit : ℕ) (s : Document) : Type 0 where
+  pub valid : IsDocument profile s
+  pub shallow : depth s ≤ limit
+  pub obeys : ObeysRules (marks (said_in s))
+
+-- ---- set
+
+-- the value is valid and obeys the rules
+pub record IsGivenValue (profile : Profile) (v : Value) : Type 0 where
+  pub valid : IsValue profile v
+  pub obeys : ObeysRules (marks (value_said v))
+
+abbrev pub SetIsLawful : Type 0
+SetIsLawful = (profile : Profile) (limit : ℕ) (s : Document) (path : List Part) (new : Value) → IsStanding profile limit s → IsGivenValue profile new
+    → refusal limit s (set path new) ≡ None → IsLawfulEdit profile limit s (set path new)
+
+-- ---- append_table, append_element
+
+-- the keys are in UTF-8
+abbrev pub AppendTableIsLawful : Type 0
+AppendTableIsLawful = (profile : Profile) (limit : ℕ) (s : Document) (keys : List (List ℕ)) → IsStanding profile limit s → AllByRecursion IsUtf8 keys
+    → refusal limit s (append_table keys) ≡ None → IsLawfulEdit profile limit s (append_table keys)
+
+abbrev pub AppendElementIsLawful : Type 0
+AppendElementIsLawful = (profile : Profile) (limit : ℕ) (s : Document) (keys : List (List ℕ)) → IsStanding profile limit s → AllByRecursion IsUtf8 keys
+    → refusal limit s (append_element keys) ≡ None → IsLawfulEdit profile limit s (append_element keys)
+
+-- ---- insert, as a line
+
+-- the table has a body of its own, or a line whose key or header goes on from it
+abbrev pub has_lines : Document → List Part → Bool
+has_lines s a = elim (end_of s a) [ Some n ↦ true | None ↦ elim (last_line (goes_dotted a) start (lines s)) [ Some i ↦ true | None ↦ elim (last_line (goes_through a) start (lines s)) [ Some i ↦ true | None ↦ false ] ] ]
+
+-- no item of an array is put in, and the holder of the new key has lines
+abbrev pub InsertLineIsLawful : Type 0
+InsertLineIsLawful = (profile : Profile) (limit : ℕ) (s : Document) (path : List Part) (new : Value) → IsStanding profile limit s → IsGivenValue profile new
+    → AllByRecursion IsUtf8 (keys_in path) → item_number path (said_in s) ≡ None → has_lines s (holder path (said_in s)) ≡ true
+    → refusal limit s (insert path new) ≡ None → IsLawfulEdit profile limit s (insert path new)
+
+-- ---- remove
+
+-- no element of an array of tables begins at the path
+abbrev pub RemoveIsLawful : Type 0
+RemoveIsLawful = (profile : Profile) (limit : ℕ) (s : Document) (path : List Part) → IsStanding profile limit s → has is_begun path (said_in s) ≡ false
+    → refusal limit s (remove path) ≡ None → IsLawfulEdit profile limit s (remove path)
+
+-- ---- get
+
+-- It is the text of a value whose facts are those at the path, and it stands in the document's text where `set` puts others.
+pub record IsTextAt (path : List Part) (s : Document) (t : List ℕ) : Type 0 where
+  pub value : Value
+  pub spelled : t ≡ value_text value
+  pub facts : (q : List Part) → fact_at (path ++ q) (said_in s) ≡ fact_at q (value_said value)
+  pub before : List ℕ
+  pub behind : List ℕ
+  pub here : text s ≡ before ++ (t ++ behind)
+  pub set_there : (new : Value) → place s (set path new) ≡ record { start = length before; end = length before + length t; new = value_text new }
+
+-- a text where there is a value, and else none
+abbrev pub GivesText : List Part → Document → Bool → Option (List ℕ) → Type 0
+GivesText path s true found = (t : List ℕ) × (found ≡ Some t) × IsTextAt path s t
+GivesText path s false found = found ≡ None
+
+abbrev pub GetIsRight : Type 0
+GetIsRight = (path : List Part) (s : Document) → ObeysRules (marks (said_in s)) → GivesText path s (has_value path (said_in s)) (value_at path s)
+
+-- ---- every edit
+
+abbrev pub GrowthIsBounded : Type 0
+GrowthIsBounded = (profile : Profile) (limit : ℕ) (s : Document) (e : Edit) → IsDocument profile s → ObeysRules (marks (said_in s)) → refusal limit s e ≡ None
+    → length (text (edited_document s e)) ≤ length (text s) + given_size e + 12
+
+-- A change replaces its place in the text, and nothing else.
+abbrev pub ChangeIsPut : Type 0
+ChangeIsPut = (s : Document) (e : Edit) → text (edited_document s e) ≡ put (text s) (place s e)

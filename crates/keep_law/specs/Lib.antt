@@ -1,0 +1,9 @@
+pub mod Look
+pub mod Changed
+pub mod Values
+pub mod Lines
+pub mod Edits
+pub mod Refusals
+pub mod Trees
+pub mod Answers
+pub mod Laws

@@ -1,0 +1,34 @@
+use keep_rules::Why;
+use thiserror::Error;
+
+/// Why an edit is refused, in the order of test: the first that holds is told. A refused edit changes nothing.
+#[derive(Clone, Copy, Debug, PartialEq, Eq, Error)]
+pub enum EditFault {
+    /// The path names no node.
+    #[error("NotFound")]
+    NotFound,
+    /// The path of what would be new names a node already.
+    #[error("Exists")]
+    Exists,
+    /// The node has no value with a text of its own.
+    #[error("NotValue")]
+    NotValue,
+    /// What would hold the new key is no table.
+    #[error("NotTable")]
+    NotTable,
+    /// The path does not end in a key, or there is no key.
+    #[error("NotKey")]
+    NotKey,
+    /// What the edit would take hold of is told by several places of the text.
+    #[error("Scattered")]
+    Scattered,
+    /// The new header would break a rule of definition.
+    #[error("Conflict {why:?}")]
+    Conflict { why: Why },
+    /// More brackets would be open than the limit allows.
+    #[error("TooDeep")]
+    TooDeep,
+    /// Memory was refused.
+    #[error("Memory")]
+    Memory,
+}

@@ -1,0 +1,44 @@
+//! Laws of the edits, each the contract of a function that does nothing.
+ghost use Rattle.keep_law.specs.Laws as spec;
+
+/// A `set` that is not refused changes the document as it is stated: in its text, its tree and its size.
+pub fn set_is_lawful()
+    ensures { spec.SetIsLawful }
+{}
+
+/// An `append_table` that is not refused changes the document as it is stated, for keys in UTF-8.
+pub fn append_table_is_lawful()
+    ensures { spec.AppendTableIsLawful }
+{}
+
+/// An `append_element` that is not refused changes the document as it is stated, for keys in UTF-8.
+pub fn append_element_is_lawful()
+    ensures { spec.AppendElementIsLawful }
+{}
+
+/// An `insert` that is not refused changes the document as it is stated, where no item is put into an array and the new key's
+/// holder has lines, for keys in UTF-8.
+pub fn insert_line_is_lawful()
+    ensures { spec.InsertLineIsLawful }
+{}
+
+/// A `remove` that is not refused changes the document as it is stated, where no element of an array of tables begins at the
+/// path.
+pub fn remove_is_lawful()
+    ensures { spec.RemoveIsLawful }
+{}
+
+/// `get` gives the text of the value at a path, and a text only where there is a value.
+pub fn get_is_right()
+    ensures { spec.GetIsRight }
+{}
+
+/// An edit replaces its place in the text, and no byte elsewhere.
+pub fn change_is_put()
+    ensures { spec.ChangeIsPut }
+{}
+
+/// By an edit the text grows by no more than what the edit gives, and twelve bytes.
+pub fn growth_is_bounded()
+    ensures { spec.GrowthIsBounded }
+{}

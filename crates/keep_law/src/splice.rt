@@ -1,0 +1,10 @@
+/// What an edit did to the text: the bytes `start..end` of the old text gave way to `added` new ones.
+#[derive(Clone, Copy, Debug, PartialEq, Eq)]
+pub struct Splice {
+    /// Where the change begins, in bytes from the start of the text.
+    pub start: usize,
+    /// Where it ended in the old text.
+    pub end: usize,
+    /// How many bytes stand there now.
+    pub added: usize,
+}
