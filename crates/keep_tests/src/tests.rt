@@ -1,4 +1,5 @@
 mod documents;
+mod edits;
 mod index;
 mod leaves;
 mod paths;

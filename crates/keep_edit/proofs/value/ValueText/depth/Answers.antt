@@ -1,0 +1,5 @@
+use Rattle.keep_edit.proofs.ValueLaws.{depth_is}
+use Rattle.keep_edit.proofs.value.ValueText.depth.Goals as goal
+
+pub returns : goal.returns
+returns c = λ v read. depth_is _ _ v c.self.invariant (rw c.self.view_is read)

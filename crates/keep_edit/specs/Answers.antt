@@ -1,0 +1,75 @@
+-- What a document answers, by its tree.
+use Rattle.std.specs.Prelude.{◌≡◌, ℕ, ℤ, if◌then◌else◌, List, drop, map, length, Option, Some, None, Result, Err, MatchResult}
+use Rattle.keep_syntax.specs.Tree.{Document}
+use Rattle.keep_syntax.specs.Numbered.{tokens}
+use Rattle.keep_rules.specs.declared.node.Kind.{Kind}
+use Rattle.keep_rules.specs.Fact as fact
+use Rattle.keep_rules.specs.Fact.{Fact}
+use Rattle.keep_rules.specs.Marks.{Mention}
+use Rattle.keep_rules.specs.Meaning.{said_in}
+use Rattle.keep_rules.specs.Nodes.{node_paths, nodes_in, is_node, kind_at, fact_at}
+use Rattle.keep_rules.specs.Path.{Part}
+use Rattle.keep_law.specs.declared.fault.EditFault.{EditFault}
+use Rattle.keep_law.specs.declared.fault.EditFault.TheVariants.{Memory}
+use Rattle.keep_law.specs.declared.splice.Splice.{Splice}
+use Rattle.keep_law.specs.Answers.{string_of, get}
+use Rattle.keep_law.specs.Changed.{Place, put}
+use Rattle.keep_law.specs.Edits.{Edit, edited_document, place}
+use Rattle.keep_law.specs.Refusals.{refusal}
+use Rattle.keep_edit.specs.Reading.{limit, IsTextOfTree}
+use Rattle.keep_edit.specs.declared.document.Counts.{Counts}
+use Rattle.keep_edit.specs.declared.document.Entry.{Entry}
+
+-- ---- the whole
+
+-- how many tokens, `End` among them, and how many nodes, the root among them
+abbrev pub counts_of : Document → Counts
+counts_of s = record { tokens = length (tokens s); nodes = length (nodes_in s) }
+
+abbrev pub entry_at : List Mention → List Part → Entry
+entry_at ms path = record { path = path; kind = kind_at path ms }
+
+-- all nodes but the root, in the order of the text
+abbrev pub entries_of : Document → List Entry
+entries_of s = map (entry_at (said_in s)) (drop 1 (node_paths (said_in s)))
+
+-- ---- one node
+
+abbrev pub kind_of : List Part → Document → Option Kind
+kind_of path s = if is_node path (said_in s) then Some (kind_at path (said_in s)) else None
+
+-- what an integer means
+abbrev pub integer_of : Option Fact → Option ℤ
+integer_of None = None
+integer_of (Some f) = elim f [ fact.integer n ↦ Some n | _ ↦ None ]
+
+abbrev pub int_value_of : List Part → Document → Option ℤ
+int_value_of path s = integer_of (fact_at path (said_in s))
+
+-- what a string means
+abbrev pub str_value_of : List Part → Document → Option (List ℕ)
+str_value_of path s = string_of (fact_at path (said_in s))
+
+-- the text of a value, as it is written, or why there is none
+abbrev pub IsGot : List Part → Document → Result (List ℕ) EditFault → Type 0
+IsGot path s result = result ≡ get path s
+
+-- ---- edits
+
+-- where the bytes were replaced, and by how many
+abbrev pub splice_of : Place → Splice
+splice_of p = record { start = p.start; end = p.end; added = length p.new }
+
+-- The splice and the new text are those of the edit, and the new tree is the document's.
+pub record IsEdited (s : Document) (e : Edit) (new : List ℕ) (old : List ℕ) (splice : Splice) : Type 0 where
+  pub told : splice ≡ splice_of (place s e)
+  pub text : new ≡ put old (place s e)
+  pub tree : IsTextOfTree new (edited_document s e)
+
+-- what an edit answers, by its refusal: want of memory can stand in place of what an edit does alone
+abbrev pub IsDone : Document → Edit → List ℕ → List ℕ → Option EditFault → Result Splice EditFault → Type 0
+IsDone s e old new (Some f) result = result ≡ Err f
+IsDone s e old new None result = MatchResult result (IsEdited s e new old) (λ f. f ≡ Memory)
+
+abbrev pub EditDone : Document → Edit → List ℕ → List ℕ → Result Splice EditFault → Type 0
+EditDone s e old new result = IsDone s e old new (refusal limit s e) result

@@ -1,0 +1,11 @@
+//! Documents: reading them, asking what they hold, and editing them in place.
+#![tactic(auto)]
+
+mod document;
+mod value;
+
+pub use document::{Counts, Document, Entry};
+pub use keep_law::{EditFault, Splice};
+pub use keep_rules::{Kind, Path, PathFault, Step, Why};
+pub use keep_syntax::{ReadFault, Token, Tokens};
+pub use value::ValueText;
