@@ -7,6 +7,7 @@ use keep_token::text_of;
 use std::alloc::Global;
 use std::io;
 use std::io::Read;
+use std::mem;
 use std::process::ExitCode;
 
 fn main(rt: HostRuntime) -> io::Result<ExitCode> {
@@ -15,6 +16,9 @@ fn main(rt: HostRuntime) -> io::Result<ExitCode> {
     match read(rt.alloc(), bytes.as_slice()) {
         Ok((syntax, index)) => {
             print_counts(&rt, &syntax, &index)?;
+            // The program ends here: taking the parts apart one by one would only cost time.
+            mem::forget(syntax);
+            mem::forget(index);
             Ok(ExitCode::SUCCESS)
         }
         Err(fault) => {
