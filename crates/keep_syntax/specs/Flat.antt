@@ -1,5 +1,5 @@
 -- What is kept of a text, as lists, and what the parts that were read add to it.
-use Rattle.std.specs.Prelude.{◌≡◌, ℕ, zero, suc, ◌+◌, ◌≤◌, slice_index, List, [], ◌∷◌, ◌++◌, length, drop, map, Option, Some, None, Result, Ok, Err, ⊤, IsCharBoundary}
+use Rattle.std.specs.Prelude.{◌≡◌, ℕ, zero, suc, ◌+◌, ◌≤◌, slice_index, List, [], ◌∷◌, ◌++◌, length, drop, map, Bool, if◌then◌else◌, Option, Some, None, Result, Ok, Err, ⊤, IsCharBoundary}
 use Rattle.std.specs.List.{AllByRecursion, flat_map}
 use Rattle.keep_token.specs.declared.leaf.Leaf.{Leaf}
 use Rattle.keep_syntax.specs.declared.fault.ReadFault.{ReadFault}
@@ -9,6 +9,9 @@ use Rattle.keep_syntax.specs.declared.info.KeyPart.{KeyPart}
 use Rattle.keep_syntax.specs.declared.info.ValueInfo.{ValueInfo}
 use Rattle.keep_syntax.specs.declared.info.Start.{Start}
 use Rattle.keep_syntax.specs.declared.parts.Stored.{Stored}
+use Rattle.keep_syntax.specs.declared.parts.StoredStatement.{StoredStatement}
+use Rattle.keep_syntax.specs.declared.parts.Within.{Within}
+use Rattle.keep_syntax.specs.declared.parts.Within.TheVariants as within
 use Rattle.keep_syntax.specs.declared.parts.Parts.{Parts}
 use Rattle.keep_syntax.specs.declared.info.Brackets.{Brackets}
 use Rattle.keep_token.specs.declared.leaf.Profile.{Profile}
@@ -30,22 +33,43 @@ pub record Flat : Type 0 where
   pub keys : List KeyPart
   pub values : List ValueInfo
 
+-- a number that is there or not
+abbrev pub if_there : Bool → ℕ → Option ℕ
+if_there there number = if there then Some number else None
+
+-- what a value stands in, with its number
+abbrev pub owner_of : Within → ℕ → Owner
+owner_of within.Line number = owner.Line number
+owner_of within.Inline number = owner.Inline number
+owner_of within.Item number = owner.Item number
+
+-- the statement that is stored so
+abbrev pub told : StoredStatement → Statement
+told s = record {
+  kind = s.kind;
+  span = s.span;
+  line = s.line;
+  first_key = s.first_key;
+  keys = s.keys;
+  value = if_there s.has_value s.value;
+}
+
 -- the value that is stored so
 abbrev pub shown : Stored → ValueInfo
 shown s = record {
   leaf = s.leaf;
   span = span s.start s.end;
   whole = span s.whole_start s.end;
-  owner = s.owner;
+  owner = owner_of s.within s.owner;
   depth = s.depth;
   first_key = s.first_key;
   keys = s.keys;
-  comma_before = s.comma_before;
-  comma_after = s.comma_after;
+  comma_before = if_there s.has_before s.before;
+  comma_after = if_there s.has_after s.after;
 }
 
 abbrev pub flat : Parts → Flat
-flat p = record { kinds = p.kinds.items; starts = p.starts.items; statements = p.statements.items; keys = p.keys.items; values = map shown p.values.items }
+flat p = record { kinds = p.kinds.items; starts = p.starts.items; statements = map told p.statements.items; keys = p.keys.items; values = map shown p.values.items }
 
 abbrev pub empty : Flat
 empty = record { kinds = []; starts = []; statements = []; keys = []; values = [] }

@@ -4,23 +4,47 @@ ghost use Rattle.keep_syntax.specs.declared.fault.ReadFault.TheVariants.{Memory}
 ghost use Rattle.keep_syntax.specs.Flat as spec;
 
 use crate::fault::ReadFault;
-use crate::info::{KeyPart, Owner, Span, Start, Statement, ValueInfo};
+use crate::info::{KeyPart, Owner, Span, Start, Statement, StatementKind, ValueInfo};
 use keep_token::Leaf;
 use std::alloc::Global;
 
-/// A value as it is kept: `end` is the end of its keyval too.
+/// What a value stands in, its number apart.
+#[derive(Clone, Copy, Debug)]
+pub enum Within {
+    Line,
+    Inline,
+    Item,
+}
+
+/// A value as it is kept: `end` is the end of its keyval too. Numbers stand apart from what tells whether they are there
+/// and of what they are, so that all of that shares one word.
 #[derive(Clone, Copy, Debug)]
 pub struct Stored {
     leaf: Leaf,
+    within: Within,
     depth: u16,
+    has_before: bool,
+    has_after: bool,
     start: usize,
     end: usize,
     whole_start: usize,
-    owner: Owner,
+    owner: usize,
     first_key: usize,
     keys: usize,
-    comma_before: Option<usize>,
-    comma_after: Option<usize>,
+    before: usize,
+    after: usize,
+}
+
+/// A statement as it is kept, with the number of its value apart.
+#[derive(Clone, Copy, Debug)]
+pub struct StoredStatement {
+    kind: StatementKind,
+    has_value: bool,
+    span: Span,
+    line: Span,
+    first_key: usize,
+    keys: usize,
+    value: usize,
 }
 
 /// The tokens but `End`, the statements, the key parts and the values of a text. A token ends where the next begins.
@@ -28,9 +52,48 @@ pub struct Stored {
 pub struct Parts {
     kinds: Vec<Leaf>,
     starts: Vec<usize>,
-    statements: Vec<Statement>,
+    statements: Vec<StoredStatement>,
     keys: Vec<KeyPart>,
     values: Vec<Stored>,
+}
+
+/// A number that may be missing: whether it is there, and which.
+fn apart(number: Option<usize>) -> (bool, usize)
+    ensures { spec.if_there result.0 result.1 ≡ number }
+{
+    match number {
+        Some(number) => (true, number),
+        None => (false, 0),
+    }
+}
+
+/// The same put together again.
+fn if_there(there: bool, number: usize) -> Option<usize>
+    ensures { result ≡ spec.if_there there number }
+{
+    if there { Some(number) } else { None }
+}
+
+/// What a value stands in, and the number of that.
+fn owner_apart(owner: Owner) -> (Within, usize)
+    ensures { spec.owner_of result.0 result.1 ≡ owner }
+{
+    match owner {
+        Owner::Line(number) => (Within::Line, number),
+        Owner::Inline(number) => (Within::Inline, number),
+        Owner::Item(number) => (Within::Item, number),
+    }
+}
+
+/// The same put together again.
+fn owner_of(within: Within, number: usize) -> Owner
+    ensures { result ≡ spec.owner_of within number }
+{
+    match within {
+        Within::Line => Owner::Line(number),
+        Within::Inline => Owner::Inline(number),
+        Within::Item => Owner::Item(number),
+    }
 }
 
 impl Parts {
@@ -85,12 +148,12 @@ impl Parts {
                 start: value.whole_start,
                 end: value.end,
             },
-            owner: value.owner,
+            owner: owner_of(value.within, value.owner),
             depth: value.depth,
             first_key: value.first_key,
             keys: value.keys,
-            comma_before: value.comma_before,
-            comma_after: value.comma_after,
+            comma_before: if_there(value.has_before, value.before),
+            comma_after: if_there(value.has_after, value.after),
         }
     }
 }
@@ -119,7 +182,16 @@ pub fn push_statement(out: &mut Parts, statement: Statement) -> Result<(), ReadF
     ensures ok { OnOk result (spec.flat out.new ≡ spec.with_statement statement (spec.flat out.old)) }
     ensures err { IsOkUnless result Memory }
 {
-    out.statements.push(statement)?;
+    let (has_value, value) = apart(statement.value);
+    out.statements.push(StoredStatement {
+        kind: statement.kind,
+        has_value,
+        span: statement.span,
+        line: statement.line,
+        first_key: statement.first_key,
+        keys: statement.keys,
+        value,
+    })?;
     Ok(())
 }
 
@@ -137,17 +209,22 @@ pub fn push_value(
         ≡ spec.with_value (spec.begun leaf at end keys start.now) (spec.flat out.old)) }
     ensures err { IsOkUnless result Memory }
 {
+    let (within, owner) = owner_apart(start.owner);
+    let (has_before, before) = apart(start.comma);
     let value = Stored {
         leaf,
+        within,
         depth: start.depth,
+        has_before,
+        has_after: false,
         start: at,
         end,
         whole_start: start.at,
-        owner: start.owner,
+        owner,
         first_key: start.parts,
         keys,
-        comma_before: start.comma,
-        comma_after: None,
+        before,
+        after: 0,
     };
     out.values.push(value)?;
     Ok(())
@@ -158,7 +235,9 @@ pub fn set_comma(out: &mut Parts, number: usize, at: usize)
     requires { number < length (spec.flat out.old).values }
     ensures change { spec.ChangesValue (spec.with_comma at) number (spec.flat out.old) (spec.flat out.new) }
 {
-    out.values[number].comma_after = Some(at);
+    let value = &mut out.values[number];
+    value.has_after = true;
+    value.after = at;
 }
 
 /// Tells where a value ends.
@@ -188,7 +267,15 @@ pub fn statement_at(out: &Parts, number: usize) -> Statement
     requires { number < length (spec.flat out.now).statements }
     ensures { slice_get (spec.flat out.now).statements number ≡ Some result }
 {
-    out.statements[number]
+    let kept = &out.statements[number];
+    Statement {
+        kind: kept.kind,
+        span: kept.span,
+        line: kept.line,
+        first_key: kept.first_key,
+        keys: kept.keys,
+        value: if_there(kept.has_value, kept.value),
+    }
 }
 
 /// The kind of the token of this number.

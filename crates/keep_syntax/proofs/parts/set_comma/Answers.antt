@@ -8,8 +8,8 @@ pub returns : goal.returns
 returns c = record {
   change = λ front info back len is.
       let vs = c.args.out.now.values.items in
-      let s = c.index_mut.result.now in
-      let same = seam vs front info back c.args.number s len is c.index_mut.ensures.value in
+      let s = c.index_mut-value.result.now in
+      let same = seam vs front info back c.args.number s len is c.index_mut-value.ensures.value in
       ap (λ (x : List ValueInfo). record (flat c.args.out.now) { values = x }) (set_seam vs front info back c.args.number _ len is)
       ∙ ap (λ (v : ValueInfo). record (flat c.args.out.now) { values = front ++ (with_comma c.args.at v ∷ back) }) same;
 }
