@@ -8,6 +8,8 @@ use Rattle.keep_rules.specs.declared.node.Kind.TheVariants as kind
 use Rattle.keep_rules.specs.declared.node.Place.{Place}
 use Rattle.keep_rules.specs.declared.node.Place.TheVariants as place
 use Rattle.keep_rules.specs.declared.node.NodeInfo.{NodeInfo}
+use Rattle.keep_rules.specs.declared.told.PlaceKind.{PlaceKind}
+use Rattle.keep_rules.specs.declared.told.PlaceKind.TheVariants as place_kind
 use Rattle.keep_rules.specs.declared.told.Told.{Told}
 use Rattle.keep_rules.specs.Path.{Part}
 use Rattle.keep_rules.specs.Counts.{Numbered, is_value}
@@ -71,15 +73,25 @@ abbrev pub place_span : Place → Span → Option Span
 place_span (place.Value v) span = Some span
 place_span _ span = None
 
+-- the place of a kind, with the number that it names
+abbrev pub place_of : PlaceKind → ℕ → Place
+place_of place_kind.Root number = place.Root
+place_of place_kind.Value number = place.Value number
+place_of place_kind.Header number = place.Header number
+place_of place_kind.Element number = place.Element number
+place_of place_kind.Dotted number = place.Dotted number
+place_of place_kind.Through number = place.Through number
+place_of place_kind.Tables number = place.Tables
+
 -- the same as it is kept
 abbrev pub info_of : Told → NodeInfo
 info_of t = record {
   kind = t.kind;
-  value_span = place_span t.place t.value;
+  value_span = place_span (place_of t.place t.number) t.value;
   key_span = if t.marks == 0 then None else Some t.key;
   marks = t.marks;
   passed = t.passed;
-  place = t.place;
+  place = place_of t.place t.number;
 }
 
 -- ---- all nodes

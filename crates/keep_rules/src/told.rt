@@ -1,12 +1,25 @@
 //! What is told of a node, as it is kept.
 ghost use Rattle.std.specs.Prelude.{◌≡◌, None, IsTrue};
-ghost use Rattle.keep_rules.specs.Told.{again, goes_with, info_of, place_span, rank, named_info, unnamed_info, passed_info};
+ghost use Rattle.keep_rules.specs.Told.{again, goes_with, info_of, place_span, rank, named_info, unnamed_info, passed_info, place_of};
 
 use crate::node::{Kind, NodeInfo, Place};
 use crate::role::Role;
 use keep_syntax::Span;
 
-/// What is told of a node so far, beside its path and what hangs at it.
+/// Where a node comes from, the number of the value or statement apart.
+#[derive(Clone, Copy, Debug)]
+pub enum PlaceKind {
+    Root,
+    Value,
+    Header,
+    Element,
+    Dotted,
+    Through,
+    Tables,
+}
+
+/// What is told of a node so far, beside its path and what hangs at it. The number of its place stands apart, so that all
+/// that is no number shares one word.
 #[derive(Clone, Copy, Debug)]
 pub struct Told {
     /// What stands for the roles of the marks here, if there are any.
@@ -14,13 +27,15 @@ pub struct Told {
     pub kind: Kind,
     /// It is an element that some header goes past.
     pub passed: bool,
+    pub place: PlaceKind,
     /// How many key parts name it.
     pub marks: usize,
     /// The first key part that names it, if any does.
     pub key: Span,
     /// The text of the value, where the place is that of a value.
     pub value: Span,
-    pub place: Place,
+    /// The number of the value or statement that the place names, if it names one.
+    pub number: usize,
 }
 
 /// Stands where nothing is told of a text.
@@ -32,14 +47,16 @@ impl Told {
         requires { IsTrue (goes_with value place) }
         ensures { info_of result ≡ named_info kind value key place }
     {
+        let (place, number) = place_apart(place);
         Told {
             role: None,
             kind,
             passed: false,
+            place,
             marks: 1,
             key,
             value: value.unwrap_or(NO_SPAN),
-            place,
+            number,
         }
     }
 
@@ -49,14 +66,16 @@ impl Told {
         ensures info { info_of result ≡ unnamed_info kind value place }
         ensures role { result.role ≡ None }
     {
+        let (place, number) = place_apart(place);
         Told {
             role: None,
             kind,
             passed: false,
+            place,
             marks: 0,
             key: NO_SPAN,
             value: value.unwrap_or(NO_SPAN),
-            place,
+            number,
         }
     }
 
@@ -74,9 +93,10 @@ impl Told {
     pub fn info(&self) -> NodeInfo
         ensures { result ≡ info_of self.now }
     {
+        let place = place_of(self.place, self.number);
         NodeInfo {
             kind: self.kind,
-            value_span: value_at(self.place, self.value),
+            value_span: value_at(place, self.value),
             key_span: if self.marks == 0 {
                 None
             } else {
@@ -84,7 +104,7 @@ impl Told {
             },
             marks: self.marks,
             passed: self.passed,
-            place: self.place,
+            place,
         }
     }
 
@@ -93,7 +113,9 @@ impl Told {
         ensures info { info_of result ≡ again (info_of self) (info_of more) }
         ensures role { result.role ≡ self.role }
     {
-        let later = if rank_of(self.place) <= rank_of(more.place) {
+        let old = place_of(self.place, self.number);
+        let new = place_of(more.place, more.number);
+        let later = if rank_of(old) <= rank_of(new) {
             more
         } else {
             self
@@ -106,12 +128,43 @@ impl Told {
                 self.kind
             },
             passed: self.passed || more.passed,
+            place: later.place,
             // No document has so many key parts that this ends short of the sum.
             marks: self.marks.saturating_add(more.marks),
             key: if self.marks == 0 { more.key } else { self.key },
             value: later.value,
-            place: later.place,
+            number: later.number,
         }
+    }
+}
+
+/// Which place it is, and the number that it names, or 0.
+fn place_apart(place: Place) -> (PlaceKind, usize)
+    ensures { place_of result.0 result.1 ≡ place }
+{
+    match place {
+        Place::Root => (PlaceKind::Root, 0),
+        Place::Value(number) => (PlaceKind::Value, number),
+        Place::Header(number) => (PlaceKind::Header, number),
+        Place::Element(number) => (PlaceKind::Element, number),
+        Place::Dotted(number) => (PlaceKind::Dotted, number),
+        Place::Through(number) => (PlaceKind::Through, number),
+        Place::Tables => (PlaceKind::Tables, 0),
+    }
+}
+
+/// The same put together again.
+fn place_of(kind: PlaceKind, number: usize) -> Place
+    ensures { result ≡ place_of kind number }
+{
+    match kind {
+        PlaceKind::Root => Place::Root,
+        PlaceKind::Value => Place::Value(number),
+        PlaceKind::Header => Place::Header(number),
+        PlaceKind::Element => Place::Element(number),
+        PlaceKind::Dotted => Place::Dotted(number),
+        PlaceKind::Through => Place::Through(number),
+        PlaceKind::Tables => Place::Tables,
     }
 }
 
