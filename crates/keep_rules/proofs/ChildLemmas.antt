@@ -5,7 +5,7 @@ use Rattle.std.specs.Option.{option_map}
 use Rattle.std.proofs.lemmas.Option.{slice_get-get_or, slice_get_within, get_or_from_slice_get}
 use Rattle.keep_rules.specs.declared.nodes.Node.{Node}
 use Rattle.keep_rules.specs.declared.children.Children.{Children}
-use Rattle.keep_rules.specs.declared.children.Children.TheVariants.{Nothing, NoKeys, OneKey, Keys, Items}
+use Rattle.keep_rules.specs.declared.children.Children.TheVariants.{Nothing, NoKeys, OneKey, TwoKeys, Keys, Items}
 use Rattle.keep_rules.specs.Path.{Part, key, index}
 use Rattle.keep_rules.specs.Nodes.{node_number}
 use Rattle.keep_rules.specs.Children.{holds_of, named, child_ids, child_named, child_numbered}
@@ -43,6 +43,8 @@ step_found NoKeys (key text) id h = absurd cc
 step_found NoKeys (index n) id h = absurd cc
 step_found (OneKey one) (key text) id h = found_by_key (OneKey one) text id refl h
 step_found (OneKey one) (index n) id h = absurd cc
+step_found (TwoKeys two) (key text) id h = found_by_key (TwoKeys two) text id refl h
+step_found (TwoKeys two) (index n) id h = absurd cc
 step_found (Keys keys) (key text) id h = found_by_key (Keys keys) text id refl h
 step_found (Keys keys) (index n) id h = absurd cc
 step_found (Items items) (key text) id h = absurd cc
@@ -56,6 +58,8 @@ step_missing Nothing p k h low same = absurd (omega arith)
 step_missing NoKeys p k h low same = absurd (omega arith)
 step_missing (OneKey one) (key text) k h low same = missing_by_key (OneKey one) text k refl h low same
 step_missing (OneKey one) (index n) k h low same = absurd cc
+step_missing (TwoKeys two) (key text) k h low same = missing_by_key (TwoKeys two) text k refl h low same
+step_missing (TwoKeys two) (index n) k h low same = absurd cc
 step_missing (Keys keys) (key text) k h low same = missing_by_key (Keys keys) text k refl h low same
 step_missing (Keys keys) (index n) k h low same = absurd cc
 step_missing (Items items) (key text) k h low same = absurd cc
@@ -69,6 +73,7 @@ pub index_is_place : (c : Children) (n k : ℕ) → child_by c (index n) ≡ Som
 index_is_place Nothing n k h = absurd cc
 index_is_place NoKeys n k h = absurd cc
 index_is_place (OneKey one) n k h = absurd cc
+index_is_place (TwoKeys two) n k h = absurd cc
 index_is_place (Keys keys) n k h = absurd cc
 index_is_place (Items items) n k h = h
 
@@ -82,6 +87,7 @@ pub key_step : (c : Children) (n : ℕ) (text : List ℕ) → option_map (λ e. 
 key_step Nothing n text h = absurd cc
 key_step NoKeys n text h = absurd cc
 key_step (OneKey one) n text h = ap key (by_entry (named (OneKey one)) n text h)
+key_step (TwoKeys two) n text h = ap key (by_entry (named (TwoKeys two)) n text h)
 key_step (Keys keys) n text h = ap key (by_entry (named (Keys keys)) n text h)
 key_step (Items items) n text h = absurd cc
 
@@ -97,6 +103,7 @@ pub no_key_step : (c : Children) (n : ℕ) → n < length (child_ids c) → opti
 no_key_step Nothing n low h = absurd (omega arith)
 no_key_step NoKeys n low h = absurd (omega arith)
 no_key_step (OneKey one) n low h = absurd (all_named (OneKey one) n refl low h)
+no_key_step (TwoKeys two) n low h = absurd (all_named (TwoKeys two) n refl low h)
 no_key_step (Keys keys) n low h = absurd (all_named (Keys keys) n refl low h)
 no_key_step (Items items) n low h = (λ e. cc, refl)
 

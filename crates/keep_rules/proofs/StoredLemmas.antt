@@ -14,7 +14,7 @@ use Rattle.std.proofs.Math.Seq.{map-set_same}
 use Rattle.keep_rules.specs.declared.nodes.Node.{Node}
 use Rattle.keep_rules.specs.declared.node.NodeInfo.{NodeInfo}
 use Rattle.keep_rules.specs.declared.children.Children.{Children}
-use Rattle.keep_rules.specs.declared.children.Children.TheVariants.{Nothing, NoKeys, OneKey, Keys, Items}
+use Rattle.keep_rules.specs.declared.children.Children.TheVariants.{Nothing, NoKeys, OneKey, TwoKeys, Keys, Items}
 use Rattle.keep_rules.specs.declared.role.Role.{Role}
 use Rattle.keep_rules.specs.Path.{Part, key, index}
 use Rattle.keep_rules.specs.Told.{again, info_of, nothing_said}
@@ -66,6 +66,7 @@ by_names : (c : Children) (text : List ℕ) → holds_of c ≡ by_key → child_
 by_names Nothing text h = cc
 by_names NoKeys text h = refl
 by_names (OneKey one) text h = refl
+by_names (TwoKeys two) text h = refl
 by_names (Keys keys) text h = lookup_named text keys.value.entries
 by_names (Items items) text h = cc
 
@@ -77,6 +78,7 @@ ids_named : (c : Children) → holds_of c ≡ by_key → child_ids c ≡ map (λ
 ids_named Nothing h = cc
 ids_named NoKeys h = refl
 ids_named (OneKey one) h = refl
+ids_named (TwoKeys two) h = refl
 ids_named (Keys keys) h = numbers_named keys.value.entries
 ids_named (Items items) h = cc
 
@@ -467,6 +469,7 @@ pub no_names : (c : Children) → holds_of c ≡ by_index → named c ≡ []
 no_names Nothing h = refl
 no_names NoKeys h = refl
 no_names (OneKey one) h = cc
+no_names (TwoKeys two) h = cc
 no_names (Keys keys) h = cc
 no_names (Items items) h = refl
 

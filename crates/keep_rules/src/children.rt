@@ -1,7 +1,5 @@
 //! What hangs at a node.
 ghost use Rattle.std.specs.Prelude.{◌≡◌, ◌<◌, ◌-◌, ◌∷◌, ◌++◌, [], None, Option, OnOk, IfOk, IfSome, IfNone, false, bytes_eq, length, option_copied, option_map, slice_get, slice_index_or, string_bytes};
-ghost use Rattle.keep_rules.specs.Children.{holding, holds_of, named, child_ids, child_named, child_numbered};
-ghost use Rattle.keep_rules.specs.Trie.{by_key, by_index};
 
 use indexmap::IndexMap;
 use std::alloc::{AllocError, Global};
@@ -26,21 +24,34 @@ pub enum Children {
     /// At a table: no key yet.
     NoKeys,
     /// At a table with one key.
-    OneKey(Box<OneKey>),
+    OneKey(Box<Entry>),
+    /// At a table with two keys.
+    TwoKeys(Box<TwoKeys>),
     /// At a table with more: by their keys, decoded.
     Keys(Box<IndexMap<String, usize>>),
     /// At an array or an array of tables: items or elements.
     Items(Box<Vec<usize>>),
 }
 
-/// A key, decoded, and its child: a table with no other keeps no map.
+/// A key, decoded, and its child.
 #[derive(Drop)]
-pub struct OneKey {
+pub struct Entry {
     pub key: String,
     pub child: usize,
 }
 
+/// Two keys, which differ: a table with no third keeps no map.
+#[derive(Drop)]
+pub struct TwoKeys {
+    pub first: Entry,
+    pub second: Entry,
+    ghost apart: { bytes_eq (string_bytes second.key) (string_bytes first.key) ≡ false },
+}
+
 impl Children {
+    ghost use Rattle.keep_rules.specs.Children.{holding, holds_of, named, child_ids, child_named, child_numbered};
+    ghost use Rattle.keep_rules.specs.Trie.{by_key, by_index};
+
     /// None yet.
     pub fn none(alloc: Global, holds: Holds) -> Result<Children, AllocError>
         ensures holds { IfOk result (λ c. holds_of c ≡ holding holds) }
@@ -60,6 +71,7 @@ impl Children {
     {
         match self {
             Children::OneKey(one) => (one.key.as_str() == text).then_some(one.child),
+            Children::TwoKeys(two) => two.child(text),
             Children::Keys(keys) => keys.get(text).copied(),
             _ => None,
         }
@@ -86,11 +98,19 @@ impl Children {
         ensures added { IfOk result (λ c. child_ids c ≡ child_ids self ++ child ∷ []) }
         ensures named { IfOk result (λ c. named c ≡ named self ++ (string_bytes key, child) ∷ []) }
     {
-        let more = OneKey { key, child };
+        let more = Entry { key, child };
         match self {
             Children::NoKeys => Ok(Children::OneKey(Box::new(alloc, more)?)),
             Children::OneKey(one) => {
-                let keys = two_keys(alloc, Box::into_inner(one), more)?;
+                let two = TwoKeys {
+                    first: Box::into_inner(one),
+                    second: more,
+                };
+                Ok(Children::TwoKeys(Box::new(alloc, two)?))
+            }
+            Children::TwoKeys(two) => {
+                let mut keys = Box::into_inner(two).into_map(alloc)?;
+                keys.insert(more.key, more.child)?;
                 Ok(Children::Keys(Box::new(alloc, keys)?))
             }
             Children::Keys(mut keys) => {
@@ -124,6 +144,7 @@ impl Children {
         match self {
             Children::Nothing | Children::NoKeys => 0,
             Children::OneKey(_) => 1,
+            Children::TwoKeys(_) => 2,
             Children::Keys(keys) => keys.len(),
             Children::Items(items) => items.len(),
         }
@@ -157,6 +178,7 @@ impl Children {
         match self {
             Children::Nothing | Children::NoKeys => None,
             Children::OneKey(one) => (number == 0).then_some(one.child),
+            Children::TwoKeys(two) => two.entry(number).map(|entry| entry.child),
             Children::Keys(keys) => keys.get_index(number).map(|(_, child)| *child),
             Children::Items(items) => items.get(number).copied(),
         }
@@ -168,19 +190,46 @@ impl Children {
     {
         match self {
             Children::OneKey(one) => (number == 0).then_some(one.key.as_str()),
+            Children::TwoKeys(two) => two.entry(number).map(|entry| entry.key.as_str()),
             Children::Keys(keys) => keys.get_index(number).map(|(key, _)| key.as_str()),
             _ => None,
         }
     }
 }
 
-/// A map of two keys, which differ.
-fn two_keys(alloc: Global, one: OneKey, more: OneKey) -> Result<IndexMap<String, usize>, AllocError>
-    requires apart { bytes_eq (string_bytes more.key) (string_bytes one.key) ≡ false }
-    ensures { IfOk result (λ keys. keys.entries ≡ (one.key, one.child) ∷ (more.key, more.child) ∷ []) }
-{
-    let mut keys = IndexMap::new(alloc);
-    keys.insert(one.key, one.child)?;
-    keys.insert(more.key, more.child)?;
-    Ok(keys)
+impl TwoKeys {
+    ghost use Rattle.std.specs.Map.{lookup};
+    ghost use Rattle.keep_rules.specs.Children.{named_entry};
+
+    /// The child of that key.
+    fn child(&self, text: &str) -> Option<usize>
+        ensures { result ≡ lookup (bytes_eq text.now) (named_entry self.now.first ∷ named_entry self.now.second ∷ []) }
+    {
+        if self.first.key.as_str() == text {
+            return Some(self.first.child);
+        }
+        (self.second.key.as_str() == text).then_some(self.second.child)
+    }
+
+    /// The entry of that number.
+    fn entry(&self, number: usize) -> Option<&Entry>
+        ensures { option_copied result ≡ slice_get (self.now.first ∷ self.now.second ∷ []) number }
+    {
+        match number {
+            0 => Some(&self.first),
+            1 => Some(&self.second),
+            _ => None,
+        }
+    }
+
+    /// A map of the two.
+    fn into_map(self, alloc: Global) -> Result<IndexMap<String, usize>, AllocError>
+        ensures { IfOk result (λ keys. keys.entries ≡ (self.first.key, self.first.child) ∷ (self.second.key, self.second.child) ∷ []) }
+    {
+        let TwoKeys { first, second } = self;
+        let mut keys = IndexMap::new(alloc);
+        keys.insert(first.key, first.child)?;
+        keys.insert(second.key, second.child)?;
+        Ok(keys)
+    }
 }

@@ -259,6 +259,72 @@ fn children_and_parts_of_paths(rt: HostRuntime) -> Result<(), Fail> {
     Ok(())
 }
 
+#[test]
+fn tables_of_one_to_four_keys(rt: HostRuntime) -> Result<(), Fail> {
+    let text = "[p]\na=1\n[q]\na=1\nb=2\n[r]\na=1\nb=2\nc=3\n[s]\na=1\nb=2\nc=3\nd=4\n";
+    let Ok(index) = index_of(rt.alloc(), text) else {
+        assert!(rt; false, "refused");
+        return Ok(());
+    };
+    let paths = paths_of(rt.alloc(), &index)?;
+    assert_eq!(rt;
+        paths.as_str(),
+        ";;p;p.a;q;q.a;q.b;r;r.a;r.b;r.c;s;s.a;s.b;s.c;s.d"
+    );
+    for (number, n, key, child) in [
+        (1, 0, "a", Some(2)),
+        (1, 1, "b", None),
+        (1, 2, "", None),
+        (3, 0, "a", Some(4)),
+        (3, 1, "b", Some(5)),
+        (3, 2, "c", None),
+        (3, 3, "bb", None),
+        (6, 0, "a", Some(7)),
+        (6, 1, "b", Some(8)),
+        (6, 2, "c", Some(9)),
+        (6, 3, "d", None),
+        (10, 0, "a", Some(11)),
+        (10, 1, "b", Some(12)),
+        (10, 2, "c", Some(13)),
+        (10, 3, "d", Some(14)),
+        (10, 4, "e", None),
+    ] {
+        match index.node_at(number) {
+            Some(id) => {
+                assert!(rt;
+                    index.child(id, key) == child.map(NodeId),
+                    "{number}, {key}"
+                );
+                assert!(rt; index.child_at(id, n) == child.map(NodeId), "{number}, {n}");
+            }
+            None => assert!(rt; false, "{number}: no node"),
+        }
+    }
+    Ok(())
+}
+
+#[test]
+fn keys_that_are_there_already(rt: HostRuntime) {
+    for (text, place) in [
+        ("a=1\na=2\n", 4),
+        ("a=1\nb=2\na=3\n", 8),
+        ("a=1\nb=2\nb=3\n", 8),
+        ("a=1\nb=2\nc=3\na=4\n", 12),
+        ("a=1\nb=2\nc=3\nb=4\n", 12),
+        ("a=1\nb=2\nc=3\nc=4\n", 12),
+        ("a=1\nb=2\nc=3\nd=4\nb=5\n", 16),
+        ("[t]\na=1\n'b'=2\n\"\\u0062\"=3\n", 14),
+    ] {
+        match index_of(rt.alloc(), text) {
+            Err(ReadFault::Define { at, why }) => {
+                assert_eq!(rt; at, place, "{text}");
+                assert!(rt; why == Why::DuplicateKey, "{text}");
+            }
+            _ => assert!(rt; false, "{text}: accepted, or another fault"),
+        }
+    }
+}
+
 // So many times that line.
 fn repeated(alloc: Global, line: &str, count: usize) -> Result<String, AllocError> {
     let mut out = String::new(alloc);

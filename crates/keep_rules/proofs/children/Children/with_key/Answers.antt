@@ -8,7 +8,7 @@ use Rattle.keep_rules.specs.Children.{named, named_pair, child_ids, child_named}
 use Rattle.keep_rules.proofs.children.Children.with_key.Goals as goal
 
 -- the map has the pair behind its others
-entries_new : (c : goal.In_ok-insert-in-Keys) → c.insert.new.self.entries ≡ c.in-Keys.keys.value.entries ++ (c.args.key, c.args.child) ∷ []
+entries_new : (c : goal.In_ok-insert-in-Keys) → c.insert-in-Keys.new.self.entries ≡ c.in-Keys.keys.value.entries ++ (c.args.key, c.args.child) ∷ []
 entries_new c =
     let here = c.deref_mut.ensures.value in
     c.in_ok-insert-in-Keys.ensures.entries
