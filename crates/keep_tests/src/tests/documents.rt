@@ -21,7 +21,7 @@ fn repeated(alloc: Global, part: &str, count: usize) -> Result<String, AllocErro
 
 #[test]
 fn documents_have_so_many_tokens(rt: HostRuntime) {
-    for (text, count) in [
+    const CASES: &[(&str, usize)] = &[
         ("", 1),
         ("\u{FEFF}", 2),
         ("# c", 2),
@@ -36,7 +36,8 @@ fn documents_have_so_many_tokens(rt: HostRuntime) {
         ("[[a]]\n[[a.b]]\n[[a]]\n[[a.b]]\n", 21),
         ("[x.y.z.w]\n[x]\n", 15),
         ("a = 1\nb = true\n", 13),
-    ] {
+    ];
+    for &(text, count) in CASES {
         assert_eq!(rt;
             tokens_in(rt.alloc(), text, Limits::STANDARD),
             Ok(count),
@@ -52,11 +53,12 @@ fn documents_have_so_many_tokens(rt: HostRuntime) {
 
 #[test]
 fn documents_whose_definitions_clash_are_read(rt: HostRuntime) {
-    for (text, count) in [
+    const CASES: &[(&str, usize)] = &[
         ("a = 1\na = 2\n", 13),
         ("[t]\n[t]", 8),
         ("a = {b = 1, b.c = 2}", 21),
-    ] {
+    ];
+    for &(text, count) in CASES {
         assert_eq!(rt;
             tokens_in(rt.alloc(), text, Limits::STANDARD),
             Ok(count),
@@ -67,12 +69,13 @@ fn documents_whose_definitions_clash_are_read(rt: HostRuntime) {
 
 #[test]
 fn inline_tables_over_lines_are_wide(rt: HostRuntime) {
-    for (text, count) in [
+    const CASES: &[(&str, usize)] = &[
         ("a = {x = 1,\n # c\n}", 17),
         ("a = {x = 1,}", 13),
         ("a = {\n}", 8),
         ("a = {x = 1 # c\n,}", 16),
-    ] {
+    ];
+    for &(text, count) in CASES {
         assert_eq!(rt;
             tokens_in(rt.alloc(), text, Limits::WIDE),
             Ok(count),
@@ -94,7 +97,7 @@ fn tokens_of_a_line_with_a_comment(rt: HostRuntime) -> Result<(), Fail> {
     let text = "a = 1 # x\n";
     let syntax = Syntax::read(rt.alloc(), text, Limits::STANDARD)?;
     let mut tokens = syntax.tokens(text);
-    for (leaf, at, part) in [
+    const TOKENS: &[(Leaf, usize, &str)] = &[
         (Leaf::BareKey, 0, "a"),
         (Leaf::Ws, 1, " "),
         (Leaf::Equals, 2, "="),
@@ -104,7 +107,8 @@ fn tokens_of_a_line_with_a_comment(rt: HostRuntime) -> Result<(), Fail> {
         (Leaf::Comment, 6, "# x"),
         (Leaf::Newline, 9, "\n"),
         (Leaf::End, 10, ""),
-    ] {
+    ];
+    for &(leaf, at, part) in TOKENS {
         let Some(token) = tokens.next() else {
             panic!(rt; "no token at {at}");
         };
@@ -119,7 +123,7 @@ fn tokens_of_a_dotted_key(rt: HostRuntime) -> Result<(), Fail> {
     let text = "\"a\" . b = '''x'''\n";
     let syntax = Syntax::read(rt.alloc(), text, Limits::STANDARD)?;
     let mut tokens = syntax.tokens(text);
-    for (leaf, at) in [
+    const TOKENS: &[(Leaf, usize)] = &[
         (Leaf::Basic, 0),
         (Leaf::Ws, 3),
         (Leaf::Dot, 4),
@@ -131,7 +135,8 @@ fn tokens_of_a_dotted_key(rt: HostRuntime) -> Result<(), Fail> {
         (Leaf::MlLiteral, 10),
         (Leaf::Newline, 17),
         (Leaf::End, 18),
-    ] {
+    ];
+    for &(leaf, at) in TOKENS {
         let Some(token) = tokens.next() else {
             panic!(rt; "no token at {at}");
         };
@@ -146,7 +151,7 @@ fn tokens_of_brackets(rt: HostRuntime) -> Result<(), Fail> {
     let text = "\u{FEFF}[t]\n[[u]]\na=[{},]";
     let syntax = Syntax::read(rt.alloc(), text, Limits::STANDARD)?;
     let mut tokens = syntax.tokens(text);
-    for (leaf, at) in [
+    const TOKENS: &[(Leaf, usize)] = &[
         (Leaf::Bom, 0),
         (Leaf::HeadOpen, 3),
         (Leaf::BareKey, 4),
@@ -164,7 +169,8 @@ fn tokens_of_brackets(rt: HostRuntime) -> Result<(), Fail> {
         (Leaf::Comma, 18),
         (Leaf::ArrayClose, 19),
         (Leaf::End, 20),
-    ] {
+    ];
+    for &(leaf, at) in TOKENS {
         let Some(token) = tokens.next() else {
             panic!(rt; "no token at {at}");
         };
@@ -186,13 +192,14 @@ fn joined(alloc: Global, text: &str) -> Result<String, ReadFault> {
 
 #[test]
 fn the_tokens_are_the_whole_text(rt: HostRuntime) -> Result<(), Fail> {
-    for text in [
+    const TEXTS: &[&str] = &[
         "",
         "\u{FEFF} # é\r\n",
         "\t[ a . \"b\" ] # c\r\n\r\n  x = [ 1 , # one\n 2 ]\n",
         "[[a]]\nb = { c = {\n} , }\n\n",
         "a = \"\"\"\nx\\\n  y\"\"\" # z",
-    ] {
+    ];
+    for &text in TEXTS {
         let out = joined(rt.alloc(), text)?;
         assert_eq!(rt; out.as_str(), text);
     }
@@ -270,14 +277,15 @@ fn key_parts_stand_in_text_order(rt: HostRuntime) -> Result<(), Fail> {
     let text = "\"a\" . 'b' = {c.d = 1}\n[e . f]\n";
     let syntax = Syntax::read(rt.alloc(), text, Limits::STANDARD)?;
     assert_eq!(rt; syntax.key_count(), 6);
-    for (number, leaf, start, end) in [
+    const KEY_PARTS: &[(usize, Leaf, usize, usize)] = &[
         (0, Leaf::Basic, 0, 3),
         (1, Leaf::Literal, 6, 9),
         (2, Leaf::BareKey, 13, 14),
         (3, Leaf::BareKey, 15, 16),
         (4, Leaf::BareKey, 23, 24),
         (5, Leaf::BareKey, 27, 28),
-    ] {
+    ];
+    for &(number, leaf, start, end) in KEY_PARTS {
         let span = span(start, end);
         assert_eq!(rt; key_part(&rt, &syntax, number), KeyPart { leaf, span });
     }

@@ -6,12 +6,13 @@ use std::test::Fail;
 
 #[test]
 fn documents_count_their_tokens_and_nodes(rt: HostRuntime) {
-    for (text, tokens, nodes) in [
+    const CASES: &[(&str, usize, usize)] = &[
         ("", 1, 1),
         ("a = 1 # x\n", 9, 2),
         ("a = [1, [2, 'x'],]", 17, 6),
         ("[[a]]\n[[a.b]]\n[[a]]\n[[a.b]]\n", 21, 8),
-    ] {
+    ];
+    for &(text, tokens, nodes) in CASES {
         match Document::read(rt.alloc(), text.as_bytes()) {
             Ok(document) => {
                 let counts = document.counts();

@@ -30,7 +30,7 @@ fn paths_of(alloc: Global, index: &Index) -> Result<String, AllocError> {
 
 #[test]
 fn accepted_documents_and_their_nodes(rt: HostRuntime) -> Result<(), Fail> {
-    for (text, paths) in [
+    const CASES: &[(&str, &str)] = &[
         ("", ";"),
         ("# c", ";"),
         (" \t# c\r\n", ";"),
@@ -54,7 +54,8 @@ fn accepted_documents_and_their_nodes(rt: HostRuntime) -> Result<(), Fail> {
         ),
         ("a.\"b.c\".'d' = 1\n", ";;a;a.\"b.c\";a.\"b.c\".d"),
         ("\"\\u0061\" = 1\n'b' = 2\n", ";;a;b"),
-    ] {
+    ];
+    for &(text, paths) in CASES {
         match index_of(rt.alloc(), text) {
             Ok(index) => {
                 let found = paths_of(rt.alloc(), &index)?;
@@ -68,7 +69,7 @@ fn accepted_documents_and_their_nodes(rt: HostRuntime) -> Result<(), Fail> {
 
 #[test]
 fn documents_that_the_rules_refuse(rt: HostRuntime) {
-    for (text, place, reason) in [
+    const CASES: &[(&str, usize, Why)] = &[
         ("a = 1\n[a]\n", 7, Why::DefinedTwice),
         ("a = 1\n[a.b]", 7, Why::NotATable),
         ("a = [{}]\n[[a]]", 11, Why::NotAnArray),
@@ -90,7 +91,8 @@ fn documents_that_the_rules_refuse(rt: HostRuntime) {
         ("a = 1\n\"\\u0061\".b = 2\n", 6, Why::NotByDots),
         ("a = [{b = 1}, {c = 1, c = 2}]", 22, Why::DuplicateKey),
         ("[[a]]\nb = 1\n[[a]]\nb = 2\nb = 3\n", 24, Why::DuplicateKey),
-    ] {
+    ];
+    for &(text, place, reason) in CASES {
         match index_of(rt.alloc(), text) {
             Err(ReadFault::Define { at, why }) => {
                 assert_eq!(rt; at, place, "{text}");
@@ -103,12 +105,13 @@ fn documents_that_the_rules_refuse(rt: HostRuntime) {
 
 #[test]
 fn values_that_the_rules_refuse(rt: HostRuntime) {
-    for (text, place, reason) in [
+    const REFUSED: &[(&str, usize, Why)] = &[
         ("{x=1,x=2}", 5, Why::DuplicateKey),
         ("{x=1,'x'=2}", 5, Why::DuplicateKey),
         ("[1, {a.b = 1, a = 2}]", 14, Why::DuplicateKey),
         ("{a = 1, a.b = 2}", 8, Why::NotByDots),
-    ] {
+    ];
+    for &(text, place, reason) in REFUSED {
         match check_value(rt.alloc(), text) {
             Err(ReadFault::Define { at, why }) => {
                 assert_eq!(rt; at, place, "{text}");
@@ -117,7 +120,7 @@ fn values_that_the_rules_refuse(rt: HostRuntime) {
             _ => assert!(rt; false, "{text}: accepted, or another fault"),
         }
     }
-    for text in [
+    const ACCEPTED: &[&str] = &[
         "1",
         "[]",
         "{}",
@@ -125,7 +128,8 @@ fn values_that_the_rules_refuse(rt: HostRuntime) {
         "{x=1,y={x=1}}",
         "[{x=1},{x=1}]",
         "{a.b=1,a.c=2}",
-    ] {
+    ];
+    for &text in ACCEPTED {
         match check_value(rt.alloc(), text) {
             Ok(()) => {}
             Err(fault) => assert!(rt; false, "{text}: {fault}"),
@@ -146,7 +150,7 @@ fn what_is_told_of_an_element_its_tables_and_its_values(rt: HostRuntime) -> Resu
     };
     assert_eq!(rt; index.node_count(), 6);
     assert!(rt; index.node_at(6).is_none());
-    for (path, kind, key, marks, passed, place) in [
+    const NODES: &[(&str, Kind, Option<usize>, usize, bool, Place)] = &[
         ("", Kind::Table, None, 0, false, Place::Root),
         ("a", Kind::Tables, Some(2), 2, false, Place::Tables),
         ("a[0]", Kind::Table, None, 0, true, Place::Element(0)),
@@ -167,7 +171,8 @@ fn what_is_told_of_an_element_its_tables_and_its_values(rt: HostRuntime) -> Resu
             false,
             Place::Value(0),
         ),
-    ] {
+    ];
+    for &(path, kind, key, marks, passed, place) in NODES {
         let Ok(steps) = Path::read(rt.alloc(), path) else {
             assert!(rt; false, "{path}: no path");
             return Ok(());
@@ -193,7 +198,7 @@ fn children_and_parts_of_paths(rt: HostRuntime) -> Result<(), Fail> {
         assert!(rt; false, "refused");
         return Ok(());
     };
-    for (path, first, number) in [
+    const FOUND: &[(&str, usize, Option<usize>)] = &[
         ("a[0].s", 9, Some(3)),
         ("a[0].s", 1, Some(1)),
         ("a[0].s", 0, Some(0)),
@@ -203,7 +208,8 @@ fn children_and_parts_of_paths(rt: HostRuntime) -> Result<(), Fail> {
         ("a[0].s.x.y[2]", 6, None),
         ("a.s", 2, None),
         ("b", 1, None),
-    ] {
+    ];
+    for &(path, first, number) in FOUND {
         let Ok(steps) = Path::read(rt.alloc(), path) else {
             assert!(rt; false, "{path}: no path");
             return Ok(());
@@ -213,7 +219,7 @@ fn children_and_parts_of_paths(rt: HostRuntime) -> Result<(), Fail> {
             "{path}, {first}"
         );
     }
-    for (number, children) in [
+    const COUNTS: &[(usize, usize)] = &[
         (0, 1),
         (1, 1),
         (2, 1),
@@ -222,19 +228,21 @@ fn children_and_parts_of_paths(rt: HostRuntime) -> Result<(), Fail> {
         (5, 2),
         (6, 0),
         (8, 0),
-    ] {
+    ];
+    for &(number, children) in COUNTS {
         match index.node_at(number) {
             Some(id) => assert_eq!(rt; index.child_count(id), children, "{number}"),
             None => assert!(rt; false, "{number}: no node"),
         }
     }
-    for (number, key, child) in [
+    const BY_KEY: &[(usize, &str, Option<usize>)] = &[
         (2, "s", Some(3)),
         (2, "x", None),
         (3, "z", Some(8)),
         (5, "0", None),
         (6, "x", None),
-    ] {
+    ];
+    for &(number, key, child) in BY_KEY {
         match index.node_at(number) {
             Some(id) => assert!(rt;
                 index.child(id, key) == child.map(NodeId),
@@ -243,14 +251,15 @@ fn children_and_parts_of_paths(rt: HostRuntime) -> Result<(), Fail> {
             None => assert!(rt; false, "{number}: no node"),
         }
     }
-    for (number, n, child) in [
+    const BY_NUMBER: &[(usize, usize, Option<usize>)] = &[
         (3, 0, Some(4)),
         (3, 1, Some(8)),
         (3, 2, None),
         (5, 1, Some(7)),
         (5, 2, None),
         (6, 0, None),
-    ] {
+    ];
+    for &(number, n, child) in BY_NUMBER {
         match index.node_at(number) {
             Some(id) => assert!(rt; index.child_at(id, n) == child.map(NodeId), "{number}, {n}"),
             None => assert!(rt; false, "{number}: no node"),

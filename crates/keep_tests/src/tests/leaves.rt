@@ -14,7 +14,7 @@ fn key(rt: &impl Abort, text: &str, at: usize) -> Result<(Leaf, usize), LeafFaul
 
 #[test]
 fn gaps_go_as_far_as_they_can(rt: HostRuntime) {
-    for (text, at, found) in [
+    const CASES: &[(&str, usize, Option<(Leaf, usize)>)] = &[
         (" \t a", 0, Some((Leaf::Ws, 3))),
         ("\n\n", 0, Some((Leaf::Newline, 1))),
         ("\r\nx", 0, Some((Leaf::Newline, 2))),
@@ -25,24 +25,26 @@ fn gaps_go_as_far_as_they_can(rt: HostRuntime) {
         ("a", 0, None),
         ("a", 1, None),
         ("", 0, None),
-    ] {
+    ];
+    for &(text, at, found) in CASES {
         assert_eq!(rt; gap(&rt, text, at), found, "{text:?}");
     }
 }
 
 #[test]
 fn key_parts(rt: HostRuntime) {
-    for (text, at, leaf, end) in [
+    const FOUND: &[(&str, usize, Leaf, usize)] = &[
         ("a-b_1 = 1", 0, Leaf::BareKey, 5),
         ("\"a b\".c", 0, Leaf::Basic, 5),
         ("'a'.c", 0, Leaf::Literal, 3),
         ("''' = 1", 0, Leaf::Literal, 2),
         ("\"\"\" = 1", 0, Leaf::Basic, 2),
         ("a.b", 2, Leaf::BareKey, 3),
-    ] {
+    ];
+    for &(text, at, leaf, end) in FOUND {
         assert_eq!(rt; key(&rt, text, at), Ok((leaf, end)), "{text}");
     }
-    for (text, at, fault, what) in [
+    const FAULTS: &[(&str, usize, usize, What)] = &[
         ("= 1", 0, 0, What::KeyPart),
         ("a. = 1", 2, 2, What::KeyPart),
         ("a..b = 1", 2, 2, What::KeyPart),
@@ -52,7 +54,8 @@ fn key_parts(rt: HostRuntime) {
         ("\0", 0, 0, What::Control),
         ("\"a", 0, 0, What::Unclosed),
         ("\"a\\q\"", 0, 2, What::Escape),
-    ] {
+    ];
+    for &(text, at, fault, what) in FAULTS {
         assert_eq!(rt;
             key(&rt, text, at),
             Err(LeafFault { at: fault, what }),

@@ -19,7 +19,7 @@ fn told(alloc: Global, path: &Path) -> Result<String, AllocError> {
 
 #[test]
 fn paths_are_read_and_written(rt: HostRuntime) -> Result<(), Fail> {
-    for (text, steps, written) in [
+    const CASES: &[(&str, &str, &str)] = &[
         ("", "", ""),
         ("a", "<a>", "a"),
         ("a.b", "<a><b>", "a.b"),
@@ -36,7 +36,8 @@ fn paths_are_read_and_written(rt: HostRuntime) -> Result<(), Fail> {
         ("'\\'", "<\\>", "\"\\\\\""),
         ("\"\\u00E9\\t\"", "<é\t>", "\"é\\t\""),
         ("\"é\".\"\\\"\"", "<é><\">", "\"é\".\"\\\"\""),
-    ] {
+    ];
+    for &(text, steps, written) in CASES {
         match Path::read(rt.alloc(), text) {
             Ok(path) => {
                 let found = told(rt.alloc(), &path)?;
@@ -53,7 +54,7 @@ fn paths_are_read_and_written(rt: HostRuntime) -> Result<(), Fail> {
 
 #[test]
 fn faults_in_the_texts_of_paths(rt: HostRuntime) {
-    for (text, place) in [
+    const CASES: &[(&str, usize)] = &[
         ("a b", 1),
         ("a[0]b", 4),
         ("a[0", 1),
@@ -83,7 +84,8 @@ fn faults_in_the_texts_of_paths(rt: HostRuntime) {
         ("'''a'''", 2),
         ("a=b", 1),
         ("a\n", 1),
-    ] {
+    ];
+    for &(text, place) in CASES {
         match Path::read(rt.alloc(), text) {
             Ok(_) => assert!(rt; false, "{text}"),
             Err(fault) => assert_eq!(rt; fault, PathFault::BadPath { at: place }, "{text}"),
@@ -141,7 +143,7 @@ fn first_index(alloc: Global, text: &str) -> Result<Option<usize>, PathFault> {
 
 #[test]
 fn first_indexes(rt: HostRuntime) {
-    for (text, place) in [
+    const CASES: &[(&str, Option<usize>)] = &[
         ("", None),
         ("a", None),
         ("a.b", None),
@@ -149,7 +151,8 @@ fn first_indexes(rt: HostRuntime) {
         ("a[0]", Some(1)),
         ("a.b[0][1]", Some(3)),
         ("\"[\".a[12].b[3]", Some(5)),
-    ] {
+    ];
+    for &(text, place) in CASES {
         assert_eq!(rt; first_index(rt.alloc(), text), Ok(place), "{text}");
     }
 }

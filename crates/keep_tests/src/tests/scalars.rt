@@ -24,7 +24,7 @@ fn is_scalar(rt: &impl Abort, text: &str, profile: Profile, leaf: Leaf) {
 
 #[test]
 fn integers_of_all_bases(rt: HostRuntime) {
-    for (text, value) in [
+    const CASES: &[(&str, i64)] = &[
         ("-0", 0),
         ("+0", 0),
         ("1_000", 1000),
@@ -34,7 +34,8 @@ fn integers_of_all_bases(rt: HostRuntime) {
         ("-9223372036854775808", i64::MIN),
         ("9223372036854775807", i64::MAX),
         ("0x7fffffffffffffff", i64::MAX),
-    ] {
+    ];
+    for &(text, value) in CASES {
         is_scalar(&rt, text, Profile::Strict, Leaf::Integer);
         assert_eq!(rt; integer_of(text), Some(value), "{text}");
     }
@@ -42,7 +43,7 @@ fn integers_of_all_bases(rt: HostRuntime) {
 
 #[test]
 fn texts_that_are_no_integer(rt: HostRuntime) {
-    for text in [
+    const TEXTS: &[&str] = &[
         "",
         "-",
         "01",
@@ -60,14 +61,15 @@ fn texts_that_are_no_integer(rt: HostRuntime) {
         "0x8000000000000000",
         "true",
         "1 ",
-    ] {
+    ];
+    for &text in TEXTS {
         assert_eq!(rt; integer_of(text), None, "{text}");
     }
 }
 
 #[test]
 fn floats_and_truth_values(rt: HostRuntime) {
-    for text in [
+    const FLOATS: &[&str] = &[
         "1e06",
         "-0.0",
         "6.6_2E-3_4",
@@ -78,7 +80,8 @@ fn floats_and_truth_values(rt: HostRuntime) {
         "1_0.25",
         "3.14159",
         "0e0",
-    ] {
+    ];
+    for &text in FLOATS {
         is_scalar(&rt, text, Profile::Strict, Leaf::Float);
     }
     for text in ["true", "false"] {
@@ -88,7 +91,7 @@ fn floats_and_truth_values(rt: HostRuntime) {
 
 #[test]
 fn dates_and_times(rt: HostRuntime) {
-    for (text, leaf) in [
+    const CASES: &[(&str, Leaf)] = &[
         ("1979-05-27T00:32:00.999999-07:00", Leaf::OffsetDateTime),
         ("1979-05-27t07:32:00z", Leaf::OffsetDateTime),
         ("1979-05-27 07:32:00Z", Leaf::OffsetDateTime),
@@ -99,7 +102,8 @@ fn dates_and_times(rt: HostRuntime) {
         ("2000-02-29", Leaf::LocalDate),
         ("00:00:60", Leaf::LocalTime),
         ("23:59:60.123456789", Leaf::LocalTime),
-    ] {
+    ];
+    for &(text, leaf) in CASES {
         is_scalar(&rt, text, Profile::Strict, leaf);
         is_scalar(&rt, text, Profile::Wide, leaf);
     }
@@ -107,11 +111,12 @@ fn dates_and_times(rt: HostRuntime) {
 
 #[test]
 fn wide_times_may_leave_out_seconds(rt: HostRuntime) {
-    for (text, leaf) in [
+    const CASES: &[(&str, Leaf)] = &[
         ("07:32", Leaf::LocalTime),
         ("1979-05-27 07:32Z", Leaf::OffsetDateTime),
         ("1979-05-27T07:32", Leaf::LocalDateTime),
-    ] {
+    ];
+    for &(text, leaf) in CASES {
         is_scalar(&rt, text, Profile::Wide, leaf);
         let fault = LeafFault {
             at: 0,
@@ -128,7 +133,7 @@ fn wide_times_may_leave_out_seconds(rt: HostRuntime) {
 
 #[test]
 fn a_scalar_is_the_whole_word(rt: HostRuntime) {
-    for (text, leaf, end) in [
+    const CASES: &[(&str, Leaf, usize)] = &[
         ("1, 2", Leaf::Integer, 1),
         ("1_0]", Leaf::Integer, 3),
         ("true#", Leaf::Boolean, 4),
@@ -136,7 +141,8 @@ fn a_scalar_is_the_whole_word(rt: HostRuntime) {
         ("1979-05-27  07:32:00", Leaf::LocalDate, 10),
         ("1979-05-27 07:32:00 # c", Leaf::LocalDateTime, 19),
         ("1.5\n", Leaf::Float, 3),
-    ] {
+    ];
+    for &(text, leaf, end) in CASES {
         assert_eq!(rt;
             scalar(&rt, text, 0, Profile::Strict),
             Ok((leaf, end)),
@@ -147,7 +153,7 @@ fn a_scalar_is_the_whole_word(rt: HostRuntime) {
 
 #[test]
 fn words_that_are_no_scalar(rt: HostRuntime) {
-    for (text, what) in [
+    const CASES: &[(&str, What)] = &[
         ("a = 01", What::Integer),
         ("a = 1__0", What::Integer),
         ("a = 0X1", What::Integer),
@@ -176,7 +182,8 @@ fn words_that_are_no_scalar(rt: HostRuntime) {
         ("a = 1900-02-29", What::DateTime),
         ("a = 1979-04-31", What::DateTime),
         ("a = 00:00:61", What::DateTime),
-    ] {
+    ];
+    for &(text, what) in CASES {
         assert_eq!(rt;
             scalar(&rt, text, 4, Profile::Strict),
             Err(LeafFault { at: 4, what }),

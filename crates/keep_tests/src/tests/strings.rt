@@ -16,7 +16,7 @@ fn scalar(
 
 #[test]
 fn strings_end_at_their_closing(rt: HostRuntime) {
-    for (text, leaf, end) in [
+    const CASES: &[(&str, Leaf, usize)] = &[
         ("\"\"", Leaf::Basic, 2),
         ("\"a\\\"b\" # c", Leaf::Basic, 6),
         ("\"é\"", Leaf::Basic, 4),
@@ -29,7 +29,8 @@ fn strings_end_at_their_closing(rt: HostRuntime) {
         ("\"\"\"a\n\"\"b\\\"\"\"\"", Leaf::MlBasic, 13),
         ("''''x''''", Leaf::MlLiteral, 9),
         ("'''a\r\nb'''", Leaf::MlLiteral, 10),
-    ] {
+    ];
+    for &(text, leaf, end) in CASES {
         assert_eq!(rt;
             scalar(&rt, text, 0, Profile::Strict),
             Ok((leaf, end)),
@@ -40,7 +41,7 @@ fn strings_end_at_their_closing(rt: HostRuntime) {
 
 #[test]
 fn faults_in_strings(rt: HostRuntime) {
-    for (text, at, what) in [
+    const CASES: &[(&str, usize, What)] = &[
         ("a = \"\\q\"", 5, What::Escape),
         ("a = \"\\uD800\"", 5, What::Escape),
         ("a = \"\\u00g0\"", 5, What::Escape),
@@ -65,7 +66,8 @@ fn faults_in_strings(rt: HostRuntime) {
         ("a = \"\"\"x\ry\"\"\"", 8, What::Control),
         ("a = '''x\r'''", 8, What::Control),
         ("a = \"x\r\"", 6, What::Control),
-    ] {
+    ];
+    for &(text, at, what) in CASES {
         assert_eq!(rt;
             scalar(&rt, text, 4, Profile::Strict),
             Err(LeafFault { at, what }),
@@ -99,7 +101,7 @@ fn decoded(rt: &impl Abort, alloc: Global, text: &str) -> Result<String, AllocEr
 
 #[test]
 fn strings_and_their_values(rt: HostRuntime) -> Result<(), Fail> {
-    for (text, value) in [
+    const CASES: &[(&str, &str)] = &[
         ("a-b", "a-b"),
         ("\"\\u00e9\"", "é"),
         ("\"\\U0001F600\"", "😀"),
@@ -113,7 +115,8 @@ fn strings_and_their_values(rt: HostRuntime) -> Result<(), Fail> {
         ("\"\"\"\\\"\"\"\"", "\""),
         ("\"\"\"x\"\"\"\"\"", "x\"\""),
         ("\"\\x41\\e\"", "A\u{1B}"),
-    ] {
+    ];
+    for &(text, value) in CASES {
         let meant = decoded(&rt, rt.alloc(), text)?;
         assert_eq!(rt; meant.as_str(), value);
     }

@@ -18,7 +18,7 @@ fn stops(rt: &impl Abort, alloc: Global, text: &str, limits: Limits, at: usize, 
 
 #[test]
 fn where_a_line_stops(rt: HostRuntime) {
-    for (text, at, what) in [
+    const CASES: &[(&str, usize, What)] = &[
         ("a", 1, What::Structure),
         ("a ", 2, What::Structure),
         ("a =", 3, What::Word),
@@ -34,7 +34,8 @@ fn where_a_line_stops(rt: HostRuntime) {
         ("}", 0, What::KeyPart),
         ("\u{FEFF}\u{FEFF}", 3, What::KeyPart),
         ("a = 1\n\u{FEFF}", 6, What::KeyPart),
-    ] {
+    ];
+    for &(text, at, what) in CASES {
         stops(&rt, rt.alloc(), text, Limits::STANDARD, at, what);
         stops(&rt, rt.alloc(), text, Limits::WIDE, at, what);
     }
@@ -42,21 +43,22 @@ fn where_a_line_stops(rt: HostRuntime) {
 
 #[test]
 fn where_a_header_stops(rt: HostRuntime) {
-    for (text, at, what) in [
+    const CASES: &[(&str, usize, What)] = &[
         ("[]", 1, What::KeyPart),
         ("[a", 2, What::Structure),
         ("[[a] ]", 3, What::Structure),
         ("[ [a]]", 2, What::KeyPart),
         ("[a] b = 1", 4, What::Structure),
         ("[ = 1\n", 2, What::KeyPart),
-    ] {
+    ];
+    for &(text, at, what) in CASES {
         stops(&rt, rt.alloc(), text, Limits::STANDARD, at, what);
     }
 }
 
 #[test]
 fn where_a_number_stops(rt: HostRuntime) {
-    for (text, at, what) in [
+    const CASES: &[(&str, usize, What)] = &[
         ("a = 01", 4, What::Integer),
         ("a = 1__0", 4, What::Integer),
         ("a = 0X1", 4, What::Integer),
@@ -78,14 +80,15 @@ fn where_a_number_stops(rt: HostRuntime) {
         ("a = 1979-05-27 0", 4, What::DateTime),
         ("a = 1979-13-01", 4, What::DateTime),
         ("d = 1979-02-29\n", 4, What::DateTime),
-    ] {
+    ];
+    for &(text, at, what) in CASES {
         stops(&rt, rt.alloc(), text, Limits::STANDARD, at, what);
     }
 }
 
 #[test]
 fn where_a_string_stops(rt: HostRuntime) {
-    for (text, at, what) in [
+    const CASES: &[(&str, usize, What)] = &[
         ("a = \"\\q\"", 5, What::Escape),
         ("a = \"\\uD800\"", 5, What::Escape),
         ("a = \"\\", 5, What::Escape),
@@ -100,14 +103,15 @@ fn where_a_string_stops(rt: HostRuntime) {
         ("a = \"\"\"x\"\"", 4, What::Unclosed),
         ("a = \"\"\"\"\"\"\"\"\"", 12, What::Structure),
         ("s = \"\\x41\\e\"", 5, What::Escape),
-    ] {
+    ];
+    for &(text, at, what) in CASES {
         stops(&rt, rt.alloc(), text, Limits::STANDARD, at, what);
     }
 }
 
 #[test]
 fn controls_stop_where_they_stand(rt: HostRuntime) {
-    for (text, at) in [
+    const CASES: &[(&str, usize)] = &[
         ("a = \"\u{7F}\"", 5),
         ("# \u{7F}", 2),
         ("a = 1\r", 5),
@@ -117,7 +121,8 @@ fn controls_stop_where_they_stand(rt: HostRuntime) {
         ("\0", 0),
         ("[\0]", 1),
         ("a = [1\0]", 6),
-    ] {
+    ];
+    for &(text, at) in CASES {
         stops(&rt, rt.alloc(), text, Limits::STANDARD, at, What::Control);
         stops(&rt, rt.alloc(), text, Limits::WIDE, at, What::Control);
     }
@@ -125,7 +130,7 @@ fn controls_stop_where_they_stand(rt: HostRuntime) {
 
 #[test]
 fn where_an_array_stops(rt: HostRuntime) {
-    for (text, at, what) in [
+    const CASES: &[(&str, usize, What)] = &[
         ("a = [1 2]", 7, What::Structure),
         ("a = [1", 6, What::Structure),
         ("a = [,]", 5, What::Word),
@@ -136,7 +141,8 @@ fn where_an_array_stops(rt: HostRuntime) {
         ("a =[1\n", 6, What::Structure),
         ("a = [\n", 6, What::Word),
         ("a = 1[", 5, What::Structure),
-    ] {
+    ];
+    for &(text, at, what) in CASES {
         stops(&rt, rt.alloc(), text, Limits::STANDARD, at, what);
         stops(&rt, rt.alloc(), text, Limits::WIDE, at, what);
     }
@@ -144,7 +150,7 @@ fn where_an_array_stops(rt: HostRuntime) {
 
 #[test]
 fn where_an_inline_table_stops(rt: HostRuntime) {
-    for (text, at, what) in [
+    const STRICT: &[(&str, usize, What)] = &[
         ("a = {x = 1,}", 11, What::KeyPart),
         ("a = {x = 1,\n # c\n}", 11, What::KeyPart),
         ("a = {\n}", 5, What::KeyPart),
@@ -152,32 +158,35 @@ fn where_an_inline_table_stops(rt: HostRuntime) {
         ("a = {,}", 5, What::KeyPart),
         ("a = {x = 1", 10, What::Structure),
         ("a = {x}", 6, What::Structure),
-    ] {
+    ];
+    for &(text, at, what) in STRICT {
         stops(&rt, rt.alloc(), text, Limits::STANDARD, at, what);
     }
-    for (text, at, what) in [
+    const WIDE: &[(&str, usize, What)] = &[
         ("a = {,}", 5, What::KeyPart),
         ("a = {x\n= 1}", 6, What::Structure),
         ("a = { # c", 9, What::KeyPart),
         ("a = {x = 1,,}", 11, What::KeyPart),
         ("s = \"\\X41\"", 5, What::Escape),
         ("t = 07:32.5", 4, What::DateTime),
-    ] {
+    ];
+    for &(text, at, what) in WIDE {
         stops(&rt, rt.alloc(), text, Limits::WIDE, at, what);
     }
 }
 
 #[test]
 fn a_line_cut_after_each_byte(rt: HostRuntime) {
-    for (text, at, what) in [
+    const REFUSED: &[(&str, usize, What)] = &[
         ("a", 1, What::Structure),
         ("a ", 2, What::Structure),
         ("a =", 3, What::Word),
         ("a = ", 4, What::Word),
-    ] {
+    ];
+    for &(text, at, what) in REFUSED {
         stops(&rt, rt.alloc(), text, Limits::STANDARD, at, what);
     }
-    for text in [
+    const ACCEPTED: &[&str] = &[
         "",
         "a = 1",
         "a = 1 ",
@@ -185,7 +194,8 @@ fn a_line_cut_after_each_byte(rt: HostRuntime) {
         "a = 1 # ",
         "a = 1 # x",
         "a = 1 # x\n",
-    ] {
+    ];
+    for &text in ACCEPTED {
         assert_eq!(rt;
             fault_in(rt.alloc(), text, Limits::STANDARD),
             None,
@@ -223,12 +233,13 @@ fn brackets_go_as_deep_as_the_limit(rt: HostRuntime) -> Result<(), Fail> {
 
 #[test]
 fn a_bracket_past_the_limit_is_too_deep(rt: HostRuntime) -> Result<(), Fail> {
-    for (opening, closing, count, at) in [
+    const CASES: &[(&str, &str, usize, usize)] = &[
         ("[", "]", 65, 68),
         ("[", "", 1_000_000, 68),
         ("{a=", "", 1_000, 196),
         ("[{a=", "", 1_000, 132),
-    ] {
+    ];
+    for &(opening, closing, count, at) in CASES {
         let text = line_of(rt.alloc(), opening, closing, count)?;
         let fault = fault_in(rt.alloc(), text.as_str(), Limits::STANDARD);
         assert_eq!(rt; fault, Some(ReadFault::TooDeep { at }), "{opening}");

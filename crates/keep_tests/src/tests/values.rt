@@ -16,7 +16,7 @@ fn span(start: usize, end: usize) -> Span {
 
 #[test]
 fn scalars_have_their_leaf(rt: HostRuntime) -> Result<(), Fail> {
-    for (text, leaf) in [
+    const CASES: &[(&str, Leaf)] = &[
         ("a = 1e06", Leaf::Float),
         ("a = -0.0", Leaf::Float),
         ("a = 6.6_2E-3_4", Leaf::Float),
@@ -33,7 +33,8 @@ fn scalars_have_their_leaf(rt: HostRuntime) -> Result<(), Fail> {
         ("a = true", Leaf::Boolean),
         ("a = 'x'", Leaf::Literal),
         ("a = \"\"\"x\"\"\"\"\"", Leaf::MlBasic),
-    ] {
+    ];
+    for &(text, leaf) in CASES {
         let syntax = Syntax::read(rt.alloc(), text, Limits::STANDARD)?;
         assert_eq!(rt; syntax.token_count(), 6);
         assert_eq!(rt; syntax.value_count(), 1);
@@ -49,12 +50,13 @@ fn scalars_have_their_leaf(rt: HostRuntime) -> Result<(), Fail> {
 
 #[test]
 fn wide_scalars_have_their_leaf(rt: HostRuntime) -> Result<(), Fail> {
-    for (text, leaf) in [
+    const CASES: &[(&str, Leaf)] = &[
         ("s = \"\\x41\\e\"", Leaf::Basic),
         ("t = 07:32", Leaf::LocalTime),
         ("d = 1979-05-27 07:32Z", Leaf::OffsetDateTime),
         ("d = 1979-05-27T07:32", Leaf::LocalDateTime),
-    ] {
+    ];
+    for &(text, leaf) in CASES {
         let syntax = Syntax::read(rt.alloc(), text, Limits::WIDE)?;
         let found = value(&rt, &syntax, 0);
         assert_eq!(rt;
@@ -130,12 +132,13 @@ fn an_inline_table_comes_before_its_values(rt: HostRuntime) -> Result<(), Fail> 
 #[test]
 fn commas_stand_next_to_their_values(rt: HostRuntime) -> Result<(), Fail> {
     let syntax = Syntax::read(rt.alloc(), "a = {x = 1 , y = [2],\n}\n", Limits::WIDE)?;
-    for (number, before, after) in [
+    const CASES: &[(usize, Option<usize>, Option<usize>)] = &[
         (0, None, None),
         (1, None, Some(11)),
         (2, Some(11), Some(20)),
         (3, None, None),
-    ] {
+    ];
+    for &(number, before, after) in CASES {
         let found = value(&rt, &syntax, number);
         assert_eq!(rt;
             (found.comma_before, found.comma_after),
@@ -199,7 +202,7 @@ fn depth_of(alloc: Global, text: &str, limits: Limits) -> Result<u16, ReadFault>
 
 #[test]
 fn how_deep_a_value_is(rt: HostRuntime) {
-    for (text, depth) in [
+    const CASES: &[(&str, u16)] = &[
         ("1", 0),
         ("'''x'''", 0),
         ("[]", 1),
@@ -207,7 +210,8 @@ fn how_deep_a_value_is(rt: HostRuntime) {
         ("[1, [2, 3], 4]", 2),
         ("[{b = [2]}, {}]", 3),
         ("{x=1,x=2}", 1),
-    ] {
+    ];
+    for &(text, depth) in CASES {
         assert_eq!(rt;
             depth_of(rt.alloc(), text, Limits::STANDARD),
             Ok(depth),
@@ -220,7 +224,7 @@ fn how_deep_a_value_is(rt: HostRuntime) {
 
 #[test]
 fn texts_that_are_no_value(rt: HostRuntime) {
-    for (text, at, what) in [
+    const CASES: &[(&str, usize, What)] = &[
         ("", 0, What::Word),
         ("x", 0, What::Word),
         (" 1", 0, What::Word),
@@ -231,7 +235,8 @@ fn texts_that_are_no_value(rt: HostRuntime) {
         ("[1", 2, What::Structure),
         ("{x}", 2, What::Structure),
         ("\"\\e\"", 1, What::Escape),
-    ] {
+    ];
+    for &(text, at, what) in CASES {
         let fault = ReadFault::Syntax { at, what };
         assert_eq!(rt;
             depth_of(rt.alloc(), text, Limits::STANDARD),
