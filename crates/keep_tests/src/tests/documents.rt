@@ -1,5 +1,5 @@
 //! Documents that are read: their tokens, statements and key parts.
-use keep_syntax::{KeyPart, Limits, ReadFault, Span, Statement, StatementKind, Syntax};
+use keep_syntax::{KeyPart, Limits, ReadFault, Span, Statement, StatementKind, Syntax, Token};
 use keep_token::Leaf;
 use std::alloc::{AllocError, Global};
 use std::process::Abort;
@@ -8,6 +8,11 @@ use std::test::Fail;
 // How many tokens a document has.
 fn tokens_in(alloc: Global, text: &str, limits: Limits) -> Result<usize, ReadFault> {
     Ok(Syntax::read(alloc, text, limits)?.token_count())
+}
+
+// The text is a document of so many tokens.
+fn has_tokens(rt: &impl Abort, alloc: Global, text: &str, limits: Limits, count: usize) {
+    assert_eq!(rt; tokens_in(alloc, text, limits), Ok(count), "{text:?}");
 }
 
 // So many copies of a text behind one another.
@@ -38,16 +43,8 @@ fn documents_have_so_many_tokens(rt: HostRuntime) {
         ("a = 1\nb = true\n", 13),
     ];
     for &(text, count) in CASES {
-        assert_eq!(rt;
-            tokens_in(rt.alloc(), text, Limits::STANDARD),
-            Ok(count),
-            "{text:?}"
-        );
-        assert_eq!(rt;
-            tokens_in(rt.alloc(), text, Limits::WIDE),
-            Ok(count),
-            "{text:?}"
-        );
+        has_tokens(&rt, rt.alloc(), text, Limits::STANDARD, count);
+        has_tokens(&rt, rt.alloc(), text, Limits::WIDE, count);
     }
 }
 
@@ -59,11 +56,7 @@ fn documents_whose_definitions_clash_are_read(rt: HostRuntime) {
         ("a = {b = 1, b.c = 2}", 21),
     ];
     for &(text, count) in CASES {
-        assert_eq!(rt;
-            tokens_in(rt.alloc(), text, Limits::STANDARD),
-            Ok(count),
-            "{text:?}"
-        );
+        has_tokens(&rt, rt.alloc(), text, Limits::STANDARD, count);
     }
 }
 
@@ -76,11 +69,7 @@ fn inline_tables_over_lines_are_wide(rt: HostRuntime) {
         ("a = {x = 1 # c\n,}", 16),
     ];
     for &(text, count) in CASES {
-        assert_eq!(rt;
-            tokens_in(rt.alloc(), text, Limits::WIDE),
-            Ok(count),
-            "{text:?}"
-        );
+        has_tokens(&rt, rt.alloc(), text, Limits::WIDE, count);
     }
 }
 
@@ -90,6 +79,14 @@ fn ten_thousand_headers(rt: HostRuntime) -> Result<(), Fail> {
     let count = tokens_in(rt.alloc(), text.as_str(), Limits::STANDARD);
     assert_eq!(rt; count, Ok(40_001));
     Ok(())
+}
+
+// There is a token, and it is of this kind at this place.
+fn is_leaf(rt: &impl Abort, token: Option<Token>, leaf: Leaf, at: usize) {
+    let Some(token) = token else {
+        panic!(rt; "no token at {at}");
+    };
+    assert_eq!(rt; (token.leaf, token.at), (leaf, at));
 }
 
 #[test]
@@ -137,10 +134,7 @@ fn tokens_of_a_dotted_key(rt: HostRuntime) -> Result<(), Fail> {
         (Leaf::End, 18),
     ];
     for &(leaf, at) in TOKENS {
-        let Some(token) = tokens.next() else {
-            panic!(rt; "no token at {at}");
-        };
-        assert_eq!(rt; (token.leaf, token.at), (leaf, at));
+        is_leaf(&rt, tokens.next(), leaf, at);
     }
     assert!(rt; tokens.next().is_none());
     Ok(())
@@ -171,10 +165,7 @@ fn tokens_of_brackets(rt: HostRuntime) -> Result<(), Fail> {
         (Leaf::End, 20),
     ];
     for &(leaf, at) in TOKENS {
-        let Some(token) = tokens.next() else {
-            panic!(rt; "no token at {at}");
-        };
-        assert_eq!(rt; (token.leaf, token.at), (leaf, at));
+        is_leaf(&rt, tokens.next(), leaf, at);
     }
     assert!(rt; tokens.next().is_none());
     Ok(())

@@ -67,6 +67,11 @@ fn accepted_documents_and_their_nodes(rt: HostRuntime) -> Result<(), Fail> {
     Ok(())
 }
 
+// The fault is that of a rule, at this place and for this reason.
+fn breaks_a_rule(rt: &impl Abort, fault: Option<ReadFault>, text: &str, at: usize, why: Why) {
+    assert_eq!(rt; fault, Some(ReadFault::Define { at, why }), "{text}");
+}
+
 #[test]
 fn documents_that_the_rules_refuse(rt: HostRuntime) {
     const CASES: &[(&str, usize, Why)] = &[
@@ -93,13 +98,7 @@ fn documents_that_the_rules_refuse(rt: HostRuntime) {
         ("[[a]]\nb = 1\n[[a]]\nb = 2\nb = 3\n", 24, Why::DuplicateKey),
     ];
     for &(text, place, reason) in CASES {
-        match index_of(rt.alloc(), text) {
-            Err(ReadFault::Define { at, why }) => {
-                assert_eq!(rt; at, place, "{text}");
-                assert!(rt; why == reason, "{text}");
-            }
-            _ => assert!(rt; false, "{text}: accepted, or another fault"),
-        }
+        breaks_a_rule(&rt, index_of(rt.alloc(), text).err(), text, place, reason);
     }
 }
 
@@ -112,13 +111,13 @@ fn values_that_the_rules_refuse(rt: HostRuntime) {
         ("{a = 1, a.b = 2}", 8, Why::NotByDots),
     ];
     for &(text, place, reason) in REFUSED {
-        match check_value(rt.alloc(), text) {
-            Err(ReadFault::Define { at, why }) => {
-                assert_eq!(rt; at, place, "{text}");
-                assert!(rt; why == reason, "{text}");
-            }
-            _ => assert!(rt; false, "{text}: accepted, or another fault"),
-        }
+        breaks_a_rule(
+            &rt,
+            check_value(rt.alloc(), text).err(),
+            text,
+            place,
+            reason,
+        );
     }
     const ACCEPTED: &[&str] = &[
         "1",
@@ -373,12 +372,7 @@ fn ten_thousand_keys(rt: HostRuntime) -> Result<(), Fail> {
 #[test]
 fn ten_thousand_times_one_key(rt: HostRuntime) -> Result<(), Fail> {
     let text = repeated(rt.alloc(), "a = 1\n", 10_000)?;
-    match index_of(rt.alloc(), text.as_str()) {
-        Err(ReadFault::Define { at, why }) => {
-            assert_eq!(rt; at, 6);
-            assert!(rt; why == Why::DuplicateKey);
-        }
-        _ => assert!(rt; false, "accepted, or another fault"),
-    }
+    let fault = index_of(rt.alloc(), text.as_str()).err();
+    breaks_a_rule(&rt, fault, "a = 1, again and again", 6, Why::DuplicateKey);
     Ok(())
 }

@@ -22,6 +22,15 @@ fn is_scalar(rt: &impl Abort, text: &str, profile: Profile, leaf: Leaf) {
     );
 }
 
+// No scalar stands at `at`, and the fault is told there.
+fn is_no_scalar(rt: &impl Abort, text: &str, at: usize, profile: Profile, what: What) {
+    assert_eq!(rt;
+        scalar(rt, text, at, profile),
+        Err(LeafFault { at, what }),
+        "{text}"
+    );
+}
+
 #[test]
 fn integers_of_all_bases(rt: HostRuntime) {
     const CASES: &[(&str, i64)] = &[
@@ -118,17 +127,9 @@ fn wide_times_may_leave_out_seconds(rt: HostRuntime) {
     ];
     for &(text, leaf) in CASES {
         is_scalar(&rt, text, Profile::Wide, leaf);
-        let fault = LeafFault {
-            at: 0,
-            what: What::DateTime,
-        };
-        assert_eq!(rt; scalar(&rt, text, 0, Profile::Strict), Err(fault), "{text}");
+        is_no_scalar(&rt, text, 0, Profile::Strict, What::DateTime);
     }
-    let fault = LeafFault {
-        at: 4,
-        what: What::DateTime,
-    };
-    assert_eq!(rt; scalar(&rt, "t = 07:32.5", 4, Profile::Wide), Err(fault));
+    is_no_scalar(&rt, "t = 07:32.5", 4, Profile::Wide, What::DateTime);
 }
 
 #[test]
@@ -184,10 +185,6 @@ fn words_that_are_no_scalar(rt: HostRuntime) {
         ("a = 00:00:61", What::DateTime),
     ];
     for &(text, what) in CASES {
-        assert_eq!(rt;
-            scalar(&rt, text, 4, Profile::Strict),
-            Err(LeafFault { at: 4, what }),
-            "{text}"
-        );
+        is_no_scalar(&rt, text, 4, Profile::Strict, what);
     }
 }
