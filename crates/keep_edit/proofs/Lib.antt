@@ -1,3 +1,9 @@
 pub mod ReadLaws
 pub mod AnswerLaws
 pub mod ValueLaws
+pub mod ValueEnds
+pub mod NodeLaws
+pub mod FoundLaws
+pub mod ListLaws
+pub mod ScalarLaws
+pub mod SetLaws

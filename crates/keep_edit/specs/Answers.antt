@@ -1,21 +1,23 @@
 -- What a document answers, by its tree.
-use Rattle.std.specs.Prelude.{◌≡◌, ℕ, ℤ, if◌then◌else◌, List, drop, map, length, Option, Some, None, Result, Err, MatchResult}
+use Rattle.std.specs.Prelude.{◌≡◌, ◌≤◌, ℕ, ℤ, true, false, if◌then◌else◌, List, drop, map, length, Option, Some, None, Result, Ok, Err, MatchResult, IsCharBoundary}
 use Rattle.keep_syntax.specs.Tree.{Document}
 use Rattle.keep_syntax.specs.Numbered.{tokens}
+use Rattle.keep_syntax.specs.declared.info.Span.{Span}
 use Rattle.keep_rules.specs.declared.node.Kind.{Kind}
+use Rattle.keep_rules.specs.Counts.{numbered_in, is_value}
 use Rattle.keep_rules.specs.Fact as fact
 use Rattle.keep_rules.specs.Fact.{Fact}
 use Rattle.keep_rules.specs.Marks.{Mention}
 use Rattle.keep_rules.specs.Meaning.{said_in}
-use Rattle.keep_rules.specs.Nodes.{node_paths, nodes_in, is_node, kind_at, fact_at}
+use Rattle.keep_rules.specs.Nodes.{node_paths, nodes_in, is_node, kind_at, fact_at, numbered_at, last_number, value_number}
 use Rattle.keep_rules.specs.Path.{Part}
 use Rattle.keep_law.specs.declared.fault.EditFault.{EditFault}
-use Rattle.keep_law.specs.declared.fault.EditFault.TheVariants.{Memory}
+use Rattle.keep_law.specs.declared.fault.EditFault.TheVariants.{Memory, NotFound, NotValue}
 use Rattle.keep_law.specs.declared.splice.Splice.{Splice}
-use Rattle.keep_law.specs.Answers.{string_of, get}
+use Rattle.keep_law.specs.Answers.{string_of}
 use Rattle.keep_law.specs.Changed.{Place, put}
 use Rattle.keep_law.specs.Edits.{Edit, edited_document, place}
-use Rattle.keep_law.specs.Refusals.{refusal}
+use Rattle.keep_law.specs.Refusals.{refusal, has_value}
 use Rattle.keep_edit.specs.Reading.{limit, IsTextOfTree}
 use Rattle.keep_edit.specs.declared.document.Counts.{Counts}
 use Rattle.keep_edit.specs.declared.document.Entry.{Entry}
@@ -50,9 +52,29 @@ int_value_of path s = integer_of (fact_at path (said_in s))
 abbrev pub str_value_of : List Part → Document → Option (List ℕ)
 str_value_of path s = string_of (fact_at path (said_in s))
 
--- the text of a value, as it is written, or why there is none
-abbrev pub IsGot : List Part → Document → Result (List ℕ) EditFault → Type 0
-IsGot path s result = result ≡ get path s
+-- ---- the value of a node
+
+-- the number of the value at a path
+abbrev pub value_number_of : List Part → Document → Option ℕ
+value_number_of path s = last_number is_value value_number (numbered_at path (numbered_in s))
+
+-- no node, or one without a value
+abbrev pub HasNoValue : List Part → Document → EditFault → Type 0
+HasNoValue path s NotFound = is_node path (said_in s) ≡ false
+HasNoValue path s NotValue = (is_node path (said_in s) ≡ true) × (has_value path (said_in s) ≡ false)
+HasNoValue path s _ = ⊥
+
+-- the number of the value at a path, or why there is none
+abbrev pub IsFound : List Part → Document → Result ℕ EditFault → Type 0
+IsFound path s (Ok number) = value_number_of path s ≡ Some number
+IsFound path s (Err f) = HasNoValue path s f
+
+-- bytes of a text, from character to character
+pub record IsSpanOf (bytes : List ℕ) (span : Span) : Type 0 where
+  pub ordered : span.start ≤ span.end
+  pub within : span.end ≤ length bytes
+  pub starts : IsCharBoundary bytes span.start
+  pub ends : IsCharBoundary bytes span.end
 
 -- ---- edits
 

@@ -3,6 +3,7 @@ mod edits;
 mod index;
 mod leaves;
 mod paths;
+mod questions;
 mod scalars;
 mod strings;
 mod syntax_faults;

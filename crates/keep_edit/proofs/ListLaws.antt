@@ -1,0 +1,99 @@
+-- The entries of a document: node by node, each with its path and what stands there.
+use Rattle.std.proofs.Common.{◌≡◌, ℕ, ◌+◌, ◌<◌, ◌≤◌, List, [], ◌∷◌, ◌++◌, length, map, take, drop, get_or, refl, sym, ap, ◌∙◌, arith, Some}
+use Rattle.std.specs.Prelude.{slice_get}
+use Rattle.std.specs.Option.{option_map}
+use Rattle.std.proofs.lemmas.List.{map-append, length-take-le, drop-append-le, take_more, take_all}
+use Rattle.std.proofs.lemmas.Option.{slice_get-map, slice_get-get_or}
+use Rattle.keep_syntax.specs.declared.info.KeyPart.{KeyPart}
+use Rattle.keep_syntax.specs.declared.info.ValueInfo.{ValueInfo}
+use Rattle.keep_syntax.specs.declared.syntax.Syntax.{Syntax}
+use Rattle.keep_syntax.specs.Tree.{Document}
+use Rattle.keep_syntax.specs.Numbered as syntax
+use Rattle.keep_rules.specs.declared.node.Kind.{Kind}
+use Rattle.keep_rules.specs.declared.node.NodeInfo.{NodeInfo}
+use Rattle.keep_rules.specs.Counts.{numbered_in}
+use Rattle.keep_rules.specs.Lookup.{path_numbered}
+use Rattle.keep_rules.specs.Meaning.{said_in}
+use Rattle.keep_rules.specs.Nodes.{kind_at, mention_of, node_at, node_info, node_paths, infos_in}
+use Rattle.keep_rules.specs.Path.{Part}
+use Rattle.keep_rules.specs.Told.{Telling}
+use Rattle.keep_rules.proofs.CountLemmas.{mentions-numbered_in, paths-nodes_in}
+use Rattle.keep_edit.specs.declared.document.Entry.{Entry}
+use Rattle.keep_edit.specs.Answers.{entry_at, entries_of}
+use Rattle.keep_edit.specs.Reading.{IsTextOfTree, telling_in, Holds}
+use Rattle.keep_edit.proofs.AnswerLaws.{told_is}
+use Rattle.keep_edit.proofs.NodeLaws.{kind_told}
+
+-- ---- what stands at the nodes
+
+kinds-of : (s : Document) (values : List ValueInfo) (parts : List KeyPart) (paths : List (List Part))
+    → map (λ i. i.kind) (map (node_info values parts) (map (node_at (numbered_in s)) paths)) ≡ map (λ path. kind_at path (said_in s)) paths
+kinds-of s values parts [] = refl
+kinds-of s values parts (p ∷ ps) = ap (λ k. k ∷ map (λ i. i.kind) (map (node_info values parts) (map (node_at (numbered_in s)) ps))) (kind_told p s) ∙ ap (λ ks. kind_at p (said_in s) ∷ ks) (kinds-of s values parts ps)
+
+kinds-infos_in : (s : Document) → map (λ i. i.kind) (infos_in s) ≡ map (λ path. kind_at path (said_in s)) (node_paths (said_in s))
+kinds-infos_in s =
+    kinds-of s (syntax.values s) (syntax.parts s) (node_paths (map mention_of (numbered_in s)))
+    ∙ ap (λ ms. map (λ path. kind_at path (said_in s)) (node_paths ms)) (mentions-numbered_in s)
+
+-- ---- the entry of a node
+
+-- so many nodes, the root among them, have their entries
+abbrev pub entries_before : Document → ℕ → List Entry
+entries_before s n = map (entry_at (said_in s)) (drop 1 (take n (node_paths (said_in s))))
+
+abbrev entry : List Part → Kind → Entry
+entry path kind = record { path = path; kind = kind }
+
+kind_numbered : (s : Document) (n : ℕ) (info : NodeInfo) → n < length (node_paths (said_in s)) → slice_get (infos_in s) n ≡ Some info
+    → info.kind ≡ kind_at (get_or (node_paths (said_in s)) n []) (said_in s)
+kind_numbered s n info h is =
+    let paths : List (List Part) = node_paths (said_in s) in
+    let told : slice_get (map (λ i. i.kind) (infos_in s)) n ≡ Some info.kind = slice_get-map (λ i. i.kind) (infos_in s) n ∙ ap (option_map (λ i. i.kind)) is in
+    let said : slice_get (map (λ path. kind_at path (said_in s)) paths) n ≡ Some (kind_at (get_or paths n []) (said_in s)) =
+    slice_get-map (λ path. kind_at path (said_in s)) paths n ∙ ap (option_map (λ path. kind_at path (said_in s))) (slice_get-get_or paths n [] h) in
+    let both : Some info.kind ≡ Some (kind_at (get_or paths n []) (said_in s)) = sym told ∙ ap (λ (ks : List Kind). slice_get ks n) (kinds-infos_in s) ∙ said in
+    cc
+
+-- what an index tells of all nodes
+record IsToldOf (s : Document) (index : Telling) : Type 0 where
+  paths : index.paths ≡ node_paths (said_in s)
+  infos : index.infos ≡ infos_in s
+
+told_of : (bytes : List ℕ) (parts : Syntax) (index : Telling) (s : Document) → Holds bytes parts index → IsTextOfTree bytes s → IsToldOf s index
+told_of bytes parts index s h read =
+    let is : index ≡ telling_in s = told_is bytes parts index s h read in
+    record { paths = ap (λ (t : Telling). t.paths) is ∙ paths-nodes_in s; infos = ap (λ (t : Telling). t.infos) is }
+
+-- ---- one after another
+
+pub entries_none : (s : Document) → [] ≡ entries_before s 1
+entries_none s = by (node_paths (said_in s))
+  where
+    by : (paths : List (List Part)) → [] ≡ map (entry_at (said_in s)) (drop 1 (take 1 paths))
+    by [] = refl
+    by (p ∷ ps) = refl
+
+pub entries_more : (bytes : List ℕ) (parts : Syntax) (index : Telling) (s : Document) (entries : List Entry) (n : ℕ) (path : List Part) (info : NodeInfo) → Holds bytes parts index → IsTextOfTree bytes s
+    → entries ≡ entries_before s n → 1 ≤ n → n < length index.paths → path ≡ path_numbered index n → slice_get index.infos n ≡ Some info
+    → entries ++ entry path info.kind ∷ [] ≡ entries_before s (n + 1)
+entries_more bytes parts index s entries n path info h read so_far some within place told =
+    let is : IsToldOf s index = told_of bytes parts index s h read in
+    let paths : List (List Part) = node_paths (said_in s) in
+    let low : n < length paths = omega (arith, within, ap (λ (ps : List (List Part)). length ps) is.paths) in
+    let p : List Part = get_or paths n [] in
+    let here : path ≡ p = place ∙ ap (λ (ps : List (List Part)). get_or ps n []) is.paths in
+    let kind : info.kind ≡ kind_at p (said_in s) = kind_numbered s n info low (ap (λ (is : List NodeInfo). slice_get is n) (sym is.infos) ∙ told) in
+    let next : entry path info.kind ≡ entry_at (said_in s) p = ap (λ q. entry q info.kind) here ∙ ap (entry p) kind in
+    let front : drop 1 (take (n + 1) paths) ≡ drop 1 (take n paths) ++ p ∷ [] =
+    ap (drop 1) (take_more paths n [] low) ∙ drop-append-le 1 (take n paths) (p ∷ []) (omega (arith, length-take-le n paths (omega arith))) in
+    ap (λ es. es ++ entry path info.kind ∷ []) so_far
+    ∙ ap (λ e. entries_before s n ++ e ∷ []) next
+    ∙ sym (map-append (entry_at (said_in s)) (drop 1 (take n paths)) (p ∷ []))
+    ∙ ap (map (entry_at (said_in s))) (sym front)
+
+pub entries_all : (bytes : List ℕ) (parts : Syntax) (index : Telling) (s : Document) (entries : List Entry) (n : ℕ) → Holds bytes parts index → IsTextOfTree bytes s → entries ≡ entries_before s n
+    → length index.paths ≤ n → entries ≡ entries_of s
+entries_all bytes parts index s entries n h read so_far past =
+    let is : IsToldOf s index = told_of bytes parts index s h read in
+    so_far ∙ ap (λ ps. map (entry_at (said_in s)) (drop 1 ps)) (take_all n (node_paths (said_in s)) (omega (arith, past, ap (λ (ps : List (List Part)). length ps) is.paths)))
