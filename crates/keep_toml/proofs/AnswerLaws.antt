@@ -1,105 +1,237 @@
 -- What the answers to commands are, by what the document says.
-use Rattle.std.proofs.Common.{◌≡◌, ℕ, zero, suc, ◌<◌, List, [], ◌∷◌, ◌++◌, length, get_or, take, Option, Some, None, refl, sym, ap, ◌∙◌, subst, inl, inr, arith, Vec, Global, String, ◌⊎◌}
-use Rattle.std.specs.Prelude.{Result, Ok, Err, MatchResult, string_bytes, codes}
+use Rattle.std.proofs.Common.{◌≡◌, ◌∙◌, ◌++◌, ◌⊎◌, ◌+◌, ◌<◌, ◌≤◌, ℕ, zero, suc, Bool, true, false, List, [], ◌∷◌, map, length, take, get_or, Option, Some, None, refl, sym, ap, subst, inl, inr, arith, length-take, Vec, Global, String}
+use Rattle.std.proofs.Math.Nat.{add-zero}
+use Rattle.std.proofs.lemmas.List.{take_all}
+use Rattle.std.specs.Prelude.{Result, Ok, Err, MatchResult, codes, string_bytes, filter, is_some}
+use Rattle.std.specs.Option.{option_map}
+use Rattle.std.specs.List.{list_any, filter_map, AllZip}
+use Rattle.keep_law.specs.Edits as law
+use Rattle.keep_law.specs.Edits.{edited_document}
+use Rattle.keep_law.specs.Refusals.{refusal}
+use Rattle.keep_law.specs.declared.splice.Splice.{Splice}
+use Rattle.keep_syntax.specs.declared.fault.ReadFault.{ReadFault}
+use Rattle.keep_syntax.specs.declared.fault.ReadFault.TheVariants as read
+use Rattle.keep_syntax.specs.Tree.{Value, Document}
+use Rattle.keep_rules.specs.Marks.{Mention, fact_of}
+use Rattle.keep_rules.specs.Meaning.{said_in}
+use Rattle.keep_rules.specs.Nodes.{is_at, is_node, fact_at, first_of, kind_at}
+use Rattle.keep_rules.specs.Path.{Part}
+use Rattle.keep_rules.specs.declared.node.Kind.{Kind}
+use Rattle.keep_law.specs.declared.fault.EditFault.{EditFault}
+use Rattle.keep_law.specs.declared.fault.EditFault.TheVariants as fault
+use Rattle.keep_law.specs.Answers as answers
+use Rattle.keep_law.specs.Answers.{get, string_of, string_at, at_node, applied_from}
+use Rattle.keep_edit.specs.Answers.{counts_of, entries_of, kind_of, str_value_of, IsDone, EditDone}
+use Rattle.keep_edit.specs.Reading.{limit, IsAccepted, IsAcceptedValue, IsRefused, IsTextOfTree, IsTextOfValue}
+use Rattle.keep_edit.specs.declared.document.Counts.{Counts}
+use Rattle.keep_edit.specs.declared.document.Entry.{Entry}
 use Rattle.keep_toml.specs.declared.command.Command.{Command}
-use Rattle.keep_toml.specs.declared.command.Command.TheVariants.{Check, Get, Apply}
-use Rattle.keep_toml.specs.declared.document.Counts.{Counts}
+use Rattle.keep_toml.specs.declared.command.Command.TheVariants.{Apply, Check, Get, List as Listing, Text}
 use Rattle.keep_toml.specs.declared.edit.Edit.{Edit}
 use Rattle.keep_toml.specs.declared.edit.Edit.TheVariants as edit
-use Rattle.keep_toml.specs.declared.edit.EditFault.{EditFault}
-use Rattle.keep_toml.specs.declared.edit.EditFault.TheVariants as fault
-use Rattle.keep_toml.specs.declared.edit.Splice.{Splice}
-use Rattle.keep_toml.specs.declared.fault.ReadFault.{ReadFault}
-use Rattle.keep_toml.specs.declared.fault.ReadFault.TheVariants as read
 use Rattle.keep_toml.specs.declared.fault.RunFault.{RunFault}
 use Rattle.keep_toml.specs.declared.fault.RunFault.TheVariants as run
-use Rattle.keep_toml.specs.declared.path.Path.{Path}
-use Rattle.keep_toml.specs.declared.path.Path.TheVariants.{Root, Key}
-use Rattle.keep_toml.specs.declared.value.ValueText.{ValueText}
-use Rattle.keep_toml.specs.SmallTree.{Tree, keyvals, value_named}
-use Rattle.keep_toml.specs.SmallGrammar.{Reads, IsAccepted}
-use Rattle.keep_toml.specs.SmallDocument.{IsReadFault}
-use Rattle.keep_toml.specs.Documents.{IsReadAs, IsCounts, get_of, SetAt}
-use Rattle.keep_toml.specs.Answer.{counts_line, SetsTo, AppliesTo, RefusesAt, IsText, IsNoDocument, IsEditRefusal, IsRefusal, of_read, of_edit, Refused}
+use Rattle.keep_toml.specs.Answer.{counts_line, lines_of, AppliesTo, IsEdit, IsText, IsEditRefusal, IsRefusal, of_read, of_edit, Refused, RefusesAt}
 
-pub check_text : (d : List ℕ) (counts : Counts) (out : List ℕ) → IsAccepted d → IsCounts d counts → out ≡ counts_line counts → IsText Check d out
+-- ---- check, list, get
+
+pub check_text : (d out : List ℕ) (counts : Counts) → IsAccepted d → ((s : Document) → IsTextOfTree d s → counts ≡ counts_of s) → out ≡ counts_line counts → IsText Check d out
 unfolding IsText
-check_text d counts out h k e = (h.0, h.1, e ∙ ap counts_line (k h.0 h.1))
+check_text d out counts (s, h) k e = (s, h, e ∙ ap counts_line (k s h))
 
-pub get_text : (d : List ℕ) (path : Path) (value out : List ℕ) → IsAccepted d → ((t : Tree) → Reads d t → get_of path t ≡ Ok value) → out ≡ value ++ codes "\n" → IsText (Get path) d out
+pub list_answer : (d out : List ℕ) (entries shown : List Entry) → IsAccepted d → ((s : Document) → IsTextOfTree d s → entries ≡ entries_of s) → shown ≡ entries → out ≡ lines_of shown → IsText Listing d out
 unfolding IsText
-get_text d path value out h k e = (h.0, h.1, (value, k h.0 h.1, e))
+list_answer d out entries shown (s, h) k same e = (s, h, e ∙ ap lines_of (same ∙ k s h))
 
-pub get_refusal : (d : List ℕ) (path : Path) (f : EditFault) → IsAccepted d → ((t : Tree) → Reads d t → get_of path t ≡ Err f) → (of_edit 0 f ≡ run.Memory) ⊎ IsRefusal (Get path) d (of_edit 0 f)
+pub get_text : (d : List ℕ) (path : List Part) (value out : List ℕ) → IsAccepted d → ((s : Document) → IsTextOfTree d s → get path s ≡ Ok value) → out ≡ value ++ codes "\n" → IsText (Get path) d out
+unfolding IsText
+get_text d path value out (s, h) k e = (s, h, (value, k s h, e))
+
+-- want of memory alone is no refusal
+pub told_edit : (number : ℕ) (f : EditFault) → (f ≡ fault.Memory) ⊎ (of_edit number f ≡ run.Edit number f)
+told_edit number fault.NotFound = inr refl
+told_edit number fault.Exists = inr refl
+told_edit number fault.NotValue = inr refl
+told_edit number fault.NotTable = inr refl
+told_edit number fault.NotKey = inr refl
+told_edit number fault.Scattered = inr refl
+told_edit number (fault.Conflict why) = inr refl
+told_edit number fault.TooDeep = inr refl
+told_edit number fault.Memory = inl refl
+
+pub get_refusal : (d : List ℕ) (path : List Part) (f : EditFault) → IsAccepted d → ((s : Document) → IsTextOfTree d s → get path s ≡ Err f) → (of_edit 0 f ≡ run.Memory) ⊎ IsRefusal (Get path) d (of_edit 0 f)
 unfolding IsEditRefusal
-get_refusal d path fault.Memory h k = inl refl
-get_refusal d path fault.NotFound h k = inr (refl, (h.0, h.1, k h.0 h.1))
-get_refusal d path fault.NotValue h k = inr (refl, (h.0, h.1, k h.0 h.1))
+get_refusal d path f (s, h) k = elim (told_edit 0 f) [
+  | inl m ↦ inl (ap (of_edit 0) m)
+  | inr e ↦ inr (subst (λ (x : RunFault). IsRefusal (Get path) d x) (sym e) (refl, (s, h, k s h)))
+]
 
-pub read_refusal : (command : Command) (bytes : List ℕ) (f : ReadFault) → IsReadFault bytes f → (of_read f ≡ run.Memory) ⊎ IsRefusal command bytes (of_read f)
-unfolding IsNoDocument
-read_refusal command bytes read.Memory h = inl refl
-read_refusal command bytes (read.Utf8 at) h = inr h
-read_refusal command bytes (read.Syntax at what) h = inr h
-read_refusal command bytes (read.Define at why) h = inr h
+pub read_refusal : (command : Command) (bytes : List ℕ) (f : ReadFault) → IsRefused bytes f → (of_read f ≡ run.Memory) ⊎ IsRefusal command bytes (of_read f)
+read_refusal command bytes f (inl m) = inl (ap of_read m)
+read_refusal command bytes read.Memory (inr h) = inl refl
+read_refusal command bytes (read.Utf8 at) (inr h) = inr h
+read_refusal command bytes (read.Syntax at what) (inr h) = inr h
+read_refusal command bytes (read.TooDeep at) (inr h) = inr h
+read_refusal command bytes (read.Define at why) (inr h) = inr h
+
+-- ---- text
+
+-- nothing is said of a path that names no node
+none_said : (path : List Part) (ms : List Mention) → list_any (is_at path) ms ≡ false → filter (is_at path) ms ≡ []
+none_said path [] h = refl
+none_said path (m ∷ ms) h = by (is_at path m) refl (none_said path ms)
+  where
+    by : (b : Bool) → is_at path m ≡ b → (list_any (is_at path) ms ≡ false → filter (is_at path) ms ≡ []) → filter (is_at path) (m ∷ ms) ≡ []
+    by true e more = absurd (let no : true ≡ false = rw e at h in cc)
+    by false e more = rw e (more (rw e at h))
+
+a_node : (path : List Part) (ms : List Mention) (v : List ℕ) → string_of (fact_at path ms) ≡ Some v → is_node path ms ≡ true
+a_node [] ms v h = refl
+a_node (p ∷ ps) ms v h = by (list_any (is_at (p ∷ ps)) ms) refl
+  where
+    by : (b : Bool) → list_any (is_at (p ∷ ps)) ms ≡ b → is_node (p ∷ ps) ms ≡ true
+    by true e = e
+    by false e =
+        let none : string_of (fact_at (p ∷ ps) ms) ≡ None = ap (λ (x : List Mention). string_of (first_of (filter_map fact_of (map (λ (m : Mention). m.says) x)))) (none_said (p ∷ ps) ms e) in
+        let no : None ≡ Some v = sym none ∙ h in
+        absurd cc
+
+pub meant_text : (d : List ℕ) (path : List Part) (found : Option (String Global)) (text : String Global) → found ≡ Some text → IsAccepted d → ((s : Document) → IsTextOfTree d s → option_map string_bytes found ≡ str_value_of path s)
+    → IsText (Text path) d (string_bytes text)
+unfolding IsText
+meant_text d path found text some (s, h) k =
+    let is : string_of (fact_at path (said_in s)) ≡ Some (string_bytes text) = sym (k s h) ∙ ap (option_map string_bytes) some in
+    (s, h, rw (a_node path (said_in s) (string_bytes text) is, at_node) (rw is refl))
+
+-- where no node stands
+pub no_node : (d : List ℕ) (path : List Part) (found : Option Kind) → is_some found ≡ false → IsAccepted d → ((s : Document) → IsTextOfTree d s → found ≡ kind_of path s) → IsRefusal (Text path) d (run.Edit 0 fault.NotFound)
+unfolding IsEditRefusal
+no_node d path found none (s, h) k = by (is_node path (said_in s)) refl
+  where
+    by : (b : Bool) → is_node path (said_in s) ≡ b → IsRefusal (Text path) d (run.Edit 0 fault.NotFound)
+    by true e = absurd (let kind : found ≡ Some (kind_at path (said_in s)) = rw e at (k s h) in let no : true ≡ false = rw kind at none in cc)
+    by false e = (refl, (s, h, rw (e, at_node) refl))
+
+-- where something else stands
+pub no_string : (d : List ℕ) (path : List Part) (found : Option Kind) (text : Option (String Global)) → is_some found ≡ true → text ≡ None → IsAccepted d → ((s : Document) → IsTextOfTree d s → found ≡ kind_of path s)
+    → ((s : Document) → IsTextOfTree d s → option_map string_bytes text ≡ str_value_of path s)
+    → IsRefusal (Text path) d (run.Edit 0 fault.NotValue)
+unfolding IsEditRefusal
+no_string d path found text some none (s, h) k n = by (is_node path (said_in s)) refl
+  where
+    by : (b : Bool) → is_node path (said_in s) ≡ b → IsRefusal (Text path) d (run.Edit 0 fault.NotValue)
+    by false e = absurd (let kind : found ≡ None = rw e at (k s h) in let no : false ≡ true = rw kind at some in cc)
+    by true e = let is : string_of (fact_at path (said_in s)) ≡ None = sym (n s h) ∙ ap (option_map string_bytes) none in (refl, (s, h, rw (e, at_node) (rw is refl)))
 
 -- ---- edits
 
-pub set_to : (d new : List ℕ) (path : Path) (value : List ℕ) (splice : Splice) → IsAccepted d → ((t : Tree) → Reads d t → SetAt d path value t new (Ok splice)) → SetsTo path value d new
-set_to d new Root value splice h k = absurd (let e = k h.0 h.1 in cc)
-set_to d new (Key key) value splice h k = by (value_named (string_bytes key) (keyvals h.0)) refl
+-- the document's tree after the first edits, and these
+pub record IsAfter (edits : List Edit) (s : Document) (new : List ℕ) : Type 0 where
+  pub es : List law.Edit
+  pub are : AllZip IsEdit edits es
+  pub tree : Document
+  pub read : IsTextOfTree new tree
+  pub done : applied_from limit 0 es s ≡ Ok tree
+
+pub none_yet : (s : Document) (d : List ℕ) → IsTextOfTree d s → IsAfter [] s d
+none_yet s d h = record { es = []; are = tt; tree = s; read = h; done = refl }
+
+abbrev refused_as : ℕ → EditFault → answers.Refused
+refused_as n f = record { number = n; fault = f }
+
+applied_more : (n : ℕ) (es : List law.Edit) (e : law.Edit) (s u : Document) → applied_from limit n es s ≡ Ok u → refusal limit u e ≡ None → applied_from limit n (es ++ e ∷ []) s ≡ Ok (edited_document u e)
+applied_more n [] e s u h k = let same : s ≡ u = cc in rw same (rw (k, applied_from) refl)
+applied_more n (x ∷ es) e s u h k = by (refusal limit s x) refl (λ r. applied_more (suc n) es e (edited_document s x) u r k)
   where
-    by : (o : Option (List ℕ)) → value_named (string_bytes key) (keyvals h.0) ≡ o → SetsTo (Key key) value d new
-    by None e = absurd (let f = rw e at (k h.0 h.1) in cc)
-    by (Some v) e = (h.0, h.1, (splice, rw e at (k h.0 h.1)))
+    by : (o : Option EditFault) → refusal limit s x ≡ o → (applied_from limit (suc n) es (edited_document s x) ≡ Ok u → applied_from limit (suc n) (es ++ e ∷ []) (edited_document s x) ≡ Ok (edited_document u e)) → applied_from limit n (x ∷ es ++ e ∷ []) s ≡ Ok (edited_document u e)
+    by None is more = rw (is, applied_from) (more (rw (is, applied_from) at h))
+    by (Some f) is more = absurd (let no : Err (refused_as n f) ≡ Ok u = rw (is, applied_from) at h in cc)
 
-pub applies_more : (edits : List Edit) (i : ℕ) (d : Edit) (path : Path) (value : ValueText) (old between new : List ℕ) → i < length edits → get_or edits i d ≡ edit.Set path value → AppliesTo (take i edits) old between → SetsTo path (string_bytes value.text) between new → AppliesTo (take (suc i) edits) old new
-applies_more [] i d path value old between new lt e h s = absurd (omega arith)
-applies_more (x ∷ xs) zero d path value old between new lt e h s =
-    subst (λ (y : Edit). AppliesTo (y ∷ []) old new) (sym e) (new, subst (λ (b : List ℕ). SetsTo path (string_bytes value.text) b new) h s, refl)
-applies_more (edit.Set q v ∷ xs) (suc i) d path value old between new lt e h s = (h.0, h.1, applies_more xs i d path value h.0 between new (omega arith) e h.2 s)
-
-pub refuses_at : (edits : List Edit) (i : ℕ) (d : Edit) (path : Path) (value : ValueText) (f : EditFault) (old between : List ℕ) → i < length edits → get_or edits i d ≡ edit.Set path value → AppliesTo (take i edits) old between → (t : Tree) → Reads between t → get_of path t ≡ Err f → RefusesAt edits i f old
-refuses_at [] i d path value f old between lt e h t r g = absurd (omega arith)
-refuses_at (x ∷ xs) zero d path value f old between lt e h t r g =
-    subst (λ (y : Edit). RefusesAt (y ∷ xs) zero f old) (sym e) (t, subst (λ (b : List ℕ). Reads b t) h r, g)
-refuses_at (edit.Set q v ∷ xs) (suc i) d path value f old between lt e h t r g = (h.0, h.1, refuses_at xs i d path value f h.0 between (omega arith) e h.2 t r g)
-
--- why setting is refused
-set_why : (d new : List ℕ) (path : Path) (value : List ℕ) (f : EditFault) → IsAccepted d → ((t : Tree) → Reads d t → SetAt d path value t new (Err f)) → (f ≡ fault.Memory) ⊎ ((t : Tree) × Reads d t × (get_of path t ≡ Err f))
-set_why d new Root value f h k = inr (h.0, h.1, let e : Err f ≡ Err fault.NotValue = k h.0 h.1 in let same : f ≡ fault.NotValue = cc in ap (λ (x : EditFault). Err x) (sym same))
-set_why d new (Key key) value f h k = by (value_named (string_bytes key) (keyvals h.0)) refl
+applied_until : (n : ℕ) (es : List law.Edit) (e : law.Edit) (s u : Document) (f : EditFault) → applied_from limit n es s ≡ Ok u → refusal limit u e ≡ Some f → applied_from limit n (es ++ e ∷ []) s ≡ Err (refused_as (n + length es) f)
+applied_until n [] e s u f h k = let same : s ≡ u = cc in rw same (rw (k, applied_from) (rw (add-zero n) refl))
+applied_until n (x ∷ es) e s u f h k = by (refusal limit s x) refl (λ r. applied_until (suc n) es e (edited_document s x) u f r k)
   where
-    by : (o : Option (List ℕ)) → value_named (string_bytes key) (keyvals h.0) ≡ o → (f ≡ fault.Memory) ⊎ ((t : Tree) × Reads d t × (get_of (Key key) t ≡ Err f))
-    by None e = let g : Err f ≡ Err fault.NotFound = rw e at (k h.0 h.1) in let same : f ≡ fault.NotFound = cc in inr (h.0, h.1, rw e (ap (λ (x : EditFault). Err x) (sym same)))
-    by (Some v) e = inl (rw e at (k h.0 h.1))
+    many : suc n + length es ≡ n + suc (length es)
+    many = omega arith
 
-pub edit_refused : (edits : List Edit) (i : ℕ) (e : Edit) (d new : List ℕ) (path : Path) (value : ValueText) (f : EditFault) (old : List ℕ) → i < length edits → get_or edits i e ≡ edit.Set path value → AppliesTo (take i edits) old d → IsAccepted d
-    → ((t : Tree) → Reads d t → SetAt d path (string_bytes value.text) t new (Err f)) → Refused edits old (of_edit i f)
-edit_refused edits i e d new path value f old lt is h r k = by f (set_why d new path (string_bytes value.text) f r k)
+    by : (o : Option EditFault) → refusal limit s x ≡ o → (applied_from limit (suc n) es (edited_document s x) ≡ Ok u → applied_from limit (suc n) (es ++ e ∷ []) (edited_document s x) ≡ Err (refused_as (suc n + length es) f))
+        → applied_from limit n (x ∷ es ++ e ∷ []) s ≡ Err (refused_as (n + suc (length es)) f)
+    by None is more = rw (is, applied_from) (rw (sym many) (more (rw (is, applied_from) at h)))
+    by (Some g) is more = absurd (let no : Err (refused_as n g) ≡ Ok u = rw (is, applied_from) at h in cc)
+
+as_many : (edits : List Edit) (es : List law.Edit) → AllZip IsEdit edits es → length es ≡ length edits
+as_many [] [] h = refl
+as_many [] (e ∷ es) h = absurd h
+as_many (x ∷ xs) [] h = absurd h
+as_many (x ∷ xs) (e ∷ es) h = ap suc (as_many xs es h.1)
+
+zip_more : (edits : List Edit) (i : ℕ) (d x : Edit) (es : List law.Edit) (e : law.Edit) → i < length edits → get_or edits i d ≡ x → AllZip IsEdit (take i edits) es → IsEdit x e → AllZip IsEdit (take (suc i) edits) (es ++ e ∷ [])
+zip_more [] i d x es e lt is h r = absurd (omega arith)
+zip_more (y ∷ ys) zero d x [] e lt is h r = (subst (λ (z : Edit). IsEdit z e) (sym is) r, tt)
+zip_more (y ∷ ys) zero d x (z ∷ zs) e lt is h r = absurd h
+zip_more (y ∷ ys) (suc i) d x [] e lt is h r = absurd h
+zip_more (y ∷ ys) (suc i) d x (z ∷ zs) e lt is h r = (h.0, zip_more ys i d x zs e (omega arith) is h.1 r)
+
+-- `set` has done its edit
+pub after_set : (edits : List Edit) (i : ℕ) (d : Edit) (path : List Part) (value : List ℕ) (old new : List ℕ) (s : Document) (splice : Splice) → i < length edits → get_or edits i d ≡ edit.Set path value → IsAcceptedValue value
+    → ((u : Document) → IsTextOfTree old u → (v : Value) → IsTextOfValue value v → EditDone u (law.set path v) old new (Ok splice)) → IsAfter (take i edits) s old → IsAfter (take (suc i) edits) s new
+after_set edits i d path value old new s splice lt is (v, read) k h = by (refusal limit h.tree (law.set path v)) refl (k h.tree h.read v read)
   where
-    by : (f : EditFault) → (f ≡ fault.Memory) ⊎ ((t : Tree) × Reads d t × (get_of path t ≡ Err f)) → Refused edits old (of_edit i f)
-    by fault.Memory w = tt
-    by fault.NotFound (inl m) = absurd cc
-    by fault.NotFound (inr (t, s, g)) = refuses_at edits i e path value fault.NotFound old d lt is h t s g
-    by fault.NotValue (inl m) = absurd cc
-    by fault.NotValue (inr (t, s, g)) = refuses_at edits i e path value fault.NotValue old d lt is h t s g
+    by : (o : Option EditFault) → refusal limit h.tree (law.set path v) ≡ o → IsDone h.tree (law.set path v) old new o (Ok splice) → IsAfter (take (suc i) edits) s new
+    by (Some f) e done = absurd (let no : Ok splice ≡ Err f = done in cc)
+    by None e done = record {
+      es = h.es ++ law.set path v ∷ [];
+      are = zip_more edits i d (edit.Set path value) h.es (law.set path v) lt is h.are (v, read, refl);
+      tree = edited_document h.tree (law.set path v);
+      read = done.tree;
+      done = applied_more 0 h.es (law.set path v) s h.tree h.done e;
+    }
 
-refused_answer : (edits : List Edit) (v : Vec Edit Global) (bytes : List ℕ) (f : RunFault) → edits ≡ v.items → IsAccepted bytes → Refused edits bytes f → (f ≡ run.Memory) ⊎ IsRefusal (Apply v) bytes f
+-- `set` has refused its edit
+pub set_refused : (edits : List Edit) (i : ℕ) (d : Edit) (path : List Part) (value : List ℕ) (f : EditFault) (old new : List ℕ) (s : Document) → i < length edits → get_or edits i d ≡ edit.Set path value → IsAcceptedValue value
+    → ((u : Document) → IsTextOfTree old u → (v : Value) → IsTextOfValue value v → EditDone u (law.set path v) old new (Err f)) → IsAfter (take i edits) s old → Refused edits s (of_edit i f)
+set_refused edits i d path value f old new s lt is (v, read) k h = by (refusal limit h.tree (law.set path v)) refl (k h.tree h.read v read)
+  where
+    many : 0 + length h.es ≡ i
+    many = omega (arith, as_many (take i edits) h.es h.are, length-take {A = Edit})
+
+    of_memory : f ≡ fault.Memory → Refused edits s (of_edit i f)
+    of_memory m = rw m tt
+
+    of_refusal : refusal limit h.tree (law.set path v) ≡ Some f → Refused edits s (of_edit i f)
+    of_refusal e = elim (told_edit i f) [
+      | inl m ↦ of_memory m
+      | inr told ↦ subst (λ (x : RunFault). Refused edits s x) (sym told) (
+        h.es ++ law.set path v ∷ [],
+        zip_more edits i d (edit.Set path value) h.es (law.set path v) lt is h.are (v, read, refl),
+        subst (λ (n : ℕ). applied_from limit 0 (h.es ++ law.set path v ∷ []) s ≡ Err (refused_as n f)) many (applied_until 0 h.es (law.set path v) s h.tree f h.done e),
+      )
+    ]
+
+    by : (o : Option EditFault) → refusal limit h.tree (law.set path v) ≡ o → IsDone h.tree (law.set path v) old new o (Err f) → Refused edits s (of_edit i f)
+    by (Some g) e done = of_refusal (e ∙ ap (λ (x : EditFault). Some x) (let same : g ≡ f = cc in same))
+    by None e done = of_memory done
+
+pub all_applied : (edits : List Edit) (n : ℕ) (s : Document) (d new : List ℕ) → length edits ≤ n → new ≡ d → IsAfter (take n edits) s d → AppliesTo edits s new
+all_applied edits n s d new le same h =
+    let all : take n edits ≡ edits = take_all n edits le in
+    (h.es, subst (λ (x : List Edit). AllZip IsEdit x h.es) all h.are, (h.tree, h.done, same ∙ h.read.reads.spelled))
+
+refused_answer : (edits : List Edit) (v : Vec Edit Global) (bytes : List ℕ) (s : Document) (f : RunFault) → edits ≡ v.items → IsTextOfTree bytes s → Refused edits s f → (f ≡ run.Memory) ⊎ IsRefusal (Apply v) bytes f
 unfolding IsEditRefusal
-refused_answer edits v bytes run.Memory e a h = inl refl
-refused_answer edits v bytes (run.Edit number f) e a h = inr (a, subst (λ (x : List Edit). RefusesAt x number f bytes) e h)
-refused_answer edits v bytes run.Read e a h = absurd h
-refused_answer edits v bytes run.TooLong e a h = absurd h
-refused_answer edits v bytes (run.Document f) e a h = absurd h
-refused_answer edits v bytes (run.Write n) e a h = absurd h
+refused_answer edits v bytes s run.Memory e a h = inl refl
+refused_answer edits v bytes s (run.Edit number f) e a h = inr (s, a, subst (λ (x : List Edit). RefusesAt x s number f) e h)
+refused_answer edits v bytes s run.Read e a h = absurd h
+refused_answer edits v bytes s run.TooLong e a h = absurd h
+refused_answer edits v bytes s (run.Document f) e a h = absurd h
+refused_answer edits v bytes s (run.Write n) e a h = absurd h
 
-pub apply_answer : (bytes : List ℕ) (d : List ℕ) (edits : List Edit) (v : Vec Edit Global) (r : Result (String Global) RunFault) → edits ≡ v.items → IsReadAs bytes d → MatchResult r (λ text. AppliesTo edits d (string_bytes text)) (Refused edits d)
+by_tree : (bytes : List ℕ) (edits : List Edit) (v : Vec Edit Global) (r : Result (String Global) RunFault) (s : Document) → edits ≡ v.items → IsTextOfTree bytes s → MatchResult r (λ text. AppliesTo edits s (string_bytes text)) (Refused edits s)
     → MatchResult r (λ text. IsText (Apply v) bytes (string_bytes text)) (λ f. (f ≡ run.Memory) ⊎ IsRefusal (Apply v) bytes f)
 unfolding IsText
-apply_answer bytes d edits v (Ok text) e k h =
-    let accepted : IsAccepted bytes = subst IsAccepted k.text k.accepted in
-    (accepted, subst (λ (x : List Edit). AppliesTo x bytes (string_bytes text)) e (subst (λ (b : List ℕ). AppliesTo edits b (string_bytes text)) k.text h))
-apply_answer bytes d edits v (Err f) e k h =
-    let accepted : IsAccepted bytes = subst IsAccepted k.text k.accepted in
-    refused_answer edits v bytes f e accepted (subst (λ (b : List ℕ). Refused edits b f) k.text h)
+by_tree bytes edits v (Ok text) s e h k = (s, h, subst (λ (x : List Edit). AppliesTo x s (string_bytes text)) e k)
+by_tree bytes edits v (Err f) s e h k = refused_answer edits v bytes s f e h k
+
+pub apply_answer : (bytes d : List ℕ) (edits : List Edit) (v : Vec Edit Global) (r : Result (String Global) RunFault) → edits ≡ v.items → d ≡ bytes → IsAccepted d → ((s : Document) → IsTextOfTree d s → MatchResult r (λ text. AppliesTo edits s (string_bytes text)) (Refused edits s))
+    → MatchResult r (λ text. IsText (Apply v) bytes (string_bytes text)) (λ f. (f ≡ run.Memory) ⊎ IsRefusal (Apply v) bytes f)
+apply_answer bytes d edits v r e same (s, h) k = by_tree bytes edits v r s e (subst (λ (b : List ℕ). IsTextOfTree b s) same h) (k s h)

@@ -16,7 +16,7 @@ use Rattle.clap.specs.declared.error.kind.ErrorKind.TheVariants.{OutOfMemory}
 use Rattle.clap.specs.declared.error.Error.{Error}
 use Rattle.clap.specs.declared.parser.matches.ArgMatches.{ArgMatches}
 use Rattle.clap.specs.Values.{kind_of}
-use Rattle.keep_toml.specs.KeepApp.{keep_app, check_app, get_app, set_app}
+use Rattle.keep_toml.specs.KeepApp.{keep_app, check_app, list_app, get_app, text_app, set_app}
 use Rattle.keep_toml.specs.Chosen.{read_rows}
 use Rattle.keep_toml.specs.Wanted.{has_plain_words, is_plain_word, wanted_of}
 
@@ -84,6 +84,22 @@ check_too_many : (program : Text) (words : List Text) → is_empty (or_else (lea
 check_too_many program words h =
     ap (is_empty {X = ErrorKind}) (as_shell program (codes "check" ∷ words) ∙ (ap₂ shell (check_walk words) (check_walk_fault words) ∙ check_leaf_fault words)) ∙ h
 
+list_walk : (words : List Text) → walk (built keep_app).top.rules (names_of (built keep_app)) nothing_held (codes "list" ∷ words) ≡ stopped_at nothing_held idle 1 false (codes "list") words
+unfolding walked
+list_walk words = walk_stopped (built keep_app).top.rules (names_of (built keep_app)) nothing_held idle 1 false (codes "list") [] words
+
+list_walk_fault : (words : List Text) → walk_fault (built keep_app).top (names_of (built keep_app)) (walk_from nothing_held) (codes "list" ∷ words) ≡ []
+unfolding walked walk_fault
+list_walk_fault words = fault_stopped (built keep_app).top (names_of (built keep_app)) nothing_held idle 1 false (codes "list") [] words
+
+list_leaf_fault : (words : List Text) → shell (stopped_at nothing_held idle 1 false (codes "list") words) [] ≡ or_else (leaf_fault_of (built_leaf list_app.top) words) []
+unfolding clap_on_literals
+list_leaf_fault words = refl
+
+list_too_many : (program : Text) (words : List Text) → is_empty (or_else (leaf_fault_of (built_leaf list_app.top) words) []) ≡ false → is_empty (fault_of keep_app (program ∷ codes "list" ∷ words)) ≡ false
+list_too_many program words h =
+    ap (is_empty {X = ErrorKind}) (as_shell program (codes "list" ∷ words) ∙ (ap₂ shell (list_walk words) (list_walk_fault words) ∙ list_leaf_fault words)) ∙ h
+
 get_walk : (words : List Text) → walk (built keep_app).top.rules (names_of (built keep_app)) nothing_held (codes "get" ∷ words) ≡ stopped_at nothing_held idle 1 false (codes "get") words
 unfolding walked
 get_walk words = walk_stopped (built keep_app).top.rules (names_of (built keep_app)) nothing_held idle 1 false (codes "get") [] words
@@ -99,6 +115,22 @@ get_leaf_fault words = refl
 get_too_many : (program : Text) (words : List Text) → is_empty (or_else (leaf_fault_of (built_leaf get_app.top) words) []) ≡ false → is_empty (fault_of keep_app (program ∷ codes "get" ∷ words)) ≡ false
 get_too_many program words h =
     ap (is_empty {X = ErrorKind}) (as_shell program (codes "get" ∷ words) ∙ (ap₂ shell (get_walk words) (get_walk_fault words) ∙ get_leaf_fault words)) ∙ h
+
+text_walk : (words : List Text) → walk (built keep_app).top.rules (names_of (built keep_app)) nothing_held (codes "text" ∷ words) ≡ stopped_at nothing_held idle 1 false (codes "text") words
+unfolding walked
+text_walk words = walk_stopped (built keep_app).top.rules (names_of (built keep_app)) nothing_held idle 1 false (codes "text") [] words
+
+text_walk_fault : (words : List Text) → walk_fault (built keep_app).top (names_of (built keep_app)) (walk_from nothing_held) (codes "text" ∷ words) ≡ []
+unfolding walked walk_fault
+text_walk_fault words = fault_stopped (built keep_app).top (names_of (built keep_app)) nothing_held idle 1 false (codes "text") [] words
+
+text_leaf_fault : (words : List Text) → shell (stopped_at nothing_held idle 1 false (codes "text") words) [] ≡ or_else (leaf_fault_of (built_leaf text_app.top) words) []
+unfolding clap_on_literals
+text_leaf_fault words = refl
+
+text_too_many : (program : Text) (words : List Text) → is_empty (or_else (leaf_fault_of (built_leaf text_app.top) words) []) ≡ false → is_empty (fault_of keep_app (program ∷ codes "text" ∷ words)) ≡ false
+text_too_many program words h =
+    ap (is_empty {X = ErrorKind}) (as_shell program (codes "text" ∷ words) ∙ (ap₂ shell (text_walk words) (text_walk_fault words) ∙ text_leaf_fault words)) ∙ h
 
 set_walk : (words : List Text) → walk (built keep_app).top.rules (names_of (built keep_app)) nothing_held (codes "set" ∷ words) ≡ stopped_at nothing_held idle 1 false (codes "set") words
 unfolding walked
@@ -121,12 +153,14 @@ pub record IsPlainWord (word : Text) : Type 0 where
   pub first : strip_byte 45 word ≡ None
   pub dashes : bytes_eq word (45 ∷ 45 ∷ []) ≡ false
 
+some_not_none : (word : Text) (b : Bool) → Some word ≡ None → b ≡ false
+some_not_none word b bad = cc
+
 dashes_at : (word : Text) → strip_byte 45 word ≡ None → (b : Bool) → bytes_eq word (45 ∷ 45 ∷ []) ≡ b → b ≡ false
 dashes_at word e false h = refl
 dashes_at word e true h =
     let same : word ≡ 45 ∷ 45 ∷ [] = (bytes_eq-Decides word (45 ∷ 45 ∷ [])).0 h in
-    let bad : Some (45 ∷ []) ≡ None = ap (strip_byte 45) (sym same) ∙ e in
-    cc
+    some_not_none (45 ∷ []) true (ap (strip_byte 45) (sym same) ∙ e)
 
 pub plain_word : (word : Text) → is_plain_word word ≡ true → IsPlainWord word
 plain_word word h =
@@ -160,6 +194,18 @@ check_agrees : (program : Text) (words : List Text) → list_all is_plain_word w
 check_agrees program [] h = inl (check_reads program)
 check_agrees program (word ∷ rest) h = inr (check_too_many program _ (check_more word rest (plain_both word rest h).0), refl)
 
+list_reads : (program : Text) → Reads (program ∷ codes "list" ∷ [])
+unfolding clap_on_literals
+list_reads program = (refl, refl)
+
+list_more : (word : Text) (rest : List Text) → IsPlainWord word → is_empty (or_else (leaf_fault_of (built_leaf list_app.top) (word ∷ rest)) []) ≡ false
+unfolding clap_on_literals
+list_more word rest p = let e = p.first in let f = p.dashes in simp (e, f) refl
+
+list_agrees : (program : Text) (words : List Text) → list_all is_plain_word words ≡ true → Agrees (program ∷ codes "list" ∷ words)
+list_agrees program [] h = inl (list_reads program)
+list_agrees program (word ∷ rest) h = inr (list_too_many program _ (list_more word rest (plain_both word rest h).0), refl)
+
 get_none : (program : Text) → is_empty (fault_of keep_app (program ∷ codes "get" ∷ [])) ≡ false
 unfolding clap_on_literals
 get_none program = refl
@@ -181,6 +227,28 @@ get_agrees program (first ∷ word ∷ rest) h =
     let p = plain_both first (word ∷ rest) h in
     let q = plain_both word rest p.1 in
     inr (get_too_many program _ (get_more first word rest p.0 q.0), refl)
+
+text_none : (program : Text) → is_empty (fault_of keep_app (program ∷ codes "text" ∷ [])) ≡ false
+unfolding clap_on_literals
+text_none program = refl
+
+text_reads : (program first : Text) → IsPlainWord first → Reads (program ∷ codes "text" ∷ first ∷ [])
+unfolding clap_on_literals
+text_reads program first p = let e = p.first in let f = p.dashes in (simp (e, f) refl, simp (e, f) refl)
+
+text_more : (first word : Text) (rest : List Text) → IsPlainWord first → IsPlainWord word
+    → is_empty (or_else (leaf_fault_of (built_leaf text_app.top) (first ∷ word ∷ rest)) []) ≡ false
+unfolding clap_on_literals
+text_more first word rest p q =
+    let e = p.first in let f = p.dashes in let g = q.first in let h = q.dashes in simp (e, f, g, h) refl
+
+text_agrees : (program : Text) (words : List Text) → list_all is_plain_word words ≡ true → Agrees (program ∷ codes "text" ∷ words)
+text_agrees program [] h = inr (text_none program, refl)
+text_agrees program (first ∷ []) h = inl (text_reads program first (plain_both first [] h).0)
+text_agrees program (first ∷ word ∷ rest) h =
+    let p = plain_both first (word ∷ rest) h in
+    let q = plain_both word rest p.1 in
+    inr (text_too_many program _ (text_more first word rest p.0 q.0), refl)
 
 set_none : (program : Text) → is_empty (fault_of keep_app (program ∷ codes "set" ∷ [])) ≡ false
 unfolding clap_on_literals
@@ -218,18 +286,22 @@ set_agrees program (first ∷ second ∷ word ∷ rest) h =
 
 unknown_name : (program name : Text) (rest : List Text) → IsPlainWord name
     → bytes_eq (codes "check") name ≡ false
+    → bytes_eq (codes "list") name ≡ false
     → bytes_eq (codes "get") name ≡ false
+    → bytes_eq (codes "text") name ≡ false
     → bytes_eq (codes "set") name ≡ false
     → is_empty (fault_of keep_app (program ∷ name ∷ rest)) ≡ false
 unfolding clap_on_literals
-unknown_name program name rest p e0 e1 e2 = let e = p.first in let f = p.dashes in simp (f, e, e0, e1, e2) refl
+unknown_name program name rest p e0 e1 e2 e3 e4 = let e = p.first in let f = p.dashes in simp (f, e, e0, e1, e2, e3, e4) refl
 
 none_wanted : (program name : Text) (rest : List Text)
     → bytes_eq name (codes "check") ≡ false
+    → bytes_eq name (codes "list") ≡ false
     → bytes_eq name (codes "get") ≡ false
+    → bytes_eq name (codes "text") ≡ false
     → bytes_eq name (codes "set") ≡ false
     → wanted_of (program ∷ name ∷ rest) ≡ None
-none_wanted program name rest e0 e1 e2 = simp (e0, e1, e2) refl
+none_wanted program name rest e0 e1 e2 e3 e4 = simp (e0, e1, e2, e3, e4) refl
 
 -- ---- all words
 
@@ -243,26 +315,36 @@ turned word name true h e =
     cc
 
 by_name : (program name : Text) (rest : List Text) → list_all is_plain_word (name ∷ rest) ≡ true
-    → (b0 b1 b2 : Bool)
+    → (b0 b1 b2 b3 b4 : Bool)
     → bytes_eq name (codes "check") ≡ b0
-    → bytes_eq name (codes "get") ≡ b1
-    → bytes_eq name (codes "set") ≡ b2
+    → bytes_eq name (codes "list") ≡ b1
+    → bytes_eq name (codes "get") ≡ b2
+    → bytes_eq name (codes "text") ≡ b3
+    → bytes_eq name (codes "set") ≡ b4
     → Agrees (program ∷ name ∷ rest)
-by_name program name rest h true b1 b2 e0 e1 e2 =
+by_name program name rest h true b1 b2 b3 b4 e0 e1 e2 e3 e4 =
     let same : name ≡ codes "check" = (bytes_eq-Decides name (codes "check")).0 e0 in
     subst (λ (n : Text). Agrees (program ∷ n ∷ rest)) (sym same) (check_agrees program rest (plain_both name rest h).1)
-by_name program name rest h false true b2 e0 e1 e2 =
-    let same : name ≡ codes "get" = (bytes_eq-Decides name (codes "get")).0 e1 in
+by_name program name rest h false true b2 b3 b4 e0 e1 e2 e3 e4 =
+    let same : name ≡ codes "list" = (bytes_eq-Decides name (codes "list")).0 e1 in
+    subst (λ (n : Text). Agrees (program ∷ n ∷ rest)) (sym same) (list_agrees program rest (plain_both name rest h).1)
+by_name program name rest h false false true b3 b4 e0 e1 e2 e3 e4 =
+    let same : name ≡ codes "get" = (bytes_eq-Decides name (codes "get")).0 e2 in
     subst (λ (n : Text). Agrees (program ∷ n ∷ rest)) (sym same) (get_agrees program rest (plain_both name rest h).1)
-by_name program name rest h false false true e0 e1 e2 =
-    let same : name ≡ codes "set" = (bytes_eq-Decides name (codes "set")).0 e2 in
+by_name program name rest h false false false true b4 e0 e1 e2 e3 e4 =
+    let same : name ≡ codes "text" = (bytes_eq-Decides name (codes "text")).0 e3 in
+    subst (λ (n : Text). Agrees (program ∷ n ∷ rest)) (sym same) (text_agrees program rest (plain_both name rest h).1)
+by_name program name rest h false false false false true e0 e1 e2 e3 e4 =
+    let same : name ≡ codes "set" = (bytes_eq-Decides name (codes "set")).0 e4 in
     subst (λ (n : Text). Agrees (program ∷ n ∷ rest)) (sym same) (set_agrees program rest (plain_both name rest h).1)
-by_name program name rest h false false false e0 e1 e2 = inr (
+by_name program name rest h false false false false false e0 e1 e2 e3 e4 = inr (
   unknown_name program name rest (plain_both name rest h).0
       (turned (codes "check") name _ e0 refl)
-      (turned (codes "get") name _ e1 refl)
-      (turned (codes "set") name _ e2 refl),
-  none_wanted program name rest e0 e1 e2,
+      (turned (codes "list") name _ e1 refl)
+      (turned (codes "get") name _ e2 refl)
+      (turned (codes "text") name _ e3 refl)
+      (turned (codes "set") name _ e4 refl),
+  none_wanted program name rest e0 e1 e2 e3 e4,
 )
 
 no_words : is_empty (fault_of keep_app []) ≡ false
@@ -276,7 +358,7 @@ no_name program = refl
 pub agrees : (words : List Text) → has_plain_words words ≡ true → Agrees words
 agrees [] h = inr (no_words, refl)
 agrees (program ∷ []) h = inr (no_name program, refl)
-agrees (program ∷ name ∷ rest) h = by_name program name rest h _ _ _ refl refl refl
+agrees (program ∷ name ∷ rest) h = by_name program name rest h _ _ _ _ _ refl refl refl refl refl
 
 pub err_refuses : (app : App) (words : List Text) (e : Error) → app ≡ keep_app → has_plain_words words ≡ true
     → (is_simple_and_free app ≡ true → HasKind (fault_of app words) e) → (kind_of e ≡ OutOfMemory → ⊥) → wanted_of words ≡ None

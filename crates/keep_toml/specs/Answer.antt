@@ -1,81 +1,110 @@
 -- What the program answers to a command and the bytes that were read.
-use Rattle.std.specs.Prelude.{◌≡◌, ℕ, zero, suc, List, [], ◌∷◌, ◌++◌, codes, decimal, string_bytes, Ok, Err, ⊤}
+use Rattle.std.specs.Prelude.{◌≡◌, ℕ, List, ◌++◌, suc, take, codes, decimal, Ok, Err, ⊤}
+use Rattle.std.specs.List.{flat_map, AllZip}
+use Rattle.keep_token.specs.declared.leaf.Profile.TheVariants.{Strict}
+use Rattle.keep_syntax.specs.declared.fault.ReadFault.{ReadFault}
+use Rattle.keep_syntax.specs.declared.fault.ReadFault.TheVariants as read
+use Rattle.keep_syntax.specs.Tree.{Value, Document, text}
+use Rattle.keep_rules.specs.declared.node.Kind.{Kind}
+use Rattle.keep_rules.specs.declared.node.Kind.TheVariants as kind
+use Rattle.keep_rules.specs.PathText.{encoded_path}
+use Rattle.keep_rules.specs.ReadText.{IsReadFault}
+use Rattle.keep_law.specs.declared.fault.EditFault.{EditFault}
+use Rattle.keep_law.specs.declared.fault.EditFault.TheVariants as fault
+use Rattle.keep_law.specs.Edits as law
+use Rattle.keep_law.specs.Answers.{get, string_at, applied_edits}
+use Rattle.keep_edit.specs.declared.document.Counts.{Counts}
+use Rattle.keep_edit.specs.declared.document.Entry.{Entry}
+use Rattle.keep_edit.specs.Reading.{limit, IsTextOfTree, IsTextOfValue}
+use Rattle.keep_edit.specs.Answers.{counts_of, entries_of}
 use Rattle.keep_toml.specs.declared.command.Command.{Command}
-use Rattle.keep_toml.specs.declared.command.Command.TheVariants.{Check, Get, Apply}
+use Rattle.keep_toml.specs.declared.command.Command.TheVariants as command
 use Rattle.keep_toml.specs.declared.edit.Edit.{Edit}
 use Rattle.keep_toml.specs.declared.edit.Edit.TheVariants as edit
-use Rattle.keep_toml.specs.declared.edit.EditFault.{EditFault}
-use Rattle.keep_toml.specs.declared.edit.EditFault.TheVariants as fault
-use Rattle.keep_toml.specs.declared.edit.Splice.{Splice}
-use Rattle.keep_toml.specs.declared.fault.ReadFault.{ReadFault}
-use Rattle.keep_toml.specs.declared.fault.ReadFault.TheVariants as read
 use Rattle.keep_toml.specs.declared.fault.RunFault.{RunFault}
 use Rattle.keep_toml.specs.declared.fault.RunFault.TheVariants as run
-use Rattle.keep_toml.specs.declared.path.Path.{Path}
-use Rattle.keep_toml.specs.declared.path.Path.TheVariants.{Root, Key}
-use Rattle.keep_toml.specs.SmallTree.{Tree}
-use Rattle.keep_toml.specs.SmallGrammar.{Reads, IsAccepted}
-use Rattle.keep_toml.specs.SmallDocument.{counts_of, IsReadFault}
-use Rattle.keep_toml.specs.Documents.{get_of, Replaces}
-use Rattle.keep_toml.specs.declared.document.Counts.{Counts}
 
 -- ok tokens=T nodes=N
 abbrev pub counts_line : Counts → List ℕ
 counts_line counts = codes "ok tokens=" ++ (decimal counts.tokens ++ (codes " nodes=" ++ (decimal counts.nodes ++ codes "\n")))
 
--- the text after an edit
-abbrev pub SetsTo : Path → List ℕ → List ℕ → List ℕ → Type 0
-SetsTo Root value old new = ⊥
-SetsTo (Key key) value old new = (t : Tree) × Reads old t × ((splice : Splice) × Replaces old (string_bytes key) value t new splice)
+-- ---- the lines of `list`
+
+abbrev pub kind_word : Kind → List ℕ
+kind_word kind.Str = codes "string"
+kind_word kind.Integer = codes "integer"
+kind_word kind.Float = codes "float"
+kind_word kind.Boolean = codes "boolean"
+kind_word kind.OffsetDateTime = codes "offset-date-time"
+kind_word kind.LocalDateTime = codes "local-date-time"
+kind_word kind.LocalDate = codes "local-date"
+kind_word kind.LocalTime = codes "local-time"
+kind_word kind.Array = codes "array"
+kind_word kind.Inline = codes "inline-table"
+kind_word kind.Table = codes "table"
+kind_word kind.Tables = codes "array-of-tables"
+
+-- path, tab, kind
+abbrev pub entry_line : Entry → List ℕ
+entry_line e = encoded_path e.path ++ (codes "\t" ++ (kind_word e.kind ++ codes "\n"))
+
+abbrev pub lines_of : List Entry → List ℕ
+lines_of entries = flat_map entry_line entries
+
+-- ---- edits
+
+-- The edit, with the value of its text.
+abbrev pub IsEdit : Edit → law.Edit → Type 0
+IsEdit (edit.Set path value) e = (v : Value) × IsTextOfValue value v × (e ≡ law.set path v)
 
 -- the text after all edits, in order
-abbrev pub AppliesTo : List Edit → List ℕ → List ℕ → Type 0
-AppliesTo [] old new = new ≡ old
-AppliesTo (edit.Set path value ∷ more) old new = (between : List ℕ) × SetsTo path (string_bytes value.text) old between × AppliesTo more between new
+abbrev pub AppliesTo : List Edit → Document → List ℕ → Type 0
+AppliesTo edits s new = (es : List law.Edit) × AllZip IsEdit edits es × ((u : Document) × (applied_edits limit es s ≡ Ok u) × (new ≡ text u))
 
--- the edit of this number is the first that is refused, and this is why
-abbrev pub RefusesAt : List Edit → ℕ → EditFault → List ℕ → Type 0
-RefusesAt [] number fault old = ⊥
-RefusesAt (edit.Set path value ∷ more) zero fault old = (t : Tree) × Reads old t × (get_of path t ≡ Err fault)
-RefusesAt (edit.Set path value ∷ more) (suc number) fault old = (between : List ℕ) × SetsTo path (string_bytes value.text) old between × RefusesAt more number fault between
+-- The edit of this number is the first that is refused, and this is why. (The edits behind it are not looked at.)
+abbrev pub RefusesAt : List Edit → Document → ℕ → EditFault → Type 0
+RefusesAt edits s number f = (es : List law.Edit) × AllZip IsEdit (take (suc number) edits) es × (applied_edits limit es s ≡ Err (record { number = number; fault = f }))
+
+-- ---- answers
 
 -- the output answers the command
 unfoldable pub IsText : Command → List ℕ → List ℕ → Type 0
-IsText Check bytes output = (t : Tree) × Reads bytes t × (output ≡ counts_line (counts_of t))
-IsText (Get path) bytes output = (t : Tree) × Reads bytes t × ((value : List ℕ) × (get_of path t ≡ Ok value) × (output ≡ value ++ codes "\n"))
-IsText (Apply edits) bytes output = IsAccepted bytes × AppliesTo edits.items bytes output
-
--- the bytes are no document, by this fault; that memory runs out is no answer
-unfoldable pub IsNoDocument : List ℕ → ReadFault → Type 0
-IsNoDocument bytes read.Memory = ⊥
-IsNoDocument bytes fault = IsReadFault bytes fault
+IsText command.Check bytes output = (s : Document) × IsTextOfTree bytes s × (output ≡ counts_line (counts_of s))
+IsText command.List bytes output = (s : Document) × IsTextOfTree bytes s × (output ≡ lines_of (entries_of s))
+IsText (command.Get path) bytes output = (s : Document) × IsTextOfTree bytes s × ((value : List ℕ) × (get path s ≡ Ok value) × (output ≡ value ++ codes "\n"))
+IsText (command.Text path) bytes output = (s : Document) × IsTextOfTree bytes s × (string_at path s ≡ Ok output)
+IsText (command.Apply edits) bytes output = (s : Document) × IsTextOfTree bytes s × AppliesTo edits.items s output
 
 -- the bytes are a document, and the edit of this number is the first that is refused, by this fault
 unfoldable pub IsEditRefusal : Command → List ℕ → ℕ → EditFault → Type 0
-IsEditRefusal Check bytes number fault = ⊥
-IsEditRefusal (Get path) bytes number fault = (number ≡ 0) × ((t : Tree) × Reads bytes t × (get_of path t ≡ Err fault))
-IsEditRefusal (Apply edits) bytes number fault = IsAccepted bytes × RefusesAt edits.items number fault bytes
+IsEditRefusal command.Check bytes number f = ⊥
+IsEditRefusal command.List bytes number f = ⊥
+IsEditRefusal (command.Get path) bytes number f = (number ≡ 0) × ((s : Document) × IsTextOfTree bytes s × (get path s ≡ Err f))
+IsEditRefusal (command.Text path) bytes number f = (number ≡ 0) × ((s : Document) × IsTextOfTree bytes s × (string_at path s ≡ Err f))
+IsEditRefusal (command.Apply edits) bytes number f = (s : Document) × IsTextOfTree bytes s × RefusesAt edits.items s number f
 
--- the fault is the answer
+-- the fault is the answer; that memory runs out is none
 abbrev pub IsRefusal : Command → List ℕ → RunFault → Type 0
-IsRefusal command bytes (run.Document fault) = IsNoDocument bytes fault
-IsRefusal command bytes (run.Edit number fault) = IsEditRefusal command bytes number fault
-IsRefusal command bytes _ = ⊥
+IsRefusal c bytes (run.Document f) = IsReadFault Strict limit bytes f
+IsRefusal c bytes (run.Edit number f) = IsEditRefusal c bytes number f
+IsRefusal c bytes _ = ⊥
+
+-- ---- how faults are told
 
 -- the fault of the run that a fault of reading, or of the edit of a number, is
 abbrev pub of_read : ReadFault → RunFault
 of_read read.Memory = run.Memory
 of_read (read.Utf8 at) = run.Document (read.Utf8 at)
 of_read (read.Syntax at what) = run.Document (read.Syntax at what)
+of_read (read.TooDeep at) = run.Document (read.TooDeep at)
 of_read (read.Define at why) = run.Document (read.Define at why)
 
 abbrev pub of_edit : ℕ → EditFault → RunFault
 of_edit number fault.Memory = run.Memory
-of_edit number fault.NotFound = run.Edit number fault.NotFound
-of_edit number fault.NotValue = run.Edit number fault.NotValue
+of_edit number f = run.Edit number f
 
 -- the edits are refused so, or memory ran out
-abbrev pub Refused : List Edit → List ℕ → RunFault → Type 0
-Refused edits old run.Memory = ⊤
-Refused edits old (run.Edit number fault) = RefusesAt edits number fault old
-Refused edits old _ = ⊥
+abbrev pub Refused : List Edit → Document → RunFault → Type 0
+Refused edits s run.Memory = ⊤
+Refused edits s (run.Edit number f) = RefusesAt edits s number f
+Refused edits s _ = ⊥

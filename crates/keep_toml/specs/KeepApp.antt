@@ -21,6 +21,12 @@ check_app = no_words (codes "check")
 abbrev pub get_app : App
 get_app = one_word (codes "get") (codes "path")
 
+abbrev pub list_app : App
+list_app = no_words (codes "list")
+
+abbrev pub text_app : App
+text_app = one_word (codes "text") (codes "path")
+
 abbrev pub set_app : App
 set_app = two_words (codes "set") (codes "path") (codes "value")
 
@@ -29,4 +35,4 @@ top_app = on_top (λ s. record s { subcommand_required = true; disable_help_subc
 
 abbrev pub keep_app : App
 keep_app =
-    with_subcommand (with_subcommand (with_subcommand (top_app) check_app.top) get_app.top) set_app.top
+    with_subcommand (with_subcommand (with_subcommand (with_subcommand (with_subcommand (top_app) check_app.top) list_app.top) get_app.top) text_app.top) set_app.top

@@ -7,7 +7,9 @@ use Rattle.clap.specs.Lexer.{strip_byte}
 -- a subcommand and the texts of its words
 pub data Wanted : Type 0 where
   wants_check : Wanted
+  wants_list : Wanted
   wants_get : List ℕ → Wanted
+  wants_text : List ℕ → Wanted
   wants_set : List ℕ → List ℕ → Wanted
 
 -- a subcommand takes no word, one or two
@@ -27,7 +29,9 @@ takes_two wanted _ = None
 abbrev pub wanted_by : List ℕ → List (List ℕ) → Option Wanted
 wanted_by name words =
     if bytes_eq name (codes "check") then takes_none wants_check words
+    else if bytes_eq name (codes "list") then takes_none wants_list words
     else if bytes_eq name (codes "get") then takes_one (λ path. wants_get path) words
+    else if bytes_eq name (codes "text") then takes_one (λ path. wants_text path) words
     else if bytes_eq name (codes "set") then takes_two (λ path value. wants_set path value) words
     else None
 

@@ -1,15 +1,16 @@
 //! The answer to a command.
 ghost use Rattle.std.specs.Prelude.{◌≡◌, ◌⊎◌, ◌++◌, codes, IfOk, MatchResult, string_bytes};
-ghost use Rattle.keep_toml.specs.Answer.{counts_line, AppliesTo, IsRefusal, IsText};
+ghost use Rattle.keep_syntax.specs.Tree as tree;
+ghost use Rattle.keep_edit.specs.Reading.{IsTextOfTree};
+ghost use Rattle.keep_toml.specs.Answer.{counts_line, kind_word, lines_of, AppliesTo, IsRefusal, IsText};
 ghost use Rattle.keep_toml.specs.Answer as spec;
 
 use crate::command::Command;
-use crate::document::{Counts, Document};
-use crate::edit::{Edit, EditFault};
-use crate::fault::{ReadFault, RunFault};
-use crate::path::Path;
-use crate::value::ValueText;
+use crate::edit::Edit;
+use crate::fault::RunFault;
+use keep_edit::{Counts, Document, EditFault, Entry, Kind, Path, ReadFault, ValueText};
 use std::alloc::{AllocError, Global};
+use std::mem;
 
 fn counts_text(alloc: Global, counts: Counts) -> Result<String, AllocError>
     ensures { IfOk result (λ text. string_bytes text ≡ counts_line counts) }
@@ -20,8 +21,43 @@ fn counts_text(alloc: Global, counts: Counts) -> Result<String, AllocError>
 fn line_of(alloc: Global, value: &str) -> Result<String, AllocError>
     ensures { IfOk result (λ text. string_bytes text ≡ value.now ++ codes "\n") }
 {
-    let mut text = String::from_str(alloc, value)?;
+    let mut text = String::with_capacity(alloc, value.len().saturating_add(1))?;
+    text.push_str(value)?;
     text.push_str("\n")?;
+    Ok(text)
+}
+
+// The word of a kind.
+fn word_of(kind: Kind) -> &'static str
+    ensures { result.now ≡ kind_word kind }
+{
+    match kind {
+        Kind::Str => "string",
+        Kind::Integer => "integer",
+        Kind::Float => "float",
+        Kind::Boolean => "boolean",
+        Kind::OffsetDateTime => "offset-date-time",
+        Kind::LocalDateTime => "local-date-time",
+        Kind::LocalDate => "local-date",
+        Kind::LocalTime => "local-time",
+        Kind::Array => "array",
+        Kind::Inline => "inline-table",
+        Kind::Table => "table",
+        Kind::Tables => "array-of-tables",
+    }
+}
+
+fn list_text(alloc: Global, entries: &[Entry]) -> Result<String, AllocError>
+    ensures { IfOk result (λ text. string_bytes text ≡ lines_of entries.now) }
+{
+    let mut text = String::new(alloc);
+    for entry in entries {
+        let path = entry.path.encode(alloc)?;
+        text.push_str(path.as_str())?;
+        text.push_str("\t")?;
+        text.push_str(word_of(entry.kind))?;
+        text.push_str("\n")?;
+    }
     Ok(text)
 }
 
@@ -30,9 +66,7 @@ fn of_read(fault: ReadFault) -> RunFault
 {
     match fault {
         ReadFault::Memory => RunFault::Memory,
-        ReadFault::Utf8 { at } => RunFault::Document(ReadFault::Utf8 { at }),
-        ReadFault::Syntax { at, what } => RunFault::Document(ReadFault::Syntax { at, what }),
-        ReadFault::Define { at, why } => RunFault::Document(ReadFault::Define { at, why }),
+        fault => RunFault::Document(fault),
     }
 }
 
@@ -41,21 +75,26 @@ fn of_edit(index: usize, fault: EditFault) -> RunFault
 {
     match fault {
         EditFault::Memory => RunFault::Memory,
-        EditFault::NotFound => RunFault::Edit {
-            index,
-            fault: EditFault::NotFound,
-        },
-        EditFault::NotValue => RunFault::Edit {
-            index,
-            fault: EditFault::NotValue,
-        },
+        fault => RunFault::Edit { index, fault },
     }
 }
 
 fn checked(alloc: Global, document: &Document) -> Result<String, RunFault>
     ensures { MatchResult result (λ text. IsText Command.Check document.now (string_bytes text)) (λ fault. fault ≡ RunFault.Memory) }
 {
-    let Ok(text) = counts_text(alloc, document.check()) else {
+    let Ok(text) = counts_text(alloc, document.counts()) else {
+        return Err(RunFault::Memory);
+    };
+    Ok(text)
+}
+
+fn listed(alloc: Global, document: &Document) -> Result<String, RunFault>
+    ensures { MatchResult result (λ text. IsText Command.List document.now (string_bytes text)) (λ fault. fault ≡ RunFault.Memory) }
+{
+    let Ok(entries) = document.list(alloc) else {
+        return Err(RunFault::Memory);
+    };
+    let Ok(text) = list_text(alloc, entries.as_slice()) else {
         return Err(RunFault::Memory);
     };
     Ok(text)
@@ -76,6 +115,18 @@ fn got(alloc: Global, document: &Document, path: &Path) -> Result<String, RunFau
     }
 }
 
+fn meant(alloc: Global, document: &Document, path: &Path) -> Result<String, RunFault>
+    ensures { MatchResult result (λ text. IsText (Command.Text path.now) document.now (string_bytes text))
+        (λ fault. (fault ≡ RunFault.Memory) ⊎ IsRefusal (Command.Text path.now) document.now fault) }
+{
+    match document.str_value(alloc, path) {
+        Ok(Some(text)) => Ok(text),
+        Ok(None) if document.kind(path).is_none() => Err(of_edit(0, EditFault::NotFound)),
+        Ok(None) => Err(of_edit(0, EditFault::NotValue)),
+        Err(_) => Err(RunFault::Memory),
+    }
+}
+
 fn parts_of(edit: &Edit) -> (&Path, &ValueText)
     ensures { edit.now ≡ Edit.Set result.0.now result.1.now }
 {
@@ -86,7 +137,8 @@ fn parts_of(edit: &Edit) -> (&Path, &ValueText)
 
 // The text after the edits in order, or the first refusal.
 fn applied(document: Document, edits: &[Edit]) -> Result<String, RunFault>
-    ensures { MatchResult result (λ text. AppliesTo edits.now document (string_bytes text)) (spec.Refused edits.now document) }
+    ensures { (s : tree.Document) → IsTextOfTree document s
+        → MatchResult result (λ text. AppliesTo edits.now s (string_bytes text)) (spec.Refused edits.now s) }
 {
     let mut changed = document;
     for index in 0..edits.len() {
@@ -100,19 +152,24 @@ fn applied(document: Document, edits: &[Edit]) -> Result<String, RunFault>
 }
 
 /// What the program writes for a command and the bytes of its input.
-pub fn answer(alloc: Global, command: &Command, bytes: &[u8]) -> Result<String, RunFault>
-    ensures { MatchResult result (λ text. IsText command.now bytes.now (string_bytes text))
-        (λ fault. (fault ≡ RunFault.Memory) ⊎ IsRefusal command.now bytes.now fault) }
+pub fn answer(alloc: Global, command: &Command, bytes: Vec<u8>) -> Result<String, RunFault>
+    ensures { MatchResult result (λ text. IsText command.now bytes.items (string_bytes text))
+        (λ fault. (fault ≡ RunFault.Memory) ⊎ IsRefusal command.now bytes.items fault) }
 {
-    let document = match Document::read(alloc, bytes) {
+    let document = match Document::read_owned(alloc, bytes) {
         Ok(document) => document,
         Err(fault) => return Err(of_read(fault)),
     };
-    match command {
+    let answer = match command {
         Command::Check => checked(alloc, &document),
+        Command::List => listed(alloc, &document),
         Command::Get(path) => got(alloc, &document, path),
-        Command::Apply(edits) => applied(document, edits.as_slice()),
-    }
+        Command::Text(path) => meant(alloc, &document, path),
+        Command::Apply(edits) => return applied(document, edits.as_slice()),
+    };
+    // The program ends with its answer: to take the document apart piece by piece would only cost time.
+    mem::forget(document);
+    answer
 }
 
 #[cfg(test)]

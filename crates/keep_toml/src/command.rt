@@ -1,16 +1,14 @@
 //! The commands, and the words that ask for them.
 ghost use Rattle.std.specs.Prelude.{◌≡◌, ◌⊎◌, true, IfOk, MatchResult, map, string_bytes};
 ghost use Rattle.keep_toml.specs.Chosen.{wanted_of_chosen};
-ghost use Rattle.keep_toml.specs.Paths.{IsPath};
-ghost use Rattle.keep_toml.specs.Uses.{Asks, IsCommand, IsPathFault, IsUseFault, IsValueFault, IsWordFault};
-ghost use Rattle.keep_toml.specs.Values.{IsValue};
+ghost use Rattle.keep_rules.specs.PathText.{IsPathText};
+ghost use Rattle.keep_toml.specs.Uses.{Asks, IsCommand, IsGivenValue, IsPathFault, IsUseFault, IsValueFault, IsWordFault};
 ghost use Rattle.keep_toml.specs.Wanted.{has_plain_words, wanted_of};
 
 use crate::edit::Edit;
-use crate::fault::{ReadFault, UseFault};
-use crate::path::{Path, PathFault};
-use crate::value::ValueText;
+use crate::fault::UseFault;
 use crate::words::{Chosen, chosen_of};
+use keep_edit::{Path, PathFault, ReadFault, ValueText};
 use std::alloc::Global;
 
 /// What the program is asked.
@@ -18,8 +16,12 @@ use std::alloc::Global;
 pub enum Command {
     /// Whether the input is a document, and how large.
     Check,
-    /// The text of the value at a path.
+    /// All nodes but the root, with their kinds.
+    List,
+    /// The text of the value at a path, as it is written.
     Get(Path),
+    /// What the string at a path means.
+    Text(Path),
     /// The document after these edits, in order.
     Apply(Vec<Edit>),
 }
@@ -45,9 +47,14 @@ fn command_from(alloc: Global, chosen: &Chosen) -> Result<Command, UseFault>
 {
     match chosen {
         Chosen::Check => Ok(Command::Check),
+        Chosen::List => Ok(Command::List),
         Chosen::Get(path) => {
             let path = path_of(alloc, path.as_str())?;
             Ok(Command::Get(path))
+        }
+        Chosen::Text(path) => {
+            let path = path_of(alloc, path.as_str())?;
+            Ok(Command::Text(path))
         }
         Chosen::Set(path, value) => {
             let path = path_of(alloc, path.as_str())?;
@@ -61,7 +68,7 @@ fn command_from(alloc: Global, chosen: &Chosen) -> Result<Command, UseFault>
 }
 
 fn path_of(alloc: Global, text: &str) -> Result<Path, UseFault>
-    ensures { MatchResult result (IsPath text.now)
+    ensures { MatchResult result (IsPathText text.now)
         (λ fault. (fault ≡ UseFault.Memory) ⊎ IsPathFault text.now fault) }
 {
     match Path::read(alloc, text) {
@@ -72,7 +79,7 @@ fn path_of(alloc: Global, text: &str) -> Result<Path, UseFault>
 }
 
 fn value_of(alloc: Global, text: &str) -> Result<ValueText, UseFault>
-    ensures { MatchResult result (IsValue text.now)
+    ensures { MatchResult result (IsGivenValue text.now)
         (λ fault. (fault ≡ UseFault.Memory) ⊎ IsValueFault text.now fault) }
 {
     match ValueText::read(alloc, text) {

@@ -91,3 +91,6 @@ impl<T> Counted<T> {
         result
     }
 }
+
+#[cfg(test)]
+mod tests;

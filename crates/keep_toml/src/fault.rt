@@ -2,33 +2,8 @@
 ghost use Rattle.std.specs.Prelude.{◌≡◌};
 ghost use Rattle.keep_toml.specs.Status.{run_status, use_status};
 
-use crate::edit::EditFault;
-use keep_token::What;
+use keep_edit::{EditFault, ReadFault};
 use thiserror::Error;
-
-/// Which rule of the definitions a document breaks.
-#[derive(Clone, Copy, Debug, PartialEq, Eq)]
-pub enum Why {
-    /// A key stands twice.
-    DuplicateKey,
-}
-
-/// Why a document or a value can't be read. Places count bytes from the start of the text.
-#[derive(Debug, Drop, Error)]
-pub enum ReadFault {
-    /// The bytes up to here are text, and no longer front is.
-    #[error("not UTF-8 at {at}")]
-    Utf8 { at: usize },
-    /// The text goes against the grammar.
-    #[error("syntax at {at}: {what:?}")]
-    Syntax { at: usize, what: What },
-    /// The first key that goes against the definitions begins here.
-    #[error("definition at {at}: {why:?}")]
-    Define { at: usize, why: Why },
-    /// A growth was refused.
-    #[error("out of memory")]
-    Memory,
-}
 
 /// Why the words of the command line ask for nothing.
 #[derive(Debug, Drop, Error)]

@@ -4,15 +4,9 @@
 mod answer;
 mod command;
 mod counted;
-mod document;
 mod edit;
 mod fault;
-mod gap;
-mod leaf;
-mod lines;
-mod path;
 mod run;
-mod value;
 mod words;
 
 use command::{Command, command_of};

@@ -53,7 +53,7 @@ pub fn run<R: Read, W: Write>(
     ensures output_failed { IsErrAnd result is_write ↔ (has_failed output.new ≡ true) }
 {
     let bytes = read_all(alloc, input)?;
-    let text = answer(alloc, command, bytes.as_slice())?;
+    let text = answer(alloc, command, bytes)?;
     write_all(output, text.as_bytes())
 }
 

@@ -15,7 +15,9 @@ use std::alloc::{AllocError, Global};
 #[derive(Debug, Drop)]
 pub enum Chosen {
     Check,
+    List,
     Get(String),
+    Text(String),
     Set(String, String),
 }
 
@@ -51,7 +53,9 @@ fn keep_command<'a>(alloc: Global) -> Result<Command<'a>, AllocError>
         .subcommand_required(true)
         .disable_help_subcommand(true);
     let command = with_none(alloc, command, "check")?;
+    let command = with_none(alloc, command, "list")?;
     let command = with_word(alloc, command, "get", "path")?;
+    let command = with_word(alloc, command, "text", "path")?;
     with_words(alloc, command, "set", "path", "value")
 }
 
@@ -107,16 +111,23 @@ fn chosen_in(alloc: Global, matches: &ArgMatches<'_>) -> Result<Chosen, AllocErr
 fn named(alloc: Global, name: &str, matches: &ArgMatches<'_>) -> Result<Chosen, AllocError>
     ensures { IfOk result (λ c. wanted_of_chosen c ≡ read_named name.now (rows_of (found_of matches.now))) }
 {
-    if name == "get" {
-        let path = String::from_str(alloc, word_of(matches, "path"))?;
-        return Ok(Chosen::Get(path));
+    match name {
+        "get" => {
+            let path = String::from_str(alloc, word_of(matches, "path"))?;
+            Ok(Chosen::Get(path))
+        }
+        "text" => {
+            let path = String::from_str(alloc, word_of(matches, "path"))?;
+            Ok(Chosen::Text(path))
+        }
+        "set" => {
+            let path = String::from_str(alloc, word_of(matches, "path"))?;
+            let value = String::from_str(alloc, word_of(matches, "value"))?;
+            Ok(Chosen::Set(path, value))
+        }
+        "list" => Ok(Chosen::List),
+        _ => Ok(Chosen::Check),
     }
-    if name == "set" {
-        let path = String::from_str(alloc, word_of(matches, "path"))?;
-        let value = String::from_str(alloc, word_of(matches, "value"))?;
-        return Ok(Chosen::Set(path, value));
-    }
-    Ok(Chosen::Check)
 }
 
 // The word of an argument. A command that was taken has all of its words.

@@ -1,15 +1,18 @@
 ghost use Rattle.keep_toml.specs.Counted.{IsFresh};
 
 use super::*;
-use crate::edit::{Edit, EditFault};
-use crate::fault::{ReadFault, Why};
-use crate::path::Path;
-use crate::value::ValueText;
-use keep_token::What;
-use std::alloc::AllocError;
+use crate::edit::Edit;
+use keep_edit::{Path, ValueText};
 use std::io;
 use std::io::ErrorKind;
 use std::test::Fail;
+
+mod checks;
+mod faults;
+mod gets;
+mod lists;
+mod sets;
+mod texts;
 
 // A reader of these bytes, at most `step` a turn, which fails at the turn `fails_at`.
 #[derive(Drop)]
@@ -204,126 +207,91 @@ fn an_answer_of_no_bytes_makes_no_write(rt: HostRuntime) -> Result<(), Fail> {
     Ok(())
 }
 
-// The answer of a run over these bytes, one at a time, to a writer of one byte a call.
-fn answered(alloc: Global, command: &Command, bytes: &[u8]) -> Result<Vec<u8>, RunFault> {
+fn get(alloc: Global, path: &str) -> Result<Command, Fail> {
+    Ok(Command::Get(Path::read(alloc, path)?))
+}
+
+fn edit(alloc: Global, path: &str, value: &str) -> Result<Edit, Fail> {
+    let path = Path::read(alloc, path)?;
+    let value = ValueText::read(alloc, value)?;
+    Ok(Edit::Set(path, value))
+}
+
+fn set(alloc: Global, path: &str, value: &str) -> Result<Command, Fail> {
+    let edit = edit(alloc, path, value)?;
+    Ok(Command::Apply(vec![in alloc; edit]?))
+}
+
+// Fails unless a text is the one that is wanted.
+fn same(found: &str, wanted: &str) -> Result<(), Fail> {
+    if found == wanted {
+        return Ok(());
+    }
+    Err(Fail::new(format_args!("{found:?}, not {wanted:?}")))
+}
+
+// Fails unless a number is the one that is wanted.
+fn as_many(found: u64, wanted: usize) -> Result<(), Fail> {
+    if found == wanted as u64 {
+        return Ok(());
+    }
+    Err(Fail::new(format_args!("{found} and not {wanted}")))
+}
+
+// Fails unless the command writes this text over these bytes: one is read a turn, and one is written a call.
+fn writes(alloc: Global, command: &Command, bytes: &[u8], wanted: &str) -> Result<(), Fail> {
     let mut input = make_steps(bytes, 1, None);
     let mut output = make_sink(alloc, 1, None);
     let done = run(alloc, command, &mut input, &mut output)?;
+    as_many(done.written as u64, wanted.len())?;
+    as_many(output.turns(), wanted.len())?;
     let taken = output.into_inner().taken;
-    if taken.len() == done.written {
-        Ok(taken)
-    } else {
-        Err(RunFault::Write {
-            written: taken.len(),
-        })
+    same(str::from_utf8(taken.as_slice())?, wanted)
+}
+
+// Fails unless the command stops over these bytes by the fault of this text and status 1, and writes nothing.
+fn stops(alloc: Global, command: &Command, bytes: &[u8], wanted: &str) -> Result<(), Fail> {
+    let mut input = make_steps(bytes, 1, None);
+    let mut output = make_sink(alloc, 1, None);
+    let result = run(alloc, command, &mut input, &mut output);
+    as_many(output.turns(), 0)?;
+    match result {
+        Ok(_) => Err(Fail::new("no fault")),
+        Err(fault) => {
+            same(fault.to_string(alloc)?.as_str(), wanted)?;
+            as_many(fault.status() as u64, 1)
+        }
     }
 }
 
-fn get(alloc: Global, key: &str) -> Result<Command, AllocError> {
-    Ok(Command::Get(Path::Key(String::from_str(alloc, key)?)))
-}
-
-fn set(alloc: Global, key: &str, value: &str) -> Result<Command, Fail> {
-    let path = Path::Key(String::from_str(alloc, key)?);
-    let value = ValueText::read(alloc, value)?;
-    Ok(Command::Apply(vec![in alloc; Edit::Set(path, value)]?))
+// So many arrays, each but the first in the one before, with this text in the last.
+fn nested(alloc: Global, depth: usize, inside: &str) -> Result<String, Fail> {
+    let opened = "[".repeat(alloc, depth)?;
+    let closed = "]".repeat(alloc, depth)?;
+    Ok(format!(in alloc; "{opened}{inside}{closed}")?)
 }
 
 #[test]
-fn the_empty_document_has_one_token_and_one_node(rt: HostRuntime) -> Result<(), Fail> {
-    let text = answered(rt.alloc(), &Command::Check, b"")?;
-    assert_eq!(rt; text.as_slice(), b"ok tokens=1 nodes=1\n".as_slice());
-    let text = answered(rt.alloc(), &Command::Check, b"a = 1\nb = true\n")?;
-    assert_eq!(rt; text.as_slice(), b"ok tokens=13 nodes=3\n".as_slice());
-    Ok(())
-}
-
-#[test]
-fn get_writes_the_value_as_it_stands(rt: HostRuntime) -> Result<(), Fail> {
-    let text = answered(rt.alloc(), &get(rt.alloc(), "a")?, b"a = 1 # x\n")?;
-    assert_eq!(rt; text.as_slice(), b"1\n".as_slice());
-    Ok(())
-}
-
-#[test]
-fn set_keeps_every_other_byte(rt: HostRuntime) -> Result<(), Fail> {
-    let text = answered(rt.alloc(), &set(rt.alloc(), "a", "2")?, b"a = 1 # x\n")?;
-    assert_eq!(rt; text.as_slice(), b"a = 2 # x\n".as_slice());
-    let text = answered(
-        rt.alloc(),
-        &set(rt.alloc(), "b", "-7")?,
-        b"a = 1\r\nb = true # y",
-    )?;
-    assert_eq!(rt; text.as_slice(), b"a = 1\r\nb = -7 # y".as_slice());
-    Ok(())
-}
-
-#[test]
-fn no_edits_write_the_document_as_it_was_read(rt: HostRuntime) -> Result<(), Fail> {
-    let text = answered(rt.alloc(), &Command::Apply(Vec::new(rt.alloc())), b"")?;
-    assert_eq!(rt; text.len(), 0);
-    Ok(())
-}
-
-#[test]
-fn a_key_that_is_not_there_is_not_found_and_nothing_is_written(
+fn an_input_that_fails_at_any_turn_is_read_and_nothing_is_written(
     rt: HostRuntime,
 ) -> Result<(), Fail> {
-    let mut input = make_steps(b"a = 1\n", 1, None);
+    for turn in 0..8u64 {
+        let mut input = make_steps(b"a = 1 #", 1, Some((turn, ErrorKind::Other)));
+        let mut output = make_sink(rt.alloc(), 1, None);
+        let fault = run(rt.alloc(), &Command::Check, &mut input, &mut output);
+        assert!(rt; matches!(&fault, Err(RunFault::Read)), "at {turn}");
+        assert_eq!(rt; input.turns(), turn + 1);
+        assert_eq!(rt; output.turns(), 0);
+    }
+    Ok(())
+}
+
+#[test]
+fn a_failed_input_goes_before_what_is_wrong_with_its_bytes(rt: HostRuntime) -> Result<(), Fail> {
+    let mut input = make_steps(b"\xff", 1, Some((1, ErrorKind::Interrupted)));
     let mut output = make_sink(rt.alloc(), 1, None);
-    let fault = run(rt.alloc(), &get(rt.alloc(), "c")?, &mut input, &mut output);
-    assert!(rt;
-        matches!(
-            &fault,
-            Err(RunFault::Edit {
-                index: 0,
-                fault: EditFault::NotFound
-            })
-        )
-    );
-    assert_eq!(rt; output.turns(), 0);
-    Ok(())
-}
-
-#[test]
-fn the_root_is_no_value(rt: HostRuntime) -> Result<(), Fail> {
-    let fault = answered(rt.alloc(), &Command::Get(Path::Root), b"a = 1\n");
-    assert!(rt;
-        matches!(
-            &fault,
-            Err(RunFault::Edit {
-                index: 0,
-                fault: EditFault::NotValue
-            })
-        )
-    );
-    Ok(())
-}
-
-#[test]
-fn what_is_no_document_is_told_with_its_place(rt: HostRuntime) -> Result<(), Fail> {
-    let fault = answered(rt.alloc(), &Command::Check, b"a\xff");
-    assert!(rt; matches!(&fault, Err(RunFault::Document(ReadFault::Utf8 { at: 1 }))));
-    let fault = answered(rt.alloc(), &Command::Check, b"a = 1\rb = 2");
-    assert!(rt;
-        matches!(
-            &fault,
-            Err(RunFault::Document(ReadFault::Syntax {
-                at: 5,
-                what: What::Control
-            }))
-        )
-    );
-    let fault = answered(rt.alloc(), &Command::Check, b"a = 1\nb = true\na = 2\n");
-    assert!(rt;
-        matches!(
-            &fault,
-            Err(RunFault::Document(ReadFault::Define {
-                at: 15,
-                why: Why::DuplicateKey
-            }))
-        )
-    );
+    let fault = run(rt.alloc(), &Command::Check, &mut input, &mut output);
+    assert!(rt; matches!(&fault, Err(RunFault::Read)));
     Ok(())
 }
 
@@ -338,6 +306,27 @@ fn a_writer_that_takes_one_byte_and_fails_is_write_with_one(rt: HostRuntime) -> 
 }
 
 #[test]
+fn a_writer_that_takes_nothing_is_write_with_none(rt: HostRuntime) -> Result<(), Fail> {
+    let mut input = make_steps(b"a = 1\n", 6, None);
+    let mut output = make_sink(rt.alloc(), 0, None);
+    let fault = run(rt.alloc(), &Command::List, &mut input, &mut output);
+    assert!(rt; matches!(&fault, Err(RunFault::Write { written: 0 })));
+    assert_eq!(rt; output.turns(), 1);
+    Ok(())
+}
+
+#[test]
+fn an_answer_in_one_write_is_written_in_one_turn(rt: HostRuntime) -> Result<(), Fail> {
+    let mut input = make_steps(b"a = 1\n", 6, None);
+    let mut output = make_sink(rt.alloc(), 100, None);
+    let done = run(rt.alloc(), &Command::Check, &mut input, &mut output)?;
+    assert_eq!(rt; done.written, 20);
+    assert_eq!(rt; input.turns(), 2);
+    assert_eq!(rt; output.turns(), 1);
+    Ok(())
+}
+
+#[test]
 fn exactly_the_limit_of_spaces_is_a_document(rt: HostRuntime) -> Result<(), Fail> {
     let mut input = make_spaces(Some(LIMIT), BLOCK);
     let mut output = make_sink(rt.alloc(), BLOCK, None);
@@ -346,10 +335,27 @@ fn exactly_the_limit_of_spaces_is_a_document(rt: HostRuntime) -> Result<(), Fail
         output.into_inner().taken.as_slice(),
         b"ok tokens=2 nodes=1\n".as_slice()
     );
+    Ok(())
+}
+
+#[test]
+fn one_byte_more_than_the_limit_is_too_long_and_nothing_is_written(
+    rt: HostRuntime,
+) -> Result<(), Fail> {
     let mut input = make_spaces(Some(LIMIT + 1), BLOCK);
     let mut output = make_sink(rt.alloc(), BLOCK, None);
     let fault = run(rt.alloc(), &Command::Check, &mut input, &mut output);
     assert!(rt; matches!(&fault, Err(RunFault::TooLong)));
     assert_eq!(rt; output.turns(), 0);
+    Ok(())
+}
+
+#[test]
+fn a_refused_edit_is_told_though_the_output_would_fail(rt: HostRuntime) -> Result<(), Fail> {
+    let mut input = make_steps(b"a = 1\n", 6, None);
+    let mut output = make_sink(rt.alloc(), 0, Some(0));
+    let fault = run(rt.alloc(), &get(rt.alloc(), "c")?, &mut input, &mut output);
+    assert!(rt; matches!(&fault, Err(RunFault::Edit { index: 0, .. })));
+    assert!(rt; !output.failed());
     Ok(())
 }
