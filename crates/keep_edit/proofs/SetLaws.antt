@@ -1,6 +1,7 @@
 -- Setting a value: when it is refused, and what the new text is.
-use Rattle.std.proofs.Common.{◌≡◌, ℕ, ◌+◌, ◌<◌, ◌≤◌, Bool, true, false, cond, List, [], ◌∷◌, length, map, refl, sym, ap, subst, ◌∙◌, arith, Option, Some, None, Ok, Err, slice_get}
-use Rattle.std.specs.Prelude.{not, ◌||◌, nat_lt, filter, IsUtf8}
+use Rattle.std.proofs.Common.{◌≡◌, ℕ, ◌+◌, ◌<◌, ◌≤◌, Bool, true, false, cond, List, [], ◌∷◌, length, map, refl, sym, ap, subst, ◌∙◌, arith, Option, Some, None, Ok, Err, slice_get, String, Global}
+use Rattle.std.specs.Prelude.{not, ◌||◌, nat_lt, filter, IsUtf8, string_bytes}
+use Rattle.std.proofs.lemmas.Str.{IsUtf8-string_bytes}
 use Rattle.std.specs.List.{list_any, filter_map}
 use Rattle.std.proofs.lemmas.Bool.{lt-ltb, le-ltb}
 use Rattle.keep_token.specs.declared.leaf.Leaf.{Leaf}
@@ -26,21 +27,22 @@ use Rattle.keep_law.specs.declared.fault.EditFault.{EditFault}
 use Rattle.keep_law.specs.declared.fault.EditFault.TheVariants as fault
 use Rattle.keep_law.specs.declared.splice.Splice.{Splice}
 use Rattle.keep_law.specs.Changed.{Place, put}
-use Rattle.keep_law.specs.Edits.{set, place, edited_document}
+use Rattle.keep_law.specs.Edits.{Edit, set, place, edited_document}
 use Rattle.keep_law.specs.Refusals.{refusal, has_value, is_too_deep, first_that_holds}
 use Rattle.keep_law.specs.Laws.{IsLawfulEdit}
 use Rattle.keep_law.proofs.EditLaws.{set_lawful}
 use Rattle.keep_law.proofs.ValuePlace.{has_of_number, set_place}
 use Rattle.keep_law.proofs.ValueDepths.{too_deep_at}
 use Rattle.keep_edit.specs.Reading.{limit, IsAccepted, IsTextOfTree, IsTextOfValue, Holds}
-use Rattle.keep_edit.specs.Answers.{value_number_of, IsEdited, IsDone, EditDone, splice_of}
+use Rattle.keep_edit.specs.Answers.{value_number_of, IsEdited, IsMade, IsTextAfter, IsDone, EditMade, EditDone, EditTold, splice_of}
+use Rattle.keep_edit.specs.declared.document.Edited.{Edited}
 use Rattle.keep_edit.proofs.FoundLaws.{IsValueThere, value_there}
 
 -- a span, with the bytes that take its place
 abbrev place_at : Span → List ℕ → Place
 place_at span given = record { start = span.start; end = span.end; new = given }
 
-abbrev splice_at : Span → List ℕ → Splice
+abbrev pub splice_at : Span → List ℕ → Splice
 splice_at span given = record { start = span.start; end = span.end; added = length given }
 
 -- ---- a value's path names a node
@@ -123,11 +125,11 @@ module _ (bytes given : List ℕ) (path : List Part) (s : Document) (v : Value) 
   allowed h = refusal_is false (le-ltb limit (info.depth + deep) h)
 
   -- what is answered where the limit is passed, and where memory was refused
-  pub deep_done : (new : List ℕ) → limit < info.depth + deep → EditDone s (set path v) bytes new (Err fault.TooDeep)
-  deep_done new h = subst (λ (r : Option EditFault). IsDone s (set path v) bytes new r (Err fault.TooDeep)) (sym (refusal_is true (lt-ltb limit (info.depth + deep) h))) refl
+  pub deep_done : {T : Type 0} (good : T → Type 0) → limit < info.depth + deep → IsDone good (refusal limit s (set path v)) (Err fault.TooDeep)
+  deep_done {T} good h = subst (λ (r : Option EditFault). IsDone good r (Err fault.TooDeep)) (sym (refusal_is true (lt-ltb limit (info.depth + deep) h))) refl
 
-  pub full_done : (new : List ℕ) → info.depth + deep ≤ limit → EditDone s (set path v) bytes new (Err fault.Memory)
-  full_done new h = subst (λ (r : Option EditFault). IsDone s (set path v) bytes new r (Err fault.Memory)) (sym (allowed h)) refl
+  pub full_done : {T : Type 0} (good : T → Type 0) → info.depth + deep ≤ limit → IsDone good (refusal limit s (set path v)) (Err fault.Memory)
+  full_done {T} good h = subst (λ (r : Option EditFault). IsDone good r (Err fault.Memory)) (sym (allowed h)) refl
 
   place_is : place s (set path v) ≡ place_at info.span given
   place_is =
@@ -140,21 +142,59 @@ module _ (bytes given : List ℕ) (path : List Part) (s : Document) (v : Value) 
       let law : IsLawfulEdit Strict limit s (set path v) =
       set_lawful Strict limit s path v (record { valid = at.read.reads.valid; shallow = at.read.reads.shallow; obeys = at.read.obeys })
       (record { valid = at.value.reads.valid; obeys = at.value.obeys }) (allowed fits) in
-      let put_is : new ≡ put bytes (place s (set path v)) = is ∙ ap (put bytes) (sym place_is) in
-      record {
-        told = ap splice_of (sym place_is);
-        text = put_is;
-        tree = record {
-          utf8 = utf8;
-          reads = subst (λ (t : List ℕ). Reads Strict limit t (edited_document s (set path v))) (ap (λ (t : List ℕ). put t (place s (set path v))) (sym at.read.reads.spelled) ∙ sym put_is) law.reads;
-          obeys = law.obeys;
-        };
-      }
+      let put_is : new ≡ put bytes (place s (set path v)) = is ∙ ap (put bytes) (sym place_is) in (
+        ap splice_of (sym place_is),
+        record {
+          text = put_is;
+          tree = record {
+            utf8 = utf8;
+            reads = subst (λ (t : List ℕ). Reads Strict limit t (edited_document s (set path v))) (ap (λ (t : List ℕ). put t (place s (set path v))) (sym at.read.reads.spelled) ∙ sym put_is) law.reads;
+            obeys = law.obeys;
+          };
+        },
+      )
 
-  pub edited_done : (new : List ℕ) → info.depth + deep ≤ limit → IsUtf8 new → new ≡ put bytes (place_at info.span given)
-      → EditDone s (set path v) bytes new (Ok (splice_at info.span given))
-  edited_done new fits utf8 is =
-      subst (λ (r : Option EditFault). IsDone s (set path v) bytes new r (Ok (splice_at info.span given))) (sym (allowed fits)) (edited new fits utf8 is)
+  pub edited_made : (made : Edited) → info.depth + deep ≤ limit → string_bytes made.text ≡ put bytes (place_at info.span given) → made.splice ≡ splice_at info.span given
+      → EditMade s (set path v) bytes (Ok made)
+  edited_made made fits text splice =
+      subst (λ (r : Option EditFault). IsDone (IsMade s (set path v) bytes) r (Ok made)) (sym (allowed fits))
+      (subst (λ (p : Splice). IsEdited s (set path v) (string_bytes made.text) bytes p) (sym splice) (edited (string_bytes made.text) fits (IsUtf8-string_bytes made.text) text))
 
   pub new_accepted : (new : List ℕ) → info.depth + deep ≤ limit → IsUtf8 new → new ≡ put bytes (place_at info.span given) → IsAccepted new
-  new_accepted new fits utf8 is = (edited_document s (set path v), (edited new fits utf8 is).tree)
+  new_accepted new fits utf8 is = (edited_document s (set path v), (edited new fits utf8 is).1.tree)
+
+-- ---- what an edit answers, by what was made of it
+
+done_as : {T U : Type 0} (good : T → Type 0) (fine : U → Type 0) (x : T) (y : U) (r : Option EditFault) → IsDone good r (Ok x) → (good x → fine y) → IsDone fine r (Ok y)
+done_as good fine x y None h k = k h
+done_as good fine x y (Some f) h k = absurd cc
+
+not_done : {T U : Type 0} (good : T → Type 0) (fine : U → Type 0) (f : EditFault) (r : Option EditFault) → IsDone good r (Err f) → IsDone fine r (Err f)
+not_done good fine f None h = h
+not_done {T} {U} good fine f (Some g) h = let same : f ≡ g = cc in rw same refl
+
+-- want of memory can stand in place of what is done
+done_or_full : {T U : Type 0} (good : T → Type 0) (fine : U → Type 0) (x : T) (r : Option EditFault) → IsDone good r (Ok x) → IsDone fine r (Err fault.Memory)
+done_or_full good fine x None h = refl
+done_or_full good fine x (Some f) h = absurd cc
+
+module _ (s : Document) (e : Edit) (old : List ℕ) where
+  abbrev is_told : String Global → Type 0
+  is_told text = IsTextAfter s e (string_bytes text) old
+
+  pub told_of : (made : Edited) → EditMade s e old (Ok made) → EditTold s e old (Ok made.text)
+  told_of made h = done_as (IsMade s e old) is_told made made.text (refusal limit s e) h (λ (k : IsMade s e old made). k.1)
+
+  pub untold_of : (f : EditFault) → EditMade s e old (Err f) → EditTold s e old (Err f)
+  untold_of f h = not_done (IsMade s e old) is_told f (refusal limit s e) h
+
+  module _ (new : List ℕ) where
+    pub done_of : (made : Edited) → new ≡ string_bytes made.text → EditMade s e old (Ok made) → EditDone s e old new (Ok made.splice)
+    done_of made is h =
+        done_as (IsMade s e old) (IsEdited s e new old) made made.splice (refusal limit s e) h (λ (k : IsMade s e old made). subst (λ (b : List ℕ). IsEdited s e b old made.splice) (sym is) k)
+
+    pub undone_of : (f : EditFault) → EditMade s e old (Err f) → EditDone s e old new (Err f)
+    undone_of f h = not_done (IsMade s e old) (IsEdited s e new old) f (refusal limit s e) h
+
+    pub full_of : (made : Edited) → EditMade s e old (Ok made) → EditDone s e old new (Err fault.Memory)
+    full_of made h = done_or_full (IsMade s e old) (IsEdited s e new old) made (refusal limit s e) h

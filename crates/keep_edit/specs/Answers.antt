@@ -1,5 +1,6 @@
 -- What a document answers, by its tree.
-use Rattle.std.specs.Prelude.{◌≡◌, ◌≤◌, ℕ, ℤ, true, false, if◌then◌else◌, List, drop, map, length, Option, Some, None, Result, Ok, Err, MatchResult, IsCharBoundary}
+use Rattle.std.specs.Prelude.{◌≡◌, ◌≤◌, ℕ, ℤ, true, false, if◌then◌else◌, List, drop, map, length, Option, Some, None, Result, Ok, Err, MatchResult, IsCharBoundary, String, string_bytes}
+use Rattle.std.specs.Global.{Global}
 use Rattle.keep_syntax.specs.Tree.{Document}
 use Rattle.keep_syntax.specs.Numbered.{tokens}
 use Rattle.keep_syntax.specs.declared.info.Span.{Span}
@@ -20,6 +21,7 @@ use Rattle.keep_law.specs.Edits.{Edit, edited_document, place}
 use Rattle.keep_law.specs.Refusals.{refusal, has_value}
 use Rattle.keep_edit.specs.Reading.{limit, IsTextOfTree}
 use Rattle.keep_edit.specs.declared.document.Counts.{Counts}
+use Rattle.keep_edit.specs.declared.document.Edited.{Edited}
 use Rattle.keep_edit.specs.declared.document.Entry.{Entry}
 
 -- ---- the whole
@@ -82,16 +84,31 @@ pub record IsSpanOf (bytes : List ℕ) (span : Span) : Type 0 where
 abbrev pub splice_of : Place → Splice
 splice_of p = record { start = p.start; end = p.end; added = length p.new }
 
--- The splice and the new text are those of the edit, and the new tree is the document's.
-pub record IsEdited (s : Document) (e : Edit) (new : List ℕ) (old : List ℕ) (splice : Splice) : Type 0 where
-  pub told : splice ≡ splice_of (place s e)
+-- The text is that of the edit, and the new tree's.
+pub record IsTextAfter (s : Document) (e : Edit) (new : List ℕ) (old : List ℕ) : Type 0 where
   pub text : new ≡ put old (place s e)
   pub tree : IsTextOfTree new (edited_document s e)
 
--- what an edit answers, by its refusal: want of memory can stand in place of what an edit does alone
-abbrev pub IsDone : Document → Edit → List ℕ → List ℕ → Option EditFault → Result Splice EditFault → Type 0
-IsDone s e old new (Some f) result = result ≡ Err f
-IsDone s e old new None result = MatchResult result (IsEdited s e new old) (λ f. f ≡ Memory)
+-- So are the splice and the new text.
+abbrev pub IsEdited : Document → Edit → List ℕ → List ℕ → Splice → Type 0
+IsEdited s e new old splice = (splice ≡ splice_of (place s e)) × IsTextAfter s e new old
 
+-- what an edit answers, by its refusal: want of memory can stand in place of what an edit does alone
+abbrev pub IsDone : {T : Type 0} → (T → Type 0) → Option EditFault → Result T EditFault → Type 0
+IsDone good (Some f) result = result ≡ Err f
+IsDone good None result = MatchResult result good (λ f. f ≡ Memory)
+
+-- the document is changed
 abbrev pub EditDone : Document → Edit → List ℕ → List ℕ → Result Splice EditFault → Type 0
-EditDone s e old new result = IsDone s e old new (refusal limit s e) result
+EditDone s e old new result = IsDone (IsEdited s e new old) (refusal limit s e) result
+
+-- the changed text is told
+abbrev pub EditTold : Document → Edit → List ℕ → Result (String Global) EditFault → Type 0
+EditTold s e old result = IsDone (λ text. IsTextAfter s e (string_bytes text) old) (refusal limit s e) result
+
+abbrev pub IsMade : Document → Edit → List ℕ → Edited → Type 0
+IsMade s e old made = IsEdited s e (string_bytes made.text) old made.splice
+
+-- the changed text is made, with its splice
+abbrev pub EditMade : Document → Edit → List ℕ → Result Edited EditFault → Type 0
+EditMade s e old result = IsDone (IsMade s e old) (refusal limit s e) result

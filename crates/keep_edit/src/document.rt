@@ -43,6 +43,13 @@ pub struct Document {
     index: Index,
 }
 
+/// The text that an edit gives, and its splice.
+#[derive(Drop)]
+struct Edited {
+    text: String,
+    splice: Splice,
+}
+
 impl Model for Document {
     ghost use Rattle.std.specs.Prelude.{ℕ, List, string_bytes};
     ghost use Rattle.keep_edit.specs.Reading.{Holds};
@@ -233,7 +240,33 @@ impl Document {
     ghost use Rattle.keep_syntax.specs.Tree.{Value};
     ghost use Rattle.keep_law.specs.Edits.{set};
     ghost use Rattle.keep_edit.specs.Reading.{IsAcceptedValue, IsTextOfValue};
-    ghost use Rattle.keep_edit.specs.Answers.{EditDone};
+    ghost use Rattle.keep_edit.specs.Answers.{EditDone, EditTold, EditMade};
+
+    /// The text with a value in place of the one that stands at a path, and where it was written.
+    fn edited(&self, path: &Path, value: &ValueText) -> Result<Edited, EditFault>
+        ensures made { (s : tree.Document) → IsTextOfTree self.now s → (v : Value) → IsTextOfValue value.now v → EditMade s (set path.now v) self.now result }
+        ensures accepted { IfOk result (λ edited. IsAccepted (string_bytes edited.text)) }
+        ensures of { IsAccepted self.now }
+        ensures value { IsAcceptedValue value.now }
+    {
+        let old = self.text.as_str();
+        let new = value.as_str();
+        let number = self.found(path)?;
+        let found = self.syntax.value(number);
+        if found.depth + value.depth() > Limits::STANDARD.depth {
+            return Err(EditFault::TooDeep);
+        }
+        let alloc = *self.text.allocator();
+        let Ok(text) = spliced(alloc, old, found.span, new) else {
+            return Err(EditFault::Memory);
+        };
+        let splice = Splice {
+            start: found.span.start,
+            end: found.span.end,
+            added: new.len(),
+        };
+        Ok(Edited { text, splice })
+    }
 
     /// Writes a value in place of the one that stands at a path. Every other byte is kept. After a refusal the document is as
     /// before. The document's own allocator gives the memory.
@@ -250,28 +283,29 @@ impl Document {
         ensures read { IsAccepted self.new }
         ensures refused { OnErr result (self.new ≡ self.old) }
     {
-        let new = value.as_str();
-        let number = self.found(path)?;
-        let found = self.syntax.value(number);
-        if found.depth + value.depth() > Limits::STANDARD.depth {
-            return Err(EditFault::TooDeep);
-        }
+        let Edited { text, splice } = self.edited(path, value)?;
         let alloc = *self.text.allocator();
-        let span = found.span;
-        let Ok(text) = spliced(alloc, self.text.as_str(), span, new) else {
-            return Err(EditFault::Memory);
-        };
         match Document::of_text(alloc, text) {
             Ok(document) => {
                 *self = document;
-                Ok(Splice {
-                    start: span.start,
-                    end: span.end,
-                    added: new.len(),
-                })
+                Ok(splice)
             }
             Err(fault) => Err(growth_refused(fault)),
         }
+    }
+
+    /// The text that the document has after `set`. The document stays as it is, and nothing is read anew.
+    ///
+    /// # Errors
+    ///
+    /// Those of `set`.
+    pub fn text_with(&self, path: &Path, value: &ValueText) -> Result<String, EditFault>
+        ensures told { (s : tree.Document) → IsTextOfTree self.now s → (v : Value) → IsTextOfValue value.now v → EditTold s (set path.now v) self.now result }
+        ensures accepted { IsAccepted self.now }
+        ensures value { IsAcceptedValue value.now }
+    {
+        let edited = self.edited(path, value)?;
+        Ok(edited.text)
     }
 
     /// The text alone. It takes no memory.

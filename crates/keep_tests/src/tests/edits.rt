@@ -62,9 +62,17 @@ fn set(document: &mut Document, alloc: Global, path: &str, value: &str) -> Resul
     Ok(document.set(&path, &value)?)
 }
 
-// Fails unless `set` gives this text, and a document that tells what one tells that is read from this text.
+// The text that the document has after a `set`.
+fn text_with(document: &Document, alloc: Global, path: &str, value: &str) -> Result<String, Fail> {
+    let path = Path::read(alloc, path)?;
+    let value = ValueText::read(alloc, value)?;
+    Ok(document.text_with(&path, &value)?)
+}
+
+// Fails unless `text_with` and `set` give this text, and a document that tells what one tells that is read from this text.
 fn sets(alloc: Global, text: &str, path: &str, value: &str, wanted: &str) -> Result<Splice, Fail> {
     let mut document = Document::read(alloc, text.as_bytes())?;
+    same(text_with(&document, alloc, path, value)?.as_str(), wanted)?;
     let splice = set(&mut document, alloc, path, value)?;
     same(document.text(), wanted)?;
     let afresh = Document::read(alloc, wanted.as_bytes())?;
@@ -75,7 +83,16 @@ fn sets(alloc: Global, text: &str, path: &str, value: &str, wanted: &str) -> Res
     Ok(splice)
 }
 
-// Fails unless `set` is refused by this fault, and the document tells afterwards what it told before.
+// Fails unless an edit is refused by this fault.
+fn refused_by<T: Drop>(answer: Result<T, EditFault>, wanted: EditFault) -> Result<(), Fail> {
+    match answer {
+        Ok(_) => Err(Fail::new("not refused")),
+        Err(fault) if fault == wanted => Ok(()),
+        Err(fault) => Err(Fail::new(fault)),
+    }
+}
+
+// Fails unless `text_with` and `set` are refused by this fault, and the document tells afterwards what it told before.
 fn refuses(
     alloc: Global,
     text: &str,
@@ -87,11 +104,8 @@ fn refuses(
     let before = told(alloc, &document)?;
     let path = Path::read(alloc, path)?;
     let value = ValueText::read(alloc, value)?;
-    match document.set(&path, &value) {
-        Ok(_) => return Err(Fail::new("set")),
-        Err(fault) if fault == wanted => {}
-        Err(fault) => return Err(Fail::new(fault)),
-    }
+    refused_by(document.text_with(&path, &value), wanted)?;
+    refused_by(document.set(&path, &value), wanted)?;
     same(told(alloc, &document)?.as_str(), before.as_str())
 }
 

@@ -1,58 +1,17 @@
-use Rattle.std.proofs.Common.{◌∙◌, arith}
-use Rattle.std.proofs.lemmas.Str.{IsUtf8-string_bytes}
-use Rattle.keep_edit.proofs.AnswerLaws.{seen}
-use Rattle.keep_edit.proofs.FoundLaws.{value_inside}
-use Rattle.keep_edit.proofs.SetLaws.{setting, depth_low, deep_done, full_done, edited_done, new_accepted}
+use Rattle.std.proofs.Common.{◌∙◌}
+use Rattle.std.proofs.lemmas.Result.{err_from_is_err_and}
+use Rattle.keep_law.specs.Edits.{set}
+use Rattle.keep_edit.proofs.SetLaws.{done_of, undone_of, full_of}
 use Rattle.keep_edit.proofs.document.Document.set.Goals as goal
 
-pub value-found-requires : goal.value-found-requires
-value-found-requires c =
-    let h = c.self.invariant in
-    value_inside _ _ _ c.args.path.now h.tree _ h h.read (c.in_ok-number.ensures h.tree (rw (← c.self.view_is) h.read))
+pub returns-in_err-text-clause-done : goal.returns-in_err-text-clause-done
+returns-in_err-text-clause-done c = λ s read v value.
+    let p = err_from_is_err_and c.from_residual.result c.from_residual.ensures.1 in
+    rw (p.1, p.2) (undone_of s (set c.args.path.now v) c.args.self.now _ _ (c.in_err-text.ensures.made s read v value))
 
-pub overflow_add-found : goal.overflow_add-found
-overflow_add-found c =
-    let h = seen c.self.view_is c.self.invariant in
-    let (v, value) = c.as_str-new.ensures.accepted in
-    let at = setting _ _ _ _ c.args.path.now h.tree v _ _ _ h h.read (c.in_ok-number.ensures h.tree h.read) c.value-found.ensures value (c.depth.ensures v value) in
-    omega (arith, depth_low _ _ _ _ _ _ _ at)
-
-pub returns-then-found-depth-clause-done : goal.returns-then-found-depth-clause-done
-returns-then-found-depth-clause-done c = λ s read v value.
-    let h = seen c.self.view_is c.self.invariant in
-    let at = setting _ _ _ _ c.args.path.now s v _ _ _ h read (c.in_ok-number.ensures s read) c.value-found.ensures value (c.depth.ensures v value) in
-    deep_done _ _ _ _ _ _ _ at _ c.if-found-depth.true
-
-pub spliced-requires : goal.spliced-requires
-spliced-requires c =
-    let h = seen c.self.view_is c.self.invariant in
-    let (v, value) = c.as_str-new.ensures.accepted in
-    let at = setting _ _ _ _ c.args.path.now h.tree v _ _ _ h h.read (c.in_ok-number.ensures h.tree h.read) c.value-found.ensures value (c.depth.ensures v value) in
-    rw (c.as_str.ensures.value, c.self.view_is) at.there.span
-
-pub returns-in_default-clause-done : goal.returns-in_default-clause-done
-returns-in_default-clause-done c = λ s read v value.
-    let h = seen c.self.view_is c.self.invariant in
-    let at = setting _ _ _ _ c.args.path.now s v _ _ _ h read (c.in_ok-number.ensures s read) c.value-found.ensures value (c.depth.ensures v value) in
-    full_done _ _ _ _ _ _ _ at _ c.if-found-depth.false
-
-pub growth_refused-requires : goal.growth_refused-requires
-growth_refused-requires c =
-    let h = seen c.self.view_is c.self.invariant in
-    let (v, value) = c.as_str-new.ensures.accepted in
-    let at = setting _ _ _ _ c.args.path.now h.tree v _ _ _ h h.read (c.in_ok-number.ensures h.tree h.read) c.value-found.ensures value (c.depth.ensures v value) in
-    let is = rw (c.as_str.ensures.value, c.self.view_is, c.as_str-new.ensures.text) at c.in-Ok.ensures in
-    c.in-Err.ensures.only (new_accepted _ _ _ _ _ _ _ at _ c.if-found-depth.false (IsUtf8-string_bytes c.in-Ok.text) is)
+pub returns-in-Ok-clause-done : goal.returns-in-Ok-clause-done
+returns-in-Ok-clause-done c = λ s read v value.
+    done_of s (set c.args.path.now v) c.args.self.now _ _ (c.drop.view_is ∙ c.in-Ok.ensures.text) (c.in_ok-text.ensures.made s read v value)
 
 pub returns-in-Err-clause-done : goal.returns-in-Err-clause-done
-returns-in-Err-clause-done c = λ s read v value.
-    let h = seen c.self.view_is c.self.invariant in
-    let at = setting _ _ _ _ c.args.path.now s v _ _ _ h read (c.in_ok-number.ensures s read) c.value-found.ensures value (c.depth.ensures v value) in
-    rw c.growth_refused.ensures (full_done _ _ _ _ _ _ _ at _ c.if-found-depth.false)
-
-pub returns-in-Ok-of_text-clause-done : goal.returns-in-Ok-of_text-clause-done
-returns-in-Ok-of_text-clause-done c = λ s read v value.
-    let h = seen c.self.view_is c.self.invariant in
-    let at = setting _ _ _ _ c.args.path.now s v _ _ _ h read (c.in_ok-number.ensures s read) c.value-found.ensures value (c.depth.ensures v value) in
-    let is = rw (c.as_str.ensures.value, c.self.view_is, c.as_str-new.ensures.text) at c.in-Ok.ensures in
-    rw c.as_str-new.ensures.text (edited_done _ _ _ _ _ _ _ at _ c.if-found-depth.false (IsUtf8-string_bytes c.drop.inside.text) (c.drop.view_is ∙ c.in-Ok-of_text.ensures.text ∙ is))
+returns-in-Err-clause-done c = λ s read v value. rw c.growth_refused.ensures (full_of s (set c.args.path.now v) c.args.self.now _ _ (c.in_ok-text.ensures.made s read v value))
