@@ -1,8 +1,9 @@
 -- What the answers to commands are, by what the document says.
-use Rattle.std.proofs.Common.{◌≡◌, ◌∙◌, ◌++◌, ◌⊎◌, ◌+◌, ◌<◌, ◌≤◌, ℕ, zero, suc, Bool, true, false, List, [], ◌∷◌, map, length, take, get_or, Option, Some, None, refl, sym, ap, subst, inl, inr, arith, length-take, Vec, Global, String}
+use Rattle.std.proofs.Common.{◌≡◌, ◌∙◌, ◌++◌, ◌⊎◌, ◌+◌, ◌-◌, ◌<◌, ◌≤◌, ℕ, zero, suc, Bool, true, false, List, [], ◌∷◌, map, length, take, get_or, Option, Some, None, refl, sym, ap, subst, inl, inr, arith, length-take, Vec, Global, String}
 use Rattle.std.proofs.Math.Nat.{add-zero}
+use Rattle.std.proofs.lemmas.Bool.{eqb-true}
 use Rattle.std.proofs.lemmas.List.{take_all}
-use Rattle.std.specs.Prelude.{Result, Ok, Err, MatchResult, codes, string_bytes, filter, is_some}
+use Rattle.std.specs.Prelude.{Result, Ok, Err, MatchResult, codes, string_bytes, filter, is_some, ◌==◌}
 use Rattle.std.specs.Option.{option_map}
 use Rattle.std.specs.List.{list_any, filter_map, AllZip}
 use Rattle.keep_law.specs.Edits as law
@@ -21,7 +22,7 @@ use Rattle.keep_law.specs.declared.fault.EditFault.{EditFault}
 use Rattle.keep_law.specs.declared.fault.EditFault.TheVariants as fault
 use Rattle.keep_law.specs.Answers as answers
 use Rattle.keep_law.specs.Answers.{get, string_of, string_at, at_node, applied_from}
-use Rattle.keep_edit.specs.Answers.{counts_of, entries_of, kind_of, str_value_of, IsDone, EditDone}
+use Rattle.keep_edit.specs.Answers.{counts_of, entries_of, kind_of, str_value_of, IsDone, IsEdited, IsTextAfter}
 use Rattle.keep_edit.specs.Reading.{limit, IsAccepted, IsAcceptedValue, IsRefused, IsTextOfTree, IsTextOfValue}
 use Rattle.keep_edit.specs.declared.document.Counts.{Counts}
 use Rattle.keep_edit.specs.declared.document.Entry.{Entry}
@@ -172,45 +173,66 @@ zip_more (y ∷ ys) zero d x (z ∷ zs) e lt is h r = absurd h
 zip_more (y ∷ ys) (suc i) d x [] e lt is h r = absurd h
 zip_more (y ∷ ys) (suc i) d x (z ∷ zs) e lt is h r = (h.0, zip_more ys i d x zs e (omega arith) is h.1 r)
 
--- `set` has done its edit
-pub after_set : (edits : List Edit) (i : ℕ) (d : Edit) (path : List Part) (value : List ℕ) (old new : List ℕ) (s : Document) (splice : Splice) → i < length edits → get_or edits i d ≡ edit.Set path value → IsAcceptedValue value
-    → ((u : Document) → IsTextOfTree old u → (v : Value) → IsTextOfValue value v → EditDone u (law.set path v) old new (Ok splice)) → IsAfter (take i edits) s old → IsAfter (take (suc i) edits) s new
-after_set edits i d path value old new s splice lt is (v, read) k h = by (refusal limit h.tree (law.set path v)) refl (k h.tree h.read v read)
-  where
-    by : (o : Option EditFault) → refusal limit h.tree (law.set path v) ≡ o → IsDone h.tree (law.set path v) old new o (Ok splice) → IsAfter (take (suc i) edits) s new
-    by (Some f) e done = absurd (let no : Ok splice ≡ Err f = done in cc)
-    by None e done = record {
-      es = h.es ++ law.set path v ∷ [];
-      are = zip_more edits i d (edit.Set path value) h.es (law.set path v) lt is h.are (v, read, refl);
-      tree = edited_document h.tree (law.set path v);
-      read = done.tree;
-      done = applied_more 0 h.es (law.set path v) s h.tree h.done e;
-    }
+pub no_edit : (edits : List Edit) → true ≡ (length edits == 0) → length edits ≤ 0
+no_edit edits e = omega (arith, eqb-true (length edits) 0 (sym e))
 
--- `set` has refused its edit
-pub set_refused : (edits : List Edit) (i : ℕ) (d : Edit) (path : List Part) (value : List ℕ) (f : EditFault) (old new : List ℕ) (s : Document) → i < length edits → get_or edits i d ≡ edit.Set path value → IsAcceptedValue value
-    → ((u : Document) → IsTextOfTree old u → (v : Value) → IsTextOfValue value v → EditDone u (law.set path v) old new (Err f)) → IsAfter (take i edits) s old → Refused edits s (of_edit i f)
-set_refused edits i d path value f old new s lt is (v, read) k h = by (refusal limit h.tree (law.set path v)) refl (k h.tree h.read v read)
-  where
-    many : 0 + length h.es ≡ i
-    many = omega (arith, as_many (take i edits) h.es h.are, length-take {A = Edit})
+pub last_edit : (edits : List Edit) → false ≡ (length edits == 0) → length edits - 1 < length edits
+last_edit [] e = absurd cc
+last_edit (x ∷ xs) e = omega arith
 
-    of_memory : f ≡ fault.Memory → Refused edits s (of_edit i f)
-    of_memory m = rw m tt
+-- the edit that this value makes, by the value's tree
+abbrev edit_of : List Part → Value → law.Edit
+edit_of path v = law.set path v
 
-    of_refusal : refusal limit h.tree (law.set path v) ≡ Some f → Refused edits s (of_edit i f)
-    of_refusal e = elim (told_edit i f) [
-      | inl m ↦ of_memory m
-      | inr told ↦ subst (λ (x : RunFault). Refused edits s x) (sym told) (
-        h.es ++ law.set path v ∷ [],
-        zip_more edits i d (edit.Set path value) h.es (law.set path v) lt is h.are (v, read, refl),
-        subst (λ (n : ℕ). applied_from limit 0 (h.es ++ law.set path v ∷ []) s ≡ Err (refused_as n f)) many (applied_until 0 h.es (law.set path v) s h.tree f h.done e),
-      )
-    ]
+-- what an edit answers of any tree of the old text and any value of the given one
+abbrev pub Answers : {T : Type 0} → (Document → Value → T → Type 0) → List Part → List ℕ → List ℕ → Result T EditFault → Type 0
+Answers good path value old result = (u : Document) → IsTextOfTree old u → (v : Value) → IsTextOfValue value v → IsDone (good u v) (refusal limit u (edit_of path v)) result
 
-    by : (o : Option EditFault) → refusal limit h.tree (law.set path v) ≡ o → IsDone h.tree (law.set path v) old new o (Err f) → Refused edits s (of_edit i f)
-    by (Some g) e done = of_refusal (e ∙ ap (λ (x : EditFault). Some x) (let same : g ≡ f = cc in same))
-    by None e done = of_memory done
+module _ {T : Type 0} (good : Document → Value → T → Type 0) (edits : List Edit) (i : ℕ) (d : Edit) (path : List Part) (value old new : List ℕ) (s : Document) (lt : i < length edits) (is : get_or edits i d ≡ edit.Set path value) (given : IsAcceptedValue value) (h : IsAfter (take i edits) s old) where
+  -- an edit is done, and its text is this
+  pub after_edit : (x : T) → ((u : Document) → (v : Value) → good u v x → IsTextAfter u (edit_of path v) new old) → Answers good path value old (Ok x) → IsAfter (take (suc i) edits) s new
+  after_edit x told k = by (refusal limit h.tree (edit_of path given.0)) refl (k h.tree h.read given.0 given.1)
+    where
+      by : (o : Option EditFault) → refusal limit h.tree (edit_of path given.0) ≡ o → IsDone (good h.tree given.0) o (Ok x) → IsAfter (take (suc i) edits) s new
+      by (Some f) e done = absurd (let no : Ok x ≡ Err f = done in cc)
+      by None e done = record {
+        es = h.es ++ edit_of path given.0 ∷ [];
+        are = zip_more edits i d (edit.Set path value) h.es (edit_of path given.0) lt is h.are (given.0, given.1, refl);
+        tree = edited_document h.tree (edit_of path given.0);
+        read = (told h.tree given.0 done).tree;
+        done = applied_more 0 h.es (edit_of path given.0) s h.tree h.done e;
+      }
+
+  -- an edit is refused
+  pub edit_refused : (f : EditFault) → Answers good path value old (Err f) → Refused edits s (of_edit i f)
+  edit_refused f k = by (refusal limit h.tree (edit_of path given.0)) refl (k h.tree h.read given.0 given.1)
+    where
+      many : 0 + length h.es ≡ i
+      many = omega (arith, as_many (take i edits) h.es h.are, length-take {A = Edit})
+
+      of_memory : f ≡ fault.Memory → Refused edits s (of_edit i f)
+      of_memory m = rw m tt
+
+      of_refusal : refusal limit h.tree (edit_of path given.0) ≡ Some f → Refused edits s (of_edit i f)
+      of_refusal e = elim (told_edit i f) [
+        | inl m ↦ of_memory m
+        | inr told ↦ subst (λ (x : RunFault). Refused edits s x) (sym told) (
+          h.es ++ edit_of path given.0 ∷ [],
+          zip_more edits i d (edit.Set path value) h.es (edit_of path given.0) lt is h.are (given.0, given.1, refl),
+          subst (λ (n : ℕ). applied_from limit 0 (h.es ++ edit_of path given.0 ∷ []) s ≡ Err (refused_as n f)) many (applied_until 0 h.es (edit_of path given.0) s h.tree f h.done e),
+        )
+      ]
+
+      by : (o : Option EditFault) → refusal limit h.tree (edit_of path given.0) ≡ o → IsDone (good h.tree given.0) o (Err f) → Refused edits s (of_edit i f)
+      by (Some g) e done = of_refusal (e ∙ ap (λ (x : EditFault). Some x) (let same : g ≡ f = cc in same))
+      by None e done = of_memory done
+
+-- what `set` and what `text_with` are told to do
+abbrev pub set_done : List Part → List ℕ → List ℕ → Document → Value → Splice → Type 0
+set_done path old new u v splice = IsEdited u (edit_of path v) new old splice
+
+abbrev pub text_told : List Part → List ℕ → Document → Value → String Global → Type 0
+text_told path old u v text = IsTextAfter u (edit_of path v) (string_bytes text) old
 
 pub all_applied : (edits : List Edit) (n : ℕ) (s : Document) (d new : List ℕ) → length edits ≤ n → new ≡ d → IsAfter (take n edits) s d → AppliesTo edits s new
 all_applied edits n s d new le same h =

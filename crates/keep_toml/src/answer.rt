@@ -135,20 +135,32 @@ fn parts_of(edit: &Edit) -> (&Path, &ValueText)
     }
 }
 
-// The text after the edits in order, or the first refusal.
+// The text after the edits in order, or the first refusal. Nothing is asked of the document behind the last of them, so that
+// one gives its text alone, and the text is not read once more.
 fn applied(document: Document, edits: &[Edit]) -> Result<String, RunFault>
     ensures { (s : tree.Document) → IsTextOfTree document s
         → MatchResult result (λ text. AppliesTo edits.now s (string_bytes text)) (spec.Refused edits.now s) }
 {
+    if edits.is_empty() {
+        return Ok(document.into_text());
+    }
+    let last = edits.len() - 1;
     let mut changed = document;
-    for index in 0..edits.len() {
+    for index in 0..last {
         let (path, value) = parts_of(&edits[index]);
         match changed.set(path, value) {
             Ok(_) => {}
             Err(fault) => return Err(of_edit(index, fault)),
         }
     }
-    Ok(changed.into_text())
+    let (path, value) = parts_of(&edits[last]);
+    let text = changed.text_with(path, value);
+    // As in `answer`: the program ends with its answer.
+    mem::forget(changed);
+    match text {
+        Ok(text) => Ok(text),
+        Err(fault) => Err(of_edit(last, fault)),
+    }
 }
 
 /// What the program writes for a command and the bytes of its input.
