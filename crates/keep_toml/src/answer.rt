@@ -82,22 +82,14 @@ fn of_edit(index: usize, fault: EditFault) -> RunFault
 fn checked(alloc: Global, document: &Document) -> Result<String, RunFault>
     ensures { MatchResult result (λ text. IsText Command.Check document.now (string_bytes text)) (λ fault. fault ≡ RunFault.Memory) }
 {
-    let Ok(text) = counts_text(alloc, document.counts()) else {
-        return Err(RunFault::Memory);
-    };
-    Ok(text)
+    Ok(counts_text(alloc, document.counts())?)
 }
 
 fn listed(alloc: Global, document: &Document) -> Result<String, RunFault>
     ensures { MatchResult result (λ text. IsText Command.List document.now (string_bytes text)) (λ fault. fault ≡ RunFault.Memory) }
 {
-    let Ok(entries) = document.list(alloc) else {
-        return Err(RunFault::Memory);
-    };
-    let Ok(text) = list_text(alloc, entries.as_slice()) else {
-        return Err(RunFault::Memory);
-    };
-    Ok(text)
+    let entries = document.list(alloc)?;
+    Ok(list_text(alloc, entries.as_slice())?)
 }
 
 fn got(alloc: Global, document: &Document, path: &Path) -> Result<String, RunFault>
@@ -105,12 +97,7 @@ fn got(alloc: Global, document: &Document, path: &Path) -> Result<String, RunFau
         (λ fault. (fault ≡ RunFault.Memory) ⊎ IsRefusal (Command.Get path.now) document.now fault) }
 {
     match document.get(path) {
-        Ok(value) => {
-            let Ok(text) = line_of(alloc, value) else {
-                return Err(RunFault::Memory);
-            };
-            Ok(text)
-        }
+        Ok(value) => Ok(line_of(alloc, value)?),
         Err(fault) => Err(of_edit(0, fault)),
     }
 }
@@ -119,11 +106,10 @@ fn meant(alloc: Global, document: &Document, path: &Path) -> Result<String, RunF
     ensures { MatchResult result (λ text. IsText (Command.Text path.now) document.now (string_bytes text))
         (λ fault. (fault ≡ RunFault.Memory) ⊎ IsRefusal (Command.Text path.now) document.now fault) }
 {
-    match document.str_value(alloc, path) {
-        Ok(Some(text)) => Ok(text),
-        Ok(None) if document.kind(path).is_none() => Err(of_edit(0, EditFault::NotFound)),
-        Ok(None) => Err(of_edit(0, EditFault::NotValue)),
-        Err(_) => Err(RunFault::Memory),
+    match document.str_value(alloc, path)? {
+        Some(text) => Ok(text),
+        None if document.kind(path).is_none() => Err(of_edit(0, EditFault::NotFound)),
+        None => Err(of_edit(0, EditFault::NotValue)),
     }
 }
 

@@ -1,8 +1,10 @@
 //! Why a document can't be read, a command's words can't be taken, or a run stops.
 ghost use Rattle.std.specs.Prelude.{◌≡◌};
 ghost use Rattle.keep_toml.specs.Status.{run_status, use_status};
+ghost use Rattle.keep_toml.specs.declared.fault.RunFault.TheVariants.{Memory};
 
 use keep_edit::{EditFault, ReadFault};
+use std::alloc::AllocError;
 use thiserror::Error;
 
 /// Why the words of the command line ask for nothing.
@@ -54,6 +56,14 @@ impl UseFault {
             UseFault::Words(_) | UseFault::Path { .. } | UseFault::Value(_) => 2,
             UseFault::Memory => 4,
         }
+    }
+}
+
+impl From<AllocError> for RunFault {
+    ghost from_gives = { λ _ fault. fault ≡ Memory };
+
+    fn from(_e: AllocError) -> RunFault {
+        RunFault::Memory
     }
 }
 
