@@ -83,13 +83,6 @@ cut_placed text front (w ∷ ws) at p e =
     ap (λ (x : List ℕ). record { leaf = w.leaf; at = at; text = x } ∷ cut text (kinds ws ++ (leaf.End ∷ [])) (starts next ws)) t
     ∙ ap (λ (ps : List Placed). record { leaf = w.leaf; at = at; text = w.text } ∷ ps) (cut_placed text (front ++ w.text) ws next p' e')
 
--- past those that are kept
-pub start_past : (text ss : List ℕ) (n : ℕ) → slice_get ss n ≡ None → start_in text ss n ≡ length text
-start_past text [] zero e = refl
-start_past text [] (suc n) e = refl
-start_past text (s ∷ ss) zero e = absurd cc
-start_past text (s ∷ ss) (suc n) e = start_past text ss n e
-
 -- the token that is cut out at its places
 pub cut_next : (text : List ℕ) (ks : List Leaf) (ss : List ℕ) (n : ℕ) (l : Leaf) (at end : ℕ) (t : List ℕ) → slice_get ks n ≡ Some l → at ≡ start_in text ss n → end ≡ start_in text ss (n + 1) → t ≡ slice_range text at end
     → drop n (cut text ks ss) ≡ record { leaf = l; at = at; text = t } ∷ drop (n + 1) (cut text ks ss)

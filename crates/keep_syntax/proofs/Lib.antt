@@ -6,6 +6,7 @@ pub mod ValueLaws
 pub mod AgainLaws
 pub mod WholeLaws
 pub mod DeepLaws
+pub mod StartLaws
 pub mod FlatLaws
 pub mod LineLaws
 pub mod DocumentLaws

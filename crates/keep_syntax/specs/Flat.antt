@@ -69,7 +69,7 @@ shown s = record {
 }
 
 abbrev pub flat : Parts → Flat
-flat p = record { kinds = p.kinds.items; starts = p.starts.items; statements = map told p.statements.items; keys = p.keys.items; values = map shown p.values.items }
+flat p = record { kinds = p.kinds.items; starts = p.starts; statements = map told p.statements.items; keys = p.keys.items; values = map shown p.values.items }
 
 abbrev pub empty : Flat
 empty = record { kinds = []; starts = []; statements = []; keys = []; values = [] }

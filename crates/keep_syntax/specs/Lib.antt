@@ -3,6 +3,7 @@ pub mod Grammar
 pub mod Numbered
 pub mod Deep
 pub mod Reading
+pub mod Starts
 pub mod Flat
 pub mod Cut
 pub mod Nesting

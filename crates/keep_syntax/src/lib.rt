@@ -10,6 +10,7 @@ mod key;
 pub mod laws;
 mod line;
 mod parts;
+mod starts;
 mod syntax;
 mod text;
 mod tokens;

@@ -1,10 +1,12 @@
 //! What is kept of a text: its tokens, statements, key parts and values, each in a flat vector in text order.
 ghost use Rattle.std.specs.Prelude.{◌≡◌, ◌<◌, length, slice_get, OnOk, IsOkUnless, Some};
 ghost use Rattle.keep_syntax.specs.declared.fault.ReadFault.TheVariants.{Memory};
+ghost use Rattle.keep_syntax.specs.Cut.{places_left};
 ghost use Rattle.keep_syntax.specs.Flat as spec;
 
 use crate::fault::ReadFault;
 use crate::info::{KeyPart, Owner, Span, Start, Statement, StatementKind, ValueInfo};
+use crate::starts::{Places, Starts};
 use keep_token::Leaf;
 use std::alloc::Global;
 
@@ -51,7 +53,7 @@ pub struct StoredStatement {
 #[derive(Debug, Drop)]
 pub struct Parts {
     kinds: Vec<Leaf>,
-    starts: Vec<usize>,
+    starts: Starts,
     statements: Vec<StoredStatement>,
     keys: Vec<KeyPart>,
     values: Vec<Stored>,
@@ -103,7 +105,7 @@ impl Parts {
     {
         Parts {
             kinds: Vec::new(alloc),
-            starts: Vec::new(alloc),
+            starts: Starts::new(alloc),
             statements: Vec::new(alloc),
             keys: Vec::new(alloc),
             values: Vec::new(alloc),
@@ -286,9 +288,9 @@ pub fn mark_at(out: &Parts, number: usize) -> Leaf
     out.kinds[number]
 }
 
-/// Where the token of this number begins, if it is kept.
-pub fn start_at(out: &Parts, number: usize) -> Option<usize>
-    ensures { result ≡ slice_get (spec.flat out.now).starts number }
+/// Where the tokens begin, one after another.
+pub fn mark_starts(out: &Parts) -> Places<'_>
+    ensures { places_left result ≡ (spec.flat out.now).starts }
 {
-    out.starts.get(number).copied()
+    out.starts.iter()
 }

@@ -1,10 +1,11 @@
 //! The tokens of a document one after another.
-ghost use Rattle.std.specs.Prelude.{◌≡◌, ℕ, ◌+◌, ◌<◌, ◌≤◌, ◌^◌, slice_get, IfSome, IsCharBoundary};
-ghost use Rattle.keep_syntax.specs.Cut.{start_in, all_kinds};
+ghost use Rattle.std.specs.Prelude.{◌≡◌, ℕ, ◌+◌, ◌<◌, ◌≤◌, ◌^◌, drop, slice_get, IfSome, IsCharBoundary};
+ghost use Rattle.keep_syntax.specs.Cut.{start_in, all_kinds, places_left};
 ghost use Rattle.keep_syntax.specs.Flat.{flat};
 
 use crate::info::Token;
-use crate::parts::{Parts, mark_at, mark_count, start_at};
+use crate::parts::{Parts, mark_at, mark_count, mark_starts};
+use crate::starts::Places;
 use keep_token::Leaf;
 
 /// The tokens of a document in text order, `End` the last. The result of [`crate::Syntax::tokens`].
@@ -13,8 +14,14 @@ pub struct Tokens<'a> {
     parts: &'a Parts,
     text: &'a str,
     next: usize,
+    /// Where the token `next` begins.
+    start: usize,
+    /// Where those behind it begin.
+    behind: Places<'a>,
     ghost cuts: { (n : ℕ) → IsCharBoundary text.now (start_in text.now (flat parts.now).starts n) },
     ghost forward: { (n : ℕ) → start_in text.now (flat parts.now).starts n ≤ start_in text.now (flat parts.now).starts (n + 1) },
+    ghost starts: { start ≡ start_in text.now (flat parts.now).starts next },
+    ghost rest: { places_left behind ≡ drop (next + 1) (flat parts.now).starts },
 }
 
 // the kind of the token of this number, `End` behind those that are kept
@@ -32,16 +39,6 @@ fn kind_of(parts: &Parts, number: usize) -> Option<Leaf>
     }
 }
 
-// where the token of this number begins
-fn start_of(parts: &Parts, text: &str, number: usize) -> usize
-    ensures { result ≡ start_in text.now (flat parts.now).starts number }
-{
-    match start_at(parts, number) {
-        Some(start) => start,
-        None => text.len(),
-    }
-}
-
 impl<'a> Iterator for Tokens<'a> {
     ghost use Rattle.std.specs.Iterator.{YieldsFirstBy, item_count};
     ghost use Rattle.keep_syntax.specs.Contract.{shown_token, left};
@@ -54,10 +51,11 @@ impl<'a> Iterator for Tokens<'a> {
 
     fn next(&mut self) -> Option<Token<'a>> {
         let leaf = kind_of(self.parts, self.next)?;
-        let at = start_of(self.parts, self.text, self.next);
-        let end = start_of(self.parts, self.text, self.next + 1);
-        self.next += 1;
         let text = self.text;
+        let at = self.start;
+        let end = self.behind.next().unwrap_or(text.len());
+        self.next += 1;
+        self.start = end;
         Some(Token {
             leaf,
             at,
@@ -76,10 +74,14 @@ impl<'a> Tokens<'a> {
         requires forward { (n : ℕ) → start_in text.now (flat parts.now).starts n ≤ start_in text.now (flat parts.now).starts (n + 1) }
         ensures { left result ≡ cut_by (flat parts.now) text.now }
     {
+        let mut behind = mark_starts(parts);
+        let start = behind.next().unwrap_or(text.len());
         Tokens {
             parts,
             text,
             next: 0,
+            start,
+            behind,
         }
     }
 }

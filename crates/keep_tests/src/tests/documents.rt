@@ -171,6 +171,32 @@ fn tokens_of_brackets(rt: HostRuntime) -> Result<(), Fail> {
     Ok(())
 }
 
+// Where a token begins is kept in one byte, unless the token before it has 255 bytes or more.
+#[test]
+fn tokens_behind_long_ones(rt: HostRuntime) -> Result<(), Fail> {
+    const CASES: &[(usize, [usize; 4])] = &[
+        (254, [254, 255, 509, 510]),
+        (255, [255, 256, 511, 512]),
+        (256, [256, 257, 513, 514]),
+        (70_000, [70_000, 70_001, 140_001, 140_002]),
+    ];
+    for &(length, [newline, comment, second_newline, end]) in CASES {
+        let mut line = repeated(rt.alloc(), "#", length)?;
+        line.push_str("\n")?;
+        let document = repeated(rt.alloc(), line.as_str(), 2)?;
+        let text = document.as_str();
+        let syntax = Syntax::read(rt.alloc(), text, Limits::STANDARD)?;
+        let mut tokens = syntax.tokens(text);
+        is_leaf(&rt, tokens.next(), Leaf::Comment, 0);
+        is_leaf(&rt, tokens.next(), Leaf::Newline, newline);
+        is_leaf(&rt, tokens.next(), Leaf::Comment, comment);
+        is_leaf(&rt, tokens.next(), Leaf::Newline, second_newline);
+        is_leaf(&rt, tokens.next(), Leaf::End, end);
+        assert!(rt; tokens.next().is_none());
+    }
+    Ok(())
+}
+
 // The texts of a document's tokens behind one another.
 fn joined(alloc: Global, text: &str) -> Result<String, ReadFault> {
     let syntax = Syntax::read(alloc, text, Limits::WIDE)?;

@@ -1,6 +1,6 @@
-use Rattle.std.proofs.Common.{sym, ap, length, rules}
+use Rattle.std.proofs.Common.{◌≡◌, ◌+◌, sym, ap, length, rules}
 use Rattle.keep_syntax.specs.Flat.{flat}
-use Rattle.keep_syntax.specs.Cut.{all_kinds}
+use Rattle.keep_syntax.specs.Cut.{all_kinds, start_in}
 use Rattle.keep_syntax.proofs.CutLaws.{cut_next, cut_end}
 use Rattle.keep_syntax.proofs.tokens.TokensIterator.next.Goals as goal
 
@@ -13,12 +13,14 @@ returns-in_err-leaf-clause-steps c =
 pub returns-clause-steps : goal.returns-clause-steps
 returns-clause-steps c =
     let s = c.args.self.now in
-    cut_next s.text.now (all_kinds (flat s.parts.now)) (flat s.parts.now).starts s.next c.in_ok-leaf.leaf c.start_of-at.result c.start_of-end.result c.range.result.now
-    (sym c.in_ok-leaf.ensures.value) c.start_of-at.ensures c.start_of-end.ensures c.range.ensures.value
+    let end : c.unwrap_or-end.result ≡ start_in s.text.now (flat s.parts.now).starts (s.next + 1) = search rules in
+    cut_next s.text.now (all_kinds (flat s.parts.now)) (flat s.parts.now).starts s.next c.in_ok-leaf.leaf s.start c.unwrap_or-end.result c.range.result.now
+    (sym c.in_ok-leaf.ensures.value) s.starts end c.range.ensures.value
 
 pub returns-clause-goes : goal.returns-clause-goes
 returns-clause-goes c =
     let s = c.args.self.now in
-    let h = ap length (cut_next s.text.now (all_kinds (flat s.parts.now)) (flat s.parts.now).starts s.next c.in_ok-leaf.leaf c.start_of-at.result c.start_of-end.result c.range.result.now
-    (sym c.in_ok-leaf.ensures.value) c.start_of-at.ensures c.start_of-end.ensures c.range.ensures.value) in
+    let end : c.unwrap_or-end.result ≡ start_in s.text.now (flat s.parts.now).starts (s.next + 1) = search rules in
+    let h = ap length (cut_next s.text.now (all_kinds (flat s.parts.now)) (flat s.parts.now).starts s.next c.in_ok-leaf.leaf s.start c.unwrap_or-end.result c.range.result.now
+    (sym c.in_ok-leaf.ensures.value) s.starts end c.range.ensures.value) in
     search rules

@@ -1,0 +1,118 @@
+//! Where each token begins, kept in one byte a token.
+ghost use Rattle.std.specs.Prelude.{◌≡◌, ◌≢◌, ◌+◌, ◌++◌, [], ◌∷◌, OnOk, OnErr};
+ghost use Rattle.keep_syntax.specs.declared.starts.TheConstants.{FAR};
+ghost use Rattle.keep_syntax.specs.Starts.{AllSmall, places_at};
+
+use std::alloc::{AllocError, Global};
+use std::marker::Model;
+
+/// The step of a place that a byte cannot tell.
+const FAR: u8 = 255;
+
+/// Places in a text, as byte offsets. Each is kept as its step: how far it stands behind the one before, the first behind 0.
+/// Where that is 255 bytes or more, or back, the step is `FAR`, and the place itself stands in `far`. `last` is the last
+/// place, or 0.
+#[derive(Debug, Drop)]
+pub struct Starts {
+    steps: Vec<u8>,
+    far: Vec<usize>,
+    last: usize,
+}
+
+impl Model for Starts {
+    ghost use Rattle.std.specs.Prelude.{ℕ, List};
+    ghost use Rattle.keep_syntax.specs.Starts.{IsKept, places_at};
+
+    ghost Value = { List ℕ };
+
+    ghost view = { λ s. places_at 0 s.steps.items s.far.items };
+
+    ghost invariant = { λ s. IsKept s.steps.items s.far.items s.last };
+}
+
+/// Kept places one after another; `at` is the one before them. The result of [`Starts::iter`].
+#[derive(Clone, Copy, Debug)]
+pub struct Places<'a> {
+    at: usize,
+    steps: &'a [u8],
+    far: &'a [usize],
+    ghost small: { AllSmall (places_at at steps.now far.now) },
+}
+
+// the step from a place to a place
+fn step_to(from: usize, to: usize) -> u8
+    ensures { result ≢ FAR → from + result ≡ to }
+{
+    match to.checked_sub(from) {
+        Some(distance) if distance < FAR as usize => distance as u8,
+        _ => FAR,
+    }
+}
+
+impl Starts {
+    ghost use Rattle.keep_syntax.specs.Cut.{places_left};
+
+    /// No place yet.
+    pub fn new(alloc: Global) -> Starts
+        ensures { result ≡ [] }
+    {
+        Starts {
+            steps: Vec::new(alloc),
+            far: Vec::new(alloc),
+            last: 0,
+        }
+    }
+
+    /// Keeps one more place. After a refusal those before are kept.
+    pub fn push(&mut self, at: usize) -> Result<(), AllocError>
+        ensures ok { OnOk result (self.new ≡ self.old ++ at ∷ []) }
+        ensures err { OnErr result (self.new ≡ self.old) }
+    {
+        let step = step_to(self.last, at);
+        self.steps.push(step)?;
+        if step == FAR {
+            if let Err(refused) = self.far.push(at) {
+                // no far step without its place
+                self.steps.pop();
+                return Err(refused.into());
+            }
+        }
+        self.last = at;
+        Ok(())
+    }
+
+    /// All places.
+    pub fn iter(&self) -> Places<'_>
+        ensures { places_left result ≡ self.now }
+    {
+        Places {
+            at: 0,
+            steps: self.steps.as_slice(),
+            far: self.far.as_slice(),
+        }
+    }
+}
+
+impl<'a> Iterator for Places<'a> {
+    ghost use Rattle.std.specs.Iterator.{YieldsFirst, item_count};
+    ghost use Rattle.keep_syntax.specs.Cut.{places_left};
+
+    type Item = usize;
+
+    ghost next_gives = { YieldsFirst places_left };
+
+    ghost remaining = { item_count places_left };
+
+    fn next(&mut self) -> Option<usize> {
+        let (step, steps) = self.steps.split_first()?;
+        if *step == FAR {
+            let (place, far) = self.far.split_first()?;
+            self.at = *place;
+            self.far = far;
+        } else {
+            self.at += *step as usize;
+        }
+        self.steps = steps;
+        Some(self.at)
+    }
+}
