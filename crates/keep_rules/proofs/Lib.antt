@@ -4,6 +4,7 @@ pub mod PathTextLaws
 pub mod FaultLemmas
 pub mod CountLemmas
 pub mod PlaceLemmas
+pub mod PartLemmas
 pub mod NumberLemmas
 pub mod Rows
 pub mod PathReadLaws

@@ -1,31 +1,58 @@
 -- What parts add to what is kept: one behind the other, and a change of what was kept.
-use Rattle.std.proofs.Common.{◌≡◌, ℕ, ◌+◌, List, [], ◌∷◌, ◌++◌, length, get_or, map, refl, sym, ap, ◌∙◌, subst, append_assoc, arith, IsCharBoundary}
+use Rattle.std.proofs.Common.{◌≡◌, ℕ, ◌+◌, ◌-◌, ◌<◌, ◌≤◌, List, [], ◌∷◌, ◌++◌, length, get_or, map, refl, sym, ap, ◌∙◌, subst, append_assoc, arith, IsCharBoundary}
 use Rattle.std.specs.List.{AllByRecursion}
-use Rattle.std.proofs.Math.ListN.{set, get_or-map}
+use Rattle.std.proofs.Math.ListN.{set, get_or-map, get_or-append}
 use Rattle.std.proofs.Math.Seq.{set-append_seam, get_or-append_seam}
-use Rattle.std.proofs.lemmas.List.{append-nil, length-append, map-set}
+use Rattle.std.proofs.lemmas.List.{append-nil, length-append, length-map, map-set, set-append_left, set-append_right, get_or-append_right}
 use Rattle.keep_token.specs.declared.leaf.Leaf.{Leaf}
 use Rattle.keep_syntax.specs.declared.info.Statement.{Statement}
 use Rattle.keep_syntax.specs.declared.info.KeyPart.{KeyPart}
 use Rattle.keep_syntax.specs.declared.info.ValueInfo.{ValueInfo}
-use Rattle.keep_syntax.specs.declared.parts.Stored.{Stored}
+use Rattle.keep_syntax.specs.declared.values.NarrowValue.{NarrowValue}
+use Rattle.keep_syntax.specs.declared.values.Values.{Values}
 use Rattle.keep_syntax.specs.Tree.{Written, mark, text_of}
 use Rattle.keep_syntax.specs.Numbered.{width}
-use Rattle.keep_syntax.specs.Flat.{Flat, shown, with_mark, with_statement, with_key, with_value, ChangesValue, Taken, only, both, kinds, starts, add_at, Grows}
+use Rattle.keep_syntax.specs.Flat.{Flat, shown, values_in, with_mark, with_statement, with_key, with_value, ChangesValue, Taken, only, both, kinds, starts, add_at, Grows}
 use Rattle.keep_syntax.proofs.SpaceLaws.{text_of-append}
 
 -- ---- a value is changed
 
--- the value at a place, and what a write there changes
-pub seam : (vs : List Stored) (front : List ValueInfo) (info : ValueInfo) (back : List ValueInfo) (number : ℕ) (s : Stored) → length front ≡ number → map shown vs ≡ front ++ (info ∷ back) → s ≡ get_or vs number s → shown s ≡ info
-seam vs front info back number s len is e =
-    ap shown e ∙ sym (get_or-map shown vs number s) ∙ ap (λ (l : List ValueInfo). get_or l number (shown s)) is
-    ∙ ap (λ (n : ℕ). get_or (front ++ (info ∷ back)) n (shown s)) (sym len) ∙ get_or-append_seam front info back (shown s)
+-- the item at a place, and what a write there changes
+at_seam : {A : Type 0} (vs front : List A) (item : A) (back : List A) (number : ℕ) (d : A) → length front ≡ number → vs ≡ front ++ (item ∷ back) → get_or vs number d ≡ item
+at_seam {A} vs front item back number d len is =
+    ap (λ (l : List A). get_or l number d) is ∙ ap (λ (n : ℕ). get_or (front ++ (item ∷ back)) n d) (sym len) ∙ get_or-append_seam front item back d
 
-pub set_seam : (vs : List Stored) (front : List ValueInfo) (info : ValueInfo) (back : List ValueInfo) (number : ℕ) (s : Stored) → length front ≡ number → map shown vs ≡ front ++ (info ∷ back) → map shown (set vs number s) ≡ front ++ (shown s ∷ back)
-set_seam vs front info back number s len is =
-    map-set shown vs number s ∙ ap (λ (l : List ValueInfo). set l number (shown s)) is
-    ∙ ap (λ (n : ℕ). set (front ++ (info ∷ back)) n (shown s)) (sym len) ∙ set-append_seam front info back (shown s)
+set_at_seam : {A : Type 0} (vs front : List A) (item : A) (back : List A) (number : ℕ) (a : A) → length front ≡ number → vs ≡ front ++ (item ∷ back) → set vs number a ≡ front ++ (a ∷ back)
+set_at_seam {A} vs front item back number a len is =
+    ap (λ (l : List A). set l number a) is ∙ ap (λ (n : ℕ). set (front ++ (item ∷ back)) n a) (sym len) ∙ set-append_seam front item back a
+
+module _ (vs : Values) (front : List ValueInfo) (info : ValueInfo) (back : List ValueInfo) (number : ℕ) (len : length front ≡ number) (is : values_in vs ≡ front ++ (info ∷ back)) where
+  -- among those in few bits
+  module _ (below : number < length vs.narrow.items) where
+    below_shown : number < length (map shown vs.narrow.items)
+    below_shown = omega (arith, length-map vs.narrow.items shown)
+
+    pub narrow_seam : (s : NarrowValue) → s ≡ get_or vs.narrow.items number s → shown s ≡ info
+    narrow_seam s e =
+        ap shown e ∙ sym (get_or-map shown vs.narrow.items number s) ∙ sym (get_or-append (map shown vs.narrow.items) vs.wide.items (shown s) number below_shown)
+        ∙ at_seam (values_in vs) front info back number (shown s) len is
+
+    pub set_narrow_seam : (s : NarrowValue) → map shown (set vs.narrow.items number s) ++ vs.wide.items ≡ front ++ (shown s ∷ back)
+    set_narrow_seam s =
+        ap (λ (l : List ValueInfo). l ++ vs.wide.items) (map-set shown vs.narrow.items number s) ∙ sym (set-append_left (map shown vs.narrow.items) vs.wide.items number (shown s) below_shown)
+        ∙ set_at_seam (values_in vs) front info back number (shown s) len is
+
+  -- among the others
+  module _ (narrow : ℕ) (count : length vs.narrow.items ≡ narrow) (past : narrow ≤ number) where
+    pub wide_seam : (v : ValueInfo) → v ≡ get_or vs.wide.items (number - narrow) v → v ≡ info
+    wide_seam v e =
+        e ∙ sym (get_or-append_right (map shown vs.narrow.items) vs.wide.items narrow number v (length-map vs.narrow.items shown ∙ count) past)
+        ∙ at_seam (values_in vs) front info back number v len is
+
+    pub set_wide_seam : (v : ValueInfo) → map shown vs.narrow.items ++ set vs.wide.items (number - narrow) v ≡ front ++ (v ∷ back)
+    set_wide_seam v =
+        sym (set-append_right (map shown vs.narrow.items) vs.wide.items narrow number v (length-map vs.narrow.items shown ∙ count) past)
+        ∙ set_at_seam (values_in vs) front info back number v len is
 
 -- ---- leaves
 

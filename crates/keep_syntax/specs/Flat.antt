@@ -8,10 +8,16 @@ use Rattle.keep_syntax.specs.declared.info.Statement.{Statement}
 use Rattle.keep_syntax.specs.declared.info.KeyPart.{KeyPart}
 use Rattle.keep_syntax.specs.declared.info.ValueInfo.{ValueInfo}
 use Rattle.keep_syntax.specs.declared.info.Start.{Start}
-use Rattle.keep_syntax.specs.declared.parts.Stored.{Stored}
-use Rattle.keep_syntax.specs.declared.parts.StoredStatement.{StoredStatement}
-use Rattle.keep_syntax.specs.declared.parts.Within.{Within}
-use Rattle.keep_syntax.specs.declared.parts.Within.TheVariants as within
+use Rattle.keep_syntax.specs.declared.statements.NarrowStatement.{NarrowStatement}
+use Rattle.keep_syntax.specs.declared.statements.Statements.{Statements}
+use Rattle.keep_syntax.specs.declared.statements.Statements.TheVariants as statement_lists
+use Rattle.keep_syntax.specs.declared.keys.NarrowKeyPart.{NarrowKeyPart}
+use Rattle.keep_syntax.specs.declared.keys.KeyParts.{KeyParts}
+use Rattle.keep_syntax.specs.declared.keys.KeyParts.TheVariants as key_lists
+use Rattle.keep_syntax.specs.declared.values.Within.{Within}
+use Rattle.keep_syntax.specs.declared.values.Within.TheVariants as within
+use Rattle.keep_syntax.specs.declared.values.NarrowValue.{NarrowValue}
+use Rattle.keep_syntax.specs.declared.values.Values.{Values}
 use Rattle.keep_syntax.specs.declared.parts.Parts.{Parts}
 use Rattle.keep_syntax.specs.declared.info.Brackets.{Brackets}
 use Rattle.keep_token.specs.declared.leaf.Profile.{Profile}
@@ -44,18 +50,30 @@ owner_of within.Inline number = owner.Inline number
 owner_of within.Item number = owner.Item number
 
 -- the statement that is stored so
-abbrev pub told : StoredStatement → Statement
+abbrev pub told : NarrowStatement → Statement
 told s = record {
   kind = s.kind;
-  span = s.span;
-  line = s.line;
+  span = span s.start s.end;
+  line = span s.line_start s.line_end;
   first_key = s.first_key;
   keys = s.keys;
   value = if_there s.has_value s.value;
 }
 
--- the value that is stored so
-abbrev pub shown : Stored → ValueInfo
+abbrev pub statements_in : Statements → List Statement
+statements_in (statement_lists.Narrow v) = map told v.items
+statements_in (statement_lists.Wide v) = v.items
+
+-- the key part that is stored so
+abbrev pub told_key : NarrowKeyPart → KeyPart
+told_key k = record { leaf = k.leaf; span = span k.start k.end }
+
+abbrev pub key_parts_in : KeyParts → List KeyPart
+key_parts_in (key_lists.Narrow v) = map told_key v.items
+key_parts_in (key_lists.Wide v) = v.items
+
+-- the value that is kept so
+abbrev pub shown : NarrowValue → ValueInfo
 shown s = record {
   leaf = s.leaf;
   span = span s.start s.end;
@@ -68,8 +86,12 @@ shown s = record {
   comma_after = if_there s.has_after s.after;
 }
 
+-- those in 48 bytes, then the others
+abbrev pub values_in : Values → List ValueInfo
+values_in vs = map shown vs.narrow.items ++ vs.wide.items
+
 abbrev pub flat : Parts → Flat
-flat p = record { kinds = p.kinds.items; starts = p.starts; statements = map told p.statements.items; keys = p.keys.items; values = map shown p.values.items }
+flat p = record { kinds = p.kinds.items; starts = p.starts; statements = statements_in p.statements; keys = key_parts_in p.keys; values = values_in p.values }
 
 abbrev pub empty : Flat
 empty = record { kinds = []; starts = []; statements = []; keys = []; values = [] }
@@ -108,7 +130,12 @@ with_comma at info = record info { comma_after = Some at }
 abbrev pub with_end : ℕ → ValueInfo → ValueInfo
 with_end end info = record info { span = span info.span.start end; whole = span info.whole.start end }
 
--- the value of this number is changed so
+-- the value of this number is changed so, of a list
+abbrev pub Changes : (ValueInfo → ValueInfo) → ℕ → List ValueInfo → List ValueInfo → Type 0
+Changes change number old new =
+    (front : List ValueInfo) (info : ValueInfo) (back : List ValueInfo) → length front ≡ number → old ≡ front ++ (info ∷ back) → new ≡ front ++ (change info ∷ back)
+
+-- and of what is kept
 abbrev pub ChangesValue : (ValueInfo → ValueInfo) → ℕ → Flat → Flat → Type 0
 ChangesValue change number old new =
     (front : List ValueInfo) (info : ValueInfo) (back : List ValueInfo) → length front ≡ number → old.values ≡ front ++ (info ∷ back)

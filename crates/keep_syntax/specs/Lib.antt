@@ -1,6 +1,7 @@
 pub mod Tree
 pub mod Grammar
 pub mod Numbered
+pub mod Greatest
 pub mod Deep
 pub mod Reading
 pub mod Starts

@@ -7,14 +7,17 @@ mod fault;
 mod gap;
 mod info;
 mod key;
+mod keys;
 pub mod laws;
 mod line;
 mod parts;
 mod starts;
+mod statements;
 mod syntax;
 mod text;
 mod tokens;
 mod value;
+mod values;
 mod whole;
 
 pub use alone::ValueSyntax;

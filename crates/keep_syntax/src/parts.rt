@@ -5,62 +5,26 @@ ghost use Rattle.keep_syntax.specs.Cut.{places_left};
 ghost use Rattle.keep_syntax.specs.Flat as spec;
 
 use crate::fault::ReadFault;
-use crate::info::{KeyPart, Owner, Span, Start, Statement, StatementKind, ValueInfo};
+use crate::info::{KeyPart, Span, Start, Statement, ValueInfo};
+use crate::keys::KeyParts;
 use crate::starts::{Places, Starts};
+use crate::statements::Statements;
+use crate::values::Values;
 use keep_token::Leaf;
 use std::alloc::Global;
-
-/// What a value stands in, its number apart.
-#[derive(Clone, Copy, Debug)]
-pub enum Within {
-    Line,
-    Inline,
-    Item,
-}
-
-/// A value as it is kept: `end` is the end of its keyval too. Numbers stand apart from what tells whether they are there
-/// and of what they are, so that all of that shares one word.
-#[derive(Clone, Copy, Debug)]
-pub struct Stored {
-    leaf: Leaf,
-    within: Within,
-    depth: u16,
-    has_before: bool,
-    has_after: bool,
-    start: usize,
-    end: usize,
-    whole_start: usize,
-    owner: usize,
-    first_key: usize,
-    keys: usize,
-    before: usize,
-    after: usize,
-}
-
-/// A statement as it is kept, with the number of its value apart.
-#[derive(Clone, Copy, Debug)]
-pub struct StoredStatement {
-    kind: StatementKind,
-    has_value: bool,
-    span: Span,
-    line: Span,
-    first_key: usize,
-    keys: usize,
-    value: usize,
-}
 
 /// The tokens but `End`, the statements, the key parts and the values of a text. A token ends where the next begins.
 #[derive(Debug, Drop)]
 pub struct Parts {
     kinds: Vec<Leaf>,
     starts: Starts,
-    statements: Vec<StoredStatement>,
-    keys: Vec<KeyPart>,
-    values: Vec<Stored>,
+    statements: Statements,
+    keys: KeyParts,
+    values: Values,
 }
 
 /// A number that may be missing: whether it is there, and which.
-fn apart(number: Option<usize>) -> (bool, usize)
+pub fn apart(number: Option<usize>) -> (bool, usize)
     ensures { spec.if_there result.0 result.1 ≡ number }
 {
     match number {
@@ -70,32 +34,10 @@ fn apart(number: Option<usize>) -> (bool, usize)
 }
 
 /// The same put together again.
-fn if_there(there: bool, number: usize) -> Option<usize>
+pub fn if_there(there: bool, number: usize) -> Option<usize>
     ensures { result ≡ spec.if_there there number }
 {
     if there { Some(number) } else { None }
-}
-
-/// What a value stands in, and the number of that.
-fn owner_apart(owner: Owner) -> (Within, usize)
-    ensures { spec.owner_of result.0 result.1 ≡ owner }
-{
-    match owner {
-        Owner::Line(number) => (Within::Line, number),
-        Owner::Inline(number) => (Within::Inline, number),
-        Owner::Item(number) => (Within::Item, number),
-    }
-}
-
-/// The same put together again.
-fn owner_of(within: Within, number: usize) -> Owner
-    ensures { result ≡ spec.owner_of within number }
-{
-    match within {
-        Within::Line => Owner::Line(number),
-        Within::Inline => Owner::Inline(number),
-        Within::Item => Owner::Item(number),
-    }
 }
 
 impl Parts {
@@ -106,9 +48,9 @@ impl Parts {
         Parts {
             kinds: Vec::new(alloc),
             starts: Starts::new(alloc),
-            statements: Vec::new(alloc),
-            keys: Vec::new(alloc),
-            values: Vec::new(alloc),
+            statements: Statements::new(alloc),
+            keys: KeyParts::new(alloc),
+            values: Values::new(alloc),
         }
     }
 
@@ -124,7 +66,7 @@ impl Parts {
         requires { number < length (spec.flat self.now).keys }
         ensures { slice_get (spec.flat self.now).keys number ≡ Some result }
     {
-        self.keys[number]
+        self.keys.get(number)
     }
 
     /// How many values are kept.
@@ -139,24 +81,7 @@ impl Parts {
         requires { number < length (spec.flat self.now).values }
         ensures { slice_get (spec.flat self.now).values number ≡ Some result }
     {
-        let value = &self.values[number];
-        ValueInfo {
-            leaf: value.leaf,
-            span: Span {
-                start: value.start,
-                end: value.end,
-            },
-            whole: Span {
-                start: value.whole_start,
-                end: value.end,
-            },
-            owner: owner_of(value.within, value.owner),
-            depth: value.depth,
-            first_key: value.first_key,
-            keys: value.keys,
-            comma_before: if_there(value.has_before, value.before),
-            comma_after: if_there(value.has_after, value.after),
-        }
+        self.values.get(number)
     }
 }
 
@@ -184,16 +109,7 @@ pub fn push_statement(out: &mut Parts, statement: Statement) -> Result<(), ReadF
     ensures ok { OnOk result (spec.flat out.new ≡ spec.with_statement statement (spec.flat out.old)) }
     ensures err { IsOkUnless result Memory }
 {
-    let (has_value, value) = apart(statement.value);
-    out.statements.push(StoredStatement {
-        kind: statement.kind,
-        has_value,
-        span: statement.span,
-        line: statement.line,
-        first_key: statement.first_key,
-        keys: statement.keys,
-        value,
-    })?;
+    out.statements.push(statement)?;
     Ok(())
 }
 
@@ -211,25 +127,20 @@ pub fn push_value(
         ≡ spec.with_value (spec.begun leaf at end keys start.now) (spec.flat out.old)) }
     ensures err { IsOkUnless result Memory }
 {
-    let (within, owner) = owner_apart(start.owner);
-    let (has_before, before) = apart(start.comma);
-    let value = Stored {
+    out.values.push(ValueInfo {
         leaf,
-        within,
+        span: Span { start: at, end },
+        whole: Span {
+            start: start.at,
+            end,
+        },
+        owner: start.owner,
         depth: start.depth,
-        has_before,
-        has_after: false,
-        start: at,
-        end,
-        whole_start: start.at,
-        owner,
         first_key: start.parts,
         keys,
-        before,
-        after: 0,
-    };
-    out.values.push(value)?;
-    Ok(())
+        comma_before: start.comma,
+        comma_after: None,
+    })
 }
 
 /// Tells where the comma behind a value stands.
@@ -237,9 +148,7 @@ pub fn set_comma(out: &mut Parts, number: usize, at: usize)
     requires { number < length (spec.flat out.old).values }
     ensures change { spec.ChangesValue (spec.with_comma at) number (spec.flat out.old) (spec.flat out.new) }
 {
-    let value = &mut out.values[number];
-    value.has_after = true;
-    value.after = at;
+    out.values.set_comma(number, at);
 }
 
 /// Tells where a value ends.
@@ -247,7 +156,7 @@ pub fn set_end(out: &mut Parts, number: usize, end: usize)
     requires { number < length (spec.flat out.old).values }
     ensures change { spec.ChangesValue (spec.with_end end) number (spec.flat out.old) (spec.flat out.new) }
 {
-    out.values[number].end = end;
+    out.values.set_end(number, end);
 }
 
 /// How many tokens are kept.
@@ -269,15 +178,7 @@ pub fn statement_at(out: &Parts, number: usize) -> Statement
     requires { number < length (spec.flat out.now).statements }
     ensures { slice_get (spec.flat out.now).statements number ≡ Some result }
 {
-    let kept = &out.statements[number];
-    Statement {
-        kind: kept.kind,
-        span: kept.span,
-        line: kept.line,
-        first_key: kept.first_key,
-        keys: kept.keys,
-        value: if_there(kept.has_value, kept.value),
-    }
+    out.statements.get(number)
 }
 
 /// The kind of the token of this number.

@@ -7,6 +7,7 @@ use Rattle.keep_rules.specs.Marks.{start, mentions_from, reading_after}
 use Rattle.keep_rules.specs.ReadDocuments.{WasRead}
 use Rattle.keep_rules.proofs.DocumentLemmas.{before, begin_read, said_at, statement_at, read_next, break_within, break_refused, whole_read}
 use Rattle.keep_rules.proofs.KeyPlaceLemmas.{syntax_readable}
+use Rattle.keep_rules.proofs.PartLemmas.{few_keys}
 use Rattle.keep_rules.proofs.document.read_document.Goals as goal
 
 pub loop-number-init : goal.loop-number-init
@@ -46,5 +47,5 @@ pub returns-clause-ok : goal.returns-clause-ok
 returns-clause-ok c = λ (d : Document) (was : WasRead c.args.text.now c.args.syntax.now d).
     let past : length (syntax.statements d) ≤ c.loop-number.number = omega (arith, c.loop-number-test.false, c.statement_count-number-end.ensures, ap length was.is.statements) in
     let few : length (syntax.parts d) < 2 ^ 64 =
-    omega (arith, c.parts-parts.result.now.keys.ok.0, c.parts-parts.result.now.keys.ok.1, c.parts-parts.result.now.keys.small, ap (λ p. length (flat p).keys) c.parts-parts.ensures, ap length was.is.parts) in
+    omega (arith, few_keys c.parts-parts.result.now, ap (λ p. length (flat p).keys) c.parts-parts.ensures, ap length was.is.parts) in
     whole_read d c.loop-number.nodes.items c.loop-number.body c.loop-number.number past few (c.loop-number.invariant.up d was)

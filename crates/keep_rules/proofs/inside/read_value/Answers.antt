@@ -4,6 +4,7 @@ use Rattle.keep_syntax.specs.Flat.{flat}
 use Rattle.keep_rules.specs.declared.keys.Keys.{Keys}
 use Rattle.keep_rules.specs.Keys.{key_texts}
 use Rattle.keep_rules.proofs.PlanLemmas.{item_took_all, some_next_keys, keyed_took_all, keyed_fault_fits, keyed_fault_says}
+use Rattle.keep_rules.proofs.PartLemmas.{few_keys}
 use Rattle.keep_rules.proofs.inside.read_value.Goals as goal
 use Rattle.keep_rules.proofs.inside.read_value.Goals.{In-Inline}
 
@@ -17,9 +18,8 @@ own_keys c = record { text = c.args.text; parts = c.args.parts; first = c.args.v
 pub fault_from-requires : goal.fault_from-requires
 unfolding own_keys
 fault_from-requires c =
-    let many : length c.args.parts.now.keys.items ≤ 2 ^ 64 - 1 = omega (arith, c.args.parts.now.keys.ok.0, c.args.parts.now.keys.ok.1, c.args.parts.now.keys.small) in
     keyed_fault_fits c.args.text.now (flat c.args.parts.now).keys _ c.args.ids.now c.args.base c.args.value (key_texts (own_keys (goal.at.fault_from-requires c).In-Inline)) c.in-Inline.table _ (2 ^ 64 - 1) c.in-Err.fault
-    c.in-Inline.is refl refl c.requires.next c.requires.world many c.in-Err.ensures.define
+    c.in-Inline.is refl refl c.requires.next c.requires.world (few_keys c.args.parts.now) c.in-Err.ensures.define
 
 pub returns-in_ok-give_item-in-Item-clause-took : goal.returns-in_ok-give_item-in-Item-clause-took
 returns-in_ok-give_item-in-Item-clause-took c =

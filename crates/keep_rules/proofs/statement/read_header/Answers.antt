@@ -2,6 +2,7 @@
 use Rattle.std.proofs.Common.{◌≤◌, ◌-◌, ◌^◌, length, refl, arith}
 use Rattle.keep_syntax.specs.Flat.{flat}
 use Rattle.keep_rules.proofs.HeaderLemmas.{statement_keys, head_is_read, head_fault_fits, head_breaks}
+use Rattle.keep_rules.proofs.PartLemmas.{few_keys}
 use Rattle.keep_rules.proofs.statement.read_header.Goals as goal
 
 pub read_head-requires : goal.read_head-requires
@@ -14,9 +15,8 @@ read_head-requires c = record {
 
 pub fault_from-requires : goal.fault_from-requires
 fault_from-requires c =
-    let many : length c.args.parts.now.keys.items ≤ 2 ^ 64 - 1 = omega (arith, c.args.parts.now.keys.ok.0, c.args.parts.now.keys.ok.1, c.args.parts.now.keys.small) in
     head_fault_fits c.args.text.now (flat c.args.parts.now).keys c.args.statement (record { text = c.args.text; parts = c.args.parts; first = c.args.statement.first_key; count = c.args.statement.keys }) c.args.nodes.now.items (2 ^ 64 - 1)
-    c.in-Err.fault refl (statement_keys c.args.text.now (flat c.args.parts.now).keys (flat c.args.parts.now).values c.args.statement c.requires.says.0 c.requires.readable c.requires.says.1) c.requires.reading many c.in-Err.ensures.define
+    c.in-Err.fault refl (statement_keys c.args.text.now (flat c.args.parts.now).keys (flat c.args.parts.now).values c.args.statement c.requires.says.0 c.requires.readable c.requires.says.1) c.requires.reading (few_keys c.args.parts.now) c.in-Err.ensures.define
 
 pub returns-in-Ok-clause-read : goal.returns-in-Ok-clause-read
 returns-in-Ok-clause-read c =

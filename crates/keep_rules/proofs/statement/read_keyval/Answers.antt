@@ -8,6 +8,7 @@ use Rattle.keep_rules.specs.Stops.{FaultSays}
 use Rattle.keep_rules.specs.Stored.{twigs}
 use Rattle.keep_rules.proofs.HeaderLemmas.{statement_keys}
 use Rattle.keep_rules.proofs.KeyvalLemmas.{keys_fault_fits, keys_break_as_said, some_inside_next, some_top_world, keyval_is_read, inside_breaks_as_said, two_ids}
+use Rattle.keep_rules.proofs.PartLemmas.{few_keys}
 use Rattle.keep_rules.proofs.statement.read_keyval.Goals as goal
 
 pub give_value-requires-clause-keys : goal.give_value-requires-clause-keys
@@ -15,9 +16,8 @@ give_value-requires-clause-keys c = statement_keys c.args.text.now (flat c.args.
 
 pub fault_from-requires : goal.fault_from-requires
 fault_from-requires c =
-    let many : length c.args.parts.now.keys.items ≤ 2 ^ 64 - 1 = omega (arith, c.args.parts.now.keys.ok.0, c.args.parts.now.keys.ok.1, c.args.parts.now.keys.small) in
     keys_fault_fits c.args.text.now (flat c.args.parts.now) c.args.statement c.args.nodes.now.items c.args.body c.args.number _ refl c.requires.valued (2 ^ 64 - 1) c.in-Err.fault
-    (statement_keys c.args.text.now (flat c.args.parts.now).keys (flat c.args.parts.now).values c.args.statement c.requires.says.0 c.requires.readable c.requires.says.1) c.requires.reading many c.in-Err.ensures.define
+    (statement_keys c.args.text.now (flat c.args.parts.now).keys (flat c.args.parts.now).values c.args.statement c.requires.says.0 c.requires.readable c.requires.says.1) c.requires.reading (few_keys c.args.parts.now) c.in-Err.ensures.define
 
 pub returns-in-Err-clause-define : goal.returns-in-Err-clause-define
 returns-in-Err-clause-define c =

@@ -3,7 +3,7 @@ use Rattle.std.proofs.lemmas.Bool.Decides.{nat_tests}
 use Rattle.std.proofs.lemmas.Result.{err_from_is_err_and}
 use Rattle.keep_syntax.specs.Reading.{close_byte}
 use Rattle.keep_syntax.specs.Flat.{flat, value_taken}
-use Rattle.keep_syntax.proofs.ValueCodeLaws.{same_read, value_array, value_inline, value_scalar, bracket_number, bracket_is}
+use Rattle.keep_syntax.proofs.ValueCodeLaws.{same_read, value_array, value_inline, value_scalar, bracket_fails, bracket_number, bracket_is}
 use Rattle.keep_syntax.proofs.NestingLaws.{item_fails_name, item_fails_value, name_keys, name_values, item_number, item_is, so_far_none, so_far_more, so_far_last, so_far_done, so_far_fails, comma_some, comma_none}
 use Rattle.keep_syntax.proofs.value.+nesting.Goals as goal
 
@@ -15,6 +15,14 @@ bracket-set_end-requires t c =
     rw c.value_count-number.ensures
     (bracket_number c.args.text.now c.args.brackets c.args.limits.profile (c.args.limits.depth - 1) c.args.at c.args.keys c.in_ok-open.open c.in_ok-first.first c.in_ok-close.close c.in_ok-end.end c.args.start.now _
     (flat c.args.out.now) (flat c.sign.new.out) (flat c.push_value.new.out) (flat c.gap_in.new.out) (flat c.entries.new.out) (flat c.sign-2.new.out) sg told c.in_ok-first.ensures c.in_ok-close.ensures sg2)
+
+pub bracket-returns-in_err-close : goal.bracket-returns-in_err-close
+bracket-returns-in_err-close t c =
+    let p = err_from_is_err_and c.from_residual-in_err-close.result c.from_residual-in_err-close.ensures.1 in
+    let k : c.args.limits.depth ≡ suc (c.args.limits.depth - 1) = omega arith in
+    let sg = rw c.open_leaf.ensures at c.in_ok-open.ensures in
+    rw (p.1, p.2, k) (bracket_fails c.args.limits.profile c.args.brackets c.args.text.now c.args.at (c.args.limits.depth - 1) c.in_ok-open.open c.in_ok-first.first
+    (flat c.push_value.new.out) (flat c.gap_in.new.out) c.in_err-close.field-0.0 sg.end_is c.in_ok-first.ensures c.in_err-close.ensures)
 
 pub bracket-returns : goal.bracket-returns
 bracket-returns t c =
