@@ -5,93 +5,112 @@ fn checks(alloc: Global, text: &str, told: &str) -> Result<(), Fail> {
     writes(alloc, &Command::Check, text.as_bytes(), told)
 }
 
-#[test]
-fn the_empty_document_has_one_token_and_one_node(rt: HostRuntime) -> Result<(), Fail> {
-    checks(rt.alloc(), "", "ok tokens=1 nodes=1\n")
-}
-
-#[test]
-fn a_comment_is_one_token_and_no_node(rt: HostRuntime) -> Result<(), Fail> {
-    checks(rt.alloc(), "# c", "ok tokens=2 nodes=1\n")?;
-    checks(rt.alloc(), " \t# c\r\n", "ok tokens=4 nodes=1\n")
-}
-
-#[test]
-fn gaps_count_as_tokens(rt: HostRuntime) -> Result<(), Fail> {
-    checks(rt.alloc(), "a=1", "ok tokens=4 nodes=2\n")?;
-    checks(rt.alloc(), "a = 1 # x\n", "ok tokens=9 nodes=2\n")?;
-    checks(rt.alloc(), "a = 1\nb = true\n", "ok tokens=13 nodes=3\n")
-}
-
-#[test]
-fn a_byte_order_mark_is_one_token(rt: HostRuntime) -> Result<(), Fail> {
-    checks(rt.alloc(), "\u{FEFF}", "ok tokens=2 nodes=1\n")?;
-    checks(rt.alloc(), "\u{FEFF}a=1\r\n", "ok tokens=6 nodes=2\n")
-}
-
-#[test]
-fn each_key_of_a_dotted_key_is_a_node(rt: HostRuntime) -> Result<(), Fail> {
-    checks(rt.alloc(), "1.2 = 3", "ok tokens=8 nodes=3\n")?;
-    checks(rt.alloc(), "a . 'b' . \"c\" = 1", "ok tokens=14 nodes=4\n")
-}
-
-#[test]
-fn an_empty_quoted_key_is_a_node(rt: HostRuntime) -> Result<(), Fail> {
-    checks(rt.alloc(), "\"\" = ''", "ok tokens=6 nodes=2\n")
-}
-
-#[test]
-fn each_item_of_an_array_is_a_node(rt: HostRuntime) -> Result<(), Fail> {
-    checks(rt.alloc(), "a = [1, [2, 'x'],]", "ok tokens=17 nodes=6\n")
-}
-
-#[test]
-fn each_key_of_an_inline_table_is_a_node(rt: HostRuntime) -> Result<(), Fail> {
-    checks(
-        rt.alloc(),
+// each row: what it shows, the document, the counts
+const CHECKS: [(&str, &str, &str); 20] = [
+    (
+        "the empty document has one token and one node",
+        "",
+        "ok tokens=1 nodes=1\n",
+    ),
+    (
+        "a comment is one token and no node",
+        "# c",
+        "ok tokens=2 nodes=1\n",
+    ),
+    (
+        "a comment is one token and no node",
+        " \t# c\r\n",
+        "ok tokens=4 nodes=1\n",
+    ),
+    ("gaps count as tokens", "a=1", "ok tokens=4 nodes=2\n"),
+    (
+        "gaps count as tokens",
+        "a = 1 # x\n",
+        "ok tokens=9 nodes=2\n",
+    ),
+    (
+        "gaps count as tokens",
+        "a = 1\nb = true\n",
+        "ok tokens=13 nodes=3\n",
+    ),
+    (
+        "a byte order mark is one token",
+        "\u{FEFF}",
+        "ok tokens=2 nodes=1\n",
+    ),
+    (
+        "a byte order mark is one token",
+        "\u{FEFF}a=1\r\n",
+        "ok tokens=6 nodes=2\n",
+    ),
+    (
+        "each key of a dotted key is a node",
+        "1.2 = 3",
+        "ok tokens=8 nodes=3\n",
+    ),
+    (
+        "each key of a dotted key is a node",
+        "a . 'b' . \"c\" = 1",
+        "ok tokens=14 nodes=4\n",
+    ),
+    (
+        "an empty quoted key is a node",
+        "\"\" = ''",
+        "ok tokens=6 nodes=2\n",
+    ),
+    (
+        "each item of an array is a node",
+        "a = [1, [2, 'x'],]",
+        "ok tokens=17 nodes=6\n",
+    ),
+    (
+        "each key of an inline table is a node",
         "a = {b.c = 1, b.d = {}}",
         "ok tokens=24 nodes=5\n",
-    )
-}
-
-#[test]
-fn a_table_is_one_node_however_often_it_is_passed(rt: HostRuntime) -> Result<(), Fail> {
-    checks(rt.alloc(), "[a]\n[b]\n[a.c]\n", "ok tokens=15 nodes=4\n")?;
-    checks(rt.alloc(), "[x.y.z.w]\n[x]\n", "ok tokens=15 nodes=5\n")?;
-    checks(
-        rt.alloc(),
+    ),
+    (
+        "a table is one node however often it is passed",
+        "[a]\n[b]\n[a.c]\n",
+        "ok tokens=15 nodes=4\n",
+    ),
+    (
+        "a table is one node however often it is passed",
+        "[x.y.z.w]\n[x]\n",
+        "ok tokens=15 nodes=5\n",
+    ),
+    (
+        "a table is one node however often it is passed",
         "[a.b.c]\n[a]\nb.x = 1\n",
         "ok tokens=21 nodes=5\n",
-    )
-}
-
-#[test]
-fn arrays_of_tables_and_their_elements_are_nodes(rt: HostRuntime) -> Result<(), Fail> {
-    let text = "[[a]]\n[[a.b]]\n[[a]]\n[[a.b]]\n";
-    checks(rt.alloc(), text, "ok tokens=21 nodes=8\n")
-}
-
-#[test]
-fn dotted_keys_may_be_added_to_by_a_header(rt: HostRuntime) -> Result<(), Fail> {
-    checks(
-        rt.alloc(),
+    ),
+    (
+        "arrays of tables and their elements are nodes",
+        "[[a]]\n[[a.b]]\n[[a]]\n[[a.b]]\n",
+        "ok tokens=21 nodes=8\n",
+    ),
+    (
+        "dotted keys may be added to by a header",
         "[f]\np.c = 1\n[f.p.q]\n",
         "ok tokens=21 nodes=5\n",
-    )
-}
-
-#[test]
-fn the_least_and_the_greatest_integer_are_accepted(rt: HostRuntime) -> Result<(), Fail> {
-    checks(
-        rt.alloc(),
+    ),
+    (
+        "the least and the greatest integer are accepted",
         "a = -9223372036854775808",
         "ok tokens=6 nodes=2\n",
-    )?;
-    checks(
-        rt.alloc(),
+    ),
+    (
+        "the least and the greatest integer are accepted",
         "a = 0x7fffffffffffffff",
         "ok tokens=6 nodes=2\n",
-    )
+    ),
+];
+
+#[test]
+fn tokens_and_nodes_are_counted(rt: HostRuntime) -> Result<(), Fail> {
+    for (_, text, told) in CHECKS {
+        checks(rt.alloc(), text, told)?;
+    }
+    Ok(())
 }
 
 // A line with so many arrays in one another.

@@ -11,116 +11,208 @@ fn gets_not(alloc: Global, path: &str, text: &str, told: &str) -> Result<(), Fai
     stops(alloc, &command, text.as_bytes(), told)
 }
 
-#[test]
-fn get_leaves_gaps_and_comments_out(rt: HostRuntime) -> Result<(), Fail> {
-    gets(rt.alloc(), "a", "a = 1 # x\n", "1\n")
-}
-
-#[test]
-fn get_keeps_how_an_integer_is_written(rt: HostRuntime) -> Result<(), Fail> {
-    gets(rt.alloc(), "a", "a = 0xFF\n", "0xFF\n")?;
-    gets(rt.alloc(), "a", "a = +1_000\n", "+1_000\n")
-}
-
-#[test]
-fn get_keeps_the_quotation_marks_of_a_string(rt: HostRuntime) -> Result<(), Fail> {
-    gets(rt.alloc(), "a", "a = 'lit'\n", "'lit'\n")?;
-    gets(rt.alloc(), "a", "a = \"\\u00e9\"\n", "\"\\u00e9\"\n")?;
-    gets(
-        rt.alloc(),
+// each row: what it shows, the path, the document, the answer
+const GETS: [(&str, &str, &str, &str); 19] = [
+    (
+        "get leaves gaps and comments out",
+        "a",
+        "a = 1 # x\n",
+        "1\n",
+    ),
+    (
+        "get keeps how an integer is written",
+        "a",
+        "a = 0xFF\n",
+        "0xFF\n",
+    ),
+    (
+        "get keeps how an integer is written",
+        "a",
+        "a = +1_000\n",
+        "+1_000\n",
+    ),
+    (
+        "get keeps the quotation marks of a string",
+        "a",
+        "a = 'lit'\n",
+        "'lit'\n",
+    ),
+    (
+        "get keeps the quotation marks of a string",
+        "a",
+        "a = \"\\u00e9\"\n",
+        "\"\\u00e9\"\n",
+    ),
+    (
+        "get keeps the quotation marks of a string",
         "a",
         "a = \"\"\"\nx\"\"\"\"\"\n",
         "\"\"\"\nx\"\"\"\"\"\n",
-    )
-}
-
-#[test]
-fn get_keeps_the_comments_and_newlines_in_an_array(rt: HostRuntime) -> Result<(), Fail> {
-    let text = "a = [ # one\n  1,\r\n 2, # two\n] # three\n";
-    gets(rt.alloc(), "a", text, "[ # one\n  1,\r\n 2, # two\n]\n")
-}
-
-#[test]
-fn get_keeps_the_gaps_of_an_inline_table(rt: HostRuntime) -> Result<(), Fail> {
-    gets(
-        rt.alloc(),
+    ),
+    (
+        "get keeps the comments and newlines in an array",
+        "a",
+        "a = [ # one\n  1,\r\n 2, # two\n] # three\n",
+        "[ # one\n  1,\r\n 2, # two\n]\n",
+    ),
+    (
+        "get keeps the gaps of an inline table",
         "t",
         "t = { x = 1 ,y=2} # c\n",
         "{ x = 1 ,y=2}\n",
-    )
-}
-
-#[test]
-fn get_of_a_date_and_time_with_a_space_has_both(rt: HostRuntime) -> Result<(), Fail> {
-    gets(
-        rt.alloc(),
+    ),
+    (
+        "get of a date and time with a space has both",
         "d",
         "d = 1979-05-27 07:32:00 # c\n",
         "1979-05-27 07:32:00\n",
-    )
-}
+    ),
+    (
+        "get of a date before a comment is the date alone",
+        "d",
+        "d = 1979-05-27 # c\n",
+        "1979-05-27\n",
+    ),
+    (
+        "get of an item by its index",
+        "a[1]",
+        "a = [1, [2, 'x'],]",
+        "[2, 'x']\n",
+    ),
+    (
+        "get of an item by its index",
+        "a[1][1]",
+        "a = [1, [2, 'x'],]",
+        "'x'\n",
+    ),
+    (
+        "get of a key in an inline table",
+        "t.p.q",
+        "t = {p.q = 1, z = {}}",
+        "1\n",
+    ),
+    (
+        "get of a key in an inline table",
+        "t.z",
+        "t = {p.q = 1, z = {}}",
+        "{}\n",
+    ),
+    (
+        "get of a key of an element",
+        "a[0].n",
+        "[[a]]\nn = 1\n[[a]]\nn = 2\n",
+        "1\n",
+    ),
+    (
+        "get of a key of an element",
+        "a[1].n",
+        "[[a]]\nn = 1\n[[a]]\nn = 2\n",
+        "2\n",
+    ),
+    (
+        "get of a key under a header",
+        "t.u.k",
+        "k = 1\n[t.u]\nk = 2\n",
+        "2\n",
+    ),
+    (
+        "get by a quoted key finds a bare one and the other way round",
+        "\"a b\".c",
+        "'a b'.\"c\" = 1\n",
+        "1\n",
+    ),
+    (
+        "get by a quoted key finds a bare one and the other way round",
+        "\"\\u0061\"",
+        "a = 1\n",
+        "1\n",
+    ),
+];
 
 #[test]
-fn get_of_a_date_before_a_comment_is_the_date_alone(rt: HostRuntime) -> Result<(), Fail> {
-    gets(rt.alloc(), "d", "d = 1979-05-27 # c\n", "1979-05-27\n")
+fn values_are_got_as_they_are_written(rt: HostRuntime) -> Result<(), Fail> {
+    for (_, path, text, told) in GETS {
+        gets(rt.alloc(), path, text, told)?;
+    }
+    Ok(())
 }
 
-#[test]
-fn get_of_an_item_by_its_index(rt: HostRuntime) -> Result<(), Fail> {
-    gets(rt.alloc(), "a[1]", "a = [1, [2, 'x'],]", "[2, 'x']\n")?;
-    gets(rt.alloc(), "a[1][1]", "a = [1, [2, 'x'],]", "'x'\n")?;
-    gets_not(rt.alloc(), "a[2]", "a = [1, [2, 'x'],]", "edit 0: NotFound")
-}
+// each row: what it shows, the path, the document, the fault
+const GETS_NOT: [(&str, &str, &str, &str); 13] = [
+    (
+        "get of an item by its index",
+        "a[2]",
+        "a = [1, [2, 'x'],]",
+        "edit 0: NotFound",
+    ),
+    (
+        "get of a key of an element",
+        "a.n",
+        "[[a]]\nn = 1\n",
+        "edit 0: NotFound",
+    ),
+    (
+        "get of no node is not found",
+        "c",
+        "a = 1\nb = true\n",
+        "edit 0: NotFound",
+    ),
+    (
+        "get of no node is not found",
+        "a.b",
+        "a = 1\n",
+        "edit 0: NotFound",
+    ),
+    (
+        "get of no node is not found",
+        "a[0]",
+        "a = 1\n",
+        "edit 0: NotFound",
+    ),
+    ("get of no node is not found", "a", "", "edit 0: NotFound"),
+    (
+        "get of a table is not value",
+        "t",
+        "[t]\nk = 1\n",
+        "edit 0: NotValue",
+    ),
+    (
+        "get of a table is not value",
+        "t",
+        "[t.u]\n",
+        "edit 0: NotValue",
+    ),
+    (
+        "get of a table is not value",
+        "t",
+        "t.u = 1\n",
+        "edit 0: NotValue",
+    ),
+    (
+        "get of an array of tables or its element is not value",
+        "a",
+        "[[a]]\n",
+        "edit 0: NotValue",
+    ),
+    (
+        "get of an array of tables or its element is not value",
+        "a[0]",
+        "[[a]]\n",
+        "edit 0: NotValue",
+    ),
+    (
+        "get of the root is not value",
+        "",
+        "a = 1\n",
+        "edit 0: NotValue",
+    ),
+    ("get of the root is not value", "", "", "edit 0: NotValue"),
+];
 
 #[test]
-fn get_of_a_key_in_an_inline_table(rt: HostRuntime) -> Result<(), Fail> {
-    gets(rt.alloc(), "t.p.q", "t = {p.q = 1, z = {}}", "1\n")?;
-    gets(rt.alloc(), "t.z", "t = {p.q = 1, z = {}}", "{}\n")
-}
-
-#[test]
-fn get_of_a_key_of_an_element(rt: HostRuntime) -> Result<(), Fail> {
-    gets(rt.alloc(), "a[0].n", "[[a]]\nn = 1\n[[a]]\nn = 2\n", "1\n")?;
-    gets(rt.alloc(), "a[1].n", "[[a]]\nn = 1\n[[a]]\nn = 2\n", "2\n")?;
-    gets_not(rt.alloc(), "a.n", "[[a]]\nn = 1\n", "edit 0: NotFound")
-}
-
-#[test]
-fn get_of_a_key_under_a_header(rt: HostRuntime) -> Result<(), Fail> {
-    gets(rt.alloc(), "t.u.k", "k = 1\n[t.u]\nk = 2\n", "2\n")
-}
-
-#[test]
-fn get_by_a_quoted_key_finds_a_bare_one_and_the_other_way_round(
-    rt: HostRuntime,
-) -> Result<(), Fail> {
-    gets(rt.alloc(), "\"a b\".c", "'a b'.\"c\" = 1\n", "1\n")?;
-    gets(rt.alloc(), "\"\\u0061\"", "a = 1\n", "1\n")
-}
-
-#[test]
-fn get_of_no_node_is_not_found(rt: HostRuntime) -> Result<(), Fail> {
-    gets_not(rt.alloc(), "c", "a = 1\nb = true\n", "edit 0: NotFound")?;
-    gets_not(rt.alloc(), "a.b", "a = 1\n", "edit 0: NotFound")?;
-    gets_not(rt.alloc(), "a[0]", "a = 1\n", "edit 0: NotFound")?;
-    gets_not(rt.alloc(), "a", "", "edit 0: NotFound")
-}
-
-#[test]
-fn get_of_a_table_is_not_value(rt: HostRuntime) -> Result<(), Fail> {
-    gets_not(rt.alloc(), "t", "[t]\nk = 1\n", "edit 0: NotValue")?;
-    gets_not(rt.alloc(), "t", "[t.u]\n", "edit 0: NotValue")?;
-    gets_not(rt.alloc(), "t", "t.u = 1\n", "edit 0: NotValue")
-}
-
-#[test]
-fn get_of_an_array_of_tables_or_its_element_is_not_value(rt: HostRuntime) -> Result<(), Fail> {
-    gets_not(rt.alloc(), "a", "[[a]]\n", "edit 0: NotValue")?;
-    gets_not(rt.alloc(), "a[0]", "[[a]]\n", "edit 0: NotValue")
-}
-
-#[test]
-fn get_of_the_root_is_not_value(rt: HostRuntime) -> Result<(), Fail> {
-    gets_not(rt.alloc(), "", "a = 1\n", "edit 0: NotValue")?;
-    gets_not(rt.alloc(), "", "", "edit 0: NotValue")
+fn what_has_no_value_is_not_got(rt: HostRuntime) -> Result<(), Fail> {
+    for (_, path, text, told) in GETS_NOT {
+        gets_not(rt.alloc(), path, text, told)?;
+    }
+    Ok(())
 }

@@ -11,216 +11,238 @@ fn sets_not(alloc: Global, path: &str, value: &str, text: &str, told: &str) -> R
     stops(alloc, &command, text.as_bytes(), told)
 }
 
-#[test]
-fn set_keeps_the_comment_behind_the_value(rt: HostRuntime) -> Result<(), Fail> {
-    sets(rt.alloc(), "a", "2", "a = 1 # x\n", "a = 2 # x\n")?;
-    sets(rt.alloc(), "a", "2", "a = 1 # x", "a = 2 # x")
-}
-
-#[test]
-fn set_keeps_the_other_lines_and_their_order(rt: HostRuntime) -> Result<(), Fail> {
-    let text = "# top\nb = 1\n\n  a = 1\t# x\n[t]\n";
-    sets(
-        rt.alloc(),
+// each row: what it shows, the path, the value, the document, the new one
+const SETS: [(&str, &str, &str, &str, &str); 23] = [
+    (
+        "set keeps the comment behind the value",
+        "a",
+        "2",
+        "a = 1 # x\n",
+        "a = 2 # x\n",
+    ),
+    (
+        "set keeps the comment behind the value",
+        "a",
+        "2",
+        "a = 1 # x",
+        "a = 2 # x",
+    ),
+    (
+        "set keeps the other lines and their order",
         "a",
         "-7",
-        text,
+        "# top\nb = 1\n\n  a = 1\t# x\n[t]\n",
         "# top\nb = 1\n\n  a = -7\t# x\n[t]\n",
-    )
-}
-
-#[test]
-fn set_keeps_the_byte_order_mark_and_carriage_returns(rt: HostRuntime) -> Result<(), Fail> {
-    sets(
-        rt.alloc(),
+    ),
+    (
+        "set keeps the byte order mark and carriage returns",
         "b",
         "2",
         "\u{FEFF}a = 1\r\nb = true\r\n",
         "\u{FEFF}a = 1\r\nb = 2\r\n",
-    )
-}
-
-#[test]
-fn set_of_a_whole_array(rt: HostRuntime) -> Result<(), Fail> {
-    sets(
-        rt.alloc(),
+    ),
+    (
+        "set of a whole array",
         "a",
         "[]",
         "a = [1, # c\n 2] # d\n",
         "a = [] # d\n",
-    )?;
-    sets(
-        rt.alloc(),
+    ),
+    (
+        "set of a whole array",
         "a",
         "[1, # c\n 2]",
         "a = 1 # d\n",
         "a = [1, # c\n 2] # d\n",
-    )
-}
-
-#[test]
-fn set_of_an_item_keeps_the_other_items_and_gaps(rt: HostRuntime) -> Result<(), Fail> {
-    sets(
-        rt.alloc(),
+    ),
+    (
+        "set of an item keeps the other items and gaps",
         "a[1]",
         "'x'",
         "a = [ 1, 2 ,3, ]",
         "a = [ 1, 'x' ,3, ]",
-    )?;
-    sets(
-        rt.alloc(),
+    ),
+    (
+        "set of an item keeps the other items and gaps",
         "a[0]",
         "[3]",
         "a = [1, # one\n 2]\n",
         "a = [[3], # one\n 2]\n",
-    )?;
-    sets(rt.alloc(), "a[1][0]", "9", "a = [1, [2]]", "a = [1, [9]]")
-}
-
-#[test]
-fn set_of_a_whole_inline_table(rt: HostRuntime) -> Result<(), Fail> {
-    sets(
-        rt.alloc(),
+    ),
+    (
+        "set of an item keeps the other items and gaps",
+        "a[1][0]",
+        "9",
+        "a = [1, [2]]",
+        "a = [1, [9]]",
+    ),
+    (
+        "set of a whole inline table",
         "t",
         "{y.z = 2}",
         "t = {x = 1} # c\n",
         "t = {y.z = 2} # c\n",
-    )
-}
-
-#[test]
-fn set_of_a_key_in_an_inline_table(rt: HostRuntime) -> Result<(), Fail> {
-    sets(rt.alloc(), "t.x", "2", "t = { x = 1 }\n", "t = { x = 2 }\n")?;
-    sets(
-        rt.alloc(),
+    ),
+    (
+        "set of a key in an inline table",
+        "t.x",
+        "2",
+        "t = { x = 1 }\n",
+        "t = { x = 2 }\n",
+    ),
+    (
+        "set of a key in an inline table",
         "t.p.q",
         "[1]",
         "t = {p.q = 1, z = 2}",
         "t = {p.q = [1], z = 2}",
-    )
-}
-
-#[test]
-fn set_of_a_key_in_an_inline_table_in_an_array(rt: HostRuntime) -> Result<(), Fail> {
-    sets(
-        rt.alloc(),
+    ),
+    (
+        "set of a key in an inline table in an array",
         "a[1].b",
         "true",
         "a = [1, {b = 2}]",
         "a = [1, {b = true}]",
-    )
-}
-
-#[test]
-fn set_of_a_key_of_an_element(rt: HostRuntime) -> Result<(), Fail> {
-    let text = "[[a]]\nn = 1\n[[a]]\nn = 2\n";
-    sets(
-        rt.alloc(),
+    ),
+    (
+        "set of a key of an element",
         "a[0].n",
         "3",
-        text,
+        "[[a]]\nn = 1\n[[a]]\nn = 2\n",
         "[[a]]\nn = 3\n[[a]]\nn = 2\n",
-    )?;
-    sets(
-        rt.alloc(),
+    ),
+    (
+        "set of a key of an element",
         "a[1].n",
         "3",
-        text,
+        "[[a]]\nn = 1\n[[a]]\nn = 2\n",
         "[[a]]\nn = 1\n[[a]]\nn = 3\n",
-    )
-}
-
-#[test]
-fn set_of_a_key_under_a_header(rt: HostRuntime) -> Result<(), Fail> {
-    sets(
-        rt.alloc(),
+    ),
+    (
+        "set of a key under a header",
         "t.k",
         "3",
         "k = 1\n[t]\nk = 2\n",
         "k = 1\n[t]\nk = 3\n",
-    )
-}
-
-#[test]
-fn set_of_a_dotted_key(rt: HostRuntime) -> Result<(), Fail> {
-    sets(
-        rt.alloc(),
+    ),
+    (
+        "set of a dotted key",
         "p.q",
         "2",
         "p . 'q' = 1 # c\np.r = 3\n",
         "p . 'q' = 2 # c\np.r = 3\n",
-    )
-}
-
-#[test]
-fn set_by_a_quoted_path_keeps_how_the_key_is_written(rt: HostRuntime) -> Result<(), Fail> {
-    sets(rt.alloc(), "\"a b\"", "2", "'a b' = 1\n", "'a b' = 2\n")?;
-    sets(
-        rt.alloc(),
+    ),
+    (
+        "set by a quoted path keeps how the key is written",
+        "\"a b\"",
+        "2",
+        "'a b' = 1\n",
+        "'a b' = 2\n",
+    ),
+    (
+        "set by a quoted path keeps how the key is written",
         "'a'",
         "2",
         "\"\\u0061\" = 1\n",
         "\"\\u0061\" = 2\n",
-    )
-}
-
-#[test]
-fn set_of_and_to_a_string_of_several_lines(rt: HostRuntime) -> Result<(), Fail> {
-    sets(
-        rt.alloc(),
+    ),
+    (
+        "set of and to a string of several lines",
         "a",
         "1",
         "a = \"\"\"\nx\n\"\"\"\"\" # c\n",
         "a = 1 # c\n",
-    )?;
-    sets(
-        rt.alloc(),
+    ),
+    (
+        "set of and to a string of several lines",
         "a",
         "'''\nx'''",
         "a = 1 # c\n",
         "a = '''\nx''' # c\n",
-    )
-}
-
-#[test]
-fn set_to_the_same_value_changes_nothing(rt: HostRuntime) -> Result<(), Fail> {
-    sets(rt.alloc(), "a", "0x1", "a = 0x1 # c\n", "a = 0x1 # c\n")
-}
-
-#[test]
-fn set_of_a_date_and_time_takes_the_space_too(rt: HostRuntime) -> Result<(), Fail> {
-    sets(
-        rt.alloc(),
+    ),
+    (
+        "set to the same value changes nothing",
+        "a",
+        "0x1",
+        "a = 0x1 # c\n",
+        "a = 0x1 # c\n",
+    ),
+    (
+        "set of a date and time takes the space too",
         "d",
         "07:32:00",
         "d = 1979-05-27 07:32:00 # c\n",
         "d = 07:32:00 # c\n",
-    )
-}
+    ),
+];
 
 #[test]
-fn set_of_no_node_is_not_found(rt: HostRuntime) -> Result<(), Fail> {
-    sets_not(rt.alloc(), "q", "1", "a = 1\n", "edit 0: NotFound")?;
-    sets_not(rt.alloc(), "a[1]", "1", "a = [1]\n", "edit 0: NotFound")?;
-    sets_not(
-        rt.alloc(),
+fn values_are_set_and_all_else_is_kept(rt: HostRuntime) -> Result<(), Fail> {
+    for (_, path, value, text, told) in SETS {
+        sets(rt.alloc(), path, value, text, told)?;
+    }
+    Ok(())
+}
+
+// each row: what it shows, the path, the value, the document, the fault
+const SETS_NOT: [(&str, &str, &str, &str, &str); 7] = [
+    (
+        "set of no node is not found",
+        "q",
+        "1",
+        "a = 1\n",
+        "edit 0: NotFound",
+    ),
+    (
+        "set of no node is not found",
+        "a[1]",
+        "1",
+        "a = [1]\n",
+        "edit 0: NotFound",
+    ),
+    (
+        "set of no node is not found",
         "a[1].n",
         "1",
         "[[a]]\nn = 1\n",
         "edit 0: NotFound",
-    )
-}
+    ),
+    (
+        "set of a table is not value",
+        "t",
+        "1",
+        "[t]\n",
+        "edit 0: NotValue",
+    ),
+    (
+        "set of a table is not value",
+        "p",
+        "1",
+        "p.q = 1\n",
+        "edit 0: NotValue",
+    ),
+    (
+        "set of a table is not value",
+        "a[0]",
+        "1",
+        "[[a]]\n",
+        "edit 0: NotValue",
+    ),
+    (
+        "set of the root is not value",
+        "",
+        "{}",
+        "a = 1\n",
+        "edit 0: NotValue",
+    ),
+];
 
 #[test]
-fn set_of_a_table_is_not_value(rt: HostRuntime) -> Result<(), Fail> {
-    sets_not(rt.alloc(), "t", "1", "[t]\n", "edit 0: NotValue")?;
-    sets_not(rt.alloc(), "p", "1", "p.q = 1\n", "edit 0: NotValue")?;
-    sets_not(rt.alloc(), "a[0]", "1", "[[a]]\n", "edit 0: NotValue")
-}
-
-#[test]
-fn set_of_the_root_is_not_value(rt: HostRuntime) -> Result<(), Fail> {
-    sets_not(rt.alloc(), "", "{}", "a = 1\n", "edit 0: NotValue")
+fn refused_edits_are_told(rt: HostRuntime) -> Result<(), Fail> {
+    for (_, path, value, text, told) in SETS_NOT {
+        sets_not(rt.alloc(), path, value, text, told)?;
+    }
+    Ok(())
 }
 
 #[test]

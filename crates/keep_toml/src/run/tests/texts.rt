@@ -11,76 +11,172 @@ fn means_not(alloc: Global, path: &str, text: &str, told: &str) -> Result<(), Fa
     stops(alloc, &command, text.as_bytes(), told)
 }
 
-#[test]
-fn text_has_no_quotation_marks_and_no_newline_added(rt: HostRuntime) -> Result<(), Fail> {
-    means(rt.alloc(), "a", "a = \"x\" # c\n", "x")
-}
+// each row: what it shows, the path, the document, the text
+const TEXTS: [(&str, &str, &str, &str); 19] = [
+    (
+        "text has no quotation marks and no newline added",
+        "a",
+        "a = \"x\" # c\n",
+        "x",
+    ),
+    (
+        "quotation marks before the closing ones are of the text",
+        "a",
+        "a = \"\"\"x\"\"\"\"\"\n",
+        "x\"\"",
+    ),
+    (
+        "quotation marks before the closing ones are of the text",
+        "a",
+        "a = \"\"\"\"\"\"\"\"\n",
+        "\"\"",
+    ),
+    (
+        "quotation marks before the closing ones are of the text",
+        "a",
+        "a = ''''x''''\n",
+        "'x'",
+    ),
+    (
+        "text has the characters of escapes",
+        "a",
+        "a = \"\\u00e9\"\n",
+        "é",
+    ),
+    (
+        "text has the characters of escapes",
+        "a",
+        "a = \"\\U0001F600\"\n",
+        "😀",
+    ),
+    (
+        "text has the characters of escapes",
+        "a",
+        "a = \"\\t\\n\\r\\\"\\\\\"\n",
+        "\t\n\r\"\\",
+    ),
+    (
+        "text has the characters of escapes",
+        "a",
+        "a = \"\"\"\\\"\"\"\"\n",
+        "\"",
+    ),
+    (
+        "text of a literal string has its backslashes",
+        "a",
+        "a = 'C:\\x'\n",
+        "C:\\x",
+    ),
+    (
+        "text of a literal string has its backslashes",
+        "a",
+        "a = '''\\u00e9'''\n",
+        "\\u00e9",
+    ),
+    (
+        "the newline behind the opening is left out",
+        "a",
+        "a = \"\"\"\nx\n\"\"\"\n",
+        "x\n",
+    ),
+    (
+        "the newline behind the opening is left out",
+        "a",
+        "a = '''\r\n\r\nx'''\n",
+        "\r\nx",
+    ),
+    (
+        "a backslash at a line end takes all gaps behind it",
+        "a",
+        "a = \"\"\"\na\\  \n\n b\"\"\"\n",
+        "ab",
+    ),
+    (
+        "a newline in a string stays as it is written",
+        "a",
+        "a = \"\"\"a\r\nb\"\"\"\n",
+        "a\r\nb",
+    ),
+    (
+        "text of an empty string makes no write",
+        "a",
+        "a = \"\"\n",
+        "",
+    ),
+    (
+        "text of an empty string makes no write",
+        "a",
+        "a = ''''''\n",
+        "",
+    ),
+    ("text by a longer path", "a[1]", "a = ['x', 'y']", "y"),
+    (
+        "text by a longer path",
+        "t.\"k k\"",
+        "t = {'k k' = \"z\"}",
+        "z",
+    ),
+    ("text by a longer path", "a[0].n", "[[a]]\nn = 'w'\n", "w"),
+];
 
 #[test]
-fn quotation_marks_before_the_closing_ones_are_of_the_text(rt: HostRuntime) -> Result<(), Fail> {
-    means(rt.alloc(), "a", "a = \"\"\"x\"\"\"\"\"\n", "x\"\"")?;
-    means(rt.alloc(), "a", "a = \"\"\"\"\"\"\"\"\n", "\"\"")?;
-    means(rt.alloc(), "a", "a = ''''x''''\n", "'x'")
+fn strings_are_told_as_they_are_meant(rt: HostRuntime) -> Result<(), Fail> {
+    for (_, path, text, told) in TEXTS {
+        means(rt.alloc(), path, text, told)?;
+    }
+    Ok(())
 }
 
-#[test]
-fn text_has_the_characters_of_escapes(rt: HostRuntime) -> Result<(), Fail> {
-    means(rt.alloc(), "a", "a = \"\\u00e9\"\n", "é")?;
-    means(rt.alloc(), "a", "a = \"\\U0001F600\"\n", "😀")?;
-    means(rt.alloc(), "a", "a = \"\\t\\n\\r\\\"\\\\\"\n", "\t\n\r\"\\")?;
-    means(rt.alloc(), "a", "a = \"\"\"\\\"\"\"\"\n", "\"")
-}
+// each row: what it shows, the path, the document, the fault
+const NO_TEXTS: [(&str, &str, &str, &str); 7] = [
+    (
+        "text of what is no string is not value",
+        "a",
+        "a = 1\n",
+        "edit 0: NotValue",
+    ),
+    (
+        "text of what is no string is not value",
+        "a",
+        "a = ['x']\n",
+        "edit 0: NotValue",
+    ),
+    (
+        "text of what is no string is not value",
+        "a",
+        "a = 1979-05-27\n",
+        "edit 0: NotValue",
+    ),
+    (
+        "text of a table is not value",
+        "a",
+        "[a]\nb = 'x'\n",
+        "edit 0: NotValue",
+    ),
+    (
+        "text of a table is not value",
+        "",
+        "a = 'x'\n",
+        "edit 0: NotValue",
+    ),
+    (
+        "text of no node is not found",
+        "b",
+        "a = 'x'\n",
+        "edit 0: NotFound",
+    ),
+    (
+        "text of no node is not found",
+        "a.b",
+        "a = 'x'\n",
+        "edit 0: NotFound",
+    ),
+];
 
 #[test]
-fn text_of_a_literal_string_has_its_backslashes(rt: HostRuntime) -> Result<(), Fail> {
-    means(rt.alloc(), "a", "a = 'C:\\x'\n", "C:\\x")?;
-    means(rt.alloc(), "a", "a = '''\\u00e9'''\n", "\\u00e9")
-}
-
-#[test]
-fn the_newline_behind_the_opening_is_left_out(rt: HostRuntime) -> Result<(), Fail> {
-    means(rt.alloc(), "a", "a = \"\"\"\nx\n\"\"\"\n", "x\n")?;
-    means(rt.alloc(), "a", "a = '''\r\n\r\nx'''\n", "\r\nx")
-}
-
-#[test]
-fn a_backslash_at_a_line_end_takes_all_gaps_behind_it(rt: HostRuntime) -> Result<(), Fail> {
-    means(rt.alloc(), "a", "a = \"\"\"\na\\  \n\n b\"\"\"\n", "ab")
-}
-
-#[test]
-fn a_newline_in_a_string_stays_as_it_is_written(rt: HostRuntime) -> Result<(), Fail> {
-    means(rt.alloc(), "a", "a = \"\"\"a\r\nb\"\"\"\n", "a\r\nb")
-}
-
-#[test]
-fn text_of_an_empty_string_makes_no_write(rt: HostRuntime) -> Result<(), Fail> {
-    means(rt.alloc(), "a", "a = \"\"\n", "")?;
-    means(rt.alloc(), "a", "a = ''''''\n", "")
-}
-
-#[test]
-fn text_by_a_longer_path(rt: HostRuntime) -> Result<(), Fail> {
-    means(rt.alloc(), "a[1]", "a = ['x', 'y']", "y")?;
-    means(rt.alloc(), "t.\"k k\"", "t = {'k k' = \"z\"}", "z")?;
-    means(rt.alloc(), "a[0].n", "[[a]]\nn = 'w'\n", "w")
-}
-
-#[test]
-fn text_of_what_is_no_string_is_not_value(rt: HostRuntime) -> Result<(), Fail> {
-    means_not(rt.alloc(), "a", "a = 1\n", "edit 0: NotValue")?;
-    means_not(rt.alloc(), "a", "a = ['x']\n", "edit 0: NotValue")?;
-    means_not(rt.alloc(), "a", "a = 1979-05-27\n", "edit 0: NotValue")
-}
-
-#[test]
-fn text_of_a_table_is_not_value(rt: HostRuntime) -> Result<(), Fail> {
-    means_not(rt.alloc(), "a", "[a]\nb = 'x'\n", "edit 0: NotValue")?;
-    means_not(rt.alloc(), "", "a = 'x'\n", "edit 0: NotValue")
-}
-
-#[test]
-fn text_of_no_node_is_not_found(rt: HostRuntime) -> Result<(), Fail> {
-    means_not(rt.alloc(), "b", "a = 'x'\n", "edit 0: NotFound")?;
-    means_not(rt.alloc(), "a.b", "a = 'x'\n", "edit 0: NotFound")
+fn what_is_no_string_has_no_text(rt: HostRuntime) -> Result<(), Fail> {
+    for (_, path, text, told) in NO_TEXTS {
+        means_not(rt.alloc(), path, text, told)?;
+    }
+    Ok(())
 }
