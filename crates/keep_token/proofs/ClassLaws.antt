@@ -7,7 +7,7 @@ abbrev pub same : Bool → Bool → Bool
 same true b = b
 same false b = not b
 
-same_is : (a b : Bool) → same a b ≡ true → a ≡ b
+pub same_is : (a b : Bool) → same a b ≡ true → a ≡ b
 same_is true true h = refl
 same_is true false h = absurd cc
 same_is false true h = absurd cc

@@ -1,4 +1,5 @@
 pub mod Abnf
+pub mod Blocks
 pub mod Strings
 pub mod Numbers
 pub mod Dates

@@ -5,7 +5,8 @@ ghost use Rattle.keep_token.specs.declared.leaf.Leaf.{Leaf};
 ghost use Rattle.keep_token.specs.Leaves.{GapLeaf};
 ghost use Rattle.keep_token.specs.Scanning.{gap_at, moved};
 
-use crate::bytes::{comment_run, is_ws, ws_run};
+use crate::bytes::{is_ws, ws_run};
+use crate::comment::comment_len;
 use crate::leaf::Leaf;
 
 // The leaf in front, and its length.
@@ -24,7 +25,7 @@ fn gap_of(bytes: &[u8]) -> Option<(Leaf, usize)>
             } else if *first == b'\r' && rest.first() == Some(&b'\n') {
                 Some((Leaf::Newline, 2))
             } else if *first == b'#' {
-                Some((Leaf::Comment, 1 + comment_run(rest)))
+                Some((Leaf::Comment, 1 + comment_len(rest)))
             } else {
                 None
             }

@@ -3,6 +3,7 @@
 
 mod basic;
 mod bytes;
+mod comment;
 mod dates;
 mod decode;
 mod encode;
