@@ -22,6 +22,7 @@ pub mod Inside
 pub mod Reads
 pub mod Children
 pub mod Told
+pub mod Kept
 pub mod Stored
 pub mod Tells
 pub mod Stops

@@ -11,6 +11,7 @@ ghost use Rattle.keep_rules.specs.Trie.{by_key, holds_at};
 
 use crate::children::{Children, Holds};
 use crate::inside::{push_id, read_inside};
+use crate::kept::Kept;
 use crate::kinds::holds_of_leaf;
 use crate::node::{Kind, Place};
 use crate::nodes::Node;
@@ -25,7 +26,7 @@ fn root(alloc: Global, holds: Holds) -> Result<Vec<Node>, AllocError>
     ensures { IfOk result (λ nodes. IsRoot nodes.items (holding holds)) }
 {
     let children = Children::none(alloc, holds)?;
-    let told = Told::unnamed(Kind::Table, None, Place::Root);
+    let told = Kept::of(alloc, Told::unnamed(Kind::Table, None, Place::Root))?;
     let mut nodes = Vec::new(alloc);
     nodes.push(Node {
         parent: 0,

@@ -163,6 +163,6 @@ impl Index {
         requires { id.0 < length self.now.paths }
         ensures { slice_get self.now.infos id.0 ≡ Some result }
     {
-        self.nodes[id.0].told.info()
+        self.nodes[id.0].told.told().info()
     }
 }

@@ -9,6 +9,7 @@ mod fault;
 mod index;
 mod index_text;
 mod inside;
+mod kept;
 mod key_text;
 mod keys;
 mod kinds;

@@ -1,15 +1,15 @@
 //! Making marks at the nodes.
-ghost use Rattle.std.specs.Prelude.{◌≡◌, ◌<◌, ◌∷◌, ◌++◌, [], length, IfOk, OnOk, Err, IfSome, IfNone, false};
+ghost use Rattle.std.specs.Prelude.{◌≡◌, ℕ, List, ◌<◌, ◌∷◌, ◌++◌, [], length, IfOk, OnOk, Err, IfSome, IfNone, false};
 ghost use Rattle.keep_rules.specs.Children.{holding};
 ghost use Rattle.keep_rules.specs.Marks.{passing_mentions};
-ghost use Rattle.keep_rules.specs.Path.{key};
+ghost use Rattle.keep_rules.specs.Path.{Part, key};
 ghost use Rattle.keep_rules.specs.Standing.{IsMarked, WasRefused, IsLastElement, HasNoElement, Passes, Begins};
 ghost use Rattle.keep_rules.specs.Steps.{AddsItem};
 ghost use Rattle.keep_rules.specs.Stored.{IsStored, twigs};
 ghost use Rattle.keep_rules.specs.Tables.{Fits, IsShaped, is_tables};
 ghost use Rattle.keep_rules.specs.Tells.{TellsOne, KeyTells, ItemTells, begin_mentions};
 ghost use Rattle.keep_rules.specs.Told.{info_of};
-ghost use Rattle.keep_rules.specs.Trie.{by_key, by_index, holds_at, path_at, state_at};
+ghost use Rattle.keep_rules.specs.Trie.{Holding, by_key, by_index, holds_at, path_at, state_at};
 
 use crate::children::Holds;
 use crate::node::{Kind, Place};
@@ -62,38 +62,42 @@ pub fn mark(
     match child_of(nodes, parent, text) {
         None => Ok(add_key(nodes, parent, text, role, told, holds)?),
         Some(child) => {
-            let Some(next) = state_after(nodes[child].told.role, role) else {
-                return Err(Stop::Refused);
-            };
-            set_role(nodes, child, next, told);
+            mark_again(nodes, child, role, told)?;
             Ok(child)
         }
     }
 }
 
-/// An array of tables, and its last element.
-#[derive(Clone, Copy)]
-pub struct Elements {
-    pub tables: usize,
-    pub last: usize,
+/// Makes a mark of that role at a node that is there, and tells this of it.
+fn mark_again(nodes: &mut Vec<Node>, id: usize, role: Role, told: Told) -> Result<(), Stop>
+    requires stored { IsStored nodes.old.items }
+    requires shaped { IsShaped (twigs nodes.old.items) }
+    requires within { id < length nodes.old.items }
+    ensures ok { OnOk result ((before : List Part) (k : List ℕ) (holds : Holding) → path_at (twigs nodes.old.items) id ≡ before ++ key k ∷ [] → IsMarked (twigs nodes.old.items) (twigs nodes.new.items) (before ++ key k ∷ []) role holds id) }
+    ensures stored { OnOk result (IsStored nodes.new.items) }
+    ensures told { OnOk result (TellsOne nodes.old.items nodes.new.items (path_at (twigs nodes.old.items) id) (info_of told)) }
+    ensures refused { result ≡ Err Stop.Refused → WasRefused (twigs nodes.old.items) (path_at (twigs nodes.old.items) id) role }
+{
+    let Some(next) = state_after(nodes[id].told.role(), role) else {
+        return Err(Stop::Refused);
+    };
+    set_role(nodes, id, next, told)?;
+    Ok(())
 }
 
-/// The array of tables that a key names, if it names one.
-pub fn last_element(nodes: &[Node], parent: usize, text: &str) -> Option<Elements>
+/// The last element of the array of tables at a node, if one stands there.
+fn last_element(nodes: &[Node], id: usize) -> Option<usize>
     requires stored { IsStored nodes.now }
     requires shaped { IsShaped (twigs nodes.now) }
-    requires within { parent < length nodes.now }
-    requires keyed { holds_at (twigs nodes.now) parent ≡ by_key }
-    ensures some { IfSome result (λ e. IsLastElement (twigs nodes.now) (path_at (twigs nodes.now) parent ++ key text.now ∷ []) e.tables e.last) }
-    ensures none { IfNone result (HasNoElement (twigs nodes.now) (path_at (twigs nodes.now) parent ++ key text.now ∷ [])) }
+    requires within { id < length nodes.now }
+    ensures some { IfSome result (λ last. IsLastElement (twigs nodes.now) (path_at (twigs nodes.now) id) id last) }
+    ensures none { IfNone result (HasNoElement (twigs nodes.now) (path_at (twigs nodes.now) id)) }
 {
-    let tables = child_of(nodes, parent, text)?;
-    let node = &nodes[tables];
-    if !names_tables(node.told.role) {
+    let node = &nodes[id];
+    if !names_tables(node.told.role()) {
         return None;
     }
-    let last = node.children.last_item()?;
-    Some(Elements { tables, last })
+    node.children.last_item()
 }
 
 /// Goes past a key of a header that is not the last: to the last element of an array of tables, else with a mark.
@@ -117,18 +121,18 @@ pub fn pass(
     ensures refused { result ≡ Err Stop.Refused → WasRefused (twigs nodes.old.items) (path_at (twigs nodes.old.items) parent ++ key text.now ∷ []) Role.Through }
     ensures plain { result ≡ Err Stop.Refused → HasNoElement (twigs nodes.old.items) (path_at (twigs nodes.old.items) parent ++ key text.now ∷ []) }
 {
-    match last_element(nodes, parent, text) {
-        Some(elements) => {
-            let past = Told::named(Kind::Table, None, span, Place::Root);
-            tell_more(nodes, elements.tables, past);
-            tell_more(nodes, elements.last, Told::passed());
-            Ok(elements.last)
-        }
-        None => {
-            let through = Told::named(Kind::Table, None, span, Place::Through(statement));
-            mark(nodes, parent, text, Role::Through, through, Holds::Keys)
-        }
-    }
+    let through = Told::named(Kind::Table, None, span, Place::Through(statement));
+    let Some(child) = child_of(nodes, parent, text) else {
+        return mark(nodes, parent, text, Role::Through, through, Holds::Keys);
+    };
+    let Some(last) = last_element(nodes, child) else {
+        mark_again(nodes, child, Role::Through, through)?;
+        return Ok(child);
+    };
+    let past = Told::named(Kind::Table, None, span, Place::Root);
+    tell_more(nodes, child, past)?;
+    tell_more(nodes, last, Told::passed())?;
+    Ok(last)
 }
 
 /// Begins an element of the array of tables that a key names.

@@ -8,6 +8,7 @@ ghost use Rattle.keep_rules.specs.Told.{again, info_of};
 ghost use Rattle.keep_rules.specs.Trie.{by_key, by_index, children_of, holds_at, paths_of, path_at};
 
 use crate::children::{Children, Holds};
+use crate::kept::Kept;
 use crate::role::Role;
 use crate::told::Told;
 use std::alloc::AllocError;
@@ -19,7 +20,7 @@ pub struct Node {
     /// Its number among the children of its parent: its step is the key that the parent has there, or that number.
     pub number: usize,
     pub children: Children,
-    pub told: Told,
+    pub told: Kept,
 }
 
 /// The child of a table by a key.
@@ -59,14 +60,13 @@ pub fn add_key(
     let above = &mut nodes[parent];
     let number = above.children.len();
     above.children.add_key(alloc, name, id)?;
+    let role = Some(role);
+    let told = Kept::of(alloc, Told { role, ..told })?;
     nodes.push(Node {
         parent,
         number,
         children,
-        told: Told {
-            role: Some(role),
-            ..told
-        },
+        told,
     })?;
     Ok(id)
 }
@@ -93,38 +93,45 @@ pub fn add_item(
     let above = &mut nodes[parent];
     let number = above.children.len();
     above.children.add_item(id)?;
+    let told = Kept::of(alloc, Told { role: None, ..told })?;
     nodes.push(Node {
         parent,
         number,
         children,
-        told: Told { role: None, ..told },
+        told,
     })?;
     Ok(id)
 }
 
 /// Gives a node another state, with one thing more that is said of it.
-pub fn set_role(nodes: &mut Vec<Node>, id: usize, role: Role, more: Told)
+pub fn set_role(nodes: &mut Vec<Node>, id: usize, role: Role, more: Told) -> Result<(), AllocError>
     requires stored { IsStored nodes.old.items }
     requires within { id < length nodes.old.items }
-    ensures restates { Restates (twigs nodes.old.items) (twigs nodes.new.items) id role }
-    ensures stored { IsStored nodes.new.items }
-    ensures infos { infos_of nodes.new.items ≡ slice_set (infos_of nodes.old.items) id (again (info_at nodes.old.items id) (info_of more)) }
+    ensures restates { OnOk result (Restates (twigs nodes.old.items) (twigs nodes.new.items) id role) }
+    ensures stored { OnOk result (IsStored nodes.new.items) }
+    ensures infos { OnOk result (infos_of nodes.new.items ≡ slice_set (infos_of nodes.old.items) id (again (info_at nodes.old.items id) (info_of more))) }
 {
+    let alloc = *nodes.allocator();
     let node = &mut nodes[id];
-    node.told = Told {
-        role: Some(role),
-        ..node.told.again(more)
-    };
+    let role = Some(role);
+    let now = node.told.told().again(more);
+    let told = Kept::of(alloc, Told { role, ..now })?;
+    node.told = told;
+    Ok(())
 }
 
 /// Tells one thing more of a node, whose state stays.
-pub fn tell_more(nodes: &mut Vec<Node>, id: usize, more: Told)
+pub fn tell_more(nodes: &mut Vec<Node>, id: usize, more: Told) -> Result<(), AllocError>
     requires stored { IsStored nodes.old.items }
     requires within { id < length nodes.old.items }
-    ensures same { twigs nodes.new.items ≡ twigs nodes.old.items }
-    ensures stored { IsStored nodes.new.items }
-    ensures infos { infos_of nodes.new.items ≡ slice_set (infos_of nodes.old.items) id (again (info_at nodes.old.items id) (info_of more)) }
+    ensures same { OnOk result (twigs nodes.new.items ≡ twigs nodes.old.items) }
+    ensures stored { OnOk result (IsStored nodes.new.items) }
+    ensures infos { OnOk result (infos_of nodes.new.items ≡ slice_set (infos_of nodes.old.items) id (again (info_at nodes.old.items id) (info_of more))) }
 {
+    let alloc = *nodes.allocator();
     let node = &mut nodes[id];
-    node.told = node.told.again(more);
+    let now = node.told.told().again(more);
+    let told = Kept::of(alloc, now)?;
+    node.told = told;
+    Ok(())
 }

@@ -1,65 +1,125 @@
-use Rattle.std.proofs.Common.{◌≡◌, ◌<◌, List, ◌∷◌, ◌++◌, [], length, subst, ap, sym, ◌∙◌, arith}
+use Rattle.std.proofs.Common.{◌≡◌, ℕ, ◌<◌, List, ◌∷◌, ◌++◌, [], length, subst, ap, sym, refl, ◌∙◌, arith}
+use Rattle.std.specs.Prelude.{Contains}
 use Rattle.std.proofs.lemmas.List.{length-map}
 use Rattle.keep_rules.specs.declared.nodes.Node.{Node}
 use Rattle.keep_rules.specs.declared.node.NodeInfo.{NodeInfo}
-use Rattle.keep_rules.specs.Path.{key}
+use Rattle.keep_rules.specs.declared.role.Role.TheVariants.{Through}
+use Rattle.keep_rules.specs.Path.{Part, key}
 use Rattle.keep_rules.specs.Stored.{twig_in, twigs}
 use Rattle.keep_rules.specs.Told.{info_of}
 use Rattle.keep_rules.specs.Tells.{TellsOne}
-use Rattle.keep_rules.specs.Trie.{Twig, paths_of, path_at}
-use Rattle.keep_rules.specs.Standing.{IsLastElement, HasNoElement, Passes}
-use Rattle.keep_rules.proofs.PassLemmas.{passes_element, passes_marked, element_inside}
+use Rattle.keep_rules.specs.Trie.{Twig, by_key, paths_of, path_at}
+use Rattle.keep_rules.specs.Standing.{IsMarked, IsLastElement, HasNoElement, Passes}
+use Rattle.keep_rules.proofs.PassLemmas.{none_unmet, passes_element, passes_marked, element_inside}
 use Rattle.keep_rules.proofs.ElementLemmas.{if_ok}
 use Rattle.keep_rules.proofs.TellLemmas.{told_again}
 use Rattle.keep_rules.proofs.TellWayLemmas.{past_told, through_told}
 use Rattle.keep_rules.proofs.mark.pass.Goals as goal
 
-element : (c : goal.After-tell_more-in-Some) → IsLastElement (twigs c.args.nodes.now.items) (path_at (twigs c.args.nodes.now.items) c.args.parent ++ key c.args.text.now ∷ []) c.in-Some.elements.tables c.in-Some.elements.last
-element c =
-    subst (λ (ns : List Node). IsLastElement (twigs ns) (path_at (twigs ns) c.args.parent ++ key c.args.text.now ∷ []) c.in-Some.elements.tables c.in-Some.elements.last) c.deref.ensures.value c.in-Some.ensures.some
+-- a new key
 
-same : (c : goal.After-tell_more-in-Some) → twigs c.tell_more-in-Some.new.nodes.items ≡ twigs c.args.nodes.now.items
-same c = c.tell_more-in-Some.ensures.same ∙ c.tell_more.ensures.same
+new : (c : goal.After-mark) → HasNoElement (twigs c.args.nodes.now.items) (path_at (twigs c.args.nodes.now.items) c.args.parent ++ key c.args.text.now ∷ [])
+new c =
+    none_unmet (twigs c.args.nodes.now.items) _
+    (subst (λ (ns : List Node). Contains (paths_of (twigs ns)) (path_at (twigs ns) c.args.parent ++ key c.args.text.now ∷ []) → ⊥) c.deref.ensures.value c.in_default.ensures.none)
 
-place : (c : goal.After-tell_more-in-Some) → c.in-Some.elements.last < length (twigs c.args.nodes.now.items)
-place c = element_inside (twigs c.args.nodes.now.items) _ c.in-Some.elements.tables c.in-Some.elements.last c.requires.stored.trie (element c)
+pub returns-in_default-clause-ok : goal.returns-in_default-clause-ok
+returns-in_default-clause-ok c =
+    if_ok _ _ _ (λ id marked. passes_marked (twigs c.args.nodes.now.items) (twigs c.mark.new.nodes.items) c.args.parent id c.args.text.now marked (new c)) c.mark.ensures.ok
 
-pub returns-in-Some-clause-inside : goal.returns-in-Some-clause-inside
-returns-in-Some-clause-inside c =
-    let new = c.tell_more-in-Some.new.nodes.items in
-    omega (arith, place c, ap length (same c), length-map new (twig_in new))
-
-pub returns-in-Some-clause-ok : goal.returns-in-Some-clause-ok
-returns-in-Some-clause-ok c =
+pub returns-in_default-clause-told : goal.returns-in_default-clause-told
+returns-in_default-clause-told c =
     let old = c.args.nodes.now.items in
-    subst (λ (ts : List Twig). Passes (twigs old) ts c.args.parent c.in-Some.elements.last c.args.text.now) (sym (same c))
-    (passes_element (twigs old) c.args.parent c.in-Some.elements.tables c.in-Some.elements.last c.args.text.now (element c))
+    let after = c.mark.new.nodes.items in
+    let p = path_at (twigs old) c.args.parent ++ key c.args.text.now ∷ [] in
+    if_ok _ _ _ (λ id one. through_told old after p c.args.span c.args.statement (new c) (subst (λ (i : NodeInfo). TellsOne old after p i) c.named-through.ensures one)) c.mark.ensures.told
 
-pub returns-in-Some-clause-told : goal.returns-in-Some-clause-told
-returns-in-Some-clause-told c =
+pub returns-in_default-clause-plain : goal.returns-in_default-clause-plain
+returns-in_default-clause-plain c = λ refused. new c
+
+-- a key that is there, as the nodes are borrowed and as they are
+
+path_moved : (seen nodes : List Node) (parent child : ℕ) (k : List ℕ) → seen ≡ nodes → path_at (twigs seen) child ≡ path_at (twigs seen) parent ++ key k ∷ [] → path_at (twigs nodes) child ≡ path_at (twigs nodes) parent ++ key k ∷ []
+path_moved seen nodes parent child k are found = subst (λ (ns : List Node). path_at (twigs ns) child ≡ path_at (twigs ns) parent ++ key k ∷ []) are found
+
+none_moved : (seen nodes : List Node) (child : ℕ) (p : List Part) → seen ≡ nodes → path_at (twigs nodes) child ≡ p → HasNoElement (twigs seen) (path_at (twigs seen) child) → HasNoElement (twigs nodes) p
+none_moved seen nodes child p are here none =
+    subst (λ (q : List Part). HasNoElement (twigs nodes) q) here (subst (λ (ns : List Node). HasNoElement (twigs ns) (path_at (twigs ns) child)) are none)
+
+element_moved : (seen nodes : List Node) (child last : ℕ) (p : List Part) → seen ≡ nodes → path_at (twigs nodes) child ≡ p → IsLastElement (twigs seen) (path_at (twigs seen) child) child last → IsLastElement (twigs nodes) p child last
+element_moved seen nodes child last p are here some =
+    subst (λ (q : List Part). IsLastElement (twigs nodes) q child last) here (subst (λ (ns : List Node). IsLastElement (twigs ns) (path_at (twigs ns) child) child last) are some)
+
+-- at no array of tables
+
+here : (c : goal.In_ok-mark_again) → path_at (twigs c.args.nodes.now.items) c.in-Some.child ≡ path_at (twigs c.args.nodes.now.items) c.args.parent ++ key c.args.text.now ∷ []
+here c = path_moved _ _ _ _ _ c.deref.ensures.value c.in-Some.ensures.found
+
+plain : (c : goal.In_ok-mark_again) → HasNoElement (twigs c.args.nodes.now.items) (path_at (twigs c.args.nodes.now.items) c.args.parent ++ key c.args.text.now ∷ [])
+plain c = none_moved _ _ _ _ c.deref-2.ensures.value (here c) c.in_default-last_element.ensures.none
+
+marked : (c : goal.In_ok-mark_again) → IsMarked (twigs c.args.nodes.now.items) (twigs c.mark_again.new.nodes.items) (path_at (twigs c.args.nodes.now.items) c.args.parent ++ key c.args.text.now ∷ []) Through by_key c.in-Some.child
+marked c = c.in_ok-mark_again.ensures.ok (path_at (twigs c.args.nodes.now.items) c.args.parent) c.args.text.now by_key (here c)
+
+pub returns-in_default-last_element-clause-shaped : goal.returns-in_default-last_element-clause-shaped
+returns-in_default-last_element-clause-shaped c = (marked c).shaped
+
+pub returns-in_default-last_element-clause-keyed : goal.returns-in_default-last_element-clause-keyed
+returns-in_default-last_element-clause-keyed c = (marked c).opened refl
+
+pub returns-in_default-last_element-clause-ok : goal.returns-in_default-last_element-clause-ok
+returns-in_default-last_element-clause-ok c =
+    passes_marked (twigs c.args.nodes.now.items) (twigs c.mark_again.new.nodes.items) c.args.parent c.in-Some.child c.args.text.now (marked c) (plain c)
+
+pub returns-in_default-last_element-clause-told : goal.returns-in_default-last_element-clause-told
+returns-in_default-last_element-clause-told c =
+    let old = c.args.nodes.now.items in
+    let after = c.mark_again.new.nodes.items in
+    let p = path_at (twigs old) c.args.parent ++ key c.args.text.now ∷ [] in
+    through_told old after p c.args.span c.args.statement (plain c)
+    (subst (λ (i : NodeInfo). TellsOne old after p i) c.named-through.ensures
+    (subst (λ (q : List Part). TellsOne old after q (info_of c.named-through.result)) (here c) c.in_ok-mark_again.ensures.told))
+
+-- at an array of tables
+
+pub tell_more-requires-2-clause-within : goal.tell_more-requires-2-clause-within
+tell_more-requires-2-clause-within c =
     let old = c.args.nodes.now.items in
     let mid = c.tell_more.new.nodes.items in
-    let new = c.tell_more-in-Some.new.nodes.items in
-    let p = path_at (twigs old) c.args.parent ++ key c.args.text.now ∷ [] in
-    let to = c.in-Some.elements.last in
-    let kept = c.tell_more.ensures.same in
-    past_told old mid new p c.in-Some.elements.tables to c.args.span c.args.statement (element c)
-    (subst (λ (i : NodeInfo). TellsOne old mid p i) c.named-past.ensures
-    (told_again old mid c.in-Some.elements.tables p (info_of c.named-past.result) c.requires.stored.trie (element c).inside (element c).here (ap paths_of kept) c.tell_more.ensures.infos))
-    (subst (λ (i : NodeInfo). TellsOne mid new (path_at (twigs old) to) i) c.passed.ensures
-    (told_again mid new to (path_at (twigs old) to) (info_of c.passed.result) c.tell_more.ensures.stored.trie (omega (arith, place c, ap length kept)) (ap (λ (ts : List Twig). path_at ts to) kept)
-    (ap paths_of c.tell_more-in-Some.ensures.same) c.tell_more-in-Some.ensures.infos))
+    let entered = element_moved _ _ _ _ _ c.deref-2.ensures.value (path_moved _ _ _ _ _ c.deref.ensures.value c.in-Some.ensures.found) c.in-Some-last_element.ensures.some in
+    omega (arith, element_inside (twigs old) _ c.in-Some.child c.in-Some-last_element.last c.requires.stored.trie entered, ap length c.in_ok-tell_more.ensures.same, length-map mid (twig_in mid))
 
-unmet : (c : goal.After-mark) → HasNoElement (twigs c.args.nodes.now.items) (path_at (twigs c.args.nodes.now.items) c.args.parent ++ key c.args.text.now ∷ [])
-unmet c = subst (λ (ns : List Node). HasNoElement (twigs ns) (path_at (twigs ns) c.args.parent ++ key c.args.text.now ∷ [])) c.deref.ensures.value c.in-None.ensures.none
+element : (c : goal.In_ok-tell_more-2) → IsLastElement (twigs c.args.nodes.now.items) (path_at (twigs c.args.nodes.now.items) c.args.parent ++ key c.args.text.now ∷ []) c.in-Some.child c.in-Some-last_element.last
+element c = element_moved _ _ _ _ _ c.deref-2.ensures.value (path_moved _ _ _ _ _ c.deref.ensures.value c.in-Some.ensures.found) c.in-Some-last_element.ensures.some
 
-pub returns-in-None-clause-ok : goal.returns-in-None-clause-ok
-returns-in-None-clause-ok c =
-    if_ok _ _ _ (λ id marked. passes_marked (twigs c.args.nodes.now.items) (twigs c.mark.new.nodes.items) c.args.parent id c.args.text.now marked (unmet c)) c.mark.ensures.ok
+place : (c : goal.In_ok-tell_more-2) → c.in-Some-last_element.last < length (twigs c.args.nodes.now.items)
+place c = element_inside (twigs c.args.nodes.now.items) _ c.in-Some.child c.in-Some-last_element.last c.requires.stored.trie (element c)
 
-pub returns-in-None-clause-told : goal.returns-in-None-clause-told
-returns-in-None-clause-told c =
+same : (c : goal.In_ok-tell_more-2) → twigs c.tell_more-2.new.nodes.items ≡ twigs c.args.nodes.now.items
+same c = c.in_ok-tell_more-2.ensures.same ∙ c.in_ok-tell_more.ensures.same
+
+pub returns-clause-inside : goal.returns-clause-inside
+returns-clause-inside c =
+    let after = c.tell_more-2.new.nodes.items in
+    omega (arith, place c, ap length (same c), length-map after (twig_in after))
+
+pub returns-clause-ok : goal.returns-clause-ok
+returns-clause-ok c =
     let old = c.args.nodes.now.items in
-    let new = c.mark.new.nodes.items in
+    subst (λ (ts : List Twig). Passes (twigs old) ts c.args.parent c.in-Some-last_element.last c.args.text.now) (sym (same c))
+    (passes_element (twigs old) c.args.parent c.in-Some.child c.in-Some-last_element.last c.args.text.now (element c))
+
+pub returns-clause-told : goal.returns-clause-told
+returns-clause-told c =
+    let old = c.args.nodes.now.items in
+    let mid = c.tell_more.new.nodes.items in
+    let after = c.tell_more-2.new.nodes.items in
     let p = path_at (twigs old) c.args.parent ++ key c.args.text.now ∷ [] in
-    if_ok _ _ _ (λ id one. through_told old new p c.args.span c.args.statement (unmet c) (subst (λ (i : NodeInfo). TellsOne old new p i) c.named-through.ensures one)) c.mark.ensures.told
+    let to = c.in-Some-last_element.last in
+    let kept = c.in_ok-tell_more.ensures.same in
+    past_told old mid after p c.in-Some.child to c.args.span c.args.statement (element c)
+    (subst (λ (i : NodeInfo). TellsOne old mid p i) c.named-past.ensures
+    (told_again old mid c.in-Some.child p (info_of c.named-past.result) c.requires.stored.trie (element c).inside (element c).here (ap paths_of kept) c.in_ok-tell_more.ensures.infos))
+    (subst (λ (i : NodeInfo). TellsOne mid after (path_at (twigs old) to) i) c.passed.ensures
+    (told_again mid after to (path_at (twigs old) to) (info_of c.passed.result) c.in_ok-tell_more.ensures.stored.trie (omega (arith, place c, ap length kept)) (ap (λ (ts : List Twig). path_at ts to) kept)
+    (ap paths_of c.in_ok-tell_more-2.ensures.same) c.in_ok-tell_more-2.ensures.infos))

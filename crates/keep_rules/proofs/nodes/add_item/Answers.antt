@@ -1,5 +1,6 @@
 use Rattle.std.proofs.Common.{rules, ◌≡◌, ◌∷◌, ◌++◌, [], List, length, ap, sym, refl, ◌∙◌, subst, get_or, set, None}
 use Rattle.keep_rules.specs.declared.nodes.Node.{Node}
+use Rattle.keep_rules.specs.declared.told.Told.{Told}
 use Rattle.keep_rules.specs.Path.{index}
 use Rattle.keep_rules.specs.Children.{holds_of, child_ids}
 use Rattle.keep_rules.specs.Trie.{by_index, children_of}
@@ -37,7 +38,10 @@ added c =
 
 items : (c : goal.In_ok-push) → c.push.new.self.items ≡ with_one c.args.nodes.now.items c.args.parent c.index_mut-above.result.now c.add_item.new.self (new c)
 unfolding new
-items c = c.in_ok-push.ensures.items ∙ ap (λ (n : Node). set c.args.nodes.now.items c.args.parent (record n { children = c.add_item.new.self }) ++ new c ∷ []) c.index_mut-above.ensures.value
+items c =
+    c.in_ok-push.ensures.items
+    ∙ ap (λ (t : Told). set c.args.nodes.now.items c.args.parent (record c.index_mut-above.result.now { children = c.add_item.new.self }) ++ record (new c) { told = t } ∷ []) c.in_ok-told.ensures
+    ∙ ap (λ (n : Node). set c.args.nodes.now.items c.args.parent (record n { children = c.add_item.new.self }) ++ new c ∷ []) c.index_mut-above.ensures.value
 
 pub returns-clause-grows : goal.returns-clause-grows
 unfolding new

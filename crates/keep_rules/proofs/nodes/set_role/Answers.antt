@@ -1,13 +1,14 @@
-use Rattle.std.proofs.Common.{ap, refl, ◌∙◌, Some}
+use Rattle.std.proofs.Common.{◌≡◌, ap, ◌∙◌, Some}
 use Rattle.keep_rules.specs.declared.nodes.Node.{Node}
+use Rattle.keep_rules.specs.declared.told.Told.{Told}
 use Rattle.keep_rules.specs.Told.{again, info_of}
 use Rattle.keep_rules.proofs.StoredLemmas.{IsChanged, restates_changed, stored_changed, infos_changed}
 use Rattle.keep_rules.proofs.nodes.set_role.Goals as goal
 
-changed : goal.After-nodes-1 → Node
-changed c = record c.index_mut-node.result.now { told = record c.again.result { role = Some c.args.role } }
+changed : goal.Joined-node-told → Node
+changed c = record c.index_mut-node.result.now { told = c.in_ok-told.told }
 
-is_changed : (c : goal.After-nodes-1) → IsChanged c.args.nodes.now.items c.args.id c.index_mut-node.result.now (changed c)
+is_changed : (c : goal.Joined-node-told) → IsChanged c.args.nodes.now.items c.args.id c.index_mut-node.result.now (changed c)
 unfolding changed
 is_changed c = record {
   stored = c.requires.stored;
@@ -17,16 +18,19 @@ is_changed c = record {
   children = ap (λ (n : Node). n.children) c.index_mut-node.ensures.value;
 }
 
+role_is : (c : goal.Joined-node-told) → c.in_ok-told.told.role ≡ Some c.args.role
+role_is c = ap (λ (t : Told). t.role) c.in_ok-told.ensures
+
 pub returns-clause-restates : goal.returns-clause-restates
 unfolding changed
-returns-clause-restates c = restates_changed _ _ _ _ _ (is_changed c) refl
+returns-clause-restates c = restates_changed _ _ _ _ _ (is_changed c) (role_is c)
 
 pub returns-clause-stored : goal.returns-clause-stored
 unfolding changed
-returns-clause-stored c = stored_changed _ _ _ _ c.args.role (is_changed c) refl
+returns-clause-stored c = stored_changed _ _ _ _ c.args.role (is_changed c) (role_is c)
 
 pub returns-clause-infos : goal.returns-clause-infos
 unfolding changed
 returns-clause-infos c =
     infos_changed c.args.nodes.now.items c.args.id c.index_mut-node.result.now (changed c) (info_of c.args.more) c.requires.within
-    (c.again.ensures.info ∙ ap (λ (n : Node). again (info_of n.told) (info_of c.args.more)) c.index_mut-node.ensures.value)
+    (ap info_of c.in_ok-told.ensures ∙ c.again-now.ensures.info ∙ ap (λ (t : Told). again (info_of t) (info_of c.args.more)) c.told.ensures ∙ ap (λ (n : Node). again (info_of n.told) (info_of c.args.more)) c.index_mut-node.ensures.value)
