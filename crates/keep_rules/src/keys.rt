@@ -35,6 +35,7 @@ impl<'a> Keys<'a> {
     }
 
     /// The same, decoded. Want of memory is the only error.
+    #[inline(always)]
     pub fn name(&self, alloc: Global, number: usize) -> Result<Name<'a>, AllocError>
         requires keys { AreKeys self.now }
         requires within { number < self.now.count }

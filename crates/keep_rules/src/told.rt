@@ -1,5 +1,5 @@
 //! What is told of a node, as it is kept.
-ghost use Rattle.std.specs.Prelude.{◌≡◌, None, IsTrue};
+ghost use Rattle.std.specs.Prelude.{◌≡◌, ℕ, None, IsTrue};
 ghost use Rattle.keep_rules.specs.Told.{again, goes_with, info_of, place_span, rank, named_info, unnamed_info, passed_info, place_of};
 
 use crate::node::{Kind, NodeInfo, Place};
@@ -113,9 +113,7 @@ impl Told {
         ensures info { info_of result ≡ again (info_of self) (info_of more) }
         ensures role { result.role ≡ self.role }
     {
-        let old = place_of(self.place, self.number);
-        let new = place_of(more.place, more.number);
-        let later = if rank_of(old) <= rank_of(new) {
+        let later = if rank_of(self.place) <= rank_of(more.place) {
             more
         } else {
             self
@@ -179,16 +177,16 @@ fn value_at(place: Place, value: Span) -> Option<Span>
 }
 
 /// Which of two places is told: the one of the higher rank.
-fn rank_of(place: Place) -> u8
-    ensures { result ≡ rank place }
+fn rank_of(kind: PlaceKind) -> u8
+    ensures { (number : ℕ) → result ≡ rank (place_of kind number) }
 {
-    match place {
-        Place::Root => 0,
-        Place::Through(_) => 1,
-        Place::Dotted(_) => 2,
-        Place::Header(_) => 3,
-        Place::Element(_) => 4,
-        Place::Tables => 5,
-        Place::Value(_) => 6,
+    match kind {
+        PlaceKind::Root => 0,
+        PlaceKind::Through => 1,
+        PlaceKind::Dotted => 2,
+        PlaceKind::Header => 3,
+        PlaceKind::Element => 4,
+        PlaceKind::Tables => 5,
+        PlaceKind::Value => 6,
     }
 }

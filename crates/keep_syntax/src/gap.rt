@@ -9,6 +9,7 @@ use crate::parts::{Parts, push_mark};
 use keep_token::{Leaf, Profile, scan_gap};
 
 /// `ws`: white space from the byte `at` on, if there is some, and where it ends.
+#[inline(always)]
 pub fn space(text: &str, at: usize, out: &mut Parts) -> Result<usize, ReadFault>
     requires { IsCharBoundary text.now at }
     ensures { spec.SpaceRead text.now at (spec.flat out.old) (spec.flat out.new) result }

@@ -86,6 +86,7 @@ impl Parts {
 }
 
 /// Keeps a token that begins at the byte `at`.
+#[inline(always)]
 pub fn push_mark(out: &mut Parts, leaf: Leaf, at: usize) -> Result<(), ReadFault>
     ensures ok { OnOk result (spec.flat out.new ≡ spec.with_mark leaf at (spec.flat out.old)) }
     ensures err { IsOkUnless result Memory }

@@ -17,6 +17,7 @@ pub fn byte_at(text: &str, at: usize) -> u8
 }
 
 /// Keeps a token of `len` bytes, the last of them an ASCII one, and tells where it ends.
+#[inline(always)]
 pub fn sign(
     text: &str,
     at: usize,

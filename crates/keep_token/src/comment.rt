@@ -20,6 +20,7 @@ fn ends(block: u8x16) -> u64
 }
 
 /// How many bytes of a comment stand in front.
+#[inline(never)]
 pub(crate) fn comment_len(bytes: &[u8]) -> usize
     ensures len { result ≡ prefix_len is_comment bytes.now }
     ensures within { result ≤ length bytes.now }

@@ -10,6 +10,7 @@ use crate::comment::comment_len;
 use crate::leaf::Leaf;
 
 // The leaf in front, and its length.
+#[inline(always)]
 #[tactic(auto, unfolding(crate::specs::Scanning::gap_at))]
 fn gap_of(bytes: &[u8]) -> Option<(Leaf, usize)>
     ensures value { result ≡ gap_at bytes.now }
@@ -35,6 +36,7 @@ fn gap_of(bytes: &[u8]) -> Option<(Leaf, usize)>
 
 /// The longest white space, the newline or the longest comment that begins at the byte `at`, with the byte at which
 /// it ends, or nothing where none begins.
+#[inline(always)]
 pub fn scan_gap(text: &str, at: usize) -> Option<(Leaf, usize)>
     requires { IsCharBoundary text.now at }
     ensures found { IfSome result (λ found. (at < found.1) × GapLeaf (drop at text.now) found.0 (found.1 - at)) }
