@@ -12,7 +12,7 @@ use Rattle.keep_syntax.specs.Flat.{Flat}
 use Rattle.keep_syntax.specs.Grammar.{IsValue}
 use Rattle.keep_syntax.specs.Tree.{Value, value_text}
 use Rattle.keep_syntax.specs.Numbered.{info, inside_of, entries_values}
-use Rattle.keep_rules.specs.declared.nodes.Node.{Node}
+use Rattle.keep_rules.specs.AllNodes.{Node}
 use Rattle.keep_rules.specs.declared.ways.Fault.{Fault}
 use Rattle.keep_rules.specs.Fact.{Fact}
 use Rattle.keep_rules.specs.Rules.{ObeysRules, IsFirstFaulty}

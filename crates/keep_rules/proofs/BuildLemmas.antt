@@ -11,7 +11,7 @@ use Rattle.keep_rules.specs.declared.ways.Fault.TheVariants as fault
 use Rattle.keep_rules.specs.declared.role.Role.TheVariants.{Define, Element, Value}
 use Rattle.keep_rules.specs.declared.node.Kind.{Kind}
 use Rattle.keep_rules.specs.declared.node.Place.TheVariants as place
-use Rattle.keep_rules.specs.declared.nodes.Node.{Node}
+use Rattle.keep_rules.specs.AllNodes.{Node}
 use Rattle.keep_rules.specs.Fact.{Fact}
 use Rattle.keep_rules.specs.Path.{Part, key}
 use Rattle.keep_rules.specs.Keys.{AreKeys, parts_of, key_texts, way_texts, last_text}

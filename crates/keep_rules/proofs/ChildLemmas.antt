@@ -3,12 +3,10 @@ use Rattle.std.proofs.Common.{◌≡◌, ◌≢◌, ℕ, suc, zero, ◌<◌, Lis
 use Rattle.std.specs.Prelude.{slice_get}
 use Rattle.std.specs.Option.{option_map}
 use Rattle.std.proofs.lemmas.Option.{slice_get-get_or, slice_get_within, get_or_from_slice_get}
-use Rattle.keep_rules.specs.declared.nodes.Node.{Node}
-use Rattle.keep_rules.specs.declared.children.Children.{Children}
-use Rattle.keep_rules.specs.declared.children.Children.TheVariants.{Nothing, NoKeys, OneKey, TwoKeys, Keys, Items}
+use Rattle.keep_rules.specs.AllNodes.{Node}
 use Rattle.keep_rules.specs.Path.{Part, key, index}
 use Rattle.keep_rules.specs.Nodes.{node_number}
-use Rattle.keep_rules.specs.Children.{holds_of, named, child_ids, child_named, child_numbered}
+use Rattle.keep_rules.specs.Children.{Hung, Bare, Keyed, Listed, holds_of, named, child_ids, child_named, child_numbered}
 use Rattle.keep_rules.specs.Trie.{Twig, paths_of, path_at, children_of, by_key}
 use Rattle.keep_rules.specs.Stored.{step_at, twig_in, twigs, IsStored}
 use Rattle.keep_rules.proofs.TrieLemmas.{no_child}
@@ -17,7 +15,7 @@ use Rattle.keep_rules.proofs.LookupLemmas.{number_none, number_some}
 
 -- ---- the children of one node
 
-abbrev pub child_by : Children → Part → Option ℕ
+abbrev pub child_by : Hung → Part → Option ℕ
 child_by c (key text) = child_named c text
 child_by c (index n) = child_numbered c n
 
@@ -25,57 +23,43 @@ same_key : (a b : List ℕ) → key a ≡ key b → a ≡ b
 same_key a b e = cc
 
 -- the child by a step
-record IsStepTo (c : Children) (p : Part) (id : ℕ) : Type 0 where
+record IsStepTo (c : Hung) (p : Part) (id : ℕ) : Type 0 where
   pub place : ℕ
   pub inside : place < length (child_ids c)
   pub number : get_or (child_ids c) place 0 ≡ id
   pub step : step_at (named c) (holds_of c) place ≡ p
 
-found_by_key : (c : Children) (text : List ℕ) (id : ℕ) → holds_of c ≡ by_key → child_named c text ≡ Some id → IsStepTo c (key text) id
+found_by_key : (c : Hung) (text : List ℕ) (id : ℕ) → holds_of c ≡ by_key → child_named c text ≡ Some id → IsStepTo c (key text) id
 found_by_key c text id keyed h =
     let r = key_found c text id keyed h in
     record { place = r.place; inside = r.inside; number = r.number; step = keyed_step (named c) (holds_of c) r.place keyed ∙ ap key r.name }
 
-step_found : (c : Children) (p : Part) (id : ℕ) → child_by c p ≡ Some id → IsStepTo c p id
-step_found Nothing (key text) id h = absurd cc
-step_found Nothing (index n) id h = absurd cc
-step_found NoKeys (key text) id h = absurd cc
-step_found NoKeys (index n) id h = absurd cc
-step_found (OneKey one) (key text) id h = found_by_key (OneKey one) text id refl h
-step_found (OneKey one) (index n) id h = absurd cc
-step_found (TwoKeys two) (key text) id h = found_by_key (TwoKeys two) text id refl h
-step_found (TwoKeys two) (index n) id h = absurd cc
-step_found (Keys keys) (key text) id h = found_by_key (Keys keys) text id refl h
-step_found (Keys keys) (index n) id h = absurd cc
-step_found (Items items) (key text) id h = absurd cc
-step_found (Items items) (index n) id h = record { place = n; inside = slice_get_within items.value.items n id h; number = get_or_from_slice_get items.value.items n id 0 h; step = refl }
+step_found : (c : Hung) (p : Part) (id : ℕ) → child_by c p ≡ Some id → IsStepTo c p id
+step_found Bare (key text) id h = absurd cc
+step_found Bare (index n) id h = absurd cc
+step_found (Keyed pairs) (key text) id h = found_by_key (Keyed pairs) text id refl h
+step_found (Keyed pairs) (index n) id h = absurd cc
+step_found (Listed ids) (key text) id h = absurd cc
+step_found (Listed ids) (index n) id h = record { place = n; inside = slice_get_within ids n id h; number = get_or_from_slice_get ids n id 0 h; step = refl }
 
-missing_by_key : (c : Children) (text : List ℕ) (k : ℕ) → holds_of c ≡ by_key → child_named c text ≡ None → k < length (child_ids c) → step_at (named c) (holds_of c) k ≡ key text → ⊥
+missing_by_key : (c : Hung) (text : List ℕ) (k : ℕ) → holds_of c ≡ by_key → child_named c text ≡ None → k < length (child_ids c) → step_at (named c) (holds_of c) k ≡ key text → ⊥
 missing_by_key c text k keyed h low same = key_missing c text k keyed h low (same_key _ text (sym (keyed_step (named c) (holds_of c) k keyed) ∙ same))
 
-step_missing : (c : Children) (p : Part) (k : ℕ) → child_by c p ≡ None → k < length (child_ids c) → step_at (named c) (holds_of c) k ≡ p → ⊥
-step_missing Nothing p k h low same = absurd (omega arith)
-step_missing NoKeys p k h low same = absurd (omega arith)
-step_missing (OneKey one) (key text) k h low same = missing_by_key (OneKey one) text k refl h low same
-step_missing (OneKey one) (index n) k h low same = absurd cc
-step_missing (TwoKeys two) (key text) k h low same = missing_by_key (TwoKeys two) text k refl h low same
-step_missing (TwoKeys two) (index n) k h low same = absurd cc
-step_missing (Keys keys) (key text) k h low same = missing_by_key (Keys keys) text k refl h low same
-step_missing (Keys keys) (index n) k h low same = absurd cc
-step_missing (Items items) (key text) k h low same = absurd cc
-step_missing (Items items) (index n) k h low same =
+step_missing : (c : Hung) (p : Part) (k : ℕ) → child_by c p ≡ None → k < length (child_ids c) → step_at (named c) (holds_of c) k ≡ p → ⊥
+step_missing Bare p k h low same = absurd (omega arith)
+step_missing (Keyed pairs) (key text) k h low same = missing_by_key (Keyed pairs) text k refl h low same
+step_missing (Keyed pairs) (index n) k h low same = absurd cc
+step_missing (Listed ids) (key text) k h low same = absurd cc
+step_missing (Listed ids) (index n) k h low same =
     let at : k ≡ n = cc in
-    let there : slice_get items.value.items n ≡ Some (get_or items.value.items n 0) = slice_get-get_or items.value.items n 0 (omega arith) in
+    let there : slice_get ids n ≡ Some (get_or ids n 0) = slice_get-get_or ids n 0 (omega arith) in
     absurd cc
 
 -- by an index it is the child at that place
-pub index_is_place : (c : Children) (n k : ℕ) → child_by c (index n) ≡ Some k → slice_get (child_ids c) n ≡ Some k
-index_is_place Nothing n k h = absurd cc
-index_is_place NoKeys n k h = absurd cc
-index_is_place (OneKey one) n k h = absurd cc
-index_is_place (TwoKeys two) n k h = absurd cc
-index_is_place (Keys keys) n k h = absurd cc
-index_is_place (Items items) n k h = h
+pub index_is_place : (c : Hung) (n k : ℕ) → child_by c (index n) ≡ Some k → slice_get (child_ids c) n ≡ Some k
+index_is_place Bare n k h = absurd cc
+index_is_place (Keyed pairs) n k h = absurd cc
+index_is_place (Listed ids) n k h = h
 
 -- its key, if it has one
 by_entry : (ps : List (List ℕ × ℕ)) (n : ℕ) (text : List ℕ) → option_map (λ e. e.0) (slice_get ps n) ≡ Some text → (get_or ps n ([], 0)).0 ≡ text
@@ -83,29 +67,23 @@ by_entry [] n text h = absurd cc
 by_entry (p ∷ ps) zero text h = cc
 by_entry (p ∷ ps) (suc n) text h = by_entry ps n text h
 
-pub key_step : (c : Children) (n : ℕ) (text : List ℕ) → option_map (λ e. e.0) (slice_get (named c) n) ≡ Some text → step_at (named c) (holds_of c) n ≡ key text
-key_step Nothing n text h = absurd cc
-key_step NoKeys n text h = absurd cc
-key_step (OneKey one) n text h = ap key (by_entry (named (OneKey one)) n text h)
-key_step (TwoKeys two) n text h = ap key (by_entry (named (TwoKeys two)) n text h)
-key_step (Keys keys) n text h = ap key (by_entry (named (Keys keys)) n text h)
-key_step (Items items) n text h = absurd cc
+pub key_step : (c : Hung) (n : ℕ) (text : List ℕ) → option_map (λ e. e.0) (slice_get (named c) n) ≡ Some text → step_at (named c) (holds_of c) n ≡ key text
+key_step Bare n text h = absurd cc
+key_step (Keyed pairs) n text h = ap key (by_entry (named (Keyed pairs)) n text h)
+key_step (Listed ids) n text h = absurd cc
 
 entry_there : (ps : List (List ℕ × ℕ)) (n : ℕ) → n < length ps → option_map (λ e. e.0) (slice_get ps n) ≡ None → ⊥
 entry_there [] n low h = absurd (omega arith)
 entry_there (p ∷ ps) zero low h = absurd cc
 entry_there (p ∷ ps) (suc n) low h = entry_there ps n (omega arith) h
 
-all_named : (c : Children) (n : ℕ) → holds_of c ≡ by_key → n < length (child_ids c) → option_map (λ e. e.0) (slice_get (named c) n) ≡ None → ⊥
+all_named : (c : Hung) (n : ℕ) → holds_of c ≡ by_key → n < length (child_ids c) → option_map (λ e. e.0) (slice_get (named c) n) ≡ None → ⊥
 all_named c n keyed low h = entry_there (named c) n (omega (arith, low, count_named c keyed)) h
 
-pub no_key_step : (c : Children) (n : ℕ) → n < length (child_ids c) → option_map (λ e. e.0) (slice_get (named c) n) ≡ None → (holds_of c ≢ by_key) × (step_at (named c) (holds_of c) n ≡ index n)
-no_key_step Nothing n low h = absurd (omega arith)
-no_key_step NoKeys n low h = absurd (omega arith)
-no_key_step (OneKey one) n low h = absurd (all_named (OneKey one) n refl low h)
-no_key_step (TwoKeys two) n low h = absurd (all_named (TwoKeys two) n refl low h)
-no_key_step (Keys keys) n low h = absurd (all_named (Keys keys) n refl low h)
-no_key_step (Items items) n low h = (λ e. cc, refl)
+pub no_key_step : (c : Hung) (n : ℕ) → n < length (child_ids c) → option_map (λ e. e.0) (slice_get (named c) n) ≡ None → (holds_of c ≢ by_key) × (step_at (named c) (holds_of c) n ≡ index n)
+no_key_step Bare n low h = absurd (omega arith)
+no_key_step (Keyed pairs) n low h = absurd (all_named (Keyed pairs) n refl low h)
+no_key_step (Listed ids) n low h = (λ e. cc, refl)
 
 -- ---- among the nodes
 
@@ -113,7 +91,7 @@ no_key_step (Items items) n low h = (λ e. cc, refl)
 pub stepped : (nodes : List Node) → IsStored nodes → (i : ℕ) (d : Node) (p : Part) → i < length nodes
     → child_by (get_or nodes i d).children p ≡ node_number (paths_of (twigs nodes)) (path_at (twigs nodes) i ++ p ∷ [])
 stepped nodes stored i d p h =
-    let c : Children = (get_or nodes i d).children in
+    let c : Hung = (get_or nodes i d).children in
     let ts : List Twig = twigs nodes in
     let u : Twig = twig_in nodes d in
     let kids : child_ids c ≡ children_of ts i = stored.kids i d h in

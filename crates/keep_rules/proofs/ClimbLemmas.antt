@@ -2,11 +2,10 @@
 use Rattle.std.proofs.Common.{◌≡◌, ◌≢◌, ℕ, ◌<◌, List, [], ◌∷◌, ◌++◌, length, get_or, refl, sym, ◌∙◌, ap, subst, arith, Some, None}
 use Rattle.std.specs.Prelude.{slice_get}
 use Rattle.std.specs.Option.{option_map}
-use Rattle.std.proofs.lemmas.List.{get_or-map, get_or_default}
-use Rattle.keep_rules.specs.declared.nodes.Node.{Node}
-use Rattle.keep_rules.specs.declared.children.Children.{Children}
+use Rattle.std.proofs.lemmas.List.{get_or-map}
+use Rattle.keep_rules.specs.AllNodes.{Node, no_node, node_at}
 use Rattle.keep_rules.specs.Path.{Part, key, index}
-use Rattle.keep_rules.specs.Children.{holds_of, named, child_ids}
+use Rattle.keep_rules.specs.Children.{Hung, holds_of, named, child_ids}
 use Rattle.keep_rules.specs.Lookup.{parent_at, IsWay}
 use Rattle.keep_rules.specs.Trie.{path_at, holds_at, by_key}
 use Rattle.keep_rules.specs.Stored.{step_at, twigs, IsStored}
@@ -40,61 +39,56 @@ way_left nodes id way rest n top is h = way_popped nodes id rest n top (subst (�
 
 -- ---- the last step
 
--- a node that was read
-pub record IsRead (nodes : List Node) (id : ℕ) (n : Node) : Type 0 where
+-- a node of which it was read where it hangs
+pub record IsRead (nodes : List Node) (id up number : ℕ) : Type 0 where
   pub stored : IsStored nodes
   pub later : 0 < id
   pub inside : id < length nodes
-  pub node : n ≡ get_or nodes id n
+  pub parent : up ≡ (node_at nodes id).parent
+  pub place : number ≡ (node_at nodes id).number
 
--- what its parent keeps
-abbrev pub kids_above : List Node → Node → Node → Children
-kids_above nodes n e = (get_or nodes n.parent e).children
+pub is_read : (nodes : List Node) → IsStored nodes → (id up number : ℕ) → 0 < id → id < length nodes → up ≡ (node_at nodes id).parent → number ≡ (node_at nodes id).number → IsRead nodes id up number
+is_read nodes stored id up number later inside parent place = record { stored = stored; later = later; inside = inside; parent = parent; place = place }
 
-pub is_read : (nodes : List Node) → IsStored nodes → (id : ℕ) (n : Node) → 0 < id → id < length nodes → n ≡ get_or nodes id n → IsRead nodes id n
-is_read nodes stored id n later h is = record { stored = stored; later = later; inside = h; node = is }
+-- what hangs there
+abbrev pub kids_at : List Node → ℕ → Hung
+kids_at nodes up = (node_at nodes up).children
 
-parent_is : (nodes : List Node) (id : ℕ) (n : Node) → IsRead nodes id n → parent_at nodes id ≡ n.parent
-parent_is nodes id n r = parent_read nodes id n r.inside ∙ ap (λ (x : Node). x.parent) (sym r.node)
+parent_is : (nodes : List Node) (id up number : ℕ) → IsRead nodes id up number → parent_at nodes id ≡ up
+parent_is nodes id up number r = parent_read nodes id no_node r.inside ∙ sym r.parent
 
-pub earlier : (nodes : List Node) (id : ℕ) (n : Node) → IsRead nodes id n → n.parent < id
-earlier nodes id n r = omega (arith, (node_placed nodes r.stored id n r.later r.inside).earlier, ap (λ (x : Node). x.parent) r.node)
+pub earlier : (nodes : List Node) (id up number : ℕ) → IsRead nodes id up number → up < id
+earlier nodes id up number r = omega (arith, (node_placed nodes r.stored id no_node r.later r.inside).earlier, r.parent)
 
-other_default : (nodes : List Node) (id : ℕ) (n e : Node) → IsRead nodes id n → kids_above nodes n n ≡ kids_above nodes n e
-other_default nodes id n e r = ap (λ (x : Node). x.children) (get_or_default nodes n.parent n e (omega (arith, earlier nodes id n r, r.inside)))
+low_number : (nodes : List Node) (id up number : ℕ) → IsRead nodes id up number → number < length (child_ids (kids_at nodes up))
+low_number nodes id up number r =
+    omega (arith, (node_placed nodes r.stored id no_node r.later r.inside).low, r.place, ap (λ u. length (child_ids (kids_at nodes u))) r.parent)
 
-low_number : (nodes : List Node) (id : ℕ) (n e : Node) → IsRead nodes id n → n.number < length (child_ids (kids_above nodes n e))
-low_number nodes id n e r =
-    let low : n.number < length (child_ids (kids_above nodes n n)) = subst (λ (x : Node). x.number < length (child_ids (kids_above nodes x n))) (sym r.node) (node_placed nodes r.stored id n r.later r.inside).low in
-    subst (λ (c : Children). n.number < length (child_ids c)) (other_default nodes id n e r) low
-
-last_step : (nodes : List Node) (id : ℕ) (n e : Node) → IsRead nodes id n
-    → path_at (twigs nodes) id ≡ path_at (twigs nodes) n.parent ++ step_at (named (kids_above nodes n e)) (holds_of (kids_above nodes n e)) n.number ∷ []
-last_step nodes id n e r =
-    let own : path_at (twigs nodes) id ≡ path_at (twigs nodes) n.parent ++ step_at (named (kids_above nodes n n)) (holds_of (kids_above nodes n n)) n.number ∷ [] =
-    subst (λ (x : Node). path_at (twigs nodes) id ≡ path_at (twigs nodes) x.parent ++ step_at (named (kids_above nodes x n)) (holds_of (kids_above nodes x n)) x.number ∷ []) (sym r.node)
-    (path_placed nodes r.stored id n r.later r.inside) in
-    own ∙ ap (λ (c : Children). path_at (twigs nodes) n.parent ++ step_at (named c) (holds_of c) n.number ∷ []) (other_default nodes id n e r)
+last_step : (nodes : List Node) (id up number : ℕ) → IsRead nodes id up number → path_at (twigs nodes) id ≡ path_at (twigs nodes) up ++ step_at (named (kids_at nodes up)) (holds_of (kids_at nodes up)) number ∷ []
+last_step nodes id up number r =
+    path_placed nodes r.stored id no_node r.later r.inside
+    ∙ ap (λ u. path_at (twigs nodes) u ++ step_at (named (kids_at nodes u)) (holds_of (kids_at nodes u)) (node_at nodes id).number ∷ []) (sym r.parent)
+    ∙ ap (λ k. path_at (twigs nodes) up ++ step_at (named (kids_at nodes up)) (holds_of (kids_at nodes up)) k ∷ []) (sym r.place)
 
 -- the step is a key
-pub key_last : (nodes : List Node) (id : ℕ) (n e : Node) (text : List ℕ) (path : List Part) → IsRead nodes id n → Some text ≡ option_map (λ p. p.0) (slice_get (named (kids_above nodes n e)) n.number)
+pub key_last : (nodes : List Node) (id up number : ℕ) (text : List ℕ) (path : List Part) → IsRead nodes id up number → Some text ≡ option_map (λ p. p.0) (slice_get (named (kids_at nodes up)) number)
     → path ≡ path_at (twigs nodes) (parent_at nodes id) → path ++ key text ∷ [] ≡ path_at (twigs nodes) id
-key_last nodes id n e text path r is at =
-    ap (λ p. p ++ key text ∷ []) (at ∙ ap (path_at (twigs nodes)) (parent_is nodes id n r))
-    ∙ sym (last_step nodes id n e r ∙ ap (λ x. path_at (twigs nodes) n.parent ++ x ∷ []) (key_step (kids_above nodes n e) n.number text (sym is)))
+key_last nodes id up number text path r is at =
+    ap (λ p. p ++ key text ∷ []) (at ∙ ap (path_at (twigs nodes)) (parent_is nodes id up number r))
+    ∙ sym (last_step nodes id up number r ∙ ap (λ x. path_at (twigs nodes) up ++ x ∷ []) (key_step (kids_at nodes up) number text (sym is)))
 
 -- the step is an index
-pub index_last : (nodes : List Node) (id : ℕ) (n e : Node) (path : List Part) → IsRead nodes id n → None ≡ option_map (λ p. p.0) (slice_get (named (kids_above nodes n e)) n.number)
-    → path ≡ path_at (twigs nodes) (parent_at nodes id) → path ++ index n.number ∷ [] ≡ path_at (twigs nodes) id
-index_last nodes id n e path r is at =
-    ap (λ p. p ++ index n.number ∷ []) (at ∙ ap (path_at (twigs nodes)) (parent_is nodes id n r))
-    ∙ sym (last_step nodes id n e r ∙ ap (λ x. path_at (twigs nodes) n.parent ++ x ∷ []) (no_key_step (kids_above nodes n e) n.number (low_number nodes id n e r) (sym is)).1)
+pub index_last : (nodes : List Node) (id up number : ℕ) (path : List Part) → IsRead nodes id up number → None ≡ option_map (λ p. p.0) (slice_get (named (kids_at nodes up)) number)
+    → path ≡ path_at (twigs nodes) (parent_at nodes id) → path ++ index number ∷ [] ≡ path_at (twigs nodes) id
+index_last nodes id up number path r is at =
+    ap (λ p. p ++ index number ∷ []) (at ∙ ap (path_at (twigs nodes)) (parent_is nodes id up number r))
+    ∙ sym (last_step nodes id up number r ∙ ap (λ x. path_at (twigs nodes) up ++ x ∷ []) (no_key_step (kids_at nodes up) number (low_number nodes id up number r) (sym is)).1)
 
 -- which stands behind another step
-pub index_below : (nodes : List Node) (id : ℕ) (n e : Node) (path : List Part) → IsRead nodes id n → None ≡ option_map (λ p. p.0) (slice_get (named (kids_above nodes n e)) n.number)
+pub index_below : (nodes : List Node) (id up number : ℕ) (path : List Part) → IsRead nodes id up number → None ≡ option_map (λ p. p.0) (slice_get (named (kids_at nodes up)) number)
     → path ≡ path_at (twigs nodes) (parent_at nodes id) → holds_at (twigs nodes) 0 ≡ by_key → path ≢ []
-index_below nodes id n e path r is at rooted bare =
-    let up : n.parent < length nodes = omega (arith, earlier nodes id n r, r.inside) in
-    let empty : path_at (twigs nodes) n.parent ≡ path_at (twigs nodes) 0 = ap (path_at (twigs nodes)) (sym (parent_is nodes id n r)) ∙ sym at ∙ bare ∙ sym (path_at-root (twigs nodes)) in
-    let top : n.parent ≡ 0 = one_node (twigs nodes) r.stored.trie n.parent 0 (omega (arith, up, length_twigs nodes)) (omega (arith, up, length_twigs nodes)) empty in
-    (no_key_step (kids_above nodes n e) n.number (low_number nodes id n e r) (sym is)).0 (sym (keyed_node nodes n.parent e up) ∙ ap (holds_at (twigs nodes)) top ∙ rooted)
+index_below nodes id up number path r is at rooted bare =
+    let below : up < length nodes = omega (arith, earlier nodes id up number r, r.inside) in
+    let empty : path_at (twigs nodes) up ≡ path_at (twigs nodes) 0 = ap (path_at (twigs nodes)) (sym (parent_is nodes id up number r)) ∙ sym at ∙ bare ∙ sym (path_at-root (twigs nodes)) in
+    let top : up ≡ 0 = one_node (twigs nodes) r.stored.trie up 0 (omega (arith, below, length_twigs nodes)) (omega (arith, below, length_twigs nodes)) empty in
+    (no_key_step (kids_at nodes up) number (low_number nodes id up number r) (sym is)).0 (sym (keyed_node nodes up no_node below) ∙ ap (holds_at (twigs nodes)) top ∙ rooted)

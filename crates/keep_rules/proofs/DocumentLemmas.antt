@@ -12,7 +12,7 @@ use Rattle.keep_syntax.specs.Contract.{statements_of}
 use Rattle.keep_syntax.specs.Flat.{Flat}
 use Rattle.keep_syntax.specs.Numbered as syntax
 use Rattle.keep_syntax.specs.Tree.{Document}
-use Rattle.keep_rules.specs.declared.nodes.Node.{Node}
+use Rattle.keep_rules.specs.AllNodes.{Node}
 use Rattle.keep_rules.specs.declared.ways.Fault.{Fault}
 use Rattle.keep_rules.specs.Path.{Part}
 use Rattle.keep_rules.specs.Rules.{ObeysRules, IsFirstFaulty}

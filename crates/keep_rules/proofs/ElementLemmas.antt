@@ -2,7 +2,7 @@
 use Rattle.std.proofs.Common.{◌≡◌, ℕ, ◌-◌, ◌<◌, true, false, List, [], ◌∷◌, ◌++◌, length, get_or, sym, ◌∙◌, ap, arith, Option, Some, None, Ok, Err}
 use Rattle.std.specs.Prelude.{Contains, IfOk, OnOk, IfSome, IfNone, Result}
 use Rattle.std.proofs.lemmas.List.{length-map}
-use Rattle.keep_rules.specs.declared.nodes.Node.{Node}
+use Rattle.keep_rules.specs.AllNodes.{Node, no_node, node_at}
 use Rattle.keep_rules.specs.Path.{Part, index}
 use Rattle.keep_rules.specs.Children.{holds_of, child_ids}
 use Rattle.keep_rules.specs.Trie.{by_index, paths_of, path_at, state_at, holds_at, children_of}
@@ -34,30 +34,29 @@ pub item_fresh : (nodes : List Node) → IsStored nodes → IsShaped (twigs node
     → Contains (paths_of (twigs nodes)) (path_at (twigs nodes) i ++ index (length (children_of (twigs nodes) i)) ∷ []) → ⊥
 item_fresh nodes stored shaped i h listed = next_fresh (twigs nodes) i stored.trie shaped (omega (arith, h, length-map nodes (twig_in nodes))) listed
 
--- the children of a node that was read
-kept_ids : (nodes : List Node) → IsStored nodes → (i : ℕ) (d : Node) → i < length nodes → d ≡ get_or nodes i d → child_ids d.children ≡ children_of (twigs nodes) i
-kept_ids nodes stored i d h is = ap (λ (x : Node). child_ids x.children) is ∙ stored.kids i d h
+-- what hangs at a node, and whether it is an array of tables
+kept_ids : (nodes : List Node) → IsStored nodes → (i : ℕ) → i < length nodes → child_ids (node_at nodes i).children ≡ children_of (twigs nodes) i
+kept_ids nodes stored i h = stored.kids i no_node h
 
-tables_read : (nodes : List Node) (i : ℕ) (d : Node) → i < length nodes → d ≡ get_or nodes i d → is_tables (state_at (twigs nodes) i) ≡ is_tables d.told.role
-tables_read nodes i d h is = ap is_tables (role_read nodes i d h ∙ ap (λ (x : Node). x.told.role) (sym is))
+tables_read : (nodes : List Node) (i : ℕ) → i < length nodes → is_tables (state_at (twigs nodes) i) ≡ is_tables (node_at nodes i).told.role
+tables_read nodes i h = ap is_tables (role_read nodes i no_node h)
 
-pub last_found : (nodes : List Node) → IsStored nodes → (i : ℕ) (d : Node) (path : List Part) (id : ℕ) → i < length nodes → d ≡ get_or nodes i d → path_at (twigs nodes) i ≡ path → is_tables d.told.role ≡ true
-    → (0 < length (child_ids d.children)) × (id ≡ get_or (child_ids d.children) (length (child_ids d.children) - 1) 0) → IsLastElement (twigs nodes) path i id
-last_found nodes stored i d path id h is here tables was = record {
+pub last_found : (nodes : List Node) → IsStored nodes → (i : ℕ) (path : List Part) (id : ℕ) → i < length nodes → path_at (twigs nodes) i ≡ path → is_tables (node_at nodes i).told.role ≡ true
+    → (0 < length (child_ids (node_at nodes i).children)) × (id ≡ get_or (child_ids (node_at nodes i).children) (length (child_ids (node_at nodes i).children) - 1) 0) → IsLastElement (twigs nodes) path i id
+last_found nodes stored i path id h here tables was = record {
   inside = omega (arith, h, length-map nodes (twig_in nodes));
   here = here;
-  tables = tables_read nodes i d h is ∙ tables;
-  some = omega (arith, was.0, ap length (kept_ids nodes stored i d h is));
-  last = was.1 ∙ ap (λ ks. get_or ks (length ks - 1) 0) (kept_ids nodes stored i d h is);
+  tables = tables_read nodes i h ∙ tables;
+  some = omega (arith, was.0, ap length (kept_ids nodes stored i h));
+  last = was.1 ∙ ap (λ ks. get_or ks (length ks - 1) 0) (kept_ids nodes stored i h);
 }
 
-pub last_missing : (nodes : List Node) → IsStored nodes → IsShaped (twigs nodes) → (i : ℕ) (d : Node) (path : List Part) → i < length nodes → d ≡ get_or nodes i d → path_at (twigs nodes) i ≡ path → is_tables d.told.role ≡ true
-    → (holds_of d.children ≡ by_index → length (child_ids d.children) ≡ 0) → HasNoElement (twigs nodes) path
-last_missing nodes stored shaped i d path h is here tables empty =
+pub last_missing : (nodes : List Node) → IsStored nodes → IsShaped (twigs nodes) → (i : ℕ) (path : List Part) → i < length nodes → path_at (twigs nodes) i ≡ path → is_tables (node_at nodes i).told.role ≡ true
+    → (holds_of (node_at nodes i).children ≡ by_index → length (child_ids (node_at nodes i).children) ≡ 0) → HasNoElement (twigs nodes) path
+last_missing nodes stored shaped i path h here tables empty =
     let h' : i < length (twigs nodes) = omega (arith, h, length-map nodes (twig_in nodes)) in
-    let listed : holds_of d.children ≡ by_index =
-    ap (λ (x : Node). holds_of x.children) is ∙ sym (keyed_node nodes i d h) ∙ tables_listed (twigs nodes) shaped i h' (tables_read nodes i d h is ∙ tables) in
-    none_empty (twigs nodes) path i h' here (ap length (sym (kept_ids nodes stored i d h is)) ∙ empty listed)
+    let listed : holds_of (node_at nodes i).children ≡ by_index = sym (keyed_node nodes i no_node h) ∙ tables_listed (twigs nodes) shaped i h' (tables_read nodes i h ∙ tables) in
+    none_empty (twigs nodes) path i h' here (ap length (sym (kept_ids nodes stored i h)) ∙ empty listed)
 
-pub no_tables : (nodes : List Node) → (i : ℕ) (d : Node) (path : List Part) → i < length nodes → d ≡ get_or nodes i d → path_at (twigs nodes) i ≡ path → is_tables d.told.role ≡ false → HasNoElement (twigs nodes) path
-no_tables nodes i d path h is here plain = none_plain (twigs nodes) path i (omega (arith, h, length-map nodes (twig_in nodes))) here (tables_read nodes i d h is ∙ plain)
+pub no_tables : (nodes : List Node) → (i : ℕ) (path : List Part) → i < length nodes → path_at (twigs nodes) i ≡ path → is_tables (node_at nodes i).told.role ≡ false → HasNoElement (twigs nodes) path
+no_tables nodes i path h here plain = none_plain (twigs nodes) path i (omega (arith, h, length-map nodes (twig_in nodes))) here (tables_read nodes i h ∙ plain)

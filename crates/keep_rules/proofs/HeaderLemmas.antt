@@ -8,7 +8,7 @@ use Rattle.keep_syntax.specs.declared.info.StatementKind.TheVariants.{KeyVal, He
 use Rattle.keep_syntax.specs.declared.info.ValueInfo.{ValueInfo}
 use Rattle.keep_syntax.specs.Flat.{Flat}
 use Rattle.keep_rules.specs.declared.keys.Keys.{Keys}
-use Rattle.keep_rules.specs.declared.nodes.Node.{Node}
+use Rattle.keep_rules.specs.AllNodes.{Node}
 use Rattle.keep_rules.specs.declared.ways.Fault.{Fault}
 use Rattle.keep_rules.specs.Path.{Part, key, index}
 use Rattle.keep_rules.specs.Marks as marks

@@ -13,7 +13,7 @@ use Rattle.keep_rules.specs.KeyText.{part_text}
 use Rattle.keep_rules.specs.Keys.{keys_in, AreKeys, parts_of, key_texts, key_text_at, way_texts, last_text}
 use Rattle.keep_rules.specs.declared.node.Kind.TheVariants as kind
 use Rattle.keep_rules.specs.declared.node.Place.TheVariants as place
-use Rattle.keep_rules.specs.declared.nodes.Node.{Node}
+use Rattle.keep_rules.specs.AllNodes.{Node}
 use Rattle.keep_rules.specs.Marks.{Mention, passing_mentions}
 use Rattle.keep_rules.specs.Nodes.{key_span}
 use Rattle.keep_rules.specs.Told.{named_info}

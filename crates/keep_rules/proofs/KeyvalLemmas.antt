@@ -11,7 +11,7 @@ use Rattle.keep_syntax.specs.Tree.{Name, Value}
 use Rattle.keep_syntax.specs.Numbered.{value_count}
 use Rattle.keep_rules.specs.declared.keys.Keys.{Keys}
 use Rattle.keep_rules.specs.declared.node.Kind.{Kind}
-use Rattle.keep_rules.specs.declared.nodes.Node.{Node}
+use Rattle.keep_rules.specs.AllNodes.{Node}
 use Rattle.keep_rules.specs.declared.role.Role.{Role}
 use Rattle.keep_rules.specs.declared.role.Role.TheVariants.{Element}
 use Rattle.keep_rules.specs.declared.ways.Fault.{Fault}

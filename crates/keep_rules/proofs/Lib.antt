@@ -23,6 +23,7 @@ pub mod InsideLemmas
 pub mod TurnLemmas
 pub mod StopLemmas
 pub mod ReadLemmas
+pub mod NameLemmas
 pub mod StoredLemmas
 pub mod LookupLemmas
 pub mod ChildLemmas

@@ -9,7 +9,7 @@ use Rattle.keep_syntax.specs.declared.info.Owner.TheVariants as owner
 use Rattle.keep_syntax.specs.declared.info.ValueInfo.{ValueInfo}
 use Rattle.keep_syntax.specs.Flat.{Flat}
 use Rattle.keep_rules.specs.declared.node.Kind.{Kind}
-use Rattle.keep_rules.specs.declared.nodes.Node.{Node}
+use Rattle.keep_rules.specs.AllNodes.{Node}
 use Rattle.keep_rules.specs.declared.keys.Keys.{Keys}
 use Rattle.keep_rules.specs.declared.ways.Fault.{Fault}
 use Rattle.keep_rules.specs.declared.ways.Fault.TheVariants as fault

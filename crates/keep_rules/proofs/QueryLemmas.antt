@@ -1,12 +1,13 @@
 -- What the nodes as they are kept answer, told by the paths and by what is told of each.
-use Rattle.std.proofs.Common.{◌≡◌, ℕ, suc, ◌+◌, ◌<◌, ◌≤◌, true, false, if◌then◌else◌, List, [], ◌∷◌, ◌++◌, length, get_or, take, drop, take-take, refl, sym, ◌∙◌, ap, arith, Option, Some, None}
+use Rattle.std.proofs.Common.{◌≡◌, ℕ, suc, ◌+◌, ◌<◌, ◌≤◌, true, false, if◌then◌else◌, List, [], ◌∷◌, ◌++◌, length, take, drop, take-take, refl, sym, ◌∙◌, ap, arith, Option, Some, None}
 use Rattle.std.specs.Prelude.{IfSome, slice_get, nat_lt, min}
 use Rattle.std.proofs.lemmas.Bool.Decides.{Decides-ltb}
 use Rattle.std.proofs.lemmas.List.{length-map, get_or-map, take-append-drop, take_min}
 use Rattle.std.proofs.lemmas.Option.{slice_get-get_or, slice_get_within, get_or_from_slice_get, option_and_then_some}
 use Rattle.std.proofs.Math.Seq.{take-suc}
 use Rattle.keep_rules.specs.declared.index.NodeId.{NodeId}
-use Rattle.keep_rules.specs.declared.nodes.Node.{Node}
+use Rattle.keep_rules.specs.AllNodes.{Node, no_node, node_at}
+use Rattle.keep_rules.specs.declared.node.NodeInfo.{NodeInfo}
 use Rattle.keep_rules.specs.Path.{Part, index}
 use Rattle.keep_rules.specs.Nodes.{node_number}
 use Rattle.keep_rules.specs.Children.{child_ids}
@@ -18,40 +19,39 @@ use Rattle.keep_rules.proofs.StoredLemmas.{length_twigs}
 use Rattle.keep_rules.proofs.LookupLemmas.{number_is, number_some, none_longer, nth_is, count_is}
 use Rattle.keep_rules.proofs.ChildLemmas.{child_by, stepped, index_is_place}
 
--- a node that was read, and what is told of all
-pub record IsNode (nodes : List Node) (t : Telling) (i : ℕ) (n : Node) : Type 0 where
+-- a node, and what is told of all
+pub record IsNode (nodes : List Node) (t : Telling) (i : ℕ) : Type 0 where
   pub stored : IsStored nodes
   pub view : telling nodes ≡ t
   pub inside : i < length t.paths
-  pub node : n ≡ get_or nodes i n
 
 pub count_paths : (nodes : List Node) (t : Telling) → IsStored nodes → telling nodes ≡ t → length t.paths ≡ length nodes
 count_paths nodes t stored view = ap (λ (x : Telling). length x.paths) (sym view) ∙ length-paths_of (twigs nodes) stored.trie.root ∙ length_twigs nodes
 
-low : {nodes : List Node} {t : Telling} {i : ℕ} {n : Node} → IsNode nodes t i n → i < length nodes
-low {nodes} {t} r = omega (arith, r.inside, count_paths nodes t r.stored r.view)
+pub low_node : (nodes : List Node) (t : Telling) (i : ℕ) → IsNode nodes t i → i < length nodes
+low_node nodes t i r = omega (arith, r.inside, count_paths nodes t r.stored r.view)
 
-pub child_answer : (nodes : List Node) (t : Telling) (i : ℕ) (n : Node) (p : Part) → IsNode nodes t i n → child_by n.children p ≡ node_number t.paths (path_numbered t i ++ p ∷ [])
-child_answer nodes t i n p r =
-    ap (λ (x : Node). child_by x.children p) r.node ∙ stepped nodes r.stored i n p (low r) ∙ ap (λ (x : Telling). node_number x.paths (path_numbered x i ++ p ∷ [])) r.view
+pub child_answer : (nodes : List Node) (t : Telling) (i : ℕ) (p : Part) → IsNode nodes t i → child_by (node_at nodes i).children p ≡ node_number t.paths (path_numbered t i ++ p ∷ [])
+child_answer nodes t i p r = stepped nodes r.stored i no_node p (low_node nodes t i r) ∙ ap (λ (x : Telling). node_number x.paths (path_numbered x i ++ p ∷ [])) r.view
 
-pub count_answer : (nodes : List Node) (t : Telling) (i : ℕ) (n : Node) → IsNode nodes t i n → length (child_ids n.children) ≡ length (children_numbered t i)
-count_answer nodes t i n r =
-    ap (λ (x : Node). length (child_ids x.children)) r.node ∙ ap length (r.stored.kids i n (low r))
-    ∙ sym (count_is (twigs nodes) r.stored.trie i (twig_in nodes n) (omega (arith, low r, length_twigs nodes))) ∙ ap (λ (x : Telling). length (children_numbered x i)) r.view
+pub count_answer : (nodes : List Node) (t : Telling) (i : ℕ) → IsNode nodes t i → length (child_ids (node_at nodes i).children) ≡ length (children_numbered t i)
+count_answer nodes t i r =
+    ap length (r.stored.kids i no_node (low_node nodes t i r)) ∙ sym (count_is (twigs nodes) r.stored.trie i (twig_in nodes no_node) (omega (arith, low_node nodes t i r, length_twigs nodes)))
+    ∙ ap (λ (x : Telling). length (children_numbered x i)) r.view
 
-pub nth_answer : (nodes : List Node) (t : Telling) (i : ℕ) (n : Node) (k : ℕ) → IsNode nodes t i n → slice_get (child_ids n.children) k ≡ nth_child t i k
-nth_answer nodes t i n k r =
-    ap (λ (x : Node). slice_get (child_ids x.children) k) r.node ∙ ap (λ ids. slice_get ids k) (r.stored.kids i n (low r))
-    ∙ sym (nth_is (twigs nodes) r.stored.trie i k (twig_in nodes n) (omega (arith, low r, length_twigs nodes))) ∙ ap (λ (x : Telling). nth_child x i k) r.view
+pub nth_answer : (nodes : List Node) (t : Telling) (i k : ℕ) → IsNode nodes t i → slice_get (child_ids (node_at nodes i).children) k ≡ nth_child t i k
+nth_answer nodes t i k r =
+    ap (λ ids. slice_get ids k) (r.stored.kids i no_node (low_node nodes t i r)) ∙ sym (nth_is (twigs nodes) r.stored.trie i k (twig_in nodes no_node) (omega (arith, low_node nodes t i r, length_twigs nodes)))
+    ∙ ap (λ (x : Telling). nth_child x i k) r.view
 
-pub indexed_answer : (nodes : List Node) (t : Telling) (i : ℕ) (n : Node) (k id : ℕ) → IsNode nodes t i n → node_number t.paths (path_numbered t i ++ index k ∷ []) ≡ Some id → slice_get (child_ids n.children) k ≡ Some id
-indexed_answer nodes t i n k id r is = index_is_place n.children k id (child_answer nodes t i n (index k) r ∙ is)
+pub indexed_answer : (nodes : List Node) (t : Telling) (i k id : ℕ) → IsNode nodes t i → node_number t.paths (path_numbered t i ++ index k ∷ []) ≡ Some id → slice_get (child_ids (node_at nodes i).children) k ≡ Some id
+indexed_answer nodes t i k id r is = index_is_place (node_at nodes i).children k id (child_answer nodes t i (index k) r ∙ is)
 
-pub info_answer : (nodes : List Node) (t : Telling) (i : ℕ) (n : Node) → IsNode nodes t i n → slice_get t.infos i ≡ Some (info_of n.told)
-info_answer nodes t i n r =
-    ap (λ (x : Telling). slice_get x.infos i) (sym r.view) ∙ slice_get-get_or (infos_of nodes) i (info_of n.told) (omega (arith, low r, length-map nodes (λ (x : Node). info_of x.told)))
-    ∙ ap Some (get_or-map (λ (x : Node). info_of x.told) nodes i n (info_of n.told) (low r) ∙ ap (λ (x : Node). info_of x.told) (sym r.node))
+pub info_answer : (nodes : List Node) (t : Telling) (i : ℕ) → IsNode nodes t i → slice_get t.infos i ≡ Some (info_of (node_at nodes i).told)
+info_answer nodes t i r =
+    let told : NodeInfo = info_of (node_at nodes i).told in
+    ap (λ (x : Telling). slice_get x.infos i) (sym r.view) ∙ slice_get-get_or (infos_of nodes) i told (omega (arith, low_node nodes t i r, length-map nodes (λ (x : Node). info_of x.told)))
+    ∙ ap Some (get_or-map (λ (x : Node). info_of x.told) nodes i no_node told (low_node nodes t i r))
 
 -- ---- a number that was found is a node's
 

@@ -4,12 +4,11 @@ use Rattle.keep_syntax.specs.declared.fault.ReadFault.{ReadFault}
 use Rattle.keep_syntax.specs.declared.fault.ReadFault.TheVariants as faults
 use Rattle.keep_syntax.specs.declared.fault.Why.{Why}
 use Rattle.keep_syntax.specs.declared.info.KeyPart.{KeyPart}
-use Rattle.keep_rules.specs.declared.children.Children.{Children}
-use Rattle.keep_rules.specs.declared.nodes.Node.{Node}
+use Rattle.keep_rules.specs.AllNodes.{Node}
 use Rattle.keep_rules.specs.declared.told.Told.{Told}
 use Rattle.keep_rules.specs.declared.ways.Fault.{Fault}
 use Rattle.keep_rules.specs.declared.ways.Fault.TheVariants as fault
-use Rattle.keep_rules.specs.Children.{holds_of, child_ids}
+use Rattle.keep_rules.specs.Children.{Hung, holds_of, child_ids}
 use Rattle.keep_rules.specs.Faults.{IsFirstFaultAt}
 use Rattle.keep_rules.specs.Rules.{Mark, IsFirstFaulty}
 use Rattle.keep_rules.specs.Roots.{IsRoot}
@@ -30,7 +29,7 @@ root_numbers n bare zero d low = λ k e h. absurd (omega (arith, h, ap length ba
 root_numbers n bare (suc i) d low = absurd (omega (arith, low))
 
 -- such a node alone is a root
-pub is_root : (front nodes : List Node) (children : Children) (told : Told) (h : Holding) → front ≡ [] → nodes ≡ front ++ record { parent = 0; number = 0; children = children; told = told } ∷ []
+pub is_root : (front nodes : List Node) (children : Hung) (told : Told) (h : Holding) → front ≡ [] → nodes ≡ front ++ record { parent = 0; number = 0; children = children; told = told } ∷ []
     → told.role ≡ None → holds_of children ≡ h → child_ids children ≡ [] → info_of told ≡ nothing_said → IsRoot nodes h
 is_root front nodes children told h none is unmarked holds bare tells =
     let n : Node = record { parent = 0; number = 0; children = children; told = told } in

@@ -1,9 +1,7 @@
 -- The nodes as they are kept, with one more, and with another role at one.
-use Rattle.std.proofs.Common.{◌≡◌, ℕ, zero, suc, ◌+◌, ◌<◌, true, false, cond, List, [], ◌∷◌, ◌++◌, length, get_or, set, map, refl, sym, ◌∙◌, ap, subst, arith, length-append, inl, inr, Option, Some, None, String}
+use Rattle.std.proofs.Common.{◌≡◌, ℕ, zero, suc, ◌+◌, ◌<◌, true, false, cond, List, [], ◌∷◌, ◌++◌, length, get_or, set, map, refl, sym, ◌∙◌, ap, subst, arith, length-append, inl, inr, Option, Some, None}
 use Rattle.std.specs.Prelude.{Contains, IfSome, IfNone, slice_get}
-use Rattle.std.specs.Global.{Global}
 use Rattle.std.specs.Str.{bytes_eq}
-use Rattle.std.specs.String.{string_bytes}
 use Rattle.std.specs.Map.{lookup}
 use Rattle.std.proofs.lemmas.List.{get_or_append_left, get_or_push, get_or-set_same, get_or-set_other, get_or-map, get_or_default, length-set, length-map, map-append, map-set}
 use Rattle.std.proofs.lemmas.Bool.{cases_lt, cases_eq}
@@ -11,14 +9,12 @@ use Rattle.std.proofs.lemmas.Option.{slice_get-get_or, slice_get_past}
 use Rattle.std.proofs.lemmas.Simd.{map-map}
 use Rattle.std.proofs.lemmas.Slice.Eq.{bytes_eq-Decides}
 use Rattle.std.proofs.Math.Seq.{map-set_same}
-use Rattle.keep_rules.specs.declared.nodes.Node.{Node}
+use Rattle.keep_rules.specs.AllNodes.{Node, and_key}
 use Rattle.keep_rules.specs.declared.node.NodeInfo.{NodeInfo}
-use Rattle.keep_rules.specs.declared.children.Children.{Children}
-use Rattle.keep_rules.specs.declared.children.Children.TheVariants.{Nothing, NoKeys, OneKey, TwoKeys, Keys, Items}
 use Rattle.keep_rules.specs.declared.role.Role.{Role}
 use Rattle.keep_rules.specs.Path.{Part, key, index}
 use Rattle.keep_rules.specs.Told.{again, info_of, nothing_said}
-use Rattle.keep_rules.specs.Children.{holds_of, named, named_pair, child_ids, child_named}
+use Rattle.keep_rules.specs.Children.{Hung, Bare, Keyed, Listed, none_hung, holds_of, named, child_ids, child_named}
 use Rattle.keep_rules.specs.Trie.{Twig, Holding, nothing, by_key, by_index, IsTrie, state_at, holds_at, states_of, holdings_of, paths_of, path_at, children_of}
 use Rattle.keep_rules.specs.Growth.{Grows, Restates}
 use Rattle.keep_rules.specs.Stored.{step_at, step_in, twig_in, twigs, AreNumbered, IsStored, infos_of, info_at}
@@ -58,41 +54,27 @@ missing text (p ∷ ps) h k e low same =
       | false ↦ λ is h. later_missing text p ps k e is low same (λ j. missing text ps h j e)
     ]) refl h
 
-lookup_named : (text : List ℕ) (es : List (String Global × ℕ)) → lookup (λ k. bytes_eq text (string_bytes k)) es ≡ lookup (bytes_eq text) (map named_pair es)
-lookup_named text [] = refl
-lookup_named text (e ∷ es) = ap (λ o. cond (bytes_eq text (string_bytes e.0)) (Some e.1) o) (lookup_named text es)
+by_names : (c : Hung) (text : List ℕ) → holds_of c ≡ by_key → child_named c text ≡ lookup (bytes_eq text) (named c)
+by_names Bare text h = cc
+by_names (Keyed pairs) text h = refl
+by_names (Listed ids) text h = cc
 
-by_names : (c : Children) (text : List ℕ) → holds_of c ≡ by_key → child_named c text ≡ lookup (bytes_eq text) (named c)
-by_names Nothing text h = cc
-by_names NoKeys text h = refl
-by_names (OneKey one) text h = refl
-by_names (TwoKeys two) text h = refl
-by_names (Keys keys) text h = lookup_named text keys.value.entries
-by_names (Items items) text h = cc
+ids_named : (c : Hung) → holds_of c ≡ by_key → child_ids c ≡ map (λ e. e.1) (named c)
+ids_named Bare h = cc
+ids_named (Keyed pairs) h = refl
+ids_named (Listed ids) h = cc
 
-numbers_named : (es : List (String Global × ℕ)) → map (λ e. e.1) es ≡ map (λ e. e.1) (map named_pair es)
-numbers_named [] = refl
-numbers_named (e ∷ es) = ap (λ ns. e.1 ∷ ns) (numbers_named es)
-
-ids_named : (c : Children) → holds_of c ≡ by_key → child_ids c ≡ map (λ e. e.1) (named c)
-ids_named Nothing h = cc
-ids_named NoKeys h = refl
-ids_named (OneKey one) h = refl
-ids_named (TwoKeys two) h = refl
-ids_named (Keys keys) h = numbers_named keys.value.entries
-ids_named (Items items) h = cc
-
-pub count_named : (c : Children) → holds_of c ≡ by_key → length (child_ids c) ≡ length (named c)
+pub count_named : (c : Hung) → holds_of c ≡ by_key → length (child_ids c) ≡ length (named c)
 count_named c keyed = ap length (ids_named c keyed) ∙ length-map (named c) (λ e. e.1)
 
 -- the child of a key is that of the entry which has it
-pub record IsAtKey (c : Children) (text : List ℕ) (id : ℕ) : Type 0 where
+pub record IsAtKey (c : Hung) (text : List ℕ) (id : ℕ) : Type 0 where
   pub place : ℕ
   pub inside : place < length (child_ids c)
   pub number : get_or (child_ids c) place 0 ≡ id
   pub name : (get_or (named c) place ([], 0)).0 ≡ text
 
-pub key_found : (c : Children) (text : List ℕ) (id : ℕ) → holds_of c ≡ by_key → child_named c text ≡ Some id → IsAtKey c text id
+pub key_found : (c : Hung) (text : List ℕ) (id : ℕ) → holds_of c ≡ by_key → child_named c text ≡ Some id → IsAtKey c text id
 key_found c text id keyed is =
     let f = found text (named c) id (sym (by_names c text keyed) ∙ is) in
     let e : List ℕ × ℕ = ([], 0) in
@@ -103,7 +85,7 @@ key_found c text id keyed is =
       name = f.name e;
     }
 
-pub key_missing : (c : Children) (text : List ℕ) (k : ℕ) → holds_of c ≡ by_key → child_named c text ≡ None → k < length (child_ids c) → (get_or (named c) k ([], 0)).0 ≡ text → ⊥
+pub key_missing : (c : Hung) (text : List ℕ) (k : ℕ) → holds_of c ≡ by_key → child_named c text ≡ None → k < length (child_ids c) → (get_or (named c) k ([], 0)).0 ≡ text → ⊥
 key_missing c text k keyed is low same = missing text (named c) (sym (by_names c text keyed) ∙ is) k ([], 0) (omega (arith, low, count_named c keyed)) same
 
 -- ---- node by node
@@ -198,7 +180,7 @@ pub record IsKeyChild (nodes : List Node) (parent id : ℕ) (text : List ℕ) : 
 pub child_found : (nodes : List Node) → IsStored nodes → (parent id : ℕ) (d : Node) (text : List ℕ) → parent < length nodes → holds_of (get_or nodes parent d).children ≡ by_key
     → child_named (get_or nodes parent d).children text ≡ Some id → IsKeyChild nodes parent id text
 child_found nodes stored parent id d text h keyed is =
-    let c : Children = (get_or nodes parent d).children in
+    let c : Hung = (get_or nodes parent d).children in
     let f = key_found c text id keyed is in
     let child : IsStoredChild nodes parent f.place id d = subst (λ (n : ℕ). IsStoredChild nodes parent f.place n d) f.number (stored_child nodes stored parent f.place d h f.inside) in
     record {
@@ -212,7 +194,7 @@ same_key a b e = cc
 pub child_missing : (nodes : List Node) → IsStored nodes → (parent : ℕ) (d : Node) (text : List ℕ) → parent < length nodes → holds_of (get_or nodes parent d).children ≡ by_key
     → child_named (get_or nodes parent d).children text ≡ None → Contains (paths_of (twigs nodes)) (path_at (twigs nodes) parent ++ key text ∷ []) → ⊥
 child_missing nodes stored parent d text h keyed is =
-    let c : Children = (get_or nodes parent d).children in
+    let c : Hung = (get_or nodes parent d).children in
     let kids : child_ids c ≡ children_of (twigs nodes) parent = stored.kids parent d h in
     let u : Twig = twig_in nodes d in
     let e : List ℕ × ℕ = ([], 0) in
@@ -253,11 +235,11 @@ child_path nodes stored parent d text (Some id) h keyed is = (child_found nodes 
 -- ---- one node more
 
 -- the nodes with other children at one, and one more behind them
-abbrev pub with_one : List Node → ℕ → Node → Children → Node → List Node
+abbrev pub with_one : List Node → ℕ → Node → Hung → Node → List Node
 with_one nodes parent d kids new = set nodes parent (record (get_or nodes parent d) { children = kids }) ++ new ∷ []
 
 -- the new node hangs at the other, behind its children, by this step
-pub record IsAdded (nodes : List Node) (parent : ℕ) (d : Node) (kids : Children) (new : Node) (part : Part) : Type 0 where
+pub record IsAdded (nodes : List Node) (parent : ℕ) (d : Node) (kids : Hung) (new : Node) (part : Part) : Type 0 where
   pub stored : IsStored nodes
   pub within : parent < length nodes
   pub holds : holds_of kids ≡ holds_of (get_or nodes parent d).children
@@ -298,14 +280,14 @@ step_more names more by_index n low = refl
 step_more names more nothing n low = refl
 
 -- a step of a child that was there before
-step_kept : (nodes : List Node) (parent : ℕ) (d : Node) (kids : Children) (new : Node) (part : Part) → IsAdded nodes parent d kids new part → (p n : ℕ) → p < length nodes
+step_kept : (nodes : List Node) (parent : ℕ) (d : Node) (kids : Hung) (new : Node) (part : Part) → IsAdded nodes parent d kids new part → (p n : ℕ) → p < length nodes
     → n < length (child_ids (get_or nodes p d).children) → step_in (slice_get (with_one nodes parent d kids new) p) n ≡ step_in (slice_get nodes p) n
 step_kept nodes parent d kids new part added p n h low =
     let changed : Node = record (get_or nodes parent d) { children = kids } in
     let all : List Node = with_one nodes parent d kids new in
     step_below all p d n (omega (arith, h, length_added nodes parent changed new)) ∙ (elim (cases_eq p parent) [
       | inl at ↦
-          let above : Children = (get_or nodes parent d).children in
+          let above : Hung = (get_or nodes parent d).children in
           let low' : n < length (child_ids above) = omega (arith, low, ap (λ k. length (child_ids (get_or nodes k d).children)) at) in
           ap (λ k. step_at (named (get_or all k d).children) (holds_of (get_or all k d).children) n) at
           ∙ ap (λ (x : Node). step_at (named x.children) (holds_of x.children) n) (at_added nodes parent changed new d added.within)
@@ -322,7 +304,7 @@ same_twig e f g i = cc
 twig_added : Node → ℕ → Part → Twig
 twig_added new parent part = record { parent = parent; part = part; state = new.told.role; holds = holds_of new.children }
 
-twig_kept : (nodes : List Node) (parent : ℕ) (d : Node) (kids : Children) (new : Node) (part : Part) → IsAdded nodes parent d kids new part → (i : ℕ) → 0 < i → i < length nodes
+twig_kept : (nodes : List Node) (parent : ℕ) (d : Node) (kids : Hung) (new : Node) (part : Part) → IsAdded nodes parent d kids new part → (i : ℕ) → 0 < i → i < length nodes
     → twig_in (with_one nodes parent d kids new) (get_or (with_one nodes parent d kids new) i d) ≡ twig_in nodes (get_or nodes i d)
 twig_kept nodes parent d kids new part added i later h =
     let changed : Node = record (get_or nodes parent d) { children = kids } in
@@ -336,7 +318,7 @@ twig_kept nodes parent d kids new part added i later h =
     (kept_added (λ (n : Node). n.told.role) nodes parent d changed new added.within refl i d h)
     (kept_added (λ (n : Node). holds_of n.children) nodes parent d changed new added.within added.holds i d h)
 
-twig_last : (nodes : List Node) (parent : ℕ) (d : Node) (kids : Children) (new : Node) (part : Part) → IsAdded nodes parent d kids new part
+twig_last : (nodes : List Node) (parent : ℕ) (d : Node) (kids : Hung) (new : Node) (part : Part) → IsAdded nodes parent d kids new part
     → twig_in (with_one nodes parent d kids new) new ≡ twig_added new parent part
 unfolding twig_added
 twig_last nodes parent d kids new part added =
@@ -357,7 +339,7 @@ holdings_are nodes = map-map (λ (t : Twig). t.holds) (twig_in nodes) nodes
 map_added : {X : Type 0} (f : Node → X) (nodes : List Node) (parent : ℕ) (d changed new : Node) → f changed ≡ f (get_or nodes parent d) → map f (set nodes parent changed ++ new ∷ []) ≡ map f nodes ++ f new ∷ []
 map_added f nodes parent d changed new same = map-append f (set nodes parent changed) (new ∷ []) ∙ ap (λ xs. xs ++ f new ∷ []) (map-set_same f nodes parent changed d same)
 
-alike_added : (nodes : List Node) (parent : ℕ) (d : Node) (kids : Children) (new : Node) (part : Part) → IsAdded nodes parent d kids new part
+alike_added : (nodes : List Node) (parent : ℕ) (d : Node) (kids : Hung) (new : Node) (part : Part) → IsAdded nodes parent d kids new part
     → IsAlike (twigs (with_one nodes parent d kids new)) (twigs nodes ++ twig_added new parent part ∷ [])
 unfolding twig_added
 alike_added nodes parent d kids new part added =
@@ -381,7 +363,7 @@ alike_added nodes parent d kids new part added =
           ∙ sym (map-append (λ (u : Twig). u.holds) (twigs nodes) (t ∷ []));
     }
 
-pub grows_added : (nodes : List Node) (parent : ℕ) (d : Node) (kids : Children) (new : Node) (part : Part) → IsAdded nodes parent d kids new part
+pub grows_added : (nodes : List Node) (parent : ℕ) (d : Node) (kids : Hung) (new : Node) (part : Part) → IsAdded nodes parent d kids new part
     → (Contains (paths_of (twigs nodes)) (path_at (twigs nodes) parent ++ part ∷ []) → ⊥)
     → Grows (twigs nodes) (twigs (with_one nodes parent d kids new)) parent (path_at (twigs nodes) parent ++ part ∷ []) new.told.role (holds_of new.children)
 unfolding twig_added
@@ -389,7 +371,7 @@ grows_added nodes parent d kids new part added fresh =
     grows_alike (grows_pushed (twigs nodes) (twig_added new parent part) added.stored.trie (omega (arith, added.within, length_twigs nodes)) fresh) (alike_added nodes parent d kids new part added)
 
 -- the same for the nodes as they were written
-pub grows_with : (nodes items : List Node) (parent : ℕ) (d : Node) (kids : Children) (new : Node) (part : Part) (holds : Holding) → IsAdded nodes parent d kids new part
+pub grows_with : (nodes items : List Node) (parent : ℕ) (d : Node) (kids : Hung) (new : Node) (part : Part) (holds : Holding) → IsAdded nodes parent d kids new part
     → (Contains (paths_of (twigs nodes)) (path_at (twigs nodes) parent ++ part ∷ []) → ⊥) → items ≡ with_one nodes parent d kids new → holds_of new.children ≡ holds
     → Grows (twigs nodes) (twigs items) parent (path_at (twigs nodes) parent ++ part ∷ []) new.told.role holds
 grows_with nodes items parent d kids new part holds added fresh is bare =
@@ -405,14 +387,14 @@ numbers_pushed all ids id are last k e low = elim (cases_lt k (length ids)) [
 ]
 
 -- the children that were there keep their numbers
-numbers_kept : (nodes : List Node) (parent : ℕ) (d : Node) (kids : Children) (new : Node) (part : Part) → IsAdded nodes parent d kids new part → (i : ℕ) (e : Node) → i < length nodes
+numbers_kept : (nodes : List Node) (parent : ℕ) (d : Node) (kids : Hung) (new : Node) (part : Part) → IsAdded nodes parent d kids new part → (i : ℕ) (e : Node) → i < length nodes
     → AreNumbered (with_one nodes parent d kids new) (child_ids (get_or nodes i e).children)
 numbers_kept nodes parent d kids new part added i e h k u low =
     let changed : Node = record (get_or nodes parent d) { children = kids } in
     let id : ℕ = get_or (child_ids (get_or nodes i e).children) k 0 in
     kept_added (λ (n : Node). n.number) nodes parent d changed new added.within refl id u (stored_child nodes added.stored i k e h low).inside ∙ added.stored.numbers i e h k u low
 
-pub stored_added : (nodes : List Node) (parent : ℕ) (d : Node) (kids : Children) (new : Node) (part : Part) → IsAdded nodes parent d kids new part
+pub stored_added : (nodes : List Node) (parent : ℕ) (d : Node) (kids : Hung) (new : Node) (part : Part) → IsAdded nodes parent d kids new part
     → (Contains (paths_of (twigs nodes)) (path_at (twigs nodes) parent ++ part ∷ []) → ⊥) → IsStored (with_one nodes parent d kids new)
 stored_added nodes parent d kids new part added fresh =
     let changed : Node = record (get_or nodes parent d) { children = kids } in
@@ -452,26 +434,38 @@ stored_added nodes parent d kids new part added fresh =
       ];
     }
 
-pub infos_added : (nodes : List Node) (parent : ℕ) (d : Node) (kids : Children) (new : Node) → infos_of (with_one nodes parent d kids new) ≡ infos_of nodes ++ info_of new.told ∷ []
+pub infos_added : (nodes : List Node) (parent : ℕ) (d : Node) (kids : Hung) (new : Node) → infos_of (with_one nodes parent d kids new) ≡ infos_of nodes ++ info_of new.told ∷ []
 infos_added nodes parent d kids new = map_added (λ (n : Node). info_of n.told) nodes parent d (record (get_or nodes parent d) { children = kids }) new refl
 
 -- the step of a new child of a table, and of a new item or element
-pub key_step : (above kids : Children) (name text : List ℕ) (id n : ℕ) → holds_of above ≡ by_key → holds_of kids ≡ by_key → named kids ≡ named above ++ (name, id) ∷ [] → n ≡ length (child_ids above) → name ≡ text
+pub key_step : (above kids : Hung) (name text : List ℕ) (id n : ℕ) → holds_of above ≡ by_key → holds_of kids ≡ by_key → named kids ≡ named above ++ (name, id) ∷ [] → n ≡ length (child_ids above) → name ≡ text
     → step_at (named kids) (holds_of kids) n ≡ key text
 key_step above kids name text id n keyed holds names last same =
     keyed_step (named kids) (holds_of kids) n holds ∙ ap (λ (ns : List (List ℕ × ℕ)). key (get_or ns n ([], 0)).0) names
     ∙ ap (λ (e : List ℕ × ℕ). key e.0) (get_or_push (named above) (name, id) ([], 0) n (omega (arith, last, ap length (ids_named above keyed), length-map (named above) (λ e. e.1)))) ∙ ap key same
 
-pub item_step : (kids : Children) (n m : ℕ) → holds_of kids ≡ by_index → n ≡ m → step_at (named kids) (holds_of kids) n ≡ index m
+pub item_step : (kids : Hung) (n m : ℕ) → holds_of kids ≡ by_index → n ≡ m → step_at (named kids) (holds_of kids) n ≡ index m
 item_step kids n m holds same = ap (λ h. step_at (named kids) h n) holds ∙ ap index same
 
-pub no_names : (c : Children) → holds_of c ≡ by_index → named c ≡ []
-no_names Nothing h = refl
-no_names NoKeys h = refl
-no_names (OneKey one) h = cc
-no_names (TwoKeys two) h = cc
-no_names (Keys keys) h = cc
-no_names (Items items) h = refl
+pub no_names : (c : Hung) → holds_of c ≡ by_index → named c ≡ []
+no_names Bare h = refl
+no_names (Keyed pairs) h = cc
+no_names (Listed ids) h = refl
+
+-- what hangs at a new node
+pub none_ids : (h : Holding) → child_ids (none_hung h) ≡ []
+none_ids nothing = refl
+none_ids by_key = refl
+none_ids by_index = refl
+
+pub none_holds : (h : Holding) → holds_of (none_hung h) ≡ h
+none_holds nothing = refl
+none_holds by_key = refl
+none_holds by_index = refl
+
+-- a child more, by its key
+pub key_ids : (c : Hung) (text : List ℕ) (id : ℕ) → holds_of c ≡ by_key → child_ids (and_key c text id) ≡ child_ids c ++ id ∷ []
+key_ids c text id keyed = map-append (λ e. e.1) (named c) ((text, id) ∷ []) ∙ ap (λ ids. ids ++ id ∷ []) (sym (ids_named c keyed))
 
 -- ---- one node changed where it hangs, with its children
 

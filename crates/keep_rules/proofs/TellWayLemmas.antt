@@ -10,7 +10,7 @@ use Rattle.keep_rules.specs.declared.node.Kind.{Kind}
 use Rattle.keep_rules.specs.declared.node.Kind.TheVariants as kind
 use Rattle.keep_rules.specs.declared.node.Place.TheVariants as place
 use Rattle.keep_rules.specs.declared.node.NodeInfo.{NodeInfo}
-use Rattle.keep_rules.specs.declared.nodes.Node.{Node}
+use Rattle.keep_rules.specs.AllNodes.{Node}
 use Rattle.keep_rules.specs.declared.role.Role.TheVariants.{Element, Value}
 use Rattle.keep_rules.specs.Path.{Part, key, index}
 use Rattle.keep_rules.specs.Marks as marks

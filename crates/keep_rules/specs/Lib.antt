@@ -21,6 +21,8 @@ pub mod Steps
 pub mod Inside
 pub mod Reads
 pub mod Children
+pub mod AllNodes
+pub mod Names
 pub mod Told
 pub mod Kept
 pub mod Stored

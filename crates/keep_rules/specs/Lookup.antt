@@ -2,7 +2,7 @@
 use Rattle.std.specs.Prelude.{◌≡◌, ℕ, ◌<◌, List, [], ◌∷◌, length, map, Option, slice_index_or, slice_get}
 use Rattle.std.specs.Option.{option_map, option_and_then}
 use Rattle.keep_rules.specs.declared.index.NodeId.{NodeId}
-use Rattle.keep_rules.specs.declared.nodes.Node.{Node}
+use Rattle.keep_rules.specs.AllNodes.{Node}
 use Rattle.keep_rules.specs.Path.{Part}
 use Rattle.keep_rules.specs.Nodes.{node_number, children}
 use Rattle.keep_rules.specs.Told.{Telling}

@@ -6,7 +6,7 @@ use Rattle.keep_syntax.specs.declared.info.StatementKind.{StatementKind}
 use Rattle.keep_syntax.specs.declared.info.StatementKind.TheVariants.{Element}
 use Rattle.keep_syntax.specs.Flat.{Flat}
 use Rattle.keep_rules.specs.declared.keys.Keys.{Keys}
-use Rattle.keep_rules.specs.declared.nodes.Node.{Node}
+use Rattle.keep_rules.specs.AllNodes.{Node}
 use Rattle.keep_rules.specs.Marks as marks
 use Rattle.keep_rules.specs.Marks.{Mention, Reading, statement_mentions}
 use Rattle.keep_rules.specs.Counts.{Count}

@@ -1,6 +1,6 @@
 -- The nodes before anything is said.
 use Rattle.std.specs.Prelude.{◌≡◌, List, [], ◌∷◌, None}
-use Rattle.keep_rules.specs.declared.nodes.Node.{Node}
+use Rattle.keep_rules.specs.AllNodes.{Node}
 use Rattle.keep_rules.specs.Stored.{IsStored, twigs, telling}
 use Rattle.keep_rules.specs.Told.{root_telling}
 use Rattle.keep_rules.specs.Trie.{Twig, Holding}

@@ -5,7 +5,7 @@ use Rattle.keep_syntax.specs.declared.info.KeyPart.{KeyPart}
 use Rattle.keep_syntax.specs.declared.info.ValueInfo.{ValueInfo}
 use Rattle.keep_rules.specs.declared.node.Kind.{Kind}
 use Rattle.keep_rules.specs.declared.node.NodeInfo.{NodeInfo}
-use Rattle.keep_rules.specs.declared.nodes.Node.{Node}
+use Rattle.keep_rules.specs.AllNodes.{Node}
 use Rattle.keep_rules.specs.Fact.{Fact}
 use Rattle.keep_rules.specs.Path.{Part, index}
 use Rattle.keep_rules.specs.Marks.{Mention, element, begun, elements_of, Reading, Statement, statement_mentions}

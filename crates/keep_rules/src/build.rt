@@ -20,7 +20,7 @@ use crate::children::Holds;
 use crate::keys::Keys;
 use crate::mark::{Stop, begin, mark};
 use crate::node::{Kind, Place};
-use crate::nodes::Node;
+use crate::nodes::Nodes;
 use crate::role::Role;
 use crate::told::Told;
 use crate::ways::{Fault, dots, walk};
@@ -37,7 +37,7 @@ fn fault_of(stop: Stop, number: usize, why: Why) -> Fault
 }
 
 /// Reads the header `[..]` of that statement, and gives the node of the table that it defines.
-pub fn header(nodes: &mut Vec<Node>, keys: Keys<'_>, statement: usize) -> Result<usize, Fault>
+pub fn header(nodes: &mut Nodes, keys: Keys<'_>, statement: usize) -> Result<usize, Fault>
     requires stored { IsStored nodes.old.items }
     requires shaped { IsShaped (twigs nodes.old.items) }
     requires rooted { holds_at (twigs nodes.old.items) 0 ≡ by_key }
@@ -49,7 +49,7 @@ pub fn header(nodes: &mut Vec<Node>, keys: Keys<'_>, statement: usize) -> Result
 {
     let parent = walk(nodes, keys, statement)?;
     let number = keys.count - 1;
-    let name = keys.name(*nodes.allocator(), number)?;
+    let name = keys.name(nodes.allocator(), number)?;
     let told = Told::named(Kind::Table, None, name.span, Place::Header(statement));
     match mark(
         nodes,
@@ -65,7 +65,7 @@ pub fn header(nodes: &mut Vec<Node>, keys: Keys<'_>, statement: usize) -> Result
 }
 
 /// Reads the element header `[[..]]` of that statement, and gives the node of the element that it begins.
-pub fn element(nodes: &mut Vec<Node>, keys: Keys<'_>, statement: usize) -> Result<usize, Fault>
+pub fn element(nodes: &mut Nodes, keys: Keys<'_>, statement: usize) -> Result<usize, Fault>
     requires stored { IsStored nodes.old.items }
     requires shaped { IsShaped (twigs nodes.old.items) }
     requires rooted { holds_at (twigs nodes.old.items) 0 ≡ by_key }
@@ -77,7 +77,7 @@ pub fn element(nodes: &mut Vec<Node>, keys: Keys<'_>, statement: usize) -> Resul
 {
     let parent = walk(nodes, keys, statement)?;
     let number = keys.count - 1;
-    let name = keys.name(*nodes.allocator(), number)?;
+    let name = keys.name(nodes.allocator(), number)?;
     match begin(nodes, parent, name.text.as_str(), name.span, statement) {
         Ok(to) => Ok(to),
         Err(stop) => Err(fault_of(stop, number, Role::Element.why())),
@@ -87,7 +87,7 @@ pub fn element(nodes: &mut Vec<Node>, keys: Keys<'_>, statement: usize) -> Resul
 /// Gives a value with a key to the table at a node: the value of that number, of this kind, which stands there and
 /// holds this.
 pub fn give_value(
-    nodes: &mut Vec<Node>,
+    nodes: &mut Nodes,
     from: usize,
     keys: Keys<'_>,
     value: usize,
@@ -107,7 +107,7 @@ pub fn give_value(
 {
     let parent = dots(nodes, from, keys, value)?;
     let number = keys.count - 1;
-    let name = keys.name(*nodes.allocator(), number)?;
+    let name = keys.name(nodes.allocator(), number)?;
     let told = Told::named(kind, Some(span), name.span, Place::Value(value));
     match mark(nodes, parent, name.text.as_str(), Role::Value, told, holds) {
         Ok(to) => Ok(to),

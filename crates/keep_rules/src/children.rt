@@ -1,5 +1,8 @@
 //! What hangs at a node.
-ghost use Rattle.std.specs.Prelude.{◌≡◌, ◌<◌, ◌-◌, ◌∷◌, ◌++◌, [], None, Option, OnOk, IfOk, IfSome, IfNone, false, bytes_eq, length, option_copied, option_map, slice_get, slice_index_or, string_bytes};
+ghost use Rattle.std.specs.Prelude.{◌≡◌, ◌<◌, ◌≤◌, ◌+◌, ◌-◌, ℕ, List, ◌∷◌, ◌++◌, [], None, Option, OnOk, IfOk, IfSome, IfNone, false, bytes_eq, length, map, option_copied, option_map, slice_get, slice_index_or, string_bytes};
+ghost use Rattle.std.specs.Map.{lookup};
+ghost use Rattle.keep_rules.specs.Children.{Keyed};
+ghost use Rattle.keep_rules.specs.Names.{IsLonger, IsEntryOf, Keeps, IsIn, AreTwoIn, key_in, named_entry, named_pair};
 
 use indexmap::IndexMap;
 use std::alloc::{AllocError, Global};
@@ -16,7 +19,8 @@ pub enum Holds {
     Items,
 }
 
-/// What hangs at a node, each by its node's number, in the order of first meeting.
+/// What hangs at a node, each by its node's number, in the order of first meeting. The keys of a table with one or two
+/// stand in a text that all nodes share: the functions below take it as `names`.
 #[derive(Drop)]
 pub enum Children {
     /// At a scalar: nothing.
@@ -24,8 +28,8 @@ pub enum Children {
     /// At a table: no key yet.
     NoKeys,
     /// At a table with one key.
-    OneKey(Box<Entry>),
-    /// At a table with two keys.
+    OneKey(Entry),
+    /// At a table with two keys, which differ.
     TwoKeys(Box<TwoKeys>),
     /// At a table with more: by their keys, decoded.
     Keys(Box<IndexMap<String, usize>>),
@@ -33,30 +37,33 @@ pub enum Children {
     Items(Box<Vec<usize>>),
 }
 
-/// A key, decoded, and its child.
-#[derive(Drop)]
+/// A key and its child, in 12 bytes.
+#[derive(Clone, Copy, Debug)]
 pub struct Entry {
-    pub key: String,
-    pub child: usize,
+    /// Where the key, decoded, starts in the shared text, in bytes.
+    pub start: u32,
+    /// Where it ends there, in bytes.
+    pub end: u32,
+    /// The number of the child's node.
+    pub child: u32,
 }
 
-/// Two keys, which differ: a table with no third keeps no map.
-#[derive(Drop)]
+/// Two keys.
+#[derive(Clone, Copy, Debug)]
 pub struct TwoKeys {
     pub first: Entry,
     pub second: Entry,
-    ghost apart: { bytes_eq (string_bytes second.key) (string_bytes first.key) ≡ false },
 }
 
 impl Children {
-    ghost use Rattle.keep_rules.specs.Children.{holding, holds_of, named, child_ids, child_named, child_numbered};
+    ghost use Rattle.keep_rules.specs.AllNodes.{and_key, and_item};
+    ghost use Rattle.keep_rules.specs.Children.{holding, none_hung, holds_of, named, child_ids, child_named, child_numbered};
+    ghost use Rattle.keep_rules.specs.Names.{hung, AreIn};
     ghost use Rattle.keep_rules.specs.Trie.{by_key, by_index};
 
     /// None yet.
     pub fn none(alloc: Global, holds: Holds) -> Result<Children, AllocError>
-        ensures holds { IfOk result (λ c. holds_of c ≡ holding holds) }
-        ensures bare { IfOk result (λ c. child_ids c ≡ []) }
-        ensures unnamed { IfOk result (λ c. named c ≡ []) }
+        ensures { IfOk result (λ c. (names : List ℕ) → Keeps names c (none_hung (holding holds))) }
     {
         Ok(match holds {
             Holds::Nothing => Children::Nothing,
@@ -66,55 +73,62 @@ impl Children {
     }
 
     /// The child of that key.
-    pub fn child(&self, text: &str) -> Option<usize>
-        ensures { result ≡ child_named self.now text.now }
+    pub fn child(&self, names: &str, text: &str) -> Option<usize>
+        requires { AreIn names.now self.now }
+        ensures { result ≡ child_named (hung names.now self.now) text.now }
     {
         match self {
-            Children::OneKey(one) => (one.key.as_str() == text).then_some(one.child),
-            Children::TwoKeys(two) => two.child(text),
+            Children::OneKey(one) => (one.key(names) == text).then_some(one.child as usize),
+            Children::TwoKeys(two) => two.child(names, text),
             Children::Keys(keys) => keys.get(text).copied(),
             _ => None,
         }
     }
 
     /// Adds a child by a key that is not there yet. When memory is refused, the children are lost.
-    pub fn add_key(&mut self, alloc: Global, key: String, child: usize) -> Result<(), AllocError>
-        requires holds { holds_of self.old ≡ by_key }
-        requires fresh { child_named self.old (string_bytes key) ≡ None }
-        ensures holds { OnOk result (holds_of self.new ≡ by_key) }
-        ensures added { OnOk result (child_ids self.new ≡ child_ids self.old ++ child ∷ []) }
-        ensures named { OnOk result (named self.new ≡ named self.old ++ (string_bytes key, child) ∷ []) }
+    pub fn add_key(
+        &mut self,
+        alloc: Global,
+        names: &mut String,
+        text: &str,
+        child: usize,
+    ) -> Result<(), AllocError>
+        requires inside { AreIn (string_bytes names.old) self.old }
+        requires holds { holds_of (hung (string_bytes names.old) self.old) ≡ by_key }
+        requires fresh { child_named (hung (string_bytes names.old) self.old) text.now ≡ None }
+        ensures longer { IsLonger (string_bytes names.old) (string_bytes names.new) }
+        ensures inside { AreIn (string_bytes names.new) self.new }
+        ensures added { OnOk result (hung (string_bytes names.new) self.new ≡ and_key (hung (string_bytes names.old) self.old) text.now child) }
     {
         let old = mem::replace(self, Children::NoKeys);
-        *self = old.with_key(alloc, key, child)?;
+        *self = old.with_key(alloc, names, text, child)?;
         Ok(())
     }
 
     /// The children and one more, by a key that is not there yet.
-    fn with_key(self, alloc: Global, key: String, child: usize) -> Result<Children, AllocError>
-        requires holds { holds_of self ≡ by_key }
-        requires fresh { child_named self (string_bytes key) ≡ None }
-        ensures holds { IfOk result (λ c. holds_of c ≡ by_key) }
-        ensures added { IfOk result (λ c. child_ids c ≡ child_ids self ++ child ∷ []) }
-        ensures named { IfOk result (λ c. named c ≡ named self ++ (string_bytes key, child) ∷ []) }
+    fn with_key(
+        self,
+        alloc: Global,
+        names: &mut String,
+        text: &str,
+        child: usize,
+    ) -> Result<Children, AllocError>
+        requires inside { AreIn (string_bytes names.old) self }
+        requires holds { holds_of (hung (string_bytes names.old) self) ≡ by_key }
+        requires fresh { child_named (hung (string_bytes names.old) self) text.now ≡ None }
+        ensures longer { IsLonger (string_bytes names.old) (string_bytes names.new) }
+        ensures added { IfOk result (λ c. Keeps (string_bytes names.new) c (and_key (hung (string_bytes names.old) self) text.now child)) }
     {
-        let more = Entry { key, child };
         match self {
-            Children::NoKeys => Ok(Children::OneKey(Box::new(alloc, more)?)),
-            Children::OneKey(one) => {
-                let two = TwoKeys {
-                    first: Box::into_inner(one),
-                    second: more,
-                };
-                Ok(Children::TwoKeys(Box::new(alloc, two)?))
-            }
+            Children::NoKeys => first_key(alloc, names, text, child),
+            Children::OneKey(first) => second_key(alloc, names, first, text, child),
             Children::TwoKeys(two) => {
-                let mut keys = Box::into_inner(two).into_map(alloc)?;
-                keys.insert(more.key, more.child)?;
+                let mut keys = two.map(alloc, names.as_str())?;
+                add_entry(&mut keys, alloc, text, child)?;
                 Ok(Children::Keys(Box::new(alloc, keys)?))
             }
             Children::Keys(mut keys) => {
-                keys.insert(more.key, more.child)?;
+                add_entry(&mut keys, alloc, text, child)?;
                 Ok(Children::Keys(keys))
             }
             _ => unreachable!(),
@@ -123,10 +137,9 @@ impl Children {
 
     /// Adds an item or an element.
     pub fn add_item(&mut self, child: usize) -> Result<(), AllocError>
-        requires holds { holds_of self.old ≡ by_index }
-        ensures holds { OnOk result (holds_of self.new ≡ by_index) }
-        ensures added { OnOk result (child_ids self.new ≡ child_ids self.old ++ child ∷ []) }
-        ensures named { OnOk result (named self.new ≡ []) }
+        requires holds { (names : List ℕ) → holds_of (hung names self.old) ≡ by_index }
+        ensures added { OnOk result ((names : List ℕ) → Keeps names self.new (and_item (hung names self.old) child)) }
+        ensures inside { (names : List ℕ) → AreIn names self.new }
     {
         match self {
             Children::Items(items) => {
@@ -139,7 +152,7 @@ impl Children {
 
     /// How many there are.
     pub fn len(&self) -> usize
-        ensures { result ≡ length (child_ids self.now) }
+        ensures { (names : List ℕ) → result ≡ length (child_ids (hung names self.now)) }
     {
         match self {
             Children::Nothing | Children::NoKeys => 0,
@@ -152,8 +165,8 @@ impl Children {
 
     /// The last item or element.
     pub fn last_item(&self) -> Option<usize>
-        ensures some { IfSome result (λ id. (0 < length (child_ids self.now)) × (id ≡ slice_index_or (child_ids self.now) (length (child_ids self.now) - 1) 0)) }
-        ensures none { IfNone result (holds_of self.now ≡ by_index → length (child_ids self.now) ≡ 0) }
+        ensures some { IfSome result (λ id. (names : List ℕ) → (0 < length (child_ids (hung names self.now))) × (id ≡ slice_index_or (child_ids (hung names self.now)) (length (child_ids (hung names self.now)) - 1) 0)) }
+        ensures none { IfNone result ((names : List ℕ) → holds_of (hung names self.now) ≡ by_index → length (child_ids (hung names self.now)) ≡ 0) }
     {
         match self {
             Children::Items(items) => items.last().copied(),
@@ -163,7 +176,7 @@ impl Children {
 
     /// The item or element of that number.
     pub fn item(&self, number: usize) -> Option<usize>
-        ensures { result ≡ child_numbered self.now number }
+        ensures { (names : List ℕ) → result ≡ child_numbered (hung names self.now) number }
     {
         match self {
             Children::Items(items) => items.get(number).copied(),
@@ -173,42 +186,51 @@ impl Children {
 
     /// The child that was added after so many others.
     pub fn at(&self, number: usize) -> Option<usize>
-        ensures { result ≡ slice_get (child_ids self.now) number }
+        ensures { (names : List ℕ) → result ≡ slice_get (child_ids (hung names self.now)) number }
     {
         match self {
             Children::Nothing | Children::NoKeys => None,
-            Children::OneKey(one) => (number == 0).then_some(one.child),
-            Children::TwoKeys(two) => two.entry(number).map(|entry| entry.child),
-            Children::Keys(keys) => keys.get_index(number).map(|(_, child)| *child),
-            Children::Items(items) => items.get(number).copied(),
+            Children::OneKey(one) => (number == 0).then_some(one.child as usize),
+            Children::TwoKeys(two) => two.entry(number).map(|entry| entry.child as usize),
+            Children::Keys(keys) => child_in(keys, number),
+            Children::Items(_) => self.item(number),
         }
     }
 
     /// Its key, if it has one.
-    pub fn key_at(&self, number: usize) -> Option<&str>
-        ensures { option_copied result ≡ option_map (λ e. e.0) (slice_get (named self.now) number) }
+    pub fn key_at<'a>(&'a self, names: &'a str, number: usize) -> Option<&'a str>
+        requires { AreIn names.now self.now }
+        ensures { option_copied result ≡ option_map (λ e. e.0) (slice_get (named (hung names.now self.now)) number) }
     {
         match self {
-            Children::OneKey(one) => (number == 0).then_some(one.key.as_str()),
-            Children::TwoKeys(two) => two.entry(number).map(|entry| entry.key.as_str()),
+            Children::OneKey(one) => (number == 0).then_some(one.key(names)),
+            Children::TwoKeys(two) => Some(two.entry(number)?.key(names)),
             Children::Keys(keys) => keys.get_index(number).map(|(key, _)| key.as_str()),
             _ => None,
         }
     }
 }
 
-impl TwoKeys {
-    ghost use Rattle.std.specs.Map.{lookup};
-    ghost use Rattle.keep_rules.specs.Children.{named_entry};
-
-    /// The child of that key.
-    fn child(&self, text: &str) -> Option<usize>
-        ensures { result ≡ lookup (bytes_eq text.now) (named_entry self.now.first ∷ named_entry self.now.second ∷ []) }
+impl Entry {
+    /// Its key.
+    fn key<'a>(&self, names: &'a str) -> &'a str
+        requires { IsIn names.now self.now }
+        ensures { result.now ≡ key_in names.now self.now }
     {
-        if self.first.key.as_str() == text {
-            return Some(self.first.child);
+        &names[self.start as usize..self.end as usize]
+    }
+}
+
+impl TwoKeys {
+    /// The child of that key.
+    fn child(&self, names: &str, text: &str) -> Option<usize>
+        requires { AreTwoIn names.now self.now.first self.now.second }
+        ensures { result ≡ lookup (bytes_eq text.now) (named_entry names.now self.now.first ∷ named_entry names.now self.now.second ∷ []) }
+    {
+        if self.first.key(names) == text {
+            return Some(self.first.child as usize);
         }
-        (self.second.key.as_str() == text).then_some(self.second.child)
+        (self.second.key(names) == text).then_some(self.second.child as usize)
     }
 
     /// The entry of that number.
@@ -223,13 +245,115 @@ impl TwoKeys {
     }
 
     /// A map of the two.
-    fn into_map(self, alloc: Global) -> Result<IndexMap<String, usize>, AllocError>
-        ensures { IfOk result (λ keys. keys.entries ≡ (self.first.key, self.first.child) ∷ (self.second.key, self.second.child) ∷ []) }
+    fn map(&self, alloc: Global, names: &str) -> Result<IndexMap<String, usize>, AllocError>
+        requires { AreTwoIn names.now self.now.first self.now.second }
+        ensures { IfOk result (λ keys. map named_pair keys.entries ≡ named_entry names.now self.now.first ∷ named_entry names.now self.now.second ∷ []) }
     {
         let TwoKeys { first, second } = self;
-        let mut keys = IndexMap::new(alloc);
-        keys.insert(first.key, first.child)?;
-        keys.insert(second.key, second.child)?;
+        let mut keys = one_entry(alloc, first.key(names), first.child as usize)?;
+        add_entry(&mut keys, alloc, second.key(names), second.child as usize)?;
         Ok(keys)
     }
+}
+
+/// The child of the key of that number in a map.
+fn child_in(keys: &IndexMap<String, usize>, number: usize) -> Option<usize>
+    ensures { result ≡ slice_get (map (λ e. e.1) keys.now.entries) number }
+{
+    keys.get_index(number).map(|(_, child)| *child)
+}
+
+/// The children with a first key.
+fn first_key(
+    alloc: Global,
+    names: &mut String,
+    text: &str,
+    child: usize,
+) -> Result<Children, AllocError>
+    ensures longer { IsLonger (string_bytes names.old) (string_bytes names.new) }
+    ensures added { IfOk result (λ c. Keeps (string_bytes names.new) c (Keyed ((text.now, child) ∷ []))) }
+{
+    match add_name(names, text, child)? {
+        Some(only) => Ok(Children::OneKey(only)),
+        None => {
+            let keys = one_entry(alloc, text, child)?;
+            Ok(Children::Keys(Box::new(alloc, keys)?))
+        }
+    }
+}
+
+/// The children with a second key.
+fn second_key(
+    alloc: Global,
+    names: &mut String,
+    first: Entry,
+    text: &str,
+    child: usize,
+) -> Result<Children, AllocError>
+    requires inside { IsIn (string_bytes names.old) first }
+    requires fresh { bytes_eq text.now (key_in (string_bytes names.old) first) ≡ false }
+    ensures longer { IsLonger (string_bytes names.old) (string_bytes names.new) }
+    ensures added { IfOk result (λ c. Keeps (string_bytes names.new) c (Keyed (named_entry (string_bytes names.old) first ∷ (text.now, child) ∷ []))) }
+{
+    match add_name(names, text, child)? {
+        Some(second) => {
+            let two = TwoKeys { first, second };
+            Ok(Children::TwoKeys(Box::new(alloc, two)?))
+        }
+        None => {
+            let mut keys = one_entry(alloc, first.key(names.as_str()), first.child as usize)?;
+            add_entry(&mut keys, alloc, text, child)?;
+            Ok(Children::Keys(Box::new(alloc, keys)?))
+        }
+    }
+}
+
+/// Adds a key to the shared text, and gives its entry; None where some number of that has more than 32 bits.
+fn add_name(names: &mut String, text: &str, child: usize) -> Result<Option<Entry>, AllocError>
+    ensures longer { IsLonger (string_bytes names.old) (string_bytes names.new) }
+    ensures entry { IfOk result (λ made. IfSome made (λ e. IsEntryOf (string_bytes names.new) e text.now child)) }
+    ensures same { IfOk result (λ made. IfNone made (string_bytes names.new ≡ string_bytes names.old)) }
+{
+    let Some(entry) = entry_at(names.len(), text.len(), child) else {
+        return Ok(None);
+    };
+    names.push_str(text)?;
+    Ok(Some(entry))
+}
+
+/// The entry of a key that starts there and has so many bytes, if the numbers fit.
+fn entry_at(start: usize, len: usize, child: usize) -> Option<Entry>
+    ensures start { IfSome result (λ e. e.start ≡ start) }
+    ensures end { IfSome result (λ e. e.end ≡ start + len) }
+    ensures child { IfSome result (λ e. e.child ≡ child) }
+{
+    Some(Entry {
+        start: u32::try_from(start).ok()?,
+        end: u32::try_from(start.checked_add(len)?).ok()?,
+        child: u32::try_from(child).ok()?,
+    })
+}
+
+/// A map of one key.
+fn one_entry(alloc: Global, text: &str, child: usize) -> Result<IndexMap<String, usize>, AllocError>
+    ensures { IfOk result (λ keys. map named_pair keys.entries ≡ (text.now, child) ∷ []) }
+{
+    let mut keys = IndexMap::new(alloc);
+    add_entry(&mut keys, alloc, text, child)?;
+    Ok(keys)
+}
+
+/// Adds a key that is not there yet to a map.
+fn add_entry(
+    keys: &mut IndexMap<String, usize>,
+    alloc: Global,
+    text: &str,
+    child: usize,
+) -> Result<(), AllocError>
+    requires { lookup (bytes_eq text.now) (map named_pair keys.old.entries) ≡ None }
+    ensures { OnOk result (map named_pair keys.new.entries ≡ map named_pair keys.old.entries ++ (text.now, child) ∷ []) }
+{
+    let key = String::from_str(alloc, text)?;
+    keys.insert(key, child)?;
+    Ok(())
 }

@@ -9,12 +9,11 @@ ghost use Rattle.keep_rules.specs.Stops.{FaultSays};
 ghost use Rattle.keep_rules.specs.Stored.{IsStored, telling, twigs};
 ghost use Rattle.keep_rules.specs.Trie.{by_key, holds_at};
 
-use crate::children::{Children, Holds};
+use crate::children::Holds;
 use crate::inside::{push_id, read_inside};
-use crate::kept::Kept;
 use crate::kinds::holds_of_leaf;
 use crate::node::{Kind, Place};
-use crate::nodes::Node;
+use crate::nodes::Nodes;
 use crate::statement::read_statement;
 use crate::told::Told;
 use crate::ways::Fault;
@@ -22,18 +21,12 @@ use keep_syntax::{Parts, ReadFault, Syntax, ValueSyntax};
 use std::alloc::{AllocError, Global};
 
 /// The root alone, which holds this.
-fn root(alloc: Global, holds: Holds) -> Result<Vec<Node>, AllocError>
+fn root(alloc: Global, holds: Holds) -> Result<Nodes, AllocError>
     ensures { IfOk result (λ nodes. IsRoot nodes.items (holding holds)) }
 {
-    let children = Children::none(alloc, holds)?;
-    let told = Kept::of(alloc, Told::unnamed(Kind::Table, None, Place::Root))?;
-    let mut nodes = Vec::new(alloc);
-    nodes.push(Node {
-        parent: 0,
-        number: 0,
-        children,
-        told,
-    })?;
+    let told = Told::unnamed(Kind::Table, None, Place::Root);
+    let mut nodes = Nodes::new(alloc);
+    nodes.push(0, 0, told, holds)?;
     Ok(nodes)
 }
 
@@ -52,7 +45,7 @@ fn read_fault(parts: &Parts, fault: Fault) -> ReadFault
 }
 
 /// Reads the statements of a document, and gives its nodes.
-pub fn read_document(alloc: Global, text: &str, syntax: &Syntax) -> Result<Vec<Node>, ReadFault>
+pub fn read_document(alloc: Global, text: &str, syntax: &Syntax) -> Result<Nodes, ReadFault>
     requires { (d : Document) × WasRead text.now syntax.now d }
     ensures stored { IfOk result (λ nodes. IsStored nodes.items) }
     ensures rooted { IfOk result (λ nodes. holds_at (twigs nodes.items) 0 ≡ by_key) }

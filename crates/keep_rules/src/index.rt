@@ -12,7 +12,7 @@ ghost use Rattle.keep_rules.specs.Rules.{ObeysRules};
 
 use crate::document::{read_alone, read_document};
 use crate::node::NodeInfo;
-use crate::nodes::Node;
+use crate::nodes::Nodes;
 use crate::path::Path;
 use crate::queries::{child_by, path_to};
 use keep_syntax::{ReadFault, Syntax, ValueSyntax};
@@ -28,7 +28,7 @@ pub struct NodeId(pub usize);
 /// them: a key part that only leads on to further ones meets its table too. So each stands behind the one above it.
 #[derive(Drop)]
 pub struct Index {
-    nodes: Vec<Node>,
+    nodes: Nodes,
 }
 
 impl Model for Index {
@@ -135,7 +135,7 @@ impl Index {
         ensures found { number_of result ≡ node_number self.now.paths (path_numbered self.now id.0 ++ key text.now ∷ []) }
         ensures within { IfSome result (λ id. id.0 < length self.now.paths) }
     {
-        self.nodes[id.0].children.child(text).map(NodeId)
+        self.nodes.child(id.0, text).map(NodeId)
     }
 
     /// How many nodes stand one step below: a table's keys, an array's items or the elements of an array of tables; 0
@@ -144,7 +144,7 @@ impl Index {
         requires { id.0 < length self.now.paths }
         ensures { result ≡ length (children_numbered self.now id.0) }
     {
-        self.nodes[id.0].children.len()
+        self.nodes.child_count(id.0)
     }
 
     /// The node one step below that is met after `n` others there; None from `child_count(id)` on. In an array or an
@@ -155,7 +155,7 @@ impl Index {
         ensures indexed { (k : ℕ) → node_number self.now.paths (path_numbered self.now id.0 ++ index n ∷ []) ≡ Some k → number_of result ≡ Some k }
         ensures within { IfSome result (λ child. child.0 < length self.now.paths) }
     {
-        self.nodes[id.0].children.at(n).map(NodeId)
+        self.nodes.child_at(id.0, n).map(NodeId)
     }
 
     /// What stands at the node, and where it comes from.
@@ -163,6 +163,6 @@ impl Index {
         requires { id.0 < length self.now.paths }
         ensures { slice_get self.now.infos id.0 ≡ Some result }
     {
-        self.nodes[id.0].told.told().info()
+        self.nodes.told(id.0).info()
     }
 }

@@ -11,7 +11,7 @@ use crate::build::give_value;
 use crate::keys::Keys;
 use crate::kinds::{holds_of_leaf, kind_of};
 use crate::mark::give_item;
-use crate::nodes::Node;
+use crate::nodes::Nodes;
 use crate::ways::Fault;
 use keep_syntax::{Owner, Parts, ValueInfo};
 use std::alloc::AllocError;
@@ -41,7 +41,7 @@ pub fn push_id(ids: &mut Vec<usize>, id: usize) -> Result<(), AllocError>
 /// Reads the value of that number, which stands in an array or an inline table, and gives its node. `ids` are the nodes
 /// of the values so far, the one of the number `base` behind the first.
 fn read_value(
-    nodes: &mut Vec<Node>,
+    nodes: &mut Nodes,
     ids: &[usize],
     text: &str,
     parts: &Parts,
@@ -87,7 +87,7 @@ fn read_value(
 /// Reads the values from the number `from` on, up to the next that stands in a line, and adds their nodes to those of the
 /// values so far, of which the one of the number `base` stands behind the first.
 pub fn read_inside(
-    nodes: &mut Vec<Node>,
+    nodes: &mut Nodes,
     ids: &mut Vec<usize>,
     text: &str,
     parts: &Parts,

@@ -13,7 +13,7 @@ ghost use Rattle.keep_rules.specs.Trie.{Holding, by_key, by_index, holds_at, pat
 
 use crate::children::Holds;
 use crate::node::{Kind, Place};
-use crate::nodes::{Node, add_item, add_key, child_of, set_role, tell_more};
+use crate::nodes::{Nodes, add_item, add_key, child_of, set_role, tell_more};
 use crate::role::{Role, names_tables, state_after};
 use crate::told::Told;
 use keep_syntax::Span;
@@ -42,7 +42,7 @@ impl From<AllocError> for Stop {
 
 /// Makes a mark of that role at a key of a table, and tells this of its node, which holds this if it is new.
 pub fn mark(
-    nodes: &mut Vec<Node>,
+    nodes: &mut Nodes,
     parent: usize,
     text: &str,
     role: Role,
@@ -69,7 +69,7 @@ pub fn mark(
 }
 
 /// Makes a mark of that role at a node that is there, and tells this of it.
-fn mark_again(nodes: &mut Vec<Node>, id: usize, role: Role, told: Told) -> Result<(), Stop>
+fn mark_again(nodes: &mut Nodes, id: usize, role: Role, told: Told) -> Result<(), Stop>
     requires stored { IsStored nodes.old.items }
     requires shaped { IsShaped (twigs nodes.old.items) }
     requires within { id < length nodes.old.items }
@@ -78,7 +78,7 @@ fn mark_again(nodes: &mut Vec<Node>, id: usize, role: Role, told: Told) -> Resul
     ensures told { OnOk result (TellsOne nodes.old.items nodes.new.items (path_at (twigs nodes.old.items) id) (info_of told)) }
     ensures refused { result ≡ Err Stop.Refused → WasRefused (twigs nodes.old.items) (path_at (twigs nodes.old.items) id) role }
 {
-    let Some(next) = state_after(nodes[id].told.role(), role) else {
+    let Some(next) = state_after(nodes.role(id), role) else {
         return Err(Stop::Refused);
     };
     set_role(nodes, id, next, told)?;
@@ -86,23 +86,22 @@ fn mark_again(nodes: &mut Vec<Node>, id: usize, role: Role, told: Told) -> Resul
 }
 
 /// The last element of the array of tables at a node, if one stands there.
-fn last_element(nodes: &[Node], id: usize) -> Option<usize>
-    requires stored { IsStored nodes.now }
-    requires shaped { IsShaped (twigs nodes.now) }
-    requires within { id < length nodes.now }
-    ensures some { IfSome result (λ last. IsLastElement (twigs nodes.now) (path_at (twigs nodes.now) id) id last) }
-    ensures none { IfNone result (HasNoElement (twigs nodes.now) (path_at (twigs nodes.now) id)) }
+fn last_element(nodes: &Nodes, id: usize) -> Option<usize>
+    requires stored { IsStored nodes.now.items }
+    requires shaped { IsShaped (twigs nodes.now.items) }
+    requires within { id < length nodes.now.items }
+    ensures some { IfSome result (λ last. IsLastElement (twigs nodes.now.items) (path_at (twigs nodes.now.items) id) id last) }
+    ensures none { IfNone result (HasNoElement (twigs nodes.now.items) (path_at (twigs nodes.now.items) id)) }
 {
-    let node = &nodes[id];
-    if !names_tables(node.told.role()) {
+    if !names_tables(nodes.role(id)) {
         return None;
     }
-    node.children.last_item()
+    nodes.last_item(id)
 }
 
 /// Goes past a key of a header that is not the last: to the last element of an array of tables, else with a mark.
 pub fn pass(
-    nodes: &mut Vec<Node>,
+    nodes: &mut Nodes,
     parent: usize,
     text: &str,
     span: Span,
@@ -137,7 +136,7 @@ pub fn pass(
 
 /// Begins an element of the array of tables that a key names.
 pub fn begin(
-    nodes: &mut Vec<Node>,
+    nodes: &mut Nodes,
     parent: usize,
     text: &str,
     span: Span,
@@ -160,7 +159,7 @@ pub fn begin(
 
 /// Adds an item to an array: the value of that number, of this kind, which stands there and holds this.
 pub fn give_item(
-    nodes: &mut Vec<Node>,
+    nodes: &mut Nodes,
     array: usize,
     kind: Kind,
     span: Span,

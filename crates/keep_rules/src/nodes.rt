@@ -1,6 +1,7 @@
 //! The nodes, in the order in which they are first met.
-ghost use Rattle.std.specs.Prelude.{◌≡◌, ◌<◌, ◌∷◌, ◌++◌, [], length, None, Some, IfNone, IfSome, IfOk, OnOk, Contains, slice_set};
-ghost use Rattle.keep_rules.specs.Children.{holding};
+ghost use Rattle.std.specs.Prelude.{◌≡◌, ◌<◌, ◌-◌, ◌∷◌, ◌++◌, [], length, None, Some, IfNone, IfSome, IfOk, OnOk, Contains, slice_get, slice_index_or, slice_set, option_copied, option_map};
+ghost use Rattle.keep_rules.specs.AllNodes.{node_at, with_children, with_told, and_key, and_item};
+ghost use Rattle.keep_rules.specs.Children.{holding, none_hung, holds_of, named, child_ids, child_named, child_numbered};
 ghost use Rattle.keep_rules.specs.Growth.{Grows, Restates};
 ghost use Rattle.keep_rules.specs.Path.{key, index};
 ghost use Rattle.keep_rules.specs.Stored.{IsStored, twigs, infos_of, info_at};
@@ -11,33 +12,215 @@ use crate::children::{Children, Holds};
 use crate::kept::Kept;
 use crate::role::Role;
 use crate::told::Told;
-use std::alloc::AllocError;
+use std::alloc::{AllocError, Global};
+use std::marker::Model;
 
 /// A node: where it hangs, what hangs at it, and what is told of it. The root stands first, and hangs nowhere.
 #[derive(Drop)]
 pub struct Node {
-    pub parent: usize,
+    parent: usize,
     /// Its number among the children of its parent: its step is the key that the parent has there, or that number.
-    pub number: usize,
-    pub children: Children,
-    pub told: Kept,
+    number: usize,
+    children: Children,
+    told: Kept,
+}
+
+/// All nodes. The keys of tables with one or two stand in one text, so that such a table takes little memory.
+#[derive(Drop)]
+pub struct Nodes {
+    list: Vec<Node>,
+    names: String,
+}
+
+impl Model for Nodes {
+    ghost use Rattle.std.specs.Prelude.{string_bytes};
+    ghost use Rattle.keep_rules.specs.AllNodes.{AllNodes};
+
+    ghost Value = { AllNodes };
+
+    ghost use Rattle.keep_rules.specs.Names.{all_nodes, AreKept};
+
+    ghost view = { λ n. all_nodes (string_bytes n.names) n.list.items };
+
+    ghost invariant = { λ n. AreKept (string_bytes n.names) n.list.items };
+}
+
+impl Nodes {
+    /// No node yet.
+    pub fn new(alloc: Global) -> Nodes
+        ensures { result.items ≡ [] }
+    {
+        Nodes {
+            list: Vec::new(alloc),
+            names: String::new(alloc),
+        }
+    }
+
+    /// How many nodes there are.
+    pub fn len(&self) -> usize
+        ensures { result ≡ length self.now.items }
+    {
+        self.list.len()
+    }
+
+    /// What gives their memory.
+    pub fn allocator(&self) -> Global {
+        *self.list.allocator()
+    }
+
+    /// The node at which a node hangs.
+    pub fn parent(&self, id: usize) -> usize
+        requires { id < length self.now.items }
+        ensures { result ≡ (node_at self.now.items id).parent }
+    {
+        self.list[id].parent
+    }
+
+    /// The number of a node among the children of its parent.
+    pub fn number(&self, id: usize) -> usize
+        requires { id < length self.now.items }
+        ensures { result ≡ (node_at self.now.items id).number }
+    {
+        self.list[id].number
+    }
+
+    /// What is told of a node.
+    pub fn told(&self, id: usize) -> Told
+        requires { id < length self.now.items }
+        ensures { result ≡ (node_at self.now.items id).told }
+    {
+        self.list[id].told.told()
+    }
+
+    /// What stands for the roles of the marks at a node, if there are any.
+    pub fn role(&self, id: usize) -> Option<Role>
+        requires { id < length self.now.items }
+        ensures { result ≡ (node_at self.now.items id).told.role }
+    {
+        self.list[id].told.role()
+    }
+
+    /// The child of a node by a key.
+    pub fn child(&self, id: usize, text: &str) -> Option<usize>
+        requires { id < length self.now.items }
+        ensures { result ≡ child_named (node_at self.now.items id).children text.now }
+    {
+        self.list[id].children.child(self.names.as_str(), text)
+    }
+
+    /// The item or element of that number.
+    pub fn item(&self, id: usize, number: usize) -> Option<usize>
+        requires { id < length self.now.items }
+        ensures { result ≡ child_numbered (node_at self.now.items id).children number }
+    {
+        self.list[id].children.item(number)
+    }
+
+    /// The last item or element.
+    pub fn last_item(&self, id: usize) -> Option<usize>
+        requires { id < length self.now.items }
+        ensures some { IfSome result (λ last. (0 < length (child_ids (node_at self.now.items id).children)) × (last ≡ slice_index_or (child_ids (node_at self.now.items id).children) (length (child_ids (node_at self.now.items id).children) - 1) 0)) }
+        ensures none { IfNone result (holds_of (node_at self.now.items id).children ≡ by_index → length (child_ids (node_at self.now.items id).children) ≡ 0) }
+    {
+        self.list[id].children.last_item()
+    }
+
+    /// How many children a node has.
+    pub fn child_count(&self, id: usize) -> usize
+        requires { id < length self.now.items }
+        ensures { result ≡ length (child_ids (node_at self.now.items id).children) }
+    {
+        self.list[id].children.len()
+    }
+
+    /// The child of a node that was added after so many others.
+    pub fn child_at(&self, id: usize, number: usize) -> Option<usize>
+        requires { id < length self.now.items }
+        ensures { result ≡ slice_get (child_ids (node_at self.now.items id).children) number }
+    {
+        self.list[id].children.at(number)
+    }
+
+    /// The key of that child, if it has one.
+    pub fn key_at(&self, id: usize, number: usize) -> Option<&str>
+        requires { id < length self.now.items }
+        ensures { option_copied result ≡ option_map (λ e. e.0) (slice_get (named (node_at self.now.items id).children) number) }
+    {
+        self.list[id].children.key_at(self.names.as_str(), number)
+    }
+
+    /// Adds a node with no children, which its parent does not know yet.
+    pub fn push(
+        &mut self,
+        parent: usize,
+        number: usize,
+        told: Told,
+        holds: Holds,
+    ) -> Result<(), AllocError>
+        ensures { OnOk result (self.new.items ≡ self.old.items ++ record { parent = parent; number = number; children = none_hung (holding holds); told = told } ∷ []) }
+    {
+        let alloc = self.allocator();
+        let children = Children::none(alloc, holds)?;
+        let told = Kept::of(alloc, told)?;
+        self.list.push(Node {
+            parent,
+            number,
+            children,
+            told,
+        })?;
+        Ok(())
+    }
+
+    /// Hangs a node at a table, by a key that is not there yet.
+    fn hang_key(&mut self, id: usize, text: &str, child: usize) -> Result<(), AllocError>
+        requires within { id < length self.old.items }
+        requires holds { holds_of (node_at self.old.items id).children ≡ by_key }
+        requires fresh { child_named (node_at self.old.items id).children text.now ≡ None }
+        ensures { OnOk result (self.new.items ≡ with_children self.old.items id (and_key (node_at self.old.items id).children text.now child)) }
+    {
+        let alloc = *self.list.allocator();
+        let above = &mut self.list[id];
+        above.children.add_key(alloc, &mut self.names, text, child)
+    }
+
+    /// Hangs a node at an array or an array of tables.
+    fn hang_item(&mut self, id: usize, child: usize) -> Result<(), AllocError>
+        requires within { id < length self.old.items }
+        requires holds { holds_of (node_at self.old.items id).children ≡ by_index }
+        ensures { OnOk result (self.new.items ≡ with_children self.old.items id (and_item (node_at self.old.items id).children child)) }
+    {
+        let above = &mut self.list[id];
+        above.children.add_item(child)
+    }
+
+    /// Tells this of a node.
+    fn set_told(&mut self, id: usize, told: Told) -> Result<(), AllocError>
+        requires { id < length self.old.items }
+        ensures { OnOk result (self.new.items ≡ with_told self.old.items id told) }
+    {
+        let alloc = *self.list.allocator();
+        let told = Kept::of(alloc, told)?;
+        let node = &mut self.list[id];
+        node.told = told;
+        Ok(())
+    }
 }
 
 /// The child of a table by a key.
-pub fn child_of(nodes: &[Node], parent: usize, text: &str) -> Option<usize>
-    requires stored { IsStored nodes.now }
-    requires within { parent < length nodes.now }
-    requires keyed { holds_at (twigs nodes.now) parent ≡ by_key }
-    ensures none { IfNone result (Contains (paths_of (twigs nodes.now)) (path_at (twigs nodes.now) parent ++ key text.now ∷ []) → ⊥) }
-    ensures inside { IfSome result (λ child. child < length nodes.now) }
-    ensures found { IfSome result (λ child. path_at (twigs nodes.now) child ≡ path_at (twigs nodes.now) parent ++ key text.now ∷ []) }
+pub fn child_of(nodes: &Nodes, parent: usize, text: &str) -> Option<usize>
+    requires stored { IsStored nodes.now.items }
+    requires within { parent < length nodes.now.items }
+    requires keyed { holds_at (twigs nodes.now.items) parent ≡ by_key }
+    ensures none { IfNone result (Contains (paths_of (twigs nodes.now.items)) (path_at (twigs nodes.now.items) parent ++ key text.now ∷ []) → ⊥) }
+    ensures inside { IfSome result (λ child. child < length nodes.now.items) }
+    ensures found { IfSome result (λ child. path_at (twigs nodes.now.items) child ≡ path_at (twigs nodes.now.items) parent ++ key text.now ∷ []) }
 {
-    nodes[parent].children.child(text)
+    nodes.child(parent, text)
 }
 
 /// Hangs a new node at a table, where no node has its path yet.
 pub fn add_key(
-    nodes: &mut Vec<Node>,
+    nodes: &mut Nodes,
     parent: usize,
     text: &str,
     role: Role,
@@ -53,27 +236,17 @@ pub fn add_key(
     ensures infos { OnOk result (infos_of nodes.new.items ≡ infos_of nodes.old.items ++ info_of told ∷ []) }
     ensures last { IfOk result (λ id. id ≡ length nodes.old.items) }
 {
-    let alloc = *nodes.allocator();
     let id = nodes.len();
-    let children = Children::none(alloc, holds)?;
-    let name = String::from_str(alloc, text)?;
-    let above = &mut nodes[parent];
-    let number = above.children.len();
-    above.children.add_key(alloc, name, id)?;
+    let number = nodes.child_count(parent);
+    nodes.hang_key(parent, text, id)?;
     let role = Some(role);
-    let told = Kept::of(alloc, Told { role, ..told })?;
-    nodes.push(Node {
-        parent,
-        number,
-        children,
-        told,
-    })?;
+    nodes.push(parent, number, Told { role, ..told }, holds)?;
     Ok(id)
 }
 
 /// Hangs a new item at an array, or a new element at an array of tables, behind those that are there.
 pub fn add_item(
-    nodes: &mut Vec<Node>,
+    nodes: &mut Nodes,
     parent: usize,
     told: Told,
     holds: Holds,
@@ -87,51 +260,35 @@ pub fn add_item(
     ensures infos { OnOk result (infos_of nodes.new.items ≡ infos_of nodes.old.items ++ info_of told ∷ []) }
     ensures last { IfOk result (λ id. id ≡ length nodes.old.items) }
 {
-    let alloc = *nodes.allocator();
     let id = nodes.len();
-    let children = Children::none(alloc, holds)?;
-    let above = &mut nodes[parent];
-    let number = above.children.len();
-    above.children.add_item(id)?;
-    let told = Kept::of(alloc, Told { role: None, ..told })?;
-    nodes.push(Node {
-        parent,
-        number,
-        children,
-        told,
-    })?;
+    let number = nodes.child_count(parent);
+    nodes.hang_item(parent, id)?;
+    let role = None;
+    nodes.push(parent, number, Told { role, ..told }, holds)?;
     Ok(id)
 }
 
 /// Gives a node another state, with one thing more that is said of it.
-pub fn set_role(nodes: &mut Vec<Node>, id: usize, role: Role, more: Told) -> Result<(), AllocError>
+pub fn set_role(nodes: &mut Nodes, id: usize, role: Role, more: Told) -> Result<(), AllocError>
     requires stored { IsStored nodes.old.items }
     requires within { id < length nodes.old.items }
     ensures restates { OnOk result (Restates (twigs nodes.old.items) (twigs nodes.new.items) id role) }
     ensures stored { OnOk result (IsStored nodes.new.items) }
     ensures infos { OnOk result (infos_of nodes.new.items ≡ slice_set (infos_of nodes.old.items) id (again (info_at nodes.old.items id) (info_of more))) }
 {
-    let alloc = *nodes.allocator();
-    let node = &mut nodes[id];
     let role = Some(role);
-    let now = node.told.told().again(more);
-    let told = Kept::of(alloc, Told { role, ..now })?;
-    node.told = told;
-    Ok(())
+    let now = nodes.told(id).again(more);
+    nodes.set_told(id, Told { role, ..now })
 }
 
 /// Tells one thing more of a node, whose state stays.
-pub fn tell_more(nodes: &mut Vec<Node>, id: usize, more: Told) -> Result<(), AllocError>
+pub fn tell_more(nodes: &mut Nodes, id: usize, more: Told) -> Result<(), AllocError>
     requires stored { IsStored nodes.old.items }
     requires within { id < length nodes.old.items }
     ensures same { OnOk result (twigs nodes.new.items ≡ twigs nodes.old.items) }
     ensures stored { OnOk result (IsStored nodes.new.items) }
     ensures infos { OnOk result (infos_of nodes.new.items ≡ slice_set (infos_of nodes.old.items) id (again (info_at nodes.old.items id) (info_of more))) }
 {
-    let alloc = *nodes.allocator();
-    let node = &mut nodes[id];
-    let now = node.told.told().again(more);
-    let told = Kept::of(alloc, now)?;
-    node.told = told;
-    Ok(())
+    let now = nodes.told(id).again(more);
+    nodes.set_told(id, now)
 }

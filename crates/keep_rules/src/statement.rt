@@ -17,13 +17,13 @@ use crate::build::{element, give_value, header};
 use crate::inside::{fault_from, push_id, read_inside};
 use crate::keys::Keys;
 use crate::kinds::{holds_of_leaf, kind_of};
-use crate::nodes::Node;
+use crate::nodes::Nodes;
 use crate::ways::Fault;
 use keep_syntax::{Parts, Statement, StatementKind};
 
 /// Reads a header of this kind, the statement of that number, and gives the node that it defines or begins.
 fn read_head(
-    nodes: &mut Vec<Node>,
+    nodes: &mut Nodes,
     keys: Keys<'_>,
     kind: StatementKind,
     number: usize,
@@ -45,7 +45,7 @@ fn read_head(
 
 /// Reads the header of that number, and gives the node that it defines or begins.
 fn read_header(
-    nodes: &mut Vec<Node>,
+    nodes: &mut Nodes,
     text: &str,
     parts: &Parts,
     number: usize,
@@ -75,7 +75,7 @@ fn read_header(
 /// Reads a keyval of the body at that node, whose value has the number `number`. `ids` has room for the nodes of the values
 /// in it.
 fn read_keyval(
-    nodes: &mut Vec<Node>,
+    nodes: &mut Nodes,
     ids: &mut Vec<usize>,
     text: &str,
     parts: &Parts,
@@ -114,7 +114,7 @@ fn read_keyval(
 /// Reads the statement of that number in the body at that node, and gives the node of the body behind it. `ids` has room
 /// for the nodes of the values in one statement.
 pub fn read_statement(
-    nodes: &mut Vec<Node>,
+    nodes: &mut Nodes,
     ids: &mut Vec<usize>,
     text: &str,
     parts: &Parts,

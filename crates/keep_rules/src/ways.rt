@@ -16,7 +16,7 @@ use crate::children::Holds;
 use crate::keys::Keys;
 use crate::mark::{Stop, mark, pass};
 use crate::node::{Kind, Place};
-use crate::nodes::Node;
+use crate::nodes::Nodes;
 use crate::role::Role;
 use crate::told::Told;
 use keep_syntax::Why;
@@ -44,7 +44,7 @@ impl From<AllocError> for Fault {
 }
 
 /// Goes along a header's keys but the last, from the root.
-pub fn walk(nodes: &mut Vec<Node>, keys: Keys<'_>, statement: usize) -> Result<usize, Fault>
+pub fn walk(nodes: &mut Nodes, keys: Keys<'_>, statement: usize) -> Result<usize, Fault>
     requires stored { IsStored nodes.old.items }
     requires shaped { IsShaped (twigs nodes.old.items) }
     requires rooted { holds_at (twigs nodes.old.items) 0 ≡ by_key }
@@ -59,7 +59,7 @@ pub fn walk(nodes: &mut Vec<Node>, keys: Keys<'_>, statement: usize) -> Result<u
 {
     let mut at = 0;
     for number in 0..keys.count - 1 {
-        let name = keys.name(*nodes.allocator(), number)?;
+        let name = keys.name(nodes.allocator(), number)?;
         at = match pass(nodes, at, name.text.as_str(), name.span, statement) {
             Ok(to) => to,
             Err(Stop::Refused) => {
@@ -75,12 +75,7 @@ pub fn walk(nodes: &mut Vec<Node>, keys: Keys<'_>, statement: usize) -> Result<u
 }
 
 /// Goes along the keys but the last of the value of that number, from the table that it stands in.
-pub fn dots(
-    nodes: &mut Vec<Node>,
-    from: usize,
-    keys: Keys<'_>,
-    value: usize,
-) -> Result<usize, Fault>
+pub fn dots(nodes: &mut Nodes, from: usize, keys: Keys<'_>, value: usize) -> Result<usize, Fault>
     requires stored { IsStored nodes.old.items }
     requires shaped { IsShaped (twigs nodes.old.items) }
     requires within { from < length nodes.old.items }
@@ -95,7 +90,7 @@ pub fn dots(
 {
     let mut at = from;
     for number in 0..keys.count - 1 {
-        let name = keys.name(*nodes.allocator(), number)?;
+        let name = keys.name(nodes.allocator(), number)?;
         let dotted = Told::named(Kind::Table, None, name.span, Place::Dotted(value));
         at = match mark(
             nodes,

@@ -1,5 +1,5 @@
 -- What the callees say of one value is what it says as a turn.
-use Rattle.std.proofs.Common.{◌≤◌, ◌-◌, ◌^◌, length, refl, arith}
+use Rattle.std.proofs.Common.{◌-◌, ◌^◌, refl}
 use Rattle.keep_syntax.specs.Flat.{flat}
 use Rattle.keep_rules.specs.declared.keys.Keys.{Keys}
 use Rattle.keep_rules.specs.Keys.{key_texts}

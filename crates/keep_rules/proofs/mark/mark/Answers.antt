@@ -1,6 +1,5 @@
-use Rattle.std.proofs.Common.{◌≡◌, List, ◌∷◌, ◌++◌, [], sym, ◌∙◌, subst, Some}
+use Rattle.std.proofs.Common.{◌∷◌, ◌++◌, [], sym, ◌∙◌, Some}
 use Rattle.std.proofs.lemmas.List.{length-map}
-use Rattle.keep_rules.specs.declared.nodes.Node.{Node}
 use Rattle.keep_rules.specs.Path.{key}
 use Rattle.keep_rules.specs.Trie.{path_at}
 use Rattle.keep_rules.specs.Children.{holding}
@@ -24,5 +23,4 @@ returns-in_ok-add_key-in-None-clause-told c =
 
 pub returns-in_ok-mark_again-in-Some-clause-ok : goal.returns-in_ok-mark_again-in-Some-clause-ok
 returns-in_ok-mark_again-in-Some-clause-ok c =
-    c.in_ok-mark_again-in-Some.ensures.ok (path_at (twigs c.args.nodes.now.items) c.args.parent) c.args.text.now (holding c.args.holds)
-    (subst (λ (ns : List Node). path_at (twigs ns) c.in-Some.child ≡ path_at (twigs ns) c.args.parent ++ key c.args.text.now ∷ []) c.deref.ensures.value c.in-Some.ensures.found)
+    c.in_ok-mark_again-in-Some.ensures.ok (path_at (twigs c.args.nodes.now.items) c.args.parent) c.args.text.now (holding c.args.holds) c.in-Some.ensures.found

@@ -1,7 +1,5 @@
-use Rattle.std.proofs.Common.{◌≡◌, ℕ, ◌<◌, List, ◌∷◌, ◌++◌, [], length, subst, ap, sym, refl, ◌∙◌, arith}
-use Rattle.std.specs.Prelude.{Contains}
+use Rattle.std.proofs.Common.{◌≡◌, ◌<◌, List, ◌∷◌, ◌++◌, [], length, subst, ap, sym, refl, ◌∙◌, arith}
 use Rattle.std.proofs.lemmas.List.{length-map}
-use Rattle.keep_rules.specs.declared.nodes.Node.{Node}
 use Rattle.keep_rules.specs.declared.node.NodeInfo.{NodeInfo}
 use Rattle.keep_rules.specs.declared.role.Role.TheVariants.{Through}
 use Rattle.keep_rules.specs.Path.{Part, key}
@@ -20,8 +18,7 @@ use Rattle.keep_rules.proofs.mark.pass.Goals as goal
 
 new : (c : goal.After-mark) → HasNoElement (twigs c.args.nodes.now.items) (path_at (twigs c.args.nodes.now.items) c.args.parent ++ key c.args.text.now ∷ [])
 new c =
-    none_unmet (twigs c.args.nodes.now.items) _
-    (subst (λ (ns : List Node). Contains (paths_of (twigs ns)) (path_at (twigs ns) c.args.parent ++ key c.args.text.now ∷ []) → ⊥) c.deref.ensures.value c.in_default.ensures.none)
+    none_unmet (twigs c.args.nodes.now.items) _ c.in_default.ensures.none
 
 pub returns-in_default-clause-ok : goal.returns-in_default-clause-ok
 returns-in_default-clause-ok c =
@@ -37,26 +34,15 @@ returns-in_default-clause-told c =
 pub returns-in_default-clause-plain : goal.returns-in_default-clause-plain
 returns-in_default-clause-plain c = λ refused. new c
 
--- a key that is there, as the nodes are borrowed and as they are
-
-path_moved : (seen nodes : List Node) (parent child : ℕ) (k : List ℕ) → seen ≡ nodes → path_at (twigs seen) child ≡ path_at (twigs seen) parent ++ key k ∷ [] → path_at (twigs nodes) child ≡ path_at (twigs nodes) parent ++ key k ∷ []
-path_moved seen nodes parent child k are found = subst (λ (ns : List Node). path_at (twigs ns) child ≡ path_at (twigs ns) parent ++ key k ∷ []) are found
-
-none_moved : (seen nodes : List Node) (child : ℕ) (p : List Part) → seen ≡ nodes → path_at (twigs nodes) child ≡ p → HasNoElement (twigs seen) (path_at (twigs seen) child) → HasNoElement (twigs nodes) p
-none_moved seen nodes child p are here none =
-    subst (λ (q : List Part). HasNoElement (twigs nodes) q) here (subst (λ (ns : List Node). HasNoElement (twigs ns) (path_at (twigs ns) child)) are none)
-
-element_moved : (seen nodes : List Node) (child last : ℕ) (p : List Part) → seen ≡ nodes → path_at (twigs nodes) child ≡ p → IsLastElement (twigs seen) (path_at (twigs seen) child) child last → IsLastElement (twigs nodes) p child last
-element_moved seen nodes child last p are here some =
-    subst (λ (q : List Part). IsLastElement (twigs nodes) q child last) here (subst (λ (ns : List Node). IsLastElement (twigs ns) (path_at (twigs ns) child) child last) are some)
+-- a key that is there
 
 -- at no array of tables
 
 here : (c : goal.In_ok-mark_again) → path_at (twigs c.args.nodes.now.items) c.in-Some.child ≡ path_at (twigs c.args.nodes.now.items) c.args.parent ++ key c.args.text.now ∷ []
-here c = path_moved _ _ _ _ _ c.deref.ensures.value c.in-Some.ensures.found
+here c = c.in-Some.ensures.found
 
 plain : (c : goal.In_ok-mark_again) → HasNoElement (twigs c.args.nodes.now.items) (path_at (twigs c.args.nodes.now.items) c.args.parent ++ key c.args.text.now ∷ [])
-plain c = none_moved _ _ _ _ c.deref-2.ensures.value (here c) c.in_default-last_element.ensures.none
+plain c = subst (λ (p : List Part). HasNoElement (twigs c.args.nodes.now.items) p) (here c) c.in_default-last_element.ensures.none
 
 marked : (c : goal.In_ok-mark_again) → IsMarked (twigs c.args.nodes.now.items) (twigs c.mark_again.new.nodes.items) (path_at (twigs c.args.nodes.now.items) c.args.parent ++ key c.args.text.now ∷ []) Through by_key c.in-Some.child
 marked c = c.in_ok-mark_again.ensures.ok (path_at (twigs c.args.nodes.now.items) c.args.parent) c.args.text.now by_key (here c)
@@ -86,11 +72,10 @@ pub tell_more-requires-2-clause-within : goal.tell_more-requires-2-clause-within
 tell_more-requires-2-clause-within c =
     let old = c.args.nodes.now.items in
     let mid = c.tell_more.new.nodes.items in
-    let entered = element_moved _ _ _ _ _ c.deref-2.ensures.value (path_moved _ _ _ _ _ c.deref.ensures.value c.in-Some.ensures.found) c.in-Some-last_element.ensures.some in
-    omega (arith, element_inside (twigs old) _ c.in-Some.child c.in-Some-last_element.last c.requires.stored.trie entered, ap length c.in_ok-tell_more.ensures.same, length-map mid (twig_in mid))
+    omega (arith, element_inside (twigs old) _ c.in-Some.child c.in-Some-last_element.last c.requires.stored.trie c.in-Some-last_element.ensures.some, ap length c.in_ok-tell_more.ensures.same, length-map mid (twig_in mid))
 
 element : (c : goal.In_ok-tell_more-2) → IsLastElement (twigs c.args.nodes.now.items) (path_at (twigs c.args.nodes.now.items) c.args.parent ++ key c.args.text.now ∷ []) c.in-Some.child c.in-Some-last_element.last
-element c = element_moved _ _ _ _ _ c.deref-2.ensures.value (path_moved _ _ _ _ _ c.deref.ensures.value c.in-Some.ensures.found) c.in-Some-last_element.ensures.some
+element c = subst (λ (p : List Part). IsLastElement (twigs c.args.nodes.now.items) p c.in-Some.child c.in-Some-last_element.last) c.in-Some.ensures.found c.in-Some-last_element.ensures.some
 
 place : (c : goal.In_ok-tell_more-2) → c.in-Some-last_element.last < length (twigs c.args.nodes.now.items)
 place c = element_inside (twigs c.args.nodes.now.items) _ c.in-Some.child c.in-Some-last_element.last c.requires.stored.trie (element c)

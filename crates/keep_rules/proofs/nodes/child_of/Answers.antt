@@ -1,11 +1,12 @@
+use Rattle.keep_rules.specs.AllNodes.{no_node}
 use Rattle.keep_rules.proofs.StoredLemmas.{child_none, child_inside, child_path}
 use Rattle.keep_rules.proofs.nodes.child_of.Goals as goal
 
 pub returns-clause-none : goal.returns-clause-none
-returns-clause-none c = child_none c.args.nodes.now c.requires.stored c.args.parent c.index-nodes-parent.result c.args.text.now c.child.result c.requires.within c.requires.keyed c.child.ensures
+returns-clause-none c = child_none c.args.nodes.now.items c.requires.stored c.args.parent no_node c.args.text.now c.child.result c.requires.within c.requires.keyed c.child.ensures
 
 pub returns-clause-inside : goal.returns-clause-inside
-returns-clause-inside c = child_inside c.args.nodes.now c.requires.stored c.args.parent c.index-nodes-parent.result c.args.text.now c.child.result c.requires.within c.requires.keyed c.child.ensures
+returns-clause-inside c = child_inside c.args.nodes.now.items c.requires.stored c.args.parent no_node c.args.text.now c.child.result c.requires.within c.requires.keyed c.child.ensures
 
 pub returns-clause-found : goal.returns-clause-found
-returns-clause-found c = child_path c.args.nodes.now c.requires.stored c.args.parent c.index-nodes-parent.result c.args.text.now c.child.result c.requires.within c.requires.keyed c.child.ensures
+returns-clause-found c = child_path c.args.nodes.now.items c.requires.stored c.args.parent no_node c.args.text.now c.child.result c.requires.within c.requires.keyed c.child.ensures

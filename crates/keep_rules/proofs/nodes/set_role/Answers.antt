@@ -1,36 +1,34 @@
-use Rattle.std.proofs.Common.{◌≡◌, ap, ◌∙◌, Some}
-use Rattle.keep_rules.specs.declared.nodes.Node.{Node}
+use Rattle.std.proofs.Common.{List, ap, sym, refl, ◌∙◌, subst, Some}
+use Rattle.indexmap.proofs.MapLemmas.{OnOk-map}
+use Rattle.keep_rules.specs.AllNodes.{Node, no_node, node_at}
 use Rattle.keep_rules.specs.declared.told.Told.{Told}
+use Rattle.keep_rules.specs.Growth.{Restates}
+use Rattle.keep_rules.specs.Stored.{IsStored, twigs, infos_of}
 use Rattle.keep_rules.specs.Told.{again, info_of}
 use Rattle.keep_rules.proofs.StoredLemmas.{IsChanged, restates_changed, stored_changed, infos_changed}
 use Rattle.keep_rules.proofs.nodes.set_role.Goals as goal
 
-changed : goal.Joined-node-told → Node
-changed c = record c.index_mut-node.result.now { told = c.in_ok-told.told }
+changed : goal.After-set_told → Node
+changed c = record (node_at c.args.nodes.now.items c.args.id) { told = record c.again-now.result { role = Some c.args.role } }
 
-is_changed : (c : goal.Joined-node-told) → IsChanged c.args.nodes.now.items c.args.id c.index_mut-node.result.now (changed c)
+is_changed : (c : goal.After-set_told) → IsChanged c.args.nodes.now.items c.args.id no_node (changed c)
 unfolding changed
-is_changed c = record {
-  stored = c.requires.stored;
-  within = c.requires.within;
-  parent = ap (λ (n : Node). n.parent) c.index_mut-node.ensures.value;
-  number = ap (λ (n : Node). n.number) c.index_mut-node.ensures.value;
-  children = ap (λ (n : Node). n.children) c.index_mut-node.ensures.value;
-}
-
-role_is : (c : goal.Joined-node-told) → c.in_ok-told.told.role ≡ Some c.args.role
-role_is c = ap (λ (t : Told). t.role) c.in_ok-told.ensures
+is_changed c = record { stored = c.requires.stored; within = c.requires.within; parent = refl; number = refl; children = refl }
 
 pub returns-clause-restates : goal.returns-clause-restates
 unfolding changed
-returns-clause-restates c = restates_changed _ _ _ _ _ (is_changed c) (role_is c)
+returns-clause-restates c =
+    let nodes = c.args.nodes.now.items in
+    OnOk-map c.set_told.result _ _
+    (λ is. subst (λ (ns : List Node). Restates (twigs nodes) (twigs ns) c.args.id c.args.role) (sym is) (restates_changed nodes c.args.id no_node (changed c) c.args.role (is_changed c) refl)) c.set_told.ensures
 
 pub returns-clause-stored : goal.returns-clause-stored
 unfolding changed
-returns-clause-stored c = stored_changed _ _ _ _ c.args.role (is_changed c) (role_is c)
+returns-clause-stored c =
+    OnOk-map c.set_told.result _ _ (λ is. subst IsStored (sym is) (stored_changed c.args.nodes.now.items c.args.id no_node (changed c) c.args.role (is_changed c) refl)) c.set_told.ensures
 
 pub returns-clause-infos : goal.returns-clause-infos
 unfolding changed
 returns-clause-infos c =
-    infos_changed c.args.nodes.now.items c.args.id c.index_mut-node.result.now (changed c) (info_of c.args.more) c.requires.within
-    (ap info_of c.in_ok-told.ensures ∙ c.again-now.ensures.info ∙ ap (λ (t : Told). again (info_of t) (info_of c.args.more)) c.told.ensures ∙ ap (λ (n : Node). again (info_of n.told) (info_of c.args.more)) c.index_mut-node.ensures.value)
+    OnOk-map c.set_told.result _ _ (λ is. ap infos_of is ∙ infos_changed c.args.nodes.now.items c.args.id no_node (changed c) (info_of c.args.more) c.requires.within
+    (c.again-now.ensures.info ∙ ap (λ (t : Told). again (info_of t) (info_of c.args.more)) c.told.ensures)) c.set_told.ensures

@@ -1,5 +1,6 @@
-use Rattle.std.proofs.Common.{get_or, ◌++◌, ◌∷◌, [], ◌∙◌, ap, sym}
+use Rattle.std.proofs.Common.{◌++◌, ◌∷◌, [], ◌∙◌, ap, sym}
 use Rattle.std.specs.String.{string_bytes}
+use Rattle.keep_rules.specs.AllNodes.{no_node, node_at}
 use Rattle.keep_rules.specs.Children.{child_named}
 use Rattle.keep_rules.specs.Nodes.{node_number}
 use Rattle.keep_rules.specs.Path.{key, index}
@@ -11,13 +12,12 @@ use Rattle.keep_rules.proofs.queries.child_by.Goals as goal
 
 pub returns-in-Key : goal.returns-in-Key
 returns-in-Key c =
-    let nodes = c.args.nodes.now in
-    let d = c.index-nodes-id.result in
-    c.child.ensures ∙ ap (λ text. child_named (get_or nodes c.args.id d).children text) c.as_str.ensures.value ∙ stepped nodes c.requires.stored c.args.id d (key (string_bytes c.in-Key.text)) c.requires.within
+    let nodes = c.args.nodes.now.items in
+    c.child.ensures ∙ ap (λ text. child_named (node_at nodes c.args.id).children text) c.as_str.ensures.value ∙ stepped nodes c.requires.stored c.args.id no_node (key (string_bytes c.in-Key.text)) c.requires.within
     ∙ ap (λ step. node_number (paths_of (twigs nodes)) (path_at (twigs nodes) c.args.id ++ part_of step ∷ [])) (sym c.in-Key.is)
 
 pub returns-in-Index : goal.returns-in-Index
 returns-in-Index c =
-    let nodes = c.args.nodes.now in
-    c.item.ensures ∙ stepped nodes c.requires.stored c.args.id c.index-nodes-id.result (index c.in-Index.number) c.requires.within
+    let nodes = c.args.nodes.now.items in
+    c.item.ensures ∙ stepped nodes c.requires.stored c.args.id no_node (index c.in-Index.number) c.requires.within
     ∙ ap (λ step. node_number (paths_of (twigs nodes)) (path_at (twigs nodes) c.args.id ++ part_of step ∷ [])) (sym c.in-Index.is)

@@ -1,5 +1,5 @@
 -- A statement with no value is a header with its keys.
-use Rattle.std.proofs.Common.{◌≤◌, ◌-◌, ◌^◌, length, refl, arith}
+use Rattle.std.proofs.Common.{◌-◌, ◌^◌, refl}
 use Rattle.keep_syntax.specs.Flat.{flat}
 use Rattle.keep_rules.proofs.HeaderLemmas.{statement_keys, head_is_read, head_fault_fits, head_breaks}
 use Rattle.keep_rules.proofs.PartLemmas.{few_keys}

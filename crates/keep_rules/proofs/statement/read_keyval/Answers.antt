@@ -1,5 +1,5 @@
 -- A keyval's own value is read, and then those in it.
-use Rattle.std.proofs.Common.{ℕ, ◌+◌, ◌≤◌, ◌-◌, ◌^◌, List, length, refl, sym, subst, arith}
+use Rattle.std.proofs.Common.{ℕ, ◌+◌, ◌-◌, ◌^◌, List, refl, sym, subst}
 use Rattle.std.proofs.lemmas.Result.{on_ok_weaker, MatchResult-weaker}
 use Rattle.keep_syntax.specs.Flat.{flat}
 use Rattle.keep_rules.specs.Inside.{Inside, Turn}

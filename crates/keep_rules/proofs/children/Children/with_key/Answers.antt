@@ -1,27 +1,24 @@
-use Rattle.std.proofs.Common.{◌≡◌, ◌∷◌, ◌++◌, [], map, ap, sym, ◌∙◌}
-use Rattle.std.specs.String.{string_bytes, string_eq}
-use Rattle.std.proofs.lemmas.List.{map-append}
-use Rattle.indexmap.specs.IndexMap.{get_by_text}
-use Rattle.indexmap.proofs.CallerLemmas.{insert_entry-new}
+use Rattle.std.proofs.Common.{◌∙◌, ◌∷◌, [], ap, sym, map}
+use Rattle.std.specs.Str.{bytes_eq}
+use Rattle.std.specs.String.{string_bytes}
+use Rattle.std.specs.Map.{lookup}
 use Rattle.keep_rules.specs.declared.children.Children.{Children}
-use Rattle.keep_rules.specs.Children.{named, named_pair, child_ids, child_named}
+use Rattle.keep_rules.specs.declared.children.TwoKeys.{TwoKeys}
+use Rattle.keep_rules.specs.Children.{child_named}
+use Rattle.keep_rules.specs.Names.{hung, named_entry, named_pair}
 use Rattle.keep_rules.proofs.children.Children.with_key.Goals as goal
 
--- the map has the pair behind its others
-entries_new : (c : goal.In_ok-insert-in-Keys) → c.insert-in-Keys.new.self.entries ≡ c.in-Keys.keys.value.entries ++ (c.args.key, c.args.child) ∷ []
-entries_new c =
-    let here = c.deref_mut.ensures.value in
-    c.in_ok-insert-in-Keys.ensures.entries
-    ∙ insert_entry-new string_eq c.deref_mut.result.now c.args.key c.args.child
-    (ap (λ m. get_by_text m (string_bytes c.args.key)) here ∙ ap (λ (x : Children). child_named x (string_bytes c.args.key)) (sym c.in-Keys.is) ∙ c.requires.fresh)
-    ∙ ap (λ m. m.entries ++ (c.args.key, c.args.child) ∷ []) here
+pub add_entry-requires : goal.add_entry-requires
+add_entry-requires c =
+    let names = string_bytes c.args.names.now in
+    let text = c.args.text.now in
+    ap (lookup (bytes_eq text)) c.in_ok-keys-in-TwoKeys.ensures
+    ∙ ap (λ bytes. lookup (bytes_eq text) (named_entry bytes c.deref.result.now.first ∷ named_entry bytes c.deref.result.now.second ∷ [])) c.as_str.ensures.value
+    ∙ ap (λ (two : TwoKeys). lookup (bytes_eq text) (named_entry names two.first ∷ named_entry names two.second ∷ [])) c.deref.ensures
+    ∙ ap (λ (x : Children). child_named (hung names x) text) (sym c.in-TwoKeys.is) ∙ c.requires.fresh
 
-pub returns-in_ok-insert-in-Keys-clause-added : goal.returns-in_ok-insert-in-Keys-clause-added
-returns-in_ok-insert-in-Keys-clause-added c =
-    ap (map (λ e. e.1)) (entries_new c) ∙ map-append (λ e. e.1) c.in-Keys.keys.value.entries ((c.args.key, c.args.child) ∷ [])
-    ∙ ap (λ (x : Children). child_ids x ++ c.args.child ∷ []) (sym c.in-Keys.is)
-
-pub returns-in_ok-insert-in-Keys-clause-named : goal.returns-in_ok-insert-in-Keys-clause-named
-returns-in_ok-insert-in-Keys-clause-named c =
-    ap (map named_pair) (entries_new c) ∙ map-append named_pair c.in-Keys.keys.value.entries ((c.args.key, c.args.child) ∷ [])
-    ∙ ap (λ (x : Children). named x ++ (string_bytes c.args.key, c.args.child) ∷ []) (sym c.in-Keys.is)
+pub add_entry-requires-in-Keys : goal.add_entry-requires-in-Keys
+add_entry-requires-in-Keys c =
+    let text = c.args.text.now in
+    ap (λ m. lookup (bytes_eq text) (map named_pair m.entries)) c.deref_mut.ensures.value
+    ∙ ap (λ (x : Children). child_named (hung (string_bytes c.args.names.now) x) text) (sym c.in-Keys.is) ∙ c.requires.fresh

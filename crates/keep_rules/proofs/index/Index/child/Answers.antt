@@ -4,14 +4,14 @@ use Rattle.keep_rules.specs.Path.{key}
 use Rattle.keep_rules.proofs.QueryLemmas.{count_paths, child_answer, number_within}
 use Rattle.keep_rules.proofs.index.Index.child.Goals as goal
 
-pub index-requires : goal.index-requires
-index-requires c = omega (arith, count_paths c.self.inside.nodes.items c.args.self.now c.self.invariant.0 c.self.view_is)
+pub child-requires : goal.child-requires
+child-requires c = omega (arith, count_paths c.self.inside.nodes.items c.args.self.now c.self.invariant.0 c.self.view_is)
 
 pub returns-clause-found : goal.returns-clause-found
 returns-clause-found c =
     let same : number_of c.map.result ≡ c.child.result = search rules in
     same ∙ c.child.ensures
-    ∙ child_answer c.self.inside.nodes.items c.args.self.now c.args.id.0 c.index.result.now (key c.args.text.now) record { stored = c.self.invariant.0; view = c.self.view_is; inside = c.requires; node = c.index.ensures }
+    ∙ child_answer c.self.inside.nodes.items c.args.self.now c.args.id.0 (key c.args.text.now) record { stored = c.self.invariant.0; view = c.self.view_is; inside = c.requires }
 
 pub returns-clause-within : goal.returns-clause-within
 returns-clause-within c = number_within c.args.self.now (path_numbered c.args.self.now c.args.id.0 ++ key c.args.text.now ∷ []) c.map.result (returns-clause-found c)

@@ -3,18 +3,18 @@ use Rattle.keep_rules.specs.Lookup.{number_of}
 use Rattle.keep_rules.proofs.QueryLemmas.{count_paths, nth_answer, indexed_answer, nth_within}
 use Rattle.keep_rules.proofs.index.Index.child_at.Goals as goal
 
-pub index-requires : goal.index-requires
-index-requires c = omega (arith, count_paths c.self.inside.nodes.items c.args.self.now c.self.invariant.0 c.self.view_is)
+pub child_at-requires : goal.child_at-requires
+child_at-requires c = omega (arith, count_paths c.self.inside.nodes.items c.args.self.now c.self.invariant.0 c.self.view_is)
 
 pub returns-clause-met : goal.returns-clause-met
 returns-clause-met c =
-    let same : number_of c.map.result ≡ c.at.result = search rules in
-    same ∙ c.at.ensures ∙ nth_answer c.self.inside.nodes.items c.args.self.now c.args.id.0 c.index.result.now c.args.n record { stored = c.self.invariant.0; view = c.self.view_is; inside = c.requires; node = c.index.ensures }
+    let same : number_of c.map.result ≡ c.child_at.result = search rules in
+    same ∙ c.child_at.ensures ∙ nth_answer c.self.inside.nodes.items c.args.self.now c.args.id.0 c.args.n record { stored = c.self.invariant.0; view = c.self.view_is; inside = c.requires }
 
 pub returns-clause-indexed : goal.returns-clause-indexed
 returns-clause-indexed c k is =
-    let same : number_of c.map.result ≡ c.at.result = search rules in
-    same ∙ c.at.ensures ∙ indexed_answer c.self.inside.nodes.items c.args.self.now c.args.id.0 c.index.result.now c.args.n k record { stored = c.self.invariant.0; view = c.self.view_is; inside = c.requires; node = c.index.ensures } is
+    let same : number_of c.map.result ≡ c.child_at.result = search rules in
+    same ∙ c.child_at.ensures ∙ indexed_answer c.self.inside.nodes.items c.args.self.now c.args.id.0 c.args.n k record { stored = c.self.invariant.0; view = c.self.view_is; inside = c.requires } is
 
 pub returns-clause-within : goal.returns-clause-within
 returns-clause-within c = nth_within c.args.self.now c.args.id.0 c.args.n c.map.result (returns-clause-met c)

@@ -1,0 +1,12 @@
+use Rattle.std.proofs.Common.{◌∙◌, ap}
+use Rattle.std.specs.String.{string_bytes}
+use Rattle.keep_rules.specs.AllNodes.{with_told}
+use Rattle.keep_rules.specs.declared.told.Told.{Told}
+use Rattle.keep_rules.proofs.NameLemmas.{told_set}
+use Rattle.keep_rules.proofs.nodes.Nodes.set_told.Goals as goal
+
+pub returns : goal.returns
+returns c =
+    let names = string_bytes c.self.inside.names in
+    told_set names c.self.inside.list.items c.args.self.now c.args.id c.index_mut-node.result.now c.in_ok-told.told c.self.view_is c.requires c.index_mut-node.ensures.value
+    ∙ ap (λ (t : Told). with_told c.args.self.now.items c.args.id t) c.in_ok-told.ensures
