@@ -38,7 +38,7 @@ pub enum Children {
 }
 
 /// A key and its child, in 12 bytes.
-#[derive(Clone, Copy, Debug)]
+#[derive(Clone, Copy)]
 pub struct Entry {
     /// Where the key, decoded, starts in the shared text, in bytes.
     pub start: u32,
@@ -49,7 +49,7 @@ pub struct Entry {
 }
 
 /// Two keys.
-#[derive(Clone, Copy, Debug)]
+#[derive(Clone, Copy)]
 pub struct TwoKeys {
     pub first: Entry,
     pub second: Entry,
@@ -123,7 +123,7 @@ impl Children {
             Children::NoKeys => first_key(alloc, names, text, child),
             Children::OneKey(first) => second_key(alloc, names, first, text, child),
             Children::TwoKeys(two) => {
-                let mut keys = two.map(alloc, names.as_str())?;
+                let mut keys = two.to_map(alloc, names.as_str())?;
                 add_entry(&mut keys, alloc, text, child)?;
                 Ok(Children::Keys(Box::new(alloc, keys)?))
             }
@@ -245,7 +245,7 @@ impl TwoKeys {
     }
 
     /// A map of the two.
-    fn map(&self, alloc: Global, names: &str) -> Result<IndexMap<String, usize>, AllocError>
+    fn to_map(&self, alloc: Global, names: &str) -> Result<IndexMap<String, usize>, AllocError>
         requires { AreTwoIn names.now self.now.first self.now.second }
         ensures { IfOk result (λ keys. map named_pair keys.entries ≡ named_entry names.now self.now.first ∷ named_entry names.now self.now.second ∷ []) }
     {
@@ -344,6 +344,7 @@ fn one_entry(alloc: Global, text: &str, child: usize) -> Result<IndexMap<String,
 }
 
 /// Adds a key that is not there yet to a map.
+#[inline]
 fn add_entry(
     keys: &mut IndexMap<String, usize>,
     alloc: Global,

@@ -25,7 +25,8 @@ pub struct Node {
     told: Kept,
 }
 
-/// All nodes. The keys of tables with one or two stand in one text, so that such a table takes little memory.
+/// All nodes. The keys of tables with one or two stand in one text, so that such a table takes little memory. Those of a
+/// table that got a third stay there unused.
 #[derive(Drop)]
 pub struct Nodes {
     list: Vec<Node>,
@@ -150,6 +151,7 @@ impl Nodes {
     }
 
     /// Adds a node with no children, which its parent does not know yet.
+    #[inline(always)]
     pub fn push(
         &mut self,
         parent: usize,
@@ -178,7 +180,7 @@ impl Nodes {
         requires fresh { child_named (node_at self.old.items id).children text.now ≡ None }
         ensures { OnOk result (self.new.items ≡ with_children self.old.items id (and_key (node_at self.old.items id).children text.now child)) }
     {
-        let alloc = *self.list.allocator();
+        let alloc = self.allocator();
         let above = &mut self.list[id];
         above.children.add_key(alloc, &mut self.names, text, child)
     }
@@ -198,7 +200,7 @@ impl Nodes {
         requires { id < length self.old.items }
         ensures { OnOk result (self.new.items ≡ with_told self.old.items id told) }
     {
-        let alloc = *self.list.allocator();
+        let alloc = self.allocator();
         let told = Kept::of(alloc, told)?;
         let node = &mut self.list[id];
         node.told = told;

@@ -3,7 +3,7 @@ use Rattle.std.specs.Str.{bytes_eq}
 use Rattle.std.specs.Map.{lookup}
 use Rattle.keep_rules.specs.Names.{key_in}
 use Rattle.keep_rules.proofs.NameLemmas.{lookup_other}
-use Rattle.keep_rules.proofs.children.TwoKeys.map.Goals as goal
+use Rattle.keep_rules.proofs.children.TwoKeys.to_map.Goals as goal
 
 pub add_entry-requires : goal.add_entry-requires
 add_entry-requires c =
