@@ -1,7 +1,12 @@
 -- What is told of a node, as the node keeps it.
+use Rattle.std.specs.Prelude.{ℕ, max}
 use Rattle.keep_rules.specs.declared.told.Told.{Told}
 use Rattle.keep_rules.specs.declared.kept.Form.{Form}
 use Rattle.keep_rules.specs.declared.kept.Form.TheVariants.{Narrow, Wide}
+
+-- the greatest of the numbers, which tells whether all fit into 32 bits
+abbrev pub greatest : Told → ℕ
+greatest t = max (max t.marks t.number) (max (max t.key.start t.key.end) (max t.value.start t.value.end))
 
 -- what a form tells
 abbrev pub told_in : Form → Told

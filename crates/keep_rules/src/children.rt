@@ -1,5 +1,5 @@
 //! What hangs at a node.
-ghost use Rattle.std.specs.Prelude.{◌≡◌, ◌<◌, ◌≤◌, ◌+◌, ◌-◌, ℕ, List, ◌∷◌, ◌++◌, [], None, Option, OnOk, IfOk, IfSome, IfNone, false, bytes_eq, length, map, option_copied, option_map, slice_get, slice_index_or, string_bytes};
+ghost use Rattle.std.specs.Prelude.{◌≡◌, ◌<◌, ◌≤◌, ◌+◌, ◌-◌, ◌^◌, max, ℕ, List, ◌∷◌, ◌++◌, [], None, Option, OnOk, IfOk, IfSome, IfNone, false, bytes_eq, length, map, option_copied, option_map, slice_get, slice_index_or, string_bytes};
 ghost use Rattle.std.specs.Map.{lookup};
 ghost use Rattle.keep_rules.specs.Children.{Keyed};
 ghost use Rattle.keep_rules.specs.Names.{IsLonger, IsEntryOf, Keeps, IsIn, AreTwoIn, key_in, named_entry, named_pair};
@@ -313,6 +313,7 @@ fn add_name(names: &mut String, text: &str, child: usize) -> Result<Option<Entry
     ensures longer { IsLonger (string_bytes names.old) (string_bytes names.new) }
     ensures entry { IfOk result (λ made. IfSome made (λ e. IsEntryOf (string_bytes names.new) e text.now child)) }
     ensures same { IfOk result (λ made. IfNone made (string_bytes names.new ≡ string_bytes names.old)) }
+    ensures wide { IfOk result (λ made. IfNone made (2 ^ 32 ≤ max (length (string_bytes names.old) + length text.now) child)) }
 {
     let Some(entry) = entry_at(names.len(), text.len(), child) else {
         return Ok(None);
@@ -326,6 +327,7 @@ fn entry_at(start: usize, len: usize, child: usize) -> Option<Entry>
     ensures start { IfSome result (λ e. e.start ≡ start) }
     ensures end { IfSome result (λ e. e.end ≡ start + len) }
     ensures child { IfSome result (λ e. e.child ≡ child) }
+    ensures wide { result ≡ None → 2 ^ 32 ≤ max (start + len) child }
 {
     Some(Entry {
         start: u32::try_from(start).ok()?,

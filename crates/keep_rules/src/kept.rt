@@ -1,6 +1,6 @@
 //! What is told of a node, in as few bytes as its numbers allow.
-ghost use Rattle.std.specs.Prelude.{◌≡◌, IfOk, IfSome};
-ghost use Rattle.keep_rules.specs.Kept.{told_in};
+ghost use Rattle.std.specs.Prelude.{◌≡◌, ◌≤◌, ◌^◌, IfOk, IfSome, None};
+ghost use Rattle.keep_rules.specs.Kept.{greatest, told_in};
 
 use crate::node::Kind;
 use crate::role::Role;
@@ -44,7 +44,8 @@ impl Model for Kept {
 
 /// The narrow form, if the numbers fit.
 fn narrow(told: &Told) -> Option<Form>
-    ensures { IfSome result (λ form. told_in form ≡ told.now) }
+    ensures kept { IfSome result (λ form. told_in form ≡ told.now) }
+    ensures wide { result ≡ None → 2 ^ 32 ≤ greatest told.now }
 {
     Some(Form::Narrow {
         role: told.role,
