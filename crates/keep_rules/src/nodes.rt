@@ -15,14 +15,15 @@ use crate::told::Told;
 use std::alloc::{AllocError, Global};
 use std::marker::Model;
 
-/// A node: where it hangs, what hangs at it, and what is told of it. The root stands first, and hangs nowhere.
+/// A node: what hangs at it, what is told of it, and where it hangs. The root stands first, and hangs nowhere. What marks
+/// and look-ups touch stands in front, 48 bytes, so that it mostly shares one line of the cache.
 #[derive(Drop)]
 pub struct Node {
+    children: Children,
+    told: Kept,
     parent: usize,
     /// Its number among the children of its parent: its step is the key that the parent has there, or that number.
     number: usize,
-    children: Children,
-    told: Kept,
 }
 
 /// All nodes. The keys of tables with one or two stand in one text, so that such a table takes little memory. Those of a
