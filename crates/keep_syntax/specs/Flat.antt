@@ -76,17 +76,17 @@ key_parts_in (key_lists.Wide v) = v.items
 abbrev pub shown : NarrowValue → ValueInfo
 shown s = record {
   leaf = s.leaf;
-  span = span s.start s.end;
-  whole = span s.whole_start s.end;
+  span = span (s.anchor + s.gap + s.lead) s.end;
+  whole = span (s.anchor + s.gap) s.end;
   owner = owner_of s.within s.owner;
   depth = s.depth;
   first_key = s.first_key;
   keys = s.keys;
-  comma_before = if_there s.has_before s.before;
+  comma_before = if_there s.has_before s.anchor;
   comma_after = if_there s.has_after s.after;
 }
 
--- those in 48 bytes, then the others
+-- those in 40 bytes, then the others
 abbrev pub values_in : Values → List ValueInfo
 values_in vs = map shown vs.narrow.items ++ vs.wide.items
 

@@ -1,6 +1,7 @@
 //! The values of a text as they are kept, in text order.
-ghost use Rattle.std.specs.Prelude.{◌≡◌, ◌<◌, ◌++◌, ◌∷◌, [], length, slice_get, IfSome, OnOk, IsOkUnless, Some};
+ghost use Rattle.std.specs.Prelude.{◌≡◌, ◌<◌, ◌+◌, ◌++◌, ◌∷◌, [], length, slice_get, IfSome, OnOk, IsOkUnless, None, Some};
 ghost use Rattle.keep_syntax.specs.declared.fault.ReadFault.TheVariants.{Memory};
+ghost use Rattle.keep_syntax.specs.FitsValue.{FitsValue, IsNear};
 ghost use Rattle.keep_syntax.specs.Flat as spec;
 
 use crate::fault::ReadFault;
@@ -17,9 +18,10 @@ pub enum Within {
     Item,
 }
 
-/// A value in 48 bytes, its numbers in 32 bits but for those that are told later: `end`, which is the end of its keyval
-/// too, and `after`. Numbers stand apart from what tells whether they are there and of what they are, so that all of that
-/// shares one word.
+/// A value in 40 bytes. `anchor` is where the comma before it stands, or where its keyval starts if there is none. The
+/// keyval starts `gap` bytes behind the anchor, and the value `lead` bytes behind that. What is told later has a word of
+/// its own: `end`, which is the end of its keyval too, and `after`. Numbers stand apart from what tells whether they are
+/// there and of what they are, so that all of that shares one word with the number of its keys.
 #[derive(Clone, Copy, Debug)]
 pub struct NarrowValue {
     leaf: Leaf,
@@ -27,17 +29,17 @@ pub struct NarrowValue {
     depth: u16,
     has_before: bool,
     has_after: bool,
-    start: u32,
-    whole_start: u32,
+    keys: u16,
+    anchor: u32,
     owner: u32,
     first_key: u32,
-    keys: u32,
-    before: u32,
+    gap: u16,
+    lead: u16,
     end: usize,
     after: usize,
 }
 
-/// The values of a text, in text order: those before the first whose numbers do not fit into 32 bits, then the others.
+/// The values of a text, in text order: those before the first that does not fit into 40 bytes, then the others.
 #[derive(Debug, Drop)]
 pub struct Values {
     narrow: Vec<NarrowValue>,
@@ -66,39 +68,37 @@ fn owner_of(within: Within, number: usize) -> Owner
     }
 }
 
-/// The number in 32 bits, if it fits.
-fn narrow_number(number: usize) -> Option<u32>
-    ensures { IfSome result (λ small. small ≡ number) }
+/// How many bytes a place stands behind another, if that fits into 16 bits.
+fn distance(from: usize, to: usize) -> Option<u16>
+    ensures kept { IfSome result (λ gap. from + gap ≡ to) }
+    ensures wide { result ≡ None → IsNear from to → ⊥ }
 {
-    if number <= u32::MAX as usize {
-        Some(number as u32)
-    } else {
-        None
-    }
+    u16::try_from(to.checked_sub(from)?).ok()
 }
 
-/// The value in 48 bytes, if its numbers fit and it ends with its keyval.
+/// The value in 40 bytes, if its numbers fit and it ends with its keyval.
 fn narrowed(value: &ValueInfo) -> Option<NarrowValue>
-    ensures { IfSome result (λ narrow. spec.shown narrow ≡ value.now) }
+    ensures kept { IfSome result (λ narrow. spec.shown narrow ≡ value.now) }
+    ensures wide { result ≡ None → FitsValue value.now → ⊥ }
 {
-    let (within, owner) = owner_apart(value.owner);
-    let (has_before, before) = apart(value.comma_before);
-    let (has_after, after) = apart(value.comma_after);
     if value.span.end != value.whole.end {
         return None;
     }
+    let (within, owner) = owner_apart(value.owner);
+    let (has_after, after) = apart(value.comma_after);
+    let anchor = value.comma_before.unwrap_or(value.whole.start);
     Some(NarrowValue {
         leaf: value.leaf,
         within,
         depth: value.depth,
-        has_before,
+        has_before: value.comma_before.is_some(),
         has_after,
-        start: narrow_number(value.span.start)?,
-        whole_start: narrow_number(value.whole.start)?,
-        owner: narrow_number(owner)?,
-        first_key: narrow_number(value.first_key)?,
-        keys: narrow_number(value.keys)?,
-        before: narrow_number(before)?,
+        keys: u16::try_from(value.keys).ok()?,
+        anchor: u32::try_from(anchor).ok()?,
+        owner: u32::try_from(owner).ok()?,
+        first_key: u32::try_from(value.first_key).ok()?,
+        gap: distance(anchor, value.whole.start)?,
+        lead: distance(value.whole.start, value.span.start)?,
         end: value.span.end,
         after,
     })
@@ -108,21 +108,23 @@ fn narrowed(value: &ValueInfo) -> Option<NarrowValue>
 fn shown(value: &NarrowValue) -> ValueInfo
     ensures { result ≡ spec.shown value.now }
 {
+    let anchor = value.anchor as usize;
+    let start = anchor + value.gap as usize;
     ValueInfo {
         leaf: value.leaf,
         span: Span {
-            start: value.start as usize,
+            start: start + value.lead as usize,
             end: value.end,
         },
         whole: Span {
-            start: value.whole_start as usize,
+            start,
             end: value.end,
         },
         owner: owner_of(value.within, value.owner as usize),
         depth: value.depth,
         first_key: value.first_key as usize,
         keys: value.keys as usize,
-        comma_before: if_there(value.has_before, value.before as usize),
+        comma_before: if_there(value.has_before, anchor),
         comma_after: if_there(value.has_after, value.after),
     }
 }
