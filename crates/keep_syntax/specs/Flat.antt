@@ -10,10 +10,8 @@ use Rattle.keep_syntax.specs.declared.info.ValueInfo.{ValueInfo}
 use Rattle.keep_syntax.specs.declared.info.Start.{Start}
 use Rattle.keep_syntax.specs.declared.statements.NarrowStatement.{NarrowStatement}
 use Rattle.keep_syntax.specs.declared.statements.Statements.{Statements}
-use Rattle.keep_syntax.specs.declared.statements.Statements.TheVariants as statement_lists
 use Rattle.keep_syntax.specs.declared.keys.NarrowKeyPart.{NarrowKeyPart}
 use Rattle.keep_syntax.specs.declared.keys.KeyParts.{KeyParts}
-use Rattle.keep_syntax.specs.declared.keys.KeyParts.TheVariants as key_lists
 use Rattle.keep_syntax.specs.declared.values.Within.{Within}
 use Rattle.keep_syntax.specs.declared.values.Within.TheVariants as within
 use Rattle.keep_syntax.specs.declared.values.NarrowValue.{NarrowValue}
@@ -49,28 +47,28 @@ owner_of within.Line number = owner.Line number
 owner_of within.Inline number = owner.Inline number
 owner_of within.Item number = owner.Item number
 
--- the statement that is stored so
+-- the statement that is kept so
 abbrev pub told : NarrowStatement → Statement
 told s = record {
   kind = s.kind;
-  span = span s.start s.end;
-  line = span s.line_start s.line_end;
+  span = span (s.line_start + s.before) s.end;
+  line = span s.line_start (s.end + s.behind);
   first_key = s.first_key;
   keys = s.keys;
   value = if_there s.has_value s.value;
 }
 
+-- those in 24 bytes, then the others
 abbrev pub statements_in : Statements → List Statement
-statements_in (statement_lists.Narrow v) = map told v.items
-statements_in (statement_lists.Wide v) = v.items
+statements_in ss = map told ss.narrow.items ++ ss.wide.items
 
--- the key part that is stored so
+-- the key part that is kept so
 abbrev pub told_key : NarrowKeyPart → KeyPart
-told_key k = record { leaf = k.leaf; span = span k.start k.end }
+told_key k = record { leaf = k.leaf; span = span k.start (k.start + k.len) }
 
+-- those in 8 bytes, then the others
 abbrev pub key_parts_in : KeyParts → List KeyPart
-key_parts_in (key_lists.Narrow v) = map told_key v.items
-key_parts_in (key_lists.Wide v) = v.items
+key_parts_in ks = map told_key ks.narrow.items ++ ks.wide.items
 
 -- the value that is kept so
 abbrev pub shown : NarrowValue → ValueInfo

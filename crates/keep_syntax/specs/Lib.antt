@@ -1,8 +1,7 @@
 pub mod Tree
 pub mod Grammar
 pub mod Numbered
-pub mod Greatest
-pub mod FitsValue
+pub mod Fits
 pub mod Deep
 pub mod Reading
 pub mod Starts

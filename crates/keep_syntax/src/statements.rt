@@ -1,46 +1,50 @@
-//! The statements of a text, in as few bytes as their numbers allow.
-ghost use Rattle.std.specs.Prelude.{◌≡◌, ◌<◌, ◌≤◌, ◌^◌, None, ◌++◌, ◌∷◌, [], length, map, slice_get, IfOk, IfSome, OnOk, Some};
+//! The statements of a text as they are kept, in text order.
+ghost use Rattle.std.specs.Prelude.{◌≡◌, ◌<◌, None, ◌++◌, ◌∷◌, [], length, slice_get, IfSome, OnOk, Some};
+ghost use Rattle.keep_syntax.specs.Fits.{FitsStatement};
 ghost use Rattle.keep_syntax.specs.Flat as spec;
-ghost use Rattle.keep_syntax.specs.Greatest.{greatest};
 
 use crate::info::{Span, Statement, StatementKind};
+use crate::parts::if_there;
 use std::alloc::{AllocError, Global};
 
-/// A statement whose numbers fit into 32 bits, with the number of its value apart.
+/// A statement in 24 bytes. Of its line `before` bytes stand before it and `behind` behind it, and `end` is its own end.
+/// The number of its value stands apart from what tells whether it is there.
 #[derive(Clone, Copy, Debug)]
 pub struct NarrowStatement {
     kind: StatementKind,
     has_value: bool,
-    start: u32,
-    end: u32,
+    keys: u16,
+    before: u16,
+    behind: u16,
     line_start: u32,
-    line_end: u32,
+    end: u32,
     first_key: u32,
-    keys: u32,
     value: u32,
 }
 
-/// Statements in text order: narrow as long as the numbers of all of them fit into 32 bits.
+/// The statements of a text, in text order: those before the first whose numbers do not fit into 24 bytes, then the others.
 #[derive(Debug, Drop)]
-pub enum Statements {
-    Narrow(Vec<NarrowStatement>),
-    Wide(Vec<Statement>),
+pub struct Statements {
+    narrow: Vec<NarrowStatement>,
+    wide: Vec<Statement>,
 }
 
-/// The statement in 32-bit numbers, if they fit.
+/// The statement in 24 bytes, if its numbers fit.
 fn narrow(statement: Statement) -> Option<NarrowStatement>
     ensures kept { IfSome result (λ kept. spec.told kept ≡ statement) }
-    ensures wide { result ≡ None → 2 ^ 32 ≤ greatest statement }
+    ensures wide { result ≡ None → FitsStatement statement → ⊥ }
 {
+    let span = statement.span;
+    let line = statement.line;
     Some(NarrowStatement {
         kind: statement.kind,
         has_value: statement.value.is_some(),
-        start: u32::try_from(statement.span.start).ok()?,
-        end: u32::try_from(statement.span.end).ok()?,
-        line_start: u32::try_from(statement.line.start).ok()?,
-        line_end: u32::try_from(statement.line.end).ok()?,
+        keys: u16::try_from(statement.keys).ok()?,
+        before: u16::try_from(span.start.checked_sub(line.start)?).ok()?,
+        behind: u16::try_from(line.end.checked_sub(span.end)?).ok()?,
+        line_start: u32::try_from(line.start).ok()?,
+        end: u32::try_from(span.end).ok()?,
         first_key: u32::try_from(statement.first_key).ok()?,
-        keys: u32::try_from(statement.keys).ok()?,
         value: u32::try_from(statement.value.unwrap_or(0)).ok()?,
     })
 }
@@ -49,35 +53,22 @@ fn narrow(statement: Statement) -> Option<NarrowStatement>
 fn told(kept: &NarrowStatement) -> Statement
     ensures { result ≡ spec.told kept.now }
 {
+    let line_start = kept.line_start as usize;
+    let end = kept.end as usize;
     Statement {
         kind: kept.kind,
         span: Span {
-            start: kept.start as usize,
-            end: kept.end as usize,
+            start: line_start + kept.before as usize,
+            end,
         },
         line: Span {
-            start: kept.line_start as usize,
-            end: kept.line_end as usize,
+            start: line_start,
+            end: end + kept.behind as usize,
         },
         first_key: kept.first_key as usize,
         keys: kept.keys as usize,
-        value: if kept.has_value {
-            Some(kept.value as usize)
-        } else {
-            None
-        },
+        value: if_there(kept.has_value, kept.value as usize),
     }
-}
-
-/// The same statements, each as it is told.
-fn widened(alloc: Global, kept: &[NarrowStatement]) -> Result<Vec<Statement>, AllocError>
-    ensures { IfOk result (λ wide. wide.items ≡ map spec.told kept.now) }
-{
-    let mut wide = Vec::with_capacity(alloc, kept.len())?;
-    for statement in kept {
-        wide.push(told(statement))?;
-    }
-    Ok(wide)
 }
 
 impl Statements {
@@ -85,17 +76,17 @@ impl Statements {
     pub fn new(alloc: Global) -> Statements
         ensures { spec.statements_in result ≡ [] }
     {
-        Statements::Narrow(Vec::new(alloc))
+        Statements {
+            narrow: Vec::new(alloc),
+            wide: Vec::new(alloc),
+        }
     }
 
     /// How many there are.
     pub fn len(&self) -> usize
         ensures { result ≡ length (spec.statements_in self.now) }
     {
-        match self {
-            Statements::Narrow(kept) => kept.len(),
-            Statements::Wide(kept) => kept.len(),
-        }
+        self.narrow.len() + self.wide.len()
     }
 
     /// The statement of this number.
@@ -103,27 +94,25 @@ impl Statements {
         requires { number < length (spec.statements_in self.now) }
         ensures { slice_get (spec.statements_in self.now) number ≡ Some result }
     {
-        match self {
-            Statements::Narrow(kept) => told(&kept[number]),
-            Statements::Wide(kept) => kept[number],
+        let narrow = self.narrow.len();
+        if number < narrow {
+            told(&self.narrow[number])
+        } else {
+            self.wide[number - narrow]
         }
     }
 
-    /// Keeps one more. The first whose numbers don't fit makes all of them wide.
+    /// Keeps one more.
     pub fn push(&mut self, statement: Statement) -> Result<(), AllocError>
         ensures { OnOk result (spec.statements_in self.new ≡ spec.statements_in self.old ++ statement ∷ []) }
     {
-        match self {
-            Statements::Narrow(kept) => match narrow(statement) {
-                Some(fitting) => kept.push(fitting)?,
-                None => {
-                    let mut wide = widened(*kept.allocator(), kept)?;
-                    wide.push(statement)?;
-                    *self = Statements::Wide(wide);
-                }
-            },
-            Statements::Wide(kept) => kept.push(statement)?,
+        if self.wide.is_empty() {
+            if let Some(kept) = narrow(statement) {
+                self.narrow.push(kept)?;
+                return Ok(());
+            }
         }
+        self.wide.push(statement)?;
         Ok(())
     }
 }

@@ -1,7 +1,7 @@
 //! The values of a text as they are kept, in text order.
 ghost use Rattle.std.specs.Prelude.{◌≡◌, ◌<◌, ◌+◌, ◌++◌, ◌∷◌, [], length, slice_get, IfSome, OnOk, IsOkUnless, None, Some};
 ghost use Rattle.keep_syntax.specs.declared.fault.ReadFault.TheVariants.{Memory};
-ghost use Rattle.keep_syntax.specs.FitsValue.{FitsValue, IsNear};
+ghost use Rattle.keep_syntax.specs.Fits.{FitsValue, IsNear};
 ghost use Rattle.keep_syntax.specs.Flat as spec;
 
 use crate::fault::ReadFault;
