@@ -1,23 +1,26 @@
 -- The text of the keys of small tables, as more is written behind it, and the nodes that are read with it.
-use Rattle.std.proofs.Common.{◌≡◌, ℕ, suc, ◌+◌, ◌-◌, ◌<◌, false, List, [], ◌∷◌, ◌++◌, length, get_or, take, drop, map, set, refl, sym, ◌∙◌, ap, subst, arith, length-append, inl, inr, cond, Some, String, Box, Vec}
+use Rattle.std.proofs.Common.{◌≡◌, ℕ, zero, suc, ◌+◌, ◌-◌, ◌<◌, false, List, [], ◌∷◌, ◌++◌, length, get_or, take, drop, map, set, refl, sym, ◌∙◌, ap, subst, arith, length-append, inl, inr, cond, Some, String, Box, Vec}
 use Rattle.std.specs.Prelude.{IsUtf8, IsCharBoundary}
 use Rattle.std.specs.Global.{Global}
 use Rattle.std.specs.Str.{bytes_eq}
 use Rattle.std.specs.String.{string_bytes}
+use Rattle.std.specs.List.{slice_get}
 use Rattle.std.specs.Map.{lookup}
 use Rattle.std.proofs.lemmas.Bool.{cases_lt, cases_eq}
-use Rattle.std.proofs.lemmas.List.{get_or_append_left, get_or_push, get_or-set_same, get_or-set_other, get_or-map, length-set, length-map, length-drop, map-append, map-set, take-append-le, drop-append-le, append-nil}
+use Rattle.std.proofs.lemmas.List.{get_or_append_left, get_or_push, get_or-set_same, get_or-set_other, length-set, length-drop, take-append-le, drop-append-le, append-nil}
+use Rattle.std.proofs.lemmas.Option.{get_or_from_slice_get}
 use Rattle.std.proofs.lemmas.Str.{IsUtf8-nil, IsCharBoundary-at_seam, IsCharBoundary-end}
 use Rattle.keep_rules.specs.declared.children.Children.{Children}
 use Rattle.keep_rules.specs.declared.children.Children.TheVariants as kept
 use Rattle.keep_rules.specs.declared.children.Entry.{Entry}
 use Rattle.keep_rules.specs.declared.children.TwoKeys.{TwoKeys}
+use Rattle.keep_rules.specs.declared.hangs.Hang.{Hang}
 use Rattle.keep_rules.specs.declared.nodes.Node.{Node as KeptNode}
 use Rattle.keep_rules.specs.declared.told.Told.{Told}
 use Rattle.keep_rules.specs.Children.{Hung, Keyed, holds_of}
 use Rattle.keep_rules.specs.Trie.{by_index}
 use Rattle.keep_rules.specs.AllNodes.{Node, AllNodes, no_node, node_at, with_children, with_told}
-use Rattle.keep_rules.specs.Names.{key_in, named_entry, named_pair, hung, node_in, all_nodes, IsIn, AreTwoIn, AreIn, AreKept, IsLonger, IsEntryOf}
+use Rattle.keep_rules.specs.Names.{key_in, named_entry, named_pair, hung, node_in, nodes_in, all_nodes, IsIn, AreTwoIn, AreIn, AreKept, AreWhole, IsLonger, IsEntryOf}
 
 -- ---- more text
 
@@ -81,13 +84,14 @@ hung_longer names longer (kept.Items items) l at = refl
 pub kept_longer : (names longer : List ℕ) (nodes : List KeptNode) → IsLonger names longer → AreKept names nodes → AreKept longer nodes
 kept_longer names longer nodes l kept i d h = are_longer names longer (get_or nodes i d).children l (kept i d h)
 
-nodes_longer : (names longer : List ℕ) (nodes : List KeptNode) → IsLonger names longer → AreKept names nodes → map (node_in longer) nodes ≡ map (node_in names) nodes
-nodes_longer names longer [] l kept = refl
-nodes_longer names longer (n ∷ nodes) l kept =
+nodes_longer : (names longer : List ℕ) (nodes : List KeptNode) (hangs : List Hang) → IsLonger names longer → AreKept names nodes → nodes_in longer nodes hangs ≡ nodes_in names nodes hangs
+nodes_longer names longer [] hangs l kept = refl
+nodes_longer names longer (n ∷ nodes) [] l kept = refl
+nodes_longer names longer (n ∷ nodes) (h ∷ hangs) l kept =
     let one : hung longer n.children ≡ hung names n.children = hung_longer names longer n.children l (kept 0 n (omega arith)) in
-    let first : node_in longer n ≡ node_in names n = ap (λ (c : Hung). let r : Node = record { parent = n.parent; number = n.number; children = c; told = n.told } in r) one in
-    let rest : map (node_in longer) nodes ≡ map (node_in names) nodes = nodes_longer names longer nodes l (λ i d h. kept (suc i) d (omega (arith, h))) in
-    ap (λ (x : Node). x ∷ map (node_in longer) nodes) first ∙ ap (λ xs. node_in names n ∷ xs) rest
+    let first : node_in longer n h ≡ node_in names n h = ap (λ (c : Hung). let r : Node = record { parent = h.parent; number = h.number; children = c; told = n.told } in r) one in
+    let rest : nodes_in longer nodes hangs ≡ nodes_in names nodes hangs = nodes_longer names longer nodes hangs l (λ i d at. kept (suc i) d (omega (arith, at))) in
+    ap (λ (x : Node). x ∷ nodes_in longer nodes hangs) first ∙ ap (λ xs. node_in names n h ∷ xs) rest
 
 -- ---- an entry more
 
@@ -132,6 +136,15 @@ two_kept names longer text first second child two is l at made apart =
       reads = ap (λ k. Keyed ((k, first.child) ∷ named_entry longer second ∷ [])) own ∙ ap (λ p. Keyed (named_entry names first ∷ p ∷ [])) made.reads;
     })
 
+-- what hangs there is of one sort, whatever the text
+pub sort_same : (names other : List ℕ) (c : Children) → holds_of (hung names c) ≡ holds_of (hung other c)
+sort_same names other kept.Nothing = refl
+sort_same names other kept.NoKeys = refl
+sort_same names other (kept.OneKey one) = refl
+sort_same names other (kept.TwoKeys two) = refl
+sort_same names other (kept.Keys keys) = refl
+sort_same names other (kept.Items items) = refl
+
 -- what is listed is a list
 pub items_there : (c : Children) → holds_of (hung [] c) ≡ by_index → ((x : Box (Vec ℕ Global) Global) → c ≡ kept.Items x → ⊥) → ⊥
 items_there kept.Nothing h other = absurd cc
@@ -154,17 +167,76 @@ numbers_named (e ∷ es) = ap (λ ns. e.1 ∷ ns) (numbers_named es)
 pub lookup_other : (text name : List ℕ) (n : ℕ) (ps : List (List ℕ × ℕ)) → bytes_eq text name ≡ false → lookup (bytes_eq text) ((name, n) ∷ ps) ≡ lookup (bytes_eq text) ps
 lookup_other text name n ps other = ap (λ b. cond b (Some n) (lookup (bytes_eq text) ps)) other
 
+-- ---- two lists of one length
+
+nodes_count : (names : List ℕ) (nodes : List KeptNode) (hangs : List Hang) → length hangs ≡ length nodes → length (nodes_in names nodes hangs) ≡ length nodes
+nodes_count names [] hangs paired = refl
+nodes_count names (n ∷ nodes) [] paired = absurd (omega (arith, paired))
+nodes_count names (n ∷ nodes) (h ∷ hangs) paired = ap suc (nodes_count names nodes hangs (omega (arith, paired)))
+
+nodes_at : (names : List ℕ) (nodes : List KeptNode) (hangs : List Hang) (i : ℕ) (d : KeptNode) (e : Hang) → length hangs ≡ length nodes → i < length nodes
+    → node_at (nodes_in names nodes hangs) i ≡ node_in names (get_or nodes i d) (get_or hangs i e)
+nodes_at names [] hangs i d e paired within = absurd (omega (arith, within))
+nodes_at names (n ∷ nodes) [] i d e paired within = absurd (omega (arith, paired))
+nodes_at names (n ∷ nodes) (h ∷ hangs) zero d e paired within = refl
+nodes_at names (n ∷ nodes) (h ∷ hangs) (suc i) d e paired within = nodes_at names nodes hangs i d e (omega (arith, paired)) (omega (arith, within))
+
+nodes_push : (names : List ℕ) (nodes : List KeptNode) (hangs : List Hang) (n : KeptNode) (h : Hang) → length hangs ≡ length nodes
+    → nodes_in names (nodes ++ n ∷ []) (hangs ++ h ∷ []) ≡ nodes_in names nodes hangs ++ node_in names n h ∷ []
+nodes_push names [] [] n h paired = refl
+nodes_push names [] (g ∷ hangs) n h paired = absurd (omega (arith, paired))
+nodes_push names (m ∷ nodes) [] n h paired = absurd (omega (arith, paired))
+nodes_push names (m ∷ nodes) (g ∷ hangs) n h paired = ap (λ (xs : List Node). node_in names m g ∷ xs) (nodes_push names nodes hangs n h (omega (arith, paired)))
+
+nodes_set : (names : List ℕ) (nodes : List KeptNode) (hangs : List Hang) (i : ℕ) (n : KeptNode) (e : Hang) → length hangs ≡ length nodes
+    → nodes_in names (set nodes i n) hangs ≡ set (nodes_in names nodes hangs) i (node_in names n (get_or hangs i e))
+nodes_set names [] hangs i n e paired = refl
+nodes_set names (m ∷ nodes) [] i n e paired = absurd (omega (arith, paired))
+nodes_set names (m ∷ nodes) (h ∷ hangs) zero n e paired = refl
+nodes_set names (m ∷ nodes) (h ∷ hangs) (suc i) n e paired = ap (λ (xs : List Node). node_in names m h ∷ xs) (nodes_set names nodes hangs i n e (omega (arith, paired)))
+
+-- stand where there is nothing
+pub nowhere : Hang
+nowhere = record { parent = 0; number = 0 }
+
+nothing : KeptNode
+nothing = record { children = kept.Nothing; told = no_node.told }
+
 -- ---- the nodes that are read
 
-pub count_seen : (names : List ℕ) (nodes : List KeptNode) (all : AllNodes) → all_nodes names nodes ≡ all → length all.items ≡ length nodes
-count_seen names nodes all view = ap (λ (x : AllNodes). length x.items) (sym view) ∙ length-map nodes (node_in names)
+module _ (names : List ℕ) (nodes : List KeptNode) (hangs : List Hang) (all : AllNodes) (view : all_nodes names nodes hangs ≡ all) (whole : AreWhole names nodes hangs) where
+  pub count_seen : length all.items ≡ length nodes
+  count_seen = ap (λ (x : AllNodes). length x.items) (sym view) ∙ nodes_count names nodes hangs whole.paired
 
-pub node_seen : (names : List ℕ) (nodes : List KeptNode) (all : AllNodes) (i : ℕ) (d : KeptNode) → all_nodes names nodes ≡ all → i < length nodes → node_at all.items i ≡ node_in names (get_or nodes i d)
-node_seen names nodes all i d view h = ap (λ (x : AllNodes). node_at x.items i) (sym view) ∙ get_or-map (node_in names) nodes i d no_node h
+  pub hangs_seen : length all.items ≡ length hangs
+  hangs_seen = count_seen ∙ sym whole.paired
 
--- a node that was read
-pub node_read : (names : List ℕ) (nodes : List KeptNode) (all : AllNodes) (i : ℕ) (n : KeptNode) → all_nodes names nodes ≡ all → i < length all.items → n ≡ get_or nodes i n → node_in names n ≡ node_at all.items i
-node_read names nodes all i n view h is = ap (node_in names) is ∙ sym (node_seen names nodes all i n view (omega (arith, h, count_seen names nodes all view)))
+  module _ (i : ℕ) (within : i < length all.items) where
+    node_seen : (d : KeptNode) → node_at all.items i ≡ node_in names (get_or nodes i d) (get_or hangs i nowhere)
+    node_seen d = ap (λ (x : AllNodes). node_at x.items i) (sym view) ∙ nodes_at names nodes hangs i d nowhere whole.paired (omega (arith, within, count_seen))
+
+    -- a node that was read
+    pub node_read : (n : KeptNode) → n ≡ get_or nodes i n → node_in names n (get_or hangs i nowhere) ≡ node_at all.items i
+    node_read n is = ap (λ (k : KeptNode). node_in names k (get_or hangs i nowhere)) is ∙ sym (node_seen n)
+
+    pub kept_read : (n : KeptNode) → n ≡ get_or nodes i n → AreIn names n.children
+    kept_read n is = subst (λ (k : KeptNode). AreIn names k.children) (sym is) (whole.kept i n (omega (arith, within, count_seen)))
+
+    pub children_read : (n : KeptNode) → n ≡ get_or nodes i n → hung names n.children ≡ (node_at all.items i).children
+    children_read n is = ap (λ (x : Node). x.children) (node_read n is)
+
+    pub told_read : (n : KeptNode) → n ≡ get_or nodes i n → n.told ≡ (node_at all.items i).told
+    told_read n is = ap (λ (x : Node). x.told) (node_read n is)
+
+    -- where it hangs
+    hang_read : (h : Hang) → slice_get hangs i ≡ Some h → node_in names (get_or nodes i nothing) h ≡ node_at all.items i
+    hang_read h is = ap (node_in names (get_or nodes i nothing)) (sym (get_or_from_slice_get hangs i h nowhere is)) ∙ sym (node_seen nothing)
+
+    pub parent_read : (h : Hang) → slice_get hangs i ≡ Some h → h.parent ≡ (node_at all.items i).parent
+    parent_read h is = ap (λ (x : Node). x.parent) (hang_read h is)
+
+    pub number_read : (h : Hang) → slice_get hangs i ≡ Some h → h.number ≡ (node_at all.items i).number
+    number_read h is = ap (λ (x : Node). x.number) (hang_read h is)
 
 -- ---- a node that changes
 
@@ -176,34 +248,51 @@ kept_set names nodes i n kept own k d h =
       | inr other ↦ subst (λ (x : KeptNode). AreIn names x.children) (sym (get_or-set_other nodes i k n d other)) (kept k d h')
     ]
 
-pub kept_push : (names : List ℕ) (nodes : List KeptNode) (n : KeptNode) → AreKept names nodes → AreIn names n.children → AreKept names (nodes ++ n ∷ [])
+kept_push : (names : List ℕ) (nodes : List KeptNode) (n : KeptNode) → AreKept names nodes → AreIn names n.children → AreKept names (nodes ++ n ∷ [])
 kept_push names nodes n kept own k d h = elim (cases_lt k (length nodes)) [
   | inl below ↦ subst (λ (x : KeptNode). AreIn names x.children) (sym (get_or_append_left nodes (n ∷ []) d k below)) (kept k d below)
   | inr above ↦ subst (λ (x : KeptNode). AreIn names x.children) (sym (get_or_push nodes n d k (let is : length nodes ≡ k = omega (arith, above, h, length-append nodes (n ∷ [])) in is))) own
 ]
 
-node_same : (n : Node) (names : List ℕ) (k : KeptNode) (c : Children) (is : Hung) → node_in names k ≡ n → (longer : List ℕ) → hung longer c ≡ is → node_in longer (record k { children = c }) ≡ record n { children = is }
-node_same n names k c is same longer reads =
-    ap (λ (h : Hung). let r : Node = record { parent = k.parent; number = k.number; children = h; told = k.told } in r) reads ∙ ap (λ (x : Node). let r : Node = record x { children = is } in r) same
+pub whole_set : (names longer : List ℕ) (nodes : List KeptNode) (hangs : List Hang) (i : ℕ) (n : KeptNode) → AreWhole names nodes hangs → IsLonger names longer → AreIn longer n.children
+    → AreWhole longer (set nodes i n) hangs
+whole_set names longer nodes hangs i n whole l own = record {
+  kept = kept_set longer nodes i n (kept_longer names longer nodes l whole.kept) own;
+  paired = whole.paired ∙ sym (length-set nodes i n);
+}
+
+pub whole_push : (names : List ℕ) (nodes : List KeptNode) (hangs : List Hang) (n : KeptNode) (h : Hang) → AreWhole names nodes hangs → AreIn names n.children
+    → AreWhole names (nodes ++ n ∷ []) (hangs ++ h ∷ [])
+whole_push names nodes hangs n h whole own = record {
+  kept = kept_push names nodes n whole.kept own;
+  paired = omega (arith, whole.paired, length-append nodes (n ∷ []), length-append hangs (h ∷ []));
+}
 
 -- other children, and more text
-pub children_set : (names longer : List ℕ) (nodes : List KeptNode) (all : AllNodes) (i : ℕ) (n : KeptNode) (c : Children) (is : Hung) → all_nodes names nodes ≡ all → IsLonger names longer → AreKept names nodes → i < length all.items
-    → n ≡ get_or nodes i n → hung longer c ≡ is → map (node_in longer) (set nodes i (record n { children = c })) ≡ with_children all.items i is
-children_set names longer nodes all i n c is view l kept h own reads =
-    map-set (node_in longer) nodes i (record n { children = c })
-    ∙ ap (λ (xs : List Node). set xs i (node_in longer (record n { children = c }))) (nodes_longer names longer nodes l kept ∙ ap (λ (x : AllNodes). x.items) view)
-    ∙ ap (λ (x : Node). set all.items i x) (node_same (node_at all.items i) names n c is (node_read names nodes all i n view h own) longer reads)
+node_same : (n : Node) (names : List ℕ) (k : KeptNode) (h : Hang) (c : Children) (is : Hung) → node_in names k h ≡ n → (longer : List ℕ) → hung longer c ≡ is
+    → node_in longer (record k { children = c }) h ≡ record n { children = is }
+node_same n names k h c is same longer reads =
+    ap (λ (x : Hung). let r : Node = record { parent = h.parent; number = h.number; children = x; told = k.told } in r) reads ∙ ap (λ (x : Node). let r : Node = record x { children = is } in r) same
 
--- other things that are told
-pub told_set : (names : List ℕ) (nodes : List KeptNode) (all : AllNodes) (i : ℕ) (n : KeptNode) (told : Told) → all_nodes names nodes ≡ all → i < length all.items → n ≡ get_or nodes i n
-    → map (node_in names) (set nodes i (record n { told = told })) ≡ with_told all.items i told
-told_set names nodes all i n told view h own =
-    map-set (node_in names) nodes i (record n { told = told }) ∙ ap (λ (x : AllNodes). set x.items i (node_in names (record n { told = told }))) view
-    ∙ ap (λ (x : Node). let r : Node = record x { told = told } in set all.items i r) (node_read names nodes all i n view h own)
+module _ (names longer : List ℕ) (nodes : List KeptNode) (hangs : List Hang) (all : AllNodes) (view : all_nodes names nodes hangs ≡ all) (whole : AreWhole names nodes hangs) (l : IsLonger names longer) where
+  pub children_set : (i : ℕ) (n : KeptNode) (c : Children) (is : Hung) → i < length all.items → n ≡ get_or nodes i n → hung longer c ≡ is
+      → nodes_in longer (set nodes i (record n { children = c })) hangs ≡ with_children all.items i is
+  children_set i n c is within own reads =
+      nodes_set longer nodes hangs i (record n { children = c }) nowhere whole.paired
+      ∙ ap (λ (xs : List Node). set xs i (node_in longer (record n { children = c }) (get_or hangs i nowhere))) (nodes_longer names longer nodes hangs l whole.kept ∙ ap (λ (x : AllNodes). x.items) view)
+      ∙ ap (λ (x : Node). set all.items i x) (node_same (node_at all.items i) names n (get_or hangs i nowhere) c is (node_read names nodes hangs all view whole i within n own) longer reads)
 
--- one more
-pub node_pushed : (names : List ℕ) (nodes : List KeptNode) (all : AllNodes) (n : KeptNode) (is : Hung) → all_nodes names nodes ≡ all → hung names n.children ≡ is
-    → map (node_in names) (nodes ++ n ∷ []) ≡ all.items ++ record { parent = n.parent; number = n.number; children = is; told = n.told } ∷ []
-node_pushed names nodes all n is view reads =
-    map-append (node_in names) nodes (n ∷ []) ∙ ap (λ (x : AllNodes). x.items ++ node_in names n ∷ []) view
-    ∙ ap (λ (h : Hung). let r : Node = record { parent = n.parent; number = n.number; children = h; told = n.told } in all.items ++ r ∷ []) reads
+module _ (names : List ℕ) (nodes : List KeptNode) (hangs : List Hang) (all : AllNodes) (view : all_nodes names nodes hangs ≡ all) (whole : AreWhole names nodes hangs) where
+  -- other things that are told
+  pub told_set : (i : ℕ) (n : KeptNode) (told : Told) → i < length all.items → n ≡ get_or nodes i n → nodes_in names (set nodes i (record n { told = told })) hangs ≡ with_told all.items i told
+  told_set i n told within own =
+      nodes_set names nodes hangs i (record n { told = told }) nowhere whole.paired
+      ∙ ap (λ (x : AllNodes). set x.items i (node_in names (record n { told = told }) (get_or hangs i nowhere))) view
+      ∙ ap (λ (x : Node). let r : Node = record x { told = told } in set all.items i r) (node_read names nodes hangs all view whole i within n own)
+
+  -- one more
+  pub node_pushed : (n : KeptNode) (h : Hang) (is : Hung) → hung names n.children ≡ is
+      → nodes_in names (nodes ++ n ∷ []) (hangs ++ h ∷ []) ≡ all.items ++ record { parent = h.parent; number = h.number; children = is; told = n.told } ∷ []
+  node_pushed n h is reads =
+      nodes_push names nodes hangs n h whole.paired ∙ ap (λ (x : AllNodes). x.items ++ node_in names n h ∷ []) view
+      ∙ ap (λ (c : Hung). let r : Node = record { parent = h.parent; number = h.number; children = c; told = n.told } in all.items ++ r ∷ []) reads

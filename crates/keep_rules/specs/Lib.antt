@@ -22,6 +22,7 @@ pub mod Inside
 pub mod Reads
 pub mod Children
 pub mod AllNodes
+pub mod Hangs
 pub mod Names
 pub mod Told
 pub mod Kept

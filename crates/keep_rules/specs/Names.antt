@@ -4,6 +4,7 @@ use Rattle.std.specs.Global.{Global}
 use Rattle.keep_rules.specs.declared.children.Children.{Children}
 use Rattle.keep_rules.specs.declared.children.Children.TheVariants.{Nothing, NoKeys, OneKey, TwoKeys, Keys, Items}
 use Rattle.keep_rules.specs.declared.children.Entry.{Entry}
+use Rattle.keep_rules.specs.declared.hangs.Hang.{Hang}
 use Rattle.keep_rules.specs.declared.nodes.Node.{Node as KeptNode}
 use Rattle.keep_rules.specs.Children.{Hung, Bare, Keyed, Listed}
 use Rattle.keep_rules.specs.AllNodes.{Node, AllNodes}
@@ -27,11 +28,17 @@ hung names (TwoKeys two) = Keyed (named_entry names two.value.first ∷ named_en
 hung names (Keys keys) = Keyed (map named_pair keys.value.entries)
 hung names (Items items) = Listed items.value.items
 
-abbrev pub node_in : List ℕ → KeptNode → Node
-node_in names n = record { parent = n.parent; number = n.number; children = hung names n.children; told = n.told }
+-- a node, and where it hangs
+abbrev pub node_in : List ℕ → KeptNode → Hang → Node
+node_in names n h = record { parent = h.parent; number = h.number; children = hung names n.children; told = n.told }
 
-abbrev pub all_nodes : List ℕ → List KeptNode → AllNodes
-all_nodes names nodes = record { items = map (node_in names) nodes }
+-- the nodes, each with where it hangs
+abbrev pub nodes_in : List ℕ → List KeptNode → List Hang → List Node
+nodes_in names (n ∷ ns) (h ∷ hs) = node_in names n h ∷ nodes_in names ns hs
+nodes_in names _ _ = []
+
+abbrev pub all_nodes : List ℕ → List KeptNode → List Hang → AllNodes
+all_nodes names nodes hangs = record { items = nodes_in names nodes hangs }
 
 -- ---- what is true of it
 
@@ -54,6 +61,11 @@ AreIn names _ = Unit {0}
 
 abbrev pub AreKept : List ℕ → List KeptNode → Type 0
 AreKept names nodes = (i : ℕ) (d : KeptNode) → i < length nodes → AreIn names (slice_index_or nodes i d).children
+
+-- what is kept of the nodes belongs together: their keys stand in the text, and each hangs somewhere
+pub record AreWhole (names : List ℕ) (nodes : List KeptNode) (hangs : List Hang) : Type 0 where
+  pub kept : AreKept names nodes
+  pub paired : length hangs ≡ length nodes
 
 -- ---- what a function makes
 

@@ -6,6 +6,7 @@ mod build;
 mod children;
 mod document;
 mod fault;
+mod hangs;
 mod index;
 mod index_text;
 mod inside;

@@ -9,28 +9,27 @@ ghost use Rattle.keep_rules.specs.Told.{again, info_of};
 ghost use Rattle.keep_rules.specs.Trie.{by_key, by_index, children_of, holds_at, paths_of, path_at};
 
 use crate::children::{Children, Holds};
+use crate::hangs::{Hang, Hangs};
 use crate::kept::Kept;
 use crate::role::Role;
 use crate::told::Told;
 use std::alloc::{AllocError, Global};
 use std::marker::Model;
 
-/// A node: what hangs at it, what is told of it, and where it hangs. The root stands first, and hangs nowhere. What marks
-/// and look-ups touch stands in front, 48 bytes, so that it mostly shares one line of the cache.
+/// A node: what hangs at it, and what is told of it. The root stands first.
 #[derive(Drop)]
 pub struct Node {
     children: Children,
     told: Kept,
-    parent: usize,
-    /// Its number among the children of its parent: its step is the key that the parent has there, or that number.
-    number: usize,
 }
 
-/// All nodes. The keys of tables with one or two stand in one text, so that such a table takes little memory. Those of a
-/// table that got a third stay there unused.
+/// All nodes. Where each hangs stands apart, since marks and look-ups never ask for it; the root hangs nowhere. The keys of
+/// tables with one or two stand in one text, so that such a table takes little memory. Those of a table that got a third
+/// stay there unused.
 #[derive(Drop)]
 pub struct Nodes {
     list: Vec<Node>,
+    hangs: Hangs,
     names: String,
 }
 
@@ -40,11 +39,11 @@ impl Model for Nodes {
 
     ghost Value = { AllNodes };
 
-    ghost use Rattle.keep_rules.specs.Names.{all_nodes, AreKept};
+    ghost use Rattle.keep_rules.specs.Names.{all_nodes, AreWhole};
 
-    ghost view = { λ n. all_nodes (string_bytes n.names) n.list.items };
+    ghost view = { λ n. all_nodes (string_bytes n.names) n.list.items n.hangs };
 
-    ghost invariant = { λ n. AreKept (string_bytes n.names) n.list.items };
+    ghost invariant = { λ n. AreWhole (string_bytes n.names) n.list.items n.hangs };
 }
 
 impl Nodes {
@@ -54,6 +53,7 @@ impl Nodes {
     {
         Nodes {
             list: Vec::new(alloc),
+            hangs: Hangs::new(alloc),
             names: String::new(alloc),
         }
     }
@@ -75,7 +75,7 @@ impl Nodes {
         requires { id < length self.now.items }
         ensures { result ≡ (node_at self.now.items id).parent }
     {
-        self.list[id].parent
+        self.hangs.get(id).parent
     }
 
     /// The number of a node among the children of its parent.
@@ -83,7 +83,7 @@ impl Nodes {
         requires { id < length self.now.items }
         ensures { result ≡ (node_at self.now.items id).number }
     {
-        self.list[id].number
+        self.hangs.get(id).number
     }
 
     /// What is told of a node.
@@ -165,12 +165,9 @@ impl Nodes {
         let alloc = self.allocator();
         let children = Children::none(alloc, holds)?;
         let told = Kept::of(alloc, told)?;
-        self.list.push(Node {
-            parent,
-            number,
-            children,
-            told,
-        })?;
+        self.list.reserve(1)?;
+        self.hangs.push(Hang { parent, number })?;
+        self.list.push_reserved(Node { children, told });
         Ok(())
     }
 
