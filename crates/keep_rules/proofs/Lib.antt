@@ -33,6 +33,7 @@ pub mod ElementLemmas
 pub mod SuitLemmas
 pub mod FactLemmas
 pub mod ToldLemmas
+pub mod KeptLemmas
 pub mod ToldNodeLemmas
 pub mod ToldAllLemmas
 pub mod KeyPartLemmas

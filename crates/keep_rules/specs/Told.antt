@@ -94,6 +94,23 @@ info_of t = record {
   place = place_of t.place t.number;
 }
 
+-- of the two the one whose place is told
+abbrev pub later_told : Told → Told → Told
+later_told old more = if nat_le (rank (place_of old.place old.number)) (rank (place_of more.place more.number)) then more else old
+
+-- what is kept once one thing more is said, under the role that was there
+abbrev pub told_again : Told → Told → Told
+told_again old more = record {
+  role = old.role;
+  kind = later_kind old.kind more.kind;
+  passed = old.passed || more.passed;
+  place = (later_told old more).place;
+  marks = min (old.marks + more.marks) (2 ^ 64 - 1);
+  key = if old.marks == 0 then more.key else old.key;
+  value = (later_told old more).value;
+  number = (later_told old more).number;
+}
+
 -- ---- all nodes
 
 -- of each node its path, and what is told of it

@@ -5,7 +5,7 @@ ghost use Rattle.keep_rules.specs.Children.{holding, none_hung, holds_of, named,
 ghost use Rattle.keep_rules.specs.Growth.{Grows, Restates};
 ghost use Rattle.keep_rules.specs.Path.{key, index};
 ghost use Rattle.keep_rules.specs.Stored.{IsStored, twigs, infos_of, info_at};
-ghost use Rattle.keep_rules.specs.Told.{again, info_of};
+ghost use Rattle.keep_rules.specs.Told.{again, told_again, info_of};
 ghost use Rattle.keep_rules.specs.Trie.{by_key, by_index, children_of, holds_at, paths_of, path_at};
 
 use crate::children::{Children, Holds};
@@ -193,16 +193,14 @@ impl Nodes {
         above.children.add_item(child)
     }
 
-    /// Tells this of a node.
-    fn set_told(&mut self, id: usize, told: Told) -> Result<(), AllocError>
+    /// Tells one thing more of a node, whose marks now stand for this role.
+    fn tell(&mut self, id: usize, role: Option<Role>, more: Told) -> Result<(), AllocError>
         requires { id < length self.old.items }
-        ensures { OnOk result (self.new.items ≡ with_told self.old.items id told) }
+        ensures { OnOk result (self.new.items ≡ with_told self.old.items id (record (told_again (node_at self.old.items id).told more) { role = role })) }
     {
         let alloc = self.allocator();
-        let told = Kept::of(alloc, told)?;
         let node = &mut self.list[id];
-        node.told = told;
-        Ok(())
+        node.told.tell(alloc, role, more)
     }
 }
 
@@ -276,9 +274,7 @@ pub fn set_role(nodes: &mut Nodes, id: usize, role: Role, more: Told) -> Result<
     ensures stored { OnOk result (IsStored nodes.new.items) }
     ensures infos { OnOk result (infos_of nodes.new.items ≡ slice_set (infos_of nodes.old.items) id (again (info_at nodes.old.items id) (info_of more))) }
 {
-    let role = Some(role);
-    let now = nodes.told(id).again(more);
-    nodes.set_told(id, Told { role, ..now })
+    nodes.tell(id, Some(role), more)
 }
 
 /// Tells one thing more of a node, whose state stays.
@@ -289,6 +285,6 @@ pub fn tell_more(nodes: &mut Nodes, id: usize, more: Told) -> Result<(), AllocEr
     ensures stored { OnOk result (IsStored nodes.new.items) }
     ensures infos { OnOk result (infos_of nodes.new.items ≡ slice_set (infos_of nodes.old.items) id (again (info_at nodes.old.items id) (info_of more))) }
 {
-    let now = nodes.told(id).again(more);
-    nodes.set_told(id, now)
+    let role = nodes.role(id);
+    nodes.tell(id, role, more)
 }

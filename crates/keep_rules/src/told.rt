@@ -1,21 +1,22 @@
 //! What is told of a node, as it is kept.
-ghost use Rattle.std.specs.Prelude.{◌≡◌, ℕ, None, IsTrue};
-ghost use Rattle.keep_rules.specs.Told.{again, goes_with, info_of, place_span, rank, named_info, unnamed_info, passed_info, place_of};
+ghost use Rattle.std.specs.Prelude.{◌≡◌, ℕ, None, IsTrue, nat_le};
+ghost use Rattle.keep_rules.specs.Told.{again, told_again, later_kind, goes_with, info_of, place_span, rank, named_info, unnamed_info, passed_info, place_of};
 
 use crate::node::{Kind, NodeInfo, Place};
 use crate::role::Role;
 use keep_syntax::Span;
 
-/// Where a node comes from, the number of the value or statement apart.
+/// Where a node comes from, the number of the value or statement apart. In the order of their ranks, so that two are
+/// compared as they stand.
 #[derive(Clone, Copy, Debug)]
 pub enum PlaceKind {
     Root,
-    Value,
+    Through,
+    Dotted,
     Header,
     Element,
-    Dotted,
-    Through,
     Tables,
+    Value,
 }
 
 /// What is told of a node so far, beside its path and what hangs at it. The number of its place stands apart, so that all
@@ -110,21 +111,18 @@ impl Told {
 
     /// With one thing more that is said of the node, which gives it no value.
     pub fn again(self, more: Told) -> Told
+        ensures told { result ≡ told_again self more }
         ensures info { info_of result ≡ again (info_of self) (info_of more) }
         ensures role { result.role ≡ self.role }
     {
-        let later = if rank_of(self.place) <= rank_of(more.place) {
+        let later = if gives_way(self.place, more.place) {
             more
         } else {
             self
         };
         Told {
             role: self.role,
-            kind: if more.kind == Kind::Tables {
-                more.kind
-            } else {
-                self.kind
-            },
+            kind: later_kind(self.kind, more.kind),
             passed: self.passed || more.passed,
             place: later.place,
             // No document has so many key parts that this ends short of the sum.
@@ -174,6 +172,20 @@ fn value_at(place: Place, value: Span) -> Option<Span>
         Place::Value(_) => Some(value),
         _ => None,
     }
+}
+
+/// What stands at the path, once one thing more is said: an array of tables, if one of the two says so.
+pub fn later_kind(old: Kind, more: Kind) -> Kind
+    ensures { result ≡ later_kind old more }
+{
+    if more == Kind::Tables { more } else { old }
+}
+
+/// Whether a later place is told over an older one: it is, if its rank is not the lower.
+pub fn gives_way(old: PlaceKind, more: PlaceKind) -> bool
+    ensures { (m n : ℕ) → result ≡ nat_le (rank (place_of old m)) (rank (place_of more n)) }
+{
+    rank_of(old) <= rank_of(more)
 }
 
 /// Which of two places is told: the one of the higher rank.
