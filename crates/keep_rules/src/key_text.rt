@@ -32,6 +32,7 @@ impl KeyText<'_> {
 
 /// The decoded text of a key part of the document. It takes memory only where the part has escapes, and want of memory
 /// is the only error.
+#[inline(always)]
 pub fn key_text<'a>(alloc: Global, text: &'a str, part: KeyPart) -> Result<KeyText<'a>, AllocError>
     requires { IsKeyAt text.now part }
     ensures { IfOk result (λ key. text_of_key key ≡ part_text text.now part) }
@@ -40,6 +41,7 @@ pub fn key_text<'a>(alloc: Global, text: &'a str, part: KeyPart) -> Result<KeyTe
 }
 
 /// The decoded text of a key part that is spelled so.
+#[inline(always)]
 fn decoded_key<'a>(alloc: Global, leaf: Leaf, spelled: &'a str) -> Result<KeyText<'a>, AllocError>
     requires kind { IsTrue (is_key_leaf leaf) }
     requires leaf { IsLeaf Wide leaf spelled.now }
