@@ -21,6 +21,7 @@ pub mod Steps
 pub mod Inside
 pub mod Reads
 pub mod Children
+pub mod AllNames
 pub mod AllNodes
 pub mod Hangs
 pub mod Names

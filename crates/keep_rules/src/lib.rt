@@ -15,6 +15,7 @@ mod key_text;
 mod keys;
 mod kinds;
 mod mark;
+mod names;
 mod node;
 mod nodes;
 mod path;

@@ -11,6 +11,7 @@ ghost use Rattle.keep_rules.specs.Trie.{by_key, by_index, children_of, holds_at,
 use crate::children::{Children, Holds};
 use crate::hangs::{Hang, Hangs};
 use crate::kept::Kept;
+use crate::names::Names;
 use crate::role::Role;
 use crate::told::Told;
 use std::alloc::{AllocError, Global};
@@ -23,27 +24,25 @@ pub struct Node {
     told: Kept,
 }
 
-/// All nodes. Where each hangs stands apart, since marks and look-ups never ask for it; the root hangs nowhere. The keys of
-/// tables with one or two stand in one text, so that such a table takes little memory. Those of a table that got a third
-/// stay there unused.
+/// All nodes. Where each hangs stands apart, since marks and look-ups never ask for it; the root hangs nowhere. So do the
+/// keys of tables with few, so that such a table takes little memory.
 #[derive(Drop)]
 pub struct Nodes {
     list: Vec<Node>,
     hangs: Hangs,
-    names: String,
+    names: Names,
 }
 
 impl Model for Nodes {
-    ghost use Rattle.std.specs.Prelude.{string_bytes};
     ghost use Rattle.keep_rules.specs.AllNodes.{AllNodes};
 
     ghost Value = { AllNodes };
 
     ghost use Rattle.keep_rules.specs.Names.{all_nodes, AreWhole};
 
-    ghost view = { λ n. all_nodes (string_bytes n.names) n.list.items n.hangs };
+    ghost view = { λ n. all_nodes n.names n.list.items n.hangs };
 
-    ghost invariant = { λ n. AreWhole (string_bytes n.names) n.list.items n.hangs };
+    ghost invariant = { λ n. AreWhole n.names n.list.items n.hangs };
 }
 
 impl Nodes {
@@ -54,7 +53,7 @@ impl Nodes {
         Nodes {
             list: Vec::new(alloc),
             hangs: Hangs::new(alloc),
-            names: String::new(alloc),
+            names: Names::new(alloc),
         }
     }
 
@@ -107,7 +106,7 @@ impl Nodes {
         requires { id < length self.now.items }
         ensures { result ≡ child_named (node_at self.now.items id).children text.now }
     {
-        self.list[id].children.child(self.names.as_str(), text)
+        self.list[id].children.child(&self.names, text)
     }
 
     /// The item or element of that number.
@@ -140,7 +139,7 @@ impl Nodes {
         requires { id < length self.now.items }
         ensures { result ≡ slice_get (child_ids (node_at self.now.items id).children) number }
     {
-        self.list[id].children.at(number)
+        self.list[id].children.at(&self.names, number)
     }
 
     /// The key of that child, if it has one.
@@ -148,7 +147,7 @@ impl Nodes {
         requires { id < length self.now.items }
         ensures { option_copied result ≡ option_map (λ e. e.0) (slice_get (named (node_at self.now.items id).children) number) }
     {
-        self.list[id].children.key_at(self.names.as_str(), number)
+        self.list[id].children.key_at(&self.names, number)
     }
 
     /// Adds a node with no children, which its parent does not know yet.

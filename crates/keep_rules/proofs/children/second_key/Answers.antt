@@ -1,23 +1,34 @@
-use Rattle.std.proofs.Common.{◌≡◌, ◌∙◌, [], ap, subst, Option}
-use Rattle.std.specs.Prelude.{IfSome, IfNone}
+use Rattle.std.proofs.Common.{◌∙◌, ◌++◌, ◌∷◌, [], IfOk, ap, subst, Option}
+use Rattle.std.specs.Prelude.{IfSome}
 use Rattle.std.specs.Str.{bytes_eq}
-use Rattle.std.specs.String.{string_bytes}
 use Rattle.std.specs.Map.{lookup}
-use Rattle.keep_rules.specs.declared.children.Entry.{Entry}
-use Rattle.keep_rules.specs.Names.{IsEntryOf, key_in}
-use Rattle.keep_rules.proofs.NameLemmas.{lookup_other, two_kept}
+use Rattle.keep_rules.specs.declared.names.Run.{Run}
+use Rattle.keep_rules.specs.Children.{Keyed}
+use Rattle.keep_rules.specs.Names.{Keeps, KeepsRun, key_in, named_entry}
+use Rattle.keep_rules.proofs.NameLemmas.{longer_twice, in_longer, lookup_other}
 use Rattle.keep_rules.proofs.children.second_key.Goals as goal
 
-pub add_entry-requires : goal.add_entry-requires
-add_entry-requires c =
-    let same : string_bytes c.add_name.new.names ≡ string_bytes c.args.names.now = subst (λ (o : Option Entry). IfNone o (string_bytes c.add_name.new.names ≡ string_bytes c.args.names.now)) c.in-None.is c.in_ok-second.ensures.same in
-    ap (lookup (bytes_eq c.args.text.now)) c.in_ok-keys-in-None.ensures
-    ∙ lookup_other c.args.text.now c.key.result.now c.args.first.child []
-    (ap (bytes_eq c.args.text.now) (c.key.ensures ∙ ap (λ names. key_in names c.args.first) (c.as_str.ensures.value ∙ same)) ∙ c.requires.fresh)
+pub next_key-requires-clause-keyed : goal.next_key-requires-clause-keyed
+next_key-requires-clause-keyed c =
+    let only = named_entry c.args.names.now.text c.args.first ∷ [] in
+    let kept : KeepsRun c.run_of.new.self c.in-Some.run' only = subst (λ (o : Option Run). IfSome o (λ run. KeepsRun c.run_of.new.self run only)) c.in-Some.is c.in_ok-run.ensures.run in
+    kept.keyed
 
-pub returns-in_ok-new-in-Some-clause-added : goal.returns-in_ok-new-in-Some-clause-added
-returns-in_ok-new-in-Some-clause-added c =
-    let longer = string_bytes c.add_name.new.names in
-    let made : IsEntryOf longer c.in-Some.second c.args.text.now c.args.child = subst (λ (o : Option Entry). IfSome o (λ e. IsEntryOf longer e c.args.text.now c.args.child)) c.in-Some.is c.in_ok-second.ensures.entry in
-    let two = two_kept (string_bytes c.args.names.now) longer c.args.text.now c.args.first c.in-Some.second c.args.child c.in_ok-new-in-Some.field-0.value c.in_ok-new-in-Some.ensures.ok c.in_ok-second.ensures.longer c.requires.inside made c.requires.fresh in
-    record { inside = two.inside; reads = two.reads }
+pub next_key-requires-clause-fresh : goal.next_key-requires-clause-fresh
+next_key-requires-clause-fresh c =
+    let text = c.args.names.now.text in
+    let only = named_entry text c.args.first ∷ [] in
+    let kept : KeepsRun c.run_of.new.self c.in-Some.run' only = subst (λ (o : Option Run). IfSome o (λ run. KeepsRun c.run_of.new.self run only)) c.in-Some.is c.in_ok-run.ensures.run in
+    ap (lookup (bytes_eq c.args.text.now)) kept.reads ∙ lookup_other c.args.text.now (key_in text c.args.first) c.args.first.child [] c.requires.fresh
+
+pub key-requires : goal.key-requires
+key-requires c = in_longer c.args.names.now c.run_of.new.self c.args.first c.run_of.ensures.longer c.requires.inside
+
+pub returns-in-Some-clause-longer : goal.returns-in-Some-clause-longer
+returns-in-Some-clause-longer c = longer_twice c.args.names.now c.run_of.new.self c.next_key.new.names c.run_of.ensures.longer c.next_key.ensures.longer
+
+pub returns-in-Some-clause-added : goal.returns-in-Some-clause-added
+returns-in-Some-clause-added c =
+    let only = named_entry c.args.names.now.text c.args.first ∷ [] in
+    let kept : KeepsRun c.run_of.new.self c.in-Some.run' only = subst (λ (o : Option Run). IfSome o (λ run. KeepsRun c.run_of.new.self run only)) c.in-Some.is c.in_ok-run.ensures.run in
+    subst (λ ps. IfOk c.next_key.result (λ made. Keeps c.next_key.new.names made (Keyed (ps ++ (c.args.text.now, c.args.child) ∷ [])))) kept.reads c.next_key.ensures.added

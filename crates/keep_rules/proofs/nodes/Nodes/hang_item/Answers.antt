@@ -1,5 +1,4 @@
 use Rattle.std.proofs.Common.{◌∙◌, ap, arith, refl}
-use Rattle.std.specs.String.{string_bytes}
 use Rattle.indexmap.proofs.MapLemmas.{OnOk-map}
 use Rattle.keep_rules.specs.AllNodes.{Node, and_item}
 use Rattle.keep_rules.specs.Children.{holds_of}
@@ -12,18 +11,18 @@ index_mut-above-requires c = omega (arith, c.requires.within, count_seen _ _ _ _
 pub add_item-requires : goal.add_item-requires
 add_item-requires c = record {
   holds = λ names.
-      sort_same names (string_bytes c.self.inside.names) c.index_mut-above.result.now.children
+      sort_same names c.self.inside.names c.index_mut-above.result.now.children
       ∙ ap holds_of (children_read _ _ _ _ c.self.view_is c.self.invariant c.args.id c.requires.within c.index_mut-above.result.now c.index_mut-above.ensures.value) ∙ c.requires.holds;
 }
 
 pub invariant_of-self : goal.invariant_of-self
 invariant_of-self c =
-    let names = string_bytes c.self.inside.names in
+    let names = c.self.inside.names in
     whole_set names names c.self.inside.list.items c.self.inside.hangs c.args.id _ c.self.invariant (longer_same names names refl) (c.add_item.ensures.inside names)
 
 pub returns : goal.returns
 returns c =
-    let names = string_bytes c.self.inside.names in
+    let names = c.self.inside.names in
     let nodes = c.self.inside.list.items in
     let hangs = c.self.inside.hangs in
     let all = c.args.self.now in

@@ -1,5 +1,4 @@
 use Rattle.std.proofs.Common.{◌∙◌, ap, arith}
-use Rattle.std.specs.String.{string_bytes}
 use Rattle.indexmap.proofs.MapLemmas.{OnOk-map}
 use Rattle.keep_rules.specs.AllNodes.{Node, and_key}
 use Rattle.keep_rules.specs.Children.{Hung, holds_of, child_named}
@@ -20,14 +19,14 @@ add_key-requires-clause-fresh c = ap (λ (x : Hung). child_named x c.args.text.n
 
 pub invariant_of-self : goal.invariant_of-self
 invariant_of-self c =
-    let names = string_bytes c.self.inside.names in
-    let longer = string_bytes c.add_key.new.names in
+    let names = c.self.inside.names in
+    let longer = c.add_key.new.names in
     whole_set names longer c.self.inside.list.items c.self.inside.hangs c.args.id _ c.self.invariant c.add_key.ensures.longer c.add_key.ensures.inside
 
 pub returns : goal.returns
 returns c =
-    let names = string_bytes c.self.inside.names in
-    let longer = string_bytes c.add_key.new.names in
+    let names = c.self.inside.names in
+    let longer = c.add_key.new.names in
     let nodes = c.self.inside.list.items in
     let hangs = c.self.inside.hangs in
     let all = c.args.self.now in

@@ -1,5 +1,4 @@
 use Rattle.std.proofs.Common.{arith, ap, ◌∙◌}
-use Rattle.std.specs.String.{string_bytes}
 use Rattle.keep_rules.specs.Children.{Hung, child_numbered}
 use Rattle.keep_rules.proofs.NameLemmas.{count_seen, children_read}
 use Rattle.keep_rules.proofs.nodes.Nodes.item.Goals as goal
@@ -8,4 +7,4 @@ pub index-requires : goal.index-requires
 index-requires c = omega (arith, c.requires, count_seen _ _ _ _ c.self.view_is c.self.invariant, c.self.inside.list.ok.0)
 
 pub returns : goal.returns
-returns c = c.item.ensures (string_bytes c.self.inside.names) ∙ ap (λ (x : Hung). child_numbered x c.args.number) (children_read _ _ _ _ c.self.view_is c.self.invariant c.args.id c.requires c.index.result.now c.index.ensures)
+returns c = c.item.ensures c.self.inside.names ∙ ap (λ (x : Hung). child_numbered x c.args.number) (children_read _ _ _ _ c.self.view_is c.self.invariant c.args.id c.requires c.index.result.now c.index.ensures)

@@ -1,7 +1,6 @@
-use Rattle.std.proofs.Common.{List, ℕ, arith, ap, sym, subst, ◌∙◌}
+use Rattle.std.proofs.Common.{arith, ap, ◌∙◌}
 use Rattle.std.specs.Prelude.{slice_get, option_map}
 use Rattle.keep_rules.specs.Children.{Hung, named}
-use Rattle.keep_rules.specs.Names.{AreIn, hung}
 use Rattle.keep_rules.proofs.NameLemmas.{count_seen, kept_read, children_read}
 use Rattle.keep_rules.proofs.nodes.Nodes.key_at.Goals as goal
 
@@ -9,9 +8,8 @@ pub index-requires : goal.index-requires
 index-requires c = omega (arith, c.requires, count_seen _ _ _ _ c.self.view_is c.self.invariant, c.self.inside.list.ok.0)
 
 pub key_at-requires : goal.key_at-requires
-key_at-requires c = subst (λ (names : List ℕ). AreIn names c.index.result.now.children) (sym c.as_str.ensures.value) (kept_read _ _ _ _ c.self.view_is c.self.invariant c.args.id c.requires c.index.result.now c.index.ensures)
+key_at-requires c = kept_read _ _ _ _ c.self.view_is c.self.invariant c.args.id c.requires c.index.result.now c.index.ensures
 
 pub returns : goal.returns
 returns c =
-    c.key_at.ensures ∙ ap (λ (names : List ℕ). option_map (λ e. e.0) (slice_get (named (hung names c.index.result.now.children)) c.args.number)) c.as_str.ensures.value
-    ∙ ap (λ (x : Hung). option_map (λ e. e.0) (slice_get (named x) c.args.number)) (children_read _ _ _ _ c.self.view_is c.self.invariant c.args.id c.requires c.index.result.now c.index.ensures)
+    c.key_at.ensures ∙ ap (λ (x : Hung). option_map (λ e. e.0) (slice_get (named x) c.args.number)) (children_read _ _ _ _ c.self.view_is c.self.invariant c.args.id c.requires c.index.result.now c.index.ensures)

@@ -1,6 +1,5 @@
 use Rattle.std.proofs.Common.{◌≡◌, ◌<◌, ◌-◌, length, IfSome, IfNone, arith, subst}
 use Rattle.std.specs.Prelude.{slice_index_or}
-use Rattle.std.specs.String.{string_bytes}
 use Rattle.keep_rules.specs.Children.{Hung, holds_of, child_ids}
 use Rattle.keep_rules.specs.Trie.{by_index}
 use Rattle.keep_rules.proofs.NameLemmas.{count_seen, children_read}
@@ -12,12 +11,12 @@ index-requires c = omega (arith, c.requires, count_seen _ _ _ _ c.self.view_is c
 
 pub returns-clause-some : goal.returns-clause-some
 returns-clause-some c =
-    let names = string_bytes c.self.inside.names in
+    let names = c.self.inside.names in
     subst (λ (x : Hung). IfSome c.last_item.result (λ last. (0 < length (child_ids x)) × (last ≡ slice_index_or (child_ids x) (length (child_ids x) - 1) 0)))
     (children_read _ _ _ _ c.self.view_is c.self.invariant c.args.id c.requires c.index.result.now c.index.ensures) (if_some c.last_item.result _ _ (λ last is. is names) c.last_item.ensures.some)
 
 pub returns-clause-none : goal.returns-clause-none
 returns-clause-none c =
-    let names = string_bytes c.self.inside.names in
+    let names = c.self.inside.names in
     subst (λ (x : Hung). IfNone c.last_item.result (holds_of x ≡ by_index → length (child_ids x) ≡ 0))
     (children_read _ _ _ _ c.self.view_is c.self.invariant c.args.id c.requires c.index.result.now c.index.ensures) (if_none c.last_item.result _ _ (λ is. is names) c.last_item.ensures.none)

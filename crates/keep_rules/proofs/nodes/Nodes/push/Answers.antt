@@ -1,5 +1,4 @@
 use Rattle.std.proofs.Common.{◌≡◌, ◌∷◌, ◌++◌, [], List, ap, ◌∙◌, subst, sym}
-use Rattle.std.specs.String.{string_bytes}
 use Rattle.keep_rules.specs.AllNodes.{Node}
 use Rattle.keep_rules.specs.declared.told.Told.{Told}
 use Rattle.keep_rules.specs.declared.hangs.Hang.{Hang}
@@ -28,7 +27,7 @@ hangs c = c.in_ok-push.ensures.ok
 pub invariant_of-self-2 : goal.invariant_of-self-2
 unfolding node
 invariant_of-self-2 c =
-    let names = string_bytes c.self.inside.names in
+    let names = c.self.inside.names in
     subst (λ (hs : List Hang). AreWhole names c.push_reserved.new.self.items hs) (sym (hangs c))
     (subst (λ (ns : List KeptNode). AreWhole names ns (c.self.inside.hangs ++ hang c ∷ [])) (sym (nodes c))
     (whole_push names c.self.inside.list.items c.self.inside.hangs (node c) (hang c) c.self.invariant (c.in_ok-children.ensures names).inside))
@@ -36,7 +35,7 @@ invariant_of-self-2 c =
 pub returns : goal.returns
 unfolding node hang
 returns c =
-    let names = string_bytes c.self.inside.names in
+    let names = c.self.inside.names in
     ap (λ (ns : List KeptNode). nodes_in names ns c.push.new.self) (nodes c) ∙ ap (nodes_in names (c.self.inside.list.items ++ node c ∷ [])) (hangs c)
     ∙ node_pushed _ _ _ _ c.self.view_is c.self.invariant (node c) (hang c) (none_hung (holding c.args.holds)) (c.in_ok-children.ensures names).reads
     ∙ ap (λ (t : Told). let r : Node = record { parent = c.args.parent; number = c.args.number; children = none_hung (holding c.args.holds); told = t } in c.args.self.now.items ++ r ∷ []) c.in_ok-told.ensures

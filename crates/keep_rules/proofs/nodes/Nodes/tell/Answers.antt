@@ -1,5 +1,4 @@
 use Rattle.std.proofs.Common.{◌∙◌, ap, arith}
-use Rattle.std.specs.String.{string_bytes}
 use Rattle.indexmap.proofs.MapLemmas.{OnOk-map}
 use Rattle.keep_rules.specs.AllNodes.{with_told}
 use Rattle.keep_rules.specs.declared.told.Told.{Told}
@@ -12,7 +11,7 @@ index_mut-node-requires c = omega (arith, c.requires, count_seen _ _ _ _ c.self.
 
 pub returns : goal.returns
 returns c =
-    let names = string_bytes c.self.inside.names in
+    let names = c.self.inside.names in
     let nodes = c.self.inside.list.items in
     let hangs = c.self.inside.hangs in
     let all = c.args.self.now in
