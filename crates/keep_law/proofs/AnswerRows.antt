@@ -4,13 +4,14 @@ use Rattle.std.specs.Prelude.{codes, Result, Ok, Err}
 use Rattle.keep_token.specs.declared.leaf.Profile.TheVariants.{Strict}
 use Rattle.keep_token.specs.Scanning.{gap_at, key_at, scalar_at}
 use Rattle.keep_token.specs.Words.{word_leaf}
+use Rattle.keep_syntax.specs.Limit.{standard_depth}
 use Rattle.keep_syntax.specs.Tree.{Document, leaves, text}
 use Rattle.keep_syntax.specs.Reading.{Fault, repeat, space_at, blank_from, further_at, key_of, name_of, item_by, entry_by, value_of, content_at, comment_at, line_at, ended_at, read_document, read_one_value}
-use Rattle.keep_rules.specs.declared.node.Kind.{Kind}
-use Rattle.keep_rules.specs.declared.node.Kind.TheVariants as kind
-use Rattle.keep_rules.specs.Path.{Part, key, index}
-use Rattle.keep_rules.specs.Meaning.{said_in}
-use Rattle.keep_rules.specs.Nodes.{node_paths, kind_at}
+use Rattle.keep_meaning.specs.declared.node.Kind.{Kind}
+use Rattle.keep_meaning.specs.declared.node.Kind.TheVariants as kind
+use Rattle.keep_path.specs.Path.{Part, key, index}
+use Rattle.keep_meaning.specs.Meaning.{said_in}
+use Rattle.keep_meaning.specs.Nodes.{node_paths, kind_at}
 use Rattle.keep_law.specs.declared.fault.EditFault.{EditFault}
 use Rattle.keep_law.specs.declared.fault.EditFault.TheVariants as fault
 use Rattle.keep_law.specs.Edits.{Edit, set, insert, rename, remove}
@@ -40,7 +41,7 @@ told s (string_is path t) = string_is path (string_at path s)
 told s (counts tokens nodes) = counts (length (leaves s)) (length (node_paths (said_in s)))
 told s (nodes_are paths kinds) = nodes_are (node_paths (said_in s)) (kinds_of s)
 told s (lists nodes) = lists (listed_in s)
-told s (becomes edits t) = becomes edits (text_of (applied_edits 64 edits s))
+told s (becomes edits t) = becomes edits (text_of (applied_edits Strict standard_depth edits s))
 
 abbrev Of : Result Document Fault → (Document → Type 0) → Type 0
 Of (Ok s) P = P s
@@ -48,7 +49,7 @@ Of (Err f) P = ⊥
 
 -- of the document with this text
 abbrev Tells : List ℕ → List Row → Type 0
-Tells text rows = Of (read_document Strict 64 text) (λ s. map (told s) rows ≡ rows)
+Tells text rows = Of (read_document Strict standard_depth text) (λ s. map (told s) rows ≡ rows)
 
 number_with_comment : Tells (codes "a = 1 # x\n") (
     gets (key (codes "a") ∷ []) (Ok (codes "1"))

@@ -1,30 +1,39 @@
 -- The laws of the edits, as they are promised.
-use Rattle.std.proofs.Common.{◌≡◌, ℕ, ◌+◌, ◌≤◌, [], length, refl, sym, ap, subst, ◌∙◌, arith, Option, Some, None}
+use Rattle.std.proofs.Common.{◌≡◌, ℕ, ◌+◌, ◌≤◌, Bool, true, false, List, [], length, refl, sym, ap, subst, ◌∙◌, arith, Option, Some, None}
 use Rattle.keep_token.specs.declared.leaf.Profile.{Profile}
-use Rattle.keep_syntax.specs.Tree.{Content, header, element, Document, text, content_depth, depth}
-use Rattle.keep_syntax.specs.Grammar.{Reads}
-use Rattle.keep_rules.specs.Rules.{ObeysRules}
-use Rattle.keep_rules.specs.Marks.{marks}
-use Rattle.keep_rules.specs.Meaning.{said_in}
+use Rattle.keep_syntax.specs.Tree.{Value, Content, header, element, Document, text, content_depth, depth}
+use Rattle.keep_syntax.specs.Grammar.{IsValue, Reads}
+use Rattle.keep_syntax.specs.Profiles.{is_allowed_in}
+use Rattle.keep_syntax.proofs.ProfileTest.{allowed_value}
+use Rattle.keep_path.specs.Path.{Part}
+use Rattle.keep_meaning.specs.Rules.{ObeysRules}
+use Rattle.keep_meaning.specs.Marks.{marks}
+use Rattle.keep_meaning.specs.Meaning.{said_in}
 use Rattle.keep_law.specs.Changed.{Changed, place_of, put}
-use Rattle.keep_law.specs.Edits.{Edit, set, insert, remove, append_table, append_element, key_with, append, change, changed_or_same}
-use Rattle.keep_law.specs.Look.{keys_in}
+use Rattle.keep_law.specs.Edits.{Edit, set, insert, rename, remove, append_table, append_element, key_with, append, change, changed_or_same}
+use Rattle.keep_law.specs.Look.{keys_in, holder, item_number}
 use Rattle.keep_law.specs.Refusals.{refusal}
 use Rattle.keep_law.specs.Trees.{IsTreeOf}
-use Rattle.keep_law.specs.Laws.{given_size, IsStanding, IsLawfulEdit, ChangeIsPut, SetIsLawful, AppendTableIsLawful, AppendElementIsLawful, RemoveIsLawful, InsertLineIsLawful, GrowthIsBounded}
-use Rattle.keep_law.proofs.Texts.{EachIs, put-place_of}
-use Rattle.keep_law.proofs.LineTexts.{change-is}
-use Rattle.keep_law.proofs.SetLaw.{EachTo}
-use Rattle.keep_law.proofs.SetWhole.{IsSetWhole, EachChange}
-use Rattle.keep_law.proofs.SetIsLawful.{set_is_lawful}
-use Rattle.keep_law.proofs.KeyTexts.{key_texts}
-use Rattle.keep_law.proofs.LineDepths.{line_change, line_depth, appended}
-use Rattle.keep_law.proofs.AppendTable.{append_table_is_right}
-use Rattle.keep_law.proofs.AppendElement.{append_element_is_right}
-use Rattle.keep_law.proofs.RemoveDepth.{remove_depth}
-use Rattle.keep_law.proofs.RemoveWhole.{remove_whole}
-use Rattle.keep_law.proofs.InsertWhole.{insert_whole}
-use Rattle.keep_law.proofs.GrowthLaw.{growth}
+use Rattle.keep_law.specs.Laws.{given_size, IsStanding, IsLawfulEdit, ChangeIsPut, SetIsLawful, AppendTableIsLawful, AppendElementIsLawful, RemoveIsLawful, RenameIsLawful, GrowthIsBounded, IsGivenValue, InsertIsLawful}
+use Rattle.keep_law.proofs.Common.Texts.{EachIs, put-place_of}
+use Rattle.keep_law.proofs.Common.LineTexts.{change-is}
+use Rattle.keep_law.proofs.Common.SetLaw.{EachTo}
+use Rattle.keep_law.proofs.Common.SetWhole.{IsSetWhole, EachChange}
+use Rattle.keep_law.proofs.Set.SetIsLawful.{set_is_lawful}
+use Rattle.keep_law.proofs.Rename.KeyTexts.{key_texts}
+use Rattle.keep_law.proofs.Insert.LineDepths.{line_change, line_depth, appended}
+use Rattle.keep_law.proofs.Append.AppendTable.{append_table_is_right}
+use Rattle.keep_law.proofs.Append.AppendElement.{append_element_is_right}
+use Rattle.keep_law.proofs.Remove.RemoveDepth.{remove_depth}
+use Rattle.keep_law.proofs.Remove.RemoveAny.{remove_any}
+use Rattle.keep_law.proofs.Insert.InsertWhole.{insert_whole, suits_there, IsInsertedWhole, has_lines}
+use Rattle.keep_law.proofs.Rename.RenameWhole.{rename_whole}
+use Rattle.keep_law.proofs.Common.Runs.{AllOf}
+use Rattle.keep_law.proofs.Common.NewLines.{IsKeyText}
+use Rattle.keep_law.proofs.Insert.InsertItem.{insert_item}
+use Rattle.keep_law.proofs.Insert.ItemThere.{granted}
+use Rattle.keep_law.proofs.Insert.InsertBraces.{insert_braces}
+use Rattle.keep_law.proofs.Growth.GrowthLaw.{growth}
 
 -- ---- the text
 
@@ -62,7 +71,7 @@ set_lawful profile limit s path new standing given allowed =
 
 -- an edit that appends a line without a value
 append_lawful : (profile : Profile) (limit : ℕ) (s : Document) (e : Edit) (content : Content) → change s e ≡ append s content → content_depth content ≡ 0 → IsStanding profile limit s
-    → EachChange (IsSetWhole profile s e) (change s e) → refusal limit s e ≡ None → IsLawfulEdit profile limit s e
+    → EachChange (IsSetWhole profile s e) (change s e) → refusal profile limit s e ≡ None → IsLawfulEdit profile limit s e
 append_lawful profile limit s e content by flat standing right allowed =
     let a = appended s content in
     let c : Changed Document = line_change s a.number a.contents in
@@ -81,11 +90,29 @@ append_element_lawful profile limit s keys standing texts allowed =
     append_lawful profile limit s (append_element keys) (element [] (key_with keys) []) refl refl standing
     (append_element_is_right profile limit s keys allowed (key_texts profile keys texts) standing.valid standing.obeys) allowed
 
--- ---- insert, as a line
+-- ---- insert
 
-pub insert_line_lawful : InsertLineIsLawful
-insert_line_lawful profile limit s path new standing given texts no_item has allowed =
-    let r = insert_whole profile limit s path new standing given (key_texts profile (keys_in path) texts) no_item has allowed in
+inserted : (profile : Profile) (limit : ℕ) (s : Document) (path : List Part) (new : Value) → IsStanding profile limit s → IsGivenValue profile new → AllOf (IsKeyText profile) (keys_in path)
+    → refusal profile limit s (insert path new) ≡ None → IsInsertedWhole profile limit s path new
+inserted profile limit s path new standing given texts allowed = by (item_number path (said_in s)) refl (has_lines s (holder path (said_in s))) refl
+  where
+    by : (o : Option ℕ) → item_number path (said_in s) ≡ o → (b : Bool) → has_lines s (holder path (said_in s)) ≡ b → IsInsertedWhole profile limit s path new
+    by (Some n) e b h = insert_item profile limit s path new n standing given e allowed
+    by None e true h = insert_whole profile limit s path new standing given texts e h allowed
+    by None e false h = insert_braces profile limit s path new standing given texts e h allowed
+
+-- the profile's grammar has a value that is not refused
+suiting : (profile : Profile) (limit : ℕ) (s : Document) (path : List Part) (new : Value) → refusal profile limit s (insert path new) ≡ None → is_allowed_in profile new ≡ true
+suiting profile limit s path new allowed = by (item_number path (said_in s)) refl
+  where
+    by : (o : Option ℕ) → item_number path (said_in s) ≡ o → is_allowed_in profile new ≡ true
+    by (Some n) e = (granted profile limit s path n new e allowed).suits
+    by None e = suits_there profile limit s path new e allowed
+
+pub insert_lawful : InsertIsLawful
+insert_lawful profile limit s path new standing given texts allowed =
+    let valid : IsValue profile new = allowed_value profile new given.valid (suiting profile limit s path new allowed) in
+    let r = inserted profile limit s path new standing (record { valid = valid; obeys = given.obeys }) (key_texts profile (keys_in path) texts) allowed in
     lawful profile limit s (insert path new) r.changed r.is r.whole r.low (growth profile limit s (insert path new) r.changed standing.valid standing.obeys allowed r.is)
 
 -- ---- remove
@@ -94,11 +121,19 @@ depth_of : (n : ℕ) (o : Option (Changed Document)) (c : Changed Document) → 
 depth_of n o c is h = subst (EachTo (λ s'. depth s' ≤ n)) is h
 
 pub remove_lawful : RemoveIsLawful
-remove_lawful profile limit s path standing plain allowed =
-    let r = remove_whole profile limit s path standing.valid standing.obeys plain allowed in
+remove_lawful profile limit s path standing allowed =
+    let r = remove_any profile limit s path standing.valid standing.obeys allowed in
     lawful profile limit s (remove path) r.changed r.is r.whole
     (omega (arith, depth_of (depth s) (change s (remove path)) r.changed r.is (remove_depth s path), standing.shallow))
     (growth profile limit s (remove path) r.changed standing.valid standing.obeys allowed r.is)
+
+-- ---- rename
+
+pub rename_lawful : RenameIsLawful
+rename_lawful profile limit s path text standing utf8 allowed =
+    let r = rename_whole profile limit s path text standing.valid standing.obeys utf8 allowed in
+    lawful profile limit s (rename path text) r.changed r.is r.whole (omega (arith, r.flat, standing.shallow))
+    (growth profile limit s (rename path text) r.changed standing.valid standing.obeys allowed r.is)
 
 -- ---- growth
 

@@ -8,13 +8,14 @@ use Rattle.keep_token.specs.Scanning.{gap_at, key_at, scalar_at}
 use Rattle.keep_token.specs.Words.{word_leaf}
 use Rattle.keep_syntax.specs.declared.fault.Why.{Why}
 use Rattle.keep_syntax.specs.declared.fault.Why.TheVariants as why
+use Rattle.keep_syntax.specs.Limit.{standard_depth}
 use Rattle.keep_syntax.specs.Tree.{scalar, none, Value, Document, text}
 use Rattle.keep_syntax.specs.Reading.{Fault, repeat, space_at, blank_from, further_at, key_of, name_of, item_by, entry_by, value_of, content_at, comment_at, line_at, ended_at, read_document, read_one_value}
-use Rattle.keep_rules.specs.Path.{Part, key, index}
-use Rattle.keep_rules.specs.Fact.{Fact}
-use Rattle.keep_rules.specs.Marks.{Mention, marks}
-use Rattle.keep_rules.specs.Meaning.{said_in}
-use Rattle.keep_rules.specs.Nodes.{fact_at}
+use Rattle.keep_path.specs.Path.{Part, key, index}
+use Rattle.keep_meaning.specs.Fact.{Fact}
+use Rattle.keep_meaning.specs.Marks.{Mention, marks}
+use Rattle.keep_meaning.specs.Meaning.{said_in}
+use Rattle.keep_meaning.specs.Nodes.{fact_at}
 use Rattle.keep_law.specs.declared.fault.EditFault.{EditFault}
 use Rattle.keep_law.specs.declared.fault.EditFault.TheVariants as fault
 use Rattle.keep_law.specs.Changed.{Place, put}
@@ -28,7 +29,7 @@ or_zero (Ok v) = v
 or_zero (Err f) = record { body = scalar (record { leaf = leaf.Integer; text = codes "0" }); inside = none }
 
 abbrev pub value : List ℕ → Value
-value text = or_zero (read_one_value Wide 64 text)
+value text = or_zero (read_one_value Wide standard_depth text)
 
 -- the paths that either document speaks of, and what stands there
 abbrev asked : Document → Document → List (List Part)
@@ -55,7 +56,7 @@ abbrev outcome : Profile → Document → Edit → List ℕ → Outcome
 outcome profile s e new =
     let s' : Document = edited_document s e in
     let p : Place = place s e in
-    record { refused = refusal 64 s e; conflict = first_conflict [] (marks (said_in s')); facts = facts (asked s s') (said_in s'); text = put (text s) p; start = p.start; end = p.end; added = length p.new; read_again = read_document profile 64 new }
+    record { refused = refusal profile standard_depth s e; conflict = first_conflict [] (marks (said_in s')); facts = facts (asked s s') (said_in s'); text = put (text s) p; start = p.start; end = p.end; added = length p.new; read_again = read_document profile standard_depth new }
 
 -- Nothing is refused, the rules hold, the facts come from where they are said to come from, start..end of the old text gives
 -- way to so many bytes, and reading the new text gives the new document.
@@ -64,7 +65,7 @@ wanted s e new start end added =
     let s' : Document = edited_document s e in
     record { refused = None; conflict = None; facts = facts_from (asked s s') (said_in s) e; text = new; start = start; end = end; added = added; read_again = Ok s' }
 
--- a row: the document's text, the edit, and the new text with the place; or the refusal, under a limit of depth
+-- a row: the document's text, the edit, and the new text with the place; or the refusal, in TOML v1.0.0 and under a limit of depth
 pub data Row : Type 0 where
   goes : (profile : Profile) (old : List ℕ) (e : Edit) (new : List ℕ) (start end added : ℕ) → Row
   refuses : (limit : ℕ) (old : List ℕ) (e : Edit) (f : EditFault) → Row
@@ -81,11 +82,11 @@ of f other (Err e) = other
 
 -- what the definitions tell of a row, and what they should
 abbrev told : Row → Told
-told (goes profile old e new start end added) = of (λ s. made (outcome profile s e new)) unread (read_document profile 64 old)
-told (refuses limit old e f) = of (λ s. refused (refusal limit s e)) unread (read_document Strict 64 old)
+told (goes profile old e new start end added) = of (λ s. made (outcome profile s e new)) unread (read_document profile standard_depth old)
+told (refuses limit old e f) = of (λ s. refused (refusal Strict limit s e)) unread (read_document Strict standard_depth old)
 
 abbrev stated : Row → Told
-stated (goes profile old e new start end added) = of (λ s. made (wanted s e new start end added)) (refused None) (read_document profile 64 old)
+stated (goes profile old e new start end added) = of (λ s. made (wanted s e new start end added)) (refused None) (read_document profile standard_depth old)
 stated (refuses limit old e f) = refused (Some f)
 
 abbrev AllHold : List Row → Type 0
@@ -97,19 +98,29 @@ set_rows : AllHold (
     -- set value
     goes Strict (codes "a = 1 # x\n") (set (key (codes "a") ∷ []) (value (codes "2"))) (codes "a = 2 # x\n") 4 5 1
     -- set table
-    ∷ refuses 64 (codes "[t]\n") (set (key (codes "t") ∷ []) (value (codes "1"))) fault.NotValue
+    ∷ refuses standard_depth (codes "[t]\n") (set (key (codes "t") ∷ []) (value (codes "1"))) fault.NotValue
     -- set in braces in an array
     ∷ goes Strict (codes "a = [\"x\", {b = 1}]\n") (set (key (codes "a") ∷ index 1 ∷ key (codes "b") ∷ []) (value (codes "[2, 3]"))) (codes "a = [\"x\", {b = [2, 3]}]\n") 15 16 6
     -- set unknown
-    ∷ refuses 64 (codes "a = 1\n") (set (key (codes "b") ∷ []) (value (codes "2"))) fault.NotFound
+    ∷ refuses standard_depth (codes "a = 1\n") (set (key (codes "b") ∷ []) (value (codes "2"))) fault.NotFound
     -- set root
-    ∷ refuses 64 (codes "a = 1\n") (set [] (value (codes "2"))) fault.NotValue
+    ∷ refuses standard_depth (codes "a = 1\n") (set [] (value (codes "2"))) fault.NotValue
     -- set dotted table
-    ∷ refuses 64 (codes "a.b = 1\n") (set (key (codes "a") ∷ []) (value (codes "2"))) fault.NotValue
+    ∷ refuses standard_depth (codes "a.b = 1\n") (set (key (codes "a") ∷ []) (value (codes "2"))) fault.NotValue
     -- set array
     ∷ goes Strict (codes "a = [1, 2] # x\n") (set (key (codes "a") ∷ []) (value (codes "{}"))) (codes "a = {} # x\n") 4 10 2
     -- set too deep
     ∷ refuses 1 (codes "a = 1\n") (set (key (codes "a") ∷ []) (value (codes "[[1]]"))) fault.TooDeep
+    -- set wide value
+    ∷ refuses standard_depth (codes "a = 1\n") (set (key (codes "a") ∷ []) (value (codes "\"\\e\""))) fault.Profile
+    -- set wide value unknown
+    ∷ refuses standard_depth (codes "a = 1\n") (set (key (codes "q") ∷ []) (value (codes "\"\\e\""))) fault.NotFound
+    -- set wide value too deep
+    ∷ refuses 1 (codes "a = 1\n") (set (key (codes "a") ∷ []) (value (codes "[[07:32]]"))) fault.TooDeep
+    -- set wide value in wide
+    ∷ goes Wide (codes "a = 1\n") (set (key (codes "a") ∷ []) (value (codes "\"\\e\""))) (codes "a = \"\\e\"\n") 4 5 4
+    -- set escape of both
+    ∷ goes Strict (codes "a = 1\n") (set (key (codes "a") ∷ []) (value (codes "\"\\u001b\""))) (codes "a = \"\\u001b\"\n") 4 5 8
     ∷ [])
 unfolding repeat space_at blank_from further_at key_of name_of item_by entry_by value_of content_at comment_at line_at ended_at read_document read_one_value gap_at key_at scalar_at word_leaf
 set_rows = refl
@@ -125,6 +136,8 @@ insert_lines : AllHold (
     ∷ goes Strict (codes "p.q = 1\nz = 2\n") (insert (key (codes "p") ∷ key (codes "r") ∷ []) (value (codes "3"))) (codes "p.q = 1\np.r = 3\nz = 2\n") 8 8 8
     -- insert behind last
     ∷ goes Strict (codes "a = 1") (insert (key (codes "b") ∷ []) (value (codes "-2"))) (codes "a = 1\nb = -2\n") 5 5 8
+    -- insert with the first newline, in an array
+    ∷ goes Strict (codes "a = [\r\n1]\nb = 2") (insert (key (codes "c") ∷ []) (value (codes "3"))) (codes "a = [\r\n1]\nb = 2\r\nc = 3\r\n") 15 15 9
     -- insert long key
     ∷ goes Strict (codes "[t]") (insert (key (codes "t") ∷ key (codes "u") ∷ key (codes "v") ∷ []) (value (codes "1"))) (codes "[t]\nu.v = 1\n") 3 3 9
     -- insert in element
@@ -152,6 +165,8 @@ insert_in_values : AllHold (
     ∷ goes Strict (codes "t = {p.q = 1, z = 2}") (insert (key (codes "t") ∷ key (codes "p") ∷ key (codes "r") ∷ []) (value (codes "3"))) (codes "t = {p.q = 1, p.r = 3, z = 2}") 12 12 9
     -- wide insert
     ∷ goes Wide (codes "a = {x = 1,\n # c\n}") (insert (key (codes "a") ∷ key (codes "y") ∷ []) (value (codes "2"))) (codes "a = {x = 1, y = 2,\n # c\n}") 10 10 7
+    -- wide insert of wide value
+    ∷ goes Wide (codes "a = [1]") (insert (key (codes "a") ∷ index 1 ∷ []) (value (codes "07:32"))) (codes "a = [1, 07:32]") 6 6 7
     ∷ [])
 unfolding repeat space_at blank_from further_at key_of name_of item_by entry_by value_of content_at comment_at line_at ended_at read_document read_one_value gap_at key_at scalar_at word_leaf
 insert_in_values = refl
@@ -160,21 +175,27 @@ insert_in_values = refl
 
 insert_refused : AllHold (
     -- insert exists
-    refuses 64 (codes "a = 1\nb = -2\n") (insert (key (codes "b") ∷ []) (value (codes "-2"))) fault.Exists
+    refuses standard_depth (codes "a = 1\nb = -2\n") (insert (key (codes "b") ∷ []) (value (codes "-2"))) fault.Exists
     -- insert beyond
-    ∷ refuses 64 (codes "a = [0, 1, 2 ]\n") (insert (key (codes "a") ∷ index 4 ∷ []) (value (codes "9"))) fault.NotFound
+    ∷ refuses standard_depth (codes "a = [0, 1, 2 ]\n") (insert (key (codes "a") ∷ index 4 ∷ []) (value (codes "9"))) fault.NotFound
     -- insert root
-    ∷ refuses 64 (codes "a = 1\n") (insert [] (value (codes "1"))) fault.Exists
+    ∷ refuses standard_depth (codes "a = 1\n") (insert [] (value (codes "1"))) fault.Exists
     -- insert below value
-    ∷ refuses 64 (codes "s = 1\n") (insert (key (codes "s") ∷ key (codes "x") ∷ []) (value (codes "1"))) fault.NotTable
+    ∷ refuses standard_depth (codes "s = 1\n") (insert (key (codes "s") ∷ key (codes "x") ∷ []) (value (codes "1"))) fault.NotTable
     -- insert item in value
-    ∷ refuses 64 (codes "s = 1\n") (insert (key (codes "s") ∷ index 0 ∷ []) (value (codes "1"))) fault.NotFound
+    ∷ refuses standard_depth (codes "s = 1\n") (insert (key (codes "s") ∷ index 0 ∷ []) (value (codes "1"))) fault.NotFound
     -- insert in no element
-    ∷ refuses 64 (codes "[[a]]\n[[a]]\n") (insert (key (codes "a") ∷ index 2 ∷ key (codes "k") ∷ []) (value (codes "1"))) fault.NotFound
+    ∷ refuses standard_depth (codes "[[a]]\n[[a]]\n") (insert (key (codes "a") ∷ index 2 ∷ key (codes "k") ∷ []) (value (codes "1"))) fault.NotFound
     -- insert in elements
-    ∷ refuses 64 (codes "[[a]]\n[[a]]\n") (insert (key (codes "a") ∷ key (codes "k") ∷ []) (value (codes "1"))) fault.NotTable
+    ∷ refuses standard_depth (codes "[[a]]\n[[a]]\n") (insert (key (codes "a") ∷ key (codes "k") ∷ []) (value (codes "1"))) fault.NotTable
     -- insert too deep
     ∷ refuses 1 (codes "a = [1]\n") (insert (key (codes "a") ∷ index 0 ∷ []) (value (codes "[]"))) fault.TooDeep
+    -- insert wide value
+    ∷ refuses standard_depth (codes "a = 1\n") (insert (key (codes "b") ∷ []) (value (codes "{x = 1,}"))) fault.Profile
+    -- insert wide item
+    ∷ refuses standard_depth (codes "a = [1]\n") (insert (key (codes "a") ∷ index 1 ∷ []) (value (codes "07:32"))) fault.Profile
+    -- insert wide value below value
+    ∷ refuses standard_depth (codes "s = 1\n") (insert (key (codes "s") ∷ key (codes "x") ∷ []) (value (codes "07:32"))) fault.NotTable
     ∷ [])
 unfolding repeat space_at blank_from further_at key_of name_of item_by entry_by value_of content_at comment_at line_at ended_at read_document read_one_value gap_at key_at scalar_at word_leaf
 insert_refused = refl
@@ -183,23 +204,23 @@ insert_refused = refl
 
 rename_rows : AllHold (
     -- rename scattered
-    refuses 64 (codes "[a]\n[a.b]\n") (rename (key (codes "a") ∷ []) (codes "z")) fault.Scattered
+    refuses standard_depth (codes "[a]\n[a.b]\n") (rename (key (codes "a") ∷ []) (codes "z")) fault.Scattered
     -- rename passed
-    ∷ refuses 64 (codes "[[a]]\n[a.s]\n") (rename (key (codes "a") ∷ []) (codes "z")) fault.Scattered
+    ∷ refuses standard_depth (codes "[[a]]\n[a.s]\n") (rename (key (codes "a") ∷ []) (codes "z")) fault.Scattered
     -- rename quoted
     ∷ goes Strict (codes "\"a b\" = 1\n") (rename (key (codes "a b") ∷ []) (codes "c")) (codes "c = 1\n") 0 5 1
     -- rename exists
-    ∷ refuses 64 (codes "a = 1\nb = 2\n") (rename (key (codes "a") ∷ []) (codes "b")) fault.Exists
+    ∷ refuses standard_depth (codes "a = 1\nb = 2\n") (rename (key (codes "a") ∷ []) (codes "b")) fault.Exists
     -- rename root
-    ∷ refuses 64 (codes "a = 1\n") (rename [] (codes "x")) fault.NotKey
+    ∷ refuses standard_depth (codes "a = 1\n") (rename [] (codes "x")) fault.NotKey
     -- rename header
     ∷ goes Strict (codes "[t]\nk = 1\n") (rename (key (codes "t") ∷ []) (codes "x y")) (codes "[\"x y\"]\nk = 1\n") 1 2 5
     -- rename last key
     ∷ goes Strict (codes "a.b.c = 1 # x\n[d]\na.b = 2\n") (rename (key (codes "a") ∷ key (codes "b") ∷ key (codes "c") ∷ []) (codes "q.r")) (codes "a.b.\"q.r\" = 1 # x\n[d]\na.b = 2\n") 4 5 5
     -- rename item
-    ∷ refuses 64 (codes "a = [1]\n") (rename (key (codes "a") ∷ index 0 ∷ []) (codes "x")) fault.NotKey
+    ∷ refuses standard_depth (codes "a = [1]\n") (rename (key (codes "a") ∷ index 0 ∷ []) (codes "x")) fault.NotKey
     -- rename unknown
-    ∷ refuses 64 (codes "a = 1\n") (rename (key (codes "b") ∷ []) (codes "x")) fault.NotFound
+    ∷ refuses standard_depth (codes "a = 1\n") (rename (key (codes "b") ∷ []) (codes "x")) fault.NotFound
     ∷ [])
 unfolding repeat space_at blank_from further_at key_of name_of item_by entry_by value_of content_at comment_at line_at ended_at read_document read_one_value gap_at key_at scalar_at word_leaf
 rename_rows = refl
@@ -258,13 +279,13 @@ remove_lines = refl
 
 remove_refused : AllHold (
     -- remove passed element
-    refuses 64 (codes "[[a]]\nn = 1\n[a.s]\n[[a]]\nn = 2\n") (remove (key (codes "a") ∷ index 0 ∷ [])) fault.Scattered
+    refuses standard_depth (codes "[[a]]\nn = 1\n[a.s]\n[[a]]\nn = 2\n") (remove (key (codes "a") ∷ index 0 ∷ [])) fault.Scattered
     -- remove elements
-    ∷ refuses 64 (codes "[[a]]\nn = 1\n[[a]]\nn = 2\n") (remove (key (codes "a") ∷ [])) fault.Scattered
+    ∷ refuses standard_depth (codes "[[a]]\nn = 1\n[[a]]\nn = 2\n") (remove (key (codes "a") ∷ [])) fault.Scattered
     -- remove root
-    ∷ refuses 64 (codes "a = 1\n") (remove []) fault.NotKey
+    ∷ refuses standard_depth (codes "a = 1\n") (remove []) fault.NotKey
     -- remove unknown
-    ∷ refuses 64 (codes "a = 1\n") (remove (key (codes "b") ∷ [])) fault.NotFound
+    ∷ refuses standard_depth (codes "a = 1\n") (remove (key (codes "b") ∷ [])) fault.NotFound
     ∷ [])
 unfolding repeat space_at blank_from further_at key_of name_of item_by entry_by value_of content_at comment_at line_at ended_at read_document read_one_value gap_at key_at scalar_at word_leaf
 remove_refused = refl
@@ -277,9 +298,9 @@ append_rows : AllHold (
     -- append quoted
     ∷ goes Strict (codes "[t]\n") (append_element ((codes "a") ∷ (codes "b c") ∷ [])) (codes "[t]\n\n[[a.\"b c\"]]\n") 4 4 13
     -- append conflict
-    ∷ refuses 64 (codes "[t]\n\n[[a.\"b c\"]]\n") (append_table ((codes "t") ∷ [])) (fault.Conflict why.DefinedTwice)
+    ∷ refuses standard_depth (codes "[t]\n\n[[a.\"b c\"]]\n") (append_table ((codes "t") ∷ [])) (fault.Conflict why.DefinedTwice)
     -- append no keys
-    ∷ refuses 64 (codes "[t]\n") (append_table []) fault.NotKey
+    ∷ refuses standard_depth (codes "[t]\n") (append_table []) fault.NotKey
     -- append behind white space
     ∷ goes Strict (codes "a = 1\n  ") (append_table ((codes "t") ∷ [])) (codes "a = 1\n  \n\n[t]\n") 8 8 6
     ∷ [])

@@ -1,15 +1,16 @@
 -- What is told of a document's nodes, and what comes of a list of edits.
 use Rattle.std.specs.Prelude.{ℕ, suc, true, false, List, [], ◌∷◌, map, drop, Option, Some, None, Result, Ok, Err}
 use Rattle.std.specs.Option.{option_map}
+use Rattle.keep_token.specs.declared.leaf.Profile.{Profile}
 use Rattle.keep_syntax.specs.Tree.{Document}
-use Rattle.keep_rules.specs.declared.node.Kind.{Kind}
-use Rattle.keep_rules.specs.Path.{Part}
-use Rattle.keep_rules.specs.Fact.{Fact}
-use Rattle.keep_rules.specs.Fact as fact
-use Rattle.keep_rules.specs.Marks.{Mention}
-use Rattle.keep_rules.specs.Meaning.{said_in}
-use Rattle.keep_rules.specs.Nodes.{node_paths, is_node, kind_at, fact_at}
-use Rattle.keep_rules.specs.PathText.{encoded_path}
+use Rattle.keep_meaning.specs.declared.node.Kind.{Kind}
+use Rattle.keep_path.specs.Path.{Part}
+use Rattle.keep_meaning.specs.Fact.{Fact}
+use Rattle.keep_meaning.specs.Fact as fact
+use Rattle.keep_meaning.specs.Marks.{Mention}
+use Rattle.keep_meaning.specs.Meaning.{said_in}
+use Rattle.keep_meaning.specs.Nodes.{node_paths, is_node, kind_at, fact_at}
+use Rattle.keep_path.specs.PathText.{encoded_path}
 use Rattle.keep_law.specs.declared.fault.EditFault.{EditFault}
 use Rattle.keep_law.specs.declared.fault.EditFault.TheVariants as fault
 use Rattle.keep_law.specs.Values.{replacement}
@@ -60,13 +61,13 @@ pub record Refused : Type 0 where
   pub number : ℕ
   pub fault : EditFault
 
-abbrev pub applied_from : ℕ → ℕ → List Edit → Document → Result Document Refused
-applied_from limit n [] s = Ok s
-applied_from limit n (e ∷ es) s = elim (refusal limit s e) [
+abbrev pub applied_from : Profile → ℕ → ℕ → List Edit → Document → Result Document Refused
+applied_from profile limit n [] s = Ok s
+applied_from profile limit n (e ∷ es) s = elim (refusal profile limit s e) [
   | Some f ↦ Err (record { number = n; fault = f })
-  | None ↦ applied_from limit (suc n) es (edited_document s e)
+  | None ↦ applied_from profile limit (suc n) es (edited_document s e)
 ]
 
 -- the document after all edits, or the first refused one
-abbrev pub applied_edits : ℕ → List Edit → Document → Result Document Refused
-applied_edits limit edits s = applied_from limit 0 edits s
+abbrev pub applied_edits : Profile → ℕ → List Edit → Document → Result Document Refused
+applied_edits profile limit edits s = applied_from profile limit 0 edits s

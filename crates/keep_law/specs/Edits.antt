@@ -2,9 +2,9 @@
 use Rattle.std.specs.Prelude.{ℕ, suc, Bool, true, false, if◌then◌else◌, List, [], ◌∷◌, ◌++◌, length, map, drop, Option, Some, None}
 use Rattle.keep_syntax.specs.Tree.{Written, Further, Key, Name, Value, Content, blank, keyval, header, element, Line, Document, text_of}
 use Rattle.keep_token.specs.Encoded.{encoded_key, encoded_key_leaf}
-use Rattle.keep_rules.specs.Path.{Part, same_path}
-use Rattle.keep_rules.specs.Marks.{Mention, Reading, start}
-use Rattle.keep_rules.specs.Meaning.{said_in, lines, step}
+use Rattle.keep_path.specs.Path.{Part, same_path}
+use Rattle.keep_meaning.specs.Marks.{Mention, Reading, start}
+use Rattle.keep_meaning.specs.Meaning.{said_in, lines, step}
 use Rattle.keep_law.specs.Look.{holder, item_number, keys_in}
 use Rattle.keep_law.specs.Changed.{Changed, or_else, Place, place_of}
 use Rattle.keep_law.specs.Values.{Act, replacement, put_item, put_named, removal, renaming, space}

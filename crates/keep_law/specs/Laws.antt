@@ -2,19 +2,19 @@
 use Rattle.std.specs.Prelude.{◌≡◌, ℕ, ◌+◌, ◌≤◌, Bool, true, false, List, ◌++◌, length, map, Option, Some, None, IsUtf8}
 use Rattle.std.specs.List.{AllByRecursion}
 use Rattle.keep_token.specs.declared.leaf.Profile.{Profile}
+use Rattle.keep_token.specs.declared.leaf.Profile.TheVariants.{Wide}
 use Rattle.keep_token.specs.Encoded.{encoded_key}
 use Rattle.keep_syntax.specs.Tree.{Value, Document, text, value_text, depth}
 use Rattle.keep_syntax.specs.Grammar.{IsValue, IsDocument, Reads}
-use Rattle.keep_rules.specs.Path.{Part, key}
-use Rattle.keep_rules.specs.PathText.{encoded_path}
-use Rattle.keep_rules.specs.Rules.{ObeysRules}
-use Rattle.keep_rules.specs.Marks.{start, marks}
-use Rattle.keep_rules.specs.Meaning.{lines, said_in, value_said}
-use Rattle.keep_rules.specs.Nodes.{fact_at, has, is_begun}
+use Rattle.keep_path.specs.Path.{Part, key}
+use Rattle.keep_path.specs.PathText.{encoded_path}
+use Rattle.keep_meaning.specs.Rules.{ObeysRules}
+use Rattle.keep_meaning.specs.Marks.{marks}
+use Rattle.keep_meaning.specs.Meaning.{said_in, value_said}
+use Rattle.keep_meaning.specs.Nodes.{fact_at}
 use Rattle.keep_law.specs.Changed.{Changed, put}
-use Rattle.keep_law.specs.Edits.{Edit, set, insert, rename, remove, append_table, append_element, change, end_of, edited_document, place}
-use Rattle.keep_law.specs.Look.{holder, item_number, keys_in}
-use Rattle.keep_law.specs.Lines.{last_line, goes_dotted, goes_through}
+use Rattle.keep_law.specs.Edits.{Edit, set, insert, rename, remove, append_table, append_element, change, edited_document, place}
+use Rattle.keep_law.specs.Look.{keys_in}
 use Rattle.keep_law.specs.Refusals.{refusal, has_value}
 use Rattle.keep_law.specs.Trees.{IsTreeOf}
 use Rattle.keep_law.specs.Answers.{value_at}
@@ -48,44 +48,46 @@ pub record IsStanding (profile : Profile) (limit : ℕ) (s : Document) : Type 0 
 
 -- ---- set
 
--- the value is valid and obeys the rules
+-- the value is of the profile's grammar and obeys the rules
 pub record IsGivenValue (profile : Profile) (v : Value) : Type 0 where
   pub valid : IsValue profile v
   pub obeys : ObeysRules (marks (value_said v))
 
+-- The value may be any of Wide's grammar: what a Strict document can't hold is refused.
 abbrev pub SetIsLawful : Type 0
-SetIsLawful = (profile : Profile) (limit : ℕ) (s : Document) (path : List Part) (new : Value) → IsStanding profile limit s → IsGivenValue profile new
-    → refusal limit s (set path new) ≡ None → IsLawfulEdit profile limit s (set path new)
+SetIsLawful = (profile : Profile) (limit : ℕ) (s : Document) (path : List Part) (new : Value) → IsStanding profile limit s → IsGivenValue Wide new
+    → refusal profile limit s (set path new) ≡ None → IsLawfulEdit profile limit s (set path new)
 
 -- ---- append_table, append_element
 
 -- the keys are in UTF-8
 abbrev pub AppendTableIsLawful : Type 0
 AppendTableIsLawful = (profile : Profile) (limit : ℕ) (s : Document) (keys : List (List ℕ)) → IsStanding profile limit s → AllByRecursion IsUtf8 keys
-    → refusal limit s (append_table keys) ≡ None → IsLawfulEdit profile limit s (append_table keys)
+    → refusal profile limit s (append_table keys) ≡ None → IsLawfulEdit profile limit s (append_table keys)
 
 abbrev pub AppendElementIsLawful : Type 0
 AppendElementIsLawful = (profile : Profile) (limit : ℕ) (s : Document) (keys : List (List ℕ)) → IsStanding profile limit s → AllByRecursion IsUtf8 keys
-    → refusal limit s (append_element keys) ≡ None → IsLawfulEdit profile limit s (append_element keys)
+    → refusal profile limit s (append_element keys) ≡ None → IsLawfulEdit profile limit s (append_element keys)
 
--- ---- insert, as a line
+-- ---- insert
 
--- the table has a body of its own, or a line whose key or header goes on from it
-abbrev pub has_lines : Document → List Part → Bool
-has_lines s a = elim (end_of s a) [ Some n ↦ true | None ↦ elim (last_line (goes_dotted a) start (lines s)) [ Some i ↦ true | None ↦ elim (last_line (goes_through a) start (lines s)) [ Some i ↦ true | None ↦ false ] ] ]
-
--- no item of an array is put in, and the holder of the new key has lines
-abbrev pub InsertLineIsLawful : Type 0
-InsertLineIsLawful = (profile : Profile) (limit : ℕ) (s : Document) (path : List Part) (new : Value) → IsStanding profile limit s → IsGivenValue profile new
-    → AllByRecursion IsUtf8 (keys_in path) → item_number path (said_in s) ≡ None → has_lines s (holder path (said_in s)) ≡ true
-    → refusal limit s (insert path new) ≡ None → IsLawfulEdit profile limit s (insert path new)
+-- the keys are in UTF-8, and the value is as for `set`
+abbrev pub InsertIsLawful : Type 0
+InsertIsLawful = (profile : Profile) (limit : ℕ) (s : Document) (path : List Part) (new : Value) → IsStanding profile limit s → IsGivenValue Wide new
+    → AllByRecursion IsUtf8 (keys_in path) → refusal profile limit s (insert path new) ≡ None → IsLawfulEdit profile limit s (insert path new)
 
 -- ---- remove
 
--- no element of an array of tables begins at the path
 abbrev pub RemoveIsLawful : Type 0
-RemoveIsLawful = (profile : Profile) (limit : ℕ) (s : Document) (path : List Part) → IsStanding profile limit s → has is_begun path (said_in s) ≡ false
-    → refusal limit s (remove path) ≡ None → IsLawfulEdit profile limit s (remove path)
+RemoveIsLawful = (profile : Profile) (limit : ℕ) (s : Document) (path : List Part) → IsStanding profile limit s
+    → refusal profile limit s (remove path) ≡ None → IsLawfulEdit profile limit s (remove path)
+
+-- ---- rename
+
+-- the key is in UTF-8
+abbrev pub RenameIsLawful : Type 0
+RenameIsLawful = (profile : Profile) (limit : ℕ) (s : Document) (path : List Part) (text : List ℕ) → IsStanding profile limit s → IsUtf8 text
+    → refusal profile limit s (rename path text) ≡ None → IsLawfulEdit profile limit s (rename path text)
 
 -- ---- get
 
@@ -110,7 +112,7 @@ GetIsRight = (path : List Part) (s : Document) → ObeysRules (marks (said_in s)
 -- ---- every edit
 
 abbrev pub GrowthIsBounded : Type 0
-GrowthIsBounded = (profile : Profile) (limit : ℕ) (s : Document) (e : Edit) → IsDocument profile s → ObeysRules (marks (said_in s)) → refusal limit s e ≡ None
+GrowthIsBounded = (profile : Profile) (limit : ℕ) (s : Document) (e : Edit) → IsDocument profile s → ObeysRules (marks (said_in s)) → refusal profile limit s e ≡ None
     → length (text (edited_document s e)) ≤ length (text s) + given_size e + 12
 
 -- A change replaces its place in the text, and nothing else.

@@ -7,3 +7,4 @@ pub mod Refusals
 pub mod Trees
 pub mod Answers
 pub mod Laws
+pub mod Removal

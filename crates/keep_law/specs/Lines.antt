@@ -3,11 +3,11 @@ use Rattle.std.specs.Prelude.{ℕ, zero, suc, ◌+◌, Bool, true, false, ◌&&�
 use Rattle.std.specs.List.{flat_map}
 use Rattle.keep_token.specs.declared.leaf.Leaf.TheVariants as leaf
 use Rattle.keep_syntax.specs.Tree.{Written, Content, blank, keyval, header, element, Line, Ended, Document, name_leaves, content_leaves, comment_leaves, line_leaves, ended_leaves, bom_leaves, leaves, text_of}
-use Rattle.keep_rules.specs.Path.{Part, key, same_path}
-use Rattle.keep_rules.specs.Marks.{Reading, start, header_path, below}
-use Rattle.keep_rules.specs.Meaning.{keys_of, step, keyed_mentions, line_said, behind_line, reading_behind}
+use Rattle.keep_path.specs.Path.{Part, key, same_path}
+use Rattle.keep_meaning.specs.Marks.{Reading, start, header_path, below}
+use Rattle.keep_meaning.specs.Meaning.{keys_of, step, keyed_mentions, line_said, behind_line, reading_behind}
 use Rattle.keep_law.specs.Look.{strip}
-use Rattle.keep_rules.specs.Nodes.{has, is_dotted, is_through}
+use Rattle.keep_meaning.specs.Nodes.{has, is_dotted, is_through}
 use Rattle.keep_law.specs.Changed.{Changed, framed_change, within, or_else}
 use Rattle.keep_law.specs.Values.{Act, in_value, text_of_value, rename_part, rename_name}
 

@@ -1,11 +1,11 @@
 -- The change of the tree by an edit: where the fact at each path of the new document comes from.
 use Rattle.std.specs.Prelude.{◌≡◌, ℕ, ◌+◌, ◌-◌, Bool, true, false, not, ◌&&◌, ◌||◌, nat_lt, ◌==◌, if◌then◌else◌, List, [], ◌∷◌, ◌++◌, Option, Some, None}
-use Rattle.keep_rules.specs.Fact.{Fact, table}
-use Rattle.keep_rules.specs.Path.{Part, key, index, same_path}
-use Rattle.keep_rules.specs.Marks.{Mention, header_path, elements_of}
-use Rattle.keep_rules.specs.Meaning.{value_said}
+use Rattle.keep_meaning.specs.Fact.{Fact, table}
+use Rattle.keep_path.specs.Path.{Part, key, index, same_path}
+use Rattle.keep_meaning.specs.Marks.{Mention, header_path, elements_of}
+use Rattle.keep_meaning.specs.Meaning.{value_said}
 use Rattle.keep_law.specs.Look.{strip, holder, last_part, without_last, item_number}
-use Rattle.keep_rules.specs.Nodes.{fact_at, has, is_define, is_begun, is_dotted, is_root}
+use Rattle.keep_meaning.specs.Nodes.{fact_at, has, is_define, is_begun, is_dotted, is_root}
 use Rattle.keep_law.specs.Refusals.{tables_in, beside}
 use Rattle.keep_law.specs.Edits.{Edit, set, insert, rename, remove, append_table, append_element}
 

@@ -5,8 +5,8 @@ use Rattle.keep_token.specs.declared.leaf.Leaf.{Leaf}
 use Rattle.keep_token.specs.declared.leaf.Leaf.TheVariants as leaf
 use Rattle.keep_syntax.specs.Tree.{Written, Gap, Further, Key, Name, Body, scalar, array, inline, Entries, none, entry, Value, further_leaves, named_leaves, opening, closing, comma_leaves, entries_leaves, value_leaves, text_of, mark}
 use Rattle.keep_syntax.specs.Grammar.{is_ws_leaf}
-use Rattle.keep_rules.specs.Path.{Part, key, index, same_path}
-use Rattle.keep_rules.specs.Meaning.{step}
+use Rattle.keep_path.specs.Path.{Part, key, index, same_path}
+use Rattle.keep_meaning.specs.Meaning.{step}
 use Rattle.keep_law.specs.Look.{strip, keys_in}
 use Rattle.keep_law.specs.Changed.{Changed, within, or_else}
 

@@ -1,7 +1,8 @@
-use keep_rules::Why;
+use keep_syntax::Why;
 use thiserror::Error;
 
-/// Why an edit is refused, in the order of test: the first that holds is told. A refused edit changes nothing.
+/// Why an edit is refused: the first that holds. They are tested in this order, but for `Memory`, which comes last. A
+/// refused edit changes nothing.
 #[derive(Clone, Copy, Debug, PartialEq, Eq, Error)]
 pub enum EditFault {
     /// The path names no node.
@@ -31,4 +32,7 @@ pub enum EditFault {
     /// Memory was refused.
     #[error("Memory")]
     Memory,
+    /// The document was read as TOML v1.0.0, and the value is none of that grammar.
+    #[error("Profile")]
+    Profile,
 }

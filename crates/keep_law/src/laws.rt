@@ -16,16 +16,19 @@ pub fn append_element_is_lawful()
     ensures { spec.AppendElementIsLawful }
 {}
 
-/// An `insert` that is not refused changes the document as it is stated, where no item is put into an array and the new key's
-/// holder has lines, for keys in UTF-8.
-pub fn insert_line_is_lawful()
-    ensures { spec.InsertLineIsLawful }
+/// An `insert` that is not refused changes the document as it is stated, for keys in UTF-8.
+pub fn insert_is_lawful()
+    ensures { spec.InsertIsLawful }
 {}
 
-/// A `remove` that is not refused changes the document as it is stated, where no element of an array of tables begins at the
-/// path.
+/// A `remove` that is not refused changes the document as it is stated: in its text, its tree and its size.
 pub fn remove_is_lawful()
     ensures { spec.RemoveIsLawful }
+{}
+
+/// A `rename` that is not refused changes the document as it is stated, for a key in UTF-8.
+pub fn rename_is_lawful()
+    ensures { spec.RenameIsLawful }
 {}
 
 /// `get` gives the text of the value at a path, and a text only where there is a value.

@@ -1,4 +1,4 @@
-use Rattle.keep_law.proofs.SetIsLawful.{get_is_right}
+use Rattle.keep_law.proofs.Set.SetIsLawful.{get_is_right}
 use Rattle.keep_law.proofs.laws.get_is_right.Goals as goal
 
 pub returns : goal.returns

@@ -1,0 +1,4 @@
+-- The laws of append_table and append_element.
+pub mod AppendLaw
+pub mod AppendTable
+pub mod AppendElement

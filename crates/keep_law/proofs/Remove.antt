@@ -1,0 +1,24 @@
+-- The laws of remove.
+pub mod TakenOut
+pub mod RemoveInValue
+pub mod RemoveLines
+pub mod RemoveValid
+pub mod RemoveSection
+pub mod RemoveLaw
+pub mod RemoveRefusal
+pub mod RemoveDepth
+pub mod RemoveWhole
+pub mod Shift
+pub mod ShiftWay
+pub mod KeyvalSays
+pub mod ShiftLines
+pub mod ShiftSaid
+pub mod ElementTree
+pub mod RemoveElement
+pub mod ElementThere
+pub mod RemoveAny
+pub mod RemoveEntry
+pub mod RemovePlace
+pub mod RemoveLinePlace
+pub mod RemoveSectionPlace
+pub mod RemovePlaces

@@ -1,0 +1,120 @@
+-- Lines of which one has a key part renamed: they say the same, with the paths changed.
+use Rattle.std.proofs.Common.{◌≡◌, ℕ, List, [], ◌∷◌, ◌++◌, map, refl, sym, ap, ◌∙◌, Option, Some, None}
+use Rattle.std.specs.Prelude.{position}
+use Rattle.std.proofs.lemmas.List.{map-append}
+use Rattle.keep_token.specs.declared.leaf.Profile.{Profile}
+use Rattle.keep_syntax.specs.Tree.{Content, blank, keyval, header, element, Line, Ended, comment_leaves, ended_leaves, text_of}
+use Rattle.keep_syntax.specs.Grammar.{IsLine}
+use Rattle.keep_path.specs.Path.{Part, same_path}
+use Rattle.keep_meaning.specs.Marks.{Mention, Reading, header_path, header_way}
+use Rattle.keep_meaning.specs.Meaning.{keys_of, line_said, behind_line, lines_said, line_of}
+use Rattle.keep_law.specs.Look.{strip}
+use Rattle.keep_law.specs.Changed.{within}
+use Rattle.keep_law.specs.Lines.{Page, page_text, part_paths, rename_content, rename_line, in_lines}
+use Rattle.keep_law.specs.Edits.{key_part}
+use Rattle.keep_law.proofs.Common.Runs.{AllOf, SomeOf, all_left, all_right, all_join, some_left, some_right, IsApart}
+use Rattle.keep_law.proofs.Common.SetLaw.{IsSolidAt, EachTo, to_within, to_or_else}
+use Rattle.keep_law.proofs.Common.SetDocument.{page_lines}
+use Rattle.keep_law.proofs.Common.LineLaws.{EndsInKey}
+use Rattle.keep_law.proofs.Common.Moves.{moved}
+use Rattle.keep_law.proofs.Common.NewLines.{IsKeyText}
+use Rattle.keep_law.proofs.Rename.RenamedPath.{IsBeside, ends_old, renamed_path}
+use Rattle.keep_law.proofs.Rename.RenamedKeys.{AreClear}
+use Rattle.keep_law.proofs.Rename.RenameOnce.{Once, once_behind, once_right}
+use Rattle.keep_law.proofs.Rename.RenameContent.{content_said, content_behind, moved_reading, content_kept, IsContentRenamed, content_renamed}
+
+-- the full paths of the `[[..]]` lines are not at or under a path where nothing is said there
+clear_content : (b : List Part) (r : Reading) (c : Content) → AreClear b r.tables → AllOf (IsApart b) (content_said r c) → AreClear b (content_behind r c).tables
+clear_content b r blank clear apart = clear
+clear_content b r (keyval name v) clear apart = clear
+clear_content b r (header x k y) clear apart = clear
+clear_content b r (element x k y) clear apart =
+    all_join (λ t. strip b t ≡ None) r.tables (header_path r.tables [] (keys_of k) ∷ []) clear ((all_right (IsApart b) (header_way r.tables [] (keys_of k)) _ apart).0, tt)
+
+-- lines that say nothing of the path itself
+pub lines_kept : (p b : List Part) → EndsInKey p → (r : Reading) (ls : List Line) → AreClear b r.tables → AllOf (IsApart b) (lines_said r ls) → (SomeOf (IsSolidAt p) (lines_said r ls) → ⊥)
+    → lines_said (moved_reading (renamed_path p b) r) ls ≡ map (moved (renamed_path p b)) (lines_said r ls)
+lines_kept p b ends r [] clear apart never = refl
+lines_kept p b ends r (l ∷ ls) clear apart never =
+    let f : List Part → List Part = renamed_path p b in
+    let first : List Mention = line_said r l in
+    let rest : List Mention = lines_said (behind_line r l) ls in
+    let apart_first = all_left (IsApart b) first rest apart in
+    let h = content_kept p b r ends clear l.content apart_first (λ s. never (some_left (IsSolidAt p) first rest s)) in
+    ap (λ x. x ++ lines_said (behind_line (moved_reading f r) l) ls) h.said
+    ∙ ap (λ (x : Reading). map (moved f) first ++ lines_said x ls) h.behind
+    ∙ ap (λ x. map (moved f) first ++ x)
+    (lines_kept p b ends (behind_line r l) ls (clear_content b r l.content clear apart_first) (all_right (IsApart b) first rest apart) (λ s. never (some_right (IsSolidAt p) first rest s)))
+    ∙ sym (map-append (moved f) first rest)
+
+-- ---- the line with the key
+
+pub record IsLineRenamed (profile : Profile) (p b : List Part) (r : Reading) (l l' : Line) : Type 0 where
+  pub content : IsContentRenamed profile p b r l.content l'.content
+  pub valid : IsLine profile l → IsLine profile l'
+
+pub line_renamed : (profile : Profile) (t : List ℕ) (p b : List Part) → IsKeyText profile t → IsBeside t p b → (r : Reading) (l : Line) → EachTo (IsLineRenamed profile p b r l) (rename_line (key_part t) p r l)
+line_renamed profile t p b text beside r l = by (position (same_path p) (part_paths r l.content)) refl
+  where
+    by : (o : Option ℕ) → position (same_path p) (part_paths r l.content) ≡ o → EachTo (IsLineRenamed profile p b r l) (elim o [
+      | None ↦ None
+      | Some n ↦ within (λ c. record l { content = c }) (text_of l.before) (text_of l.after ++ text_of (comment_leaves l.comment)) (rename_content (key_part t) n l.content)
+    ])
+    by None e = tt
+    by (Some n) e =
+        to_within (IsContentRenamed profile p b r l.content) (IsLineRenamed profile p b r l) (λ c. record l { content = c }) (text_of l.before) (text_of l.after ++ text_of (comment_leaves l.comment)) (rename_content (key_part t) n l.content)
+        (λ c h. record { content = h; valid = λ w. record { before = w.before; content = h.valid w.content; after = h.after l.after w.after; comment = w.comment } })
+        (content_renamed profile t p b r text beside n l.content e)
+
+-- one line is renamed, and the others say nothing of the path
+pub record AreLinesRenamed (p b : List Part) (r : Reading) (from to : List Line) : Type 0 where
+  pub some : SomeOf (IsSolidAt p) (lines_said r from)
+  pub said : AreClear b r.tables → AllOf (IsApart b) (lines_said r from) → Once p (lines_said r from)
+      → lines_said (moved_reading (renamed_path p b) r) to ≡ map (moved (renamed_path p b)) (lines_said r from)
+
+here_renamed : (profile : Profile) (p b : List Part) → EndsInKey p → (r : Reading) (l l' : Line) (ls : List Line) → IsLineRenamed profile p b r l l' → AreLinesRenamed p b r (l ∷ ls) (l' ∷ ls)
+here_renamed profile p b ends r l l' ls h =
+    let f : List Part → List Part = renamed_path p b in
+    let first : List Mention = line_said r l in
+    let rest : List Mention = lines_said (behind_line r l) ls in
+    record {
+      some = some_left (IsSolidAt p) first rest h.content.some;
+      said = λ clear apart once.
+          (let apart_first = all_left (IsApart b) first rest apart in
+          let m = h.content.moves clear apart_first in
+          ap (λ x. x ++ lines_said (behind_line (moved_reading f r) l') ls) m.said
+          ∙ ap (λ (x : Reading). map (moved f) first ++ lines_said x ls) m.behind
+          ∙ ap (λ x. map (moved f) first ++ x)
+          (lines_kept p b ends (behind_line r l) ls (clear_content b r l.content clear apart_first) (all_right (IsApart b) first rest apart) (once_behind p first rest once h.content.some))
+          ∙ sym (map-append (moved f) first rest));
+    }
+
+further_renamed : (p b : List Part) → EndsInKey p → (r : Reading) (l : Line) (ls ls' : List Line) → AreLinesRenamed p b (behind_line r l) ls ls' → AreLinesRenamed p b r (l ∷ ls) (l ∷ ls')
+further_renamed p b ends r l ls ls' h =
+    let f : List Part → List Part = renamed_path p b in
+    let first : List Mention = line_said r l in
+    let rest : List Mention = lines_said (behind_line r l) ls in
+    record {
+      some = some_right (IsSolidAt p) first rest h.some;
+      said = λ clear apart once.
+          (let apart_first = all_left (IsApart b) first rest apart in
+          let m = content_kept p b r ends clear l.content apart_first (λ s. once_behind p first rest once s h.some) in
+          ap (λ x. x ++ lines_said (behind_line (moved_reading f r) l) ls') m.said
+          ∙ ap (λ (x : Reading). map (moved f) first ++ lines_said x ls') m.behind
+          ∙ ap (λ x. map (moved f) first ++ x)
+          (h.said (clear_content b r l.content clear apart_first) (all_right (IsApart b) first rest apart) (once_right p first rest once))
+          ∙ sym (map-append (moved f) first rest));
+    }
+
+pub lines_renamed : (profile : Profile) (t : List ℕ) (p b : List Part) → IsKeyText profile t → IsBeside t p b → (r : Reading) (es : List Ended) (last : Line)
+    → EachTo (λ g. AreLinesRenamed p b r (map line_of es ++ last ∷ []) (page_lines g)) (in_lines (rename_line (key_part t) p) r es last)
+lines_renamed profile t p b text beside r [] last =
+    to_within (IsLineRenamed profile p b r last) (λ g. AreLinesRenamed p b r (last ∷ []) (page_lines g)) (λ l. record { ended = []; last = l }) [] [] (rename_line (key_part t) p r last)
+    (λ l h. here_renamed profile p b (ends_old t p b beside) r last l [] h) (line_renamed profile t p b text beside r last)
+lines_renamed profile t p b text beside r (e ∷ es) last =
+    let P : Page → Type 0 = λ g. AreLinesRenamed p b r (map line_of (e ∷ es) ++ last ∷ []) (page_lines g) in
+    to_or_else P _ _
+    (to_within (IsLineRenamed profile p b r e.line) P (λ l. record { ended = record { line = l; newline = e.newline } ∷ es; last = last }) [] (e.newline.text ++ page_text (record { ended = es; last = last })) (rename_line (key_part t) p r e.line)
+    (λ l h. here_renamed profile p b (ends_old t p b beside) r e.line l (map line_of es ++ last ∷ []) h) (line_renamed profile t p b text beside r e.line))
+    (to_within (λ g. AreLinesRenamed p b (behind_line r e.line) (map line_of es ++ last ∷ []) (page_lines g)) P (λ g. record { ended = e ∷ g.ended; last = g.last }) (text_of (ended_leaves e)) [] (in_lines (rename_line (key_part t) p) (behind_line r e.line) es last)
+    (λ g h. further_renamed p b (ends_old t p b beside) r e.line (map line_of es ++ last ∷ []) (page_lines g) h) (lines_renamed profile t p b text beside (behind_line r e.line) es last))

@@ -1,0 +1,3 @@
+-- The law of set.
+pub mod SetIsLawful
+pub mod SameCuts

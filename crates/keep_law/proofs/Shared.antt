@@ -1,0 +1,24 @@
+-- What the crates above build on, in one place.
+pub use Rattle.keep_law.proofs.Common.Runs.{AllOf, Allowed, Pairs, Rules, SomeOf, all_join, same_path-sound, says_allow}
+pub use Rattle.keep_law.proofs.Common.LineLaws.{EndsInKey}
+pub use Rattle.keep_law.proofs.Common.SetLaw.{IsAloneAt}
+pub use Rattle.keep_law.proofs.Remove.RemovePlace.{IsComma, IsEdged, IsInside, IsValueAt, same_place}
+pub use Rattle.keep_law.proofs.Rename.RenameNumber.{IsKeyRenamed, marks_told, rename_place_is, rename_placed}
+pub use Rattle.keep_law.proofs.Remove.RemoveLinePlace.{IsLow, is_high}
+pub use Rattle.keep_law.proofs.Remove.RemovePlaces.{IsPlaced, IsRemoved, removed}
+pub use Rattle.keep_law.proofs.Common.Doubles.{IsSaid, has_some}
+pub use Rattle.keep_law.proofs.Remove.RemoveSectionPlace.{IsSectionPlaced}
+pub use Rattle.keep_law.proofs.Values.ValuePlace.{IsValueOf, has_of_number, none_of_number, set_place, value_of_number}
+pub use Rattle.keep_law.proofs.Common.ValueThere.{alone_of_has, fact_past, some_cases}
+pub use Rattle.keep_law.proofs.Remove.ElementThere.{begun_alone}
+pub use Rattle.keep_law.proofs.Common.TableThere.{defined_ends}
+pub use Rattle.keep_law.proofs.Common.ValueNumber.{false_unless}
+pub use Rattle.keep_law.proofs.Set.SetIsLawful.{get_is_right}
+pub use Rattle.keep_law.proofs.Values.ValueFacts.{integer_at_leaf, leaf_of_integer, no_string, string_at_leaf, string_of_leaf}
+pub use Rattle.keep_law.proofs.Remove.RemoveRefusal.{lines_begun, never_begun, no_both}
+pub use Rattle.keep_law.proofs.Common.FromMarksLines.{path_ends}
+pub use Rattle.keep_law.proofs.EditLaws.{remove_lawful, rename_lawful, set_lawful}
+pub use Rattle.keep_law.proofs.Common.Marks.{rules_of_document}
+pub use Rattle.keep_law.proofs.Remove.KeyvalSays.{said_below, said_keyval}
+pub use Rattle.keep_law.proofs.Remove.RemoveWhole.{shared_define}
+pub use Rattle.keep_law.proofs.Values.ValueDepths.{too_deep_at}
