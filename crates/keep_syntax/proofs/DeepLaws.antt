@@ -13,10 +13,11 @@ use Rattle.keep_token.proofs.GapLaws.{tested}
 use Rattle.keep_syntax.specs.declared.info.Brackets.{Brackets}
 use Rattle.keep_syntax.specs.declared.info.Brackets.TheVariants as brackets
 use Rattle.keep_syntax.specs.Tree.{Written, Gap, Further, Key, Name, Body, scalar, array, inline, Entries, none, entry, Value, text_of, mark, further_leaves, key_leaves, name_leaves, named_leaves, opening, closing, comma_leaves, entries_leaves, value_leaves}
-use Rattle.keep_syntax.specs.Grammar.{IsSpace, IsBlank, IsKeyPart, IsFurther, IsKey, IsName, place_in, IsGap, IsNamed, IsBody, IsComma, AreEntries, IsValue}
+use Rattle.keep_syntax.specs.Grammar.{IsSpace, IsBlank, IsKeyPart, IsFurther, IsKey, IsName, place_in, IsGap, IsNamed, IsBody, IsComma, AreEntries, IsValue, ReadsValue}
 use Rattle.keep_syntax.specs.Deep.{is_opening, open_by, open_behind, IsDeepIn, IsValueTooDeep}
 use Rattle.keep_syntax.specs.Reading.{Bad, Deep, Read, ◌>>=◌, Turn, goes_on, ready, open_byte, close_byte, body_in, is_free, gap_in, name_of, join, Item, entry_of, named_in, after_by, item_by, turn_of, entry_by, entries_by, bracket_by, scalar_of, value_by, value_of, read_one_value}
 use Rattle.keep_syntax.proofs.LoopLaws.{bind_err, repeat_deep}
+use Rattle.keep_syntax.proofs.WholeLaws.{value_read}
 use Rattle.keep_syntax.proofs.SpaceLaws.{text_of-append, is_solid, place_of, gap_takes, gap_blank, space_blank}
 use Rattle.keep_syntax.proofs.KeyLaws.{first_is, name_not_deep}
 use Rattle.keep_syntax.proofs.ValueLaws.{item_leaves, entry_leaves, is_value_first, value_first_solid, Behind, ReadsValues, TookItem, named_takes, at_close, at_last, at_comma, entry_cases, bracket_valid, open_some, open_begins, value_takes}
@@ -361,15 +362,23 @@ goes_at limit text at all le g = record {
   deep = g.deep 0 ∙ omega arith;
 }
 
--- Where a value is told to be too deep, some value goes on so.
+-- Where a value is told to be too deep, some value goes on so, and none within the limit has the text.
 pub value_deep : (profile : Profile) (limit : ℕ) (text : List ℕ) (at : ℕ) → at ≤ length text → read_one_value profile limit text ≡ Err (Deep (drop at text)) → IsValueTooDeep profile limit text at
 unfolding read_one_value
 value_deep profile limit text at le h =
     elim (bind_err (value_of profile limit text) (λ v. cond (length v.1 == 0) (Ok v.0) (Err Bad)) (Deep (drop at text)) h) [
       | inr x ↦ absurd (not_deep (length x.0.1 == 0) x.0.0 x.2)
-      | inl k ↦ let d = value_deep_at profile limit text (drop at text) k in (d.value, d.valid, goes_at limit text at (value_leaves d.value) le d.goes)
+      | inl k ↦ let d = value_deep_at profile limit text (drop at text) k in record {
+        value = d.value;
+        valid = d.valid;
+        deep = goes_at limit text at (value_leaves d.value) le d.goes;
+        none_within = not_read;
+      }
     ]
   where
+    not_read : (v : Value) → ReadsValue profile limit text v → ⊥
+    not_read v r = let clash : Err (Deep (drop at text)) ≡ Ok v = sym h ∙ value_read profile limit text v r in cc
+
     not_deep : (b : Bool) (v : Value) → cond b (Ok v) (Err Bad) ≡ Err (Deep (drop at text)) → ⊥
     not_deep true v e = absurd cc
     not_deep false v e = absurd cc

@@ -8,14 +8,14 @@ use Rattle.keep_token.specs.declared.leaf.Leaf.TheVariants as leaf
 use Rattle.keep_token.specs.Scanning.{first, gap_at}
 use Rattle.keep_token.proofs.GapLaws.{tested, white, line, comment, nothing, gap_cases}
 use Rattle.keep_syntax.specs.Tree.{Written, Gap, Key, Content, blank, keyval, header, element, Line, Ended, Document, mark, key_leaves, name_leaves, value_leaves, content_leaves, comment_leaves, line_leaves, ended_leaves, bom_leaves, leaves, text}
-use Rattle.keep_syntax.specs.Grammar.{IsContent, IsAfter, IsComment, IsLine, IsEnded, IsDocument}
+use Rattle.keep_syntax.specs.Grammar.{IsContent, IsAfter, IsComment, IsLine, IsEnded, IsDocument, Reads}
 use Rattle.keep_syntax.specs.Deep.{open_by, IsTooDeep}
 use Rattle.keep_syntax.specs.Reading.{Bad, Deep, ◌>>=◌, Turn, goes_on, ready, space_at, key_of, name_of, value_of, is_line_end, keyval_of, header_by, element_by, content_at, after_of, line_by, line_at, Lines, newline_of, behind_line, ended_at, lines_of, has_bom, behind_bom, read_document}
 use Rattle.keep_syntax.proofs.LoopLaws.{bind_err, repeat_deep}
 use Rattle.keep_syntax.proofs.SpaceLaws.{space_takes}
 use Rattle.keep_syntax.proofs.KeyLaws.{key_not_deep, name_takes, name_not_deep}
 use Rattle.keep_syntax.proofs.DeepLaws.{Opens, none-append, opens-none, space_opens, keys_open, name_opens, value_opens, Goes, goes_in, value_deep_at, goes_at}
-use Rattle.keep_syntax.proofs.DocumentLaws.{lines_leaves, bom_parts, at_last, at_line, line_cases}
+use Rattle.keep_syntax.proofs.DocumentLaws.{lines_leaves, bom_parts, at_last, at_line, line_cases, document_read}
 
 -- ---- lines close what they open
 
@@ -219,6 +219,16 @@ document_deep_at profile limit bytes rest h =
           }
     ]
 
--- Where a document is told to be too deep, some document goes on so.
+-- Where a document is told to be too deep, some document goes on so, and none within the limit has the text.
 pub document_deep : (profile : Profile) (limit : ℕ) (bytes : List ℕ) (at : ℕ) → at ≤ length bytes → read_document profile limit bytes ≡ Err (Deep (drop at bytes)) → IsTooDeep profile limit bytes at
-document_deep profile limit bytes at le h = let d = document_deep_at profile limit bytes (drop at bytes) h in (d.document, d.valid, goes_at limit bytes at (leaves d.document) le d.goes)
+document_deep profile limit bytes at le h =
+    let d = document_deep_at profile limit bytes (drop at bytes) h in
+    record {
+      document = d.document;
+      valid = d.valid;
+      deep = goes_at limit bytes at (leaves d.document) le d.goes;
+      none_within = λ s r. not_read s r;
+    }
+  where
+    not_read : (s : Document) → Reads profile limit bytes s → ⊥
+    not_read s r = let clash : Err (Deep (drop at bytes)) ≡ Ok s = sym h ∙ document_read profile limit bytes s r in cc

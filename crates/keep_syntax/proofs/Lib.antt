@@ -12,6 +12,7 @@ pub mod LineLaws
 pub mod DocumentLaws
 pub mod DeepLineLaws
 pub mod WiderLaws
+pub mod ProfileTest
 pub mod CountLaws
 pub mod DepthLaws
 pub mod GapCodeLaws

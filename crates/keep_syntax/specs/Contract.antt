@@ -75,8 +75,8 @@ pub record IsValueSyntaxOf (s : ValueSyntax) (v : Value) : Type 0 where
 
 -- ---- faults
 
--- `Syntax` only where no document of any depth has the text, `TooDeep` only where some document goes on behind the
--- bracket at that place with as many brackets open as the limit allows.
+-- `Syntax` only where no document of any depth has the text, `TooDeep` only where no document within the limit has it, and up
+-- to the bracket at that place a deeper document could begin so.
 abbrev pub IsFaultOf : Profile → ℕ → List ℕ → ReadFault → Type 0
 IsFaultOf profile limit bytes faults.Memory = ⊤
 IsFaultOf profile limit bytes (faults.Syntax at what) = (d : Document) → IsDocument profile d → bytes ≡ text d → ⊥

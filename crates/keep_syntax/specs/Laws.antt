@@ -1,5 +1,5 @@
 -- What holds of every document and every value, whatever is read.
-use Rattle.std.specs.Prelude.{◌≡◌, ℕ, ◌+◌, ◌<◌, ◌≤◌, List, [], ◌∷◌, length, slice_range}
+use Rattle.std.specs.Prelude.{◌≡◌, ℕ, ◌+◌, ◌<◌, ◌≤◌, ◌↔◌, true, List, [], ◌∷◌, length, slice_range}
 use Rattle.std.specs.List.{flat_map}
 use Rattle.keep_token.specs.declared.leaf.Profile.{Profile}
 use Rattle.keep_token.specs.declared.leaf.Profile.TheVariants.{Strict, Wide}
@@ -7,6 +7,7 @@ use Rattle.keep_token.specs.declared.leaf.Leaf.TheVariants as leaf
 use Rattle.keep_syntax.specs.Tree.{Document, Value, text, value_text}
 use Rattle.keep_syntax.specs.Grammar.{IsDocument, IsValue, Reads, ReadsValue}
 use Rattle.keep_syntax.specs.Numbered.{Placed, tokens}
+use Rattle.keep_syntax.specs.Profiles.{is_allowed_in}
 
 -- At most one document has a given text.
 abbrev pub OneDocument : Type 0
@@ -22,6 +23,10 @@ WideReadsStrict = (limit : ℕ) (bytes : List ℕ) (d : Document) → Reads Stri
 
 abbrev pub WideReadsStrictValue : Type 0
 WideReadsStrictValue = (limit : ℕ) (bytes : List ℕ) (v : Value) → ReadsValue Strict limit bytes v → ReadsValue Wide limit bytes v
+
+-- Of the values of Wide's grammar, the test takes those of the profile's grammar and no other.
+abbrev pub ProfileIsTested : Type 0
+ProfileIsTested = (profile : Profile) (v : Value) → IsValue Wide v → (is_allowed_in profile v ≡ true) ↔ IsValue profile v
 
 -- The texts of a document's tokens joined are its text.
 abbrev pub TokensJoin : Type 0

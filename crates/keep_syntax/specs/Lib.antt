@@ -1,9 +1,11 @@
+pub mod Limit
 pub mod Tree
 pub mod Grammar
 pub mod Numbered
 pub mod Fits
 pub mod Deep
 pub mod Reading
+pub mod Profiles
 pub mod Starts
 pub mod Flat
 pub mod Cut

@@ -1,5 +1,9 @@
 use keep_token::{Leaf, Profile};
 
+/// How many arrays and inline tables may enclose one another, a value itself counted. It is `standard_depth` of
+/// `specs/Limit`, by the law `laws::standard_limits`.
+pub const STANDARD_DEPTH: u16 = 128;
+
 /// How deep arrays and inline tables may enclose one another, a value itself counted, and which language is read.
 #[derive(Clone, Copy, Debug, PartialEq, Eq)]
 pub struct Limits {
@@ -8,18 +12,22 @@ pub struct Limits {
 }
 
 impl Limits {
-    /// TOML v1.0.0, to a depth of 64.
+    /// TOML v1.0.0, to the standard depth.
     pub const STANDARD: Limits = Limits {
-        depth: 64,
+        depth: STANDARD_DEPTH,
         profile: Profile::Strict,
     };
 
     /// The same with this project's own additions.
     pub const WIDE: Limits = Limits {
-        depth: 64,
+        depth: STANDARD_DEPTH,
         profile: Profile::Wide,
     };
 }
+
+const _: () = prove!(Limits::STANDARD.depth == STANDARD_DEPTH);
+
+const _: () = prove!(Limits::WIDE.depth == STANDARD_DEPTH);
 
 /// The bytes `start..end` of the text.
 #[derive(Clone, Copy, Debug, PartialEq, Eq)]

@@ -1,5 +1,10 @@
 //! Laws of the grammar, each the contract of a function that does nothing.
+ghost use Rattle.std.specs.Prelude.{◌≡◌};
+ghost use Rattle.keep_token.specs.declared.leaf.Profile.TheVariants.{Strict, Wide};
 ghost use Rattle.keep_syntax.specs.Laws as spec;
+ghost use Rattle.keep_syntax.specs.Limit.{standard_depth};
+
+use crate::info::Limits;
 
 /// At most one document has a given text.
 pub fn one_document()
@@ -27,4 +32,15 @@ pub fn tokens_partition()
 pub fn token_bound()
     ensures few { spec.TokensAreFew }
     ensures reached { spec.TokensReachBound }
+{}
+
+/// Of the values of the grammar with this project's own additions, `is_allowed_in` finds those of each profile.
+pub fn profile_is_tested()
+    ensures { spec.ProfileIsTested }
+{}
+
+/// The standard limits are the standard depth, in each profile.
+pub fn standard_limits()
+    ensures strict { Limits.STANDARD ≡ record { depth = standard_depth; profile = Strict } }
+    ensures wide { Limits.WIDE ≡ record { depth = standard_depth; profile = Wide } }
 {}

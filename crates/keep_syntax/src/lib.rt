@@ -23,7 +23,8 @@ mod whole;
 pub use alone::ValueSyntax;
 pub use fault::{ReadFault, Why};
 pub use info::{
-    Brackets, KeyPart, Limits, Mark, Owner, Span, Start, Statement, StatementKind, Token, ValueInfo,
+    Brackets, KeyPart, Limits, Mark, Owner, STANDARD_DEPTH, Span, Start, Statement, StatementKind,
+    Token, ValueInfo,
 };
 pub use parts::Parts;
 pub use syntax::Syntax;

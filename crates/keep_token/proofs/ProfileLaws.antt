@@ -5,7 +5,7 @@ use Rattle.keep_token.specs.declared.leaf.Leaf.{Leaf}
 use Rattle.keep_token.specs.declared.leaf.Leaf.TheVariants as leaf
 use Rattle.keep_token.specs.declared.leaf.Profile.TheVariants.{Strict, Wide}
 use Rattle.keep_token.specs.Strings.{Piece, Plain, Letter, Number, Break, LineEnd, letter_value, digit_count, IsEscape, IsBasicPiece, IsMlBasicPiece, Each}
-use Rattle.keep_token.specs.Leaves.{IsLeaf}
+use Rattle.keep_token.specs.Leaves.{IsLeaf, Means}
 
 letter_wider : (c : ℕ) → 0 < letter_value Strict c → 0 < letter_value Wide c
 letter_wider c h = grind (arith, nat_tests)
@@ -45,3 +45,10 @@ leaf_wider leaf.LocalTime text h = inl h
 leaf_wider leaf.LocalDateTime text (a, b, e, date, (c, d, f, sep, time)) = (a, b, e, date, (c, d, f, sep, inl time))
 leaf_wider leaf.OffsetDateTime text (x, o, g, (a, b, e, date, (c, d, f, sep, time)), off) = (x, o, g, (a, b, e, date, (c, d, f, sep, inl time)), off)
 leaf_wider _ text h = h
+
+-- What a string means in Strict it means in Wide.
+pub means_wider : (l : Leaf) (text value : List ℕ) → Means Strict l text value → Means Wide l text value
+means_wider leaf.Basic text value (ps, h, e) = (ps, record { spelled = h.spelled; each = each_wider (IsBasicPiece Strict) (IsBasicPiece Wide) basic_wider ps h.each }, e)
+means_wider leaf.MlBasic text value (ps, h, e) =
+    (ps, record { spelled = h.spelled; each = each_wider (IsMlBasicPiece Strict) (IsMlBasicPiece Wide) ml_basic_wider ps h.each; no_end = h.no_end; whole = h.whole }, e)
+means_wider _ text value h = h
