@@ -12,18 +12,18 @@ use Rattle.keep_syntax.specs.Flat.{Flat}
 use Rattle.keep_syntax.specs.Grammar.{IsValue}
 use Rattle.keep_syntax.specs.Tree.{Value, value_text}
 use Rattle.keep_syntax.specs.Numbered.{info, inside_of, entries_values}
-use Rattle.keep_rules.specs.AllNodes.{Node}
+use Rattle.keep_nodes.specs.AllNodes.{Node}
 use Rattle.keep_rules.specs.declared.ways.Fault.{Fault}
-use Rattle.keep_rules.specs.Fact.{Fact}
-use Rattle.keep_rules.specs.Rules.{ObeysRules, IsFirstFaulty}
-use Rattle.keep_rules.specs.Marks as marks
-use Rattle.keep_rules.specs.Marks.{Mention}
-use Rattle.keep_rules.specs.Meaning.{body_fact, entries_said, value_said}
-use Rattle.keep_rules.specs.Faults.{parts_in}
+use Rattle.keep_meaning.specs.Fact.{Fact}
+use Rattle.keep_meaning.specs.Rules.{ObeysRules, IsFirstFaulty}
+use Rattle.keep_meaning.specs.Marks as marks
+use Rattle.keep_meaning.specs.Marks.{Mention}
+use Rattle.keep_meaning.specs.Meaning.{body_fact, entries_said, value_said}
+use Rattle.keep_meaning.specs.Faults.{parts_in}
 use Rattle.keep_rules.specs.Inside.{Turn, turns, holding_of, turns_said, value_inside}
-use Rattle.keep_rules.specs.Trie.{Twig, Holding}
+use Rattle.keep_nodes.specs.Trie.{Twig, Holding}
 use Rattle.keep_rules.specs.Tables.{is_tables}
-use Rattle.keep_rules.specs.Stored.{twigs}
+use Rattle.keep_nodes.specs.Stored.{twigs}
 use Rattle.keep_rules.specs.Reads.{IsValueNode, AreInside}
 use Rattle.keep_rules.specs.Roots.{IsRoot}
 use Rattle.keep_rules.specs.Stops.{FaultSays}
@@ -33,8 +33,7 @@ use Rattle.keep_rules.specs.ReadDocuments.{ValueObeys, IsValueRefusal, IsFaultAt
 use Rattle.keep_rules.proofs.FirstKeyLemmas.{turns_many, first_keys, StandFrom, say_turns}
 use Rattle.keep_rules.proofs.FlatValueLemmas.{alone_say}
 use Rattle.keep_rules.proofs.InsideLemmas.{value_turns-say}
-use Rattle.keep_rules.proofs.NumberLemmas.{length-entries_values}
-use Rattle.keep_rules.proofs.PlaceLemmas.{marked-parts_in}
+use Rattle.keep_meaning.proofs.Shared.{length-entries_values, marked-parts_in}
 use Rattle.keep_rules.proofs.PlanLemmas.{says_weaker}
 use Rattle.keep_rules.proofs.RootLemmas.{rooted_world, first_low, fault_stands}
 use Rattle.keep_rules.proofs.StopLemmas.{fault_is_first}

@@ -8,18 +8,18 @@ use Rattle.keep_rules.specs.declared.mark.Stop.{Stop}
 use Rattle.keep_rules.specs.declared.mark.Stop.TheVariants as stop
 use Rattle.keep_rules.specs.declared.ways.Fault.{Fault}
 use Rattle.keep_rules.specs.declared.ways.Fault.TheVariants as fault
-use Rattle.keep_rules.specs.declared.role.Role.TheVariants.{Define, Element, Value}
-use Rattle.keep_rules.specs.declared.node.Kind.{Kind}
-use Rattle.keep_rules.specs.declared.node.Place.TheVariants as place
-use Rattle.keep_rules.specs.AllNodes.{Node}
-use Rattle.keep_rules.specs.Fact.{Fact}
-use Rattle.keep_rules.specs.Path.{Part, key}
+use Rattle.keep_meaning.specs.declared.role.Role.TheVariants.{Define, Element, Value}
+use Rattle.keep_meaning.specs.declared.node.Kind.{Kind}
+use Rattle.keep_meaning.specs.declared.node.Place.TheVariants as place
+use Rattle.keep_nodes.specs.AllNodes.{Node}
+use Rattle.keep_meaning.specs.Fact.{Fact}
+use Rattle.keep_path.specs.Path.{Part, key}
 use Rattle.keep_rules.specs.Keys.{AreKeys, parts_of, key_texts, way_texts, last_text}
-use Rattle.keep_rules.specs.Marks.{Mention, define, header, element_header}
-use Rattle.keep_rules.specs.Nodes.{key_span}
-use Rattle.keep_rules.specs.Told.{named_info}
-use Rattle.keep_rules.specs.Trie.{Twig, Holding, by_key, path_at}
-use Rattle.keep_rules.specs.Stored.{twigs}
+use Rattle.keep_meaning.specs.Marks.{Mention, define, header, element_header}
+use Rattle.keep_meaning.specs.Nodes.{key_span}
+use Rattle.keep_nodes.specs.Told.{named_info}
+use Rattle.keep_nodes.specs.Trie.{Twig, Holding, by_key, path_at}
+use Rattle.keep_nodes.specs.Stored.{twigs}
 use Rattle.keep_rules.specs.Standing.{IsWorld, IsMarked, Begins, FaultIn, WasRefused}
 use Rattle.keep_rules.specs.Steps.{Walks, Dots, Gives}
 use Rattle.keep_rules.specs.Ways.{header_said, dotted_way}

@@ -3,14 +3,13 @@ use Rattle.std.proofs.Common.{◌≡◌, ◌≢◌, ℕ, suc, zero, ◌<◌, Lis
 use Rattle.std.specs.Prelude.{slice_get}
 use Rattle.std.specs.Option.{option_map}
 use Rattle.std.proofs.lemmas.Option.{slice_get-get_or, slice_get_within, get_or_from_slice_get}
-use Rattle.keep_rules.specs.AllNodes.{Node}
-use Rattle.keep_rules.specs.Path.{Part, key, index}
-use Rattle.keep_rules.specs.Nodes.{node_number}
-use Rattle.keep_rules.specs.Children.{Hung, Bare, Keyed, Listed, holds_of, named, child_ids, child_named, child_numbered}
-use Rattle.keep_rules.specs.Trie.{Twig, paths_of, path_at, children_of, by_key}
-use Rattle.keep_rules.specs.Stored.{step_at, twig_in, twigs, IsStored}
-use Rattle.keep_rules.proofs.TrieLemmas.{no_child}
-use Rattle.keep_rules.proofs.StoredLemmas.{length_twigs, keyed_step, count_named, key_found, key_missing, IsStoredChild, stored_child, node_placed}
+use Rattle.keep_nodes.specs.AllNodes.{Node}
+use Rattle.keep_path.specs.Path.{Part, key, index}
+use Rattle.keep_meaning.specs.Nodes.{node_number}
+use Rattle.keep_nodes.specs.Children.{Hung, Bare, Keyed, Listed, holds_of, named, child_ids, child_named, child_numbered}
+use Rattle.keep_nodes.specs.Trie.{Twig, paths_of, path_at, children_of, by_key}
+use Rattle.keep_nodes.specs.Stored.{step_at, twig_in, twigs, IsStored}
+use Rattle.keep_nodes.proofs.Shared.{no_child, length_twigs, keyed_step, count_named, key_found, key_missing, IsStoredChild, stored_child, node_placed}
 use Rattle.keep_rules.proofs.LookupLemmas.{number_none, number_some}
 
 -- ---- the children of one node

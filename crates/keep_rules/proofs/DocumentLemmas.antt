@@ -12,18 +12,18 @@ use Rattle.keep_syntax.specs.Contract.{statements_of}
 use Rattle.keep_syntax.specs.Flat.{Flat}
 use Rattle.keep_syntax.specs.Numbered as syntax
 use Rattle.keep_syntax.specs.Tree.{Document}
-use Rattle.keep_rules.specs.AllNodes.{Node}
+use Rattle.keep_nodes.specs.AllNodes.{Node}
 use Rattle.keep_rules.specs.declared.ways.Fault.{Fault}
-use Rattle.keep_rules.specs.Path.{Part}
-use Rattle.keep_rules.specs.Rules.{ObeysRules, IsFirstFaulty}
-use Rattle.keep_rules.specs.Marks as marks
-use Rattle.keep_rules.specs.Marks.{Mention, Reading, statement_mentions, next_reading, mentions, mentions_from, reading_after, start}
-use Rattle.keep_rules.specs.Meaning.{said_in}
-use Rattle.keep_rules.specs.Counts.{Count, Numbered, numbered_mentions, numbered_from, count_from, no_count, statements_in, numbered_in}
-use Rattle.keep_rules.specs.Nodes.{node_path, nodes_in, infos_in}
-use Rattle.keep_rules.specs.Trie.{Twig, by_key}
-use Rattle.keep_rules.specs.Stored.{twigs, telling}
-use Rattle.keep_rules.specs.Told.{Telling, root_telling, tell_all, ValuesAreNew}
+use Rattle.keep_path.specs.Path.{Part}
+use Rattle.keep_meaning.specs.Rules.{ObeysRules, IsFirstFaulty}
+use Rattle.keep_meaning.specs.Marks as marks
+use Rattle.keep_meaning.specs.Marks.{Mention, Reading, statement_mentions, next_reading, mentions, mentions_from, reading_after, start}
+use Rattle.keep_meaning.specs.Meaning.{said_in}
+use Rattle.keep_meaning.specs.Counts.{Count, Numbered, numbered_mentions, numbered_from, count_from, no_count, statements_in, numbered_in}
+use Rattle.keep_meaning.specs.Nodes.{node_path, nodes_in, infos_in}
+use Rattle.keep_nodes.specs.Trie.{Twig, by_key}
+use Rattle.keep_nodes.specs.Stored.{twigs, telling}
+use Rattle.keep_nodes.specs.Told.{Telling, root_telling, tell_all, ValuesAreNew}
 use Rattle.keep_rules.specs.Tells.{TellsTurn}
 use Rattle.keep_rules.specs.Reads.{IsReading}
 use Rattle.keep_rules.specs.Roots.{IsRoot}
@@ -31,12 +31,9 @@ use Rattle.keep_rules.specs.Stops.{FaultSays}
 use Rattle.keep_rules.specs.FlatStatements.{SaysStatement, IsCountBefore}
 use Rattle.keep_rules.specs.ReadStatements.{IsRead, IsReadAsSaid, BreaksAsSaid}
 use Rattle.keep_rules.specs.ReadDocuments.{WasRead, IsIndexOf, IsRefusal, IsFaultAt}
-use Rattle.keep_rules.proofs.BoundLaws.{nodes_few}
-use Rattle.keep_rules.proofs.CountLemmas.{said_in-statements, paths-nodes_in}
+use Rattle.keep_meaning.proofs.Shared.{nodes_few, said_in-statements, paths-nodes_in, count_from-keys, numbered_from-append, statements-count, marked-parts}
 use Rattle.keep_rules.proofs.FlatCountLemmas.{document_counts}
 use Rattle.keep_rules.proofs.FlatLineLemmas.{document_says}
-use Rattle.keep_rules.proofs.NumberLemmas.{count_from-keys, numbered_from-append, statements-count}
-use Rattle.keep_rules.proofs.PlaceLemmas.{marked-parts}
 use Rattle.keep_rules.proofs.PlanLemmas.{says_weaker}
 use Rattle.keep_rules.proofs.ReadLemmas.{IsReadTo, read_more, read_obeys, root_reads, mentions_from-append}
 use Rattle.keep_rules.proofs.RootLemmas.{first_low, fault_stands}

@@ -1,33 +1,17 @@
 -- Items and elements of the nodes as they are kept.
-use Rattle.std.proofs.Common.{◌≡◌, ℕ, ◌-◌, ◌<◌, true, false, List, [], ◌∷◌, ◌++◌, length, get_or, sym, ◌∙◌, ap, arith, Option, Some, None, Ok, Err}
-use Rattle.std.specs.Prelude.{Contains, IfOk, OnOk, IfSome, IfNone, Result}
+use Rattle.std.proofs.Common.{◌≡◌, ℕ, ◌-◌, ◌<◌, true, false, List, [], ◌∷◌, ◌++◌, length, get_or, sym, ◌∙◌, ap, arith}
+use Rattle.std.specs.Prelude.{Contains}
 use Rattle.std.proofs.lemmas.List.{length-map}
-use Rattle.keep_rules.specs.AllNodes.{Node, no_node, node_at}
-use Rattle.keep_rules.specs.Path.{Part, index}
-use Rattle.keep_rules.specs.Children.{holds_of, child_ids}
-use Rattle.keep_rules.specs.Trie.{by_index, paths_of, path_at, state_at, holds_at, children_of}
+use Rattle.keep_nodes.specs.AllNodes.{Node, no_node, node_at}
+use Rattle.keep_path.specs.Path.{Part, index}
+use Rattle.keep_nodes.specs.Children.{holds_of, child_ids}
+use Rattle.keep_nodes.specs.Trie.{by_index, paths_of, path_at, state_at, holds_at, children_of}
 use Rattle.keep_rules.specs.Tables.{is_tables, IsShaped}
 use Rattle.keep_rules.specs.Standing.{IsLastElement, HasNoElement}
-use Rattle.keep_rules.specs.Stored.{twig_in, twigs, IsStored}
+use Rattle.keep_nodes.specs.Stored.{twig_in, twigs, IsStored}
 use Rattle.keep_rules.proofs.TablesLemmas.{next_fresh, tables_listed}
 use Rattle.keep_rules.proofs.PassLemmas.{none_empty, none_plain}
-use Rattle.keep_rules.proofs.StoredLemmas.{keyed_node, role_read}
-
-pub if_ok : {T E : Type 0} (r : Result T E) (P Q : T → Type 0) → ((x : T) → P x → Q x) → IfOk r P → IfOk r Q
-if_ok (Ok x) P Q f h = f x h
-if_ok (Err e) P Q f h = h
-
-pub both_ok : {T E : Type 0} (r : Result T E) (P : Type 0) (Q R : T → Type 0) → (P → (x : T) → Q x → R x) → OnOk r P → IfOk r Q → IfOk r R
-both_ok (Ok x) P Q R f p q = f p x q
-both_ok (Err e) P Q R f p q = q
-
-pub if_some : {T : Type 0} (o : Option T) (P Q : T → Type 0) → ((x : T) → P x → Q x) → IfSome o P → IfSome o Q
-if_some (Some x) P Q f h = f x h
-if_some None P Q f h = h
-
-pub if_none : {T : Type 0} (o : Option T) (P Q : Type 0) → (P → Q) → IfNone o P → IfNone o Q
-if_none (Some x) P Q f h = h
-if_none None P Q f h = f h
+use Rattle.keep_nodes.proofs.Shared.{keyed_node, role_read}
 
 -- an array's next item
 pub item_fresh : (nodes : List Node) → IsStored nodes → IsShaped (twigs nodes) → (i : ℕ) → i < length nodes → holds_at (twigs nodes) i ≡ by_index

@@ -8,14 +8,14 @@ use Rattle.keep_syntax.specs.declared.info.ValueInfo.{ValueInfo}
 use Rattle.keep_syntax.specs.Flat.{Flat}
 use Rattle.keep_syntax.specs.Tree.{Name, Entries, none, entry}
 use Rattle.keep_syntax.specs.Numbered.{name_count, value_count, part_count, value_start, inside_of, rest_of, entries_values}
-use Rattle.keep_rules.specs.Fact.{Fact}
-use Rattle.keep_rules.specs.Meaning.{body_fact, further_value}
+use Rattle.keep_meaning.specs.Fact.{Fact}
+use Rattle.keep_meaning.specs.Meaning.{body_fact, further_value}
 use Rattle.keep_rules.specs.Inside.{Turn, entry_turn, turns}
 use Rattle.keep_rules.specs.FlatValues.{SaysTurn}
 use Rattle.keep_rules.specs.FirstKeys.{FirstKeys}
 use Rattle.keep_rules.specs.Plans.{EndsAt, SayTurns}
 use Rattle.keep_rules.specs.Took.{turn_keys, turns_keys, HasKeys}
-use Rattle.keep_rules.proofs.NumberLemmas.{length-entries_values}
+use Rattle.keep_meaning.proofs.Shared.{length-entries_values}
 
 entry_keys : (o : ℕ) (name : Option Name) (f : Fact) → turn_keys (entry_turn o name f) ≡ name_count name
 entry_keys o None f = refl

@@ -7,13 +7,12 @@ use Rattle.keep_syntax.specs.declared.info.Statement.{Statement}
 use Rattle.keep_syntax.specs.Tree.{Content, blank, keyval, header, element, Line, Ended, Document, line_leaves, ended_leaves}
 use Rattle.keep_syntax.specs.Numbered as syntax
 use Rattle.keep_syntax.specs.Numbered.{width, over_lines, line_statements, content_statements, content_parts, content_values, content_start, line_start, next_line, first_line}
-use Rattle.keep_rules.specs.Marks as marks
-use Rattle.keep_rules.specs.Marks.{Mention, Reading, statement_mentions, next_reading, start}
-use Rattle.keep_rules.specs.Meaning.{statement_of, line_of}
-use Rattle.keep_rules.specs.Counts.{Count, next_count, count_from, no_count, line_statement, statements_in}
+use Rattle.keep_meaning.specs.Marks as marks
+use Rattle.keep_meaning.specs.Marks.{Mention, Reading, statement_mentions, next_reading, start}
+use Rattle.keep_meaning.specs.Meaning.{statement_of, line_of}
+use Rattle.keep_meaning.specs.Counts.{Count, next_count, count_from, no_count, line_statement, statements_in}
 use Rattle.keep_rules.specs.FlatStatements.{IsCountBefore}
-use Rattle.keep_rules.proofs.PlaceLemmas.{marked-content}
-use Rattle.keep_rules.proofs.NumberLemmas.{valued, valued-content, count_after-keys, count_after-values, count_from-statements, statements-count}
+use Rattle.keep_meaning.proofs.Shared.{marked-content, valued, valued-content, count_after-keys, count_after-values, count_from-statements, statements-count}
 
 -- the key parts and values before a statement
 pub record Before (c : Count) (st : Statement) : Type 0 where

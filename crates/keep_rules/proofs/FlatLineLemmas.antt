@@ -14,19 +14,17 @@ use Rattle.keep_syntax.specs.Tree.{Written, Key, Name, Value, Content, blank, ke
 use Rattle.keep_syntax.specs.Grammar.{IsValue, IsContent, IsLine, IsEnded, IsDocument}
 use Rattle.keep_syntax.specs.Numbered as syntax
 use Rattle.keep_syntax.specs.Numbered.{width, key_parts, key_count, value_count, info, inside_of, inside_start, entries_parts, entries_values, Count, content_start, line_start, content_parts, content_values, content_statements, line_parts, line_values, line_statements, next_line, first_line, over_lines}
-use Rattle.keep_rules.specs.Counts.{line_statement, statements_in}
+use Rattle.keep_meaning.specs.Counts.{line_statement, statements_in}
 use Rattle.keep_rules.specs.FirstKeys.{FirstKeys}
 use Rattle.keep_rules.specs.FlatStatements.{LineStarts, SaysKeys, SaysStatement}
 use Rattle.keep_rules.specs.FlatValues.{SaysTurn, SayKeyval}
 use Rattle.keep_rules.specs.Inside.{turns}
-use Rattle.keep_rules.specs.Keys.{keys_in}
-use Rattle.keep_rules.specs.Marks as marks
-use Rattle.keep_rules.specs.Meaning.{keys_of, keyval_said, statement_of, line_of}
+use Rattle.keep_meaning.specs.KeyText.{keys_in}
+use Rattle.keep_meaning.specs.Marks as marks
+use Rattle.keep_meaning.specs.Meaning.{keys_of, keyval_said, statement_of, line_of}
 use Rattle.keep_rules.proofs.FirstKeyLemmas.{first_keys}
 use Rattle.keep_rules.proofs.FlatValueLemmas.{keyval_say}
-use Rattle.keep_rules.proofs.KeyPartLemmas.{IsPart, part_whole, part_left, part_right, part_placed, part_ends, part_taken, Spelled, spelled_left, keys_say, keys_within}
-use Rattle.keep_rules.proofs.LinePlaceLemmas.{head_spelled, content_spelled, LinesSpelled, line_spelled, next_spelled, lines_spelled}
-use Rattle.keep_rules.proofs.NumberLemmas.{length-entries_values}
+use Rattle.keep_meaning.proofs.Shared.{IsPart, part_whole, part_left, part_right, part_placed, part_ends, part_taken, Spelled, spelled_left, keys_say, keys_within, head_spelled, content_spelled, LinesSpelled, line_spelled, next_spelled, lines_spelled, length-entries_values}
 
 -- ---- by number
 

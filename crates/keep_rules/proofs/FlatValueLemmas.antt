@@ -14,13 +14,12 @@ use Rattle.keep_syntax.specs.Tree.{Written, Name, mark, key_leaves, Body, scalar
 use Rattle.keep_syntax.specs.Grammar.{Place, in_scalar, in_array, in_inline, place_in, IsNamed, IsBody, AreEntries, IsValue}
 use Rattle.keep_syntax.specs.Contract.{alone, parts_alone, values_alone}
 use Rattle.keep_syntax.specs.Numbered.{width, key_parts, named_parts, key_count, name_count, value_start, entries_parts, value_count, leaf_of, info, owner_in, inside_of, rest_of, entries_values, content_parts, content_values}
-use Rattle.keep_rules.specs.Fact.{Fact}
-use Rattle.keep_rules.specs.Meaning.{scalar_fact, body_fact}
+use Rattle.keep_meaning.specs.Fact.{Fact}
+use Rattle.keep_meaning.specs.Meaning.{scalar_fact, body_fact}
 use Rattle.keep_rules.specs.Inside.{turn_fact, entry_turn, turns}
 use Rattle.keep_rules.specs.FlatValues.{LeafTells, SaysTurn, IsOwned, OwnsEntries, IsInside, SayKeyval, SayAlone}
 use Rattle.keep_rules.proofs.InsideLemmas.{fact_is}
-use Rattle.keep_rules.proofs.PlaceLemmas.{length-named, length-entries_parts}
-use Rattle.keep_rules.proofs.KeyPartLemmas.{IsPart, part_whole, part_left, part_right, part_placed, Spelled, spelled_left, spelled_right, keys_say, keys_within, length-key_parts}
+use Rattle.keep_meaning.proofs.Shared.{length-named, length-entries_parts, IsPart, part_whole, part_left, part_right, part_placed, Spelled, spelled_left, spelled_right, keys_say, keys_within, length-key_parts}
 
 all_zip-append : {A B : Type 0} (R : A → B → Type 0) (xs zs : List A) (ys ws : List B) → AllZip R xs ys → AllZip R zs ws → AllZip R (xs ++ zs) (ys ++ ws)
 all_zip-append R [] zs [] ws h g = g

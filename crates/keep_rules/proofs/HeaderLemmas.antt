@@ -8,25 +8,26 @@ use Rattle.keep_syntax.specs.declared.info.StatementKind.TheVariants.{KeyVal, He
 use Rattle.keep_syntax.specs.declared.info.ValueInfo.{ValueInfo}
 use Rattle.keep_syntax.specs.Flat.{Flat}
 use Rattle.keep_rules.specs.declared.keys.Keys.{Keys}
-use Rattle.keep_rules.specs.AllNodes.{Node}
+use Rattle.keep_nodes.specs.AllNodes.{Node}
 use Rattle.keep_rules.specs.declared.ways.Fault.{Fault}
-use Rattle.keep_rules.specs.Path.{Part, key, index}
-use Rattle.keep_rules.specs.Marks as marks
-use Rattle.keep_rules.specs.Marks.{Mention, Reading, statement_mentions, header_way, header_path, passing_mentions, entered_path, elements_of, define, element, begun}
-use Rattle.keep_rules.specs.Counts.{Count, is_value, numbered_mentions, count_behind}
-use Rattle.keep_rules.specs.Nodes.{paths_with}
-use Rattle.keep_rules.specs.Keys.{keys_in, AreKeysAt, key_texts}
-use Rattle.keep_rules.specs.Stored.{twigs}
+use Rattle.keep_path.specs.Path.{Part, key, index}
+use Rattle.keep_meaning.specs.Marks as marks
+use Rattle.keep_meaning.specs.Marks.{Mention, Reading, statement_mentions, header_way, header_path, passing_mentions, entered_path, elements_of, define, element, begun}
+use Rattle.keep_meaning.specs.Counts.{Count, is_value, numbered_mentions, count_behind}
+use Rattle.keep_meaning.specs.Nodes.{paths_with}
+use Rattle.keep_rules.specs.Keys.{AreKeysAt, key_texts}
+use Rattle.keep_meaning.specs.KeyText.{keys_in}
+use Rattle.keep_nodes.specs.Stored.{twigs}
 use Rattle.keep_rules.specs.Reads.{Reads, FaultsIn}
 use Rattle.keep_rules.specs.Standing.{FaultIn}
 use Rattle.keep_rules.specs.Statements.{header_of}
 use Rattle.keep_rules.specs.Stops.{FaultSays}
 use Rattle.keep_rules.specs.Tells.{StatementTells}
-use Rattle.keep_rules.specs.Told.{ValuesAreNew}
+use Rattle.keep_nodes.specs.Told.{ValuesAreNew}
 use Rattle.keep_rules.specs.FlatStatements.{SaysKeys, SaysStatement}
 use Rattle.keep_rules.specs.Plans.{AreReadable, fault_from}
 use Rattle.keep_rules.specs.ReadStatements.{head_of, HasReading, IsRead, IsReadAsSaid, BreaksAsSaid}
-use Rattle.keep_rules.proofs.PlaceLemmas.{marked, marked-append, marked-way}
+use Rattle.keep_meaning.proofs.Shared.{marked, marked-append, marked-way}
 use Rattle.keep_rules.proofs.PlanLemmas.{says_weaker, says_from, fault_low}
 use Rattle.keep_rules.proofs.KeyLemmas.{length-keys_in}
 

@@ -3,12 +3,12 @@ use Rattle.std.proofs.Common.{◌≡◌, ℕ, suc, ◌+◌, ◌<◌, List, [], �
 use Rattle.std.proofs.lemmas.List.{append_assoc, append-nil, map-append, get_or_append_left, get_or_push, get_or-set_same, get_or-set_other, length-set}
 use Rattle.keep_syntax.specs.Tree.{Name, Entries, none, entry, Value}
 use Rattle.keep_syntax.specs.Numbered.{value_count}
-use Rattle.keep_rules.specs.Fact.{Fact}
-use Rattle.keep_rules.specs.Path.{Part, key, index}
-use Rattle.keep_rules.specs.Marks as marks
-use Rattle.keep_rules.specs.Marks.{Mention, below}
-use Rattle.keep_rules.specs.Meaning.{key_value, further_value, keys_of, body_fact, keyed_mentions, entry_mentions, entries_said, keyval_said}
-use Rattle.keep_rules.specs.Trie.{Holding, nothing, by_key}
+use Rattle.keep_meaning.specs.Fact.{Fact}
+use Rattle.keep_path.specs.Path.{Part, key, index}
+use Rattle.keep_meaning.specs.Marks as marks
+use Rattle.keep_meaning.specs.Marks.{Mention, below}
+use Rattle.keep_meaning.specs.Meaning.{key_value, further_value, keys_of, body_fact, keyed_mentions, entry_mentions, entries_said, keyval_said}
+use Rattle.keep_nodes.specs.Trie.{Holding, nothing, by_key}
 use Rattle.keep_rules.specs.Inside.{Turn, turn_keyed, holding_of, entry_turn, turns, Inside, path_of_value, entries_of_value, holding_of_value, turn_said, turn_path, turn_owner, turn_fact, next_inside, turns_said, inside_after, body_inside, value_inside, keyval_turns}
 use Rattle.keep_rules.proofs.WayLemmas.{below-below}
 

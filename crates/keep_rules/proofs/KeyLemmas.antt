@@ -7,19 +7,20 @@ use Rattle.keep_syntax.specs.declared.info.Span.{Span}
 use Rattle.keep_syntax.specs.declared.info.KeyPart.{KeyPart}
 use Rattle.keep_syntax.specs.declared.fault.Why.TheVariants.{NotATable, NotByDots}
 use Rattle.keep_rules.specs.declared.keys.Keys.{Keys}
-use Rattle.keep_rules.specs.declared.role.Role.TheVariants.{Through, Dotted}
-use Rattle.keep_rules.specs.Path.{Part, key}
-use Rattle.keep_rules.specs.KeyText.{part_text}
-use Rattle.keep_rules.specs.Keys.{keys_in, AreKeys, parts_of, key_texts, key_text_at, way_texts, last_text}
-use Rattle.keep_rules.specs.declared.node.Kind.TheVariants as kind
-use Rattle.keep_rules.specs.declared.node.Place.TheVariants as place
-use Rattle.keep_rules.specs.AllNodes.{Node}
-use Rattle.keep_rules.specs.Marks.{Mention, passing_mentions}
-use Rattle.keep_rules.specs.Nodes.{key_span}
-use Rattle.keep_rules.specs.Told.{named_info}
-use Rattle.keep_rules.specs.Stored.{twigs}
+use Rattle.keep_meaning.specs.declared.role.Role.TheVariants.{Through, Dotted}
+use Rattle.keep_path.specs.Path.{Part, key}
+use Rattle.keep_meaning.specs.KeyText.{part_text}
+use Rattle.keep_rules.specs.Keys.{AreKeys, parts_of, key_texts, key_text_at, way_texts, last_text}
+use Rattle.keep_meaning.specs.KeyText.{keys_in}
+use Rattle.keep_meaning.specs.declared.node.Kind.TheVariants as kind
+use Rattle.keep_meaning.specs.declared.node.Place.TheVariants as place
+use Rattle.keep_nodes.specs.AllNodes.{Node}
+use Rattle.keep_meaning.specs.Marks.{Mention, passing_mentions}
+use Rattle.keep_meaning.specs.Nodes.{key_span}
+use Rattle.keep_nodes.specs.Told.{named_info}
+use Rattle.keep_nodes.specs.Stored.{twigs}
 use Rattle.keep_rules.specs.Tells.{TellsOne, HeaderTells, KeyTells, WayTells}
-use Rattle.keep_rules.specs.Trie.{Twig, by_key, path_at}
+use Rattle.keep_nodes.specs.Trie.{Twig, by_key, path_at}
 use Rattle.keep_rules.specs.Standing.{IsWorld, IsMarked, Passes, WasRefused, HasNoElement, FaultIn}
 use Rattle.keep_rules.specs.Steps.{Walks, Dots}
 use Rattle.keep_rules.specs.Ways.{header_said, dotted_way}

@@ -10,29 +10,30 @@ use Rattle.keep_syntax.specs.Flat.{Flat}
 use Rattle.keep_syntax.specs.Tree.{Name, Value}
 use Rattle.keep_syntax.specs.Numbered.{value_count}
 use Rattle.keep_rules.specs.declared.keys.Keys.{Keys}
-use Rattle.keep_rules.specs.declared.node.Kind.{Kind}
-use Rattle.keep_rules.specs.AllNodes.{Node}
-use Rattle.keep_rules.specs.declared.role.Role.{Role}
-use Rattle.keep_rules.specs.declared.role.Role.TheVariants.{Element}
+use Rattle.keep_meaning.specs.declared.node.Kind.{Kind}
+use Rattle.keep_nodes.specs.AllNodes.{Node}
+use Rattle.keep_meaning.specs.declared.role.Role.{Role}
+use Rattle.keep_meaning.specs.declared.role.Role.TheVariants.{Element}
 use Rattle.keep_rules.specs.declared.ways.Fault.{Fault}
-use Rattle.keep_rules.specs.Fact.{Fact, array}
-use Rattle.keep_rules.specs.Path.{Part}
-use Rattle.keep_rules.specs.Rules.{allows}
-use Rattle.keep_rules.specs.Marks as marks
-use Rattle.keep_rules.specs.Marks.{Mention, Reading, statement_mentions, below}
-use Rattle.keep_rules.specs.Meaning.{keys_of, body_fact, keyval_said}
-use Rattle.keep_rules.specs.Counts.{Count, numbered_mentions}
-use Rattle.keep_rules.specs.Keys.{keys_in, AreKeysAt, AreKeys, key_texts, way_texts, last_text}
+use Rattle.keep_meaning.specs.Fact.{Fact, array}
+use Rattle.keep_path.specs.Path.{Part}
+use Rattle.keep_meaning.specs.Rules.{allows}
+use Rattle.keep_meaning.specs.Marks as marks
+use Rattle.keep_meaning.specs.Marks.{Mention, Reading, statement_mentions, below}
+use Rattle.keep_meaning.specs.Meaning.{keys_of, body_fact, keyval_said}
+use Rattle.keep_meaning.specs.Counts.{Count, numbered_mentions}
+use Rattle.keep_rules.specs.Keys.{AreKeysAt, AreKeys, key_texts, way_texts, last_text}
+use Rattle.keep_meaning.specs.KeyText.{keys_in}
 use Rattle.keep_rules.specs.Inside.{Inside, Turn, turn_keyed, turns, turn_said, turns_said, next_inside, body_inside, keyval_turns}
-use Rattle.keep_rules.specs.Trie.{Twig, Holding, by_key, by_index, path_at, state_at}
+use Rattle.keep_nodes.specs.Trie.{Twig, Holding, by_key, by_index, path_at, state_at}
 use Rattle.keep_rules.specs.Tables.{is_tables, IsShaped}
-use Rattle.keep_rules.specs.Stored.{twigs, telling}
+use Rattle.keep_nodes.specs.Stored.{twigs, telling}
 use Rattle.keep_rules.specs.Standing.{IsWorld, IsOpen, FaultIn}
 use Rattle.keep_rules.specs.Steps.{Gives}
 use Rattle.keep_rules.specs.Reads.{IsValueNode, AreInside}
 use Rattle.keep_rules.specs.Stops.{FaultSays}
 use Rattle.keep_rules.specs.Tells.{KeyedTells, TellsTurn}
-use Rattle.keep_rules.specs.Told.{tell_all, ValuesAreNew}
+use Rattle.keep_nodes.specs.Told.{tell_all, ValuesAreNew}
 use Rattle.keep_rules.specs.Took.{Took}
 use Rattle.keep_rules.specs.FlatValues.{leaf_kind, leaf_holding}
 use Rattle.keep_rules.specs.FlatStatements.{SaysKeyvalOf, SaysStatement}

@@ -9,14 +9,14 @@ use Rattle.std.proofs.lemmas.List.Sums.{fold-append}
 use Rattle.std.proofs.lemmas.List.Folds.{list_all_at}
 use Rattle.std.proofs.lemmas.List.Quantifiers.{all_pairs_push}
 use Rattle.std.proofs.lemmas.Bool.{cases_lt, cases_eq, cases_Bool}
-use Rattle.keep_rules.specs.declared.role.Role.{Role}
-use Rattle.keep_rules.specs.Path.{Part, same_path}
-use Rattle.keep_rules.specs.Rules.{Mark, allows, Allows, ObeysRules, IsRefused}
-use Rattle.keep_rules.specs.Marks.{Mention, marks, mark_of, with_path, role_of}
-use Rattle.keep_rules.specs.Nodes.{paths_with, node_paths, says_at}
+use Rattle.keep_meaning.specs.declared.role.Role.{Role}
+use Rattle.keep_path.specs.Path.{Part, same_path}
+use Rattle.keep_meaning.specs.Rules.{Mark, allows, Allows, ObeysRules, IsRefused}
+use Rattle.keep_meaning.specs.Marks.{Mention, marks, mark_of, with_path, role_of}
+use Rattle.keep_meaning.specs.Nodes.{paths_with, node_paths, says_at}
 use Rattle.keep_rules.specs.Known.{roles_said, Knows}
-use Rattle.keep_rules.specs.State.{IsState}
-use Rattle.keep_rules.proofs.PathLemmas.{path_decides}
+use Rattle.keep_meaning.specs.State.{IsState}
+use Rattle.keep_path.proofs.Shared.{path_decides}
 
 pub one_place : (paths : List (List Part)) → AllPairs (λ p q. p ≢ q) paths → (i j : ℕ) → i < length paths → j < length paths → get_or paths i [] ≡ get_or paths j [] → i ≡ j
 one_place paths distinct i j h g same =

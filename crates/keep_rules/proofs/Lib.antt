@@ -1,61 +1,40 @@
-pub mod ByteLaws
-pub mod PathLemmas
-pub mod PathTextLaws
-pub mod FaultLemmas
-pub mod CountLemmas
-pub mod PlaceLemmas
-pub mod PartLemmas
-pub mod NumberLemmas
-pub mod Rows
-pub mod PathReadLaws
-pub mod FirstIndexLaws
-pub mod IndexLaws
-pub mod ReadLaws
-pub mod TrieLemmas
-pub mod GrowthLemmas
-pub mod KnownLemmas
-pub mod TablesLemmas
-pub mod MarkLemmas
-pub mod PassLemmas
-pub mod WayLemmas
-pub mod StepLemmas
-pub mod InsideLemmas
-pub mod TurnLemmas
-pub mod StopLemmas
-pub mod ReadLemmas
-pub mod NameLemmas
-pub mod StoredLemmas
-pub mod LookupLemmas
-pub mod ChildLemmas
-pub mod ClimbLemmas
-pub mod QueryLemmas
-pub mod ElementLemmas
-pub mod SuitLemmas
-pub mod FactLemmas
-pub mod ToldLemmas
-pub mod KeptLemmas
-pub mod ToldNodeLemmas
-pub mod ToldAllLemmas
-pub mod KeyPartLemmas
-pub mod FlatValueLemmas
-pub mod BoundLaws
-pub mod DecodeLaws
-pub mod KeyTextLemmas
-pub mod TookLemmas
-pub mod LinePlaceLemmas
-pub mod KeyPlaceLemmas
-pub mod FlatCountLemmas
-pub mod FlatLineLemmas
-pub mod KeyLemmas
-pub mod TellLemmas
-pub mod TellWayLemmas
-pub mod BuildLemmas
-pub mod PlanLemmas
-pub mod UnderwayLemmas
-pub mod FirstKeyLemmas
-pub mod HeaderLemmas
-pub mod KeyvalLemmas
-pub mod RootLemmas
-pub mod AloneLemmas
-pub mod DocumentLemmas
-pub mod RefusalLaws
+mod PartLemmas
+mod KnownLemmas
+mod TablesLemmas
+mod MarkLemmas
+mod PassLemmas
+mod WayLemmas
+mod StepLemmas
+mod InsideLemmas
+mod TurnLemmas
+mod StopLemmas
+mod ReadLemmas
+mod LookupLemmas
+mod ChildLemmas
+mod ClimbLemmas
+mod PathStepLemmas
+mod QueryLemmas
+mod OutcomeLemmas
+mod ElementLemmas
+mod SuitLemmas
+mod ToldLemmas
+mod ToldNodeLemmas
+mod ToldAllLemmas
+mod FlatValueLemmas
+mod TookLemmas
+mod FlatCountLemmas
+mod FlatLineLemmas
+mod KeyLemmas
+mod TellLemmas
+mod TellWayLemmas
+mod BuildLemmas
+mod PlanLemmas
+mod UnderwayLemmas
+mod FirstKeyLemmas
+mod HeaderLemmas
+mod KeyvalLemmas
+mod RootLemmas
+mod AloneLemmas
+mod DocumentLemmas
+mod RefusalLaws
+pub mod Shared

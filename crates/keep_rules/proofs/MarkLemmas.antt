@@ -2,19 +2,19 @@
 use Rattle.std.proofs.Common.{◌≡◌, ℕ, ◌<◌, Bool, true, false, ◌&&◌, List, [], ◌∷◌, ◌++◌, length, get_or, refl, sym, ◌∙◌, ap, subst, arith, Option, Some, None}
 use Rattle.std.specs.Prelude.{IsSome}
 use Rattle.std.specs.List.{list_all, cons_option}
-use Rattle.keep_rules.specs.declared.role.Role.{Role}
-use Rattle.keep_rules.specs.declared.role.Role.TheVariants.{Through, Past, Define, Element, Dotted, Value}
-use Rattle.keep_rules.specs.Path.{Part, key}
-use Rattle.keep_rules.specs.Rules.{allows}
-use Rattle.keep_rules.specs.Marks.{Mention}
-use Rattle.keep_rules.specs.Trie.{Twig, Holding, by_key, by_index, paths_of, path_at, states_of, state_at, holds_at, children_of}
-use Rattle.keep_rules.specs.Growth.{Grows, Restates}
-use Rattle.keep_rules.specs.State.{IsState}
+use Rattle.keep_meaning.specs.declared.role.Role.{Role}
+use Rattle.keep_meaning.specs.declared.role.Role.TheVariants.{Through, Past, Define, Element, Dotted, Value}
+use Rattle.keep_path.specs.Path.{Part, key}
+use Rattle.keep_meaning.specs.Rules.{allows}
+use Rattle.keep_meaning.specs.Marks.{Mention}
+use Rattle.keep_nodes.specs.Trie.{Twig, Holding, by_key, by_index, paths_of, path_at, states_of, state_at, holds_at, children_of}
+use Rattle.keep_nodes.specs.Growth.{Grows, Restates}
+use Rattle.keep_meaning.specs.State.{IsState}
 use Rattle.keep_rules.specs.Known.{roles_said, Knows, IsIndexOf}
 use Rattle.keep_rules.specs.Tables.{is_tables, Fits, IsShaped}
 use Rattle.keep_rules.specs.Standing.{Keeps, KeepsItems, IsMarked, WasRefused}
-use Rattle.keep_rules.proofs.TrieLemmas.{length-paths_of, none_hang}
-use Rattle.keep_rules.proofs.TablesLemmas.{Joins, first, longer, path_below, path_last, state_below, state_last, holds_below, holds_last, children_other, key_plain, shaped_grown, tables_joined, begun_joined, begun_others, state_same, kind_same, holds_same, tables_restated, shaped_restated, begun_again, kind_kept, kind_made}
+use Rattle.keep_nodes.proofs.Shared.{length-paths_of, none_hang, first, longer, path_below, path_last, state_below, state_last, holds_below, holds_last, children_other}
+use Rattle.keep_rules.proofs.TablesLemmas.{Joins, key_plain, shaped_grown, tables_joined, begun_joined, begun_others, state_same, kind_same, holds_same, tables_restated, shaped_restated, begun_again, kind_kept, kind_made}
 use Rattle.keep_rules.proofs.KnownLemmas.{known_new, known_again, refused, obeys_push}
 
 pub knows_along : (ps qs : List (List Part)) (ss ts : List (Option Role)) (ms : List Mention) → ps ≡ qs → ss ≡ ts → Knows qs ts ms → Knows ps ss ms

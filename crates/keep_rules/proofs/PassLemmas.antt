@@ -6,19 +6,19 @@ use Rattle.std.proofs.lemmas.List.{append-nil, append_assoc}
 use Rattle.std.proofs.lemmas.List.Folds.{list_all-append}
 use Rattle.std.proofs.lemmas.Bool.Decides.{Decides-eqb}
 use Rattle.std.proofs.lemmas.Bool.{cases_Bool}
-use Rattle.keep_rules.specs.declared.role.Role.{Role}
-use Rattle.keep_rules.specs.declared.role.Role.TheVariants.{Through, Past, Define, Element, Dotted, Value}
-use Rattle.keep_rules.specs.Path.{Part, key, index}
-use Rattle.keep_rules.specs.Rules.{allows}
-use Rattle.keep_rules.specs.Marks.{through, past, passed, Mention, elements_of, passing_mentions, entered_path}
-use Rattle.keep_rules.specs.Trie.{Twig, Holding, by_key, by_index, IsTrie, paths_of, path_at, states_of, state_at, holds_at, children_of}
-use Rattle.keep_rules.specs.State.{IsState}
+use Rattle.keep_meaning.specs.declared.role.Role.{Role}
+use Rattle.keep_meaning.specs.declared.role.Role.TheVariants.{Through, Past, Define, Element, Dotted, Value}
+use Rattle.keep_path.specs.Path.{Part, key, index}
+use Rattle.keep_meaning.specs.Rules.{allows}
+use Rattle.keep_meaning.specs.Marks.{through, past, passed, Mention, elements_of, passing_mentions, entered_path}
+use Rattle.keep_nodes.specs.Trie.{Twig, Holding, by_key, by_index, IsTrie, paths_of, path_at, states_of, state_at, holds_at, children_of}
+use Rattle.keep_meaning.specs.State.{IsState}
 use Rattle.keep_rules.specs.Tables.{is_tables, Fits, IsShaped}
 use Rattle.keep_rules.specs.Known.{roles_said, Knows, IsIndexOf}
 use Rattle.keep_rules.specs.Standing.{Keeps, IsMarked, IsWorld, Passes, IsLastElement, HasNoElement}
-use Rattle.keep_rules.proofs.TrieLemmas.{length-paths_of, child_at}
+use Rattle.keep_nodes.proofs.Shared.{length-paths_of, child_at, first}
 use Rattle.keep_rules.proofs.KnownLemmas.{known_same, obeys_push, obeys_bare, false_ne}
-use Rattle.keep_rules.proofs.TablesLemmas.{first, tables_listed}
+use Rattle.keep_rules.proofs.TablesLemmas.{tables_listed}
 use Rattle.keep_rules.proofs.MarkLemmas.{state_known}
 
 -- what a header says of a path without elements, and of one with some

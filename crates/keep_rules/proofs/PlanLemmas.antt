@@ -8,20 +8,21 @@ use Rattle.keep_syntax.specs.declared.info.KeyPart.{KeyPart}
 use Rattle.keep_syntax.specs.declared.info.Owner.TheVariants as owner
 use Rattle.keep_syntax.specs.declared.info.ValueInfo.{ValueInfo}
 use Rattle.keep_syntax.specs.Flat.{Flat}
-use Rattle.keep_rules.specs.declared.node.Kind.{Kind}
-use Rattle.keep_rules.specs.AllNodes.{Node}
+use Rattle.keep_meaning.specs.declared.node.Kind.{Kind}
+use Rattle.keep_nodes.specs.AllNodes.{Node}
 use Rattle.keep_rules.specs.declared.keys.Keys.{Keys}
 use Rattle.keep_rules.specs.declared.ways.Fault.{Fault}
 use Rattle.keep_rules.specs.declared.ways.Fault.TheVariants as fault
-use Rattle.keep_rules.specs.Fact.{Fact}
-use Rattle.keep_rules.specs.Path.{Part}
-use Rattle.keep_rules.specs.Keys.{keys_in, AreKeysAt, AreKeys, key_texts, way_texts, last_text}
-use Rattle.keep_rules.specs.Marks as marks
-use Rattle.keep_rules.specs.Marks.{Mention, mark_of}
-use Rattle.keep_rules.specs.Counts.{Count}
+use Rattle.keep_meaning.specs.Fact.{Fact}
+use Rattle.keep_path.specs.Path.{Part}
+use Rattle.keep_rules.specs.Keys.{AreKeysAt, AreKeys, key_texts, way_texts, last_text}
+use Rattle.keep_meaning.specs.KeyText.{keys_in}
+use Rattle.keep_meaning.specs.Marks as marks
+use Rattle.keep_meaning.specs.Marks.{Mention, mark_of}
+use Rattle.keep_meaning.specs.Counts.{Count}
 use Rattle.keep_rules.specs.Inside.{Inside, Turn, turn_item, turn_keyed, path_of_value, turn_said}
-use Rattle.keep_rules.specs.Trie.{Twig, Holding, path_at, children_of}
-use Rattle.keep_rules.specs.Stored.{twigs, telling}
+use Rattle.keep_nodes.specs.Trie.{Twig, Holding, path_at, children_of}
+use Rattle.keep_nodes.specs.Stored.{twigs, telling}
 use Rattle.keep_rules.specs.Standing.{IsWorld, FaultIn}
 use Rattle.keep_rules.specs.Steps.{AddsItem, Gives}
 use Rattle.keep_rules.specs.Reads.{IsValueNode, AreInside}

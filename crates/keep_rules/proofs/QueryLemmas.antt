@@ -6,16 +6,15 @@ use Rattle.std.proofs.lemmas.List.{length-map, get_or-map, take-append-drop, tak
 use Rattle.std.proofs.lemmas.Option.{slice_get-get_or, slice_get_within, get_or_from_slice_get, option_and_then_some}
 use Rattle.std.proofs.Math.Seq.{take-suc}
 use Rattle.keep_rules.specs.declared.index.NodeId.{NodeId}
-use Rattle.keep_rules.specs.AllNodes.{Node, no_node, node_at}
-use Rattle.keep_rules.specs.declared.node.NodeInfo.{NodeInfo}
-use Rattle.keep_rules.specs.Path.{Part, index}
-use Rattle.keep_rules.specs.Nodes.{node_number}
-use Rattle.keep_rules.specs.Children.{child_ids}
+use Rattle.keep_nodes.specs.AllNodes.{Node, no_node, node_at}
+use Rattle.keep_meaning.specs.declared.node.NodeInfo.{NodeInfo}
+use Rattle.keep_path.specs.Path.{Part, index}
+use Rattle.keep_meaning.specs.Nodes.{node_number}
+use Rattle.keep_nodes.specs.Children.{child_ids}
 use Rattle.keep_rules.specs.Lookup.{number_of, path_numbered, children_numbered, nth_child}
-use Rattle.keep_rules.specs.Stored.{twig_in, twigs, telling, infos_of, IsStored}
-use Rattle.keep_rules.specs.Told.{Telling, info_of}
-use Rattle.keep_rules.proofs.TrieLemmas.{length-paths_of, path_at-root}
-use Rattle.keep_rules.proofs.StoredLemmas.{length_twigs}
+use Rattle.keep_nodes.specs.Stored.{twig_in, twigs, telling, infos_of, IsStored}
+use Rattle.keep_nodes.specs.Told.{Telling, info_of}
+use Rattle.keep_nodes.proofs.Shared.{length-paths_of, path_at-root, length_twigs}
 use Rattle.keep_rules.proofs.LookupLemmas.{number_is, number_some, none_longer, nth_is, count_is}
 use Rattle.keep_rules.proofs.ChildLemmas.{child_by, stepped, index_is_place}
 
@@ -88,7 +87,7 @@ seen_number : (nodes : List Node) (t : Telling) → IsSeen nodes t → (i : ℕ)
 seen_number nodes t s i h =
     ap (λ (x : Telling). node_number x.paths (path_numbered x i)) (sym s.view) ∙ number_some (twigs nodes) s.stored.trie i (omega (arith, h, count_paths nodes t s.stored s.view, length_twigs nodes))
 
-seen_longer : (nodes : List Node) (t : Telling) → IsSeen nodes t → (path more : List Part) → node_number t.paths path ≡ None → node_number t.paths (path ++ more) ≡ None
+pub seen_longer : (nodes : List Node) (t : Telling) → IsSeen nodes t → (path more : List Part) → node_number t.paths path ≡ None → node_number t.paths (path ++ more) ≡ None
 seen_longer nodes t s path more is =
     ap (λ (x : Telling). node_number x.paths (path ++ more)) (sym s.view) ∙ none_longer (twigs nodes) s.stored.trie path more (ap (λ (x : Telling). node_number x.paths path) s.view ∙ is)
 

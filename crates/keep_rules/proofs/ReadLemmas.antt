@@ -3,16 +3,16 @@ use Rattle.std.proofs.Common.{◌≡◌, ℕ, zero, suc, ◌+◌, ◌<◌, false
 use Rattle.std.proofs.lemmas.List.{append_assoc, append-nil, take-append-drop, drop_more}
 use Rattle.keep_syntax.specs.Tree.{Name, Value}
 use Rattle.keep_syntax.specs.declared.fault.Why.{Why}
-use Rattle.keep_rules.specs.declared.role.Role.{Role}
-use Rattle.keep_rules.specs.declared.role.Role.TheVariants.{Define}
-use Rattle.keep_rules.specs.Path.{Part, key, index}
-use Rattle.keep_rules.specs.Rules.{IsFirstFaulty, ObeysRules}
-use Rattle.keep_rules.specs.Marks as marks
-use Rattle.keep_rules.specs.Marks.{Mention, Statement, Reading, statement_mentions, next_reading, mentions_from, reading_after, mentions, start, elements_of, header, element_header, keyval, define}
-use Rattle.keep_rules.specs.Meaning.{keyval_said}
-use Rattle.keep_rules.specs.Nodes.{node_paths}
-use Rattle.keep_rules.specs.Trie.{Twig, by_key, paths_of, path_at, state_at, children_of}
-use Rattle.keep_rules.specs.State.{IsState}
+use Rattle.keep_meaning.specs.declared.role.Role.{Role}
+use Rattle.keep_meaning.specs.declared.role.Role.TheVariants.{Define}
+use Rattle.keep_path.specs.Path.{Part, key, index}
+use Rattle.keep_meaning.specs.Rules.{IsFirstFaulty, ObeysRules}
+use Rattle.keep_meaning.specs.Marks as marks
+use Rattle.keep_meaning.specs.Marks.{Mention, Statement, Reading, statement_mentions, next_reading, mentions_from, reading_after, mentions, start, elements_of, header, element_header, keyval, define}
+use Rattle.keep_meaning.specs.Meaning.{keyval_said}
+use Rattle.keep_meaning.specs.Nodes.{node_paths}
+use Rattle.keep_nodes.specs.Trie.{Twig, by_key, paths_of, path_at, state_at, children_of}
+use Rattle.keep_meaning.specs.State.{IsState}
 use Rattle.keep_rules.specs.Known.{IsIndexOf}
 use Rattle.keep_rules.specs.Tables.{is_tables, IsShaped}
 use Rattle.keep_rules.specs.Standing.{Keeps, IsMarked, IsWorld, IsOpen, Begins, FaultIn}

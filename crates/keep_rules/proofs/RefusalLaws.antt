@@ -4,12 +4,12 @@ use Rattle.keep_syntax.specs.declared.fault.ReadFault.{ReadFault}
 use Rattle.keep_syntax.specs.declared.fault.ReadFault.TheVariants.{Utf8, Syntax, TooDeep, Define, Memory}
 use Rattle.keep_syntax.specs.declared.fault.Why.{Why}
 use Rattle.keep_syntax.specs.Tree.{Value, Document}
-use Rattle.keep_rules.specs.Faults.{IsFaultIn, IsFaultInValue}
-use Rattle.keep_rules.specs.Marks.{marks}
-use Rattle.keep_rules.specs.Meaning.{said_in, value_said}
+use Rattle.keep_meaning.specs.Faults.{IsFaultIn, IsFaultInValue}
+use Rattle.keep_meaning.specs.Marks.{marks}
+use Rattle.keep_meaning.specs.Meaning.{said_in, value_said}
 use Rattle.keep_rules.specs.ReadDocuments.{ValueObeys, IsRefusal, IsValueRefusal}
-use Rattle.keep_rules.specs.Rules.{ObeysRules}
-use Rattle.keep_rules.proofs.FaultLemmas.{not_both}
+use Rattle.keep_meaning.specs.Rules.{ObeysRules}
+use Rattle.keep_meaning.proofs.Shared.{not_both}
 
 -- a document with a fault does not obey the rules
 pub fault_breaks : (d : Document) (at : ℕ) (why : Why) → IsFaultIn d at why → ObeysRules (marks (said_in d)) → ⊥

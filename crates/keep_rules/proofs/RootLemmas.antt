@@ -4,19 +4,19 @@ use Rattle.keep_syntax.specs.declared.fault.ReadFault.{ReadFault}
 use Rattle.keep_syntax.specs.declared.fault.ReadFault.TheVariants as faults
 use Rattle.keep_syntax.specs.declared.fault.Why.{Why}
 use Rattle.keep_syntax.specs.declared.info.KeyPart.{KeyPart}
-use Rattle.keep_rules.specs.AllNodes.{Node}
-use Rattle.keep_rules.specs.declared.told.Told.{Told}
+use Rattle.keep_nodes.specs.AllNodes.{Node}
+use Rattle.keep_nodes.specs.declared.told.Told.{Told}
 use Rattle.keep_rules.specs.declared.ways.Fault.{Fault}
 use Rattle.keep_rules.specs.declared.ways.Fault.TheVariants as fault
-use Rattle.keep_rules.specs.Children.{Hung, holds_of, child_ids}
-use Rattle.keep_rules.specs.Faults.{IsFirstFaultAt}
-use Rattle.keep_rules.specs.Rules.{Mark, IsFirstFaulty}
+use Rattle.keep_nodes.specs.Children.{Hung, holds_of, child_ids}
+use Rattle.keep_meaning.specs.Faults.{IsFirstFaultAt}
+use Rattle.keep_meaning.specs.Rules.{Mark, IsFirstFaulty}
 use Rattle.keep_rules.specs.Roots.{IsRoot}
 use Rattle.keep_rules.specs.Standing.{IsWorld}
 use Rattle.keep_rules.specs.Stops.{FaultSays}
-use Rattle.keep_rules.specs.Stored.{AreNumbered, twig_in, twigs}
-use Rattle.keep_rules.specs.Told.{Telling, info_of, nothing_said}
-use Rattle.keep_rules.specs.Trie.{Twig, Holding, children_of}
+use Rattle.keep_nodes.specs.Stored.{AreNumbered, twig_in, twigs}
+use Rattle.keep_nodes.specs.Told.{Telling, info_of, nothing_said}
+use Rattle.keep_nodes.specs.Trie.{Twig, Holding, children_of}
 use Rattle.keep_rules.specs.ReadDocuments.{IsFaultAt}
 use Rattle.keep_rules.proofs.ReadLemmas.{root_world}
 

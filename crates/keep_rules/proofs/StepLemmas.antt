@@ -2,19 +2,19 @@
 use Rattle.std.proofs.Common.{◌≡◌, ℕ, ◌<◌, true, false, cond, List, [], ◌∷◌, ◌++◌, length, map, refl, sym, ◌∙◌, ap, subst, arith, None}
 use Rattle.std.specs.Prelude.{Contains}
 use Rattle.std.proofs.lemmas.List.{append_assoc, append-nil, map-append}
-use Rattle.keep_rules.specs.declared.role.Role.TheVariants.{Element, Dotted, Value}
-use Rattle.keep_rules.specs.Path.{Part, key, index}
-use Rattle.keep_rules.specs.Marks.{Mention, elements_of, element, begun, dotted, value, item, passing_mentions, entered_path}
-use Rattle.keep_rules.specs.Trie.{Twig, Holding, by_key, by_index, paths_of, path_at, states_of, state_at, holds_at, children_of}
-use Rattle.keep_rules.specs.Growth.{Grows}
+use Rattle.keep_meaning.specs.declared.role.Role.TheVariants.{Element, Dotted, Value}
+use Rattle.keep_path.specs.Path.{Part, key, index}
+use Rattle.keep_meaning.specs.Marks.{Mention, elements_of, element, begun, dotted, value, item, passing_mentions, entered_path}
+use Rattle.keep_nodes.specs.Trie.{Twig, Holding, by_key, by_index, paths_of, path_at, states_of, state_at, holds_at, children_of}
+use Rattle.keep_nodes.specs.Growth.{Grows}
 use Rattle.keep_rules.specs.Known.{Knows, IsIndexOf}
 use Rattle.keep_rules.specs.Tables.{is_tables, IsShaped, AreTables}
 use Rattle.keep_rules.specs.Standing.{Keeps, KeepsItems, IsMarked, IsWorld, IsOpen, Passes, Begins}
 use Rattle.keep_rules.specs.Ways.{header_at, header_said, dotted_way}
 use Rattle.keep_rules.specs.Steps.{Walks, Dots, Gives, AddsItem}
-use Rattle.keep_rules.proofs.TrieLemmas.{path_at-root, push_same, none_hang}
+use Rattle.keep_nodes.proofs.Shared.{path_at-root, push_same, none_hang, first, longer, path_last, state_last, holds_last, children_other, children_here}
 use Rattle.keep_rules.proofs.KnownLemmas.{known_new}
-use Rattle.keep_rules.proofs.TablesLemmas.{Joins, first, longer, path_last, state_last, holds_last, children_other, children_here, tables_begun, begun_begun, element_joins, shaped_grown, tables_joined, begun_joined}
+use Rattle.keep_rules.proofs.TablesLemmas.{Joins, tables_begun, begun_begun, element_joins, shaped_grown, tables_joined, begun_joined}
 use Rattle.keep_rules.proofs.MarkLemmas.{knows_along, keeps_grown}
 use Rattle.keep_rules.proofs.PassLemmas.{world_marked, keeps_same}
 use Rattle.keep_rules.proofs.WayLemmas.{header_said-append, header_at-append, dotted_way-append}

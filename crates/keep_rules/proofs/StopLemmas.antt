@@ -5,14 +5,14 @@ use Rattle.std.proofs.lemmas.List.{append_assoc, append-nil}
 use Rattle.std.proofs.lemmas.List.Elements.{filter_map-append}
 use Rattle.keep_syntax.specs.declared.fault.Why.{Why}
 use Rattle.keep_syntax.specs.declared.fault.Why.TheVariants.{NotATable, DefinedTwice, NotAnArray, NotByDots, DuplicateKey}
-use Rattle.keep_rules.specs.declared.role.Role.{Role}
-use Rattle.keep_rules.specs.declared.role.Role.TheVariants.{Through, Define, Element, Dotted, Value}
-use Rattle.keep_rules.specs.Fact.{Fact}
-use Rattle.keep_rules.specs.Path.{Part, key, index}
-use Rattle.keep_rules.specs.Rules.{Mark, ObeysRules, IsRefused, IsFirstFaulty, why_of}
-use Rattle.keep_rules.specs.Marks as marks
-use Rattle.keep_rules.specs.Marks.{Mention, Saying, role_of, with_path, mark_of, elements_of, entered_path, passing_mentions, header, element_header}
-use Rattle.keep_rules.specs.Trie.{Twig, path_at}
+use Rattle.keep_meaning.specs.declared.role.Role.{Role}
+use Rattle.keep_meaning.specs.declared.role.Role.TheVariants.{Through, Define, Element, Dotted, Value}
+use Rattle.keep_meaning.specs.Fact.{Fact}
+use Rattle.keep_path.specs.Path.{Part, key, index}
+use Rattle.keep_meaning.specs.Rules.{Mark, ObeysRules, IsRefused, IsFirstFaulty, why_of}
+use Rattle.keep_meaning.specs.Marks as marks
+use Rattle.keep_meaning.specs.Marks.{Mention, Saying, role_of, with_path, mark_of, elements_of, entered_path, passing_mentions, header, element_header}
+use Rattle.keep_nodes.specs.Trie.{Twig, path_at}
 use Rattle.keep_rules.specs.Standing.{IsWorld, WasRefused, HasNoElement, FaultIn}
 use Rattle.keep_rules.specs.Ways.{header_at, header_said, dotted_way}
 use Rattle.keep_rules.specs.Steps.{Walks, Dots}

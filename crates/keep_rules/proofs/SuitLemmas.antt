@@ -5,10 +5,10 @@ use Rattle.keep_syntax.specs.Tree.{Name, Body, scalar, array, inline, Entries, n
 use Rattle.std.proofs.lemmas.List.{append-nil}
 use Rattle.keep_syntax.specs.Grammar.{Place, in_scalar, in_array, in_inline, place_in, IsNamed, AreEntries, IsValue}
 use Rattle.keep_syntax.specs.Numbered.{value_count}
-use Rattle.keep_rules.specs.Fact.{Fact}
-use Rattle.keep_rules.specs.Path.{Part}
-use Rattle.keep_rules.specs.Meaning.{body_fact}
-use Rattle.keep_rules.specs.Trie.{Holding, nothing, by_key, by_index}
+use Rattle.keep_meaning.specs.Fact.{Fact}
+use Rattle.keep_path.specs.Path.{Part}
+use Rattle.keep_meaning.specs.Meaning.{body_fact}
+use Rattle.keep_nodes.specs.Trie.{Holding, nothing, by_key, by_index}
 use Rattle.keep_rules.specs.Inside.{Turn, holding_of, entry_turn, turns, Inside, holding_of_value, next_inside, inside_after, Suits, AllSuit, NameSuits, EntriesSuit, body_inside, value_inside, keyval_turns}
 use Rattle.keep_rules.proofs.InsideLemmas.{HasValues, next_values, new_holding, turns_stay, Stays, next_stays, fact_is, owner_is}
 

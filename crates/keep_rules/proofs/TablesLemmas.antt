@@ -1,67 +1,23 @@
 -- What a new node, and another state of a node, do to arrays, tables and arrays of tables.
 use Rattle.std.proofs.Common.{add-zero, ◌≡◌, ℕ, ◌+◌, ◌<◌, Bool, true, false, cond, ◌&&◌, List, [], ◌∷◌, ◌++◌, length, get_or, refl, sym, ◌∙◌, ap, subst, arith, length-append, Option, Some, None, inl, inr}
-use Rattle.std.specs.Prelude.{Contains, ◌==◌, IsSome}
+use Rattle.std.specs.Prelude.{Contains, IsSome}
 use Rattle.std.specs.List.{list_all}
-use Rattle.std.proofs.lemmas.List.{get_or_append_left, get_or_push, append-nil, get_or-set_same, get_or-set_other, length-map}
+use Rattle.std.proofs.lemmas.List.{get_or_append_left, get_or_push, get_or-set_same, get_or-set_other, length-map}
 use Rattle.std.proofs.lemmas.List.Elements.{Contains-append_left, Contains-get_or}
 use Rattle.std.proofs.lemmas.List.Sums.{fold-append}
 use Rattle.std.proofs.lemmas.Bool.{cases_lt, cases_eq, cases_Bool, cond-false}
-use Rattle.std.proofs.lemmas.Bool.Decides.{Decides-eqb}
-use Rattle.keep_rules.specs.declared.role.Role.{Role}
-use Rattle.keep_rules.specs.declared.role.Role.TheVariants.{Through, Past, Define, Element, Dotted, Value}
-use Rattle.keep_rules.specs.Path.{Part, key, index, same_path}
-use Rattle.keep_rules.specs.Rules.{allows}
-use Rattle.keep_rules.specs.Marks.{elements_of}
-use Rattle.keep_rules.specs.Trie.{Twig, Holding, nothing, by_key, by_index, IsTrie, paths_of, path_at, states_of, state_at, holdings_of, holds_at, children_of}
-use Rattle.keep_rules.specs.Growth.{Grows, Restates}
-use Rattle.keep_rules.specs.State.{IsState}
+use Rattle.keep_meaning.specs.declared.role.Role.{Role}
+use Rattle.keep_meaning.specs.declared.role.Role.TheVariants.{Through, Past, Define, Element, Dotted, Value}
+use Rattle.keep_path.specs.Path.{Part, key, index, same_path}
+use Rattle.keep_meaning.specs.Rules.{allows}
+use Rattle.keep_meaning.specs.Marks.{elements_of}
+use Rattle.keep_nodes.specs.Trie.{Twig, Holding, nothing, by_key, by_index, IsTrie, paths_of, path_at, states_of, state_at, holds_at, children_of}
+use Rattle.keep_nodes.specs.Growth.{Grows, Restates}
+use Rattle.keep_meaning.specs.State.{IsState}
 use Rattle.keep_rules.specs.Tables.{is_tables, Fits, IsShaped, AreTables, AllBegun}
-use Rattle.keep_rules.proofs.PathLemmas.{path_decides}
+use Rattle.keep_path.proofs.Shared.{path_decides}
 use Rattle.keep_rules.proofs.KnownLemmas.{false_ne}
-use Rattle.keep_rules.proofs.TrieLemmas.{length-paths_of, none_hang, child_at, push_same, one_node, no_child}
-
-many : (nodes : List Twig) → IsTrie nodes → length (paths_of nodes) ≡ length nodes
-many nodes trie = length-paths_of nodes trie.root
-
-pub first : (nodes : List Twig) → IsTrie nodes → Twig
-first [] trie = absurd (omega (arith, trie.root))
-first (n ∷ ns) trie = n
-
--- ---- where one node more hangs
-
-pub longer : {old new : List Twig} {parent : ℕ} {path : List Part} {state : Option Role} {holds : Holding} → (g : Grows old new parent path state holds) → length new ≡ length old + 1
-longer {old = old} {new = new} {path = path} g = omega (arith, many old g.trie, many new g.trie', ap length g.paths, length-append (paths_of old) (path ∷ []))
-
-pub path_below : {old new : List Twig} {parent : ℕ} {path : List Part} {state : Option Role} {holds : Holding} → (g : Grows old new parent path state holds) → (i : ℕ) → i < length old → path_at new i ≡ path_at old i
-path_below {old = old} {path = path} g i h = ap (λ ps. get_or ps i []) g.paths ∙ get_or_append_left (paths_of old) (path ∷ []) [] i (omega (arith, many old g.trie))
-
-pub path_last : {old new : List Twig} {parent : ℕ} {path : List Part} {state : Option Role} {holds : Holding} → (g : Grows old new parent path state holds) → path_at new (length old) ≡ path
-path_last {old = old} {path = path} g = ap (λ ps. get_or ps (length old) []) g.paths ∙ get_or_push (paths_of old) path [] (length old) (many old g.trie)
-
-pub state_below : {old new : List Twig} {parent : ℕ} {path : List Part} {state : Option Role} {holds : Holding} → (g : Grows old new parent path state holds) → (i : ℕ) → i < length old → state_at new i ≡ state_at old i
-state_below {old = old} {state = state} g i h = ap (λ ss. get_or ss i None) g.states ∙ get_or_append_left (states_of old) (state ∷ []) None i (omega (arith, length-map old (λ (n : Twig). n.state)))
-
-pub state_last : {old new : List Twig} {parent : ℕ} {path : List Part} {state : Option Role} {holds : Holding} → (g : Grows old new parent path state holds) → state_at new (length old) ≡ state
-state_last {old = old} {state = state} g = ap (λ ss. get_or ss (length old) None) g.states ∙ get_or_push (states_of old) state None (length old) (length-map old (λ (n : Twig). n.state))
-
-pub holds_below : {old new : List Twig} {parent : ℕ} {path : List Part} {state : Option Role} {holds : Holding} → (g : Grows old new parent path state holds) → (i : ℕ) → i < length old → holds_at new i ≡ holds_at old i
-holds_below {old = old} {holds = holds} g i h = ap (λ ss. get_or ss i nothing) g.holdings ∙ get_or_append_left (holdings_of old) (holds ∷ []) nothing i (omega (arith, length-map old (λ (n : Twig). n.holds)))
-
-pub holds_last : {old new : List Twig} {parent : ℕ} {path : List Part} {state : Option Role} {holds : Holding} → (g : Grows old new parent path state holds) → holds_at new (length old) ≡ holds
-holds_last {old = old} {holds = holds} g = ap (λ ss. get_or ss (length old) nothing) g.holdings ∙ get_or_push (holdings_of old) holds nothing (length old) (length-map old (λ (n : Twig). n.holds))
-
-not_equal : (a b : ℕ) (xs : List ℕ) → (a ≡ b → ⊥) → cond (a == b) xs [] ≡ []
-not_equal a b xs ne =
-    (elim (a == b) as (λ t. (t ≡ true → ⊥) → cond t xs [] ≡ []) [ true ↦ λ no. absurd (no refl) | false ↦ λ no. refl ]) (λ h. ne ((Decides-eqb a b).0 h))
-
-pub children_other : {old new : List Twig} {parent : ℕ} {path : List Part} {state : Option Role} {holds : Holding} → (g : Grows old new parent path state holds) → (i : ℕ) → (i ≡ parent → ⊥) → children_of new i ≡ children_of old i
-children_other {old = old} {parent = parent} g i ne = g.children i ∙ ap (λ ks. children_of old i ++ ks) (not_equal parent i (length old ∷ []) (λ e. ne (sym e))) ∙ append-nil (children_of old i)
-
-pub children_here : {old new : List Twig} {parent : ℕ} {path : List Part} {state : Option Role} {holds : Holding} → (g : Grows old new parent path state holds) → (i : ℕ) → i ≡ parent → children_of new i ≡ children_of old i ++ length old ∷ []
-children_here {old = old} {parent = parent} g i e = g.children i ∙ ap (λ b. children_of old i ++ cond b (length old ∷ []) []) ((Decides-eqb parent i).1 (sym e))
-
-children_last : {old new : List Twig} {parent : ℕ} {path : List Part} {state : Option Role} {holds : Holding} → (g : Grows old new parent path state holds) → children_of new (length old) ≡ []
-children_last {old = old} g = children_other g (length old) (λ e. absurd (omega (arith, g.within, e))) ∙ none_hang old g.trie (first old g.trie) (length old) (omega arith)
+use Rattle.keep_nodes.proofs.Shared.{child_at, push_same, one_node, no_child, many, first, longer, path_below, path_last, state_below, state_last, holds_below, holds_last, children_other, children_here, children_last}
 
 -- ---- what a node is
 

@@ -7,20 +7,20 @@ use Rattle.std.proofs.lemmas.List.Sums.{position_or_len_is}
 use Rattle.std.proofs.lemmas.Bool.Decides.{nat_tests}
 use Rattle.keep_syntax.specs.declared.info.KeyPart.{KeyPart}
 use Rattle.keep_syntax.specs.declared.info.ValueInfo.{ValueInfo}
-use Rattle.keep_rules.specs.declared.node.NodeInfo.{NodeInfo}
-use Rattle.keep_rules.specs.AllNodes.{Node}
-use Rattle.keep_rules.specs.declared.role.Role.{Role}
-use Rattle.keep_rules.specs.Path.{Part, same_path}
-use Rattle.keep_rules.specs.Counts.{Numbered}
-use Rattle.keep_rules.specs.Nodes.{node_number, paths_with}
-use Rattle.keep_rules.specs.Told.{again, nothing_said, Telling, tell, tell_at, tell_all, info_said, paths_behind}
-use Rattle.keep_rules.specs.Trie.{Holding, IsTrie, paths_of, path_at}
-use Rattle.keep_rules.specs.Growth.{Grows}
-use Rattle.keep_rules.specs.Stored.{twigs, infos_of, info_at, telling}
+use Rattle.keep_meaning.specs.declared.node.NodeInfo.{NodeInfo}
+use Rattle.keep_nodes.specs.AllNodes.{Node}
+use Rattle.keep_meaning.specs.declared.role.Role.{Role}
+use Rattle.keep_path.specs.Path.{Part, same_path}
+use Rattle.keep_meaning.specs.Counts.{Numbered}
+use Rattle.keep_meaning.specs.Nodes.{node_number, paths_with}
+use Rattle.keep_nodes.specs.Told.{again, nothing_said, Telling, tell, tell_at, tell_all, info_said, paths_behind}
+use Rattle.keep_nodes.specs.Trie.{Holding, IsTrie, paths_of, path_at}
+use Rattle.keep_nodes.specs.Growth.{Grows}
+use Rattle.keep_nodes.specs.Stored.{twigs, infos_of, info_at, telling}
 use Rattle.keep_rules.specs.Tells.{TellsOne}
-use Rattle.keep_rules.proofs.PathLemmas.{path_decides}
+use Rattle.keep_path.proofs.Shared.{path_decides}
 use Rattle.keep_rules.proofs.KnownLemmas.{false_ne}
-use Rattle.keep_rules.proofs.TrieLemmas.{length-paths_of}
+use Rattle.keep_nodes.proofs.Shared.{length-paths_of}
 
 -- ---- the number of a path
 

@@ -6,28 +6,28 @@ use Rattle.std.proofs.lemmas.List.Sums.{fold-append}
 use Rattle.keep_syntax.specs.declared.info.Span.{Span}
 use Rattle.keep_syntax.specs.declared.info.KeyPart.{KeyPart}
 use Rattle.keep_syntax.specs.declared.info.ValueInfo.{ValueInfo}
-use Rattle.keep_rules.specs.declared.node.Kind.{Kind}
-use Rattle.keep_rules.specs.declared.node.Kind.TheVariants as kind
-use Rattle.keep_rules.specs.declared.node.Place.TheVariants as place
-use Rattle.keep_rules.specs.declared.node.NodeInfo.{NodeInfo}
-use Rattle.keep_rules.specs.AllNodes.{Node}
-use Rattle.keep_rules.specs.declared.role.Role.TheVariants.{Element, Value}
-use Rattle.keep_rules.specs.Path.{Part, key, index}
-use Rattle.keep_rules.specs.Marks as marks
-use Rattle.keep_rules.specs.Marks.{Mention, through, past, passed, define, element, begun, dotted, value, item, elements_of, passing_mentions, entered_path, statement_mentions, header, element_header}
-use Rattle.keep_rules.specs.Counts.{Count, Numbered, is_value, count_behind, numbered_mentions, count_after}
-use Rattle.keep_rules.specs.Nodes.{fact_kind, value_span, key_span}
-use Rattle.keep_rules.specs.Told.{tell, tell_all, named_info, unnamed_info, passed_info, info_said, paths_behind, ValuesAreNew}
-use Rattle.keep_rules.specs.Trie.{Holding, by_key, by_index, paths_of, path_at, children_of}
-use Rattle.keep_rules.specs.Growth.{Grows}
-use Rattle.keep_rules.specs.Stored.{twigs, infos_of, telling}
+use Rattle.keep_meaning.specs.declared.node.Kind.{Kind}
+use Rattle.keep_meaning.specs.declared.node.Kind.TheVariants as kind
+use Rattle.keep_meaning.specs.declared.node.Place.TheVariants as place
+use Rattle.keep_meaning.specs.declared.node.NodeInfo.{NodeInfo}
+use Rattle.keep_nodes.specs.AllNodes.{Node}
+use Rattle.keep_meaning.specs.declared.role.Role.TheVariants.{Element, Value}
+use Rattle.keep_path.specs.Path.{Part, key, index}
+use Rattle.keep_meaning.specs.Marks as marks
+use Rattle.keep_meaning.specs.Marks.{Mention, through, past, passed, define, element, begun, dotted, value, item, elements_of, passing_mentions, entered_path, statement_mentions, header, element_header}
+use Rattle.keep_meaning.specs.Counts.{Count, Numbered, is_value, count_behind, numbered_mentions, count_after}
+use Rattle.keep_meaning.specs.Nodes.{fact_kind, value_span, key_span}
+use Rattle.keep_nodes.specs.Told.{tell, tell_all, named_info, unnamed_info, passed_info, info_said, paths_behind, ValuesAreNew}
+use Rattle.keep_nodes.specs.Trie.{Holding, by_key, by_index, paths_of, path_at, children_of}
+use Rattle.keep_nodes.specs.Growth.{Grows}
+use Rattle.keep_nodes.specs.Stored.{twigs, infos_of, telling}
 use Rattle.keep_rules.specs.Standing.{IsMarked, IsLastElement, HasNoElement}
 use Rattle.keep_rules.specs.Steps.{Walks, Dots}
 use Rattle.keep_rules.specs.Ways.{header_at, header_said, dotted_way}
 use Rattle.keep_rules.specs.Inside.{path_of_value, entries_of_value}
 use Rattle.keep_rules.specs.Tells.{TellsOne, Tells, HeaderTells, KeyTells, WayTells, StatementTells, TellsTurn, KeyedTells, ItemTells, begin_mentions}
-use Rattle.keep_rules.proofs.CountLemmas.{numbered_mentions-append}
-use Rattle.keep_rules.proofs.TrieLemmas.{length-paths_of, one_node}
+use Rattle.keep_meaning.proofs.Shared.{numbered_mentions-append}
+use Rattle.keep_nodes.proofs.Shared.{length-paths_of, one_node}
 use Rattle.keep_rules.proofs.PassLemmas.{passing-none, passing-some, element_place, elements_there}
 use Rattle.keep_rules.proofs.WayLemmas.{header_said-append, header_way-split, header_path-split, dotted_way-append}
 use Rattle.keep_rules.proofs.TurnLemmas.{keyed_says}

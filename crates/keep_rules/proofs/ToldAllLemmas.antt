@@ -12,17 +12,16 @@ use Rattle.keep_syntax.specs.declared.info.KeyPart.{KeyPart}
 use Rattle.keep_syntax.specs.declared.info.ValueInfo.{ValueInfo}
 use Rattle.keep_syntax.specs.Tree.{Document}
 use Rattle.keep_syntax.specs.Numbered as syntax
-use Rattle.keep_rules.specs.declared.node.NodeInfo.{NodeInfo}
-use Rattle.keep_rules.specs.Path.{Part, same_path}
-use Rattle.keep_rules.specs.Marks.{marks}
-use Rattle.keep_rules.specs.Meaning.{said_in}
-use Rattle.keep_rules.specs.Counts.{Numbered, is_value, is_mark, one_if, numbered_in}
-use Rattle.keep_rules.specs.Nodes.{paths_with, node_paths, node_number, numbered_at, is_numbered_at, mention_of, node_said, Node, node_at, nodes_of, node_info, infos_in}
-use Rattle.keep_rules.specs.Told.{Telling, again, nothing_said, root_telling, tell, tell_at, tell_all, info_said, paths_behind, ValuesAreNew}
-use Rattle.keep_rules.proofs.PathLemmas.{path_decides}
-use Rattle.keep_rules.proofs.CountLemmas.{mentions-numbered_in, node_at-elsewhere}
+use Rattle.keep_meaning.specs.declared.node.NodeInfo.{NodeInfo}
+use Rattle.keep_path.specs.Path.{Part, same_path}
+use Rattle.keep_meaning.specs.Marks.{marks}
+use Rattle.keep_meaning.specs.Meaning.{said_in}
+use Rattle.keep_meaning.specs.Counts.{Numbered, is_value, is_mark, one_if, numbered_in}
+use Rattle.keep_meaning.specs.Nodes.{paths_with, node_paths, node_number, numbered_at, is_numbered_at, mention_of, node_said, Node, node_at, nodes_of, node_info, infos_in}
+use Rattle.keep_nodes.specs.Told.{Telling, again, nothing_said, root_telling, tell, tell_at, tell_all, info_said, paths_behind, ValuesAreNew}
+use Rattle.keep_path.proofs.Shared.{path_decides}
+use Rattle.keep_meaning.proofs.Shared.{mentions-numbered_in, node_at-elsewhere, one_mark}
 use Rattle.keep_rules.proofs.KnownLemmas.{one_place}
-use Rattle.keep_rules.proofs.NumberLemmas.{one_mark}
 use Rattle.keep_rules.proofs.ToldLemmas.{paths_behind-append}
 use Rattle.keep_rules.proofs.ToldNodeLemmas.{node_again}
 

@@ -3,14 +3,14 @@ use Rattle.std.proofs.Common.{◌≡◌, List, [], ◌∷◌, ◌++◌, refl, So
 use Rattle.keep_syntax.specs.declared.info.Span.{Span}
 use Rattle.keep_syntax.specs.declared.info.KeyPart.{KeyPart}
 use Rattle.keep_syntax.specs.declared.info.ValueInfo.{ValueInfo}
-use Rattle.keep_rules.specs.declared.node.Kind.TheVariants as kind
-use Rattle.keep_rules.specs.declared.node.Place.TheVariants as place
-use Rattle.keep_rules.specs.Fact.{Fact}
-use Rattle.keep_rules.specs.Path.{Part}
-use Rattle.keep_rules.specs.Marks.{through, past, define, element, dotted, value, begun, passed, item}
-use Rattle.keep_rules.specs.Counts.{Numbered}
-use Rattle.keep_rules.specs.Nodes.{fact_kind, key_span, value_span, paths_with}
-use Rattle.keep_rules.specs.Told.{Telling, tell, tell_all, named_info, unnamed_info, passed_info, info_said, paths_behind, ValuesAreNew}
+use Rattle.keep_meaning.specs.declared.node.Kind.TheVariants as kind
+use Rattle.keep_meaning.specs.declared.node.Place.TheVariants as place
+use Rattle.keep_meaning.specs.Fact.{Fact}
+use Rattle.keep_path.specs.Path.{Part}
+use Rattle.keep_meaning.specs.Marks.{through, past, define, element, dotted, value, begun, passed, item}
+use Rattle.keep_meaning.specs.Counts.{Numbered}
+use Rattle.keep_meaning.specs.Nodes.{fact_kind, key_span, value_span, paths_with}
+use Rattle.keep_nodes.specs.Told.{Telling, tell, tell_all, named_info, unnamed_info, passed_info, info_said, paths_behind, ValuesAreNew}
 
 -- ---- part by part
 

@@ -12,18 +12,18 @@ use Rattle.std.proofs.Math.Bool.{or-false}
 use Rattle.keep_syntax.specs.declared.info.Span.{Span}
 use Rattle.keep_syntax.specs.declared.info.KeyPart.{KeyPart}
 use Rattle.keep_syntax.specs.declared.info.ValueInfo.{ValueInfo}
-use Rattle.keep_rules.specs.declared.node.Kind.{Kind}
-use Rattle.keep_rules.specs.declared.node.Kind.TheVariants as kind
-use Rattle.keep_rules.specs.declared.node.Place.{Place}
-use Rattle.keep_rules.specs.declared.node.Place.TheVariants as place
-use Rattle.keep_rules.specs.declared.node.NodeInfo.{NodeInfo}
-use Rattle.keep_rules.specs.Fact.{Fact, table}
-use Rattle.keep_rules.specs.Path.{Part}
-use Rattle.keep_rules.specs.Marks.{Saying, through, past, define, element, dotted, value, begun, passed, item, fact_of}
-use Rattle.keep_rules.specs.Counts.{Count, Numbered, is_value, is_mark}
-use Rattle.keep_rules.specs.Nodes.{first_of, is_through, is_define, is_element, is_dotted, is_begun, is_passed, kind_or_table, kind_said, saying_of, last_number, first_number, statement_number, value_number, key_number, first_that_fits, place_said, node_said, key_span, value_span, node_info}
-use Rattle.keep_rules.specs.Told.{rank, later_kind, later_place, later_value, again, info_said}
-use Rattle.keep_rules.proofs.FactLemmas.{marks-more, last_number-more, or_number, first_number-more, passed-more}
+use Rattle.keep_meaning.specs.declared.node.Kind.{Kind}
+use Rattle.keep_meaning.specs.declared.node.Kind.TheVariants as kind
+use Rattle.keep_meaning.specs.declared.node.Place.{Place}
+use Rattle.keep_meaning.specs.declared.node.Place.TheVariants as place
+use Rattle.keep_meaning.specs.declared.node.NodeInfo.{NodeInfo}
+use Rattle.keep_meaning.specs.Fact.{Fact, table}
+use Rattle.keep_path.specs.Path.{Part}
+use Rattle.keep_meaning.specs.Marks.{Saying, through, past, define, element, dotted, value, begun, passed, item, fact_of}
+use Rattle.keep_meaning.specs.Counts.{Count, Numbered, is_value, is_mark}
+use Rattle.keep_meaning.specs.Nodes.{first_of, is_through, is_define, is_element, is_dotted, is_begun, is_passed, kind_or_table, kind_said, saying_of, last_number, first_number, statement_number, value_number, key_number, first_that_fits, place_said, node_said, key_span, value_span, node_info}
+use Rattle.keep_nodes.specs.Told.{rank, later_kind, later_place, later_value, again, info_said}
+use Rattle.keep_meaning.proofs.Shared.{marks-more, last_number-more, or_number, first_number-more, passed-more}
 
 -- ---- the kind
 

@@ -3,28 +3,26 @@ use Rattle.std.proofs.Common.{◌≡◌, ℕ, ◌+◌, ◌<◌, List, [], ◌∷
 use Rattle.std.proofs.lemmas.List.{append_assoc, append-nil}
 use Rattle.keep_syntax.specs.declared.info.KeyPart.{KeyPart}
 use Rattle.keep_syntax.specs.declared.info.ValueInfo.{ValueInfo}
-use Rattle.keep_rules.specs.declared.node.NodeInfo.{NodeInfo}
-use Rattle.keep_rules.specs.Fact.{Fact}
-use Rattle.keep_rules.specs.Path.{Part}
-use Rattle.keep_rules.specs.Marks as marks
-use Rattle.keep_rules.specs.Marks.{Mention, below}
-use Rattle.keep_rules.specs.Meaning.{keyed_mentions}
-use Rattle.keep_rules.specs.Counts.{Count, Numbered, numbered_mentions, count_after}
+use Rattle.keep_meaning.specs.declared.node.NodeInfo.{NodeInfo}
+use Rattle.keep_meaning.specs.Fact.{Fact}
+use Rattle.keep_path.specs.Path.{Part}
+use Rattle.keep_meaning.specs.Marks as marks
+use Rattle.keep_meaning.specs.Marks.{Mention, below}
+use Rattle.keep_meaning.specs.Meaning.{keyed_mentions}
+use Rattle.keep_meaning.specs.Counts.{Count, Numbered, numbered_mentions, count_after}
 use Rattle.keep_rules.specs.Inside.{Inside, Turn, turn_item, turn_keyed, holding_of, holding_of_value, turn_said, turns_said, inside_after, next_inside, path_of_value}
-use Rattle.keep_rules.specs.Trie.{Twig, by_key, by_index}
+use Rattle.keep_nodes.specs.Trie.{Twig, by_key, by_index}
 use Rattle.keep_rules.specs.Tables.{IsShaped}
 use Rattle.keep_rules.specs.Standing.{IsWorld, Keeps}
 use Rattle.keep_rules.specs.Steps.{Gives, AddsItem}
 use Rattle.keep_rules.specs.Reads.{AreInside}
-use Rattle.keep_rules.specs.Told.{Telling, tell, tell_at, tell_all, info_said, paths_behind, ValuesAreNew}
+use Rattle.keep_nodes.specs.Told.{Telling, tell, tell_at, tell_all, info_said, paths_behind, ValuesAreNew}
 use Rattle.keep_rules.specs.Took.{HasKeys, turn_keys, Stand, Took}
-use Rattle.keep_rules.proofs.CountLemmas.{numbered_mentions-append}
+use Rattle.keep_meaning.proofs.Shared.{numbered_mentions-append, count_after-keys, count_after-values, valued, valued-append, valued-keyed, valued-below, marked-keyed, marked-below}
 use Rattle.keep_rules.proofs.InsideLemmas.{turns_said-append, inside_after-append}
-use Rattle.keep_rules.proofs.NumberLemmas.{count_after-keys, count_after-values, valued, valued-append, valued-keyed, valued-below}
-use Rattle.keep_rules.proofs.PlaceLemmas.{marked-keyed, marked-below}
 use Rattle.keep_rules.proofs.StepLemmas.{keeps_then}
 use Rattle.keep_rules.proofs.TurnLemmas.{item_taken, item_world, keyed_taken, keyed_world}
-use Rattle.keep_rules.specs.Nodes.{paths_with}
+use Rattle.keep_meaning.specs.Nodes.{paths_with}
 use Rattle.keep_rules.proofs.ToldAllLemmas.{met_or_unmet}
 use Rattle.keep_rules.proofs.ToldLemmas.{tell_all-append, values_new-append}
 

@@ -2,12 +2,12 @@
 use Rattle.std.proofs.Common.{◌≡◌, ℕ, ◌+◌, ◌<◌, List, [], ◌∷◌, ◌++◌, length, get_or, map, refl, sym, ◌∙◌, ap, subst, arith, length-append, inl, inr}
 use Rattle.std.proofs.lemmas.List.{append_assoc, map-append, get_or_append_left, get_or_push}
 use Rattle.std.proofs.lemmas.Bool.{cases_lt, cases_eq}
-use Rattle.keep_rules.specs.Fact.{Fact}
-use Rattle.keep_rules.specs.Path.{Part, key, index}
-use Rattle.keep_rules.specs.Marks as marks
-use Rattle.keep_rules.specs.Marks.{Mention, below}
-use Rattle.keep_rules.specs.Meaning.{keyed_mentions}
-use Rattle.keep_rules.specs.Trie.{Twig, by_key, by_index, path_at, holds_at, children_of}
+use Rattle.keep_meaning.specs.Fact.{Fact}
+use Rattle.keep_path.specs.Path.{Part, key, index}
+use Rattle.keep_meaning.specs.Marks as marks
+use Rattle.keep_meaning.specs.Marks.{Mention, below}
+use Rattle.keep_meaning.specs.Meaning.{keyed_mentions}
+use Rattle.keep_nodes.specs.Trie.{Twig, by_key, by_index, path_at, holds_at, children_of}
 use Rattle.keep_rules.specs.Standing.{Keeps, IsWorld}
 use Rattle.keep_rules.specs.Ways.{dotted_way}
 use Rattle.keep_rules.specs.Steps.{IsMade, Gives, AddsItem}

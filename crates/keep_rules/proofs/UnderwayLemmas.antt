@@ -9,12 +9,12 @@ use Rattle.keep_syntax.specs.declared.info.Owner.{Owner}
 use Rattle.keep_syntax.specs.declared.info.Owner.TheVariants as owner
 use Rattle.keep_syntax.specs.declared.info.ValueInfo.{ValueInfo}
 use Rattle.keep_syntax.specs.Flat.{Flat}
-use Rattle.keep_rules.specs.AllNodes.{Node}
+use Rattle.keep_nodes.specs.AllNodes.{Node}
 use Rattle.keep_rules.specs.declared.ways.Fault.{Fault}
-use Rattle.keep_rules.specs.Marks as marks
-use Rattle.keep_rules.specs.Marks.{Mention, mark_of}
+use Rattle.keep_meaning.specs.Marks as marks
+use Rattle.keep_meaning.specs.Marks.{Mention, mark_of}
 use Rattle.keep_rules.specs.Inside.{Inside, Turn, turn_item, turn_keyed, AllSuit, turn_said, turns_said, inside_after, next_inside}
-use Rattle.keep_rules.specs.Stored.{twigs}
+use Rattle.keep_nodes.specs.Stored.{twigs}
 use Rattle.keep_rules.specs.Tables.{IsShaped}
 use Rattle.keep_rules.specs.Standing.{FaultIn}
 use Rattle.keep_rules.specs.Reads.{AreInside}

@@ -3,9 +3,9 @@ use Rattle.std.proofs.Common.{◌≡◌, ℕ, true, false, cond, List, [], ◌�
 use Rattle.std.specs.Prelude.{◌==◌}
 use Rattle.std.proofs.lemmas.List.{append_assoc, append-nil}
 use Rattle.std.proofs.lemmas.List.Elements.{filter_map-append}
-use Rattle.keep_rules.specs.Path.{Part, key}
-use Rattle.keep_rules.specs.Marks.{Mention, below, through, past, passed, dotted, passing_mentions, entered_path, header_way, header_path, marks, mark_of, elements_of}
-use Rattle.keep_rules.specs.Meaning.{keyed_mentions}
+use Rattle.keep_path.specs.Path.{Part, key}
+use Rattle.keep_meaning.specs.Marks.{Mention, below, through, past, passed, dotted, passing_mentions, entered_path, header_way, header_path, marks, mark_of, elements_of}
+use Rattle.keep_meaning.specs.Meaning.{keyed_mentions}
 use Rattle.keep_rules.specs.Ways.{header_at, header_said, dotted_way}
 
 pub header_said-append : (ts : List (List Part)) (at : List Part) (ks ls : List (List ℕ)) → header_said ts at (ks ++ ls) ≡ header_said ts at ks ++ header_said ts (header_at ts at ks) ls

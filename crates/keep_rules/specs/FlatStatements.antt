@@ -10,15 +10,15 @@ use Rattle.keep_syntax.specs.declared.info.ValueInfo.{ValueInfo}
 use Rattle.keep_syntax.specs.Tree.{Name, Value}
 use Rattle.keep_syntax.specs.Grammar.{IsValue}
 use Rattle.keep_syntax.specs.Numbered.{value_count}
-use Rattle.keep_rules.specs.Counts.{Count}
+use Rattle.keep_meaning.specs.Counts.{Count}
 use Rattle.keep_rules.specs.FlatValues.{leaf_kind, leaf_holding, SaysTurn}
 use Rattle.keep_rules.specs.FirstKeys.{FirstKeys}
 use Rattle.keep_rules.specs.Inside.{holding_of, turns}
-use Rattle.keep_rules.specs.Keys.{keys_in}
-use Rattle.keep_rules.specs.Marks as marks
-use Rattle.keep_rules.specs.Marks.{Mention}
-use Rattle.keep_rules.specs.Meaning.{keys_of, body_fact, keyval_said}
-use Rattle.keep_rules.specs.Nodes.{fact_kind}
+use Rattle.keep_meaning.specs.KeyText.{keys_in}
+use Rattle.keep_meaning.specs.Marks as marks
+use Rattle.keep_meaning.specs.Marks.{Mention}
+use Rattle.keep_meaning.specs.Meaning.{keys_of, body_fact, keyval_said}
+use Rattle.keep_meaning.specs.Nodes.{fact_kind}
 
 -- what stands there, if anything does, is the value of a line's keyval
 abbrev pub LineStarts : List ValueInfo → ℕ → Type 0

@@ -9,14 +9,14 @@ use Rattle.keep_syntax.specs.declared.info.Owner.TheVariants as owner
 use Rattle.keep_syntax.specs.declared.info.ValueInfo.{ValueInfo}
 use Rattle.keep_syntax.specs.Tree.{Name, Value}
 use Rattle.keep_syntax.specs.Grammar.{Place, in_scalar, in_array, in_inline}
-use Rattle.keep_rules.specs.declared.node.Kind.{Kind}
-use Rattle.keep_rules.specs.declared.node.Kind.TheVariants as kind
-use Rattle.keep_rules.specs.Fact.{Fact}
+use Rattle.keep_meaning.specs.declared.node.Kind.{Kind}
+use Rattle.keep_meaning.specs.declared.node.Kind.TheVariants as kind
+use Rattle.keep_meaning.specs.Fact.{Fact}
 use Rattle.keep_rules.specs.Inside.{Turn, turn_item, turn_keyed, holding_of, turn_fact, turns}
-use Rattle.keep_rules.specs.Keys.{keys_in}
-use Rattle.keep_rules.specs.Meaning.{keys_of, body_fact}
-use Rattle.keep_rules.specs.Nodes.{fact_kind}
-use Rattle.keep_rules.specs.Trie.{Holding, nothing, by_key, by_index}
+use Rattle.keep_meaning.specs.KeyText.{keys_in}
+use Rattle.keep_meaning.specs.Meaning.{keys_of, body_fact}
+use Rattle.keep_meaning.specs.Nodes.{fact_kind}
+use Rattle.keep_nodes.specs.Trie.{Holding, nothing, by_key, by_index}
 
 -- ---- what a value's leaf tells
 

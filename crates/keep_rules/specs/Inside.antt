@@ -2,13 +2,13 @@
 use Rattle.std.specs.Prelude.{◌≡◌, ℕ, suc, ◌+◌, ◌<◌, List, [], ◌∷◌, ◌++◌, length, map, Option, Some, None, slice_index_or, slice_set}
 use Rattle.keep_syntax.specs.Tree.{Name, Entries, none, entry, Value}
 use Rattle.keep_syntax.specs.Numbered.{value_count}
-use Rattle.keep_rules.specs.Fact as fact
-use Rattle.keep_rules.specs.Fact.{Fact}
-use Rattle.keep_rules.specs.Path.{Part, key, index}
-use Rattle.keep_rules.specs.Marks as marks
-use Rattle.keep_rules.specs.Marks.{Mention, below}
-use Rattle.keep_rules.specs.Meaning.{keys_of, body_fact, keyed_mentions}
-use Rattle.keep_rules.specs.Trie.{Holding, nothing, by_key, by_index}
+use Rattle.keep_meaning.specs.Fact as fact
+use Rattle.keep_meaning.specs.Fact.{Fact}
+use Rattle.keep_path.specs.Path.{Part, key, index}
+use Rattle.keep_meaning.specs.Marks as marks
+use Rattle.keep_meaning.specs.Marks.{Mention, below}
+use Rattle.keep_meaning.specs.Meaning.{keys_of, body_fact, keyed_mentions}
+use Rattle.keep_nodes.specs.Trie.{Holding, nothing, by_key, by_index}
 
 -- one value: an item, or one with a key, in the value of that number
 pub data Turn : Type 0 where

@@ -1,13 +1,10 @@
 -- A key of a document: so many of its key parts from one on.
-use Rattle.std.specs.Prelude.{◌≡◌, ℕ, ◌+◌, ◌-◌, ◌<◌, ◌≤◌, List, length, map, take, drop, Some, slice_get, slice_index_or, []}
+use Rattle.std.specs.Prelude.{◌≡◌, ℕ, ◌+◌, ◌-◌, ◌<◌, ◌≤◌, List, length, take, Some, slice_get, slice_index_or, []}
 use Rattle.keep_syntax.specs.declared.info.KeyPart.{KeyPart}
 use Rattle.keep_syntax.specs.Flat.{flat}
 use Rattle.keep_rules.specs.declared.keys.Keys.{Keys}
-use Rattle.keep_rules.specs.KeyText.{IsKeyAt, part_text}
-
--- the decoded texts of its parts
-abbrev pub keys_in : List ℕ → List KeyPart → ℕ → ℕ → List (List ℕ)
-keys_in bytes parts first count = map (part_text bytes) (take count (drop first parts))
+use Rattle.keep_meaning.specs.KeyText.{IsKeyAt}
+use Rattle.keep_meaning.specs.KeyText.{keys_in}
 
 -- such a key stands in the document
 pub record AreKeysAt (bytes : List ℕ) (parts : List KeyPart) (first count : ℕ) : Type 0 where

@@ -1,13 +1,13 @@
 -- How paths and states stand for what was said so far.
 use Rattle.std.specs.Prelude.{◌≡◌, ℕ, ◌<◌, List, [], length, Option, None, slice_index_or, Contains}
 use Rattle.std.specs.List.{filter_map}
-use Rattle.keep_rules.specs.declared.role.Role.{Role}
-use Rattle.keep_rules.specs.Path.{Part}
-use Rattle.keep_rules.specs.Rules.{ObeysRules}
-use Rattle.keep_rules.specs.Marks.{Mention, marks, role_of}
-use Rattle.keep_rules.specs.Nodes.{node_paths, says_at}
-use Rattle.keep_rules.specs.State.{IsState}
-use Rattle.keep_rules.specs.Trie.{Twig, IsTrie, paths_of, states_of}
+use Rattle.keep_meaning.specs.declared.role.Role.{Role}
+use Rattle.keep_path.specs.Path.{Part}
+use Rattle.keep_meaning.specs.Rules.{ObeysRules}
+use Rattle.keep_meaning.specs.Marks.{Mention, marks, role_of}
+use Rattle.keep_meaning.specs.Nodes.{node_paths, says_at}
+use Rattle.keep_meaning.specs.State.{IsState}
+use Rattle.keep_nodes.specs.Trie.{Twig, IsTrie, paths_of, states_of}
 
 -- the roles of the marks at a path
 abbrev pub roles_said : List Part → List Mention → List Role

@@ -2,10 +2,10 @@
 use Rattle.std.specs.Prelude.{◌≡◌, ℕ, ◌<◌, List, [], ◌∷◌, length, map, Option, slice_index_or, slice_get}
 use Rattle.std.specs.Option.{option_map, option_and_then}
 use Rattle.keep_rules.specs.declared.index.NodeId.{NodeId}
-use Rattle.keep_rules.specs.AllNodes.{Node}
-use Rattle.keep_rules.specs.Path.{Part}
-use Rattle.keep_rules.specs.Nodes.{node_number, children}
-use Rattle.keep_rules.specs.Told.{Telling}
+use Rattle.keep_nodes.specs.AllNodes.{Node}
+use Rattle.keep_path.specs.Path.{Part}
+use Rattle.keep_meaning.specs.Nodes.{node_number, children}
+use Rattle.keep_nodes.specs.Told.{Telling}
 
 -- the number of the node that was found
 abbrev pub number_of : Option NodeId → Option ℕ

@@ -4,15 +4,15 @@ use Rattle.keep_syntax.specs.declared.fault.Why.{Why}
 use Rattle.keep_syntax.specs.declared.info.KeyPart.{KeyPart}
 use Rattle.keep_syntax.specs.declared.info.ValueInfo.{ValueInfo}
 use Rattle.keep_syntax.specs.Flat.{Flat}
-use Rattle.keep_rules.specs.AllNodes.{Node}
+use Rattle.keep_nodes.specs.AllNodes.{Node}
 use Rattle.keep_rules.specs.declared.ways.Fault.{Fault}
 use Rattle.keep_rules.specs.declared.ways.Fault.TheVariants.{Define, Memory}
-use Rattle.keep_rules.specs.KeyText.{IsKeyAt}
-use Rattle.keep_rules.specs.Path.{Part}
-use Rattle.keep_rules.specs.Marks.{Mention}
+use Rattle.keep_meaning.specs.KeyText.{IsKeyAt}
+use Rattle.keep_path.specs.Path.{Part}
+use Rattle.keep_meaning.specs.Marks.{Mention}
 use Rattle.keep_rules.specs.Inside.{Inside, Turn, Suits, AllSuit, turn_said, turns_said}
-use Rattle.keep_rules.specs.Trie.{Twig}
-use Rattle.keep_rules.specs.Stored.{twigs, telling}
+use Rattle.keep_nodes.specs.Trie.{Twig}
+use Rattle.keep_nodes.specs.Stored.{twigs, telling}
 use Rattle.keep_rules.specs.Standing.{IsWorld, FaultIn}
 use Rattle.keep_rules.specs.Reads.{AreInside}
 use Rattle.keep_rules.specs.Took.{turn_keys, HasKeys, Stand, Took}

@@ -11,12 +11,12 @@ use Rattle.keep_syntax.specs.Grammar.{Reads, ReadsValue}
 use Rattle.keep_syntax.specs.Tree.{Value, Document}
 use Rattle.keep_rules.specs.declared.ways.Fault.{Fault}
 use Rattle.keep_rules.specs.declared.ways.Fault.TheVariants.{Define, Memory}
-use Rattle.keep_rules.specs.Faults.{IsFaultIn, IsFaultInValue}
-use Rattle.keep_rules.specs.Marks.{marks}
-use Rattle.keep_rules.specs.Meaning.{said_in, value_said}
-use Rattle.keep_rules.specs.Nodes.{node_path, nodes_in, infos_in}
-use Rattle.keep_rules.specs.Rules.{ObeysRules}
-use Rattle.keep_rules.specs.Told.{Telling}
+use Rattle.keep_meaning.specs.Faults.{IsFaultIn, IsFaultInValue}
+use Rattle.keep_meaning.specs.Marks.{marks}
+use Rattle.keep_meaning.specs.Meaning.{said_in, value_said}
+use Rattle.keep_meaning.specs.Nodes.{node_path, nodes_in, infos_in}
+use Rattle.keep_meaning.specs.Rules.{ObeysRules}
+use Rattle.keep_nodes.specs.Told.{Telling}
 
 -- The text was read as this document, in some profile and to some depth, and the syntax is what is known of it.
 pub record WasRead (bytes : List ℕ) (s : Syntax) (d : Document) : Type 0 where

@@ -6,12 +6,12 @@ use Rattle.keep_syntax.specs.declared.info.StatementKind.{StatementKind}
 use Rattle.keep_syntax.specs.declared.info.StatementKind.TheVariants.{Element}
 use Rattle.keep_syntax.specs.Flat.{Flat}
 use Rattle.keep_rules.specs.declared.keys.Keys.{Keys}
-use Rattle.keep_rules.specs.AllNodes.{Node}
-use Rattle.keep_rules.specs.Marks as marks
-use Rattle.keep_rules.specs.Marks.{Mention, Reading, statement_mentions}
-use Rattle.keep_rules.specs.Counts.{Count}
-use Rattle.keep_rules.specs.Trie.{Twig}
-use Rattle.keep_rules.specs.Stored.{twigs}
+use Rattle.keep_nodes.specs.AllNodes.{Node}
+use Rattle.keep_meaning.specs.Marks as marks
+use Rattle.keep_meaning.specs.Marks.{Mention, Reading, statement_mentions}
+use Rattle.keep_meaning.specs.Counts.{Count}
+use Rattle.keep_nodes.specs.Trie.{Twig}
+use Rattle.keep_nodes.specs.Stored.{twigs}
 use Rattle.keep_rules.specs.Reads.{IsReading, Reads}
 use Rattle.keep_rules.specs.Tells.{TellsTurn}
 use Rattle.keep_rules.specs.Statements.{header_of, element_of}

@@ -1,8 +1,8 @@
 -- What reading a statement, or a value in it, does to the nodes.
 use Rattle.std.specs.Prelude.{◌≡◌, ℕ, ◌<◌, false, List, ◌++◌, length, slice_index_or}
 use Rattle.keep_syntax.specs.declared.fault.Why.{Why}
-use Rattle.keep_rules.specs.Marks.{Mention, Reading, Statement, statement_mentions, next_reading}
-use Rattle.keep_rules.specs.Trie.{Twig, by_key, by_index, path_at, state_at, holds_at, children_of}
+use Rattle.keep_meaning.specs.Marks.{Mention, Reading, Statement, statement_mentions, next_reading}
+use Rattle.keep_nodes.specs.Trie.{Twig, by_key, by_index, path_at, state_at, holds_at, children_of}
 use Rattle.keep_rules.specs.Tables.{is_tables}
 use Rattle.keep_rules.specs.Standing.{IsWorld, IsOpen, FaultIn}
 use Rattle.keep_rules.specs.Inside.{Inside, path_of_value, holding_of_value, entries_of_value}

@@ -1,12 +1,12 @@
 -- How the nodes stand for what was said so far, and what a key part, an element and an item do to them.
 use Rattle.std.specs.Prelude.{◌≡◌, ℕ, ◌<◌, ◌≤◌, ◌-◌, List, [], ◌∷◌, ◌++◌, length, Some, slice_index_or, true, false}
 use Rattle.keep_syntax.specs.declared.fault.Why.{Why}
-use Rattle.keep_rules.specs.declared.role.Role.{Role}
-use Rattle.keep_rules.specs.declared.role.Role.TheVariants.{Element, Through, Value}
-use Rattle.keep_rules.specs.Path.{Part, key, index}
-use Rattle.keep_rules.specs.Rules.{allows, ObeysRules, IsRefused, why_of}
-use Rattle.keep_rules.specs.Marks.{Saying, Mention, marks, role_of, passing_mentions, entered_path, elements_of, element, begun}
-use Rattle.keep_rules.specs.Trie.{Twig, Holding, by_key, by_index, IsTrie, path_at, state_at, holds_at, children_of}
+use Rattle.keep_meaning.specs.declared.role.Role.{Role}
+use Rattle.keep_meaning.specs.declared.role.Role.TheVariants.{Element, Through, Value}
+use Rattle.keep_path.specs.Path.{Part, key, index}
+use Rattle.keep_meaning.specs.Rules.{allows, ObeysRules, IsRefused, why_of}
+use Rattle.keep_meaning.specs.Marks.{Saying, Mention, marks, role_of, passing_mentions, entered_path, elements_of, element, begun}
+use Rattle.keep_nodes.specs.Trie.{Twig, Holding, by_key, by_index, IsTrie, path_at, state_at, holds_at, children_of}
 use Rattle.keep_rules.specs.Tables.{is_tables, IsShaped, AreTables, AllBegun}
 use Rattle.keep_rules.specs.Known.{IsIndexOf}
 

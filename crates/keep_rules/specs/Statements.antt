@@ -1,6 +1,6 @@
 -- What the keys of headers mean.
 use Rattle.keep_rules.specs.declared.keys.Keys.{Keys}
-use Rattle.keep_rules.specs.Marks as marks
+use Rattle.keep_meaning.specs.Marks as marks
 use Rattle.keep_rules.specs.Keys.{key_texts}
 
 abbrev pub header_of : Keys → marks.Statement

@@ -1,9 +1,9 @@
 -- Ways through the nodes: a header's, a keyval's, and an item of an array.
 use Rattle.std.specs.Prelude.{◌≡◌, ℕ, ◌<◌, ◌≤◌, false, List, [], ◌∷◌, ◌++◌, length, map}
-use Rattle.keep_rules.specs.Path.{Part, key, index}
-use Rattle.keep_rules.specs.Fact.{Fact}
-use Rattle.keep_rules.specs.Marks.{Mention, value, item}
-use Rattle.keep_rules.specs.Trie.{Twig, Holding, path_at, state_at, holds_at, children_of}
+use Rattle.keep_path.specs.Path.{Part, key, index}
+use Rattle.keep_meaning.specs.Fact.{Fact}
+use Rattle.keep_meaning.specs.Marks.{Mention, value, item}
+use Rattle.keep_nodes.specs.Trie.{Twig, Holding, path_at, state_at, holds_at, children_of}
 use Rattle.keep_rules.specs.Tables.{is_tables, IsShaped}
 use Rattle.keep_rules.specs.Standing.{Keeps, KeepsItems, IsWorld, IsOpen}
 use Rattle.keep_rules.specs.Ways.{header_at, header_said, dotted_way}

@@ -1,11 +1,11 @@
 -- How the nodes stand for arrays, tables and arrays of tables.
 use Rattle.std.specs.Prelude.{◌≡◌, ℕ, ◌<◌, Bool, true, false, List, [], ◌∷◌, ◌++◌, length, Option, Some, None, IsSome, slice_index_or, if◌then◌else◌, Contains}
-use Rattle.keep_rules.specs.declared.role.Role.{Role}
-use Rattle.keep_rules.specs.declared.role.Role.TheVariants.{Element, Through}
-use Rattle.keep_rules.specs.Path.{Part, key, index}
-use Rattle.keep_rules.specs.Rules.{allows}
-use Rattle.keep_rules.specs.Marks.{elements_of}
-use Rattle.keep_rules.specs.Trie.{Twig, Holding, by_key, by_index, paths_of, path_at, state_at, holds_at, children_of}
+use Rattle.keep_meaning.specs.declared.role.Role.{Role}
+use Rattle.keep_meaning.specs.declared.role.Role.TheVariants.{Element, Through}
+use Rattle.keep_path.specs.Path.{Part, key, index}
+use Rattle.keep_meaning.specs.Rules.{allows}
+use Rattle.keep_meaning.specs.Marks.{elements_of}
+use Rattle.keep_nodes.specs.Trie.{Twig, Holding, by_key, by_index, paths_of, path_at, state_at, holds_at, children_of}
 
 -- a path in this state names an array of tables
 abbrev pub is_tables : Option Role → Bool

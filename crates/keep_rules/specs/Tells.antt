@@ -3,17 +3,17 @@ use Rattle.std.specs.Prelude.{◌≡◌, ℕ, List, [], ◌∷◌, ◌++◌, len
 use Rattle.keep_syntax.specs.declared.info.Span.{Span}
 use Rattle.keep_syntax.specs.declared.info.KeyPart.{KeyPart}
 use Rattle.keep_syntax.specs.declared.info.ValueInfo.{ValueInfo}
-use Rattle.keep_rules.specs.declared.node.Kind.{Kind}
-use Rattle.keep_rules.specs.declared.node.NodeInfo.{NodeInfo}
-use Rattle.keep_rules.specs.AllNodes.{Node}
-use Rattle.keep_rules.specs.Fact.{Fact}
-use Rattle.keep_rules.specs.Path.{Part, index}
-use Rattle.keep_rules.specs.Marks.{Mention, element, begun, elements_of, Reading, Statement, statement_mentions}
-use Rattle.keep_rules.specs.Counts.{Count, numbered_mentions}
-use Rattle.keep_rules.specs.Nodes.{fact_kind, value_span, key_span}
-use Rattle.keep_rules.specs.Told.{tell, tell_all, ValuesAreNew}
-use Rattle.keep_rules.specs.Trie.{paths_of, path_at, children_of}
-use Rattle.keep_rules.specs.Stored.{twigs, telling}
+use Rattle.keep_meaning.specs.declared.node.Kind.{Kind}
+use Rattle.keep_meaning.specs.declared.node.NodeInfo.{NodeInfo}
+use Rattle.keep_nodes.specs.AllNodes.{Node}
+use Rattle.keep_meaning.specs.Fact.{Fact}
+use Rattle.keep_path.specs.Path.{Part, index}
+use Rattle.keep_meaning.specs.Marks.{Mention, element, begun, elements_of, Reading, Statement, statement_mentions}
+use Rattle.keep_meaning.specs.Counts.{Count, numbered_mentions}
+use Rattle.keep_meaning.specs.Nodes.{fact_kind, value_span, key_span}
+use Rattle.keep_nodes.specs.Told.{tell, tell_all, ValuesAreNew}
+use Rattle.keep_nodes.specs.Trie.{paths_of, path_at, children_of}
+use Rattle.keep_nodes.specs.Stored.{twigs, telling}
 use Rattle.keep_rules.specs.Standing.{IsWorld}
 use Rattle.keep_rules.specs.Reads.{IsReading}
 use Rattle.keep_rules.specs.Inside.{Inside, turn_item, turn_keyed, path_of_value, entries_of_value, turn_said}

@@ -2,15 +2,15 @@
 use Rattle.std.specs.Prelude.{◌≡◌, ℕ, ◌+◌, ◌<◌, List, [], ◌∷◌, ◌++◌, length}
 use Rattle.keep_syntax.specs.declared.info.KeyPart.{KeyPart}
 use Rattle.keep_syntax.specs.declared.info.ValueInfo.{ValueInfo}
-use Rattle.keep_rules.specs.Path.{Part}
-use Rattle.keep_rules.specs.Marks.{Mention}
-use Rattle.keep_rules.specs.Counts.{Count, numbered_mentions}
+use Rattle.keep_path.specs.Path.{Part}
+use Rattle.keep_meaning.specs.Marks.{Mention}
+use Rattle.keep_meaning.specs.Counts.{Count, numbered_mentions}
 use Rattle.keep_rules.specs.Inside.{Inside, Turn, turn_item, turn_keyed, turns_said, inside_after}
-use Rattle.keep_rules.specs.Trie.{Twig}
+use Rattle.keep_nodes.specs.Trie.{Twig}
 use Rattle.keep_rules.specs.Tables.{IsShaped}
 use Rattle.keep_rules.specs.Standing.{Keeps, IsWorld}
 use Rattle.keep_rules.specs.Reads.{AreInside}
-use Rattle.keep_rules.specs.Told.{Telling, tell_all, ValuesAreNew}
+use Rattle.keep_nodes.specs.Told.{Telling, tell_all, ValuesAreNew}
 
 -- how many key parts a value has
 abbrev pub turn_keys : Turn → ℕ

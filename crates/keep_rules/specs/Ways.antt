@@ -1,7 +1,7 @@
 -- A key by its parts but the last, and the last: what is said on its way, and where the way leads.
 use Rattle.std.specs.Prelude.{ℕ, List, [], ◌∷◌, ◌++◌}
-use Rattle.keep_rules.specs.Path.{Part, key}
-use Rattle.keep_rules.specs.Marks.{Mention, dotted, passing_mentions, entered_path}
+use Rattle.keep_path.specs.Path.{Part, key}
+use Rattle.keep_meaning.specs.Marks.{Mention, dotted, passing_mentions, entered_path}
 
 -- where the keys on a header's way lead, from a path on
 abbrev pub header_at : List (List Part) → List Part → List (List ℕ) → List Part

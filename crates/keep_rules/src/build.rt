@@ -1,29 +1,26 @@
 //! Reading the headers and keyvals of a document into its nodes.
 ghost use Rattle.std.specs.Prelude.{◌≡◌, ◌<◌, ℕ, length, List, IfOk, OnOk, IfErr};
-ghost use Rattle.keep_rules.specs.Children.{holding};
-ghost use Rattle.keep_rules.specs.Fact.{Fact};
+ghost use Rattle.keep_nodes.specs.Children.{holding};
+ghost use Rattle.keep_meaning.specs.Fact.{Fact};
 ghost use Rattle.keep_rules.specs.Inside.{Inside, path_of_value, turn_said, turn_keyed};
 ghost use Rattle.keep_rules.specs.Keys.{AreKeys, parts_of, key_texts, last_text, way_texts};
-ghost use Rattle.keep_rules.specs.Marks.{Mention};
-ghost use Rattle.keep_rules.specs.Path.{Part};
+ghost use Rattle.keep_meaning.specs.Marks.{Mention};
+ghost use Rattle.keep_path.specs.Path.{Part};
 ghost use Rattle.keep_rules.specs.Reads.{Reads, FaultsIn};
 ghost use Rattle.keep_rules.specs.Standing.{IsWorld, FaultIn};
 ghost use Rattle.keep_rules.specs.Statements.{header_of, element_of};
 ghost use Rattle.keep_rules.specs.Steps.{Gives};
 ghost use Rattle.keep_rules.specs.Stops.{FaultSays, fault_of_key};
-ghost use Rattle.keep_rules.specs.Stored.{IsStored, twigs};
+ghost use Rattle.keep_nodes.specs.Stored.{IsStored, twigs};
 ghost use Rattle.keep_rules.specs.Tables.{IsShaped};
 ghost use Rattle.keep_rules.specs.Tells.{StatementTells, KeyedTells};
-ghost use Rattle.keep_rules.specs.Trie.{by_key, holds_at, path_at};
+ghost use Rattle.keep_nodes.specs.Trie.{by_key, holds_at, path_at};
 
-use crate::children::Holds;
 use crate::keys::Keys;
 use crate::mark::{Stop, begin, mark};
-use crate::node::{Kind, Place};
-use crate::nodes::Nodes;
-use crate::role::Role;
-use crate::told::Told;
 use crate::ways::{Fault, dots, walk};
+use keep_meaning::{Kind, Place, Role};
+use keep_nodes::{Holds, Nodes, Told};
 use keep_syntax::{Span, Why};
 
 /// The fault of the key of that number.

@@ -2,30 +2,28 @@
 ghost use Rattle.std.specs.Prelude.{◌≡◌, ◌<◌, length, IfOk, IfErr};
 ghost use Rattle.keep_syntax.specs.Flat.{flat};
 ghost use Rattle.keep_syntax.specs.Tree.{Document, Value};
-ghost use Rattle.keep_rules.specs.Children.{holding};
+ghost use Rattle.keep_nodes.specs.Children.{holding};
 ghost use Rattle.keep_rules.specs.ReadDocuments.{WasRead, WasReadAlone, IsIndexOf, ValueObeys, IsRefusal, IsValueRefusal, IsFaultAt};
 ghost use Rattle.keep_rules.specs.Roots.{IsRoot};
 ghost use Rattle.keep_rules.specs.Stops.{FaultSays};
-ghost use Rattle.keep_rules.specs.Stored.{IsStored, telling, twigs};
-ghost use Rattle.keep_rules.specs.Trie.{by_key, holds_at};
+ghost use Rattle.keep_nodes.specs.Stored.{IsStored, telling, twigs};
+ghost use Rattle.keep_nodes.specs.Trie.{by_key, holds_at};
 
-use crate::children::Holds;
 use crate::inside::{push_id, read_inside};
 use crate::kinds::holds_of_leaf;
-use crate::node::{Kind, Place};
-use crate::nodes::Nodes;
 use crate::statement::read_statement;
-use crate::told::Told;
 use crate::ways::Fault;
+use keep_meaning::{Kind, Place};
+use keep_nodes::{Holds, Nodes, Told};
 use keep_syntax::{Parts, ReadFault, Syntax, ValueSyntax};
 use std::alloc::{AllocError, Global};
 
-/// The root alone, which holds this.
-fn root(alloc: Global, holds: Holds) -> Result<Nodes, AllocError>
+/// The root of a document or a value of that text alone, which holds this.
+fn root(alloc: Global, text: &str, holds: Holds) -> Result<Nodes, AllocError>
     ensures { IfOk result (λ nodes. IsRoot nodes.items (holding holds)) }
 {
     let told = Told::unnamed(Kind::Table, None, Place::Root);
-    let mut nodes = Nodes::new(alloc);
+    let mut nodes = Nodes::new(alloc, text);
     nodes.push(0, 0, told, holds)?;
     Ok(nodes)
 }
@@ -53,7 +51,7 @@ pub fn read_document(alloc: Global, text: &str, syntax: &Syntax) -> Result<Nodes
     ensures faults { IfErr result (λ fault. (d : Document) → WasRead text.now syntax.now d → IsRefusal d fault) }
 {
     let parts = syntax.parts();
-    let mut nodes = root(alloc, Holds::Keys)?;
+    let mut nodes = root(alloc, text, Holds::Keys)?;
     let mut ids = Vec::new(alloc);
     let mut body = 0;
     for number in 0..syntax.statement_count() {
@@ -74,7 +72,7 @@ pub fn read_alone(alloc: Global, text: &str, syntax: &ValueSyntax) -> Result<(),
 {
     let parts = syntax.parts();
     let holds = holds_of_leaf(syntax.value(0).leaf);
-    let mut nodes = root(alloc, holds)?;
+    let mut nodes = root(alloc, text, holds)?;
     let mut ids = Vec::new(alloc);
     push_id(&mut ids, 0)?;
     match read_inside(&mut nodes, &mut ids, text, parts, 1, 1) {

@@ -1,20 +1,22 @@
 //! The nodes of a document, and what can be asked of them.
-ghost use Rattle.std.specs.Prelude.{◌≡◌, ℕ, ◌+◌, ◌<◌, ◌≤◌, ◌∷◌, ◌++◌, [], None, Some, IfOk, IfErr, IfSome, IsOkUnless, OnOk, if◌then◌else◌, length, nat_lt, slice_get, take};
+ghost use Rattle.std.specs.Prelude.{◌≡◌, ℕ, ◌+◌, ◌-◌, ◌<◌, ◌≤◌, ◌∷◌, ◌++◌, [], None, Some, IfOk, IfErr, IfSome, IsOkUnless, OnOk, if◌then◌else◌, length, nat_lt, slice_get, string_bytes, take};
 ghost use Rattle.keep_syntax.specs.Tree.{Document, Value};
 ghost use Rattle.keep_syntax.specs.declared.fault.ReadFault.TheVariants.{Memory};
 ghost use Rattle.keep_rules.specs.Lookup.{number_of, path_numbered, children_numbered, nth_child};
-ghost use Rattle.keep_rules.specs.Marks.{marks};
-ghost use Rattle.keep_rules.specs.Meaning.{said_in};
-ghost use Rattle.keep_rules.specs.Nodes.{node_number};
-ghost use Rattle.keep_rules.specs.Path.{key, index};
+ghost use Rattle.keep_meaning.specs.Marks.{marks};
+ghost use Rattle.keep_meaning.specs.Meaning.{said_in};
+ghost use Rattle.keep_meaning.specs.Nodes.{node_number};
+ghost use Rattle.keep_path.specs.Path.{key, index};
+ghost use Rattle.keep_path.specs.PathText.{encoded_path};
 ghost use Rattle.keep_rules.specs.ReadDocuments.{WasRead, WasReadAlone, IsIndexOf, ValueObeys, IsRefusal, IsValueRefusal};
-ghost use Rattle.keep_rules.specs.Rules.{ObeysRules};
+ghost use Rattle.keep_meaning.specs.Rules.{ObeysRules};
 
 use crate::document::{read_alone, read_document};
-use crate::node::NodeInfo;
-use crate::nodes::Nodes;
-use crate::path::Path;
+use crate::path_text::push_path;
 use crate::queries::{child_by, path_to};
+use keep_meaning::NodeInfo;
+use keep_nodes::Nodes;
+use keep_path::Path;
 use keep_syntax::{ReadFault, Syntax, ValueSyntax};
 use std::alloc::{AllocError, Global};
 use std::marker::Model;
@@ -33,12 +35,12 @@ pub struct Index {
 
 impl Model for Index {
     ghost use Rattle.std.specs.Prelude.{◌≡◌};
-    ghost use Rattle.keep_rules.specs.Told.{Telling};
+    ghost use Rattle.keep_nodes.specs.Told.{Telling};
 
     ghost Value = { Telling };
 
-    ghost use Rattle.keep_rules.specs.Stored.{IsStored, telling, twigs};
-    ghost use Rattle.keep_rules.specs.Trie.{by_key, holds_at};
+    ghost use Rattle.keep_nodes.specs.Stored.{IsStored, telling, twigs};
+    ghost use Rattle.keep_nodes.specs.Trie.{by_key, holds_at};
 
     ghost view = { λ i. telling i.nodes.items };
 
@@ -108,6 +110,16 @@ impl Index {
         path_to(alloc, &self.nodes, id.0)
     }
 
+    /// Adds the text of the node's path, as `Path::encode` writes it. No path is made: beside the text it takes the memory of
+    /// the node numbers from the node up to the root. The only error is that memory was refused; then `out` may have grown by
+    /// a part of the text.
+    pub fn push_path_text(&self, id: NodeId, out: &mut String) -> Result<(), AllocError>
+        requires { id.0 < length self.now.paths }
+        ensures { OnOk result (string_bytes out.new ≡ string_bytes out.old ++ encoded_path (path_numbered self.now id.0)) }
+    {
+        push_path(out, &self.nodes, id.0)
+    }
+
     /// The node of that path; None where the document has none there. It takes no memory, and one look-up for each step.
     pub fn find(&self, path: &Path) -> Option<NodeId>
         ensures found { number_of result ≡ node_number self.now.paths path.now }
@@ -136,6 +148,17 @@ impl Index {
         ensures within { IfSome result (λ id. id.0 < length self.now.paths) }
     {
         self.nodes.child(id.0, text).map(NodeId)
+    }
+
+    /// The node of a path with this key, decoded, in place of its last step; None if the document has none there. For the
+    /// root's path it is a key of the root.
+    pub fn sibling(&self, path: &Path, text: &str) -> Option<NodeId>
+        ensures found { number_of result ≡ node_number self.now.paths (take (length path.now - 1) path.now ++ key text.now ∷ []) }
+        ensures within { IfSome result (λ id. id.0 < length self.now.paths) }
+    {
+        let nodes = &self.nodes;
+        let parent = self.find_first(path, path.len().saturating_sub(1))?;
+        nodes.child(parent.0, text).map(NodeId)
     }
 
     /// How many nodes stand one step below: a table's keys, an array's items or the elements of an array of tables; 0

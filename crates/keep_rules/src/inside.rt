@@ -4,15 +4,15 @@ ghost use Rattle.keep_syntax.specs.Flat.{flat};
 ghost use Rattle.keep_rules.specs.Inside.{Inside, Turn};
 ghost use Rattle.keep_rules.specs.Plans.{AreReadable, IsNext, AreNext, HasWorld, TookTurn, TurnFaults, TookTurns, TurnsFault, fault_from};
 ghost use Rattle.keep_rules.specs.Stops.{FaultSays};
-ghost use Rattle.keep_rules.specs.Stored.{IsStored, twigs};
+ghost use Rattle.keep_nodes.specs.Stored.{IsStored, twigs};
 ghost use Rattle.keep_rules.specs.Tables.{IsShaped};
 
 use crate::build::give_value;
 use crate::keys::Keys;
 use crate::kinds::{holds_of_leaf, kind_of};
 use crate::mark::give_item;
-use crate::nodes::Nodes;
 use crate::ways::Fault;
+use keep_nodes::Nodes;
 use keep_syntax::{Owner, Parts, ValueInfo};
 use std::alloc::AllocError;
 

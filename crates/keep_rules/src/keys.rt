@@ -1,10 +1,10 @@
 //! The keys of a document, as they stand in it.
 ghost use Rattle.std.specs.Prelude.{◌≡◌, ◌+◌, ◌<◌, Some, slice_get, IfOk};
-ghost use Rattle.keep_rules.specs.KeyText.{text_of_key};
+ghost use Rattle.keep_meaning.specs.KeyText.{text_of_key};
 ghost use Rattle.keep_rules.specs.Keys.{AreKeys, parts_of, key_text_at};
-ghost use Rattle.keep_rules.specs.Nodes.{key_span};
+ghost use Rattle.keep_meaning.specs.Nodes.{key_span};
 
-use crate::key_text::{KeyText, key_text};
+use keep_meaning::key_text::{KeyText, key_text};
 use keep_syntax::{KeyPart, Parts, Span};
 use std::alloc::{AllocError, Global};
 

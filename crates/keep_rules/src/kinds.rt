@@ -1,10 +1,10 @@
 //! What a value's leaf tells of its node.
 ghost use Rattle.std.specs.Prelude.{◌≡◌};
-ghost use Rattle.keep_rules.specs.Children.{holding};
+ghost use Rattle.keep_nodes.specs.Children.{holding};
 ghost use Rattle.keep_rules.specs.FlatValues.{leaf_kind, leaf_holding};
 
-use crate::children::Holds;
-use crate::node::Kind;
+use keep_meaning::Kind;
+use keep_nodes::Holds;
 use keep_token::Leaf;
 
 /// The kind of a value.

@@ -1,21 +1,18 @@
 //! Making marks at the nodes.
 ghost use Rattle.std.specs.Prelude.{◌≡◌, ℕ, List, ◌<◌, ◌∷◌, ◌++◌, [], length, IfOk, OnOk, Err, IfSome, IfNone, false};
-ghost use Rattle.keep_rules.specs.Children.{holding};
-ghost use Rattle.keep_rules.specs.Marks.{passing_mentions};
-ghost use Rattle.keep_rules.specs.Path.{Part, key};
+ghost use Rattle.keep_nodes.specs.Children.{holding};
+ghost use Rattle.keep_meaning.specs.Marks.{passing_mentions};
+ghost use Rattle.keep_path.specs.Path.{Part, key};
 ghost use Rattle.keep_rules.specs.Standing.{IsMarked, WasRefused, IsLastElement, HasNoElement, Passes, Begins};
 ghost use Rattle.keep_rules.specs.Steps.{AddsItem};
-ghost use Rattle.keep_rules.specs.Stored.{IsStored, twigs};
+ghost use Rattle.keep_nodes.specs.Stored.{IsStored, twigs};
 ghost use Rattle.keep_rules.specs.Tables.{Fits, IsShaped, is_tables};
 ghost use Rattle.keep_rules.specs.Tells.{TellsOne, KeyTells, ItemTells, begin_mentions};
-ghost use Rattle.keep_rules.specs.Told.{info_of};
-ghost use Rattle.keep_rules.specs.Trie.{Holding, by_key, by_index, holds_at, path_at, state_at};
+ghost use Rattle.keep_nodes.specs.Told.{info_of};
+ghost use Rattle.keep_nodes.specs.Trie.{Holding, by_key, by_index, holds_at, path_at, state_at};
 
-use crate::children::Holds;
-use crate::node::{Kind, Place};
-use crate::nodes::{Nodes, add_item, add_key, child_of, set_role, tell_more};
-use crate::role::{Role, names_tables, state_after};
-use crate::told::Told;
+use keep_meaning::{Kind, Place, Role, state_after};
+use keep_nodes::{Holds, Nodes, Told, add_item, add_key, child_of, set_role, tell_more};
 use keep_syntax::Span;
 use std::alloc::AllocError;
 
@@ -177,4 +174,11 @@ pub fn give_item(
 {
     let told = Told::unnamed(kind, Some(span), Place::Value(value));
     add_item(nodes, array, told, holds)
+}
+
+/// Whether a path in this state is that of an array of tables.
+pub fn names_tables(state: Option<Role>) -> bool
+    ensures { result ≡ is_tables state }
+{
+    matches!(state, Some(Role::Element | Role::Past))
 }

@@ -1,14 +1,13 @@
 //! Looking up nodes by steps, and finding the way back.
 ghost use Rattle.std.specs.Prelude.{◌≡◌, ◌<◌, ◌∷◌, ◌++◌, [], IfOk, OnOk, length};
 ghost use Rattle.keep_rules.specs.Lookup.{parent_at, IsWay};
-ghost use Rattle.keep_rules.specs.Nodes.{node_number};
-ghost use Rattle.keep_rules.specs.Step.{part_of};
-ghost use Rattle.keep_rules.specs.Stored.{IsStored, twigs};
-ghost use Rattle.keep_rules.specs.Trie.{by_key, holds_at, path_at, paths_of};
+ghost use Rattle.keep_meaning.specs.Nodes.{node_number};
+ghost use Rattle.keep_path.specs.Step.{part_of};
+ghost use Rattle.keep_nodes.specs.Stored.{IsStored, twigs};
+ghost use Rattle.keep_nodes.specs.Trie.{by_key, holds_at, path_at, paths_of};
 
-use crate::nodes::Nodes;
-use crate::path::Path;
-use crate::step::Step;
+use keep_nodes::Nodes;
+use keep_path::{Path, Step};
 use std::alloc::{AllocError, Global};
 
 /// The node below another by one step.
@@ -39,7 +38,7 @@ pub fn path_to(alloc: Global, nodes: &Nodes, id: usize) -> Result<Path, AllocErr
 }
 
 /// The nodes from one up to below the root.
-fn way_up(alloc: Global, nodes: &Nodes, id: usize) -> Result<Vec<usize>, AllocError>
+pub(crate) fn way_up(alloc: Global, nodes: &Nodes, id: usize) -> Result<Vec<usize>, AllocError>
     requires stored { IsStored nodes.now.items }
     requires within { id < length nodes.now.items }
     ensures { IfOk result (λ way. IsWay nodes.now.items id way.items 0) }

@@ -3,22 +3,22 @@ ghost use Rattle.std.specs.Prelude.{◌≡◌, ℕ, List, Some, None, IfOk, OnOk
 ghost use Rattle.keep_syntax.specs.Flat.{flat};
 ghost use Rattle.keep_rules.specs.FlatStatements.{SaysStatement};
 ghost use Rattle.keep_rules.specs.Keys.{AreKeys, parts_of};
-ghost use Rattle.keep_rules.specs.Marks as marks;
+ghost use Rattle.keep_meaning.specs.Marks as marks;
 ghost use Rattle.keep_rules.specs.Plans.{AreReadable};
 ghost use Rattle.keep_rules.specs.ReadStatements.{HasReading, IsReadAsSaid, BreaksAsSaid, head_of};
 ghost use Rattle.keep_rules.specs.Reads.{Reads, FaultsIn};
 ghost use Rattle.keep_rules.specs.Stops.{FaultSays};
-ghost use Rattle.keep_rules.specs.Stored.{IsStored, twigs};
+ghost use Rattle.keep_nodes.specs.Stored.{IsStored, twigs};
 ghost use Rattle.keep_rules.specs.Tables.{IsShaped};
 ghost use Rattle.keep_rules.specs.Tells.{StatementTells};
-ghost use Rattle.keep_rules.specs.Trie.{by_key, holds_at};
+ghost use Rattle.keep_nodes.specs.Trie.{by_key, holds_at};
 
 use crate::build::{element, give_value, header};
 use crate::inside::{fault_from, push_id, read_inside};
 use crate::keys::Keys;
 use crate::kinds::{holds_of_leaf, kind_of};
-use crate::nodes::Nodes;
 use crate::ways::Fault;
+use keep_nodes::Nodes;
 use keep_syntax::{Parts, Statement, StatementKind};
 
 /// Reads a header of this kind, the statement of that number, and gives the node that it defines or begins.

@@ -1,24 +1,21 @@
 //! The ways of headers and keyvals, key by key.
 ghost use Rattle.std.specs.Prelude.{◌≡◌, ◌<◌, length, List, [], IfOk, OnOk, IfErr};
 ghost use Rattle.keep_rules.specs.Keys.{AreKeys, parts_of, way_texts};
-ghost use Rattle.keep_rules.specs.Marks.{Mention};
-ghost use Rattle.keep_rules.specs.Path.{Part};
+ghost use Rattle.keep_meaning.specs.Marks.{Mention};
+ghost use Rattle.keep_path.specs.Path.{Part};
 ghost use Rattle.keep_rules.specs.Standing.{IsWorld, FaultIn};
 ghost use Rattle.keep_rules.specs.Steps.{Walks, Dots};
 ghost use Rattle.keep_rules.specs.Stops.{FaultSays};
-ghost use Rattle.keep_rules.specs.Stored.{IsStored, twigs};
+ghost use Rattle.keep_nodes.specs.Stored.{IsStored, twigs};
 ghost use Rattle.keep_rules.specs.Tables.{IsShaped};
 ghost use Rattle.keep_rules.specs.Tells.{HeaderTells, WayTells};
-ghost use Rattle.keep_rules.specs.Trie.{by_key, holds_at, path_at};
+ghost use Rattle.keep_nodes.specs.Trie.{by_key, holds_at, path_at};
 ghost use Rattle.keep_rules.specs.Ways.{header_said, dotted_way};
 
-use crate::children::Holds;
 use crate::keys::Keys;
 use crate::mark::{Stop, mark, pass};
-use crate::node::{Kind, Place};
-use crate::nodes::Nodes;
-use crate::role::Role;
-use crate::told::Told;
+use keep_meaning::{Kind, Place, Role};
+use keep_nodes::{Holds, Nodes, Told};
 use keep_syntax::Why;
 use std::alloc::AllocError;
 

@@ -4,7 +4,7 @@ use Rattle.keep_syntax.specs.declared.fault.Why.{Why}
 use Rattle.keep_rules.specs.Keys.{last_text}
 use Rattle.keep_rules.specs.Reads.{FaultsIn}
 use Rattle.keep_rules.specs.Statements.{element_of}
-use Rattle.keep_rules.specs.Stored.{twigs}
+use Rattle.keep_nodes.specs.Stored.{twigs}
 use Rattle.keep_rules.proofs.BuildLemmas.{says_fault, element_way_stops, element_read, element_stops, element_all_told}
 use Rattle.keep_rules.proofs.build.element.Goals as goal
 

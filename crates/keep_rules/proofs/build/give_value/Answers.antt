@@ -1,17 +1,17 @@
 use Rattle.std.proofs.Common.{◌≡◌, ℕ, ◌-◌, List, [], ◌∷◌, ◌++◌, ap, sym, ◌∙◌, subst, Err}
 use Rattle.std.proofs.lemmas.Result.{err_from_is_err_and}
 use Rattle.keep_syntax.specs.declared.fault.Why.{Why}
-use Rattle.keep_rules.specs.declared.node.NodeInfo.{NodeInfo}
-use Rattle.keep_rules.specs.Children.{holding}
-use Rattle.keep_rules.specs.Fact.{Fact}
+use Rattle.keep_meaning.specs.declared.node.NodeInfo.{NodeInfo}
+use Rattle.keep_nodes.specs.Children.{holding}
+use Rattle.keep_meaning.specs.Fact.{Fact}
 use Rattle.keep_rules.specs.Inside.{Inside, path_of_value, turn_said, turn_keyed}
 use Rattle.keep_rules.specs.Keys.{key_texts, last_text}
-use Rattle.keep_rules.specs.Path.{Part, key}
-use Rattle.keep_rules.specs.Marks.{Mention}
+use Rattle.keep_path.specs.Path.{Part, key}
+use Rattle.keep_meaning.specs.Marks.{Mention}
 use Rattle.keep_rules.specs.Standing.{IsWorld, FaultIn}
-use Rattle.keep_rules.specs.Stored.{twigs}
+use Rattle.keep_nodes.specs.Stored.{twigs}
 use Rattle.keep_rules.specs.Tells.{TellsOne}
-use Rattle.keep_rules.specs.Trie.{path_at}
+use Rattle.keep_nodes.specs.Trie.{path_at}
 use Rattle.keep_rules.proofs.BuildLemmas.{says_fault, keyed_way_stops, value_given, keyed_stops, keyed_all_told}
 use Rattle.keep_rules.proofs.build.give_value.Goals as goal
 

@@ -1,14 +1,14 @@
 use Rattle.std.proofs.Common.{◌≡◌, ℕ, ◌-◌, [], ◌∷◌, ◌++◌, ap, sym, ◌∙◌, subst, Err}
 use Rattle.std.proofs.lemmas.Result.{err_from_is_err_and}
 use Rattle.keep_syntax.specs.declared.fault.Why.{Why}
-use Rattle.keep_rules.specs.declared.node.NodeInfo.{NodeInfo}
+use Rattle.keep_meaning.specs.declared.node.NodeInfo.{NodeInfo}
 use Rattle.keep_rules.specs.Keys.{last_text}
-use Rattle.keep_rules.specs.Path.{key}
+use Rattle.keep_path.specs.Path.{key}
 use Rattle.keep_rules.specs.Reads.{FaultsIn}
 use Rattle.keep_rules.specs.Statements.{header_of}
-use Rattle.keep_rules.specs.Stored.{twigs}
+use Rattle.keep_nodes.specs.Stored.{twigs}
 use Rattle.keep_rules.specs.Tells.{TellsOne}
-use Rattle.keep_rules.specs.Trie.{path_at}
+use Rattle.keep_nodes.specs.Trie.{path_at}
 use Rattle.keep_rules.proofs.BuildLemmas.{says_fault, header_way_stops, header_read, header_stops, header_all_told}
 use Rattle.keep_rules.proofs.TellWayLemmas.{define_told}
 use Rattle.keep_rules.proofs.build.header.Goals as goal

@@ -3,13 +3,13 @@ use Rattle.std.proofs.Common.{◌∙◌, ℕ, List, [], ◌∷◌, ◌++◌, sli
 use Rattle.keep_syntax.specs.Flat.{flat}
 use Rattle.keep_syntax.specs.Tree.{Value}
 use Rattle.keep_rules.specs.Inside.{value_inside, turns}
-use Rattle.keep_rules.specs.Meaning.{body_fact}
+use Rattle.keep_meaning.specs.Meaning.{body_fact}
 use Rattle.keep_rules.specs.Plans.{AreNext, TookTurns, TurnsFault}
 use Rattle.keep_rules.specs.ReadDocuments.{WasReadAlone}
 use Rattle.keep_rules.specs.Stops.{FaultSays}
-use Rattle.keep_rules.specs.Stored.{twigs}
+use Rattle.keep_nodes.specs.Stored.{twigs}
 use Rattle.keep_rules.proofs.AloneLemmas.{alone_next, alone_obeys, alone_within, alone_refused}
-use Rattle.keep_rules.proofs.KeyPlaceLemmas.{value_syntax_readable}
+use Rattle.keep_meaning.proofs.Shared.{value_syntax_readable}
 use Rattle.keep_rules.proofs.RootLemmas.{rooted_world}
 use Rattle.keep_rules.proofs.document.read_alone.Goals as goal
 

@@ -3,10 +3,10 @@ use Rattle.std.proofs.Common.{◌∙◌, ◌^◌, ◌<◌, ◌≤◌, length, sl
 use Rattle.keep_syntax.specs.Flat.{flat}
 use Rattle.keep_syntax.specs.Numbered as syntax
 use Rattle.keep_syntax.specs.Tree.{Document}
-use Rattle.keep_rules.specs.Marks.{start, mentions_from, reading_after}
+use Rattle.keep_meaning.specs.Marks.{start, mentions_from, reading_after}
 use Rattle.keep_rules.specs.ReadDocuments.{WasRead}
 use Rattle.keep_rules.proofs.DocumentLemmas.{before, begin_read, said_at, statement_at, read_next, break_within, break_refused, whole_read}
-use Rattle.keep_rules.proofs.KeyPlaceLemmas.{syntax_readable}
+use Rattle.keep_meaning.proofs.Shared.{syntax_readable}
 use Rattle.keep_rules.proofs.PartLemmas.{few_keys}
 use Rattle.keep_rules.proofs.document.read_document.Goals as goal
 

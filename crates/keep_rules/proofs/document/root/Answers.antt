@@ -1,6 +1,6 @@
 -- One node, in which nothing hangs.
-use Rattle.keep_rules.specs.Children.{holding, none_hung}
-use Rattle.keep_rules.proofs.StoredLemmas.{none_ids, none_holds}
+use Rattle.keep_nodes.specs.Children.{holding, none_hung}
+use Rattle.keep_nodes.proofs.Shared.{none_ids, none_holds}
 use Rattle.keep_rules.proofs.RootLemmas.{is_root}
 use Rattle.keep_rules.proofs.document.root.Goals as goal
 

@@ -1,6 +1,6 @@
 use Rattle.std.proofs.Common.{◌≡◌, ◌+◌, length}
 use Rattle.keep_syntax.specs.Flat.{flat}
-use Rattle.keep_rules.specs.Stored.{IsStored}
+use Rattle.keep_nodes.specs.Stored.{IsStored}
 use Rattle.keep_rules.proofs.UnderwayLemmas.{AreUnderway}
 use Rattle.keep_rules.proofs.inside.read_inside.Given as goal
 

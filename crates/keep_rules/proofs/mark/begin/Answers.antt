@@ -1,10 +1,10 @@
 use Rattle.std.proofs.Common.{◌≡◌, [], ◌∷◌, ◌++◌, sym, ◌∙◌, subst, arith}
 use Rattle.std.proofs.lemmas.List.{length-map}
-use Rattle.keep_rules.specs.declared.node.NodeInfo.{NodeInfo}
-use Rattle.keep_rules.specs.Path.{key}
-use Rattle.keep_rules.specs.Stored.{twig_in, twigs, infos_of}
+use Rattle.keep_meaning.specs.declared.node.NodeInfo.{NodeInfo}
+use Rattle.keep_path.specs.Path.{key}
+use Rattle.keep_nodes.specs.Stored.{twig_in, twigs, infos_of}
 use Rattle.keep_rules.specs.Tells.{TellsOne}
-use Rattle.keep_rules.specs.Trie.{path_at}
+use Rattle.keep_nodes.specs.Trie.{path_at}
 use Rattle.keep_rules.proofs.TablesLemmas.{tables_listed}
 use Rattle.keep_rules.proofs.StepLemmas.{begins}
 use Rattle.keep_rules.proofs.ElementLemmas.{item_fresh}

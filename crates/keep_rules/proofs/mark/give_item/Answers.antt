@@ -1,10 +1,11 @@
 use Rattle.std.proofs.Common.{◌≡◌, ◌∷◌, ◌++◌, [], sym, ◌∙◌, subst}
 use Rattle.std.proofs.lemmas.List.{length-map}
-use Rattle.keep_rules.specs.declared.node.NodeInfo.{NodeInfo}
-use Rattle.keep_rules.specs.Children.{holding}
-use Rattle.keep_rules.specs.Stored.{twig_in, twigs, infos_of}
+use Rattle.keep_meaning.specs.declared.node.NodeInfo.{NodeInfo}
+use Rattle.keep_nodes.specs.Children.{holding}
+use Rattle.keep_nodes.specs.Stored.{twig_in, twigs, infos_of}
 use Rattle.keep_rules.proofs.StepLemmas.{adds_item}
-use Rattle.keep_rules.proofs.ElementLemmas.{both_ok, item_fresh}
+use Rattle.keep_rules.proofs.ElementLemmas.{item_fresh}
+use Rattle.keep_rules.proofs.OutcomeLemmas.{both_ok}
 use Rattle.keep_rules.proofs.TellWayLemmas.{item_told, both_on}
 use Rattle.keep_rules.proofs.mark.give_item.Goals as goal
 

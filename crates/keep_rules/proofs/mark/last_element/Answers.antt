@@ -1,7 +1,8 @@
 use Rattle.std.proofs.Common.{◌∙◌, ap, sym, refl, Option}
-use Rattle.keep_rules.specs.declared.role.Role.{Role}
+use Rattle.keep_meaning.specs.declared.role.Role.{Role}
 use Rattle.keep_rules.specs.Tables.{is_tables}
-use Rattle.keep_rules.proofs.ElementLemmas.{last_found, last_missing, no_tables, if_some, if_none}
+use Rattle.keep_rules.proofs.ElementLemmas.{last_found, last_missing, no_tables}
+use Rattle.keep_rules.proofs.OutcomeLemmas.{if_some, if_none}
 use Rattle.keep_rules.proofs.mark.last_element.Goals as goal
 
 pub returns-then-not-names_tables-clause-none : goal.returns-then-not-names_tables-clause-none

@@ -1,10 +1,10 @@
 use Rattle.std.proofs.Common.{◌∷◌, ◌++◌, [], sym, ◌∙◌, Some}
 use Rattle.std.proofs.lemmas.List.{length-map}
-use Rattle.keep_rules.specs.Path.{key}
-use Rattle.keep_rules.specs.Trie.{path_at}
-use Rattle.keep_rules.specs.Children.{holding}
-use Rattle.keep_rules.specs.Stored.{twig_in, twigs}
-use Rattle.keep_rules.specs.Told.{info_of}
+use Rattle.keep_path.specs.Path.{key}
+use Rattle.keep_nodes.specs.Trie.{path_at}
+use Rattle.keep_nodes.specs.Children.{holding}
+use Rattle.keep_nodes.specs.Stored.{twig_in, twigs}
+use Rattle.keep_nodes.specs.Told.{info_of}
 use Rattle.keep_rules.proofs.MarkLemmas.{marked_new}
 use Rattle.keep_rules.proofs.TellLemmas.{told_grown}
 use Rattle.keep_rules.proofs.mark.mark.Goals as goal

@@ -1,14 +1,14 @@
 use Rattle.std.proofs.Common.{◌≡◌, ℕ, ◌<◌, List, length, ◌∷◌, ◌++◌, [], sym, refl, ◌∙◌, subst, arith, Option, Some, true, false}
 use Rattle.std.specs.List.{list_all}
 use Rattle.std.proofs.lemmas.List.{length-map}
-use Rattle.keep_rules.specs.declared.role.Role.{Role}
-use Rattle.keep_rules.specs.AllNodes.{Node, no_node, node_at}
-use Rattle.keep_rules.specs.Rules.{allows}
-use Rattle.keep_rules.specs.State.{IsState}
-use Rattle.keep_rules.specs.Trie.{state_at}
-use Rattle.keep_rules.specs.Stored.{twig_in, twigs}
-use Rattle.keep_rules.specs.Told.{info_of}
-use Rattle.keep_rules.proofs.StoredLemmas.{role_read}
+use Rattle.keep_meaning.specs.declared.role.Role.{Role}
+use Rattle.keep_nodes.specs.AllNodes.{Node, no_node, node_at}
+use Rattle.keep_meaning.specs.Rules.{allows}
+use Rattle.keep_meaning.specs.State.{IsState}
+use Rattle.keep_nodes.specs.Trie.{state_at}
+use Rattle.keep_nodes.specs.Stored.{twig_in, twigs}
+use Rattle.keep_nodes.specs.Told.{info_of}
+use Rattle.keep_nodes.proofs.Shared.{role_read}
 use Rattle.keep_rules.proofs.MarkLemmas.{marked_again, was_refused}
 use Rattle.keep_rules.proofs.TellLemmas.{told_again}
 use Rattle.keep_rules.proofs.mark.mark_again.Goals as goal

@@ -1,15 +1,15 @@
 use Rattle.std.proofs.Common.{◌≡◌, ◌<◌, List, ◌∷◌, ◌++◌, [], length, subst, ap, sym, refl, ◌∙◌, arith}
 use Rattle.std.proofs.lemmas.List.{length-map}
-use Rattle.keep_rules.specs.declared.node.NodeInfo.{NodeInfo}
-use Rattle.keep_rules.specs.declared.role.Role.TheVariants.{Through}
-use Rattle.keep_rules.specs.Path.{Part, key}
-use Rattle.keep_rules.specs.Stored.{twig_in, twigs}
-use Rattle.keep_rules.specs.Told.{info_of}
+use Rattle.keep_meaning.specs.declared.node.NodeInfo.{NodeInfo}
+use Rattle.keep_meaning.specs.declared.role.Role.TheVariants.{Through}
+use Rattle.keep_path.specs.Path.{Part, key}
+use Rattle.keep_nodes.specs.Stored.{twig_in, twigs}
+use Rattle.keep_nodes.specs.Told.{info_of}
 use Rattle.keep_rules.specs.Tells.{TellsOne}
-use Rattle.keep_rules.specs.Trie.{Twig, by_key, paths_of, path_at}
+use Rattle.keep_nodes.specs.Trie.{Twig, by_key, paths_of, path_at}
 use Rattle.keep_rules.specs.Standing.{IsMarked, IsLastElement, HasNoElement, Passes}
 use Rattle.keep_rules.proofs.PassLemmas.{none_unmet, passes_element, passes_marked, element_inside}
-use Rattle.keep_rules.proofs.ElementLemmas.{if_ok}
+use Rattle.keep_rules.proofs.OutcomeLemmas.{if_ok}
 use Rattle.keep_rules.proofs.TellLemmas.{told_again}
 use Rattle.keep_rules.proofs.TellWayLemmas.{past_told, through_told}
 use Rattle.keep_rules.proofs.mark.pass.Goals as goal

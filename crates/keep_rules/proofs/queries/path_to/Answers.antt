@@ -1,7 +1,7 @@
 use Rattle.std.proofs.Common.{◌∙◌, ap, sym}
-use Rattle.keep_rules.specs.Stored.{twigs}
-use Rattle.keep_rules.specs.Trie.{path_at}
-use Rattle.keep_rules.proofs.TrieLemmas.{path_at-root}
+use Rattle.keep_nodes.specs.Stored.{twigs}
+use Rattle.keep_nodes.specs.Trie.{path_at}
+use Rattle.keep_nodes.proofs.Shared.{path_at-root}
 use Rattle.keep_rules.proofs.ClimbLemmas.{way_left}
 use Rattle.keep_rules.proofs.queries.path_to.Goals as goal
 

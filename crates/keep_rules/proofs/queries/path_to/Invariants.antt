@@ -1,7 +1,7 @@
 use Rattle.std.proofs.Common.{◌≡◌, ℕ, vec_len}
 use Rattle.keep_rules.specs.Lookup.{IsWay}
-use Rattle.keep_rules.specs.Stored.{twigs}
-use Rattle.keep_rules.specs.Trie.{path_at}
+use Rattle.keep_nodes.specs.Stored.{twigs}
+use Rattle.keep_nodes.specs.Trie.{path_at}
 use Rattle.keep_rules.proofs.queries.path_to.Given as goal
 
 abbrev pub invariant-loop-node : goal.invariant-loop-node

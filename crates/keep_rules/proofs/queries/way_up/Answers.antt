@@ -1,7 +1,7 @@
 use Rattle.std.proofs.Common.{◌<◌, ◌∷◌, ◌++◌, [], sym, ◌∙◌, subst, arith, List, ℕ}
-use Rattle.keep_rules.specs.AllNodes.{no_node}
+use Rattle.keep_nodes.specs.AllNodes.{no_node}
 use Rattle.keep_rules.specs.Lookup.{IsWay}
-use Rattle.keep_rules.proofs.StoredLemmas.{node_placed}
+use Rattle.keep_nodes.proofs.Shared.{node_placed}
 use Rattle.keep_rules.proofs.ClimbLemmas.{parent_read, way_pushed}
 use Rattle.keep_rules.proofs.queries.way_up.Goals as goal
 

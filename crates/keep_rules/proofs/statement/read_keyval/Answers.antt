@@ -5,7 +5,7 @@ use Rattle.keep_syntax.specs.Flat.{flat}
 use Rattle.keep_rules.specs.Inside.{Inside, Turn}
 use Rattle.keep_rules.specs.Plans.{AreNext, TookTurns, TurnsFault}
 use Rattle.keep_rules.specs.Stops.{FaultSays}
-use Rattle.keep_rules.specs.Stored.{twigs}
+use Rattle.keep_nodes.specs.Stored.{twigs}
 use Rattle.keep_rules.proofs.HeaderLemmas.{statement_keys}
 use Rattle.keep_rules.proofs.KeyvalLemmas.{keys_fault_fits, keys_break_as_said, some_inside_next, some_top_world, keyval_is_read, inside_breaks_as_said, two_ids}
 use Rattle.keep_rules.proofs.PartLemmas.{few_keys}

@@ -1,13 +1,13 @@
 use Rattle.std.proofs.Common.{◌≡◌, ◌∷◌, ◌++◌, [], ap, sym, ◌∙◌, subst, arith, refl, Err}
 use Rattle.std.proofs.lemmas.List.{length-map}
 use Rattle.keep_syntax.specs.declared.fault.Why.{Why}
-use Rattle.keep_rules.specs.declared.node.NodeInfo.{NodeInfo}
+use Rattle.keep_meaning.specs.declared.node.NodeInfo.{NodeInfo}
 use Rattle.keep_rules.specs.Keys.{key_text_at, way_texts}
-use Rattle.keep_rules.specs.Path.{key}
-use Rattle.keep_rules.specs.Stored.{twig_in, twigs}
+use Rattle.keep_path.specs.Path.{key}
+use Rattle.keep_nodes.specs.Stored.{twig_in, twigs}
 use Rattle.keep_rules.specs.Standing.{FaultIn}
 use Rattle.keep_rules.specs.Tells.{TellsOne}
-use Rattle.keep_rules.specs.Trie.{path_at}
+use Rattle.keep_nodes.specs.Trie.{path_at}
 use Rattle.keep_rules.specs.Ways.{dotted_way}
 use Rattle.keep_rules.proofs.StepLemmas.{dots_none}
 use Rattle.keep_rules.proofs.KeyLemmas.{dotted_more, dots_stop, dotted_told}

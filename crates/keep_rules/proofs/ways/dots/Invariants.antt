@@ -1,10 +1,10 @@
 use Rattle.std.proofs.Common.{◌<◌, length, take}
 use Rattle.keep_rules.specs.Keys.{key_texts, parts_of}
 use Rattle.keep_rules.specs.Steps.{Dots}
-use Rattle.keep_rules.specs.Stored.{IsStored, twigs}
+use Rattle.keep_nodes.specs.Stored.{IsStored, twigs}
 use Rattle.keep_rules.specs.Tables.{IsShaped}
 use Rattle.keep_rules.specs.Tells.{WayTells}
-use Rattle.keep_rules.specs.Trie.{path_at}
+use Rattle.keep_nodes.specs.Trie.{path_at}
 use Rattle.keep_rules.specs.Ways.{dotted_way}
 use Rattle.keep_rules.proofs.ways.dots.Given as goal
 

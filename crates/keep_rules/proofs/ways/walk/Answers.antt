@@ -2,7 +2,7 @@ use Rattle.std.proofs.Common.{◌≡◌, ℕ, ◌-◌, [], take, ap, sym, ◌∙
 use Rattle.std.proofs.lemmas.List.{length-map}
 use Rattle.keep_syntax.specs.declared.fault.Why.{Why}
 use Rattle.keep_rules.specs.Keys.{parts_of, key_texts, key_text_at, way_texts}
-use Rattle.keep_rules.specs.Stored.{twig_in, twigs}
+use Rattle.keep_nodes.specs.Stored.{twig_in, twigs}
 use Rattle.keep_rules.specs.Standing.{FaultIn}
 use Rattle.keep_rules.specs.Steps.{Walks}
 use Rattle.keep_rules.specs.Tells.{HeaderTells}

@@ -1,10 +1,10 @@
 use Rattle.std.proofs.Common.{◌≡◌, ◌<◌, [], length, take}
 use Rattle.keep_rules.specs.Keys.{key_texts, parts_of}
 use Rattle.keep_rules.specs.Steps.{Walks}
-use Rattle.keep_rules.specs.Stored.{IsStored, twigs}
+use Rattle.keep_nodes.specs.Stored.{IsStored, twigs}
 use Rattle.keep_rules.specs.Tables.{IsShaped}
 use Rattle.keep_rules.specs.Tells.{HeaderTells}
-use Rattle.keep_rules.specs.Trie.{by_key, holds_at}
+use Rattle.keep_nodes.specs.Trie.{by_key, holds_at}
 use Rattle.keep_rules.specs.Ways.{header_said}
 use Rattle.keep_rules.proofs.ways.walk.Given as goal
 

@@ -1,11 +1,11 @@
 -- The nodes of the document, or its first fault.
 use Rattle.std.proofs.lemmas.Result.{err_from_is_err_and}
 use Rattle.keep_syntax.specs.Tree.{Document}
-use Rattle.keep_rules.specs.Marks.{marks}
-use Rattle.keep_rules.specs.Meaning.{said_in}
+use Rattle.keep_meaning.specs.Marks.{marks}
+use Rattle.keep_meaning.specs.Meaning.{said_in}
 use Rattle.keep_rules.specs.ReadDocuments.{WasRead}
-use Rattle.keep_rules.specs.Rules.{ObeysRules}
-use Rattle.keep_rules.specs.Stored.{telling}
+use Rattle.keep_meaning.specs.Rules.{ObeysRules}
+use Rattle.keep_nodes.specs.Stored.{telling}
 use Rattle.keep_rules.proofs.DocumentLemmas.{index_few}
 use Rattle.keep_rules.proofs.RefusalLaws.{refused_memory}
 use Rattle.keep_rules.proofs.index.Index.build.Goals as goal

@@ -1,6 +1,6 @@
 use Rattle.std.proofs.Common.{◌≡◌, ◌∷◌, ◌++◌, [], ◌∙◌, arith, rules}
 use Rattle.keep_rules.specs.Lookup.{number_of, path_numbered}
-use Rattle.keep_rules.specs.Path.{key}
+use Rattle.keep_path.specs.Path.{key}
 use Rattle.keep_rules.proofs.QueryLemmas.{count_paths, child_answer, number_within}
 use Rattle.keep_rules.proofs.index.Index.child.Goals as goal
 

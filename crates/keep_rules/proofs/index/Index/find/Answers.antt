@@ -1,6 +1,6 @@
 use Rattle.std.proofs.Common.{◌∙◌, ap, take}
 use Rattle.std.proofs.Math.Seq.{take-length}
-use Rattle.keep_rules.specs.Nodes.{node_number}
+use Rattle.keep_meaning.specs.Nodes.{node_number}
 use Rattle.keep_rules.proofs.index.Index.find.Goals as goal
 
 pub returns-clause-found : goal.returns-clause-found

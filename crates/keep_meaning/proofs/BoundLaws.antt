@@ -1,0 +1,217 @@
+-- A document says at most as many things as it has leaves, so it has at most one node more than bytes.
+use Rattle.std.proofs.Common.{◌≡◌, ℕ, suc, ◌+◌, ◌≤◌, Bool, true, false, if◌then◌else◌, List, [], ◌∷◌, ◌++◌, length, map, refl, ap, ◌∙◌, arith, Option, Some, None}
+use Rattle.std.specs.Prelude.{◌==◌, fold}
+use Rattle.std.specs.List.{flat_map, list_any}
+use Rattle.std.proofs.lemmas.List.{length-append, length-map}
+use Rattle.keep_token.specs.declared.leaf.Profile.{Profile}
+use Rattle.keep_token.specs.declared.leaf.Profile.TheVariants.{Strict}
+use Rattle.keep_token.specs.declared.leaf.Leaf.TheVariants as leaf
+use Rattle.keep_syntax.specs.Tree.{Written, Gap, Further, Key, Name, Body, scalar, array, inline, Entries, none, entry, Value, Content, blank, keyval, header, element, Line, Ended, Document, mark, further_leaves, key_leaves, name_leaves, named_leaves, opening, closing, comma_leaves, entries_leaves, value_leaves, content_leaves, comment_leaves, line_leaves, ended_leaves, bom_leaves, leaves, text, depth}
+use Rattle.keep_syntax.specs.Grammar.{IsDocument}
+use Rattle.keep_syntax.proofs.CountLaws.{leaves_count}
+use Rattle.keep_path.specs.Path.{Part, key, index, same_path}
+use Rattle.keep_meaning.specs.Fact.{Fact}
+use Rattle.keep_meaning.specs.Marks.{through, past, passed, define, element as says_element, begun, value as says_value, item, Mention, below, Reading, statement_mentions, elements_of, entered_path, passing_mentions, header_way, header_path, start}
+use Rattle.keep_meaning.specs.Meaning.{key_value, further_value, keys_of, body_fact, keyed_mentions, valued_mentions, entry_mentions, entries_said, statement_of, line_said, behind_line, lines_said, line_of, said_in}
+use Rattle.keep_meaning.specs.Nodes.{paths_with, node_path, node_paths, nodes_in}
+use Rattle.keep_meaning.proofs.CountLemmas.{paths-nodes_in}
+
+-- ---- at most as many nodes as things said, and the root
+
+one_more : (b : Bool) (paths : List (List Part)) (path : List Part) → length (if b then paths else paths ++ path ∷ []) ≤ length paths + 1
+one_more true paths path = omega arith
+one_more false paths path = omega (arith, length-append paths (path ∷ []))
+
+met_few : (paths ps : List (List Part)) → length (fold paths_with paths ps) ≤ length paths + length ps
+met_few paths [] = omega arith
+met_few paths (p ∷ ps) = omega (arith, one_more (list_any (same_path p) paths) paths p, met_few (paths_with paths p) ps)
+
+pub node_paths_few : (ms : List Mention) → length (node_paths ms) ≤ length ms + 1
+node_paths_few ms = omega (arith, met_few ([] ∷ []) (map (λ (m : Mention). m.path) ms), length-map ms (λ (m : Mention). m.path))
+
+-- ---- keys
+
+length-keyed : (k : List ℕ) (ks : List (List ℕ)) (ms : List Mention) → length (keyed_mentions (k ∷ ks) ms) ≡ length ks + length ms
+length-keyed k [] ms = length-map ms (below (key k ∷ [])) ∙ omega arith
+length-keyed k (l ∷ ks) ms = omega (arith, length-map (keyed_mentions (l ∷ ks) ms) (below (key k ∷ [])), length-keyed l ks ms)
+
+-- a further part of a key has two leaves at least, its dot and its own
+further_many : (fs : List Further) → length fs + length fs ≤ length (flat_map further_leaves fs)
+further_many [] = omega arith
+further_many (f ∷ fs) =
+    let dot = mark leaf.Dot (0x2E ∷ []) in
+    omega (
+      arith,
+      length-append (further_leaves f) (flat_map further_leaves fs),
+      length-append f.before (dot ++ (f.behind ++ (f.part ∷ []))),
+      length-append f.behind (f.part ∷ []),
+      further_many fs,
+    )
+
+-- ---- what entries say
+
+entry_few : (n : ℕ) (name : Option Name) (f : Fact) (inside : List Mention) → length (entry_mentions n name f inside) ≤ length (named_leaves name) + suc (length inside)
+entry_few n None f inside = omega (arith, length-map (valued_mentions (item f) inside) (below (index n ∷ [])))
+entry_few n (Some name) f inside =
+    omega (
+      arith,
+      length-keyed (key_value name.key.first) (map further_value name.key.more) (valued_mentions (says_value f) inside),
+      length-map name.key.more further_value,
+      length-append (key_leaves name.key) (name.before ++ (mark leaf.Equals (0x3D ∷ []) ++ name.behind)),
+      further_many name.key.more,
+    )
+
+-- a value has a leaf at least, and those of what is inside
+value_many : (v : Value) → suc (length (entries_leaves v.inside)) ≤ length (value_leaves v)
+value_many v = by v.body
+  where
+    by : (b : Body) → suc (length (entries_leaves v.inside)) ≤ length (opening b ++ (entries_leaves v.inside ++ closing b))
+    by (scalar w) = omega (arith, length-append (entries_leaves v.inside) [])
+    by (array first) = omega (arith, length-append first (entries_leaves v.inside ++ closing (array first)), length-append (entries_leaves v.inside) (closing (array first)))
+    by (inline first) = omega (arith, length-append first (entries_leaves v.inside ++ closing (inline first)), length-append (entries_leaves v.inside) (closing (inline first)))
+
+-- an entry is its name, its value, and what stands behind
+entry_many : (name : Option Name) (v : Value) (after : Gap) (comma : Option Gap) (rest : Entries)
+    → length (named_leaves name) + suc (length (entries_leaves v.inside)) + length (entries_leaves rest) ≤ length (entries_leaves (entry name v.body v.inside after comma rest))
+entry_many name v after comma rest =
+    let behind : List Written = after ++ (comma_leaves comma ++ entries_leaves rest) in
+    omega (
+      arith,
+      length-append (named_leaves name) (opening v.body ++ (entries_leaves v.inside ++ (closing v.body ++ behind))),
+      length-append (opening v.body) (entries_leaves v.inside ++ (closing v.body ++ behind)),
+      length-append (entries_leaves v.inside) (closing v.body ++ behind),
+      length-append (closing v.body) behind,
+      length-append after (comma_leaves comma ++ entries_leaves rest),
+      length-append (comma_leaves comma) (entries_leaves rest),
+      length-append (opening v.body) (entries_leaves v.inside ++ closing v.body),
+      length-append (entries_leaves v.inside) (closing v.body),
+      value_many v,
+    )
+
+entries_few : (n : ℕ) (es : Entries) → length (entries_said n es) ≤ length (entries_leaves es)
+entries_few n none = omega arith
+entries_few n (entry name body inside after comma rest) =
+    omega (
+      arith,
+      length-append (entry_mentions n name (body_fact body) (entries_said 0 inside)) (entries_said (n + 1) rest),
+      entry_few n name (body_fact body) (entries_said 0 inside),
+      entries_few 0 inside,
+      entries_few (n + 1) rest,
+      entry_many name (record { body = body; inside = inside }) after comma rest,
+    )
+
+-- ---- what headers say
+
+passing_few : (b : Bool) (p q : Mention) (r : Mention) → length (if b then p ∷ [] else q ∷ r ∷ []) ≤ 2
+passing_few true p q r = omega arith
+passing_few false p q r = omega arith
+
+-- on its way at most two things for each key but the last
+way_few : (tables : List (List Part)) (at : List Part) (k : List ℕ) (ks : List (List ℕ)) → length (header_way tables at (k ∷ ks)) ≤ length ks + length ks
+way_few tables at k [] = omega arith
+way_few tables at k (l ∷ ks) =
+    let path : List Part = at ++ key k ∷ [] in
+    omega (
+      arith,
+      length-append (passing_mentions tables path) (header_way tables (entered_path tables path) (l ∷ ks)),
+      passing_few (0 == elements_of path tables) (record { path = path; says = through }) (record { path = path; says = past }) (record { path = entered_path tables path; says = passed }),
+      way_few tables (entered_path tables path) l ks,
+    )
+
+-- a header's leaves: its brackets, its keys, and a dot before each but the first
+header_many : (first last : Written) (before : Gap) (k : Key) (behind : Gap)
+    → length k.more + length k.more + 3 ≤ length (first ∷ (before ++ (key_leaves k ++ (behind ++ last ∷ []))))
+header_many first last before k behind =
+    omega (
+      arith,
+      length-append before (key_leaves k ++ (behind ++ last ∷ [])),
+      length-append (key_leaves k) (behind ++ last ∷ []),
+      length-append behind (last ∷ []),
+      further_many k.more,
+    )
+
+-- ---- lines
+
+content_few : (r : Reading) (c : Content) → length {A = Mention} (elim (statement_of c) [ None ↦ [] | Some s ↦ statement_mentions r s ]) ≤ length (content_leaves c)
+content_few r blank = omega arith
+content_few r (keyval name v) =
+    let inside : List Mention = entry_mentions 0 (Some name) (body_fact v.body) (entries_said 0 v.inside) in
+    omega (
+      arith,
+      length-map inside (below r.body),
+      entry_few 0 (Some name) (body_fact v.body) (entries_said 0 v.inside),
+      entries_few 0 v.inside,
+      value_many v,
+      length-append (name_leaves name) (value_leaves v),
+    )
+content_few r (header before k behind) =
+    omega (
+      arith,
+      length-append (header_way r.tables [] (keys_of k)) (record { path = header_path r.tables [] (keys_of k); says = define } ∷ []),
+      way_few r.tables [] (key_value k.first) (map further_value k.more),
+      length-map k.more further_value,
+      header_many (record { leaf = leaf.HeadOpen; text = 0x5B ∷ [] }) (record { leaf = leaf.HeadClose; text = 0x5D ∷ [] }) before k behind,
+    )
+content_few r (element before k behind) =
+    let path : List Part = header_path r.tables [] (keys_of k) in
+    omega (
+      arith,
+      length-append (header_way r.tables [] (keys_of k)) (record { path = path; says = says_element } ∷ record { path = path ++ index (elements_of path r.tables) ∷ []; says = begun } ∷ []),
+      way_few r.tables [] (key_value k.first) (map further_value k.more),
+      length-map k.more further_value,
+      header_many (record { leaf = leaf.ElemOpen; text = 0x5B ∷ 0x5B ∷ [] }) (record { leaf = leaf.ElemClose; text = 0x5D ∷ 0x5D ∷ [] }) before k behind,
+    )
+
+line_few : (r : Reading) (l : Line) → length (line_said r l) ≤ length (line_leaves l)
+line_few r l =
+    omega (
+      arith,
+      content_few r l.content,
+      length-append l.before (content_leaves l.content ++ (l.after ++ comment_leaves l.comment)),
+      length-append (content_leaves l.content) (l.after ++ comment_leaves l.comment),
+    )
+
+lines_few : (r : Reading) (es : List Ended) (last : Line) → length (lines_said r (map line_of es ++ last ∷ [])) ≤ length (flat_map ended_leaves es) + length (line_leaves last)
+lines_few r [] last = omega (arith, length-append (line_said r last) [], line_few r last)
+lines_few r (e ∷ es) last =
+    omega (
+      arith,
+      length-append (line_said r e.line) (lines_said (behind_line r e.line) (map line_of es ++ last ∷ [])),
+      line_few r e.line,
+      lines_few (behind_line r e.line) es last,
+      length-append (ended_leaves e) (flat_map ended_leaves es),
+      length-append (line_leaves e.line) (e.newline ∷ []),
+    )
+
+-- A document says fewer things than it has leaves: End says nothing.
+pub said_few : (d : Document) → length (said_in d) + 1 ≤ length (leaves d)
+said_few d =
+    let end : List Written = mark leaf.End [] in
+    omega (
+      arith,
+      lines_few start d.ended d.last,
+      length-append (bom_leaves d.bom) (flat_map ended_leaves d.ended ++ (line_leaves d.last ++ end)),
+      length-append (flat_map ended_leaves d.ended) (line_leaves d.last ++ end),
+      length-append (line_leaves d.last) end,
+    )
+
+-- ---- documents
+
+-- a document has at most one node more than bytes
+pub nodes_few : (profile : Profile) (d : Document) → IsDocument profile d → length (nodes_in d) ≤ length (text d) + 1
+nodes_few profile d h =
+    omega (
+      arith,
+      length-map (nodes_in d) node_path,
+      ap length (paths-nodes_in d),
+      node_paths_few (said_in d),
+      said_few d,
+      leaves_count profile (depth d) (text d) d (record { valid = h; spelled = refl; shallow = omega arith }),
+    )
+
+-- the document with no bytes: it has one node, the root
+abbrev nothing : Document
+nothing = record { bom = false; ended = []; last = record { before = []; content = blank; after = []; comment = None } }
+
+pub nodes_reach : (d : Document) × IsDocument Strict d × (length (text d) ≡ 0) × (length (nodes_in d) ≡ 1)
+nodes_reach = (nothing, record { ended = tt; last = record { before = tt; content = tt; after = refl; comment = tt } }, refl, refl)

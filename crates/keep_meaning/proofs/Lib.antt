@@ -1,0 +1,14 @@
+pub mod FaultLemmas
+pub mod CountLemmas
+pub mod PlaceLemmas
+pub mod NumberLemmas
+pub mod Rows
+pub mod FactLemmas
+pub mod KeyPartLemmas
+pub mod BoundLaws
+pub mod DecodeLaws
+pub mod KeyTextLemmas
+pub mod LinePlaceLemmas
+pub mod KeyPlaceLemmas
+pub mod MeaningLaws
+pub mod Shared

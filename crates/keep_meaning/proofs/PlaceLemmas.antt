@@ -1,0 +1,183 @@
+-- Each mark has its key part, so that the computed fault and its place are those of the definition.
+use Rattle.std.proofs.Common.{◌≡◌, ℕ, zero, suc, ◌+◌, ◌<◌, Bool, true, false, if◌then◌else◌, List, [], ◌∷◌, ◌++◌, length, map, refl, sym, ap, ◌∙◌, arith, Option, Some, None}
+use Rattle.std.specs.Prelude.{slice_get, ◌==◌}
+use Rattle.std.specs.List.{cons_option}
+use Rattle.std.proofs.lemmas.List.{length-append}
+use Rattle.std.proofs.lemmas.List.Elements.{filter_map-append}
+use Rattle.keep_syntax.specs.declared.fault.Why.{Why}
+use Rattle.keep_syntax.specs.declared.info.KeyPart.{KeyPart}
+use Rattle.keep_syntax.specs.Tree.{Further, Name, Entries, none, entry, Value, Content, blank, keyval, header, element, Line, Ended, Document, name_leaves}
+use Rattle.keep_syntax.specs.Numbered as syntax
+use Rattle.keep_syntax.specs.Numbered.{Count, over_lines, line_parts, content_parts, content_start, next_line, first_line, key_parts, further_parts, named_parts, name_count, part_count, entries_parts}
+use Rattle.keep_meaning.specs.declared.role.Role.{Role}
+use Rattle.keep_path.specs.Path.{Part, key, index}
+use Rattle.keep_meaning.specs.Fact.{Fact}
+use Rattle.keep_meaning.specs.Rules.{Mark, ObeysRules, IsFirstFaulty}
+use Rattle.keep_meaning.specs.Marks.{Mention, below, Reading, statement_mentions, mark_of, marks, with_path, role_of, elements_of, entered_path, passing_mentions, header_way, header_path, start, define, begun, element as says_element, value as marks_value}
+use Rattle.keep_meaning.specs.Meaning.{keys_of, further_value, key_value, body_fact, keyed_mentions, entry_mentions, entries_said, value_said, statement_of, line_said, behind_line, lines_said, line_of, said_in}
+use Rattle.keep_meaning.specs.Faults.{Fault, FaultAt, first_fault, IsFirstFaultAt, at_part, fault_at, fault_in, fault_in_value, parts_in}
+use Rattle.keep_meaning.proofs.FaultLemmas.{Tells, first_fault-tells}
+
+-- how many marks there are
+abbrev pub marked : List Mention → ℕ
+marked ms = length (marks ms)
+
+pub marked-append : (xs ys : List Mention) → marked (xs ++ ys) ≡ marked xs + marked ys
+marked-append xs ys = ap length (filter_map-append mark_of xs ys) ∙ length-append (marks xs) (marks ys)
+
+one_role : (o : Option Role) (p q : List Part) (xs ys : List Mark) → length xs ≡ length ys → length (cons_option (with_path p o) xs) ≡ length (cons_option (with_path q o) ys)
+one_role None p q xs ys h = h
+one_role (Some r) p q xs ys h = omega (arith, h)
+
+pub marked-below : (at : List Part) (ms : List Mention) → marked (map (below at) ms) ≡ marked ms
+marked-below at [] = refl
+marked-below at (m ∷ ms) = one_role (role_of m.says) (at ++ m.path) m.path (marks (map (below at) ms)) (marks ms) (marked-below at ms)
+
+pub marked-keyed : (k : List ℕ) (ks : List (List ℕ)) (ms : List Mention) → marked (keyed_mentions (k ∷ ks) ms) ≡ length ks + marked ms
+marked-keyed k [] ms = marked-below (key k ∷ []) ms ∙ omega arith
+marked-keyed k (l ∷ ks) ms = omega (arith, marked-below (key k ∷ []) (keyed_mentions (l ∷ ks) ms), marked-keyed l ks ms)
+
+length-keys : (fs : List Further) → length (map further_value fs) ≡ length fs
+length-keys [] = refl
+length-keys (f ∷ fs) = ap suc (length-keys fs)
+
+marked-entry : (n : ℕ) (name : Option Name) (f : Fact) (inside : List Mention) → marked (entry_mentions n name f inside) ≡ name_count name + marked inside
+marked-entry n None f inside = marked-below (index n ∷ []) inside ∙ omega arith
+marked-entry n (Some name) f inside =
+    omega (arith, marked-keyed (key_value name.key.first) (map further_value name.key.more) (record { path = []; says = marks_value f } ∷ inside), length-keys name.key.more)
+
+pub marked-entries : (n : ℕ) (es : Entries) → marked (entries_said n es) ≡ part_count es
+marked-entries n none = refl
+marked-entries n (entry name body inside after comma rest) =
+    omega (
+      arith,
+      marked-append (entry_mentions n name (body_fact body) (entries_said 0 inside)) (entries_said (n + 1) rest),
+      marked-entry n name (body_fact body) (entries_said 0 inside),
+      marked-entries 0 inside,
+      marked-entries (n + 1) rest,
+    )
+
+-- ---- key parts
+
+pub length-further : (at : ℕ) (fs : List Further) → length (further_parts at fs) ≡ length fs
+length-further at [] = refl
+length-further at (f ∷ fs) = ap suc (length-further (at + syntax.width f.before + 1 + syntax.width f.behind + length f.part.text) fs)
+
+pub length-named : (at : ℕ) (name : Option Name) → length (named_parts at name) ≡ name_count name
+length-named at None = refl
+length-named at (Some n) = ap suc (length-further (at + length n.key.first.text) n.key.more)
+
+pub length-entries_parts : (at : ℕ) (es : Entries) → length (entries_parts at es) ≡ part_count es
+length-entries_parts at none = refl
+length-entries_parts at (entry name body inside after comma rest) =
+    let i : ℕ = syntax.inside_start (syntax.value_start at name) body in
+    let e : ℕ = syntax.entry_end at name body inside after comma in
+    omega (
+      arith,
+      length-append (named_parts at name) (entries_parts i inside ++ entries_parts e rest),
+      length-append (entries_parts i inside) (entries_parts e rest),
+      length-named at name,
+      length-entries_parts i inside,
+      length-entries_parts e rest,
+    )
+
+-- ---- lines
+
+one_either : (b : Bool) (xs ys : List Mention) → marked xs ≡ 1 → marked ys ≡ 1 → marked (if b then xs else ys) ≡ 1
+one_either true xs ys h g = h
+one_either false xs ys h g = g
+
+marked-passing_mentions : (tables : List (List Part)) (path : List Part) → marked (passing_mentions tables path) ≡ 1
+marked-passing_mentions tables path = one_either (0 == elements_of path tables) _ _ refl refl
+
+pub marked-way : (tables : List (List Part)) (at : List Part) (k : List ℕ) (ks : List (List ℕ)) → marked (header_way tables at (k ∷ ks)) ≡ length ks
+marked-way tables at k [] = refl
+marked-way tables at k (l ∷ ks) =
+    omega (
+      arith,
+      marked-append (passing_mentions tables (at ++ key k ∷ [])) (header_way tables (entered_path tables (at ++ key k ∷ [])) (l ∷ ks)),
+      marked-passing_mentions tables (at ++ key k ∷ []),
+      marked-way tables (entered_path tables (at ++ key k ∷ [])) l ks,
+    )
+
+pub marked-content : (r : Reading) (at : ℕ) (c : Content) → marked (elim (statement_of c) [ None ↦ [] | Some s ↦ statement_mentions r s ]) ≡ length (content_parts at c)
+marked-content r at blank = refl
+marked-content r at (keyval name v) =
+    let inside : List Mention = entry_mentions 0 (Some name) (body_fact v.body) (entries_said 0 v.inside) in
+    let from : ℕ = syntax.inside_start (at + syntax.width (name_leaves name)) v.body in
+    omega (
+      arith,
+      marked-below r.body inside,
+      marked-entry 0 (Some name) (body_fact v.body) (entries_said 0 v.inside),
+      marked-entries 0 v.inside,
+      length-append (key_parts at name.key) (entries_parts from v.inside),
+      length-further (at + length name.key.first.text) name.key.more,
+      length-entries_parts from v.inside,
+    )
+marked-content r at (header before k behind) =
+    omega (
+      arith,
+      marked-append (header_way r.tables [] (keys_of k)) (record { path = header_path r.tables [] (keys_of k); says = define } ∷ []),
+      marked-way r.tables [] (key_value k.first) (map further_value k.more),
+      length-keys k.more,
+      length-further (at + 1 + syntax.width before + length k.first.text) k.more,
+    )
+marked-content r at (element before k behind) =
+    let path : List Part = header_path r.tables [] (keys_of k) in
+    omega (
+      arith,
+      marked-append (header_way r.tables [] (keys_of k)) (record { path = path; says = says_element } ∷ record { path = path ++ index (elements_of path r.tables) ∷ []; says = begun } ∷ []),
+      marked-way r.tables [] (key_value k.first) (map further_value k.more),
+      length-keys k.more,
+      length-further (at + 2 + syntax.width before + length k.first.text) k.more,
+    )
+
+marked-lines : (r : Reading) (c : Count) (es : List Ended) (last : Line) → marked (lines_said r (map line_of es ++ last ∷ [])) ≡ length (over_lines (λ c l line_end. line_parts c l) c es last)
+marked-lines r c [] last =
+    omega (arith, marked-append (line_said r last) [], marked-content r (content_start c last) last.content)
+marked-lines r c (e ∷ es) last =
+    omega (
+      arith,
+      marked-append (line_said r e.line) (lines_said (behind_line r e.line) (map line_of es ++ last ∷ [])),
+      marked-content r (content_start c e.line) e.line.content,
+      length-append (line_parts c e.line) (over_lines (λ c l line_end. line_parts c l) (next_line c e) es last),
+      marked-lines (behind_line r e.line) (next_line c e) es last,
+    )
+
+-- a document has as many marks as key parts
+pub marked-parts : (s : Document) → length (marks (said_in s)) ≡ length (syntax.parts s)
+marked-parts s = marked-lines start (first_line s) s.ended s.last
+
+-- so has a value
+pub marked-parts_in : (v : Value) → length (marks (value_said v)) ≡ length (parts_in v)
+marked-parts_in v = marked-entries 0 v.inside ∙ sym (length-entries_parts (syntax.inside_start 0 v.body) v.inside)
+
+-- ---- the computed fault
+
+-- what it tells: where and why, or that the rules hold
+abbrev pub TellsPlace : List Mark → List KeyPart → Option FaultAt → Type 0
+TellsPlace ms parts None = ObeysRules ms
+TellsPlace ms parts (Some f) = IsFirstFaultAt ms parts f.at f.why
+
+short : (ms : List Mark) (n : ℕ) (why : Why) → IsFirstFaulty ms n why → n < length ms
+short ms n why first = omega (arith, ap length first.here, length-append first.before (first.mark ∷ first.after), first.number)
+
+told : (ms : List Mark) (parts : List KeyPart) (f : Fault) (o : Option KeyPart) → IsFirstFaulty ms f.number f.why → slice_get parts f.number ≡ o → (o ≡ None → ⊥) → TellsPlace ms parts (at_part f.why o)
+told ms parts f None first here inside = absurd (inside refl)
+told ms parts f (Some part) first here inside = record { number = f.number; part = part; first = first; stands = here; here = refl }
+
+there : (parts : List KeyPart) (n : ℕ) → n < length parts → slice_get parts n ≡ None → ⊥
+there [] n lt e = absurd (omega arith)
+there (p ∷ ps) zero lt e = absurd cc
+there (p ∷ ps) (suc n) lt e = there ps n (omega arith) e
+
+place_told : (ms : List Mark) (parts : List KeyPart) (o : Option Fault) → length ms ≡ length parts → Tells ms o → TellsPlace ms parts (fault_at parts o)
+place_told ms parts None many h = h
+place_told ms parts (Some f) many h = told ms parts f (slice_get parts f.number) h refl (there parts f.number (omega (arith, short ms f.number f.why h, many)))
+
+-- None exactly where the rules hold, else the place and reason of the first faulty mark
+pub fault_in-tells : (s : Document) → TellsPlace (marks (said_in s)) (syntax.parts s) (fault_in s)
+fault_in-tells s = place_told (marks (said_in s)) (syntax.parts s) (first_fault (marks (said_in s))) (marked-parts s) (first_fault-tells (marks (said_in s)))
+
+pub fault_in_value-tells : (v : Value) → TellsPlace (marks (value_said v)) (parts_in v) (fault_in_value v)
+fault_in_value-tells v = place_told (marks (value_said v)) (parts_in v) (first_fault (marks (value_said v))) (marked-parts_in v) (first_fault-tells (marks (value_said v)))

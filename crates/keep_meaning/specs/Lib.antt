@@ -1,0 +1,11 @@
+pub mod Rules
+pub mod Fact
+pub mod Marks
+pub mod Meaning
+pub mod Counts
+pub mod Nodes
+pub mod Faults
+pub mod ReadText
+pub mod Laws
+pub mod State
+pub mod KeyText

@@ -1,0 +1,40 @@
+-- What reading a text gives: its tree, or the fault.
+use Rattle.std.specs.Prelude.{◌≡◌, ℕ, List, IsUtf8}
+use Rattle.std.specs.Str.Lossy.{utf8_valid_len}
+use Rattle.keep_token.specs.declared.leaf.Profile.{Profile}
+use Rattle.keep_syntax.specs.declared.fault.ReadFault.{ReadFault}
+use Rattle.keep_syntax.specs.declared.fault.ReadFault.TheVariants.{Utf8, Syntax, TooDeep, Define, Memory}
+use Rattle.keep_syntax.specs.Tree.{Value, Document, text, value_text}
+use Rattle.keep_syntax.specs.Grammar.{IsDocument, IsValue, Reads, ReadsValue}
+use Rattle.keep_syntax.specs.Deep.{IsTooDeep, IsValueTooDeep}
+use Rattle.keep_meaning.specs.Rules.{ObeysRules}
+use Rattle.keep_meaning.specs.Marks.{marks}
+use Rattle.keep_meaning.specs.Meaning.{said_in, value_said}
+use Rattle.keep_meaning.specs.Faults.{IsFaultIn, IsFaultInValue}
+
+-- The bytes are the text of this document, and its rules hold.
+pub record IsRead (profile : Profile) (limit : ℕ) (bytes : List ℕ) (s : Document) : Type 0 where
+  pub utf8 : IsUtf8 bytes
+  pub reads : Reads profile limit bytes s
+  pub obeys : ObeysRules (marks (said_in s))
+
+-- Why bytes are no document, want of memory aside. (Where and why the grammar fails is not told here.)
+abbrev pub IsReadFault : Profile → ℕ → List ℕ → ReadFault → Type 0
+IsReadFault profile limit bytes (Utf8 at) = (¬ (IsUtf8 bytes)) × (at ≡ utf8_valid_len bytes)
+IsReadFault profile limit bytes (Syntax at what) = IsUtf8 bytes × ((s : Document) → IsDocument profile s → bytes ≡ text s → ⊥)
+IsReadFault profile limit bytes (TooDeep at) = IsUtf8 bytes × IsTooDeep profile limit bytes at
+IsReadFault profile limit bytes (Define at why) = IsUtf8 bytes × ((s : Document) × Reads profile limit bytes s × IsFaultIn s at why)
+IsReadFault profile limit bytes Memory = ⊥
+
+-- the text is that of this value, and its rules hold
+pub record IsValueText (profile : Profile) (limit : ℕ) (bytes : List ℕ) (v : Value) : Type 0 where
+  pub reads : ReadsValue profile limit bytes v
+  pub obeys : ObeysRules (marks (value_said v))
+
+-- why a text is no value's, want of memory aside
+abbrev pub IsValueFault : Profile → ℕ → List ℕ → ReadFault → Type 0
+IsValueFault profile limit bytes (Syntax at what) = (v : Value) → IsValue profile v → bytes ≡ value_text v → ⊥
+IsValueFault profile limit bytes (TooDeep at) = IsValueTooDeep profile limit bytes at
+IsValueFault profile limit bytes (Define at why) = (v : Value) × ReadsValue profile limit bytes v × IsFaultInValue v at why
+IsValueFault profile limit bytes (Utf8 at) = ⊥
+IsValueFault profile limit bytes Memory = ⊥

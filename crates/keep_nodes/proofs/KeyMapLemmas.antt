@@ -1,0 +1,15 @@
+-- A map's entries read with the bytes of their keys: look-ups and children are the same.
+use Rattle.std.proofs.Common.{◌≡◌, ℕ, List, [], ◌∷◌, map, refl, ap, cond, Some, String}
+use Rattle.std.specs.Global.{Global}
+use Rattle.std.specs.Str.{bytes_eq}
+use Rattle.std.specs.String.{string_bytes}
+use Rattle.std.specs.Map.{lookup}
+use Rattle.keep_nodes.specs.KeyMaps.{named_pair}
+
+pub lookup_named : (text : List ℕ) (es : List (String Global × ℕ)) → lookup (λ k. bytes_eq text (string_bytes k)) es ≡ lookup (bytes_eq text) (map named_pair es)
+lookup_named text [] = refl
+lookup_named text (e ∷ es) = ap (λ o. cond (bytes_eq text (string_bytes e.0)) (Some e.1) o) (lookup_named text es)
+
+pub numbers_named : (es : List (String Global × ℕ)) → map (λ e. e.1) es ≡ map (λ e. e.1) (map named_pair es)
+numbers_named [] = refl
+numbers_named (e ∷ es) = ap (λ ns. e.1 ∷ ns) (numbers_named es)

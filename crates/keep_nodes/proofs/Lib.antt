@@ -1,0 +1,8 @@
+pub mod TrieLemmas
+pub mod GrowthLemmas
+pub mod NewNodeLemmas
+pub mod KeyMapLemmas
+pub mod NodeRowLemmas
+pub mod StoredLemmas
+pub mod KeptLemmas
+pub mod Shared

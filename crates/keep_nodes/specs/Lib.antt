@@ -1,0 +1,13 @@
+pub mod Trie
+pub mod Growth
+pub mod Children
+pub mod Seeds
+pub mod KeyMaps
+pub mod ChildForms
+pub mod AllNodes
+pub mod Hangs
+pub mod NodeRows
+pub mod Told
+pub mod Kept
+pub mod Stored
+pub use Rattle.keep_path.specs.Path

@@ -1,0 +1,10 @@
+-- The seed that a text gives to the hashers of its maps.
+use Rattle.std.specs.Prelude.{ℕ, List, fold}
+use Rattle.std.specs.Hash as fed
+use Rattle.std.specs.Hash.DefaultHasher as sip
+use Rattle.std.specs.Hash.FoldHasher as folding
+use Rattle.keep_nodes.specs.declared.seed.Seed.{Seed}
+
+-- the hash of the whole text, written to a fresh hasher
+abbrev pub seed_of : List ℕ → Seed
+seed_of text = record { start = fold folding.write folding.initial (fed.u64 (sip.finish (sip.write sip.initial text))) }

@@ -1,0 +1,201 @@
+//! The children of a node.
+ghost use Rattle.std.specs.Prelude.{◌≡◌, ◌<◌, ◌-◌, ◌∷◌, ◌++◌, [], false, None, OnOk, IfOk, IfSome, IfNone, bytes_eq, length, string_bytes, option_copied, option_map, slice_get, slice_index_or};
+ghost use Rattle.keep_nodes.specs.AllNodes.{and_key, and_item};
+ghost use Rattle.keep_nodes.specs.Children.{holding, none_hung, holds_of, named, child_ids, child_named, child_numbered};
+ghost use Rattle.keep_nodes.specs.Trie.{by_key, by_index};
+
+use crate::key_map::KeyMap;
+use crate::seed::Seed;
+use std::alloc::{AllocError, Global};
+use std::marker::Model;
+use std::mem;
+
+/// What children a node may have.
+#[derive(Clone, Copy, Debug, PartialEq, Eq)]
+pub enum Holds {
+    /// A scalar: none.
+    Nothing,
+    /// A table: by keys.
+    Keys,
+    /// An array or an array of tables: items or elements.
+    Items,
+}
+
+/// The only key of a table, decoded, and its child.
+#[derive(Drop)]
+pub struct OnlyKey {
+    key: String,
+    child: usize,
+}
+
+/// How the children of a node are stored.
+#[derive(Drop)]
+pub enum Form {
+    /// At a scalar: none.
+    Nothing,
+    /// At a table without a key.
+    NoKeys,
+    /// At a table with one key, with which a look-up compares.
+    OneKey(Box<OnlyKey>),
+    /// At a table with more keys.
+    Keys(Box<KeyMap>),
+    /// At an array or an array of tables.
+    Items(Box<Vec<usize>>),
+}
+
+/// The children of a node, each by the number of its node, in the order of first meeting.
+#[derive(Drop)]
+pub struct Children {
+    form: Form,
+}
+
+impl Model for Children {
+    ghost use Rattle.keep_nodes.specs.Children.{Hung};
+
+    ghost Value = { Hung };
+
+    ghost use Rattle.keep_nodes.specs.ChildForms.{children_in};
+
+    ghost view = { λ children. children_in children.form };
+}
+
+impl Children {
+    /// None yet.
+    pub fn none(alloc: Global, holds: Holds) -> Result<Children, AllocError>
+        ensures { IfOk result (λ children. children ≡ none_hung (holding holds)) }
+    {
+        let form = match holds {
+            Holds::Nothing => Form::Nothing,
+            Holds::Keys => Form::NoKeys,
+            Holds::Items => Form::Items(Box::new(alloc, Vec::new(alloc))?),
+        };
+        Ok(Children { form })
+    }
+
+    /// The child of that key.
+    pub fn child(&self, text: &str) -> Option<usize>
+        ensures { result ≡ child_named self.now text.now }
+    {
+        match &self.form {
+            Form::OneKey(only) => (text == only.key.as_str()).then_some(only.child),
+            Form::Keys(keys) => keys.child(text),
+            _ => None,
+        }
+    }
+
+    /// Adds a child by a key that has none yet. If memory runs out, the children are lost.
+    pub fn add_key(
+        &mut self,
+        alloc: Global,
+        seed: Seed,
+        text: &str,
+        child: usize,
+    ) -> Result<(), AllocError>
+        requires holds { holds_of self.old ≡ by_key }
+        requires fresh { child_named self.old text.now ≡ None }
+        ensures { OnOk result (self.new ≡ and_key self.old text.now child) }
+    {
+        let key = String::from_str(alloc, text)?;
+        let form = match mem::replace(&mut self.form, Form::NoKeys) {
+            Form::NoKeys => Form::OneKey(Box::new(alloc, OnlyKey { key, child })?),
+            Form::OneKey(only) => {
+                let keys = two_keys(alloc, seed, Box::into_inner(only), key, child)?;
+                Form::Keys(Box::new(alloc, keys)?)
+            }
+            Form::Keys(mut keys) => {
+                keys.add(key, child)?;
+                Form::Keys(keys)
+            }
+            _ => unreachable!(),
+        };
+        self.form = form;
+        Ok(())
+    }
+
+    /// Adds an item or an element.
+    pub fn add_item(&mut self, child: usize) -> Result<(), AllocError>
+        requires { holds_of self.old ≡ by_index }
+        ensures { OnOk result (self.new ≡ and_item self.old child) }
+    {
+        match &mut self.form {
+            Form::Items(items) => {
+                items.push(child)?;
+                Ok(())
+            }
+            _ => unreachable!(),
+        }
+    }
+
+    /// How many there are.
+    pub fn len(&self) -> usize
+        ensures { result ≡ length (child_ids self.now) }
+    {
+        match &self.form {
+            Form::Nothing | Form::NoKeys => 0,
+            Form::OneKey(_) => 1,
+            Form::Keys(keys) => keys.len(),
+            Form::Items(items) => items.len(),
+        }
+    }
+
+    /// The last item or element.
+    pub fn last_item(&self) -> Option<usize>
+        ensures some { IfSome result (λ id. (0 < length (child_ids self.now)) × (id ≡ slice_index_or (child_ids self.now) (length (child_ids self.now) - 1) 0)) }
+        ensures none { IfNone result (holds_of self.now ≡ by_index → length (child_ids self.now) ≡ 0) }
+    {
+        match &self.form {
+            Form::Items(items) => items.last().copied(),
+            _ => None,
+        }
+    }
+
+    /// The item or element of that number.
+    pub fn item(&self, number: usize) -> Option<usize>
+        ensures { result ≡ child_numbered self.now number }
+    {
+        match &self.form {
+            Form::Items(items) => items.get(number).copied(),
+            _ => None,
+        }
+    }
+
+    /// The child that was added after so many others.
+    pub fn at(&self, number: usize) -> Option<usize>
+        ensures { result ≡ slice_get (child_ids self.now) number }
+    {
+        match &self.form {
+            Form::Nothing | Form::NoKeys => None,
+            Form::OneKey(only) => (number == 0).then_some(only.child),
+            Form::Keys(keys) => keys.child_at(number),
+            Form::Items(items) => items.get(number).copied(),
+        }
+    }
+
+    /// Its key, if it has one.
+    pub fn key_at(&self, number: usize) -> Option<&str>
+        ensures { option_copied result ≡ option_map (λ e. e.0) (slice_get (named self.now) number) }
+    {
+        match &self.form {
+            Form::OneKey(only) => (number == 0).then_some(only.key.as_str()),
+            Form::Keys(keys) => keys.key_at(number),
+            _ => None,
+        }
+    }
+}
+
+/// A map of two keys.
+fn two_keys(
+    alloc: Global,
+    seed: Seed,
+    first: OnlyKey,
+    key: String,
+    child: usize,
+) -> Result<KeyMap, AllocError>
+    requires { bytes_eq (string_bytes key) (string_bytes first.key) ≡ false }
+    ensures { IfOk result (λ keys. keys ≡ (string_bytes first.key, first.child) ∷ (string_bytes key, child) ∷ []) }
+{
+    let mut keys = KeyMap::new(alloc, seed);
+    keys.add(first.key, first.child)?;
+    keys.add(key, child)?;
+    Ok(keys)
+}

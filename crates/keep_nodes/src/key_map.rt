@@ -1,0 +1,78 @@
+//! The children of a table by their keys.
+ghost use Rattle.std.specs.Prelude.{◌≡◌, ◌∷◌, ◌++◌, [], None, OnOk, bytes_eq, length, map, option_copied, option_map, slice_get, string_bytes};
+ghost use Rattle.std.specs.Map.{lookup};
+
+use crate::seed::Seed;
+use indexmap::IndexMap;
+use std::alloc::{AllocError, Global};
+use std::marker::Model;
+
+/// The children of a table by their keys, decoded, in the order in which they were added.
+#[derive(Drop)]
+pub struct KeyMap {
+    table: IndexMap<String, usize, Seed>,
+}
+
+impl Model for KeyMap {
+    ghost use Rattle.std.specs.Prelude.{ℕ, List, map};
+    ghost use Rattle.keep_nodes.specs.KeyMaps.{named_pair};
+
+    ghost Value = { List (List ℕ × ℕ) };
+
+    ghost view = { λ keys. map named_pair keys.table.entries };
+}
+
+impl KeyMap {
+    /// No child yet. It takes no memory.
+    pub fn new(alloc: Global, seed: Seed) -> KeyMap
+        ensures { result ≡ [] }
+    {
+        KeyMap {
+            table: IndexMap::with_hasher(alloc, seed),
+        }
+    }
+
+    /// How many children there are.
+    pub fn len(&self) -> usize
+        ensures { result ≡ length self.now }
+    {
+        self.table.len()
+    }
+
+    /// The child of that key.
+    pub fn child(&self, text: &str) -> Option<usize>
+        ensures { result ≡ lookup (bytes_eq text.now) self.now }
+    {
+        self.table.get(text).copied()
+    }
+
+    /// The child that was added after so many others.
+    pub fn child_at(&self, number: usize) -> Option<usize>
+        ensures { result ≡ slice_get (map (λ e. e.1) self.now) number }
+    {
+        child_in(&self.table, number)
+    }
+
+    /// The key of that child.
+    pub fn key_at(&self, number: usize) -> Option<&str>
+        ensures { option_copied result ≡ option_map (λ e. e.0) (slice_get self.now number) }
+    {
+        self.table.get_index(number).map(|(key, _)| key.as_str())
+    }
+
+    /// Adds a child by a key that has none yet. If memory runs out, all is as before.
+    pub fn add(&mut self, key: String, child: usize) -> Result<(), AllocError>
+        requires { lookup (bytes_eq (string_bytes key)) self.old ≡ None }
+        ensures { OnOk result (self.new ≡ self.old ++ (string_bytes key, child) ∷ []) }
+    {
+        self.table.insert(key, child)?;
+        Ok(())
+    }
+}
+
+/// The child of the key of that number.
+fn child_in(table: &IndexMap<String, usize, Seed>, number: usize) -> Option<usize>
+    ensures { result ≡ slice_get (map (λ e. e.1) table.now.entries) number }
+{
+    table.get_index(number).map(|(_, child)| *child)
+}

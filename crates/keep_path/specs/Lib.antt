@@ -1,0 +1,5 @@
+pub mod IndexText
+pub mod Path
+pub mod PathText
+pub mod Step
+pub mod PathReading

@@ -1,0 +1,23 @@
+-- What is found at the front of a path's text. The laws in proofs/ tie it to the texts of paths.
+use Rattle.std.specs.Prelude.{◌≡◌, ℕ, ◌<◌, ◌≤◌, List, ◌∷◌, length, take, drop, Some}
+use Rattle.keep_token.specs.declared.leaf.Leaf.{Leaf}
+use Rattle.keep_token.specs.declared.leaf.Profile.TheVariants.{Strict, Wide}
+use Rattle.keep_token.specs.Leaves.{Means}
+use Rattle.keep_token.specs.Scanning.{key_at}
+use Rattle.keep_path.specs.Path.{Part}
+use Rattle.keep_path.specs.PathText.{StepText, StepsText}
+
+-- a key part of n bytes
+abbrev pub KeyFound : List ℕ → ℕ → Type 0
+KeyFound text n = (l : Leaf) × (key_at Strict text ≡ Some (l, n))
+
+-- a key part of n bytes that means this key
+abbrev pub KeyRead : List ℕ → List ℕ → ℕ → Type 0
+KeyRead text key n = (l : Leaf) × (key_at Strict text ≡ Some (l, n)) × Means Wide l (take n text) key
+
+-- a step of n bytes, with which all steps that the text tells begin
+pub record StepRead (text : List ℕ) (part : Part) (n : ℕ) : Type 0 where
+  pub some : 0 < n
+  pub within : n ≤ length text
+  pub step : StepText part (take n text)
+  pub first : (parts : List Part) → StepsText parts text → (more : List Part) × (parts ≡ part ∷ more) × StepsText more (drop n text)

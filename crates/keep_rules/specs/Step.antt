@@ -1,9 +1,0 @@
--- What a step of the program means.
-use Rattle.std.specs.String.{string_bytes}
-use Rattle.keep_rules.specs.declared.step.Step.{Step}
-use Rattle.keep_rules.specs.declared.step.Step.TheVariants.{Key, Index}
-use Rattle.keep_rules.specs.Path.{Part, key, index}
-
-abbrev pub part_of : Step → Part
-part_of (Key text) = key (string_bytes text)
-part_of (Index n) = index n
