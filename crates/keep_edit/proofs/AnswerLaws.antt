@@ -1,35 +1,54 @@
 -- What a document answers is told of its one tree.
-use Rattle.std.proofs.Common.{◌≡◌, ℕ, List, length, ◌∙◌, ap, subst}
+use Rattle.std.proofs.Common.{◌≡◌, ◌≤◌, ◌+◌, ℕ, List, length, ◌∙◌, ap, subst, arith}
 use Rattle.std.proofs.lemmas.List.{length-map}
+use Rattle.keep_token.specs.declared.leaf.Profile.{Profile}
 use Rattle.keep_syntax.specs.declared.syntax.Syntax.{Syntax}
 use Rattle.keep_syntax.specs.Tree.{Document}
 use Rattle.keep_syntax.specs.Numbered.{tokens}
 use Rattle.keep_syntax.specs.Contract.{tokens_of}
-use Rattle.keep_rules.specs.Nodes.{nodes_in, node_path}
-use Rattle.keep_rules.specs.Told.{Telling}
-use Rattle.keep_edit.specs.Reading.{IsTextOfTree, telling_in, Holds}
+use Rattle.keep_syntax.proofs.LawLaws.{tokens_few}
+use Rattle.keep_meaning.specs.Nodes.{nodes_in, node_path}
+use Rattle.keep_nodes.specs.Told.{Telling}
+use Rattle.keep_meaning.proofs.Shared.{nodes_few}
+use Rattle.keep_edit.specs.Reading.{limit, ProfiledText, text_in, IsTextOfTree, telling_in, Holds}
 use Rattle.keep_edit.specs.Answers.{counts_of}
 use Rattle.keep_edit.specs.declared.document.Counts.{Counts}
 use Rattle.keep_edit.proofs.ReadLaws.{one_tree}
 
-pub seen : {a b : List ℕ} {syntax : Syntax} {index : Telling} → a ≡ b → Holds a syntax index → Holds b syntax index
-seen {a} {b} {syntax} {index} e h = subst (λ (x : List ℕ). Holds x syntax index) e h
+pub seen : {a b : ProfiledText} {syntax : Syntax} {index : Telling} → a ≡ b → Holds a syntax index → Holds b syntax index
+seen {a} {b} {syntax} {index} e h = subst (λ (x : ProfiledText). Holds x syntax index) e h
 
-pub tree_is : (bytes : List ℕ) (syntax : Syntax) (index : Telling) (s : Document) (h : Holds bytes syntax index) → IsTextOfTree bytes s → h.tree ≡ s
-tree_is bytes syntax index s h read = one_tree bytes h.tree s h.read read
+pub text_seen : {profile : Profile} {bytes : List ℕ} {t : ProfiledText} → text_in profile bytes ≡ t → bytes ≡ t.text
+text_seen e = ap (λ (x : ProfiledText). x.text) e
 
-pub tokens_are : (bytes : List ℕ) (syntax : Syntax) (index : Telling) (s : Document) → Holds bytes syntax index → IsTextOfTree bytes s → tokens_of syntax bytes ≡ tokens s
-tokens_are bytes syntax index s h read = ap (tokens_of syntax) h.read.reads.spelled ∙ h.is.tokens ∙ ap tokens (tree_is bytes syntax index s h read)
+pub profile_seen : {profile : Profile} {bytes : List ℕ} {t : ProfiledText} → text_in profile bytes ≡ t → profile ≡ t.profile
+profile_seen e = ap (λ (x : ProfiledText). x.profile) e
 
-pub told_is : (bytes : List ℕ) (syntax : Syntax) (index : Telling) (s : Document) → Holds bytes syntax index → IsTextOfTree bytes s → index ≡ telling_in s
-told_is bytes syntax index s h read = h.told ∙ ap telling_in (tree_is bytes syntax index s h read)
+pub tree_is : (t : ProfiledText) (syntax : Syntax) (index : Telling) (s : Document) (h : Holds t syntax index) → IsTextOfTree t s → h.tree ≡ s
+tree_is t syntax index s h read = one_tree t h.tree s h.read read
+
+pub tokens_are : (t : ProfiledText) (syntax : Syntax) (index : Telling) (s : Document) → Holds t syntax index → IsTextOfTree t s → tokens_of syntax t.text ≡ tokens s
+tokens_are t syntax index s h read = ap (tokens_of syntax) h.read.reads.spelled ∙ h.is.tokens ∙ ap tokens (tree_is t syntax index s h read)
+
+pub told_is : (t : ProfiledText) (syntax : Syntax) (index : Telling) (s : Document) → Holds t syntax index → IsTextOfTree t s → index ≡ telling_in s
+told_is t syntax index s h read = h.told ∙ ap telling_in (tree_is t syntax index s h read)
 
 abbrev counted : ℕ → ℕ → Counts
-counted t n = record { tokens = t; nodes = n }
+counted m n = record { tokens = m; nodes = n }
 
-pub counts_are : (bytes : List ℕ) (syntax : Syntax) (index : Telling) (s : Document) (t n : ℕ) → Holds bytes syntax index → IsTextOfTree bytes s
-    → t ≡ length (tokens_of syntax bytes) → n ≡ length index.paths → counted t n ≡ counts_of s
-counts_are bytes syntax index s t n h read e f =
-    let tokens_many : t ≡ length (tokens s) = e ∙ ap length (tokens_are bytes syntax index s h read) in
-    let nodes_many : n ≡ length (nodes_in s) = f ∙ ap (λ (x : Telling). length x.paths) (told_is bytes syntax index s h read) ∙ length-map (nodes_in s) node_path in
+pub counts_are : (t : ProfiledText) (syntax : Syntax) (index : Telling) (s : Document) (m n : ℕ) → Holds t syntax index → IsTextOfTree t s
+    → m ≡ length (tokens_of syntax t.text) → n ≡ length index.paths → counted m n ≡ counts_of s
+counts_are t syntax index s m n h read e f =
+    let tokens_many : m ≡ length (tokens s) = e ∙ ap length (tokens_are t syntax index s h read) in
+    let nodes_many : n ≡ length (nodes_in s) = f ∙ ap (λ (x : Telling). length x.paths) (told_is t syntax index s h read) ∙ length-map (nodes_in s) node_path in
     ap (λ (x : ℕ). counted x n) tokens_many ∙ ap (counted (length (tokens s))) nodes_many
+
+-- ---- how many they are
+
+pub counts_few : (t : ProfiledText) (syntax : Syntax) (index : Telling) (m n : ℕ) → Holds t syntax index → m ≡ length (tokens_of syntax t.text) → n ≡ length index.paths
+    → (m ≤ length t.text + 1) × (n ≤ length t.text + 1)
+counts_few t syntax index m n h e f =
+    let same : counted m n ≡ counts_of h.tree = counts_are t syntax index h.tree m n h h.read e f in (
+      omega (arith, ap (λ (c : Counts). c.tokens) same, tokens_few t.profile limit t.text h.tree h.read.reads),
+      omega (arith, ap (λ (c : Counts). c.nodes) same, nodes_few t.profile h.tree h.read.reads.valid, ap length h.read.reads.spelled),
+    )

@@ -4,36 +4,33 @@ use Rattle.std.specs.Prelude.{IsCharBoundary}
 use Rattle.std.specs.List.{list_any}
 use Rattle.std.specs.Option.{option_map}
 use Rattle.std.proofs.lemmas.Option.{slice_get_within}
-use Rattle.keep_token.specs.declared.leaf.Profile.TheVariants.{Strict}
+use Rattle.keep_token.specs.declared.leaf.Profile.{Profile}
 use Rattle.keep_syntax.specs.declared.info.ValueInfo.{ValueInfo}
 use Rattle.keep_syntax.specs.declared.syntax.Syntax.{Syntax}
 use Rattle.keep_syntax.specs.Tree.{Document, text, value_text}
 use Rattle.keep_syntax.specs.Contract.{values_of}
 use Rattle.keep_syntax.specs.Numbered as numbered
 use Rattle.keep_rules.specs.declared.index.NodeId.{NodeId}
-use Rattle.keep_rules.specs.declared.node.NodeInfo.{NodeInfo}
-use Rattle.keep_rules.specs.declared.node.Place.TheVariants as place
-use Rattle.keep_rules.specs.Counts.{Numbered, is_value, numbered_in}
-use Rattle.keep_rules.specs.Fact.{Fact}
-use Rattle.keep_rules.specs.KeyText.{text_at}
+use Rattle.keep_meaning.specs.declared.node.NodeInfo.{NodeInfo}
+use Rattle.keep_meaning.specs.declared.node.Place.TheVariants as place
+use Rattle.keep_meaning.specs.Counts.{Numbered, is_value, numbered_in}
+use Rattle.keep_meaning.specs.Fact.{Fact}
+use Rattle.keep_meaning.specs.KeyText.{text_at}
 use Rattle.keep_rules.specs.Lookup.{number_of}
-use Rattle.keep_rules.specs.Marks.{Mention, marks}
-use Rattle.keep_rules.specs.Meaning.{body_fact, said_in}
-use Rattle.keep_rules.specs.Nodes.{is_at, is_root, is_node, fact_at, node_number, node_paths, is_element, is_begun, is_define, is_dotted, is_through, numbered_at, last_number, value_number, statement_number, first_that_fits, place_said}
-use Rattle.keep_rules.specs.Path.{Part}
-use Rattle.keep_rules.specs.Rules.{ObeysRules}
-use Rattle.keep_rules.specs.Told.{Telling}
-use Rattle.keep_rules.proofs.CountLemmas.{paths-nodes_in}
-use Rattle.keep_rules.proofs.KeyPartLemmas.{IsPart, part_ends}
+use Rattle.keep_meaning.specs.Marks.{Mention, marks}
+use Rattle.keep_meaning.specs.Meaning.{body_fact, said_in}
+use Rattle.keep_meaning.specs.Nodes.{is_at, is_root, is_node, fact_at, node_number, node_paths, is_element, is_begun, is_define, is_dotted, is_through, numbered_at, last_number, value_number, statement_number, first_that_fits, place_said}
+use Rattle.keep_path.specs.Path.{Part}
+use Rattle.keep_meaning.specs.Rules.{ObeysRules}
+use Rattle.keep_nodes.specs.Told.{Telling}
+use Rattle.keep_meaning.proofs.Shared.{paths-nodes_in, IsPart, part_ends}
 use Rattle.keep_law.specs.declared.fault.EditFault.{EditFault}
 use Rattle.keep_law.specs.declared.fault.EditFault.TheVariants as fault
 use Rattle.keep_law.specs.Answers.{get, or_not_value, value_at}
 use Rattle.keep_law.specs.Laws.{GivesText}
 use Rattle.keep_law.specs.Refusals.{has_value}
-use Rattle.keep_law.proofs.SetIsLawful.{get_is_right}
-use Rattle.keep_law.proofs.ValuePlace.{IsValueOf, value_of_number, none_of_number}
-use Rattle.keep_law.proofs.ValueThere.{fact_past}
-use Rattle.keep_edit.specs.Reading.{IsTextOfTree, Holds}
+use Rattle.keep_law.proofs.Shared.{get_is_right, IsValueOf, value_of_number, none_of_number, fact_past}
+use Rattle.keep_edit.specs.Reading.{ProfiledText, IsTextOfTree, Holds}
 use Rattle.keep_edit.specs.Answers.{kind_of, value_number_of, HasNoValue, IsSpanOf}
 use Rattle.keep_edit.proofs.AnswerLaws.{tree_is, told_is}
 use Rattle.keep_edit.proofs.NodeLaws.{info_at, info_of_number, no_node, a_node, kind_told}
@@ -46,9 +43,9 @@ pub record IsTold (path : List Part) (s : Document) (info : NodeInfo) : Type 0 w
   pub node : is_node path (said_in s) ≡ true
   pub is : info ≡ info_at path s
 
-module _ (bytes : List ℕ) (syntax : Syntax) (index : Telling) (path : List Part) (s : Document) (holds : Holds bytes syntax index) (read : IsTextOfTree bytes s) where
+module _ (d : ProfiledText) (syntax : Syntax) (index : Telling) (path : List Part) (s : Document) (holds : Holds d syntax index) (read : IsTextOfTree d s) where
   paths_are : index.paths ≡ node_paths (said_in s)
-  paths_are = ap (λ (t : Telling). t.paths) (told_is bytes syntax index s holds read) ∙ paths-nodes_in s
+  paths_are = ap (λ (t : Telling). t.paths) (told_is d syntax index s holds read) ∙ paths-nodes_in s
 
   pub none_found : (o : Option NodeId) → o ≡ None → number_of o ≡ node_number index.paths path → is_node path (said_in s) ≡ false
   none_found o none found = no_node path (said_in s) (ap (λ (ps : List (List Part)). node_number ps path) (sym paths_are) ∙ sym found ∙ ap number_of none)
@@ -57,7 +54,7 @@ module _ (bytes : List ℕ) (syntax : Syntax) (index : Telling) (path : List Par
   one_found id info o one found there =
       let number : node_number (node_paths (said_in s)) path ≡ Some id.0 = ap (λ (ps : List (List Part)). node_number ps path) (sym paths_are) ∙ sym found ∙ ap number_of one in
       let same : Some info ≡ Some (info_at path s) =
-      sym there ∙ ap (λ (t : Telling). slice_get t.infos id.0) (told_is bytes syntax index s holds read) ∙ info_of_number path s id.0 number in
+      sym there ∙ ap (λ (t : Telling). slice_get t.infos id.0) (told_is d syntax index s holds read) ∙ info_of_number path s id.0 number in
       record { node = a_node path (said_in s) id.0 number; is = cc }
 
 -- ---- its kind
@@ -100,8 +97,8 @@ none_unless (Some n) h = absurd (h n refl)
 pub number_found : (path : List Part) (s : Document) (info : NodeInfo) (n : ℕ) → IsTold path s info → info.place ≡ place.Value n → value_number_of path s ≡ Some n
 number_found path s info n told e = place_of_value (numbered_at path (numbered_in s)) n (sym (ap (λ (i : NodeInfo). i.place) told.is) ∙ e)
 
-pub no_number_found : (bytes : List ℕ) (path : List Part) (s : Document) (info : NodeInfo) → IsTextOfTree bytes s → IsTold path s info → ((n : ℕ) → info.place ≡ place.Value n → ⊥) → HasNoValue path s fault.NotValue
-no_number_found bytes path s info read told other =
+pub no_number_found : (d : ProfiledText) (path : List Part) (s : Document) (info : NodeInfo) → IsTextOfTree d s → IsTold path s info → ((n : ℕ) → info.place ≡ place.Value n → ⊥) → HasNoValue path s fault.NotValue
+no_number_found d path s info read told other =
     let none : value_number_of path s ≡ None =
     none_unless (value_number_of path s) (λ n e. other n (ap (λ (i : NodeInfo). i.place) told.is ∙ value_of_place (numbered_at path (numbered_in s)) n e)) in
     (told.node, none_of_number path s read.obeys none)
@@ -109,39 +106,39 @@ no_number_found bytes path s info read told other =
 -- ---- where the value stands
 
 -- the value of that number is the path's, and stands there in the text
-pub record IsValueThere (bytes : List ℕ) (path : List Part) (s : Document) (number : ℕ) (info : ValueInfo) : Type 0 where
-  pub of : IsValueOf Strict path s number info
-  pub span : IsSpanOf bytes info.span
+pub record IsValueThere (d : ProfiledText) (path : List Part) (s : Document) (number : ℕ) (info : ValueInfo) : Type 0 where
+  pub of : IsValueOf d.profile path s number info
+  pub span : IsSpanOf d.text info.span
 
 part_of_same : (a b : List ℕ) (at : ℕ) (t : List ℕ) → a ≡ b → IsPart b at t → IsPart a at t
 part_of_same a b at t e h = subst (λ (x : List ℕ). IsPart x at t) (sym e) h
 
-span_is : (bytes : List ℕ) (path : List Part) (s : Document) (number : ℕ) (info : ValueInfo) → IsTextOfTree bytes s → IsValueOf Strict path s number info → IsSpanOf bytes info.span
-span_is bytes path s number info read of =
-    let there : IsPart bytes info.span.start (value_text of.value) = part_of_same bytes (text s) info.span.start (value_text of.value) read.reads.spelled of.here in
-    let ends = value_ends Strict of.value of.valid in
+span_is : (d : ProfiledText) (path : List Part) (s : Document) (number : ℕ) (info : ValueInfo) → IsTextOfTree d s → IsValueOf d.profile path s number info → IsSpanOf d.text info.span
+span_is d path s number info read of =
+    let there : IsPart d.text info.span.start (value_text of.value) = part_of_same d.text (text s) info.span.start (value_text of.value) read.reads.spelled of.here in
+    let ends = value_ends d.profile of.value of.valid in
     record {
       ordered = omega (arith, of.end);
-      within = omega (arith, of.end, part_ends bytes info.span.start (value_text of.value) there);
-      starts = starts_between bytes info.span.start (value_text of.value) there ends;
-      ends = subst (IsCharBoundary bytes) (sym of.end) (ends_between bytes info.span.start (value_text of.value) read.utf8 there ends);
+      within = omega (arith, of.end, part_ends d.text info.span.start (value_text of.value) there);
+      starts = starts_between d.text info.span.start (value_text of.value) there ends;
+      ends = subst (IsCharBoundary d.text) (sym of.end) (ends_between d.text info.span.start (value_text of.value) read.utf8 there ends);
     }
 
-module _ (bytes : List ℕ) (syntax : Syntax) (index : Telling) (path : List Part) (s : Document) (number : ℕ) (holds : Holds bytes syntax index) (read : IsTextOfTree bytes s) (found : value_number_of path s ≡ Some number) where
+module _ (d : ProfiledText) (syntax : Syntax) (index : Telling) (path : List Part) (s : Document) (number : ℕ) (holds : Holds d syntax index) (read : IsTextOfTree d s) (found : value_number_of path s ≡ Some number) where
   values_are : values_of syntax ≡ numbered.values s
-  values_are = holds.is.values ∙ ap numbered.values (tree_is bytes syntax index s holds read)
+  values_are = holds.is.values ∙ ap numbered.values (tree_is d syntax index s holds read)
 
   pub value_inside : number < length (values_of syntax)
   value_inside =
-      let (info, of) = value_of_number Strict path s number read.reads.valid read.obeys found in
+      let (info, of) = value_of_number d.profile path s number read.reads.valid read.obeys found in
       slice_get_within (values_of syntax) number info (ap (λ vs. slice_get vs number) values_are ∙ of.info)
 
-  pub value_there : (info : ValueInfo) → slice_get (values_of syntax) number ≡ Some info → IsValueThere bytes path s number info
+  pub value_there : (info : ValueInfo) → slice_get (values_of syntax) number ≡ Some info → IsValueThere d path s number info
   value_there info here =
-      let (own, of) = value_of_number Strict path s number read.reads.valid read.obeys found in
+      let (own, of) = value_of_number d.profile path s number read.reads.valid read.obeys found in
       let same : Some own ≡ Some info = sym of.info ∙ ap (λ vs. slice_get vs number) (sym values_are) ∙ here in
-      let is : IsValueOf Strict path s number info = subst (λ (i : ValueInfo). IsValueOf Strict path s number i) (let k : own ≡ info = cc in k) of in
-      record { of = is; span = span_is bytes path s number info read is }
+      let is : IsValueOf d.profile path s number info = subst (λ (i : ValueInfo). IsValueOf d.profile path s number i) (let k : own ≡ info = cc in k) of in
+      record { of = is; span = span_is d path s number info read is }
 
 -- ---- its text
 
@@ -158,22 +155,22 @@ fact_names path (m ∷ ms) f e = by (is_at path m) refl (λ k. fact_names path m
     by true here more = ap (λ b. b || list_any (is_at path) ms) here
     by false here more = ap (λ b. b || list_any (is_at path) ms) here ∙ more (sym (fact_past path m ms here) ∙ e)
 
-value_names : (path : List Part) (s : Document) (number : ℕ) (info : ValueInfo) → IsValueOf Strict path s number info → is_node path (said_in s) ≡ true
-value_names path s number info of = ap (λ b. is_root path || b) (fact_names path (said_in s) (body_fact of.value.body) of.fact) ∙ or_true (is_root path)
+value_names : (profile : Profile) (path : List Part) (s : Document) (number : ℕ) (info : ValueInfo) → IsValueOf profile path s number info → is_node path (said_in s) ≡ true
+value_names profile path s number info of = ap (λ b. is_root path || b) (fact_names path (said_in s) (body_fact of.value.body) of.fact) ∙ or_true (is_root path)
 
 -- what is answered where the path names a node or not
 abbrev answered : Bool → Option (List ℕ) → Result (List ℕ) EditFault
 answered b found = elim b [ true ↦ or_not_value found | false ↦ Err fault.NotFound ]
 
-pub got : (bytes : List ℕ) (path : List Part) (s : Document) (number : ℕ) (info : ValueInfo) (t : List ℕ) → IsTextOfTree bytes s → IsValueThere bytes path s number info → t ≡ text_at bytes info.span → get path s ≡ Ok t
-got bytes path s number info t read there e =
+pub got : (d : ProfiledText) (path : List Part) (s : Document) (number : ℕ) (info : ValueInfo) (t : List ℕ) → IsTextOfTree d s → IsValueThere d path s number info → t ≡ text_at d.text info.span → get path s ≡ Ok t
+got d path s number info t read there e =
     let spelled : text_at (text s) info.span ≡ t = ap (λ (b : List ℕ). text_at b info.span) (sym read.reads.spelled) ∙ sym e in
-    ap (λ b. answered b (value_at path s)) (value_names path s number info there.of) ∙ ap or_not_value (there.of.got ∙ ap Some spelled)
+    ap (λ b. answered b (value_at path s)) (value_names d.profile path s number info there.of) ∙ ap or_not_value (there.of.got ∙ ap Some spelled)
 
 no_value_got : (path : List Part) (s : Document) → ObeysRules (marks (said_in s)) → has_value path (said_in s) ≡ false → value_at path s ≡ None
 no_value_got path s obeys none = subst (λ (b : Bool). GivesText path s b (value_at path s)) none (get_is_right path s obeys)
 
-pub not_got : (bytes : List ℕ) (path : List Part) (s : Document) (f : EditFault) → IsTextOfTree bytes s → HasNoValue path s f → get path s ≡ Err f
-not_got bytes path s fault.NotFound read h = ap (λ b. answered b (value_at path s)) h
-not_got bytes path s fault.NotValue read (node, none) = ap (λ b. answered b (value_at path s)) node ∙ ap or_not_value (no_value_got path s read.obeys none)
-not_got bytes path s _ read h = absurd h
+pub not_got : (d : ProfiledText) (path : List Part) (s : Document) (f : EditFault) → IsTextOfTree d s → HasNoValue path s f → get path s ≡ Err f
+not_got d path s fault.NotFound read h = ap (λ b. answered b (value_at path s)) h
+not_got d path s fault.NotValue read (node, none) = ap (λ b. answered b (value_at path s)) node ∙ ap or_not_value (no_value_got path s read.obeys none)
+not_got d path s _ read h = absurd h

@@ -7,3 +7,8 @@ pub mod FoundLaws
 pub mod ListLaws
 pub mod ScalarLaws
 pub mod SetLaws
+pub mod EditedLaws
+pub mod RenameLaws
+pub mod RemoveNode
+pub mod RemoveSteps
+pub mod RemoveCut

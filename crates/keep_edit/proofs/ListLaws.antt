@@ -1,26 +1,28 @@
 -- The entries of a document: node by node, each with its path and what stands there.
-use Rattle.std.proofs.Common.{◌≡◌, ℕ, ◌+◌, ◌<◌, ◌≤◌, List, [], ◌∷◌, ◌++◌, length, map, take, drop, get_or, refl, sym, ap, ◌∙◌, arith, Some}
+use Rattle.std.proofs.Common.{◌≡◌, ℕ, ◌+◌, ◌<◌, ◌≤◌, List, [], ◌∷◌, ◌++◌, length, length-drop, map, take, drop, get_or, refl, sym, ap, subst, ◌∙◌, arith, Option, Some, None}
 use Rattle.std.specs.Prelude.{slice_get}
+use Rattle.std.proofs.lemmas.Grind.{get_or_after_one}
 use Rattle.std.specs.Option.{option_map}
-use Rattle.std.proofs.lemmas.List.{map-append, length-take-le, drop-append-le, take_more, take_all}
-use Rattle.std.proofs.lemmas.Option.{slice_get-map, slice_get-get_or}
+use Rattle.std.proofs.lemmas.List.{map-append, length-map, length-take-le, drop-append-le, take_more, take_all}
+use Rattle.std.proofs.lemmas.Option.{slice_get-map, slice_get-get_or, slice_get_past}
 use Rattle.keep_syntax.specs.declared.info.KeyPart.{KeyPart}
 use Rattle.keep_syntax.specs.declared.info.ValueInfo.{ValueInfo}
 use Rattle.keep_syntax.specs.declared.syntax.Syntax.{Syntax}
 use Rattle.keep_syntax.specs.Tree.{Document}
 use Rattle.keep_syntax.specs.Numbered as syntax
-use Rattle.keep_rules.specs.declared.node.Kind.{Kind}
-use Rattle.keep_rules.specs.declared.node.NodeInfo.{NodeInfo}
-use Rattle.keep_rules.specs.Counts.{numbered_in}
+use Rattle.keep_meaning.specs.declared.node.Kind.{Kind}
+use Rattle.keep_meaning.specs.declared.node.NodeInfo.{NodeInfo}
+use Rattle.keep_meaning.specs.Counts.{numbered_in}
 use Rattle.keep_rules.specs.Lookup.{path_numbered}
-use Rattle.keep_rules.specs.Meaning.{said_in}
-use Rattle.keep_rules.specs.Nodes.{kind_at, mention_of, node_at, node_info, node_paths, infos_in}
-use Rattle.keep_rules.specs.Path.{Part}
-use Rattle.keep_rules.specs.Told.{Telling}
-use Rattle.keep_rules.proofs.CountLemmas.{mentions-numbered_in, paths-nodes_in}
+use Rattle.keep_meaning.specs.Meaning.{said_in}
+use Rattle.keep_meaning.specs.Nodes.{kind_at, mention_of, node_at, node_info, node_paths, infos_in}
+use Rattle.keep_path.specs.Path.{Part}
+use Rattle.keep_path.specs.PathText.{encoded_path}
+use Rattle.keep_nodes.specs.Told.{Telling}
+use Rattle.keep_meaning.proofs.Shared.{mentions-numbered_in, paths-nodes_in}
 use Rattle.keep_edit.specs.declared.document.Entry.{Entry}
-use Rattle.keep_edit.specs.Answers.{entry_at, entries_of}
-use Rattle.keep_edit.specs.Reading.{IsTextOfTree, telling_in, Holds}
+use Rattle.keep_edit.specs.Answers.{entry_at, entries_of, AddsEntryPath}
+use Rattle.keep_edit.specs.Reading.{ProfiledText, IsTextOfTree, telling_in, Holds}
 use Rattle.keep_edit.proofs.AnswerLaws.{told_is}
 use Rattle.keep_edit.proofs.NodeLaws.{kind_told}
 
@@ -60,9 +62,9 @@ record IsToldOf (s : Document) (index : Telling) : Type 0 where
   paths : index.paths ≡ node_paths (said_in s)
   infos : index.infos ≡ infos_in s
 
-told_of : (bytes : List ℕ) (parts : Syntax) (index : Telling) (s : Document) → Holds bytes parts index → IsTextOfTree bytes s → IsToldOf s index
-told_of bytes parts index s h read =
-    let is : index ≡ telling_in s = told_is bytes parts index s h read in
+told_of : (t : ProfiledText) (parts : Syntax) (index : Telling) (s : Document) → Holds t parts index → IsTextOfTree t s → IsToldOf s index
+told_of t parts index s h read =
+    let is : index ≡ telling_in s = told_is t parts index s h read in
     record { paths = ap (λ (t : Telling). t.paths) is ∙ paths-nodes_in s; infos = ap (λ (t : Telling). t.infos) is }
 
 -- ---- one after another
@@ -74,11 +76,11 @@ entries_none s = by (node_paths (said_in s))
     by [] = refl
     by (p ∷ ps) = refl
 
-pub entries_more : (bytes : List ℕ) (parts : Syntax) (index : Telling) (s : Document) (entries : List Entry) (n : ℕ) (path : List Part) (info : NodeInfo) → Holds bytes parts index → IsTextOfTree bytes s
+pub entries_more : (t : ProfiledText) (parts : Syntax) (index : Telling) (s : Document) (entries : List Entry) (n : ℕ) (path : List Part) (info : NodeInfo) → Holds t parts index → IsTextOfTree t s
     → entries ≡ entries_before s n → 1 ≤ n → n < length index.paths → path ≡ path_numbered index n → slice_get index.infos n ≡ Some info
     → entries ++ entry path info.kind ∷ [] ≡ entries_before s (n + 1)
-entries_more bytes parts index s entries n path info h read so_far some within place told =
-    let is : IsToldOf s index = told_of bytes parts index s h read in
+entries_more t parts index s entries n path info h read so_far some within place told =
+    let is : IsToldOf s index = told_of t parts index s h read in
     let paths : List (List Part) = node_paths (said_in s) in
     let low : n < length paths = omega (arith, within, ap (λ (ps : List (List Part)). length ps) is.paths) in
     let p : List Part = get_or paths n [] in
@@ -92,8 +94,38 @@ entries_more bytes parts index s entries n path info h read so_far some within p
     ∙ sym (map-append (entry_at (said_in s)) (drop 1 (take n paths)) (p ∷ []))
     ∙ ap (map (entry_at (said_in s))) (sym front)
 
-pub entries_all : (bytes : List ℕ) (parts : Syntax) (index : Telling) (s : Document) (entries : List Entry) (n : ℕ) → Holds bytes parts index → IsTextOfTree bytes s → entries ≡ entries_before s n
+pub entries_all : (t : ProfiledText) (parts : Syntax) (index : Telling) (s : Document) (entries : List Entry) (n : ℕ) → Holds t parts index → IsTextOfTree t s → entries ≡ entries_before s n
     → length index.paths ≤ n → entries ≡ entries_of s
-entries_all bytes parts index s entries n h read so_far past =
-    let is : IsToldOf s index = told_of bytes parts index s h read in
+entries_all t parts index s entries n h read so_far past =
+    let is : IsToldOf s index = told_of t parts index s h read in
     so_far ∙ ap (λ ps. map (entry_at (said_in s)) (drop 1 ps)) (take_all n (node_paths (said_in s)) (omega (arith, past, ap (λ (ps : List (List Part)). length ps) is.paths)))
+
+-- ---- by number
+
+path_of_entry : (paths : List (List Part)) (n : ℕ) → n + 1 < length paths → slice_get (drop 1 paths) n ≡ Some (get_or paths (n + 1) [])
+path_of_entry paths n low =
+    slice_get-get_or (drop 1 paths) n [] (omega (arith, length-drop 1 paths)) ∙ ap Some (get_or_after_one paths n [] ∙ ap (λ i. get_or paths i []) (omega arith))
+
+-- the path that was added and the kind that was told are those of the entry
+pub entry_added : (t : ProfiledText) (parts : Syntax) (index : Telling) (s : Document) (n : ℕ) (old new : List ℕ) (info : NodeInfo) → Holds t parts index → IsTextOfTree t s
+    → n + 1 < length index.paths → new ≡ old ++ encoded_path (path_numbered index (n + 1)) → slice_get index.infos (n + 1) ≡ Some info
+    → AddsEntryPath (slice_get (entries_of s) n) (Some info.kind) old new
+entry_added t parts index s n old new info h read within text told =
+    let is : IsToldOf s index = told_of t parts index s h read in
+    let paths : List (List Part) = node_paths (said_in s) in
+    let low : n + 1 < length paths = omega (arith, within, ap (λ (ps : List (List Part)). length ps) is.paths) in
+    let p : List Part = get_or paths (n + 1) [] in
+    let kind : info.kind ≡ kind_at p (said_in s) = kind_numbered s (n + 1) info low (ap (λ (is : List NodeInfo). slice_get is (n + 1)) (sym is.infos) ∙ told) in
+    let there : slice_get (entries_of s) n ≡ Some (entry_at (said_in s) p) =
+    slice_get-map (entry_at (said_in s)) (drop 1 paths) n ∙ ap (option_map (entry_at (said_in s))) (path_of_entry paths n low) in
+    let same : path_numbered index (n + 1) ≡ p = ap (λ (ps : List (List Part)). get_or ps (n + 1) []) is.paths in
+    subst (λ (e : Option Entry). AddsEntryPath e (Some info.kind) old new) (sym there) (ap Some kind, text ∙ ap (λ q. old ++ encoded_path q) same)
+
+-- there is no entry of that number
+pub no_entry : (t : ProfiledText) (parts : Syntax) (index : Telling) (s : Document) (n : ℕ) (old : List ℕ) → Holds t parts index → IsTextOfTree t s → length index.paths ≤ n + 1
+    → AddsEntryPath (slice_get (entries_of s) n) None old old
+no_entry t parts index s n old h read past =
+    let is : IsToldOf s index = told_of t parts index s h read in
+    let paths : List (List Part) = node_paths (said_in s) in
+    let few : length (entries_of s) ≤ n = omega (arith, past, ap (λ (ps : List (List Part)). length ps) is.paths, length-map (drop 1 paths) (entry_at (said_in s)), length-drop 1 paths) in
+    subst (λ (e : Option Entry). AddsEntryPath e None old old) (sym (slice_get_past (entries_of s) n few)) (refl, refl)

@@ -8,16 +8,15 @@ use Rattle.std.proofs.lemmas.List.Folds.{list_any-append}
 use Rattle.std.proofs.lemmas.Option.{slice_get-map, slice_get-get_or}
 use Rattle.keep_syntax.specs.Tree.{Document}
 use Rattle.keep_syntax.specs.Numbered as syntax
-use Rattle.keep_rules.specs.declared.node.NodeInfo.{NodeInfo}
-use Rattle.keep_rules.specs.Path.{Part, same_path}
-use Rattle.keep_rules.specs.Marks.{Mention}
-use Rattle.keep_rules.specs.Meaning.{said_in}
-use Rattle.keep_rules.specs.Counts.{Numbered, numbered_in}
-use Rattle.keep_rules.specs.Nodes.{is_at, says_at, is_root, is_node, paths_with, node_paths, node_number, kind_at, kind_said, numbered_at, mention_of, saying_of, node_at, nodes_in, node_info, infos_in}
-use Rattle.keep_rules.proofs.CountLemmas.{mentions-numbered_in}
-use Rattle.keep_rules.proofs.LookupLemmas.{number_is}
-use Rattle.keep_rules.proofs.PathLemmas.{path_decides}
-use Rattle.keep_rules.proofs.ToldAllLemmas.{met_or_unmet}
+use Rattle.keep_meaning.specs.declared.node.NodeInfo.{NodeInfo}
+use Rattle.keep_path.specs.Path.{Part, same_path}
+use Rattle.keep_meaning.specs.Marks.{Mention}
+use Rattle.keep_meaning.specs.Meaning.{said_in}
+use Rattle.keep_meaning.specs.Counts.{Numbered, numbered_in}
+use Rattle.keep_meaning.specs.Nodes.{is_at, says_at, is_root, is_node, paths_with, node_paths, node_number, kind_at, kind_said, numbered_at, mention_of, saying_of, node_at, nodes_in, node_info, infos_in}
+use Rattle.keep_meaning.proofs.Shared.{mentions-numbered_in}
+use Rattle.keep_rules.proofs.Shared.{number_is, met_or_unmet}
+use Rattle.keep_path.proofs.Shared.{path_decides}
 
 -- ---- what is mentioned is a node
 
@@ -85,7 +84,7 @@ info_of_number path s i e =
 
 -- ---- its kind
 
-says_numbered : (path : List Part) (ns : List Numbered) → map saying_of (numbered_at path ns) ≡ says_at path (map mention_of ns)
+pub says_numbered : (path : List Part) (ns : List Numbered) → map saying_of (numbered_at path ns) ≡ says_at path (map mention_of ns)
 says_numbered path [] = refl
 says_numbered path (n ∷ ns) = by (is_at path n.mention) refl (says_numbered path ns)
   where

@@ -18,22 +18,21 @@ use Rattle.keep_syntax.specs.Contract.{values_of}
 use Rattle.keep_syntax.specs.Grammar.{place_in, IsBody, AreEntries}
 use Rattle.keep_syntax.specs.Numbered.{leaf_of}
 use Rattle.keep_syntax.specs.Tree.{Body, scalar, array, inline, Entries, none, entry, Document, text, value_text}
-use Rattle.keep_rules.specs.Fact as fact
-use Rattle.keep_rules.specs.Fact.{Fact, is_value_fact}
-use Rattle.keep_rules.specs.KeyText.{text_at}
-use Rattle.keep_rules.specs.Marks.{Mention, fact_of}
-use Rattle.keep_rules.specs.Meaning.{said_in}
-use Rattle.keep_rules.specs.Nodes.{is_at, is_node, says_at, fact_at, first_of}
-use Rattle.keep_rules.specs.Path.{Part}
-use Rattle.keep_rules.specs.Told.{Telling}
-use Rattle.keep_rules.proofs.DecodeLaws.{means_value}
+use Rattle.keep_meaning.specs.Fact as fact
+use Rattle.keep_meaning.specs.Fact.{Fact, is_value_fact}
+use Rattle.keep_meaning.specs.KeyText.{text_at}
+use Rattle.keep_meaning.specs.Marks.{Mention, fact_of}
+use Rattle.keep_meaning.specs.Meaning.{said_in}
+use Rattle.keep_meaning.specs.Nodes.{is_at, is_node, says_at, fact_at, first_of}
+use Rattle.keep_path.specs.Path.{Part}
+use Rattle.keep_nodes.specs.Told.{Telling}
+use Rattle.keep_meaning.proofs.Shared.{means_value}
 use Rattle.keep_law.specs.declared.fault.EditFault.{EditFault}
 use Rattle.keep_law.specs.declared.fault.EditFault.TheVariants.{NotFound, NotValue}
 use Rattle.keep_law.specs.Refusals.{has_value}
-use Rattle.keep_law.proofs.ValueFacts.{integer_at_leaf, leaf_of_integer, string_at_leaf, string_of_leaf, no_string}
-use Rattle.keep_law.proofs.ValuePlace.{IsValueOf}
+use Rattle.keep_law.proofs.Shared.{integer_at_leaf, leaf_of_integer, string_at_leaf, string_of_leaf, no_string, IsValueOf}
 use Rattle.keep_edit.specs.Answers.{integer_of, int_value_of, str_value_of, HasNoValue, IsFound}
-use Rattle.keep_edit.specs.Reading.{IsTextOfTree, Holds}
+use Rattle.keep_edit.specs.Reading.{ProfiledText, IsTextOfTree, Holds}
 use Rattle.keep_edit.proofs.FoundLaws.{value_there}
 
 -- ---- the leaf that a scalar is
@@ -55,14 +54,14 @@ scalar_spelled profile path s v i h kind =
 -- ---- what was found
 
 -- The value of this number is the path's, with what is told of it, and the document has these bytes.
-pub record IsValueAt (bytes : List ℕ) (path : List Part) (s : Document) (number : ℕ) (i : ValueInfo) : Type 0 where
-  pub value : IsValueOf Strict path s number i
-  pub spelled : text s ≡ bytes
+pub record IsValueAt (d : ProfiledText) (path : List Part) (s : Document) (number : ℕ) (i : ValueInfo) : Type 0 where
+  pub value : IsValueOf d.profile path s number i
+  pub spelled : text s ≡ d.text
 
-pub value_at : (bytes : List ℕ) (parts : Syntax) (index : Telling) (s : Document) (path : List Part) (number : ℕ) (i : ValueInfo) → Holds bytes parts index → IsTextOfTree bytes s
-    → IsFound path s (Ok number) → slice_get (values_of parts) number ≡ Some i → IsValueAt bytes path s number i
-value_at bytes parts index s path number i h read found there =
-    record { value = (value_there bytes parts index path s number h read found i there).of; spelled = sym read.reads.spelled }
+pub value_at : (d : ProfiledText) (parts : Syntax) (index : Telling) (s : Document) (path : List Part) (number : ℕ) (i : ValueInfo) → Holds d parts index → IsTextOfTree d s
+    → IsFound path s (Ok number) → slice_get (values_of parts) number ≡ Some i → IsValueAt d path s number i
+value_at d parts index s path number i h read found there =
+    record { value = (value_there d parts index path s number h read found i there).of; spelled = sym read.reads.spelled }
 
 -- the number that was found
 pub number_of_some : (path : List Part) (s : Document) (found : Result ℕ EditFault) (o : Option ℕ) (number : ℕ) → o ≡ result_ok found → o ≡ Some number → IsFound path s found → IsFound path s (Ok number)
@@ -116,25 +115,25 @@ integer_read : (t : List ℕ) (r : Option ℤ) → Integer t → (IsSome r ↔ I
 integer_read t None is some value = absurd (false≢true (some.1 is))
 integer_read t (Some n) is some value = ap Some value
 
-pub integer_found : (bytes t : List ℕ) (path : List Part) (s : Document) (number : ℕ) (i : ValueInfo) (r : Option ℤ) → IsValueAt bytes path s number i → i.leaf ≡ leaf.Integer → t ≡ text_at bytes i.span
+pub integer_found : (d : ProfiledText) (t : List ℕ) (path : List Part) (s : Document) (number : ℕ) (i : ValueInfo) (r : Option ℤ) → IsValueAt d path s number i → i.leaf ≡ leaf.Integer → t ≡ text_at d.text i.span
     → (IsSome r ↔ Integer t) → IfSome r (λ n. n ≡ integer_value t) → r ≡ int_value_of path s
-integer_found bytes t path s number i r h kind here some value =
+integer_found d t path s number i r h kind here some value =
     let scalar : IsTrue (is_scalar_leaf i.leaf) = ap is_scalar_leaf kind in
-    let own : IsLeaf Strict i.leaf (text_at (text s) i.span) = scalar_spelled Strict path s number i h.value scalar in
+    let own : IsLeaf d.profile i.leaf (text_at (text s) i.span) = scalar_spelled d.profile path s number i h.value scalar in
     let same : text_at (text s) i.span ≡ t = ap (λ (b : List ℕ). text_at b i.span) h.spelled ∙ sym here in
-    let is : Integer t = subst Integer same (subst (λ (l : Leaf). IsLeaf Strict l (text_at (text s) i.span)) kind own) in
+    let is : Integer t = subst Integer same (subst (λ (l : Leaf). IsLeaf d.profile l (text_at (text s) i.span)) kind own) in
     integer_read t r is some value
     ∙ ap (λ (b : List ℕ). Some (integer_value b)) (sym same)
-    ∙ ap integer_of (sym (integer_at_leaf Strict path s number i h.value kind))
+    ∙ ap integer_of (sym (integer_at_leaf d.profile path s number i h.value kind))
 
-pub no_integer_leaf : (bytes : List ℕ) (path : List Part) (s : Document) (number : ℕ) (i : ValueInfo) → IsValueAt bytes path s number i → (i.leaf ≡ leaf.Integer → ⊥) → None ≡ int_value_of path s
-no_integer_leaf bytes path s number i h other = by (fact_at path (said_in s)) refl
+pub no_integer_leaf : (d : ProfiledText) (path : List Part) (s : Document) (number : ℕ) (i : ValueInfo) → IsValueAt d path s number i → (i.leaf ≡ leaf.Integer → ⊥) → None ≡ int_value_of path s
+no_integer_leaf d path s number i h other = by (fact_at path (said_in s)) refl
   where
     by : (o : Option Fact) → fact_at path (said_in s) ≡ o → None ≡ integer_of o
     by None e = refl
     by (Some fact.table) e = refl
     by (Some (fact.string v)) e = refl
-    by (Some (fact.integer n)) e = absurd (other (leaf_of_integer Strict path s number i n h.value e).0)
+    by (Some (fact.integer n)) e = absurd (other (leaf_of_integer d.profile path s number i n h.value e).0)
     by (Some (fact.boolean v)) e = refl
     by (Some (fact.float v)) e = refl
     by (Some (fact.moment k v)) e = refl
@@ -176,20 +175,24 @@ unquoted_none leaf.MlBasic t a b c d = absurd (c refl)
 unquoted_none leaf.MlLiteral t a b c d = absurd (d refl)
 unquoted_none _ t a b c d = refl
 
-string_here : (bytes : List ℕ) (path : List Part) (s : Document) (number : ℕ) (i : ValueInfo) → IsValueAt bytes path s number i → str_value_of path s ≡ string_of_leaf i.leaf (text_at bytes i.span)
-string_here bytes path s number i h =
-    string_at_leaf Strict path s number i h.value ∙ ap (λ (b : List ℕ). string_of_leaf i.leaf (text_at b i.span)) h.spelled
+string_here : (d : ProfiledText) (path : List Part) (s : Document) (number : ℕ) (i : ValueInfo) → IsValueAt d path s number i → str_value_of path s ≡ string_of_leaf i.leaf (text_at d.text i.span)
+string_here d path s number i h =
+    string_at_leaf d.profile path s number i h.value ∙ ap (λ (b : List ℕ). string_of_leaf i.leaf (text_at b i.span)) h.spelled
+
+leaf_in_wide : (profile : Profile) (l : Leaf) (text : List ℕ) → IsLeaf profile l text → IsLeaf Wide l text
+leaf_in_wide Strict l text h = leaf_wider l text h
+leaf_in_wide Wide l text h = h
 
 -- what is decoded is a string's text
-pub string_readable : (bytes t : List ℕ) (path : List Part) (s : Document) (number : ℕ) (i : ValueInfo) → IsValueAt bytes path s number i → IsTrue (is_quoted i.leaf) → t ≡ text_at bytes i.span → IsLeaf Wide i.leaf t
-string_readable bytes t path s number i h is here =
+pub string_readable : (d : ProfiledText) (t : List ℕ) (path : List Part) (s : Document) (number : ℕ) (i : ValueInfo) → IsValueAt d path s number i → IsTrue (is_quoted i.leaf) → t ≡ text_at d.text i.span → IsLeaf Wide i.leaf t
+string_readable d t path s number i h is here =
     let same : text_at (text s) i.span ≡ t = ap (λ (b : List ℕ). text_at b i.span) h.spelled ∙ sym here in
-    subst (IsLeaf Wide i.leaf) same (leaf_wider i.leaf (text_at (text s) i.span) (scalar_spelled Strict path s number i h.value (quoted_scalar i.leaf is)))
+    subst (IsLeaf Wide i.leaf) same (leaf_in_wide d.profile i.leaf (text_at (text s) i.span) (scalar_spelled d.profile path s number i h.value (quoted_scalar i.leaf is)))
 
-pub string_found : (bytes t : List ℕ) (path : List Part) (s : Document) (number : ℕ) (i : ValueInfo) (value : List ℕ) → IsValueAt bytes path s number i → IsTrue (is_quoted i.leaf) → t ≡ text_at bytes i.span → Means Wide i.leaf t value
+pub string_found : (d : ProfiledText) (t : List ℕ) (path : List Part) (s : Document) (number : ℕ) (i : ValueInfo) (value : List ℕ) → IsValueAt d path s number i → IsTrue (is_quoted i.leaf) → t ≡ text_at d.text i.span → Means Wide i.leaf t value
     → Some value ≡ str_value_of path s
-string_found bytes t path s number i value h is here means = quoted_means i.leaf t value is means ∙ ap (string_of_leaf i.leaf) here ∙ sym (string_here bytes path s number i h)
+string_found d t path s number i value h is here means = quoted_means i.leaf t value is means ∙ ap (string_of_leaf i.leaf) here ∙ sym (string_here d path s number i h)
 
-pub no_string_leaf : (bytes : List ℕ) (path : List Part) (s : Document) (number : ℕ) (i : ValueInfo) → IsValueAt bytes path s number i
+pub no_string_leaf : (d : ProfiledText) (path : List Part) (s : Document) (number : ℕ) (i : ValueInfo) → IsValueAt d path s number i
     → (i.leaf ≡ leaf.Basic → ⊥) → (i.leaf ≡ leaf.Literal → ⊥) → (i.leaf ≡ leaf.MlBasic → ⊥) → (i.leaf ≡ leaf.MlLiteral → ⊥) → None ≡ str_value_of path s
-no_string_leaf bytes path s number i h a b c d = unquoted_none i.leaf (text_at bytes i.span) a b c d ∙ sym (string_here bytes path s number i h)
+no_string_leaf d path s number i h a b c e = unquoted_none i.leaf (text_at d.text i.span) a b c e ∙ sym (string_here d path s number i h)

@@ -1,81 +1,147 @@
 -- Reading a value alone: what is known of it then, and why it is refused.
-use Rattle.std.proofs.Common.{◌≡◌, ℕ, List, refl, sym, ◌∙◌, ap, inl, inr, arith}
-use Rattle.std.specs.Prelude.{IsTrue, codes}
+use Rattle.std.proofs.Common.{◌≡◌, ℕ, ℤ, Bool, true, false, List, refl, sym, subst, ◌∙◌, ap, inl, inr, arith}
+use Rattle.std.specs.Prelude.{◌↔◌, IsTrue, codes}
 use Rattle.std.proofs.lemmas.List.{append-nil}
 use Rattle.keep_token.specs.declared.leaf.Leaf.{Leaf}
 use Rattle.keep_token.specs.declared.leaf.Leaf.TheVariants as leaf
-use Rattle.keep_token.specs.Leaves.{IsLeaf, is_scalar_leaf}
-use Rattle.keep_token.specs.declared.leaf.Profile.TheVariants.{Strict}
+use Rattle.keep_token.specs.Leaves.{IsLeaf, Means, is_scalar_leaf}
+use Rattle.keep_token.specs.Numbers.{integer_value}
+use Rattle.keep_token.specs.declared.leaf.Profile.{Profile}
+use Rattle.keep_token.specs.declared.leaf.Profile.TheVariants.{Strict, Wide}
+use Rattle.keep_token.proofs.StringMeans.{means_wider}
 use Rattle.keep_syntax.specs.declared.alone.ValueSyntax.{ValueSyntax}
 use Rattle.keep_syntax.specs.declared.fault.ReadFault.{ReadFault}
 use Rattle.keep_syntax.specs.declared.fault.ReadFault.TheVariants as fault
 use Rattle.keep_syntax.specs.Tree.{scalar, none, Value, value_depth}
 use Rattle.keep_syntax.specs.Grammar.{IsValue, ReadsValue}
-use Rattle.keep_syntax.specs.Contract.{IsValueSyntaxOf, IsValueFaultOf}
+use Rattle.keep_syntax.specs.Contract.{IsValueSyntaxOf}
+use Rattle.keep_syntax.specs.Profiles.{is_allowed_in}
+use Rattle.keep_syntax.proofs.ProfileTest.{allowed_value, value_allowed}
+use Rattle.keep_syntax.proofs.WiderLaws.{reads_value_wider}
 use Rattle.keep_syntax.proofs.WholeLaws.{one_value}
+use Rattle.keep_meaning.specs.Fact as fact
+use Rattle.keep_meaning.specs.Meaning.{scalar_fact}
 use Rattle.keep_rules.specs.ReadDocuments.{WasReadAlone, ValueObeys, IsValueRefusal}
-use Rattle.keep_edit.specs.Reading.{limit, IsTextOfValue, IsRefusedValue, HoldsValue}
+use Rattle.keep_meaning.specs.ReadText.{IsValueText}
+use Rattle.keep_meaning.proofs.Shared.{means_value}
+use Rattle.keep_edit.specs.Reading.{limit, IsTextOfFact, IsTextOfValue, IsAcceptedValue, IsRefusedValue, HoldsValue}
 
 -- one text has one value
-pub one_tree : (bytes : List ℕ) (v w : Value) → IsTextOfValue bytes v → IsTextOfValue bytes w → v ≡ w
-one_tree bytes v w h k = one_value Strict v w h.reads.valid k.reads.valid (sym h.reads.spelled ∙ k.reads.spelled)
+pub one_tree : (profile : Profile) (bytes : List ℕ) (v w : Value) → IsValueText profile limit bytes v → IsValueText profile limit bytes w → v ≡ w
+one_tree profile bytes v w h k = one_value profile v w h.reads.valid k.reads.valid (sym h.reads.spelled ∙ k.reads.spelled)
+
+-- what is read in either profile is read in Wide
+in_wide : (profile : Profile) (bytes : List ℕ) (v : Value) → IsValueText profile limit bytes v → IsTextOfValue bytes v
+in_wide Strict bytes v h = record { reads = reads_value_wider limit bytes v h.reads; obeys = h.obeys }
+in_wide Wide bytes v h = h
 
 -- the value that the syntax was read of
-abbrev pub ReadOf : List ℕ → ValueSyntax → Type 0
-ReadOf bytes syntax = (v : Value) × ReadsValue Strict limit bytes v × IsValueSyntaxOf syntax v
+abbrev pub ReadOf : Profile → List ℕ → ValueSyntax → Type 0
+ReadOf profile bytes syntax = (v : Value) × ReadsValue profile limit bytes v × IsValueSyntaxOf syntax v
 
-pub was_read : {bytes : List ℕ} {syntax : ValueSyntax} {v : Value} → ReadsValue Strict limit bytes v → IsValueSyntaxOf syntax v → WasReadAlone bytes syntax v
-was_read reads is = record { profile = Strict; limit = limit; reads = reads; is = is }
+pub was_read : {profile : Profile} {bytes : List ℕ} {syntax : ValueSyntax} {v : Value} → ReadsValue profile limit bytes v → IsValueSyntaxOf syntax v → WasReadAlone bytes syntax v
+was_read {profile} reads is = record { profile = profile; limit = limit; reads = reads; is = is }
 
-pub was_read_alone : {bytes : List ℕ} {syntax : ValueSyntax} → ReadOf bytes syntax → (v : Value) × WasReadAlone bytes syntax v
+pub was_read_alone : {profile : Profile} {bytes : List ℕ} {syntax : ValueSyntax} → ReadOf profile bytes syntax → (v : Value) × WasReadAlone bytes syntax v
 was_read_alone (v, reads, is) = (v, was_read reads is)
 
--- what is read
-pub holds : (bytes : List ℕ) (syntax : ValueSyntax) (depth : ℕ) → ReadOf bytes syntax → ((v : Value) → WasReadAlone bytes syntax v → ValueObeys v)
-    → ((v : Value) → IsValueSyntaxOf syntax v → depth ≡ value_depth v) → HoldsValue bytes depth
-holds bytes syntax depth (v, reads, is) obeys deep = record { value = v; read = record { reads = reads; obeys = obeys v (was_read reads is) }; deep = deep v is }
+-- ---- what is read
 
-pub depth_is : (bytes : List ℕ) (depth : ℕ) (v : Value) → HoldsValue bytes depth → IsTextOfValue bytes v → depth ≡ value_depth v
-depth_is bytes depth v h read = h.deep ∙ ap value_depth (one_tree bytes h.value v h.read read)
+-- A text is read in Wide where Strict refuses it, so its value is none of Strict's grammar.
+strict_is : (profile : Profile) (bytes : List ℕ) (v : Value) → IsValueText profile limit bytes v → (profile ≡ Wide → IsAcceptedValue Strict bytes → ⊥) → (profile ≡ Strict) ↔ IsValue Strict v
+strict_is Strict bytes v h refused = ((λ e. h.reads.valid), (λ valid. refl))
+strict_is Wide bytes v h refused = (
+  (λ e. absurd (let k : Wide ≡ Strict = e in cc)),
+  (λ valid. absurd (refused refl (v, record { reads = record { valid = valid; spelled = h.reads.spelled; shallow = h.reads.shallow }; obeys = h.obeys }))),
+)
+
+pub holds : (profile : Profile) (bytes : List ℕ) (syntax : ValueSyntax) (depth : ℕ) → (profile ≡ Wide → IsAcceptedValue Strict bytes → ⊥) → ReadOf profile bytes syntax
+    → ((v : Value) → WasReadAlone bytes syntax v → ValueObeys v) → ((v : Value) → IsValueSyntaxOf syntax v → depth ≡ value_depth v) → HoldsValue bytes depth profile
+holds profile bytes syntax depth refused (v, reads, is) obeys deep =
+    let read : IsValueText profile limit bytes v = record { reads = reads; obeys = obeys v (was_read reads is) } in
+    record { value = v; read = in_wide profile bytes v read; deep = deep v is; strict = strict_is profile bytes v read refused }
+
+-- ---- what is known of what was read
+
+pub value_seen : {a b : List ℕ} {depth : ℕ} {profile : Profile} → a ≡ b → HoldsValue a depth profile → HoldsValue b depth profile
+value_seen {depth} {profile} e h = subst (λ (x : List ℕ). HoldsValue x depth profile) e h
+
+module _ (bytes : List ℕ) (depth : ℕ) (profile : Profile) (h : HoldsValue bytes depth profile) where
+  pub depth_is : (v : Value) → IsTextOfValue bytes v → depth ≡ value_depth v
+  depth_is v read = h.deep ∙ ap value_depth (one_tree Wide bytes h.value v h.read read)
+
+  pub in_strict : profile ≡ Strict → IsAcceptedValue Strict bytes
+  in_strict e =
+      (h.value, record { reads = record { valid = h.strict.0 e; spelled = h.read.reads.spelled; shallow = h.read.reads.shallow }; obeys = h.read.obeys })
+
+  pub strict_of : IsAcceptedValue Strict bytes → profile ≡ Strict
+  strict_of (v, read) =
+      h.strict.1 (subst (λ (x : Value). IsValue Strict x) (one_tree Wide bytes v h.value (in_wide Strict bytes v read) h.read) read.reads.valid)
+
+  -- whether Strict's grammar has it
+  pub taken : (v : Value) → IsTextOfValue bytes v → profile ≡ Strict → is_allowed_in Strict v ≡ true
+  taken v read e = value_allowed Strict v (subst (λ (x : Value). IsValue Strict x) (one_tree Wide bytes h.value v h.read read) (h.strict.0 e))
+
+  pub not_taken : (v : Value) → IsTextOfValue bytes v → (profile ≡ Strict → ⊥) → is_allowed_in Strict v ≡ false
+  not_taken v read other = by (is_allowed_in Strict v) refl
+    where
+      by : (b : Bool) → is_allowed_in Strict v ≡ b → is_allowed_in Strict v ≡ false
+      by true e = absurd (other (h.strict.1 (subst (λ (x : Value). IsValue Strict x) (one_tree Wide bytes v h.value read h.read) (allowed_value Strict v read.reads.valid e))))
+      by false e = e
 
 -- ---- why not
 
-pub no_syntax : (bytes : List ℕ) (e : ReadFault) → IsValueFaultOf Strict limit bytes e → IsRefusedValue bytes e
-no_syntax bytes fault.Memory h = inl refl
-no_syntax bytes (fault.Syntax at what) h = inr h
-no_syntax bytes (fault.TooDeep at) h = inr h
-no_syntax bytes (fault.Utf8 at) h = absurd h
-no_syntax bytes (fault.Define at why) h = absurd h
+by_rules : (profile : Profile) (bytes : List ℕ) (v : Value) (e : ReadFault) → ReadsValue profile limit bytes v → IsValueRefusal v e → IsRefusedValue profile bytes e
+by_rules profile bytes v (fault.Define at why) reads h = inr (v, reads, h)
+by_rules profile bytes v fault.Memory reads h = inl refl
+by_rules profile bytes v (fault.Syntax at what) reads h = absurd h
+by_rules profile bytes v (fault.TooDeep at) reads h = absurd h
+by_rules profile bytes v (fault.Utf8 at) reads h = absurd h
 
-by_rules : (bytes : List ℕ) (v : Value) (e : ReadFault) → ReadsValue Strict limit bytes v → IsValueRefusal v e → IsRefusedValue bytes e
-by_rules bytes v (fault.Define at why) reads h = inr (v, reads, h)
-by_rules bytes v fault.Memory reads h = inl refl
-by_rules bytes v (fault.Syntax at what) reads h = absurd h
-by_rules bytes v (fault.TooDeep at) reads h = absurd h
-by_rules bytes v (fault.Utf8 at) reads h = absurd h
-
-pub no_value : (bytes : List ℕ) (syntax : ValueSyntax) (e : ReadFault) → ReadOf bytes syntax → ((v : Value) → WasReadAlone bytes syntax v → IsValueRefusal v e) → IsRefusedValue bytes e
-no_value bytes syntax e (v, reads, is) h = by_rules bytes v e reads (h v (was_read reads is))
+pub no_value : (profile : Profile) (bytes : List ℕ) (syntax : ValueSyntax) (e : ReadFault) → ReadOf profile bytes syntax → ((v : Value) → WasReadAlone bytes syntax v → IsValueRefusal v e) → IsRefusedValue profile bytes e
+no_value profile bytes syntax e (v, reads, is) h = by_rules profile bytes v e reads (h v (was_read reads is))
 
 -- ---- scalars
 
 abbrev a_scalar : Leaf → List ℕ → Value
 a_scalar l bytes = record { body = scalar (record { leaf = l; text = bytes }); inside = none }
 
-pub scalar_holds : (l : Leaf) (bytes : List ℕ) → IsTrue (is_scalar_leaf l) → IsLeaf Strict l bytes → HoldsValue bytes 0
-scalar_holds l bytes kind is =
+scalar_read : (l : Leaf) (bytes : List ℕ) → IsTrue (is_scalar_leaf l) → IsLeaf Strict l bytes → IsValueText Strict limit bytes (a_scalar l bytes)
+scalar_read l bytes kind is =
     let valid : IsValue Strict (a_scalar l bytes) = record { body = (kind, is); inside = tt } in
     record {
-      value = a_scalar l bytes;
-      read = record {
-        reads = record { valid = valid; spelled = sym (append-nil bytes); shallow = omega arith };
-        obeys = λ i j d lt within. absurd (omega (arith, within));
-      };
-      deep = refl;
+      reads = record { valid = valid; spelled = sym (append-nil bytes); shallow = omega arith };
+      obeys = λ i j d lt within. absurd (omega (arith, within));
     }
 
-pub true_holds : HoldsValue (codes "true") 0
+pub scalar_holds : (l : Leaf) (bytes : List ℕ) → IsTrue (is_scalar_leaf l) → IsLeaf Strict l bytes → HoldsValue bytes 0 Strict
+scalar_holds l bytes kind is = record {
+  value = a_scalar l bytes;
+  read = in_wide Strict bytes (a_scalar l bytes) (scalar_read l bytes kind is);
+  deep = refl;
+  strict = ((λ e. (scalar_read l bytes kind is).reads.valid), (λ valid. refl));
+}
+
+pub true_holds : HoldsValue (codes "true") 0 Strict
 true_holds = scalar_holds leaf.Boolean (codes "true") refl (inl refl)
 
-pub false_holds : HoldsValue (codes "false") 0
+pub false_holds : HoldsValue (codes "false") 0 Strict
 false_holds = scalar_holds leaf.Boolean (codes "false") refl (inr refl)
+
+-- ---- what a scalar means
+
+scalar_means : (l : Leaf) (bytes : List ℕ) → IsTrue (is_scalar_leaf l) → IsLeaf Strict l bytes → IsTextOfFact bytes (scalar_fact l bytes)
+scalar_means l bytes kind is = (a_scalar l bytes, in_wide Strict bytes (a_scalar l bytes) (scalar_read l bytes kind is), refl)
+
+pub string_means : (bytes value : List ℕ) → IsLeaf Strict leaf.Basic bytes → Means Strict leaf.Basic bytes value → IsTextOfFact bytes (fact.string value)
+string_means bytes value is means =
+    subst (λ (v : List ℕ). IsTextOfFact bytes (fact.string v)) (sym (means_value leaf.Basic bytes value refl (means_wider leaf.Basic bytes value means))) (scalar_means leaf.Basic bytes refl is)
+
+pub integer_means : (bytes : List ℕ) (value : ℤ) → IsLeaf Strict leaf.Integer bytes → integer_value bytes ≡ value → IsTextOfFact bytes (fact.integer value)
+integer_means bytes value is e = subst (λ (n : ℤ). IsTextOfFact bytes (fact.integer n)) e (scalar_means leaf.Integer bytes refl is)
+
+pub true_means : IsTextOfFact (codes "true") (fact.boolean true)
+true_means = scalar_means leaf.Boolean (codes "true") refl (inl refl)
+
+pub false_means : IsTextOfFact (codes "false") (fact.boolean false)
+false_means = scalar_means leaf.Boolean (codes "false") refl (inr refl)

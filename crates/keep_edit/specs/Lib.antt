@@ -1,2 +1,4 @@
 pub mod Reading
 pub mod Answers
+pub mod Places
+pub mod Removing

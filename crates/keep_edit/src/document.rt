@@ -1,20 +1,24 @@
 //! Documents, and what can be asked of them.
-ghost use Rattle.std.specs.Prelude.{◌≡◌, ◌++◌, string_bytes, take, drop, IfOk, IfErr, IsOkUnless, OnErr, MatchResult, Ok, Err};
+ghost use Rattle.std.specs.Prelude.{◌≡◌, ◌≤◌, ◌+◌, ◌++◌, length, string_bytes, take, drop, IfOk, IfErr, IsOkUnless, OnErr, MatchResult, Ok, Err};
 ghost use Rattle.std.specs.Option.{option_map};
+ghost use Rattle.keep_token.specs.declared.leaf.Profile.TheVariants.{Strict};
 ghost use Rattle.keep_syntax.specs.declared.fault.ReadFault.TheVariants.{Memory};
 ghost use Rattle.keep_syntax.specs.Tree as tree;
 ghost use Rattle.keep_syntax.specs.Contract.{left};
 ghost use Rattle.keep_syntax.specs.Numbered as syntax;
-ghost use Rattle.keep_rules.specs.KeyText.{text_at};
+ghost use Rattle.keep_meaning.specs.KeyText.{text_at};
 ghost use Rattle.keep_law.specs.declared.fault.EditFault.TheVariants as law;
-ghost use Rattle.keep_edit.specs.Reading.{IsAccepted, IsRefused, IsTextOfTree};
+ghost use Rattle.keep_edit.specs.Reading.{IsAccepted, IsRefused, IsTextOfTree, TellsNoText, text_in};
 ghost use Rattle.keep_edit.specs.Answers.{IsSpanOf};
+ghost use Rattle.keep_edit.specs.Places.{IsMovedIn, IsSplicedAt};
+
+mod entries;
 
 use crate::value::ValueText;
 use keep_law::{EditFault, Splice};
 use keep_rules::{Index, Kind, NodeId, Path, Place};
-use keep_syntax::{Limits, ReadFault, Span, Syntax, Tokens};
-use keep_token::{Leaf, decode_string, integer_of, text_of};
+use keep_syntax::{Limits, ReadFault, STANDARD_DEPTH, Span, Syntax, Tokens};
+use keep_token::{Leaf, Profile, decode_string, integer_of, text_of};
 use std::alloc::{AllocError, Global};
 use std::marker::Model;
 
@@ -34,51 +38,68 @@ pub struct Entry {
     pub kind: Kind,
 }
 
-/// A document that was read: a text that the grammar has, in which the rules of definition hold and at most 64 arrays and
-/// inline tables enclose one another.
+/// A document that was read in a profile: a text that the profile's grammar has, in which the rules of definition hold and
+/// arrays and inline tables enclose one another no deeper than the standard depth.
 #[derive(Drop)]
 pub struct Document {
-    text: String,
-    syntax: Syntax,
-    index: Index,
+    pub(crate) text: String,
+    profile: Profile,
+    pub(crate) syntax: Syntax,
+    pub(crate) index: Index,
 }
 
 /// The text that an edit gives, and its splice.
 #[derive(Drop)]
-struct Edited {
-    text: String,
-    splice: Splice,
+pub(crate) struct Edited {
+    pub(crate) text: String,
+    pub(crate) splice: Splice,
 }
 
 impl Model for Document {
-    ghost use Rattle.std.specs.Prelude.{ℕ, List, string_bytes};
-    ghost use Rattle.keep_edit.specs.Reading.{Holds};
+    ghost use Rattle.std.specs.Prelude.{string_bytes};
+    ghost use Rattle.keep_edit.specs.Reading.{Holds, ProfiledText, text_in};
 
-    ghost Value = { List ℕ };
+    ghost Value = { ProfiledText };
 
-    ghost view = { λ d. string_bytes d.text };
+    ghost view = { λ d. text_in d.profile (string_bytes d.text) };
 
-    ghost invariant = { λ d. Holds (string_bytes d.text) d.syntax d.index };
+    ghost invariant = { λ d. Holds (text_in d.profile (string_bytes d.text)) d.syntax d.index };
 }
 
 impl Document {
     ghost use Rattle.keep_edit.specs.Answers.{counts_of};
 
-    /// Reads a document, to a depth of 64.
+    /// Reads a document as TOML v1.0.0, to the standard depth.
     ///
     /// # Errors
     ///
-    /// `Utf8` where the bytes are no text, with the length of their longest front that is; else `Syntax` or `TooDeep`,
-    /// whichever is met first; else `Define` with the start of the first key part that breaks a rule of definition; `Memory`
-    /// where memory was refused. Places are bytes from the start.
+    /// `Utf8` exactly if the bytes are no text, with the length of their longest prefix that is text; else `Syntax` or
+    /// `TooDeep`, whichever is met first; else `Define` with the start of the first key part that breaks a rule of
+    /// definition; `Memory` if the bytes are text and memory was refused. Places are bytes from the start.
     pub fn read(alloc: Global, bytes: &[u8]) -> Result<Document, ReadFault>
-        ensures text { IfOk result (λ document. document ≡ bytes.now) }
+        ensures text { IfOk result (λ document. document ≡ text_in Strict bytes.now) }
         ensures accepted { IfOk result IsAccepted }
-        ensures only { IsAccepted bytes.now → IsOkUnless result Memory }
-        ensures faults { IfErr result (IsRefused bytes.now) }
+        ensures only { IsAccepted (text_in Strict bytes.now) → IsOkUnless result Memory }
+        ensures faults { IfErr result (IsRefused (text_in Strict bytes.now)) }
+        ensures no_text { TellsNoText bytes.now result }
+    {
+        Document::read_in(alloc, bytes, Profile::Strict)
+    }
+
+    /// Reads a document in a profile, to the standard depth.
+    ///
+    /// # Errors
+    ///
+    /// Those of `read`.
+    pub fn read_in(alloc: Global, bytes: &[u8], profile: Profile) -> Result<Document, ReadFault>
+        ensures text { IfOk result (λ document. document ≡ text_in profile bytes.now) }
+        ensures accepted { IfOk result IsAccepted }
+        ensures only { IsAccepted (text_in profile bytes.now) → IsOkUnless result Memory }
+        ensures faults { IfErr result (IsRefused (text_in profile bytes.now)) }
+        ensures no_text { TellsNoText bytes.now result }
     {
         match text_of(bytes) {
-            Ok(text) => Document::of_text(alloc, String::from_str(alloc, text)?),
+            Ok(text) => Document::of_text(alloc, String::from_str(alloc, text)?, profile),
             Err(at) => Err(ReadFault::Utf8 { at }),
         }
     }
@@ -89,37 +110,73 @@ impl Document {
     ///
     /// Those of `read`.
     pub fn read_owned(alloc: Global, bytes: Vec<u8>) -> Result<Document, ReadFault>
-        ensures text { IfOk result (λ document. document ≡ bytes.items) }
+        ensures text { IfOk result (λ document. document ≡ text_in Strict bytes.items) }
         ensures accepted { IfOk result IsAccepted }
-        ensures only { IsAccepted bytes.items → IsOkUnless result Memory }
-        ensures faults { IfErr result (IsRefused bytes.items) }
+        ensures only { IsAccepted (text_in Strict bytes.items) → IsOkUnless result Memory }
+        ensures faults { IfErr result (IsRefused (text_in Strict bytes.items)) }
+        ensures no_text { TellsNoText bytes.items result }
+    {
+        Document::read_owned_in(alloc, bytes, Profile::Strict)
+    }
+
+    /// Reads a document as `read_in` does, and keeps the bytes themselves as its text: they are not copied.
+    ///
+    /// # Errors
+    ///
+    /// Those of `read`.
+    pub fn read_owned_in(
+        alloc: Global,
+        bytes: Vec<u8>,
+        profile: Profile,
+    ) -> Result<Document, ReadFault>
+        ensures text { IfOk result (λ document. document ≡ text_in profile bytes.items) }
+        ensures accepted { IfOk result IsAccepted }
+        ensures only { IsAccepted (text_in profile bytes.items) → IsOkUnless result Memory }
+        ensures faults { IfErr result (IsRefused (text_in profile bytes.items)) }
+        ensures no_text { TellsNoText bytes.items result }
     {
         match text_of(bytes.as_slice()) {
-            // SAFETY: these bytes are text.
-            Ok(_) => Document::of_text(alloc, unsafe { String::from_utf8_unchecked(bytes) }),
+            Ok(_) => {
+                // SAFETY: these bytes are text.
+                let text = unsafe { String::from_utf8_unchecked(bytes) };
+                Document::of_text(alloc, text, profile)
+            }
             Err(at) => Err(ReadFault::Utf8 { at }),
         }
     }
 
     /// Reads the document of a text.
-    fn of_text(alloc: Global, text: String) -> Result<Document, ReadFault>
-        ensures text { IfOk result (λ document. document ≡ string_bytes text) }
+    fn of_text(alloc: Global, text: String, profile: Profile) -> Result<Document, ReadFault>
+        ensures text { IfOk result (λ document. document ≡ text_in profile (string_bytes text)) }
         ensures accepted { IfOk result IsAccepted }
-        ensures only { IsAccepted (string_bytes text) → IsOkUnless result Memory }
-        ensures faults { IfErr result (IsRefused (string_bytes text)) }
+        ensures only { IsAccepted (text_in profile (string_bytes text)) → IsOkUnless result Memory }
+        ensures faults { IfErr result (IsRefused (text_in profile (string_bytes text))) }
     {
-        let syntax = Syntax::read(alloc, text.as_str(), Limits::STANDARD)?;
+        let limits = Limits {
+            depth: STANDARD_DEPTH,
+            profile,
+        };
+        let syntax = Syntax::read(alloc, text.as_str(), limits)?;
         let index = Index::build(alloc, text.as_str(), &syntax)?;
         Ok(Document {
             text,
+            profile,
             syntax,
             index,
         })
     }
 
+    /// The profile that the document was read in.
+    pub fn profile(&self) -> Profile
+        ensures profile { result ≡ self.now.profile }
+        ensures accepted { IsAccepted self.now }
+    {
+        self.profile
+    }
+
     /// The text.
     pub fn text(&self) -> &str
-        ensures text { result.now ≡ self.now }
+        ensures text { result.now ≡ self.now.text }
         ensures accepted { IsAccepted self.now }
     {
         self.text.as_str()
@@ -133,10 +190,12 @@ impl Document {
         self.syntax.tokens(self.text.as_str())
     }
 
-    /// How many tokens and nodes there are.
+    /// How many tokens and nodes there are: of each at most one more than the text has bytes.
     pub fn counts(&self) -> Counts
         ensures counts { (s : tree.Document) → IsTextOfTree self.now s → result ≡ counts_of s }
         ensures accepted { IsAccepted self.now }
+        ensures few_tokens { result.tokens ≤ length self.now.text + 1 }
+        ensures few_nodes { result.nodes ≤ length self.now.text + 1 }
     {
         Counts {
             tokens: self.syntax.token_count(),
@@ -239,33 +298,28 @@ impl Document {
 impl Document {
     ghost use Rattle.keep_syntax.specs.Tree.{Value};
     ghost use Rattle.keep_law.specs.Edits.{set};
+    ghost use Rattle.keep_token.specs.declared.leaf.Profile.TheVariants.{Wide};
     ghost use Rattle.keep_edit.specs.Reading.{IsAcceptedValue, IsTextOfValue};
     ghost use Rattle.keep_edit.specs.Answers.{EditDone, EditTold, EditMade};
 
     /// The text with a value in place of the one that stands at a path, and where it was written.
     fn edited(&self, path: &Path, value: &ValueText) -> Result<Edited, EditFault>
         ensures made { (s : tree.Document) → IsTextOfTree self.now s → (v : Value) → IsTextOfValue value.now v → EditMade s (set path.now v) self.now result }
-        ensures accepted { IfOk result (λ edited. IsAccepted (string_bytes edited.text)) }
+        ensures accepted { IfOk result (λ edited. IsAccepted (text_in self.now.profile (string_bytes edited.text))) }
         ensures of { IsAccepted self.now }
-        ensures value { IsAcceptedValue value.now }
+        ensures value { IsAcceptedValue Wide value.now }
     {
         let old = self.text.as_str();
         let new = value.as_str();
         let number = self.found(path)?;
         let found = self.syntax.value(number);
-        if found.depth + value.depth() > Limits::STANDARD.depth {
+        if found.depth + value.depth() > STANDARD_DEPTH {
             return Err(EditFault::TooDeep);
         }
-        let alloc = *self.text.allocator();
-        let Ok(text) = spliced(alloc, old, found.span, new) else {
-            return Err(EditFault::Memory);
-        };
-        let splice = Splice {
-            start: found.span.start,
-            end: found.span.end,
-            added: new.len(),
-        };
-        Ok(Edited { text, splice })
+        if !value.is_allowed_in(self.profile) {
+            return Err(EditFault::Profile);
+        }
+        edited_at(*self.text.allocator(), old, found.span, new)
     }
 
     /// Writes a value in place of the one that stands at a path. Every other byte is kept. After a refusal the document is as
@@ -274,18 +328,30 @@ impl Document {
     /// # Errors
     ///
     /// The first that holds: `NotFound` where the path names no node; `NotValue` where the node has no value with a text of
-    /// its own; `TooDeep` where more than 64 arrays and inline tables would enclose one another; else `Memory` where memory
-    /// was refused.
+    /// its own; `TooDeep` where arrays and inline tables would enclose one another deeper than the standard depth; `Profile`
+    /// where the document was read in Strict and the value is none of Strict's grammar; else `Memory` where memory was
+    /// refused.
     pub fn set(&mut self, path: &Path, value: &ValueText) -> Result<Splice, EditFault>
         ensures done { (s : tree.Document) → IsTextOfTree self.old s → (v : Value) → IsTextOfValue value.now v → EditDone s (set path.now v) self.old self.new result }
         ensures accepted { IsAccepted self.old }
-        ensures value { IsAcceptedValue value.now }
+        ensures value { IsAcceptedValue Wide value.now }
         ensures read { IsAccepted self.new }
         ensures refused { OnErr result (self.new ≡ self.old) }
     {
-        let Edited { text, splice } = self.edited(path, value)?;
+        let edited = self.edited(path, value)?;
+        self.replaced(edited)
+    }
+
+    /// Reads the text that an edit gives, and moves its document in. The only error is out of memory, and then the document is
+    /// as before.
+    pub(crate) fn replaced(&mut self, edited: Edited) -> Result<Splice, EditFault>
+        requires { IsAccepted (text_in self.old.profile (string_bytes edited.text)) }
+        ensures moved { IsMovedIn edited self.old self.new result }
+        ensures read { IsAccepted self.new }
+    {
+        let Edited { text, splice } = edited;
         let alloc = *self.text.allocator();
-        match Document::of_text(alloc, text) {
+        match Document::of_text(alloc, text, self.profile) {
             Ok(document) => {
                 *self = document;
                 Ok(splice)
@@ -302,7 +368,7 @@ impl Document {
     pub fn text_with(&self, path: &Path, value: &ValueText) -> Result<String, EditFault>
         ensures told { (s : tree.Document) → IsTextOfTree self.now s → (v : Value) → IsTextOfValue value.now v → EditTold s (set path.now v) self.now result }
         ensures accepted { IsAccepted self.now }
-        ensures value { IsAcceptedValue value.now }
+        ensures value { IsAcceptedValue Wide value.now }
     {
         let edited = self.edited(path, value)?;
         Ok(edited.text)
@@ -310,7 +376,7 @@ impl Document {
 
     /// The text alone. It takes no memory.
     pub fn into_text(self) -> String
-        ensures text { string_bytes result ≡ self }
+        ensures text { string_bytes result ≡ self.text }
         ensures accepted { IsAccepted self }
     {
         let Document { text, .. } = self;
@@ -319,11 +385,32 @@ impl Document {
 }
 
 /// The part of a text that stands at a span.
-fn part_at(text: &str, span: Span) -> &str
+pub(crate) fn part_at(text: &str, span: Span) -> &str
     requires { IsSpanOf text.now span }
     ensures { result.now ≡ text_at text.now span }
 {
     &text[span.start..span.end]
+}
+
+/// The text with other bytes in place of those of a span, and its splice. The only error is out of memory.
+pub(crate) fn edited_at(
+    alloc: Global,
+    old: &str,
+    span: Span,
+    new: &str,
+) -> Result<Edited, EditFault>
+    requires { IsSpanOf old.now span }
+    ensures { IsSplicedAt old.now span new.now result }
+{
+    let Ok(text) = spliced(alloc, old, span, new) else {
+        return Err(EditFault::Memory);
+    };
+    let splice = Splice {
+        start: span.start,
+        end: span.end,
+        added: new.len(),
+    };
+    Ok(Edited { text, splice })
 }
 
 /// The text with other bytes in place of those of a span.

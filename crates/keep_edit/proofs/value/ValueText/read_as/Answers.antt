@@ -1,6 +1,6 @@
 use Rattle.std.proofs.lemmas.Result.{err_from_is_err_and}
-use Rattle.keep_edit.proofs.ValueLaws.{was_read, no_value}
-use Rattle.keep_edit.proofs.value.ValueText.read.Goals as goal
+use Rattle.keep_edit.proofs.ValueLaws.{was_read, no_value, holds}
+use Rattle.keep_edit.proofs.value.ValueText.read_as.Goals as goal
 
 pub returns-in_err-check_value-clause-only : goal.returns-in_err-check_value-clause-only
 returns-in_err-check_value-clause-only c = λ (v, read).
@@ -10,4 +10,7 @@ returns-in_err-check_value-clause-only c = λ (v, read).
 pub returns-in_err-check_value-clause-faults : goal.returns-in_err-check_value-clause-faults
 returns-in_err-check_value-clause-faults c =
     let p = err_from_is_err_and c.from_residual-in_err-check_value.result c.from_residual-in_err-check_value.ensures.1 in
-    rw (p.1, p.2) (no_value _ _ _ c.in_ok-syntax.ensures.found c.in_err-check_value.ensures.faults)
+    rw (p.1, p.2) (no_value c.args.profile _ _ _ c.in_ok-syntax.ensures.found c.in_err-check_value.ensures.faults)
+
+pub invariant_of-result : goal.invariant_of-result
+invariant_of-result c = rw c.in_ok-text.ensures.ok (holds c.args.profile _ _ _ c.requires c.in_ok-syntax.ensures.found c.in_ok-check_value.ensures.ok c.depth-depth.ensures)

@@ -1,0 +1,35 @@
+//! The entries of a document, one by one.
+ghost use Rattle.std.specs.Prelude.{IfOk, slice_get, string_bytes};
+ghost use Rattle.keep_syntax.specs.Tree as tree;
+ghost use Rattle.keep_edit.specs.Answers.{entries_of, AddsEntryPath};
+ghost use Rattle.keep_edit.specs.Reading.{IsAccepted, IsTextOfTree};
+
+use crate::document::Document;
+use keep_rules::{Kind, NodeId};
+use std::alloc::AllocError;
+
+impl Document {
+    /// Adds the text of the path of an entry to `out`, as `Path::encode` writes it, and tells the entry's kind. The entries are
+    /// those of `list`, by their numbers there from 0 on; from their number on this is None, and adds nothing. No entry and no
+    /// path is made, so a list of all paths takes little more memory than its text.
+    ///
+    /// The only error is that memory was refused; then `out` may have grown by a part of the text.
+    pub fn push_entry_path(
+        &self,
+        number: usize,
+        out: &mut String,
+    ) -> Result<Option<Kind>, AllocError>
+        ensures entry { (s : tree.Document) → IsTextOfTree self.now s
+            → IfOk result (λ kind. AddsEntryPath (slice_get (entries_of s) number) kind (string_bytes out.old) (string_bytes out.new)) }
+        ensures accepted { IsAccepted self.now }
+    {
+        let last = self.index.node_count().saturating_sub(1);
+        if number >= last {
+            return Ok(None);
+        }
+        // The root is no entry.
+        let id = NodeId(number + 1);
+        self.index.push_path_text(id, out)?;
+        Ok(Some(self.index.node(id).kind))
+    }
+}
