@@ -1,5 +1,5 @@
-//! The tests of the libraries below, by the tables of the language: what stands here is no contract's to say, or comes
-//! from outside and holds a contract to what was meant. The crate has nothing else.
+//! The tests that are no rows: runs over readers and writers that answer little at a time or fail, and faults that the
+//! words of the program can't bring about. The crate has nothing else.
 #![tactic(auto)]
 
 #[cfg(test)]

@@ -1,11 +1,4 @@
-mod documents;
-mod edits;
-mod index;
-mod leaves;
-mod paths;
-mod questions;
-mod scalars;
-mod strings;
-mod syntax_faults;
-mod values;
-mod written;
+mod counted;
+mod faults;
+mod given;
+mod runs;

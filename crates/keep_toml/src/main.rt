@@ -1,20 +1,14 @@
 //! Reads a TOML document from standard input, and answers on standard output.
 #![tactic(auto)]
 
-mod answer;
-mod command;
-mod counted;
-mod edit;
-mod fault;
-mod run;
-mod words;
-
-use command::{Command, command_of};
-use counted::Counted;
-use fault::{RunFault, UseFault};
+use keep_app::command::{Command, command_of};
+use keep_app::counted::Counted;
+use keep_app::fault::{RunFault, UseFault};
+use keep_app::given::{GivenFault, given_words};
+use keep_app::run;
+use std::io;
 use std::io::Write;
 use std::process::ExitCode;
-use std::{env, io};
 
 /// Ends with the status of the fault, 0 if there is none. A refused write to standard error ends with 3.
 fn main(rt: HostRuntime) -> ExitCode {
@@ -25,10 +19,10 @@ fn main(rt: HostRuntime) -> ExitCode {
 }
 
 fn status(rt: &HostRuntime) -> io::Result<u8> {
-    let words = match given_words(rt) {
+    let words = match given_words(rt.alloc(), rt) {
         Ok(words) => words,
-        Err(io::ErrorKind::OutOfMemory) => return refused(rt, &UseFault::Memory),
-        Err(_) => {
+        Err(GivenFault::Memory) => return refused(rt, &UseFault::Memory),
+        Err(GivenFault::NotText) => {
             eprintln!(rt; "keep-toml: a word is not UTF-8")?;
             return Ok(2);
         }
@@ -37,14 +31,6 @@ fn status(rt: &HostRuntime) -> io::Result<u8> {
         Ok(command) => answered(rt, &command),
         Err(fault) => refused(rt, &fault),
     }
-}
-
-// The words of the command line, or the kind of the error.
-fn given_words(rt: &HostRuntime) -> Result<Vec<String>, io::ErrorKind> {
-    let words = env::args(rt).map_err(|error| error.kind())?;
-    words
-        .collect(rt.alloc())
-        .map_err(|_| io::ErrorKind::OutOfMemory)
 }
 
 fn refused(rt: &HostRuntime, fault: &UseFault) -> io::Result<u8> {

@@ -1,0 +1,87 @@
+//! Questions that take no memory: what each asks stands between two marks, which a heap that counts its growths reads.
+use crate::row::{Answer, Row};
+use keep_edit::{Document, Path, ReadFault, ValueText};
+use std::alloc::{AllocError, Global};
+use std::fmt::Write;
+
+// A request of so many bytes, which no machine has, begins the count; one byte more ends it.
+const BEGIN: usize = 0x4000_0000_0000_0000;
+
+const END: usize = 0x4000_0000_0000_0001;
+
+// Asks for a block that no machine has.
+fn mark(alloc: Global, bytes: usize) {
+    let _ = Vec::<u8>::with_capacity(alloc, bytes);
+}
+
+/// The words are a document, a path and the value for `set`.
+pub fn answer(alloc: Global, row: &Row) -> Answer {
+    match asked(alloc, row) {
+        Ok(text) => Ok(text),
+        Err(fault) => fault.to_string(alloc),
+    }
+}
+
+fn asked(alloc: Global, row: &Row) -> Result<String, ReadFault> {
+    let mut document = Document::read(alloc, row.bytes(0))?;
+    let value = ValueText::read(alloc, row.text(2))?;
+    Ok(asked_at(alloc, &mut document, row, &value)?)
+}
+
+fn asked_at(alloc: Global, document: &mut Document, row: &Row, value: &ValueText) -> Answer {
+    let Ok(path) = Path::read(alloc, row.text(1)) else {
+        return String::from_str(alloc, "no path");
+    };
+    // What is told finds room here, so that telling it takes no memory either.
+    let mut out = String::with_capacity(alloc, 4096)?;
+    mark(alloc, BEGIN);
+    let told = match row.question() {
+        "set" => write!(out, "{:?}", document.set(&path, value)),
+        "text_with" => tell_text_with(&mut out, document, &path, value),
+        question => tell(&mut out, alloc, document, question, &path),
+    };
+    mark(alloc, END);
+    told?;
+    Ok(out)
+}
+
+fn tell_text_with(
+    out: &mut String,
+    document: &Document,
+    path: &Path,
+    value: &ValueText,
+) -> Result<(), AllocError> {
+    match document.text_with(path, value) {
+        Ok(text) => out.push_str(text.as_str()),
+        Err(fault) => write!(out, "{fault}"),
+    }
+}
+
+// Of these `string` alone takes memory, for the text that it answers.
+fn tell(
+    out: &mut String,
+    alloc: Global,
+    document: &Document,
+    question: &str,
+    path: &Path,
+) -> Result<(), AllocError> {
+    match question {
+        "get" => write!(out, "{:?}", document.get(path)),
+        "kind" => write!(out, "{:?}", document.kind(path)),
+        "integer" => write!(out, "{:?}", document.int_value(path)),
+        "text" => write!(out, "{}", document.text().len()),
+        "tokens" => write!(out, "{}", last_place(document)),
+        "counts" => write!(out, "{:?}", document.counts()),
+        "string" => write!(out, "{:?}", document.str_value(alloc, path)),
+        _ => out.push_str("no such question"),
+    }
+}
+
+// Where the last token begins.
+fn last_place(document: &Document) -> usize {
+    let mut last = 0;
+    for token in document.tokens() {
+        last = token.at;
+    }
+    last
+}

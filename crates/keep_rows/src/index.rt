@@ -1,0 +1,95 @@
+//! Questions about the nodes of a document by the definition rules.
+use crate::row::{Answer, Row, unknown};
+use keep_rules::{Index, NodeId, Path};
+use keep_syntax::{Limits, ReadFault, Syntax, ValueSyntax};
+use std::alloc::Global;
+
+/// The first word is the text of a document, or for `value` of a value. What the rules refuse is answered by its fault.
+pub fn answer(alloc: Global, row: &Row) -> Answer {
+    let told = match row.question() {
+        "value" => value(alloc, row.text(0)),
+        _ => document(alloc, row),
+    };
+    match told {
+        Ok(text) => Ok(text),
+        Err(fault) => fault.to_string(alloc),
+    }
+}
+
+fn value(alloc: Global, text: &str) -> Result<String, ReadFault> {
+    let syntax = ValueSyntax::read(alloc, text, Limits::STANDARD)?;
+    Index::check_value(alloc, text, &syntax)?;
+    Ok(String::from_str(alloc, "ok")?)
+}
+
+fn index_of(alloc: Global, text: &str) -> Result<Index, ReadFault> {
+    let syntax = Syntax::read(alloc, text, Limits::STANDARD)?;
+    Index::build(alloc, text, &syntax)
+}
+
+fn document(alloc: Global, row: &Row) -> Result<String, ReadFault> {
+    let index = index_of(alloc, row.text(0))?;
+    Ok(told_of(alloc, &index, row)?)
+}
+
+fn told_of(alloc: Global, index: &Index, row: &Row) -> Answer {
+    match row.question() {
+        "count" => format!(in alloc; "{}", index.node_count()),
+        "paths" => paths(alloc, index),
+        "node" => node(alloc, index, row.text(1)),
+        "first" => first(alloc, index, row.text(1), row.number(2)),
+        question => told_of_node(alloc, index, question, row),
+    }
+}
+
+// What is asked of the node of the number that the second word tells.
+fn told_of_node(alloc: Global, index: &Index, question: &str, row: &Row) -> Answer {
+    let Some(id) = index.node_at(row.number(1)) else {
+        return String::from_str(alloc, "no node");
+    };
+    match question {
+        "children" => format!(in alloc; "{}", index.child_count(id)),
+        "child" => shown(alloc, index.child(id, row.text(2))),
+        "nth child" => shown(alloc, index.child_at(id, row.number(2))),
+        _ => unknown(alloc),
+    }
+}
+
+fn shown(alloc: Global, id: Option<NodeId>) -> Answer {
+    match id {
+        Some(NodeId(number)) => format!(in alloc; "{number}"),
+        None => String::from_str(alloc, "none"),
+    }
+}
+
+// The paths of all nodes in order, each on its line.
+fn paths(alloc: Global, index: &Index) -> Answer {
+    let mut out = String::new(alloc);
+    for number in 0..index.node_count() {
+        if let Some(id) = index.node_at(number) {
+            let path = index.path_of(alloc, id)?;
+            out.push_str(path.encode(alloc)?.as_str())?;
+            out.push_str("\n")?;
+        }
+    }
+    Ok(out)
+}
+
+// What is told of the node at a path.
+fn node(alloc: Global, index: &Index, path: &str) -> Answer {
+    let Ok(path) = Path::read(alloc, path) else {
+        return String::from_str(alloc, "no path");
+    };
+    match index.find(&path) {
+        Some(id) => format!(in alloc; "{:?}", index.node(id)),
+        None => String::from_str(alloc, "none"),
+    }
+}
+
+// The node at the first steps of a path.
+fn first(alloc: Global, index: &Index, path: &str, count: usize) -> Answer {
+    let Ok(path) = Path::read(alloc, path) else {
+        return String::from_str(alloc, "no path");
+    };
+    shown(alloc, index.find_first(&path, count))
+}

@@ -1,0 +1,84 @@
+//! Questions about paths.
+use crate::row::{Answer, Row, unknown};
+use keep_rules::{Path, PathFault, Step};
+use std::alloc::{AllocError, Global};
+use std::fmt::Write;
+
+/// The word is the text of a path; for `is key` then the number of a step and a key; for `built` the words are steps,
+/// those of digits alone being indexes.
+pub fn answer(alloc: Global, row: &Row) -> Answer {
+    let told = match row.question() {
+        "read" => read_path(alloc, row.text(0)),
+        "first index" => first_index(alloc, row.text(0)),
+        "built" => built(alloc, row),
+        "is key" => is_key(alloc, row.text(0), row.number(1), row.text(2)),
+        "faults" => faults(alloc),
+        _ => return unknown(alloc),
+    };
+    match told {
+        Ok(text) => Ok(text),
+        Err(fault) => fault.to_string(alloc),
+    }
+}
+
+fn read_path(alloc: Global, text: &str) -> Result<String, PathFault> {
+    let path = Path::read(alloc, text)?;
+    Ok(told_of(alloc, &path)?)
+}
+
+// The steps of a path, each key in angle brackets, each index in parentheses, then its text and the length of that.
+fn told_of(alloc: Global, path: &Path) -> Answer {
+    let mut out = String::new(alloc);
+    for number in 0..path.len() {
+        push_step(&mut out, path.step(number))?;
+    }
+    let text = path.encode(alloc)?;
+    write!(out, " {text} {}", path.encoded_len())?;
+    Ok(out)
+}
+
+fn push_step(out: &mut String, step: Option<&Step>) -> Result<(), AllocError> {
+    match step {
+        Some(Step::Key(key)) => write!(out, "<{key}>"),
+        Some(Step::Index(index)) => write!(out, "({index})"),
+        None => out.push_str("none"),
+    }
+}
+
+// Whether the step of a number is this key.
+fn is_key(alloc: Global, text: &str, number: usize, key: &str) -> Result<String, PathFault> {
+    let path = Path::read(alloc, text)?;
+    let found = path.step(number).map(|step| step.is_key(key));
+    Ok(format!(in alloc; "{found:?}")?)
+}
+
+fn first_index(alloc: Global, text: &str) -> Result<String, PathFault> {
+    let _path = Path::read(alloc, text)?;
+    Ok(format!(in alloc; "{:?}", Path::first_index(text))?)
+}
+
+fn built(alloc: Global, row: &Row) -> Result<String, PathFault> {
+    let path = path_of(alloc, row, 0, row.word_count())?;
+    Ok(told_of(alloc, &path)?)
+}
+
+/// The path whose steps are these words of a row.
+pub fn path_of(alloc: Global, row: &Row, first: usize, end: usize) -> Result<Path, AllocError> {
+    let mut path = Path::new(alloc);
+    for word in first..end {
+        push_word(&mut path, row.text(word))?;
+    }
+    Ok(path)
+}
+
+fn push_word(path: &mut Path, word: &str) -> Result<(), AllocError> {
+    match word.parse::<usize>() {
+        Ok(index) if path.len() > 0 => path.push_index(index),
+        _ => path.push_key(word),
+    }
+}
+
+// How the faults of paths print.
+fn faults(alloc: Global) -> Result<String, PathFault> {
+    Ok(format!(in alloc; "{}, {}", PathFault::BadPath { at: 3 }, PathFault::Memory)?)
+}

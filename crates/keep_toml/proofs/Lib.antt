@@ -1,5 +1,0 @@
-pub mod Appends
-pub mod Loses
-pub mod Parse
-pub mod Rows
-pub mod AnswerLaws

@@ -1,5 +1,0 @@
-use Rattle.keep_toml.proofs.AnswerLaws.{check_text}
-use Rattle.keep_toml.proofs.answer.checked.Goals as goal
-
-pub returns : goal.returns
-returns c = check_text c.args.document.now _ c.counts.result c.counts.ensures.accepted c.counts.ensures.counts c.in_ok-counts_text.ensures
