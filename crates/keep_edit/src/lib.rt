@@ -2,6 +2,7 @@
 #![tactic(auto)]
 
 mod document;
+mod newline;
 mod remove;
 mod rename;
 mod value;
