@@ -4,3 +4,4 @@ pub mod AppendTable
 pub mod AppendElement
 pub mod HeaderConflict
 pub mod HeaderMarks
+pub mod AppendPlace
