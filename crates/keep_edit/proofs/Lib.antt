@@ -13,3 +13,4 @@ pub mod NewlineLaws
 pub mod RemoveNode
 pub mod RemoveSteps
 pub mod RemoveCut
+pub mod HeaderLaws

@@ -3,3 +3,4 @@ pub mod Answers
 pub mod Places
 pub mod Removing
 pub mod Newlines
+pub mod Headers

@@ -2,6 +2,7 @@
 #![tactic(auto)]
 
 mod document;
+mod header;
 mod newline;
 mod remove;
 mod rename;

@@ -5,15 +5,20 @@ use Rattle.std.specs.List.{list_any, list_all, filter_map, cons_option}
 use Rattle.keep_meaning.specs.declared.role.Role.{Role}
 use Rattle.keep_meaning.specs.declared.role.Role.TheVariants.{Through, Past, Define, Element, Dotted, Value}
 use Rattle.keep_meaning.specs.Faults.{refuses}
-use Rattle.keep_meaning.specs.Marks.{Saying, through, past, define, element as says_element, dotted, value, begun, passed, item, Mention, role_of, with_path, marks}
+use Rattle.keep_meaning.specs.Marks.{Saying, through, past, define, element as says_element, dotted, value, begun, passed, item, Mention, role_of, with_path, elements_of, marks}
 use Rattle.keep_meaning.specs.Counts.{is_value}
 use Rattle.keep_meaning.specs.Nodes.{is_at, says_at, has, is_through, is_define, is_element, is_dotted}
-use Rattle.keep_meaning.specs.Rules.{Mark, allows, Allows}
+use Rattle.keep_meaning.specs.Rules.{Mark, allows, Allows, ObeysRules}
 use Rattle.keep_path.specs.Path.{Part, same_path}
 use Rattle.keep_law.specs.Headers.{is_refused}
 use Rattle.keep_law.proofs.Common.LineLaws.{EndsInKey}
 use Rattle.keep_law.proofs.Common.FromMarks.{EndsInIndex, IsFormed, Formed, ends_apart}
+use Rattle.keep_law.specs.Refusals.{tables_in}
 use Rattle.keep_law.proofs.Common.Runs.{AllOf, Pairs, same_path-sound, same_path-refl}
+use Rattle.keep_law.proofs.Common.Marks.{pairs_from_index}
+use Rattle.keep_law.proofs.Common.Doubles.{some_has}
+use Rattle.keep_law.proofs.Insert.LinesNamed.{counted}
+use Rattle.keep_law.proofs.Append.HeaderConflict.{LetsPass}
 
 -- ---- roles that let one another follow
 
@@ -519,3 +524,34 @@ module _ (path : List Part) (ms : List Mention) (lets : Pairs Allows (marks ms))
       by : (b : Bool) → has is_element path ms ≡ b → b ≡ false
       by false e = refl
       by true e = let k : true ≡ false = sym (value_refuses Element ends formed h) ∙ element_again e in absurd cc
+
+-- ---- of a document
+
+pub marks_let : (ms : List Mention) → ObeysRules (marks ms) → Pairs Allows (marks ms)
+marks_let ms obeys = pairs_from_index Allows (marks ms) obeys
+
+none_said_by : (path : List Part) (ms : List Mention) → list_any (is_at path) ms ≡ false → says_at path ms ≡ []
+none_said_by path [] h = refl
+none_said_by path (m ∷ ms) h = by (is_at path m) refl h (none_said_by path ms)
+  where
+    by : (b : Bool) → is_at path m ≡ b → (is_at path m || list_any (is_at path) ms) ≡ false → (list_any (is_at path) ms ≡ false → says_at path ms ≡ []) → says_at path (m ∷ ms) ≡ []
+    by true e h more = let k : true ≡ false = sym (ap (λ (x : Bool). x || list_any (is_at path) ms) e) ∙ h in absurd cc
+    by false e h more = rw e (more (sym (ap (λ (x : Bool). x || list_any (is_at path) ms) e) ∙ h))
+
+-- nothing is said of the path: nothing is refused there
+pub none_refuses : (role : Role) (path : List Part) (ms : List Mention) → list_any (is_at path) ms ≡ false → is_refused (marks ms) role path ≡ false
+none_refuses role path ms h = refused_roles role path ms ∙ ap (λ (says : List Saying). list_any (λ (r : Role). not (allows r role)) (roles_of says)) (none_said_by path ms h)
+
+-- an element is counted where one is said
+pub no_elements : (path : List Part) (ms : List Mention) → has is_element path ms ≡ false → elements_of path (tables_in ms) ≡ 0
+no_elements path ms none = by (elements_of path (tables_in ms)) refl
+  where
+    by : (n : ℕ) → elements_of path (tables_in ms) ≡ n → n ≡ 0
+    by zero e = refl
+    by (suc n) e = let k : true ≡ false = sym (some_has is_element path ms (counted path ms (omega (arith, e)))) ∙ none in absurd cc
+
+pub none_counted : (path : List Part) (ms : List Mention) → list_any (is_at path) ms ≡ false → elements_of path (tables_in ms) ≡ 0
+none_counted path ms h = no_elements path ms (ap (list_any is_element) (none_said_by path ms h))
+
+pub lets_pass : (ms : List Mention) → ObeysRules (marks ms) → LetsPass (marks ms) (tables_in ms)
+lets_pass ms obeys q some = element_past q ms (marks_let ms obeys) (some_has is_element q ms (counted q ms some))
