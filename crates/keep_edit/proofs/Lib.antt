@@ -14,3 +14,4 @@ pub mod RemoveNode
 pub mod RemoveSteps
 pub mod RemoveCut
 pub mod HeaderLaws
+pub mod AppendLaws

@@ -1,6 +1,8 @@
 -- What a header at the end of a document meets, asked of the index.
-use Rattle.std.specs.Prelude.{◌≡◌, ℕ, ◌<◌, Bool, true, false, ◌&&◌, ◌==◌, List, ◌++◌, length, map, Option, Some, None, Result, Ok, Err, MatchResult, String, string_bytes}
+use Rattle.std.specs.Prelude.{◌≡◌, ℕ, ◌<◌, Bool, true, false, ◌&&◌, ◌==◌, List, [], ◌∷◌, ◌++◌, codes, length, map, Option, Some, None, Result, Ok, Err, MatchResult, String, string_bytes}
 use Rattle.std.specs.Global.{Global}
+use Rattle.std.specs.List.{flat_map}
+use Rattle.keep_token.specs.Encoded.{encoded_key}
 use Rattle.keep_syntax.specs.Tree.{Document}
 use Rattle.keep_syntax.specs.declared.fault.Why.{Why}
 use Rattle.keep_meaning.specs.declared.node.Place.{Place}
@@ -61,3 +63,21 @@ abbrev pub EntersAt : Document → Telling → List Part → Result (Option Node
 EntersAt s t path (Ok (Some id)) = (is_stopped s path ≡ false) × (id.0 < length t.paths) × (path_numbered t id.0 ≡ entered_in s path)
 EntersAt s t path (Ok None) = (is_stopped s path ≡ false) × ((more : List Part) → node_number t.paths (entered_in s path ++ more) ≡ None)
 EntersAt s t path (Err why) = (is_stopped s path ≡ true) × (why ≡ why_of role.Through)
+
+-- ---- how a header is written
+
+-- keys with dots between them
+abbrev pub keys_text : List (List ℕ) → List ℕ
+keys_text [] = []
+keys_text (k ∷ ks) = encoded_key k ++ flat_map (λ more. codes "." ++ encoded_key more) ks
+
+abbrev pub opening : Header → List ℕ
+opening Table = codes "["
+opening Element = codes "[["
+
+abbrev pub closing : Header → List ℕ
+closing Table = codes "]"
+closing Element = codes "]]"
+
+abbrev pub header_text : Header → List (List ℕ) → List ℕ
+header_text header keys = opening header ++ (keys_text keys ++ closing header)

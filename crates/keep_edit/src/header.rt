@@ -4,7 +4,7 @@ ghost use Rattle.keep_syntax.specs.Tree as tree;
 ghost use Rattle.keep_rules.specs.Lookup.{path_numbered};
 ghost use Rattle.keep_rules.specs.ReadDocuments.{IsIndexOf};
 ghost use Rattle.keep_path.specs.Path.{key};
-ghost use Rattle.keep_edit.specs.Headers.{role_of, may_follow, key_texts, conflict_from, ConflictIs, EntersAt};
+ghost use Rattle.keep_edit.specs.Headers.{role_of, may_follow, opening, closing, key_texts, conflict_from, ConflictIs, EntersAt};
 
 use keep_meaning::Role;
 use keep_rules::{Index, NodeId, Place, Why};
@@ -17,6 +17,26 @@ pub(crate) enum Header {
 }
 
 impl Header {
+    /// What stands before its keys.
+    pub(crate) fn opening(self) -> &'static str
+        ensures { result.now ≡ opening self }
+    {
+        match self {
+            Header::Table => "[",
+            Header::Element => "[[",
+        }
+    }
+
+    /// What stands behind its keys.
+    pub(crate) fn closing(self) -> &'static str
+        ensures { result.now ≡ closing self }
+    {
+        match self {
+            Header::Table => "]",
+            Header::Element => "]]",
+        }
+    }
+
     /// What its last key does.
     fn role(self) -> Role
         ensures { result ≡ role_of self }

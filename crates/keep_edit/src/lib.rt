@@ -1,6 +1,7 @@
 //! Documents: reading them, asking what they hold, and editing them in place.
 #![tactic(auto)]
 
+mod append;
 mod document;
 mod header;
 mod newline;

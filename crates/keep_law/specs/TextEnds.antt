@@ -13,9 +13,13 @@ is_bare_start [] = true
 is_bare_start (a ∷ b ∷ c ∷ []) = (a == 0xEF && b == 0xBB) && c == 0xBF
 is_bare_start _ = false
 
--- A header at the end of a text, with the document's newline: a blank line stands before it, unless it is the first line.
+-- what ends the last line of a text, if it has no newline, and leaves a line blank; nothing where no line stands
+abbrev pub blank_line : List ℕ → List ℕ → List ℕ
+blank_line text newline =
+    if is_bare_start text then []
+    else if ends_in_newline text then newline
+    else newline ++ newline
+
+-- a header put in at the end of a text, with the document's newline
 abbrev pub header_at_end : List ℕ → List ℕ → List ℕ → List ℕ
-header_at_end text newline header =
-    if is_bare_start text then header ++ newline
-    else if ends_in_newline text then newline ++ (header ++ newline)
-    else newline ++ (newline ++ (header ++ newline))
+header_at_end text newline header = blank_line text newline ++ (header ++ newline)

@@ -111,9 +111,12 @@ all_end profile e (f ∷ es) h =
     (omega (arith, ap (λ (t : List ℕ). length t) whole, length-append (text_of (ended_leaves e)) (ended_text (f ∷ es)), more.0), ap ends_in_newline whole ∙ ends_behind (text_of (ended_leaves e)) (ended_text (f ∷ es)) more.0 ∙ more.1)
 
 header_by : (t newline new : List ℕ) (x y : Bool) → is_bare_start t ≡ x → ends_in_newline t ≡ y → header_at_end t newline new ≡ cond x (new ++ newline) (cond y (newline ++ (new ++ newline)) (newline ++ (newline ++ (new ++ newline))))
-header_by t newline new x y e f =
-    ap (λ (b : Bool). cond b (new ++ newline) (cond (ends_in_newline t) (newline ++ (new ++ newline)) (newline ++ (newline ++ (new ++ newline))))) e
-    ∙ ap (λ (b : Bool). cond x (new ++ newline) (cond b (newline ++ (new ++ newline)) (newline ++ (newline ++ (new ++ newline))))) f
+header_by t newline new true y e f = ap (λ (b : Bool). cond b [] (cond (ends_in_newline t) newline (newline ++ newline)) ++ (new ++ newline)) e
+header_by t newline new false true e f =
+    ap (λ (b : Bool). cond b [] (cond (ends_in_newline t) newline (newline ++ newline)) ++ (new ++ newline)) e ∙ ap (λ (b : Bool). cond b newline (newline ++ newline) ++ (new ++ newline)) f
+header_by t newline new false false e f =
+    ap (λ (b : Bool). cond b [] (cond (ends_in_newline t) newline (newline ++ newline)) ++ (new ++ newline)) e ∙ ap (λ (b : Bool). cond b newline (newline ++ newline) ++ (new ++ newline)) f
+    ∙ append_assoc newline newline (new ++ newline)
 
 -- ---- the place
 
