@@ -15,3 +15,4 @@ pub mod RemoveSteps
 pub mod RemoveCut
 pub mod HeaderLaws
 pub mod AppendLaws
+pub mod AppendDone
