@@ -9,6 +9,10 @@ pub mod ScalarLaws
 pub mod SetLaws
 pub mod EditedLaws
 pub mod RenameLaws
+pub mod NewlineLaws
 pub mod RemoveNode
 pub mod RemoveSteps
 pub mod RemoveCut
+pub mod HeaderLaws
+pub mod AppendLaws
+pub mod AppendDone
