@@ -1,5 +1,5 @@
 -- What the words of the command line come to.
-use Rattle.std.specs.Prelude.{◌≡◌, ◌⊎◌, ⊤, ℕ, List, [], ◌∷◌, Option, Some, None, string_bytes}
+use Rattle.std.specs.Prelude.{◌≡◌, ◌⊎◌, ⊤, ℕ, List, [], ◌∷◌, Option, Some, None, map, string_bytes}
 use Rattle.keep_app.specs.declared.command.Command.{Command}
 use Rattle.keep_app.specs.declared.command.Command.TheVariants as command
 use Rattle.keep_app.specs.declared.edit.Edit.{Edit}
@@ -11,8 +11,8 @@ use Rattle.keep_app.specs.declared.subcommand.Ask.TheVariants as ask
 use Rattle.keep_app.specs.declared.subcommand.Word.{Word}
 use Rattle.keep_app.specs.declared.subcommand.Word.TheVariants as word
 use Rattle.keep_token.specs.declared.leaf.Profile.TheVariants.{Strict}
-use Rattle.keep_path.specs.Path.{Part}
-use Rattle.keep_path.specs.PathText.{IsPathText}
+use Rattle.keep_path.specs.Path.{Part, key, index}
+use Rattle.keep_path.specs.PathText.{FirstIndex, IsPathText}
 use Rattle.keep_meaning.specs.ReadText as reading
 use Rattle.keep_edit.specs.Reading.{limit, IsAcceptedValue}
 use Rattle.keep_app.specs.Wanted.{Wanted}
@@ -37,17 +37,33 @@ abbrev pub IsValueFault : List ℕ → UseFault → Type 0
 IsValueFault word (fault.Value f) = reading.IsValueFault Strict limit word f
 IsValueFault word _ = ⊥
 
+-- the key that a step is
+abbrev pub key_in : Option Part → Option (List ℕ)
+key_in None = None
+key_in (Some part) = elim part [ key text ↦ Some text | index n ↦ None ]
+
+-- the word is the text of a path of these keys
+abbrev pub IsKeysText : List ℕ → List (List ℕ) → Type 0
+IsKeysText word keys = IsPathText word (map (λ text. key text) keys)
+
+-- The word is no path's text (where it fails is not told here), or its first index stands there.
+abbrev pub IsKeysFault : List ℕ → UseFault → Type 0
+IsKeysFault word (fault.Path at) = (IsPath word → ⊥) ⊎ FirstIndex word at
+IsKeysFault word _ = ⊥
+
 -- the word can be read as what it is; a key can be any text
 abbrev pub IsReadable : Word → List ℕ → Type 0
 IsReadable word.Path text = IsPath text
 IsReadable word.Value text = IsAcceptedValue Strict text
 IsReadable word.Key text = ⊤
+IsReadable word.Keys text = (keys : List (List ℕ)) × IsKeysText text keys
 
 -- it can't, and this is why
 abbrev pub IsFaultOf : Word → List ℕ → UseFault → Type 0
 IsFaultOf word.Path text f = IsPathFault text f
 IsFaultOf word.Value text f = IsValueFault text f
 IsFaultOf word.Key text f = ⊥
+IsFaultOf word.Keys text f = IsKeysFault text f
 
 -- ---- all words
 
@@ -61,8 +77,8 @@ Sets path value (edit.Set p v) = IsPathText path p × IsGivenValue value v
 Sets path value _ = ⊥
 
 abbrev pub Renames : List ℕ → List ℕ → Edit → Type 0
-Renames path key (edit.Rename p k) = IsPathText path p × (string_bytes k ≡ key)
-Renames path key _ = ⊥
+Renames path name (edit.Rename p k) = IsPathText path p × (string_bytes k ≡ name)
+Renames path name _ = ⊥
 
 abbrev pub Removes : List ℕ → Edit → Type 0
 Removes path (edit.Remove p) = IsPathText path p
@@ -76,7 +92,7 @@ IsCommand ask.List [] command.List = ⊤
 IsCommand ask.Get (path ∷ []) (command.Get p) = IsPathText path p
 IsCommand ask.Text (path ∷ []) (command.Text p) = IsPathText path p
 IsCommand ask.Set (path ∷ value ∷ []) (command.Apply edits) = IsOne (Sets path value) edits.items
-IsCommand ask.Rename (path ∷ key ∷ []) (command.Apply edits) = IsOne (Renames path key) edits.items
+IsCommand ask.Rename (path ∷ name ∷ []) (command.Apply edits) = IsOne (Renames path name) edits.items
 IsCommand ask.Remove (path ∷ []) (command.Apply edits) = IsOne (Removes path) edits.items
 IsCommand _ _ _ = ⊥
 

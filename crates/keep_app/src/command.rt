@@ -1,17 +1,18 @@
 //! The commands, and the words that ask for them.
-ghost use Rattle.std.specs.Prelude.{◌≡◌, ◌⊎◌, ◌∷◌, [], true, Some, IfOk, MatchResult, map, string_bytes};
+ghost use Rattle.std.specs.Prelude.{◌≡◌, ◌⊎◌, ◌∷◌, [], true, Some, IfOk, MatchResult, map, option_map, slice_get, string_bytes};
 ghost use Rattle.keep_app.specs.declared.subcommand.Word.TheVariants as Word;
 ghost use Rattle.keep_app.specs.Chosen.{wanted_of_chosen};
-ghost use Rattle.keep_path.specs.PathText.{IsPathText};
-ghost use Rattle.keep_app.specs.Uses.{Asks, HasOwnValues, IsApplied, IsCommand, IsWordFault, IsGivenValue, IsPathFault, IsUseFault, IsValueFault};
+ghost use Rattle.keep_path.specs.Path.{key};
+ghost use Rattle.keep_path.specs.PathText.{AreKeys, IsPathText};
+ghost use Rattle.keep_app.specs.Uses.{key_in, Asks, HasOwnValues, IsApplied, IsCommand, IsKeysFault, IsKeysText, IsWordFault, IsGivenValue, IsPathFault, IsUseFault, IsValueFault};
 ghost use Rattle.keep_app.specs.Wanted.{IsWhole, has_plain_words, wanted_of};
 
 use crate::edit::Edit;
 use crate::fault::UseFault;
 use crate::subcommand::Ask;
 use crate::words::{Chosen, chosen_of};
-use keep_edit::{Path, PathFault, ReadFault, ValueText};
-use std::alloc::Global;
+use keep_edit::{Path, PathFault, ReadFault, Step, ValueText};
+use std::alloc::{AllocError, Global};
 
 /// What the program is asked.
 #[derive(Debug, Drop)]
@@ -112,6 +113,46 @@ fn value_of(alloc: Global, text: &str) -> Result<ValueText, UseFault>
         Ok(value) => Ok(value),
         Err(ReadFault::Memory) => Err(UseFault::Memory),
         Err(fault) => Err(UseFault::Value(fault)),
+    }
+}
+
+// The keys of a path without an index.
+fn keys_of(alloc: Global, text: &str) -> Result<Vec<String>, UseFault>
+    ensures { MatchResult result (λ keys. IsKeysText text.now (map string_bytes keys.items))
+        (λ fault. (fault ≡ UseFault.Memory) ⊎ IsKeysFault text.now fault) }
+{
+    let path = path_of(alloc, text)?;
+    if let Some(at) = Path::first_index(text) {
+        return Err(UseFault::Path { at });
+    }
+    match keys_in(alloc, &path) {
+        Ok(keys) => Ok(keys),
+        Err(AllocError) => Err(UseFault::Memory),
+    }
+}
+
+// The keys of a path, up to its first index.
+fn keys_in(alloc: Global, path: &Path) -> Result<Vec<String>, AllocError>
+    ensures { IfOk result (λ keys. AreKeys path.now → path.now ≡ map (λ text. key text) (map string_bytes keys.items)) }
+{
+    let mut keys = Vec::new(alloc);
+    for number in 0..path.len() {
+        let Some(text) = key_at(path, number) else {
+            return Ok(keys);
+        };
+        keys.push(String::from_str(alloc, text)?)?;
+    }
+    Ok(keys)
+}
+
+// The key at a place of a path; None where an index stands there, or nothing.
+fn key_at(path: &Path, number: usize) -> Option<&str>
+    ensures { option_map (λ text. text.now) result ≡ key_in (slice_get path.now number) }
+{
+    match path.step(number) {
+        Some(Step::Key(text)) => Some(text.as_str()),
+        Some(Step::Index(_)) => None,
+        None => None,
     }
 }
 

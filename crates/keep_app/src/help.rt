@@ -83,6 +83,10 @@ pub fn of_word(word: Word) -> Help {
             "VALUE",
             "A TOML value: 2, '\"text\"', '[1, 2]', '{ x = 1 }'",
         ),
+        Word::Keys => (
+            "KEYS",
+            "Keys as in TOML with dots between them: dependencies, servers.alpha",
+        ),
         Word::Key => (
             "KEY",
             "A key as plain text: it is quoted where it has to be",

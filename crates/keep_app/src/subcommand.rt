@@ -25,6 +25,8 @@ pub enum Word {
     Value,
     /// A key, as plain text.
     Key,
+    /// The text of a path without an index.
+    Keys,
 }
 
 /// A row: the subcommand's name, what it asks, what its words are in their order, and what help says of it. A subcommand has at
