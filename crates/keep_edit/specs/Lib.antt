@@ -2,3 +2,5 @@ pub mod Reading
 pub mod Answers
 pub mod Places
 pub mod Removing
+pub mod Newlines
+pub mod Headers

@@ -1,7 +1,10 @@
 //! Documents: reading them, asking what they hold, and editing them in place.
 #![tactic(auto)]
 
+mod append;
 mod document;
+mod header;
+mod newline;
 mod remove;
 mod rename;
 mod value;
