@@ -1,11 +1,13 @@
 -- The program's command, as it is built row by row and word by word.
-use Rattle.std.proofs.Common.{◌≡◌, ◌∙◌, ◌+◌, ◌<◌, ℕ, zero, suc, false, refl, sym, ap, arith, List, [], ◌∷◌, ◌++◌, map, length, take, get_or, inl, inr, min, Bor}
+use Rattle.std.proofs.Common.{◌≡◌, ◌∙◌, ◌+◌, ◌<◌, ℕ, zero, suc, false, refl, sym, ap, arith, List, [], ◌∷◌, ◌++◌, map, length, take, drop, get_or, inl, inr, min, Bor}
 use Rattle.std.proofs.lemmas.Bool.Decides.{eqb_tells}
-use Rattle.std.proofs.lemmas.List.{map-append, take_more}
+use Rattle.std.proofs.lemmas.List.{drop_more, map-append, take_more}
 use Rattle.clap.specs.Walk.{Rule, Text, is_empty}
 use Rattle.clap.specs.Simple.{App, Shape, new_shape, with_rule, with_subcommand}
 use Rattle.keep_app.specs.KeepApp.{app_with, leaf_of, word_ids, word_rule}
+use Rattle.std.specs.Str.{bytes_eq}
 use Rattle.keep_app.specs.Table.{Row}
+use Rattle.keep_app.specs.Wanted.{row_named}
 
 -- the place's name
 pub id_at : (first second d : Bor Text) (place : ℕ) → place < 2 → (get_or (first ∷ second ∷ []) place d).now ≡ get_or (first.now ∷ second.now ∷ []) place []
@@ -43,3 +45,11 @@ pub row_added : (rows : List Row) (number : ℕ) (d row : Row) (old new : App) �
 row_added rows number d row old new lt at before more =
     let next : take (number + 1) rows ≡ take number rows ++ row ∷ [] = take_more rows number d lt ∙ ap (λ (r : Row). take number rows ++ r ∷ []) (sym at) in
     more ∙ (ap (λ (a : App). with_subcommand a (leaf_of row)) before ∙ rw (next, some_rows, map-append) refl)
+
+-- a row of another name is passed over
+pub next_row : (rows : List Row) (number : ℕ) (d row : Row) (name : Text) → number < length rows → row ≡ get_or rows number d → bytes_eq row.name name ≡ false → row_named name (drop number rows) ≡ row_named name rows
+    → row_named name (drop (number + 1) rows) ≡ row_named name rows
+next_row rows number d row name lt at other before =
+    let rest : drop number rows ≡ row ∷ drop (number + 1) rows = drop_more rows number d lt ∙ ap (λ (r : Row). r ∷ drop (number + 1) rows) (sym at) in
+    let past : row_named name (row ∷ drop (number + 1) rows) ≡ row_named name (drop (number + 1) rows) = rw other refl in
+    sym past ∙ (ap (row_named name) (sym rest) ∙ before)

@@ -1,10 +1,13 @@
 -- Why no edit is refused for the profile of its value, where that is the profile of the document.
-use Rattle.std.proofs.Common.{◌≡◌, ◌⊎◌, ◌∙◌, ◌&&◌, ◌||◌, ℕ, zero, suc, Bool, true, false, not, List, [], ◌∷◌, take, Option, Some, None, refl, ap, subst, inl, inr}
+use Rattle.std.proofs.Common.{◌≡◌, ◌⊎◌, ◌∙◌, ◌&&◌, ◌||◌, ℕ, zero, suc, Bool, true, false, not, List, [], ◌∷◌, take, Option, Some, None, refl, ap, subst, inl, inr, option_map}
 use Rattle.std.specs.Prelude.{◌==◌, string_bytes, Result, Ok, Err, IfErr, IsErrAnd}
 use Rattle.std.specs.List.{AllZip}
 use Rattle.keep_token.specs.declared.leaf.Profile.TheVariants.{Strict}
 use Rattle.keep_syntax.specs.Tree.{Document}
 use Rattle.keep_meaning.specs.Meaning.{said_in}
+use Rattle.keep_meaning.specs.Marks.{Mention, Statement, element_header, header, marks, statement_mentions}
+use Rattle.keep_syntax.specs.declared.fault.Why.{Why}
+use Rattle.keep_edit.specs.Headers.{key_texts}
 use Rattle.keep_meaning.specs.Nodes.{fact_at, is_node, is_root, mark_count}
 use Rattle.keep_path.specs.Path.{Part}
 use Rattle.keep_law.specs.declared.fault.EditFault.{EditFault}
@@ -13,7 +16,7 @@ use Rattle.keep_law.specs.Answers as answers
 use Rattle.keep_law.specs.Answers.{string_of, value_at, at_node, or_not_value, applied_from}
 use Rattle.keep_law.specs.Edits as law
 use Rattle.keep_law.specs.Edits.{edited_document}
-use Rattle.keep_law.specs.Refusals.{beside, ends_in_index, first_that_holds, has_value, is_foreign, is_one_piece, is_too_deep, refusal}
+use Rattle.keep_law.specs.Refusals.{beside, end_reading, ends_in_index, first_conflict, is_empty, or_conflict, first_that_holds, has_value, is_foreign, is_one_piece, is_too_deep, refusal}
 use Rattle.keep_edit.specs.Reading.{limit, text_in}
 use Rattle.keep_edit.proofs.Shared.{strict_value}
 use Rattle.keep_app.specs.Answer.{IsEdit, IsEditRefusal, IsProfileFault, IsRefusal, profile_of}
@@ -61,6 +64,14 @@ never_four : (a b c d : Bool) (f g h i : EditFault) → (f ≡ fault.Profile →
     → first_that_holds ((a, f) ∷ (b, g) ∷ (c, h) ∷ (d, i) ∷ []) ≡ Some fault.Profile → ⊥
 never_four a b c d f g h i x y z w = never_first fault.Profile ((a, f) ∷ (b, g) ∷ (c, h) ∷ (d, i) ∷ []) ((λ e. absurd (x e)), ((λ e. absurd (y e)), ((λ e. absurd (z e)), (w, tt))))
 
+tells_conflict : (o : Option Why) → option_map fault.Conflict o ≡ Some fault.Profile → ⊥
+tells_conflict None h = let no : ◌≡◌ {A = Option EditFault} None (Some fault.Profile) = h in cc
+tells_conflict (Some why) h = let no : Some (fault.Conflict why) ≡ Some fault.Profile = h in cc
+
+never_appended : (keys : List (List ℕ)) (statement : Statement) (ms : List Mention) → or_conflict (first_that_holds ((is_empty keys, fault.NotKey) ∷ [])) statement ms ≡ Some fault.Profile → ⊥
+never_appended [] statement ms h = let no : Some fault.NotKey ≡ Some fault.Profile = h in cc
+never_appended (k ∷ ks) statement ms h = tells_conflict (first_conflict (marks ms) (marks (statement_mentions (end_reading ms) statement))) h
+
 -- an edit whose value is of the profile
 never_refused : (e : Edit) (le : law.Edit) (s : Document) → IsStrictEdit e → IsEdit e le → refusal Strict limit s le ≡ Some fault.Profile → ⊥
 never_refused (edit.Set path value) le s strict (v, read, same) h =
@@ -69,6 +80,8 @@ never_refused (edit.Rename path key) le s strict same h =
     never_four (not (is_node path (said_in s))) ((not (is_root path) && not (ends_in_index path)) && is_node (beside path (string_bytes key)) (said_in s)) (is_root path || ends_in_index path) (not (mark_count path (said_in s) == 1)) fault.NotFound fault.Exists fault.NotKey fault.Scattered not_found exists_not not_key (λ is. absurd (scattered_not is)) (rw same at h)
 never_refused (edit.Remove path) le s strict same h =
     never_three (not (is_node path (said_in s))) (is_root path) (not (is_one_piece path (said_in s))) fault.NotFound fault.NotKey fault.Scattered not_found not_key scattered_not (rw same at h)
+never_refused (edit.Table keys) le s strict same h = never_appended (key_texts keys.items) (header (key_texts keys.items)) (said_in s) (rw same at h)
+never_refused (edit.Element keys) le s strict same h = never_appended (key_texts keys.items) (element_header (key_texts keys.items)) (said_in s) (rw same at h)
 
 err_same : {T E : Type 0} (a b : E) → ◌≡◌ {A = Result T E} (Err a) (Err b) → a ≡ b
 err_same a b h = cc

@@ -18,6 +18,7 @@ use Rattle.keep_edit.specs.declared.document.Counts.{Counts}
 use Rattle.keep_edit.specs.declared.document.Entry.{Entry}
 use Rattle.keep_edit.specs.Reading.{limit, ProfiledText, IsTextOfTree, IsTextOfValue}
 use Rattle.keep_edit.specs.Answers.{counts_of, entries_of}
+use Rattle.keep_edit.specs.Headers.{key_texts}
 use Rattle.keep_app.specs.declared.command.Command.{Command}
 use Rattle.keep_app.specs.declared.command.Command.TheVariants as command
 use Rattle.keep_app.specs.declared.edit.Edit.{Edit}
@@ -59,6 +60,8 @@ abbrev pub IsEdit : Edit → law.Edit → Type 0
 IsEdit (edit.Set path value) e = (v : Value) × IsTextOfValue value v × (e ≡ law.set path v)
 IsEdit (edit.Rename path key) e = e ≡ law.rename path (string_bytes key)
 IsEdit (edit.Remove path) e = e ≡ law.remove path
+IsEdit (edit.Table keys) e = e ≡ law.append_table (key_texts keys.items)
+IsEdit (edit.Element keys) e = e ≡ law.append_element (key_texts keys.items)
 
 -- the text after all edits, in order
 abbrev pub AppliesTo : Profile → List Edit → Document → List ℕ → Type 0

@@ -14,6 +14,7 @@ use Rattle.keep_token.specs.declared.leaf.Profile.TheVariants.{Strict}
 use Rattle.keep_path.specs.Path.{Part, key, index}
 use Rattle.keep_path.specs.PathText.{FirstIndex, IsPathText}
 use Rattle.keep_meaning.specs.ReadText as reading
+use Rattle.keep_edit.specs.Headers.{key_texts}
 use Rattle.keep_edit.specs.Reading.{limit, IsAcceptedValue}
 use Rattle.keep_app.specs.Wanted.{Wanted}
 
@@ -84,6 +85,14 @@ abbrev pub Removes : List ℕ → Edit → Type 0
 Removes path (edit.Remove p) = IsPathText path p
 Removes path _ = ⊥
 
+abbrev pub AddsTable : List ℕ → Edit → Type 0
+AddsTable word (edit.Table keys) = IsKeysText word (key_texts keys.items)
+AddsTable word _ = ⊥
+
+abbrev pub AddsElement : List ℕ → Edit → Type 0
+AddsElement word (edit.Element keys) = IsKeysText word (key_texts keys.items)
+AddsElement word _ = ⊥
+
 -- the command is what a subcommand asks with these words
 abbrev pub IsCommand : Ask → List (List ℕ) → Command → Type 0
 IsCommand ask.Check [] command.Check = ⊤
@@ -94,6 +103,8 @@ IsCommand ask.Text (path ∷ []) (command.Text p) = IsPathText path p
 IsCommand ask.Set (path ∷ value ∷ []) (command.Apply edits) = IsOne (Sets path value) edits.items
 IsCommand ask.Rename (path ∷ name ∷ []) (command.Apply edits) = IsOne (Renames path name) edits.items
 IsCommand ask.Remove (path ∷ []) (command.Apply edits) = IsOne (Removes path) edits.items
+IsCommand ask.Table (keys ∷ []) (command.Apply edits) = IsOne (AddsTable keys) edits.items
+IsCommand ask.Element (keys ∷ []) (command.Apply edits) = IsOne (AddsElement keys) edits.items
 IsCommand _ _ _ = ⊥
 
 -- the first word, from the left, that can't be read as what it is

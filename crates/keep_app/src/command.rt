@@ -71,6 +71,14 @@ fn command_from(alloc: Global, chosen: &Chosen) -> Result<Command, UseFault>
             let path = path_of(alloc, words[0].as_str())?;
             one_edit(alloc, Edit::Remove(path))
         }
+        Ask::Table => {
+            let keys = keys_of(alloc, words[0].as_str())?;
+            one_edit(alloc, Edit::Table(keys))
+        }
+        Ask::Element => {
+            let keys = keys_of(alloc, words[0].as_str())?;
+            one_edit(alloc, Edit::Element(keys))
+        }
     }
 }
 

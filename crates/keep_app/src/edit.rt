@@ -16,6 +16,10 @@ pub enum Edit {
     Rename(Path, String),
     /// `Document::remove`: the node of a path goes.
     Remove(Path),
+    /// `Document::append_table`: the header of a table of these keys at the end.
+    Table(Vec<String>),
+    /// `Document::append_element`: the header of an element of an array of tables at the end.
+    Element(Vec<String>),
 }
 
 // Makes an edit. After a refusal the document is as before.
@@ -27,6 +31,8 @@ pub(crate) fn apply(document: &mut Document, edit: &Edit) -> Result<Splice, Edit
         Edit::Set(path, value) => document.set(path, value),
         Edit::Rename(path, key) => document.rename(path, key.as_str()),
         Edit::Remove(path) => document.remove(path),
+        Edit::Table(keys) => document.append_table(keys.as_slice()),
+        Edit::Element(keys) => document.append_element(keys.as_slice()),
     }
 }
 
@@ -39,5 +45,7 @@ pub(crate) fn text_applied(document: &Document, edit: &Edit) -> Result<String, E
         Edit::Set(path, value) => document.text_with(path, value),
         Edit::Rename(path, key) => document.text_renamed(path, key.as_str()),
         Edit::Remove(path) => document.text_removed(path),
+        Edit::Table(keys) => document.text_with_table(keys.as_slice()),
+        Edit::Element(keys) => document.text_with_element(keys.as_slice()),
     }
 }

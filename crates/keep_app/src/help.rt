@@ -72,6 +72,18 @@ pub const REMOVE: Help = (
   keep-toml remove 'bin[0]' < Cargo.toml > new.toml",
 );
 
+pub const TABLE: Help = (
+    "Write the header [KEYS] of a new table at the end",
+    "Example:
+  keep-toml table profile.release < Cargo.toml > new.toml",
+);
+
+pub const ELEMENT: Help = (
+    "Write the header [[KEYS]] of a new element of an array of tables at the end",
+    "Example:
+  keep-toml element bin < Cargo.toml > new.toml",
+);
+
 /// The name of a word in help, and what it is.
 pub fn of_word(word: Word) -> Help {
     match word {

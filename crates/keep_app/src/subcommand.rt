@@ -14,6 +14,8 @@ pub enum Ask {
     Set,
     Rename,
     Remove,
+    Table,
+    Element,
 }
 
 /// What a word of a subcommand is.
@@ -34,7 +36,7 @@ pub enum Word {
 pub type Subcommand = (&'static str, Ask, &'static [Word], Help);
 
 /// All subcommands. The definitions cite it.
-pub const SUBCOMMANDS: [Subcommand; 8] = [
+pub const SUBCOMMANDS: [Subcommand; 10] = [
     ("check", Ask::Check, &[], help::CHECK),
     ("check-wide", Ask::CheckWide, &[], help::CHECK_WIDE),
     ("list", Ask::List, &[], help::LIST),
@@ -48,4 +50,6 @@ pub const SUBCOMMANDS: [Subcommand; 8] = [
         help::RENAME,
     ),
     ("remove", Ask::Remove, &[Word::Path], help::REMOVE),
+    ("table", Ask::Table, &[Word::Keys], help::TABLE),
+    ("element", Ask::Element, &[Word::Keys], help::ELEMENT),
 ];

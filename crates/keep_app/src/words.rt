@@ -142,12 +142,13 @@ fn chosen_first(alloc: Global) -> Result<Chosen, AllocError>
 fn row_named(name: &str) -> Subcommand
     ensures { row_of result ≡ row_or_first name.now }
 {
-    for row in SUBCOMMANDS {
+    for number in 0..SUBCOMMANDS.len() {
+        let row = row_at(number);
         if row.0 == name {
             return row;
         }
     }
-    SUBCOMMANDS[0]
+    row_at(0)
 }
 
 fn chosen_with(

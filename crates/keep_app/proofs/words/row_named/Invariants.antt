@@ -4,5 +4,5 @@ use Rattle.keep_app.specs.Table.{table}
 use Rattle.keep_app.specs.Wanted.{row_named}
 use Rattle.keep_app.proofs.words.row_named.Given as goal
 
-abbrev pub invariant-loop-row : goal.invariant-loop-row
-invariant-loop-row l = row_named l.name (drop l.row-index table) ≡ row_named l.name table
+abbrev pub invariant-loop-number : goal.invariant-loop-number
+invariant-loop-number l = row_named l.name (drop l.number table) ≡ row_named l.name table
