@@ -32,7 +32,7 @@ HERE = Path(__file__).resolve().parent
 STORED = HERE.parent / "crates/keep_rows/stdin"
 CASES = HERE / "model_cases.tsv"
 # The subcommands that are not there yet: their cases wait.
-WAITING = {b"insert", b"table", b"element", b"apply", b"apply-wide"}
+WAITING = {b"insert", b"apply", b"apply-wide"}
 ESCAPES = {b"n": b"\n", b"r": b"\r", b"t": b"\t", b"\\": b"\\", b"e": b""}
 
 
@@ -186,6 +186,8 @@ GROWING = [
     ([b"set", b"a[0]", b"[1, {y = '2'}]"], b"a = [1] # c\n"),
     ([b"rename", b"a.b", b"c d"], b"[a]\nb = [1, {x = 2}]\n"),
     ([b"remove", b"a[0].b"], b"[[a]]\nb = 1\n"),
+    ([b"element", b"a.'b c'"], b"[t]"),
+    ([b"table", b"a.b[0]"], b""),
     ([b"check-wide"], b"a = {x = '\\', }\n"),
     ([b"get", b"b"], b"a = 1\n"),
     ([b"set", b"a", b"x"], b"a = 1\n"),

@@ -1,5 +1,5 @@
 -- Appending headers: what is written, and the law that stands behind it.
-use Rattle.std.proofs.Common.{◌≡◌, ℕ, suc, ◌+◌, ◌-◌, ◌<◌, ◌≤◌, Bool, true, false, ◌==◌, List, [], ◌∷◌, ◌++◌, length, map, take, slice_get, refl, sym, ap, subst, ◌∙◌, append_assoc, arith, Option, Some, None, Result, Ok, Err}
+use Rattle.std.proofs.Common.{◌≡◌, ℕ, suc, Bool, ◌+◌, ◌-◌, ◌<◌, ◌≤◌, false, ◌==◌, List, [], ◌∷◌, ◌++◌, length, take, slice_get, refl, sym, ap, ◌∙◌, append_assoc, arith, Option, Some, None}
 use Rattle.std.specs.Prelude.{String, string_bytes, codes, slice_index_or}
 use Rattle.std.specs.Global.{Global}
 use Rattle.std.specs.List.{flat_map}
@@ -10,15 +10,20 @@ use Rattle.keep_law.specs.TextEnds.{ends_in_newline}
 use Rattle.keep_edit.specs.Headers.{key_texts, keys_text}
 
 -- the last byte of a text
-pub last_byte : (t : List ℕ) → elim (slice_get t (length t - 1)) [ None ↦ false | Some c ↦ c == 0x0A ] ≡ ends_in_newline t
+abbrev pub is_line_feed : Option ℕ → Bool
+is_line_feed None = false
+is_line_feed (Some c) = c == 0x0A
+
+last_byte : (t : List ℕ) → is_line_feed (slice_get t (length t - 1)) ≡ ends_in_newline t
 last_byte [] = refl
 last_byte (c ∷ []) = refl
 last_byte (c ∷ d ∷ cs) =
     let n : length (c ∷ d ∷ cs) - 1 ≡ suc (length (d ∷ cs) - 1) = omega arith in
-    ap (λ k. elim (slice_get (c ∷ d ∷ cs) k) [ None ↦ false | Some x ↦ x == 0x0A ]) n ∙ last_byte (d ∷ cs)
+    let later : is_line_feed (slice_get (c ∷ d ∷ cs) (length (c ∷ d ∷ cs) - 1)) ≡ is_line_feed (slice_get (d ∷ cs) (length (d ∷ cs) - 1)) = ap (λ k. is_line_feed (slice_get (c ∷ d ∷ cs) k)) n in
+    later ∙ last_byte (d ∷ cs)
 
-pub by_last : (t : List ℕ) (o : Option ℕ) → o ≡ slice_get t (length t - 1) → elim o [ None ↦ false | Some c ↦ c == 0x0A ] ≡ ends_in_newline t
-by_last t o e = ap (λ (x : Option ℕ). elim x [ None ↦ false | Some c ↦ c == 0x0A ]) e ∙ last_byte t
+pub by_last : (t : List ℕ) (o : Option ℕ) → o ≡ slice_get t (length t - 1) → is_line_feed o ≡ ends_in_newline t
+by_last t o e = ap is_line_feed e ∙ last_byte t
 
 -- ---- keys
 
