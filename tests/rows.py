@@ -12,6 +12,9 @@ standard input, the standard output, and then the words. In a cell \\n, \\r, \\t
 for a byte by two hexadecimal digits, and \\e for nothing (an empty word). A line on standard error that ends in * is
 the beginning of what is written there; an empty one is nothing. Expected answers come from outside the program: from
 the tables of the language, or computed by other means (made.py).
+
+A line of model_cases.tsv is a case that an independent model of the program answered: the status, the line on standard
+error or - where clap speaks, the input, the output, and then the words. A cell has \\xHH for bytes, and no other escape.
 """
 import os
 import re
@@ -27,6 +30,9 @@ from made import Row, large_questions, large_rows
 
 HERE = Path(__file__).resolve().parent
 STORED = HERE.parent / "crates/keep_rows/stdin"
+CASES = HERE / "model_cases.tsv"
+# The subcommands that are not there yet: their cases wait.
+WAITING = {b"insert", b"apply", b"apply-wide"}
 ESCAPES = {b"n": b"\n", b"r": b"\r", b"t": b"\t", b"\\": b"\\", b"e": b""}
 
 
@@ -55,6 +61,16 @@ def rows_of(file):
             sys.exit(f"{file.name}, line {number}: a row has a name, a status, a line, input, output and its words")
         error, given, output, *words = map(plain, cells[2:])
         yield Row(f"{file.name}, line {number}: {cells[0].decode()}", words, given, int(cells[1]), output, error)
+
+
+def cases():
+    """The cases of the model, each with the subcommand that it is about."""
+    for number, line in enumerate(CASES.read_bytes().split(b"\n"), 1):
+        if not line:
+            continue
+        status, error, given, output, *words = map(plain, line.split(b"\t"))
+        error = b"*" if error == b"-" else error
+        yield Row(f"{CASES.name}, line {number}", words, given, int(status), output, error)
 
 
 def short(data):
@@ -100,6 +116,14 @@ def run_rows(count, program, rows):
     with ThreadPoolExecutor(os.cpu_count()) as pool:
         for row, ran in zip(rows, pool.map(lambda row: answer(program, row.words, row.given), rows)):
             count.tell(row.name, failure(row, ran))
+
+
+def run_cases(count, program):
+    """Runs the cases of the subcommands that are there, and answers how many wait."""
+    rows = list(cases())
+    ready = [row for row in rows if row.words[0] not in WAITING]
+    run_rows(count, program, ready)
+    return len(rows) - len(ready)
 
 
 def run_questions(count, program, rows):
@@ -160,6 +184,11 @@ GROWING = [
     ([b"get", b"t.b[1].x"], b"[t]\nb = [1, {x = 2}]\n"),
     ([b"text", b"a"], b'a = "x\\u00e9"\n'),
     ([b"set", b"a[0]", b"[1, {y = '2'}]"], b"a = [1] # c\n"),
+    ([b"rename", b"a.b", b"c d"], b"[a]\nb = [1, {x = 2}]\n"),
+    ([b"remove", b"a[0].b"], b"[[a]]\nb = 1\n"),
+    ([b"element", b"a.'b c'"], b"[t]"),
+    ([b"table", b"a.b[0]"], b""),
+    ([b"check-wide"], b"a = {x = '\\', }\n"),
     ([b"get", b"b"], b"a = 1\n"),
     ([b"set", b"a", b"x"], b"a = 1\n"),
     ([b"get", b"a..b"], b"a = 1\n"),
@@ -211,6 +240,7 @@ def main(keep_toml, keep_rows, refuse):
     count = Count()
     for file in sorted((HERE / "rows").glob("*.tsv")):
         run_rows(count, keep_toml, list(rows_of(file)))
+    waiting = run_cases(count, keep_toml)
     run_rows(count, keep_toml, list(large_rows()))
     run_streams(count, keep_toml)
     run_short_output(count, keep_toml)
@@ -221,6 +251,7 @@ def main(keep_toml, keep_rows, refuse):
         run_false_row(count, keep_rows)
     if "-" not in (keep_rows, refuse):
         run_growths(count, keep_rows, refuse)
+    print(f"cases of subcommands that are not there yet: {waiting}")
     print(f"rows: {count.passed} passed, {count.failed} failed")
     return 1 if count.failed else 0
 

@@ -7,7 +7,6 @@ use Rattle.std.specs.Prelude.{Result, Ok, Err, MatchResult, codes, string_bytes,
 use Rattle.std.specs.Option.{option_map}
 use Rattle.std.specs.List.{list_any, filter_map, AllZip}
 use Rattle.keep_token.specs.declared.leaf.Profile.{Profile}
-use Rattle.keep_token.specs.declared.leaf.Profile.TheVariants.{Wide}
 use Rattle.keep_law.specs.Edits as law
 use Rattle.keep_law.specs.Edits.{edited_document}
 use Rattle.keep_law.specs.Refusals.{refusal}
@@ -25,12 +24,11 @@ use Rattle.keep_law.specs.declared.fault.EditFault.TheVariants as fault
 use Rattle.keep_law.specs.Answers as answers
 use Rattle.keep_law.specs.Answers.{get, string_of, string_at, at_node, applied_from}
 use Rattle.keep_edit.specs.Answers.{counts_of, entries_of, kind_of, str_value_of, refusal_in, IsDone, IsEdited, IsTextAfter}
-use Rattle.keep_edit.specs.Reading.{limit, ProfiledText, text_in, IsAccepted, IsAcceptedValue, IsRefused, IsTextOfTree, IsTextOfValue}
+use Rattle.keep_edit.specs.Reading.{limit, ProfiledText, text_in, IsAccepted, IsRefused, IsTextOfTree, IsTextOfValue}
 use Rattle.keep_edit.specs.declared.document.Counts.{Counts}
 use Rattle.keep_app.specs.declared.command.Command.{Command}
-use Rattle.keep_app.specs.declared.command.Command.TheVariants.{Apply, Check, Get, List as Listing, Text}
+use Rattle.keep_app.specs.declared.command.Command.TheVariants.{Apply, Check, CheckWide, Get, List as Listing, Text}
 use Rattle.keep_app.specs.declared.edit.Edit.{Edit}
-use Rattle.keep_app.specs.declared.edit.Edit.TheVariants as edit
 use Rattle.keep_app.specs.declared.fault.RunFault.{RunFault}
 use Rattle.keep_app.specs.declared.fault.RunFault.TheVariants as run
 use Rattle.keep_app.specs.Answer.{counts_line, lines_of, AppliesTo, IsEdit, IsText, IsEditRefusal, IsRefusal, of_read, of_edit, Refused, RefusesAt}
@@ -40,6 +38,10 @@ use Rattle.keep_app.specs.Answer.{counts_line, lines_of, AppliesTo, IsEdit, IsTe
 pub check_text : (d : ProfiledText) (out : List ℕ) (counts : Counts) → IsAccepted d → ((s : Document) → IsTextOfTree d s → counts ≡ counts_of s) → out ≡ counts_line counts → IsText Check d out
 unfolding IsText
 check_text d out counts (s, h) k e = (s, h, e ∙ ap counts_line (k s h))
+
+pub wide_text : (d : ProfiledText) (out : List ℕ) (counts : Counts) → IsAccepted d → ((s : Document) → IsTextOfTree d s → counts ≡ counts_of s) → out ≡ counts_line counts → IsText CheckWide d out
+unfolding IsText
+wide_text d out counts (s, h) k e = (s, h, e ∙ ap counts_line (k s h))
 
 pub list_answer : (d : ProfiledText) (out : List ℕ) → IsAccepted d → ((s : Document) → IsTextOfTree d s → out ≡ lines_of (entries_of s)) → IsText Listing d out
 unfolding IsText
@@ -183,38 +185,39 @@ pub last_edit : (edits : List Edit) → false ≡ (length edits == 0) → length
 last_edit [] e = absurd cc
 last_edit (x ∷ xs) e = omega arith
 
--- the edit that this value makes, by the value's tree
-abbrev edit_of : List Part → Value → law.Edit
-edit_of path v = law.set path v
+-- what holds of the edit with each value of the text holds of the edit that the text makes
+pub by_value : (make : List Part → Value → law.Edit) (path : List Part) (bytes : List ℕ) (e : law.Edit) (P : law.Edit → Type 0) → ((v : Value) → IsTextOfValue bytes v → P (make path v))
+    → (v : Value) × IsTextOfValue bytes v × (e ≡ make path v) → P e
+by_value make path bytes e P all (v, value, same) = subst P (sym same) (all v value)
 
--- what an edit answers of any tree of the old text and any value of the given one
-abbrev pub Answers : {T : Type 0} → (Document → Value → T → Type 0) → List Part → List ℕ → ProfiledText → Result T EditFault → Type 0
-Answers good path value old result = (u : Document) → IsTextOfTree old u → (v : Value) → IsTextOfValue value v → IsDone (good u v) (refusal_in old u (edit_of path v)) result
+-- what an edit answers of any tree of the old text and any edit of the definitions that it is
+abbrev pub Answers : {T : Type 0} → (Document → law.Edit → T → Type 0) → Edit → ProfiledText → Result T EditFault → Type 0
+Answers good edit old result = (u : Document) → IsTextOfTree old u → (e : law.Edit) → IsEdit edit e → IsDone (good u e) (refusal_in old u e) result
 
-module _ {T : Type 0} (good : Document → Value → T → Type 0) (profile : Profile) (edits : List Edit) (i : ℕ) (d : Edit) (path : List Part) (value : List ℕ) (old new : ProfiledText) (s : Document) (lt : i < length edits) (is : get_or edits i d ≡ edit.Set path value) (given : IsAcceptedValue Wide value) (h : IsAfter profile (take i edits) s old) where
+module _ {T : Type 0} (good : Document → law.Edit → T → Type 0) (profile : Profile) (edits : List Edit) (i : ℕ) (d : Edit) (edit : Edit) (old new : ProfiledText) (s : Document) (lt : i < length edits) (is : get_or edits i d ≡ edit) (given : (e : law.Edit) × IsEdit edit e) (h : IsAfter profile (take i edits) s old) where
   -- the answer, by the profile of the document
-  in_its_profile : (result : Result T EditFault) → Answers good path value old result → IsDone (good h.tree given.0) (refusal profile limit h.tree (edit_of path given.0)) result
+  in_its_profile : (result : Result T EditFault) → Answers good edit old result → IsDone (good h.tree given.0) (refusal profile limit h.tree given.0) result
   in_its_profile result k =
-      subst (λ (p : Profile). IsDone (good h.tree given.0) (refusal p limit h.tree (edit_of path given.0)) result) h.in_profile (k h.tree h.read given.0 given.1)
+      subst (λ (p : Profile). IsDone (good h.tree given.0) (refusal p limit h.tree given.0) result) h.in_profile (k h.tree h.read given.0 given.1)
 
   -- an edit is done, and its text is this
-  pub after_edit : (x : T) → ((u : Document) → (v : Value) → good u v x → IsTextAfter u (edit_of path v) new old) → Answers good path value old (Ok x) → IsAfter profile (take (suc i) edits) s new
-  after_edit x told k = by (refusal profile limit h.tree (edit_of path given.0)) refl (in_its_profile (Ok x) k)
+  pub after_edit : (x : T) → ((u : Document) → (e : law.Edit) → good u e x → IsTextAfter u e new old) → Answers good edit old (Ok x) → IsAfter profile (take (suc i) edits) s new
+  after_edit x told k = by (refusal profile limit h.tree given.0) refl (in_its_profile (Ok x) k)
     where
-      by : (o : Option EditFault) → refusal profile limit h.tree (edit_of path given.0) ≡ o → IsDone (good h.tree given.0) o (Ok x) → IsAfter profile (take (suc i) edits) s new
+      by : (o : Option EditFault) → refusal profile limit h.tree given.0 ≡ o → IsDone (good h.tree given.0) o (Ok x) → IsAfter profile (take (suc i) edits) s new
       by (Some f) e done = absurd (let no : Ok x ≡ Err f = done in cc)
       by None e done = record {
-        es = h.es ++ edit_of path given.0 ∷ [];
-        are = zip_more edits i d (edit.Set path value) h.es (edit_of path given.0) lt is h.are (given.0, given.1, refl);
-        tree = edited_document h.tree (edit_of path given.0);
+        es = h.es ++ given.0 ∷ [];
+        are = zip_more edits i d edit h.es given.0 lt is h.are given.1;
+        tree = edited_document h.tree given.0;
         read = (told h.tree given.0 done).tree;
         in_profile = (told h.tree given.0 done).profile ∙ h.in_profile;
-        done = applied_more profile 0 h.es (edit_of path given.0) s h.tree h.done e;
+        done = applied_more profile 0 h.es given.0 s h.tree h.done e;
       }
 
   -- an edit is refused
-  pub edit_refused : (f : EditFault) → Answers good path value old (Err f) → Refused profile edits s (of_edit i f)
-  edit_refused f k = by (refusal profile limit h.tree (edit_of path given.0)) refl (in_its_profile (Err f) k)
+  pub edit_refused : (f : EditFault) → Answers good edit old (Err f) → Refused profile edits s (of_edit i f)
+  edit_refused f k = by (refusal profile limit h.tree given.0) refl (in_its_profile (Err f) k)
     where
       many : 0 + length h.es ≡ i
       many = omega (arith, as_many (take i edits) h.es h.are, length-take {A = Edit})
@@ -222,26 +225,26 @@ module _ {T : Type 0} (good : Document → Value → T → Type 0) (profile : Pr
       of_memory : f ≡ fault.Memory → Refused profile edits s (of_edit i f)
       of_memory m = rw m tt
 
-      of_refusal : refusal profile limit h.tree (edit_of path given.0) ≡ Some f → Refused profile edits s (of_edit i f)
+      of_refusal : refusal profile limit h.tree given.0 ≡ Some f → Refused profile edits s (of_edit i f)
       of_refusal e = elim (told_edit i f) [
         | inl m ↦ of_memory m
         | inr told ↦ subst (λ (x : RunFault). Refused profile edits s x) (sym told) (
-          h.es ++ edit_of path given.0 ∷ [],
-          zip_more edits i d (edit.Set path value) h.es (edit_of path given.0) lt is h.are (given.0, given.1, refl),
-          subst (λ (n : ℕ). applied_from profile limit 0 (h.es ++ edit_of path given.0 ∷ []) s ≡ Err (refused_as n f)) many (applied_until profile 0 h.es (edit_of path given.0) s h.tree f h.done e),
+          h.es ++ given.0 ∷ [],
+          zip_more edits i d edit h.es given.0 lt is h.are given.1,
+          subst (λ (n : ℕ). applied_from profile limit 0 (h.es ++ given.0 ∷ []) s ≡ Err (refused_as n f)) many (applied_until profile 0 h.es given.0 s h.tree f h.done e),
         )
       ]
 
-      by : (o : Option EditFault) → refusal profile limit h.tree (edit_of path given.0) ≡ o → IsDone (good h.tree given.0) o (Err f) → Refused profile edits s (of_edit i f)
+      by : (o : Option EditFault) → refusal profile limit h.tree given.0 ≡ o → IsDone (good h.tree given.0) o (Err f) → Refused profile edits s (of_edit i f)
       by (Some g) e done = of_refusal (e ∙ ap (λ (x : EditFault). Some x) (let same : g ≡ f = cc in same))
       by None e done = of_memory done
 
--- what `set` and what `text_with` are told to do
-abbrev pub set_done : List Part → ProfiledText → ProfiledText → Document → Value → Splice → Type 0
-set_done path old new u v splice = IsEdited u (edit_of path v) new old splice
+-- what `apply` and what `text_applied` are told to do
+abbrev pub apply_done : ProfiledText → ProfiledText → Document → law.Edit → Splice → Type 0
+apply_done old new u e splice = IsEdited u e new old splice
 
-abbrev pub text_told : List Part → ProfiledText → Document → Value → String Global → Type 0
-text_told path old u v text = IsTextAfter u (edit_of path v) (text_in old.profile (string_bytes text)) old
+abbrev pub text_told : ProfiledText → Document → law.Edit → String Global → Type 0
+text_told old u e text = IsTextAfter u e (text_in old.profile (string_bytes text)) old
 
 pub all_applied : (profile : Profile) (edits : List Edit) (n : ℕ) (s : Document) (d : ProfiledText) (new : List ℕ) → length edits ≤ n → new ≡ d.text → IsAfter profile (take n edits) s d → AppliesTo profile edits s new
 all_applied profile edits n s d new le same h =

@@ -1,7 +1,8 @@
 -- What the program answers to a command and the bytes that were read.
-use Rattle.std.specs.Prelude.{◌≡◌, ℕ, List, ◌++◌, suc, take, codes, decimal, Ok, Err, ⊤}
+use Rattle.std.specs.Prelude.{◌≡◌, ℕ, List, ◌++◌, suc, take, codes, decimal, string_bytes, Ok, Err, ⊤}
 use Rattle.std.specs.List.{flat_map, AllZip}
 use Rattle.keep_token.specs.declared.leaf.Profile.{Profile}
+use Rattle.keep_token.specs.declared.leaf.Profile.TheVariants.{Strict, Wide}
 use Rattle.keep_syntax.specs.declared.fault.ReadFault.{ReadFault}
 use Rattle.keep_syntax.specs.declared.fault.ReadFault.TheVariants as read
 use Rattle.keep_syntax.specs.Tree.{Value, Document, text}
@@ -17,6 +18,7 @@ use Rattle.keep_edit.specs.declared.document.Counts.{Counts}
 use Rattle.keep_edit.specs.declared.document.Entry.{Entry}
 use Rattle.keep_edit.specs.Reading.{limit, ProfiledText, IsTextOfTree, IsTextOfValue}
 use Rattle.keep_edit.specs.Answers.{counts_of, entries_of}
+use Rattle.keep_edit.specs.Headers.{key_texts}
 use Rattle.keep_app.specs.declared.command.Command.{Command}
 use Rattle.keep_app.specs.declared.command.Command.TheVariants as command
 use Rattle.keep_app.specs.declared.edit.Edit.{Edit}
@@ -53,9 +55,13 @@ lines_of entries = flat_map entry_line entries
 
 -- ---- edits
 
--- The edit, with the value of its text.
+-- The edit of the definitions, with the value of its text.
 abbrev pub IsEdit : Edit → law.Edit → Type 0
 IsEdit (edit.Set path value) e = (v : Value) × IsTextOfValue value v × (e ≡ law.set path v)
+IsEdit (edit.Rename path key) e = e ≡ law.rename path (string_bytes key)
+IsEdit (edit.Remove path) e = e ≡ law.remove path
+IsEdit (edit.Table keys) e = e ≡ law.append_table (key_texts keys.items)
+IsEdit (edit.Element keys) e = e ≡ law.append_element (key_texts keys.items)
 
 -- the text after all edits, in order
 abbrev pub AppliesTo : Profile → List Edit → Document → List ℕ → Type 0
@@ -67,9 +73,15 @@ RefusesAt profile edits s number f = (es : List law.Edit) × AllZip IsEdit (take
 
 -- ---- answers
 
+-- the profile that the document is read in
+abbrev pub profile_of : Command → Profile
+profile_of command.CheckWide = Wide
+profile_of _ = Strict
+
 -- the output answers the command
 unfoldable pub IsText : Command → ProfiledText → List ℕ → Type 0
 IsText command.Check input output = (s : Document) × IsTextOfTree input s × (output ≡ counts_line (counts_of s))
+IsText command.CheckWide input output = (s : Document) × IsTextOfTree input s × (output ≡ counts_line (counts_of s))
 IsText command.List input output = (s : Document) × IsTextOfTree input s × (output ≡ lines_of (entries_of s))
 IsText (command.Get path) input output = (s : Document) × IsTextOfTree input s × ((value : List ℕ) × (get path s ≡ Ok value) × (output ≡ value ++ codes "\n"))
 IsText (command.Text path) input output = (s : Document) × IsTextOfTree input s × (string_at path s ≡ Ok output)
@@ -78,6 +90,7 @@ IsText (command.Apply edits) input output = (s : Document) × IsTextOfTree input
 -- the bytes are a document, and the edit of this number is the first that is refused, by this fault
 unfoldable pub IsEditRefusal : Command → ProfiledText → ℕ → EditFault → Type 0
 IsEditRefusal command.Check input number f = ⊥
+IsEditRefusal command.CheckWide input number f = ⊥
 IsEditRefusal command.List input number f = ⊥
 IsEditRefusal (command.Get path) input number f = (number ≡ 0) × ((s : Document) × IsTextOfTree input s × (get path s ≡ Err f))
 IsEditRefusal (command.Text path) input number f = (number ≡ 0) × ((s : Document) × IsTextOfTree input s × (string_at path s ≡ Err f))
@@ -108,3 +121,8 @@ abbrev pub Refused : Profile → List Edit → Document → RunFault → Type 0
 Refused profile edits s run.Memory = ⊤
 Refused profile edits s (run.Edit number f) = RefusesAt profile edits s number f
 Refused profile edits s _ = ⊥
+
+-- the fault is that an edit gives a value which the document's profile does not have
+abbrev pub IsProfileFault : RunFault → Type 0
+IsProfileFault (run.Edit number fault.Profile) = ⊤
+IsProfileFault _ = ⊥

@@ -1,19 +1,37 @@
 -- What the rows that `clap` answers ask for.
-use Rattle.std.specs.Prelude.{◌≡◌, codes, List, [], ℕ, Option, Some, None, if◌then◌else◌, unwrap_or, string_bytes}
-use Rattle.std.specs.Str.{bytes_eq}
-use Rattle.clap.specs.Walk.{Row, first_of}
-use Rattle.keep_app.specs.Wanted.{Wanted, wants_check, wants_list, wants_get, wants_text, wants_set}
+use Rattle.std.specs.Prelude.{◌≡◌, [], List, length, map, take, ℕ, Option, Some, None, unwrap_or, string_bytes}
+use Rattle.clap.specs.Walk.{Row as Found, first_of}
+use Rattle.keep_app.specs.KeepApp.{word_ids}
+use Rattle.keep_app.specs.Table.{Row, first_row, row_of, table}
+use Rattle.keep_app.specs.Wanted.{Wanted, row_named}
 use Rattle.keep_app.specs.declared.fault.UseFault.{UseFault}
 use Rattle.keep_app.specs.declared.fault.UseFault.TheVariants.{Words}
 use Rattle.keep_app.specs.declared.words.Chosen.{Chosen}
-use Rattle.keep_app.specs.declared.words.Chosen.TheVariants as chosen
+
+-- the word of an argument
+abbrev pub word_in : List ℕ → List Found → List ℕ
+word_in id found = unwrap_or (first_of id found) []
+
+-- the words of a subcommand
+abbrev pub words_in : Row → List Found → List (List ℕ)
+words_in row found = map (λ id. word_in id found) (take (length row.words) word_ids)
+
+-- a subcommand with the words that were found
+abbrev pub wanted_with : List Found → Row → Wanted
+wanted_with found row = record { row = row; words = words_in row found }
+
+-- the row of a name; the first where none has it
+abbrev pub row_or_first : List ℕ → Row
+row_or_first name = unwrap_or (row_named name table) first_row
+
+abbrev pub read_rows : Option (List ℕ × List Found) → Wanted
+read_rows None = wanted_with [] first_row
+read_rows (Some p) = wanted_with p.1 (row_or_first p.0)
+
+-- ---- what the program keeps of them
 
 abbrev pub wanted_of_chosen : Chosen → Wanted
-wanted_of_chosen chosen.Check = wants_check
-wanted_of_chosen chosen.List = wants_list
-wanted_of_chosen (chosen.Get path) = wants_get (string_bytes path)
-wanted_of_chosen (chosen.Text path) = wants_text (string_bytes path)
-wanted_of_chosen (chosen.Set path value) = wants_set (string_bytes path) (string_bytes value)
+wanted_of_chosen chosen = record { row = row_of chosen.row; words = map string_bytes chosen.words.items }
 
 -- the words ask for this
 abbrev pub IsChosen : Option Wanted → Chosen → Type 0
@@ -23,20 +41,3 @@ IsChosen wanted chosen = wanted ≡ Some (wanted_of_chosen chosen)
 abbrev pub IsUnchosen : Option Wanted → UseFault → Type 0
 IsUnchosen wanted (Words error) = wanted ≡ None
 IsUnchosen wanted _ = ⊥
-
--- the word of an argument
-abbrev pub word_in : List ℕ → List Row → List ℕ
-word_in id rows = unwrap_or (first_of id rows) []
-
--- a subcommand's name and rows
-abbrev pub read_named : List ℕ → List Row → Wanted
-read_named name rows =
-    if bytes_eq name (codes "get") then wants_get (word_in (codes "path") rows)
-    else if bytes_eq name (codes "text") then wants_text (word_in (codes "path") rows)
-    else if bytes_eq name (codes "set") then wants_set (word_in (codes "path") rows) (word_in (codes "value") rows)
-    else if bytes_eq name (codes "list") then wants_list
-    else wants_check
-
-abbrev pub read_rows : Option (List ℕ × List Row) → Wanted
-read_rows None = wants_check
-read_rows (Some p) = read_named p.0 p.1

@@ -4,5 +4,6 @@ pub mod Counted
 pub mod KeepApp
 pub mod Run
 pub mod Status
+pub mod Table
 pub mod Uses
 pub mod Wanted

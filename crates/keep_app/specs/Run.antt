@@ -1,9 +1,8 @@
 -- What reading to the end and writing all come to.
 use Rattle.std.specs.Prelude.{◌≡◌, ◌<◌, ⊤, ℕ, Bool, true, false, List, length, take, Option, IfSome, None, Some, ◌≤◌, ◌+◌, Result, Ok, Err, Vec}
 use Rattle.std.specs.Io.KnownBytes.{Appends, Keeps}
-use Rattle.keep_token.specs.declared.leaf.Profile.TheVariants.{Strict}
 use Rattle.keep_edit.specs.Reading.{text_in}
-use Rattle.keep_app.specs.Answer.{IsRefusal, IsText}
+use Rattle.keep_app.specs.Answer.{IsRefusal, IsText, profile_of}
 use Rattle.keep_app.specs.declared.command.Command.{Command}
 use Rattle.keep_app.specs.declared.fault.RunFault.{RunFault}
 use Rattle.keep_app.specs.declared.fault.RunFault.TheVariants.{Read, TooLong, Write, Memory}
@@ -48,12 +47,12 @@ is_write _ = ⊥
 -- an answer is written, and is of this length
 abbrev pub WritesAnswer : Command → List ℕ → Option (List ℕ) → Option (List ℕ) → ℕ → Type 0
 WritesAnswer command bytes old new written =
-    (text : List ℕ) × IsText command (text_in Strict bytes) text × (written ≡ length text) × Appends old new text
+    (text : List ℕ) × IsText command (text_in (profile_of command) bytes) text × (written ≡ length text) × Appends old new text
 
 -- the first bytes of an answer are written, and not all
 abbrev pub WritesFront : Command → List ℕ → Option (List ℕ) → Option (List ℕ) → ℕ → Type 0
 WritesFront command bytes old new written =
-    (text : List ℕ) × IsText command (text_in Strict bytes) text × (written < length text) × Appends old new (take written text)
+    (text : List ℕ) × IsText command (text_in (profile_of command) bytes) text × (written < length text) × Appends old new (take written text)
 
 -- the input is within the limit, and the answer to the command and its bytes is written
 abbrev pub HasWritten : Command → Option (List ℕ) → Option (List ℕ) → Option (List ℕ) → ℕ → Type 0
@@ -66,7 +65,7 @@ StopsRun command input old new Read = Keeps old new
 StopsRun command input old new TooLong = Keeps old new × IfSome input IsTooLong
 StopsRun command input old new (Write written) = IfSome input (λ bytes. IsWithinLimit bytes × WritesFront command bytes old new written)
 StopsRun command input old new Memory = Keeps old new
-StopsRun command input old new fault = Keeps old new × IfSome input (λ bytes. IsWithinLimit bytes × IsRefusal command (text_in Strict bytes) fault)
+StopsRun command input old new fault = Keeps old new × IfSome input (λ bytes. IsWithinLimit bytes × IsRefusal command (text_in (profile_of command) bytes) fault)
 
 -- at most so many known bytes went
 abbrev pub LosesAtMost : ℕ → Option (List ℕ) → Option (List ℕ) → Type 0

@@ -1,39 +1,32 @@
 -- What the words of the command line come to.
-use Rattle.std.specs.Prelude.{◌≡◌, ◌⊎◌, ⊤, ℕ, List, [], ◌∷◌, Option, Some, None}
+use Rattle.std.specs.Prelude.{◌≡◌, ◌⊎◌, ⊤, ℕ, List, [], ◌∷◌, Option, Some, None, map, string_bytes}
 use Rattle.keep_app.specs.declared.command.Command.{Command}
 use Rattle.keep_app.specs.declared.command.Command.TheVariants as command
 use Rattle.keep_app.specs.declared.edit.Edit.{Edit}
 use Rattle.keep_app.specs.declared.edit.Edit.TheVariants as edit
 use Rattle.keep_app.specs.declared.fault.UseFault.{UseFault}
 use Rattle.keep_app.specs.declared.fault.UseFault.TheVariants as fault
+use Rattle.keep_app.specs.declared.subcommand.Ask.{Ask}
+use Rattle.keep_app.specs.declared.subcommand.Ask.TheVariants as ask
+use Rattle.keep_app.specs.declared.subcommand.Word.{Word}
+use Rattle.keep_app.specs.declared.subcommand.Word.TheVariants as word
 use Rattle.keep_token.specs.declared.leaf.Profile.TheVariants.{Strict}
-use Rattle.keep_path.specs.Path.{Part}
-use Rattle.keep_path.specs.PathText.{IsPathText}
+use Rattle.keep_path.specs.Path.{Part, key, index}
+use Rattle.keep_path.specs.PathText.{FirstIndex, IsPathText}
 use Rattle.keep_meaning.specs.ReadText as reading
+use Rattle.keep_edit.specs.Headers.{key_texts}
 use Rattle.keep_edit.specs.Reading.{limit, IsAcceptedValue}
-use Rattle.keep_app.specs.Wanted.{Wanted, wants_check, wants_list, wants_get, wants_text, wants_set}
+use Rattle.keep_app.specs.Wanted.{Wanted}
 
--- the word is a value's text, and this is it
-abbrev pub IsGivenValue : List ℕ → List ℕ → Type 0
-IsGivenValue word value = (value ≡ word) × IsAcceptedValue Strict word
-
--- one edit, which sets this path to this value
-abbrev pub SetsOne : List ℕ → List ℕ → List Edit → Type 0
-SetsOne path value (edit.Set p v ∷ []) = IsPathText path p × IsGivenValue value v
-SetsOne path value _ = ⊥
-
--- the command is what is wanted
-abbrev pub IsCommand : Wanted → Command → Type 0
-IsCommand wants_check command.Check = ⊤
-IsCommand wants_list command.List = ⊤
-IsCommand (wants_get path) (command.Get p) = IsPathText path p
-IsCommand (wants_text path) (command.Text p) = IsPathText path p
-IsCommand (wants_set path value) (command.Apply edits) = SetsOne path value edits.items
-IsCommand _ _ = ⊥
+-- ---- one word
 
 -- the word is a path's text
 abbrev pub IsPath : List ℕ → Type 0
 IsPath word = (path : List Part) × IsPathText word path
+
+-- the word is a value's text, and this is it
+abbrev pub IsGivenValue : List ℕ → List ℕ → Type 0
+IsGivenValue word value = (value ≡ word) × IsAcceptedValue Strict word
 
 -- The word is no path's text. (Where it fails is not told here.)
 abbrev pub IsPathFault : List ℕ → UseFault → Type 0
@@ -45,21 +38,108 @@ abbrev pub IsValueFault : List ℕ → UseFault → Type 0
 IsValueFault word (fault.Value f) = reading.IsValueFault Strict limit word f
 IsValueFault word _ = ⊥
 
--- the first word, from the left, that can't be read
-abbrev pub IsWordFault : Wanted → UseFault → Type 0
-IsWordFault wants_check f = ⊥
-IsWordFault wants_list f = ⊥
-IsWordFault (wants_get path) f = IsPathFault path f
-IsWordFault (wants_text path) f = IsPathFault path f
-IsWordFault (wants_set path value) f = IsPathFault path f ⊎ (IsPath path × IsValueFault value f)
+-- the key that a step is
+abbrev pub key_in : Option Part → Option (List ℕ)
+key_in None = None
+key_in (Some part) = elim part [ key text ↦ Some text | index n ↦ None ]
+
+-- the word is the text of a path of these keys
+abbrev pub IsKeysText : List ℕ → List (List ℕ) → Type 0
+IsKeysText word keys = IsPathText word (map (λ text. key text) keys)
+
+-- The word is no path's text (where it fails is not told here), or its first index stands there.
+abbrev pub IsKeysFault : List ℕ → UseFault → Type 0
+IsKeysFault word (fault.Path at) = (IsPath word → ⊥) ⊎ FirstIndex word at
+IsKeysFault word _ = ⊥
+
+-- the word can be read as what it is; a key can be any text
+abbrev pub IsReadable : Word → List ℕ → Type 0
+IsReadable word.Path text = IsPath text
+IsReadable word.Value text = IsAcceptedValue Strict text
+IsReadable word.Key text = ⊤
+IsReadable word.Keys text = (keys : List (List ℕ)) × IsKeysText text keys
+
+-- it can't, and this is why
+abbrev pub IsFaultOf : Word → List ℕ → UseFault → Type 0
+IsFaultOf word.Path text f = IsPathFault text f
+IsFaultOf word.Value text f = IsValueFault text f
+IsFaultOf word.Key text f = ⊥
+IsFaultOf word.Keys text f = IsKeysFault text f
+
+-- ---- all words
+
+-- one edit, and it is so
+abbrev pub IsOne : (Edit → Type 0) → List Edit → Type 0
+IsOne is (e ∷ []) = is e
+IsOne is _ = ⊥
+
+abbrev pub Sets : List ℕ → List ℕ → Edit → Type 0
+Sets path value (edit.Set p v) = IsPathText path p × IsGivenValue value v
+Sets path value _ = ⊥
+
+abbrev pub Renames : List ℕ → List ℕ → Edit → Type 0
+Renames path name (edit.Rename p k) = IsPathText path p × (string_bytes k ≡ name)
+Renames path name _ = ⊥
+
+abbrev pub Removes : List ℕ → Edit → Type 0
+Removes path (edit.Remove p) = IsPathText path p
+Removes path _ = ⊥
+
+abbrev pub AddsTable : List ℕ → Edit → Type 0
+AddsTable word (edit.Table keys) = IsKeysText word (key_texts keys.items)
+AddsTable word _ = ⊥
+
+abbrev pub AddsElement : List ℕ → Edit → Type 0
+AddsElement word (edit.Element keys) = IsKeysText word (key_texts keys.items)
+AddsElement word _ = ⊥
+
+-- the command is what a subcommand asks with these words
+abbrev pub IsCommand : Ask → List (List ℕ) → Command → Type 0
+IsCommand ask.Check [] command.Check = ⊤
+IsCommand ask.CheckWide [] command.CheckWide = ⊤
+IsCommand ask.List [] command.List = ⊤
+IsCommand ask.Get (path ∷ []) (command.Get p) = IsPathText path p
+IsCommand ask.Text (path ∷ []) (command.Text p) = IsPathText path p
+IsCommand ask.Set (path ∷ value ∷ []) (command.Apply edits) = IsOne (Sets path value) edits.items
+IsCommand ask.Rename (path ∷ name ∷ []) (command.Apply edits) = IsOne (Renames path name) edits.items
+IsCommand ask.Remove (path ∷ []) (command.Apply edits) = IsOne (Removes path) edits.items
+IsCommand ask.Table (keys ∷ []) (command.Apply edits) = IsOne (AddsTable keys) edits.items
+IsCommand ask.Element (keys ∷ []) (command.Apply edits) = IsOne (AddsElement keys) edits.items
+IsCommand _ _ _ = ⊥
+
+-- the first word, from the left, that can't be read as what it is
+abbrev pub IsWordFault : List Word → List (List ℕ) → UseFault → Type 0
+IsWordFault (w ∷ ws) (text ∷ texts) f = IsFaultOf w text f ⊎ (IsReadable w text × IsWordFault ws texts f)
+IsWordFault _ _ f = ⊥
 
 -- the words ask for this command
 abbrev pub Asks : Option Wanted → Command → Type 0
 Asks None c = ⊥
-Asks (Some wanted) c = IsCommand wanted c
+Asks (Some wanted) c = IsCommand wanted.row.ask wanted.words c
 
 -- the words ask for nothing, or one of them can't be read
 abbrev pub IsUseFault : Option Wanted → UseFault → Type 0
 IsUseFault None (fault.Words error) = ⊤
 IsUseFault None _ = ⊥
-IsUseFault (Some wanted) f = IsWordFault wanted f
+IsUseFault (Some wanted) f = IsWordFault wanted.row.words wanted.words f
+
+-- the command makes this edit alone
+abbrev pub IsApplied : Edit → Command → Type 0
+IsApplied e (command.Apply edits) = edits.items ≡ e ∷ []
+IsApplied e _ = ⊥
+
+-- ---- the profile of a command's values
+
+-- the edit gives no value but of Strict's grammar
+abbrev pub IsStrictEdit : Edit → Type 0
+IsStrictEdit (edit.Set path value) = IsAcceptedValue Strict value
+IsStrictEdit _ = ⊤
+
+abbrev pub AreStrict : List Edit → Type 0
+AreStrict [] = ⊤
+AreStrict (e ∷ es) = IsStrictEdit e × AreStrict es
+
+-- its values are of the profile that it reads the document in
+abbrev pub HasOwnValues : Command → Type 0
+HasOwnValues (command.Apply edits) = AreStrict edits.items
+HasOwnValues _ = ⊤

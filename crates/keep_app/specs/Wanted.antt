@@ -1,44 +1,35 @@
 -- What the program's words ask for.
-use Rattle.std.specs.Prelude.{codes, List, [], ◌∷◌, ℕ, Option, Some, None, if◌then◌else◌, Bool, not, is_some, drop}
+use Rattle.std.specs.Prelude.{◌≡◌, ◌==◌, List, ◌∷◌, ℕ, Option, Some, None, if◌then◌else◌, Bool, not, is_some, drop, length, find, option_and_then, Contains}
 use Rattle.std.specs.List.{list_all}
 use Rattle.std.specs.Str.{bytes_eq}
 use Rattle.clap.specs.Lexer.{strip_byte}
+use Rattle.keep_app.specs.Table.{Row, table}
 
 -- a subcommand and the texts of its words
-pub data Wanted : Type 0 where
-  wants_check : Wanted
-  wants_list : Wanted
-  wants_get : List ℕ → Wanted
-  wants_text : List ℕ → Wanted
-  wants_set : List ℕ → List ℕ → Wanted
+pub record Wanted : Type 0 where
+  pub row : Row
+  pub words : List (List ℕ)
 
--- a subcommand takes no word, one or two
-abbrev pub takes_none : Wanted → List (List ℕ) → Option Wanted
-takes_none wanted [] = Some wanted
-takes_none wanted _ = None
+-- a row of the table, with as many words as it has
+pub record IsWhole (wanted : Wanted) : Type 0 where
+  pub row : Contains table wanted.row
+  pub many : length wanted.words ≡ length wanted.row.words
 
-abbrev pub takes_one : (List ℕ → Wanted) → List (List ℕ) → Option Wanted
-takes_one wanted (first ∷ []) = Some (wanted first)
-takes_one wanted _ = None
+-- the subcommand of a name
+abbrev pub row_named : List ℕ → List Row → Option Row
+row_named name rows = find (λ row. bytes_eq row.name name) rows
 
-abbrev pub takes_two : (List ℕ → List ℕ → Wanted) → List (List ℕ) → Option Wanted
-takes_two wanted (first ∷ second ∷ []) = Some (wanted first second)
-takes_two wanted _ = None
+-- a subcommand takes as many words as it has
+abbrev pub with_words : List (List ℕ) → Row → Option Wanted
+with_words words row = if length words == length row.words then Some (record { row = row; words = words }) else None
 
--- a subcommand and its words
-abbrev pub wanted_by : List ℕ → List (List ℕ) → Option Wanted
-wanted_by name words =
-    if bytes_eq name (codes "check") then takes_none wants_check words
-    else if bytes_eq name (codes "list") then takes_none wants_list words
-    else if bytes_eq name (codes "get") then takes_one (λ path. wants_get path) words
-    else if bytes_eq name (codes "text") then takes_one (λ path. wants_text path) words
-    else if bytes_eq name (codes "set") then takes_two (λ path value. wants_set path value) words
-    else None
+abbrev pub wanted_in : List Row → List (List ℕ) → Option Wanted
+wanted_in rows (program ∷ name ∷ words) = option_and_then (with_words words) (row_named name rows)
+wanted_in rows _ = None
 
 -- the program's name, a subcommand and its words
 abbrev pub wanted_of : List (List ℕ) → Option Wanted
-wanted_of (program ∷ name ∷ words) = wanted_by name words
-wanted_of _ = None
+wanted_of words = wanted_in table words
 
 -- the word does not begin with a hyphen
 abbrev pub is_plain_word : List ℕ → Bool

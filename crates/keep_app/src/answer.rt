@@ -1,16 +1,15 @@
 //! The answer to a command.
 ghost use Rattle.std.specs.Prelude.{◌≡◌, ◌⊎◌, ◌++◌, codes, IfOk, MatchResult, OnOk, string_bytes};
 ghost use Rattle.keep_syntax.specs.Tree as tree;
-ghost use Rattle.keep_token.specs.declared.leaf.Profile.TheVariants.{Strict};
 ghost use Rattle.keep_edit.specs.Answers.{entries_of};
 ghost use Rattle.keep_edit.specs.Reading.{IsAccepted, IsTextOfTree, text_in};
-ghost use Rattle.keep_app.specs.Answer.{counts_line, kind_word, lines_of, AppliesTo, IsRefusal, IsText};
+ghost use Rattle.keep_app.specs.Answer.{counts_line, kind_word, lines_of, profile_of, AppliesTo, IsRefusal, IsText};
 ghost use Rattle.keep_app.specs.Answer as spec;
 
 use crate::command::Command;
-use crate::edit::Edit;
+use crate::edit::{Edit, apply, text_applied};
 use crate::fault::RunFault;
-use keep_edit::{Counts, Document, EditFault, Kind, Path, ReadFault, ValueText};
+use keep_edit::{Counts, Document, EditFault, Kind, Path, Profile, ReadFault};
 use std::alloc::{AllocError, Global};
 use std::mem;
 
@@ -93,7 +92,8 @@ fn of_edit(index: usize, fault: EditFault) -> RunFault
 }
 
 fn checked(alloc: Global, document: &Document) -> Result<String, RunFault>
-    ensures { MatchResult result (λ text. IsText Command.Check document.now (string_bytes text)) (λ fault. fault ≡ RunFault.Memory) }
+    ensures check { MatchResult result (λ text. IsText Command.Check document.now (string_bytes text)) (λ fault. fault ≡ RunFault.Memory) }
+    ensures wide { IfOk result (λ text. IsText Command.CheckWide document.now (string_bytes text)) }
 {
     Ok(counts_text(alloc, document.counts())?)
 }
@@ -125,14 +125,6 @@ fn meant(alloc: Global, document: &Document, path: &Path) -> Result<String, RunF
     }
 }
 
-fn parts_of(edit: &Edit) -> (&Path, &ValueText)
-    ensures { edit.now ≡ Edit.Set result.0.now result.1.now }
-{
-    match edit {
-        Edit::Set(path, value) => (path, value),
-    }
-}
-
 // The text after the edits in order, or the first refusal. Nothing is asked of the document behind the last of them, so that
 // one gives its text alone, and the text is not read once more.
 fn applied(document: Document, edits: &[Edit]) -> Result<String, RunFault>
@@ -145,14 +137,12 @@ fn applied(document: Document, edits: &[Edit]) -> Result<String, RunFault>
     let last = edits.len() - 1;
     let mut changed = document;
     for index in 0..last {
-        let (path, value) = parts_of(&edits[index]);
-        match changed.set(path, value) {
+        match apply(&mut changed, &edits[index]) {
             Ok(_) => {}
             Err(fault) => return Err(of_edit(index, fault)),
         }
     }
-    let (path, value) = parts_of(&edits[last]);
-    let text = changed.text_with(path, value);
+    let text = text_applied(&changed, &edits[last]);
     // As in `answer`: the program ends with its answer.
     mem::forget(changed);
     match text {
@@ -161,17 +151,27 @@ fn applied(document: Document, edits: &[Edit]) -> Result<String, RunFault>
     }
 }
 
+// The profile that a command reads the document in.
+fn profile_for(command: &Command) -> Profile
+    ensures { result ≡ profile_of command.now }
+{
+    match command {
+        Command::CheckWide => Profile::Wide,
+        _ => Profile::Strict,
+    }
+}
+
 /// What the program writes for a command and the bytes of its input.
 pub fn answer(alloc: Global, command: &Command, bytes: Vec<u8>) -> Result<String, RunFault>
-    ensures { MatchResult result (λ text. IsText command.now (text_in Strict bytes.items) (string_bytes text))
-        (λ fault. (fault ≡ RunFault.Memory) ⊎ IsRefusal command.now (text_in Strict bytes.items) fault) }
+    ensures { MatchResult result (λ text. IsText command.now (text_in (profile_of command.now) bytes.items) (string_bytes text))
+        (λ fault. (fault ≡ RunFault.Memory) ⊎ IsRefusal command.now (text_in (profile_of command.now) bytes.items) fault) }
 {
-    let document = match Document::read_owned(alloc, bytes) {
+    let document = match Document::read_owned_in(alloc, bytes, profile_for(command)) {
         Ok(document) => document,
         Err(fault) => return Err(of_read(fault)),
     };
     let answer = match command {
-        Command::Check => checked(alloc, &document),
+        Command::Check | Command::CheckWide => checked(alloc, &document),
         Command::List => listed(alloc, &document),
         Command::Get(path) => got(alloc, &document, path),
         Command::Text(path) => meant(alloc, &document, path),

@@ -1,21 +1,26 @@
 //! The commands, and the words that ask for them.
-ghost use Rattle.std.specs.Prelude.{◌≡◌, ◌⊎◌, true, IfOk, MatchResult, map, string_bytes};
+ghost use Rattle.std.specs.Prelude.{◌≡◌, ◌⊎◌, ◌∷◌, [], true, Some, IfOk, MatchResult, map, option_map, slice_get, string_bytes};
+ghost use Rattle.keep_app.specs.declared.subcommand.Word.TheVariants as Word;
 ghost use Rattle.keep_app.specs.Chosen.{wanted_of_chosen};
-ghost use Rattle.keep_path.specs.PathText.{IsPathText};
-ghost use Rattle.keep_app.specs.Uses.{Asks, IsCommand, IsGivenValue, IsPathFault, IsUseFault, IsValueFault, IsWordFault};
-ghost use Rattle.keep_app.specs.Wanted.{has_plain_words, wanted_of};
+ghost use Rattle.keep_path.specs.Path.{key};
+ghost use Rattle.keep_path.specs.PathText.{AreKeys, IsPathText};
+ghost use Rattle.keep_app.specs.Uses.{key_in, Asks, HasOwnValues, IsApplied, IsCommand, IsKeysFault, IsKeysText, IsWordFault, IsGivenValue, IsPathFault, IsUseFault, IsValueFault};
+ghost use Rattle.keep_app.specs.Wanted.{IsWhole, has_plain_words, wanted_of};
 
 use crate::edit::Edit;
 use crate::fault::UseFault;
+use crate::subcommand::Ask;
 use crate::words::{Chosen, chosen_of};
-use keep_edit::{Path, PathFault, ReadFault, ValueText};
-use std::alloc::Global;
+use keep_edit::{Path, PathFault, ReadFault, Step, ValueText};
+use std::alloc::{AllocError, Global};
 
 /// What the program is asked.
 #[derive(Debug, Drop)]
 pub enum Command {
     /// Whether the input is a document, and how large.
     Check,
+    /// The same in the profile Wide.
+    CheckWide,
     /// All nodes but the root, with their kinds.
     List,
     /// The text of the value at a path, as it is written.
@@ -33,37 +38,67 @@ pub enum Command {
 /// `Words` where `clap` refuses the words; else the fault of the first word, from the left, that can't be read;
 /// `Memory` where a growth was refused.
 pub fn command_of(alloc: Global, words: &[String]) -> Result<Command, UseFault>
-    ensures { has_plain_words (map string_bytes words.now) ≡ true
+    ensures asked { has_plain_words (map string_bytes words.now) ≡ true
         → MatchResult result (Asks (wanted_of (map string_bytes words.now)))
         (λ fault. (fault ≡ UseFault.Memory) ⊎ IsUseFault (wanted_of (map string_bytes words.now)) fault) }
+    ensures values { IfOk result HasOwnValues }
 {
     let chosen = chosen_of(alloc, words)?;
     command_from(alloc, &chosen)
 }
 
+// The arms read the words from left to right, as the table has them.
 fn command_from(alloc: Global, chosen: &Chosen) -> Result<Command, UseFault>
-    ensures { MatchResult result (IsCommand (wanted_of_chosen chosen.now))
-        (λ fault. (fault ≡ UseFault.Memory) ⊎ IsWordFault (wanted_of_chosen chosen.now) fault) }
+    requires { IsWhole (wanted_of_chosen chosen.now) }
+    ensures asked { MatchResult result (Asks (Some (wanted_of_chosen chosen.now)))
+        (λ fault. (fault ≡ UseFault.Memory) ⊎ IsUseFault (Some (wanted_of_chosen chosen.now)) fault) }
+    ensures values { IfOk result HasOwnValues }
 {
-    match chosen {
-        Chosen::Check => Ok(Command::Check),
-        Chosen::List => Ok(Command::List),
-        Chosen::Get(path) => {
-            let path = path_of(alloc, path.as_str())?;
-            Ok(Command::Get(path))
+    let words = chosen.words.as_slice();
+    match chosen.row.1 {
+        Ask::Check => Ok(Command::Check),
+        Ask::CheckWide => Ok(Command::CheckWide),
+        Ask::List => Ok(Command::List),
+        Ask::Get => Ok(Command::Get(path_of(alloc, words[0].as_str())?)),
+        Ask::Text => Ok(Command::Text(path_of(alloc, words[0].as_str())?)),
+        Ask::Set => set_of(alloc, words[0].as_str(), words[1].as_str()),
+        Ask::Rename => {
+            let path = path_of(alloc, words[0].as_str())?;
+            let key = key_of(alloc, words[1].as_str())?;
+            one_edit(alloc, Edit::Rename(path, key))
         }
-        Chosen::Text(path) => {
-            let path = path_of(alloc, path.as_str())?;
-            Ok(Command::Text(path))
+        Ask::Remove => {
+            let path = path_of(alloc, words[0].as_str())?;
+            one_edit(alloc, Edit::Remove(path))
         }
-        Chosen::Set(path, value) => {
-            let path = path_of(alloc, path.as_str())?;
-            let value = value_of(alloc, value.as_str())?;
-            let Ok(edits) = vec![in alloc; Edit::Set(path, value)] else {
-                return Err(UseFault::Memory);
-            };
-            Ok(Command::Apply(edits))
+        Ask::Table => {
+            let keys = keys_of(alloc, words[0].as_str())?;
+            one_edit(alloc, Edit::Table(keys))
         }
+        Ask::Element => {
+            let keys = keys_of(alloc, words[0].as_str())?;
+            one_edit(alloc, Edit::Element(keys))
+        }
+    }
+}
+
+fn set_of(alloc: Global, path: &str, value: &str) -> Result<Command, UseFault>
+    ensures asked { MatchResult result (IsCommand Ask.Set (path.now ∷ value.now ∷ []))
+        (λ fault. (fault ≡ UseFault.Memory) ⊎ IsWordFault (Word.Path ∷ Word.Value ∷ []) (path.now ∷ value.now ∷ []) fault) }
+    ensures values { IfOk result HasOwnValues }
+{
+    let path = path_of(alloc, path)?;
+    let value = value_of(alloc, value)?;
+    one_edit(alloc, Edit::Set(path, value))
+}
+
+// The command of a single edit. The only error is out of memory.
+fn one_edit(alloc: Global, edit: Edit) -> Result<Command, UseFault>
+    ensures { MatchResult result (IsApplied edit) (λ fault. fault ≡ UseFault.Memory) }
+{
+    match vec![in alloc; edit] {
+        Ok(edits) => Ok(Command::Apply(edits)),
+        Err(_) => Err(UseFault::Memory),
     }
 }
 
@@ -86,5 +121,55 @@ fn value_of(alloc: Global, text: &str) -> Result<ValueText, UseFault>
         Ok(value) => Ok(value),
         Err(ReadFault::Memory) => Err(UseFault::Memory),
         Err(fault) => Err(UseFault::Value(fault)),
+    }
+}
+
+// The keys of a path without an index.
+fn keys_of(alloc: Global, text: &str) -> Result<Vec<String>, UseFault>
+    ensures { MatchResult result (λ keys. IsKeysText text.now (map string_bytes keys.items))
+        (λ fault. (fault ≡ UseFault.Memory) ⊎ IsKeysFault text.now fault) }
+{
+    let path = path_of(alloc, text)?;
+    if let Some(at) = Path::first_index(text) {
+        return Err(UseFault::Path { at });
+    }
+    match keys_in(alloc, &path) {
+        Ok(keys) => Ok(keys),
+        Err(AllocError) => Err(UseFault::Memory),
+    }
+}
+
+// The keys of a path, up to its first index.
+fn keys_in(alloc: Global, path: &Path) -> Result<Vec<String>, AllocError>
+    ensures { IfOk result (λ keys. AreKeys path.now → path.now ≡ map (λ text. key text) (map string_bytes keys.items)) }
+{
+    let mut keys = Vec::new(alloc);
+    for number in 0..path.len() {
+        let Some(text) = key_at(path, number) else {
+            return Ok(keys);
+        };
+        keys.push(String::from_str(alloc, text)?)?;
+    }
+    Ok(keys)
+}
+
+// The key at a place of a path; None where an index stands there, or nothing.
+fn key_at(path: &Path, number: usize) -> Option<&str>
+    ensures { option_map (λ text. text.now) result ≡ key_in (slice_get path.now number) }
+{
+    match path.step(number) {
+        Some(Step::Key(text)) => Some(text.as_str()),
+        Some(Step::Index(_)) => None,
+        None => None,
+    }
+}
+
+// A key is taken as it stands. The only error is out of memory.
+fn key_of(alloc: Global, text: &str) -> Result<String, UseFault>
+    ensures { MatchResult result (λ key. string_bytes key ≡ text.now) (λ fault. fault ≡ UseFault.Memory) }
+{
+    match String::from_str(alloc, text) {
+        Ok(key) => Ok(key),
+        Err(_) => Err(UseFault::Memory),
     }
 }

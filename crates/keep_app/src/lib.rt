@@ -9,4 +9,5 @@ pub mod fault;
 pub mod given;
 mod help;
 pub mod run;
+mod subcommand;
 mod words;

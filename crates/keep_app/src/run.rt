@@ -1,6 +1,8 @@
 //! Reads the input to its end, and writes the answer.
 ghost use Rattle.std.specs.Prelude.{◌≡◌, ◌+◌, ◌≤◌, ◌⊎◌, ◌↔◌, true, IfErr, IfOk, MatchResult, IsErrAnd, IsErrOf};
 ghost use Rattle.keep_app.specs.Counted.{IsFresh, has_failed, inner_of, turns_of};
+ghost use Rattle.keep_app.specs.Answer.{IsProfileFault};
+ghost use Rattle.keep_app.specs.Uses.{HasOwnValues};
 ghost use Rattle.keep_app.specs.Run.{HasWritten, LosesAtMost, ReadsAll, StopsRun, WritesAll, is_write};
 
 use crate::answer::answer;
@@ -34,7 +36,8 @@ pub struct Done {
 /// `Read` exactly where the input failed, with an error of any kind; `TooLong` where it is longer than `LONGEST_INPUT`:
 /// all below, and `Ok`, is about an input that is no longer. `Document` and `Edit` where that is the answer; `Write` exactly
 /// where the output failed or took nothing, with the bytes that it took before. `Memory` where a growth was refused, whatever
-/// the input. Only `Write` comes after a byte was written.
+/// the input. Only `Write` comes after a byte was written. The fault of an edit is never `Profile` where the edits' values are of
+/// the profile that the command reads in, as those of `command_of` are.
 pub fn run<R: Read, W: Write>(
     alloc: Global,
     command: &Command,
@@ -50,6 +53,7 @@ pub fn run<R: Read, W: Write>(
         (StopsRun command.now (R.remaining (inner_of input.old)) (W.contents (inner_of output.old)) (W.contents (inner_of output.new))) }
     ensures decided { IfErr result (λ fault. is_write fault ⊎ (turns_of output.new ≡ 0)) }
     ensures silent { IfOk result (λ done. done.written ≡ 0 → turns_of output.new ≡ 0) }
+    ensures profile { HasOwnValues command.now → IfErr result (λ fault. IsProfileFault fault → ⊥) }
     ensures input_failed { IsErrOf result RunFault.Read ↔ (has_failed input.new ≡ true) }
     ensures output_failed { IsErrAnd result is_write ↔ (has_failed output.new ≡ true) }
 {

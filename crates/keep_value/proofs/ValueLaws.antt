@@ -31,7 +31,7 @@ pub one_tree : (profile : Profile) (bytes : List ℕ) (v w : Value) → IsValueT
 one_tree profile bytes v w h k = one_value profile v w h.reads.valid k.reads.valid (sym h.reads.spelled ∙ k.reads.spelled)
 
 -- what is read in either profile is read in Wide
-in_wide : (profile : Profile) (bytes : List ℕ) (v : Value) → IsValueText profile limit bytes v → IsTextOfValue bytes v
+pub in_wide : (profile : Profile) (bytes : List ℕ) (v : Value) → IsValueText profile limit bytes v → IsTextOfValue bytes v
 in_wide Strict bytes v h = record { reads = reads_value_wider limit bytes v h.reads; obeys = h.obeys }
 in_wide Wide bytes v h = h
 

@@ -1,7 +1,7 @@
-use Rattle.std.proofs.Common.{ℕ, ◌≡◌, ◌+◌, ◌-◌, suc, ◌∙◌, sym, take, length, refl, subst, arith}
+use Rattle.std.proofs.Common.{ℕ, ◌≡◌, ◌+◌, ◌-◌, suc, sym, take, length, refl, subst, arith}
 use Rattle.std.specs.Prelude.{string_bytes}
 use Rattle.keep_edit.specs.Reading.{text_in}
-use Rattle.keep_app.proofs.AnswerLaws.{IsAfter, all_applied, none_yet, no_edit, last_edit, after_edit, edit_refused, set_done, text_told}
+use Rattle.keep_app.proofs.AnswerLaws.{IsAfter, all_applied, none_yet, no_edit, last_edit, after_edit, edit_refused, apply_done, text_told}
 use Rattle.keep_app.proofs.answer.applied.Goals as goal
 
 pub returns-then-is_empty : goal.returns-then-is_empty
@@ -13,27 +13,27 @@ loop-index-init c = λ s h. none_yet s c.args.document h
 
 pub returns-in-Err : goal.returns-in-Err
 returns-in-Err c = λ s h.
-    rw (c.of_edit.ensures) (edit_refused (set_done c.parts_of.result.0.now c.loop-index.changed c.set.new.self) c.args.document.profile c.args.edits.now c.loop-index.index c.index-edits-index.result c.parts_of.result.0.now c.parts_of.result.1.now c.loop-index.changed c.set.new.self s
-    (omega (arith, c.loop-index-test.true)) (sym c.index-edits-index.is ∙ c.parts_of.ensures) c.in-Err.ensures.value (c.loop-index.invariant s h) c.in-Err.fault c.in-Err.ensures.done)
+    rw (c.of_edit.ensures) (edit_refused (apply_done c.loop-index.changed c.apply.new.document) c.args.document.profile c.args.edits.now c.loop-index.index _ c.index-edits-index.result c.loop-index.changed c.apply.new.document s
+    (omega (arith, c.loop-index-test.true)) (sym c.index-edits-index.is) c.in-Err.ensures.edit (c.loop-index.invariant s h) c.in-Err.fault c.in-Err.ensures.done)
 
 pub loop-index-preserved : goal.loop-index-preserved
 loop-index-preserved c = λ s h.
-    let more = after_edit (set_done c.parts_of.result.0.now c.loop-index.changed c.set.new.self) c.args.document.profile c.args.edits.now c.loop-index.index c.index-edits-index.result c.parts_of.result.0.now c.parts_of.result.1.now c.loop-index.changed c.set.new.self s
-    (omega (arith, c.loop-index-test.true)) (sym c.index-edits-index.is ∙ c.parts_of.ensures) c.in-Ok.ensures.value (c.loop-index.invariant s h) c.in-Ok.field-0 (λ u v done. done.1) c.in-Ok.ensures.done in
+    let more = after_edit (apply_done c.loop-index.changed c.apply.new.document) c.args.document.profile c.args.edits.now c.loop-index.index _ c.index-edits-index.result c.loop-index.changed c.apply.new.document s
+    (omega (arith, c.loop-index-test.true)) (sym c.index-edits-index.is) c.in-Ok.ensures.edit (c.loop-index.invariant s h) c.in-Ok.field-0 (λ u e done. done.1) c.in-Ok.ensures.done in
     let one : suc c.loop-index.index ≡ c.loop-index.index + 1 = omega arith in
-    subst (λ (n : ℕ). IsAfter c.args.document.profile (take n c.args.edits.now) s c.set.new.self) one more
+    subst (λ (n : ℕ). IsAfter c.args.document.profile (take n c.args.edits.now) s c.apply.new.document) one more
 
 pub returns-in-Ok-text : goal.returns-in-Ok-text
 returns-in-Ok-text c = λ s h.
     let last : c.loop-index.index ≡ length c.args.edits.now - 1 = omega (arith, c.loop-index-test.false, c.loop-index.auto.index-end) in
     let before = subst (λ (n : ℕ). IsAfter c.args.document.profile (take n c.args.edits.now) s c.loop-index.changed) last (c.loop-index.invariant s h) in
-    let after = after_edit (text_told c.parts_of-2.result.0.now c.loop-index.changed) c.args.document.profile c.args.edits.now (length c.args.edits.now - 1) c.index-edits-last.result c.parts_of-2.result.0.now c.parts_of-2.result.1.now c.loop-index.changed (text_in c.loop-index.changed.profile (string_bytes c.in-Ok-text.text)) s
-    (last_edit c.args.edits.now c.if-is_empty.ensures) (sym c.index-edits-last.is ∙ c.parts_of-2.ensures) c.in-Ok-text.ensures.value before c.in-Ok-text.text (λ u v told. told) c.in-Ok-text.ensures.told in
+    let after = after_edit (text_told c.loop-index.changed) c.args.document.profile c.args.edits.now (length c.args.edits.now - 1) _ c.index-edits-last.result c.loop-index.changed (text_in c.loop-index.changed.profile (string_bytes c.in-Ok-text.text)) s
+    (last_edit c.args.edits.now c.if-is_empty.ensures) (sym c.index-edits-last.is) c.in-Ok-text.ensures.edit before c.in-Ok-text.text (λ u e told. told) c.in-Ok-text.ensures.told in
     all_applied c.args.document.profile c.args.edits.now (suc (length c.args.edits.now - 1)) s _ _ (omega arith) refl after
 
 pub returns-in-Err-text : goal.returns-in-Err-text
 returns-in-Err-text c = λ s h.
     let last : c.loop-index.index ≡ length c.args.edits.now - 1 = omega (arith, c.loop-index-test.false, c.loop-index.auto.index-end) in
     let before = subst (λ (n : ℕ). IsAfter c.args.document.profile (take n c.args.edits.now) s c.loop-index.changed) last (c.loop-index.invariant s h) in
-    rw (c.of_edit-in-Err-text.ensures) (edit_refused (text_told c.parts_of-2.result.0.now c.loop-index.changed) c.args.document.profile c.args.edits.now (length c.args.edits.now - 1) c.index-edits-last.result c.parts_of-2.result.0.now c.parts_of-2.result.1.now c.loop-index.changed c.loop-index.changed s
-    (last_edit c.args.edits.now c.if-is_empty.ensures) (sym c.index-edits-last.is ∙ c.parts_of-2.ensures) c.in-Err-text.ensures.value before c.in-Err-text.fault c.in-Err-text.ensures.told)
+    rw (c.of_edit-in-Err-text.ensures) (edit_refused (text_told c.loop-index.changed) c.args.document.profile c.args.edits.now (length c.args.edits.now - 1) _ c.index-edits-last.result c.loop-index.changed c.loop-index.changed s
+    (last_edit c.args.edits.now c.if-is_empty.ensures) (sym c.index-edits-last.is) c.in-Err-text.ensures.edit before c.in-Err-text.fault c.in-Err-text.ensures.told)

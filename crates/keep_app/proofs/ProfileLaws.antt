@@ -1,0 +1,139 @@
+-- Why no edit is refused for the profile of its value, where that is the profile of the document.
+use Rattle.std.proofs.Common.{◌≡◌, ◌⊎◌, ◌∙◌, ◌&&◌, ◌||◌, ℕ, zero, suc, Bool, true, false, not, List, [], ◌∷◌, take, Option, Some, None, refl, ap, subst, inl, inr, option_map}
+use Rattle.std.specs.Prelude.{◌==◌, string_bytes, Result, Ok, Err, IfErr, IsErrAnd}
+use Rattle.std.specs.List.{AllZip}
+use Rattle.keep_token.specs.declared.leaf.Profile.TheVariants.{Strict}
+use Rattle.keep_syntax.specs.Tree.{Document}
+use Rattle.keep_meaning.specs.Meaning.{said_in}
+use Rattle.keep_meaning.specs.Marks.{Mention, Statement, element_header, header, marks, statement_mentions}
+use Rattle.keep_syntax.specs.declared.fault.Why.{Why}
+use Rattle.keep_edit.specs.Headers.{key_texts}
+use Rattle.keep_meaning.specs.Nodes.{fact_at, is_node, is_root, mark_count}
+use Rattle.keep_path.specs.Path.{Part}
+use Rattle.keep_law.specs.declared.fault.EditFault.{EditFault}
+use Rattle.keep_law.specs.declared.fault.EditFault.TheVariants as fault
+use Rattle.keep_law.specs.Answers as answers
+use Rattle.keep_law.specs.Answers.{string_of, value_at, at_node, or_not_value, applied_from}
+use Rattle.keep_law.specs.Edits as law
+use Rattle.keep_law.specs.Edits.{edited_document}
+use Rattle.keep_law.specs.Refusals.{beside, end_reading, ends_in_index, first_conflict, is_empty, or_conflict, first_that_holds, has_value, is_foreign, is_one_piece, is_too_deep, refusal}
+use Rattle.keep_edit.specs.Reading.{limit, text_in}
+use Rattle.keep_edit.proofs.Shared.{strict_value}
+use Rattle.keep_app.specs.Answer.{IsEdit, IsEditRefusal, IsProfileFault, IsRefusal, profile_of}
+use Rattle.keep_app.specs.Uses.{AreStrict, HasOwnValues, IsStrictEdit}
+use Rattle.keep_app.specs.declared.command.Command.{Command}
+use Rattle.keep_app.specs.declared.command.Command.TheVariants as command
+use Rattle.keep_app.specs.declared.edit.Edit.{Edit}
+use Rattle.keep_app.specs.declared.edit.Edit.TheVariants as edit
+use Rattle.keep_app.specs.declared.fault.RunFault.{RunFault}
+use Rattle.keep_app.specs.declared.fault.RunFault.TheVariants as run
+
+-- the conditions that tell this fault do not hold
+abbrev NeverTells : EditFault → List (Bool × EditFault) → Type 0
+NeverTells f [] = Unit {0}
+NeverTells f (c ∷ cs) = (c.1 ≡ f → c.0 ≡ false) × NeverTells f cs
+
+never_first : (f : EditFault) (cs : List (Bool × EditFault)) → NeverTells f cs → first_that_holds cs ≡ Some f → ⊥
+never_first f [] never h = let no : None ≡ Some f = h in cc
+never_first f ((true, g) ∷ cs) never h = let same : Some g ≡ Some f = h in let no : true ≡ false = never.0 (let is : g ≡ f = cc in is) in cc
+never_first f ((false, g) ∷ cs) never h = never_first f cs never.1 h
+
+not_found : fault.NotFound ≡ fault.Profile → ⊥
+not_found bad = cc
+
+exists_not : fault.Exists ≡ fault.Profile → ⊥
+exists_not bad = cc
+
+not_value : fault.NotValue ≡ fault.Profile → ⊥
+not_value bad = cc
+
+not_key : fault.NotKey ≡ fault.Profile → ⊥
+not_key bad = cc
+
+scattered_not : fault.Scattered ≡ fault.Profile → ⊥
+scattered_not bad = cc
+
+too_deep_not : fault.TooDeep ≡ fault.Profile → ⊥
+too_deep_not bad = cc
+
+-- conditions that tell other faults
+never_three : (a b c : Bool) (f g h : EditFault) → (f ≡ fault.Profile → ⊥) → (g ≡ fault.Profile → ⊥) → (h ≡ fault.Profile → ⊥) → first_that_holds ((a, f) ∷ (b, g) ∷ (c, h) ∷ []) ≡ Some fault.Profile → ⊥
+never_three a b c f g h x y z = never_first fault.Profile ((a, f) ∷ (b, g) ∷ (c, h) ∷ []) ((λ e. absurd (x e)), ((λ e. absurd (y e)), ((λ e. absurd (z e)), tt)))
+
+never_four : (a b c d : Bool) (f g h i : EditFault) → (f ≡ fault.Profile → ⊥) → (g ≡ fault.Profile → ⊥) → (h ≡ fault.Profile → ⊥) → (i ≡ fault.Profile → d ≡ false)
+    → first_that_holds ((a, f) ∷ (b, g) ∷ (c, h) ∷ (d, i) ∷ []) ≡ Some fault.Profile → ⊥
+never_four a b c d f g h i x y z w = never_first fault.Profile ((a, f) ∷ (b, g) ∷ (c, h) ∷ (d, i) ∷ []) ((λ e. absurd (x e)), ((λ e. absurd (y e)), ((λ e. absurd (z e)), (w, tt))))
+
+tells_conflict : (o : Option Why) → option_map fault.Conflict o ≡ Some fault.Profile → ⊥
+tells_conflict None h = let no : ◌≡◌ {A = Option EditFault} None (Some fault.Profile) = h in cc
+tells_conflict (Some why) h = let no : Some (fault.Conflict why) ≡ Some fault.Profile = h in cc
+
+never_appended : (keys : List (List ℕ)) (statement : Statement) (ms : List Mention) → or_conflict (first_that_holds ((is_empty keys, fault.NotKey) ∷ [])) statement ms ≡ Some fault.Profile → ⊥
+never_appended [] statement ms h = let no : Some fault.NotKey ≡ Some fault.Profile = h in cc
+never_appended (k ∷ ks) statement ms h = tells_conflict (first_conflict (marks ms) (marks (statement_mentions (end_reading ms) statement))) h
+
+-- an edit whose value is of the profile
+never_refused : (e : Edit) (le : law.Edit) (s : Document) → IsStrictEdit e → IsEdit e le → refusal Strict limit s le ≡ Some fault.Profile → ⊥
+never_refused (edit.Set path value) le s strict (v, read, same) h =
+    never_four (not (is_node path (said_in s))) (not (has_value path (said_in s))) (is_too_deep limit path v (said_in s)) (is_foreign Strict v) fault.NotFound fault.NotValue fault.TooDeep fault.Profile not_found not_value too_deep_not (λ is. ap not (strict_value value v read strict)) (rw same at h)
+never_refused (edit.Rename path key) le s strict same h =
+    never_four (not (is_node path (said_in s))) ((not (is_root path) && not (ends_in_index path)) && is_node (beside path (string_bytes key)) (said_in s)) (is_root path || ends_in_index path) (not (mark_count path (said_in s) == 1)) fault.NotFound fault.Exists fault.NotKey fault.Scattered not_found exists_not not_key (λ is. absurd (scattered_not is)) (rw same at h)
+never_refused (edit.Remove path) le s strict same h =
+    never_three (not (is_node path (said_in s))) (is_root path) (not (is_one_piece path (said_in s))) fault.NotFound fault.NotKey fault.Scattered not_found not_key scattered_not (rw same at h)
+never_refused (edit.Table keys) le s strict same h = never_appended (key_texts keys.items) (header (key_texts keys.items)) (said_in s) (rw same at h)
+never_refused (edit.Element keys) le s strict same h = never_appended (key_texts keys.items) (element_header (key_texts keys.items)) (said_in s) (rw same at h)
+
+err_same : {T E : Type 0} (a b : E) → ◌≡◌ {A = Result T E} (Err a) (Err b) → a ≡ b
+err_same a b h = cc
+
+abbrev refused_as : ℕ → EditFault → answers.Refused
+refused_as n f = record { number = n; fault = f }
+
+never_applied : (edits : List Edit) (es : List law.Edit) (n k : ℕ) (s : Document) → AreStrict edits → AllZip IsEdit edits es → applied_from Strict limit n es s ≡ Err (refused_as k fault.Profile) → ⊥
+never_applied [] [] n k s strict are h = let no : Ok s ≡ Err (refused_as k fault.Profile) = h in cc
+never_applied [] (e ∷ es) n k s strict are h = absurd are
+never_applied (x ∷ xs) [] n k s strict are h = absurd are
+never_applied (x ∷ xs) (e ∷ es) n k s strict are h = by (refusal Strict limit s e) refl (never_applied xs es (suc n) k (edited_document s e) strict.1 are.1)
+  where
+    by : (o : Option EditFault) → refusal Strict limit s e ≡ o → (applied_from Strict limit (suc n) es (edited_document s e) ≡ Err (refused_as k fault.Profile) → ⊥) → ⊥
+    by None is more = more (rw (is, applied_from) at h)
+    by (Some f) is more =
+        let told : Err (refused_as n f) ≡ Err (refused_as k fault.Profile) = rw (is, applied_from) at h in
+        let same : f ≡ fault.Profile = ap (λ (r : answers.Refused). r.fault) (err_same (refused_as n f) (refused_as k fault.Profile) told) in
+        never_refused x e s strict.0 are.0 (is ∙ ap (λ (g : EditFault). Some g) same)
+
+strict_front : (n : ℕ) (edits : List Edit) → AreStrict edits → AreStrict (take n edits)
+strict_front zero edits h = tt
+strict_front (suc n) [] h = tt
+strict_front (suc n) (e ∷ es) h = (h.0, strict_front n es h.1)
+
+not_told : {A : Type 0} (found : Option A) → or_not_value found ≡ Err fault.Profile → ⊥
+not_told {A} None h = let no : ◌≡◌ {A = Result A EditFault} (Err fault.NotValue) (Err fault.Profile) = h in cc
+not_told (Some a) h = let no : Ok a ≡ Err fault.Profile = h in cc
+
+never_at : {A : Type 0} (path : List Part) (s : Document) (found : Option A) → at_node path s found ≡ Err fault.Profile → ⊥
+never_at {A} path s found h = by (is_node path (said_in s)) refl
+  where
+    by : (b : Bool) → is_node path (said_in s) ≡ b → ⊥
+    by true e = not_told found (rw (e, at_node) at h)
+    by false e = let no : ◌≡◌ {A = Result A EditFault} (Err fault.NotFound) (Err fault.Profile) = rw (e, at_node) at h in cc
+
+never_edit : (c : Command) (bytes : List ℕ) (n : ℕ) → HasOwnValues c → IsEditRefusal c (text_in (profile_of c) bytes) n fault.Profile → ⊥
+unfolding IsEditRefusal
+never_edit command.Check bytes n own h = absurd h
+never_edit command.CheckWide bytes n own h = absurd h
+never_edit command.List bytes n own h = absurd h
+never_edit (command.Get path) bytes n own (first, (s, read, got)) = never_at path s (value_at path s) got
+never_edit (command.Text path) bytes n own (first, (s, read, got)) = never_at path s (string_of (fact_at path (said_in s))) got
+never_edit (command.Apply edits) bytes n own (s, read, (es, are, refused)) = never_applied (take (suc n) edits.items) es 0 n s (strict_front (suc n) edits.items own) are refused
+
+-- no command is refused so
+pub never_profile : (c : Command) (bytes : List ℕ) (f : RunFault) → HasOwnValues c → (f ≡ run.Memory) ⊎ IsRefusal c (text_in (profile_of c) bytes) f → IsProfileFault f → ⊥
+never_profile c bytes (run.Edit n fault.Profile) own (inl memory) is = let no : run.Edit n fault.Profile ≡ run.Memory = memory in cc
+never_profile c bytes (run.Edit n fault.Profile) own (inr refusal) is = never_edit c bytes n own refusal
+never_profile c bytes f own told is = absurd is
+
+-- what `?` passes up
+pub passed_up : {T : Type 0} (r : Result T RunFault) (f : RunFault) → IsErrAnd r (λ e. e ≡ f) → (IsProfileFault f → ⊥) → IfErr r (λ e. IsProfileFault e → ⊥)
+passed_up (Ok x) f is never = absurd is
+passed_up (Err e) f is never = λ told. never (subst IsProfileFault is told)

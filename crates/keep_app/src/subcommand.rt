@@ -1,0 +1,55 @@
+//! The table of subcommands. What `clap` is told, what the words ask for by the definitions, and what help shows are all read
+//! off it.
+use crate::help;
+use crate::help::Help;
+
+/// What a subcommand asks.
+#[derive(Clone, Copy)]
+pub enum Ask {
+    Check,
+    CheckWide,
+    List,
+    Get,
+    Text,
+    Set,
+    Rename,
+    Remove,
+    Table,
+    Element,
+}
+
+/// What a word of a subcommand is.
+#[derive(Clone, Copy)]
+pub enum Word {
+    /// A path's text.
+    Path,
+    /// A value's text.
+    Value,
+    /// A key, as plain text.
+    Key,
+    /// The text of a path without an index.
+    Keys,
+}
+
+/// A row: the subcommand's name, what it asks, what its words are in their order, and what help says of it. A subcommand has at
+/// most two words. (A struct with references has no name in definitions, so this is a tuple.)
+pub type Subcommand = (&'static str, Ask, &'static [Word], Help);
+
+/// All subcommands. The definitions cite it.
+pub const SUBCOMMANDS: [Subcommand; 10] = [
+    ("check", Ask::Check, &[], help::CHECK),
+    ("check-wide", Ask::CheckWide, &[], help::CHECK_WIDE),
+    ("list", Ask::List, &[], help::LIST),
+    ("get", Ask::Get, &[Word::Path], help::GET),
+    ("text", Ask::Text, &[Word::Path], help::TEXT),
+    ("set", Ask::Set, &[Word::Path, Word::Value], help::SET),
+    (
+        "rename",
+        Ask::Rename,
+        &[Word::Path, Word::Key],
+        help::RENAME,
+    ),
+    ("remove", Ask::Remove, &[Word::Path], help::REMOVE),
+    ("table", Ask::Table, &[Word::Keys], help::TABLE),
+    ("element", Ask::Element, &[Word::Keys], help::ELEMENT),
+];
