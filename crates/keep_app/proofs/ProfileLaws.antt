@@ -18,7 +18,7 @@ use Rattle.keep_law.specs.Edits as law
 use Rattle.keep_law.specs.Edits.{edited_document}
 use Rattle.keep_law.specs.Refusals.{beside, end_reading, ends_in_index, first_conflict, is_empty, or_conflict, first_that_holds, has_value, is_foreign, is_one_piece, is_too_deep, refusal}
 use Rattle.keep_edit.specs.Reading.{limit, text_in}
-use Rattle.keep_edit.proofs.Shared.{strict_value}
+use Rattle.keep_value.proofs.Shared.{strict_value}
 use Rattle.keep_app.specs.Answer.{IsEdit, IsEditRefusal, IsProfileFault, IsRefusal, profile_of}
 use Rattle.keep_app.specs.Uses.{AreStrict, HasOwnValues, IsStrictEdit}
 use Rattle.keep_app.specs.declared.command.Command.{Command}

@@ -12,7 +12,6 @@ pub mod NewlineLaws
 pub mod RemoveNode
 pub mod RemoveSteps
 pub mod RemoveCut
-pub mod Shared
 pub mod HeaderLaws
 pub mod AppendLaws
 pub mod AppendDone

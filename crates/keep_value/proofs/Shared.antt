@@ -5,8 +5,8 @@ use Rattle.keep_syntax.specs.Tree.{Value}
 use Rattle.keep_syntax.specs.Grammar.{IsValue}
 use Rattle.keep_syntax.specs.Profiles.{is_allowed_in}
 use Rattle.keep_syntax.proofs.ProfileTest.{value_allowed}
-use Rattle.keep_edit.specs.Reading.{IsTextOfValue, IsAcceptedValue}
-use Rattle.keep_edit.proofs.ValueLaws.{in_wide, one_tree}
+use Rattle.keep_value.specs.ValueTexts.{IsTextOfValue, IsAcceptedValue}
+use Rattle.keep_value.proofs.ValueLaws.{in_wide, one_tree}
 
 -- the value of a text that Strict accepts is of Strict's grammar
 pub strict_value : (bytes : List ℕ) (v : Value) → IsTextOfValue bytes v → IsAcceptedValue Strict bytes → is_allowed_in Strict v ≡ true
