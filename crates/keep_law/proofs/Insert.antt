@@ -28,3 +28,4 @@ pub mod BracesPlace
 pub mod BracesStops
 pub mod BracesLaw
 pub mod InsertBraces
+pub mod HolderFacts
