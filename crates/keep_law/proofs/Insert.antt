@@ -29,3 +29,4 @@ pub mod BracesStops
 pub mod BracesLaw
 pub mod InsertBraces
 pub mod HolderFacts
+pub mod ItemNumbers
