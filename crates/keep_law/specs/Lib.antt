@@ -8,3 +8,4 @@ pub mod Trees
 pub mod Answers
 pub mod Laws
 pub mod Removal
+pub mod Insertion
