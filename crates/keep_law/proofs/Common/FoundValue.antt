@@ -475,7 +475,7 @@ tag_valued : (name : Option Name) (f : Fact) → is_value (tag_of name f) ≡ tr
 tag_valued None f = refl
 tag_valued (Some name) f = refl
 
-valued-entry : (n : ℕ) (name : Option Name) (f : Fact) (inside : List Mention) → valued (entry_mentions n name f inside) ≡ suc (valued inside)
+pub valued-entry : (n : ℕ) (name : Option Name) (f : Fact) (inside : List Mention) → valued (entry_mentions n name f inside) ≡ suc (valued inside)
 valued-entry n name f inside =
     sym (length-sayings (entry_mentions n name f inside)) ∙ ap (λ (l : List Saying). length l) (sayings-entry n name f inside) ∙ ap suc (length-sayings inside)
 
@@ -492,7 +492,7 @@ rest_apart n name f inside rest rules q s =
     let (more, e) = alone_named n name f inside q s in
     subst (λ (x : List Part). AllOf (IsApart x) (entries_said (n + 1) rest)) (sym e) (apart_from_entry n name f inside rest more rules)
 
-front_ends : (at : ℕ) (name : Option Name) (body : Body) (inside : Entries) (after : Gap) (comma : Option Gap)
+pub front_ends : (at : ℕ) (name : Option Name) (body : Body) (inside : Entries) (after : Gap) (comma : Option Gap)
     → at + length (entry_front name body inside ++ (text_of after ++ text_of (comma_leaves comma))) ≡ syntax.entry_end at name body inside after comma
 front_ends at name body inside after comma =
     let a : List ℕ = text_of (named_leaves name) in
