@@ -30,3 +30,5 @@ pub mod BracesLaw
 pub mod InsertBraces
 pub mod FoundThere
 pub mod EntryPlaces
+pub mod EntryThere
+pub mod ItemPlaces

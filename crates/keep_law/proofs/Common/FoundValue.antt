@@ -83,12 +83,12 @@ alone_here earlier later ms m said tells =
     subst (SomeOf (IsAloneAt m.path)) (sym said) (some_right (IsAloneAt m.path) earlier (m ∷ later) (inl (record { path = refl; says = value_is_exclusive m.says tells })))
 
 -- seen from where the path begins
-record IsAloneBeyond (p q : List Part) (ms : List Mention) : Type 0 where
-  more : List Part
-  whole : q ≡ p ++ more
-  alone : SomeOf (IsAloneAt more) ms
+pub record IsAloneBeyond (p q : List Part) (ms : List Mention) : Type 0 where
+  pub more : List Part
+  pub whole : q ≡ p ++ more
+  pub alone : SomeOf (IsAloneAt more) ms
 
-alone_beyond : (p q : List Part) (ms : List Mention) → SomeOf (IsAloneAt q) (map (below p) ms) → IsAloneBeyond p q ms
+pub alone_beyond : (p q : List Part) (ms : List Mention) → SomeOf (IsAloneAt q) (map (below p) ms) → IsAloneBeyond p q ms
 alone_beyond p q [] s = absurd s
 alone_beyond p q (m ∷ ms) (inl a) = record { more = m.path; whole = sym a.path; alone = inl (record { path = refl; says = a.says }) }
 alone_beyond p q (m ∷ ms) (inr s) = let h = alone_beyond p q ms s in record { more = h.more; whole = h.whole; alone = inr h.alone }
@@ -109,7 +109,7 @@ never_shared : (q : List Part) (ms : List Mention) → AllOf Shared ms → SomeO
 never_shared q ms h s = let (m, alone, shared) = meet (IsAloneAt q) Shared ms s h in let k : true ≡ false = sym alone.says ∙ shared in absurd cc
 
 -- at or under an entry's step
-alone_named : (n : ℕ) (name : Option Name) (f : Fact) (inside : List Mention) (q : List Part) → SomeOf (IsAloneAt q) (entry_mentions n name f inside) → (more : List Part) × (q ≡ step n name ++ more)
+pub alone_named : (n : ℕ) (name : Option Name) (f : Fact) (inside : List Mention) (q : List Part) → SomeOf (IsAloneAt q) (entry_mentions n name f inside) → (more : List Part) × (q ≡ step n name ++ more)
 alone_named n None f inside q s = let h = alone_beyond (index n ∷ []) q (valued_mentions (item f) inside) s in (h.more, h.whole)
 alone_named n (Some name) f inside q s =
     let p : List Part = map key (keys_of name.key) in
