@@ -28,3 +28,5 @@ pub mod BracesPlace
 pub mod BracesStops
 pub mod BracesLaw
 pub mod InsertBraces
+pub mod LinesPut
+pub mod LineBefore
