@@ -30,3 +30,5 @@ pub mod BracesLaw
 pub mod InsertBraces
 pub mod LinesPut
 pub mod LineBefore
+pub mod BodyPlaces
+pub mod Origins
