@@ -32,3 +32,4 @@ pub mod LinesPut
 pub mod LineBefore
 pub mod BodyPlaces
 pub mod Origins
+pub mod InsertPlaces

@@ -130,7 +130,7 @@ through_content a r before after comment (keyval name v) s =
 through_content a r before after comment (header b k x) s = some_has is_through a _ s
 through_content a r before after comment (element b k x) s = some_has is_through a _ s
 
-through_lines : (a : List Part) (r : Reading) (ls : List Line) → SomeOf (IsSaid is_through a) (lines_said r ls) → IsSome (last_line (goes_through a) r ls)
+pub through_lines : (a : List Part) (r : Reading) (ls : List Line) → SomeOf (IsSaid is_through a) (lines_said r ls) → IsSome (last_line (goes_through a) r ls)
 through_lines a r [] s = absurd s
 through_lines a r (l ∷ ls) s = elim (some_cases (IsSaid is_through a) (line_said r l) (lines_said (behind_line r l) ls) s) [
   | inl h ↦ some_here (goes_through a) r l ls (through_content a r l.before l.after l.comment l.content h)
