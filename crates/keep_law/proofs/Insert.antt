@@ -33,3 +33,5 @@ pub mod LineBefore
 pub mod BodyPlaces
 pub mod Origins
 pub mod InsertPlaces
+pub mod DottedBase
+pub mod OneBase
