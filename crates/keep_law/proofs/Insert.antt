@@ -30,3 +30,14 @@ pub mod BracesLaw
 pub mod InsertBraces
 pub mod HolderFacts
 pub mod ItemNumbers
+pub mod FoundThere
+pub mod EntryPlaces
+pub mod EntryThere
+pub mod ItemPlaces
+pub mod LinesPut
+pub mod LineBefore
+pub mod BodyPlaces
+pub mod Origins
+pub mod InsertPlaces
+pub mod DottedBase
+pub mod OneBase

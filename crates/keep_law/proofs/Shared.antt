@@ -3,6 +3,7 @@ pub use Rattle.keep_law.proofs.Common.Runs.{AllOf, Allowed, Pairs, Rules, SomeOf
 pub use Rattle.keep_law.proofs.Common.LineLaws.{EndsInKey}
 pub use Rattle.keep_law.proofs.Common.SetLaw.{IsAloneAt}
 pub use Rattle.keep_law.proofs.Remove.RemovePlace.{IsComma, IsEdged, IsInside, IsValueAt, same_place}
+pub use Rattle.keep_law.proofs.Common.LineEnds.{IsClosed, ended_ends, ends_at, ends_behind, line_quiet, line_some, quiet_append, value_closed}
 pub use Rattle.keep_law.proofs.Rename.RenameNumber.{IsKeyRenamed, marks_told, rename_place_is, rename_placed}
 pub use Rattle.keep_law.proofs.Remove.RemoveLinePlace.{IsLow, is_high}
 pub use Rattle.keep_law.proofs.Remove.RemovePlaces.{IsPlaced, IsRemoved, removed}

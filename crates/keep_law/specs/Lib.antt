@@ -9,3 +9,4 @@ pub mod Answers
 pub mod Laws
 pub mod Removal
 pub mod Insertion
+pub mod TextEnds

@@ -19,7 +19,7 @@ use Rattle.keep_law.proofs.Common.ValueThere.{alone_of_fact}
 use Rattle.keep_law.proofs.Common.DoneAtValue.{value_fact-body}
 use Rattle.keep_law.proofs.Insert.DoneThere.{IsDoneThere}
 use Rattle.keep_law.proofs.Insert.PutIn.{size}
-use Rattle.keep_law.proofs.Insert.ItemCount.{item_count_is}
+use Rattle.keep_law.proofs.Insert.ItemCount.{item_count_few, item_count_many}
 use Rattle.keep_law.proofs.Insert.ItemThere.{is_array, entries_of, never_whole, put_there}
 use Rattle.keep_law.specs.Values.{put_item}
 
@@ -82,7 +82,13 @@ items_numbered profile s a given valid rules good at =
     let d : IsDoneThere profile is_array (put_item given) (index 0 ∷ []) a s = put_there profile s a given 0 valid rules good at in
     let entries : AreEntries profile in_array d.old.inside = entries_of profile d.old.body d.old.inside d.fit d.old_valid in
     let root : a ≡ [] → ⊥ = λ e. never_whole s (subst (λ (x : List Part). SomeOf (IsAloneAt x) (said_in s)) e (alone_of_fact a (said_in s) fact.array at refl)) in
-    let count : item_count a (said_in s) ≡ size d.old.inside = ap (item_count a) d.was ∙ item_count_is profile a d.before d.behind (d.tag (body_fact d.old.body)) d.old.inside root entries d.apart_before d.apart_behind in
+    let count : item_count a (said_in s) ≡ size d.old.inside =
+    omega (
+      arith,
+      ap (item_count a) d.was,
+      item_count_few profile a d.before d.behind (d.tag (body_fact d.old.body)) d.old.inside root entries d.apart_before d.apart_behind,
+      item_count_many profile a d.before d.behind (d.tag (body_fact d.old.body)) d.old.inside entries,
+    ) in
     record {
       below_count = λ n h.
           let (f, there, v) = (numbered profile n 0 d.old.inside entries (omega arith)).there (omega (arith, h, count)) in
