@@ -14,3 +14,4 @@ pub mod RemoveSteps
 pub mod RemoveCut
 pub mod HolderLaws
 pub mod RootLaws
+pub mod AimLaws

@@ -94,10 +94,12 @@ impl Document {
         let Some(Step::Index(number)) = path.step(holder.len) else {
             return None;
         };
-        if holder.len + 1 == path.len() && self.index.node(holder.id).kind == Kind::Array {
-            Some(*number)
-        } else {
-            None
+        if path.len() - holder.len > 1 {
+            return None;
+        }
+        match self.index.node(holder.id).kind {
+            Kind::Array => Some(*number),
+            _ => None,
         }
     }
 

@@ -30,6 +30,7 @@ pub mod BracesLaw
 pub mod InsertBraces
 pub mod HolderFacts
 pub mod ItemNumbers
+pub mod OriginSaid
 pub mod FoundThere
 pub mod EntryPlaces
 pub mod EntryThere
