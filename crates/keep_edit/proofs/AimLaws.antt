@@ -57,7 +57,7 @@ without_last-take : (p : Part) (ps : List Part) → without_last (p ∷ ps) ≡ 
 without_last-take p [] = refl
 without_last-take p (q ∷ ps) = ap (λ (l : List Part). p ∷ l) (without_last-take q ps)
 
-without_last-is : (path : List Part) → 0 < length path → without_last path ≡ take (length path - 1) path
+pub without_last-is : (path : List Part) → 0 < length path → without_last path ≡ take (length path - 1) path
 without_last-is [] h = absurd (omega (arith, h))
 without_last-is (p ∷ ps) h = without_last-take p ps ∙ ap (λ (n : ℕ). take n (p ∷ ps)) (let e : length ps ≡ length (p ∷ ps) - 1 = omega arith in e)
 

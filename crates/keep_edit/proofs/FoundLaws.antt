@@ -125,7 +125,7 @@ span_is d path s number info read of =
     }
 
 module _ (d : ProfiledText) (syntax : Syntax) (index : Telling) (path : List Part) (s : Document) (number : ℕ) (holds : Holds d syntax index) (read : IsTextOfTree d s) (found : value_number_of path s ≡ Some number) where
-  values_are : values_of syntax ≡ numbered.values s
+  pub values_are : values_of syntax ≡ numbered.values s
   values_are = holds.is.values ∙ ap numbered.values (tree_is d syntax index s holds read)
 
   pub value_inside : number < length (values_of syntax)

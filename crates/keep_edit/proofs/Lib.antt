@@ -16,3 +16,5 @@ pub mod HolderLaws
 pub mod RootLaws
 pub mod AimLaws
 pub mod KeyvalSteps
+pub mod KeyvalSpots
+pub mod InsertionLaws

@@ -155,13 +155,10 @@ impl Document {
                     Ok(Spot::BehindLine(value))
                 }
             }
-            Place::Value(value) => {
-                if node.kind == Kind::Inline {
-                    Ok(braces_spot(&self.syntax, value))
-                } else {
-                    Err(EditFault::NotTable)
-                }
-            }
+            Place::Value(value) => match node.kind {
+                Kind::Inline => Ok(braces_spot(&self.syntax, value)),
+                _ => Err(EditFault::NotTable),
+            },
             Place::Tables => Err(EditFault::NotTable),
         }
     }
