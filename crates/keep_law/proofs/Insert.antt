@@ -35,3 +35,4 @@ pub mod Origins
 pub mod InsertPlaces
 pub mod DottedBase
 pub mod OneBase
+pub mod DottedPlace
