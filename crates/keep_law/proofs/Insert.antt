@@ -36,3 +36,4 @@ pub mod InsertPlaces
 pub mod DottedBase
 pub mod OneBase
 pub mod DottedPlace
+pub mod InsertDottedPlace

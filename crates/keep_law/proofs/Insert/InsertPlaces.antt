@@ -43,11 +43,11 @@ end_behind : (s : Document) (a : List Part) (i : ℕ) → (a ≡ [] → ⊥) →
 end_behind s [] i some e = absurd (some refl)
 end_behind s (p ∷ ps) i some e = ap (λ (o : Option ℕ). elim o [ None ↦ None | Some i ↦ Some (line_end i (lines s)) ]) e
 
-no_end : (s : Document) (a : List Part) → (a ≡ [] → ⊥) → last_line (begins a) start (lines s) ≡ None → end_of s a ≡ None
+pub no_end : (s : Document) (a : List Part) → (a ≡ [] → ⊥) → last_line (begins a) start (lines s) ≡ None → end_of s a ≡ None
 no_end s [] some e = absurd (some refl)
 no_end s (p ∷ ps) some e = ap (λ (o : Option ℕ). elim o [ None ↦ None | Some i ↦ Some (line_end i (lines s)) ]) e
 
-none_of : {A : Type 0} (o : Option A) → ((x : A) → o ≡ Some x → ⊥) → o ≡ None
+pub none_of : {A : Type 0} (o : Option A) → ((x : A) → o ≡ Some x → ⊥) → o ≡ None
 none_of None h = refl
 none_of (Some x) h = absurd (h x refl)
 

@@ -143,7 +143,7 @@ through_from None None None None None (Some i) n h = let same : i ≡ n = cc in 
 through_from None None None None None None n h = absurd cc
 
 -- where no value, no header and no element is told of, but a dotted key is
-dotted_first : (a b c d e f : Option ℕ) (n : ℕ) → a ≡ None → b ≡ None → c ≡ None → d ≡ None → e ≡ Some n → origin_from a b c d e f ≡ origin.Dotted n
+pub dotted_first : (a b c d e f : Option ℕ) (n : ℕ) → a ≡ None → b ≡ None → c ≡ None → d ≡ None → e ≡ Some n → origin_from a b c d e f ≡ origin.Dotted n
 dotted_first a b c d e f n ha hb hc hd he = rw (ha, hb, hc, hd, he) refl
 
 -- ---- of a document's node
@@ -151,7 +151,7 @@ dotted_first a b c d e f n ha hb hc hd he = rw (ha, hb, hc, hd, he) refl
 abbrev pub origin_at : List Part → Document → Place
 origin_at path s = place_said (numbered_at path (numbered_in s))
 
-abbrev told : (Saying → Bool) → (Count → ℕ) → List Part → Document → Option ℕ
+abbrev pub told : (Saying → Bool) → (Count → ℕ) → List Part → Document → Option ℕ
 told is number path s = last_number is number (numbered_at path (numbered_in s))
 
 -- a header defines the table, or begins the element
