@@ -1,7 +1,7 @@
 -- Where a path is gone on from by dots, on lines: the number of its last such keyval, and where that keyval's line ends.
 --
 -- Theorem: `dotted_at`.
-use Rattle.std.proofs.Common.{◌≡◌, ℕ, suc, ◌+◌, Bool, true, false, List, [], ◌∷◌, ◌++◌, length, map, take, slice_get, refl, sym, ap, subst, ◌∙◌, append_assoc, length-append, arith, Option, Some, None, ◌⊎◌, inl, inr}
+use Rattle.std.proofs.Common.{◌≡◌, ℕ, suc, Bool, true, false, List, [], ◌∷◌, ◌++◌, length, map, take, slice_get, refl, sym, ap, subst, ◌∙◌, append_assoc, length-append, arith, Option, Some, None, ◌⊎◌, inl, inr}
 use Rattle.std.proofs.lemmas.List.{map-append, append-nil}
 use Rattle.keep_syntax.specs.declared.info.Owner.TheVariants as owner
 use Rattle.keep_syntax.specs.declared.info.Statement.{Statement}
@@ -16,19 +16,18 @@ use Rattle.keep_meaning.specs.Counts.{is_value, numbered_in}
 use Rattle.keep_meaning.specs.Nodes.{is_at, numbered_at, last_number, value_number, is_dotted}
 use Rattle.keep_meaning.proofs.Shared.{valued, valued-append, valued-below, valued-keyed}
 use Rattle.keep_law.specs.Lines.{last_line, goes_dotted, ended_text}
-use Rattle.keep_law.proofs.Common.Runs.{AllOf, SomeOf, Rules, all_join, some_left, some_right, same_path-sound, same_path-refl}
+use Rattle.keep_law.proofs.Common.Runs.{AllOf, SomeOf, Rules, all_join, same_path-sound, same_path-refl}
 use Rattle.keep_law.proofs.Common.Doubles.{IsSaid, has_some}
 use Rattle.keep_law.proofs.Common.LineLaws.{lines_said-append}
 use Rattle.keep_law.proofs.Common.SetDocument.{said_of}
 use Rattle.keep_law.proofs.Common.SetLaw.{keyed_split}
 use Rattle.keep_law.proofs.Common.Stops.{some_unbelow}
 use Rattle.keep_law.proofs.Common.ValueNumber.{NoneAt, number_of_value, number_of_last, false_unless}
-use Rattle.keep_law.proofs.Common.ValueThere.{IsSome}
 use Rattle.keep_law.proofs.Remove.RemoveLinePlace.{head_line, tail_lines, head_text, lines_split, IsPageLine, page_line, IsOwnLine, IsLineValue, line_value}
 use Rattle.keep_law.proofs.Remove.RemoveSectionPlace.{none_some}
 use Rattle.keep_law.proofs.Insert.DottedBase.{IsDottedIn, in_left, in_right, in_below, deep_in, inside_keyval, dotted_where}
 use Rattle.keep_law.proofs.Insert.LineBefore.{says_something, IsLineBefore}
-use Rattle.keep_law.proofs.Insert.LinesPut.{front_of, bom_width, line_begins, front_past, front_one}
+use Rattle.keep_law.proofs.Insert.LinesPut.{front_of, line_begins, front_past, front_one}
 use Rattle.keep_law.proofs.Insert.OneBase.{IsLineBase, line_base, not_in_braces}
 
 -- ---- the last that is said

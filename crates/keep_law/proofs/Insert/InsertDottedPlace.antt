@@ -1,23 +1,23 @@
 -- Where `insert` writes a line, where keyvals on lines go on from the holder by dots: told by the origins of the holder's fronts.
 --
 -- Theorem: `dotted_placed`.
-use Rattle.std.proofs.Common.{◌≡◌, ℕ, zero, suc, ◌+◌, ◌-◌, ◌<◌, ◌≤◌, Bool, List, [], ◌∷◌, ◌++◌, length, map, take, drop, slice_get, refl, sym, ap, subst, ◌∙◌, append_assoc, length-append, arith, Option, Some, None, ◌⊎◌, inl, inr}
+use Rattle.std.proofs.Common.{◌≡◌, ℕ, zero, suc, ◌+◌, ◌-◌, ◌<◌, ◌≤◌, List, [], ◌∷◌, ◌++◌, length, map, take, drop, slice_get, refl, sym, ap, subst, ◌∙◌, append_assoc, length-append, arith, Option, Some, None, inl, inr}
 use Rattle.std.proofs.lemmas.Bool.{cases_lt}
 use Rattle.std.proofs.lemmas.List.{length-map, take-append-drop}
 use Rattle.keep_token.specs.declared.leaf.Profile.{Profile}
 use Rattle.keep_syntax.specs.declared.info.Owner.TheVariants as owner
 use Rattle.keep_syntax.specs.declared.info.Statement.{Statement}
 use Rattle.keep_syntax.specs.declared.info.ValueInfo.{ValueInfo}
-use Rattle.keep_syntax.specs.Tree.{Value, Content, keyval, Document, text}
+use Rattle.keep_syntax.specs.Tree.{Value, keyval, Document, text}
 use Rattle.keep_syntax.specs.Grammar.{IsDocument}
 use Rattle.keep_syntax.specs.Numbered as syntax
 use Rattle.keep_path.specs.Path.{Part, key}
 use Rattle.keep_meaning.specs.declared.node.Place.TheVariants as origin
-use Rattle.keep_meaning.specs.Marks.{Mention, start}
+use Rattle.keep_meaning.specs.Marks.{start}
 use Rattle.keep_meaning.specs.Meaning.{lines, said_in}
 use Rattle.keep_meaning.specs.Counts.{is_value, numbered_in}
 use Rattle.keep_meaning.specs.Nodes.{numbered_at, last_number, statement_number, value_number, is_define, is_begun, is_dotted, is_element, is_through}
-use Rattle.keep_law.specs.Edits.{insert, change, place, at_line, end_of, name_with}
+use Rattle.keep_law.specs.Edits.{insert, at_line, name_with}
 use Rattle.keep_law.specs.Insertion.{line_at}
 use Rattle.keep_law.specs.Lines.{newline_of, last_line, begins, goes_dotted, reading_at}
 use Rattle.keep_law.specs.Look.{holder, item_number, keys_in}
@@ -25,16 +25,16 @@ use Rattle.keep_law.specs.Refusals.{refusal}
 use Rattle.keep_law.proofs.Common.Runs.{SomeOf, Rules}
 use Rattle.keep_law.proofs.Common.Doubles.{IsSaid}
 use Rattle.keep_law.proofs.Common.LineLaws.{EndsInKey}
-use Rattle.keep_law.proofs.Common.ValueThere.{IsSome, the_some}
+use Rattle.keep_law.proofs.Common.ValueThere.{the_some}
 use Rattle.keep_law.proofs.Insert.BodyPlaces.{headed_at}
 use Rattle.keep_law.proofs.Insert.DottedBase.{IsDottedFrom, IsDottedIn, dotted_where}
 use Rattle.keep_law.proofs.Insert.DottedPlace.{IsDottedAt, dotted_at}
 use Rattle.keep_law.proofs.Insert.InsertDotted.{change_there}
 use Rattle.keep_law.proofs.Insert.InsertPlaces.{no_end, none_of}
-use Rattle.keep_law.proofs.Insert.LineBefore.{open_before, line_placed}
+use Rattle.keep_law.proofs.Insert.LineBefore.{IsLowPlace, low_place, open_before, line_placed}
 use Rattle.keep_law.proofs.Insert.LinesPut.{bom_width, line_begins}
 use Rattle.keep_law.proofs.Insert.NewPath.{IsNewPath, new_path, drop_front_parts}
-use Rattle.keep_law.proofs.Insert.OneBase.{IsBody, IsLineBase, no_value, no_define, no_element, no_begun, body_no_dots}
+use Rattle.keep_law.proofs.Insert.OneBase.{IsBody, no_value, no_define, no_element, no_begun, body_no_dots}
 use Rattle.keep_law.proofs.Insert.Origins.{origin_at, told, IsDottedNode, dotted_node, dotted_ends, dotted_first, said_of_number, unsaid_of_none, no_root}
 use Rattle.keep_law.proofs.Remove.RemoveSectionPlace.{IsHeaded}
 
@@ -51,8 +51,8 @@ dotted_origin x s rules dots = by (told is_dotted value_number x s) refl
     by (Some n) e = (
       n,
       dotted_first (told is_value value_number x s) (told is_element statement_number x s) (told is_begun statement_number x s) (told is_define statement_number x s) (told is_dotted value_number x s) (told is_through statement_number x s) n
-      (never is_value value_number (no_value x s rules dots)) (never is_element statement_number (no_element x s rules dots)) (never is_begun statement_number (no_begun x s rules dots))
-      (never is_define statement_number (no_define x s rules dots)) e,
+          (never is_value value_number (no_value x s rules dots)) (never is_element statement_number (no_element x s rules dots)) (never is_begun statement_number (no_begun x s rules dots))
+          (never is_define statement_number (no_define x s rules dots)) e,
     )
 
 -- ---- the base, by origins
@@ -125,10 +125,10 @@ pub record IsDottedPlaced (s : Document) (path : List Part) (v : Value) (from nu
   pub owned : own.owner ≡ owner.Line line
   pub statement : Statement
   pub there : slice_get (syntax.statements s) line ≡ Some statement
-  pub placed : place s (insert path v) ≡ line_at (text s) (newline_of s).text (bom_width s) statement.line.end (keys_in (drop from path)) v
+  pub placed : IsLowPlace s (insert path v) (line_at (text s) (newline_of s).text (bom_width s) statement.line.end (keys_in (drop from path)) v)
 
 module _ (profile : Profile) (limit : ℕ) (s : Document) (path : List Part) (v : Value) (valid : IsDocument profile s) (rules : Rules (said_in s)) (no_item : item_number path (said_in s) ≡ None)
-  (allowed : refusal profile limit s (insert path v) ≡ None) where
+    (allowed : refusal profile limit s (insert path v) ≡ None) where
   abbrev a : List Part
   a = holder path (said_in s)
 
@@ -158,11 +158,12 @@ module _ (profile : Profile) (limit : ℕ) (s : Document) (path : List Part) (v 
         owned = d.owned;
         statement = d.statement;
         there = d.there;
-        placed = line_placed s (insert path v) (suc i) d.base.from.first (keys_in rest) v (open_before profile s (suc i) valid d.before)
+        placed = low_place profile s (insert path v) (line_at (text s) (newline_of s).text (bom_width s) d.statement.line.end (keys_in (drop from path)) v) (suc i) valid
+            (line_placed s (insert path v) (suc i) d.base.from.first (keys_in rest) v (open_before profile s (suc i) valid d.before)
             (change_there s path v i no_item (no_end s a (λ e. no_root (subst EndsInKey e ends)) begun) found
             ∙ ap (λ (l : List (List ℕ)). at_line s (suc i) (keyval (name_with l) v ∷ [])) written)
             ∙ ap (λ (l : List (List ℕ)). line_at (text s) (newline_of s).text (bom_width s) (line_begins s (suc i)) l v) (sym keys)
-            ∙ ap (λ (n : ℕ). line_at (text s) (newline_of s).text (bom_width s) n (keys_in (drop from path)) v) (sym d.ends);
+            ∙ ap (λ (n : ℕ). line_at (text s) (newline_of s).text (bom_width s) n (keys_in (drop from path)) v) (sym d.ends)) d.ends;
       }
     where
       one_number : (o : Option ℕ) (n m : ℕ) → o ≡ Some n → o ≡ Some m → n ≡ m
