@@ -12,3 +12,5 @@ pub mod RenameLaws
 pub mod RemoveNode
 pub mod RemoveSteps
 pub mod RemoveCut
+pub mod HolderLaws
+pub mod RootLaws

@@ -3,3 +3,4 @@ pub mod Answers
 pub mod Places
 pub mod Removing
 pub mod Inserting
+pub mod Holding

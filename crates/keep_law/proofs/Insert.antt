@@ -37,3 +37,5 @@ pub mod DottedBase
 pub mod OneBase
 pub mod DottedPlace
 pub mod InsertDottedPlace
+pub mod HolderFacts
+pub mod ItemNumbers
