@@ -4,3 +4,4 @@ pub mod Places
 pub mod Removing
 pub mod Inserting
 pub mod Holding
+pub mod Newlines
