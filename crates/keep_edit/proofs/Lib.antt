@@ -15,3 +15,4 @@ pub mod RemoveSteps
 pub mod RemoveCut
 pub mod HolderLaws
 pub mod RootLaws
+pub mod WritingLaws

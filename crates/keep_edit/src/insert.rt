@@ -1,4 +1,5 @@
 //! Inserting values.
+mod keys;
 
 /// Where a value is inserted.
 #[derive(Clone, Copy)]

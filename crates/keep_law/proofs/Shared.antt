@@ -30,3 +30,4 @@ pub use Rattle.keep_law.proofs.Values.ValueDepths.{too_deep_at}
 pub use Rattle.keep_law.proofs.Insert.LineBefore.{IsLowPlace}
 pub use Rattle.keep_law.proofs.Insert.InsertPlaces.{element_placed, header_placed, root_placed, through_placed}
 pub use Rattle.keep_law.proofs.Insert.InsertDottedPlace.{IsBaseAt, IsDottedPlaced, dotted_placed}
+pub use Rattle.keep_law.proofs.Common.Texts.{text_of-append}

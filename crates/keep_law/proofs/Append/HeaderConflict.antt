@@ -92,7 +92,7 @@ module _ (earlier : List Mark) (tables : List (List Part)) (passes : LetsPass ea
   onward : (own : List Mark) (at : List Part) (k l : List ℕ) (ks : List (List ℕ)) (r : Role) → AllOf (Short at) own
       → ((own : List Mark) → AllOf (Short (entered_path tables (at ++ key k ∷ []))) own → reason (earlier ++ own) (to_go (entered_path tables (at ++ key k ∷ [])) (l ∷ ks)) ≡ header_conflict earlier tables (entered_path tables (at ++ key k ∷ [])) (l ∷ ks) role)
       → reason (earlier ++ own) (record { role = r; path = at ++ key k ∷ [] } ∷ to_go (entered_path tables (at ++ key k ∷ [])) (l ∷ ks))
-          ≡ cond (is_refused earlier r (at ++ key k ∷ [])) (Some (why_of r)) (header_conflict earlier tables (entered_path tables (at ++ key k ∷ [])) (l ∷ ks) role)
+      ≡ cond (is_refused earlier r (at ++ key k ∷ [])) (Some (why_of r)) (header_conflict earlier tables (entered_path tables (at ++ key k ∷ [])) (l ∷ ks) role)
   onward own at k l ks r short more =
       let q : List Part = at ++ key k ∷ [] in
       let to : List Part = entered_path tables q in
