@@ -6,3 +6,4 @@ pub mod Inserting
 pub mod Holding
 pub mod Newlines
 pub mod Writing
+pub mod Aiming

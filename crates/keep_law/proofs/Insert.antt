@@ -28,6 +28,13 @@ pub mod BracesPlace
 pub mod BracesStops
 pub mod BracesLaw
 pub mod InsertBraces
+pub mod HolderFacts
+pub mod ItemNumbers
+pub mod OriginSaid
+pub mod FoundThere
+pub mod EntryPlaces
+pub mod EntryThere
+pub mod ItemPlaces
 pub mod LinesPut
 pub mod LineBefore
 pub mod BodyPlaces
@@ -37,5 +44,3 @@ pub mod DottedBase
 pub mod OneBase
 pub mod DottedPlace
 pub mod InsertDottedPlace
-pub mod HolderFacts
-pub mod ItemNumbers

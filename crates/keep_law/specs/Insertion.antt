@@ -1,7 +1,5 @@
 -- Where `insert` writes and what, by the lists of all statements and values, and the bytes of the text.
-use Rattle.std.specs.Prelude.{ℕ, suc, ◌==◌, Bool, true, false, not, if◌then◌else◌, List, [], ◌∷◌, ◌++◌, take, drop, codes, Option, Some, None}
-use Rattle.keep_syntax.specs.declared.info.Owner.{Owner}
-use Rattle.keep_syntax.specs.declared.info.Owner.TheVariants as owner
+use Rattle.std.specs.Prelude.{ℕ, suc, ◌==◌, nat_lt, Bool, true, false, not, if◌then◌else◌, List, [], ◌∷◌, ◌++◌, take, drop, codes, Option, Some, None}
 use Rattle.keep_syntax.specs.declared.info.Statement.{Statement}
 use Rattle.keep_syntax.specs.declared.info.ValueInfo.{ValueInfo}
 use Rattle.keep_syntax.specs.Tree.{Name, Value, named_leaves, text_of}
@@ -36,17 +34,16 @@ behind_entry v keys value = put_in v.span.end (codes ", " ++ keyed_text keys val
 abbrev pub in_empty : ValueInfo → List (List ℕ) → Value → Place
 in_empty v keys value = put_in (suc v.span.start) (keyed_text keys value)
 
-abbrev pub is_inline_of : ℕ → Owner → Bool
-is_inline_of n (owner.Line m) = false
-is_inline_of n (owner.Item m) = false
-is_inline_of n (owner.Inline m) = m == n
-
--- the number of the last keyval of the braces with that number; the first of the values has the number `at`
+-- The number of the last keyval of braces that stand so deep. Of the values behind the braces' own, those inside stand deeper,
+-- and the braces' own keyvals by one. The first of these values has the number `at`.
 abbrev pub last_keyval : ℕ → ℕ → List ValueInfo → Option ℕ
-last_keyval at n [] = None
-last_keyval at n (v ∷ vs) = elim (last_keyval (suc at) n vs) [
-  | Some m ↦ Some m
-  | None ↦ (if is_inline_of n v.owner then Some at else None)
+last_keyval at depth [] = None
+last_keyval at depth (v ∷ vs) = elim (nat_lt depth v.depth) [
+  | false ↦ None
+  | true ↦ elim (last_keyval (suc at) depth vs) [
+    | Some n ↦ Some n
+    | None ↦ (if v.depth == suc depth then Some at else None)
+  ]
 ]
 
 -- ---- lines

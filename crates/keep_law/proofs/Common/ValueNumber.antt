@@ -14,7 +14,7 @@ use Rattle.keep_law.proofs.Common.Runs.{AllOf, SomeOf, all_map, pairs_split, All
 use Rattle.keep_law.proofs.Common.SetLaw.{IsAloneAt, exclusive_is_solid, exclusive-solid}
 use Rattle.keep_law.proofs.Common.ValueThere.{fact_head, fact_past}
 
-value_is_exclusive : (s : Saying) → is_value s ≡ true → exclusive s ≡ true
+pub value_is_exclusive : (s : Saying) → is_value s ≡ true → exclusive s ≡ true
 value_is_exclusive (value f) e = refl
 value_is_exclusive (item f) e = refl
 value_is_exclusive through e = absurd cc

@@ -11,8 +11,7 @@ use Rattle.keep_path.specs.Path.{Part, key, index, same_path}
 use Rattle.keep_meaning.specs.Marks.{Saying, through, past, define, element, dotted, value, begun, passed, item, Mention, below}
 use Rattle.keep_meaning.specs.Meaning.{key_value, further_value, body_fact, valued_mentions, keyed_mentions, entry_mentions, entries_said}
 use Rattle.keep_law.specs.Look.{strip, without_last, is_item_of, item_count}
-use Rattle.keep_law.proofs.Common.Runs.{AllOf, all_join, IsApart, same_path-refl, same_path-sound, strip-append}
-use Rattle.keep_law.proofs.Common.Cuts.{without_last-snoc}
+use Rattle.keep_law.proofs.Common.Runs.{AllOf, all_join, IsApart, same_path-sound, same_path-refl, strip-append}
 use Rattle.keep_law.proofs.Common.SetDocument.{cancel}
 use Rattle.keep_law.proofs.Insert.PutIn.{size}
 
@@ -26,8 +25,12 @@ count_none t (m ∷ ms) h = omega (arith, count_join t (m ∷ []) ms, one, count
     one : count_by t (m ∷ []) ≡ 0
     one = rw h.0 refl
 
-count_one : (t : Mention → Bool) (m : Mention) → t m ≡ true → count_by t (m ∷ []) ≡ 1
-count_one t m e = rw e refl
+count_one : (t : Mention → Bool) (m : Mention) → count_by t (m ∷ []) ≤ 1
+count_one t m = by (t m) refl
+  where
+    by : (b : Bool) → t m ≡ b → count_by t (m ∷ []) ≤ 1
+    by true e = rw e (omega arith)
+    by false e = rw e (omega arith)
 
 -- ---- what is an item of a path
 
@@ -102,14 +105,10 @@ deep_none a0 more_parts n (m ∷ ms) h =
     tail : (q : List Part) (x : Part) → index n ∷ q ≡ x ∷ [] → q ≡ []
     tail q x e = cc
 
--- what stands at a number is an item
-item_here : (a0 : Part) (more_parts : List Part) (n : ℕ) (f : Fact) → is_item_of (a0 ∷ more_parts) (below (a0 ∷ more_parts) (below (index n ∷ []) (record { path = []; says = item f }))) ≡ true
-item_here a0 more_parts n f = ap (λ (p : List Part). same_path p (a0 ∷ more_parts)) (without_last-snoc (a0 ∷ more_parts) (index n)) ∙ same_path-refl (a0 ∷ more_parts)
-
-items_are : (profile : Profile) (a0 : Part) (more_parts : List Part) (n : ℕ) (es : Entries) → AreEntries profile in_array es → count_by (is_item_of (a0 ∷ more_parts)) (map (below (a0 ∷ more_parts)) (entries_said n es)) ≡ size es
-items_are profile a0 more_parts n none valid = omega arith
-items_are profile a0 more_parts n (entry (Some name) body inside after comma rest) valid = absurd valid.0
-items_are profile a0 more_parts n (entry None body inside after comma rest) valid =
+items_few : (profile : Profile) (a0 : Part) (more_parts : List Part) (n : ℕ) (es : Entries) → AreEntries profile in_array es → count_by (is_item_of (a0 ∷ more_parts)) (map (below (a0 ∷ more_parts)) (entries_said n es)) ≤ size es
+items_few profile a0 more_parts n none valid = omega arith
+items_few profile a0 more_parts n (entry (Some name) body inside after comma rest) valid = absurd valid.0
+items_few profile a0 more_parts n (entry None body inside after comma rest) valid =
     let t : Mention → Bool = is_item_of (a0 ∷ more_parts) in
     let deep : List Mention = map (below (a0 ∷ more_parts)) (map (below (index n ∷ [])) (entries_said 0 inside)) in
     let top : Mention = below (a0 ∷ more_parts) (below (index n ∷ []) (record { path = []; says = item (body_fact body) })) in
@@ -122,16 +121,16 @@ items_are profile a0 more_parts n (entry None body inside after comma rest) vali
       whole,
       count_join t (top ∷ deep) more,
       count_join t (top ∷ []) deep,
-      count_one t top (item_here a0 more_parts n (body_fact body)),
+      count_one t top,
       count_none t deep (deep_none a0 more_parts n (entries_said 0 inside) (longer_entries 0 inside)),
-      items_are profile a0 more_parts (n + 1) rest valid.5,
+      items_few profile a0 more_parts (n + 1) rest valid.5,
     )
 
--- Where an array stands at the path, and nothing else at or under it, as many items are counted as the array has.
-pub item_count_is : (profile : Profile) (a : List Part) (before behind : List Mention) (says : Saying) (es : Entries) → (a ≡ [] → ⊥) → AreEntries profile in_array es → AllOf (IsApart a) before → AllOf (IsApart a) behind
-    → item_count a (before ++ (map (below a) (valued_mentions says (entries_said 0 es)) ++ behind)) ≡ size es
-item_count_is profile [] before behind says es root valid hb hh = absurd (root refl)
-item_count_is profile (a0 ∷ more_parts) before behind says es root valid hb hh =
+-- Where an array stands at the path, and nothing else at or under it, no more items are counted than the array has.
+pub item_count_few : (profile : Profile) (a : List Part) (before behind : List Mention) (says : Saying) (es : Entries) → (a ≡ [] → ⊥) → AreEntries profile in_array es → AllOf (IsApart a) before → AllOf (IsApart a) behind
+    → item_count a (before ++ (map (below a) (valued_mentions says (entries_said 0 es)) ++ behind)) ≤ size es
+item_count_few profile [] before behind says es root valid hb hh = absurd (root refl)
+item_count_few profile (a0 ∷ more_parts) before behind says es root valid hb hh =
     let t : Mention → Bool = is_item_of (a0 ∷ more_parts) in
     let top : Mention = below (a0 ∷ more_parts) (record { path = []; says = says }) in
     let more : List Mention = map (below (a0 ∷ more_parts)) (entries_said 0 es) in
@@ -144,12 +143,40 @@ item_count_is profile (a0 ∷ more_parts) before behind says es root valid hb hh
       count_none t (top ∷ []) (not_top, tt),
       count_none t before (none_apart a0 more_parts before hb),
       count_none t behind (none_apart a0 more_parts behind hh),
-      items_are profile a0 more_parts 0 es valid,
+      items_few profile a0 more_parts 0 es valid,
     )
   where
     no : (x : Part) → [] ≡ x ∷ [] → ⊥
     no x e = cc
 
-pub item_count_few : (profile : Profile) (a : List Part) (before behind : List Mention) (says : Saying) (es : Entries) → (a ≡ [] → ⊥) → AreEntries profile in_array es → AllOf (IsApart a) before → AllOf (IsApart a) behind
-    → item_count a (before ++ (map (below a) (valued_mentions says (entries_said 0 es)) ++ behind)) ≤ size es
-item_count_few profile a before behind says es root valid hb hh = omega (arith, item_count_is profile a before behind says es root valid hb hh)
+-- ---- ... and no fewer
+
+pub without_last-snoc : (p : List Part) (x : Part) → without_last (p ++ x ∷ []) ≡ p
+without_last-snoc [] x = refl
+without_last-snoc (a ∷ []) x = refl
+without_last-snoc (a ∷ b ∷ p) x = ap (λ (l : List Part). a ∷ l) (without_last-snoc (b ∷ p) x)
+
+top_item : (a : List Part) (n : ℕ) (f : Fact) → is_item_of a (record { path = a ++ index n ∷ []; says = item f }) ≡ true
+top_item a n f = ap (λ (p : List Part). same_path p a) (without_last-snoc a (index n)) ∙ same_path-refl a
+
+items_many : (profile : Profile) (a : List Part) (n : ℕ) (es : Entries) → AreEntries profile in_array es → size es ≤ count_by (is_item_of a) (map (below a) (entries_said n es))
+items_many profile a n none valid = omega arith
+items_many profile a n (entry (Some name) body inside after comma rest) valid = absurd valid.0
+items_many profile a n (entry None body inside after comma rest) valid =
+    let t : Mention → Bool = is_item_of a in
+    let deep : List Mention = map (below a) (map (below (index n ∷ [])) (entries_said 0 inside)) in
+    let top : Mention = record { path = a ++ index n ∷ []; says = item (body_fact body) } in
+    let more : List Mention = map (below a) (entries_said (n + 1) rest) in
+    let split : map (below a) (entries_said n (entry None body inside after comma rest)) ≡ (top ∷ deep) ++ more =
+    map-append (below a) (entry_mentions n None (body_fact body) (entries_said 0 inside)) (entries_said (n + 1) rest) in
+    let whole : count_by t (map (below a) (entries_said n (entry None body inside after comma rest))) ≡ count_by t ((top ∷ deep) ++ more) = ap (λ (l : List Mention). count_by t l) split in
+    let one : count_by t (top ∷ []) ≡ 1 = rw (top_item a n (body_fact body)) refl in
+    omega (arith, whole, count_join t (top ∷ deep) more, count_join t (top ∷ []) deep, one, items_many profile a (n + 1) rest valid.5)
+
+pub item_count_many : (profile : Profile) (a : List Part) (before behind : List Mention) (says : Saying) (es : Entries) → AreEntries profile in_array es
+    → size es ≤ item_count a (before ++ (map (below a) (valued_mentions says (entries_said 0 es)) ++ behind))
+item_count_many profile a before behind says es valid =
+    let t : Mention → Bool = is_item_of a in
+    let top : Mention = below a (record { path = []; says = says }) in
+    let more : List Mention = map (below a) (entries_said 0 es) in
+    omega (arith, count_join t before ((top ∷ more) ++ behind), count_join t (top ∷ more) behind, count_join t (top ∷ []) more, items_many profile a 0 es valid)

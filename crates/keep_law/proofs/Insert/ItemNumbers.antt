@@ -8,7 +8,8 @@ use Rattle.keep_syntax.specs.Grammar.{AreEntries, in_array, IsValue, IsDocument}
 use Rattle.keep_meaning.specs.Fact as fact
 use Rattle.keep_meaning.specs.Fact.{Fact, is_value_fact}
 use Rattle.keep_path.specs.Path.{Part, index, same_path}
-use Rattle.keep_meaning.specs.Marks.{item, Mention, below, fact_of}
+use Rattle.keep_meaning.specs.Rules.{ObeysRules}
+use Rattle.keep_meaning.specs.Marks.{item, Mention, below, fact_of, marks}
 use Rattle.keep_meaning.specs.Meaning.{body_fact, valued_mentions, entry_mentions, entries_said, said_in}
 use Rattle.keep_meaning.specs.Nodes.{is_at, says_at, fact_at, first_of}
 use Rattle.keep_law.specs.Look.{strip, item_count}
@@ -17,9 +18,11 @@ use Rattle.keep_law.proofs.Common.Runs.{AllOf, SomeOf, IsApart, Rules, same_path
 use Rattle.keep_law.proofs.Common.SetLaw.{IsAloneAt}
 use Rattle.keep_law.proofs.Common.ValueThere.{alone_of_fact}
 use Rattle.keep_law.proofs.Common.DoneAtValue.{value_fact-body}
+use Rattle.keep_law.proofs.Common.Marks.{rules_of_document}
+use Rattle.keep_law.proofs.Values.ValuePlace.{value_of_path}
 use Rattle.keep_law.proofs.Insert.DoneThere.{IsDoneThere}
 use Rattle.keep_law.proofs.Insert.PutIn.{size}
-use Rattle.keep_law.proofs.Insert.ItemCount.{item_count_is}
+use Rattle.keep_law.proofs.Insert.ItemCount.{item_count_few, item_count_many}
 use Rattle.keep_law.proofs.Insert.ItemThere.{is_array, entries_of, never_whole, put_there}
 use Rattle.keep_law.specs.Values.{put_item}
 
@@ -77,12 +80,22 @@ pub record AreNumbered (a : List Part) (s : Document) : Type 0 where
   pub below_count : (n : ℕ) → n < item_count a (said_in s) → has_value (a ++ index n ∷ []) (said_in s) ≡ true
   pub from_count : (n : ℕ) → item_count a (said_in s) ≤ n → has_value (a ++ index n ∷ []) (said_in s) ≡ false
 
-pub items_numbered : (profile : Profile) (s : Document) (a : List Part) (given : Value) → IsDocument profile s → Rules (said_in s) → IsValue profile given → fact_at a (said_in s) ≡ Some fact.array → AreNumbered a s
-items_numbered profile s a given valid rules good at =
+pub items_numbered : (profile : Profile) (s : Document) (a : List Part) → IsDocument profile s → ObeysRules (marks (said_in s)) → fact_at a (said_in s) ≡ Some fact.array → AreNumbered a s
+items_numbered profile s a valid obeys at =
+    let rules : Rules (said_in s) = rules_of_document s obeys in
+    let (number, info, of) = value_of_path profile a s valid obeys (valued a (said_in s) fact.array at refl) in
+    let given : Value = of.value in
+    let good : IsValue profile given = of.valid in
     let d : IsDoneThere profile is_array (put_item given) (index 0 ∷ []) a s = put_there profile s a given 0 valid rules good at in
     let entries : AreEntries profile in_array d.old.inside = entries_of profile d.old.body d.old.inside d.fit d.old_valid in
     let root : a ≡ [] → ⊥ = λ e. never_whole s (subst (λ (x : List Part). SomeOf (IsAloneAt x) (said_in s)) e (alone_of_fact a (said_in s) fact.array at refl)) in
-    let count : item_count a (said_in s) ≡ size d.old.inside = ap (item_count a) d.was ∙ item_count_is profile a d.before d.behind (d.tag (body_fact d.old.body)) d.old.inside root entries d.apart_before d.apart_behind in
+    let count : item_count a (said_in s) ≡ size d.old.inside =
+    omega (
+      arith,
+      ap (item_count a) d.was,
+      item_count_few profile a d.before d.behind (d.tag (body_fact d.old.body)) d.old.inside root entries d.apart_before d.apart_behind,
+      item_count_many profile a d.before d.behind (d.tag (body_fact d.old.body)) d.old.inside entries,
+    ) in
     record {
       below_count = λ n h.
           let (f, there, v) = (numbered profile n 0 d.old.inside entries (omega arith)).there (omega (arith, h, count)) in
