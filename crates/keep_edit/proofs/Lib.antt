@@ -17,3 +17,4 @@ pub mod HolderLaws
 pub mod RootLaws
 pub mod WritingLaws
 pub mod AimLaws
+pub mod LineSpots

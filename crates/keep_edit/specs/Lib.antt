@@ -7,3 +7,4 @@ pub mod Holding
 pub mod Newlines
 pub mod Writing
 pub mod Aiming
+pub mod NewLines

@@ -1,9 +1,10 @@
 -- Where `insert` writes a line, where keyvals on lines go on from the holder by dots: told by the origins of the holder's fronts.
 --
 -- Theorem: `dotted_placed`.
-use Rattle.std.proofs.Common.{◌≡◌, ℕ, zero, suc, ◌+◌, ◌-◌, ◌<◌, ◌≤◌, List, [], ◌∷◌, ◌++◌, length, map, take, drop, slice_get, refl, sym, ap, subst, ◌∙◌, append_assoc, length-append, arith, Option, Some, None, inl, inr}
+use Rattle.std.proofs.Common.{◌≡◌, false, ℕ, zero, suc, ◌+◌, ◌-◌, ◌<◌, ◌≤◌, List, [], ◌∷◌, ◌++◌, length, map, take, drop, slice_get, refl, sym, ap, subst, ◌∙◌, append_assoc, length-append, arith, Option, Some, None, inl, inr}
+use Rattle.std.specs.List.{list_any}
 use Rattle.std.proofs.lemmas.Bool.{cases_lt}
-use Rattle.std.proofs.lemmas.List.{length-map, take-append-drop}
+use Rattle.std.proofs.lemmas.List.{length-map, map-append, take-append-drop}
 use Rattle.keep_token.specs.declared.leaf.Profile.{Profile}
 use Rattle.keep_syntax.specs.declared.info.Owner.TheVariants as owner
 use Rattle.keep_syntax.specs.declared.info.Statement.{Statement}
@@ -20,7 +21,7 @@ use Rattle.keep_meaning.specs.Nodes.{numbered_at, last_number, statement_number,
 use Rattle.keep_law.specs.Edits.{insert, at_line, name_with}
 use Rattle.keep_law.specs.Insertion.{line_at}
 use Rattle.keep_law.specs.Lines.{newline_of, last_line, begins, goes_dotted, reading_at}
-use Rattle.keep_law.specs.Look.{holder, item_number, keys_in}
+use Rattle.keep_law.specs.Look.{holder, is_index, item_number, keys_in}
 use Rattle.keep_law.specs.Refusals.{refusal}
 use Rattle.keep_law.proofs.Common.Runs.{SomeOf, Rules}
 use Rattle.keep_law.proofs.Common.Doubles.{IsSaid}
@@ -30,7 +31,7 @@ use Rattle.keep_law.proofs.Insert.BodyPlaces.{headed_at}
 use Rattle.keep_law.proofs.Insert.DottedBase.{IsDottedFrom, IsDottedIn, dotted_where}
 use Rattle.keep_law.proofs.Insert.DottedPlace.{IsDottedAt, dotted_at}
 use Rattle.keep_law.proofs.Insert.InsertDotted.{change_there}
-use Rattle.keep_law.proofs.Insert.InsertPlaces.{no_end, none_of}
+use Rattle.keep_law.proofs.Insert.InsertPlaces.{keys_alone, no_end, none_of}
 use Rattle.keep_law.proofs.Insert.LineBefore.{IsLowPlace, low_place, open_before, line_placed}
 use Rattle.keep_law.proofs.Insert.LinesPut.{bom_width, line_begins}
 use Rattle.keep_law.proofs.Insert.NewPath.{IsNewPath, new_path, drop_front_parts}
@@ -125,6 +126,7 @@ pub record IsDottedPlaced (s : Document) (path : List Part) (v : Value) (from nu
   pub owned : own.owner ≡ owner.Line line
   pub statement : Statement
   pub there : slice_get (syntax.statements s) line ≡ Some statement
+  pub keys : list_any is_index (drop from path) ≡ false
   pub placed : IsLowPlace s (insert path v) (line_at (text s) (newline_of s).text (bom_width s) statement.line.end (keys_in (drop from path)) v)
 
 module _ (profile : Profile) (limit : ℕ) (s : Document) (path : List Part) (v : Value) (valid : IsDocument profile s) (rules : Rules (said_in s)) (no_item : item_number path (said_in s) ≡ None)
@@ -158,6 +160,7 @@ module _ (profile : Profile) (limit : ℕ) (s : Document) (path : List Part) (v 
         owned = d.owned;
         statement = d.statement;
         there = d.there;
+        keys = ap (list_any is_index) (cut ∙ sym (map-append key (d.base.from.first ∷ d.base.from.front) (new.first ∷ new.more))) ∙ keys_alone ((d.base.from.first ∷ d.base.from.front) ++ (new.first ∷ new.more));
         placed = low_place profile s (insert path v) (line_at (text s) (newline_of s).text (bom_width s) d.statement.line.end (keys_in (drop from path)) v) (suc i) valid
             (line_placed s (insert path v) (suc i) d.base.from.first (keys_in rest) v (open_before profile s (suc i) valid d.before)
             (change_there s path v i no_item (no_end s a (λ e. no_root (subst EndsInKey e ends)) begun) found
