@@ -9,12 +9,15 @@ pub mod ScalarLaws
 pub mod SetLaws
 pub mod EditedLaws
 pub mod RenameLaws
+pub mod NewlineLaws
 pub mod RemoveNode
 pub mod RemoveSteps
 pub mod RemoveCut
 pub mod HolderLaws
 pub mod RootLaws
+pub mod WritingLaws
 pub mod AimLaws
 pub mod KeyvalSteps
 pub mod KeyvalSpots
 pub mod InsertionLaws
+pub mod LineSpots

@@ -4,4 +4,7 @@ pub mod Places
 pub mod Removing
 pub mod Inserting
 pub mod Holding
+pub mod Newlines
+pub mod Writing
 pub mod Aiming
+pub mod NewLines

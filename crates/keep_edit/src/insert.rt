@@ -14,6 +14,8 @@ ghost use Rattle.keep_edit.specs.Aiming.{IsAimed, IsItemAimed, IsItemOf, IsKeyva
 ghost use Rattle.keep_edit.specs.Holding.{IsHolder};
 ghost use Rattle.keep_edit.specs.Inserting.{IsInsertionOf, last_keyval_among};
 
+mod keys;
+
 use crate::document::Document;
 use crate::holder::Holder;
 use crate::value::ValueText;

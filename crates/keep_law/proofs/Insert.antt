@@ -42,3 +42,5 @@ pub mod Origins
 pub mod InsertPlaces
 pub mod DottedBase
 pub mod OneBase
+pub mod DottedPlace
+pub mod InsertDottedPlace
