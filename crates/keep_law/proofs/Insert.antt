@@ -39,3 +39,4 @@ pub mod Origins
 pub mod InsertPlaces
 pub mod DottedBase
 pub mod OneBase
+pub mod NoLines
