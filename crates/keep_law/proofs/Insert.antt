@@ -40,3 +40,6 @@ pub mod InsertPlaces
 pub mod DottedBase
 pub mod OneBase
 pub mod NoLines
+pub mod BracePlaces
+pub mod LastKeyval
+pub mod BraceLaws

@@ -247,7 +247,7 @@ module _ (profile : Profile) (s : Document) (a : List Part) (n : ℕ) (new : Val
 
 -- ---- the laws
 
-one_of_two : {A : Type 0} (o : Option A) (x y : A) → o ≡ Some x → o ≡ Some y → x ≡ y
+pub one_of_two : {A : Type 0} (o : Option A) (x y : A) → o ≡ Some x → o ≡ Some y → x ≡ y
 one_of_two o x y e f = let k : Some x ≡ Some y = sym e ∙ f in cc
 
 -- one value is at a path
