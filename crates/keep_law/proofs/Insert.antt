@@ -43,3 +43,4 @@ pub mod NoLines
 pub mod BracePlaces
 pub mod LastKeyval
 pub mod BraceLaws
+pub mod BraceDotted
