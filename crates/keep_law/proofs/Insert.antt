@@ -44,3 +44,4 @@ pub mod BracePlaces
 pub mod LastKeyval
 pub mod BraceLaws
 pub mod BraceDotted
+pub mod KeyvalPlaces
