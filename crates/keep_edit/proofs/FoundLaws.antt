@@ -155,8 +155,11 @@ fact_names path (m ∷ ms) f e = by (is_at path m) refl (λ k. fact_names path m
     by true here more = ap (λ b. b || list_any (is_at path) ms) here
     by false here more = ap (λ b. b || list_any (is_at path) ms) here ∙ more (sym (fact_past path m ms here) ∙ e)
 
+pub fact_node : (path : List Part) (ms : List Mention) (f : Fact) → fact_at path ms ≡ Some f → is_node path ms ≡ true
+fact_node path ms f e = ap (λ b. is_root path || b) (fact_names path ms f e) ∙ or_true (is_root path)
+
 value_names : (profile : Profile) (path : List Part) (s : Document) (number : ℕ) (info : ValueInfo) → IsValueOf profile path s number info → is_node path (said_in s) ≡ true
-value_names profile path s number info of = ap (λ b. is_root path || b) (fact_names path (said_in s) (body_fact of.value.body) of.fact) ∙ or_true (is_root path)
+value_names profile path s number info of = fact_node path (said_in s) (body_fact of.value.body) of.fact
 
 -- what is answered where the path names a node or not
 abbrev answered : Bool → Option (List ℕ) → Result (List ℕ) EditFault

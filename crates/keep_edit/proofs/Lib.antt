@@ -12,3 +12,6 @@ pub mod RenameLaws
 pub mod RemoveNode
 pub mod RemoveSteps
 pub mod RemoveCut
+pub mod HolderLaws
+pub mod RootLaws
+pub mod AimLaws

@@ -257,7 +257,7 @@ module _ (path : List Part) (s : Document) (obeys : ObeysRules (marks (said_in s
   pub has_of : (is : Saying → Bool) (number : Count → ℕ) (n : ℕ) → last_number is number (numbered_at path (numbered_in s)) ≡ Some n → has is path (said_in s) ≡ true
   has_of is number n e = ap (list_any is) (sym told_says) ∙ some_told is number (numbered_at path (numbered_in s)) n e
 
-  none_of : (is : Saying → Bool) (number : Count → ℕ) → last_number is number (numbered_at path (numbered_in s)) ≡ None → has is path (said_in s) ≡ false
+  pub none_of : (is : Saying → Bool) (number : Count → ℕ) → last_number is number (numbered_at path (numbered_in s)) ≡ None → has is path (said_in s) ≡ false
   none_of is number e = ap (list_any is) (sym told_says) ∙ none_told is number (numbered_at path (numbered_in s)) e
 
   beside : list_any is_define (says_at path (said_in s)) ≡ true → IsThrough (says_at path (said_in s)) 1

@@ -54,8 +54,11 @@ pub record IsBase (path : List Part) (s : Document) (from : ℕ) : Type 0 where
   pub dots : (n : ℕ) → from < n → n ≤ length path → is_dotted_origin (origin_of (take n path) s) ≡ true
 
 -- the number of the last keyval of the braces with that number
+abbrev pub last_keyval_among : ℕ → List ValueInfo → Option ℕ
+last_keyval_among n values = option_and_then (λ (v : ValueInfo). last_keyval (suc n) v.depth (drop (suc n) values)) (slice_get values n)
+
 abbrev pub last_keyval_of : ℕ → Document → Option ℕ
-last_keyval_of n s = option_and_then (λ (v : ValueInfo). last_keyval (suc n) v.depth (drop (suc n) (syntax.values s))) (slice_get (syntax.values s) n)
+last_keyval_of n s = last_keyval_among n (syntax.values s)
 
 -- As a keyval with a new path, of which the front `a` names a node and no longer one does: behind the body of the root, of a
 -- table or of an element; in braces; behind the last keyval that goes on from `a` by dots; or in a new section.

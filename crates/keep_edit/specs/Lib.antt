@@ -3,3 +3,5 @@ pub mod Answers
 pub mod Places
 pub mod Removing
 pub mod Inserting
+pub mod Holding
+pub mod Aiming

@@ -1,4 +1,24 @@
 //! Inserting values.
+ghost use Rattle.std.specs.Prelude.{◌≡◌, ◌++◌, ◌∷◌, [], ◌<◌, List, Some, length, drop};
+ghost use Rattle.std.specs.List.{list_any};
+ghost use Rattle.keep_syntax.specs.Contract.{values_of};
+ghost use Rattle.keep_syntax.specs.Tree as tree;
+ghost use Rattle.keep_path.specs.Path.{Part, index};
+ghost use Rattle.keep_meaning.specs.Meaning.{said_in};
+ghost use Rattle.keep_meaning.specs.Nodes.{node_number, node_paths};
+ghost use Rattle.keep_law.specs.Look.{is_index, item_number};
+ghost use Rattle.keep_edit.specs.Reading.{IsAccepted, IsTextOfTree, IsTextOfValue};
+ghost use Rattle.keep_edit.specs.Answers.{value_number_of};
+ghost use Rattle.keep_edit.specs.Aiming.{IsAimed, IsItemAimed, IsItemOf, IsKeyvalAimed, longest_front, spot_in_braces};
+ghost use Rattle.keep_edit.specs.Holding.{IsHolder};
+ghost use Rattle.keep_edit.specs.Inserting.{IsInsertionOf, last_keyval_among};
+
+use crate::document::Document;
+use crate::holder::Holder;
+use crate::value::ValueText;
+use keep_law::EditFault;
+use keep_rules::{Kind, NodeId, Path, Place, Step};
+use keep_syntax::{STANDARD_DEPTH, Syntax};
 
 /// Where a value is inserted.
 #[derive(Clone, Copy)]
@@ -22,4 +42,167 @@ pub(crate) enum Spot {
 pub(crate) struct Insertion {
     pub(crate) spot: Spot,
     pub(crate) from: usize,
+}
+
+impl Document {
+    /// Where a value is inserted, or why it can't be. It takes no memory.
+    fn insertion(&self, path: &Path, value: &ValueText) -> Result<Insertion, EditFault>
+        requires { IsAccepted self.now }
+        ensures { (s : tree.Document) → IsTextOfTree self.now s → (v : tree.Value) → IsTextOfValue value.now v → IsInsertionOf self.now.profile path.now v s result }
+    {
+        let holder = self.holder_of(path);
+        let insertion = self.aim(path, holder)?;
+        if holder.depth.saturating_add(value.depth() as usize) > STANDARD_DEPTH as usize {
+            return Err(EditFault::TooDeep);
+        }
+        if !value.is_allowed_in(self.profile()) {
+            return Err(EditFault::Profile);
+        }
+        Ok(insertion)
+    }
+
+    /// Where a value is inserted, whatever it is, or why there is no place for it.
+    fn aim(&self, path: &Path, holder: Holder) -> Result<Insertion, EditFault>
+        requires { (s : tree.Document) × IsTextOfTree self.now s × IsHolder path.now s holder }
+        ensures { (s : tree.Document) → IsTextOfTree self.now s → IsHolder path.now s holder → IsAimed path.now s result }
+    {
+        if let Some(number) = self.item_number(path, holder) {
+            let spot = self.item_spot(holder.id, number)?;
+            return Ok(Insertion {
+                spot,
+                from: path.len(),
+            });
+        }
+        if self.index.find(path).is_some() {
+            return Err(EditFault::Exists);
+        }
+        if has_index(path, holder.len) {
+            return Err(EditFault::NotFound);
+        }
+        let spot = self.keyval_spot(holder)?;
+        Ok(Insertion {
+            spot,
+            from: holder.base,
+        })
+    }
+
+    /// The number of the item that the path names in a static array, also one behind the last; None if it names none.
+    fn item_number(&self, path: &Path, holder: Holder) -> Option<usize>
+        requires { (s : tree.Document) × IsTextOfTree self.now s × IsHolder path.now s holder }
+        ensures { (s : tree.Document) → IsTextOfTree self.now s → IsHolder path.now s holder → result ≡ item_number path.now (said_in s) }
+    {
+        let Some(Step::Index(number)) = path.step(holder.len) else {
+            return None;
+        };
+        if path.len() - holder.len > 1 {
+            return None;
+        }
+        match self.index.node(holder.id).kind {
+            Kind::Array => Some(*number),
+            _ => None,
+        }
+    }
+
+    /// Where an item goes in a static array.
+    fn item_spot(&self, array: NodeId, number: usize) -> Result<Spot, EditFault>
+        requires { (path : List Part) × (s : tree.Document) × IsTextOfTree self.now s × IsItemOf path number s array.0 }
+        ensures { (path : List Part) (s : tree.Document) → IsTextOfTree self.now s → IsItemOf path number s array.0 → IsItemAimed path number s result }
+    {
+        if let Some(value) = self.item_value(array, number) {
+            return Ok(Spot::BeforeItem(value));
+        }
+        if number > 0 {
+            return match self.item_value(array, number - 1) {
+                Some(value) => Ok(Spot::BehindEntry(value)),
+                None => Err(EditFault::NotFound),
+            };
+        }
+        match self.index.node(array).place {
+            Place::Value(value) => Ok(Spot::InEmpty(value)),
+            _ => unreachable!(),
+        }
+    }
+
+    /// The value number of an array's item; None if there is no such item.
+    fn item_value(&self, array: NodeId, number: usize) -> Option<usize>
+        requires { (a : List Part) × (s : tree.Document) × IsTextOfTree self.now s × (node_number (node_paths (said_in s)) a ≡ Some array.0) }
+        ensures { (a : List Part) (s : tree.Document) → IsTextOfTree self.now s → node_number (node_paths (said_in s)) a ≡ Some array.0 → result ≡ value_number_of (a ++ index number ∷ []) s }
+    {
+        let id = self.index.step(array, &Step::Index(number))?;
+        match self.index.node(id).place {
+            Place::Value(value) => Some(value),
+            _ => None,
+        }
+    }
+
+    /// Where a keyval goes below a node, with the keys from the node's base on.
+    fn keyval_spot(&self, holder: Holder) -> Result<Spot, EditFault>
+        requires { (path : List Part) × (s : tree.Document) × IsTextOfTree self.now s × IsHolder path s holder }
+        ensures { (path : List Part) (s : tree.Document) → IsTextOfTree self.now s → IsHolder path s holder → IsKeyvalAimed (longest_front path s) s holder.base result }
+    {
+        let node = self.index.node(holder.id);
+        match node.place {
+            Place::Root => Ok(Spot::BehindBody(None)),
+            Place::Header(header) => Ok(Spot::BehindBody(Some(header))),
+            Place::Element(header) => Ok(Spot::BehindBody(Some(header))),
+            Place::Through(header) => Ok(Spot::NewSection(header)),
+            Place::Dotted(value) => {
+                if holder.braced {
+                    Ok(Spot::BehindEntry(value))
+                } else {
+                    Ok(Spot::BehindLine(value))
+                }
+            }
+            Place::Value(value) => {
+                if node.kind == Kind::Inline {
+                    Ok(braces_spot(&self.syntax, value))
+                } else {
+                    Err(EditFault::NotTable)
+                }
+            }
+            Place::Tables => Err(EditFault::NotTable),
+        }
+    }
+}
+
+/// Where a keyval goes in braces: behind the last that is there.
+fn braces_spot(syntax: &Syntax, braces: usize) -> Spot
+    requires { braces < length (values_of syntax.now) }
+    ensures { result ≡ spot_in_braces braces (last_keyval_among braces (values_of syntax.now)) }
+{
+    match last_keyval(syntax, braces) {
+        Some(keyval) => Spot::BehindEntry(keyval),
+        None => Spot::InEmpty(braces),
+    }
+}
+
+/// The number of the last keyval of the braces with a value number; None if they are empty.
+fn last_keyval(syntax: &Syntax, braces: usize) -> Option<usize>
+    requires { braces < length (values_of syntax.now) }
+    ensures { result ≡ last_keyval_among braces (values_of syntax.now) }
+{
+    let depth = syntax.value(braces).depth;
+    let mut last = None;
+    for number in braces + 1..syntax.value_count() {
+        let value = syntax.value(number);
+        if value.depth <= depth {
+            return last;
+        }
+        if value.depth - depth == 1 {
+            last = Some(number);
+        }
+    }
+    last
+}
+
+/// Whether a path has an index from step number `from` on.
+fn has_index(path: &Path, from: usize) -> bool
+    ensures { result ≡ list_any is_index (drop from path.now) }
+{
+    for number in from..path.len() {
+        if let Some(Step::Index(_)) = path.step(number) {
+            return true;
+        }
+    }
+    false
 }

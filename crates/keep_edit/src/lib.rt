@@ -2,6 +2,7 @@
 #![tactic(auto)]
 
 mod document;
+mod holder;
 mod insert;
 mod remove;
 mod rename;

@@ -28,6 +28,9 @@ pub mod BracesPlace
 pub mod BracesStops
 pub mod BracesLaw
 pub mod InsertBraces
+pub mod HolderFacts
+pub mod ItemNumbers
+pub mod OriginSaid
 pub mod FoundThere
 pub mod EntryPlaces
 pub mod EntryThere

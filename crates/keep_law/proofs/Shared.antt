@@ -17,6 +17,12 @@ pub use Rattle.keep_law.proofs.Common.ValueNumber.{false_unless}
 pub use Rattle.keep_law.proofs.Set.SetIsLawful.{get_is_right}
 pub use Rattle.keep_law.proofs.Values.ValueFacts.{integer_at_leaf, leaf_of_integer, no_string, string_at_leaf, string_of_leaf}
 pub use Rattle.keep_law.proofs.Remove.RemoveRefusal.{lines_begun, never_begun, no_both}
+pub use Rattle.keep_law.proofs.Common.EntryDepths.{alone_of_bracket}
+pub use Rattle.keep_law.proofs.Insert.ItemThere.{IsItemPath, item_at, never_whole}
+pub use Rattle.keep_law.proofs.Insert.ItemNumbers.{AreNumbered, items_numbered}
+pub use Rattle.keep_law.proofs.Insert.OriginSaid.{is_origin, origin_said}
+pub use Rattle.keep_law.proofs.Insert.Origins.{unsaid_of_none}
+pub use Rattle.keep_law.proofs.Insert.HolderFacts.{no_bracket_element}
 pub use Rattle.keep_law.proofs.Common.FromMarksLines.{path_ends}
 pub use Rattle.keep_law.proofs.EditLaws.{remove_lawful, rename_lawful, set_lawful}
 pub use Rattle.keep_law.proofs.Common.Marks.{rules_of_document}
