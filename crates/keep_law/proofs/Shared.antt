@@ -30,4 +30,5 @@ pub use Rattle.keep_law.proofs.Remove.KeyvalSays.{said_below, said_keyval}
 pub use Rattle.keep_law.proofs.Remove.RemoveWhole.{shared_define}
 pub use Rattle.keep_law.proofs.Values.ValueDepths.{too_deep_at}
 pub use Rattle.keep_law.proofs.Insert.ItemPlaces.{IsItemLaw, item_law}
+pub use Rattle.keep_law.proofs.Insert.BracePlaces.{IsPutBehind}
 pub use Rattle.keep_law.proofs.Insert.KeyvalPlaces.{IsInlineLaw, dots_placed, inline_placed}

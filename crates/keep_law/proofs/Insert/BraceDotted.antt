@@ -32,7 +32,7 @@ use Rattle.keep_law.proofs.Insert.ItemCount.{Longer, longer_keyed}
 use Rattle.keep_law.proofs.Insert.ItemPlaces.{one_of_two}
 use Rattle.keep_law.proofs.Insert.EntryPlaces.{IsEntryAt, own_of}
 use Rattle.keep_law.proofs.Insert.EntryThere.{infos_before, said_before, here_there, said_there, count_there}
-use Rattle.keep_law.proofs.Insert.BracePlaces.{IsKeyvalFound, rest, begin, Told, IsBehindKeyval, Placed, keyval_placed}
+use Rattle.keep_law.proofs.Insert.BracePlaces.{IsPutBehind, IsKeyvalFound, rest, begin, Told, IsBehindKeyval, Placed, keyval_placed}
 
 -- ---- the last stop of a dotted key
 
@@ -191,14 +191,16 @@ module _ (profile : Profile) (s : Document) (path at : List Part) (d : Part) (ds
       never (inr x) = x
 
   -- Behind the keyval of the table's number.
-  pub behind_dotted : (w : ℕ) (i : ValueInfo) → last_number is_dotted value_number (numbered_at (at ++ dots) (numbered_in s)) ≡ Some w → slice_get (syntax.values s) w ≡ Some i
-      → place s (insert path new) ≡ behind_entry i (keys_in (dots ++ map key (k ∷ ks))) new
-  behind_dotted w i number here = by (keyval_placed profile s path at (d ∷ ds) new k ks h)
+  pub behind_dotted : (w : ℕ) → last_number is_dotted value_number (numbered_at (at ++ dots) (numbered_in s)) ≡ Some w → IsPutBehind path s new (keys_in (dots ++ map key (k ∷ ks))) w
+  behind_dotted w number = by (keyval_placed profile s path at (d ∷ ds) new k ks h)
     where
-      by : Placed profile s path at (d ∷ ds) new k ks h → place s (insert path new) ≡ behind_entry i (keys_in (dots ++ map key (k ∷ ks))) new
+      by : Placed profile s path at (d ∷ ds) new k ks h → IsPutBehind path s new (keys_in (dots ++ map key (k ∷ ks))) w
       by (inl x) = absurd (some_inside x.0)
       by (inr b) =
           let same : w ≡ length (infos b) = one_of_two (last_number is_dotted value_number (numbered_at (at ++ dots) (numbered_in s))) w (length (infos b)) number (number_is b) in
-          let i_is = one_of_two (slice_get (syntax.values s) w) _ i
-              (ap (slice_get (syntax.values s)) same ∙ here_there profile is_inline (put_named name_with (length (map key (k ∷ ks))) new) (dots ++ map key (k ∷ ks)) at s h.changed h.there T b.entry) here in
-          b.is ∙ ap (λ (j : ValueInfo). behind_entry j (keys_in (dots ++ map key (k ∷ ks))) new) i_is
+          record {
+            info = own_of T 0 (begin profile s path at (d ∷ ds) new k ks h) v.inside b.entry;
+            here = ap (slice_get (syntax.values s)) same
+                ∙ here_there profile is_inline (put_named name_with (length (map key (k ∷ ks))) new) (dots ++ map key (k ∷ ks)) at s h.changed h.there T b.entry;
+            placed = b.is;
+          }

@@ -43,7 +43,7 @@ use Rattle.keep_law.proofs.Insert.FoundThere.{IsFoundThere}
 use Rattle.keep_law.proofs.Insert.EntryPlaces.{IsEntryAt, own_of}
 use Rattle.keep_law.proofs.Insert.EntryThere.{infos_before, said_before, here_there, said_there, count_there}
 use Rattle.keep_law.proofs.Insert.LastKeyval.{last_none, entry_last}
-use Rattle.keep_law.proofs.Insert.BracePlaces.{IsKeyvalFound, fresh_path, keyval_found, rest, begin, Told, IsBehindKeyval, Placed, keyval_placed}
+use Rattle.keep_law.proofs.Insert.BracePlaces.{IsPutBehind, IsKeyvalFound, fresh_path, keyval_found, rest, begin, Told, IsBehindKeyval, Placed, keyval_placed}
 
 abbrev told_number : List Part → Document → Option ℕ
 told_number path s = last_number is_value value_number (numbered_at path (numbered_in s))
@@ -99,10 +99,10 @@ module _ (profile : Profile) (s : Document) (path at : List Part) (new : Value) 
           let no : None ≡ Some _ = sym e ∙ ap (last_keyval (suc v) own.depth) behind_is ∙ found in
           absurd cc
 
-  pub behind_last : (w : ℕ) (i : ValueInfo) → last ≡ Some w → slice_get (syntax.values s) w ≡ Some i → place s (insert path new) ≡ behind_entry i (keys_in (map key (k ∷ ks))) new
-  behind_last w i e there = by (keyval_placed profile s path at [] new k ks h)
+  pub behind_last : (w : ℕ) → last ≡ Some w → IsPutBehind path s new (keys_in (map key (k ∷ ks))) w
+  behind_last w e = by (keyval_placed profile s path at [] new k ks h)
     where
-      by : Placed profile s path at [] new k ks h → place s (insert path new) ≡ behind_entry i (keys_in (map key (k ∷ ks))) new
+      by : Placed profile s path at [] new k ks h → IsPutBehind path s new (keys_in (map key (k ∷ ks))) w
       by (inl (empty, is)) =
           let none_there : last ≡ None =
           ap (last_keyval (suc v) own.depth) (behind_is ∙ ap (λ (es : Entries). entries_values (begin profile s path at [] new k ks h) es ++ h.there.found.others) empty)
@@ -115,6 +115,9 @@ module _ (profile : Profile) (s : Document) (path at : List Part) (new : Value) 
           let infos : List ValueInfo = infos_before profile is_inline (put_named name_with (length (map key (k ∷ ks))) new) (map key (k ∷ ks)) at s h.changed h.there (Told profile s path at [] new k ks h) z in
           let w_is : suc v + length z.front ≡ w = one_of_two last _ w (ap (last_keyval (suc v) own.depth) behind_is ∙ found) e in
           let same : w ≡ length infos = omega (arith, w_is, is_number, length-append h.there.found.front (h.there.found.own ∷ z.front)) in
-          let i_is = one_of_two (slice_get (syntax.values s) w) _ i
-              (ap (slice_get (syntax.values s)) same ∙ here_there profile is_inline (put_named name_with (length (map key (k ∷ ks))) new) (map key (k ∷ ks)) at s h.changed h.there (Told profile s path at [] new k ks h) z) there in
-          b.is ∙ ap (λ (j : ValueInfo). behind_entry j (keys_in (map key (k ∷ ks))) new) i_is
+          record {
+            info = own_of (Told profile s path at [] new k ks h) 0 (begin profile s path at [] new k ks h) h.there.found.value.inside z;
+            here = ap (slice_get (syntax.values s)) same
+                ∙ here_there profile is_inline (put_named name_with (length (map key (k ∷ ks))) new) (map key (k ∷ ks)) at s h.changed h.there (Told profile s path at [] new k ks h) z;
+            placed = b.is;
+          }

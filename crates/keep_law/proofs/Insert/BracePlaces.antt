@@ -1,5 +1,5 @@
 -- Where a keyval is put into braces: behind the last keyval that goes past the dots, or into empty braces.
-use Rattle.std.proofs.Common.{◌≡◌, ℕ, suc, ◌+◌, ◌-◌, Bool, true, false, List, [], ◌∷◌, ◌++◌, length, map, take, drop, refl, sym, ap, subst, ◌∙◌, append_assoc, length-append, arith, Option, Some, None, ◌⊎◌, inl, inr}
+use Rattle.std.proofs.Common.{◌≡◌, ℕ, suc, ◌+◌, ◌-◌, Bool, true, false, List, [], ◌∷◌, ◌++◌, length, map, take, drop, slice_get, refl, sym, ap, subst, ◌∙◌, append_assoc, length-append, arith, Option, Some, None, ◌⊎◌, inl, inr}
 use Rattle.std.specs.Prelude.{codes, IsUtf8, ◌||◌}
 use Rattle.std.specs.List.{AllByRecursion, list_any}
 use Rattle.std.proofs.lemmas.List.Elements.{filter_map-append}
@@ -9,6 +9,7 @@ use Rattle.keep_syntax.specs.declared.info.Start.{Start}
 use Rattle.keep_syntax.specs.declared.info.ValueInfo.{ValueInfo}
 use Rattle.keep_syntax.specs.Tree.{Name, named_leaves, Body, scalar, array, inline, Entries, none, entry, Value, Document, text_of}
 use Rattle.keep_syntax.specs.Grammar.{IsValue}
+use Rattle.keep_syntax.specs.Numbered as syntax
 use Rattle.keep_syntax.specs.Numbered.{inside_of}
 use Rattle.keep_syntax.proofs.ProfileTest.{allowed_value}
 use Rattle.keep_meaning.specs.Fact.{Fact, is_value_fact}
@@ -57,6 +58,12 @@ named_nothing name rest new more v d e =
 name_is : (xs : List (List ℕ)) (k : List ℕ) (ks : List (List ℕ)) → name_of (xs ++ k ∷ ks) ≡ Some (name_with (xs ++ k ∷ ks))
 name_is [] k ks = refl
 name_is (x ∷ xs) k ks = refl
+
+-- behind the value of that number
+pub record IsPutBehind (path : List Part) (s : Document) (new : Value) (keys : List (List ℕ)) (w : ℕ) : Type 0 where
+  pub info : ValueInfo
+  pub here : slice_get (syntax.values s) w ≡ Some info
+  pub placed : place s (insert path new) ≡ behind_entry info keys new
 
 -- ---- what is done
 

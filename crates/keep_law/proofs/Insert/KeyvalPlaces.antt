@@ -21,7 +21,7 @@ use Rattle.keep_law.specs.Laws.{IsStanding, IsGivenValue}
 use Rattle.keep_law.specs.Refusals.{refusal, has_value}
 use Rattle.keep_law.proofs.Values.ValuePlace.{has_of_number, none_of_number}
 use Rattle.keep_law.proofs.Insert.NewPath.{IsNewPath, drop_front_parts}
-use Rattle.keep_law.proofs.Insert.BracePlaces.{IsKeyvalFound, fresh_path, keyval_found}
+use Rattle.keep_law.proofs.Insert.BracePlaces.{IsPutBehind, IsKeyvalFound, fresh_path, keyval_found}
 use Rattle.keep_law.proofs.Insert.BraceLaws.{into_empty, behind_last}
 use Rattle.keep_law.proofs.Insert.BraceDotted.{behind_dotted}
 
@@ -32,8 +32,7 @@ told_number path s = last_number is_value value_number (numbered_at path (number
 -- into the braces of an inline table
 pub record IsInlineLaw (path : List Part) (s : Document) (new : Value) (v : ℕ) (own : ValueInfo) : Type 0 where
   pub empty : last_keyval (suc v) own.depth (drop (suc v) (syntax.values s)) ≡ None → place s (insert path new) ≡ in_empty own (keys_in (drop (length (holder path (said_in s))) path)) new
-  pub behind : (w : ℕ) (i : ValueInfo) → last_keyval (suc v) own.depth (drop (suc v) (syntax.values s)) ≡ Some w → slice_get (syntax.values s) w ≡ Some i
-      → place s (insert path new) ≡ behind_entry i (keys_in (drop (length (holder path (said_in s))) path)) new
+  pub behind : (w : ℕ) → last_keyval (suc v) own.depth (drop (suc v) (syntax.values s)) ≡ Some w → IsPutBehind path s new (keys_in (drop (length (holder path (said_in s))) path)) w
 
 take_front : (a b : List Part) → take (length a) (a ++ b) ≡ a
 take_front [] [] = refl
@@ -55,18 +54,18 @@ module _ (profile : Profile) (limit : ℕ) (s : Document) (path : List Part) (ne
       let keys : keys_in (map key (n.first ∷ n.more)) ≡ keys_in (drop (length a) path) = ap keys_in (sym n.rest) in
       record {
         empty = λ e. into_empty profile s path a new n.first n.more h v own number here e ∙ ap (λ (l : List (List ℕ)). in_empty own l new) keys;
-        behind = λ w i e there. behind_last profile s path a new n.first n.more h v own number here w i e there ∙ ap (λ (l : List (List ℕ)). behind_entry i l new) keys;
+        behind = λ w e. subst (λ (l : List (List ℕ)). IsPutBehind path s new l w) keys (behind_last profile s path a new n.first n.more h v own number here w e);
       }
     where
       no : (b : Part) (bs r : List Part) → [] ≡ (b ∷ bs) ++ r → ⊥
       no b bs r e = absurd cc
 
   -- Behind the keyval in braces that goes on from a dotted table last. The path's first `from` steps lead to the braces.
-  pub dots_placed : (from b v : ℕ) (i : ValueInfo) → from ≤ length (holder path (said_in s)) → told_number (take from (holder path (said_in s))) s ≡ Some b
+  pub dots_placed : (from b v : ℕ) → from ≤ length (holder path (said_in s)) → told_number (take from (holder path (said_in s))) s ≡ Some b
       → ((n : ℕ) → from < n → n ≤ length (holder path (said_in s)) → told_number (take n (holder path (said_in s))) s ≡ None)
       → told_number (holder path (said_in s)) s ≡ None → last_number is_dotted value_number (numbered_at (holder path (said_in s)) (numbered_in s)) ≡ Some v
-      → slice_get (syntax.values s) v ≡ Some i → place s (insert path new) ≡ behind_entry i (keys_in (drop from path)) new
-  dots_placed from b v i within number nones none dots here = by (drop from a) refl
+      → IsPutBehind path s new (keys_in (drop from path)) v
+  dots_placed from b v within number nones none dots = by (drop from a) refl
     where
       at : List Part
       at = take from a
@@ -74,7 +73,7 @@ module _ (profile : Profile) (limit : ℕ) (s : Document) (path : List Part) (ne
       long : length at ≡ from
       long = length-take-le from a within
 
-      by : (x : List Part) → drop from a ≡ x → place s (insert path new) ≡ behind_entry i (keys_in (drop from path)) new
+      by : (x : List Part) → drop from a ≡ x → IsPutBehind path s new (keys_in (drop from path)) v
       by [] e =
           let same : at ≡ a = sym (append-nil at) ∙ ap (λ (l : List Part). at ++ l) (sym e) ∙ take-append-drop from a in
           let no : None ≡ Some b = sym none ∙ ap (λ (q : List Part). told_number q s) (sym same) ∙ number in absurd cc
@@ -94,4 +93,4 @@ module _ (profile : Profile) (limit : ℕ) (s : Document) (path : List Part) (ne
           let keys : keys_in rest ≡ keys_in (drop from path) =
           ap keys_in (sym (drop_front_parts at rest) ∙ ap (λ (m : ℕ). drop m (at ++ rest)) long ∙ ap (drop from) (sym h.whole)) in
           let last : last_number is_dotted value_number (numbered_at (at ++ d ∷ ds) (numbered_in s)) ≡ Some v = ap (λ (q : List Part). last_number is_dotted value_number (numbered_at q (numbered_in s))) (sym whole) ∙ dots in
-          behind_dotted profile s path at d ds new n.first n.more h v i last here ∙ ap (λ (l : List (List ℕ)). behind_entry i l new) keys
+          subst (λ (l : List (List ℕ)). IsPutBehind path s new l v) keys (behind_dotted profile s path at d ds new n.first n.more h v last)
