@@ -9,6 +9,7 @@ pub mod ScalarLaws
 pub mod SetLaws
 pub mod EditedLaws
 pub mod RenameLaws
+pub mod NewlineLaws
 pub mod RemoveNode
 pub mod RemoveSteps
 pub mod RemoveCut

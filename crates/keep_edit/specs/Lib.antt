@@ -5,3 +5,4 @@ pub mod Removing
 pub mod Inserting
 pub mod Holding
 pub mod Aiming
+pub mod Newlines

@@ -4,6 +4,7 @@
 mod document;
 mod holder;
 mod insert;
+mod newline;
 mod remove;
 mod rename;
 mod value;

@@ -2,3 +2,5 @@
 pub mod AppendLaw
 pub mod AppendTable
 pub mod AppendElement
+pub mod HeaderConflict
+pub mod HeaderMarks

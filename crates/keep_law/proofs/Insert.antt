@@ -48,3 +48,5 @@ pub mod LastKeyval
 pub mod BraceLaws
 pub mod BraceDotted
 pub mod KeyvalPlaces
+pub mod DottedPlace
+pub mod InsertDottedPlace

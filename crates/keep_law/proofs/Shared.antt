@@ -32,3 +32,6 @@ pub use Rattle.keep_law.proofs.Values.ValueDepths.{too_deep_at}
 pub use Rattle.keep_law.proofs.Insert.ItemPlaces.{IsItemLaw, item_law}
 pub use Rattle.keep_law.proofs.Insert.BracePlaces.{IsPutBehind}
 pub use Rattle.keep_law.proofs.Insert.KeyvalPlaces.{IsInlineLaw, dots_placed, inline_placed}
+pub use Rattle.keep_law.proofs.Insert.LineBefore.{IsLowPlace}
+pub use Rattle.keep_law.proofs.Insert.InsertPlaces.{element_placed, header_placed, root_placed, through_placed}
+pub use Rattle.keep_law.proofs.Insert.InsertDottedPlace.{IsBaseAt, IsDottedPlaced, dotted_placed}

@@ -10,3 +10,4 @@ pub mod Laws
 pub mod Removal
 pub mod Insertion
 pub mod TextEnds
+pub mod Headers

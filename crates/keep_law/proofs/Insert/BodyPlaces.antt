@@ -1,7 +1,7 @@
 -- Where a body ends, by the list of all statements: behind the line before which new lines are put.
 --
 -- Theorems: `root_end`, `headed_at`, `through_at`.
-use Rattle.std.proofs.Common.{◌≡◌, ℕ, zero, suc, ◌+◌, ◌<◌, Bool, true, false, List, [], ◌∷◌, ◌++◌, length, map, drop, refl, sym, ap, subst, ◌∙◌, length-append, arith, Option, Some, None, ◌⊎◌, inl, inr, drop_at}
+use Rattle.std.proofs.Common.{◌≡◌, ℕ, zero, suc, ◌+◌, ◌<◌, true, false, List, [], ◌∷◌, ◌++◌, length, map, drop, refl, sym, ap, subst, ◌∙◌, length-append, arith, Option, Some, None, inl, inr, drop_at}
 use Rattle.std.proofs.lemmas.Bool.{and_parts}
 use Rattle.keep_syntax.specs.declared.info.Statement.{Statement}
 use Rattle.keep_syntax.specs.declared.info.StatementKind.{StatementKind}

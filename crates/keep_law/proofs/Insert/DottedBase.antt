@@ -1,21 +1,19 @@
 -- From where the dots of a key go on to a path: from a line's body, or from braces. A path has one base.
 --
 -- Theorems: `dotted_where`, `one_base`.
-use Rattle.std.proofs.Common.{◌≡◌, ℕ, suc, ◌+◌, Bool, true, false, List, [], ◌∷◌, ◌++◌, length, map, refl, sym, ap, subst, ◌∙◌, append_assoc, length-append, arith, Option, Some, None, ◌⊎◌, inl, inr}
-use Rattle.std.proofs.lemmas.List.{map-append, append-nil}
-use Rattle.keep_syntax.specs.Tree.{Written, Gap, Name, Body, Entries, none, entry, Value, Content, blank, keyval, header, element, Line, Document}
+use Rattle.std.proofs.Common.{◌≡◌, ℕ, ◌+◌, true, false, List, [], ◌∷◌, ◌++◌, map, refl, sym, ap, subst, ◌∙◌, append_assoc, Option, Some, None, ◌⊎◌, inl, inr}
+use Rattle.keep_syntax.specs.Tree.{Written, Gap, Name, Entries, none, entry, Value, Content, blank, keyval, header, element, Line}
 use Rattle.keep_path.specs.Path.{Part, key, index}
 use Rattle.keep_meaning.specs.Marks as marks_of
 use Rattle.keep_meaning.specs.Marks.{Saying, through, past, define, dotted, value, begun, passed, item, Mention, Reading, start, below, header_path, header_way}
-use Rattle.keep_meaning.specs.Meaning.{keys_of, body_fact, valued_mentions, keyed_mentions, entry_mentions, entries_said, keyval_said, line_said, behind_line, lines_said, lines, said_in}
+use Rattle.keep_meaning.specs.Meaning.{keys_of, body_fact, valued_mentions, keyed_mentions, entry_mentions, entries_said, keyval_said, line_said, behind_line, lines_said}
 use Rattle.keep_meaning.specs.Fact.{Fact}
 use Rattle.keep_meaning.specs.Counts.{is_value}
-use Rattle.keep_meaning.specs.Nodes.{is_define, is_begun, is_dotted}
+use Rattle.keep_meaning.specs.Nodes.{is_dotted}
 use Rattle.keep_law.specs.Lines.{last_line, goes_dotted}
-use Rattle.keep_law.proofs.Common.Runs.{AllOf, SomeOf, Allowed, Rules, says_allow, exclusive, some_left, some_right}
-use Rattle.keep_law.proofs.Common.SetLaw.{IsAloneAt, keyed_split}
+use Rattle.keep_law.proofs.Common.Runs.{SomeOf, some_left, some_right}
+use Rattle.keep_law.proofs.Common.SetLaw.{keyed_split}
 use Rattle.keep_law.proofs.Common.Doubles.{IsSaid, some_has}
-use Rattle.keep_law.proofs.Common.LineLaws.{EndsInKey}
 use Rattle.keep_law.proofs.Common.Stops.{stops, keyed_stops, some_unbelow, some_said_below, GoesOn, dotted_front}
 use Rattle.keep_law.proofs.Common.ValueThere.{IsSome, some_cases}
 use Rattle.keep_law.proofs.Common.RemoveThere.{some_here, some_later}

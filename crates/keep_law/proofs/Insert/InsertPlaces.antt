@@ -1,9 +1,9 @@
 -- Where `insert` writes a line, or a section, by the origin of the node that the new path goes on from.
 --
 -- Theorems: `root_placed`, `headed_placed`, `through_placed`.
-use Rattle.std.proofs.Common.{◌≡◌, ℕ, Bool, List, [], ◌∷◌, ◌++◌, length, map, take, drop, refl, sym, ap, subst, ◌∙◌, Option, Some, None, inl, inr}
+use Rattle.std.proofs.Common.{◌≡◌, ℕ, List, [], ◌∷◌, ◌++◌, length, map, take, drop, refl, sym, ap, subst, ◌∙◌, Option, Some, None, inl, inr}
 use Rattle.keep_token.specs.declared.leaf.Profile.{Profile}
-use Rattle.keep_syntax.specs.Tree.{Value, Content, blank, keyval, Document, text}
+use Rattle.keep_syntax.specs.Tree.{Value, blank, keyval, Document, text}
 use Rattle.keep_syntax.specs.Grammar.{IsDocument}
 use Rattle.keep_syntax.specs.Numbered as syntax
 use Rattle.keep_path.specs.Path.{Part, key}
@@ -12,21 +12,21 @@ use Rattle.keep_meaning.specs.Marks.{start}
 use Rattle.keep_meaning.specs.Meaning.{lines, said_in}
 use Rattle.keep_meaning.specs.Nodes.{statement_number, is_through, is_define, is_begun}
 use Rattle.keep_law.specs.Changed.{Place}
-use Rattle.keep_law.specs.Edits.{insert, change, place, at_line, end_of, name_with, new_header}
+use Rattle.keep_law.specs.Edits.{insert, at_line, end_of, name_with, new_header}
 use Rattle.keep_law.specs.Insertion.{is_open, line_at, section_at, section_end}
 use Rattle.keep_law.specs.Lines.{newline_of, last_line, begins, goes_dotted, goes_through, body_length, body_end as line_end}
 use Rattle.keep_law.specs.Look.{holder, item_number, keys_in}
 use Rattle.keep_law.specs.Refusals.{refusal}
 use Rattle.keep_law.specs.Removal.{body_end}
 use Rattle.keep_law.proofs.Common.LineLaws.{EndsInKey}
-use Rattle.keep_law.proofs.Common.ValueThere.{IsSome, the_some}
-use Rattle.keep_law.proofs.Insert.BodyPlaces.{IsBodyBefore, root_end, IsHeadedAt, headed_at, IsThroughAt, through_at, through_lines}
-use Rattle.keep_law.proofs.Insert.InsertDotted.{IsDottedLine, dotted_line}
+use Rattle.keep_law.proofs.Common.ValueThere.{the_some}
+use Rattle.keep_law.proofs.Insert.BodyPlaces.{root_end, IsHeadedAt, headed_at, IsThroughAt, through_at, through_lines}
+use Rattle.keep_law.proofs.Insert.InsertDotted.{dotted_line}
 use Rattle.keep_law.proofs.Insert.InsertLine.{change_here}
 use Rattle.keep_law.proofs.Insert.InsertSection.{change_section}
-use Rattle.keep_law.proofs.Insert.LineBefore.{open_before, root_open, line_placed, section_placed}
+use Rattle.keep_law.proofs.Insert.LineBefore.{IsLowPlace, low_place, open_before, root_open, line_placed, section_placed}
 use Rattle.keep_law.proofs.Insert.LinesPut.{front_of, is_past, bom_width, line_begins}
-use Rattle.keep_law.proofs.Insert.NewPath.{IsNewPath, new_path, drop_front_parts}
+use Rattle.keep_law.proofs.Insert.NewPath.{IsNewPath, new_path}
 use Rattle.keep_law.proofs.Insert.Origins.{origin_at, headed_of_header, headed_of_element, headed_begins, headed_one, IsThroughNode, through_node, through_ends, said_of_number, no_root, no_root_header}
 use Rattle.keep_law.proofs.Remove.RemoveSectionPlace.{IsHeaded}
 
@@ -43,11 +43,11 @@ end_behind : (s : Document) (a : List Part) (i : ℕ) → (a ≡ [] → ⊥) →
 end_behind s [] i some e = absurd (some refl)
 end_behind s (p ∷ ps) i some e = ap (λ (o : Option ℕ). elim o [ None ↦ None | Some i ↦ Some (line_end i (lines s)) ]) e
 
-no_end : (s : Document) (a : List Part) → (a ≡ [] → ⊥) → last_line (begins a) start (lines s) ≡ None → end_of s a ≡ None
+pub no_end : (s : Document) (a : List Part) → (a ≡ [] → ⊥) → last_line (begins a) start (lines s) ≡ None → end_of s a ≡ None
 no_end s [] some e = absurd (some refl)
 no_end s (p ∷ ps) some e = ap (λ (o : Option ℕ). elim o [ None ↦ None | Some i ↦ Some (line_end i (lines s)) ]) e
 
-none_of : {A : Type 0} (o : Option A) → ((x : A) → o ≡ Some x → ⊥) → o ≡ None
+pub none_of : {A : Type 0} (o : Option A) → ((x : A) → o ≡ Some x → ⊥) → o ≡ None
 none_of None h = refl
 none_of (Some x) h = absurd (h x refl)
 
@@ -55,25 +55,26 @@ one_number : (o : Option ℕ) (a b : ℕ) → o ≡ Some a → o ≡ Some b → 
 one_number o a b e f = let k : Some a ≡ Some b = sym e ∙ f in cc
 
 module _ (profile : Profile) (limit : ℕ) (s : Document) (path : List Part) (v : Value) (valid : IsDocument profile s) (no_item : item_number path (said_in s) ≡ None)
-  (allowed : refusal profile limit s (insert path v) ≡ None) where
+    (allowed : refusal profile limit s (insert path v) ≡ None) where
   new : IsNewPath path (said_in s)
   new = new_path profile limit (said_in s) path v no_item allowed
 
   -- at the end of a body
   body_placed : (n at : ℕ) → end_of s (holder path (said_in s)) ≡ Some n → is_open (front_of n s.ended s.last) ≡ is_past n s.ended → at ≡ line_begins s n
-      → place s (insert path v) ≡ new_line_at s path v at
+      → IsLowPlace s (insert path v) (new_line_at s path v at)
   body_placed n at ends opens begins =
+      low_place profile s (insert path v) (new_line_at s path v at) n valid (
       line_placed s (insert path v) n new.first new.more v opens
       (change_here s path v n no_item ends ∙ ap (λ (l : List (List ℕ)). at_line s n (keyval (name_with l) v ∷ [])) new.keys)
       ∙ ap (λ (l : List (List ℕ)). line_at (text s) (newline_of s).text (bom_width s) (line_begins s n) l v) (sym new.keys)
-      ∙ ap (new_line_at s path v) (sym begins)
+      ∙ ap (new_line_at s path v) (sym begins)) begins
 
-  pub root_placed : holder path (said_in s) ≡ [] → place s (insert path v) ≡ new_line_at s path v (body_end (bom_width s) (syntax.statements s))
+  pub root_placed : holder path (said_in s) ≡ [] → IsLowPlace s (insert path v) (new_line_at s path v (body_end (bom_width s) (syntax.statements s)))
   root_placed root =
       body_placed (body_length (lines s)) (body_end (bom_width s) (syntax.statements s)) (ap (end_of s) root) (root_open profile s valid) (root_end s)
 
   -- behind the body of the header that the holder has
-  headed_line : (number : ℕ) → IsHeaded (holder path (said_in s)) s number → place s (insert path v) ≡ new_line_at s path v (body_end_at s number)
+  headed_line : (number : ℕ) → IsHeaded (holder path (said_in s)) s number → IsLowPlace s (insert path v) (new_line_at s path v (body_end_at s number))
   headed_line number headed =
       let a : List Part = holder path (said_in s) in
       let (i, found) = the_some (last_line (begins a) start (lines s)) (headed_begins a s number headed) in
@@ -84,16 +85,16 @@ module _ (profile : Profile) (limit : ℕ) (s : Document) (path : List Part) (v 
       (open_before profile s (line_end i (lines s)) valid at.body.before)
       (ap (body_end_at s) (sym same) ∙ at.body.ends)
 
-  pub header_placed : (number : ℕ) → origin_at (holder path (said_in s)) s ≡ origin.Header number → place s (insert path v) ≡ new_line_at s path v (body_end_at s number)
+  pub header_placed : (number : ℕ) → origin_at (holder path (said_in s)) s ≡ origin.Header number → IsLowPlace s (insert path v) (new_line_at s path v (body_end_at s number))
   header_placed number h = headed_line number (headed_of_header (holder path (said_in s)) s number h)
 
-  pub element_placed : (number : ℕ) → origin_at (holder path (said_in s)) s ≡ origin.Element number → place s (insert path v) ≡ new_line_at s path v (body_end_at s number)
+  pub element_placed : (number : ℕ) → origin_at (holder path (said_in s)) s ≡ origin.Element number → IsLowPlace s (insert path v) (new_line_at s path v (body_end_at s number))
   element_placed number h = headed_line number (headed_of_element (holder path (said_in s)) s number h)
 
   -- in a new section, behind the body of the last header that goes through the holder
   pub through_placed : (number : ℕ) → origin_at (holder path (said_in s)) s ≡ origin.Through number
-      → place s (insert path v)
-      ≡ section_at (text s) (newline_of s).text (bom_width s) (body_end_at s number) (keys_in (take (length (holder path (said_in s))) path)) (keys_in (drop (length (holder path (said_in s))) path)) v
+      → IsLowPlace s (insert path v)
+      (section_at (text s) (newline_of s).text (bom_width s) (body_end_at s number) (keys_in (take (length (holder path (said_in s))) path)) (keys_in (drop (length (holder path (said_in s))) path)) v)
   through_placed number h =
       let a : List Part = holder path (said_in s) in
       let node : IsThroughNode a s number = through_node a s number h in
@@ -106,12 +107,14 @@ module _ (profile : Profile) (limit : ℕ) (s : Document) (path : List Part) (v 
       let same : at.number ≡ number = one_number _ at.number number at.through node.number in
       let n : ℕ = line_end i (lines s) in
       let front : take (length a) path ≡ a = ap (take (length a)) new.whole ∙ take_front a (map key (new.first ∷ new.more)) in
-      section_placed s (insert path v) n (keys_in a) new.first new.more v (open_before profile s n valid at.body.before)
+      let begins : body_end_at s number ≡ line_begins s n = ap (body_end_at s) (sym same) ∙ at.body.ends in
+      low_place profile s (insert path v) (section_at (text s) (newline_of s).text (bom_width s) (body_end_at s number) (keys_in (take (length a) path)) (keys_in (drop (length a) path)) v) n valid
+      (section_placed s (insert path v) n (keys_in a) new.first new.more v (open_before profile s n valid at.body.before)
       (change_section s path v i no_item (no_end s a (λ e. no_root (subst EndsInKey e ends)) begun) dots found
       ∙ ap (λ (l : List (List ℕ)). at_line s n (blank ∷ new_header (keys_in a) ∷ keyval (name_with l) v ∷ [])) new.keys)
       ∙ ap (λ (l : List (List ℕ)). section_at (text s) (newline_of s).text (bom_width s) (line_begins s n) (keys_in a) l v) (sym new.keys)
-      ∙ ap (λ (m : ℕ). section_at (text s) (newline_of s).text (bom_width s) m (keys_in a) (keys_in (drop (length a) path)) v) (sym (ap (body_end_at s) (sym same) ∙ at.body.ends))
-      ∙ ap (λ (x : List Part). section_at (text s) (newline_of s).text (bom_width s) (body_end_at s number) (keys_in x) (keys_in (drop (length a) path)) v) (sym front)
+      ∙ ap (λ (m : ℕ). section_at (text s) (newline_of s).text (bom_width s) m (keys_in a) (keys_in (drop (length a) path)) v) (sym begins)
+      ∙ ap (λ (x : List Part). section_at (text s) (newline_of s).text (bom_width s) (body_end_at s number) (keys_in x) (keys_in (drop (length a) path)) v) (sym front)) begins
     where
       take_front : (a b : List Part) → take (length a) (a ++ b) ≡ a
       take_front [] [] = refl

@@ -1,25 +1,23 @@
 -- The line before new lines: it is a header's or a keyval's, and the last byte of the text before them tells whether it has a newline.
-use Rattle.std.proofs.Common.{◌≡◌, ℕ, zero, suc, ◌+◌, ◌<◌, Bool, true, false, not, ◌==◌, List, [], ◌∷◌, ◌++◌, length, map, take, drop, refl, sym, ap, subst, ◌∙◌, append_assoc, length-append, arith, cond, Option, take_at, drop_at}
-use Rattle.std.specs.Prelude.{codes}
+use Rattle.std.proofs.Common.{◌≡◌, ℕ, zero, suc, ◌+◌, ◌<◌, ◌≤◌, Bool, true, false, not, List, [], ◌∷◌, ◌++◌, length, map, take, drop, refl, sym, ap, subst, ◌∙◌, append_assoc, length-append, arith, cond, Option, take_at, drop_at}
 use Rattle.std.specs.List.{flat_map, AllByRecursion}
 use Rattle.std.proofs.lemmas.List.{append-nil}
 use Rattle.keep_token.specs.declared.leaf.Profile.{Profile}
+use Rattle.keep_token.specs.Pieces.{first}
 use Rattle.keep_syntax.specs.Tree.{Written, Value, Content, blank, keyval, header, element, Line, Ended, Document, name_leaves, value_leaves, content_leaves, line_leaves, ended_leaves, bom_leaves, text_of, text}
 use Rattle.keep_syntax.specs.Grammar.{IsLine, IsEnded, IsDocument}
 use Rattle.keep_meaning.specs.Meaning.{line_of, lines}
 use Rattle.keep_law.specs.Changed.{Changed, Place, IsChangeOf, place_of}
 use Rattle.keep_law.specs.Insertion.{put_in, is_open, missing_newline, keyed_text, line_at, section_at}
-use Rattle.keep_law.specs.Lines.{line_text, ended_text, content_text, is_empty, is_empty_list, body_length, body_end, more_lines, plain_line, new_line, newline_of}
+use Rattle.keep_law.specs.Lines.{ended_text, content_text, is_empty, drop_front, body_length, more_lines, plain_line, new_line, newline_of}
 use Rattle.keep_law.specs.Edits.{Edit, change, changed_or_same, place, at_line, name_with, new_header}
 use Rattle.keep_law.specs.TextEnds.{ends_in_newline}
-use Rattle.keep_law.specs.Values.{text_of_value}
-use Rattle.keep_law.proofs.Common.BodyEnd.{drop_behind}
 use Rattle.keep_law.proofs.Common.LineEnds.{ends_behind, line_quiet, line_some, ended_ends}
 use Rattle.keep_law.proofs.Common.LineTexts.{at_line-is}
-use Rattle.keep_law.proofs.Common.Texts.{EachIs, text_of-append}
+use Rattle.keep_law.proofs.Common.Texts.{text_of-append}
 use Rattle.keep_law.proofs.Insert.LineDepths.{line_change}
 use Rattle.keep_law.proofs.Insert.LinesPut.{is_past, newline_if, front_of, bom_width, line_begins, AreLinesPut, lines_put, lines_place, front_none, front_past, past_past, front_one}
-use Rattle.keep_law.proofs.Remove.RemoveLinePlace.{head_line, tail_lines, head_text, lines_split}
+use Rattle.keep_law.proofs.Remove.RemoveLinePlace.{head_line, tail_lines, head_text, is_high, drop_low}
 
 -- ---- a line that says something
 
@@ -94,6 +92,36 @@ taken a b c t e =
     ∙ ap (drop (length a)) (take_at (a ++ b) c (length a + length b) (length-append a b))
     ∙ drop_at a b (length a) refl
 
+-- the text, cut where the line of that number begins
+cut_text : (s : Document) (n : ℕ) → text s ≡ (text_of (bom_leaves s.bom) ++ front_of n s.ended s.last) ++ (drop_front n s.ended s.last).behind
+cut_text s n =
+    let c : Changed Document = line_change s n [] in
+    let cut : IsChangeOf text s c = at_line-is s n [] in
+    let h : AreLinesPut s n [] c = lines_put s n [] c refl in
+    let front : List ℕ = text_of (bom_leaves s.bom) ++ front_of n s.ended s.last in
+    cut.was ∙ ap (λ (t : List ℕ). t ++ (c.old ++ c.behind)) h.before ∙ ap (λ (t : List ℕ). front ++ (t ++ c.behind)) h.old ∙ ap (λ (t : List ℕ). front ++ t) h.behind
+
+-- The edit's place is this one, within the text, and no byte of a longer character stands there.
+pub record IsLowPlace (s : Document) (e : Edit) (p : Place) : Type 0 where
+  pub placed : place s e ≡ p
+  pub within : p.start ≤ length (text s)
+  pub low : is_high (first (drop p.start (text s))) ≡ false
+
+pub low_place : (profile : Profile) (s : Document) (e : Edit) (p : Place) (n : ℕ) → IsDocument profile s → place s e ≡ p → p.start ≡ line_begins s n → IsLowPlace s e p
+low_place profile s e p n valid placed begins =
+    let bom : List ℕ = text_of (bom_leaves s.bom) in
+    let front : List ℕ = front_of n s.ended s.last in
+    let behind : List ℕ = (drop_front n s.ended s.last).behind in
+    let long : line_begins s n ≡ length (bom ++ front) = sym (length-append bom front) in
+    record {
+      placed = placed;
+      within = omega (arith, begins, long, ap (λ (t : List ℕ). length t) (cut_text s n), length-append (bom ++ front) behind);
+      low = ap (λ (m : ℕ). is_high (first (drop m (text s)))) begins
+          ∙ ap (λ (t : List ℕ). is_high (first (drop (line_begins s n) t))) (cut_text s n)
+          ∙ ap (λ (t : List ℕ). is_high (first t)) (drop_at (bom ++ front) behind (line_begins s n) (sym long))
+          ∙ drop_low profile n s.ended s.last valid.ended valid.last;
+    }
+
 newline_by : (b : Bool) (newline : List ℕ) (past : Bool) → b ≡ past → cond b newline [] ≡ newline_if past newline
 newline_by b newline past e = ap (λ (x : Bool). cond x newline []) e
 
@@ -101,14 +129,8 @@ newline_by b newline past e = ap (λ (x : Bool). cond x newline []) e
 missing_is : (s : Document) (n : ℕ) → is_open (front_of n s.ended s.last) ≡ is_past n s.ended
     → missing_newline (text s) (newline_of s).text (bom_width s) (line_begins s n) ≡ newline_if (is_past n s.ended) (newline_of s).text
 missing_is s n opens =
-    let c : Changed Document = line_change s n [] in
-    let cut : IsChangeOf text s c = at_line-is s n [] in
-    let h : AreLinesPut s n [] c = lines_put s n [] c refl in
-    let bom : List ℕ = text_of (bom_leaves s.bom) in
-    let front : List ℕ = front_of n s.ended s.last in
-    let whole : text s ≡ (bom ++ front) ++ c.behind = cut.was ∙ ap (λ (t : List ℕ). t ++ (c.old ++ c.behind)) h.before ∙ ap (λ (t : List ℕ). (bom ++ front) ++ (t ++ c.behind)) h.old in
     newline_by (is_open (drop (bom_width s) (take (line_begins s n) (text s)))) (newline_of s).text (is_past n s.ended)
-    (ap is_open (taken bom front c.behind (text s) whole) ∙ opens)
+    (ap is_open (taken (text_of (bom_leaves s.bom)) (front_of n s.ended s.last) (drop_front n s.ended s.last).behind (text s) (cut_text s n)) ∙ opens)
 
 plain_text : (newline : Written) (c : Content) (es : List Ended) → ended_text (new_line newline c ∷ es) ≡ content_text c ++ (newline.text ++ ended_text es)
 plain_text newline c es =

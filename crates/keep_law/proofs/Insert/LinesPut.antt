@@ -1,10 +1,10 @@
 -- Where new lines are put: behind the text of the lines before them. A newline comes first only behind a last line without one.
-use Rattle.std.proofs.Common.{◌≡◌, ℕ, zero, suc, ◌+◌, Bool, true, false, cond, List, [], ◌∷◌, ◌++◌, length, map, refl, sym, ap, ◌∙◌, append_assoc, length-append, arith, Option, Some, None}
+use Rattle.std.proofs.Common.{◌≡◌, ℕ, zero, suc, ◌+◌, Bool, true, false, cond, List, [], ◌∷◌, ◌++◌, length, map, refl, sym, ap, ◌∙◌, append_assoc, length-append, arith, Some}
 use Rattle.std.specs.List.{flat_map}
 use Rattle.std.proofs.lemmas.List.{append-nil}
-use Rattle.keep_syntax.specs.Tree.{Written, Content, Line, Ended, Document, line_leaves, ended_leaves, bom_leaves, text_of}
-use Rattle.keep_law.specs.Changed.{Changed, Place, place_of, framed_change}
-use Rattle.keep_law.specs.Lines.{Page, page_text, ended_text, with_page, line_text, put_lines, drop_front, new_line, newline_of}
+use Rattle.keep_syntax.specs.Tree.{Written, Content, Line, Ended, Document, ended_leaves, bom_leaves, text_of}
+use Rattle.keep_law.specs.Changed.{Changed, place_of, framed_change}
+use Rattle.keep_law.specs.Lines.{Page, ended_text, with_page, put_lines, drop_front, new_line, newline_of}
 use Rattle.keep_law.specs.Edits.{at_line}
 use Rattle.keep_law.proofs.Common.Texts.{text_of-append}
 use Rattle.keep_law.proofs.Remove.RemovePlace.{some_is, same_place}

@@ -1,27 +1,24 @@
 -- A path that a line's key goes on from by dots has its base in that line's body, and nowhere else.
 --
 -- Theorems: `line_base`, `not_in_braces`.
-use Rattle.std.proofs.Common.{◌≡◌, ℕ, Bool, true, false, List, [], ◌∷◌, ◌++◌, map, refl, sym, ap, subst, ◌∙◌, append_assoc, Option, Some, None, ◌⊎◌, inl, inr, ◌||◌}
-use Rattle.std.proofs.lemmas.Bool.{and_parts}
+use Rattle.std.proofs.Common.{◌≡◌, ℕ, Bool, true, false, List, [], ◌∷◌, ◌++◌, map, refl, sym, ap, subst, ◌∙◌, Option, ◌⊎◌, inl, inr, ◌||◌}
 use Rattle.std.proofs.lemmas.List.{append-nil}
-use Rattle.keep_syntax.specs.Tree.{Written, Gap, Name, Value, Content, blank, keyval, header, element, Line, Document}
-use Rattle.keep_path.specs.Path.{Part, key, index, same_path}
+use Rattle.keep_syntax.specs.Tree.{Written, Gap, Content, blank, keyval, header, element, Line, Document}
+use Rattle.keep_path.specs.Path.{Part, key, index}
 use Rattle.keep_meaning.specs.Marks as marks_of
 use Rattle.keep_meaning.specs.Marks.{Saying, through, past, define, dotted, value, begun, passed, item, Mention, Reading, start, below}
-use Rattle.keep_meaning.specs.Meaning.{keys_of, body_fact, valued_mentions, keyed_mentions, entries_said, keyval_said, line_said, behind_line, lines_said, reading_behind, lines, said_in}
+use Rattle.keep_meaning.specs.Meaning.{keys_of, body_fact, valued_mentions, keyed_mentions, entries_said, line_said, behind_line, lines_said, reading_behind, lines, said_in}
 use Rattle.keep_meaning.specs.Counts.{is_value}
-use Rattle.keep_meaning.specs.Nodes.{is_define, is_begun, is_dotted, is_element, has}
-use Rattle.keep_law.specs.Lines.{last_line, goes_dotted, begins, is_header}
-use Rattle.keep_law.proofs.Common.Runs.{AllOf, SomeOf, Allowed, Rules, says_allow, exclusive, some_left, some_right, same_path-sound, same_path-refl}
+use Rattle.keep_meaning.specs.Nodes.{is_define, is_begun, is_dotted, is_element}
+use Rattle.keep_law.specs.Lines.{goes_dotted, is_header}
+use Rattle.keep_law.proofs.Common.Runs.{AllOf, SomeOf, Allowed, Rules, says_allow, exclusive, some_left, some_right, same_path-refl}
 use Rattle.keep_law.proofs.Common.SetLaw.{IsAloneAt}
 use Rattle.keep_law.proofs.Common.BodyEnd.{IsTold, begins_told}
 use Rattle.keep_law.proofs.Common.Doubles.{IsSaid, has_some}
 use Rattle.keep_law.proofs.Common.FromMarks.{IsFormed, Formed}
 use Rattle.keep_law.proofs.Common.FromMarksLines.{formed_lines}
 use Rattle.keep_law.proofs.Common.LineLaws.{EndsInKey, lines_said-append}
-use Rattle.keep_law.proofs.Common.SetDocument.{said_of}
 use Rattle.keep_law.proofs.Common.Stops.{some_unbelow, dotted_front}
-use Rattle.keep_law.proofs.Common.ValueThere.{some_cases}
 use Rattle.keep_law.proofs.Remove.ElementThere.{begun_alone}
 use Rattle.keep_law.proofs.Remove.RemoveRefusal.{lines_begun, never_begun}
 use Rattle.keep_law.proofs.Insert.DottedBase.{IsDottedFrom, IsDottedIn, from_below, own_from}

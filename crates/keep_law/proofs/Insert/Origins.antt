@@ -1,5 +1,5 @@
 -- What the origin of a node tells of what is said at its path.
-use Rattle.std.proofs.Common.{◌≡◌, ℕ, Bool, true, false, cond, List, [], ◌∷◌, ◌++◌, map, refl, sym, ap, subst, ◌∙◌, Option, Some, None, ◌⊎◌, inl, inr}
+use Rattle.std.proofs.Common.{◌≡◌, ℕ, Bool, true, false, List, [], ◌∷◌, ◌++◌, map, refl, sym, ap, subst, ◌∙◌, Option, Some, None, ◌⊎◌, inl, inr}
 use Rattle.std.specs.Prelude.{fold, if◌then◌else◌}
 use Rattle.std.specs.Option.{option_map}
 use Rattle.std.proofs.lemmas.Bool.{and_parts}
@@ -11,10 +11,10 @@ use Rattle.keep_meaning.specs.Marks as marks_of
 use Rattle.keep_meaning.specs.Marks.{Saying, through, past, define, dotted, value, begun, passed, item, Mention, Reading, start, header_path, elements_of}
 use Rattle.keep_meaning.specs.Meaning.{keys_of, key_value, further_value, behind_line, lines, said_in}
 use Rattle.keep_meaning.specs.Counts.{Count, Numbered, is_value, numbered_in}
-use Rattle.keep_meaning.specs.Nodes.{is_at, is_numbered_at, numbered_at, mention_of, last_number, statement_number, value_number, first_that_fits, place_said, is_define, is_begun, is_dotted, is_element, is_through}
+use Rattle.keep_meaning.specs.Nodes.{is_at, numbered_at, mention_of, last_number, statement_number, value_number, first_that_fits, place_said, is_define, is_begun, is_dotted, is_element, is_through}
 use Rattle.keep_meaning.proofs.Shared.{mentions-numbered_in}
 use Rattle.keep_law.specs.Lines.{last_line, begins, is_header}
-use Rattle.keep_law.proofs.Common.Runs.{AllOf, SomeOf, Pairs, Allowed, Rules, says_allow, same_path-sound, same_path-refl}
+use Rattle.keep_law.proofs.Common.Runs.{AllOf, SomeOf, same_path-sound, same_path-refl}
 use Rattle.keep_law.proofs.Common.BodyEnd.{IsLast, last_found}
 use Rattle.keep_law.proofs.Common.Doubles.{IsSaid}
 use Rattle.keep_law.proofs.Common.FromMarks.{IsFormed, Formed}
@@ -143,7 +143,7 @@ through_from None None None None None (Some i) n h = let same : i ≡ n = cc in 
 through_from None None None None None None n h = absurd cc
 
 -- where no value, no header and no element is told of, but a dotted key is
-dotted_first : (a b c d e f : Option ℕ) (n : ℕ) → a ≡ None → b ≡ None → c ≡ None → d ≡ None → e ≡ Some n → origin_from a b c d e f ≡ origin.Dotted n
+pub dotted_first : (a b c d e f : Option ℕ) (n : ℕ) → a ≡ None → b ≡ None → c ≡ None → d ≡ None → e ≡ Some n → origin_from a b c d e f ≡ origin.Dotted n
 dotted_first a b c d e f n ha hb hc hd he = rw (ha, hb, hc, hd, he) refl
 
 -- ---- of a document's node
@@ -151,7 +151,7 @@ dotted_first a b c d e f n ha hb hc hd he = rw (ha, hb, hc, hd, he) refl
 abbrev pub origin_at : List Part → Document → Place
 origin_at path s = place_said (numbered_at path (numbered_in s))
 
-abbrev told : (Saying → Bool) → (Count → ℕ) → List Part → Document → Option ℕ
+abbrev pub told : (Saying → Bool) → (Count → ℕ) → List Part → Document → Option ℕ
 told is number path s = last_number is number (numbered_at path (numbered_in s))
 
 -- a header defines the table, or begins the element

@@ -285,7 +285,7 @@ rest_valid profile [] rest h = h
 rest_valid profile (e ∷ pre) rest h = rest_valid profile pre rest h.1
 
 -- what stands behind dropped lines
-drop_low : (profile : Profile) (n : ℕ) (es : List Ended) (last : Line) → AllByRecursion (IsEnded profile) es → IsLine profile last → is_high (first (drop_front n es last).behind) ≡ false
+pub drop_low : (profile : Profile) (n : ℕ) (es : List Ended) (last : Line) → AllByRecursion (IsEnded profile) es → IsLine profile last → is_high (first (drop_front n es last).behind) ≡ false
 drop_low profile zero [] last all is = page_low profile [] last all is
 drop_low profile (suc m) [] last all is = refl
 drop_low profile zero (e ∷ es) last all is = page_low profile (e ∷ es) last all is
