@@ -34,6 +34,7 @@ pub mod OriginSaid
 pub mod FoundThere
 pub mod EntryPlaces
 pub mod EntryThere
+pub mod EntryEdges
 pub mod ItemPlaces
 pub mod LinesPut
 pub mod LineBefore
