@@ -42,6 +42,7 @@ use Rattle.keep_law.proofs.Insert.ItemPlaces.{one_of_two}
 use Rattle.keep_law.proofs.Insert.FoundThere.{IsFoundThere}
 use Rattle.keep_law.proofs.Insert.EntryPlaces.{IsEntryAt, own_of}
 use Rattle.keep_law.proofs.Insert.EntryThere.{infos_before, said_before, here_there, said_there, count_there}
+use Rattle.keep_law.proofs.Insert.LineBefore.{IsLowPlace}
 use Rattle.keep_law.proofs.Insert.LastKeyval.{last_none, entry_last}
 use Rattle.keep_law.proofs.Insert.BracePlaces.{IsPutBehind, IsKeyvalFound, fresh_path, keyval_found, rest, begin, Told, IsBehindKeyval, Placed, keyval_placed}
 
@@ -88,11 +89,11 @@ module _ (profile : Profile) (s : Document) (path at : List Part) (new : Value) 
   abbrev last : Option ℕ
   last = last_keyval (suc v) own.depth (drop (suc v) (syntax.values s))
 
-  pub into_empty : last ≡ None → place s (insert path new) ≡ in_empty own (keys_in (map key (k ∷ ks))) new
+  pub into_empty : last ≡ None → IsLowPlace s (insert path new) (in_empty own (keys_in (map key (k ∷ ks))) new)
   into_empty e = by (keyval_placed profile s path at [] new k ks h)
     where
-      by : Placed profile s path at [] new k ks h → place s (insert path new) ≡ in_empty own (keys_in (map key (k ∷ ks))) new
-      by (inl (empty, is)) = is ∙ ap (λ (i : ValueInfo). in_empty i (keys_in (map key (k ∷ ks))) new) (sym is_own)
+      by : Placed profile s path at [] new k ks h → IsLowPlace s (insert path new) (in_empty own (keys_in (map key (k ∷ ks))) new)
+      by (inl (empty, is)) = subst (λ (i : ValueInfo). IsLowPlace s (insert path new) (in_empty i (keys_in (map key (k ∷ ks))) new)) (sym is_own) is
       by (inr b) =
           let found = entry_last (Told profile s path at [] new k ks h) 0 (begin profile s path at [] new k ks h) h.there.found.value.inside b.entry h.there.found.others (suc v) own.depth
               (rest_none _ new b.entry.rest b.last) (ap suc (sym depth_is)) ends in

@@ -8,7 +8,10 @@ use Rattle.keep_token.specs.declared.leaf.Profile.TheVariants.{Wide}
 use Rattle.keep_syntax.specs.declared.info.Start.{Start}
 use Rattle.keep_syntax.specs.declared.info.ValueInfo.{ValueInfo}
 use Rattle.keep_syntax.specs.Tree.{Name, named_leaves, Body, scalar, array, inline, Entries, none, entry, Value, Document, text_of}
-use Rattle.keep_syntax.specs.Grammar.{IsValue}
+use Rattle.keep_syntax.specs.Grammar.{IsValue, IsBody, AreEntries, in_inline}
+use Rattle.keep_syntax.specs.declared.info.Brackets.TheVariants as brackets
+use Rattle.keep_syntax.proofs.SpaceLaws.{gap_blank}
+use Rattle.keep_token.specs.Pieces.{first}
 use Rattle.keep_syntax.specs.Numbered as syntax
 use Rattle.keep_syntax.specs.Numbered.{inside_of}
 use Rattle.keep_syntax.proofs.ProfileTest.{allowed_value}
@@ -21,7 +24,7 @@ use Rattle.keep_law.specs.Look.{holder, item_number, is_table, keys_in, key_text
 use Rattle.keep_law.specs.Changed.{Changed, place_of, within}
 use Rattle.keep_law.specs.Values.{put_behind, put_named, bracketed_change, text_of_value, goes_past}
 use Rattle.keep_law.specs.Edits.{insert, change, inside, changed_or_same, place, name_with}
-use Rattle.keep_law.specs.Insertion.{name_of, behind_entry, in_empty, keyed_text}
+use Rattle.keep_law.specs.Insertion.{put_in, name_of, behind_entry, in_empty, keyed_text}
 use Rattle.keep_law.specs.Laws.{IsStanding, IsGivenValue}
 use Rattle.keep_law.specs.Refusals.{refusal, has_value}
 use Rattle.keep_law.proofs.Common.Runs.{AllOf, SomeOf, all_right, Rules, IsApart}
@@ -39,12 +42,15 @@ use Rattle.keep_law.proofs.Insert.NewPath.{IsNewPath, new_path, drop_front_parts
 use Rattle.keep_law.proofs.Insert.InsertWhole.{suits_there, has_lines}
 use Rattle.keep_law.proofs.Insert.InsertBraces.{no_lines, change_braces}
 use Rattle.keep_law.proofs.Insert.ItemThere.{never_whole}
-use Rattle.keep_law.proofs.Insert.BracesPlace.{is_inline, take_front, IsBracesPlace, braces_there}
+use Rattle.keep_law.proofs.Insert.BracesPlace.{is_inline, entries_inline, take_front, IsBracesPlace, braces_there}
 use Rattle.keep_law.proofs.Insert.BracesStops.{rest_name, rest_keys}
 use Rattle.keep_law.proofs.Insert.NamedEntries.{IsTold}
 use Rattle.keep_law.proofs.Insert.NoLines.{value_no_lines}
 use Rattle.keep_law.proofs.Insert.FoundThere.{TakesNothing, IsFoundThere, found_there, put_place}
 use Rattle.keep_law.proofs.Insert.EntryPlaces.{IsEntryAt, own_of, IsBehindEntry, behind_at}
+use Rattle.keep_law.proofs.Insert.EntryEdges.{gap_low, back_low, low_put}
+use Rattle.keep_law.proofs.Insert.LineBefore.{IsLowPlace}
+use Rattle.keep_law.proofs.Remove.RemoveLinePlace.{is_high}
 use Rattle.keep_law.proofs.Insert.EntryThere.{first_in}
 use Rattle.keep_law.proofs.Insert.ItemPlaces.{bracketed_nothing, behind_nothing, Nothing, of_some, IsWithin, within_is}
 
@@ -63,14 +69,14 @@ name_is (x ∷ xs) k ks = refl
 pub record IsPutBehind (path : List Part) (s : Document) (new : Value) (keys : List (List ℕ)) (w : ℕ) : Type 0 where
   pub info : ValueInfo
   pub here : slice_get (syntax.values s) w ≡ Some info
-  pub placed : place s (insert path new) ≡ behind_entry info keys new
+  pub placed : IsLowPlace s (insert path new) (behind_entry info keys new)
 
 -- ---- what is done
 
 -- the keyval is put into the braces at `at`, with the keys from there on
 pub record IsKeyvalFound (profile : Profile) (s : Document) (path at dots : List Part) (new : Value) (k : List ℕ) (ks : List (List ℕ)) : Type 0 where
   pub changed : Changed Document
-  pub is : place s (insert path new) ≡ place_of changed
+  pub is : change s (insert path new) ≡ Some changed
   pub place : IsBracesPlace s at dots k
   pub whole : path ≡ at ++ (dots ++ map key (k ∷ ks))
   pub there : IsFoundThere profile is_inline (put_named name_with (length (map key (k ∷ ks))) new) (dots ++ map key (k ∷ ks)) at s changed
@@ -130,7 +136,7 @@ module _ (profile : Profile) (limit : ℕ) (s : Document) (path : List Part) (ne
       ∙ ap (λ (x : List Part). inside (put_named name_with (length (map key (k ∷ ks))) new) x s) path_is ∙ d.is in
       record {
         changed = d.changed;
-        is = ap (λ (o : Option (Changed Document)). place_of (changed_or_same s o)) is;
+        is = is;
         place = there;
         whole = path_is;
         there = found_there profile is_inline (put_named name_with (length (map key (k ∷ ks))) new) rest at s standing.valid rules
@@ -169,7 +175,10 @@ module _ (profile : Profile) (s : Document) (path at dots : List Part) (new : Va
     pub entry : IsEntryAt Told 0 begin v.inside
     pub goes : goes_past dots entry.name ≡ true
     pub last : put_behind dots named new entry.rest ≡ None
-    pub is : place s (insert path new) ≡ behind_entry (own_of Told 0 begin v.inside entry) (keys_in rest) new
+    pub is : IsLowPlace s (insert path new) (behind_entry (own_of Told 0 begin v.inside entry) (keys_in rest) new)
+
+  are : AreEntries profile in_inline v.inside
+  are = entries_inline profile v h.there.fit h.there.valid
 
   text_is : keyed_text (keys_in rest) new ≡ text_of (named_leaves named) ++ text_of_value new
   text_is =
@@ -177,19 +186,27 @@ module _ (profile : Profile) (s : Document) (path at dots : List Part) (new : Va
       ap name_of (rest_keys dots k ks) ∙ name_is (keys_in dots) k ks ∙ ap (λ (l : List (List ℕ)). Some (name_with l)) (sym (rest_keys dots k ks)) in
       ap (λ (o : Option Name). text_of (named_leaves o) ++ text_of_value new) e
 
+  -- bytes are put in there
+  put_low : (at : ℕ) (fresh : List ℕ) → length c.before ≡ at → c.new ≡ fresh → is_high (first c.behind) ≡ false → IsLowPlace s (insert path new) (put_in at fresh)
+  put_low at fresh start e low =
+      let nothing : c.old ≡ [] = h.there.found.old ∙ h.there.nothing in
+      low_put s (insert path new) c (put_in at fresh) h.is nothing (put_place c at fresh nothing start e) low
+
   -- into empty braces, or behind a keyval
   abbrev pub Placed : Type 0
-  Placed = ((v.inside ≡ none) × (place s (insert path new) ≡ in_empty h.there.found.own (keys_in rest) new)) ⊎ IsBehindKeyval
+  Placed = ((v.inside ≡ none) × IsLowPlace s (insert path new) (in_empty h.there.found.own (keys_in rest) new)) ⊎ IsBehindKeyval
 
-  by_behind : (d : Changed Entries) → put_behind dots named new v.inside ≡ Some d → length c.before ≡ begin.at + length d.before → c.new ≡ d.new → Placed
-  by_behind d e start fresh =
+  by_behind : (d : Changed Entries) → put_behind dots named new v.inside ≡ Some d → length c.before ≡ begin.at + length d.before → c.new ≡ d.new → c.behind ≡ d.behind ++ (codes "}" ++ h.there.found.beyond) → Placed
+  by_behind d e start fresh more =
       let b : IsBehindEntry Told dots named new 0 begin v.inside d = of_some (IsBehindEntry Told dots named new 0 begin v.inside) (put_behind dots named new v.inside) d e (behind_at Told dots named new 0 begin v.inside) in
       inr (record {
         entry = b.entry;
         goes = b.goes;
         last = b.last;
-        is = h.is ∙ put_place c (own_of Told 0 begin v.inside b.entry).span.end (codes ", " ++ keyed_text (keys_in rest) new) (h.there.found.old ∙ h.there.nothing) (omega (arith, start, b.end))
-            (fresh ∙ b.given ∙ ap (λ (t : List ℕ). codes ", " ++ t) (sym text_is));
+        is = put_low (own_of Told 0 begin v.inside b.entry).span.end (codes ", " ++ keyed_text (keys_in rest) new) (omega (arith, start, b.end))
+            (fresh ∙ b.given ∙ ap (λ (t : List ℕ). codes ", " ++ t) (sym text_is))
+            (ap (λ (t : List ℕ). is_high (first t)) (more ∙ ap (λ (t : List ℕ). t ++ (codes "}" ++ h.there.found.beyond)) b.behind)
+            ∙ back_low profile brackets.Inline b.entry.after b.entry.comma b.entry.rest (codes "}" ++ h.there.found.beyond) (b.entry.valid profile in_inline are).3 (b.entry.valid profile in_inline are).5 refl);
       })
 
   by_parts : (b : Body) (es : Entries) → v.body ≡ b → v.inside ≡ es → is_inline b ≡ true → bracketed_change named new put b es ≡ Some h.there.found.done → Placed
@@ -200,8 +217,11 @@ module _ (profile : Profile) (s : Document) (path at dots : List Part) (new : Va
       let before : h.there.found.done.before ≡ codes "{" = sym (ap (λ (x : Changed Value). x.before) j) in
       inl (
         ei,
-        h.is ∙ put_place c (suc h.there.found.own.span.start) (keyed_text (keys_in rest) new) (h.there.found.old ∙ h.there.nothing) (omega (arith, h.there.found.start, ap (λ (t : List ℕ). length t) before))
-            (h.there.found.new ∙ sym (ap (λ (x : Changed Value). x.new) j) ∙ sym text_is),
+        put_low (suc h.there.found.own.span.start) (keyed_text (keys_in rest) new) (omega (arith, h.there.found.start, ap (λ (t : List ℕ). length t) before))
+            (h.there.found.new ∙ sym (ap (λ (x : Changed Value). x.new) j) ∙ sym text_is)
+            (ap (λ (t : List ℕ). is_high (first t))
+            (h.there.found.text_behind ∙ ap (λ (t : List ℕ). t ++ h.there.found.beyond) (sym (ap (λ (x : Changed Value). x.behind) j)) ∙ append_assoc (text_of g) (codes "}") h.there.found.beyond)
+            ∙ gap_low g (codes "}" ++ h.there.found.beyond) (gap_blank profile brackets.Inline g (subst (IsBody profile) eb h.there.valid.body)) refl),
       )
   by_parts (inline g) (entry name body inside after comma more) eb ei fit e =
       let es : Entries = entry name body inside after comma more in
@@ -212,6 +232,7 @@ module _ (profile : Profile) (s : Document) (path at dots : List Part) (new : Va
       let start : length c.before ≡ begin.at + length w.inner.before =
       omega (arith, h.there.found.start, begins, ap (λ (t : List ℕ). length t) w.before, length-append (codes "{" ++ text_of g) w.inner.before, at) in
       by_behind w.inner (ap (λ (x : List Part). put_behind x named new v.inside) (sym (take_front dots keys)) ∙ ap put ei ∙ w.is) start (h.there.found.new ∙ w.new)
+      (h.there.found.text_behind ∙ ap (λ (t : List ℕ). t ++ h.there.found.beyond) w.behind ∙ append_assoc w.inner.behind (codes "}") h.there.found.beyond)
 
   pub keyval_placed : Placed
   keyval_placed = by_parts v.body v.inside refl refl h.there.fit h.there.by

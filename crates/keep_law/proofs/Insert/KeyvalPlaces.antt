@@ -20,6 +20,7 @@ use Rattle.keep_law.specs.Insertion.{behind_entry, in_empty, last_keyval}
 use Rattle.keep_law.specs.Laws.{IsStanding, IsGivenValue}
 use Rattle.keep_law.specs.Refusals.{refusal, has_value}
 use Rattle.keep_law.proofs.Values.ValuePlace.{has_of_number, none_of_number}
+use Rattle.keep_law.proofs.Insert.LineBefore.{IsLowPlace}
 use Rattle.keep_law.proofs.Insert.NewPath.{IsNewPath, drop_front_parts}
 use Rattle.keep_law.proofs.Insert.BracePlaces.{IsPutBehind, IsKeyvalFound, fresh_path, keyval_found}
 use Rattle.keep_law.proofs.Insert.BraceLaws.{into_empty, behind_last}
@@ -31,7 +32,7 @@ told_number path s = last_number is_value value_number (numbered_at path (number
 
 -- into the braces of an inline table
 pub record IsInlineLaw (path : List Part) (s : Document) (new : Value) (v : ℕ) (own : ValueInfo) : Type 0 where
-  pub empty : last_keyval (suc v) own.depth (drop (suc v) (syntax.values s)) ≡ None → place s (insert path new) ≡ in_empty own (keys_in (drop (length (holder path (said_in s))) path)) new
+  pub empty : last_keyval (suc v) own.depth (drop (suc v) (syntax.values s)) ≡ None → IsLowPlace s (insert path new) (in_empty own (keys_in (drop (length (holder path (said_in s))) path)) new)
   pub behind : (w : ℕ) → last_keyval (suc v) own.depth (drop (suc v) (syntax.values s)) ≡ Some w → IsPutBehind path s new (keys_in (drop (length (holder path (said_in s))) path)) w
 
 take_front : (a b : List Part) → take (length a) (a ++ b) ≡ a
@@ -53,7 +54,7 @@ module _ (profile : Profile) (limit : ℕ) (s : Document) (path : List Part) (ne
       let h = keyval_found profile limit s path new standing given utf8 no_item allowed a [] whole valued free in
       let keys : keys_in (map key (n.first ∷ n.more)) ≡ keys_in (drop (length a) path) = ap keys_in (sym n.rest) in
       record {
-        empty = λ e. into_empty profile s path a new n.first n.more h v own number here e ∙ ap (λ (l : List (List ℕ)). in_empty own l new) keys;
+        empty = λ e. subst (λ (l : List (List ℕ)). IsLowPlace s (insert path new) (in_empty own l new)) keys (into_empty profile s path a new n.first n.more h v own number here e);
         behind = λ w e. subst (λ (l : List (List ℕ)). IsPutBehind path s new l w) keys (behind_last profile s path a new n.first n.more h v own number here w e);
       }
     where
