@@ -87,10 +87,10 @@ place_of_value ns n h =
     first_value (last_number is_value value_number ns) (last_number is_element statement_number ns) (last_number is_begun statement_number ns)
     (last_number is_define statement_number ns) (last_number is_dotted value_number ns) (last_number is_through statement_number ns) n h
 
-value_of_place : (ns : List Numbered) (n : ℕ) → last_number is_value value_number ns ≡ Some n → place_said ns ≡ place.Value n
+pub value_of_place : (ns : List Numbered) (n : ℕ) → last_number is_value value_number ns ≡ Some n → place_said ns ≡ place.Value n
 value_of_place ns n h = rw h refl
 
-none_unless : (o : Option ℕ) → ((n : ℕ) → o ≡ Some n → ⊥) → o ≡ None
+pub none_unless : (o : Option ℕ) → ((n : ℕ) → o ≡ Some n → ⊥) → o ≡ None
 none_unless None h = refl
 none_unless (Some n) h = absurd (h n refl)
 

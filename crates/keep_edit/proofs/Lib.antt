@@ -16,3 +16,4 @@ pub mod RemoveCut
 pub mod HolderLaws
 pub mod RootLaws
 pub mod AimLaws
+pub mod KeyvalSteps
