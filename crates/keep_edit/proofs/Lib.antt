@@ -17,3 +17,4 @@ pub mod HolderLaws
 pub mod RootLaws
 pub mod AimLaws
 pub mod KeyvalSteps
+pub mod BracketPlaces
