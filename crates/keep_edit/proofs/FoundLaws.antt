@@ -82,7 +82,7 @@ first_value : (a b c d e f : Option ℕ) (n : ℕ)
 first_value None b c d e f n h = absurd (no_value_later b c d e f n h)
 first_value (Some v) b c d e f n h = let same : v ≡ n = cc in ap Some same
 
-place_of_value : (ns : List Numbered) (n : ℕ) → place_said ns ≡ place.Value n → last_number is_value value_number ns ≡ Some n
+pub place_of_value : (ns : List Numbered) (n : ℕ) → place_said ns ≡ place.Value n → last_number is_value value_number ns ≡ Some n
 place_of_value ns n h =
     first_value (last_number is_value value_number ns) (last_number is_element statement_number ns) (last_number is_begun statement_number ns)
     (last_number is_define statement_number ns) (last_number is_dotted value_number ns) (last_number is_through statement_number ns) n h

@@ -21,3 +21,4 @@ pub mod KeyvalSteps
 pub mod KeyvalSpots
 pub mod InsertionLaws
 pub mod LineSpots
+pub mod BracketPlaces
