@@ -22,3 +22,4 @@ pub mod KeyvalSpots
 pub mod InsertionLaws
 pub mod LineSpots
 pub mod BracketPlaces
+pub mod KeysLaws

@@ -21,10 +21,10 @@ pub use Rattle.keep_law.proofs.Common.EntryDepths.{alone_of_bracket}
 pub use Rattle.keep_law.proofs.Insert.ItemThere.{IsItemPath, item_at, never_whole}
 pub use Rattle.keep_law.proofs.Insert.ItemNumbers.{AreNumbered, items_numbered}
 pub use Rattle.keep_law.proofs.Insert.OriginSaid.{is_origin, origin_said}
-pub use Rattle.keep_law.proofs.Insert.Origins.{IsDottedNode, dotted_node, unsaid_of_none}
+pub use Rattle.keep_law.proofs.Insert.Origins.{IsDottedNode, dotted_ends, dotted_node, said_of_number, unsaid_of_none}
 pub use Rattle.keep_law.proofs.Insert.HolderFacts.{no_bracket_element}
 pub use Rattle.keep_law.proofs.Common.FromMarksLines.{path_ends}
-pub use Rattle.keep_law.proofs.EditLaws.{remove_lawful, rename_lawful, set_lawful}
+pub use Rattle.keep_law.proofs.EditLaws.{insert_lawful, remove_lawful, rename_lawful, set_lawful}
 pub use Rattle.keep_law.proofs.Common.Marks.{rules_of_document}
 pub use Rattle.keep_law.proofs.Remove.KeyvalSays.{said_below, said_keyval}
 pub use Rattle.keep_law.proofs.Remove.RemoveWhole.{shared_define}
