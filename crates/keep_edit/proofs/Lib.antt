@@ -23,3 +23,4 @@ pub mod InsertionLaws
 pub mod LineSpots
 pub mod BracketPlaces
 pub mod KeysLaws
+pub mod InsertedLaws
