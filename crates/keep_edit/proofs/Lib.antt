@@ -18,3 +18,4 @@ pub mod RootLaws
 pub mod WritingLaws
 pub mod AimLaws
 pub mod LineSpots
+pub mod LineWriting

@@ -22,7 +22,7 @@ use Rattle.keep_law.proofs.Shared.{Rules, rules_of_document, IsLowPlace, IsBaseA
 use Rattle.keep_edit.specs.Reading.{limit, ProfiledText, IsTextOfTree}
 use Rattle.keep_edit.specs.Answers.{IsSpanOf}
 use Rattle.keep_edit.specs.Inserting.{IsBase, IsKeyvalSpot, IsSpotOf, is_dotted_origin, lines_start, line_end_of, new_line_at, origin_of}
-use Rattle.keep_edit.specs.NewLines.{body_end_of, keyval_end_of, new_section_at}
+use Rattle.keep_edit.specs.PutLines.{body_end_of, keyval_end_of, new_section_at}
 use Rattle.keep_edit.specs.declared.insert.Insertion.{Insertion}
 use Rattle.keep_edit.specs.declared.insert.Spot.{Spot}
 use Rattle.keep_edit.specs.declared.insert.Spot.TheVariants.{BehindBody, BehindLine, NewSection}

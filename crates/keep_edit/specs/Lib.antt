@@ -7,4 +7,4 @@ pub mod Holding
 pub mod Newlines
 pub mod Writing
 pub mod Aiming
-pub mod NewLines
+pub mod PutLines

@@ -14,6 +14,7 @@ ghost use Rattle.keep_edit.specs.Holding.{IsHolder};
 ghost use Rattle.keep_edit.specs.Inserting.{IsInsertionOf, last_keyval_among};
 
 mod keys;
+mod lines;
 
 use crate::document::Document;
 use crate::holder::Holder;
