@@ -3,7 +3,7 @@ use Rattle.std.proofs.Common.{◌≡◌, ℕ, zero, suc, ◌+◌, ◌-◌, ◌<�
 use Rattle.std.specs.Prelude.{if◌then◌else◌}
 use Rattle.std.specs.List.{list_any}
 use Rattle.std.proofs.lemmas.Bool.{cases_lt, lt-ltb, le-ltb}
-use Rattle.std.proofs.lemmas.List.{take_all}
+use Rattle.std.proofs.lemmas.Option.{slice_get_within}
 use Rattle.keep_token.specs.declared.leaf.Leaf.{Leaf}
 use Rattle.keep_token.specs.declared.leaf.Leaf.TheVariants as leaf
 use Rattle.keep_token.specs.declared.leaf.Profile.{Profile}
@@ -12,13 +12,15 @@ use Rattle.keep_syntax.specs.declared.syntax.Syntax.{Syntax}
 use Rattle.keep_meaning.specs.declared.node.Kind.{Kind}
 use Rattle.keep_meaning.specs.declared.node.Kind.TheVariants as kind
 use Rattle.keep_meaning.specs.declared.node.NodeInfo.{NodeInfo}
+use Rattle.keep_meaning.specs.declared.node.Place.TheVariants as origin
+use Rattle.keep_meaning.specs.Counts.{numbered_in}
 use Rattle.keep_meaning.specs.Fact as fact
 use Rattle.keep_meaning.specs.Fact.{Fact}
 use Rattle.keep_path.specs.Path.{Part, key, index}
 use Rattle.keep_meaning.specs.Rules.{ObeysRules}
 use Rattle.keep_meaning.specs.Marks.{Mention, marks}
 use Rattle.keep_meaning.specs.Meaning.{said_in}
-use Rattle.keep_meaning.specs.Nodes.{is_node, is_root, has, is_element, fact_at, kind_at, kind_or_table, moment_kind, node_number, node_paths}
+use Rattle.keep_meaning.specs.Nodes.{is_node, is_root, has, is_element, fact_at, kind_at, kind_or_table, moment_kind, node_number, node_paths, numbered_at}
 use Rattle.keep_meaning.proofs.Shared.{paths-nodes_in}
 use Rattle.keep_nodes.specs.Told.{Telling}
 use Rattle.keep_rules.specs.Lookup.{number_of, path_numbered}
@@ -36,7 +38,7 @@ use Rattle.keep_edit.specs.Holding.{IsOnWay, IsHolder}
 use Rattle.keep_edit.specs.declared.holder.Holder.{Holder}
 use Rattle.keep_edit.specs.declared.insert.Spot.TheVariants as spot
 use Rattle.keep_edit.proofs.AnswerLaws.{told_is}
-use Rattle.keep_edit.proofs.FoundLaws.{IsTold, one_found, fact_node, number_found, no_number_found}
+use Rattle.keep_edit.proofs.FoundLaws.{IsTold, one_found, fact_node, none_unless, value_of_place}
 use Rattle.keep_edit.proofs.NodeLaws.{a_node, no_node, kind_told}
 
 -- ---- the end of a path
@@ -48,11 +50,14 @@ end_of_path (x ∷ []) (suc n) p e h = absurd (omega (arith, h))
 end_of_path (x ∷ y ∷ ps) zero p e h = absurd (omega (arith, h))
 end_of_path (x ∷ y ∷ ps) (suc n) p e h = let (last, front) = end_of_path (y ∷ ps) n p e (omega (arith, h)) in (last, ap (λ (q : List Part). x ∷ q) front)
 
+pub step_inside : (path : List Part) (n : ℕ) (p : Part) → slice_get path n ≡ Some p → n < length path
+step_inside path n p e = slice_get_within path n p e
+
 without_last-take : (p : Part) (ps : List Part) → without_last (p ∷ ps) ≡ take (length ps) (p ∷ ps)
 without_last-take p [] = refl
 without_last-take p (q ∷ ps) = ap (λ (l : List Part). p ∷ l) (without_last-take q ps)
 
-without_last-is : (path : List Part) → 0 < length path → without_last path ≡ take (length path - 1) path
+pub without_last-is : (path : List Part) → 0 < length path → without_last path ≡ take (length path - 1) path
 without_last-is [] h = absurd (omega (arith, h))
 without_last-is (p ∷ ps) h = without_last-take p ps ∙ ap (λ (n : ℕ). take n (p ∷ ps)) (let e : length ps ≡ length (p ∷ ps) - 1 = omega arith in e)
 
@@ -108,9 +113,9 @@ no_array path s obeys other = by (is_array_at path (said_in s)) refl (has is_ele
   where
     by : (b : Bool) → is_array_at path (said_in s) ≡ b → (c : Bool) → has is_element path (said_in s) ≡ c
         → ((if c then kind.Tables else kind_or_table (fact_at path (said_in s))) ≡ kind.Array → ⊥) → is_array_at path (said_in s) ≡ false
-    by false e c k no = e
-    by true e true k no = absurd (no_bracket_element path (said_in s) (rules_of_document s obeys) k (kind_of_array (fact_at path (said_in s)) e).1)
-    by true e false k no = absurd (no (kind_of_array (fact_at path (said_in s)) e).0)
+    by false e c k differs = e
+    by true e true k differs = absurd (no_bracket_element path (said_in s) (rules_of_document s obeys) k (kind_of_array (fact_at path (said_in s)) e).1)
+    by true e false k differs = absurd (differs (kind_of_array (fact_at path (said_in s)) e).0)
 
 -- ---- the number of an item
 
@@ -157,13 +162,8 @@ module _ (path : List Part) (s : Document) (h : Holder) (held : IsHolder path s 
     | inr near ↦ key_last path (said_in s) k (end_of_path path h.len (key k) is (one_more near)).0
   ]
     where
-      inside : (l : List Part) (n : ℕ) (p : Part) → slice_get l n ≡ Some p → n < length l
-      inside [] n p e = absurd cc
-      inside (x ∷ l) zero p e = omega arith
-      inside (x ∷ l) (suc n) p e = omega (arith, inside l n p e)
-
       one_more : length path ≤ suc h.len → length path ≡ suc h.len
-      one_more near = omega (arith, near, inside path h.len (key k) is)
+      one_more near = omega (arith, near, step_inside path h.len (key k) is)
 
   module _ (n : ℕ) (is : slice_get path h.len ≡ Some (index n)) (one : length path ≡ suc h.len) (info : NodeInfo) (told : IsTold (take h.len path) s info) (obeys : ObeysRules (marks (said_in s))) where
     front : without_last path ≡ take h.len path
@@ -219,3 +219,51 @@ module _ (d : ProfiledText) (syntax : Syntax) (index_of : Telling) (a : List Par
       (info : NodeInfo) (there : slice_get index_of.infos next.0 ≡ Some info) where
     pub told_below : IsTold (a ++ p ∷ []) s info
     told_below = one_found d syntax index_of (a ++ p ∷ []) s holds read next info o one (found ∙ ap (λ (q : List Part). node_number index_of.paths (q ++ p ∷ [])) path_is) there
+
+pub other_value : (path : List Part) (s : Document) (info : NodeInfo) → IsTold path s info → ((n : ℕ) → info.place ≡ origin.Value n → ⊥) → value_number_of path s ≡ None
+other_value path s info told other =
+    none_unless (value_number_of path s) (λ n e. other n (ap (λ (i : NodeInfo). i.place) told.is ∙ value_of_place (numbered_at path (numbered_in s)) n e))
+
+-- ---- where an item goes
+
+module _ (d : ProfiledText) (path : List Part) (n : ℕ) (s : Document) (array : ℕ) (read : IsTextOfTree d s) (here : IsItemOf path n s array) where
+  abbrev pub a : List Part
+  a = without_last path
+
+  items : AreNumbered a s
+  items = items_numbered d.profile s a read.reads.valid read.obeys here.static
+
+  below_of_some : (m v : ℕ) → value_number_of (a ++ index m ∷ []) s ≡ Some v → m < item_count a (said_in s)
+  below_of_some m v e = elim (cases_lt m (item_count a (said_in s))) [
+    | inl low ↦ low
+    | inr high ↦ (let t : true ≡ false = sym (has_of_number (a ++ index m ∷ []) s v read.obeys e) ∙ items.from_count m high in absurd cc)
+  ]
+
+  above_of_none : (m : ℕ) → value_number_of (a ++ index m ∷ []) s ≡ None → item_count a (said_in s) ≤ m
+  above_of_none m e = elim (cases_lt m (item_count a (said_in s))) [
+    | inl low ↦ (let t : true ≡ false = sym (items.below_count m low) ∙ none_of_number (a ++ index m ∷ []) s read.obeys e in absurd cc)
+    | inr high ↦ high
+  ]
+
+  pub before_item : (v : ℕ) → Some v ≡ value_number_of (a ++ index n ∷ []) s → IsItemAimed path n s (Ok (spot.BeforeItem v))
+  before_item v e =
+      (omega (arith, below_of_some n v (sym e)), ap (λ (q : List Part). value_number_of q s) here.whole ∙ sym e)
+
+  pub behind_item : (m v : ℕ) → n ≡ suc m → None ≡ value_number_of (a ++ index n ∷ []) s → Some v ≡ value_number_of (a ++ index m ∷ []) s → IsItemAimed path n s (Ok (spot.BehindEntry v))
+  behind_item m v next none e =
+      let count : item_count a (said_in s) ≡ n = omega (arith, above_of_none n (sym none), below_of_some m v (sym e), next) in
+      (omega (arith, count), (m, next, count, sym e))
+
+  pub no_item_there : (m : ℕ) → n ≡ suc m → None ≡ value_number_of (a ++ index m ∷ []) s → IsItemAimed path n s (Err fault.NotFound)
+  no_item_there m next none = (refl, omega (arith, above_of_none m (sym none), next))
+
+  pub in_empty_array : (v : ℕ) → n ≤ 0 → None ≡ value_number_of (a ++ index n ∷ []) s → value_number_of a s ≡ Some v → IsItemAimed path n s (Ok (spot.InEmpty v))
+  in_empty_array v low none e =
+      let count : item_count a (said_in s) ≡ 0 = omega (arith, above_of_none n (sym none), low) in
+      (omega (arith, low), (omega (arith, low), count, e))
+
+  pub array_has_value : value_number_of a s ≡ None → ⊥
+  array_has_value none =
+      let yes : has_value a (said_in s) ≡ true = ap (λ (o : Option Fact). elim o [ None ↦ false | Some f ↦ fact.is_value_fact f ]) here.static in
+      let t : true ≡ false = sym yes ∙ none_of_number a s read.obeys none in
+      absurd cc

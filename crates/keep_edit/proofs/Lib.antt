@@ -17,5 +17,10 @@ pub mod HolderLaws
 pub mod RootLaws
 pub mod WritingLaws
 pub mod AimLaws
+pub mod KeyvalSteps
+pub mod KeyvalSpots
+pub mod InsertionLaws
 pub mod LineSpots
 pub mod LineWriting
+pub mod BracketPlaces
+pub mod KeysLaws

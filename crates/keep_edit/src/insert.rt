@@ -4,6 +4,7 @@ ghost use Rattle.std.specs.List.{list_any};
 ghost use Rattle.keep_syntax.specs.Contract.{values_of};
 ghost use Rattle.keep_syntax.specs.Tree as tree;
 ghost use Rattle.keep_path.specs.Path.{Part, index};
+ghost use Rattle.keep_path.specs.Step.{part_of};
 ghost use Rattle.keep_meaning.specs.Meaning.{said_in};
 ghost use Rattle.keep_meaning.specs.Nodes.{node_number, node_paths};
 ghost use Rattle.keep_law.specs.Look.{is_index, item_number};
@@ -94,14 +95,15 @@ impl Document {
         requires { (s : tree.Document) × IsTextOfTree self.now s × IsHolder path.now s holder }
         ensures { (s : tree.Document) → IsTextOfTree self.now s → IsHolder path.now s holder → result ≡ item_number path.now (said_in s) }
     {
-        let Some(Step::Index(number)) = path.step(holder.len) else {
-            return None;
+        let number = match path.step(holder.len)? {
+            Step::Key(_) => return None,
+            Step::Index(number) => *number,
         };
         if path.len() - holder.len > 1 {
             return None;
         }
         match self.index.node(holder.id).kind {
-            Kind::Array => Some(*number),
+            Kind::Array => Some(number),
             _ => None,
         }
     }
@@ -156,13 +158,10 @@ impl Document {
                     Ok(Spot::BehindLine(value))
                 }
             }
-            Place::Value(value) => {
-                if node.kind == Kind::Inline {
-                    Ok(braces_spot(&self.syntax, value))
-                } else {
-                    Err(EditFault::NotTable)
-                }
-            }
+            Place::Value(value) => match node.kind {
+                Kind::Inline => Ok(braces_spot(&self.syntax, value)),
+                _ => Err(EditFault::NotTable),
+            },
             Place::Tables => Err(EditFault::NotTable),
         }
     }
@@ -203,9 +202,22 @@ fn has_index(path: &Path, from: usize) -> bool
     ensures { result ≡ list_any is_index (drop from path.now) }
 {
     for number in from..path.len() {
-        if let Some(Step::Index(_)) = path.step(number) {
+        let Some(step) = path.step(number) else {
+            return false;
+        };
+        if is_index_step(step) {
             return true;
         }
     }
     false
+}
+
+/// Whether a step is an index.
+fn is_index_step(step: &Step) -> bool
+    ensures { result ≡ is_index (part_of step.now) }
+{
+    match step {
+        Step::Key(_) => false,
+        Step::Index(_) => true,
+    }
 }

@@ -34,6 +34,7 @@ pub mod OriginSaid
 pub mod FoundThere
 pub mod EntryPlaces
 pub mod EntryThere
+pub mod EntryEdges
 pub mod ItemPlaces
 pub mod LinesPut
 pub mod LineBefore
@@ -42,5 +43,11 @@ pub mod Origins
 pub mod InsertPlaces
 pub mod DottedBase
 pub mod OneBase
+pub mod NoLines
+pub mod BracePlaces
+pub mod LastKeyval
+pub mod BraceLaws
+pub mod BraceDotted
+pub mod KeyvalPlaces
 pub mod DottedPlace
 pub mod InsertDottedPlace

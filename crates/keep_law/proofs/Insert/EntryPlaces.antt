@@ -1,9 +1,11 @@
 -- Where an entry is put in among entries: before one of them, or behind the last that goes past a path.
 use Rattle.std.proofs.Common.{◌≡◌, ℕ, zero, suc, ◌+◌, Bool, true, false, List, [], ◌∷◌, ◌++◌, length, refl, sym, ap, ◌∙◌, append_assoc, length-append, arith, Option, Some, None}
 use Rattle.std.specs.Prelude.{codes}
+use Rattle.std.proofs.lemmas.List.{append-nil}
 use Rattle.keep_token.specs.declared.leaf.Profile.{Profile}
 use Rattle.keep_syntax.specs.declared.info.Start.{Start}
 use Rattle.keep_syntax.specs.declared.info.ValueInfo.{ValueInfo}
+use Rattle.keep_syntax.specs.Tree as Tree
 use Rattle.keep_syntax.specs.Tree.{Gap, Name, named_leaves, comma_leaves, Body, Entries, none, entry, Value, text_of}
 use Rattle.keep_syntax.specs.Grammar.{AreEntries, Place}
 use Rattle.keep_syntax.specs.Numbered.{value_start, comma_start, comma_place, name_count, info, inside_of, rest_of, entries_values}
@@ -12,7 +14,7 @@ use Rattle.keep_path.specs.Path.{Part}
 use Rattle.keep_meaning.specs.Meaning.{body_fact, entry_mentions, entries_said}
 use Rattle.keep_meaning.proofs.Shared.{valued, valued-append, valued-entries, length-entries_values}
 use Rattle.keep_law.specs.Changed.{Changed, within, or_else}
-use Rattle.keep_law.specs.Values.{entry_front, entry_back, space, put_before, put_behind, goes_past, text_of_value}
+use Rattle.keep_law.specs.Values.{entries_text, entry_front, entry_back, space, put_before, put_behind, goes_past, text_of_value}
 use Rattle.keep_law.proofs.Common.DoneAtValue.{EachOf, of_within}
 use Rattle.keep_law.proofs.Common.FoundValue.{valued-entry, front_ends}
 use Rattle.keep_law.proofs.Remove.RemoveEntry.{front_long}
@@ -99,12 +101,13 @@ pub record IsBefore (P : ℕ → Option Name → Type 0) (new : Value) (n k : �
   pub number : entry.number ≡ n
   pub start : p.at + length d.before ≡ entry.begin.at
   pub given : d.new ≡ text_of_value new ++ codes ", "
+  pub behind : d.behind ≡ entries_text (Tree.entry entry.name entry.body entry.inside entry.after entry.comma entry.rest)
 
 pub before_at : (P : ℕ → Option Name → Type 0) (new : Value) (k m : ℕ) (p : Start) (es : Entries) → EachOf (IsBefore P new (k + m) k p es) (put_before m new es)
 unfolding at_first at_later
 before_at P new k m p none = tt
 before_at P new k zero p (entry name body inside after comma rest) =
-    record { entry = at_first P k p name body inside after comma rest; number = omega arith; start = omega arith; given = refl }
+    record { entry = at_first P k p name body inside after comma rest; number = omega arith; start = omega arith; given = refl; behind = refl }
 before_at P new k (suc m) p (entry name body inside after comma rest) =
     let r : Start = rest_of p name body inside after comma in
     let left : List ℕ = entry_front name body inside ++ (text_of after ++ text_of (comma_leaves comma)) in
@@ -114,6 +117,7 @@ before_at P new k (suc m) p (entry name body inside after comma rest) =
       number = omega (arith, h.number);
       start = omega (arith, h.start, front_ends p.at name body inside after comma, length-append left d.before);
       given = h.given;
+      behind = append-nil d.behind ∙ h.behind;
     })
     (before_at P new (k + 1) m r rest)
 
@@ -125,6 +129,7 @@ pub record IsBehindEntry (P : ℕ → Option Name → Type 0) (front : List Part
   pub last : put_behind front named new entry.rest ≡ None
   pub end : p.at + length d.before ≡ (own_of P k p es entry).span.end
   pub given : d.new ≡ codes ", " ++ (text_of (named_leaves named) ++ text_of_value new)
+  pub behind : d.behind ≡ entry_back entry.after entry.comma entry.rest
 
 of_either : {A : Type 0} (P : Changed A → Type 0) (o p : Option (Changed A)) → EachOf P o → (o ≡ None → EachOf P p) → EachOf P (or_else o p)
 of_either P None p h g = g refl
@@ -149,6 +154,7 @@ behind_at P front named new k p (entry name body inside after comma rest) =
       last = h.last;
       end = omega (arith, h.end, front_ends p.at name body inside after comma, length-append left d.before);
       given = h.given;
+      behind = append-nil d.behind ∙ h.behind;
     })
     (behind_at P front named new (k + 1) r rest))
     (λ e. by (goes_past front name) refl (within_none (entry name body inside after comma) left [] (put_behind front named new rest) e))
@@ -164,4 +170,4 @@ behind_at P front named new k p (entry name body inside after comma rest) =
       })
     ])
     by false e empty = tt
-    by true e empty = record { entry = at_first P k p name body inside after comma rest; goes = e; last = empty; end = sym (front_long p.at name body inside); given = refl }
+    by true e empty = record { entry = at_first P k p name body inside after comma rest; goes = e; last = empty; end = sym (front_long p.at name body inside); given = refl; behind = refl }

@@ -13,7 +13,8 @@ use Rattle.keep_syntax.proofs.SpaceLaws.{is_solid}
 use Rattle.keep_path.specs.Path.{Part, same_path}
 use Rattle.keep_meaning.specs.Marks.{Mention, below, item}
 use Rattle.keep_meaning.specs.Meaning.{body_fact, valued_mentions, entries_said, said_in, value_said}
-use Rattle.keep_meaning.specs.Nodes.{fact_at, first_of}
+use Rattle.keep_meaning.specs.Counts.{is_value, numbered_in}
+use Rattle.keep_meaning.specs.Nodes.{fact_at, first_of, numbered_at, last_number, value_number}
 use Rattle.std.specs.List.{filter_map}
 use Rattle.keep_meaning.specs.Marks.{fact_of}
 use Rattle.keep_law.specs.Changed.{Changed, Place, place_of, or_else}
@@ -24,6 +25,7 @@ use Rattle.keep_law.proofs.Common.Runs.{AllOf, Rules, pairs_split, Allowed, IsAp
 use Rattle.keep_law.proofs.Common.SetLaw.{rules_below}
 use Rattle.keep_law.proofs.Common.SetDocument.{valued_facts}
 use Rattle.keep_law.proofs.Common.DoneAtValue.{EachOf}
+use Rattle.keep_law.proofs.Common.ValueNumber.{number_of_value}
 use Rattle.keep_law.proofs.Common.FoundValue.{IsFoundIn, Valid_document, found_inside}
 use Rattle.keep_law.proofs.Remove.RemovePlace.{IsValueAt, value_at_split, same_place}
 use Rattle.keep_law.proofs.Insert.DoneThere.{IsDoneThere, ended, same_value}
@@ -38,6 +40,7 @@ pub record IsFoundThere (profile : Profile) (fits : Body → Bool) (act : Act) (
   pub fit : fits found.value.body ≡ true
   pub by : act rest found.value ≡ Some found.done
   pub here : IsValueAt path s found.own
+  pub number : last_number is_value value_number (numbered_at path (numbered_in s)) ≡ Some (length found.front)
   pub valid : IsValue profile found.value
   pub rules : Rules (entries_said 0 found.value.inside)
   pub whole : said_in s ≡ found.earlier ++ (map (below path) (valued_mentions found.mention.says (entries_said 0 found.value.inside)) ++ found.further)
@@ -113,6 +116,7 @@ module _ (profile : Profile) (fits : Body → Bool) (act : Act) (rest path : Lis
         fit = a.fit;
         by = a.by;
         here = value_at_split path s h.earlier h.mention h.later h.front h.own h.behind rules h.said place h.tells h.here h.count;
+        number = number_of_value path s h.earlier h.mention h.later rules h.said place h.tells ∙ ap Some h.count;
         valid = own_valid;
         rules = mine.1;
         whole = whole;

@@ -71,7 +71,7 @@ none_apart a0 more_parts (m ∷ ms) h =
 
 -- ---- entries say nothing of what they stand in
 
-abbrev Longer : Mention → Type 0
+abbrev pub Longer : Mention → Type 0
 Longer m = m.path ≡ [] → ⊥
 
 longer_below : (p : Part) (ps : List Part) (ms : List Mention) → AllOf Longer (map (below (p ∷ ps)) ms)
@@ -81,7 +81,7 @@ longer_below p ps (m ∷ ms) = ((λ e. absurd (no m.path e)), longer_below p ps 
     no : (q : List Part) → p ∷ (ps ++ q) ≡ [] → ⊥
     no q e = cc
 
-longer_keyed : (k : List ℕ) (ks : List (List ℕ)) (ms : List Mention) → AllOf Longer (keyed_mentions (k ∷ ks) ms)
+pub longer_keyed : (k : List ℕ) (ks : List (List ℕ)) (ms : List Mention) → AllOf Longer (keyed_mentions (k ∷ ks) ms)
 longer_keyed k [] ms = longer_below (key k) [] ms
 longer_keyed k (l ∷ ks) ms = longer_below (key k) [] (record { path = []; says = dotted } ∷ keyed_mentions (l ∷ ks) ms)
 

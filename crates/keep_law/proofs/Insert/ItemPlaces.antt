@@ -6,7 +6,7 @@ use Rattle.keep_token.specs.declared.leaf.Profile.TheVariants.{Wide}
 use Rattle.keep_syntax.specs.declared.info.Start.{Start}
 use Rattle.keep_syntax.specs.declared.info.ValueInfo.{ValueInfo}
 use Rattle.keep_syntax.specs.Tree.{Name, Body, scalar, array, inline, Entries, none, entry, Value, Document, text_of}
-use Rattle.keep_syntax.specs.Grammar.{IsNamed, AreEntries, in_array, IsValue}
+use Rattle.keep_syntax.specs.Grammar.{IsNamed, IsBody, AreEntries, in_array, IsValue}
 use Rattle.keep_syntax.specs.Numbered as syntax
 use Rattle.keep_syntax.specs.Numbered.{inside_of}
 use Rattle.keep_syntax.proofs.ProfileTest.{allowed_value}
@@ -17,7 +17,7 @@ use Rattle.keep_meaning.specs.Meaning.{body_fact, valued_mentions, entry_mention
 use Rattle.keep_meaning.specs.Counts.{is_value, numbered_in}
 use Rattle.keep_meaning.specs.Nodes.{numbered_at, last_number, value_number}
 use Rattle.keep_law.specs.Look.{without_last, item_number, item_count}
-use Rattle.keep_law.specs.Changed.{Changed, place_of, framed_change, within, or_else}
+use Rattle.keep_law.specs.Changed.{Changed, Place, place_of, framed_change, within, or_else}
 use Rattle.keep_law.specs.Values.{put_before, put_behind, put_item, bracketed_change, text_of_value}
 use Rattle.keep_law.specs.Edits.{insert, change, change_insert, inside, changed_or_same, place}
 use Rattle.keep_law.specs.Insertion.{before_item, behind_entry, in_empty, keyed_text}
@@ -39,6 +39,12 @@ use Rattle.keep_law.proofs.Insert.ItemCount.{item_count_few, item_count_many}
 use Rattle.keep_law.proofs.Insert.ItemThere.{is_array, IsItemPath, item_at, never_whole, IsGranted, granted, entries_of, put_there}
 use Rattle.keep_law.proofs.Insert.FoundThere.{TakesNothing, IsFoundThere, found_there, put_place}
 use Rattle.keep_law.proofs.Insert.EntryPlaces.{IsEntryAt, own_of, IsBefore, before_at, IsBehindEntry, behind_at}
+use Rattle.keep_law.proofs.Insert.EntryEdges.{gap_low, entries_low, back_low, low_put}
+use Rattle.keep_law.proofs.Insert.LineBefore.{IsLowPlace}
+use Rattle.keep_law.proofs.Remove.RemoveLinePlace.{is_high}
+use Rattle.keep_token.specs.Pieces.{first}
+use Rattle.keep_syntax.specs.declared.info.Brackets.TheVariants as brackets
+use Rattle.keep_syntax.proofs.SpaceLaws.{gap_blank}
 use Rattle.keep_law.proofs.Insert.EntryThere.{first_in, infos_before, said_before, values_there, said_there, count_there}
 
 -- ---- nothing is taken out
@@ -89,12 +95,13 @@ pub record IsWithin {A B : Type 0} (outer : A → B) (left right : List ℕ) (o 
   pub is : o ≡ Some inner
   pub before : done.before ≡ left ++ inner.before
   pub new : done.new ≡ inner.new
+  pub behind : done.behind ≡ inner.behind ++ right
 
 pub within_is : {A B : Type 0} (outer : A → B) (left right : List ℕ) (o : Option (Changed A)) (done : Changed B) → within outer left right o ≡ Some done → IsWithin outer left right o done
 within_is outer left right None done e = absurd cc
 within_is outer left right (Some d) done e =
     let k : framed_change outer left right d ≡ done = some_is (framed_change outer left right d) done e in
-    record { inner = d; is = refl; before = sym (ap (λ x. x.before) k); new = sym (ap (λ x. x.new) k) }
+    record { inner = d; is = refl; before = sym (ap (λ x. x.before) k); new = sym (ap (λ x. x.new) k); behind = sym (ap (λ x. x.behind) k) }
 
 -- ---- items by their numbers
 
@@ -115,9 +122,9 @@ Any m name = ⊤
 
 -- what is told of the place of the change
 data IsItemPlaced (a : List Part) (n : ℕ) (s : Document) (new : Value) (c : Changed Document) (own : ValueInfo) (count : ℕ) : Type 0 where
-  into_empty : count ≡ 0 → place_of c ≡ in_empty own [] new → IsItemPlaced a n s new c own count
-  before_one : (i : ValueInfo) → n < count → IsValueAt (a ++ index n ∷ []) s i → place_of c ≡ before_item i new → IsItemPlaced a n s new c own count
-  behind_last : (i : ValueInfo) (m : ℕ) → suc m ≡ count → count ≤ n → IsValueAt (a ++ index m ∷ []) s i → place_of c ≡ behind_entry i [] new → IsItemPlaced a n s new c own count
+  into_empty : count ≡ 0 → place_of c ≡ in_empty own [] new → is_high (first c.behind) ≡ false → IsItemPlaced a n s new c own count
+  before_one : (i : ValueInfo) → n < count → IsValueAt (a ++ index n ∷ []) s i → place_of c ≡ before_item i new → is_high (first c.behind) ≡ false → IsItemPlaced a n s new c own count
+  behind_last : (i : ValueInfo) (m : ℕ) → suc m ≡ count → count ≤ n → IsValueAt (a ++ index m ∷ []) s i → place_of c ≡ behind_entry i [] new → is_high (first c.behind) ≡ false → IsItemPlaced a n s new c own count
 
 module _ (profile : Profile) (s : Document) (a : List Part) (n : ℕ) (new : Value) (rules : Rules (said_in s)) (root : a ≡ [] → ⊥) (c : Changed Document) (f : IsFoundThere profile is_array (put_item new) (index n ∷ []) a s c) where
   abbrev rest : List Part
@@ -170,23 +177,31 @@ module _ (profile : Profile) (s : Document) (a : List Part) (n : ℕ) (new : Val
       let begins : f.found.own.span.start ≡ f.found.from = ap (λ (i : ValueInfo). i.span.start) f.found.told in
       omega (arith, f.found.start, begins, ap (λ (t : List ℕ). length t) e, length-append left done.before, h)
 
+  -- what stands behind the place
+  behind_is : (done : Changed Entries) → f.found.done.behind ≡ done.behind ++ codes "]" → c.behind ≡ done.behind ++ (codes "]" ++ f.found.beyond)
+  behind_is done e = f.found.text_behind ∙ ap (λ (t : List ℕ). t ++ f.found.beyond) e ∙ append_assoc done.behind (codes "]") f.found.beyond
+
   abbrev Placed : Type 0
   Placed = IsItemPlaced a n s new c f.found.own (item_count a (said_in s))
 
-  by_before : (d : Changed Entries) → put_before n new v.inside ≡ Some d → length c.before ≡ p.at + length d.before → c.new ≡ d.new → Placed
-  by_before d e start given =
+  by_before : (d : Changed Entries) → put_before n new v.inside ≡ Some d → length c.before ≡ p.at + length d.before → c.new ≡ d.new → c.behind ≡ d.behind ++ (codes "]" ++ f.found.beyond) → Placed
+  by_before d e start given more =
       let b : IsBefore Any new (0 + n) 0 p v.inside d = of_some (IsBefore Any new (0 + n) 0 p v.inside) (put_before n new v.inside) d e (before_at Any new 0 n p v.inside) in
       let same : b.entry.number ≡ n = omega (arith, b.number) in
       before_one (own_of Any 0 p v.inside b.entry) (omega (arith, b.entry.left, same, count_is))
       (subst (λ (m : ℕ). IsValueAt (a ++ index m ∷ []) s (own_of Any 0 p v.inside b.entry)) same (value_of_item b.entry))
       (put_place c b.entry.begin.at (text_of_value new ++ codes ", ") (f.found.old ∙ f.nothing) (omega (arith, start, b.start)) (given ∙ b.given))
+      (ap (λ (t : List ℕ). is_high (first t)) (more ∙ ap (λ (t : List ℕ). t ++ (codes "]" ++ f.found.beyond)) b.behind)
+      ∙ entries_low profile brackets.Array (entry b.entry.name b.entry.body b.entry.inside b.entry.after b.entry.comma b.entry.rest) (codes "]" ++ f.found.beyond) (b.entry.valid profile in_array are) refl)
 
-  by_behind : (d : Changed Entries) → put_before n new v.inside ≡ None → put_behind [] None new v.inside ≡ Some d → length c.before ≡ p.at + length d.before → c.new ≡ d.new → Placed
-  by_behind d few e start given =
+  by_behind : (d : Changed Entries) → put_before n new v.inside ≡ None → put_behind [] None new v.inside ≡ Some d → length c.before ≡ p.at + length d.before → c.new ≡ d.new → c.behind ≡ d.behind ++ (codes "]" ++ f.found.beyond) → Placed
+  by_behind d few e start given more =
       let b : IsBehindEntry Any [] None new 0 p v.inside d = of_some (IsBehindEntry Any [] None new 0 p v.inside) (put_behind [] None new v.inside) d e (behind_at Any [] None new 0 p v.inside) in
       let i : ValueInfo = own_of Any 0 p v.inside b.entry in
       behind_last i b.entry.number (omega (arith, b.entry.left, count_is, last b.entry.rest b.last)) (omega (arith, few_items new n v.inside few, count_is)) (value_of_item b.entry)
       (put_place c i.span.end (codes ", " ++ keyed_text [] new) (f.found.old ∙ f.nothing) (omega (arith, start, b.end)) (given ∙ b.given))
+      (ap (λ (t : List ℕ). is_high (first t)) (more ∙ ap (λ (t : List ℕ). t ++ (codes "]" ++ f.found.beyond)) b.behind)
+      ∙ back_low profile brackets.Array b.entry.after b.entry.comma b.entry.rest (codes "]" ++ f.found.beyond) (b.entry.valid profile in_array are).3 (b.entry.valid profile in_array are).5 refl)
     where
       last : (es : Entries) → put_behind [] None new es ≡ None → size es ≡ 0
       last none e = refl
@@ -205,6 +220,8 @@ module _ (profile : Profile) (s : Document) (a : List Part) (n : ℕ) (new : Val
       into_empty (count_is ∙ ap size ei)
       (put_place c (suc f.found.own.span.start) (keyed_text [] new) (f.found.old ∙ f.nothing) (omega (arith, f.found.start, ap (λ (t : List ℕ). length t) before))
       (f.found.new ∙ sym (ap (λ (x : Changed Value). x.new) k)))
+      (ap (λ (t : List ℕ). is_high (first t)) (f.found.text_behind ∙ ap (λ (t : List ℕ). t ++ f.found.beyond) (sym (ap (λ (x : Changed Value). x.behind) k)) ∙ append_assoc (text_of g) (codes "]") f.found.beyond)
+      ∙ gap_low g (codes "]" ++ f.found.beyond) (gap_blank profile brackets.Array g (subst (IsBody profile) eb f.valid.body)) refl)
   by_parts (array g) (entry name body inside after comma more) eb ei fit e =
       let es : Entries = entry name body inside after comma more in
       let w = within_is (λ xs. record { body = array g; inside = xs }) (codes "[" ++ text_of g) (codes "]") (put es) f.found.done e in
@@ -212,14 +229,14 @@ module _ (profile : Profile) (s : Document) (a : List Part) (n : ℕ) (new : Val
       omega (arith, ap (λ (x : Body). (inside_of f.found.begin f.found.from f.found.keys x).at) eb, length-append (codes "[") (text_of g)) in
       let start : length c.before ≡ p.at + length w.inner.before = front_is w.inner (codes "[" ++ text_of g) w.before at in
       let given : c.new ≡ w.inner.new = f.found.new ∙ w.new in
-      by_first w.inner (put_before n new v.inside) refl (ap put ei ∙ w.is) start given
+      by_first w.inner (put_before n new v.inside) refl (ap put ei ∙ w.is) start given (behind_is w.inner w.behind)
     where
       by_first : (d : Changed Entries) (o : Option (Changed Entries)) → put_before n new v.inside ≡ o → or_else (put_before n new v.inside) (put_behind [] None new v.inside) ≡ Some d
-          → length c.before ≡ p.at + length d.before → c.new ≡ d.new → Placed
-      by_first d (Some x) h e start given =
+          → length c.before ≡ p.at + length d.before → c.new ≡ d.new → c.behind ≡ d.behind ++ (codes "]" ++ f.found.beyond) → Placed
+      by_first d (Some x) h e start given more =
           let k : Some x ≡ Some d = sym (ap (λ (o : Option (Changed Entries)). or_else o (put_behind [] None new v.inside)) h) ∙ e in
-          by_before d (h ∙ k) start given
-      by_first d None h e start given = by_behind d h (sym (ap (λ (o : Option (Changed Entries)). or_else o (put_behind [] None new v.inside)) h) ∙ e) start given
+          by_before d (h ∙ k) start given more
+      by_first d None h e start given more = by_behind d h (sym (ap (λ (o : Option (Changed Entries)). or_else o (put_behind [] None new v.inside)) h) ∙ e) start given more
 
   item_placed : Placed
   item_placed = by_parts v.body v.inside refl refl f.fit f.by
@@ -247,7 +264,7 @@ module _ (profile : Profile) (s : Document) (a : List Part) (n : ℕ) (new : Val
 
 -- ---- the laws
 
-one_of_two : {A : Type 0} (o : Option A) (x y : A) → o ≡ Some x → o ≡ Some y → x ≡ y
+pub one_of_two : {A : Type 0} (o : Option A) (x y : A) → o ≡ Some x → o ≡ Some y → x ≡ y
 one_of_two o x y e f = let k : Some x ≡ Some y = sym e ∙ f in cc
 
 -- one value is at a path
@@ -259,13 +276,13 @@ same_value_at path s v i j number here h =
 -- The place of an item that is put in.
 pub record IsItemLaw (path : List Part) (n : ℕ) (s : Document) (new : Value) : Type 0 where
   pub before : (v : ℕ) (i : ValueInfo) → last_number is_value value_number (numbered_at path (numbered_in s)) ≡ Some v → slice_get (syntax.values s) v ≡ Some i
-      → place s (insert path new) ≡ before_item i new
+      → IsLowPlace s (insert path new) (before_item i new)
   pub behind : (m v : ℕ) (i : ValueInfo) → n ≡ suc m → item_count (without_last path) (said_in s) ≡ n
       → last_number is_value value_number (numbered_at (without_last path ++ index m ∷ []) (numbered_in s)) ≡ Some v → slice_get (syntax.values s) v ≡ Some i
-      → place s (insert path new) ≡ behind_entry i [] new
+      → IsLowPlace s (insert path new) (behind_entry i [] new)
   pub empty : (v : ℕ) (i : ValueInfo) → item_count (without_last path) (said_in s) ≡ 0
       → last_number is_value value_number (numbered_at (without_last path) (numbered_in s)) ≡ Some v → slice_get (syntax.values s) v ≡ Some i
-      → place s (insert path new) ≡ in_empty i [] new
+      → IsLowPlace s (insert path new) (in_empty i [] new)
 
 pub item_law : (profile : Profile) (limit : ℕ) (s : Document) (path : List Part) (new : Value) (n : ℕ) → IsStanding profile limit s → IsGivenValue Wide new
     → item_number path (said_in s) ≡ Some n → refusal profile limit s (insert path new) ≡ None → IsItemLaw path n s new
@@ -278,10 +295,11 @@ item_law profile limit s path new n standing given at allowed =
     let d : IsDoneThere profile is_array (put_item new) (index n ∷ []) a s = put_there profile s a new n standing.valid rules (allowed_value profile new given.valid g.suits) h.is_array in
     let root : a ≡ [] → ⊥ = λ e. never_whole s (subst (λ (x : List Part). SomeOf (IsAloneAt x) ms) e (alone_of_fact a ms fact.array h.is_array refl)) in
     let is : change s (insert path new) ≡ Some d.changed = rw (at, change_insert) (subst (λ (x : List Part). inside (put_item new) x s ≡ Some d.changed) (sym h.whole) d.is) in
-    let there : place s (insert path new) ≡ place_of d.changed = ap (λ (o : Option (Changed Document)). place_of (changed_or_same s o)) is in
     let f : IsFoundThere profile is_array (put_item new) (index n ∷ []) a s d.changed =
     found_there profile is_array (put_item new) (index n ∷ []) a s standing.valid rules (item_nothing new) d.changed d.is d.ended_is in
     let placed = item_placed profile s a n new rules root d.changed f in
+    let there : (p : Place) → place_of d.changed ≡ p → is_high (first d.changed.behind) ≡ false → IsLowPlace s (insert path new) p =
+    λ p e low. low_put s (insert path new) d.changed p is (f.found.old ∙ f.nothing) e low in
     let few = number_few profile s a n new rules root d.changed f in
     record {
       before = λ v i number here. by_before d.changed f.found.own placed few h.whole there v i number here;
@@ -291,29 +309,31 @@ item_law profile limit s path new n standing given at allowed =
   where
     by_before : (c : Changed Document) (own : ValueInfo) → IsItemPlaced (without_last path) n s new c own (item_count (without_last path) (said_in s))
         → ((m : ℕ) → SomeOf (IsAloneAt (without_last path ++ index m ∷ [])) (said_in s) → m < item_count (without_last path) (said_in s))
-        → path ≡ without_last path ++ index n ∷ [] → place s (insert path new) ≡ place_of c
-        → (v : ℕ) (i : ValueInfo) → last_number is_value value_number (numbered_at path (numbered_in s)) ≡ Some v → slice_get (syntax.values s) v ≡ Some i → place s (insert path new) ≡ before_item i new
-    by_before c own (into_empty zero_items e) few whole there v i number here =
+        → path ≡ without_last path ++ index n ∷ [] → ((p : Place) → place_of c ≡ p → is_high (first c.behind) ≡ false → IsLowPlace s (insert path new) p)
+        → (v : ℕ) (i : ValueInfo) → last_number is_value value_number (numbered_at path (numbered_in s)) ≡ Some v → slice_get (syntax.values s) v ≡ Some i → IsLowPlace s (insert path new) (before_item i new)
+    by_before c own (into_empty zero_items e low) few whole there v i number here =
         let less = few n (subst (λ (x : List Part). SomeOf (IsAloneAt x) (said_in s)) whole (alone_of_number path s v number)) in absurd (omega (arith, less, zero_items))
-    by_before c own (behind_last j m last more at e) few whole there v i number here =
+    by_before c own (behind_last j m last more at e low) few whole there v i number here =
         let less = few n (subst (λ (x : List Part). SomeOf (IsAloneAt x) (said_in s)) whole (alone_of_number path s v number)) in absurd (omega (arith, less, more))
-    by_before c own (before_one j less at e) few whole there v i number here =
-        there ∙ e ∙ ap (λ (x : ValueInfo). before_item x new) (same_value_at path s v i j number here (subst (λ (x : List Part). IsValueAt x s j) (sym whole) at))
+    by_before c own (before_one j less at e low) few whole there v i number here =
+        subst (λ (x : ValueInfo). IsLowPlace s (insert path new) (before_item x new)) (same_value_at path s v i j number here (subst (λ (x : List Part). IsValueAt x s j) (sym whole) at)) (there (before_item j new) e low)
 
-    by_behind : (c : Changed Document) (own : ValueInfo) → IsItemPlaced (without_last path) n s new c own (item_count (without_last path) (said_in s)) → place s (insert path new) ≡ place_of c
+    by_behind : (c : Changed Document) (own : ValueInfo) → IsItemPlaced (without_last path) n s new c own (item_count (without_last path) (said_in s)) → ((p : Place) → place_of c ≡ p → is_high (first c.behind) ≡ false → IsLowPlace s (insert path new) p)
         → (m v : ℕ) (i : ValueInfo) → n ≡ suc m → item_count (without_last path) (said_in s) ≡ n
         → last_number is_value value_number (numbered_at (without_last path ++ index m ∷ []) (numbered_in s)) ≡ Some v → slice_get (syntax.values s) v ≡ Some i
-        → place s (insert path new) ≡ behind_entry i [] new
-    by_behind c own (into_empty zero_items e) there m v i more count number here = absurd (omega (arith, zero_items, count, more))
-    by_behind c own (before_one j less at e) there m v i more count number here = absurd (omega (arith, less, count))
-    by_behind c own (behind_last j k last few at e) there m v i more count number here =
+        → IsLowPlace s (insert path new) (behind_entry i [] new)
+    by_behind c own (into_empty zero_items e low) there m v i more count number here = absurd (omega (arith, zero_items, count, more))
+    by_behind c own (before_one j less at e low) there m v i more count number here = absurd (omega (arith, less, count))
+    by_behind c own (behind_last j k last few at e low) there m v i more count number here =
         let same : k ≡ m = omega (arith, last, count, more) in
-        there ∙ e ∙ ap (λ (x : ValueInfo). behind_entry x [] new) (same_value_at (without_last path ++ index m ∷ []) s v i j number here (subst (λ (x : ℕ). IsValueAt (without_last path ++ index x ∷ []) s j) same at))
+        subst (λ (x : ValueInfo). IsLowPlace s (insert path new) (behind_entry x [] new))
+        (same_value_at (without_last path ++ index m ∷ []) s v i j number here (subst (λ (x : ℕ). IsValueAt (without_last path ++ index x ∷ []) s j) same at)) (there (behind_entry j [] new) e low)
 
-    by_empty : (c : Changed Document) (own : ValueInfo) → IsValueAt (without_last path) s own → IsItemPlaced (without_last path) n s new c own (item_count (without_last path) (said_in s)) → place s (insert path new) ≡ place_of c
+    by_empty : (c : Changed Document) (own : ValueInfo) → IsValueAt (without_last path) s own → IsItemPlaced (without_last path) n s new c own (item_count (without_last path) (said_in s)) → ((p : Place) → place_of c ≡ p → is_high (first c.behind) ≡ false → IsLowPlace s (insert path new) p)
         → (v : ℕ) (i : ValueInfo) → item_count (without_last path) (said_in s) ≡ 0
         → last_number is_value value_number (numbered_at (without_last path) (numbered_in s)) ≡ Some v → slice_get (syntax.values s) v ≡ Some i
-        → place s (insert path new) ≡ in_empty i [] new
-    by_empty c own at (into_empty zero_items e) there v i count number here = there ∙ e ∙ ap (λ (x : ValueInfo). in_empty x [] new) (same_value_at (without_last path) s v i own number here at)
-    by_empty c own at (before_one j less at' e) there v i count number here = absurd (omega (arith, less, count))
-    by_empty c own at (behind_last j m last few at' e) there v i count number here = absurd (omega (arith, last, count))
+        → IsLowPlace s (insert path new) (in_empty i [] new)
+    by_empty c own at (into_empty zero_items e low) there v i count number here =
+        subst (λ (x : ValueInfo). IsLowPlace s (insert path new) (in_empty x [] new)) (same_value_at (without_last path) s v i own number here at) (there (in_empty own [] new) e low)
+    by_empty c own at (before_one j less at' e low) there v i count number here = absurd (omega (arith, less, count))
+    by_empty c own at (behind_last j m last few at' e low) there v i count number here = absurd (omega (arith, last, count))

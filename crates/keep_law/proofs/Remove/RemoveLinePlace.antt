@@ -222,10 +222,10 @@ module _ (bytes : List ℕ) (at : ℕ) (after : Gap) (behind : List ℕ) (h : Is
 abbrev pub is_high : ℕ → Bool
 is_high c = nat_le 0x80 c
 
-ws_low : (c : ℕ) → is_ws c ≡ true → is_high c ≡ false
+pub ws_low : (c : ℕ) → is_ws c ≡ true → is_high c ≡ false
 ws_low c h = grind (arith, nat_tests)
 
-solid_low : (c : ℕ) → is_solid c ≡ true → is_high c ≡ false
+pub solid_low : (c : ℕ) → is_solid c ≡ true → is_high c ≡ false
 solid_low c h = grind (arith, nat_tests)
 
 name_low : (profile : Profile) (name : Name) (x : List ℕ) → IsName profile name → is_high (first (text_of (name_leaves name) ++ x)) ≡ false
