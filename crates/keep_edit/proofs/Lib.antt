@@ -21,6 +21,7 @@ pub mod KeyvalSteps
 pub mod KeyvalSpots
 pub mod InsertionLaws
 pub mod LineSpots
+pub mod LineWriting
 pub mod BracketPlaces
 pub mod KeysLaws
 pub mod InsertedLaws

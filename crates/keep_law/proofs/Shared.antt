@@ -29,10 +29,10 @@ pub use Rattle.keep_law.proofs.Common.Marks.{rules_of_document}
 pub use Rattle.keep_law.proofs.Remove.KeyvalSays.{said_below, said_keyval}
 pub use Rattle.keep_law.proofs.Remove.RemoveWhole.{shared_define}
 pub use Rattle.keep_law.proofs.Values.ValueDepths.{too_deep_at}
+pub use Rattle.keep_law.proofs.Insert.LineBefore.{IsLowPlace, lines_low}
 pub use Rattle.keep_law.proofs.Insert.ItemPlaces.{IsItemLaw, item_law}
 pub use Rattle.keep_law.proofs.Insert.BracePlaces.{IsPutBehind}
 pub use Rattle.keep_law.proofs.Insert.KeyvalPlaces.{IsInlineLaw, dots_placed, inline_placed}
-pub use Rattle.keep_law.proofs.Insert.LineBefore.{IsLowPlace}
 pub use Rattle.keep_law.proofs.Insert.InsertPlaces.{IsThroughHeader, element_placed, header_placed, headed_within, holder_front, plain_rest, root_placed, through_header, through_placed}
 pub use Rattle.keep_law.proofs.Insert.InsertDottedPlace.{IsBaseAt, IsDottedPlaced, dotted_placed}
 pub use Rattle.keep_law.proofs.Common.Texts.{text_of-append}

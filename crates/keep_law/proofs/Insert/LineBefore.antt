@@ -107,6 +107,20 @@ pub record IsLowPlace (s : Document) (e : Edit) (p : Place) : Type 0 where
   pub within : p.start ≤ length (text s)
   pub low : is_high (first (drop p.start (text s))) ≡ false
 
+pub low_at : (profile : Profile) (s : Document) (n : ℕ) → IsDocument profile s → is_high (first (drop (line_begins s n) (text s))) ≡ false
+low_at profile s n valid =
+    let front : List ℕ = text_of (bom_leaves s.bom) ++ front_of n s.ended s.last in
+    let behind : List ℕ = (drop_front n s.ended s.last).behind in
+    ap (λ (t : List ℕ). is_high (first (drop (line_begins s n) t))) (cut_text s n)
+    ∙ ap (λ (t : List ℕ). is_high (first t)) (drop_at front behind (line_begins s n) (length-append (text_of (bom_leaves s.bom)) (front_of n s.ended s.last)))
+    ∙ drop_low profile n s.ended s.last valid.ended valid.last
+
+-- no byte of a longer character begins the lines
+pub lines_low : (profile : Profile) (s : Document) → IsDocument profile s → is_high (first (drop (bom_width s) (text s))) ≡ false
+lines_low profile s valid =
+    let at : bom_width s ≡ line_begins s 0 = omega (arith, ap (λ (t : List ℕ). length t) (front_none s.ended s.last)) in
+    ap (λ (m : ℕ). is_high (first (drop m (text s)))) at ∙ low_at profile s 0 valid
+
 pub low_place : (profile : Profile) (s : Document) (e : Edit) (p : Place) (n : ℕ) → IsDocument profile s → place s e ≡ p → p.start ≡ line_begins s n → IsLowPlace s e p
 low_place profile s e p n valid placed begins =
     let bom : List ℕ = text_of (bom_leaves s.bom) in
@@ -116,10 +130,7 @@ low_place profile s e p n valid placed begins =
     record {
       placed = placed;
       within = omega (arith, begins, long, ap (λ (t : List ℕ). length t) (cut_text s n), length-append (bom ++ front) behind);
-      low = ap (λ (m : ℕ). is_high (first (drop m (text s)))) begins
-          ∙ ap (λ (t : List ℕ). is_high (first (drop (line_begins s n) t))) (cut_text s n)
-          ∙ ap (λ (t : List ℕ). is_high (first t)) (drop_at (bom ++ front) behind (line_begins s n) (sym long))
-          ∙ drop_low profile n s.ended s.last valid.ended valid.last;
+      low = ap (λ (m : ℕ). is_high (first (drop m (text s)))) begins ∙ low_at profile s n valid;
     }
 
 newline_by : (b : Bool) (newline : List ℕ) (past : Bool) → b ≡ past → cond b newline [] ≡ newline_if past newline
