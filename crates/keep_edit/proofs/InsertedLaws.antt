@@ -258,8 +258,10 @@ module _ (d : ProfiledText) (syntax : Syntax) (index_of : Telling) (path : List 
   -- ---- the edit
 
   -- where it is done
-  pub inserted_at : (at : ℕ) (bytes : List ℕ) → IsPutIn path v s d.text at [] bytes → IsDoneAt s (insert path v) d bytes (Ok (syntax_of.span at at))
-  inserted_at at bytes (fresh, is, placed, span) = (allowed, placed ∙ ap (put_in at) (sym is), span)
+  pub inserted_at : (at : ℕ) (old new : List ℕ) → old ≡ [] → IsPutIn path v s d.text at old new → IsDoneAt s (insert path v) d new (Ok (syntax_of.span at at))
+  inserted_at at old new none (fresh, is, placed, span) =
+      let same : fresh ≡ new = sym (is ∙ ap (λ (t : List ℕ). t ++ fresh) none) in
+      (allowed, placed ∙ ap (put_in at) same, span)
 
   pub full_there : EditMade s (insert path v) d (Err fault.Memory)
   full_there = subst (λ (r : Option EditFault). IsDone (IsMade s (insert path v) d) r (Err fault.Memory)) (sym allowed) refl

@@ -98,8 +98,11 @@ impl Document {
     {
         let alloc = *self.text.allocator();
         let old = self.text.as_str();
+        let given = value.as_str();
         let insertion = self.insertion(path, value)?;
-        let mut new = String::new(alloc);
+        let Ok(mut new) = String::with_capacity(alloc, given.len()) else {
+            return Err(EditFault::Memory);
+        };
         let Ok(at) = self.push_insertion(&mut new, path, insertion, value) else {
             return Err(EditFault::Memory);
         };
