@@ -82,15 +82,15 @@ first_value : (a b c d e f : Option ℕ) (n : ℕ)
 first_value None b c d e f n h = absurd (no_value_later b c d e f n h)
 first_value (Some v) b c d e f n h = let same : v ≡ n = cc in ap Some same
 
-place_of_value : (ns : List Numbered) (n : ℕ) → place_said ns ≡ place.Value n → last_number is_value value_number ns ≡ Some n
+pub place_of_value : (ns : List Numbered) (n : ℕ) → place_said ns ≡ place.Value n → last_number is_value value_number ns ≡ Some n
 place_of_value ns n h =
     first_value (last_number is_value value_number ns) (last_number is_element statement_number ns) (last_number is_begun statement_number ns)
     (last_number is_define statement_number ns) (last_number is_dotted value_number ns) (last_number is_through statement_number ns) n h
 
-value_of_place : (ns : List Numbered) (n : ℕ) → last_number is_value value_number ns ≡ Some n → place_said ns ≡ place.Value n
+pub value_of_place : (ns : List Numbered) (n : ℕ) → last_number is_value value_number ns ≡ Some n → place_said ns ≡ place.Value n
 value_of_place ns n h = rw h refl
 
-none_unless : (o : Option ℕ) → ((n : ℕ) → o ≡ Some n → ⊥) → o ≡ None
+pub none_unless : (o : Option ℕ) → ((n : ℕ) → o ≡ Some n → ⊥) → o ≡ None
 none_unless None h = refl
 none_unless (Some n) h = absurd (h n refl)
 
@@ -125,7 +125,7 @@ span_is d path s number info read of =
     }
 
 module _ (d : ProfiledText) (syntax : Syntax) (index : Telling) (path : List Part) (s : Document) (number : ℕ) (holds : Holds d syntax index) (read : IsTextOfTree d s) (found : value_number_of path s ≡ Some number) where
-  values_are : values_of syntax ≡ numbered.values s
+  pub values_are : values_of syntax ≡ numbered.values s
   values_are = holds.is.values ∙ ap numbered.values (tree_is d syntax index s holds read)
 
   pub value_inside : number < length (values_of syntax)
@@ -155,8 +155,11 @@ fact_names path (m ∷ ms) f e = by (is_at path m) refl (λ k. fact_names path m
     by true here more = ap (λ b. b || list_any (is_at path) ms) here
     by false here more = ap (λ b. b || list_any (is_at path) ms) here ∙ more (sym (fact_past path m ms here) ∙ e)
 
+pub fact_node : (path : List Part) (ms : List Mention) (f : Fact) → fact_at path ms ≡ Some f → is_node path ms ≡ true
+fact_node path ms f e = ap (λ b. is_root path || b) (fact_names path ms f e) ∙ or_true (is_root path)
+
 value_names : (profile : Profile) (path : List Part) (s : Document) (number : ℕ) (info : ValueInfo) → IsValueOf profile path s number info → is_node path (said_in s) ≡ true
-value_names profile path s number info of = ap (λ b. is_root path || b) (fact_names path (said_in s) (body_fact of.value.body) of.fact) ∙ or_true (is_root path)
+value_names profile path s number info of = fact_node path (said_in s) (body_fact of.value.body) of.fact
 
 -- what is answered where the path names a node or not
 abbrev answered : Bool → Option (List ℕ) → Result (List ℕ) EditFault

@@ -15,3 +15,15 @@ pub mod RemoveCut
 pub mod HeaderLaws
 pub mod AppendLaws
 pub mod AppendDone
+pub mod HolderLaws
+pub mod RootLaws
+pub mod WritingLaws
+pub mod AimLaws
+pub mod KeyvalSteps
+pub mod KeyvalSpots
+pub mod InsertionLaws
+pub mod LineSpots
+pub mod LineWriting
+pub mod BracketPlaces
+pub mod KeysLaws
+pub mod InsertedLaws

@@ -54,7 +54,7 @@ ws_low : (c : ℕ) → is_ws c ≡ true → c < 128
 ws_low c h = grind (arith, nat_tests)
 
 -- before a byte of ASCII, or at the end
-low_boundary : (bytes : List ℕ) (p : ℕ) → p ≤ length bytes → is_high (first (drop p bytes)) ≡ false → IsCharBoundary bytes p
+pub low_boundary : (bytes : List ℕ) (p : ℕ) → p ≤ length bytes → is_high (first (drop p bytes)) ≡ false → IsCharBoundary bytes p
 low_boundary bytes p within low = elim (cases_lt p (length bytes)) [
   | inl l ↦ IsCharBoundary-before_ascii bytes p l (low_byte (get_or bytes p 0) (ap is_high (sym (first-drop bytes p)) ∙ low))
   | inr g ↦ (let e : length bytes ≡ p = omega (arith, within, g) in subst (IsCharBoundary bytes) e (IsCharBoundary-end bytes))

@@ -4,6 +4,8 @@
 mod append;
 mod document;
 mod header;
+mod holder;
+mod insert;
 mod newline;
 mod remove;
 mod rename;

@@ -8,6 +8,7 @@ ghost use Rattle.keep_syntax.specs.Tree as tree;
 ghost use Rattle.keep_meaning.specs.KeyText.{text_at};
 ghost use Rattle.keep_path.specs.Path.{Part};
 ghost use Rattle.keep_law.specs.Edits.{remove};
+ghost use Rattle.keep_law.specs.Insertion as insertion;
 ghost use Rattle.keep_law.specs.Removal as removal;
 ghost use Rattle.keep_edit.specs.Answers.{EditDone, EditMade, EditTold};
 ghost use Rattle.keep_edit.specs.Reading.{IsAccepted, IsTextOfTree, text_in};
@@ -217,23 +218,32 @@ fn section_cut(syntax: &Syntax, number: usize) -> Cut
     ensures place { (bytes : List ℕ) → cut_place bytes result ≡ removal.section_place (drop number (statements_of syntax.now)) }
     ensures kept { KeepsNothing result }
 {
-    let Span { start, end } = syntax.statement(number).line;
+    let start = syntax.statement(number).line.start;
     Cut {
         span: Span {
             start,
-            end: body_end(syntax, number, end),
+            end: section_end(syntax, number),
         },
         kept: Span { start, end: start },
     }
 }
 
-/// Where the body of a header ends whose line ends at `at`: at the end of the line of its last keyval, if it has one.
-fn body_end(syntax: &Syntax, number: usize, at: usize) -> usize
+/// Where the body of a header ends, as a byte offset: at the end of the line of its last keyval, else of its own line.
+pub(crate) fn section_end(syntax: &Syntax, number: usize) -> usize
     requires { number < length (statements_of syntax.now) }
-    ensures { result ≡ removal.body_end at (drop (suc number) (statements_of syntax.now)) }
+    ensures { result ≡ insertion.section_end (drop number (statements_of syntax.now)) }
+{
+    let end = syntax.statement(number).line.end;
+    body_end(syntax, number + 1, end)
+}
+
+/// Where a body ends that begins at `at`, before the statement with number `first`: at the end of the line of its last keyval,
+/// if it has one.
+pub(crate) fn body_end(syntax: &Syntax, first: usize, at: usize) -> usize
+    ensures { result ≡ removal.body_end at (drop first (statements_of syntax.now)) }
 {
     let mut end = at;
-    for next in number + 1..syntax.statement_count() {
+    for next in first..syntax.statement_count() {
         let statement = syntax.statement(next);
         match statement.kind {
             StatementKind::KeyVal => end = statement.line.end,

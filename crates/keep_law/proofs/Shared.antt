@@ -17,8 +17,14 @@ pub use Rattle.keep_law.proofs.Common.ValueNumber.{false_unless}
 pub use Rattle.keep_law.proofs.Set.SetIsLawful.{get_is_right}
 pub use Rattle.keep_law.proofs.Values.ValueFacts.{integer_at_leaf, leaf_of_integer, no_string, string_at_leaf, string_of_leaf}
 pub use Rattle.keep_law.proofs.Remove.RemoveRefusal.{lines_begun, never_begun, no_both}
+pub use Rattle.keep_law.proofs.Common.EntryDepths.{alone_of_bracket}
+pub use Rattle.keep_law.proofs.Insert.ItemThere.{IsItemPath, item_at, never_whole}
+pub use Rattle.keep_law.proofs.Insert.ItemNumbers.{AreNumbered, items_numbered}
+pub use Rattle.keep_law.proofs.Insert.OriginSaid.{is_origin, origin_said}
+pub use Rattle.keep_law.proofs.Insert.Origins.{IsDottedNode, dotted_ends, dotted_node, said_of_number, unsaid_of_none}
+pub use Rattle.keep_law.proofs.Insert.HolderFacts.{no_bracket_element}
 pub use Rattle.keep_law.proofs.Common.FromMarksLines.{path_ends}
-pub use Rattle.keep_law.proofs.EditLaws.{remove_lawful, rename_lawful, set_lawful}
+pub use Rattle.keep_law.proofs.EditLaws.{insert_lawful, remove_lawful, rename_lawful, set_lawful}
 pub use Rattle.keep_law.proofs.Common.Marks.{rules_of_document}
 pub use Rattle.keep_law.proofs.Remove.KeyvalSays.{said_below, said_keyval}
 pub use Rattle.keep_law.proofs.Remove.RemoveWhole.{shared_define}
@@ -29,3 +35,10 @@ pub use Rattle.keep_law.proofs.Append.HeaderConflict.{LetsPass, element_met, tab
 pub use Rattle.keep_law.proofs.Append.HeaderMarks.{define_goes_on, define_twice, define_unlisted, dotted_goes_on, dotted_undefines, dotted_unlisted, element_again, element_undefines, lets_pass, marks_let, no_elements, none_counted, none_refuses, past_listed, roles_of, all_element, through_defines, through_goes_on, through_unlisted, value_refuses, value_unlisted}
 pub use Rattle.keep_law.proofs.Common.FromMarksLines.{formed_lines}
 pub use Rattle.keep_law.proofs.EditLaws.{append_element_lawful, append_table_lawful}
+pub use Rattle.keep_law.proofs.Insert.LineBefore.{IsLowPlace, lines_low}
+pub use Rattle.keep_law.proofs.Insert.ItemPlaces.{IsItemLaw, item_law}
+pub use Rattle.keep_law.proofs.Insert.BracePlaces.{IsPutBehind}
+pub use Rattle.keep_law.proofs.Insert.KeyvalPlaces.{IsInlineLaw, dots_placed, inline_placed}
+pub use Rattle.keep_law.proofs.Insert.InsertPlaces.{IsThroughHeader, element_placed, header_placed, headed_within, holder_front, plain_rest, root_placed, through_header, through_placed}
+pub use Rattle.keep_law.proofs.Insert.InsertDottedPlace.{IsBaseAt, IsDottedPlaced, dotted_placed}
+pub use Rattle.keep_law.proofs.Common.Texts.{text_of-append}

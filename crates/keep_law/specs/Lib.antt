@@ -8,5 +8,6 @@ pub mod Trees
 pub mod Answers
 pub mod Laws
 pub mod Removal
+pub mod Insertion
 pub mod TextEnds
 pub mod Headers

@@ -9,7 +9,7 @@ use Rattle.keep_token.proofs.EncodedStrings.{key_is_leaf, key_means}
 use Rattle.keep_path.proofs.ByteLaws.{text_bytes}
 use Rattle.keep_path.specs.declared.step.Step.{Step}
 use Rattle.keep_path.specs.declared.step.Step.TheVariants.{Key, Index}
-use Rattle.keep_path.specs.Path.{Part, key, index, IsRooted}
+use Rattle.keep_path.specs.Path.{Part, key, index, AreUtf8, IsRooted}
 use Rattle.keep_path.specs.PathText.{encoded_path, part_text, KeyText, StepsText, IsPathText, HasSmallIndexes}
 use Rattle.keep_path.specs.Step.{part_of}
 
@@ -45,3 +45,8 @@ path_told (index n ∷ parts) r h small = absurd r
 pub encoded_told : (steps : List Step) → IsRooted (map part_of steps) → HasSmallIndexes (map part_of steps)
     → IsPathText (encoded_path (map part_of steps)) (map part_of steps)
 encoded_told steps r small = path_told (map part_of steps) r (steps_have_bytes steps) small
+
+pub steps_are_utf8 : (steps : List Step) → AreUtf8 (map part_of steps)
+steps_are_utf8 [] = tt
+steps_are_utf8 (Key text ∷ steps) = (IsUtf8-string_bytes text, steps_are_utf8 steps)
+steps_are_utf8 (Index n ∷ steps) = steps_are_utf8 steps

@@ -1,5 +1,5 @@
 -- Paths: lists of keys and indexes, from the root, or from a value. (TOML 1.0.0: Keys, Array, Array of Tables)
-use Rattle.std.specs.Prelude.{ℕ, Bool, false, ◌==◌, List, [], ◌∷◌}
+use Rattle.std.specs.Prelude.{ℕ, Bool, false, ◌==◌, List, [], ◌∷◌, IsUtf8}
 use Rattle.std.specs.Str.{bytes_eq}
 use Rattle.std.specs.Cmp.Lexicographic.{pointwise}
 
@@ -22,3 +22,9 @@ abbrev pub IsRooted : List Part → Type 0
 IsRooted [] = Unit {0}
 IsRooted (key text ∷ parts) = Unit {0}
 IsRooted (index n ∷ parts) = ⊥
+
+-- the keys are in UTF-8
+abbrev pub AreUtf8 : List Part → Type 0
+AreUtf8 [] = Unit {0}
+AreUtf8 (key text ∷ parts) = IsUtf8 text × AreUtf8 parts
+AreUtf8 (index n ∷ parts) = AreUtf8 parts

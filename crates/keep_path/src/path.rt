@@ -1,7 +1,7 @@
 //! Paths.
 ghost use Rattle.std.specs.Prelude.{◌≡◌, ◌++◌, ◌≢◌, List, [], ◌∷◌, IfOk, IfSome, IsNone, IsOkUnless, OnOk, OnErr, length, map, min, option_copied, option_map, slice_get, string_bytes};
 ghost use Rattle.keep_path.specs.declared.fault.PathFault.TheVariants.{Memory};
-ghost use Rattle.keep_path.specs.Path.{Part, key, index, IsRooted};
+ghost use Rattle.keep_path.specs.Path.{Part, key, index, AreUtf8, IsRooted};
 ghost use Rattle.keep_path.specs.PathText.{encoded_path, AreKeys, FirstIndex, HasSmallIndexes, IsPathText};
 ghost use Rattle.keep_path.specs.Step.{part_of};
 
@@ -108,6 +108,7 @@ impl Path {
     pub fn len(&self) -> usize
         ensures count { result ≡ length self.now }
         ensures rooted { IsRooted self.now }
+        ensures utf8 { AreUtf8 self.now }
     {
         self.steps.len()
     }

@@ -1,6 +1,6 @@
 -- What the nodes as they are kept answer, told by the paths and by what is told of each.
 use Rattle.std.proofs.Common.{◌≡◌, ℕ, suc, ◌+◌, ◌<◌, ◌≤◌, true, false, if◌then◌else◌, List, [], ◌∷◌, ◌++◌, length, take, drop, take-take, refl, sym, ◌∙◌, ap, arith, Option, Some, None}
-use Rattle.std.specs.Prelude.{IfSome, slice_get, nat_lt, min}
+use Rattle.std.specs.Prelude.{IfSome, IsNone, slice_get, nat_lt, min}
 use Rattle.std.proofs.lemmas.Bool.Decides.{Decides-ltb}
 use Rattle.std.proofs.lemmas.List.{length-map, get_or-map, take-append-drop, take_min}
 use Rattle.std.proofs.lemmas.Option.{slice_get-get_or, slice_get_within, get_or_from_slice_get, option_and_then_some}
@@ -57,6 +57,10 @@ info_answer nodes t i r =
 pub number_within : (t : Telling) (path : List Part) (o : Option NodeId) → number_of o ≡ node_number t.paths path → IfSome o (λ id. id.0 < length t.paths)
 number_within t path None is = tt
 number_within t path (Some id) is = (number_is t.paths path id.0 (sym is)).0
+
+pub none_number : (o : Option NodeId) → IsNone o → number_of o ≡ None
+none_number None h = refl
+none_number (Some id) h = absurd cc
 
 pub nth_within : (t : Telling) (i n : ℕ) (o : Option NodeId) → number_of o ≡ nth_child t i n → IfSome o (λ id. id.0 < length t.paths)
 nth_within t i n None is = tt

@@ -1,12 +1,13 @@
 //! The nodes of a document, and what can be asked of them.
-ghost use Rattle.std.specs.Prelude.{◌≡◌, ℕ, ◌+◌, ◌-◌, ◌<◌, ◌≤◌, ◌∷◌, ◌++◌, [], None, Some, IfOk, IfErr, IfSome, IsOkUnless, OnOk, if◌then◌else◌, length, nat_lt, slice_get, string_bytes, take};
+ghost use Rattle.std.specs.Prelude.{◌≡◌, ℕ, ◌+◌, ◌-◌, ◌<◌, ◌≤◌, ◌∷◌, ◌++◌, [], None, Some, IfOk, IfErr, IfSome, IsNone, IsOkUnless, OnOk, if◌then◌else◌, List, length, nat_lt, slice_get, string_bytes, take};
 ghost use Rattle.keep_syntax.specs.Tree.{Document, Value};
 ghost use Rattle.keep_syntax.specs.declared.fault.ReadFault.TheVariants.{Memory};
 ghost use Rattle.keep_rules.specs.Lookup.{number_of, path_numbered, children_numbered, nth_child};
 ghost use Rattle.keep_meaning.specs.Marks.{marks};
 ghost use Rattle.keep_meaning.specs.Meaning.{said_in};
 ghost use Rattle.keep_meaning.specs.Nodes.{node_number};
-ghost use Rattle.keep_path.specs.Path.{key, index};
+ghost use Rattle.keep_path.specs.Path.{Part, key, index};
+ghost use Rattle.keep_path.specs.Step.{part_of};
 ghost use Rattle.keep_path.specs.PathText.{encoded_path};
 ghost use Rattle.keep_rules.specs.ReadDocuments.{WasRead, WasReadAlone, IsIndexOf, ValueObeys, IsRefusal, IsValueRefusal};
 ghost use Rattle.keep_meaning.specs.Rules.{ObeysRules};
@@ -16,7 +17,7 @@ use crate::path_text::push_path;
 use crate::queries::{child_by, path_to};
 use keep_meaning::NodeInfo;
 use keep_nodes::Nodes;
-use keep_path::Path;
+use keep_path::{Path, Step};
 use keep_syntax::{ReadFault, Syntax, ValueSyntax};
 use std::alloc::{AllocError, Global};
 use std::marker::Model;
@@ -139,6 +140,17 @@ impl Index {
             id = child_by(&self.nodes, id, path.step(number)?)?;
         }
         Some(NodeId(id))
+    }
+
+    /// The node to which one more step leads from a node; None where the document has none there, and then none at a longer
+    /// path that begins so.
+    pub fn step(&self, id: NodeId, step: &Step) -> Option<NodeId>
+        requires { id.0 < length self.now.paths }
+        ensures found { number_of result ≡ node_number self.now.paths (path_numbered self.now id.0 ++ part_of step.now ∷ []) }
+        ensures none { IsNone result → (more : List Part) → node_number self.now.paths (path_numbered self.now id.0 ++ part_of step.now ∷ more) ≡ None }
+        ensures within { IfSome result (λ id. id.0 < length self.now.paths) }
+    {
+        child_by(&self.nodes, id.0, step).map(NodeId)
     }
 
     /// The node of a table's key, decoded; None where the table has no such key, or where the node is no table.

@@ -1,5 +1,6 @@
 -- What an act changes is one of the values in the list of all: which one it is, by how many stand before it, and where it stands.
-use Rattle.std.proofs.Common.{◌≡◌, ℕ, suc, ◌+◌, true, List, [], ◌∷◌, ◌++◌, length, map, refl, sym, ap, subst, ◌∙◌, append_assoc, length-append, arith, Option, Some, None}
+use Rattle.std.proofs.Common.{◌≡◌, ℕ, suc, ◌+◌, ◌≤◌, true, false, List, [], ◌∷◌, ◌++◌, length, map, refl, sym, ap, subst, ◌∙◌, append_assoc, length-append, arith, Option, Some, None, inl, inr}
+use Rattle.std.specs.Prelude.{⊤}
 use Rattle.std.specs.List.{AllByRecursion}
 use Rattle.std.proofs.lemmas.List.{map-append, append-nil}
 use Rattle.keep_token.specs.declared.leaf.Profile.{Profile}
@@ -11,8 +12,8 @@ use Rattle.keep_syntax.specs.Numbered as syntax
 use Rattle.keep_syntax.specs.Numbered.{value_start, inside_start, comma_start, comma_place, key_count, name_count, info, inside_of, rest_of, entries_values, line_start, content_values, line_values, over_lines, next_line, first_line}
 use Rattle.keep_meaning.specs.Fact.{Fact}
 use Rattle.keep_path.specs.Path.{Part, key, index}
-use Rattle.keep_meaning.specs.Marks.{Saying, value, item, Mention, below, fact_of, Reading, statement_mentions, start}
-use Rattle.keep_meaning.specs.Meaning.{key_value, further_value, keys_of, body_fact, valued_mentions, keyed_mentions, entry_mentions, entries_said, step, keyval_said, statement_of, line_said, behind_line, lines_said, line_of, said_in}
+use Rattle.keep_meaning.specs.Marks.{Saying, dotted, value, item, Mention, below, fact_of, Reading, statement_mentions, start}
+use Rattle.keep_meaning.specs.Meaning.{key_value, further_value, keys_of, body_fact, valued_mentions, keyed_mentions, entry_mentions, entries_said, step, keyval_said, statement_of, line_said, behind_line, lines_said, reading_behind, line_of, said_in}
 use Rattle.keep_meaning.specs.Counts.{is_value, one_if}
 use Rattle.keep_meaning.proofs.Shared.{valued, valued-append, valued-below, valued-keyed, valued-content, valued-entries, length-entries_values}
 use Rattle.keep_law.specs.Look.{strip}
@@ -20,14 +21,25 @@ use Rattle.keep_law.specs.Changed.{Changed, framed_change, within, or_else}
 use Rattle.keep_law.specs.Values.{Act, entries_text, entry_front, entry_back, in_entries, in_value}
 use Rattle.keep_law.specs.Lines.{page_text, in_content, in_line, in_lines, with_page}
 use Rattle.keep_law.specs.Edits.{inside}
-use Rattle.keep_law.proofs.Common.Runs.{strip-sound}
-use Rattle.keep_law.proofs.Common.SetLaw.{tag_of, tag_told, keyed_split, map_twice}
+use Rattle.keep_law.proofs.Common.Runs.{AllOf, SomeOf, all_right, all_join, all_map, meet, some_right, pairs_split, Allowed, Rules, exclusive, IsApart, strip-sound}
+use Rattle.keep_law.proofs.Common.SetLaw.{IsAloneAt, tag_of, tag_told, keyed_split, keyed_apart, map_twice, all_longer, apart_below, apart_closed, apart_from_entry, clash_before, closed_named, closed_entries, rules_below}
+use Rattle.keep_law.proofs.Common.LineLaws.{lines_said-append}
+use Rattle.keep_law.proofs.Common.SetDocument.{said_of, whole_said}
+use Rattle.keep_law.proofs.Common.InValue.{beside_keyval}
+use Rattle.keep_law.proofs.Common.ValueThere.{some_cases}
+use Rattle.keep_law.proofs.Common.ValueNumber.{value_is_exclusive}
 use Rattle.keep_law.proofs.Common.DoneAtValue.{EachOf, of_within, of_or_else}
 use Rattle.keep_law.proofs.Common.ValuesSay.{length-sayings, sayings-entry, value_ends}
 
+-- the first of these, if there is one, stands no deeper
+abbrev pub BeginNoDeeper : ℕ → List ValueInfo → Type 0
+BeginNoDeeper d [] = ⊤
+BeginNoDeeper d (i ∷ is) = i.depth ≤ d
+
 -- The change is what an act does at one of these values, with that rest of the path; its text begins at `at`.
 -- As many value sayings stand before the value's own as values before it.
--- Where the whole is valid, so is the value; what is said in it, and its values, come right behind it.
+-- Where the whole is valid, so is the value; what is said in it, and its values, come right behind it, and the values that
+-- follow them do not begin deeper. By the rules nothing else is said at or under its path.
 pub record IsFoundIn {A : Type 0} (act : Act) (Whole : Profile → Type 0) (at : ℕ) (path : List Part) (ms : List Mention) (infos : List ValueInfo) (c : Changed A) : Type 0 where
   pub value : Value
   pub valid : (profile : Profile) → Whole profile → IsValue profile value
@@ -61,6 +73,94 @@ pub record IsFoundIn {A : Type 0} (act : Act) (Whole : Profile → Type 0) (at :
   pub within_values : behind ≡ entries_values (inside_of begin from keys value.body) value.inside ++ others
   pub beyond : List ℕ
   pub text_behind : c.behind ≡ done.behind ++ beyond
+  pub ends : BeginNoDeeper own.depth others
+  pub apart : Rules ms → AllOf (IsApart mention.path) earlier × AllOf (IsApart mention.path) further
+
+-- ---- what stands alone at a path
+
+alone_here : (earlier later ms : List Mention) (m : Mention) → ms ≡ earlier ++ m ∷ later → is_value m.says ≡ true → SomeOf (IsAloneAt m.path) ms
+alone_here earlier later ms m said tells =
+    subst (SomeOf (IsAloneAt m.path)) (sym said) (some_right (IsAloneAt m.path) earlier (m ∷ later) (inl (record { path = refl; says = value_is_exclusive m.says tells })))
+
+-- seen from where the path begins
+pub record IsAloneBeyond (p q : List Part) (ms : List Mention) : Type 0 where
+  pub more : List Part
+  pub whole : q ≡ p ++ more
+  pub alone : SomeOf (IsAloneAt more) ms
+
+pub alone_beyond : (p q : List Part) (ms : List Mention) → SomeOf (IsAloneAt q) (map (below p) ms) → IsAloneBeyond p q ms
+alone_beyond p q [] s = absurd s
+alone_beyond p q (m ∷ ms) (inl a) = record { more = m.path; whole = sym a.path; alone = inl (record { path = refl; says = a.says }) }
+alone_beyond p q (m ∷ ms) (inr s) = let h = alone_beyond p q ms s in record { more = h.more; whole = h.whole; alone = inr h.alone }
+
+abbrev Shared : Mention → Type 0
+Shared m = exclusive m.says ≡ false
+
+shared_below : (p : List Part) (ms : List Mention) → AllOf Shared ms → AllOf Shared (map (below p) ms)
+shared_below p [] h = tt
+shared_below p (m ∷ ms) h = (h.0, shared_below p ms h.1)
+
+shared_ways : (ks : List (List ℕ)) → AllOf Shared (keyed_mentions ks [])
+shared_ways [] = tt
+shared_ways (k ∷ []) = tt
+shared_ways (k ∷ l ∷ ks) = shared_below (key k ∷ []) (record { path = []; says = dotted } ∷ keyed_mentions (l ∷ ks) []) (refl, shared_ways (l ∷ ks))
+
+never_shared : (q : List Part) (ms : List Mention) → AllOf Shared ms → SomeOf (IsAloneAt q) ms → ⊥
+never_shared q ms h s = let (m, alone, shared) = meet (IsAloneAt q) Shared ms s h in let k : true ≡ false = sym alone.says ∙ shared in absurd cc
+
+-- at or under an entry's step
+pub alone_named : (n : ℕ) (name : Option Name) (f : Fact) (inside : List Mention) (q : List Part) → SomeOf (IsAloneAt q) (entry_mentions n name f inside) → (more : List Part) × (q ≡ step n name ++ more)
+alone_named n None f inside q s = let h = alone_beyond (index n ∷ []) q (valued_mentions (item f) inside) s in (h.more, h.whole)
+alone_named n (Some name) f inside q s =
+    let p : List Part = map key (keys_of name.key) in
+    let ways : List Mention = keyed_mentions (keys_of name.key) [] in
+    let ms : List Mention = valued_mentions (value f) inside in
+    elim (some_cases (IsAloneAt q) ways (map (below p) ms) (subst (SomeOf (IsAloneAt q)) (keyed_split (keys_of name.key) ms) s)) [
+      | inl w ↦ absurd (never_shared q ways (shared_ways (keys_of name.key)) w)
+      | inr t ↦ (let h = alone_beyond p q ms t in (h.more, h.whole))
+    ]
+
+-- never what entries stand in
+alone_entries : (n : ℕ) (es : Entries) → SomeOf (IsAloneAt []) (entries_said n es) → ⊥
+alone_entries n none s = s
+alone_entries n (entry name body inside after comma rest) s =
+    elim (some_cases (IsAloneAt []) (entry_mentions n name (body_fact body) (entries_said 0 inside)) (entries_said (n + 1) rest) s) [
+      | inl t ↦ (let (more, e) = alone_named n name (body_fact body) (entries_said 0 inside) [] t in no name more e)
+      | inr t ↦ alone_entries (n + 1) rest t
+    ]
+  where
+    no : (name : Option Name) (more : List Part) → [] ≡ step n name ++ more → ⊥
+    no None more e = absurd cc
+    no (Some name) more e = absurd cc
+
+-- ---- how deep values stand
+
+own_deep : (d : ℕ) (infos front : List ValueInfo) (own : ValueInfo) (behind : List ValueInfo) → AllOf (λ (i : ValueInfo). d ≤ i.depth) infos → infos ≡ front ++ own ∷ behind → d ≤ own.depth
+own_deep d infos front own behind h e = (all_right (λ (i : ValueInfo). d ≤ i.depth) front (own ∷ behind) (subst (AllOf (λ (i : ValueInfo). d ≤ i.depth)) e h)).0
+
+pub entries_deep : (p : Start) (es : Entries) → AllOf (λ (i : ValueInfo). p.depth ≤ i.depth) (entries_values p es)
+entries_deep p none = tt
+entries_deep p (entry name body inside after comma rest) =
+    let i : Start = inside_of p (value_start p.at name) (name_count name) body in
+    let r : Start = rest_of p name body inside after comma in
+    (omega arith, all_join (λ (x : ValueInfo). p.depth ≤ x.depth) (entries_values i inside) (entries_values r rest)
+    (all_map (λ (x : ValueInfo). i.depth ≤ x.depth) (λ (x : ValueInfo). p.depth ≤ x.depth) (λ x h. omega (arith, h)) (entries_values i inside) (entries_deep i inside))
+    (entries_deep r rest))
+
+entries_begin_deep : (p : Start) (es : Entries) → BeginNoDeeper p.depth (entries_values p es)
+entries_begin_deep p none = tt
+entries_begin_deep p (entry name body inside after comma rest) = omega arith
+
+no_deeper-join : (d k : ℕ) (xs ys : List ValueInfo) → BeginNoDeeper d xs → BeginNoDeeper k ys → k ≤ d → BeginNoDeeper d (xs ++ ys)
+no_deeper-join d k [] [] h g e = tt
+no_deeper-join d k [] (y ∷ ys) h g e = omega (arith, g, e)
+no_deeper-join d k (x ∷ xs) ys h g e = h
+
+line_no_deeper : (p : Start) (c : Content) → p.depth ≡ 0 → BeginNoDeeper 0 (content_values p c)
+line_no_deeper p blank e = tt
+line_no_deeper p (keyval name v) e = omega (arith, e)
+line_no_deeper p (header before k behind) e = tt
+line_no_deeper p (element before k behind) e = tt
 
 -- ---- seen from outside
 
@@ -99,6 +199,8 @@ found_framed act Inner Whole at from path ms infos outer left right c valid e h 
   within_values = h.within_values;
   beyond = h.beyond ++ right;
   text_behind = ap (λ (t : List ℕ). t ++ right) h.text_behind ∙ append_assoc h.done.behind h.beyond right;
+  ends = h.ends;
+  apart = h.apart;
 }
 
 -- beyond a front of the path
@@ -138,12 +240,15 @@ found_beyond act Whole at p more path ms infos c e h = record {
   within_values = h.within_values;
   beyond = h.beyond;
   text_behind = h.text_behind;
+  ends = h.ends;
+  apart = λ rules. let a = h.apart (rules_below p ms rules) in (apart_below p h.mention.path h.earlier a.0, apart_below p h.mention.path h.further a.1);
 }
 
 -- behind others, and before others
 found_after : {A : Type 0} (act : Act) (Whole : Profile → Type 0) (at : ℕ) (path : List Part) (xs ms : List Mention) (is infos : List ValueInfo) (c : Changed A)
-    → valued xs ≡ length is → IsFoundIn act Whole at path ms infos c → IsFoundIn act Whole at path (xs ++ ms) (is ++ infos) c
-found_after act Whole at path xs ms is infos c e h = record {
+    → valued xs ≡ length is → (Rules (xs ++ ms) → (q : List Part) → SomeOf (IsAloneAt q) ms → AllOf (IsApart q) xs)
+    → IsFoundIn act Whole at path ms infos c → IsFoundIn act Whole at path (xs ++ ms) (is ++ infos) c
+found_after act Whole at path xs ms is infos c e far h = record {
   value = h.value;
   valid = h.valid;
   more = h.more;
@@ -176,11 +281,15 @@ found_after act Whole at path xs ms is infos c e h = record {
   within_values = h.within_values;
   beyond = h.beyond;
   text_behind = h.text_behind;
+  ends = h.ends;
+  apart = λ rules. let a = h.apart (pairs_split Allowed xs ms rules).right in
+      (all_join (IsApart h.mention.path) xs h.earlier (far rules h.mention.path (alone_here h.earlier h.later ms h.mention h.said h.tells)) a.0, a.1);
 }
 
 found_before : {A : Type 0} (act : Act) (Whole : Profile → Type 0) (at : ℕ) (path : List Part) (ms ys : List Mention) (infos js : List ValueInfo) (c : Changed A)
+    → (d : ℕ) → AllOf (λ (i : ValueInfo). d ≤ i.depth) infos → BeginNoDeeper d js → (Rules (ms ++ ys) → (q : List Part) → SomeOf (IsAloneAt q) ms → AllOf (IsApart q) ys)
     → IsFoundIn act Whole at path ms infos c → IsFoundIn act Whole at path (ms ++ ys) (infos ++ js) c
-found_before act Whole at path ms ys infos js c h = record {
+found_before act Whole at path ms ys infos js c d deep low far h = record {
   value = h.value;
   valid = h.valid;
   more = h.more;
@@ -213,7 +322,60 @@ found_before act Whole at path ms ys infos js c h = record {
   within_values = ap (λ l. l ++ js) h.within_values ∙ append_assoc (entries_values (inside_of h.begin h.from h.keys h.value.body) h.value.inside) h.others js;
   beyond = h.beyond;
   text_behind = h.text_behind;
+  ends = no_deeper-join h.own.depth d h.others js h.ends low (own_deep d infos h.front h.own h.behind deep h.here);
+  apart = λ rules. let a = h.apart (pairs_split Allowed ms ys rules).left in
+      (a.0, all_join (IsApart h.mention.path) h.further ys a.1 (far rules h.mention.path (alone_here h.earlier h.later ms h.mention h.said h.tells)));
 }
+
+-- between others, of lines
+found_between : {A : Type 0} (act : Act) (Whole : Profile → Type 0) (at : ℕ) (path : List Part) (xs ms ys : List Mention) (is infos js : List ValueInfo) (c : Changed A)
+    → valued xs ≡ length is → BeginNoDeeper 0 js → (Rules (xs ++ (ms ++ ys)) → (q : List Part) → SomeOf (IsAloneAt q) ms → AllOf (IsApart q) xs × AllOf (IsApart q) ys)
+    → IsFoundIn act Whole at path ms infos c → IsFoundIn act Whole at path (xs ++ (ms ++ ys)) (is ++ (infos ++ js)) c
+found_between act Whole at path xs ms ys is infos js c e low far h = record {
+  value = h.value;
+  valid = h.valid;
+  more = h.more;
+  done = h.done;
+  by = h.by;
+  old = h.old;
+  new = h.new;
+  earlier = xs ++ h.earlier;
+  mention = h.mention;
+  later = h.later ++ ys;
+  said = ap (λ l. xs ++ (l ++ ys)) h.said ∙ around_one xs h.earlier h.later ys h.mention;
+  place = h.place;
+  tells = h.tells;
+  fact = h.fact;
+  front = is ++ h.front;
+  own = h.own;
+  behind = h.behind ++ js;
+  here = ap (λ l. is ++ (l ++ js)) h.here ∙ around_info is h.front h.behind js h.own;
+  count = omega (arith, e, h.count, valued-append xs h.earlier, length-append is h.front);
+  start = h.start;
+  end = h.end;
+  begin = h.begin;
+  from = h.from;
+  keys = h.keys;
+  comma = h.comma;
+  told = h.told;
+  further = h.further ++ ys;
+  within_said = ap (λ l. l ++ ys) h.within_said ∙ append_assoc (map (below h.mention.path) (entries_said 0 h.value.inside)) h.further ys;
+  others = h.others ++ js;
+  within_values = ap (λ l. l ++ js) h.within_values ∙ append_assoc (entries_values (inside_of h.begin h.from h.keys h.value.body) h.value.inside) h.others js;
+  beyond = h.beyond;
+  text_behind = h.text_behind;
+  ends = no_deeper-join h.own.depth 0 h.others js h.ends low (omega arith);
+  apart = λ rules.
+      let a = h.apart (pairs_split Allowed ms ys (pairs_split Allowed xs (ms ++ ys) rules).right).left in
+      let b = far rules h.mention.path (alone_here h.earlier h.later ms h.mention h.said h.tells) in
+      (all_join (IsApart h.mention.path) xs h.earlier b.0 a.0, all_join (IsApart h.mention.path) h.further ys a.1 b.1);
+}
+  where
+    around_one : (a b c d : List Mention) (m : Mention) → a ++ ((b ++ m ∷ c) ++ d) ≡ (a ++ b) ++ m ∷ (c ++ d)
+    around_one a b c d m = simp append_assoc refl
+
+    around_info : (a b c d : List ValueInfo) (m : ValueInfo) → a ++ ((b ++ m ∷ c) ++ d) ≡ (a ++ b) ++ m ∷ (c ++ d)
+    around_info a b c d m = simp append_assoc refl
 
 -- an entry's value is found where its key or number leads
 found_named : {A : Type 0} (act : Act) (Whole : Profile → Type 0) (at n : ℕ) (name : Option Name) (f : Fact) (inside : List Mention) (more path : List Part) (infos : List ValueInfo) (c : Changed A)
@@ -224,6 +386,9 @@ found_named act Whole at n (Some name) f inside more path infos c e h =
     let p : List Part = map key (keys_of name.key) in
     subst (λ (l : List Mention). IsFoundIn act Whole at path l infos c) (sym (keyed_split (keys_of name.key) ms))
     (found_after act Whole at path (keyed_mentions (keys_of name.key) []) (map (below p) ms) [] infos c (valued-keyed (key_value name.key.first) (map further_value name.key.more) [])
+    (λ rules q alone. let b = alone_beyond p q ms alone in
+    subst (λ (x : List Part). AllOf (IsApart x) (keyed_mentions (keys_of name.key) [])) (sym b.whole)
+    (all_longer p b.more (keyed_mentions (keys_of name.key) []) (keyed_apart (key_value name.key.first) (map further_value name.key.more))))
     (found_beyond act Whole at p more path ms infos c e h))
 
 -- ---- in a value
@@ -276,7 +441,13 @@ found_here act p at keys comma body inside says more is f (Some c) e = record {
   within_values = sym (append-nil (entries_values (inside_of p at keys body) inside));
   beyond = [];
   text_behind = sym (append-nil c.behind);
+  ends = tt;
+  apart = λ rules. (tt, tt);
 }
+
+root_apart : (says : Saying) (inside : Entries) (q : List Part) → SomeOf (IsAloneAt q) (entries_said 0 inside) → AllOf (IsApart q) (record { path = []; says = says } ∷ [])
+root_apart says inside [] s = absurd (alone_entries 0 inside s)
+root_apart says inside (p ∷ q) s = (refl, tt)
 
 found_value : (act : Act) (p : Start) (at keys : ℕ) (comma : Option ℕ) (body : Body) (inside : Entries) (says : Saying) (more : List Part)
     → is_value says ≡ true → fact_of says ≡ Some (body_fact body)
@@ -297,18 +468,31 @@ found_value act p at keys comma body inside says more is f h =
     (of_within (IsFoundIn act E (inside_start at body) more ms infos) (IsFoundIn act V at more (valued_mentions says ms) (own ∷ infos)) outer left right (in_entries act more 0 inside)
     (λ c k.
     found_framed act E V (inside_start at body) at more (valued_mentions says ms) (own ∷ infos) outer left right c (λ profile v. (place_in body, v.inside)) refl
-    (found_after act E (inside_start at body) more (record { path = []; says = says } ∷ []) ms (own ∷ []) infos c one k)) h)
+    (found_after act E (inside_start at body) more (record { path = []; says = says } ∷ []) ms (own ∷ []) infos c one (λ rules q alone. root_apart says inside q alone) k)) h)
     (found_here act p at keys comma body inside says more is f (act more (record { body = body; inside = inside })) refl)
 
 tag_valued : (name : Option Name) (f : Fact) → is_value (tag_of name f) ≡ true
 tag_valued None f = refl
 tag_valued (Some name) f = refl
 
-valued-entry : (n : ℕ) (name : Option Name) (f : Fact) (inside : List Mention) → valued (entry_mentions n name f inside) ≡ suc (valued inside)
+pub valued-entry : (n : ℕ) (name : Option Name) (f : Fact) (inside : List Mention) → valued (entry_mentions n name f inside) ≡ suc (valued inside)
 valued-entry n name f inside =
     sym (length-sayings (entry_mentions n name f inside)) ∙ ap (λ (l : List Saying). length l) (sayings-entry n name f inside) ∙ ap suc (length-sayings inside)
 
-front_ends : (at : ℕ) (name : Option Name) (body : Body) (inside : Entries) (after : Gap) (comma : Option Gap)
+first_apart : (n : ℕ) (name : Option Name) (f : Fact) (inside rest : Entries) → Rules (entry_mentions n name f (entries_said 0 inside) ++ entries_said (n + 1) rest)
+    → (q : List Part) → SomeOf (IsAloneAt q) (entries_said (n + 1) rest) → AllOf (IsApart q) (entry_mentions n name f (entries_said 0 inside))
+first_apart n name f inside rest rules [] s = absurd (alone_entries (n + 1) rest s)
+first_apart n name f inside rest rules (p ∷ q) s =
+    let first : List Mention = entry_mentions n name f (entries_said 0 inside) in
+    apart_closed (p ∷ q) first first (closed_named n name f (entries_said 0 inside) (closed_entries 0 inside) p q) (λ t. clash_before (p ∷ q) first (entries_said (n + 1) rest) t s rules)
+
+rest_apart : (n : ℕ) (name : Option Name) (f : Fact) (inside : List Mention) (rest : Entries) → Rules (entry_mentions n name f inside ++ entries_said (n + 1) rest)
+    → (q : List Part) → SomeOf (IsAloneAt q) (entry_mentions n name f inside) → AllOf (IsApart q) (entries_said (n + 1) rest)
+rest_apart n name f inside rest rules q s =
+    let (more, e) = alone_named n name f inside q s in
+    subst (λ (x : List Part). AllOf (IsApart x) (entries_said (n + 1) rest)) (sym e) (apart_from_entry n name f inside rest more rules)
+
+pub front_ends : (at : ℕ) (name : Option Name) (body : Body) (inside : Entries) (after : Gap) (comma : Option Gap)
     → at + length (entry_front name body inside ++ (text_of after ++ text_of (comma_leaves comma))) ≡ syntax.entry_end at name body inside after comma
 front_ends at name body inside after comma =
     let a : List ℕ = text_of (named_leaves name) in
@@ -350,7 +534,7 @@ found_entries-by act path n p name body inside after comma rest further deeper N
     (entry name body inside after comma) left [] (in_entries act path (n + 1) rest)
     (λ c h.
     found_framed act (Valid_entries rest) (Valid_entries whole) r.at p.at path (entries_said n whole) (entries_values p whole) (entry name body inside after comma) left [] c (λ profile v. (v.0, v.1.5)) (front_ends p.at name body inside after comma)
-    (found_after act (Valid_entries rest) r.at path first (entries_said (n + 1) rest) (own ∷ entries_values i inside) (entries_values r rest) c count h)) further
+    (found_after act (Valid_entries rest) r.at path first (entries_said (n + 1) rest) (own ∷ entries_values i inside) (entries_values r rest) c count (first_apart n name (body_fact body) inside rest) h)) further
 found_entries-by act path n p name body inside after comma rest further deeper (Some more) e =
     let whole : Entries = entry name body inside after comma rest in
     let at : ℕ = value_start p.at name in
@@ -361,11 +545,14 @@ found_entries-by act path n p name body inside after comma rest further deeper (
     let outer : Value → Entries = λ v. entry name v.body v.inside after comma rest in
     let left : List ℕ = text_of (named_leaves name) in
     let V : Profile → Type 0 = Valid_value (record { body = body; inside = inside }) in
+    let deep : AllOf (λ (x : ValueInfo). p.depth ≤ x.depth) (own ∷ entries_values i inside) =
+    (omega arith, all_map (λ (x : ValueInfo). i.depth ≤ x.depth) (λ (x : ValueInfo). p.depth ≤ x.depth) (λ x h. omega (arith, h)) (entries_values i inside) (entries_deep i inside)) in
     of_within (IsFoundIn act V at more (valued_mentions (tag_of name (body_fact body)) (entries_said 0 inside)) (own ∷ entries_values i inside)) (IsFoundIn act (Valid_entries whole) p.at path (entries_said n whole) (entries_values p whole))
     outer left (entry_back after comma rest) _
     (λ c h.
     found_framed act V (Valid_entries whole) at p.at path (entries_said n whole) (entries_values p whole) outer left (entry_back after comma rest) c (λ profile v. record { body = v.1.1; inside = v.1.2 }) refl
     (found_before act V at path first (entries_said (n + 1) rest) (own ∷ entries_values i inside) (entries_values r rest) c
+    p.depth deep (entries_begin_deep r rest) (rest_apart n name (body_fact body) (entries_said 0 inside) rest)
     (found_named act V at n name (body_fact body) (entries_said 0 inside) more path (own ∷ entries_values i inside) c (strip-sound (step n name) path more e) h)))
     (found_value act p at (name_count name) (comma_place (comma_start p.at name body inside after) comma) body inside (tag_of name (body_fact body)) more
     (tag_valued name (body_fact body)) (tag_told name (body_fact body)) (deeper more))
@@ -432,33 +619,111 @@ Valid_lines es last profile = AllByRecursion (IsEnded profile) es × IsLine prof
 abbrev pub Valid_document : Document → Profile → Type 0
 Valid_document s profile = IsDocument profile s
 
-found_lines : (act : Act) (path : List Part) (r : Reading) (c : syntax.Count) (es : List Ended) (last : Line)
-    → EachOf (IsFoundIn act (Valid_lines es last) c.at path (lines_said r (map line_of es ++ last ∷ [])) (all_values c es last)) (in_lines (in_line act path) r es last)
-found_lines act path r c [] last =
-    of_within (IsFoundIn act (Valid_line last) c.at path (line_said r last) (line_values c last)) (IsFoundIn act (Valid_lines [] last) c.at path (line_said r last ++ []) (line_values c last)) (λ l. record { ended = []; last = l }) [] [] (in_line act path r last)
+-- ... of a keyval
+record IsFoundOnLine (act : Act) (path : List Part) (r : Reading) (c : syntax.Count) (l : Line) (d : Changed Line) : Type 0 where
+  found : IsFoundIn act (Valid_line l) c.at path (line_said r l) (line_values c l) d
+  name : Name
+  value : Value
+  content : l.content ≡ keyval name value
+
+each_none : {A : Type 0} (P : Changed A → Type 0) (o : Option (Changed A)) → o ≡ None → EachOf P o
+each_none P None e = tt
+each_none P (Some c) e = absurd cc
+
+each_map : {A : Type 0} (P Q : Changed A → Type 0) (o : Option (Changed A)) → ((c : Changed A) → P c → Q c) → EachOf P o → EachOf Q o
+each_map P Q None f h = tt
+each_map P Q (Some c) f h = f c h
+
+found_on_line : (act : Act) (path : List Part) (r : Reading) (c : syntax.Count) (l : Line) → EachOf (IsFoundOnLine act path r c l) (in_line act path r l)
+found_on_line act path r c l = by l.content refl
+  where
+    never : (x : Content) → l.content ≡ x → in_content act r.body path x ≡ None → EachOf (IsFoundOnLine act path r c l) (in_line act path r l)
+    never x e empty = each_none (IsFoundOnLine act path r c l) (in_line act path r l)
+        (ap (within (λ (x : Content). record l { content = x }) (text_of l.before) (text_of l.after ++ text_of (comment_leaves l.comment))) (ap (in_content act r.body path) e ∙ empty))
+
+    by : (x : Content) → l.content ≡ x → EachOf (IsFoundOnLine act path r c l) (in_line act path r l)
+    by blank e = never blank e refl
+    by (keyval name v) e =
+        each_map (IsFoundIn act (Valid_line l) c.at path (line_said r l) (line_values c l)) (IsFoundOnLine act path r c l) (in_line act path r l)
+        (λ d h. record { found = h; name = name; value = v; content = e }) (found_line act path r c l)
+    by (header before k behind) e = never (header before k behind) e refl
+    by (element before k behind) e = never (element before k behind) e refl
+
+alone_keyval : (body : List Part) (name : Name) (v : Value) (q : List Part) → SomeOf (IsAloneAt q) (map (below body) (keyval_said name v)) → (more : List Part) × (q ≡ (body ++ step 0 (Some name)) ++ more)
+alone_keyval body name v q s =
+    let b = alone_beyond body q (keyval_said name v) s in
+    let (more, e) = alone_named 0 (Some name) (body_fact v.body) (entries_said 0 v.inside) b.more b.alone in
+    (more, b.whole ∙ ap (λ (x : List Part). body ++ x) e ∙ sym (append_assoc body (step 0 (Some name)) more))
+
+-- the line between others, from the first line on
+found_at_line : (act : Act) (path : List Part) (pre post : List Line) (lefts js : List ValueInfo) (c : syntax.Count) (l : Line) (d : Changed Line)
+    → valued (lines_said start pre) ≡ length lefts → BeginNoDeeper 0 js → IsFoundOnLine act path (reading_behind start pre) c l d
+    → IsFoundIn act (Valid_line l) c.at path (lines_said start (pre ++ l ∷ post)) (lefts ++ (line_values c l ++ js)) d
+found_at_line act path pre post lefts js c l d count low h =
+    let r : Reading = reading_behind start pre in
+    let left : List Mention = lines_said start pre in
+    let mid : List Mention = map (below r.body) (keyval_said h.name h.value) in
+    let right : List Mention = lines_said r post in
+    let p : List Part = r.body ++ step 0 (Some h.name) in
+    subst (λ (ms : List Mention). IsFoundIn act (Valid_line l) c.at path ms (lefts ++ (line_values c l ++ js)) d) (sym (whole_said pre post l h.name h.value h.content))
+    (found_between act (Valid_line l) c.at path left mid right lefts (line_values c l) js d count low
+    (λ rules q alone.
+    let b = beside_keyval pre post h.name h.value rules in
+    let (more, e) = alone_keyval r.body h.name h.value q alone in
+    (subst (λ (x : List Part). AllOf (IsApart x) left) (sym e) (all_longer p more left b.before), subst (λ (x : List Part). AllOf (IsApart x) right) (sym e) (all_longer p more right b.behind)))
+    (subst (λ (ms : List Mention). IsFoundIn act (Valid_line l) c.at path ms (line_values c l) d) (said_of r l h.name h.value h.content) h.found))
+
+lines_no_deeper : (c : syntax.Count) (es : List Ended) (last : Line) → BeginNoDeeper 0 (all_values c es last)
+lines_no_deeper c [] last = line_no_deeper (line_start c last) last.content refl
+lines_no_deeper c (e ∷ es) last =
+    no_deeper-join 0 0 (line_values c e.line) (all_values (next_line c e) es last) (line_no_deeper (line_start c e.line) e.line.content refl) (lines_no_deeper (next_line c e) es last) (omega arith)
+
+reading_snoc : (r : Reading) (pre : List Line) (l : Line) → reading_behind r (pre ++ l ∷ []) ≡ behind_line (reading_behind r pre) l
+reading_snoc r [] l = refl
+reading_snoc r (x ∷ pre) l = reading_snoc (behind_line r x) pre l
+
+said_snoc : (pre : List Line) (r : Reading) (c : syntax.Count) (l : Line) (lefts : List ValueInfo) → reading_behind start pre ≡ r → valued (lines_said start pre) ≡ length lefts
+    → valued (lines_said start (pre ++ l ∷ [])) ≡ length (lefts ++ line_values c l)
+said_snoc pre r c l lefts e n =
+    let said : lines_said start (pre ++ l ∷ []) ≡ lines_said start pre ++ line_said r l =
+    lines_said-append start pre (l ∷ []) ∙ ap (λ (x : List Mention). lines_said start pre ++ x) (append-nil (line_said (reading_behind start pre) l)) ∙ ap (λ (x : Reading). lines_said start pre ++ line_said x l) e in
+    ap valued said ∙ omega (arith, valued-append (lines_said start pre) (line_said r l), n, valued-content r (line_start c l) l.content, length-append lefts (line_values c l))
+
+found_lines : (act : Act) (path : List Part) (pre : List Line) (lefts : List ValueInfo) (r : Reading) (c : syntax.Count) (es : List Ended) (last : Line)
+    → reading_behind start pre ≡ r → valued (lines_said start pre) ≡ length lefts
+    → EachOf (IsFoundIn act (Valid_lines es last) c.at path (lines_said start (pre ++ (map line_of es ++ last ∷ []))) (lefts ++ all_values c es last)) (in_lines (in_line act path) r es last)
+found_lines act path pre lefts r c [] last e n =
+    let ms : List Mention = lines_said start (pre ++ last ∷ []) in
+    let infos : List ValueInfo = lefts ++ line_values c last in
+    of_within (IsFoundOnLine act path r c last) (IsFoundIn act (Valid_lines [] last) c.at path ms infos) (λ l. record { ended = []; last = l }) [] [] (in_line act path r last)
     (λ d h.
-    found_framed act (Valid_line last) (Valid_lines [] last) c.at c.at path (line_said r last ++ []) (line_values c last) (λ l. record { ended = []; last = l }) [] [] d (λ profile v. v.1) (omega arith)
-    (subst (λ (l : List Mention). IsFoundIn act (Valid_line last) c.at path l (line_values c last) d) (sym (append-nil (line_said r last))) h))
-    (found_line act path r c last)
-found_lines act path r c (e ∷ es) last =
-    let here : List Mention = line_said r e.line in
-    let rest : List Mention = lines_said (behind_line r e.line) (map line_of es ++ last ∷ []) in
+    found_framed act (Valid_line last) (Valid_lines [] last) c.at c.at path ms infos (λ l. record { ended = []; last = l }) [] [] d (λ profile v. v.1) (omega arith)
+    (subst (λ (l : List ValueInfo). IsFoundIn act (Valid_line last) c.at path ms (lefts ++ l) d) (append-nil (line_values c last))
+    (found_at_line act path pre [] lefts [] c last d n tt (subst (λ (x : Reading). IsFoundOnLine act path x c last d) (sym e) h))))
+    (found_on_line act path r c last)
+found_lines act path pre lefts r c (e ∷ es) last same n =
+    let post : List Line = map line_of es ++ last ∷ [] in
+    let ms : List Mention = lines_said start (pre ++ e.line ∷ post) in
     let own : List ValueInfo = line_values c e.line in
     let more : List ValueInfo = all_values (next_line c e) es last in
+    let infos : List ValueInfo = lefts ++ (own ++ more) in
     let right : List ℕ = e.newline.text ++ page_text (record { ended = es; last = last }) in
     let Whole : Profile → Type 0 = Valid_lines (e ∷ es) last in
-    of_or_else (IsFoundIn act Whole c.at path (here ++ rest) (own ++ more)) _ _
-    (of_within (IsFoundIn act (Valid_line e.line) c.at path here own) (IsFoundIn act Whole c.at path (here ++ rest) (own ++ more)) (λ l. record { ended = record { line = l; newline = e.newline } ∷ es; last = last }) [] right (in_line act path r e.line)
+    let further : List Line = (pre ++ e.line ∷ []) ++ post in
+    of_or_else (IsFoundIn act Whole c.at path ms infos) _ _
+    (of_within (IsFoundOnLine act path r c e.line) (IsFoundIn act Whole c.at path ms infos) (λ l. record { ended = record { line = l; newline = e.newline } ∷ es; last = last }) [] right (in_line act path r e.line)
     (λ d h.
-    found_framed act (Valid_line e.line) Whole c.at c.at path (here ++ rest) (own ++ more) (λ l. record { ended = record { line = l; newline = e.newline } ∷ es; last = last }) [] right d (λ profile v. v.0.0.line) (omega arith)
-    (found_before act (Valid_line e.line) c.at path here rest own more d h))
-    (found_line act path r c e.line))
-    (of_within (IsFoundIn act (Valid_lines es last) (next_line c e).at path rest more) (IsFoundIn act Whole c.at path (here ++ rest) (own ++ more)) (λ b. record { ended = e ∷ b.ended; last = b.last }) (text_of (ended_leaves e)) []
-    (in_lines (in_line act path) (behind_line r e.line) es last)
+    found_framed act (Valid_line e.line) Whole c.at c.at path ms infos (λ l. record { ended = record { line = l; newline = e.newline } ∷ es; last = last }) [] right d (λ profile v. v.0.0.line) (omega arith)
+    (found_at_line act path pre post lefts more c e.line d n (lines_no_deeper (next_line c e) es last) (subst (λ (x : Reading). IsFoundOnLine act path x c e.line d) (sym same) h)))
+    (found_on_line act path r c e.line))
+    (of_within (IsFoundIn act (Valid_lines es last) (next_line c e).at path (lines_said start further) ((lefts ++ own) ++ more)) (IsFoundIn act Whole c.at path ms infos)
+    (λ b. record { ended = e ∷ b.ended; last = b.last }) (text_of (ended_leaves e)) [] (in_lines (in_line act path) (behind_line r e.line) es last)
     (λ d h.
-    found_framed act (Valid_lines es last) Whole (next_line c e).at c.at path (here ++ rest) (own ++ more) (λ b. record { ended = e ∷ b.ended; last = b.last }) (text_of (ended_leaves e)) [] d (λ profile v. (v.0.1, v.1)) refl
-    (found_after act (Valid_lines es last) (next_line c e).at path here rest own more d (valued-content r (line_start c e.line) e.line.content) h))
-    (found_lines act path (behind_line r e.line) (next_line c e) es last))
+    found_framed act (Valid_lines es last) Whole (next_line c e).at c.at path ms infos (λ b. record { ended = e ∷ b.ended; last = b.last }) (text_of (ended_leaves e)) [] d (λ profile v. (v.0.1, v.1)) refl
+    (subst (λ (l : List Line). IsFoundIn act (Valid_lines es last) (next_line c e).at path (lines_said start l) infos d) (append_assoc pre (e.line ∷ []) post)
+    (subst (λ (l : List ValueInfo). IsFoundIn act (Valid_lines es last) (next_line c e).at path (lines_said start further) l d) (append_assoc lefts own more) h)))
+    (found_lines act path (pre ++ e.line ∷ []) (lefts ++ own) (behind_line r e.line) (next_line c e) es last
+    (reading_snoc start pre e.line ∙ ap (λ (x : Reading). behind_line x e.line) same) (said_snoc pre r c e.line lefts same n)))
 
 -- What an act changes in a document is one of its values.
 pub found_inside : (act : Act) (path : List Part) (s : Document) → EachOf (IsFoundIn act (Valid_document s) 0 path (said_in s) (syntax.values s)) (inside act path s)
@@ -467,4 +732,4 @@ found_inside act path s =
     of_within (IsFoundIn act Lines (first_line s).at path (said_in s) (syntax.values s)) (IsFoundIn act (Valid_document s) 0 path (said_in s) (syntax.values s)) (with_page s) (text_of (bom_leaves s.bom)) []
     (in_lines (in_line act path) start s.ended s.last)
     (λ c h. found_framed act Lines (Valid_document s) (first_line s).at 0 path (said_in s) (syntax.values s) (with_page s) (text_of (bom_leaves s.bom)) [] c (λ profile v. (v.ended, v.last)) (omega arith) h)
-    (found_lines act path start (first_line s) s.ended s.last)
+    (found_lines act path [] [] start (first_line s) s.ended s.last refl refl)

@@ -118,7 +118,7 @@ no_dotted_pass q a n false (inl h) = let no : is_dotted past ≡ true = h.1 in a
 no_dotted_pass q a n false (inr (inl h)) = let no : is_dotted passed ≡ true = h.1 in absurd cc
 no_dotted_pass q a n false (inr (inr h)) = h
 
-no_dotted_way : (tables : List (List Part)) (at : List Part) (keys : List (List ℕ)) (a : List Part) → SomeOf (IsSaid is_dotted a) (header_way tables at keys) → ⊥
+pub no_dotted_way : (tables : List (List Part)) (at : List Part) (keys : List (List ℕ)) (a : List Part) → SomeOf (IsSaid is_dotted a) (header_way tables at keys) → ⊥
 no_dotted_way tables at [] a h = h
 no_dotted_way tables at (k ∷ []) a h = h
 no_dotted_way tables at (k ∷ l ∷ ks) a h =

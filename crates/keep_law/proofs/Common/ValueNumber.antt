@@ -14,7 +14,7 @@ use Rattle.keep_law.proofs.Common.Runs.{AllOf, SomeOf, all_map, pairs_split, All
 use Rattle.keep_law.proofs.Common.SetLaw.{IsAloneAt, exclusive_is_solid, exclusive-solid}
 use Rattle.keep_law.proofs.Common.ValueThere.{fact_head, fact_past}
 
-value_is_exclusive : (s : Saying) → is_value s ≡ true → exclusive s ≡ true
+pub value_is_exclusive : (s : Saying) → is_value s ≡ true → exclusive s ≡ true
 value_is_exclusive (value f) e = refl
 value_is_exclusive (item f) e = refl
 value_is_exclusive through e = absurd cc
@@ -53,64 +53,79 @@ counted_statements c r (s ∷ ss) =
     (count_after-values c ms ∙ ap (λ (l : List Mention). c.values + valued l) (sym (mentions-numbered_mentions c ms)))
     (counted_statements (next_count c ms) (next_reading r s) ss))
 
--- ---- the last value of a path
+-- ---- the last that is said of a path
+
+-- no such thing is said of the path there
+abbrev pub NoneAt : (Saying → Bool) → List Part → Mention → Type 0
+NoneAt is path m = is_at path m ≡ true → is m.says ≡ false
 
 -- no value is said of the path there
 abbrev pub NoValueAt : List Part → Mention → Type 0
-NoValueAt path m = is_at path m ≡ true → is_value m.says ≡ false
+NoValueAt = NoneAt is_value
 
-abbrev known_behind : Option ℕ → Numbered → Option ℕ
-known_behind known n = if is_value n.mention.says then Some n.before.values else known
+module _ (is : Saying → Bool) (path : List Part) where
+  abbrev known_behind : Option ℕ → Numbered → Option ℕ
+  known_behind known n = if is n.mention.says then Some n.before.values else known
 
-abbrev last_from : List Part → Option ℕ → List Numbered → Option ℕ
-last_from path known ns = fold known_behind known (numbered_at path ns)
+  abbrev last_from : Option ℕ → List Numbered → Option ℕ
+  last_from known ns = fold known_behind known (numbered_at path ns)
 
-last_past : (path : List Part) (known : Option ℕ) (n : Numbered) (ns : List Numbered) → is_at path n.mention ≡ false → last_from path known (n ∷ ns) ≡ last_from path known ns
-last_past path known n ns e = rw e refl
+  last_past : (known : Option ℕ) (n : Numbered) (ns : List Numbered) → is_at path n.mention ≡ false → last_from known (n ∷ ns) ≡ last_from known ns
+  last_past known n ns e = rw e refl
 
-last_at : (path : List Part) (known : Option ℕ) (n : Numbered) (ns : List Numbered) → is_at path n.mention ≡ true → last_from path known (n ∷ ns) ≡ last_from path (known_behind known n) ns
-last_at path known n ns e = rw e refl
+  last_at : (known : Option ℕ) (n : Numbered) (ns : List Numbered) → is_at path n.mention ≡ true → last_from known (n ∷ ns) ≡ last_from (known_behind known n) ns
+  last_at known n ns e = rw e refl
 
-last_kept : (path : List Part) (known : Option ℕ) (ns : List Numbered) → AllOf (NoValueAt path) (map mention_of ns) → last_from path known ns ≡ known
-last_kept path known [] h = refl
-last_kept path known (n ∷ ns) h = by (is_at path n.mention) refl (last_kept path known ns h.1)
-  where
-    by : (b : Bool) → is_at path n.mention ≡ b → last_from path known ns ≡ known → last_from path known (n ∷ ns) ≡ known
-    by false e more = last_past path known n ns e ∙ more
-    by true e more =
-        let same : known_behind known n ≡ known = ap (λ b. if b then Some n.before.values else known) (h.0 e) in
-        last_at path known n ns e ∙ ap (λ (k : Option ℕ). last_from path k ns) same ∙ more
+  last_kept : (known : Option ℕ) (ns : List Numbered) → AllOf (NoneAt is path) (map mention_of ns) → last_from known ns ≡ known
+  last_kept known [] h = refl
+  last_kept known (n ∷ ns) h = by (is_at path n.mention) refl (last_kept known ns h.1)
+    where
+      by : (b : Bool) → is_at path n.mention ≡ b → last_from known ns ≡ known → last_from known (n ∷ ns) ≡ known
+      by false e more = last_past known n ns e ∙ more
+      by true e more =
+          let same : known_behind known n ≡ known = ap (λ b. if b then Some n.before.values else known) (h.0 e) in
+          last_at known n ns e ∙ ap (λ (k : Option ℕ). last_from k ns) same ∙ more
 
-last_value : (path : List Part) (v : ℕ) (known : Option ℕ) (ns : List Numbered) (earlier : List Mention) (m : Mention) (later : List Mention) → IsCounted v ns
-    → map mention_of ns ≡ earlier ++ m ∷ later → is_at path m ≡ true → is_value m.says ≡ true → AllOf (NoValueAt path) later
-    → last_from path known ns ≡ Some (v + valued earlier)
-last_value path v known [] [] m later counted e here is none = absurd cc
-last_value path v known [] (x ∷ earlier) m later counted e here is none = absurd cc
-last_value path v known (n ∷ ns) [] m later counted e here is none =
-    let one : n.mention ≡ m = cc in
-    let more : map mention_of ns ≡ later = cc in
-    let at : is_at path n.mention ≡ true = ap (is_at path) one ∙ here in
-    let tells : is_value n.mention.says ≡ true = ap (λ (x : Mention). is_value x.says) one ∙ is in
-    let known_here : known_behind known n ≡ Some n.before.values = ap (λ b. if b then Some n.before.values else known) tells in
-    last_at path known n ns at
-    ∙ ap (λ (k : Option ℕ). last_from path k ns) known_here
-    ∙ last_kept path (Some n.before.values) ns (subst (AllOf (NoValueAt path)) (sym more) none)
-    ∙ ap Some (counted.0 ∙ omega arith)
-last_value path v known (n ∷ ns) (x ∷ earlier) m later counted e here is none =
-    let one : n.mention ≡ x = cc in
-    let more : map mention_of ns ≡ earlier ++ m ∷ later = cc in
-    let w : ℕ = v + one_if (is_value n.mention.says) in
-    let behind : (k : Option ℕ) → last_from path k ns ≡ Some (w + valued earlier) = λ k. last_value path w k ns earlier m later counted.1 more here is none in
-    let sum : w + valued earlier ≡ v + valued (x ∷ earlier) = omega (arith, ap (λ (y : Mention). one_if (is_value y.says)) one) in
-    by (is_at path n.mention) refl behind ∙ ap Some sum
-  where
-    by : (b : Bool) → is_at path n.mention ≡ b → ((k : Option ℕ) → last_from path k ns ≡ Some (v + one_if (is_value n.mention.says) + valued earlier))
-        → last_from path known (n ∷ ns) ≡ Some (v + one_if (is_value n.mention.says) + valued earlier)
-    by false at h = last_past path known n ns at ∙ h known
-    by true at h = last_at path known n ns at ∙ h (known_behind known n)
+  last_said : (v : ℕ) (known : Option ℕ) (ns : List Numbered) (earlier : List Mention) (m : Mention) (later : List Mention) → IsCounted v ns
+      → map mention_of ns ≡ earlier ++ m ∷ later → is_at path m ≡ true → is m.says ≡ true → AllOf (NoneAt is path) later
+      → last_from known ns ≡ Some (v + valued earlier)
+  last_said v known [] [] m later counted e here tells none = absurd cc
+  last_said v known [] (x ∷ earlier) m later counted e here tells none = absurd cc
+  last_said v known (n ∷ ns) [] m later counted e here tells none =
+      let one : n.mention ≡ m = cc in
+      let more : map mention_of ns ≡ later = cc in
+      let at : is_at path n.mention ≡ true = ap (is_at path) one ∙ here in
+      let told : is n.mention.says ≡ true = ap (λ (x : Mention). is x.says) one ∙ tells in
+      let known_here : known_behind known n ≡ Some n.before.values = ap (λ b. if b then Some n.before.values else known) told in
+      last_at known n ns at
+      ∙ ap (λ (k : Option ℕ). last_from k ns) known_here
+      ∙ last_kept (Some n.before.values) ns (subst (AllOf (NoneAt is path)) (sym more) none)
+      ∙ ap Some (counted.0 ∙ omega arith)
+  last_said v known (n ∷ ns) (x ∷ earlier) m later counted e here tells none =
+      let one : n.mention ≡ x = cc in
+      let more : map mention_of ns ≡ earlier ++ m ∷ later = cc in
+      let w : ℕ = v + one_if (is_value n.mention.says) in
+      let behind : (k : Option ℕ) → last_from k ns ≡ Some (w + valued earlier) = λ k. last_said w k ns earlier m later counted.1 more here tells none in
+      let sum : w + valued earlier ≡ v + valued (x ∷ earlier) = omega (arith, ap (λ (y : Mention). one_if (is_value y.says)) one) in
+      by (is_at path n.mention) refl behind ∙ ap Some sum
+    where
+      by : (b : Bool) → is_at path n.mention ≡ b → ((k : Option ℕ) → last_from k ns ≡ Some (v + one_if (is_value n.mention.says) + valued earlier))
+          → last_from known (n ∷ ns) ≡ Some (v + one_if (is_value n.mention.says) + valued earlier)
+      by false at h = last_past known n ns at ∙ h known
+      by true at h = last_at known n ns at ∙ h (known_behind known n)
+
+-- What is said last of a path has the number of the values that are said before.
+pub number_of_last : (is : Saying → Bool) (path : List Part) (s : Document) (earlier : List Mention) (m : Mention) (later : List Mention) → said_in s ≡ earlier ++ m ∷ later
+    → m.path ≡ path → is m.says ≡ true → AllOf (NoneAt is path) later → last_number is value_number (numbered_at path (numbered_in s)) ≡ Some (valued earlier)
+number_of_last is path s earlier m later said place tells none =
+    let here : is_at path m ≡ true = ap (λ (q : List Part). same_path q path) place ∙ same_path-refl path in
+    let last : last_from is path None (numbered_in s) ≡ Some (0 + valued earlier) =
+    last_said is path 0 None (numbered_in s) earlier m later (counted_statements no_count start (statements_in s)) (mentions-numbered_in s ∙ said) here tells none in
+    let sum : 0 + valued earlier ≡ valued earlier = omega arith in
+    last ∙ ap Some sum
 
 -- where a number is known there is a value
-alone_of_last : (path : List Part) (v : ℕ) (known : Option ℕ) (ns : List Numbered) → last_from path known ns ≡ Some v → (known ≡ Some v) ⊎ SomeOf (IsAloneAt path) (map mention_of ns)
+alone_of_last : (path : List Part) (v : ℕ) (known : Option ℕ) (ns : List Numbered) → last_from is_value path known ns ≡ Some v → (known ≡ Some v) ⊎ SomeOf (IsAloneAt path) (map mention_of ns)
 alone_of_last path v known [] e = inl e
 alone_of_last path v known (n ∷ ns) e = by (is_at path n.mention) refl (is_value n.mention.says) refl (λ k. alone_of_last path v k ns)
   where
@@ -118,16 +133,16 @@ alone_of_last path v known (n ∷ ns) e = by (is_at path n.mention) refl (is_val
     Found = (known ≡ Some v) ⊎ SomeOf (IsAloneAt path) (map mention_of (n ∷ ns))
 
     by : (b : Bool) → is_at path n.mention ≡ b → (c : Bool) → is_value n.mention.says ≡ c
-        → ((k : Option ℕ) → last_from path k ns ≡ Some v → (k ≡ Some v) ⊎ SomeOf (IsAloneAt path) (map mention_of ns)) → Found
-    by false at c is more = elim (more known (sym (last_past path known n ns at) ∙ e)) [ inl k ↦ inl k | inr h ↦ inr (inr h) ]
+        → ((k : Option ℕ) → last_from is_value path k ns ≡ Some v → (k ≡ Some v) ⊎ SomeOf (IsAloneAt path) (map mention_of ns)) → Found
+    by false at c is more = elim (more known (sym (last_past is_value path known n ns at) ∙ e)) [ inl k ↦ inl k | inr h ↦ inr (inr h) ]
     by true at true is more = inr (inl (record { path = same_path-sound n.mention.path path at; says = value_is_exclusive n.mention.says is }))
     by true at false is more =
-        let same : known_behind known n ≡ known = ap (λ b. if b then Some n.before.values else known) is in
-        elim (more known (sym (last_at path known n ns at ∙ ap (λ (k : Option ℕ). last_from path k ns) same) ∙ e)) [ inl k ↦ inl k | inr h ↦ inr (inr h) ]
+        let same : known_behind is_value path known n ≡ known = ap (λ b. if b then Some n.before.values else known) is in
+        elim (more known (sym (last_at is_value path known n ns at ∙ ap (λ (k : Option ℕ). last_from is_value path k ns) same) ∙ e)) [ inl k ↦ inl k | inr h ↦ inr (inr h) ]
 
 pub alone_of_number : (path : List Part) (s : Document) (v : ℕ) → last_number is_value value_number (numbered_at path (numbered_in s)) ≡ Some v → SomeOf (IsAloneAt path) (said_in s)
 alone_of_number path s v e =
-    let first : last_from path None (numbered_in s) ≡ Some v = e in
+    let first : last_from is_value path None (numbered_in s) ≡ Some v = e in
     elim (alone_of_last path v None (numbered_in s) first) [
       | inl k ↦ absurd cc
       | inr h ↦ subst (λ (l : List Mention). SomeOf (IsAloneAt path) l) (mentions-numbered_in s) h
@@ -161,11 +176,7 @@ pub number_of_value : (path : List Part) (s : Document) (earlier : List Mention)
     → m.path ≡ path → is_value m.says ≡ true → last_number is_value value_number (numbered_at path (numbered_in s)) ≡ Some (valued earlier)
 number_of_value path s earlier m later rules said place is =
     let split = pairs_split Allowed earlier (m ∷ later) (subst Rules said rules) in
-    let here : is_at path m ≡ true = ap (λ (q : List Part). same_path q path) place ∙ same_path-refl path in
-    let last : last_from path None (numbered_in s) ≡ Some (0 + valued earlier) =
-    last_value path 0 None (numbered_in s) earlier m later (counted_statements no_count start (statements_in s)) (mentions-numbered_in s ∙ said) here is (later_none path m later place is split.right.0) in
-    let sum : 0 + valued earlier ≡ valued earlier = omega arith in
-    last ∙ ap Some sum
+    number_of_last is_value path s earlier m later said place is (later_none path m later place is split.right.0)
 
 -- ---- the fact of the path is the one that is said with the value
 

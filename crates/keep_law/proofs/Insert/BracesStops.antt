@@ -38,14 +38,14 @@ rest_name profile dots k ks texts =
     subst (λ (l : List (List ℕ)). IsName profile (name_with l)) (sym (rest_keys dots k ks)) (name_by profile (keys_in dots) k ks (subst (AllOf (IsKeyText profile)) (rest_keys dots k ks) texts))
 
 -- keys of which the first lie on a path and the others beyond it
-record IsKeySplit (keys : List (List ℕ)) (x : List Part) : Type 0 where
-  fronts : List (List ℕ)
-  next : List ℕ
-  more : List (List ℕ)
-  path : x ≡ map key fronts
-  whole : keys ≡ fronts ++ next ∷ more
+pub record IsKeySplit (keys : List (List ℕ)) (x : List Part) : Type 0 where
+  pub fronts : List (List ℕ)
+  pub next : List ℕ
+  pub more : List (List ℕ)
+  pub path : x ≡ map key fronts
+  pub whole : keys ≡ fronts ++ next ∷ more
 
-key_split : (keys : List (List ℕ)) (x : List Part) (q : Part) (qs : List Part) → map key keys ≡ x ++ q ∷ qs → IsKeySplit keys x
+pub key_split : (keys : List (List ℕ)) (x : List Part) (q : Part) (qs : List Part) → map key keys ≡ x ++ q ∷ qs → IsKeySplit keys x
 key_split [] [] q qs e = absurd cc
 key_split [] (p ∷ x) q qs e = absurd cc
 key_split (k ∷ keys) [] q qs e = record { fronts = []; next = k; more = keys; path = refl; whole = refl }
@@ -60,7 +60,7 @@ key_split (k ∷ keys) (p ∷ x) q qs e =
       whole = ap (λ (y : List (List ℕ)). k ∷ y) h.whole;
     }
 
-past_sound : (d : Part) (ds : List Part) (name : Option Name) → goes_past (d ∷ ds) name ≡ true → (q : Part) × (qs : List Part) × (step 0 name ≡ (d ∷ ds) ++ q ∷ qs)
+pub past_sound : (d : Part) (ds : List Part) (name : Option Name) → goes_past (d ∷ ds) name ≡ true → (q : Part) × (qs : List Part) × (step 0 name ≡ (d ∷ ds) ++ q ∷ qs)
 past_sound d ds name h = by (strip (d ∷ ds) (step 0 name)) refl h
   where
     by : (o : Option (List Part)) → strip (d ∷ ds) (step 0 name) ≡ o → elim o [ None ↦ false | Some more ↦ elim more [ [] ↦ false | q ∷ qs ↦ true ] ] ≡ true → (q : Part) × (qs : List Part) × (step 0 name ≡ (d ∷ ds) ++ q ∷ qs)

@@ -93,6 +93,7 @@ apt_change false o v c e s k = absurd cc
 pub record IsDoneThere (profile : Profile) (fits : Body → Bool) (act : Act) (rest path : List Part) (s : Document) : Type 0 where
   pub changed : Changed Document
   pub is : inside act (path ++ rest) s ≡ Some changed
+  pub ended_is : inside (ended fits act rest) path s ≡ Some changed
   pub valid : IsDocument profile changed.to
   pub old : Value
   pub old_valid : IsValue profile old
@@ -200,6 +201,7 @@ module _ (profile : Profile) (fits : Body → Bool) (act : Act) (rest path dots 
         record {
           changed = c;
           is = given c e;
+          ended_is = e;
           valid = valid_there;
           old = v;
           old_valid = h.done.valid;

@@ -42,12 +42,12 @@ use Rattle.keep_law.proofs.Insert.BracesLaw.{law_there, plain_there}
 
 -- ---- the place
 
-record HasNoLines (s : Document) (a : List Part) : Type 0 where
-  ends : end_of s a ≡ None
-  dots : last_line (goes_dotted a) start (lines s) ≡ None
-  through : last_line (goes_through a) start (lines s) ≡ None
+pub record HasNoLines (s : Document) (a : List Part) : Type 0 where
+  pub ends : end_of s a ≡ None
+  pub dots : last_line (goes_dotted a) start (lines s) ≡ None
+  pub through : last_line (goes_through a) start (lines s) ≡ None
 
-no_lines : (s : Document) (a : List Part) → has_lines s a ≡ false → HasNoLines s a
+pub no_lines : (s : Document) (a : List Part) → has_lines s a ≡ false → HasNoLines s a
 no_lines s a h = by (end_of s a) refl (last_line (goes_dotted a) start (lines s)) refl (last_line (goes_through a) start (lines s)) refl h
   where
     by : (o : Option ℕ) → end_of s a ≡ o → (p : Option ℕ) → last_line (goes_dotted a) start (lines s) ≡ p → (q : Option ℕ) → last_line (goes_through a) start (lines s) ≡ q
@@ -108,7 +108,7 @@ held_there s h k rules node table fresh none_lines =
 
 -- ---- the change
 
-change_braces : (s : Document) (path : List Part) (v : Value) → item_number path (said_in s) ≡ None → HasNoLines s (holder path (said_in s))
+pub change_braces : (s : Document) (path : List Part) (v : Value) → item_number path (said_in s) ≡ None → HasNoLines s (holder path (said_in s))
     → change s (insert path v) ≡ inside (put_named name_with (length (drop (length (holder path (said_in s))) path)) v) path s
 change_braces s path v no_item n = rw (no_item, change_insert) (rw (n.ends, insert_line) (rw (n.dots, insert_line) (rw (n.through, insert_line) refl)))
 

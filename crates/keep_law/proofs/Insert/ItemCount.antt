@@ -7,11 +7,11 @@ use Rattle.keep_token.specs.declared.leaf.Profile.{Profile}
 use Rattle.keep_syntax.specs.Tree.{Name, Entries, none, entry}
 use Rattle.keep_syntax.specs.Grammar.{AreEntries, in_array}
 use Rattle.keep_meaning.specs.Fact.{Fact}
-use Rattle.keep_path.specs.Path.{Part, key, index}
+use Rattle.keep_path.specs.Path.{Part, key, index, same_path}
 use Rattle.keep_meaning.specs.Marks.{Saying, through, past, define, element, dotted, value, begun, passed, item, Mention, below}
 use Rattle.keep_meaning.specs.Meaning.{key_value, further_value, body_fact, valued_mentions, keyed_mentions, entry_mentions, entries_said}
 use Rattle.keep_law.specs.Look.{strip, without_last, is_item_of, item_count}
-use Rattle.keep_law.proofs.Common.Runs.{AllOf, all_join, IsApart, same_path-sound, strip-append}
+use Rattle.keep_law.proofs.Common.Runs.{AllOf, all_join, IsApart, same_path-sound, same_path-refl, strip-append}
 use Rattle.keep_law.proofs.Common.SetDocument.{cancel}
 use Rattle.keep_law.proofs.Insert.PutIn.{size}
 
@@ -71,7 +71,7 @@ none_apart a0 more_parts (m ∷ ms) h =
 
 -- ---- entries say nothing of what they stand in
 
-abbrev Longer : Mention → Type 0
+abbrev pub Longer : Mention → Type 0
 Longer m = m.path ≡ [] → ⊥
 
 longer_below : (p : Part) (ps : List Part) (ms : List Mention) → AllOf Longer (map (below (p ∷ ps)) ms)
@@ -81,7 +81,7 @@ longer_below p ps (m ∷ ms) = ((λ e. absurd (no m.path e)), longer_below p ps 
     no : (q : List Part) → p ∷ (ps ++ q) ≡ [] → ⊥
     no q e = cc
 
-longer_keyed : (k : List ℕ) (ks : List (List ℕ)) (ms : List Mention) → AllOf Longer (keyed_mentions (k ∷ ks) ms)
+pub longer_keyed : (k : List ℕ) (ks : List (List ℕ)) (ms : List Mention) → AllOf Longer (keyed_mentions (k ∷ ks) ms)
 longer_keyed k [] ms = longer_below (key k) [] ms
 longer_keyed k (l ∷ ks) ms = longer_below (key k) [] (record { path = []; says = dotted } ∷ keyed_mentions (l ∷ ks) ms)
 
@@ -148,3 +148,35 @@ item_count_few profile (a0 ∷ more_parts) before behind says es root valid hb h
   where
     no : (x : Part) → [] ≡ x ∷ [] → ⊥
     no x e = cc
+
+-- ---- ... and no fewer
+
+pub without_last-snoc : (p : List Part) (x : Part) → without_last (p ++ x ∷ []) ≡ p
+without_last-snoc [] x = refl
+without_last-snoc (a ∷ []) x = refl
+without_last-snoc (a ∷ b ∷ p) x = ap (λ (l : List Part). a ∷ l) (without_last-snoc (b ∷ p) x)
+
+top_item : (a : List Part) (n : ℕ) (f : Fact) → is_item_of a (record { path = a ++ index n ∷ []; says = item f }) ≡ true
+top_item a n f = ap (λ (p : List Part). same_path p a) (without_last-snoc a (index n)) ∙ same_path-refl a
+
+items_many : (profile : Profile) (a : List Part) (n : ℕ) (es : Entries) → AreEntries profile in_array es → size es ≤ count_by (is_item_of a) (map (below a) (entries_said n es))
+items_many profile a n none valid = omega arith
+items_many profile a n (entry (Some name) body inside after comma rest) valid = absurd valid.0
+items_many profile a n (entry None body inside after comma rest) valid =
+    let t : Mention → Bool = is_item_of a in
+    let deep : List Mention = map (below a) (map (below (index n ∷ [])) (entries_said 0 inside)) in
+    let top : Mention = record { path = a ++ index n ∷ []; says = item (body_fact body) } in
+    let more : List Mention = map (below a) (entries_said (n + 1) rest) in
+    let split : map (below a) (entries_said n (entry None body inside after comma rest)) ≡ (top ∷ deep) ++ more =
+    map-append (below a) (entry_mentions n None (body_fact body) (entries_said 0 inside)) (entries_said (n + 1) rest) in
+    let whole : count_by t (map (below a) (entries_said n (entry None body inside after comma rest))) ≡ count_by t ((top ∷ deep) ++ more) = ap (λ (l : List Mention). count_by t l) split in
+    let one : count_by t (top ∷ []) ≡ 1 = rw (top_item a n (body_fact body)) refl in
+    omega (arith, whole, count_join t (top ∷ deep) more, count_join t (top ∷ []) deep, one, items_many profile a (n + 1) rest valid.5)
+
+pub item_count_many : (profile : Profile) (a : List Part) (before behind : List Mention) (says : Saying) (es : Entries) → AreEntries profile in_array es
+    → size es ≤ item_count a (before ++ (map (below a) (valued_mentions says (entries_said 0 es)) ++ behind))
+item_count_many profile a before behind says es valid =
+    let t : Mention → Bool = is_item_of a in
+    let top : Mention = below a (record { path = []; says = says }) in
+    let more : List Mention = map (below a) (entries_said 0 es) in
+    omega (arith, count_join t before ((top ∷ more) ++ behind), count_join t (top ∷ more) behind, count_join t (top ∷ []) more, items_many profile a 0 es valid)

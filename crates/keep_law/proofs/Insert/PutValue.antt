@@ -76,7 +76,7 @@ some_when : {A : Type 0} (b : Bool) (c : A) → b ≡ true → IsSome {A = A} (e
 some_when true c e = tt
 some_when false c e = absurd cc
 
-some_behind : (front : List Part) (named : Option Name) (new : Value) (es : Entries) → GoesPast front es → IsSome (put_behind front named new es)
+pub some_behind : (front : List Part) (named : Option Name) (new : Value) (es : Entries) → GoesPast front es → IsSome (put_behind front named new es)
 some_behind front named new none s = absurd s
 some_behind front named new (entry name body inside after comma rest) (inl e) =
     some_second (within (entry name body inside after comma) (entry_front name body inside ++ (text_of after ++ text_of (comma_leaves comma))) [] (put_behind front named new rest)) _

@@ -135,7 +135,7 @@ named_split n (Some name) f inside =
 
 -- ---- where it ends
 
-front_long : (at : ℕ) (name : Option Name) (body : Body) (inside : Entries) → value_end (value_start at name) body inside ≡ at + length (entry_front name body inside)
+pub front_long : (at : ℕ) (name : Option Name) (body : Body) (inside : Entries) → value_end (value_start at name) body inside ≡ at + length (entry_front name body inside)
 front_long at name body inside =
     let a : List ℕ = text_of (named_leaves name) in
     let b : List ℕ = text_of (opening body) in

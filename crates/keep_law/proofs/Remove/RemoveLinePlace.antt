@@ -222,10 +222,10 @@ module _ (bytes : List ℕ) (at : ℕ) (after : Gap) (behind : List ℕ) (h : Is
 abbrev pub is_high : ℕ → Bool
 is_high c = nat_le 0x80 c
 
-ws_low : (c : ℕ) → is_ws c ≡ true → is_high c ≡ false
+pub ws_low : (c : ℕ) → is_ws c ≡ true → is_high c ≡ false
 ws_low c h = grind (arith, nat_tests)
 
-solid_low : (c : ℕ) → is_solid c ≡ true → is_high c ≡ false
+pub solid_low : (c : ℕ) → is_solid c ≡ true → is_high c ≡ false
 solid_low c h = grind (arith, nat_tests)
 
 name_low : (profile : Profile) (name : Name) (x : List ℕ) → IsName profile name → is_high (first (text_of (name_leaves name) ++ x)) ≡ false
@@ -285,7 +285,7 @@ rest_valid profile [] rest h = h
 rest_valid profile (e ∷ pre) rest h = rest_valid profile pre rest h.1
 
 -- what stands behind dropped lines
-drop_low : (profile : Profile) (n : ℕ) (es : List Ended) (last : Line) → AllByRecursion (IsEnded profile) es → IsLine profile last → is_high (first (drop_front n es last).behind) ≡ false
+pub drop_low : (profile : Profile) (n : ℕ) (es : List Ended) (last : Line) → AllByRecursion (IsEnded profile) es → IsLine profile last → is_high (first (drop_front n es last).behind) ≡ false
 drop_low profile zero [] last all is = page_low profile [] last all is
 drop_low profile (suc m) [] last all is = refl
 drop_low profile zero (e ∷ es) last all is = page_low profile (e ∷ es) last all is

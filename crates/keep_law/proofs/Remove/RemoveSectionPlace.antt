@@ -138,7 +138,7 @@ front_statements c (e ∷ pre) =
     )
 
 -- the number that is told of what this line says last
-line_number : (is : Saying → Bool) (path : List Part) (s : Document) (pre rest : List Ended) (st : marks_of.Statement) → s.ended ≡ pre ++ rest → statement_of (head_line rest s.last).content ≡ Some st
+pub line_number : (is : Saying → Bool) (path : List Part) (s : Document) (pre rest : List Ended) (st : marks_of.Statement) → s.ended ≡ pre ++ rest → statement_of (head_line rest s.last).content ≡ Some st
     → (let r : Reading = reading_behind start (map line_of pre) in
     SomeOf (IsSaid is path) (statement_mentions r st) → (SomeOf (IsSaid is path) (lines_said (next_reading r st) (tail_lines rest s.last)) → ⊥)
     → last_number is statement_number (numbered_at path (numbered_in s)) ≡ Some (behind_lines (first_line s) pre).statements)
@@ -170,7 +170,7 @@ line_number is path s pre rest st was e some none =
 
 -- ---- where the body ends
 
-abbrev body_by : ℕ → ℕ → List Ended → Line → ℕ → ℕ
+abbrev pub body_by : ℕ → ℕ → List Ended → Line → ℕ → ℕ
 body_by at from es last n = elim n [ zero ↦ at | suc k ↦ from + length (drop_front (suc k) es last).old ]
 
 content_line : (before after : Gap) (comment : Option Written) (x : Content) → Line
@@ -199,7 +199,7 @@ keyval_more : (c : Count) (e : Ended) (es : List Ended) (last : Line) (n : ℕ) 
 keyval_more c e es last zero = omega (arith, drop_none es last, text_long e 0 es last c)
 keyval_more c e es last (suc k) = text_long e (suc k) es last c
 
-body_ends : (at : ℕ) (c : Count) (es : List Ended) (last : Line) → body_end at (over_lines line_statements c es last) ≡ body_by at c.at es last (body_length (map line_of es ++ last ∷ []))
+pub body_ends : (at : ℕ) (c : Count) (es : List Ended) (last : Line) → body_end at (over_lines line_statements c es last) ≡ body_by at c.at es last (body_length (map line_of es ++ last ∷ []))
 body_ends at c [] last = last_body at c last.before last.after last.comment last.content
 body_ends at c (e ∷ es) last = by e.line.before e.line.after e.line.comment e.line.content refl (λ from. body_ends from (next_line c e) es last)
   where
@@ -220,7 +220,7 @@ body_ends at c (e ∷ es) last = by e.line.before e.line.after e.line.comment e.
     by before after comment (header b y a) k ih = refl
     by before after comment (element b y a) k ih = refl
 
-tail_ends : (c : Count) (rest : List Ended) (last : Line)
+pub tail_ends : (c : Count) (rest : List Ended) (last : Line)
     → body_end (c.at + length (head_text rest last)) (over_tail line_statements c rest last) ≡ c.at + length (drop_front (suc (body_length (tail_lines rest last))) rest last).old
 tail_ends c [] last = refl
 tail_ends c (e ∷ es) last = body_ends (c.at + width (ended_leaves e)) (next_line c e) es last ∙ keyval_more c e es last (body_length (map line_of es ++ last ∷ []))
@@ -239,18 +239,18 @@ pub record IsSectionPlaced (path : List Part) (s : Document) (c : Changed Docume
   pub low : IsLow c.old c.behind
   pub place : section_place (drop number (syntax.statements s)) ≡ place_of c
 
-none_some : (o : Option ℕ) → o ≡ None → IsSome o → ⊥
+pub none_some : (o : Option ℕ) → o ≡ None → IsSome o → ⊥
 none_some None e s = s
 none_some (Some n) e s = absurd cc
 
 -- the statement of a header's line
-record IsHeaderLine (path : List Part) (s : Document) (pre rest : List Ended) : Type 0 where
-  kind : StatementKind
-  keys : ℕ
-  statements : (c : Count) (line_end : ℕ) → line_statements c (head_line rest s.last) line_end ≡ statement c (head_line rest s.last) line_end kind keys None ∷ []
-  headed : IsHeaded path s (behind_lines (first_line s) pre).statements
+pub record IsHeaderLine (path : List Part) (s : Document) (pre rest : List Ended) : Type 0 where
+  pub kind : StatementKind
+  pub keys : ℕ
+  pub statements : (c : Count) (line_end : ℕ) → line_statements c (head_line rest s.last) line_end ≡ statement c (head_line rest s.last) line_end kind keys None ∷ []
+  pub headed : IsHeaded path s (behind_lines (first_line s) pre).statements
 
-header_line : (path : List Part) (s : Document) (pre rest : List Ended) (x : Content) → s.ended ≡ pre ++ rest → (head_line rest s.last).content ≡ x
+pub header_line : (path : List Part) (s : Document) (pre rest : List Ended) (x : Content) → s.ended ≡ pre ++ rest → (head_line rest s.last).content ≡ x
     → (let r : Reading = reading_behind start (map line_of pre) in
     is_header x ≡ true → (behind_line r (head_line rest s.last)).body ≡ path → last_line (begins path) (behind_line r (head_line rest s.last)) (tail_lines rest s.last) ≡ None
     → IsHeaderLine path s pre rest)
@@ -287,7 +287,7 @@ header_line path s pre rest (element b k a) was e is at none =
           (λ x. none_some (last_line (begins path) (next_reading r st) (tail_lines rest s.last)) none' (element_there.some_begins path (next_reading r st) (tail_lines rest s.last) x)));
     }
 
-behind_length : (pre : List Ended) (l : Line) (post : List Line) → drop (suc (length pre)) (map line_of pre ++ l ∷ post) ≡ post
+pub behind_length : (pre : List Ended) (l : Line) (post : List Line) → drop (suc (length pre)) (map line_of pre ++ l ∷ post) ≡ post
 behind_length pre l post = ap (λ (k : ℕ). drop (suc k) (map line_of pre ++ l ∷ post)) (sym (length-map pre line_of)) ∙ drop_behind (map line_of pre) l post
 
 pub section_placed : (profile : Profile) (path : List Part) (s : Document) (i : ℕ) (c : Changed Document) → IsDocument profile s → last_line (begins path) start (lines s) ≡ Some i
