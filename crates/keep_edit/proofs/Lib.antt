@@ -12,3 +12,4 @@ pub mod RenameLaws
 pub mod RemoveNode
 pub mod RemoveSteps
 pub mod RemoveCut
+pub mod FoldLaws

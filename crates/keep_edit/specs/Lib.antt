@@ -2,3 +2,4 @@ pub mod Reading
 pub mod Answers
 pub mod Places
 pub mod Removing
+pub mod Lists

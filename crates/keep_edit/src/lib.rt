@@ -2,11 +2,13 @@
 #![tactic(auto)]
 
 mod document;
+mod edits;
 mod remove;
 mod rename;
 mod value;
 
 pub use document::{Counts, Document, Entry};
+pub use edits::Edit;
 pub use keep_law::{EditFault, Splice};
 pub use keep_rules::{Kind, Path, PathFault, Step, Why};
 pub use keep_syntax::{ReadFault, Token, Tokens};
