@@ -9,7 +9,11 @@ pub mod ScalarLaws
 pub mod SetLaws
 pub mod EditedLaws
 pub mod RenameLaws
+pub mod NewlineLaws
 pub mod RemoveNode
 pub mod RemoveSteps
 pub mod RemoveCut
 pub mod FoldLaws
+pub mod HeaderLaws
+pub mod AppendLaws
+pub mod AppendDone

@@ -31,7 +31,7 @@ pub holds : (profile : Profile) (bytes : List ℕ) (syntax : Syntax) (index : Te
     → ((d : Document) → WasRead bytes syntax d → IsIndexOf d index) → Holds (text_in profile bytes) syntax index
 holds profile bytes syntax index utf8 (d, reads, is) of_text built =
     let i = built d (was_read reads is) in
-    record { tree = d; read = record { utf8 = utf8; reads = reads; obeys = i.obeys }; is = is; of_text = of_text; told = i.told }
+    record { tree = d; read = record { utf8 = utf8; reads = reads; obeys = i.obeys }; is = is; of_text = of_text; told = i.told; nested = i.nested }
 
 -- ---- why not
 

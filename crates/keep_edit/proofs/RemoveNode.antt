@@ -244,7 +244,7 @@ lines_named p r (l ∷ ls) s = elim (some_cases (IsSaid is_element p) (line_said
 -- ---- the refusal
 
 module _ (path : List Part) (s : Document) (obeys : ObeysRules (marks (said_in s))) where
-  ends_never_begun : EndsInKey path → has is_begun path (said_in s) ≡ true → ⊥
+  pub ends_never_begun : EndsInKey path → has is_begun path (said_in s) ≡ true → ⊥
   ends_never_begun ends b = never_begun path (said_in s) (lines_begun path ends start (lines s)) (has_some is_begun path (said_in s) b)
 
   piece_is : (v d t b q : Bool) → has_value path (said_in s) ≡ v → has is_define path (said_in s) ≡ d → has is_through path (said_in s) ≡ t → has is_begun path (said_in s) ≡ b → has is_passed path (said_in s) ≡ q
@@ -257,7 +257,7 @@ module _ (path : List Part) (s : Document) (obeys : ObeysRules (marks (said_in s
   pub has_of : (is : Saying → Bool) (number : Count → ℕ) (n : ℕ) → last_number is number (numbered_at path (numbered_in s)) ≡ Some n → has is path (said_in s) ≡ true
   has_of is number n e = ap (list_any is) (sym told_says) ∙ some_told is number (numbered_at path (numbered_in s)) n e
 
-  none_of : (is : Saying → Bool) (number : Count → ℕ) → last_number is number (numbered_at path (numbered_in s)) ≡ None → has is path (said_in s) ≡ false
+  pub none_of : (is : Saying → Bool) (number : Count → ℕ) → last_number is number (numbered_at path (numbered_in s)) ≡ None → has is path (said_in s) ≡ false
   none_of is number e = ap (list_any is) (sym told_says) ∙ none_told is number (numbered_at path (numbered_in s)) e
 
   beside : list_any is_define (says_at path (said_in s)) ≡ true → IsThrough (says_at path (said_in s)) 1

@@ -3,3 +3,5 @@ pub mod Answers
 pub mod Places
 pub mod Removing
 pub mod Lists
+pub mod Newlines
+pub mod Headers

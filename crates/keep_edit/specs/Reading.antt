@@ -11,10 +11,13 @@ use Rattle.keep_syntax.specs.Tree.{Value, Document, value_depth}
 use Rattle.keep_syntax.specs.Grammar.{IsValue}
 use Rattle.keep_syntax.specs.Contract.{IsSyntaxOf, IsTextOf}
 use Rattle.keep_meaning.specs.Fact.{Fact}
-use Rattle.keep_meaning.specs.Meaning.{value_said}
+use Rattle.keep_meaning.specs.Counts.{statements_in}
+use Rattle.keep_meaning.specs.Marks.{start, reading_after}
+use Rattle.keep_meaning.specs.Meaning.{said_in, value_said}
 use Rattle.keep_meaning.specs.Nodes.{fact_at, node_path, nodes_in, infos_in}
 use Rattle.keep_meaning.specs.ReadText.{IsRead, IsReadFault, IsValueText, IsValueFault}
 use Rattle.keep_nodes.specs.Told.{Telling}
+use Rattle.keep_rules.specs.Nested.{AreNested}
 
 -- how many arrays and inline tables may enclose one another
 abbrev pub limit : ℕ
@@ -57,6 +60,7 @@ pub record Holds (t : ProfiledText) (syntax : Syntax) (index : Telling) : Type 0
   pub is : IsSyntaxOf syntax tree
   pub of_text : IsTextOf syntax t.text
   pub told : index ≡ telling_in tree
+  pub nested : AreNested (said_in tree) (reading_after start (statements_in tree)).tables
 
 -- ---- single values
 

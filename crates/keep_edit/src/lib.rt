@@ -1,8 +1,11 @@
 //! Documents: reading them, asking what they hold, and editing them in place.
 #![tactic(auto)]
 
+mod append;
 mod document;
 mod edits;
+mod header;
+mod newline;
 mod remove;
 mod rename;
 mod value;

@@ -2,3 +2,6 @@
 pub mod AppendLaw
 pub mod AppendTable
 pub mod AppendElement
+pub mod HeaderConflict
+pub mod HeaderMarks
+pub mod AppendPlace

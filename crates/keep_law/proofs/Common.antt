@@ -31,3 +31,4 @@ pub mod EntryDepths
 pub mod TableThere
 pub mod ActDepth
 pub mod ThroughAlone
+pub mod LineEnds

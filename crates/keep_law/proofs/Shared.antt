@@ -3,6 +3,7 @@ pub use Rattle.keep_law.proofs.Common.Runs.{AllOf, Allowed, Pairs, Rules, SomeOf
 pub use Rattle.keep_law.proofs.Common.LineLaws.{EndsInKey}
 pub use Rattle.keep_law.proofs.Common.SetLaw.{IsAloneAt}
 pub use Rattle.keep_law.proofs.Remove.RemovePlace.{IsComma, IsEdged, IsInside, IsValueAt, same_place}
+pub use Rattle.keep_law.proofs.Common.LineEnds.{IsClosed, ended_ends, ends_at, ends_behind, line_quiet, line_some, quiet_append, value_closed}
 pub use Rattle.keep_law.proofs.Rename.RenameNumber.{IsKeyRenamed, marks_told, rename_place_is, rename_placed}
 pub use Rattle.keep_law.proofs.Remove.RemoveLinePlace.{IsLow, is_high}
 pub use Rattle.keep_law.proofs.Remove.RemovePlaces.{IsPlaced, IsRemoved, removed}
@@ -22,3 +23,9 @@ pub use Rattle.keep_law.proofs.Common.Marks.{rules_of_document}
 pub use Rattle.keep_law.proofs.Remove.KeyvalSays.{said_below, said_keyval}
 pub use Rattle.keep_law.proofs.Remove.RemoveWhole.{shared_define}
 pub use Rattle.keep_law.proofs.Values.ValueDepths.{too_deep_at}
+pub use Rattle.keep_law.proofs.Append.AppendPlace.{append_place, text_is}
+pub use Rattle.keep_law.proofs.Append.AppendTable.{tables_told}
+pub use Rattle.keep_law.proofs.Append.HeaderConflict.{LetsPass, element_met, table_met}
+pub use Rattle.keep_law.proofs.Append.HeaderMarks.{define_goes_on, define_twice, define_unlisted, dotted_goes_on, dotted_undefines, dotted_unlisted, element_again, element_undefines, lets_pass, marks_let, no_elements, none_counted, none_refuses, past_listed, roles_of, all_element, through_defines, through_goes_on, through_unlisted, value_refuses, value_unlisted}
+pub use Rattle.keep_law.proofs.Common.FromMarksLines.{formed_lines}
+pub use Rattle.keep_law.proofs.EditLaws.{append_element_lawful, append_table_lawful}

@@ -8,3 +8,5 @@ pub mod Trees
 pub mod Answers
 pub mod Laws
 pub mod Removal
+pub mod TextEnds
+pub mod Headers

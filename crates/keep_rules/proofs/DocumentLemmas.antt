@@ -12,7 +12,7 @@ use Rattle.keep_syntax.specs.Contract.{statements_of}
 use Rattle.keep_syntax.specs.Flat.{Flat}
 use Rattle.keep_syntax.specs.Numbered as syntax
 use Rattle.keep_syntax.specs.Tree.{Document}
-use Rattle.keep_nodes.specs.AllNodes.{Node}
+use Rattle.keep_nodes.specs.AllNodes.{Node, no_node}
 use Rattle.keep_rules.specs.declared.ways.Fault.{Fault}
 use Rattle.keep_path.specs.Path.{Part}
 use Rattle.keep_meaning.specs.Rules.{ObeysRules, IsFirstFaulty}
@@ -22,7 +22,7 @@ use Rattle.keep_meaning.specs.Meaning.{said_in}
 use Rattle.keep_meaning.specs.Counts.{Count, Numbered, numbered_mentions, numbered_from, count_from, no_count, statements_in, numbered_in}
 use Rattle.keep_meaning.specs.Nodes.{node_path, nodes_in, infos_in}
 use Rattle.keep_nodes.specs.Trie.{Twig, by_key}
-use Rattle.keep_nodes.specs.Stored.{twigs, telling}
+use Rattle.keep_nodes.specs.Stored.{twig_in, twigs, telling}
 use Rattle.keep_nodes.specs.Told.{Telling, root_telling, tell_all, ValuesAreNew}
 use Rattle.keep_rules.specs.Tells.{TellsTurn}
 use Rattle.keep_rules.specs.Reads.{IsReading}
@@ -32,6 +32,8 @@ use Rattle.keep_rules.specs.FlatStatements.{SaysStatement, IsCountBefore}
 use Rattle.keep_rules.specs.ReadStatements.{IsRead, IsReadAsSaid, BreaksAsSaid}
 use Rattle.keep_rules.specs.ReadDocuments.{WasRead, IsIndexOf, IsRefusal, IsFaultAt}
 use Rattle.keep_meaning.proofs.Shared.{nodes_few, said_in-statements, paths-nodes_in, count_from-keys, numbered_from-append, statements-count, marked-parts}
+use Rattle.keep_rules.specs.Nested.{AreNested}
+use Rattle.keep_rules.proofs.NestedLemmas.{nested_world}
 use Rattle.keep_rules.proofs.FlatCountLemmas.{document_counts}
 use Rattle.keep_rules.proofs.FlatLineLemmas.{document_says}
 use Rattle.keep_rules.proofs.PlanLemmas.{says_weaker}
@@ -144,7 +146,12 @@ pub whole_read : (d : Document) (nodes : List Node) (body number : ℕ) → leng
 whole_read d nodes body number past few up =
     let all : before d number ≡ statements_in d = take_all number (statements_in d) (omega (arith, past, statements-count d)) in
     let fresh : ValuesAreNew ([] ∷ []) (numbered_in d) = subst (λ (ss : List marks.Statement). ValuesAreNew ([] ∷ []) (numbered_from no_count start ss)) all up.fresh in
+    let said : mentions_from start (before d number) ≡ said_in d = ap mentions all ∙ sym (said_in-statements d) in
+    let nested : AreNested (mentions_from start (before d number)) (reading_after start (before d number)).tables =
+    nested_world (twigs nodes) (mentions_from start (before d number)) (reading_after start (before d number)).tables up.reading.world (twig_in nodes no_node) in
     record {
+      nested = subst (λ (ms : List Mention). AreNested ms (reading_after start (statements_in d)).tables) said
+          (subst (λ (ss : List marks.Statement). AreNested (mentions_from start (before d number)) (reading_after start ss).tables) all nested);
       obeys = subst (λ (ms : List Mention). ObeysRules (marks.marks ms)) (ap mentions all ∙ sym (said_in-statements d)) (read_obeys (twigs nodes) body (before d number) up.reading);
       told = up.told ∙ ap (λ ss. tell_all (syntax.values d) (syntax.parts d) root_telling (numbered_from no_count start ss)) all ∙ told_in d (omega (arith, few, marked-parts d)) fresh
           ∙ ap (λ ps. let t : Telling = record { paths = ps; infos = infos_in d } in t) (sym (paths-nodes_in d));

@@ -35,6 +35,7 @@ mod HeaderLemmas
 mod KeyvalLemmas
 mod RootLemmas
 mod AloneLemmas
+mod NestedLemmas
 mod DocumentLemmas
 mod RefusalLaws
 pub mod Shared

@@ -16,6 +16,7 @@ pub mod Lookup
 pub mod FirstKeys
 pub mod Plans
 pub mod ReadStatements
+pub mod Nested
 pub mod ReadDocuments
 pub mod Roots
 pub use Rattle.keep_meaning.specs.Marks

@@ -12,11 +12,13 @@ use Rattle.keep_syntax.specs.Tree.{Value, Document}
 use Rattle.keep_rules.specs.declared.ways.Fault.{Fault}
 use Rattle.keep_rules.specs.declared.ways.Fault.TheVariants.{Define, Memory}
 use Rattle.keep_meaning.specs.Faults.{IsFaultIn, IsFaultInValue}
-use Rattle.keep_meaning.specs.Marks.{marks}
+use Rattle.keep_meaning.specs.Counts.{statements_in}
+use Rattle.keep_meaning.specs.Marks.{marks, start, reading_after}
 use Rattle.keep_meaning.specs.Meaning.{said_in, value_said}
 use Rattle.keep_meaning.specs.Nodes.{node_path, nodes_in, infos_in}
 use Rattle.keep_meaning.specs.Rules.{ObeysRules}
 use Rattle.keep_nodes.specs.Told.{Telling}
+use Rattle.keep_rules.specs.Nested.{AreNested}
 
 -- The text was read as this document, in some profile and to some depth, and the syntax is what is known of it.
 pub record WasRead (bytes : List ℕ) (s : Syntax) (d : Document) : Type 0 where
@@ -32,9 +34,10 @@ pub record WasReadAlone (bytes : List ℕ) (s : ValueSyntax) (v : Value) : Type 
   pub reads : ReadsValue profile limit bytes v
   pub is : IsValueSyntaxOf s v
 
--- The document obeys the rules, and this is told of its nodes.
+-- The document obeys the rules, and this is told of its nodes, which stand under one another as its headers say.
 pub record IsIndexOf (d : Document) (t : Telling) : Type 0 where
   pub obeys : ObeysRules (marks (said_in d))
+  pub nested : AreNested (said_in d) (reading_after start (statements_in d)).tables
   pub told : t ≡ record { paths = map node_path (nodes_in d); infos = infos_in d }
 
 abbrev pub ValueObeys : Value → Type 0

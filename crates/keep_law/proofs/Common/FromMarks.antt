@@ -18,7 +18,7 @@ use Rattle.keep_law.proofs.Common.Bridge.{role_allow}
 abbrev pub EndsInIndex : List Part → Type 0
 EndsInIndex p = (front : List Part) × (n : ℕ) × (p ≡ front ++ index n ∷ [])
 
-ends_apart : (p q : List Part) → EndsInKey p → EndsInIndex q → p ≡ q → ⊥
+pub ends_apart : (p q : List Part) → EndsInKey p → EndsInIndex q → p ≡ q → ⊥
 ends_apart p q hp hq e =
     let same : key hp.1 ≡ index hq.1 = sym (last_snoc (index 0) (key hp.1) hp.0) ∙ ap (last_from (index 0)) (sym hp.2 ∙ e ∙ hq.2) ∙ last_snoc (index 0) (index hq.1) hq.0 in
     absurd cc

@@ -22,7 +22,7 @@ all_from_index : {A : Type 0} (P : A → Type 0) (xs : List A) → ((k : ℕ) (d
 all_from_index P [] h = tt
 all_from_index P (x ∷ xs) h = (h zero x (omega arith), all_from_index P xs (λ k d lt. h (suc k) d (omega arith)))
 
-pairs_from_index : {A : Type 0} (R : A → A → Type 0) (xs : List A) → AllPairs R xs → Pairs R xs
+pub pairs_from_index : {A : Type 0} (R : A → A → Type 0) (xs : List A) → AllPairs R xs → Pairs R xs
 pairs_from_index R [] h = tt
 pairs_from_index R (x ∷ xs) h =
     (all_from_index (R x) xs (λ k d lt. h zero (suc k) d (omega arith) (omega arith)), pairs_from_index R xs (λ i j d lt within. h (suc i) (suc j) d (omega arith) (omega arith)))

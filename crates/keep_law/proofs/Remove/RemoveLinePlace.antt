@@ -266,7 +266,7 @@ line_low profile l x is low =
         ∙ ap (λ (t : List ℕ). content_text l.content ++ t) (text_of-append l.after (comment_leaves l.comment))))
         ∙ tidy (text_of l.before) (content_text l.content) (text_of l.after) (text_of (comment_leaves l.comment)) x
 
-page_low : (profile : Profile) (es : List Ended) (last : Line) → AllByRecursion (IsEnded profile) es → IsLine profile last → is_high (first (page_text (record { ended = es; last = last }))) ≡ false
+pub page_low : (profile : Profile) (es : List Ended) (last : Line) → AllByRecursion (IsEnded profile) es → IsLine profile last → is_high (first (page_text (record { ended = es; last = last }))) ≡ false
 page_low profile [] last all is = ap (λ (t : List ℕ). is_high (first t)) (sym (append-nil (text_of (line_leaves last)))) ∙ line_low profile last [] is refl
 page_low profile (e ∷ es) last all is =
     let more : List ℕ = text_of (flat_map ended_leaves es) ++ text_of (line_leaves last) in

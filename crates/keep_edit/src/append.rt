@@ -1,0 +1,183 @@
+//! Appending headers.
+ghost use Rattle.std.specs.Prelude.{◌≡◌, ◌∷◌, ◌++◌, [], IfOk, OnOk, OnErr, string_bytes};
+ghost use Rattle.std.specs.List.{flat_map};
+ghost use Rattle.keep_token.specs.Encoded.{encoded_key};
+ghost use Rattle.keep_syntax.specs.Tree as tree;
+ghost use Rattle.keep_law.specs.Edits.{append_table, append_element};
+ghost use Rattle.keep_law.specs.TextEnds as text_ends;
+ghost use Rattle.keep_edit.specs.Answers.{EditDone, EditMade, EditTold};
+ghost use Rattle.keep_edit.specs.Headers.{edit_of, key_texts, keys_text, header_text, opening, closing};
+ghost use Rattle.keep_edit.specs.Reading.{IsAccepted, IsTextOfTree, text_in};
+
+use crate::document::{Document, Edited, edited_at};
+use crate::header::{Header, check_header};
+use keep_law::{EditFault, Splice};
+use keep_syntax::Span;
+use keep_token::encode_key;
+use std::alloc::{AllocError, Global};
+
+impl Document {
+    /// Writes the header `[..]` of a table at the end of the text, behind a blank line. Every other byte is kept. After a refusal
+    /// the document is as before. The document's own allocator gives the memory.
+    ///
+    /// # Errors
+    ///
+    /// The first that holds: `NotKey` if there are no keys; `Conflict` with the reason if the document's key parts do not allow
+    /// one of the header's; else `Memory` if memory was refused.
+    pub fn append_table(&mut self, keys: &[String]) -> Result<Splice, EditFault>
+        ensures done { (s : tree.Document) → IsTextOfTree self.old s → EditDone s (append_table (key_texts keys.now)) self.old self.new result }
+        ensures accepted { IsAccepted self.old }
+        ensures read { IsAccepted self.new }
+        ensures refused { OnErr result (self.new ≡ self.old) }
+    {
+        let edited = self.appended(keys, Header::Table)?;
+        self.replaced(edited)
+    }
+
+    /// Writes the header `[[..]]` of an element of an array of tables at the end of the text, behind a blank line. Every other
+    /// byte is kept. After a refusal the document is as before. The document's own allocator gives the memory.
+    ///
+    /// # Errors
+    ///
+    /// Those of `append_table`.
+    pub fn append_element(&mut self, keys: &[String]) -> Result<Splice, EditFault>
+        ensures done { (s : tree.Document) → IsTextOfTree self.old s → EditDone s (append_element (key_texts keys.now)) self.old self.new result }
+        ensures accepted { IsAccepted self.old }
+        ensures read { IsAccepted self.new }
+        ensures refused { OnErr result (self.new ≡ self.old) }
+    {
+        let edited = self.appended(keys, Header::Element)?;
+        self.replaced(edited)
+    }
+
+    /// The text that the document has after `append_table`. The document stays as it is, and nothing is read anew.
+    ///
+    /// # Errors
+    ///
+    /// Those of `append_table`.
+    pub fn text_with_table(&self, keys: &[String]) -> Result<String, EditFault>
+        ensures told { (s : tree.Document) → IsTextOfTree self.now s → EditTold s (append_table (key_texts keys.now)) self.now result }
+        ensures accepted { IsAccepted self.now }
+    {
+        let edited = self.appended(keys, Header::Table)?;
+        Ok(edited.text)
+    }
+
+    /// The text that the document has after `append_element`. The document stays as it is, and nothing is read anew.
+    ///
+    /// # Errors
+    ///
+    /// Those of `append_table`.
+    pub fn text_with_element(&self, keys: &[String]) -> Result<String, EditFault>
+        ensures told { (s : tree.Document) → IsTextOfTree self.now s → EditTold s (append_element (key_texts keys.now)) self.now result }
+        ensures accepted { IsAccepted self.now }
+    {
+        let edited = self.appended(keys, Header::Element)?;
+        Ok(edited.text)
+    }
+
+    /// The text with a header at its end, and where it was written.
+    fn appended(&self, keys: &[String], header: Header) -> Result<Edited, EditFault>
+        ensures made { (s : tree.Document) → IsTextOfTree self.now s → EditMade s (edit_of header (key_texts keys.now)) self.now result }
+        ensures accepted { IfOk result (λ edited. IsAccepted (text_in self.now.profile (string_bytes edited.text))) }
+        ensures of { IsAccepted self.now }
+    {
+        let alloc = *self.text.allocator();
+        let text = self.text.as_str();
+        if keys.is_empty() {
+            return Err(EditFault::NotKey);
+        }
+        if let Err(why) = check_header(&self.index, keys, header) {
+            return Err(EditFault::Conflict { why });
+        }
+        let Ok(new) = header_at_end(alloc, text, self.newline(), keys, header) else {
+            return Err(EditFault::Memory);
+        };
+        let end = text.len();
+        edited_at(alloc, text, Span { start: end, end }, new.as_str())
+    }
+}
+
+/// What is written for a header at the end of a text: a blank line, unless it is the first line, and the header's own line.
+fn header_at_end(
+    alloc: Global,
+    text: &str,
+    newline: &str,
+    keys: &[String],
+    header: Header,
+) -> Result<String, AllocError>
+    ensures { IfOk result (λ out. string_bytes out ≡ text_ends.header_at_end text.now newline.now (header_text header (key_texts keys.now))) }
+{
+    let mut out = String::new(alloc);
+    push_blank_line(&mut out, text, newline)?;
+    push_header(alloc, &mut out, keys, header)?;
+    out.push_str(newline)?;
+    Ok(out)
+}
+
+/// Adds what ends the last line of a text, if it has no newline, and leaves a line blank.
+fn push_blank_line(out: &mut String, text: &str, newline: &str) -> Result<(), AllocError>
+    ensures { OnOk result (string_bytes out.new ≡ string_bytes out.old ++ text_ends.blank_line text.now newline.now) }
+{
+    if is_bare_start(text) {
+        return Ok(());
+    }
+    if !ends_in_newline(text) {
+        out.push_str(newline)?;
+    }
+    out.push_str(newline)
+}
+
+/// Adds a header as it is written.
+fn push_header(
+    alloc: Global,
+    out: &mut String,
+    keys: &[String],
+    header: Header,
+) -> Result<(), AllocError>
+    ensures { OnOk result (string_bytes out.new ≡ string_bytes out.old ++ header_text header (key_texts keys.now)) }
+{
+    out.push_str(header.opening())?;
+    push_keys(alloc, out, keys)?;
+    out.push_str(header.closing())
+}
+
+/// Adds keys with dots between them.
+fn push_keys(alloc: Global, out: &mut String, keys: &[String]) -> Result<(), AllocError>
+    ensures { OnOk result (string_bytes out.new ≡ string_bytes out.old ++ keys_text (key_texts keys.now)) }
+{
+    let Some((first, further)) = keys.split_first() else {
+        return Ok(());
+    };
+    push_key(alloc, out, first.as_str())?;
+    for name in further {
+        out.push_str(".")?;
+        push_key(alloc, out, name.as_str())?;
+    }
+    Ok(())
+}
+
+/// Adds a key as it is written.
+fn push_key(alloc: Global, out: &mut String, key: &str) -> Result<(), AllocError>
+    ensures { OnOk result (string_bytes out.new ≡ string_bytes out.old ++ encoded_key key.now) }
+{
+    let text = encode_key(alloc, key)?;
+    out.push_str(text.as_str())
+}
+
+/// Whether a text is empty but for a byte order mark.
+fn is_bare_start(text: &str) -> bool
+    ensures { result ≡ text_ends.is_bare_start text.now }
+{
+    matches!(text.as_bytes(), [] | [0xEF, 0xBB, 0xBF])
+}
+
+/// Whether a text ends in a line feed, as each newline does, and no line without one.
+fn ends_in_newline(text: &str) -> bool
+    ensures { result ≡ text_ends.ends_in_newline text.now }
+{
+    match text.as_bytes().last() {
+        Some(last) => *last == b'\n',
+        None => false,
+    }
+}
