@@ -1,15 +1,16 @@
 -- Edits that are made one after another: the fold of those before a number, and one more.
-use Rattle.std.proofs.Common.{◌≡◌, ◌∙◌, ◌+◌, ◌<◌, ◌≤◌, ◌++◌, ◌⊎◌, ℕ, zero, suc, true, List, [], ◌∷◌, length, take, get_or, Option, Some, None, refl, sym, ap, subst, inl, inr, arith, length-take}
+use Rattle.std.proofs.Common.{◌≡◌, ◌∙◌, ◌+◌, ◌<◌, ◌≤◌, ◌++◌, ◌⊎◌, ℕ, zero, suc, Bool, true, List, [], ◌∷◌, length, map, take, get_or, Option, Some, None, refl, sym, ap, subst, inl, inr, arith, length-take}
 use Rattle.std.proofs.Math.Nat.{add-zero}
 use Rattle.std.proofs.lemmas.Bool.{eqb-true}
 use Rattle.std.proofs.lemmas.List.{take_all}
-use Rattle.std.specs.Prelude.{◌==◌, Result, Ok, Err}
+use Rattle.std.specs.Prelude.{◌==◌, Result, Ok, Err, string_bytes}
 use Rattle.std.specs.List.{AllZip}
 use Rattle.keep_token.specs.declared.leaf.Profile.{Profile}
-use Rattle.keep_syntax.specs.Tree.{Value, Document}
+use Rattle.keep_syntax.specs.Tree.{Value, Document, value_text}
 use Rattle.keep_path.specs.Path.{Part}
 use Rattle.keep_path.specs.PathText.{encoded_path}
 use Rattle.keep_law.specs.declared.fault.EditFault.{EditFault}
+use Rattle.keep_law.specs.declared.fault.EditFault.TheVariants as fault
 use Rattle.keep_law.specs.declared.splice.Splice.{Splice}
 use Rattle.keep_law.specs.Answers as answers
 use Rattle.keep_law.specs.Answers.{applied_from}
@@ -18,10 +19,10 @@ use Rattle.keep_law.specs.Edits.{edited_document}
 use Rattle.keep_law.specs.Laws.{given_size}
 use Rattle.keep_law.specs.Refusals.{refusal}
 use Rattle.keep_edit.specs.Answers.{EditDone, IsDone, IsEdited, refusal_in}
-use Rattle.keep_edit.specs.Lists.{IsEdit, size_of, growth_of, AreMade, IsNotCopied, StopsAt}
+use Rattle.keep_edit.specs.Lists.{IsEdit, size_of, growth_of, AreMade, IsRefusedAt, IsOutOfMemoryAt, IsNotCopied, StopsAt}
 use Rattle.keep_edit.specs.Reading.{limit, ProfiledText, IsTextOfTree, IsTextOfValue}
 use Rattle.keep_edit.specs.declared.edits.Edit.{Edit}
-use Rattle.keep_edit.specs.declared.edits.Edit.TheVariants.{Set, Rename, Remove}
+use Rattle.keep_edit.specs.declared.edits.Edit.TheVariants.{Set, Rename, Remove, Table, Element}
 
 -- ---- the definitions' fold
 
@@ -74,6 +75,8 @@ size_is : (x : Edit) (e : law.Edit) → IsEdit x e → given_size e ≡ size_of 
 size_is (Set path value) e (v, is, same) = rw same (ap (λ (t : List ℕ). length (encoded_path path) + length t) (sym is.reads.spelled))
 size_is (Rename path name) e same = ap given_size same
 size_is (Remove path) e same = ap given_size same
+size_is (Table keys) e same = ap given_size same
+size_is (Element keys) e same = ap given_size same
 
 -- what holds of the edit of a value's text holds of the edit that is given
 pub by_value : (make : List Part → Value → law.Edit) (path : List Part) (value : List ℕ) (e : law.Edit) (P : law.Edit → Type 0) → ((v : Value) → IsTextOfValue value v → P (make path v)) → ((v : Value) × IsTextOfValue value v × (e ≡ make path v)) → P e

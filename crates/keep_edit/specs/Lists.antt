@@ -1,9 +1,10 @@
 -- Edits that are given as values, and what a list of them answers.
-use Rattle.std.specs.Prelude.{◌≡◌, ◌⊎◌, ℕ, suc, ◌+◌, ◌<◌, List, [], ◌∷◌, length, take, Result, Ok, Err, string_bytes}
+use Rattle.std.specs.Prelude.{◌≡◌, ◌⊎◌, ℕ, suc, ◌+◌, ◌<◌, List, [], ◌∷◌, length, map, take, Result, Ok, Err, string_bytes}
 use Rattle.std.specs.List.{AllZip}
 use Rattle.keep_token.specs.declared.leaf.Profile.{Profile}
 use Rattle.keep_token.specs.Encoded.{encoded_key}
 use Rattle.keep_syntax.specs.Tree.{Value, Document}
+use Rattle.keep_path.specs.Path.{key}
 use Rattle.keep_path.specs.PathText.{encoded_path}
 use Rattle.keep_law.specs.declared.fault.EditFault.{EditFault}
 use Rattle.keep_law.specs.declared.fault.EditFault.TheVariants.{Memory}
@@ -11,7 +12,7 @@ use Rattle.keep_law.specs.Answers.{applied_edits}
 use Rattle.keep_law.specs.Edits as law
 use Rattle.keep_edit.specs.Reading.{limit, ProfiledText, IsTextOfTree, IsTextOfValue}
 use Rattle.keep_edit.specs.declared.edits.Edit.{Edit}
-use Rattle.keep_edit.specs.declared.edits.Edit.TheVariants.{Set, Rename, Remove}
+use Rattle.keep_edit.specs.declared.edits.Edit.TheVariants.{Set, Rename, Remove, Table, Element}
 
 -- ---- one edit
 
@@ -20,12 +21,16 @@ abbrev pub IsEdit : Edit → law.Edit → Type 0
 IsEdit (Set path value) e = (v : Value) × IsTextOfValue value v × (e ≡ law.set path v)
 IsEdit (Rename path name) e = e ≡ law.rename path (string_bytes name)
 IsEdit (Remove path) e = e ≡ law.remove path
+IsEdit (Table keys) e = e ≡ law.append_table (map string_bytes keys.items)
+IsEdit (Element keys) e = e ≡ law.append_element (map string_bytes keys.items)
 
 -- how many bytes it gives, as they are written: its path and its value, or its new key
 abbrev pub size_of : Edit → ℕ
 size_of (Set path value) = length (encoded_path path) + length value
 size_of (Rename path name) = length (encoded_key (string_bytes name))
 size_of (Remove path) = 0
+size_of (Table keys) = length (encoded_path (map key (map string_bytes keys.items)))
+size_of (Element keys) = length (encoded_path (map key (map string_bytes keys.items)))
 
 -- ---- a list of edits
 

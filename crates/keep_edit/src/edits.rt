@@ -20,6 +20,10 @@ pub enum Edit {
     Rename(Path, String),
     /// `Document::remove`: the node of a path goes.
     Remove(Path),
+    /// `Document::append_table`: the header of a table at the end.
+    Table(Vec<String>),
+    /// `Document::append_element`: the header of an element of an array of tables at the end.
+    Element(Vec<String>),
 }
 
 impl Document {
@@ -39,6 +43,8 @@ impl Document {
             Edit::Set(path, value) => self.set(path, value),
             Edit::Rename(path, key) => self.rename(path, key.as_str()),
             Edit::Remove(path) => self.remove(path),
+            Edit::Table(keys) => self.append_table(keys.as_slice()),
+            Edit::Element(keys) => self.append_element(keys.as_slice()),
         }
     }
 
@@ -56,6 +62,8 @@ impl Document {
             Edit::Set(path, value) => self.text_with(path, value),
             Edit::Rename(path, key) => self.text_renamed(path, key.as_str()),
             Edit::Remove(path) => self.text_removed(path),
+            Edit::Table(keys) => self.text_with_table(keys.as_slice()),
+            Edit::Element(keys) => self.text_with_element(keys.as_slice()),
         }
     }
 

@@ -26,3 +26,17 @@ returns-in-Remove-clause-told c = λ s read e is.
 
 pub returns-in-Remove-clause-edit : goal.returns-in-Remove-clause-edit
 returns-in-Remove-clause-edit c = rw c.in-Remove.is (law.remove c.in-Remove.path, refl)
+
+pub returns-in-Table-clause-told : goal.returns-in-Table-clause-told
+returns-in-Table-clause-told c = λ s read e is.
+    let same = rw c.in-Table.is at is in subst (λ (x : law.Edit). EditTold s x c.args.self.now c.text_with_table.result) (ap (λ (ks : List (String Global)). law.append_table (map string_bytes ks)) c.as_slice.ensures.value ∙ sym same) (c.text_with_table.ensures.told s read)
+
+pub returns-in-Table-clause-edit : goal.returns-in-Table-clause-edit
+returns-in-Table-clause-edit c = rw c.in-Table.is (law.append_table (map string_bytes c.in-Table.keys.items), refl)
+
+pub returns-in-Element-clause-told : goal.returns-in-Element-clause-told
+returns-in-Element-clause-told c = λ s read e is.
+    let same = rw c.in-Element.is at is in subst (λ (x : law.Edit). EditTold s x c.args.self.now c.text_with_element.result) (ap (λ (ks : List (String Global)). law.append_element (map string_bytes ks)) c.as_slice-in-Element.ensures.value ∙ sym same) (c.text_with_element.ensures.told s read)
+
+pub returns-in-Element-clause-edit : goal.returns-in-Element-clause-edit
+returns-in-Element-clause-edit c = rw c.in-Element.is (law.append_element (map string_bytes c.in-Element.keys.items), refl)
