@@ -38,6 +38,7 @@ fn asked_at(alloc: Global, document: &mut Document, row: &Row, value: &ValueText
     let told = match row.question() {
         "set" => write!(out, "{:?}", document.set(&path, value)),
         "text_with" => tell_text_with(&mut out, document, &path, value),
+        "no edits" => write!(out, "{:?}", document.apply_all(&[])),
         question => tell(&mut out, alloc, document, question, &path),
     };
     mark(alloc, END);
