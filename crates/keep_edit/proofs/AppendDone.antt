@@ -1,5 +1,5 @@
 -- Appending a header: when it is refused, and where it is written.
-use Rattle.std.proofs.Common.{◌≡◌, ℕ, Bool, true, false, ◌==◌, List, [], ◌∷◌, ◌++◌, length, map, refl, sym, ap, subst, ◌∙◌, append_assoc, arith, Option, Some, None, Result, Ok, Err}
+use Rattle.std.proofs.Common.{◌≡◌, ℕ, true, false, ◌==◌, List, [], ◌∷◌, ◌++◌, length, map, refl, sym, ap, subst, ◌∙◌, arith, Some, None, Result, Ok}
 use Rattle.std.specs.Prelude.{String, string_bytes, codes, IsUtf8}
 use Rattle.std.specs.Global.{Global}
 use Rattle.std.specs.List.{flat_map, AllByRecursion}
@@ -11,7 +11,6 @@ use Rattle.keep_token.specs.declared.leaf.Leaf.TheVariants as leaf
 use Rattle.keep_token.specs.declared.leaf.Profile.{Profile}
 use Rattle.keep_token.specs.Encoded.{encoded_key}
 use Rattle.keep_syntax.specs.declared.syntax.Syntax.{Syntax}
-use Rattle.keep_syntax.specs.declared.fault.Why.{Why}
 use Rattle.keep_syntax.specs.declared.info.Span.{Span}
 use Rattle.keep_syntax.specs.Tree as tree
 use Rattle.keep_syntax.specs.Tree.{Written, Document, Content, mark, key_leaves, further_leaves, text_of, text}
@@ -23,18 +22,17 @@ use Rattle.keep_rules.specs.Nested.{AreNested}
 use Rattle.keep_rules.specs.ReadDocuments.{IsIndexOf}
 use Rattle.keep_law.specs.declared.fault.EditFault.{EditFault}
 use Rattle.keep_law.specs.declared.fault.EditFault.TheVariants as fault
-use Rattle.keep_law.specs.Changed.{Place}
-use Rattle.keep_law.specs.Edits.{place, append_table, append_element, key_with, further_part}
+use Rattle.keep_law.specs.Edits.{place, key_with, further_part}
 use Rattle.keep_law.specs.Laws.{IsLawfulEdit}
 use Rattle.keep_law.specs.Lines.{content_text, newline_of}
 use Rattle.keep_law.specs.Refusals.{refusal}
 use Rattle.keep_law.specs.TextEnds.{header_at_end}
 use Rattle.keep_law.proofs.Shared.{append_place, append_table_lawful, append_element_lawful, lets_pass, table_met, element_met}
-use Rattle.keep_edit.specs.Headers.{role_of, edit_of, key_texts, conflict_from, ConflictIs, keys_text, header_text, opening, closing}
+use Rattle.keep_edit.specs.Headers.{role_of, edit_of, key_texts, conflict_from, keys_text, header_text}
 use Rattle.keep_edit.specs.declared.header.Header.{Header}
 use Rattle.keep_edit.specs.declared.header.Header.TheVariants.{Table, Element}
 use Rattle.keep_edit.specs.Places.{place_at, IsDoneAt, IsSplicedAt}
-use Rattle.keep_edit.specs.Reading.{limit, ProfiledText, Holds, IsTextOfTree, telling_in}
+use Rattle.keep_edit.specs.Reading.{limit, ProfiledText, Holds, IsTextOfTree}
 use Rattle.keep_edit.specs.declared.document.Edited.{Edited}
 use Rattle.keep_edit.proofs.AnswerLaws.{tree_is, told_is}
 use Rattle.keep_edit.proofs.AppendLaws.{further_key}

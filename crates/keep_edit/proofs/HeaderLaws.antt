@@ -2,7 +2,7 @@
 --
 -- Theorems: `enters_none`, `enters_refused`, `enters_tables`, `enters_other` for a key on the way, `last_free`, `last_met` for
 -- the last one.
-use Rattle.std.proofs.Common.{◌≡◌, ℕ, zero, suc, ◌+◌, ◌-◌, ◌<◌, ◌≤◌, Bool, true, false, cond, not, ◌&&◌, ◌||◌, ◌==◌, List, [], ◌∷◌, ◌++◌, length, map, take, drop, slice_get, refl, sym, ap, subst, ◌∙◌, append_assoc, arith, Option, Some, None, Result, Ok, Err, ◌⊎◌, inl, inr}
+use Rattle.std.proofs.Common.{◌≡◌, ℕ, zero, suc, ◌+◌, ◌-◌, ◌<◌, ◌≤◌, Bool, true, false, cond, not, ◌&&◌, ◌||◌, ◌==◌, List, [], ◌∷◌, ◌++◌, length, map, drop, slice_get, refl, sym, ap, subst, ◌∙◌, arith, Option, Some, None, Ok, Err}
 use Rattle.std.specs.List.{list_any, filter_map, cons_option}
 use Rattle.std.specs.Option.{option_map, option_and_then}
 use Rattle.std.specs.Prelude.{fold, slice_index_or, String, string_bytes}
@@ -17,10 +17,10 @@ use Rattle.keep_meaning.specs.declared.node.Place.TheVariants as place
 use Rattle.keep_meaning.specs.declared.role.Role.{Role}
 use Rattle.keep_meaning.specs.declared.role.Role.TheVariants as role
 use Rattle.keep_meaning.specs.Counts.{Numbered, is_value, line_statement, statements_in, numbered_in}
-use Rattle.keep_meaning.specs.Marks.{Mention, Reading, Statement, start, reading_after, next_reading, marks, elements_of, entered_path}
-use Rattle.keep_meaning.specs.Meaning.{statement_of, behind_line, reading_behind, lines, said_in}
-use Rattle.keep_meaning.specs.Nodes.{is_at, is_root, is_node, has, is_through, is_define, is_element, is_dotted, is_begun, paths_with, node_paths, node_number, children, numbered_at, last_number, value_number, statement_number, first_that_fits, place_said}
-use Rattle.keep_meaning.specs.Rules.{ObeysRules, why_of, Allows}
+use Rattle.keep_meaning.specs.Marks.{Mention, Reading, Statement, start, reading_after, next_reading, marks, elements_of}
+use Rattle.keep_meaning.specs.Meaning.{statement_of, reading_behind, lines, said_in}
+use Rattle.keep_meaning.specs.Nodes.{is_at, is_root, has, is_through, is_define, is_element, is_dotted, is_begun, paths_with, node_paths, node_number, children, numbered_at, last_number, value_number, statement_number, first_that_fits}
+use Rattle.keep_meaning.specs.Rules.{why_of, Allows}
 use Rattle.keep_meaning.proofs.Shared.{paths-nodes_in}
 use Rattle.keep_nodes.specs.Told.{Telling}
 use Rattle.keep_path.specs.Path.{Part, key, index, same_path}
@@ -29,10 +29,10 @@ use Rattle.keep_rules.specs.Lookup.{number_of, path_numbered, children_numbered,
 use Rattle.keep_rules.specs.Nested.{AreNested}
 use Rattle.keep_rules.specs.ReadDocuments.{IsIndexOf}
 use Rattle.keep_rules.proofs.Shared.{number_is}
-use Rattle.keep_law.specs.Headers.{is_refused, header_conflict}
+use Rattle.keep_law.specs.Headers.{is_refused}
 use Rattle.keep_law.specs.Refusals.{tables_in}
 use Rattle.keep_law.proofs.Shared.{Pairs, EndsInKey, tables_told, formed_lines, define_goes_on, define_twice, define_unlisted, dotted_goes_on, dotted_undefines, dotted_unlisted, element_again, element_undefines, marks_let, no_elements, none_counted, none_refuses, past_listed, all_element, through_defines, through_goes_on, through_unlisted, value_refuses, value_unlisted}
-use Rattle.keep_edit.specs.Headers.{role_of, key_texts, may_follow, conflict_from, ConflictIs, is_stopped, entered_in, EntersAt}
+use Rattle.keep_edit.specs.Headers.{role_of, key_texts, may_follow, conflict_from, is_stopped, entered_in, EntersAt}
 use Rattle.keep_edit.specs.declared.header.Header.{Header}
 use Rattle.keep_edit.specs.declared.header.Header.TheVariants.{Table, Element}
 use Rattle.keep_edit.proofs.FoundLaws.{IsTold}

@@ -1,6 +1,5 @@
 pub mod ReadLaws
 pub mod AnswerLaws
-pub mod ValueLaws
 pub mod ValueEnds
 pub mod NodeLaws
 pub mod FoundLaws

@@ -59,8 +59,7 @@ impl Document {
         ensures told { (s : tree.Document) → IsTextOfTree self.now s → EditTold s (append_table (key_texts keys.now)) self.now result }
         ensures accepted { IsAccepted self.now }
     {
-        let edited = self.appended(keys, Header::Table)?;
-        Ok(edited.text)
+        Ok(self.appended(keys, Header::Table)?.text)
     }
 
     /// The text that the document has after `append_element`. The document stays as it is, and nothing is read anew.
@@ -72,8 +71,7 @@ impl Document {
         ensures told { (s : tree.Document) → IsTextOfTree self.now s → EditTold s (append_element (key_texts keys.now)) self.now result }
         ensures accepted { IsAccepted self.now }
     {
-        let edited = self.appended(keys, Header::Element)?;
-        Ok(edited.text)
+        Ok(self.appended(keys, Header::Element)?.text)
     }
 
     /// The text with a header at its end, and where it was written.

@@ -14,11 +14,11 @@ ghost use Rattle.keep_edit.specs.Places.{IsMovedIn, IsSplicedAt};
 
 mod entries;
 
-use crate::value::ValueText;
 use keep_law::{EditFault, Splice};
 use keep_rules::{Index, Kind, NodeId, Path, Place};
 use keep_syntax::{Limits, ReadFault, STANDARD_DEPTH, Span, Syntax, Tokens};
 use keep_token::{Leaf, Profile, decode_string, integer_of, text_of};
+use keep_value::ValueText;
 use std::alloc::{AllocError, Global};
 use std::marker::Model;
 

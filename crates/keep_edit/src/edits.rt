@@ -7,9 +7,9 @@ ghost use Rattle.keep_edit.specs.Answers.{EditDone, EditTold};
 ghost use Rattle.keep_edit.specs.Lists.{IsEdit, AllDone, EachDone, growth_of};
 
 use crate::document::Document;
-use crate::value::ValueText;
 use keep_law::{EditFault, Splice};
 use keep_rules::Path;
+use keep_value::ValueText;
 
 /// An edit of a document, with what it is given.
 #[derive(Debug, Drop)]

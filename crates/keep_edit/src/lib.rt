@@ -8,7 +8,6 @@ mod header;
 mod newline;
 mod remove;
 mod rename;
-mod value;
 
 pub use document::{Counts, Document, Entry};
 pub use edits::Edit;
@@ -16,4 +15,4 @@ pub use keep_law::{EditFault, Splice};
 pub use keep_rules::{Kind, Path, PathFault, Step, Why};
 pub use keep_syntax::{ReadFault, Token, Tokens};
 pub use keep_token::Profile;
-pub use value::ValueText;
+pub use keep_value::ValueText;

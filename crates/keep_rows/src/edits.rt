@@ -1,12 +1,12 @@
 //! Edits of documents.
 use crate::documents::{facts, read};
 use crate::row::{Answer, Row, unknown};
-use keep_edit::{Document, EditFault, Path, Profile, ReadFault, Splice, ValueText};
+use keep_edit::{Document, EditFault, Path, Profile, ReadFault, Splice, Step, ValueText};
 use std::alloc::{AllocError, Global};
 
-/// The words are the bytes of a document, then paths in turn with values (keys for `rename`, nothing for `remove`). The
-/// document is read in the profile, a value in Strict, or for `set wide` in Wide. The answer is a line for each edit, and
-/// then the text of the document.
+/// The words are the bytes of a document, then paths in turn with values (keys for `rename`, nothing for `remove`, `table` and
+/// `element`). The document is read in the profile, a value in Strict, or for `set wide` in Wide. The answer is a line for
+/// each edit, and then the text of the document.
 pub fn answer(alloc: Global, row: &Row, profile: Profile) -> Answer {
     match edited(alloc, row, profile) {
         Ok(text) => Ok(text),
@@ -39,6 +39,8 @@ fn edit(alloc: Global, document: &mut Document, row: &Row, word: usize) -> Answe
         }
         "rename" => rename(alloc, document, &path, text),
         "remove" => remove(alloc, document, &path),
+        "table" => append_table(alloc, document, &path),
+        "element" => append_element(alloc, document, &path),
         _ => unknown(alloc),
     }
 }
@@ -76,6 +78,33 @@ fn remove(alloc: Global, document: &mut Document, path: &Path) -> Answer {
     let before = facts(alloc, document)?;
     let done = document.remove(path);
     outcome(alloc, document, &told, &before, done)
+}
+
+fn append_table(alloc: Global, document: &mut Document, path: &Path) -> Answer {
+    let keys = keys_of(alloc, path)?;
+    let told = told_by(alloc, document.text_with_table(keys.as_slice()))?;
+    let before = facts(alloc, document)?;
+    let done = document.append_table(keys.as_slice());
+    outcome(alloc, document, &told, &before, done)
+}
+
+fn append_element(alloc: Global, document: &mut Document, path: &Path) -> Answer {
+    let keys = keys_of(alloc, path)?;
+    let told = told_by(alloc, document.text_with_element(keys.as_slice()))?;
+    let before = facts(alloc, document)?;
+    let done = document.append_element(keys.as_slice());
+    outcome(alloc, document, &told, &before, done)
+}
+
+/// The keys of a path, without its indexes.
+pub fn keys_of(alloc: Global, path: &Path) -> Result<Vec<String>, AllocError> {
+    let mut keys = Vec::new(alloc);
+    for number in 0..path.len() {
+        if let Some(Step::Key(text)) = path.step(number) {
+            keys.push(text.clone()?)?;
+        }
+    }
+    Ok(keys)
 }
 
 // The text that an edit would give, or its fault.

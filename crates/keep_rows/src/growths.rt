@@ -1,6 +1,7 @@
 //! Questions that take no memory: what each asks stands between two marks, which a heap that counts its growths reads.
+use crate::edits::keys_of;
 use crate::row::{Answer, Row};
-use keep_edit::{Document, Path, ReadFault, ValueText};
+use keep_edit::{Document, EditFault, Path, ReadFault, ValueText};
 use std::alloc::{AllocError, Global};
 use std::fmt::Write;
 
@@ -32,13 +33,16 @@ fn asked_at(alloc: Global, document: &mut Document, row: &Row, value: &ValueText
     let Ok(path) = Path::read(alloc, row.text(1)) else {
         return String::from_str(alloc, "no path");
     };
+    let keys = keys_of(alloc, &path)?;
     // What is told finds room here, so that telling it takes no memory either.
     let mut out = String::with_capacity(alloc, 4096)?;
     mark(alloc, BEGIN);
     let told = match row.question() {
         "set" => write!(out, "{:?}", document.set(&path, value)),
-        "text_with" => tell_text_with(&mut out, document, &path, value),
         "no edits" => write!(out, "{:?}", document.apply_all(&[])),
+        "text_with" => tell_text(&mut out, document.text_with(&path, value)),
+        "text_with_table" => tell_text(&mut out, document.text_with_table(keys.as_slice())),
+        "text_with_element" => tell_text(&mut out, document.text_with_element(keys.as_slice())),
         question => tell(&mut out, alloc, document, question, &path),
     };
     mark(alloc, END);
@@ -46,13 +50,8 @@ fn asked_at(alloc: Global, document: &mut Document, row: &Row, value: &ValueText
     Ok(out)
 }
 
-fn tell_text_with(
-    out: &mut String,
-    document: &Document,
-    path: &Path,
-    value: &ValueText,
-) -> Result<(), AllocError> {
-    match document.text_with(path, value) {
+fn tell_text(out: &mut String, told: Result<String, EditFault>) -> Result<(), AllocError> {
+    match told {
         Ok(text) => out.push_str(text.as_str()),
         Err(fault) => write!(out, "{fault}"),
     }

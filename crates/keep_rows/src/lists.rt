@@ -1,6 +1,6 @@
 //! Lists of edits.
 use crate::documents::{facts, read};
-use crate::edits::is_as_read;
+use crate::edits::{is_as_read, keys_of};
 use crate::row::{Answer, Row, unknown};
 use keep_edit::{Document, Edit, EditFault, Path, Profile, ReadFault, Splice, Step, ValueText};
 use std::alloc::{AllocError, Global};
@@ -110,15 +110,4 @@ fn edit_of(
         "element" => Some(Edit::Element(keys_of(alloc, &path)?)),
         _ => None,
     })
-}
-
-// The keys of a path.
-fn keys_of(alloc: Global, path: &Path) -> Result<Vec<String>, AllocError> {
-    let mut keys = Vec::new(alloc);
-    for number in 0..path.len() {
-        if let Some(Step::Key(key)) = path.step(number) {
-            keys.push(String::from_str(alloc, key.as_str())?)?;
-        }
-    }
-    Ok(keys)
 }

@@ -12,7 +12,7 @@ use Rattle.keep_meaning.specs.Marks.{Mention, elements_of, entered_path}
 use Rattle.keep_meaning.specs.Nodes.{node_paths, node_number, children}
 use Rattle.keep_meaning.specs.State.{IsState}
 use Rattle.keep_path.specs.Path.{Part, key, index}
-use Rattle.keep_nodes.specs.Trie.{Twig, IsTrie, paths_of, path_at, state_at, holds_at, by_index, children_of}
+use Rattle.keep_nodes.specs.Trie.{Twig, IsTrie, paths_of, path_at, state_at, children_of}
 use Rattle.keep_nodes.proofs.Shared.{child_at, length-paths_of}
 use Rattle.keep_rules.specs.Known.{roles_said}
 use Rattle.keep_rules.specs.Nested.{AreNested}

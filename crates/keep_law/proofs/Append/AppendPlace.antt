@@ -1,5 +1,5 @@
 -- Where an append writes, and what: the last byte of the text tells whether its last line has a newline.
-use Rattle.std.proofs.Common.{◌≡◌, ℕ, zero, suc, ◌+◌, ◌<◌, ◌≤◌, Bool, true, false, cond, not, ◌&&◌, ◌==◌, List, [], ◌∷◌, ◌++◌, length, map, refl, sym, ap, subst, ◌∙◌, append_assoc, length-append, arith, Option, Some, None}
+use Rattle.std.proofs.Common.{◌≡◌, ℕ, suc, ◌+◌, ◌<◌, Bool, true, false, cond, ◌&&◌, ◌==◌, List, [], ◌∷◌, ◌++◌, length, map, refl, sym, ap, subst, ◌∙◌, append_assoc, length-append, arith}
 use Rattle.std.specs.List.{flat_map, AllByRecursion}
 use Rattle.std.proofs.lemmas.Bool.Decides.{nat_tests}
 use Rattle.std.proofs.lemmas.List.{append-nil}
@@ -7,10 +7,10 @@ use Rattle.keep_token.specs.declared.leaf.Leaf.TheVariants as leaf
 use Rattle.keep_token.specs.declared.leaf.Profile.{Profile}
 use Rattle.keep_token.specs.Pieces.{first}
 use Rattle.keep_syntax.specs.Tree.{Written, Content, blank, Line, Ended, Document, mark, line_leaves, ended_leaves, bom_leaves, text_of, text}
-use Rattle.keep_syntax.specs.Grammar.{IsLine, IsEnded, IsDocument}
+use Rattle.keep_syntax.specs.Grammar.{IsEnded, IsDocument}
 use Rattle.keep_law.specs.Changed.{Changed, Place, place_of, framed_change}
 use Rattle.keep_law.specs.Edits.{at_line, append, changed_or_same}
-use Rattle.keep_law.specs.Lines.{Page, page_text, ended_text, line_text, content_text, with_page, is_empty, is_empty_list, newline_of, new_line, put_lines}
+use Rattle.keep_law.specs.Lines.{Page, ended_text, line_text, content_text, with_page, is_empty, is_empty_list, newline_of, new_line, put_lines}
 use Rattle.keep_law.specs.TextEnds.{ends_in_newline, is_bare_start, header_at_end}
 use Rattle.keep_law.proofs.Common.LineEnds.{ends_behind, line_quiet, line_some, ended_ends}
 use Rattle.keep_law.proofs.Common.Texts.{text_of-append}

@@ -1,11 +1,10 @@
 -- The conflict of a header at the end of a text is what it meets key by key: its own marks are never in one another's way.
-use Rattle.std.proofs.Common.{◌≡◌, ℕ, zero, suc, ◌+◌, ◌-◌, ◌<◌, ◌≤◌, Bool, true, false, cond, not, ◌&&◌, ◌||◌, ◌==◌, List, [], ◌∷◌, ◌++◌, length, refl, sym, ap, subst, ◌∙◌, append_assoc, length-append, arith, Option, Some, None}
+use Rattle.std.proofs.Common.{◌≡◌, ℕ, zero, suc, ◌-◌, ◌<◌, ◌≤◌, Bool, true, false, cond, not, ◌&&◌, ◌||◌, ◌==◌, List, [], ◌∷◌, ◌++◌, length, refl, sym, ap, ◌∙◌, append_assoc, length-append, arith, Option, Some, None}
 use Rattle.std.specs.List.{list_any}
 use Rattle.std.specs.Option.{option_map}
 use Rattle.std.proofs.lemmas.List.{append-nil}
 use Rattle.std.proofs.lemmas.List.Elements.{filter_map-append}
 use Rattle.std.proofs.lemmas.List.Folds.{list_any-append}
-use Rattle.std.proofs.lemmas.Bool.Decides.{nat_tests}
 use Rattle.keep_syntax.specs.declared.fault.Why.{Why}
 use Rattle.keep_meaning.specs.declared.role.Role.{Role}
 use Rattle.keep_meaning.specs.declared.role.Role.TheVariants.{Through, Past, Define, Element}
@@ -92,7 +91,7 @@ module _ (earlier : List Mark) (tables : List (List Part)) (passes : LetsPass ea
   onward : (own : List Mark) (at : List Part) (k l : List ℕ) (ks : List (List ℕ)) (r : Role) → AllOf (Short at) own
       → ((own : List Mark) → AllOf (Short (entered_path tables (at ++ key k ∷ []))) own → reason (earlier ++ own) (to_go (entered_path tables (at ++ key k ∷ [])) (l ∷ ks)) ≡ header_conflict earlier tables (entered_path tables (at ++ key k ∷ [])) (l ∷ ks) role)
       → reason (earlier ++ own) (record { role = r; path = at ++ key k ∷ [] } ∷ to_go (entered_path tables (at ++ key k ∷ [])) (l ∷ ks))
-          ≡ cond (is_refused earlier r (at ++ key k ∷ [])) (Some (why_of r)) (header_conflict earlier tables (entered_path tables (at ++ key k ∷ [])) (l ∷ ks) role)
+      ≡ cond (is_refused earlier r (at ++ key k ∷ [])) (Some (why_of r)) (header_conflict earlier tables (entered_path tables (at ++ key k ∷ [])) (l ∷ ks) role)
   onward own at k l ks r short more =
       let q : List Part = at ++ key k ∷ [] in
       let to : List Part = entered_path tables q in

@@ -1,4 +1,4 @@
-use Rattle.std.proofs.Common.{◌≡◌, ◌∙◌, ap, sym, ◌∷◌, ◌++◌, [], ◌+◌, drop, Option, Ok, Err, subst}
+use Rattle.std.proofs.Common.{◌∙◌, ap, sym, ◌∷◌, ◌++◌, [], ◌+◌, drop, Option, Ok, subst}
 use Rattle.std.specs.Prelude.{string_bytes}
 use Rattle.std.proofs.lemmas.Result.{err_from_is_err_and}
 use Rattle.keep_path.specs.Path.{key}
@@ -6,7 +6,7 @@ use Rattle.keep_syntax.specs.declared.fault.Why.{Why}
 use Rattle.keep_rules.specs.declared.index.NodeId.{NodeId}
 use Rattle.keep_rules.specs.Lookup.{path_numbered}
 use Rattle.keep_edit.specs.Headers.{role_of, key_texts, conflict_from, ConflictIs, EntersAt}
-use Rattle.keep_edit.proofs.HeaderLaws.{root_number, all_keys, next_keys, met_next, no_keys, walk_free, walk_refused, walk_on}
+use Rattle.keep_edit.proofs.HeaderLaws.{root_number, all_keys, met_next, no_keys, walk_free, walk_refused, walk_on}
 use Rattle.keep_edit.proofs.header.check_header.Goals as goal
 
 pub loop-name-init : goal.loop-name-init
@@ -24,8 +24,8 @@ pub returns-in_err-next : goal.returns-in_err-next
 returns-in_err-next c = λ s h.
     let p = err_from_is_err_and c.from_residual.result c.from_residual.ensures.1 in
     rw (p.1, p.2) (
-      met_next s (path_numbered c.args.index.now c.loop-name.at.0) (role_of c.args.header) _ c.in-Some.front.now c.loop-name.name-index c.name-item.result c.in-Some.last.now c.as_str.result.now c.loop-name-test.true c.name-item.is c.as_str.ensures.value (c.loop-name.invariant.1 s h)
-      ∙ walk_refused s c.args.index.now h (path_numbered c.args.index.now c.loop-name.at.0) c.as_str.result.now (key_texts (drop (c.loop-name.name-index + 1) c.in-Some.front.now)) (string_bytes c.in-Some.last.now) (role_of c.args.header) c.in_err-next.field-0.0 (c.in_err-next.ensures s h))
+    met_next s (path_numbered c.args.index.now c.loop-name.at.0) (role_of c.args.header) _ c.in-Some.front.now c.loop-name.name-index c.name-item.result c.in-Some.last.now c.as_str.result.now c.loop-name-test.true c.name-item.is c.as_str.ensures.value (c.loop-name.invariant.1 s h)
+    ∙ walk_refused s c.args.index.now h (path_numbered c.args.index.now c.loop-name.at.0) c.as_str.result.now (key_texts (drop (c.loop-name.name-index + 1) c.in-Some.front.now)) (string_bytes c.in-Some.last.now) (role_of c.args.header) c.in_err-next.field-0.0 (c.in_err-next.ensures s h))
 
 pub returns-in_default-2 : goal.returns-in_default-2
 returns-in_default-2 c = λ s h.

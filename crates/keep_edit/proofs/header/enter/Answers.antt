@@ -1,8 +1,6 @@
 use Rattle.std.proofs.Common.{◌∙◌, ap, sym, ◌-◌}
 use Rattle.keep_rules.specs.Lookup.{path_numbered, number_of, nth_child}
 use Rattle.keep_edit.proofs.HeaderLaws.{enters_none, enters_refused, enters_tables, enters_other}
-use Rattle.keep_edit.specs.Headers.{is_stopped}
-use Rattle.keep_path.specs.Path.{key}
 use Rattle.keep_edit.proofs.header.enter.Goals as goal
 
 pub returns-in_default : goal.returns-in_default

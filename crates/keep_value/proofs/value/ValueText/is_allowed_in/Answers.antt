@@ -1,6 +1,6 @@
 use Rattle.std.proofs.Common.{sym}
-use Rattle.keep_edit.proofs.ValueLaws.{value_seen, taken, not_taken}
-use Rattle.keep_edit.proofs.value.ValueText.is_allowed_in.Goals as goal
+use Rattle.keep_value.proofs.ValueLaws.{value_seen, taken, not_taken}
+use Rattle.keep_value.proofs.value.ValueText.is_allowed_in.Goals as goal
 
 pub returns-in-Strict-matches : goal.returns-in-Strict-matches
 returns-in-Strict-matches c = λ v read.

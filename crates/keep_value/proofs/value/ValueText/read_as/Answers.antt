@@ -1,6 +1,6 @@
 use Rattle.std.proofs.lemmas.Result.{err_from_is_err_and}
-use Rattle.keep_edit.proofs.ValueLaws.{was_read, no_value, holds}
-use Rattle.keep_edit.proofs.value.ValueText.read_as.Goals as goal
+use Rattle.keep_value.proofs.ValueLaws.{was_read, no_value, holds}
+use Rattle.keep_value.proofs.value.ValueText.read_as.Goals as goal
 
 pub returns-in_err-check_value-clause-only : goal.returns-in_err-check_value-clause-only
 returns-in_err-check_value-clause-only c = λ (v, read).

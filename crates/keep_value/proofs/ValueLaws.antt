@@ -24,7 +24,7 @@ use Rattle.keep_meaning.specs.Meaning.{scalar_fact}
 use Rattle.keep_rules.specs.ReadDocuments.{WasReadAlone, ValueObeys, IsValueRefusal}
 use Rattle.keep_meaning.specs.ReadText.{IsValueText}
 use Rattle.keep_meaning.proofs.Shared.{means_value}
-use Rattle.keep_edit.specs.Reading.{limit, IsTextOfFact, IsTextOfValue, IsAcceptedValue, IsRefusedValue, HoldsValue}
+use Rattle.keep_value.specs.ValueTexts.{limit, IsTextOfFact, IsTextOfValue, IsAcceptedValue, IsRefusedValue, HoldsValue}
 
 -- one text has one value
 pub one_tree : (profile : Profile) (bytes : List ℕ) (v w : Value) → IsValueText profile limit bytes v → IsValueText profile limit bytes w → v ≡ w

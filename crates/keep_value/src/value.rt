@@ -10,7 +10,7 @@ ghost use Rattle.keep_token.specs.Encoded.{encoded_string};
 ghost use Rattle.keep_token.specs.Leaves.{Means};
 ghost use Rattle.keep_token.specs.Numbers.{integer_value};
 ghost use Rattle.keep_meaning.specs.Fact as fact;
-ghost use Rattle.keep_edit.specs.Reading.{IsAcceptedValue, IsRefusedValue, IsTextOfFact, IsTextOfValue};
+ghost use Rattle.keep_value.specs.ValueTexts.{IsAcceptedValue, IsRefusedValue, IsTextOfFact, IsTextOfValue};
 
 use keep_rules::Index;
 use keep_syntax::{Limits, ReadFault, STANDARD_DEPTH, ValueSyntax};
@@ -29,7 +29,7 @@ pub struct ValueText {
 
 impl Model for ValueText {
     ghost use Rattle.std.specs.Prelude.{ℕ, List, string_bytes};
-    ghost use Rattle.keep_edit.specs.Reading.{HoldsValue};
+    ghost use Rattle.keep_value.specs.ValueTexts.{HoldsValue};
 
     ghost Value = { List ℕ };
 
@@ -157,14 +157,14 @@ impl ValueText {
     }
 
     /// How many arrays and inline tables enclose one another, the value itself counted.
-    pub(crate) fn depth(&self) -> u16
+    pub fn depth(&self) -> u16
         ensures { (v : Value) → IsTextOfValue self.now v → result ≡ value_depth v }
     {
         self.depth
     }
 
     /// Whether the grammar of the profile has the value.
-    pub(crate) fn is_allowed_in(&self, profile: Profile) -> bool
+    pub fn is_allowed_in(&self, profile: Profile) -> bool
         ensures { (v : Value) → IsTextOfValue self.now v → result ≡ is_allowed_in profile v }
     {
         match profile {

@@ -1,6 +1,6 @@
-use Rattle.keep_edit.proofs.ValueLaws.{true_holds, false_holds, true_means, false_means}
-use Rattle.keep_edit.proofs.value.ValueText.of_bool.Goals as goal
-use Rattle.keep_edit.proofs.value.ValueText.of_bool.Goals.{then-value, else-value}
+use Rattle.keep_value.proofs.ValueLaws.{true_holds, false_holds, true_means, false_means}
+use Rattle.keep_value.proofs.value.ValueText.of_bool.Goals as goal
+use Rattle.keep_value.proofs.value.ValueText.of_bool.Goals.{then-value, else-value}
 
 pub invariant_of-result : goal.invariant_of-result
 invariant_of-result c = elim c.if-value.branch [

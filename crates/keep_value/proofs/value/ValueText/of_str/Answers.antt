@@ -1,7 +1,7 @@
 use Rattle.std.proofs.Common.{refl}
 use Rattle.keep_token.specs.declared.leaf.Leaf.TheVariants as leaf
-use Rattle.keep_edit.proofs.ValueLaws.{scalar_holds, string_means}
-use Rattle.keep_edit.proofs.value.ValueText.of_str.Goals as goal
+use Rattle.keep_value.proofs.ValueLaws.{scalar_holds, string_means}
+use Rattle.keep_value.proofs.value.ValueText.of_str.Goals as goal
 
 pub invariant_of-result : goal.invariant_of-result
 invariant_of-result c = scalar_holds leaf.Basic _ refl c.in_ok-text.ensures.leaf
