@@ -12,6 +12,7 @@ pub mod NewlineLaws
 pub mod RemoveNode
 pub mod RemoveSteps
 pub mod RemoveCut
+pub mod FoldLaws
 pub mod HeaderLaws
 pub mod AppendLaws
 pub mod AppendDone

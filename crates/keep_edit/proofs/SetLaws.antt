@@ -1,19 +1,18 @@
 -- Setting a value: when it is refused, and what the new text is.
-use Rattle.std.proofs.Common.{◌≡◌, ℕ, ◌+◌, ◌<◌, ◌≤◌, Bool, true, false, cond, List, [], ◌∷◌, map, refl, sym, ap, subst, ◌∙◌, arith, Option, Some, None, Ok, Err, slice_get, String, Global}
+use Rattle.std.proofs.Common.{◌≡◌, ℕ, suc, ◌+◌, ◌<◌, ◌≤◌, Bool, true, false, cond, List, [], ◌∷◌, map, refl, sym, ap, subst, ◌∙◌, arith, Option, Some, None, Ok, Err, slice_get, String, Global}
 use Rattle.std.specs.Prelude.{not, ◌||◌, nat_lt, filter, string_bytes}
 use Rattle.std.specs.List.{list_any, filter_map}
 use Rattle.std.proofs.lemmas.Bool.{lt-ltb, le-ltb}
-use Rattle.keep_token.specs.declared.leaf.Leaf.{Leaf}
-use Rattle.keep_token.specs.declared.leaf.Leaf.TheVariants as leaf
 use Rattle.keep_token.specs.declared.leaf.Profile.{Profile}
 use Rattle.keep_syntax.specs.declared.info.ValueInfo.{ValueInfo}
 use Rattle.keep_syntax.specs.declared.syntax.Syntax.{Syntax}
 use Rattle.keep_syntax.specs.Tree.{Value, Document, value_depth}
 use Rattle.keep_syntax.specs.Profiles.{is_allowed_in}
-use Rattle.keep_syntax.specs.Deep.{open_by}
+use Rattle.keep_syntax.specs.Deep.{is_opening}
+use Rattle.keep_syntax.specs.Nesting.{IsWithin}
 use Rattle.keep_syntax.specs.Contract.{values_of}
 use Rattle.keep_syntax.specs.Numbered as numbered
-use Rattle.keep_syntax.proofs.DepthLaws.{IsWithin, values_within}
+use Rattle.keep_syntax.proofs.DepthLaws.{values_within}
 use Rattle.keep_syntax.proofs.DeepestLaws.{all_at}
 use Rattle.keep_meaning.specs.Fact.{is_value_fact}
 use Rattle.keep_meaning.specs.Marks.{Mention, fact_of}
@@ -68,15 +67,12 @@ pub record IsSetting (d : ProfiledText) (given : List ℕ) (path : List Part) (s
   pub number : ℕ
   pub found : value_number_of path s ≡ Some number
   pub there : IsValueThere d path s number info
-  pub low : info.depth ≤ limit + 1
+  pub low : info.depth ≤ limit
 
--- a leaf closes one bracket at most
-few_open : (bound : ℕ) (l : Leaf) (n : ℕ) → open_by l n ≤ bound → n ≤ bound + 1
-few_open bound leaf.ArrayOpen n h = omega (arith, h)
-few_open bound leaf.InlineOpen n h = omega (arith, h)
-few_open bound leaf.ArrayClose n h = omega (arith, h)
-few_open bound leaf.InlineClose n h = omega (arith, h)
-few_open bound _ n h = omega (arith, h)
+-- fewer brackets are open round a value than in it
+few_open : (bound : ℕ) (b : Bool) (n : ℕ) → cond b (suc n) n ≤ bound → n ≤ bound
+few_open bound true n h = omega (arith, h)
+few_open bound false n h = h
 
 pub setting : (d : ProfiledText) (given : List ℕ) (syntax : Syntax) (index : Telling) (path : List Part) (s : Document) (v : Value) (number : ℕ) (info : ValueInfo) (deep : ℕ) → Holds d syntax index → IsTextOfTree d s
     → value_number_of path s ≡ Some number → slice_get (values_of syntax) number ≡ Some info → IsTextOfValue given v → deep ≡ value_depth v → IsSetting d given path s v info deep
@@ -89,12 +85,12 @@ setting d given syntax index path s v number info deep holds read found here val
       number = number;
       found = found;
       there = there;
-      low = few_open limit info.leaf info.depth (all_at (IsWithin limit) (numbered.values s) number info (values_within d.profile limit d.text s read.reads) there.of.info);
+      low = few_open limit (is_opening info.leaf) info.depth (all_at (IsWithin limit) (numbered.values s) number info (values_within d.profile limit d.text s read.reads) there.of.info);
     }
 
 module _ (d : ProfiledText) (given : List ℕ) (path : List Part) (s : Document) (v : Value) (info : ValueInfo) (deep : ℕ) (at : IsSetting d given path s v info deep) where
   -- the depths of both values together
-  pub depth_low : info.depth + deep ≤ limit + limit + 1
+  pub depth_low : info.depth + deep ≤ limit + limit
   depth_low = omega (arith, at.low, at.deep_is, at.value.reads.shallow)
 
   valued : has_value path (said_in s) ≡ true

@@ -4,6 +4,7 @@ pub mod Places
 pub mod Removing
 pub mod Inserting
 pub mod Holding
+pub mod Lists
 pub mod Newlines
 pub mod Headers
 pub mod Writing

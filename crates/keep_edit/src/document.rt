@@ -360,6 +360,21 @@ impl Document {
         }
     }
 
+    /// The document once more, read of its text. The only error is out of memory.
+    pub(crate) fn copied(&self) -> Result<Document, EditFault>
+        ensures copy { MatchResult result (λ copy. copy ≡ self.now) (λ fault. fault ≡ law.Memory) }
+        ensures of { IsAccepted self.now }
+    {
+        let alloc = *self.text.allocator();
+        let Ok(bytes) = String::from_str(alloc, self.text.as_str()) else {
+            return Err(EditFault::Memory);
+        };
+        match Document::of_text(alloc, bytes, self.profile) {
+            Ok(document) => Ok(document),
+            Err(fault) => Err(growth_refused(fault)),
+        }
+    }
+
     /// The text that the document has after `set`. The document stays as it is, and nothing is read anew.
     ///
     /// # Errors

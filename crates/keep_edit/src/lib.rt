@@ -3,6 +3,7 @@
 
 mod append;
 mod document;
+mod edits;
 mod header;
 mod holder;
 mod insert;
@@ -11,6 +12,7 @@ mod remove;
 mod rename;
 
 pub use document::{Counts, Document, Entry};
+pub use edits::Edit;
 pub use keep_law::{EditFault, Splice};
 pub use keep_rules::{Kind, Path, PathFault, Step, Why};
 pub use keep_syntax::{ReadFault, Token, Tokens};

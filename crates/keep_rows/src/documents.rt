@@ -1,21 +1,39 @@
 //! Questions about documents.
 use crate::paths::path_of;
 use crate::row::{Answer, Row, unknown};
-use keep_edit::{Document, Entry, Path, ReadFault};
+use keep_edit::{Document, Entry, Path, Profile, ReadFault};
 use std::alloc::Global;
 use std::fmt::Write;
 
-/// The first word is the bytes of a document. What is no document is answered by its fault.
-pub fn answer(alloc: Global, row: &Row) -> Answer {
-    match document(alloc, row) {
+/// The first word is the bytes of a document. What is no document of the profile is answered by its fault.
+pub fn answer(alloc: Global, row: &Row, profile: Profile) -> Answer {
+    match document(alloc, row, profile) {
         Ok(text) => Ok(text),
         Err(fault) => fault.to_string(alloc),
     }
 }
 
-fn document(alloc: Global, row: &Row) -> Result<String, ReadFault> {
-    let document = Document::read(alloc, row.bytes(0))?;
+fn document(alloc: Global, row: &Row, profile: Profile) -> Result<String, ReadFault> {
+    let document = read(alloc, row.bytes(0), profile)?;
+    if row.question() == "as in strict" {
+        return as_in_strict(alloc, &document);
+    }
     Ok(told_of(alloc, &document, row)?)
+}
+
+/// The document of these bytes by the grammar of a profile.
+pub fn read(alloc: Global, bytes: &[u8], profile: Profile) -> Result<Document, ReadFault> {
+    match profile {
+        Profile::Strict => Document::read(alloc, bytes),
+        Profile::Wide => Document::read_in(alloc, bytes, Profile::Wide),
+    }
+}
+
+// Whether a document tells all that it tells where it is read in Strict.
+fn as_in_strict(alloc: Global, document: &Document) -> Result<String, ReadFault> {
+    let strict = Document::read(alloc, document.text().as_bytes())?;
+    let same = facts(alloc, document)?.as_str() == facts(alloc, &strict)?.as_str();
+    Ok(format!(in alloc; "{same}")?)
 }
 
 fn told_of(alloc: Global, document: &Document, row: &Row) -> Answer {

@@ -1,20 +1,21 @@
 //! Edits of documents.
-use crate::documents::facts;
+use crate::documents::{facts, read};
 use crate::row::{Answer, Row, unknown};
-use keep_edit::{Document, EditFault, Path, ReadFault, Splice, Step, ValueText};
+use keep_edit::{Document, EditFault, Path, Profile, ReadFault, Splice, Step, ValueText};
 use std::alloc::{AllocError, Global};
 
 /// The words are the bytes of a document, then paths in turn with values (keys for `rename`, nothing for `remove`, `table` and
-/// `element`). The answer is a line for each edit, and then the text of the document.
-pub fn answer(alloc: Global, row: &Row) -> Answer {
-    match edited(alloc, row) {
+/// `element`). The document is read in the profile, a value in Strict, or for `set wide` in Wide. The answer is a line for
+/// each edit, and then the text of the document.
+pub fn answer(alloc: Global, row: &Row, profile: Profile) -> Answer {
+    match edited(alloc, row, profile) {
         Ok(text) => Ok(text),
         Err(fault) => fault.to_string(alloc),
     }
 }
 
-fn edited(alloc: Global, row: &Row) -> Result<String, ReadFault> {
-    let mut document = Document::read(alloc, row.bytes(0))?;
+fn edited(alloc: Global, row: &Row, profile: Profile) -> Result<String, ReadFault> {
+    let mut document = read(alloc, row.bytes(0), profile)?;
     let mut out = String::new(alloc);
     for word in (1..row.word_count()).step_by(2) {
         let line = edit(alloc, &mut document, row, word)?;
@@ -31,7 +32,11 @@ fn edit(alloc: Global, document: &mut Document, row: &Row, word: usize) -> Answe
     };
     let text = row.text(word.saturating_add(1));
     match row.question() {
-        "set" => set_to(alloc, document, &path, text),
+        "set" => set_to(alloc, document, &path, ValueText::read(alloc, text)),
+        "set wide" => {
+            let value = ValueText::read_in(alloc, text, Profile::Wide);
+            set_to(alloc, document, &path, value)
+        }
         "insert" => insert(alloc, document, &path, text),
         "rename" => rename(alloc, document, &path, text),
         "remove" => remove(alloc, document, &path),
@@ -41,8 +46,13 @@ fn edit(alloc: Global, document: &mut Document, row: &Row, word: usize) -> Answe
     }
 }
 
-fn set_to(alloc: Global, document: &mut Document, path: &Path, text: &str) -> Answer {
-    match ValueText::read(alloc, text) {
+fn set_to(
+    alloc: Global,
+    document: &mut Document,
+    path: &Path,
+    value: Result<ValueText, ReadFault>,
+) -> Answer {
+    match value {
         Ok(value) => set(alloc, document, path, &value),
         Err(fault) => format!(in alloc; "{fault}\n"),
     }
@@ -148,16 +158,16 @@ fn doubt_of(agrees: bool, is_whole: bool) -> &'static str {
     }
 }
 
-// Whether a document tells what one tells that is read from its text.
-fn is_as_read(alloc: Global, document: &Document) -> Result<bool, AllocError> {
+/// Whether a document tells what one tells that is read from its text.
+pub fn is_as_read(alloc: Global, document: &Document) -> Result<bool, AllocError> {
     let told = facts(alloc, document)?;
-    match facts_of(alloc, document.text()) {
+    match facts_of(alloc, document) {
         Ok(afresh) => Ok(told.as_str() == afresh.as_str()),
         Err(_) => Ok(false),
     }
 }
 
-fn facts_of(alloc: Global, text: &str) -> Result<String, ReadFault> {
-    let document = Document::read(alloc, text.as_bytes())?;
-    Ok(facts(alloc, &document)?)
+fn facts_of(alloc: Global, document: &Document) -> Result<String, ReadFault> {
+    let afresh = read(alloc, document.text().as_bytes(), document.profile())?;
+    Ok(facts(alloc, &afresh)?)
 }

@@ -39,6 +39,7 @@ fn asked_at(alloc: Global, document: &mut Document, row: &Row, value: &ValueText
     mark(alloc, BEGIN);
     let told = match row.question() {
         "set" => write!(out, "{:?}", document.set(&path, value)),
+        "no edits" => write!(out, "{:?}", document.apply_all(&[])),
         "text_with" => tell_text(&mut out, document.text_with(&path, value)),
         "text_with_table" => tell_text(&mut out, document.text_with_table(keys.as_slice())),
         "text_with_element" => tell_text(&mut out, document.text_with_element(keys.as_slice())),

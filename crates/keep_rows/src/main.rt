@@ -8,11 +8,13 @@ mod edits;
 mod growths;
 mod index;
 mod leaves;
+mod lists;
 mod paths;
 mod row;
 mod syntax;
 mod values;
 
+use keep_edit::Profile;
 use row::{Answer, Row};
 use std::alloc::Global;
 use std::io;
@@ -63,11 +65,16 @@ fn answer(alloc: Global, row: &Row) -> Answer {
     match row.group() {
         "leaf" => leaves::answer(alloc, row),
         "syntax" => syntax::answer(alloc, row),
-        "value" => values::answer(alloc, row),
+        "value" => values::answer(alloc, row, Profile::Strict),
+        "wide value" => values::answer(alloc, row, Profile::Wide),
         "path" => paths::answer(alloc, row),
         "index" => index::answer(alloc, row),
-        "document" => documents::answer(alloc, row),
-        "edit" => edits::answer(alloc, row),
+        "document" => documents::answer(alloc, row, Profile::Strict),
+        "wide document" => documents::answer(alloc, row, Profile::Wide),
+        "edit" => edits::answer(alloc, row, Profile::Strict),
+        "wide edit" => edits::answer(alloc, row, Profile::Wide),
+        "edits" => lists::answer(alloc, row, Profile::Strict),
+        "wide edits" => lists::answer(alloc, row, Profile::Wide),
         "quiet" => growths::answer(alloc, row),
         _ => row::unknown(alloc),
     }

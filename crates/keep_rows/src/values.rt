@@ -1,14 +1,15 @@
 //! Questions about the texts of values.
 use crate::edits::set;
 use crate::row::{Answer, Row, unknown};
-use keep_edit::{Document, Path, ReadFault, ValueText};
+use keep_edit::{Document, Path, Profile, ReadFault, ValueText};
 use std::alloc::{AllocError, Global};
 
-/// The word is a text. A text that is no value is answered by its fault.
-pub fn answer(alloc: Global, row: &Row) -> Answer {
+/// The word is a text. A text that is no value of the profile is answered by its fault.
+pub fn answer(alloc: Global, row: &Row, profile: Profile) -> Answer {
     let text = row.text(0);
     let told = match row.question() {
-        "read" => read_text(alloc, text),
+        "read" => read_text(alloc, text, profile),
+        "profile" => profile_of(alloc, text, profile),
         "string" => written(alloc, ValueText::of_str(alloc, text)),
         "integer" => integer(alloc, text),
         "boolean" => written(alloc, ValueText::of_bool(alloc, text == "true")),
@@ -20,9 +21,22 @@ pub fn answer(alloc: Global, row: &Row) -> Answer {
     }
 }
 
-fn read_text(alloc: Global, text: &str) -> Result<String, ReadFault> {
-    let value = ValueText::read(alloc, text)?;
+fn read(alloc: Global, text: &str, profile: Profile) -> Result<ValueText, ReadFault> {
+    match profile {
+        Profile::Strict => ValueText::read(alloc, text),
+        Profile::Wide => ValueText::read_in(alloc, text, Profile::Wide),
+    }
+}
+
+fn read_text(alloc: Global, text: &str, profile: Profile) -> Result<String, ReadFault> {
+    let value = read(alloc, text, profile)?;
     Ok(String::from_str(alloc, value.as_str())?)
+}
+
+// The profile of a value's text, whatever profile it is read in.
+fn profile_of(alloc: Global, text: &str, profile: Profile) -> Result<String, ReadFault> {
+    let value = read(alloc, text, profile)?;
+    Ok(format!(in alloc; "{:?}", value.profile())?)
 }
 
 fn integer(alloc: Global, text: &str) -> Result<String, ReadFault> {

@@ -1,5 +1,6 @@
 //! The nodes of a document, and what can be asked of them.
 ghost use Rattle.std.specs.Prelude.{◌≡◌, ℕ, ◌+◌, ◌-◌, ◌<◌, ◌≤◌, ◌∷◌, ◌++◌, [], None, Some, IfOk, IfErr, IfSome, IsNone, IsOkUnless, OnOk, if◌then◌else◌, List, length, nat_lt, slice_get, string_bytes, take};
+ghost use Rattle.keep_syntax.specs.declared.syntax.Syntax as syntax;
 ghost use Rattle.keep_syntax.specs.Tree.{Document, Value};
 ghost use Rattle.keep_syntax.specs.declared.fault.ReadFault.TheVariants.{Memory};
 ghost use Rattle.keep_rules.specs.Lookup.{number_of, path_numbered, children_numbered, nth_child};
@@ -84,9 +85,10 @@ impl Index {
         read_alone(alloc, text, syntax)
     }
 
-    /// How many nodes there are: one at least, the root table.
+    /// How many nodes there are: one at least, the root table, and at most one more than the text that was read has bytes.
     pub fn node_count(&self) -> usize
-        ensures { result ≡ length self.now.paths }
+        ensures counted { result ≡ length self.now.paths }
+        ensures few { (bytes : List ℕ) (s : syntax.Syntax) (d : Document) → WasRead bytes s d → IsIndexOf d self.now → result ≤ length bytes + 1 }
     {
         self.nodes.len()
     }

@@ -37,10 +37,11 @@ all_at p (w ∷ vs) (suc n) v h e = all_at p vs n v h.1 e
 
 -- ---- of a value
 
-abbrev open_of : Leaf → ℕ → ℕ
+-- how many brackets are open in a value with this leaf, its own counted
+abbrev pub open_of : Leaf → ℕ → ℕ
 open_of l d = cond (is_opening l) (suc d) d
 
-closed : (l : Leaf) → IsTrue (is_scalar_leaf l) → is_opening l ≡ false
+pub closed : (l : Leaf) → IsTrue (is_scalar_leaf l) → is_opening l ≡ false
 closed leaf.ArrayOpen h = absurd cc
 closed leaf.InlineOpen h = absurd cc
 closed _ h = refl

@@ -1,5 +1,5 @@
 -- No value has more brackets open than the limit, itself counted.
-use Rattle.std.proofs.Common.{◌≡◌, ℕ, suc, ◌+◌, ◌≤◌, List, [], ◌∷◌, ◌++◌, None, refl, sym, ap, subst, arith}
+use Rattle.std.proofs.Common.{◌≡◌, ℕ, suc, ◌+◌, ◌≤◌, Bool, cond, List, [], ◌∷◌, ◌++◌, None, refl, sym, ap, subst, arith}
 use Rattle.std.specs.List.{AllByRecursion}
 use Rattle.keep_token.specs.declared.leaf.Profile.{Profile}
 use Rattle.keep_syntax.specs.declared.info.ValueInfo.{ValueInfo}
@@ -7,13 +7,9 @@ use Rattle.keep_syntax.specs.declared.info.Start.{Start}
 use Rattle.keep_syntax.specs.declared.info.Owner.TheVariants as owner
 use Rattle.keep_syntax.specs.Tree.{Body, scalar, array, inline, Entries, none, entry, Value, Content, blank, keyval, header, element, Line, Ended, Document, name_leaves, around, entries_depth, value_depth, content_depth, lines_depth}
 use Rattle.keep_syntax.specs.Grammar.{Place, place_in, IsBody, AreEntries, IsValue, IsContent, IsLine, IsEnded, Reads, ReadsValue}
-use Rattle.keep_syntax.specs.Deep.{open_by}
 use Rattle.keep_syntax.specs.Numbered.{width, leaf_of, value_start, name_count, key_count, inside_of, rest_of, entries_values, value_values, content_values, Count, line_start, line_values, next_line, first_line, over_lines, values}
-use Rattle.keep_syntax.proofs.DeepLaws.{scalar_opens}
-
--- a value, with so many brackets open at most, its own counted
-abbrev pub IsWithin : ℕ → ValueInfo → Type 0
-IsWithin limit v = open_by v.leaf v.depth ≤ limit
+use Rattle.keep_syntax.specs.Nesting.{IsWithin}
+use Rattle.keep_syntax.proofs.DeepestLaws.{open_of, closed}
 
 abbrev pub AreWithin : ℕ → List ValueInfo → Type 0
 AreWithin limit vs = AllByRecursion (IsWithin limit) vs
@@ -23,8 +19,10 @@ within-append limit [] b h g = g
 within-append limit (v ∷ vs) b h g = (h.0, within-append limit vs b h.1 g)
 
 -- the value itself
-body_within : (profile : Profile) (limit d : ℕ) (body : Body) (inside : Entries) → IsBody profile body → d + around body (entries_depth inside) ≤ limit → open_by (leaf_of body) d ≤ limit
-body_within profile limit d (scalar w) inside h le = omega (arith, scalar_opens w.leaf h.0 d)
+body_within : (profile : Profile) (limit d : ℕ) (body : Body) (inside : Entries) → IsBody profile body → d + around body (entries_depth inside) ≤ limit → open_of (leaf_of body) d ≤ limit
+body_within profile limit d (scalar w) inside h le =
+    let e : open_of w.leaf d ≡ d = ap (λ (b : Bool). cond b (suc d) d) (closed w.leaf h.0) in
+    omega (arith, e)
 body_within profile limit d (array g) inside h le = omega arith
 body_within profile limit d (inline g) inside h le = omega arith
 

@@ -1,5 +1,5 @@
 -- What was kept of a text is the syntax of its document, or of its value, and a fault tells what the grammar says.
-use Rattle.std.proofs.Common.{◌≡◌, ℕ, ◌+◌, ◌≤◌, List, [], ◌∷◌, ◌++◌, length, Result, Ok, refl, sym, ap, ◌∙◌, subst, arith, add-one, IsCharBoundary}
+use Rattle.std.proofs.Common.{◌≡◌, ℕ, ◌+◌, ◌≤◌, List, [], ◌∷◌, ◌++◌, length, slice_get, Some, Result, Ok, refl, sym, ap, ◌∙◌, subst, arith, add-one, IsCharBoundary}
 use Rattle.std.specs.List.{AllByRecursion}
 use Rattle.std.proofs.lemmas.List.{append-nil}
 use Rattle.std.proofs.lemmas.Str.{IsCharBoundary-end}
@@ -18,7 +18,7 @@ use Rattle.keep_syntax.specs.Reading.{Fault, read_document, read_one_value}
 use Rattle.keep_syntax.specs.Flat.{Flat, flat, kinds, starts, add_at, Fails}
 use Rattle.keep_syntax.specs.Cut.{start_in, cut, cut_by}
 use Rattle.keep_syntax.specs.FlatLines.{DocumentIs, OneIs}
-use Rattle.keep_syntax.specs.Contract.{IsSyntaxOf, IsTextOf, IsValueSyntaxOf, tokens_of, values_of, values_alone, IsFaultOf, IsValueFaultOf}
+use Rattle.keep_syntax.specs.Contract.{IsSyntaxOf, IsTextOf, IsValueSyntaxOf, IsReadOf, IsReadAlone, tokens_of, values_of, value_values_of, values_alone, IsFaultOf, IsValueFaultOf}
 use Rattle.keep_syntax.specs.Nesting.{IsWithin, deepest}
 use Rattle.keep_syntax.proofs.LoopLaws.{ok_is}
 use Rattle.keep_syntax.proofs.SpaceLaws.{text_of-append}
@@ -29,7 +29,8 @@ use Rattle.keep_syntax.proofs.DeepLineLaws.{document_deep}
 use Rattle.keep_syntax.proofs.CountLaws.{inner_leaves, leaves_end, leaves_count, marks_count}
 use Rattle.keep_syntax.proofs.PlaceLaws.{marks_placed}
 use Rattle.keep_syntax.proofs.DepthLaws.{values_within, value_values_within}
-use Rattle.keep_syntax.proofs.DeepestLaws.{deepest_alone}
+use Rattle.keep_syntax.proofs.DeepestLaws.{all_at, deepest_alone}
+use Rattle.keep_syntax.proofs.LawLaws.{tokens_few}
 use Rattle.keep_syntax.proofs.CutLaws.{cut_placed, start_holds, start_forward}
 
 -- ---- documents
@@ -108,6 +109,21 @@ is_fault profile limit bytes (faults.Syntax at what) f = λ d v e. document_bad 
 is_fault profile limit bytes (faults.TooDeep at) f = document_deep profile limit bytes at f.0 f.1
 is_fault profile limit bytes (faults.Utf8 at) f = absurd f
 is_fault profile limit bytes (faults.Define at why) f = absurd f
+
+-- ---- what was read of a text
+
+pub read_few : (profile : Profile) (limit : ℕ) (bytes : List ℕ) (s : Syntax) → IsReadOf profile limit bytes s → length (tokens_of s bytes) ≤ length bytes + 1
+read_few profile limit bytes s (d, reads, is) =
+    let same : length (tokens_of s bytes) ≡ length (tokens d) = ap (λ (b : List ℕ). length (tokens_of s b)) reads.spelled ∙ ap length is.tokens in
+    omega (arith, same, tokens_few profile limit bytes d reads)
+
+pub value_read_within : (profile : Profile) (limit : ℕ) (bytes : List ℕ) (s : Syntax) (number : ℕ) (v : ValueInfo) → slice_get (values_of s) number ≡ Some v → IsReadOf profile limit bytes s → IsWithin limit v
+value_read_within profile limit bytes s number v here (d, reads, is) =
+    all_at (IsWithin limit) (values_of s) number v (subst (λ (vs : List ValueInfo). AllByRecursion (IsWithin limit) vs) (sym is.values) (values_within profile limit bytes d reads)) here
+
+pub alone_read_within : (profile : Profile) (limit : ℕ) (bytes : List ℕ) (s : ValueSyntax) (number : ℕ) (v : ValueInfo) → slice_get (value_values_of s) number ≡ Some v → IsReadAlone profile limit bytes s → IsWithin limit v
+alone_read_within profile limit bytes s number v here (value, reads, is) =
+    all_at (IsWithin limit) (value_values_of s) number v (subst (λ (vs : List ValueInfo). AllByRecursion (IsWithin limit) vs) (sym is.values) (value_values_within profile limit bytes value reads)) here
 
 -- ---- values
 

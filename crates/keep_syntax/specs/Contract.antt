@@ -13,7 +13,7 @@ use Rattle.keep_syntax.specs.declared.syntax.Syntax.{Syntax}
 use Rattle.keep_syntax.specs.declared.alone.ValueSyntax.{ValueSyntax}
 use Rattle.keep_syntax.specs.declared.tokens.Tokens.{Tokens}
 use Rattle.keep_syntax.specs.Tree.{Value, Document, text, value_text, value_depth}
-use Rattle.keep_syntax.specs.Grammar.{IsValue, IsDocument}
+use Rattle.keep_syntax.specs.Grammar.{IsValue, IsDocument, Reads, ReadsValue}
 use Rattle.keep_syntax.specs.Numbered.{Placed, tokens, statements, parts, values, inside_start, entries_parts, value_values}
 use Rattle.keep_syntax.specs.Deep.{IsTooDeep, IsValueTooDeep}
 use Rattle.keep_syntax.specs.Flat.{flat}
@@ -41,7 +41,11 @@ pub record IsSyntaxOf (s : Syntax) (d : Document) : Type 0 where
   pub parts : parts_of s ≡ parts d
   pub values : values_of s ≡ values d
 
--- It was read of this text: each token begins at the start of a character, and none behind the next.
+-- It was read of this text: a document within the limit has the text, and these are its tokens, statements, key parts and values.
+abbrev pub IsReadOf : Profile → ℕ → List ℕ → Syntax → Type 0
+IsReadOf profile limit bytes s = (d : Document) × Reads profile limit bytes d × IsSyntaxOf s d
+
+-- Its parts are those of this text: each token begins at the start of a character, and none behind the next.
 pub record IsTextOf (s : Syntax) (bytes : List ℕ) : Type 0 where
   pub document : Document
   pub spelled : bytes ≡ text document
@@ -72,6 +76,10 @@ pub record IsValueSyntaxOf (s : ValueSyntax) (v : Value) : Type 0 where
   pub parts : value_parts_of s ≡ parts_alone v
   pub values : value_values_of s ≡ values_alone v
   pub depth : s.depth ≡ value_depth v
+
+-- It was read of this text: a value within the limit has the text, and these are its key parts and values.
+abbrev pub IsReadAlone : Profile → ℕ → List ℕ → ValueSyntax → Type 0
+IsReadAlone profile limit bytes s = (v : Value) × ReadsValue profile limit bytes v × IsValueSyntaxOf s v
 
 -- ---- faults
 

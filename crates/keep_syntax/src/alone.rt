@@ -1,6 +1,7 @@
 //! Reading one value alone, and what is known of it then.
-ghost use Rattle.std.specs.Prelude.{◌≡◌, ◌<◌, length, slice_get, IfOk, IfErr, MatchResult};
+ghost use Rattle.std.specs.Prelude.{◌≡◌, ℕ, ◌<◌, List, length, slice_get, IfOk, IfErr, MatchResult};
 ghost use Rattle.std.specs.List.{AllByRecursion};
+ghost use Rattle.keep_token.specs.declared.leaf.Profile.{Profile};
 ghost use Rattle.keep_syntax.specs.declared.fault.ReadFault.TheVariants.{Memory};
 ghost use Rattle.keep_syntax.specs.Tree.{Value, value_depth};
 ghost use Rattle.keep_syntax.specs.Grammar.{ReadsValue};
@@ -30,7 +31,7 @@ impl ValueSyntax {
     /// `Syntax` if the text is no value, `TooDeep` if more brackets are open than the limit allows, whichever is met first,
     /// and `Memory`.
     pub fn read(alloc: Global, text: &str, limits: Limits) -> Result<ValueSyntax, ReadFault>
-        ensures found { IfOk result (λ s. (v : Value) × ReadsValue limits.profile limits.depth text.now v × spec.IsValueSyntaxOf s v) }
+        ensures found { IfOk result (spec.IsReadAlone limits.profile limits.depth text.now) }
         ensures only { (v : Value) → ReadsValue limits.profile limits.depth text.now v
             → MatchResult result (λ s. spec.IsValueSyntaxOf s v) (λ e. e ≡ Memory) }
         ensures faults { IfErr result (spec.IsValueFaultOf limits.profile limits.depth text.now) }
@@ -70,10 +71,12 @@ impl ValueSyntax {
         self.parts.value_count()
     }
 
-    /// The value of this number, from 0. A value comes before those inside it.
+    /// The value of this number, from 0. A value comes before those inside it. Its depth is at most the limit to which the text
+    /// was read, and less than the limit for an array or an inline table.
     pub fn value(&self, number: usize) -> ValueInfo
         requires { number < length (spec.value_values_of self.now) }
-        ensures { slice_get (spec.value_values_of self.now) number ≡ Some result }
+        ensures stored { slice_get (spec.value_values_of self.now) number ≡ Some result }
+        ensures within { (profile : Profile) (limit : ℕ) (bytes : List ℕ) → spec.IsReadAlone profile limit bytes self.now → IsWithin limit result }
     {
         self.parts.value(number)
     }

@@ -1,6 +1,7 @@
 //! Reading a document, and what is known of it then.
 ghost use Rattle.std.specs.Prelude.{◌≡◌, ℕ, ◌+◌, ◌<◌, ◌≤◌, List, length, slice_get, IfOk, IfErr, MatchResult, Some};
 ghost use Rattle.std.specs.List.{AllByRecursion};
+ghost use Rattle.keep_token.specs.declared.leaf.Profile.{Profile};
 ghost use Rattle.keep_syntax.specs.declared.fault.ReadFault.TheVariants.{Memory};
 ghost use Rattle.keep_syntax.specs.Tree.{Document};
 ghost use Rattle.keep_syntax.specs.Grammar.{Reads};
@@ -28,7 +29,7 @@ impl Syntax {
     /// `Syntax` if the text is no document, `TooDeep` if a value has more brackets open than the limit allows, whichever
     /// is met first, and `Memory`.
     pub fn read(alloc: Global, text: &str, limits: Limits) -> Result<Syntax, ReadFault>
-        ensures found { IfOk result (λ s. (d : Document) × Reads limits.profile limits.depth text.now d × spec.IsSyntaxOf s d) }
+        ensures found { IfOk result (spec.IsReadOf limits.profile limits.depth text.now) }
         ensures only { (d : Document) → Reads limits.profile limits.depth text.now d
             → MatchResult result (λ s. spec.IsSyntaxOf s d) (λ e. e ≡ Memory) }
         ensures faults { IfErr result (spec.IsFaultOf limits.profile limits.depth text.now) }
@@ -40,9 +41,10 @@ impl Syntax {
         Ok(Syntax { parts })
     }
 
-    /// How many tokens there are, `End` counted.
+    /// How many tokens there are, `End` counted: at most one more than the text that was read has bytes.
     pub fn token_count(&self) -> usize
-        ensures { (bytes : List ℕ) → result ≡ length (spec.tokens_of self.now bytes) }
+        ensures counted { (bytes : List ℕ) → result ≡ length (spec.tokens_of self.now bytes) }
+        ensures few { (profile : Profile) (limit : ℕ) (bytes : List ℕ) → spec.IsReadOf profile limit bytes self.now → result ≤ length bytes + 1 }
     {
         mark_count(&self.parts) + 1
     }
@@ -92,10 +94,12 @@ impl Syntax {
         self.parts.value_count()
     }
 
-    /// The value of this number, from 0. A value comes before those inside it.
+    /// The value of this number, from 0. A value comes before those inside it. Its depth is at most the limit to which the text
+    /// was read, and less than the limit for an array or an inline table.
     pub fn value(&self, number: usize) -> ValueInfo
         requires { number < length (spec.values_of self.now) }
-        ensures { slice_get (spec.values_of self.now) number ≡ Some result }
+        ensures stored { slice_get (spec.values_of self.now) number ≡ Some result }
+        ensures within { (profile : Profile) (limit : ℕ) (bytes : List ℕ) → spec.IsReadOf profile limit bytes self.now → IsWithin limit result }
     {
         self.parts.value(number)
     }

@@ -24,7 +24,7 @@ read_inside-requires-clause-next c = (
   turns 0 1 c.requires.0.inside,
   0,
   subst (λ (ids : List ℕ). AreNext c.args.text.now (flat c.parts-parts.result.now) (twigs c.in_ok-nodes.nodes.items) ids 1 1 0 (value_inside (body_fact c.requires.0.body)) (turns 0 1 c.requires.0.inside)) (sym (c.in_ok-push_id.ensures ∙ ap (λ l. l ++ 0 ∷ []) c.new-ids.ensures.items))
-      (alone_next c.args.text.now c.requires.1.profile c.requires.0 c.requires.1.reads.valid c.requires.1.reads.spelled (flat c.parts-parts.result.now) (ap (λ p. (flat p).keys) c.parts-parts.ensures ∙ c.requires.1.is.parts) (ap (λ p. (flat p).values) c.parts-parts.ensures ∙ c.requires.1.is.values) c.in_ok-nodes.nodes.items c.value.result (ap (λ p. slice_get (flat p).values 0) c.parts-parts.ensures ∙ c.value.ensures) _ c.holds_of_leaf-holds.ensures c.in_ok-nodes.ensures),
+      (alone_next c.args.text.now c.requires.1.profile c.requires.0 c.requires.1.reads.valid c.requires.1.reads.spelled (flat c.parts-parts.result.now) (ap (λ p. (flat p).keys) c.parts-parts.ensures ∙ c.requires.1.is.parts) (ap (λ p. (flat p).values) c.parts-parts.ensures ∙ c.requires.1.is.values) c.in_ok-nodes.nodes.items c.value.result (ap (λ p. slice_get (flat p).values 0) c.parts-parts.ensures ∙ c.value.ensures.stored) _ c.holds_of_leaf-holds.ensures c.in_ok-nodes.ensures),
 )
 
 pub read_inside-requires-clause-world : goal.read_inside-requires-clause-world
@@ -32,15 +32,15 @@ read_inside-requires-clause-world c = ([], [], rooted_world c.in_ok-nodes.nodes.
 
 pub returns-in-Ok-clause-ok : goal.returns-in-Ok-clause-ok
 returns-in-Ok-clause-ok c = λ (v : Value) (was : WasReadAlone c.args.text.now c.args.syntax.now v).
-    alone_obeys c.args.text.now was.profile v was.reads.valid was.reads.spelled (flat c.parts-parts.result.now) (ap (λ p. (flat p).keys) c.parts-parts.ensures ∙ was.is.parts) (ap (λ p. (flat p).values) c.parts-parts.ensures ∙ was.is.values) c.in_ok-nodes.nodes.items c.value.result (ap (λ p. slice_get (flat p).values 0) c.parts-parts.ensures ∙ c.value.ensures) _ c.holds_of_leaf-holds.ensures c.in_ok-nodes.ensures c.read_inside.new.nodes.items c.read_inside.new.ids.items
+    alone_obeys c.args.text.now was.profile v was.reads.valid was.reads.spelled (flat c.parts-parts.result.now) (ap (λ p. (flat p).keys) c.parts-parts.ensures ∙ was.is.parts) (ap (λ p. (flat p).values) c.parts-parts.ensures ∙ was.is.values) c.in_ok-nodes.nodes.items c.value.result (ap (λ p. slice_get (flat p).values 0) c.parts-parts.ensures ∙ c.value.ensures.stored) _ c.holds_of_leaf-holds.ensures c.in_ok-nodes.ensures c.read_inside.new.nodes.items c.read_inside.new.ids.items
     (subst (λ (ids : List ℕ). TookTurns c.args.text.now (flat c.parts-parts.result.now) 1 1 c.in_ok-nodes.nodes.items ids c.read_inside.new.nodes.items c.read_inside.new.ids.items) (c.in_ok-push_id.ensures ∙ ap (λ l. l ++ 0 ∷ []) c.new-ids.ensures.items) c.in-Ok.ensures.took)
 
 pub read_fault-requires : goal.read_fault-requires
 read_fault-requires c =
-    alone_within c.args.text.now c.requires.1.profile c.requires.0 c.requires.1.reads.valid c.requires.1.reads.spelled (flat c.parts-parts.result.now) (ap (λ p. (flat p).keys) c.parts-parts.ensures ∙ c.requires.1.is.parts) (ap (λ p. (flat p).values) c.parts-parts.ensures ∙ c.requires.1.is.values) c.in_ok-nodes.nodes.items c.value.result (ap (λ p. slice_get (flat p).values 0) c.parts-parts.ensures ∙ c.value.ensures) _ c.holds_of_leaf-holds.ensures c.in_ok-nodes.ensures c.in-Err.fault
+    alone_within c.args.text.now c.requires.1.profile c.requires.0 c.requires.1.reads.valid c.requires.1.reads.spelled (flat c.parts-parts.result.now) (ap (λ p. (flat p).keys) c.parts-parts.ensures ∙ c.requires.1.is.parts) (ap (λ p. (flat p).values) c.parts-parts.ensures ∙ c.requires.1.is.values) c.in_ok-nodes.nodes.items c.value.result (ap (λ p. slice_get (flat p).values 0) c.parts-parts.ensures ∙ c.value.ensures.stored) _ c.holds_of_leaf-holds.ensures c.in_ok-nodes.ensures c.in-Err.fault
     (subst (λ (ids : List ℕ). FaultSays c.in-Err.fault (TurnsFault c.args.text.now (flat c.parts-parts.result.now) 1 1 c.in_ok-nodes.nodes.items ids)) (c.in_ok-push_id.ensures ∙ ap (λ l. l ++ 0 ∷ []) c.new-ids.ensures.items) c.in-Err.ensures.define)
 
 pub returns-clause-faults : goal.returns-clause-faults
 returns-clause-faults c = λ (v : Value) (was : WasReadAlone c.args.text.now c.args.syntax.now v).
-    alone_refused c.args.text.now was.profile v was.reads.valid was.reads.spelled (flat c.parts-parts.result.now) (ap (λ p. (flat p).keys) c.parts-parts.ensures ∙ was.is.parts) (ap (λ p. (flat p).values) c.parts-parts.ensures ∙ was.is.values) c.in_ok-nodes.nodes.items c.value.result (ap (λ p. slice_get (flat p).values 0) c.parts-parts.ensures ∙ c.value.ensures) _ c.holds_of_leaf-holds.ensures c.in_ok-nodes.ensures c.in-Err.fault c.read_fault.result c.read_fault.ensures
+    alone_refused c.args.text.now was.profile v was.reads.valid was.reads.spelled (flat c.parts-parts.result.now) (ap (λ p. (flat p).keys) c.parts-parts.ensures ∙ was.is.parts) (ap (λ p. (flat p).values) c.parts-parts.ensures ∙ was.is.values) c.in_ok-nodes.nodes.items c.value.result (ap (λ p. slice_get (flat p).values 0) c.parts-parts.ensures ∙ c.value.ensures.stored) _ c.holds_of_leaf-holds.ensures c.in_ok-nodes.ensures c.in-Err.fault c.read_fault.result c.read_fault.ensures
     (subst (λ (ids : List ℕ). FaultSays c.in-Err.fault (TurnsFault c.args.text.now (flat c.parts-parts.result.now) 1 1 c.in_ok-nodes.nodes.items ids)) (c.in_ok-push_id.ensures ∙ ap (λ l. l ++ 0 ∷ []) c.new-ids.ensures.items) c.in-Err.ensures.define)

@@ -1,0 +1,84 @@
+-- Edits that are given as values, and what a list of them answers.
+use Rattle.std.specs.Prelude.{◌≡◌, ◌⊎◌, ℕ, suc, ◌+◌, ◌<◌, List, [], ◌∷◌, length, map, take, Result, Ok, Err, string_bytes}
+use Rattle.std.specs.List.{AllZip}
+use Rattle.keep_token.specs.declared.leaf.Profile.{Profile}
+use Rattle.keep_token.specs.Encoded.{encoded_key}
+use Rattle.keep_syntax.specs.Tree.{Value, Document}
+use Rattle.keep_path.specs.Path.{key}
+use Rattle.keep_path.specs.PathText.{encoded_path}
+use Rattle.keep_law.specs.declared.fault.EditFault.{EditFault}
+use Rattle.keep_law.specs.declared.fault.EditFault.TheVariants.{Memory}
+use Rattle.keep_law.specs.Answers.{applied_edits}
+use Rattle.keep_law.specs.Edits as law
+use Rattle.keep_edit.specs.Reading.{limit, ProfiledText, IsTextOfTree, IsTextOfValue}
+use Rattle.keep_edit.specs.declared.edits.Edit.{Edit}
+use Rattle.keep_edit.specs.declared.edits.Edit.TheVariants.{Set, Rename, Remove, Table, Element}
+
+-- ---- one edit
+
+-- the edit of the definitions, with the value of its text
+abbrev pub IsEdit : Edit → law.Edit → Type 0
+IsEdit (Set path value) e = (v : Value) × IsTextOfValue value v × (e ≡ law.set path v)
+IsEdit (Rename path name) e = e ≡ law.rename path (string_bytes name)
+IsEdit (Remove path) e = e ≡ law.remove path
+IsEdit (Table keys) e = e ≡ law.append_table (map string_bytes keys.items)
+IsEdit (Element keys) e = e ≡ law.append_element (map string_bytes keys.items)
+
+-- how many bytes it gives, as they are written: its path and its value, or its new key
+abbrev pub size_of : Edit → ℕ
+size_of (Set path value) = length (encoded_path path) + length value
+size_of (Rename path name) = length (encoded_key (string_bytes name))
+size_of (Remove path) = 0
+size_of (Table keys) = length (encoded_path (map key (map string_bytes keys.items)))
+size_of (Element keys) = length (encoded_path (map key (map string_bytes keys.items)))
+
+-- ---- a list of edits
+
+-- the sum of what they give, and 12 bytes each
+abbrev pub growth_of : List Edit → ℕ
+growth_of [] = 0
+growth_of (e ∷ es) = size_of e + 12 + growth_of es
+
+-- All edits are made in their order, each on the document after those before it, and the new text is that of the last document.
+pub record AreMade (s : Document) (edits : List Edit) (old : ProfiledText) (new : ProfiledText) : Type 0 where
+  pub es : List law.Edit
+  pub are : AllZip IsEdit edits es
+  pub tree : Document
+  pub made : applied_edits old.profile limit es s ≡ Ok tree
+  pub read : IsTextOfTree new tree
+  pub profile : new.profile ≡ old.profile
+
+-- The edit of this number, from 0, is the first that is refused, on the document after those before it, and this is why.
+pub record IsRefusedAt (s : Document) (edits : List Edit) (profile : Profile) (number : ℕ) (f : EditFault) : Type 0 where
+  pub es : List law.Edit
+  pub are : AllZip IsEdit (take (suc number) edits) es
+  pub refused : applied_edits profile limit es s ≡ Err (record { number = number; fault = f })
+
+-- Memory ran out at the edit of this number: neither it nor one before it is refused.
+pub record IsOutOfMemoryAt (s : Document) (edits : List Edit) (profile : Profile) (number : ℕ) (f : EditFault) : Type 0 where
+  pub memory : f ≡ Memory
+  pub here : number < length edits
+  pub es : List law.Edit
+  pub are : AllZip IsEdit (take (suc number) edits) es
+  pub tree : Document
+  pub allowed : applied_edits profile limit es s ≡ Ok tree
+
+-- Memory ran out for the copy that a list of edits is made on, which is told as that of its first edit.
+pub record IsNotCopied (edits : List Edit) (number : ℕ) (f : EditFault) : Type 0 where
+  pub memory : f ≡ Memory
+  pub first : number ≡ 0
+  pub some : 0 < length edits
+
+-- why edits that are made one after another stop at the edit of this number
+abbrev pub StopsAt : Document → List Edit → Profile → ℕ → EditFault → Type 0
+StopsAt s edits profile number f = IsRefusedAt s edits profile number f ⊎ IsOutOfMemoryAt s edits profile number f
+
+-- what edits answer that are made one after another
+abbrev pub EachDone : {T : Type 0} → Document → List Edit → ProfiledText → ProfiledText → Result T (ℕ × EditFault) → Type 0
+EachDone s edits old new (Ok done) = AreMade s edits old new
+EachDone s edits old new (Err stop) = StopsAt s edits old.profile stop.0 stop.1
+
+-- what edits answer that are made all or none
+abbrev pub AllDone : {T : Type 0} → Document → List Edit → ProfiledText → ProfiledText → Result T (ℕ × EditFault) → Type 0
+AllDone s edits old new (Ok done) = AreMade s edits old new
+AllDone s edits old new (Err stop) = StopsAt s edits old.profile stop.0 stop.1 ⊎ IsNotCopied edits stop.0 stop.1

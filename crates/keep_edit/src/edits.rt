@@ -1,0 +1,111 @@
+//! Edits as values: one, and lists of them.
+ghost use Rattle.std.specs.Prelude.{◌≡◌, ◌+◌, ◌≤◌, length, IfOk, OnErr};
+ghost use Rattle.keep_syntax.specs.Tree as tree;
+ghost use Rattle.keep_law.specs.Edits as law;
+ghost use Rattle.keep_edit.specs.Reading.{IsAccepted, IsTextOfTree};
+ghost use Rattle.keep_edit.specs.Answers.{EditDone, EditTold};
+ghost use Rattle.keep_edit.specs.Lists.{IsEdit, AllDone, EachDone, growth_of};
+
+use crate::document::Document;
+use keep_law::{EditFault, Splice};
+use keep_rules::Path;
+use keep_value::ValueText;
+
+/// An edit of a document, with what it is given.
+#[derive(Debug, Drop)]
+pub enum Edit {
+    /// `Document::set`: a value in place of the one at a path.
+    Set(Path, ValueText),
+    /// `Document::rename`: another key in place of the last key of a path.
+    Rename(Path, String),
+    /// `Document::remove`: the node of a path goes.
+    Remove(Path),
+    /// `Document::append_table`: the header of a table at the end.
+    Table(Vec<String>),
+    /// `Document::append_element`: the header of an element of an array of tables at the end.
+    Element(Vec<String>),
+}
+
+impl Document {
+    /// Makes an edit. After a refusal the document is as before. The document's own allocator gives the memory.
+    ///
+    /// # Errors
+    ///
+    /// Those of the method of that edit.
+    pub fn apply(&mut self, edit: &Edit) -> Result<Splice, EditFault>
+        ensures done { (s : tree.Document) → IsTextOfTree self.old s → (e : law.Edit) → IsEdit edit.now e → EditDone s e self.old self.new result }
+        ensures accepted { IsAccepted self.old }
+        ensures edit { (e : law.Edit) × IsEdit edit.now e }
+        ensures read { IsAccepted self.new }
+        ensures refused { OnErr result (self.new ≡ self.old) }
+    {
+        match edit {
+            Edit::Set(path, value) => self.set(path, value),
+            Edit::Rename(path, key) => self.rename(path, key.as_str()),
+            Edit::Remove(path) => self.remove(path),
+            Edit::Table(keys) => self.append_table(keys.as_slice()),
+            Edit::Element(keys) => self.append_element(keys.as_slice()),
+        }
+    }
+
+    /// The text that the document has after `apply`. The document stays as it is, and nothing is read anew.
+    ///
+    /// # Errors
+    ///
+    /// Those of `apply`.
+    pub fn text_applied(&self, edit: &Edit) -> Result<String, EditFault>
+        ensures told { (s : tree.Document) → IsTextOfTree self.now s → (e : law.Edit) → IsEdit edit.now e → EditTold s e self.now result }
+        ensures accepted { IsAccepted self.now }
+        ensures edit { (e : law.Edit) × IsEdit edit.now e }
+    {
+        match edit {
+            Edit::Set(path, value) => self.text_with(path, value),
+            Edit::Rename(path, key) => self.text_renamed(path, key.as_str()),
+            Edit::Remove(path) => self.text_removed(path),
+            Edit::Table(keys) => self.text_with_table(keys.as_slice()),
+            Edit::Element(keys) => self.text_with_element(keys.as_slice()),
+        }
+    }
+
+    /// Makes all edits in their order, each on the document after those before it; or none of them: after a refusal the
+    /// document is as before. They are made on a copy, which is read of the document's text: k edits take at most k + 1
+    /// readings, and an empty list takes no memory. The document's own allocator gives the memory.
+    ///
+    /// # Errors
+    ///
+    /// The number, from 0, of the first edit that is refused, and why: as `apply` refuses it on the document after those
+    /// before it. `Memory` comes with the number of the edit where memory was refused, or with 0 where it was refused for
+    /// the copy.
+    pub fn apply_all(&mut self, edits: &[Edit]) -> Result<(), (usize, EditFault)>
+        ensures done { (s : tree.Document) → IsTextOfTree self.old s → AllDone s edits.now self.old self.new result }
+        ensures accepted { IsAccepted self.old }
+        ensures read { IsAccepted self.new }
+        ensures growth { IfOk result (λ done. length self.new.text ≤ length self.old.text + growth_of edits.now) }
+        ensures refused { OnErr result (self.new ≡ self.old) }
+    {
+        let _text = &self.text;
+        if edits.is_empty() {
+            return Ok(());
+        }
+        let mut changed = match self.copied() {
+            Ok(copy) => copy,
+            Err(fault) => return Err((0, fault)),
+        };
+        changed.apply_each(edits)?;
+        *self = changed;
+        Ok(())
+    }
+
+    /// Makes the edits in their order, up to the first that is refused.
+    fn apply_each(&mut self, edits: &[Edit]) -> Result<(), (usize, EditFault)>
+        ensures done { (s : tree.Document) → IsTextOfTree self.old s → EachDone s edits.now self.old self.new result }
+        ensures growth { IfOk result (λ done. length self.new.text ≤ length self.old.text + growth_of edits.now) }
+    {
+        for index in 0..edits.len() {
+            if let Err(fault) = self.apply(&edits[index]) {
+                return Err((index, fault));
+            }
+        }
+        Ok(())
+    }
+}
