@@ -24,3 +24,4 @@ pub mod LineSpots
 pub mod LineWriting
 pub mod BracketPlaces
 pub mod KeysLaws
+pub mod InsertedLaws

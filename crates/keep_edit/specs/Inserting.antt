@@ -17,13 +17,13 @@ use Rattle.keep_meaning.specs.Nodes.{numbered_at, place_said}
 use Rattle.keep_law.specs.declared.fault.EditFault.{EditFault}
 use Rattle.keep_law.specs.Changed as changed
 use Rattle.keep_law.specs.Edits.{insert, place}
-use Rattle.keep_law.specs.Insertion.{before_item, behind_entry, in_empty, last_keyval, line_at, section_at, section_end}
+use Rattle.keep_law.specs.Insertion.{before_item, behind_entry, in_empty, last_keyval, line_at, put_in, section_at, section_end}
 use Rattle.keep_law.specs.Lines.{newline_of}
 use Rattle.keep_law.specs.Look.{holder, item_number, item_count, keys_in, without_last}
 use Rattle.keep_law.specs.Refusals.{refusal}
 use Rattle.keep_law.specs.Removal.{body_end}
 use Rattle.keep_edit.specs.Reading.{limit}
-use Rattle.keep_edit.specs.Answers.{value_number_of}
+use Rattle.keep_edit.specs.Answers.{IsSpanOf, value_number_of}
 use Rattle.keep_edit.specs.declared.insert.Insertion.{Insertion}
 use Rattle.keep_edit.specs.declared.insert.Spot.{Spot}
 use Rattle.keep_edit.specs.declared.insert.Spot.TheVariants.{BeforeItem, BehindEntry, InEmpty, BehindBody, BehindLine, NewSection}
@@ -123,3 +123,7 @@ spot_place s path value i =
 -- The edit's place is the place of the insertion.
 abbrev pub IsPlacedAt : List Part → Document → Value → Insertion → Type 0
 IsPlacedAt path s v i = spot_place s path v i ≡ Some (place s (insert path v))
+
+-- Bytes were added that the edit puts in at this byte of the text, between characters.
+abbrev pub IsPutIn : List Part → Value → Document → List ℕ → ℕ → List ℕ → List ℕ → Type 0
+IsPutIn path v s bytes at old new = (given : List ℕ) × (new ≡ old ++ given) × (place s (insert path v) ≡ put_in at given) × IsSpanOf bytes (syntax.span at at)

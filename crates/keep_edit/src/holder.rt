@@ -1,6 +1,7 @@
 //! The node below which a new value comes.
 ghost use Rattle.std.specs.Prelude.{◌≡◌, suc, ◌<◌, ◌≤◌, length};
 ghost use Rattle.keep_syntax.specs.Tree as tree;
+ghost use Rattle.keep_path.specs.Path.{AreUtf8};
 ghost use Rattle.keep_edit.specs.Reading.{IsAccepted, IsTextOfTree};
 ghost use Rattle.keep_edit.specs.Holding.{brackets_of, is_value_origin, IsFurther, IsHolder, IsOnWay};
 
@@ -25,7 +26,8 @@ impl Document {
     /// The longest prefix of a path, the whole path left out, that names a node. It takes no memory.
     pub(crate) fn holder_of(&self, path: &Path) -> Holder
         requires { IsAccepted self.now }
-        ensures { (s : tree.Document) → IsTextOfTree self.now s → IsHolder path.now s result }
+        ensures holder { (s : tree.Document) → IsTextOfTree self.now s → IsHolder path.now s result }
+        ensures utf8 { AreUtf8 path.now }
     {
         let mut holder = Holder {
             id: NodeId(0),

@@ -1,28 +1,32 @@
 //! Inserting values.
-ghost use Rattle.std.specs.Prelude.{◌≡◌, ◌++◌, ◌∷◌, [], ◌<◌, List, Some, length, drop};
+ghost use Rattle.std.specs.Prelude.{◌≡◌, ◌++◌, ◌∷◌, [], ◌<◌, List, Some, Ok, IfOk, OnErr, length, drop, string_bytes};
 ghost use Rattle.std.specs.List.{list_any};
+ghost use Rattle.keep_token.specs.declared.leaf.Profile.TheVariants.{Wide};
 ghost use Rattle.keep_syntax.specs.Contract.{values_of};
 ghost use Rattle.keep_syntax.specs.Tree as tree;
-ghost use Rattle.keep_path.specs.Path.{Part, index};
+ghost use Rattle.keep_path.specs.Path.{Part, index, AreUtf8};
 ghost use Rattle.keep_path.specs.Step.{part_of};
 ghost use Rattle.keep_meaning.specs.Meaning.{said_in};
 ghost use Rattle.keep_meaning.specs.Nodes.{node_number, node_paths};
+ghost use Rattle.keep_law.specs.Edits.{insert};
 ghost use Rattle.keep_law.specs.Look.{is_index, item_number};
-ghost use Rattle.keep_edit.specs.Reading.{IsAccepted, IsTextOfTree, IsTextOfValue};
-ghost use Rattle.keep_edit.specs.Answers.{value_number_of};
+ghost use Rattle.keep_edit.specs.Reading.{IsAccepted, IsAcceptedValue, IsTextOfTree, IsTextOfValue, text_in};
+ghost use Rattle.keep_edit.specs.Answers.{EditDone, EditMade, EditTold, value_number_of};
 ghost use Rattle.keep_edit.specs.Aiming.{IsAimed, IsItemAimed, IsItemOf, IsKeyvalAimed, longest_front, spot_in_braces};
 ghost use Rattle.keep_edit.specs.Holding.{IsHolder};
-ghost use Rattle.keep_edit.specs.Inserting.{IsInsertionOf, last_keyval_among};
+ghost use Rattle.keep_edit.specs.Inserting.{IsInsertionOf, IsPutIn, last_keyval_among};
 
 mod keys;
 mod lines;
 
-use crate::document::Document;
+use crate::document::{Document, Edited, edited_at};
 use crate::holder::Holder;
+use crate::insert::keys::push_keyed;
 use crate::value::ValueText;
-use keep_law::EditFault;
+use keep_law::{EditFault, Splice};
 use keep_rules::{Kind, NodeId, Path, Place, Step};
-use keep_syntax::{STANDARD_DEPTH, Syntax};
+use keep_syntax::{STANDARD_DEPTH, Span, Syntax};
+use std::alloc::AllocError;
 
 /// Where a value is inserted.
 #[derive(Clone, Copy)]
@@ -49,10 +53,111 @@ pub(crate) struct Insertion {
 }
 
 impl Document {
+    /// Writes a value at a new path: as an item of an array before the item that is there, or behind the last; as a keyval
+    /// behind the last of a body, of an inline table, or of those that go on from the same table by dots; or below a new header.
+    /// The keys of the path that the table does not have yet are written with dots. Every other byte is kept. After a refusal the
+    /// document is as before. The document's own allocator gives the memory.
+    ///
+    /// # Errors
+    ///
+    /// The first that holds: `NotFound` if the path ends in an index past the last item, or a part of it that is new has an
+    /// index; `Exists` if the path names a node, unless it is an item; `NotTable` if the longest prefix that names a node is no
+    /// table; `TooDeep` if arrays and inline tables would enclose one another deeper than the standard depth; `Profile` if the
+    /// document was read in Strict and the value is none of Strict's grammar; else `Memory` if memory was refused.
+    pub fn insert(&mut self, path: &Path, value: &ValueText) -> Result<Splice, EditFault>
+        ensures done { (s : tree.Document) → IsTextOfTree self.old s → (v : tree.Value) → IsTextOfValue value.now v → EditDone s (insert path.now v) self.old self.new result }
+        ensures accepted { IsAccepted self.old }
+        ensures value { IsAcceptedValue Wide value.now }
+        ensures read { IsAccepted self.new }
+        ensures refused { OnErr result (self.new ≡ self.old) }
+    {
+        let edited = self.inserted(path, value)?;
+        self.replaced(edited)
+    }
+
+    /// The text that the document has after `insert`. The document stays as it is, and nothing is read anew.
+    ///
+    /// # Errors
+    ///
+    /// Those of `insert`.
+    pub fn text_inserted(&self, path: &Path, value: &ValueText) -> Result<String, EditFault>
+        ensures told { (s : tree.Document) → IsTextOfTree self.now s → (v : tree.Value) → IsTextOfValue value.now v → EditTold s (insert path.now v) self.now result }
+        ensures accepted { IsAccepted self.now }
+        ensures value { IsAcceptedValue Wide value.now }
+    {
+        let edited = self.inserted(path, value)?;
+        Ok(edited.text)
+    }
+
+    /// The text with a value at a new path, and where it was written.
+    fn inserted(&self, path: &Path, value: &ValueText) -> Result<Edited, EditFault>
+        ensures made { (s : tree.Document) → IsTextOfTree self.now s → (v : tree.Value) → IsTextOfValue value.now v → EditMade s (insert path.now v) self.now result }
+        ensures accepted { IfOk result (λ edited. IsAccepted (text_in self.now.profile (string_bytes edited.text))) }
+        ensures of { IsAccepted self.now }
+        ensures value { IsAcceptedValue Wide value.now }
+    {
+        let alloc = *self.text.allocator();
+        let old = self.text.as_str();
+        let insertion = self.insertion(path, value)?;
+        let mut new = String::new(alloc);
+        let Ok(at) = self.push_insertion(&mut new, path, insertion, value) else {
+            return Err(EditFault::Memory);
+        };
+        edited_at(alloc, old, Span { start: at, end: at }, new.as_str())
+    }
+
+    /// Adds what is inserted, and returns the byte offset at which it is. The only error is out of memory.
+    fn push_insertion(
+        &self,
+        out: &mut String,
+        path: &Path,
+        insertion: Insertion,
+        value: &ValueText,
+    ) -> Result<usize, AllocError>
+        requires insertion { (s : tree.Document) × IsTextOfTree self.now s × ((v : tree.Value) × IsTextOfValue value.now v × IsInsertionOf self.now.profile path.now v s (Ok insertion)) }
+        requires utf8 { AreUtf8 path.now }
+        ensures { (s : tree.Document) → IsTextOfTree self.now s → (v : tree.Value) → IsTextOfValue value.now v → IsInsertionOf self.now.profile path.now v s (Ok insertion)
+            → IfOk result (λ at. IsPutIn path.now v s self.now.text at (string_bytes out.old) (string_bytes out.new)) }
+    {
+        let from = insertion.from;
+        match insertion.spot {
+            Spot::BeforeItem(item) => {
+                out.push_str(value.as_str())?;
+                out.push_str(", ")?;
+                Ok(self.syntax.value(item).whole.start)
+            }
+            Spot::BehindEntry(entry) => {
+                out.push_str(", ")?;
+                push_keyed(*self.text.allocator(), out, path, from, value)?;
+                Ok(self.syntax.value(entry).span.end)
+            }
+            Spot::InEmpty(brackets) => {
+                push_keyed(*self.text.allocator(), out, path, from, value)?;
+                Ok(self.syntax.value(brackets).span.start + 1)
+            }
+            Spot::BehindBody(header) => {
+                let at = self.body_end(header);
+                self.push_line(out, at, path, from, value)?;
+                Ok(at)
+            }
+            Spot::BehindLine(keyval) => {
+                let at = self.keyval_end(keyval);
+                self.push_line(out, at, path, from, value)?;
+                Ok(at)
+            }
+            Spot::NewSection(header) => {
+                let at = self.body_end(Some(header));
+                self.push_section(out, at, path, from, value)?;
+                Ok(at)
+            }
+        }
+    }
+
     /// Where a value is inserted, or why it can't be. It takes no memory.
     fn insertion(&self, path: &Path, value: &ValueText) -> Result<Insertion, EditFault>
         requires { IsAccepted self.now }
-        ensures { (s : tree.Document) → IsTextOfTree self.now s → (v : tree.Value) → IsTextOfValue value.now v → IsInsertionOf self.now.profile path.now v s result }
+        ensures insertion { (s : tree.Document) → IsTextOfTree self.now s → (v : tree.Value) → IsTextOfValue value.now v → IsInsertionOf self.now.profile path.now v s result }
+        ensures utf8 { AreUtf8 path.now }
     {
         let holder = self.holder_of(path);
         let insertion = self.aim(path, holder)?;
