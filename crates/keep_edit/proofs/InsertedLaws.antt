@@ -13,6 +13,8 @@ use Rattle.keep_syntax.specs.Numbered as syntax_of
 use Rattle.keep_path.specs.Path.{Part, AreUtf8}
 use Rattle.keep_meaning.specs.Meaning.{said_in}
 use Rattle.keep_nodes.specs.Told.{Telling}
+use Rattle.keep_law.specs.declared.fault.EditFault.{EditFault}
+use Rattle.keep_law.specs.declared.fault.EditFault.TheVariants as fault
 use Rattle.keep_law.specs.Changed as changed
 use Rattle.keep_law.specs.Edits.{insert, place}
 use Rattle.keep_law.specs.Insertion.{before_item, behind_entry, in_empty, put_in, keyed_text}
@@ -22,8 +24,10 @@ use Rattle.keep_law.specs.Values.{text_of_value}
 use Rattle.keep_law.specs.Refusals.{refusal}
 use Rattle.keep_law.proofs.Shared.{IsLowPlace, insert_lawful, plain_rest, holder_front}
 use Rattle.keep_edit.specs.Reading.{limit, ProfiledText, IsTextOfTree, IsTextOfValue, Holds}
-use Rattle.keep_edit.specs.Answers.{IsSpanOf}
-use Rattle.keep_edit.specs.Inserting.{IsInsertionOf, IsItemSpot, IsKeyvalSpot, IsSpotOf, IsPutIn, spot_place}
+use Rattle.keep_edit.specs.Answers.{IsDone, IsMade, IsSpanOf, EditMade}
+use Rattle.keep_edit.specs.Places.{IsDoneAt}
+use Rattle.keep_edit.specs.PutLines.{body_end_of, keyval_end_of, new_section_at}
+use Rattle.keep_edit.specs.Inserting.{IsInsertionOf, IsItemSpot, IsKeyvalSpot, IsSpotOf, IsPutIn, new_line_at, spot_place}
 use Rattle.keep_edit.specs.declared.insert.Insertion.{Insertion}
 use Rattle.keep_edit.specs.declared.insert.Spot.{Spot}
 use Rattle.keep_edit.specs.declared.insert.Spot.TheVariants as spot
@@ -206,9 +210,58 @@ module _ (d : ProfiledText) (syntax : Syntax) (index_of : Telling) (path : List 
   pub section_there : (header : ℕ) → i.spot ≡ spot.NewSection header → IsSectionReady path v s i.from header
   section_there header e = let (none, here) = keyval_only (spot.NewSection header) e (λ n h. absurd h) in section_ready d path v s read allowed none i.from header here
 
-  -- a place where nothing goes, by what comes
-  pub line_put : (from at : ℕ) (p : changed.Place) (old new : List ℕ) → IsPutAt path v s from at p → p ≡ put_in at p.new → new ≡ old ++ p.new → IsPutIn path v s d.text at old new
-  line_put from at p old new h e k = put_line from at p p.new old new h e k
+  within_text : (from at : ℕ) (p : changed.Place) → IsPutAt path v s from at p → at ≤ length d.text
+  within_text from at p h = omega (arith, h.within, ap (λ (t : List ℕ). length t) read.reads.spelled)
 
-  pub place_within : (from at : ℕ) (p : changed.Place) → IsPutAt path v s from at p → at ≤ length d.text
-  place_within from at p h = omega (arith, h.within, ap (λ (t : List ℕ). length t) read.reads.spelled)
+  -- ---- behind a body
+
+  body_at : (header : Option ℕ) (at : ℕ) → i.spot ≡ spot.BehindBody header → at ≡ body_end_of s header → IsPutAt path v s i.from at (new_line_at s at (keys_in (drop i.from path)) v)
+  body_at header at e is = subst (λ (n : ℕ). IsPutAt path v s i.from n (new_line_at s n (keys_in (drop i.from path)) v)) (sym is) (body_there header e).put
+
+  pub body_within : (header : Option ℕ) (at : ℕ) → i.spot ≡ spot.BehindBody header → at ≡ body_end_of s header → at ≤ length d.text
+  body_within header at e is = within_text i.from at (new_line_at s at (keys_in (drop i.from path)) v) (body_at header at e is)
+
+  pub body_put : (header : Option ℕ) (at : ℕ) (old new : List ℕ) → i.spot ≡ spot.BehindBody header → at ≡ body_end_of s header → new ≡ old ++ (new_line_at s at (keys_in (drop i.from path)) v).new → IsPutIn path v s d.text at old new
+  body_put header at old new e is k = put_line i.from at (new_line_at s at (keys_in (drop i.from path)) v) (new_line_at s at (keys_in (drop i.from path)) v).new old new (body_at header at e is) refl k
+
+  -- ---- behind a keyval
+
+  line_at_end : (w at : ℕ) → i.spot ≡ spot.BehindLine w → keyval_end_of s w ≡ Some at → IsPutAt path v s i.from at (new_line_at s at (keys_in (drop i.from path)) v)
+  line_at_end w at e is =
+      let l : IsLineReady path v s i.from w = line_there w e in
+      let same : Some l.at ≡ Some at = sym l.ends ∙ is in
+      subst (λ (n : ℕ). IsPutAt path v s i.from n (new_line_at s n (keys_in (drop i.from path)) v)) (let k : l.at ≡ at = cc in k) l.put
+
+  pub line_within : (w at : ℕ) → i.spot ≡ spot.BehindLine w → keyval_end_of s w ≡ Some at → at ≤ length d.text
+  line_within w at e is = within_text i.from at (new_line_at s at (keys_in (drop i.from path)) v) (line_at_end w at e is)
+
+  pub line_put : (w at : ℕ) (old new : List ℕ) → i.spot ≡ spot.BehindLine w → keyval_end_of s w ≡ Some at → new ≡ old ++ (new_line_at s at (keys_in (drop i.from path)) v).new → IsPutIn path v s d.text at old new
+  line_put w at old new e is k = put_line i.from at (new_line_at s at (keys_in (drop i.from path)) v) (new_line_at s at (keys_in (drop i.from path)) v).new old new (line_at_end w at e is) refl k
+
+  -- ---- in a new section
+
+  section_at_end : (header at : ℕ) → i.spot ≡ spot.NewSection header → at ≡ body_end_of s (Some header) → IsPutAt path v s i.from at (new_section_at s at (keys_in (take i.from path)) (keys_in (drop i.from path)) v)
+  section_at_end header at e is =
+      subst (λ (n : ℕ). IsPutAt path v s i.from n (new_section_at s n (keys_in (take i.from path)) (keys_in (drop i.from path)) v)) (sym is) (section_there header e).put
+
+  pub section_within : (header at : ℕ) → i.spot ≡ spot.NewSection header → at ≡ body_end_of s (Some header) → at ≤ length d.text
+  section_within header at e is = within_text i.from at (new_section_at s at (keys_in (take i.from path)) (keys_in (drop i.from path)) v) (section_at_end header at e is)
+
+  pub section_put : (header at : ℕ) (old new : List ℕ) → i.spot ≡ spot.NewSection header → at ≡ body_end_of s (Some header)
+      → new ≡ old ++ (new_section_at s at (keys_in (take i.from path)) (keys_in (drop i.from path)) v).new → IsPutIn path v s d.text at old new
+  section_put header at old new e is k =
+      put_line i.from at (new_section_at s at (keys_in (take i.from path)) (keys_in (drop i.from path)) v) (new_section_at s at (keys_in (take i.from path)) (keys_in (drop i.from path)) v).new old new (section_at_end header at e is) refl k
+
+  pub section_header : (header : ℕ) → i.spot ≡ spot.NewSection header → Some header ≡ Some header → (h : ℕ) → Some header ≡ Some h → h < length (syntax_of.statements s)
+  section_header header e k h same = subst (λ (n : ℕ). n < length (syntax_of.statements s)) (let t : header ≡ h = cc in t) (section_there header e).within
+
+  -- ---- the edit
+
+  -- where it is done
+  pub inserted_at : (at : ℕ) (old new : List ℕ) → old ≡ [] → IsPutIn path v s d.text at old new → IsDoneAt s (insert path v) d new (Ok (syntax_of.span at at))
+  inserted_at at old new none (fresh, is, placed, span) =
+      let same : fresh ≡ new = sym (is ∙ ap (λ (t : List ℕ). t ++ fresh) none) in
+      (allowed, placed ∙ ap (put_in at) same, span)
+
+  pub full_there : EditMade s (insert path v) d (Err fault.Memory)
+  full_there = subst (λ (r : Option EditFault). IsDone (IsMade s (insert path v) d) r (Err fault.Memory)) (sym allowed) refl

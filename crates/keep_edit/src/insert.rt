@@ -1,5 +1,5 @@
 //! Inserting values.
-ghost use Rattle.std.specs.Prelude.{◌≡◌, ◌++◌, ◌∷◌, [], ◌<◌, List, Some, Ok, IfOk, OnErr, length, drop, string_bytes};
+ghost use Rattle.std.specs.Prelude.{◌≡◌, suc, ◌++◌, ◌∷◌, [], ◌<◌, List, Some, Ok, IfOk, OnErr, length, drop, string_bytes};
 ghost use Rattle.std.specs.List.{list_any};
 ghost use Rattle.keep_token.specs.declared.leaf.Profile.TheVariants.{Wide};
 ghost use Rattle.keep_syntax.specs.Contract.{values_of};
@@ -98,8 +98,11 @@ impl Document {
     {
         let alloc = *self.text.allocator();
         let old = self.text.as_str();
+        let given = value.as_str();
         let insertion = self.insertion(path, value)?;
-        let mut new = String::new(alloc);
+        let Ok(mut new) = String::with_capacity(alloc, given.len()) else {
+            return Err(EditFault::Memory);
+        };
         let Ok(at) = self.push_insertion(&mut new, path, insertion, value) else {
             return Err(EditFault::Memory);
         };
@@ -114,7 +117,7 @@ impl Document {
         insertion: Insertion,
         value: &ValueText,
     ) -> Result<usize, AllocError>
-        requires insertion { (s : tree.Document) × IsTextOfTree self.now s × ((v : tree.Value) × IsTextOfValue value.now v × IsInsertionOf self.now.profile path.now v s (Ok insertion)) }
+        requires aimed { (s : tree.Document) × IsTextOfTree self.now s × ((v : tree.Value) × IsTextOfValue value.now v × IsInsertionOf self.now.profile path.now v s (Ok insertion)) }
         requires utf8 { AreUtf8 path.now }
         ensures { (s : tree.Document) → IsTextOfTree self.now s → (v : tree.Value) → IsTextOfValue value.now v → IsInsertionOf self.now.profile path.now v s (Ok insertion)
             → IfOk result (λ at. IsPutIn path.now v s self.now.text at (string_bytes out.old) (string_bytes out.new)) }
@@ -133,7 +136,7 @@ impl Document {
             }
             Spot::InEmpty(brackets) => {
                 push_keyed(*self.text.allocator(), out, path, from, value)?;
-                Ok(self.syntax.value(brackets).span.start + 1)
+                Ok(behind_bracket(self.text.as_str(), self.syntax.value(brackets).span.start))
             }
             Spot::BehindBody(header) => {
                 let at = self.body_end(header);
@@ -270,6 +273,14 @@ impl Document {
             Place::Tables => Err(EditFault::NotTable),
         }
     }
+}
+
+/// The byte offset behind a bracket of the text.
+fn behind_bracket(text: &str, at: usize) -> usize
+    requires { at < length text.now }
+    ensures { result ≡ suc at }
+{
+    at + 1
 }
 
 /// Where a keyval goes in braces: behind the last that is there.
