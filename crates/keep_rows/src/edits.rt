@@ -32,6 +32,7 @@ fn edit(alloc: Global, document: &mut Document, row: &Row, word: usize) -> Answe
     let text = row.text(word.saturating_add(1));
     match row.question() {
         "set" => set_to(alloc, document, &path, text),
+        "insert" => insert(alloc, document, &path, text),
         "rename" => rename(alloc, document, &path, text),
         "remove" => remove(alloc, document, &path),
         _ => unknown(alloc),
@@ -51,6 +52,17 @@ pub fn set(alloc: Global, document: &mut Document, path: &Path, value: &ValueTex
     let told = told_by(alloc, document.text_with(path, value))?;
     let before = facts(alloc, document)?;
     let done = document.set(path, value);
+    outcome(alloc, document, &told, &before, done)
+}
+
+fn insert(alloc: Global, document: &mut Document, path: &Path, text: &str) -> Answer {
+    let value = match ValueText::read(alloc, text) {
+        Ok(value) => value,
+        Err(fault) => return format!(in alloc; "{fault}\n"),
+    };
+    let told = told_by(alloc, document.text_inserted(path, &value))?;
+    let before = facts(alloc, document)?;
+    let done = document.insert(path, &value);
     outcome(alloc, document, &told, &before, done)
 }
 
