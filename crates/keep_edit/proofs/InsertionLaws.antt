@@ -30,9 +30,9 @@ use Rattle.keep_edit.proofs.AimLaws.{far_item, without_last-is}
 
 item_refusal : (profile : Profile) (path : List Part) (v : Value) (s : Document) (n : ℕ) → item_number path (said_in s) ≡ Some n
     → refusal profile limit s (insert path v) ≡ first_that_holds (
-      (nat_lt (item_count (without_last path) (said_in s)) n, fault.NotFound)
-      ∷ (is_too_deep limit path v (said_in s), fault.TooDeep)
-      ∷ (is_foreign profile v, fault.Profile) ∷ [])
+    (nat_lt (item_count (without_last path) (said_in s)) n, fault.NotFound)
+    ∷ (is_too_deep limit path v (said_in s), fault.TooDeep)
+    ∷ (is_foreign profile v, fault.Profile) ∷ [])
 item_refusal profile path v s n at = rw (at, refusal_by) refl
 
 abbrev SpotBy : List Part → Document → Insertion → Option ℕ → Type 0
@@ -49,7 +49,7 @@ module _ (path : List Part) (s : Document) (n : ℕ) (at : item_number path (sai
   pub item_aimed : (spot : Spot) (from : ℕ) → from ≡ length path → IsItemAimed path n s (Ok spot) → IsAimed path s (Ok (record { spot = spot; from = from }))
   item_aimed spot from e (few, there) = (
     λ profile v. (item_refusal profile path v s n at
-    ∙ ap (λ (b : Bool). first_that_holds ((b, fault.NotFound) ∷ (is_too_deep limit path v (said_in s), fault.TooDeep) ∷ (is_foreign profile v, fault.Profile) ∷ [])) (le-ltb (item_count (without_last path) (said_in s)) n few)),
+        ∙ ap (λ (b : Bool). first_that_holds ((b, fault.NotFound) ∷ (is_too_deep limit path v (said_in s), fault.TooDeep) ∷ (is_foreign profile v, fault.Profile) ∷ [])) (le-ltb (item_count (without_last path) (said_in s)) n few)),
     item_spot_of path s n (record { spot = spot; from = from }) at e there,
   )
 

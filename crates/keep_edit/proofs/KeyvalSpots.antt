@@ -226,7 +226,7 @@ module _ (d : ProfiledText) (path : List Part) (s : Document) (h : Holder) (read
     within = omega (arith, held.way.based, length-take-le h.len path held.way.within);
     base = ap (λ (q : List Part). is_dotted_origin (origin_of q s)) (taken h.base held.way.based) ∙ held.way.base;
     dots = λ n low high. (let near : n ≤ h.len = omega (arith, high, length-take-le h.len path held.way.within) in
-    ap (λ (q : List Part). is_dotted_origin (origin_of q s)) (taken n near) ∙ held.way.dots n low near);
+        ap (λ (q : List Part). is_dotted_origin (origin_of q s)) (taken n near) ∙ held.way.dots n low near);
   }
 
   value_origin : (o : Place) → true ≡ is_value_origin o → (b : ℕ) × (o ≡ origin.Value b)
@@ -249,9 +249,12 @@ module _ (d : ProfiledText) (path : List Part) (s : Document) (h : Holder) (read
 
   pub line_dotted : (v : ℕ) → info.place ≡ origin.Dotted v → h.braced ≡ false → IsKeyvalAimed (holder path ms) s h.base (Ok (spot.BehindLine v))
   line_dotted v e not_braced =
-      aimed (spot.BehindLine v) (table_of (ap is_table_origin e)) (place_is ∙ e, base_is,
-      ap (λ (q : List Part). value_number_of q s) (taken h.base held.way.based)
-      ∙ no_value (value_number_of (take h.base path) s) _ _ _ _ _ (sym not_braced ∙ held.way.braced))
+      aimed (spot.BehindLine v) (table_of (ap is_table_origin e)) (
+        place_is ∙ e,
+        base_is,
+        ap (λ (q : List Part). value_number_of q s) (taken h.base held.way.based)
+            ∙ no_value (value_number_of (take h.base path) s) _ _ _ _ _ (sym not_braced ∙ held.way.braced),
+      )
 
   -- ---- values, and arrays of tables
 

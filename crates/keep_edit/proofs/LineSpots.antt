@@ -1,13 +1,14 @@
--- Where lines are put in, the place is that of the spot, and it lies between characters.
-use Rattle.std.proofs.Common.{◌≡◌, ◌⊎◌, ℕ, ◌<◌, ◌≤◌, Bool, true, false, List, [], ◌∷◌, length, take, drop, slice_get, refl, sym, ap, subst, ◌∙◌, arith, Option, Some, None, inl, inr}
+-- Where lines are put in, the place of `insert` is that of the spot, and it lies between characters. What the code requires of the
+-- spot holds: its header is one of the statements, its keyval's line has an end, and the steps that are written are keys.
+--
+-- Theorems: `body_ready`, `line_ready`, `section_ready`.
+use Rattle.std.proofs.Common.{◌≡◌, ℕ, ◌<◌, ◌≤◌, true, false, List, ◌∷◌, length, take, drop, slice_get, refl, sym, ap, subst, ◌∙◌, arith, Option, Some, None, inl, inr}
 use Rattle.std.specs.Prelude.{IsCharBoundary}
 use Rattle.std.specs.List.{list_any}
 use Rattle.std.specs.Option.{option_map, option_and_then}
 use Rattle.keep_syntax.specs.declared.info.Owner.{Owner}
 use Rattle.keep_syntax.specs.declared.info.Owner.TheVariants as owner
-use Rattle.keep_syntax.specs.declared.info.Span.{Span}
 use Rattle.keep_syntax.specs.declared.info.Statement.{Statement}
-use Rattle.keep_syntax.specs.declared.info.ValueInfo.{ValueInfo}
 use Rattle.keep_syntax.specs.Tree.{Value, Document, text}
 use Rattle.keep_syntax.specs.Numbered as syntax
 use Rattle.keep_path.specs.Path.{Part}
@@ -18,13 +19,10 @@ use Rattle.keep_law.specs.Changed as changed
 use Rattle.keep_law.specs.Edits.{insert, place}
 use Rattle.keep_law.specs.Look.{holder, is_index, item_number, keys_in}
 use Rattle.keep_law.specs.Refusals.{refusal}
-use Rattle.keep_law.proofs.Shared.{Rules, rules_of_document, IsLowPlace, IsBaseAt, IsDottedPlaced, IsThroughHeader, element_placed, header_placed, headed_within, holder_front, plain_rest, root_placed, through_header, through_placed, dotted_placed}
+use Rattle.keep_law.proofs.Shared.{rules_of_document, IsLowPlace, IsBaseAt, IsDottedPlaced, IsThroughHeader, element_placed, header_placed, headed_within, holder_front, plain_rest, root_placed, through_header, through_placed, dotted_placed}
 use Rattle.keep_edit.specs.Reading.{limit, ProfiledText, IsTextOfTree}
-use Rattle.keep_edit.specs.Answers.{IsSpanOf}
-use Rattle.keep_edit.specs.Inserting.{IsBase, IsKeyvalSpot, IsSpotOf, is_dotted_origin, lines_start, line_end_of, new_line_at, origin_of}
+use Rattle.keep_edit.specs.Inserting.{IsBase, IsKeyvalSpot, is_dotted_origin, line_end_of, new_line_at, origin_of}
 use Rattle.keep_edit.specs.PutLines.{body_end_of, keyval_end_of, new_section_at}
-use Rattle.keep_edit.specs.declared.insert.Insertion.{Insertion}
-use Rattle.keep_edit.specs.declared.insert.Spot.{Spot}
 use Rattle.keep_edit.specs.declared.insert.Spot.TheVariants.{BehindBody, BehindLine, NewSection}
 use Rattle.keep_edit.proofs.RemoveCut.{low_boundary}
 

@@ -1,5 +1,9 @@
--- How lines are written: where the first begins, whether one lacks its newline, and what stands around a keyval.
-use Rattle.std.proofs.Common.{◌≡◌, ℕ, zero, suc, ◌-◌, ◌<◌, ◌≤◌, ◌==◌, Bool, true, false, cond, not, ◌&&◌, List, [], ◌∷◌, ◌++◌, length, take, drop, slice_get, slice_index_or, refl, sym, ap, subst, ◌∙◌, append_assoc, arith, Option, Some, None}
+-- How lines are written: where the first begins, whether one lacks its newline, where a body or a line ends, and what stands around
+-- a keyval. The lemmas follow the functions of `src/insert/lines.rt`.
+--
+-- A text begins with a byte order mark exactly if the tree has one, since else its first byte is ASCII. What is pushed piece by
+-- piece is one text with the brackets moved (`line_pushed`, `section_pushed`).
+use Rattle.std.proofs.Common.{◌≡◌, ℕ, zero, suc, ◌-◌, ◌<◌, ◌≤◌, ◌==◌, Bool, true, false, cond, not, ◌&&◌, List, [], ◌∷◌, ◌++◌, length, take, drop, slice_get, slice_index_or, refl, sym, ap, ◌∙◌, append_assoc, arith, Option, Some, None}
 use Rattle.std.specs.Prelude.{codes, nat_lt}
 use Rattle.std.specs.List.{flat_map, starts_with}
 use Rattle.std.specs.Cmp.Lexicographic.{pointwise}

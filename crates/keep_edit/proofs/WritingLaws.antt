@@ -1,12 +1,12 @@
 -- How the keys of a path are written, step by step, and that this is how an edit writes them.
-use Rattle.std.proofs.Common.{◌≡◌, ℕ, zero, suc, ◌<◌, ◌≤◌, Bool, true, false, cond, List, [], ◌∷◌, ◌++◌, length, take, drop, slice_get, map, refl, sym, ap, ◌∙◌, append_assoc, arith, Option, Some, None}
+use Rattle.std.proofs.Common.{◌≡◌, ℕ, zero, suc, ◌<◌, ◌≤◌, Bool, true, false, List, [], ◌∷◌, ◌++◌, length, take, drop, slice_get, map, refl, sym, ap, ◌∙◌, append_assoc, arith, Some, None}
 use Rattle.std.specs.Prelude.{codes}
 use Rattle.std.specs.List.{flat_map, list_any}
 use Rattle.std.proofs.lemmas.List.{append-nil}
 use Rattle.keep_token.specs.Encoded.{encoded_key}
-use Rattle.keep_syntax.specs.Tree.{Written, Further, Value, key_leaves, further_leaves, name_leaves, named_leaves, text_of}
+use Rattle.keep_syntax.specs.Tree.{Value, key_leaves, further_leaves, named_leaves, text_of}
 use Rattle.keep_path.specs.Path.{Part, key, index}
-use Rattle.keep_law.specs.Edits.{key_part, further_part, key_with, name_with}
+use Rattle.keep_law.specs.Edits.{further_part, key_with}
 use Rattle.keep_law.specs.Insertion.{keyed_text, name_of}
 use Rattle.keep_law.specs.Look.{is_index, keys_in}
 use Rattle.keep_law.specs.Values.{text_of_value}

@@ -1,5 +1,5 @@
 -- Where `insert` writes lines: behind which line, and what.
-use Rattle.std.specs.Prelude.{ℕ, List, Option, Some, None, drop, take, slice_get}
+use Rattle.std.specs.Prelude.{ℕ, List, Option, Some, None, drop, slice_get}
 use Rattle.std.specs.Option.{option_and_then}
 use Rattle.keep_syntax.specs.Tree.{Value, Document, text}
 use Rattle.keep_syntax.specs.Numbered as syntax

@@ -142,10 +142,12 @@ pub entries_deep : (p : Start) (es : Entries) → AllOf (λ (i : ValueInfo). p.d
 entries_deep p none = tt
 entries_deep p (entry name body inside after comma rest) =
     let i : Start = inside_of p (value_start p.at name) (name_count name) body in
-    let r : Start = rest_of p name body inside after comma in
-    (omega arith, all_join (λ (x : ValueInfo). p.depth ≤ x.depth) (entries_values i inside) (entries_values r rest)
-    (all_map (λ (x : ValueInfo). i.depth ≤ x.depth) (λ (x : ValueInfo). p.depth ≤ x.depth) (λ x h. omega (arith, h)) (entries_values i inside) (entries_deep i inside))
-    (entries_deep r rest))
+    let r : Start = rest_of p name body inside after comma in (
+      omega arith,
+      all_join (λ (x : ValueInfo). p.depth ≤ x.depth) (entries_values i inside) (entries_values r rest)
+          (all_map (λ (x : ValueInfo). i.depth ≤ x.depth) (λ (x : ValueInfo). p.depth ≤ x.depth) (λ x h. omega (arith, h)) (entries_values i inside) (entries_deep i inside))
+          (entries_deep r rest),
+    )
 
 entries_begin_deep : (p : Start) (es : Entries) → BeginNoDeeper p.depth (entries_values p es)
 entries_begin_deep p none = tt

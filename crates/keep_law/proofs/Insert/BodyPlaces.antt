@@ -1,5 +1,8 @@
 -- Where a body ends, by the list of all statements: behind the line before which new lines are put.
 --
+-- `body_ends` and `tail_ends` say that going over the statements of a body gives the end of its last keyval's line. Here this is
+-- said of the header that is the last to name the path, or to go through it, whose number among the statements is that of the node.
+--
 -- Theorems: `root_end`, `headed_at`, `through_at`.
 use Rattle.std.proofs.Common.{◌≡◌, ℕ, zero, suc, ◌+◌, ◌<◌, true, false, List, [], ◌∷◌, ◌++◌, length, map, drop, refl, sym, ap, subst, ◌∙◌, length-append, arith, Option, Some, None, inl, inr, drop_at}
 use Rattle.std.proofs.lemmas.Bool.{and_parts}

@@ -1,5 +1,5 @@
 -- Where a keyval is put into braces that hold a dotted table: behind the keyval that goes on from it last, which is its number.
-use Rattle.std.proofs.Common.{◌≡◌, ℕ, suc, ◌+◌, Bool, true, false, List, [], ◌∷◌, ◌++◌, length, map, slice_get, refl, sym, ap, subst, ◌∙◌, append_assoc, length-append, arith, Option, Some, None, ◌⊎◌, inl, inr}
+use Rattle.std.proofs.Common.{◌≡◌, ℕ, ◌+◌, Bool, true, false, List, [], ◌∷◌, ◌++◌, length, map, slice_get, refl, sym, ap, subst, ◌∙◌, append_assoc, arith, Option, Some, None, inl, inr}
 use Rattle.std.proofs.lemmas.List.{map-append}
 use Rattle.keep_token.specs.declared.leaf.Profile.{Profile}
 use Rattle.keep_syntax.specs.declared.info.ValueInfo.{ValueInfo}
@@ -8,15 +8,13 @@ use Rattle.keep_syntax.specs.Numbered as syntax
 use Rattle.keep_path.specs.Path.{Part, key, index}
 use Rattle.keep_meaning.specs.Fact.{Fact, is_value_fact}
 use Rattle.keep_meaning.specs.Marks.{Saying, Mention, value, dotted, below}
-use Rattle.keep_meaning.specs.Meaning.{keys_of, body_fact, valued_mentions, keyed_mentions, entry_mentions, entries_said, step, said_in, value_said}
-use Rattle.keep_meaning.specs.Counts.{is_value, numbered_in}
-use Rattle.keep_meaning.specs.Nodes.{is_at, is_dotted, fact_at, numbered_at, last_number, value_number}
+use Rattle.keep_meaning.specs.Meaning.{keys_of, body_fact, valued_mentions, keyed_mentions, entry_mentions, entries_said, step, said_in}
+use Rattle.keep_meaning.specs.Counts.{numbered_in}
+use Rattle.keep_meaning.specs.Nodes.{is_dotted, numbered_at, last_number, value_number}
 use Rattle.keep_meaning.proofs.Shared.{valued, valued-append, valued-below}
 use Rattle.keep_law.specs.Look.{keys_in}
-use Rattle.keep_law.specs.Changed.{Changed}
-use Rattle.keep_law.specs.Values.{put_behind, put_named, goes_past}
-use Rattle.keep_law.specs.Edits.{insert, place, name_with}
-use Rattle.keep_law.specs.Insertion.{behind_entry}
+use Rattle.keep_law.specs.Values.{put_behind, put_named}
+use Rattle.keep_law.specs.Edits.{name_with}
 use Rattle.keep_law.specs.Refusals.{has_value}
 use Rattle.keep_law.proofs.Common.Runs.{AllOf, SomeOf, same_path-sound}
 use Rattle.keep_law.proofs.Common.ValueThere.{IsSome, some_cases}
@@ -30,7 +28,7 @@ use Rattle.keep_law.proofs.Insert.BracesStops.{IsKeySplit, key_split, past_sound
 use Rattle.keep_law.proofs.Insert.NamedEntries.{SomeEntry, EachEntry, some_both, IsNear, at_or_under, further, entries_near, IsTold, entries_told, IsLonger, never_index, past_entry}
 use Rattle.keep_law.proofs.Insert.ItemCount.{Longer, longer_keyed}
 use Rattle.keep_law.proofs.Insert.ItemPlaces.{one_of_two}
-use Rattle.keep_law.proofs.Insert.EntryPlaces.{IsEntryAt, own_of}
+use Rattle.keep_law.proofs.Insert.EntryPlaces.{own_of}
 use Rattle.keep_law.proofs.Insert.EntryThere.{infos_before, said_before, here_there, said_there, count_there}
 use Rattle.keep_law.proofs.Insert.BracePlaces.{IsPutBehind, IsKeyvalFound, rest, begin, Told, IsBehindKeyval, Placed, keyval_placed}
 

@@ -1,50 +1,27 @@
 -- Where a keyval is put into braces, by the numbers of values.
-use Rattle.std.proofs.Common.{◌≡◌, ℕ, suc, ◌+◌, Bool, true, false, List, [], ◌∷◌, ◌++◌, length, map, drop, slice_get, refl, sym, ap, subst, ◌∙◌, append_assoc, length-append, arith, Option, Some, None, ◌⊎◌, inl, inr, drop_at}
-use Rattle.std.specs.Prelude.{IsUtf8}
-use Rattle.std.specs.List.{AllByRecursion}
-use Rattle.std.proofs.lemmas.List.{map-append, append-nil}
+use Rattle.std.proofs.Common.{◌≡◌, ℕ, suc, ◌+◌, List, [], ◌∷◌, ◌++◌, length, map, drop, slice_get, refl, sym, ap, subst, ◌∙◌, append_assoc, length-append, arith, Option, Some, None, inl, inr, drop_at}
 use Rattle.keep_token.specs.declared.leaf.Profile.{Profile}
-use Rattle.keep_token.specs.declared.leaf.Profile.TheVariants.{Wide}
 use Rattle.keep_syntax.specs.declared.info.ValueInfo.{ValueInfo}
 use Rattle.keep_syntax.specs.Tree.{Name, Entries, none, entry, Value, Document, comma_leaves, text_of}
 use Rattle.keep_syntax.specs.Numbered as syntax
 use Rattle.keep_syntax.specs.Numbered.{entries_values}
-use Rattle.keep_path.specs.Path.{Part, key, index}
-use Rattle.keep_meaning.specs.Fact.{is_value_fact}
-use Rattle.keep_meaning.specs.Marks.{Mention, value, dotted, below}
-use Rattle.keep_meaning.specs.Meaning.{keys_of, body_fact, valued_mentions, keyed_mentions, entry_mentions, entries_said, step, said_in}
+use Rattle.keep_path.specs.Path.{Part, key}
 use Rattle.keep_meaning.specs.Counts.{is_value, numbered_in}
-use Rattle.keep_meaning.specs.Nodes.{is_at, is_dotted, fact_at, numbered_at, last_number, value_number}
-use Rattle.keep_meaning.proofs.Shared.{valued, valued-append, valued-below}
-use Rattle.keep_law.specs.Look.{holder, item_number, keys_in}
-use Rattle.keep_law.specs.Changed.{Changed, within, or_else}
-use Rattle.keep_law.specs.Values.{put_behind, put_named, entry_front, goes_past}
-use Rattle.keep_law.specs.Edits.{insert, place, name_with}
-use Rattle.keep_law.specs.Insertion.{behind_entry, in_empty, last_keyval}
-use Rattle.keep_law.specs.Laws.{IsStanding, IsGivenValue}
-use Rattle.keep_law.specs.Refusals.{refusal, has_value}
-use Rattle.keep_law.proofs.Common.Runs.{AllOf, SomeOf, all_join, same_path-sound}
-use Rattle.keep_law.proofs.Common.ValueThere.{IsSome, some_cases}
-use Rattle.keep_law.proofs.Common.ValueNumber.{NoneAt, number_of_last}
-use Rattle.keep_law.proofs.Common.SetDocument.{cancel}
-use Rattle.keep_law.proofs.Common.Stops.{stops, keyed_stops}
+use Rattle.keep_meaning.specs.Nodes.{numbered_at, last_number, value_number}
+use Rattle.keep_law.specs.Look.{keys_in}
+use Rattle.keep_law.specs.Changed.{within, or_else}
+use Rattle.keep_law.specs.Values.{put_behind, put_named, entry_front}
+use Rattle.keep_law.specs.Edits.{insert, name_with}
+use Rattle.keep_law.specs.Insertion.{in_empty, last_keyval}
 use Rattle.keep_law.proofs.Common.FoundValue.{BeginNoDeeper}
-use Rattle.keep_law.proofs.Values.ValuePlace.{get_here, has_of_number, none_of_number}
-use Rattle.keep_law.proofs.Insert.Gives.{IsNamedAt, never_named, named_beyond}
-use Rattle.keep_law.proofs.Insert.NewPath.{IsNewPath, drop_front_parts}
-use Rattle.keep_law.proofs.Insert.PutValue.{GoesPast, some_behind}
+use Rattle.keep_law.proofs.Values.ValuePlace.{get_here}
 use Rattle.keep_law.proofs.Insert.BracesPlace.{is_inline}
-use Rattle.keep_law.proofs.Insert.BracesStops.{IsKeySplit, key_split, past_sound}
-use Rattle.keep_law.proofs.Insert.NamedEntries.{SomeEntry, EachEntry, some_both, IsNear, at_or_under, further, entries_near, IsTold, entries_told, IsLonger, never_index, past_entry}
-use Rattle.keep_law.proofs.Insert.LinesNamed.{named_unbelow}
-use Rattle.keep_law.proofs.Insert.ItemCount.{Longer, longer_keyed}
 use Rattle.keep_law.proofs.Insert.ItemPlaces.{one_of_two}
-use Rattle.keep_law.proofs.Insert.FoundThere.{IsFoundThere}
-use Rattle.keep_law.proofs.Insert.EntryPlaces.{IsEntryAt, own_of}
-use Rattle.keep_law.proofs.Insert.EntryThere.{infos_before, said_before, here_there, said_there, count_there}
+use Rattle.keep_law.proofs.Insert.EntryPlaces.{own_of}
+use Rattle.keep_law.proofs.Insert.EntryThere.{infos_before, here_there}
 use Rattle.keep_law.proofs.Insert.LineBefore.{IsLowPlace}
 use Rattle.keep_law.proofs.Insert.LastKeyval.{last_none, entry_last}
-use Rattle.keep_law.proofs.Insert.BracePlaces.{IsPutBehind, IsKeyvalFound, fresh_path, keyval_found, rest, begin, Told, IsBehindKeyval, Placed, keyval_placed}
+use Rattle.keep_law.proofs.Insert.BracePlaces.{IsPutBehind, IsKeyvalFound, begin, Told, Placed, keyval_placed}
 
 abbrev told_number : List Part → Document → Option ℕ
 told_number path s = last_number is_value value_number (numbered_at path (numbered_in s))
@@ -96,7 +73,7 @@ module _ (profile : Profile) (s : Document) (path at : List Part) (new : Value) 
       by (inl (empty, is)) = subst (λ (i : ValueInfo). IsLowPlace s (insert path new) (in_empty i (keys_in (map key (k ∷ ks))) new)) (sym is_own) is
       by (inr b) =
           let found = entry_last (Told profile s path at [] new k ks h) 0 (begin profile s path at [] new k ks h) h.there.found.value.inside b.entry h.there.found.others (suc v) own.depth
-              (rest_none _ new b.entry.rest b.last) (ap suc (sym depth_is)) ends in
+          (rest_none _ new b.entry.rest b.last) (ap suc (sym depth_is)) ends in
           let no : None ≡ Some _ = sym e ∙ ap (last_keyval (suc v) own.depth) behind_is ∙ found in
           absurd cc
 
@@ -112,7 +89,7 @@ module _ (profile : Profile) (s : Document) (path at : List Part) (new : Value) 
       by (inr b) =
           let z = b.entry in
           let found = entry_last (Told profile s path at [] new k ks h) 0 (begin profile s path at [] new k ks h) h.there.found.value.inside z h.there.found.others (suc v) own.depth
-              (rest_none _ new z.rest b.last) (ap suc (sym depth_is)) ends in
+          (rest_none _ new z.rest b.last) (ap suc (sym depth_is)) ends in
           let infos : List ValueInfo = infos_before profile is_inline (put_named name_with (length (map key (k ∷ ks))) new) (map key (k ∷ ks)) at s h.changed h.there (Told profile s path at [] new k ks h) z in
           let w_is : suc v + length z.front ≡ w = one_of_two last _ w (ap (last_keyval (suc v) own.depth) behind_is ∙ found) e in
           let same : w ≡ length infos = omega (arith, w_is, is_number, length-append h.there.found.front (h.there.found.own ∷ z.front)) in

@@ -1,6 +1,6 @@
 -- Where a keyval is put into braces: behind the last keyval that goes past the dots, or into empty braces.
-use Rattle.std.proofs.Common.{◌≡◌, ℕ, suc, ◌+◌, ◌-◌, Bool, true, false, List, [], ◌∷◌, ◌++◌, length, map, take, drop, slice_get, refl, sym, ap, subst, ◌∙◌, append_assoc, length-append, arith, Option, Some, None, ◌⊎◌, inl, inr}
-use Rattle.std.specs.Prelude.{codes, IsUtf8, ◌||◌}
+use Rattle.std.proofs.Common.{◌≡◌, ℕ, suc, ◌+◌, ◌-◌, true, false, List, [], ◌∷◌, ◌++◌, length, map, take, slice_get, refl, sym, ap, subst, ◌∙◌, append_assoc, length-append, arith, Option, Some, None, ◌⊎◌, inl, inr}
+use Rattle.std.specs.Prelude.{codes, IsUtf8}
 use Rattle.std.specs.List.{AllByRecursion, list_any}
 use Rattle.std.proofs.lemmas.List.Elements.{filter_map-append}
 use Rattle.keep_token.specs.declared.leaf.Profile.{Profile}
@@ -15,15 +15,14 @@ use Rattle.keep_token.specs.Pieces.{first}
 use Rattle.keep_syntax.specs.Numbered as syntax
 use Rattle.keep_syntax.specs.Numbered.{inside_of}
 use Rattle.keep_syntax.proofs.ProfileTest.{allowed_value}
-use Rattle.keep_meaning.specs.Fact.{Fact, is_value_fact}
 use Rattle.keep_path.specs.Path.{Part, key}
 use Rattle.keep_meaning.specs.Marks.{Mention}
 use Rattle.keep_meaning.specs.Meaning.{entries_said, step, lines, said_in}
-use Rattle.keep_meaning.specs.Nodes.{is_at, is_root, is_node}
+use Rattle.keep_meaning.specs.Nodes.{is_at, is_node}
 use Rattle.keep_law.specs.Look.{holder, item_number, is_table, keys_in, key_text}
-use Rattle.keep_law.specs.Changed.{Changed, place_of, within}
+use Rattle.keep_law.specs.Changed.{Changed}
 use Rattle.keep_law.specs.Values.{put_behind, put_named, bracketed_change, text_of_value, goes_past}
-use Rattle.keep_law.specs.Edits.{insert, change, inside, changed_or_same, place, name_with}
+use Rattle.keep_law.specs.Edits.{insert, change, inside, name_with}
 use Rattle.keep_law.specs.Insertion.{put_in, name_of, behind_entry, in_empty, keyed_text}
 use Rattle.keep_law.specs.Laws.{IsStanding, IsGivenValue}
 use Rattle.keep_law.specs.Refusals.{refusal, has_value}
@@ -36,9 +35,8 @@ use Rattle.keep_law.proofs.Common.ValueThere.{alone_of_has, fact_of_has}
 use Rattle.keep_law.proofs.Rename.KeyTexts.{key_texts}
 use Rattle.keep_law.proofs.Remove.RemovePlace.{some_is}
 use Rattle.keep_law.proofs.Insert.DoneThere.{IsDoneThere}
-use Rattle.keep_law.proofs.Insert.Gives.{IsNamedAt}
 use Rattle.keep_law.proofs.Insert.LinesNamed.{named_of}
-use Rattle.keep_law.proofs.Insert.NewPath.{IsNewPath, new_path, drop_front_parts, keys_of_map}
+use Rattle.keep_law.proofs.Insert.NewPath.{IsNewPath, new_path}
 use Rattle.keep_law.proofs.Insert.InsertWhole.{suits_there, has_lines}
 use Rattle.keep_law.proofs.Insert.InsertBraces.{no_lines, change_braces}
 use Rattle.keep_law.proofs.Insert.ItemThere.{never_whole}
@@ -52,7 +50,7 @@ use Rattle.keep_law.proofs.Insert.EntryEdges.{gap_low, back_low, low_put}
 use Rattle.keep_law.proofs.Insert.LineBefore.{IsLowPlace}
 use Rattle.keep_law.proofs.Remove.RemoveLinePlace.{is_high}
 use Rattle.keep_law.proofs.Insert.EntryThere.{first_in}
-use Rattle.keep_law.proofs.Insert.ItemPlaces.{bracketed_nothing, behind_nothing, Nothing, of_some, IsWithin, within_is}
+use Rattle.keep_law.proofs.Insert.ItemPlaces.{bracketed_nothing, behind_nothing, Nothing, of_some, within_is}
 
 named_nothing : (name : List (List ℕ) → Name) (rest : ℕ) (new : Value) → TakesNothing (put_named name rest new)
 named_nothing name rest new more v d e =

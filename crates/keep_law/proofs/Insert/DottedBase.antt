@@ -1,6 +1,10 @@
--- From where the dots of a key go on to a path: from a line's body, or from braces. A path has one base.
+-- The table from which dots lead to a path: that of a line's body, or a value in braces.
 --
--- Theorems: `dotted_where`, `one_base`.
+-- A key of several parts says its dots of each proper prefix. So where dots are said of a path, it is a base and keys behind it, and
+-- dots are said of all that is between (`IsDottedFrom`). The base is the body of a line's keyval, or the value, said as such, that
+-- the keyval stands in (`IsDottedIn`).
+--
+-- Theorem: `dotted_where`.
 use Rattle.std.proofs.Common.{◌≡◌, ℕ, ◌+◌, true, false, List, [], ◌∷◌, ◌++◌, map, refl, sym, ap, subst, ◌∙◌, append_assoc, Option, Some, None, ◌⊎◌, inl, inr}
 use Rattle.keep_syntax.specs.Tree.{Written, Gap, Name, Entries, none, entry, Value, Content, blank, keyval, header, element, Line}
 use Rattle.keep_path.specs.Path.{Part, key, index}

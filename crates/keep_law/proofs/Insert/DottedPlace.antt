@@ -1,4 +1,8 @@
--- Where a path is gone on from by dots, on lines: the number of its last such keyval, and where that keyval's line ends.
+-- Where dots lead to a path from the bodies of lines: the number of the last such keyval, and where its line ends.
+--
+-- What is said of dots has the number of the next value, which is that of the keyval on whose line they stand. No later line's key
+-- leads to the path, and by `OneBase` no key in braces does; so what is said last of dots there is said by that line, and the number
+-- that is known of the node is that of the line's value.
 --
 -- Theorem: `dotted_at`.
 use Rattle.std.proofs.Common.{◌≡◌, ℕ, suc, Bool, true, false, List, [], ◌∷◌, ◌++◌, length, map, take, slice_get, refl, sym, ap, subst, ◌∙◌, append_assoc, length-append, arith, Option, Some, None, ◌⊎◌, inl, inr}

@@ -1,5 +1,5 @@
 -- What stands behind the place of a new entry begins with no byte of a longer character.
-use Rattle.std.proofs.Common.{◌≡◌, ℕ, ◌<◌, Bool, true, false, List, [], ◌∷◌, ◌++◌, length, drop, refl, sym, ap, subst, ◌∙◌, append_assoc, length-append, arith, Option, Some, None, inl, inr, drop_at}
+use Rattle.std.proofs.Common.{◌≡◌, ℕ, ◌<◌, true, false, List, [], ◌∷◌, ◌++◌, length, drop, refl, sym, ap, subst, ◌∙◌, append_assoc, length-append, arith, Option, Some, None, drop_at}
 use Rattle.std.specs.Prelude.{IsTrue, ◌==◌}
 use Rattle.std.specs.List.{list_all}
 use Rattle.std.proofs.lemmas.Bool.{and_parts}
@@ -17,7 +17,7 @@ use Rattle.keep_syntax.specs.Reading.{close_byte}
 use Rattle.keep_syntax.proofs.AgainLaws.{entries_begin}
 use Rattle.keep_syntax.proofs.SpaceLaws.{newline_class, comment_class, place_of as grammar_place, gap_blank}
 use Rattle.keep_law.specs.Changed.{Changed, Place, IsChangeOf, place_of}
-use Rattle.keep_law.specs.Edits.{Edit, change, changed_or_same, place}
+use Rattle.keep_law.specs.Edits.{Edit, change, changed_or_same}
 use Rattle.keep_law.specs.Values.{entries_text, entry_back}
 use Rattle.keep_law.proofs.Common.Texts.{EachIs}
 use Rattle.keep_law.proofs.Common.LineTexts.{change-is}

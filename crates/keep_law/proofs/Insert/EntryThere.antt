@@ -9,8 +9,8 @@ use Rattle.keep_syntax.specs.Numbered as syntax
 use Rattle.keep_syntax.specs.Numbered.{value_start, name_count, inside_of, rest_of, entries_values}
 use Rattle.keep_path.specs.Path.{Part}
 use Rattle.keep_meaning.specs.Marks.{Mention, below}
-use Rattle.keep_meaning.specs.Meaning.{body_fact, valued_mentions, entry_mentions, entries_said, said_in}
-use Rattle.keep_meaning.specs.Counts.{is_value, one_if}
+use Rattle.keep_meaning.specs.Meaning.{body_fact, entry_mentions, entries_said, said_in}
+use Rattle.keep_meaning.specs.Counts.{one_if}
 use Rattle.keep_meaning.proofs.Shared.{valued, valued-append, valued-below}
 use Rattle.keep_law.specs.Changed.{Changed}
 use Rattle.keep_law.specs.Values.{Act}

@@ -3,7 +3,6 @@ use Rattle.std.proofs.Common.{◌≡◌, ℕ, ◌+◌, Bool, true, false, List, 
 use Rattle.std.proofs.lemmas.List.{append-nil}
 use Rattle.keep_token.specs.declared.leaf.Profile.{Profile}
 use Rattle.keep_token.specs.Pieces.{first}
-use Rattle.keep_syntax.specs.declared.info.ValueInfo.{ValueInfo}
 use Rattle.keep_syntax.specs.Tree.{Body, Value, Document, value_text}
 use Rattle.keep_syntax.specs.Grammar.{IsValue, IsDocument}
 use Rattle.keep_syntax.specs.Numbered as syntax
@@ -17,18 +16,18 @@ use Rattle.keep_meaning.specs.Counts.{is_value, numbered_in}
 use Rattle.keep_meaning.specs.Nodes.{fact_at, first_of, numbered_at, last_number, value_number}
 use Rattle.std.specs.List.{filter_map}
 use Rattle.keep_meaning.specs.Marks.{fact_of}
-use Rattle.keep_law.specs.Changed.{Changed, Place, place_of, or_else}
+use Rattle.keep_law.specs.Changed.{Changed, place_of, or_else}
 use Rattle.keep_law.specs.Values.{Act, text_of_value}
 use Rattle.keep_law.specs.Edits.{inside}
 use Rattle.keep_law.specs.Insertion.{put_in}
-use Rattle.keep_law.proofs.Common.Runs.{AllOf, Rules, pairs_split, Allowed, IsApart, strip-append, strip-sound, fact_under, says_at-below}
+use Rattle.keep_law.proofs.Common.Runs.{AllOf, Rules, pairs_split, Allowed, IsApart, strip-append, fact_under, says_at-below}
 use Rattle.keep_law.proofs.Common.SetLaw.{rules_below}
 use Rattle.keep_law.proofs.Common.SetDocument.{valued_facts}
 use Rattle.keep_law.proofs.Common.DoneAtValue.{EachOf}
 use Rattle.keep_law.proofs.Common.ValueNumber.{number_of_value}
 use Rattle.keep_law.proofs.Common.FoundValue.{IsFoundIn, Valid_document, found_inside}
 use Rattle.keep_law.proofs.Remove.RemovePlace.{IsValueAt, value_at_split, same_place}
-use Rattle.keep_law.proofs.Insert.DoneThere.{IsDoneThere, ended, same_value}
+use Rattle.keep_law.proofs.Insert.DoneThere.{ended, same_value}
 
 -- nothing is taken out
 abbrev pub TakesNothing : Act → Type 0

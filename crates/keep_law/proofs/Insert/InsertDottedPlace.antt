@@ -1,4 +1,7 @@
--- Where `insert` writes a line, where keyvals on lines go on from the holder by dots: told by the origins of the holder's fronts.
+-- Where `insert` writes a line behind keyvals that lead on by dots: told by the origins of the prefixes of the new path.
+--
+-- A path of which dots are said has the origin `Dotted` (`dotted_origin`), a body or a value has not. So the longest prefix without
+-- that origin is the base of the dots (`base_is`); if it has no value, the keyvals stand on lines, and the base is their body.
 --
 -- Theorem: `dotted_placed`.
 use Rattle.std.proofs.Common.{◌≡◌, false, ℕ, zero, suc, ◌+◌, ◌-◌, ◌<◌, ◌≤◌, List, [], ◌∷◌, ◌++◌, length, map, take, drop, slice_get, refl, sym, ap, subst, ◌∙◌, append_assoc, length-append, arith, Option, Some, None, inl, inr}

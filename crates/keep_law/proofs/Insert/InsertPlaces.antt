@@ -1,6 +1,9 @@
--- Where `insert` writes a line, or a section, by the origin of the node that the new path goes on from.
+-- Where `insert` writes a line, or a section, by the origin of the node of the longest prefix of the new path.
 --
--- Theorems: `root_placed`, `headed_placed`, `through_placed`.
+-- Each law finds the line that `change_insert` looks for from the origin of that node, and puts together where a body ends
+-- (`BodyPlaces`) and what new lines are in the text (`LineBefore`).
+--
+-- Theorems: `root_placed`, `header_placed`, `element_placed`, `through_placed`.
 use Rattle.std.proofs.Common.{◌≡◌, ◌⊎◌, ◌<◌, ℕ, false, arith, List, [], ◌∷◌, ◌++◌, length, map, take, drop, refl, sym, ap, subst, ◌∙◌, Option, Some, None, inl, inr}
 use Rattle.std.specs.List.{list_any}
 use Rattle.keep_token.specs.declared.leaf.Profile.{Profile}

@@ -6,7 +6,7 @@ use Rattle.keep_token.specs.declared.leaf.Profile.TheVariants.{Wide}
 use Rattle.keep_syntax.specs.declared.info.Start.{Start}
 use Rattle.keep_syntax.specs.declared.info.ValueInfo.{ValueInfo}
 use Rattle.keep_syntax.specs.Tree.{Name, Body, scalar, array, inline, Entries, none, entry, Value, Document, text_of}
-use Rattle.keep_syntax.specs.Grammar.{IsNamed, IsBody, AreEntries, in_array, IsValue}
+use Rattle.keep_syntax.specs.Grammar.{IsNamed, IsBody, AreEntries, in_array}
 use Rattle.keep_syntax.specs.Numbered as syntax
 use Rattle.keep_syntax.specs.Numbered.{inside_of}
 use Rattle.keep_syntax.proofs.ProfileTest.{allowed_value}
@@ -19,7 +19,7 @@ use Rattle.keep_meaning.specs.Nodes.{numbered_at, last_number, value_number}
 use Rattle.keep_law.specs.Look.{without_last, item_number, item_count}
 use Rattle.keep_law.specs.Changed.{Changed, Place, place_of, framed_change, within, or_else}
 use Rattle.keep_law.specs.Values.{put_before, put_behind, put_item, bracketed_change, text_of_value}
-use Rattle.keep_law.specs.Edits.{insert, change, change_insert, inside, changed_or_same, place}
+use Rattle.keep_law.specs.Edits.{insert, change, change_insert, inside}
 use Rattle.keep_law.specs.Insertion.{before_item, behind_entry, in_empty, keyed_text}
 use Rattle.keep_law.specs.Laws.{IsStanding, IsGivenValue}
 use Rattle.keep_law.specs.Refusals.{refusal}

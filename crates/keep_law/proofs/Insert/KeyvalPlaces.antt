@@ -1,7 +1,7 @@
 -- Where `insert` puts a keyval into braces, where it is not refused: by the origin of the node that the new path goes on from.
 --
 -- Theorems: `inline_placed`, `dots_placed`.
-use Rattle.std.proofs.Common.{◌≡◌, ℕ, suc, ◌+◌, ◌<◌, ◌≤◌, Bool, true, false, List, [], ◌∷◌, ◌++◌, length, map, take, drop, slice_get, refl, sym, ap, subst, ◌∙◌, append_assoc, length-append, take-append-drop, arith, Option, Some, None}
+use Rattle.std.proofs.Common.{◌≡◌, ℕ, suc, ◌<◌, ◌≤◌, true, false, List, [], ◌∷◌, ◌++◌, length, map, take, drop, slice_get, refl, sym, ap, subst, ◌∙◌, append_assoc, length-append, take-append-drop, arith, Option, Some, None}
 use Rattle.std.specs.Prelude.{IsUtf8}
 use Rattle.std.specs.List.{AllByRecursion}
 use Rattle.std.proofs.lemmas.List.{append-nil, length-take-le}
@@ -15,14 +15,14 @@ use Rattle.keep_meaning.specs.Meaning.{said_in}
 use Rattle.keep_meaning.specs.Counts.{is_value, numbered_in}
 use Rattle.keep_meaning.specs.Nodes.{is_dotted, numbered_at, last_number, value_number}
 use Rattle.keep_law.specs.Look.{holder, item_number, keys_in}
-use Rattle.keep_law.specs.Edits.{insert, place}
-use Rattle.keep_law.specs.Insertion.{behind_entry, in_empty, last_keyval}
+use Rattle.keep_law.specs.Edits.{insert}
+use Rattle.keep_law.specs.Insertion.{in_empty, last_keyval}
 use Rattle.keep_law.specs.Laws.{IsStanding, IsGivenValue}
 use Rattle.keep_law.specs.Refusals.{refusal, has_value}
 use Rattle.keep_law.proofs.Values.ValuePlace.{has_of_number, none_of_number}
 use Rattle.keep_law.proofs.Insert.LineBefore.{IsLowPlace}
 use Rattle.keep_law.proofs.Insert.NewPath.{IsNewPath, drop_front_parts}
-use Rattle.keep_law.proofs.Insert.BracePlaces.{IsPutBehind, IsKeyvalFound, fresh_path, keyval_found}
+use Rattle.keep_law.proofs.Insert.BracePlaces.{IsPutBehind, fresh_path, keyval_found}
 use Rattle.keep_law.proofs.Insert.BraceLaws.{into_empty, behind_last}
 use Rattle.keep_law.proofs.Insert.BraceDotted.{behind_dotted}
 

@@ -1,4 +1,10 @@
--- The line before new lines: it is a header's or a keyval's, and the last byte of the text before them tells whether it has a newline.
+-- The place of new lines, by the bytes of the text.
+--
+-- New lines go behind the line of a header or of a keyval (or before all lines). Such a line has bytes, and none of its own bytes
+-- at its end is a line feed; so the last byte of the text before the new lines tells whether that line has a newline. `front_of n`
+-- is the text of the first n lines, and `is_past n` says that there are fewer than n newlines; `open_before` ties the two.
+--
+-- Theorems: `line_placed`, `section_placed`, `low_place`.
 use Rattle.std.proofs.Common.{◌≡◌, ℕ, zero, suc, ◌+◌, ◌<◌, ◌≤◌, Bool, true, false, not, List, [], ◌∷◌, ◌++◌, length, map, take, drop, refl, sym, ap, subst, ◌∙◌, append_assoc, length-append, arith, cond, Option, take_at, drop_at}
 use Rattle.std.specs.List.{flat_map, AllByRecursion}
 use Rattle.std.proofs.lemmas.List.{append-nil}

@@ -1,4 +1,6 @@
 -- Where new lines are put: behind the text of the lines before them. A newline comes first only behind a last line without one.
+--
+-- Theorem: `lines_place`.
 use Rattle.std.proofs.Common.{◌≡◌, ℕ, zero, suc, ◌+◌, Bool, true, false, cond, List, [], ◌∷◌, ◌++◌, length, map, refl, sym, ap, ◌∙◌, append_assoc, length-append, arith, Some}
 use Rattle.std.specs.List.{flat_map}
 use Rattle.std.proofs.lemmas.List.{append-nil}

@@ -1,10 +1,10 @@
 -- Where a value stands, no line begins a body at or under its path, and no line's key or header goes on from there.
-use Rattle.std.proofs.Common.{◌≡◌, ℕ, Bool, true, false, cond, List, [], ◌∷◌, ◌++◌, map, refl, sym, ap, subst, ◌∙◌, append_assoc, Option, Some, None, inl, inr}
+use Rattle.std.proofs.Common.{◌≡◌, ℕ, Bool, true, false, List, [], ◌∷◌, ◌++◌, map, refl, sym, ap, subst, ◌∙◌, append_assoc, Option, Some, None, inl, inr}
 use Rattle.std.specs.Prelude.{⊤}
 use Rattle.std.proofs.lemmas.Bool.{and_parts}
 use Rattle.std.proofs.lemmas.List.{map-append}
 use Rattle.keep_syntax.specs.Tree.{Written, Gap, Name, Value, Content, blank, keyval, header, element, Line, Document, bom_leaves, text_of}
-use Rattle.keep_path.specs.Path.{Part, key, same_path}
+use Rattle.keep_path.specs.Path.{Part}
 use Rattle.keep_meaning.specs.Marks.{Saying, Mention, Reading, start, below, value}
 use Rattle.keep_meaning.specs.Meaning.{key_value, further_value, keys_of, body_fact, valued_mentions, keyed_mentions, entries_said, step, keyval_said, line_said, behind_line, lines_said, reading_behind, lines, said_in}
 use Rattle.keep_meaning.specs.Nodes.{is_dotted, is_through, has}
@@ -17,7 +17,6 @@ use Rattle.keep_law.proofs.Common.SetLaw.{IsAloneAt, keyed_split, keyed_apart, a
 use Rattle.keep_law.proofs.Common.SetDocument.{whole_said}
 use Rattle.keep_law.proofs.Common.BodyEnd.{IsTold, begins_told}
 use Rattle.keep_law.proofs.Common.Doubles.{IsSaid, has_some}
-use Rattle.keep_law.proofs.Common.DoneAtValue.{EachOf}
 use Rattle.keep_law.proofs.Common.DoneInDocument.{IsDoneInLines, done_lines}
 use Rattle.keep_law.proofs.Common.InValue.{IsBeside, beside_keyval}
 use Rattle.keep_law.proofs.Common.ValueThere.{the_some, some_inside}

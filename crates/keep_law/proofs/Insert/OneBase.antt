@@ -1,4 +1,8 @@
--- A path that a line's key goes on from by dots has its base in that line's body, and nowhere else.
+-- A path to which dots lead from a line's body has no other base: no keyval in braces leads to it by dots.
+--
+-- Two bases of a path are prefixes of it, with keys alone behind them (`fronts_of`). If one is longer, then dots are said of it as
+-- well; but of a body's path a header says what dots may not stand beside, or it is the root or an element, and of a value's path
+-- nothing else may be said. If they are the same, a body and a value have one path, which the rules don't allow either.
 --
 -- Theorems: `line_base`, `not_in_braces`.
 use Rattle.std.proofs.Common.{◌≡◌, ℕ, Bool, true, false, List, [], ◌∷◌, ◌++◌, map, refl, sym, ap, subst, ◌∙◌, Option, ◌⊎◌, inl, inr, ◌||◌}

@@ -1,4 +1,10 @@
 -- What the origin of a node tells of what is said at its path.
+--
+-- An origin is the first that fits of six numbers, each of which is known exactly if such a thing is said of the path
+-- (`said_of_number`, `unsaid_of_none`). So `Header` and `Element` tell of a header, and `Dotted` and `Through` that no header
+-- defines or begins the node. What headers and dots name ends in a key, so it is not the root.
+--
+-- Theorems: `headed_of_header`, `headed_of_element`, `headed_one`, `dotted_node`, `through_node`.
 use Rattle.std.proofs.Common.{◌≡◌, ℕ, Bool, true, false, List, [], ◌∷◌, ◌++◌, map, refl, sym, ap, subst, ◌∙◌, Option, Some, None, ◌⊎◌, inl, inr}
 use Rattle.std.specs.Prelude.{fold, if◌then◌else◌}
 use Rattle.std.specs.Option.{option_map}

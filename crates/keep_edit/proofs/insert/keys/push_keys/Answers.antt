@@ -1,5 +1,5 @@
 use Rattle.std.proofs.Common.{sym, arith}
-use Rattle.keep_edit.proofs.WritingLaws.{step_kept, all_written, path_written}
+use Rattle.keep_edit.proofs.WritingLaws.{step_kept, path_written}
 use Rattle.keep_edit.proofs.insert.keys.push_keys.Goals as goal
 
 pub loop-number-preserved : goal.loop-number-preserved
