@@ -1,5 +1,5 @@
 -- The newline of a document is that of its first token that is one.
-use Rattle.std.proofs.Common.{◌≡◌, ℕ, ◌+◌, List, [], ◌∷◌, length, refl, sym, ap, ◌∙◌, Option, Some, None}
+use Rattle.std.proofs.Common.{◌≡◌, ℕ, ◌+◌, List, [], ◌∷◌, length, refl, sym, ap, Option, Some, None}
 use Rattle.std.specs.Prelude.{codes}
 use Rattle.keep_token.specs.declared.leaf.Leaf.{Leaf}
 use Rattle.keep_token.specs.declared.leaf.Leaf.TheVariants as leaf

@@ -1,5 +1,5 @@
 -- Reading a document: what is known of it then, and why it is refused.
-use Rattle.std.proofs.Common.{◌≡◌, ℕ, List, Result, Err, ap, refl, sym, ◌∙◌, inl, inr}
+use Rattle.std.proofs.Common.{◌≡◌, ℕ, List, Err, ap, refl, sym, ◌∙◌, inl, inr}
 use Rattle.std.specs.Prelude.{IsUtf8}
 use Rattle.std.specs.Str.{IsValidUpTo}
 use Rattle.std.proofs.lemmas.Str.{utf8_valid_len-IsValidUpTo}
@@ -9,7 +9,7 @@ use Rattle.keep_syntax.specs.declared.fault.ReadFault.TheVariants as fault
 use Rattle.keep_syntax.specs.declared.syntax.Syntax.{Syntax}
 use Rattle.keep_syntax.specs.Tree.{Document}
 use Rattle.keep_syntax.specs.Grammar.{Reads}
-use Rattle.keep_syntax.specs.Contract.{IsSyntaxOf, IsTextOf, IsFaultOf}
+use Rattle.keep_syntax.specs.Contract.{IsSyntaxOf, IsTextOf}
 use Rattle.keep_syntax.proofs.DocumentLaws.{one_document}
 use Rattle.keep_rules.specs.ReadDocuments.{WasRead, IsIndexOf, IsRefusal}
 use Rattle.keep_nodes.specs.Told.{Telling}

@@ -1,19 +1,18 @@
 -- What the marks at a key's path let a header do there: by what is said of the path.
-use Rattle.std.proofs.Common.{◌≡◌, ℕ, zero, suc, ◌+◌, ◌<◌, Bool, true, false, cond, not, ◌&&◌, ◌||◌, List, [], ◌∷◌, ◌++◌, map, refl, sym, ap, subst, ◌∙◌, arith, Option, Some, None, ◌⊎◌, inl, inr}
+use Rattle.std.proofs.Common.{◌≡◌, Bool, true, false, cond, not, ◌&&◌, ◌||◌, List, [], ◌∷◌, map, refl, sym, ap, subst, ◌∙◌, Option, Some, None}
 use Rattle.std.specs.Prelude.{filter}
 use Rattle.std.specs.List.{list_any, list_all, filter_map, cons_option}
 use Rattle.keep_meaning.specs.declared.role.Role.{Role}
 use Rattle.keep_meaning.specs.declared.role.Role.TheVariants.{Through, Past, Define, Element, Dotted, Value}
-use Rattle.keep_meaning.specs.Faults.{refuses}
 use Rattle.keep_meaning.specs.Marks.{Saying, through, past, define, element as says_element, dotted, value, begun, passed, item, Mention, role_of, with_path, marks}
 use Rattle.keep_meaning.specs.Counts.{is_value}
 use Rattle.keep_meaning.specs.Nodes.{is_at, says_at, has, is_through, is_define, is_element, is_dotted}
-use Rattle.keep_meaning.specs.Rules.{Mark, allows, Allows}
-use Rattle.keep_path.specs.Path.{Part, same_path}
+use Rattle.keep_meaning.specs.Rules.{allows, Allows}
+use Rattle.keep_path.specs.Path.{Part}
 use Rattle.keep_law.specs.Headers.{is_refused}
 use Rattle.keep_law.proofs.Common.LineLaws.{EndsInKey}
 use Rattle.keep_law.proofs.Common.FromMarks.{EndsInIndex, IsFormed, Formed, ends_apart}
-use Rattle.keep_law.proofs.Common.Runs.{AllOf, Pairs, same_path-sound, same_path-refl}
+use Rattle.keep_law.proofs.Common.Runs.{AllOf, Pairs, same_path-sound}
 
 -- ---- roles that let one another follow
 

@@ -2,7 +2,7 @@
 -- read with its newline, if it has one, tells whether it has one.
 --
 -- Theorems: `line_quiet`, `line_some`, `ended_ends`.
-use Rattle.std.proofs.Common.{◌≡◌, ℕ, zero, suc, ◌+◌, ◌-◌, ◌<◌, Bool, true, false, ◌&&◌, ◌==◌, List, [], ◌∷◌, ◌++◌, length, get_or, take, drop, Some, None, refl, sym, ap, ◌∙◌, subst, inl, inr, arith, add-zero, get_or-drop, length-append, Option}
+use Rattle.std.proofs.Common.{◌≡◌, ℕ, suc, ◌+◌, ◌-◌, ◌<◌, Bool, true, false, ◌&&◌, ◌==◌, List, [], ◌∷◌, ◌++◌, length, get_or, take, drop, Some, None, refl, sym, ap, ◌∙◌, subst, inl, inr, arith, add-zero, get_or-drop, length-append, Option}
 use Rattle.std.specs.Prelude.{IsTrue}
 use Rattle.std.specs.List.{prefix_len, list_all}
 use Rattle.std.specs.Char.{is_ascii_digit}
@@ -21,7 +21,7 @@ use Rattle.keep_token.specs.Strings as strings
 use Rattle.keep_token.proofs.GapLaws.{tested, prefix_len-positive}
 use Rattle.keep_token.proofs.WordLaws.{word_len_again, word_first}
 use Rattle.keep_token.proofs.ScalarLaws.{scalar_kind, a_word, a_basic, a_literal, a_ml_basic, a_ml_literal}
-use Rattle.keep_syntax.specs.Tree.{Written, Gap, Key, Name, Body, scalar, array, inline, Entries, none, entry, Value, Content, blank, keyval, header, element, Line, Ended, mark, key_leaves, name_leaves, entries_leaves, value_leaves, content_leaves, comment_leaves, line_leaves, ended_leaves, text_of, value_text}
+use Rattle.keep_syntax.specs.Tree.{Written, Gap, Body, scalar, array, inline, Entries, none, entry, Value, Content, blank, keyval, header, element, Line, Ended, mark, key_leaves, name_leaves, entries_leaves, value_leaves, content_leaves, comment_leaves, line_leaves, ended_leaves, text_of, value_text}
 use Rattle.keep_syntax.specs.Grammar.{IsSpace, IsValue, IsBody, AreEntries, in_scalar, place_in, IsContent, IsAfter, IsComment, IsLine, IsEnded}
 use Rattle.keep_law.specs.Lines.{line_text, content_text, is_empty, is_empty_list}
 use Rattle.keep_law.specs.TextEnds.{ends_in_newline}
