@@ -4,20 +4,25 @@
 -- each (`all_through`), and if an element may stand behind one, it may behind each (`all_listed`). What the marks refuse is what
 -- their roles refuse (`refused_roles`); so one thing that is said of the path decides, as `define_goes_on` or `value_refuses` say.
 -- Where nothing but headers that go through it are said, a table may be defined (`through_defines`).
-use Rattle.std.proofs.Common.{◌≡◌, Bool, true, false, cond, not, ◌&&◌, ◌||◌, List, [], ◌∷◌, map, refl, sym, ap, subst, ◌∙◌, Option, Some, None}
+use Rattle.std.proofs.Common.{◌≡◌, ℕ, zero, suc, Bool, true, false, cond, not, ◌&&◌, ◌||◌, List, [], ◌∷◌, map, refl, sym, ap, subst, ◌∙◌, arith, Option, Some, None}
 use Rattle.std.specs.Prelude.{filter}
 use Rattle.std.specs.List.{list_any, list_all, filter_map, cons_option}
 use Rattle.keep_meaning.specs.declared.role.Role.{Role}
 use Rattle.keep_meaning.specs.declared.role.Role.TheVariants.{Through, Past, Define, Element, Dotted, Value}
-use Rattle.keep_meaning.specs.Marks.{Saying, through, past, define, element as says_element, dotted, value, begun, passed, item, Mention, role_of, with_path, marks}
+use Rattle.keep_meaning.specs.Marks.{Saying, through, past, define, element as says_element, dotted, value, begun, passed, item, Mention, role_of, with_path, elements_of, marks}
 use Rattle.keep_meaning.specs.Counts.{is_value}
 use Rattle.keep_meaning.specs.Nodes.{is_at, says_at, has, is_through, is_define, is_element, is_dotted}
-use Rattle.keep_meaning.specs.Rules.{allows, Allows}
+use Rattle.keep_meaning.specs.Rules.{allows, Allows, ObeysRules}
 use Rattle.keep_path.specs.Path.{Part}
 use Rattle.keep_law.specs.Headers.{is_refused}
 use Rattle.keep_law.proofs.Common.LineLaws.{EndsInKey}
 use Rattle.keep_law.proofs.Common.FromMarks.{EndsInIndex, IsFormed, Formed, ends_apart}
+use Rattle.keep_law.specs.Refusals.{tables_in}
 use Rattle.keep_law.proofs.Common.Runs.{AllOf, Pairs, same_path-sound}
+use Rattle.keep_law.proofs.Common.Marks.{pairs_from_index}
+use Rattle.keep_law.proofs.Common.Doubles.{some_has}
+use Rattle.keep_law.proofs.Insert.LinesNamed.{counted}
+use Rattle.keep_law.proofs.Append.HeaderConflict.{LetsPass}
 
 -- ---- roles that let one another follow
 
