@@ -22,7 +22,7 @@ use Rattle.keep_edit.specs.Answers.{EditDone, IsDone, IsEdited, refusal_in}
 use Rattle.keep_edit.specs.Lists.{IsEdit, size_of, growth_of, AreMade, IsRefusedAt, IsOutOfMemoryAt, IsNotCopied, StopsAt}
 use Rattle.keep_edit.specs.Reading.{limit, ProfiledText, IsTextOfTree, IsTextOfValue}
 use Rattle.keep_edit.specs.declared.edits.Edit.{Edit}
-use Rattle.keep_edit.specs.declared.edits.Edit.TheVariants.{Set, Rename, Remove, Table, Element}
+use Rattle.keep_edit.specs.declared.edits.Edit.TheVariants.{Set, Insert, Rename, Remove, Table, Element}
 
 -- ---- the definitions' fold
 
@@ -73,6 +73,7 @@ growth_more (y ∷ ys) (suc i) d x lt is = omega (arith, growth_more ys i d x (o
 -- an edit gives as many bytes as its values have
 size_is : (x : Edit) (e : law.Edit) → IsEdit x e → given_size e ≡ size_of x
 size_is (Set path value) e (v, is, same) = rw same (ap (λ (t : List ℕ). length (encoded_path path) + length t) (sym is.reads.spelled))
+size_is (Insert path value) e (v, is, same) = rw same (ap (λ (t : List ℕ). length (encoded_path path) + length t) (sym is.reads.spelled))
 size_is (Rename path name) e same = ap given_size same
 size_is (Remove path) e same = ap given_size same
 size_is (Table keys) e same = ap given_size same

@@ -16,6 +16,8 @@ use keep_value::ValueText;
 pub enum Edit {
     /// `Document::set`: a value in place of the one at a path.
     Set(Path, ValueText),
+    /// `Document::insert`: a value at a path that names no node, or before an item of an array.
+    Insert(Path, ValueText),
     /// `Document::rename`: another key in place of the last key of a path.
     Rename(Path, String),
     /// `Document::remove`: the node of a path goes.
@@ -41,6 +43,7 @@ impl Document {
     {
         match edit {
             Edit::Set(path, value) => self.set(path, value),
+            Edit::Insert(path, value) => self.insert(path, value),
             Edit::Rename(path, key) => self.rename(path, key.as_str()),
             Edit::Remove(path) => self.remove(path),
             Edit::Table(keys) => self.append_table(keys.as_slice()),
@@ -60,6 +63,7 @@ impl Document {
     {
         match edit {
             Edit::Set(path, value) => self.text_with(path, value),
+            Edit::Insert(path, value) => self.text_inserted(path, value),
             Edit::Rename(path, key) => self.text_renamed(path, key.as_str()),
             Edit::Remove(path) => self.text_removed(path),
             Edit::Table(keys) => self.text_with_table(keys.as_slice()),

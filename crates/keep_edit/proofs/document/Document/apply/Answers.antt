@@ -13,6 +13,13 @@ returns-in-Set-clause-done c = λ s read e is.
 pub returns-in-Set-clause-edit : goal.returns-in-Set-clause-edit
 returns-in-Set-clause-edit c = let (v, value) = c.set.ensures.value in rw c.in-Set.is (law.set c.in-Set.path v, (v, value, refl))
 
+pub returns-in-Insert-clause-done : goal.returns-in-Insert-clause-done
+returns-in-Insert-clause-done c = λ s read e is.
+    by_value law.insert c.in-Insert.path c.in-Insert.value e (λ (x : law.Edit). EditDone s x c.args.self.now c.insert.new.self c.insert.result) (c.insert.ensures.done s read) (rw c.in-Insert.is at is)
+
+pub returns-in-Insert-clause-edit : goal.returns-in-Insert-clause-edit
+returns-in-Insert-clause-edit c = let (v, value) = c.insert.ensures.value in rw c.in-Insert.is (law.insert c.in-Insert.path v, (v, value, refl))
+
 pub returns-in-Rename-clause-done : goal.returns-in-Rename-clause-done
 returns-in-Rename-clause-done c = λ s read e is.
     let same = rw c.in-Rename.is at is in subst (λ (x : law.Edit). EditDone s x c.args.self.now c.rename.new.self c.rename.result) (ap (law.rename c.in-Rename.path) c.as_str.ensures.value ∙ sym same) (c.rename.ensures.done s read)

@@ -31,7 +31,7 @@ value-requires-in-InEmpty c =
 pub behind_bracket-requires : goal.behind_bracket-requires
 behind_bracket-requires c =
     let (s, read, (v, value, there)) = c.requires.aimed in
-    omega (arith, empty_inside _ _ _ c.args.path.now s v c.args.value.now c.args.insertion (seen c.self.view_is c.self.invariant) read value there c.requires.utf8 _ _ c.in-InEmpty.is c.value-in-InEmpty.ensures, ap length (text_seen c.self.view_is), ap length c.as_str-in-InEmpty.ensures.value)
+    omega (arith, empty_inside _ _ _ c.args.path.now s v c.args.value.now c.args.insertion (seen c.self.view_is c.self.invariant) read value there c.requires.utf8 _ _ c.in-InEmpty.is c.value-in-InEmpty.ensures.stored, ap length (text_seen c.self.view_is), ap length c.as_str-in-InEmpty.ensures.value)
 
 pub body_end-at-requires : goal.body_end-at-requires
 body_end-at-requires c =
@@ -87,15 +87,15 @@ push_section-requires-clause-keys c =
 
 pub returns-in_ok-push_str-in-BeforeItem-2 : goal.returns-in_ok-push_str-in-BeforeItem-2
 returns-in_ok-push_str-in-BeforeItem-2 c = λ s read v value there.
-    before_put _ _ _ c.args.path.now s v c.args.value.now c.args.insertion (seen c.self.view_is c.self.invariant) read value there c.requires.utf8 _ _ _ _ _ c.in-BeforeItem.is c.value.ensures (c.in_ok-push_str-in-BeforeItem.ensures.bytes ∙ ap (λ t. string_bytes c.args.out.now ++ t) c.as_str.ensures.text) c.in_ok-push_str-in-BeforeItem-2.ensures.bytes
+    before_put _ _ _ c.args.path.now s v c.args.value.now c.args.insertion (seen c.self.view_is c.self.invariant) read value there c.requires.utf8 _ _ _ _ _ c.in-BeforeItem.is c.value.ensures.stored (c.in_ok-push_str-in-BeforeItem.ensures.bytes ∙ ap (λ t. string_bytes c.args.out.now ++ t) c.as_str.ensures.text) c.in_ok-push_str-in-BeforeItem-2.ensures.bytes
 
 pub returns-in_ok-push_keyed-in-BehindEntry : goal.returns-in_ok-push_keyed-in-BehindEntry
 returns-in_ok-push_keyed-in-BehindEntry c = λ s read v value there.
-    behind_put _ _ _ c.args.path.now s v c.args.value.now c.args.insertion (seen c.self.view_is c.self.invariant) read value there c.requires.utf8 _ _ _ _ _ c.in-BehindEntry.is c.value-in-BehindEntry.ensures c.in_ok-push_str-in-BehindEntry.ensures.bytes (c.in_ok-push_keyed-in-BehindEntry.ensures v value)
+    behind_put _ _ _ c.args.path.now s v c.args.value.now c.args.insertion (seen c.self.view_is c.self.invariant) read value there c.requires.utf8 _ _ _ _ _ c.in-BehindEntry.is c.value-in-BehindEntry.ensures.stored c.in_ok-push_str-in-BehindEntry.ensures.bytes (c.in_ok-push_keyed-in-BehindEntry.ensures v value)
 
 pub returns-in_ok-push_keyed-in-InEmpty : goal.returns-in_ok-push_keyed-in-InEmpty
 returns-in_ok-push_keyed-in-InEmpty c = λ s read v value there.
-    empty_put _ _ _ c.args.path.now s v c.args.value.now c.args.insertion (seen c.self.view_is c.self.invariant) read value there c.requires.utf8 _ _ _ _ _ c.in-InEmpty.is c.value-in-InEmpty.ensures c.behind_bracket.ensures (c.in_ok-push_keyed-in-InEmpty.ensures v value)
+    empty_put _ _ _ c.args.path.now s v c.args.value.now c.args.insertion (seen c.self.view_is c.self.invariant) read value there c.requires.utf8 _ _ _ _ _ c.in-InEmpty.is c.value-in-InEmpty.ensures.stored c.behind_bracket.ensures (c.in_ok-push_keyed-in-InEmpty.ensures v value)
 
 pub returns-in_ok-push_line-in-BehindBody : goal.returns-in_ok-push_line-in-BehindBody
 returns-in_ok-push_line-in-BehindBody c = λ s read v value there.

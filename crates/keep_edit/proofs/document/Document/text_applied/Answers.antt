@@ -13,6 +13,13 @@ returns-in-Set-clause-told c = λ s read e is.
 pub returns-in-Set-clause-edit : goal.returns-in-Set-clause-edit
 returns-in-Set-clause-edit c = let (v, value) = c.text_with.ensures.value in rw c.in-Set.is (law.set c.in-Set.path v, (v, value, refl))
 
+pub returns-in-Insert-clause-told : goal.returns-in-Insert-clause-told
+returns-in-Insert-clause-told c = λ s read e is.
+    by_value law.insert c.in-Insert.path c.in-Insert.value e (λ (x : law.Edit). EditTold s x c.args.self.now c.text_inserted.result) (c.text_inserted.ensures.told s read) (rw c.in-Insert.is at is)
+
+pub returns-in-Insert-clause-edit : goal.returns-in-Insert-clause-edit
+returns-in-Insert-clause-edit c = let (v, value) = c.text_inserted.ensures.value in rw c.in-Insert.is (law.insert c.in-Insert.path v, (v, value, refl))
+
 pub returns-in-Rename-clause-told : goal.returns-in-Rename-clause-told
 returns-in-Rename-clause-told c = λ s read e is.
     let same = rw c.in-Rename.is at is in subst (λ (x : law.Edit). EditTold s x c.args.self.now c.text_renamed.result) (ap (law.rename c.in-Rename.path) c.as_str.ensures.value ∙ sym same) (c.text_renamed.ensures.told s read)
