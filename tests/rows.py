@@ -32,7 +32,7 @@ HERE = Path(__file__).resolve().parent
 STORED = HERE.parent / "crates/keep_rows/stdin"
 CASES = HERE / "model_cases.tsv"
 # The subcommands that are not there yet: their cases wait.
-WAITING = {b"insert", b"apply", b"apply-wide"}
+WAITING = {b"apply", b"apply-wide"}
 ESCAPES = {b"n": b"\n", b"r": b"\r", b"t": b"\t", b"\\": b"\\", b"e": b""}
 
 
@@ -184,6 +184,7 @@ GROWING = [
     ([b"get", b"t.b[1].x"], b"[t]\nb = [1, {x = 2}]\n"),
     ([b"text", b"a"], b'a = "x\\u00e9"\n'),
     ([b"set", b"a[0]", b"[1, {y = '2'}]"], b"a = [1] # c\n"),
+    ([b"insert", b"t.c.d", b"[1, {y = '2'}]"], b"[t]\nb = 1\n"),
     ([b"rename", b"a.b", b"c d"], b"[a]\nb = [1, {x = 2}]\n"),
     ([b"remove", b"a[0].b"], b"[[a]]\nb = 1\n"),
     ([b"element", b"a.'b c'"], b"[t]"),

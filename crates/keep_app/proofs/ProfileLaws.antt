@@ -1,9 +1,9 @@
 -- Why no edit is refused for the profile of its value, where that is the profile of the document.
 use Rattle.std.proofs.Common.{◌≡◌, ◌⊎◌, ◌∙◌, ◌&&◌, ◌||◌, ℕ, zero, suc, Bool, true, false, not, List, [], ◌∷◌, take, Option, Some, None, refl, ap, subst, inl, inr, option_map}
-use Rattle.std.specs.Prelude.{◌==◌, string_bytes, Result, Ok, Err, IfErr, IsErrAnd}
-use Rattle.std.specs.List.{AllZip}
+use Rattle.std.specs.Prelude.{◌==◌, drop, length, nat_lt, string_bytes, Result, Ok, Err, IfErr, IsErrAnd}
+use Rattle.std.specs.List.{AllZip, list_any}
 use Rattle.keep_token.specs.declared.leaf.Profile.TheVariants.{Strict}
-use Rattle.keep_syntax.specs.Tree.{Document}
+use Rattle.keep_syntax.specs.Tree.{Document, Value}
 use Rattle.keep_meaning.specs.Meaning.{said_in}
 use Rattle.keep_meaning.specs.Marks.{Mention, Statement, element_header, header, marks, statement_mentions}
 use Rattle.keep_syntax.specs.declared.fault.Why.{Why}
@@ -16,7 +16,9 @@ use Rattle.keep_law.specs.Answers as answers
 use Rattle.keep_law.specs.Answers.{string_of, value_at, at_node, or_not_value, applied_from}
 use Rattle.keep_law.specs.Edits as law
 use Rattle.keep_law.specs.Edits.{edited_document}
-use Rattle.keep_law.specs.Refusals.{beside, end_reading, ends_in_index, first_conflict, is_empty, or_conflict, first_that_holds, has_value, is_foreign, is_one_piece, is_too_deep, refusal}
+use Rattle.keep_law.specs.Look.{holder, is_index, is_table, item_count, item_number, without_last}
+use Rattle.keep_syntax.specs.Profiles.{is_allowed_in}
+use Rattle.keep_law.specs.Refusals.{beside, end_reading, ends_in_index, first_conflict, is_empty, or_conflict, refusal_by, first_that_holds, has_value, is_foreign, is_one_piece, is_too_deep, refusal}
 use Rattle.keep_edit.specs.Reading.{limit, text_in}
 use Rattle.keep_value.proofs.Shared.{strict_value}
 use Rattle.keep_app.specs.Answer.{IsEdit, IsEditRefusal, IsProfileFault, IsRefusal, profile_of}
@@ -47,6 +49,9 @@ exists_not bad = cc
 not_value : fault.NotValue ≡ fault.Profile → ⊥
 not_value bad = cc
 
+not_table : fault.NotTable ≡ fault.Profile → ⊥
+not_table bad = cc
+
 not_key : fault.NotKey ≡ fault.Profile → ⊥
 not_key bad = cc
 
@@ -57,8 +62,8 @@ too_deep_not : fault.TooDeep ≡ fault.Profile → ⊥
 too_deep_not bad = cc
 
 -- conditions that tell other faults
-never_three : (a b c : Bool) (f g h : EditFault) → (f ≡ fault.Profile → ⊥) → (g ≡ fault.Profile → ⊥) → (h ≡ fault.Profile → ⊥) → first_that_holds ((a, f) ∷ (b, g) ∷ (c, h) ∷ []) ≡ Some fault.Profile → ⊥
-never_three a b c f g h x y z = never_first fault.Profile ((a, f) ∷ (b, g) ∷ (c, h) ∷ []) ((λ e. absurd (x e)), ((λ e. absurd (y e)), ((λ e. absurd (z e)), tt)))
+never_three : (a b c : Bool) (f g h : EditFault) → (f ≡ fault.Profile → ⊥) → (g ≡ fault.Profile → ⊥) → (h ≡ fault.Profile → c ≡ false) → first_that_holds ((a, f) ∷ (b, g) ∷ (c, h) ∷ []) ≡ Some fault.Profile → ⊥
+never_three a b c f g h x y z = never_first fault.Profile ((a, f) ∷ (b, g) ∷ (c, h) ∷ []) ((λ e. absurd (x e)), ((λ e. absurd (y e)), (z, tt)))
 
 never_four : (a b c d : Bool) (f g h i : EditFault) → (f ≡ fault.Profile → ⊥) → (g ≡ fault.Profile → ⊥) → (h ≡ fault.Profile → ⊥) → (i ≡ fault.Profile → d ≡ false)
     → first_that_holds ((a, f) ∷ (b, g) ∷ (c, h) ∷ (d, i) ∷ []) ≡ Some fault.Profile → ⊥
@@ -72,14 +77,27 @@ never_appended : (keys : List (List ℕ)) (statement : Statement) (ms : List Men
 never_appended [] statement ms h = let no : Some fault.NotKey ≡ Some fault.Profile = h in cc
 never_appended (k ∷ ks) statement ms h = tells_conflict (first_conflict (marks ms) (marks (statement_mentions (end_reading ms) statement))) h
 
+never_five : (a b c d e : Bool) → e ≡ false → first_that_holds ((a, fault.NotFound) ∷ (b, fault.Exists) ∷ (c, fault.NotTable) ∷ (d, fault.TooDeep) ∷ (e, fault.Profile) ∷ []) ≡ Some fault.Profile → ⊥
+never_five a b c d e own = never_first fault.Profile ((a, fault.NotFound) ∷ (b, fault.Exists) ∷ (c, fault.NotTable) ∷ (d, fault.TooDeep) ∷ (e, fault.Profile) ∷ [])
+    ((λ x. absurd (not_found x)), ((λ x. absurd (exists_not x)), ((λ x. absurd (not_table x)), ((λ x. absurd (too_deep_not x)), ((λ x. own), tt)))))
+
+never_inserted : (path : List Part) (value : Value) (ms : List Mention) → is_allowed_in Strict value ≡ true → refusal_by Strict limit ms (law.insert path value) ≡ Some fault.Profile → ⊥
+never_inserted path value ms allowed h = by (item_number path ms) refl
+  where
+    by : (o : Option ℕ) → item_number path ms ≡ o → ⊥
+    by (Some n) e =
+        never_three (nat_lt (item_count (without_last path) ms) n) (is_too_deep limit path value ms) (is_foreign Strict value) fault.NotFound fault.TooDeep fault.Profile not_found too_deep_not (λ x. ap not allowed) (rw (e, refusal_by) at h)
+    by None e = never_five (not (is_node path ms) && list_any is_index (drop (length (holder path ms)) path)) (is_node path ms) (not (is_table (holder path ms) ms)) (is_too_deep limit path value ms) (is_foreign Strict value) (ap not allowed) (rw (e, refusal_by) at h)
+
 -- an edit whose value is of the profile
 never_refused : (e : Edit) (le : law.Edit) (s : Document) → IsStrictEdit e → IsEdit e le → refusal Strict limit s le ≡ Some fault.Profile → ⊥
 never_refused (edit.Set path value) le s strict (v, read, same) h =
     never_four (not (is_node path (said_in s))) (not (has_value path (said_in s))) (is_too_deep limit path v (said_in s)) (is_foreign Strict v) fault.NotFound fault.NotValue fault.TooDeep fault.Profile not_found not_value too_deep_not (λ is. ap not (strict_value value v read strict)) (rw same at h)
+never_refused (edit.Insert path value) le s strict (v, read, same) h = never_inserted path v (said_in s) (strict_value value v read strict) (rw same at h)
 never_refused (edit.Rename path key) le s strict same h =
     never_four (not (is_node path (said_in s))) ((not (is_root path) && not (ends_in_index path)) && is_node (beside path (string_bytes key)) (said_in s)) (is_root path || ends_in_index path) (not (mark_count path (said_in s) == 1)) fault.NotFound fault.Exists fault.NotKey fault.Scattered not_found exists_not not_key (λ is. absurd (scattered_not is)) (rw same at h)
 never_refused (edit.Remove path) le s strict same h =
-    never_three (not (is_node path (said_in s))) (is_root path) (not (is_one_piece path (said_in s))) fault.NotFound fault.NotKey fault.Scattered not_found not_key scattered_not (rw same at h)
+    never_three (not (is_node path (said_in s))) (is_root path) (not (is_one_piece path (said_in s))) fault.NotFound fault.NotKey fault.Scattered not_found not_key (λ is. absurd (scattered_not is)) (rw same at h)
 never_refused (edit.Table keys) le s strict same h = never_appended (key_texts keys.items) (header (key_texts keys.items)) (said_in s) (rw same at h)
 never_refused (edit.Element keys) le s strict same h = never_appended (key_texts keys.items) (element_header (key_texts keys.items)) (said_in s) (rw same at h)
 

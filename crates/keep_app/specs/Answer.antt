@@ -58,6 +58,7 @@ lines_of entries = flat_map entry_line entries
 -- The edit of the definitions, with the value of its text.
 abbrev pub IsEdit : Edit → law.Edit → Type 0
 IsEdit (edit.Set path value) e = (v : Value) × IsTextOfValue value v × (e ≡ law.set path v)
+IsEdit (edit.Insert path value) e = (v : Value) × IsTextOfValue value v × (e ≡ law.insert path v)
 IsEdit (edit.Rename path key) e = e ≡ law.rename path (string_bytes key)
 IsEdit (edit.Remove path) e = e ≡ law.remove path
 IsEdit (edit.Table keys) e = e ≡ law.append_table (key_texts keys.items)

@@ -77,6 +77,10 @@ abbrev pub Sets : List ℕ → List ℕ → Edit → Type 0
 Sets path value (edit.Set p v) = IsPathText path p × IsGivenValue value v
 Sets path value _ = ⊥
 
+abbrev pub Inserts : List ℕ → List ℕ → Edit → Type 0
+Inserts path value (edit.Insert p v) = IsPathText path p × IsGivenValue value v
+Inserts path value _ = ⊥
+
 abbrev pub Renames : List ℕ → List ℕ → Edit → Type 0
 Renames path name (edit.Rename p k) = IsPathText path p × (string_bytes k ≡ name)
 Renames path name _ = ⊥
@@ -101,6 +105,7 @@ IsCommand ask.List [] command.List = ⊤
 IsCommand ask.Get (path ∷ []) (command.Get p) = IsPathText path p
 IsCommand ask.Text (path ∷ []) (command.Text p) = IsPathText path p
 IsCommand ask.Set (path ∷ value ∷ []) (command.Apply edits) = IsOne (Sets path value) edits.items
+IsCommand ask.Insert (path ∷ value ∷ []) (command.Apply edits) = IsOne (Inserts path value) edits.items
 IsCommand ask.Rename (path ∷ name ∷ []) (command.Apply edits) = IsOne (Renames path name) edits.items
 IsCommand ask.Remove (path ∷ []) (command.Apply edits) = IsOne (Removes path) edits.items
 IsCommand ask.Table (keys ∷ []) (command.Apply edits) = IsOne (AddsTable keys) edits.items
@@ -133,6 +138,7 @@ IsApplied e _ = ⊥
 -- the edit gives no value but of Strict's grammar
 abbrev pub IsStrictEdit : Edit → Type 0
 IsStrictEdit (edit.Set path value) = IsAcceptedValue Strict value
+IsStrictEdit (edit.Insert path value) = IsAcceptedValue Strict value
 IsStrictEdit _ = ⊤
 
 abbrev pub AreStrict : List Edit → Type 0

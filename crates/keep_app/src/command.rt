@@ -62,6 +62,7 @@ fn command_from(alloc: Global, chosen: &Chosen) -> Result<Command, UseFault>
         Ask::Get => Ok(Command::Get(path_of(alloc, words[0].as_str())?)),
         Ask::Text => Ok(Command::Text(path_of(alloc, words[0].as_str())?)),
         Ask::Set => set_of(alloc, words[0].as_str(), words[1].as_str()),
+        Ask::Insert => insert_of(alloc, words[0].as_str(), words[1].as_str()),
         Ask::Rename => {
             let path = path_of(alloc, words[0].as_str())?;
             let key = key_of(alloc, words[1].as_str())?;
@@ -90,6 +91,16 @@ fn set_of(alloc: Global, path: &str, value: &str) -> Result<Command, UseFault>
     let path = path_of(alloc, path)?;
     let value = value_of(alloc, value)?;
     one_edit(alloc, Edit::Set(path, value))
+}
+
+fn insert_of(alloc: Global, path: &str, value: &str) -> Result<Command, UseFault>
+    ensures asked { MatchResult result (IsCommand Ask.Insert (path.now ∷ value.now ∷ []))
+        (λ fault. (fault ≡ UseFault.Memory) ⊎ IsWordFault (Word.Path ∷ Word.Value ∷ []) (path.now ∷ value.now ∷ []) fault) }
+    ensures values { IfOk result HasOwnValues }
+{
+    let path = path_of(alloc, path)?;
+    let value = value_of(alloc, value)?;
+    one_edit(alloc, Edit::Insert(path, value))
 }
 
 // The command of a single edit. The only error is out of memory.

@@ -12,6 +12,8 @@ use keep_edit::{Document, EditFault, Path, Splice, ValueText};
 pub enum Edit {
     /// `Document::set`: a value in place of the one at a path.
     Set(Path, ValueText),
+    /// `Document::insert`: a value at a new path.
+    Insert(Path, ValueText),
     /// `Document::rename`: another key in place of the last key of a path.
     Rename(Path, String),
     /// `Document::remove`: the node of a path goes.
@@ -29,6 +31,7 @@ pub(crate) fn apply(document: &mut Document, edit: &Edit) -> Result<Splice, Edit
 {
     match edit {
         Edit::Set(path, value) => document.set(path, value),
+        Edit::Insert(path, value) => document.insert(path, value),
         Edit::Rename(path, key) => document.rename(path, key.as_str()),
         Edit::Remove(path) => document.remove(path),
         Edit::Table(keys) => document.append_table(keys.as_slice()),
@@ -43,6 +46,7 @@ pub(crate) fn text_applied(document: &Document, edit: &Edit) -> Result<String, E
 {
     match edit {
         Edit::Set(path, value) => document.text_with(path, value),
+        Edit::Insert(path, value) => document.text_inserted(path, value),
         Edit::Rename(path, key) => document.text_renamed(path, key.as_str()),
         Edit::Remove(path) => document.text_removed(path),
         Edit::Table(keys) => document.text_with_table(keys.as_slice()),

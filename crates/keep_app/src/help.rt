@@ -59,6 +59,13 @@ pub const SET: Help = (
   keep-toml set -- offset -7 < in.toml",
 );
 
+pub const INSERT: Help = (
+    "Insert a value at a path where nothing is, or before an item of an array",
+    "Examples:
+  keep-toml insert package.license '\"MIT\"' < Cargo.toml > new.toml
+  keep-toml insert 'keywords[0]' '\"toml\"' < Cargo.toml > new.toml",
+);
+
 pub const RENAME: Help = (
     "Give the last key of a path another name",
     "Example:

@@ -12,6 +12,7 @@ pub enum Ask {
     Get,
     Text,
     Set,
+    Insert,
     Rename,
     Remove,
     Table,
@@ -36,13 +37,19 @@ pub enum Word {
 pub type Subcommand = (&'static str, Ask, &'static [Word], Help);
 
 /// All subcommands. The definitions cite it.
-pub const SUBCOMMANDS: [Subcommand; 10] = [
+pub const SUBCOMMANDS: [Subcommand; 11] = [
     ("check", Ask::Check, &[], help::CHECK),
     ("check-wide", Ask::CheckWide, &[], help::CHECK_WIDE),
     ("list", Ask::List, &[], help::LIST),
     ("get", Ask::Get, &[Word::Path], help::GET),
     ("text", Ask::Text, &[Word::Path], help::TEXT),
     ("set", Ask::Set, &[Word::Path, Word::Value], help::SET),
+    (
+        "insert",
+        Ask::Insert,
+        &[Word::Path, Word::Value],
+        help::INSERT,
+    ),
     (
         "rename",
         Ask::Rename,

@@ -41,3 +41,10 @@ returns-in-Element-clause-told c = λ s read e is.
 
 pub returns-in-Element-clause-edit : goal.returns-in-Element-clause-edit
 returns-in-Element-clause-edit c = rw c.in-Element.is (law.append_element (key_texts c.in-Element.keys.items), refl)
+
+pub returns-in-Insert-clause-told : goal.returns-in-Insert-clause-told
+returns-in-Insert-clause-told c = λ s read e is.
+    by_value law.insert c.in-Insert.path c.in-Insert.value e (λ (x : law.Edit). EditTold s x c.args.document.now c.text_inserted.result) (c.text_inserted.ensures.told s read) (rw c.in-Insert.is at is)
+
+pub returns-in-Insert-clause-edit : goal.returns-in-Insert-clause-edit
+returns-in-Insert-clause-edit c = let (v, value) = c.text_inserted.ensures.value in rw c.in-Insert.is (law.insert c.in-Insert.path v, (v, value, refl))
