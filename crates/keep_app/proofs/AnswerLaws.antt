@@ -28,10 +28,11 @@ use Rattle.keep_edit.specs.Reading.{limit, ProfiledText, text_in, IsAccepted, Is
 use Rattle.keep_edit.specs.declared.document.Counts.{Counts}
 use Rattle.keep_app.specs.declared.command.Command.{Command}
 use Rattle.keep_app.specs.declared.command.Command.TheVariants.{Apply, Check, CheckWide, Get, List as Listing, Text}
-use Rattle.keep_app.specs.declared.edit.Edit.{Edit}
+use Rattle.keep_edit.specs.declared.edits.Edit.{Edit}
 use Rattle.keep_app.specs.declared.fault.RunFault.{RunFault}
 use Rattle.keep_app.specs.declared.fault.RunFault.TheVariants as run
-use Rattle.keep_app.specs.Answer.{counts_line, lines_of, AppliesTo, IsEdit, IsText, IsEditRefusal, IsRefusal, of_read, of_edit, Refused, RefusesAt}
+use Rattle.keep_edit.specs.Lists.{IsEdit}
+use Rattle.keep_app.specs.Answer.{counts_line, lines_of, AppliesTo, IsText, IsEditRefusal, IsRefusal, of_read, of_edit, Refused, RefusesAt}
 
 -- ---- check, list, get
 
@@ -184,11 +185,6 @@ no_edit edits e = omega (arith, eqb-true (length edits) 0 (sym e))
 pub last_edit : (edits : List Edit) → false ≡ (length edits == 0) → length edits - 1 < length edits
 last_edit [] e = absurd cc
 last_edit (x ∷ xs) e = omega arith
-
--- what holds of the edit with each value of the text holds of the edit that the text makes
-pub by_value : (make : List Part → Value → law.Edit) (path : List Part) (bytes : List ℕ) (e : law.Edit) (P : law.Edit → Type 0) → ((v : Value) → IsTextOfValue bytes v → P (make path v))
-    → (v : Value) × IsTextOfValue bytes v × (e ≡ make path v) → P e
-by_value make path bytes e P all (v, value, same) = subst P (sym same) (all v value)
 
 -- what an edit answers of any tree of the old text and any edit of the definitions that it is
 abbrev pub Answers : {T : Type 0} → (Document → law.Edit → T → Type 0) → Edit → ProfiledText → Result T EditFault → Type 0

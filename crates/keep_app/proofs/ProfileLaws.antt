@@ -21,12 +21,13 @@ use Rattle.keep_syntax.specs.Profiles.{is_allowed_in}
 use Rattle.keep_law.specs.Refusals.{beside, end_reading, ends_in_index, first_conflict, is_empty, or_conflict, refusal_by, first_that_holds, has_value, is_foreign, is_one_piece, is_too_deep, refusal}
 use Rattle.keep_edit.specs.Reading.{limit, text_in}
 use Rattle.keep_value.proofs.Shared.{strict_value}
-use Rattle.keep_app.specs.Answer.{IsEdit, IsEditRefusal, IsProfileFault, IsRefusal, profile_of}
+use Rattle.keep_edit.specs.Lists.{IsEdit}
+use Rattle.keep_app.specs.Answer.{IsEditRefusal, IsProfileFault, IsRefusal, profile_of}
 use Rattle.keep_app.specs.Uses.{AreStrict, HasOwnValues, IsStrictEdit}
 use Rattle.keep_app.specs.declared.command.Command.{Command}
 use Rattle.keep_app.specs.declared.command.Command.TheVariants as command
-use Rattle.keep_app.specs.declared.edit.Edit.{Edit}
-use Rattle.keep_app.specs.declared.edit.Edit.TheVariants as edit
+use Rattle.keep_edit.specs.declared.edits.Edit.{Edit}
+use Rattle.keep_edit.specs.declared.edits.Edit.TheVariants as edit
 use Rattle.keep_app.specs.declared.fault.RunFault.{RunFault}
 use Rattle.keep_app.specs.declared.fault.RunFault.TheVariants as run
 

@@ -5,7 +5,7 @@ use Rattle.keep_token.specs.declared.leaf.Profile.{Profile}
 use Rattle.keep_token.specs.declared.leaf.Profile.TheVariants.{Strict, Wide}
 use Rattle.keep_syntax.specs.declared.fault.ReadFault.{ReadFault}
 use Rattle.keep_syntax.specs.declared.fault.ReadFault.TheVariants as read
-use Rattle.keep_syntax.specs.Tree.{Value, Document, text}
+use Rattle.keep_syntax.specs.Tree.{Document, text}
 use Rattle.keep_meaning.specs.declared.node.Kind.{Kind}
 use Rattle.keep_meaning.specs.declared.node.Kind.TheVariants as kind
 use Rattle.keep_path.specs.PathText.{encoded_path}
@@ -16,13 +16,12 @@ use Rattle.keep_law.specs.Edits as law
 use Rattle.keep_law.specs.Answers.{get, string_at, applied_edits}
 use Rattle.keep_edit.specs.declared.document.Counts.{Counts}
 use Rattle.keep_edit.specs.declared.document.Entry.{Entry}
-use Rattle.keep_edit.specs.Reading.{limit, ProfiledText, IsTextOfTree, IsTextOfValue}
+use Rattle.keep_edit.specs.Reading.{limit, ProfiledText, IsTextOfTree}
 use Rattle.keep_edit.specs.Answers.{counts_of, entries_of}
-use Rattle.keep_edit.specs.Headers.{key_texts}
 use Rattle.keep_app.specs.declared.command.Command.{Command}
 use Rattle.keep_app.specs.declared.command.Command.TheVariants as command
-use Rattle.keep_app.specs.declared.edit.Edit.{Edit}
-use Rattle.keep_app.specs.declared.edit.Edit.TheVariants as edit
+use Rattle.keep_edit.specs.declared.edits.Edit.{Edit}
+use Rattle.keep_edit.specs.Lists.{IsEdit}
 use Rattle.keep_app.specs.declared.fault.RunFault.{RunFault}
 use Rattle.keep_app.specs.declared.fault.RunFault.TheVariants as run
 
@@ -54,15 +53,6 @@ abbrev pub lines_of : List Entry → List ℕ
 lines_of entries = flat_map entry_line entries
 
 -- ---- edits
-
--- The edit of the definitions, with the value of its text.
-abbrev pub IsEdit : Edit → law.Edit → Type 0
-IsEdit (edit.Set path value) e = (v : Value) × IsTextOfValue value v × (e ≡ law.set path v)
-IsEdit (edit.Insert path value) e = (v : Value) × IsTextOfValue value v × (e ≡ law.insert path v)
-IsEdit (edit.Rename path key) e = e ≡ law.rename path (string_bytes key)
-IsEdit (edit.Remove path) e = e ≡ law.remove path
-IsEdit (edit.Table keys) e = e ≡ law.append_table (key_texts keys.items)
-IsEdit (edit.Element keys) e = e ≡ law.append_element (key_texts keys.items)
 
 -- the text after all edits, in order
 abbrev pub AppliesTo : Profile → List Edit → Document → List ℕ → Type 0

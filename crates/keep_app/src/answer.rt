@@ -7,9 +7,8 @@ ghost use Rattle.keep_app.specs.Answer.{counts_line, kind_word, lines_of, profil
 ghost use Rattle.keep_app.specs.Answer as spec;
 
 use crate::command::Command;
-use crate::edit::{Edit, apply, text_applied};
 use crate::fault::RunFault;
-use keep_edit::{Counts, Document, EditFault, Kind, Path, Profile, ReadFault};
+use keep_edit::{Counts, Document, Edit, EditFault, Kind, Path, Profile, ReadFault};
 use std::alloc::{AllocError, Global};
 use std::mem;
 
@@ -137,12 +136,12 @@ fn applied(document: Document, edits: &[Edit]) -> Result<String, RunFault>
     let last = edits.len() - 1;
     let mut changed = document;
     for index in 0..last {
-        match apply(&mut changed, &edits[index]) {
+        match changed.apply(&edits[index]) {
             Ok(_) => {}
             Err(fault) => return Err(of_edit(index, fault)),
         }
     }
-    let text = text_applied(&changed, &edits[last]);
+    let text = changed.text_applied(&edits[last]);
     // As in `answer`: the program ends with its answer.
     mem::forget(changed);
     match text {

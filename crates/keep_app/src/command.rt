@@ -7,11 +7,10 @@ ghost use Rattle.keep_path.specs.PathText.{AreKeys, IsPathText};
 ghost use Rattle.keep_app.specs.Uses.{key_in, Asks, HasOwnValues, IsApplied, IsCommand, IsKeysFault, IsKeysText, IsWordFault, IsGivenValue, IsPathFault, IsUseFault, IsValueFault};
 ghost use Rattle.keep_app.specs.Wanted.{IsWhole, has_plain_words, wanted_of};
 
-use crate::edit::Edit;
 use crate::fault::UseFault;
 use crate::subcommand::Ask;
 use crate::words::{Chosen, chosen_of};
-use keep_edit::{Path, PathFault, ReadFault, Step, ValueText};
+use keep_edit::{Edit, Path, PathFault, ReadFault, Step, ValueText};
 use std::alloc::{AllocError, Global};
 
 /// What the program is asked.

@@ -4,7 +4,6 @@
 pub mod answer;
 pub mod command;
 pub mod counted;
-pub mod edit;
 pub mod fault;
 pub mod given;
 mod help;

@@ -3,10 +3,9 @@ ghost use Rattle.keep_app.specs.Counted.{IsFresh};
 
 use keep_app::command::Command;
 use keep_app::counted::Counted;
-use keep_app::edit::Edit;
 use keep_app::fault::RunFault;
 use keep_app::run::{Done, run};
-use keep_edit::{Path, ValueText};
+use keep_edit::{Edit, Path, ValueText};
 use std::alloc::Global;
 use std::io;
 use std::io::{ErrorKind, Read, Write};

@@ -13,15 +13,15 @@ loop-index-init c = λ s h. none_yet s c.args.document h
 
 pub returns-in-Err : goal.returns-in-Err
 returns-in-Err c = λ s h.
-    rw (c.of_edit.ensures) (edit_refused (apply_done c.loop-index.changed c.apply.new.document) c.args.document.profile c.args.edits.now c.loop-index.index _ c.index-edits-index.result c.loop-index.changed c.apply.new.document s
+    rw (c.of_edit.ensures) (edit_refused (apply_done c.loop-index.changed c.apply.new.self) c.args.document.profile c.args.edits.now c.loop-index.index _ c.index-edits-index.result c.loop-index.changed c.apply.new.self s
     (omega (arith, c.loop-index-test.true)) (sym c.index-edits-index.is) c.in-Err.ensures.edit (c.loop-index.invariant s h) c.in-Err.fault c.in-Err.ensures.done)
 
 pub loop-index-preserved : goal.loop-index-preserved
 loop-index-preserved c = λ s h.
-    let more = after_edit (apply_done c.loop-index.changed c.apply.new.document) c.args.document.profile c.args.edits.now c.loop-index.index _ c.index-edits-index.result c.loop-index.changed c.apply.new.document s
+    let more = after_edit (apply_done c.loop-index.changed c.apply.new.self) c.args.document.profile c.args.edits.now c.loop-index.index _ c.index-edits-index.result c.loop-index.changed c.apply.new.self s
     (omega (arith, c.loop-index-test.true)) (sym c.index-edits-index.is) c.in-Ok.ensures.edit (c.loop-index.invariant s h) c.in-Ok.field-0 (λ u e done. done.1) c.in-Ok.ensures.done in
     let one : suc c.loop-index.index ≡ c.loop-index.index + 1 = omega arith in
-    subst (λ (n : ℕ). IsAfter c.args.document.profile (take n c.args.edits.now) s c.apply.new.document) one more
+    subst (λ (n : ℕ). IsAfter c.args.document.profile (take n c.args.edits.now) s c.apply.new.self) one more
 
 pub returns-in-Ok-text : goal.returns-in-Ok-text
 returns-in-Ok-text c = λ s h.
