@@ -32,7 +32,7 @@ HERE = Path(__file__).resolve().parent
 STORED = HERE.parent / "crates/keep_rows/stdin"
 CASES = HERE / "model_cases.tsv"
 # The subcommands that are not there yet: their cases wait.
-WAITING = {b"apply", b"apply-wide"}
+WAITING = set()
 ESCAPES = {b"n": b"\n", b"r": b"\r", b"t": b"\t", b"\\": b"\\", b"e": b""}
 
 

@@ -27,7 +27,7 @@ use Rattle.keep_edit.specs.Answers.{counts_of, entries_of, kind_of, str_value_of
 use Rattle.keep_edit.specs.Reading.{limit, ProfiledText, text_in, IsAccepted, IsRefused, IsTextOfTree, IsTextOfValue}
 use Rattle.keep_edit.specs.declared.document.Counts.{Counts}
 use Rattle.keep_app.specs.declared.command.Command.{Command}
-use Rattle.keep_app.specs.declared.command.Command.TheVariants.{Apply, Check, CheckWide, Get, List as Listing, Text}
+use Rattle.keep_app.specs.declared.command.Command.TheVariants.{Apply, ApplyWide, Check, CheckWide, Get, List as Listing, Text}
 use Rattle.keep_edit.specs.declared.edits.Edit.{Edit}
 use Rattle.keep_app.specs.declared.fault.RunFault.{RunFault}
 use Rattle.keep_app.specs.declared.fault.RunFault.TheVariants as run
@@ -247,23 +247,49 @@ all_applied profile edits n s d new le same h =
     let all : take n edits ≡ edits = take_all n edits le in
     (h.es, subst (λ (x : List Edit). AllZip IsEdit x h.es) all h.are, (h.tree, h.done, same ∙ h.read.reads.spelled))
 
-refused_answer : (edits : List Edit) (v : Vec Edit Global) (d : ProfiledText) (s : Document) (f : RunFault) → edits ≡ v.items → IsTextOfTree d s → Refused d.profile edits s f → (f ≡ run.Memory) ⊎ IsRefusal (Apply v) d f
-unfolding IsEditRefusal
-refused_answer edits v d s run.Memory e a h = inl refl
-refused_answer edits v d s (run.Edit number f) e a h = inr (s, a, subst (λ (x : List Edit). RefusesAt d.profile x s number f) e h)
-refused_answer edits v d s run.Read e a h = absurd h
-refused_answer edits v d s run.TooLong e a h = absurd h
-refused_answer edits v d s (run.Document f) e a h = absurd h
-refused_answer edits v d s (run.Write n) e a h = absurd h
+-- a command whose answer is the text after these edits
+pub record Applies (c : Command) (v : Vec Edit Global) : Type 0 where
+  pub text : (d : ProfiledText) (s : Document) (out : List ℕ) → IsTextOfTree d s → AppliesTo d.profile v.items s out → IsText c d out
+  pub refusal : (d : ProfiledText) (s : Document) (number : ℕ) (f : EditFault) → IsTextOfTree d s → RefusesAt d.profile v.items s number f → IsEditRefusal c d number f
 
-by_tree : (d : ProfiledText) (edits : List Edit) (v : Vec Edit Global) (r : Result (String Global) RunFault) (s : Document) → edits ≡ v.items → IsTextOfTree d s → MatchResult r (λ text. AppliesTo d.profile edits s (string_bytes text)) (Refused d.profile edits s)
-    → MatchResult r (λ text. IsText (Apply v) d (string_bytes text)) (λ f. (f ≡ run.Memory) ⊎ IsRefusal (Apply v) d f)
+apply_text : (v : Vec Edit Global) (d : ProfiledText) (s : Document) (out : List ℕ) → IsTextOfTree d s → AppliesTo d.profile v.items s out → IsText (Apply v) d out
 unfolding IsText
-by_tree d edits v (Ok text) s e h k = (s, h, subst (λ (x : List Edit). AppliesTo d.profile x s (string_bytes text)) e k)
-by_tree d edits v (Err f) s e h k = refused_answer edits v d s f e h k
+apply_text v d s out a k = (s, a, k)
 
-pub apply_answer : (input d : ProfiledText) (edits : List Edit) (v : Vec Edit Global) (r : Result (String Global) RunFault) → edits ≡ v.items → d ≡ input → IsAccepted d
+apply_refusal : (v : Vec Edit Global) (d : ProfiledText) (s : Document) (number : ℕ) (f : EditFault) → IsTextOfTree d s → RefusesAt d.profile v.items s number f → IsEditRefusal (Apply v) d number f
+unfolding IsEditRefusal
+apply_refusal v d s number f a h = (s, a, h)
+
+apply_wide_text : (v : Vec Edit Global) (d : ProfiledText) (s : Document) (out : List ℕ) → IsTextOfTree d s → AppliesTo d.profile v.items s out → IsText (ApplyWide v) d out
+unfolding IsText
+apply_wide_text v d s out a k = (s, a, k)
+
+apply_wide_refusal : (v : Vec Edit Global) (d : ProfiledText) (s : Document) (number : ℕ) (f : EditFault) → IsTextOfTree d s → RefusesAt d.profile v.items s number f → IsEditRefusal (ApplyWide v) d number f
+unfolding IsEditRefusal
+apply_wide_refusal v d s number f a h = (s, a, h)
+
+pub apply_applies : (v : Vec Edit Global) → Applies (Apply v) v
+apply_applies v = record { text = apply_text v; refusal = apply_refusal v }
+
+pub apply_wide_applies : (v : Vec Edit Global) → Applies (ApplyWide v) v
+apply_wide_applies v = record { text = apply_wide_text v; refusal = apply_wide_refusal v }
+
+refused_answer : (c : Command) (edits : List Edit) (v : Vec Edit Global) (d : ProfiledText) (s : Document) (f : RunFault) → Applies c v → edits ≡ v.items → IsTextOfTree d s → Refused d.profile edits s f → (f ≡ run.Memory) ⊎ IsRefusal c d f
+refused_answer c edits v d s run.Memory applies e a h = inl refl
+refused_answer c edits v d s (run.Edit number f) applies e a h = inr (applies.refusal d s number f a (subst (λ (x : List Edit). RefusesAt d.profile x s number f) e h))
+refused_answer c edits v d s run.Read applies e a h = absurd h
+refused_answer c edits v d s run.TooLong applies e a h = absurd h
+refused_answer c edits v d s (run.Document f) applies e a h = absurd h
+refused_answer c edits v d s (run.Write n) applies e a h = absurd h
+
+by_tree : (c : Command) (d : ProfiledText) (edits : List Edit) (v : Vec Edit Global) (r : Result (String Global) RunFault) (s : Document) → Applies c v → edits ≡ v.items → IsTextOfTree d s
+    → MatchResult r (λ text. AppliesTo d.profile edits s (string_bytes text)) (Refused d.profile edits s)
+    → MatchResult r (λ text. IsText c d (string_bytes text)) (λ f. (f ≡ run.Memory) ⊎ IsRefusal c d f)
+by_tree c d edits v (Ok text) s applies e h k = applies.text d s (string_bytes text) h (subst (λ (x : List Edit). AppliesTo d.profile x s (string_bytes text)) e k)
+by_tree c d edits v (Err f) s applies e h k = refused_answer c edits v d s f applies e h k
+
+pub apply_answer : (c : Command) (input d : ProfiledText) (edits : List Edit) (v : Vec Edit Global) (r : Result (String Global) RunFault) → Applies c v → edits ≡ v.items → d ≡ input → IsAccepted d
     → ((s : Document) → IsTextOfTree d s → MatchResult r (λ text. AppliesTo d.profile edits s (string_bytes text)) (Refused d.profile edits s))
-    → MatchResult r (λ text. IsText (Apply v) input (string_bytes text)) (λ f. (f ≡ run.Memory) ⊎ IsRefusal (Apply v) input f)
-apply_answer input d edits v r e same (s, h) k =
-    subst (λ (t : ProfiledText). MatchResult r (λ text. IsText (Apply v) t (string_bytes text)) (λ f. (f ≡ run.Memory) ⊎ IsRefusal (Apply v) t f)) same (by_tree d edits v r s e h (k s h))
+    → MatchResult r (λ text. IsText c input (string_bytes text)) (λ f. (f ≡ run.Memory) ⊎ IsRefusal c input f)
+apply_answer c input d edits v r applies e same (s, h) k =
+    subst (λ (t : ProfiledText). MatchResult r (λ text. IsText c t (string_bytes text)) (λ f. (f ≡ run.Memory) ⊎ IsRefusal c t f)) same (by_tree c d edits v r s applies e h (k s h))

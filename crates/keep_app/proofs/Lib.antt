@@ -7,3 +7,4 @@ pub mod KeyLaws
 pub mod AnswerLaws
 pub mod ProfileLaws
 pub mod ListLines
+pub mod ScriptLaws

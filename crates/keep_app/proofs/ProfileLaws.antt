@@ -1,8 +1,9 @@
 -- Why no edit is refused for the profile of its value, where that is the profile of the document.
-use Rattle.std.proofs.Common.{◌≡◌, ◌⊎◌, ◌∙◌, ◌&&◌, ◌||◌, ℕ, zero, suc, Bool, true, false, not, List, [], ◌∷◌, take, Option, Some, None, refl, ap, subst, inl, inr, option_map}
+use Rattle.std.proofs.Common.{◌≡◌, ◌⊎◌, ◌∙◌, ◌&&◌, ◌||◌, ℕ, zero, suc, Bool, true, false, not, List, [], ◌∷◌, take, Option, Some, None, refl, sym, ap, subst, inl, inr, option_map}
 use Rattle.std.specs.Prelude.{◌==◌, drop, length, nat_lt, string_bytes, Result, Ok, Err, IfErr, IsErrAnd}
 use Rattle.std.specs.List.{AllZip, list_any}
-use Rattle.keep_token.specs.declared.leaf.Profile.TheVariants.{Strict}
+use Rattle.keep_token.specs.declared.leaf.Profile.{Profile}
+use Rattle.keep_token.specs.declared.leaf.Profile.TheVariants.{Strict, Wide}
 use Rattle.keep_syntax.specs.Tree.{Document, Value}
 use Rattle.keep_meaning.specs.Meaning.{said_in}
 use Rattle.keep_meaning.specs.Marks.{Mention, Statement, element_header, header, marks, statement_mentions}
@@ -82,25 +83,62 @@ never_five : (a b c d e : Bool) → e ≡ false → first_that_holds ((a, fault.
 never_five a b c d e own = never_first fault.Profile ((a, fault.NotFound) ∷ (b, fault.Exists) ∷ (c, fault.NotTable) ∷ (d, fault.TooDeep) ∷ (e, fault.Profile) ∷ [])
     ((λ x. absurd (not_found x)), ((λ x. absurd (exists_not x)), ((λ x. absurd (not_table x)), ((λ x. absurd (too_deep_not x)), ((λ x. own), tt)))))
 
-never_inserted : (path : List Part) (value : Value) (ms : List Mention) → is_allowed_in Strict value ≡ true → refusal_by Strict limit ms (law.insert path value) ≡ Some fault.Profile → ⊥
-never_inserted path value ms allowed h = by (item_number path ms) refl
+never_inserted : (profile : Profile) (path : List Part) (value : Value) (ms : List Mention) → is_allowed_in profile value ≡ true → refusal_by profile limit ms (law.insert path value) ≡ Some fault.Profile → ⊥
+never_inserted profile path value ms allowed h = by (item_number path ms) refl
   where
     by : (o : Option ℕ) → item_number path ms ≡ o → ⊥
     by (Some n) e =
-        never_three (nat_lt (item_count (without_last path) ms) n) (is_too_deep limit path value ms) (is_foreign Strict value) fault.NotFound fault.TooDeep fault.Profile not_found too_deep_not (λ x. ap not allowed) (rw (e, refusal_by) at h)
-    by None e = never_five (not (is_node path ms) && list_any is_index (drop (length (holder path ms)) path)) (is_node path ms) (not (is_table (holder path ms) ms)) (is_too_deep limit path value ms) (is_foreign Strict value) (ap not allowed) (rw (e, refusal_by) at h)
+        never_three (nat_lt (item_count (without_last path) ms) n) (is_too_deep limit path value ms) (is_foreign profile value) fault.NotFound fault.TooDeep fault.Profile not_found too_deep_not (λ x. ap not allowed) (rw (e, refusal_by) at h)
+    by None e = never_five (not (is_node path ms) && list_any is_index (drop (length (holder path ms)) path)) (is_node path ms) (not (is_table (holder path ms) ms)) (is_too_deep limit path value ms) (is_foreign profile value) (ap not allowed) (rw (e, refusal_by) at h)
 
--- an edit whose value is of the profile
-never_refused : (e : Edit) (le : law.Edit) (s : Document) → IsStrictEdit e → IsEdit e le → refusal Strict limit s le ≡ Some fault.Profile → ⊥
-never_refused (edit.Set path value) le s strict (v, read, same) h =
-    never_four (not (is_node path (said_in s))) (not (has_value path (said_in s))) (is_too_deep limit path v (said_in s)) (is_foreign Strict v) fault.NotFound fault.NotValue fault.TooDeep fault.Profile not_found not_value too_deep_not (λ is. ap not (strict_value value v read strict)) (rw same at h)
-never_refused (edit.Insert path value) le s strict (v, read, same) h = never_inserted path v (said_in s) (strict_value value v read strict) (rw same at h)
-never_refused (edit.Rename path key) le s strict same h =
-    never_four (not (is_node path (said_in s))) ((not (is_root path) && not (ends_in_index path)) && is_node (beside path (string_bytes key)) (said_in s)) (is_root path || ends_in_index path) (not (mark_count path (said_in s) == 1)) fault.NotFound fault.Exists fault.NotKey fault.Scattered not_found exists_not not_key (λ is. absurd (scattered_not is)) (rw same at h)
-never_refused (edit.Remove path) le s strict same h =
-    never_three (not (is_node path (said_in s))) (is_root path) (not (is_one_piece path (said_in s))) fault.NotFound fault.NotKey fault.Scattered not_found not_key (λ is. absurd (scattered_not is)) (rw same at h)
-never_refused (edit.Table keys) le s strict same h = never_appended (key_texts keys.items) (header (key_texts keys.items)) (said_in s) (rw same at h)
-never_refused (edit.Element keys) le s strict same h = never_appended (key_texts keys.items) (element_header (key_texts keys.items)) (said_in s) (rw same at h)
+-- the value of the edit, if it gives one, is allowed in the profile
+abbrev IsAllowed : Profile → law.Edit → Type 0
+IsAllowed profile (law.set path v) = is_allowed_in profile v ≡ true
+IsAllowed profile (law.insert path v) = is_allowed_in profile v ≡ true
+IsAllowed profile _ = Unit {0}
+
+never_refused : (profile : Profile) (e : law.Edit) (s : Document) → IsAllowed profile e → refusal profile limit s e ≡ Some fault.Profile → ⊥
+never_refused profile (law.set path v) s allowed h =
+    never_four (not (is_node path (said_in s))) (not (has_value path (said_in s))) (is_too_deep limit path v (said_in s)) (is_foreign profile v) fault.NotFound fault.NotValue fault.TooDeep fault.Profile not_found not_value too_deep_not (λ is. ap not allowed) h
+never_refused profile (law.insert path v) s allowed h = never_inserted profile path v (said_in s) allowed h
+never_refused profile (law.rename path name) s allowed h =
+    never_four (not (is_node path (said_in s))) ((not (is_root path) && not (ends_in_index path)) && is_node (beside path name) (said_in s)) (is_root path || ends_in_index path) (not (mark_count path (said_in s) == 1)) fault.NotFound fault.Exists fault.NotKey fault.Scattered not_found exists_not not_key (λ is. absurd (scattered_not is)) h
+never_refused profile (law.remove path) s allowed h =
+    never_three (not (is_node path (said_in s))) (is_root path) (not (is_one_piece path (said_in s))) fault.NotFound fault.NotKey fault.Scattered not_found not_key (λ is. absurd (scattered_not is)) h
+never_refused profile (law.append_table keys) s allowed h = never_appended keys (header keys) (said_in s) h
+never_refused profile (law.append_element keys) s allowed h = never_appended keys (element_header keys) (said_in s) h
+
+-- ---- whose values are allowed
+
+strict_allowed : (e : Edit) (le : law.Edit) → IsStrictEdit e → IsEdit e le → IsAllowed Strict le
+strict_allowed (edit.Set path value) le strict (v, read, same) = subst (IsAllowed Strict) (sym same) (strict_value value v read strict)
+strict_allowed (edit.Insert path value) le strict (v, read, same) = subst (IsAllowed Strict) (sym same) (strict_value value v read strict)
+strict_allowed (edit.Rename path key) le strict same = subst (IsAllowed Strict) (sym same) tt
+strict_allowed (edit.Remove path) le strict same = subst (IsAllowed Strict) (sym same) tt
+strict_allowed (edit.Table keys) le strict same = subst (IsAllowed Strict) (sym same) tt
+strict_allowed (edit.Element keys) le strict same = subst (IsAllowed Strict) (sym same) tt
+
+wide_allowed : (e : law.Edit) → IsAllowed Wide e
+wide_allowed (law.set path v) = refl
+wide_allowed (law.insert path v) = refl
+wide_allowed (law.rename path name) = tt
+wide_allowed (law.remove path) = tt
+wide_allowed (law.append_table keys) = tt
+wide_allowed (law.append_element keys) = tt
+
+abbrev AreAllowed : Profile → List law.Edit → Type 0
+AreAllowed profile [] = Unit {0}
+AreAllowed profile (e ∷ es) = IsAllowed profile e × AreAllowed profile es
+
+all_strict : (edits : List Edit) (es : List law.Edit) → AreStrict edits → AllZip IsEdit edits es → AreAllowed Strict es
+all_strict [] [] strict are = tt
+all_strict [] (e ∷ es) strict are = absurd are
+all_strict (x ∷ xs) [] strict are = absurd are
+all_strict (x ∷ xs) (e ∷ es) strict are = (strict_allowed x e strict.0 are.0, all_strict xs es strict.1 are.1)
+
+all_wide : (es : List law.Edit) → AreAllowed Wide es
+all_wide [] = tt
+all_wide (e ∷ es) = (wide_allowed e, all_wide es)
 
 err_same : {T E : Type 0} (a b : E) → ◌≡◌ {A = Result T E} (Err a) (Err b) → a ≡ b
 err_same a b h = cc
@@ -108,18 +146,16 @@ err_same a b h = cc
 abbrev refused_as : ℕ → EditFault → answers.Refused
 refused_as n f = record { number = n; fault = f }
 
-never_applied : (edits : List Edit) (es : List law.Edit) (n k : ℕ) (s : Document) → AreStrict edits → AllZip IsEdit edits es → applied_from Strict limit n es s ≡ Err (refused_as k fault.Profile) → ⊥
-never_applied [] [] n k s strict are h = let no : Ok s ≡ Err (refused_as k fault.Profile) = h in cc
-never_applied [] (e ∷ es) n k s strict are h = absurd are
-never_applied (x ∷ xs) [] n k s strict are h = absurd are
-never_applied (x ∷ xs) (e ∷ es) n k s strict are h = by (refusal Strict limit s e) refl (never_applied xs es (suc n) k (edited_document s e) strict.1 are.1)
+never_applied : (profile : Profile) (es : List law.Edit) (n k : ℕ) (s : Document) → AreAllowed profile es → applied_from profile limit n es s ≡ Err (refused_as k fault.Profile) → ⊥
+never_applied profile [] n k s allowed h = let no : Ok s ≡ Err (refused_as k fault.Profile) = h in cc
+never_applied profile (e ∷ es) n k s allowed h = by (refusal profile limit s e) refl (never_applied profile es (suc n) k (edited_document s e) allowed.1)
   where
-    by : (o : Option EditFault) → refusal Strict limit s e ≡ o → (applied_from Strict limit (suc n) es (edited_document s e) ≡ Err (refused_as k fault.Profile) → ⊥) → ⊥
+    by : (o : Option EditFault) → refusal profile limit s e ≡ o → (applied_from profile limit (suc n) es (edited_document s e) ≡ Err (refused_as k fault.Profile) → ⊥) → ⊥
     by None is more = more (rw (is, applied_from) at h)
     by (Some f) is more =
         let told : Err (refused_as n f) ≡ Err (refused_as k fault.Profile) = rw (is, applied_from) at h in
         let same : f ≡ fault.Profile = ap (λ (r : answers.Refused). r.fault) (err_same (refused_as n f) (refused_as k fault.Profile) told) in
-        never_refused x e s strict.0 are.0 (is ∙ ap (λ (g : EditFault). Some g) same)
+        never_refused profile e s allowed.0 (is ∙ ap (λ (g : EditFault). Some g) same)
 
 strict_front : (n : ℕ) (edits : List Edit) → AreStrict edits → AreStrict (take n edits)
 strict_front zero edits h = tt
@@ -144,7 +180,8 @@ never_edit command.CheckWide bytes n own h = absurd h
 never_edit command.List bytes n own h = absurd h
 never_edit (command.Get path) bytes n own (first, (s, read, got)) = never_at path s (value_at path s) got
 never_edit (command.Text path) bytes n own (first, (s, read, got)) = never_at path s (string_of (fact_at path (said_in s))) got
-never_edit (command.Apply edits) bytes n own (s, read, (es, are, refused)) = never_applied (take (suc n) edits.items) es 0 n s (strict_front (suc n) edits.items own) are refused
+never_edit (command.Apply edits) bytes n own (s, read, (es, are, refused)) = never_applied Strict es 0 n s (all_strict (take (suc n) edits.items) es (strict_front (suc n) edits.items own) are) refused
+never_edit (command.ApplyWide edits) bytes n own (s, read, (es, are, refused)) = never_applied Wide es 0 n s (all_wide es) refused
 
 -- no command is refused so
 pub never_profile : (c : Command) (bytes : List ℕ) (f : RunFault) → HasOwnValues c → (f ≡ run.Memory) ⊎ IsRefusal c (text_in (profile_of c) bytes) f → IsProfileFault f → ⊥

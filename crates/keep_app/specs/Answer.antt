@@ -67,6 +67,7 @@ RefusesAt profile edits s number f = (es : List law.Edit) × AllZip IsEdit (take
 -- the profile that the document is read in
 abbrev pub profile_of : Command → Profile
 profile_of command.CheckWide = Wide
+profile_of (command.ApplyWide edits) = Wide
 profile_of _ = Strict
 
 -- the output answers the command
@@ -77,6 +78,7 @@ IsText command.List input output = (s : Document) × IsTextOfTree input s × (ou
 IsText (command.Get path) input output = (s : Document) × IsTextOfTree input s × ((value : List ℕ) × (get path s ≡ Ok value) × (output ≡ value ++ codes "\n"))
 IsText (command.Text path) input output = (s : Document) × IsTextOfTree input s × (string_at path s ≡ Ok output)
 IsText (command.Apply edits) input output = (s : Document) × IsTextOfTree input s × AppliesTo input.profile edits.items s output
+IsText (command.ApplyWide edits) input output = (s : Document) × IsTextOfTree input s × AppliesTo input.profile edits.items s output
 
 -- the bytes are a document, and the edit of this number is the first that is refused, by this fault
 unfoldable pub IsEditRefusal : Command → ProfiledText → ℕ → EditFault → Type 0
@@ -86,6 +88,7 @@ IsEditRefusal command.List input number f = ⊥
 IsEditRefusal (command.Get path) input number f = (number ≡ 0) × ((s : Document) × IsTextOfTree input s × (get path s ≡ Err f))
 IsEditRefusal (command.Text path) input number f = (number ≡ 0) × ((s : Document) × IsTextOfTree input s × (string_at path s ≡ Err f))
 IsEditRefusal (command.Apply edits) input number f = (s : Document) × IsTextOfTree input s × RefusesAt input.profile edits.items s number f
+IsEditRefusal (command.ApplyWide edits) input number f = (s : Document) × IsTextOfTree input s × RefusesAt input.profile edits.items s number f
 
 -- the fault is the answer; that memory runs out is none
 abbrev pub IsRefusal : Command → ProfiledText → RunFault → Type 0

@@ -17,4 +17,7 @@ abbrev pub use_status : UseFault → ℕ
 use_status (use_fault.Words error) = 2
 use_status (use_fault.Path at) = 2
 use_status (use_fault.Value fault) = 2
+use_status (use_fault.Script fault) = 2
+use_status use_fault.Shape = 2
+use_status (use_fault.Entry index why) = 2
 use_status use_fault.Memory = 4

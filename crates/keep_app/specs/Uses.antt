@@ -10,19 +10,17 @@ use Rattle.keep_app.specs.declared.subcommand.Ask.{Ask}
 use Rattle.keep_app.specs.declared.subcommand.Ask.TheVariants as ask
 use Rattle.keep_app.specs.declared.subcommand.Word.{Word}
 use Rattle.keep_app.specs.declared.subcommand.Word.TheVariants as word
-use Rattle.keep_token.specs.declared.leaf.Profile.TheVariants.{Strict}
+use Rattle.keep_token.specs.declared.leaf.Profile.TheVariants.{Strict, Wide}
 use Rattle.keep_path.specs.Path.{Part, key, index}
 use Rattle.keep_path.specs.PathText.{FirstIndex, IsPathText}
 use Rattle.keep_meaning.specs.ReadText as reading
 use Rattle.keep_edit.specs.Headers.{key_texts}
 use Rattle.keep_edit.specs.Reading.{limit, IsAcceptedValue}
+pub use Rattle.keep_app.specs.PathWords.{IsKeysText, IsPath}
+use Rattle.keep_app.specs.Script.{IsScript, IsScriptFault}
 use Rattle.keep_app.specs.Wanted.{Wanted}
 
 -- ---- one word
-
--- the word is a path's text
-abbrev pub IsPath : List ℕ → Type 0
-IsPath word = (path : List Part) × IsPathText word path
 
 -- the word is a value's text, and this is it
 abbrev pub IsGivenValue : List ℕ → List ℕ → Type 0
@@ -43,10 +41,6 @@ abbrev pub key_in : Option Part → Option (List ℕ)
 key_in None = None
 key_in (Some part) = elim part [ key text ↦ Some text | index n ↦ None ]
 
--- the word is the text of a path of these keys
-abbrev pub IsKeysText : List ℕ → List (List ℕ) → Type 0
-IsKeysText word keys = IsPathText word (map (λ text. key text) keys)
-
 -- The word is no path's text (where it fails is not told here), or its first index stands there.
 abbrev pub IsKeysFault : List ℕ → UseFault → Type 0
 IsKeysFault word (fault.Path at) = (IsPath word → ⊥) ⊎ FirstIndex word at
@@ -57,6 +51,8 @@ abbrev pub IsReadable : Word → List ℕ → Type 0
 IsReadable word.Path text = IsPath text
 IsReadable word.Value text = IsAcceptedValue Strict text
 IsReadable word.Key text = ⊤
+IsReadable word.Script text = (edits : List Edit) × IsScript Strict text edits
+IsReadable word.WideScript text = (edits : List Edit) × IsScript Wide text edits
 IsReadable word.Keys text = (keys : List (List ℕ)) × IsKeysText text keys
 
 -- it can't, and this is why
@@ -64,6 +60,8 @@ abbrev pub IsFaultOf : Word → List ℕ → UseFault → Type 0
 IsFaultOf word.Path text f = IsPathFault text f
 IsFaultOf word.Value text f = IsValueFault text f
 IsFaultOf word.Key text f = ⊥
+IsFaultOf word.Script text f = IsScriptFault Strict text f
+IsFaultOf word.WideScript text f = IsScriptFault Wide text f
 IsFaultOf word.Keys text f = IsKeysFault text f
 
 -- ---- all words
@@ -110,6 +108,8 @@ IsCommand ask.Rename (path ∷ name ∷ []) (command.Apply edits) = IsOne (Renam
 IsCommand ask.Remove (path ∷ []) (command.Apply edits) = IsOne (Removes path) edits.items
 IsCommand ask.Table (keys ∷ []) (command.Apply edits) = IsOne (AddsTable keys) edits.items
 IsCommand ask.Element (keys ∷ []) (command.Apply edits) = IsOne (AddsElement keys) edits.items
+IsCommand ask.Apply (script ∷ []) (command.Apply edits) = IsScript Strict script edits.items
+IsCommand ask.ApplyWide (script ∷ []) (command.ApplyWide edits) = IsScript Wide script edits.items
 IsCommand _ _ _ = ⊥
 
 -- the first word, from the left, that can't be read as what it is
@@ -145,7 +145,7 @@ abbrev pub AreStrict : List Edit → Type 0
 AreStrict [] = ⊤
 AreStrict (e ∷ es) = IsStrictEdit e × AreStrict es
 
--- its values are of the profile that it reads the document in
+-- Its values are of the profile that it reads the document in. (Wide has all values.)
 abbrev pub HasOwnValues : Command → Type 0
 HasOwnValues (command.Apply edits) = AreStrict edits.items
 HasOwnValues _ = ⊤

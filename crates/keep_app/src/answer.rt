@@ -155,7 +155,7 @@ fn profile_for(command: &Command) -> Profile
     ensures { result ≡ profile_of command.now }
 {
     match command {
-        Command::CheckWide => Profile::Wide,
+        Command::CheckWide | Command::ApplyWide(_) => Profile::Wide,
         _ => Profile::Strict,
     }
 }
@@ -175,6 +175,7 @@ pub fn answer(alloc: Global, command: &Command, bytes: Vec<u8>) -> Result<String
         Command::Get(path) => got(alloc, &document, path),
         Command::Text(path) => meant(alloc, &document, path),
         Command::Apply(edits) => return applied(document, edits.as_slice()),
+        Command::ApplyWide(edits) => return applied(document, edits.as_slice()),
     };
     // The program ends with its answer: to take the document apart piece by piece would only cost time.
     mem::forget(document);

@@ -8,9 +8,10 @@ ghost use Rattle.keep_app.specs.Uses.{key_in, Asks, HasOwnValues, IsApplied, IsC
 ghost use Rattle.keep_app.specs.Wanted.{IsWhole, has_plain_words, wanted_of};
 
 use crate::fault::UseFault;
+use crate::script::script_of;
 use crate::subcommand::Ask;
 use crate::words::{Chosen, chosen_of};
-use keep_edit::{Edit, Path, PathFault, ReadFault, Step, ValueText};
+use keep_edit::{Edit, Path, PathFault, Profile, ReadFault, Step, ValueText};
 use std::alloc::{AllocError, Global};
 
 /// What the program is asked.
@@ -28,6 +29,8 @@ pub enum Command {
     Text(Path),
     /// The document after these edits, in order.
     Apply(Vec<Edit>),
+    /// The same in the profile Wide.
+    ApplyWide(Vec<Edit>),
 }
 
 /// The command that the words ask for. The first word is the program's name.
@@ -79,6 +82,8 @@ fn command_from(alloc: Global, chosen: &Chosen) -> Result<Command, UseFault>
             let keys = keys_of(alloc, words[0].as_str())?;
             one_edit(alloc, Edit::Element(keys))
         }
+        Ask::Apply => apply_of(alloc, words[0].as_str()),
+        Ask::ApplyWide => apply_wide_of(alloc, words[0].as_str()),
     }
 }
 
@@ -100,6 +105,24 @@ fn insert_of(alloc: Global, path: &str, value: &str) -> Result<Command, UseFault
     let path = path_of(alloc, path)?;
     let value = value_of(alloc, value)?;
     one_edit(alloc, Edit::Insert(path, value))
+}
+
+fn apply_of(alloc: Global, script: &str) -> Result<Command, UseFault>
+    ensures asked { MatchResult result (IsCommand Ask.Apply (script.now ∷ []))
+        (λ fault. (fault ≡ UseFault.Memory) ⊎ IsWordFault (Word.Script ∷ []) (script.now ∷ []) fault) }
+    ensures values { IfOk result HasOwnValues }
+{
+    let edits = script_of(alloc, script, Profile::Strict)?;
+    Ok(Command::Apply(edits))
+}
+
+fn apply_wide_of(alloc: Global, script: &str) -> Result<Command, UseFault>
+    ensures asked { MatchResult result (IsCommand Ask.ApplyWide (script.now ∷ []))
+        (λ fault. (fault ≡ UseFault.Memory) ⊎ IsWordFault (Word.WideScript ∷ []) (script.now ∷ []) fault) }
+    ensures values { IfOk result HasOwnValues }
+{
+    let edits = script_of(alloc, script, Profile::Wide)?;
+    Ok(Command::ApplyWide(edits))
 }
 
 // The command of a single edit. The only error is out of memory.
@@ -164,7 +187,7 @@ fn keys_in(alloc: Global, path: &Path) -> Result<Vec<String>, AllocError>
 }
 
 // The key at a place of a path; None where an index stands there, or nothing.
-fn key_at(path: &Path, number: usize) -> Option<&str>
+pub(crate) fn key_at(path: &Path, number: usize) -> Option<&str>
     ensures { option_map (λ text. text.now) result ≡ key_in (slice_get path.now number) }
 {
     match path.step(number) {

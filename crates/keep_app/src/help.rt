@@ -91,6 +91,26 @@ pub const ELEMENT: Help = (
   keep-toml element bin < Cargo.toml > new.toml",
 );
 
+pub const APPLY: Help = (
+    "Apply the edits of a script in their order, or none of them",
+    "A script is a TOML document: [[edit]] for each edit, with its op (set, insert, rename, remove, table
+or element), its path and its value or key, all as strings.
+
+Example:
+  keep-toml apply '[[edit]]
+  op = \"set\"
+  path = \"package.version\"
+  value = \"\\\"1.2.0\\\"\"' < Cargo.toml > new.toml",
+);
+
+pub const APPLY_WIDE: Help = (
+    "Do the same in the wide profile, for the document and the script's values",
+    "The wide profile is that of check-wide. The script itself is TOML v1.0.0.
+
+Example:
+  keep-toml apply-wide \"$(cat edits.toml)\" < draft.toml > new.toml",
+);
+
 /// The name of a word in help, and what it is.
 pub fn of_word(word: Word) -> Help {
     match word {
@@ -105,6 +125,10 @@ pub fn of_word(word: Word) -> Help {
         Word::Keys => (
             "KEYS",
             "Keys as in TOML with dots between them: dependencies, servers.alpha",
+        ),
+        Word::Script | Word::WideScript => (
+            "SCRIPT",
+            "The text of a script: [[edit]] with op, path and value or key, for each edit",
         ),
         Word::Key => (
             "KEY",

@@ -8,5 +8,6 @@ pub mod fault;
 pub mod given;
 mod help;
 pub mod run;
+pub mod script;
 mod subcommand;
 mod words;

@@ -17,6 +17,8 @@ pub enum Ask {
     Remove,
     Table,
     Element,
+    Apply,
+    ApplyWide,
 }
 
 /// What a word of a subcommand is.
@@ -30,6 +32,10 @@ pub enum Word {
     Key,
     /// The text of a path without an index.
     Keys,
+    /// A script's text.
+    Script,
+    /// A script's text, with values of the wide profile.
+    WideScript,
 }
 
 /// A row: the subcommand's name, what it asks, what its words are in their order, and what help says of it. A subcommand has at
@@ -37,7 +43,7 @@ pub enum Word {
 pub type Subcommand = (&'static str, Ask, &'static [Word], Help);
 
 /// All subcommands. The definitions cite it.
-pub const SUBCOMMANDS: [Subcommand; 11] = [
+pub const SUBCOMMANDS: [Subcommand; 13] = [
     ("check", Ask::Check, &[], help::CHECK),
     ("check-wide", Ask::CheckWide, &[], help::CHECK_WIDE),
     ("list", Ask::List, &[], help::LIST),
@@ -59,4 +65,11 @@ pub const SUBCOMMANDS: [Subcommand; 11] = [
     ("remove", Ask::Remove, &[Word::Path], help::REMOVE),
     ("table", Ask::Table, &[Word::Keys], help::TABLE),
     ("element", Ask::Element, &[Word::Keys], help::ELEMENT),
+    ("apply", Ask::Apply, &[Word::Script], help::APPLY),
+    (
+        "apply-wide",
+        Ask::ApplyWide,
+        &[Word::WideScript],
+        help::APPLY_WIDE,
+    ),
 ];

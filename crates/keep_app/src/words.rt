@@ -67,7 +67,15 @@ fn row_at(number: usize) -> Subcommand
     requires { number < length table }
     ensures { row_of result ≡ get_or table number first_row }
 {
-    SUBCOMMANDS[number]
+    row_in(&SUBCOMMANDS, number)
+}
+
+// The row of a number in a table.
+fn row_in(rows: &[Subcommand], number: usize) -> Subcommand
+    requires { number < length rows.now }
+    ensures { row_of result ≡ get_or (map row_of rows.now) number first_row }
+{
+    rows[number]
 }
 
 // The program without its subcommands.

@@ -28,3 +28,4 @@ pub mod LineWriting
 pub mod BracketPlaces
 pub mod KeysLaws
 pub mod InsertedLaws
+pub mod ChildLaws

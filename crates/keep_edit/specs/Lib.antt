@@ -10,3 +10,4 @@ pub mod Headers
 pub mod Writing
 pub mod Aiming
 pub mod PutLines
+pub mod Children

@@ -1,11 +1,12 @@
 //! The entries of a document, one by one.
-ghost use Rattle.std.specs.Prelude.{IfOk, slice_get, string_bytes};
+ghost use Rattle.std.specs.Prelude.{◌≡◌, IfOk, slice_get, string_bytes};
 ghost use Rattle.keep_syntax.specs.Tree as tree;
 ghost use Rattle.keep_edit.specs.Answers.{entries_of, AddsEntryPath};
+ghost use Rattle.keep_edit.specs.Children.{child_count_of};
 ghost use Rattle.keep_edit.specs.Reading.{IsAccepted, IsTextOfTree};
 
 use crate::document::Document;
-use keep_rules::{Kind, NodeId};
+use keep_rules::{Kind, NodeId, Path};
 use std::alloc::AllocError;
 
 impl Document {
@@ -31,5 +32,15 @@ impl Document {
         let id = NodeId(number + 1);
         self.index.push_path_text(id, out)?;
         Ok(Some(self.index.node(id).kind))
+    }
+
+    /// How many nodes stand one step below a path: the keys of a table, the items of an array or the elements of an array of
+    /// tables, and 0 where another value stands. None where the path names no node. It takes no memory.
+    pub fn child_count(&self, path: &Path) -> Option<usize>
+        ensures count { (s : tree.Document) → IsTextOfTree self.now s → result ≡ child_count_of path.now s }
+        ensures accepted { IsAccepted self.now }
+    {
+        let id = self.index.find(path)?;
+        Some(self.index.child_count(id))
     }
 }

@@ -4,8 +4,9 @@ use Rattle.keep_token.specs.declared.leaf.Profile.{Profile}
 use Rattle.keep_edit.specs.Reading.{ProfiledText, text_in}
 use Rattle.keep_app.specs.Answer.{profile_of, IsRefusal, IsText}
 use Rattle.keep_app.specs.declared.command.Command.{Command}
+use Rattle.keep_app.specs.declared.command.Command.TheVariants.{Apply, ApplyWide}
 use Rattle.keep_app.specs.declared.fault.RunFault.TheVariants as run
-use Rattle.keep_app.proofs.AnswerLaws.{read_refusal, apply_answer}
+use Rattle.keep_app.proofs.AnswerLaws.{read_refusal, apply_answer, apply_applies, apply_wide_applies}
 use Rattle.keep_app.proofs.answer.answer.Goals as goal
 
 pub returns-in-Err : goal.returns-in-Err
@@ -16,4 +17,11 @@ returns-in-Apply c =
     let input : ProfiledText = text_in (profile_of c.args.command.now) c.args.bytes.items in
     let same : c.in-Ok.document ≡ input = c.in-Ok.ensures.text ∙ ap (λ (p : Profile). text_in p c.args.bytes.items) c.profile_for.ensures in
     subst (λ (k : Command). MatchResult c.applied.result (λ text. IsText k input (string_bytes text)) (λ f. (f ≡ run.Memory) ⊎ IsRefusal k input f)) (sym c.in-Apply.is)
-    (apply_answer input c.in-Ok.document c.as_slice.result.now c.in-Apply.edits c.applied.result c.as_slice.ensures.value same c.in-Ok.ensures.accepted c.applied.ensures)
+    (apply_answer (Apply c.in-Apply.edits) input c.in-Ok.document c.as_slice.result.now c.in-Apply.edits c.applied.result (apply_applies c.in-Apply.edits) c.as_slice.ensures.value same c.in-Ok.ensures.accepted c.applied.ensures)
+
+pub returns-in-ApplyWide : goal.returns-in-ApplyWide
+returns-in-ApplyWide c =
+    let input : ProfiledText = text_in (profile_of c.args.command.now) c.args.bytes.items in
+    let same : c.in-Ok.document ≡ input = c.in-Ok.ensures.text ∙ ap (λ (p : Profile). text_in p c.args.bytes.items) c.profile_for.ensures in
+    subst (λ (k : Command). MatchResult c.applied-in-ApplyWide.result (λ text. IsText k input (string_bytes text)) (λ f. (f ≡ run.Memory) ⊎ IsRefusal k input f)) (sym c.in-ApplyWide.is)
+    (apply_answer (ApplyWide c.in-ApplyWide.edits) input c.in-Ok.document c.as_slice-in-ApplyWide.result.now c.in-ApplyWide.edits c.applied-in-ApplyWide.result (apply_wide_applies c.in-ApplyWide.edits) c.as_slice-in-ApplyWide.ensures.value same c.in-Ok.ensures.accepted c.applied-in-ApplyWide.ensures)
