@@ -1,15 +1,12 @@
 -- Where an insert goes: an item of an array or not, and the refusals in their order.
-use Rattle.std.proofs.Common.{◌≡◌, ℕ, zero, suc, ◌+◌, ◌-◌, ◌<◌, ◌≤◌, Bool, true, false, not, cond, ◌&&◌, ◌||◌, List, [], ◌∷◌, ◌++◌, length, take, drop, slice_get, refl, sym, ap, subst, ◌∙◌, arith, Option, Some, None, Ok, Err, ◌⊎◌, inl, inr}
+use Rattle.std.proofs.Common.{◌≡◌, ℕ, zero, suc, ◌-◌, ◌<◌, ◌≤◌, Bool, true, false, List, [], ◌∷◌, ◌++◌, length, take, slice_get, refl, sym, ap, subst, ◌∙◌, arith, Option, Some, None, Ok, Err, inl, inr}
 use Rattle.std.specs.Prelude.{if◌then◌else◌}
-use Rattle.std.specs.List.{list_any}
-use Rattle.std.proofs.lemmas.Bool.{cases_lt, lt-ltb, le-ltb}
+use Rattle.std.proofs.lemmas.Bool.{cases_lt}
 use Rattle.std.proofs.lemmas.Option.{slice_get_within}
 use Rattle.keep_token.specs.declared.leaf.Leaf.{Leaf}
 use Rattle.keep_token.specs.declared.leaf.Leaf.TheVariants as leaf
-use Rattle.keep_token.specs.declared.leaf.Profile.{Profile}
-use Rattle.keep_syntax.specs.Tree.{Value, Document}
+use Rattle.keep_syntax.specs.Tree.{Document}
 use Rattle.keep_syntax.specs.declared.syntax.Syntax.{Syntax}
-use Rattle.keep_meaning.specs.declared.node.Kind.{Kind}
 use Rattle.keep_meaning.specs.declared.node.Kind.TheVariants as kind
 use Rattle.keep_meaning.specs.declared.node.NodeInfo.{NodeInfo}
 use Rattle.keep_meaning.specs.declared.node.Place.TheVariants as origin
@@ -20,26 +17,25 @@ use Rattle.keep_path.specs.Path.{Part, key, index}
 use Rattle.keep_meaning.specs.Rules.{ObeysRules}
 use Rattle.keep_meaning.specs.Marks.{Mention, marks}
 use Rattle.keep_meaning.specs.Meaning.{said_in}
-use Rattle.keep_meaning.specs.Nodes.{is_node, is_root, has, is_element, fact_at, kind_at, kind_or_table, moment_kind, node_number, node_paths, numbered_at}
+use Rattle.keep_meaning.specs.Nodes.{is_node, has, is_element, fact_at, kind_at, kind_or_table, moment_kind, node_number, node_paths, numbered_at}
 use Rattle.keep_meaning.proofs.Shared.{paths-nodes_in}
 use Rattle.keep_nodes.specs.Told.{Telling}
 use Rattle.keep_rules.specs.Lookup.{number_of, path_numbered}
 use Rattle.keep_rules.specs.declared.index.NodeId.{NodeId}
 use Rattle.keep_rules.proofs.Shared.{number_is}
 use Rattle.keep_law.specs.declared.fault.EditFault.TheVariants as fault
-use Rattle.keep_law.specs.Edits.{insert}
-use Rattle.keep_law.specs.Look.{is_index, is_bracket_at, is_array_at, is_table, item_number, item_count, last_part, without_last, holder}
-use Rattle.keep_law.specs.Refusals.{refusal, first_that_holds, has_value, is_too_deep, is_foreign}
-use Rattle.keep_law.proofs.Shared.{AreNumbered, IsItemPath, items_numbered, item_at, has_of_number, none_of_number, no_bracket_element, rules_of_document}
-use Rattle.keep_edit.specs.Reading.{ProfiledText, IsTextOfTree, Holds, limit}
+use Rattle.keep_law.specs.Look.{is_array_at, item_number, item_count, last_part, without_last}
+use Rattle.keep_law.specs.Refusals.{has_value}
+use Rattle.keep_law.proofs.Shared.{AreNumbered, items_numbered, has_of_number, none_of_number, no_bracket_element, rules_of_document}
+use Rattle.keep_edit.specs.Reading.{ProfiledText, IsTextOfTree, Holds}
 use Rattle.keep_edit.specs.Answers.{value_number_of}
-use Rattle.keep_edit.specs.Aiming.{IsItemOf, IsItemAimed, value_refusal}
-use Rattle.keep_edit.specs.Holding.{IsOnWay, IsHolder}
+use Rattle.keep_edit.specs.Aiming.{IsItemOf, IsItemAimed}
+use Rattle.keep_edit.specs.Holding.{IsHolder}
 use Rattle.keep_edit.specs.declared.holder.Holder.{Holder}
 use Rattle.keep_edit.specs.declared.insert.Spot.TheVariants as spot
 use Rattle.keep_edit.proofs.AnswerLaws.{told_is}
 use Rattle.keep_edit.proofs.FoundLaws.{IsTold, one_found, fact_node, none_unless, value_of_place}
-use Rattle.keep_edit.proofs.NodeLaws.{a_node, no_node, kind_told}
+use Rattle.keep_edit.proofs.NodeLaws.{no_node, kind_told}
 
 -- ---- the end of a path
 

@@ -1,7 +1,7 @@
 -- Where `insert` writes in brackets, by the spot that is found for it.
 --
 -- Theorems: `item_placed`, `braces_placed`.
-use Rattle.std.proofs.Common.{◌≡◌, ℕ, suc, ◌+◌, ◌<◌, ◌≤◌, Bool, true, false, List, [], ◌∷◌, ◌++◌, length, drop, take, slice_get, refl, sym, ap, subst, ◌∙◌, Option, Some, None, ◌⊎◌, inl, inr}
+use Rattle.std.proofs.Common.{◌≡◌, ℕ, suc, true, List, [], ◌∷◌, ◌++◌, length, drop, take, slice_get, refl, sym, ap, subst, ◌∙◌, Some, None, inl, inr}
 use Rattle.std.specs.Prelude.{IsUtf8, ⊤}
 use Rattle.std.specs.List.{AllByRecursion}
 use Rattle.std.specs.Option.{option_map, option_and_then}
@@ -19,7 +19,7 @@ use Rattle.keep_law.specs.Changed as changed
 use Rattle.keep_law.specs.Edits.{insert}
 use Rattle.keep_law.specs.Insertion.{before_item, behind_entry, in_empty, last_keyval}
 use Rattle.keep_law.specs.Laws.{IsGivenValue}
-use Rattle.keep_law.specs.Look.{holder, item_number, item_count, keys_in, without_last}
+use Rattle.keep_law.specs.Look.{holder, item_number, keys_in, without_last}
 use Rattle.keep_law.specs.Refusals.{refusal}
 use Rattle.keep_law.proofs.Shared.{IsLowPlace, IsValueOf, value_of_number, IsItemLaw, item_law, IsPutBehind, IsInlineLaw, inline_placed, dots_placed, IsDottedNode, dotted_node}
 use Rattle.keep_edit.specs.Reading.{limit, ProfiledText, IsTextOfTree}

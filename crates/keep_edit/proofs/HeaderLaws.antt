@@ -1,5 +1,10 @@
 -- What the index tells of a node tells what a header meets there.
 --
+-- The place of a node says which things are said of its path (`place_tells`), and those say what its marks refuse: a value refuses
+-- all, an array of tables all but its elements, any other node elements (`refused_last`). Headers go on from a node that is no
+-- value: into the last element of an array of tables, as `AreNested` says, else at the node itself. Where there is no node, there
+-- is none below, so nothing more is refused (`free_from`).
+--
 -- Theorems: `enters_none`, `enters_refused`, `enters_tables`, `enters_other` for a key on the way, `last_free`, `last_met` for
 -- the last one.
 use Rattle.std.proofs.Common.{◌≡◌, ℕ, zero, suc, ◌+◌, ◌-◌, ◌<◌, ◌≤◌, Bool, true, false, cond, not, ◌&&◌, ◌||◌, ◌==◌, List, [], ◌∷◌, ◌++◌, length, map, drop, slice_get, refl, sym, ap, subst, ◌∙◌, arith, Option, Some, None, Ok, Err}

@@ -11,7 +11,6 @@ use Rattle.keep_token.specs.declared.leaf.Leaf.{Leaf}
 use Rattle.keep_token.specs.declared.leaf.Leaf.TheVariants as leaf
 use Rattle.keep_syntax.specs.declared.syntax.Syntax.{Syntax}
 use Rattle.keep_syntax.specs.Tree.{Document}
-use Rattle.keep_meaning.specs.declared.node.Kind.{Kind}
 use Rattle.keep_meaning.specs.declared.node.Kind.TheVariants as kind
 use Rattle.keep_meaning.specs.declared.node.NodeInfo.{NodeInfo}
 use Rattle.keep_meaning.specs.declared.node.Place.{Place}
@@ -20,8 +19,7 @@ use Rattle.keep_meaning.specs.Counts.{one_if}
 use Rattle.keep_meaning.specs.Fact as fact
 use Rattle.keep_meaning.specs.Fact.{Fact, is_bracket}
 use Rattle.keep_path.specs.Path.{Part, same_path}
-use Rattle.keep_meaning.specs.Rules.{ObeysRules}
-use Rattle.keep_meaning.specs.Marks.{Mention, marks}
+use Rattle.keep_meaning.specs.Marks.{Mention}
 use Rattle.keep_meaning.specs.Meaning.{said_in}
 use Rattle.keep_meaning.specs.Nodes.{is_node, node_number, node_paths, paths_with, has, is_element, fact_at, kind_at, kind_or_table, moment_kind, place_said}
 use Rattle.keep_meaning.proofs.Shared.{paths-nodes_in}
@@ -330,7 +328,7 @@ holder_at path s h way (inl empty) none = (by path empty way.within, subst (λ (
 
     zero_depth : (q : List Part) → q ≡ [] → (n : ℕ) → n ≤ length q → (k : ℕ) → k ≡ enclosing (take n q) (said_in s) + one_if (is_bracket_at (said_in s) (take n q)) → k ≡ 0
     zero_depth [] e n low k is =
-        let none_taken : take n [] ≡ [] = take_all n [] (omega arith) in
+        let none_taken : take {A = Part} n [] ≡ [] = take_all n [] (omega arith) in
         let at_end : k ≡ 0 + one_if (is_bracket_at (said_in s) []) = is ∙ ap (λ (q : List Part). enclosing q (said_in s) + one_if (is_bracket_at (said_in s) q)) none_taken in
         omega (arith, at_end, ap one_if (root_flat s))
     zero_depth (p ∷ ps) e n low k is = absurd cc

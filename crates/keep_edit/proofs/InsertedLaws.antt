@@ -1,6 +1,6 @@
 -- What is written where an insert goes is the edit's place.
-use Rattle.std.proofs.Common.{◌≡◌, ℕ, suc, ◌+◌, ◌<◌, ◌≤◌, Bool, true, false, List, [], ◌∷◌, ◌++◌, length, take, drop, slice_get, refl, sym, ap, subst, ◌∙◌, append_assoc, arith, Option, Some, None, Ok, Err, ◌⊎◌, inl, inr}
-use Rattle.std.specs.Prelude.{IsCharBoundary, codes, string_bytes}
+use Rattle.std.proofs.Common.{◌≡◌, ℕ, suc, ◌<◌, ◌≤◌, false, List, [], ◌++◌, length, take, drop, slice_get, refl, sym, ap, subst, ◌∙◌, append_assoc, arith, Option, Some, None, Ok, Err, inl, inr}
+use Rattle.std.specs.Prelude.{IsCharBoundary, codes}
 use Rattle.std.specs.List.{list_any}
 use Rattle.std.specs.Option.{option_map}
 use Rattle.std.proofs.lemmas.Option.{slice_get_within}
@@ -16,7 +16,7 @@ use Rattle.keep_nodes.specs.Told.{Telling}
 use Rattle.keep_law.specs.declared.fault.EditFault.{EditFault}
 use Rattle.keep_law.specs.declared.fault.EditFault.TheVariants as fault
 use Rattle.keep_law.specs.Changed as changed
-use Rattle.keep_law.specs.Edits.{insert, place}
+use Rattle.keep_law.specs.Edits.{insert}
 use Rattle.keep_law.specs.Insertion.{before_item, behind_entry, in_empty, put_in, keyed_text}
 use Rattle.keep_law.specs.Laws.{IsGivenValue, IsLawfulEdit}
 use Rattle.keep_law.specs.Look.{holder, is_index, item_number, keys_in}
@@ -27,7 +27,7 @@ use Rattle.keep_edit.specs.Reading.{limit, ProfiledText, IsTextOfTree, IsTextOfV
 use Rattle.keep_edit.specs.Answers.{IsDone, IsMade, IsSpanOf, EditMade}
 use Rattle.keep_edit.specs.Places.{IsDoneAt}
 use Rattle.keep_edit.specs.PutLines.{body_end_of, keyval_end_of, new_section_at}
-use Rattle.keep_edit.specs.Inserting.{IsInsertionOf, IsItemSpot, IsKeyvalSpot, IsSpotOf, IsPutIn, new_line_at, spot_place}
+use Rattle.keep_edit.specs.Inserting.{IsInsertionOf, IsItemSpot, IsKeyvalSpot, IsPutIn, new_line_at, spot_place}
 use Rattle.keep_edit.specs.declared.insert.Insertion.{Insertion}
 use Rattle.keep_edit.specs.declared.insert.Spot.{Spot}
 use Rattle.keep_edit.specs.declared.insert.Spot.TheVariants as spot

@@ -8,7 +8,6 @@ use Rattle.keep_token.specs.declared.leaf.Profile.{Profile}
 use Rattle.keep_syntax.specs.Tree.{Value, Document, value_depth}
 use Rattle.keep_syntax.specs.Profiles.{is_allowed_in}
 use Rattle.keep_path.specs.Path.{Part}
-use Rattle.keep_meaning.specs.Marks.{Mention}
 use Rattle.keep_meaning.specs.Meaning.{said_in}
 use Rattle.keep_meaning.specs.Nodes.{is_node, node_number, node_paths}
 use Rattle.keep_law.specs.declared.fault.EditFault.{EditFault}
@@ -17,8 +16,8 @@ use Rattle.keep_law.specs.Edits.{insert}
 use Rattle.keep_law.specs.Look.{holder, enclosing, is_index, is_table, item_number, item_count, without_last}
 use Rattle.keep_law.specs.Refusals.{refusal, refusal_by, first_that_holds, is_too_deep, is_foreign}
 use Rattle.keep_law.proofs.Shared.{IsItemPath, item_at}
-use Rattle.keep_edit.specs.Reading.{limit, ProfiledText, IsTextOfTree}
-use Rattle.keep_edit.specs.Aiming.{IsAimed, IsItemAimed, IsItemOf, IsKeyvalAimed, value_refusal}
+use Rattle.keep_edit.specs.Reading.{limit}
+use Rattle.keep_edit.specs.Aiming.{IsAimed, IsItemAimed, IsItemOf, IsKeyvalAimed}
 use Rattle.keep_edit.specs.Holding.{IsHolder}
 use Rattle.keep_edit.specs.Inserting.{IsInsertionOf, IsItemSpot, IsKeyvalSpot, IsSpotOf}
 use Rattle.keep_edit.specs.declared.holder.Holder.{Holder}

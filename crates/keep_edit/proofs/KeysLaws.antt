@@ -1,5 +1,5 @@
 -- The steps of a path that an insert writes are keys.
-use Rattle.std.proofs.Common.{◌≡◌, ℕ, zero, suc, ◌+◌, ◌-◌, ◌<◌, ◌≤◌, Bool, true, false, ◌||◌, List, [], ◌∷◌, ◌++◌, length, take, drop, slice_get, refl, sym, ap, subst, ◌∙◌, arith, Option, Some, None, inl, inr}
+use Rattle.std.proofs.Common.{◌≡◌, ℕ, zero, suc, ◌+◌, ◌-◌, ◌<◌, ◌≤◌, Bool, true, false, ◌||◌, List, [], ◌∷◌, ◌++◌, length, take, drop, slice_get, refl, sym, ap, ◌∙◌, arith, Some}
 use Rattle.std.specs.Prelude.{IsUtf8}
 use Rattle.std.specs.List.{list_any, AllByRecursion}
 use Rattle.std.proofs.lemmas.List.{take-append-drop}
@@ -8,7 +8,6 @@ use Rattle.keep_syntax.specs.Tree.{Document}
 use Rattle.keep_path.specs.Path.{Part, key, index, AreUtf8}
 use Rattle.keep_meaning.specs.declared.node.Place.{Place}
 use Rattle.keep_meaning.specs.declared.node.Place.TheVariants as origin
-use Rattle.keep_meaning.specs.Counts.{numbered_in}
 use Rattle.keep_meaning.specs.Nodes.{is_dotted, value_number}
 use Rattle.keep_law.specs.Look.{is_index, keys_in, last_part}
 use Rattle.keep_law.proofs.Shared.{EndsInKey, IsDottedNode, dotted_ends, dotted_node, said_of_number}

@@ -1,7 +1,6 @@
 -- Where a keyval goes below the holder of its path, by where the holder comes from.
-use Rattle.std.proofs.Common.{◌≡◌, ℕ, zero, suc, ◌+◌, ◌<◌, ◌≤◌, Bool, true, false, not, ◌&&◌, ◌||◌, List, [], ◌∷◌, length, take, refl, sym, ap, subst, ◌∙◌, arith, Option, Some, None, Ok, Err, inl, inr}
+use Rattle.std.proofs.Common.{◌≡◌, ℕ, ◌≤◌, Bool, true, false, not, ◌&&◌, List, [], ◌∷◌, length, take, refl, sym, ap, subst, ◌∙◌, arith, Option, Some, None, Ok, Err, inl, inr}
 use Rattle.std.specs.Prelude.{if◌then◌else◌}
-use Rattle.std.specs.List.{list_any}
 use Rattle.std.specs.Option.{option_map}
 use Rattle.std.proofs.lemmas.Bool.{cases_lt}
 use Rattle.std.proofs.lemmas.List.{take-take, length-take-le}
@@ -10,7 +9,6 @@ use Rattle.keep_token.specs.declared.leaf.Leaf.TheVariants as leaf
 use Rattle.keep_syntax.specs.Tree.{Document}
 use Rattle.keep_syntax.specs.declared.info.ValueInfo.{ValueInfo}
 use Rattle.keep_syntax.specs.Numbered as syntax
-use Rattle.keep_meaning.specs.declared.node.Kind.{Kind}
 use Rattle.keep_meaning.specs.declared.node.Kind.TheVariants as kind
 use Rattle.keep_meaning.specs.declared.node.NodeInfo.{NodeInfo}
 use Rattle.keep_meaning.specs.declared.node.Place.{Place}
@@ -19,11 +17,10 @@ use Rattle.keep_meaning.specs.Counts.{is_value, numbered_in}
 use Rattle.keep_meaning.specs.Fact as fact
 use Rattle.keep_meaning.specs.Fact.{Fact}
 use Rattle.keep_path.specs.Path.{Part}
-use Rattle.keep_meaning.specs.Rules.{ObeysRules}
 use Rattle.keep_meaning.specs.Marks as says
 use Rattle.keep_meaning.specs.Marks.{Saying, Mention, marks}
 use Rattle.keep_meaning.specs.Meaning.{said_in}
-use Rattle.keep_meaning.specs.Nodes.{is_at, is_node, is_root, has, is_element, is_begun, is_define, is_dotted, is_through, fact_at, kind_at, kind_or_table, moment_kind, numbered_at, last_number, value_number, statement_number, first_that_fits, place_said}
+use Rattle.keep_meaning.specs.Nodes.{is_node, has, is_element, is_begun, is_define, is_dotted, is_through, fact_at, kind_at, kind_or_table, moment_kind, numbered_at, last_number, value_number, statement_number, first_that_fits}
 use Rattle.keep_law.specs.declared.fault.EditFault.TheVariants as fault
 use Rattle.keep_law.specs.Look.{holder, is_table, is_table_fact}
 use Rattle.keep_law.specs.Refusals.{has_value}
@@ -32,7 +29,7 @@ use Rattle.keep_edit.specs.Reading.{ProfiledText, IsTextOfTree}
 use Rattle.keep_edit.specs.Answers.{value_number_of}
 use Rattle.keep_edit.specs.Inserting.{IsBase, IsKeyvalSpot, is_dotted_origin, last_keyval_among, last_keyval_of, origin_of}
 use Rattle.keep_edit.specs.Aiming.{IsKeyvalAimed, spot_in_braces}
-use Rattle.keep_edit.specs.Holding.{IsHolder, IsOnWay, is_value_origin}
+use Rattle.keep_edit.specs.Holding.{IsHolder, is_value_origin}
 use Rattle.keep_edit.specs.declared.holder.Holder.{Holder}
 use Rattle.keep_edit.specs.declared.insert.Spot.{Spot}
 use Rattle.keep_edit.specs.declared.insert.Spot.TheVariants as spot

@@ -1,11 +1,10 @@
 -- Nothing is said of the root.
-use Rattle.std.proofs.Common.{◌≡◌, ℕ, ◌-◌, ◌==◌, Bool, true, false, cond, List, [], ◌∷◌, ◌++◌, map, refl, sym, subst, Option, None, Some}
+use Rattle.std.proofs.Common.{◌≡◌, ℕ, ◌-◌, ◌==◌, Bool, true, false, cond, List, [], ◌∷◌, ◌++◌, map, refl, sym, subst, None, Some}
 use Rattle.keep_syntax.specs.Tree.{Content, blank, keyval, header, element, Line, Document}
 use Rattle.keep_path.specs.Path.{Part, key, index}
-use Rattle.keep_meaning.specs.Fact.{Fact}
 use Rattle.keep_meaning.specs.Marks as marks
 use Rattle.keep_meaning.specs.Marks.{Saying, Mention, Reading, start, below, elements_of, entered_path, passing_mentions, header_path, header_way}
-use Rattle.keep_meaning.specs.Meaning.{key_value, further_value, keys_of, keyed_mentions, statement_of, line_said, behind_line, lines_said, lines, said_in}
+use Rattle.keep_meaning.specs.Meaning.{key_value, further_value, keys_of, keyed_mentions, statement_of, line_said, behind_line, lines_said, lines}
 use Rattle.keep_meaning.specs.Counts.{Numbered, numbered_in}
 use Rattle.keep_meaning.specs.Nodes.{mention_of, numbered_at}
 use Rattle.keep_meaning.proofs.Shared.{mentions-numbered_in}

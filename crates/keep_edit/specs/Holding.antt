@@ -10,7 +10,7 @@ use Rattle.keep_meaning.specs.Counts.{one_if}
 use Rattle.keep_meaning.specs.Meaning.{said_in}
 use Rattle.keep_meaning.specs.Nodes.{is_node, node_number, node_paths}
 use Rattle.keep_law.specs.Look.{holder, enclosing, is_bracket_at}
-use Rattle.keep_edit.specs.Inserting.{IsBase, is_dotted_origin, origin_of}
+use Rattle.keep_edit.specs.Inserting.{is_dotted_origin, origin_of}
 use Rattle.keep_edit.specs.declared.holder.Holder.{Holder}
 
 -- how many arrays or inline tables a node of this kind is

@@ -22,10 +22,10 @@ mod lines;
 use crate::document::{Document, Edited, edited_at};
 use crate::holder::Holder;
 use crate::insert::keys::push_keyed;
-use keep_value::ValueText;
 use keep_law::{EditFault, Splice};
 use keep_rules::{Kind, NodeId, Path, Place, Step};
 use keep_syntax::{STANDARD_DEPTH, Span, Syntax};
+use keep_value::ValueText;
 use std::alloc::AllocError;
 
 /// Where a value is inserted.

@@ -8,9 +8,9 @@ ghost use Rattle.keep_law.specs.Look.{is_index, keys_in};
 ghost use Rattle.keep_edit.specs.Reading.{IsTextOfValue};
 ghost use Rattle.keep_edit.specs.Writing.{keys_between, keys_text, AddsStep};
 
-use keep_value::ValueText;
 use keep_rules::{Path, Step};
 use keep_token::encode_key;
+use keep_value::ValueText;
 use std::alloc::{AllocError, Global};
 
 /// Adds the keys among the steps of a path from number `from` on and before number `to`, with dots between them: each bare if

@@ -12,9 +12,9 @@ ghost use Rattle.keep_edit.specs.Reading.{IsAccepted, IsTextOfTree, IsTextOfValu
 use crate::document::Document;
 use crate::insert::keys::{push_keyed, push_keys};
 use crate::remove::{body_end, section_end};
-use keep_value::ValueText;
 use keep_rules::Path;
 use keep_syntax::Owner;
+use keep_value::ValueText;
 use std::alloc::AllocError;
 
 impl Document {

@@ -1,4 +1,7 @@
 -- The conflict of a header at the end of a text is what it meets key by key: its own marks are never in one another's way.
+--
+-- Each mark of a header has a longer path than those before it (`none_own`), so only the document's marks can refuse it. A mark
+-- that goes past an array of tables is never refused (`LetsPass`). Theorems: `table_met` and `element_met`.
 use Rattle.std.proofs.Common.{◌≡◌, ℕ, zero, suc, ◌-◌, ◌<◌, ◌≤◌, Bool, true, false, cond, not, ◌&&◌, ◌||◌, ◌==◌, List, [], ◌∷◌, ◌++◌, length, refl, sym, ap, ◌∙◌, append_assoc, length-append, arith, Option, Some, None}
 use Rattle.std.specs.List.{list_any}
 use Rattle.std.specs.Option.{option_map}

@@ -1,4 +1,9 @@
 -- What the marks at a key's path let a header do there: by what is said of the path.
+--
+-- The marks at one path let one another follow, so one of them tells of all: if headers may go through one, they may go through
+-- each (`all_through`), and if an element may stand behind one, it may behind each (`all_listed`). What the marks refuse is what
+-- their roles refuse (`refused_roles`); so one thing that is said of the path decides, as `define_goes_on` or `value_refuses` say.
+-- Where nothing but headers that go through it are said, a table may be defined (`through_defines`).
 use Rattle.std.proofs.Common.{◌≡◌, ℕ, zero, suc, Bool, true, false, cond, not, ◌&&◌, ◌||◌, List, [], ◌∷◌, map, refl, sym, ap, subst, ◌∙◌, arith, Option, Some, None}
 use Rattle.std.specs.Prelude.{filter}
 use Rattle.std.specs.List.{list_any, list_all, filter_map, cons_option}
@@ -261,53 +266,27 @@ through_closed begun h = cc
 through_closed passed h = cc
 through_closed (item f) h = cc
 
-define_closed : (role : Role) → (role ≡ Through → ⊥) → (a : Saying) → is_define a ≡ true → role_test (λ (r : Role). not (allows r role)) (role_of a) ≡ true
-define_closed Through other a h = absurd (other refl)
-define_closed Past other through h = cc
-define_closed Past other past h = cc
-define_closed Past other define h = refl
-define_closed Past other says_element h = cc
-define_closed Past other dotted h = cc
-define_closed Past other (value f) h = cc
-define_closed Past other begun h = cc
-define_closed Past other passed h = cc
-define_closed Past other (item f) h = cc
-define_closed Define other through h = cc
-define_closed Define other past h = cc
-define_closed Define other define h = refl
-define_closed Define other says_element h = cc
-define_closed Define other dotted h = cc
-define_closed Define other (value f) h = cc
-define_closed Define other begun h = cc
-define_closed Define other passed h = cc
-define_closed Define other (item f) h = cc
-define_closed Element other through h = cc
-define_closed Element other past h = cc
-define_closed Element other define h = refl
-define_closed Element other says_element h = cc
-define_closed Element other dotted h = cc
-define_closed Element other (value f) h = cc
-define_closed Element other begun h = cc
-define_closed Element other passed h = cc
-define_closed Element other (item f) h = cc
-define_closed Dotted other through h = cc
-define_closed Dotted other past h = cc
-define_closed Dotted other define h = refl
-define_closed Dotted other says_element h = cc
-define_closed Dotted other dotted h = cc
-define_closed Dotted other (value f) h = cc
-define_closed Dotted other begun h = cc
-define_closed Dotted other passed h = cc
-define_closed Dotted other (item f) h = cc
-define_closed Value other through h = cc
-define_closed Value other past h = cc
-define_closed Value other define h = refl
-define_closed Value other says_element h = cc
-define_closed Value other dotted h = cc
-define_closed Value other (value f) h = cc
-define_closed Value other begun h = cc
-define_closed Value other passed h = cc
-define_closed Value other (item f) h = cc
+define_closed : (a : Saying) → is_define a ≡ true → role_test (λ (r : Role). not (allows r Element)) (role_of a) ≡ true
+define_closed through h = cc
+define_closed past h = cc
+define_closed define h = refl
+define_closed says_element h = cc
+define_closed dotted h = cc
+define_closed (value f) h = cc
+define_closed begun h = cc
+define_closed passed h = cc
+define_closed (item f) h = cc
+
+define_undefined : (a : Saying) → is_define a ≡ true → role_test (λ (r : Role). not (allows r Define)) (role_of a) ≡ true
+define_undefined through h = cc
+define_undefined past h = cc
+define_undefined define h = refl
+define_undefined says_element h = cc
+define_undefined dotted h = cc
+define_undefined (value f) h = cc
+define_undefined begun h = cc
+define_undefined passed h = cc
+define_undefined (item f) h = cc
 
 dotted_closed : (a : Saying) → is_dotted a ≡ true → role_test (λ (r : Role). not (allows r Element)) (role_of a) ≡ true
 dotted_closed through h = cc
@@ -348,60 +327,15 @@ is_held (value f) = true
 is_held _ = false
 
 held_closed : (role : Role) (a : Saying) → is_held a ≡ true → role_test (λ (r : Role). not (allows r role)) (role_of a) ≡ true
-held_closed Through through h = cc
-held_closed Through past h = cc
-held_closed Through define h = cc
-held_closed Through says_element h = cc
-held_closed Through dotted h = cc
-held_closed Through (value f) h = refl
-held_closed Through begun h = cc
-held_closed Through passed h = cc
-held_closed Through (item f) h = cc
-held_closed Past through h = cc
-held_closed Past past h = cc
-held_closed Past define h = cc
-held_closed Past says_element h = cc
-held_closed Past dotted h = cc
-held_closed Past (value f) h = refl
-held_closed Past begun h = cc
-held_closed Past passed h = cc
-held_closed Past (item f) h = cc
-held_closed Define through h = cc
-held_closed Define past h = cc
-held_closed Define define h = cc
-held_closed Define says_element h = cc
-held_closed Define dotted h = cc
-held_closed Define (value f) h = refl
-held_closed Define begun h = cc
-held_closed Define passed h = cc
-held_closed Define (item f) h = cc
-held_closed Element through h = cc
-held_closed Element past h = cc
-held_closed Element define h = cc
-held_closed Element says_element h = cc
-held_closed Element dotted h = cc
-held_closed Element (value f) h = refl
-held_closed Element begun h = cc
-held_closed Element passed h = cc
-held_closed Element (item f) h = cc
-held_closed Dotted through h = cc
-held_closed Dotted past h = cc
-held_closed Dotted define h = cc
-held_closed Dotted says_element h = cc
-held_closed Dotted dotted h = cc
-held_closed Dotted (value f) h = refl
-held_closed Dotted begun h = cc
-held_closed Dotted passed h = cc
-held_closed Dotted (item f) h = cc
-held_closed Value through h = cc
-held_closed Value past h = cc
-held_closed Value define h = cc
-held_closed Value says_element h = cc
-held_closed Value dotted h = cc
-held_closed Value (value f) h = refl
-held_closed Value begun h = cc
-held_closed Value passed h = cc
-held_closed Value (item f) h = cc
+held_closed role through h = cc
+held_closed role past h = cc
+held_closed role define h = cc
+held_closed role says_element h = cc
+held_closed role dotted h = cc
+held_closed role (value f) h = refl
+held_closed role begun h = cc
+held_closed role passed h = cc
+held_closed role (item f) h = cc
 
 -- no item stands at a key
 value_held : (path : List Part) (ms : List Mention) → EndsInKey path → AllOf Formed ms → list_any is_value (says_at path ms) ≡ true → list_any is_held (says_at path ms) ≡ true
@@ -493,10 +427,10 @@ module _ (path : List Part) (ms : List Mention) (lets : Pairs Allows (marks ms))
   element_undefines h = refused_by Define is_element element_undefined h
 
   pub define_twice : has is_define path ms ≡ true → is_refused (marks ms) Define path ≡ true
-  define_twice h = refused_by Define is_define (define_closed Define (λ e. cc)) h
+  define_twice h = refused_by Define is_define define_undefined h
 
   pub define_unlisted : has is_define path ms ≡ true → is_refused (marks ms) Element path ≡ true
-  define_unlisted h = refused_by Element is_define (define_closed Element (λ e. cc)) h
+  define_unlisted h = refused_by Element is_define define_closed h
 
   pub dotted_undefines : has is_dotted path ms ≡ true → is_refused (marks ms) Define path ≡ true
   dotted_undefines h = refused_by Define is_dotted dotted_undefined h

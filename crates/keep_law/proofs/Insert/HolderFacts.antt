@@ -1,5 +1,5 @@
 -- What stands at the front of a path where `insert` puts a value: an array of tables is no value.
-use Rattle.std.proofs.Common.{◌≡◌, Bool, true, false, List, refl}
+use Rattle.std.proofs.Common.{◌≡◌, true, List, refl}
 use Rattle.keep_path.specs.Path.{Part}
 use Rattle.keep_meaning.specs.Marks.{Saying, through, past, define, element, dotted, value, begun, passed, item, Mention}
 use Rattle.keep_meaning.specs.Nodes.{has, is_element}

@@ -2,14 +2,13 @@
 use Rattle.std.proofs.Common.{◌≡◌, ℕ, suc, ◌-◌, ◌<◌, Bool, true, false, cond, List, [], ◌∷◌, ◌++◌, map, refl, sym, subst, arith, Option, Some, None, inl, inr}
 use Rattle.std.specs.List.{list_any}
 use Rattle.keep_syntax.specs.Tree.{Written, Gap, Content, blank, keyval, header, element, Line, Document}
-use Rattle.keep_path.specs.Path.{Part, index, same_path}
+use Rattle.keep_path.specs.Path.{Part, index}
 use Rattle.keep_meaning.specs.Marks as marks_of
 use Rattle.keep_meaning.specs.Marks.{Saying, through, past, define, dotted, value, begun, passed, item, Mention, Reading, start, below, header_path, header_way, elements_of}
 use Rattle.keep_meaning.specs.Meaning.{keys_of, keyval_said, line_said, behind_line, lines_said, reading_behind, lines, said_in}
 use Rattle.keep_meaning.specs.Nodes.{is_at, is_through, is_element}
 use Rattle.keep_law.specs.Lines.{last_line, begins}
-use Rattle.keep_law.specs.Refusals.{tables_in}
-use Rattle.keep_law.proofs.Common.Runs.{AllOf, SomeOf, meet, some_left, some_right, same_path-sound}
+use Rattle.keep_law.proofs.Common.Runs.{AllOf, SomeOf, some_left, some_right, same_path-sound}
 use Rattle.keep_law.proofs.Common.LineLaws.{lines_said-append}
 use Rattle.keep_law.proofs.Common.Doubles.{IsSaid}
 use Rattle.keep_law.proofs.Common.ValueThere.{IsSome, some_cases}

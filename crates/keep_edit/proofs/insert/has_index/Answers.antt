@@ -1,4 +1,4 @@
-use Rattle.std.proofs.Common.{◌≡◌, ◌+◌, ◌||◌, true, suc, sym, ◌∙◌, ap, drop, arith}
+use Rattle.std.proofs.Common.{◌+◌, ◌||◌, suc, sym, ◌∙◌, ap, drop, arith}
 use Rattle.std.specs.List.{list_any}
 use Rattle.keep_law.specs.Look.{is_index}
 use Rattle.keep_edit.proofs.KeyvalSteps.{index_here, no_index_left}

@@ -1,4 +1,4 @@
-use Rattle.std.proofs.Common.{◌≡◌, ◌+◌, suc, sym, ◌∙◌, ap, arith}
+use Rattle.std.proofs.Common.{◌+◌, sym, ◌∙◌, ap, arith}
 use Rattle.keep_syntax.specs.Contract.{values_of}
 use Rattle.keep_edit.proofs.KeyvalSteps.{last_or, keyval_start, keyval_stop, keyval_end, keyval_own, keyval_inner}
 use Rattle.keep_edit.proofs.insert.last_keyval.Goals as goal

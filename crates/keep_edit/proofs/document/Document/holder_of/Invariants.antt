@@ -1,5 +1,4 @@
 -- The holder is the node of all steps so far but the one that comes next.
-use Rattle.keep_edit.specs.Reading.{text_in}
 use Rattle.keep_edit.proofs.HolderLaws.{IsGoing}
 use Rattle.keep_edit.proofs.document.Document.holder_of.Given as goal
 

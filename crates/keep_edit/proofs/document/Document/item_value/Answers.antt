@@ -1,4 +1,4 @@
-use Rattle.std.proofs.Common.{refl, sym, ◌∙◌, ap}
+use Rattle.std.proofs.Common.{sym, ◌∙◌, ap}
 use Rattle.keep_rules.specs.Lookup.{number_of}
 use Rattle.keep_edit.proofs.AnswerLaws.{seen}
 use Rattle.keep_edit.proofs.AimLaws.{number_inside, none_below, told_below, other_value}

@@ -1,4 +1,4 @@
-use Rattle.std.proofs.Common.{refl, sym, ◌∙◌, ap, arith, Some, length, ◌++◌, string_bytes}
+use Rattle.std.proofs.Common.{refl, ◌∙◌, ap, arith, length, ◌++◌, string_bytes}
 use Rattle.keep_edit.proofs.AnswerLaws.{text_seen, seen}
 use Rattle.keep_edit.proofs.InsertedLaws.{before_within, before_put, behind_within, behind_keys, behind_put, empty_within, empty_keys, empty_inside, empty_put, body_there, body_within, body_put, line_there, line_within, line_put, section_there, section_header, section_within, section_put}
 use Rattle.keep_edit.proofs.document.Document.push_insertion.Goals as goal
