@@ -1,6 +1,6 @@
 # Completion of keep-toml and keep-toml-in for bash. After keep-toml-in FILE and a subcommand it completes the
 # paths of FILE itself.
-_keep_toml_words="check list get text set insert rename remove table element apply"
+_keep_toml_words="check check-wide list get text set insert rename remove table element apply apply-wide"
 
 # the paths that continue the word, a step at a time
 _keep_toml_paths() { # FILE WORD

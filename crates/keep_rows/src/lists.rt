@@ -104,10 +104,7 @@ fn edit_of(
     let text = row.text(word.saturating_add(2));
     Ok(match row.text(word) {
         "set" => Some(Edit::Set(path, ValueText::read_in(alloc, text, profile)?)),
-        "insert" => Some(Edit::Insert(
-            path,
-            ValueText::read_in(alloc, text, profile)?,
-        )),
+        "insert" => Some(Edit::Insert(path, ValueText::read_in(alloc, text, profile)?)),
         "rename" => Some(Edit::Rename(path, String::from_str(alloc, text)?)),
         "remove" => Some(Edit::Remove(path)),
         "table" => Some(Edit::Table(keys_of(alloc, &path)?)),
