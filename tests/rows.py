@@ -188,6 +188,7 @@ GROWING = [
     ([b"rename", b"a.b", b"c d"], b"[a]\nb = [1, {x = 2}]\n"),
     ([b"remove", b"a[0].b"], b"[[a]]\nb = 1\n"),
     ([b"element", b"a.'b c'"], b"[t]"),
+    ([b"apply", b"[[edit]]\nop = 'set'\npath = 'a'\nvalue = '2'\n[[edit]]\nop = 'table'\npath = 't'"], b"a = 1\n"),
     ([b"table", b"a.b[0]"], b""),
     ([b"check-wide"], b"a = {x = '\\', }\n"),
     ([b"get", b"b"], b"a = 1\n"),
