@@ -1,8 +1,8 @@
 //! Lists of edits.
-use crate::documents::{facts, read};
+use crate::documents::read;
 use crate::edits::{is_as_read, keys_of};
 use crate::row::{Answer, Row, unknown};
-use keep_edit::{Document, Edit, EditFault, Path, Profile, ReadFault, Splice, Step, ValueText};
+use keep_edit::{Document, Edit, EditFault, Path, Profile, ReadFault, Splice, ValueText};
 use std::alloc::{AllocError, Global};
 
 /// The words are the bytes of a document, and then for each edit its name, its path, and a value, a key or nothing. The
@@ -19,27 +19,54 @@ pub fn answer(alloc: Global, row: &Row, profile: Profile) -> Answer {
 }
 
 fn edited(alloc: Global, row: &Row, profile: Profile) -> Result<String, ReadFault> {
-    let mut document = read(alloc, row.bytes(0), profile)?;
-    let mut one_by_one = read(alloc, row.bytes(0), profile)?;
     let Some(edits) = edits_of(alloc, row, profile)? else {
         return Ok(String::from_str(alloc, "no such edit")?);
     };
-    let before = facts(alloc, &document)?;
-    let done = document.apply_all(edits.as_slice());
-    let outcome = told(alloc, done)?;
-    let expected = told(alloc, fold(&mut one_by_one, edits.as_slice()))?;
-    let is_whole = match done {
-        Ok(()) => document.text() == one_by_one.text() && is_as_read(alloc, &document)?,
-        Err(_) => facts(alloc, &document)?.as_str() == before.as_str(),
-    };
-    let doubt = doubt_of(outcome.as_str() == expected.as_str(), is_whole);
-    Ok(format!(in alloc; "{outcome}{doubt}\n{}", document.text())?)
+    let expected = one_by_one(alloc, row, profile, edits.as_slice())?;
+    at_once(alloc, row, profile, edits.as_slice(), expected.as_str())
 }
 
-fn told(alloc: Global, done: Result<(), (usize, EditFault)>) -> Answer {
+// What comes of the edits one by one. After a refusal the text is to be as before.
+fn one_by_one(
+    alloc: Global,
+    row: &Row,
+    profile: Profile,
+    edits: &[Edit],
+) -> Result<String, ReadFault> {
+    let mut document = read(alloc, row.bytes(0), profile)?;
+    let done = fold(&mut document, edits);
+    let text = if done.is_ok() {
+        document.text()
+    } else {
+        row.text(0)
+    };
+    Ok(told(alloc, done, text)?)
+}
+
+// What comes of the list, and a doubt where something else was expected.
+fn at_once(
+    alloc: Global,
+    row: &Row,
+    profile: Profile,
+    edits: &[Edit],
+    expected: &str,
+) -> Result<String, ReadFault> {
+    let mut document = read(alloc, row.bytes(0), profile)?;
+    let done = document.apply_all(edits);
+    let outcome = told(alloc, done, document.text())?;
+    Ok(doubted(alloc, &document, outcome.as_str(), expected)?)
+}
+
+fn doubted(alloc: Global, document: &Document, outcome: &str, expected: &str) -> Answer {
+    let is_whole = is_as_read(alloc, document)?;
+    let doubt = doubt_of(outcome == expected, is_whole);
+    format!(in alloc; "{outcome}{doubt}")
+}
+
+fn told(alloc: Global, done: Result<(), (usize, EditFault)>, text: &str) -> Answer {
     match done {
-        Ok(()) => String::from_str(alloc, "done"),
-        Err((number, fault)) => format!(in alloc; "{number} {fault}"),
+        Ok(()) => format!(in alloc; "done\n{text}"),
+        Err((number, fault)) => format!(in alloc; "{number} {fault}\n{text}"),
     }
 }
 
@@ -53,17 +80,22 @@ fn doubt_of(agrees: bool, is_whole: bool) -> &'static str {
 
 // What comes of the edits one by one. The text that each is to give is told before it is made.
 fn fold(document: &mut Document, edits: &[Edit]) -> Result<(), (usize, EditFault)> {
-    for (number, edit) in edits.iter().enumerate() {
-        let told = document.text_applied(edit);
-        let done = document.apply(edit);
-        if !agrees(&told, &done, document) {
-            return Err((usize::MAX, EditFault::Memory));
-        }
-        if let Err(fault) = done {
+    for number in 0..edits.len() {
+        if let Err(fault) = made(document, &edits[number]) {
             return Err((number, fault));
         }
     }
     Ok(())
+}
+
+// Makes an edit. Where it does not give the text or the fault that was told before, that is told as out of memory.
+fn made(document: &mut Document, edit: &Edit) -> Result<(), EditFault> {
+    let told = document.text_applied(edit);
+    let done = document.apply(edit);
+    if !agrees(&told, &done, document) {
+        return Err(EditFault::Memory);
+    }
+    done.map(|_| ())
 }
 
 // Whether an edit gave the text that it was to give, or the same fault.
@@ -98,17 +130,52 @@ fn edit_of(
     word: usize,
     profile: Profile,
 ) -> Result<Option<Edit>, ReadFault> {
-    let Ok(path) = Path::read(alloc, row.text(word.saturating_add(1))) else {
-        return Ok(None);
-    };
-    let text = row.text(word.saturating_add(2));
-    Ok(match row.text(word) {
-        "set" => Some(Edit::Set(path, ValueText::read_in(alloc, text, profile)?)),
-        "insert" => Some(Edit::Insert(path, ValueText::read_in(alloc, text, profile)?)),
-        "rename" => Some(Edit::Rename(path, String::from_str(alloc, text)?)),
-        "remove" => Some(Edit::Remove(path)),
-        "table" => Some(Edit::Table(keys_of(alloc, &path)?)),
-        "element" => Some(Edit::Element(keys_of(alloc, &path)?)),
-        _ => None,
-    })
+    match Path::read(alloc, row.text(word.saturating_add(1))) {
+        Ok(path) => named(
+            alloc,
+            row.text(word),
+            path,
+            row.text(word.saturating_add(2)),
+            profile,
+        ),
+        Err(_) => Ok(None),
+    }
+}
+
+fn named(
+    alloc: Global,
+    name: &str,
+    path: Path,
+    text: &str,
+    profile: Profile,
+) -> Result<Option<Edit>, ReadFault> {
+    match name {
+        "set" => set(path, ValueText::read_in(alloc, text, profile)),
+        "insert" => insert(path, ValueText::read_in(alloc, text, profile)),
+        "rename" => rename(path, String::from_str(alloc, text)),
+        "remove" => Ok(Some(Edit::Remove(path))),
+        "table" => table(keys_of(alloc, &path)),
+        "element" => element(keys_of(alloc, &path)),
+        _ => Ok(None),
+    }
+}
+
+fn set(path: Path, value: Result<ValueText, ReadFault>) -> Result<Option<Edit>, ReadFault> {
+    Ok(Some(Edit::Set(path, value?)))
+}
+
+fn insert(path: Path, value: Result<ValueText, ReadFault>) -> Result<Option<Edit>, ReadFault> {
+    Ok(Some(Edit::Insert(path, value?)))
+}
+
+fn rename(path: Path, key: Result<String, AllocError>) -> Result<Option<Edit>, ReadFault> {
+    Ok(Some(Edit::Rename(path, key?)))
+}
+
+fn table(keys: Result<Vec<String>, AllocError>) -> Result<Option<Edit>, ReadFault> {
+    Ok(Some(Edit::Table(keys?)))
+}
+
+fn element(keys: Result<Vec<String>, AllocError>) -> Result<Option<Edit>, ReadFault> {
+    Ok(Some(Edit::Element(keys?)))
 }
