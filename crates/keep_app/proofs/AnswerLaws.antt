@@ -52,7 +52,7 @@ pub get_text : (d : ProfiledText) (path : List Part) (value out : List ℕ) → 
 unfolding IsText
 get_text d path value out (s, h) k e = (s, h, (value, k s h, e))
 
--- want of memory alone is no refusal
+-- out of memory alone is no refusal
 pub told_edit : (number : ℕ) (f : EditFault) → (f ≡ fault.Memory) ⊎ (of_edit number f ≡ run.Edit number f)
 told_edit number fault.NotFound = inr refl
 told_edit number fault.Exists = inr refl

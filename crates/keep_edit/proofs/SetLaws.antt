@@ -152,7 +152,7 @@ not_done : {T U : Type 0} (good : T → Type 0) (fine : U → Type 0) (f : EditF
 not_done good fine f None h = h
 not_done {T} {U} good fine f (Some g) h = let same : f ≡ g = cc in rw same refl
 
--- want of memory can stand in place of what is done
+-- out of memory can stand in place of what is done
 done_or_full : {T U : Type 0} (good : T → Type 0) (fine : U → Type 0) (x : T) (r : Option EditFault) → IsDone good r (Ok x) → IsDone fine r (Err fault.Memory)
 done_or_full good fine x None h = refl
 done_or_full good fine x (Some f) h = absurd cc

@@ -260,7 +260,7 @@ impl Document {
     }
 
     /// What the string at a path means, decoded; None where something else stands there, or nothing. The only error is
-    /// want of memory.
+    /// out of memory.
     pub fn str_value(&self, alloc: Global, path: &Path) -> Result<Option<String>, AllocError>
         ensures string { (s : tree.Document) → IsTextOfTree self.now s → IfOk result (λ found. option_map string_bytes found ≡ str_value_of path.now s) }
         ensures accepted { IsAccepted self.now }
@@ -279,7 +279,7 @@ impl Document {
     }
 
     /// All nodes but the root, in the order in which the text, read from its start, first meets them. The only error is
-    /// want of memory.
+    /// out of memory.
     pub fn list(&self, alloc: Global) -> Result<Vec<Entry>, AllocError>
         ensures entries { (s : tree.Document) → IsTextOfTree self.now s → IfOk result (λ entries. entries.items ≡ entries_of s) }
         ensures accepted { IsAccepted self.now }
@@ -443,7 +443,7 @@ fn spliced(alloc: Global, text: &str, span: Span, new: &str) -> Result<String, A
     Ok(out)
 }
 
-/// A text that is known to be a document's is refused for want of memory alone.
+/// A text that is known to be a document's is refused only where memory runs out.
 fn growth_refused(fault: ReadFault) -> EditFault
     requires { fault ≡ Memory }
     ensures { result ≡ law.Memory }

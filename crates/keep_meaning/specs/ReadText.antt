@@ -18,7 +18,7 @@ pub record IsRead (profile : Profile) (limit : ℕ) (bytes : List ℕ) (s : Docu
   pub reads : Reads profile limit bytes s
   pub obeys : ObeysRules (marks (said_in s))
 
--- Why bytes are no document, want of memory aside. (Where and why the grammar fails is not told here.)
+-- Why bytes are no document, unless memory runs out. (Where and why the grammar fails is not told here.)
 abbrev pub IsReadFault : Profile → ℕ → List ℕ → ReadFault → Type 0
 IsReadFault profile limit bytes (Utf8 at) = (¬ (IsUtf8 bytes)) × (at ≡ utf8_valid_len bytes)
 IsReadFault profile limit bytes (Syntax at what) = IsUtf8 bytes × ((s : Document) → IsDocument profile s → bytes ≡ text s → ⊥)
@@ -31,7 +31,7 @@ pub record IsValueText (profile : Profile) (limit : ℕ) (bytes : List ℕ) (v :
   pub reads : ReadsValue profile limit bytes v
   pub obeys : ObeysRules (marks (value_said v))
 
--- why a text is no value's, want of memory aside
+-- why a text is no value's, unless memory runs out
 abbrev pub IsValueFault : Profile → ℕ → List ℕ → ReadFault → Type 0
 IsValueFault profile limit bytes (Syntax at what) = (v : Value) → IsValue profile v → bytes ≡ value_text v → ⊥
 IsValueFault profile limit bytes (TooDeep at) = IsValueTooDeep profile limit bytes at

@@ -30,7 +30,7 @@ impl KeyText<'_> {
     }
 }
 
-/// The decoded text of a key part of the document. It takes memory only where the part has escapes, and want of memory
+/// The decoded text of a key part of the document. It takes memory only where the part has escapes, and running out of it
 /// is the only error.
 #[inline(always)]
 pub fn key_text<'a>(alloc: Global, text: &'a str, part: KeyPart) -> Result<KeyText<'a>, AllocError>

@@ -84,7 +84,7 @@ impl Path {
         if at < text.len() { Some(at) } else { None }
     }
 
-    /// Adds a key, decoded, at the end. After want of memory, the only error, the path is as before.
+    /// Adds a key, decoded, at the end. If memory runs out, the only error, the path is unchanged.
     pub fn push_key(&mut self, text: &str) -> Result<(), AllocError>
         ensures pushed { OnOk result (self.new ≡ self.old ++ key text.now ∷ []) }
         ensures kept { OnErr result (self.new ≡ self.old) }
@@ -94,7 +94,7 @@ impl Path {
         Ok(())
     }
 
-    /// Adds an index at the end. After want of memory, the only error, the path is as before.
+    /// Adds an index at the end. If memory runs out, the only error, the path is unchanged.
     pub fn push_index(&mut self, number: usize) -> Result<(), AllocError>
         requires { self.old ≢ [] }
         ensures pushed { OnOk result (self.new ≡ self.old ++ index number ∷ []) }
@@ -120,7 +120,7 @@ impl Path {
         self.steps.get(number)
     }
 
-    /// The path's text. Where no index is above 999,999,999, it tells the path. The only error is want of memory.
+    /// The path's text. Where no index is above 999,999,999, it tells the path. The only error is out of memory.
     pub fn encode(&self, alloc: Global) -> Result<String, AllocError>
         ensures text { IfOk result (λ s. string_bytes s ≡ encoded_path self.now) }
         ensures tells { HasSmallIndexes self.now → IfOk result (λ s. IsPathText (string_bytes s) self.now) }

@@ -39,7 +39,7 @@ pub(crate) fn key_len(text: &str) -> Option<usize>
 }
 
 /// The step in front, as it stands behind other steps, and its length: a dot and a key part, or an index in brackets.
-/// None where neither stands there. The only error is want of memory.
+/// None where neither stands there. The only error is out of memory.
 pub(crate) fn read_step(alloc: Global, text: &str) -> Result<Option<(Step, usize)>, AllocError>
     ensures found { IfOk result (λ read. IfSome read (λ found. StepRead text.now (part_of found.0) found.1)) }
     ensures ends { IfOk result (λ read. IfSome read (λ found. IsCharBoundary text.now found.1)) }

@@ -1,4 +1,4 @@
--- What obeys the rules is refused for want of memory alone.
+-- What obeys the rules is refused only where memory runs out.
 use Rattle.std.proofs.Common.{◌≡◌, ℕ, refl}
 use Rattle.keep_syntax.specs.declared.fault.ReadFault.{ReadFault}
 use Rattle.keep_syntax.specs.declared.fault.ReadFault.TheVariants.{Utf8, Syntax, TooDeep, Define, Memory}

@@ -43,7 +43,7 @@ pub record IsIndexOf (d : Document) (t : Telling) : Type 0 where
 abbrev pub ValueObeys : Value → Type 0
 ValueObeys v = ObeysRules (marks (value_said v))
 
--- A document is refused at its first faulty mark alone, or for want of memory.
+-- A document is refused at its first faulty mark alone, or where memory runs out.
 abbrev pub IsRefusal : Document → ReadFault → Type 0
 IsRefusal d (faults.Define at why) = IsFaultIn d at why
 IsRefusal d faults.Memory = Unit {0}

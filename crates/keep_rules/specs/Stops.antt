@@ -6,7 +6,7 @@ use Rattle.keep_rules.specs.declared.mark.Stop.TheVariants as stop
 use Rattle.keep_rules.specs.declared.ways.Fault.{Fault}
 use Rattle.keep_rules.specs.declared.ways.Fault.TheVariants.{Define, Memory}
 
--- where it is no want of memory, this holds of its number and reason
+-- where it is not out of memory, this holds of its number and reason
 abbrev pub FaultSays : Fault → (ℕ → Why → Type 0) → Type 0
 FaultSays (Define number why) P = P number why
 FaultSays Memory P = Unit {0}

@@ -105,7 +105,7 @@ impl Index {
         }
     }
 
-    /// The path of the node: its keys, decoded, and the numbers of items and elements. The only error is want of memory.
+    /// The path of the node: its keys, decoded, and the numbers of items and elements. The only error is out of memory.
     pub fn path_of(&self, alloc: Global, id: NodeId) -> Result<Path, AllocError>
         requires { id.0 < length self.now.paths }
         ensures { IfOk result (λ path. path ≡ path_numbered self.now id.0) }

@@ -71,7 +71,7 @@ fails_bad text (faults.TooDeep at) r is bad = absurd is
 fails_bad text (faults.Define at why) r is bad = absurd is
 fails_bad text faults.Memory r is bad = absurd is
 
--- what cannot fail fails for want of memory alone
+-- what cannot fail fails only where memory runs out
 pub fails_only : {A B : Type 0} (text : List ℕ) (e : ReadFault) (x : A) (s : Result B Fault) → Fails text e (done x) → Fails text e s
 fails_only {A} text e x s k = fails_through text e (done x) s (λ f h. let never : done x ≡ Err f = h in absurd cc) k
 

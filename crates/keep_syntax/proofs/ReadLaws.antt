@@ -92,7 +92,7 @@ few profile limit bytes p h =
     let same : length (tokens_of (syntax_of p) bytes) ≡ length (tokens h.document) = ap (λ (b : List ℕ). length (tokens_of (syntax_of p) b)) r.spelled ∙ ap length (is_syntax profile limit bytes p h).tokens in
     omega (arith, same, marks_placed 0 (leaves h.document), marks_count 0 (leaves h.document), leaves_count profile limit bytes h.document r)
 
--- what is read leaves no fault but want of memory
+-- what is read leaves no fault but out of memory
 memory_only : {A : Type 0} (bytes : List ℕ) (e : ReadFault) (r : Result A Fault) (x : A) → Fails bytes e r → r ≡ Ok x → e ≡ faults.Memory
 memory_only bytes faults.Memory r x f k = refl
 memory_only bytes (faults.Syntax at what) r x f k = absurd (let clash = sym f ∙ k in cc)

@@ -16,7 +16,7 @@ use std::alloc::{AllocError, Global};
 /// The text as a basic string, with its quotation marks.
 ///
 /// TOML v1.0.0, "String". Quotation marks, backslashes and control characters are escaped, by a letter where there is
-/// one; all else stands as it is. The only error is want of memory.
+/// one; all else stands as it is. The only error is out of memory.
 pub fn encode_string(alloc: Global, text: &str) -> Result<String, AllocError>
     ensures text { IfOk result (λ s. string_bytes s ≡ encoded_string text.now) }
     ensures leaf { IfOk result (λ s. IsLeaf Strict leaf.Basic (string_bytes s)) }
@@ -30,7 +30,7 @@ pub fn encode_string(alloc: Global, text: &str) -> Result<String, AllocError>
 
 /// The text as a key: bare where it can be, else as a basic string.
 ///
-/// TOML v1.0.0, "Keys". The only error is want of memory.
+/// TOML v1.0.0, "Keys". The only error is out of memory.
 pub fn encode_key(alloc: Global, text: &str) -> Result<String, AllocError>
     ensures text { IfOk result (λ s. string_bytes s ≡ encoded_key text.now) }
     ensures leaf { IfOk result (λ s. IsLeaf Strict (encoded_key_leaf text.now) (string_bytes s)) }
@@ -45,7 +45,7 @@ pub fn encode_key(alloc: Global, text: &str) -> Result<String, AllocError>
 
 /// The number in decimal digits, behind `-` where it is below 0.
 ///
-/// TOML v1.0.0, "Integer". The only error is want of memory.
+/// TOML v1.0.0, "Integer". The only error is out of memory.
 pub fn encode_int(alloc: Global, value: i64) -> Result<String, AllocError>
     ensures text { IfOk result (λ s. string_bytes s ≡ signed_decimal value) }
     ensures leaf { IfOk result (λ s. IsLeaf Strict leaf.Integer (string_bytes s)) }
