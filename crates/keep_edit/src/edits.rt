@@ -87,6 +87,7 @@ impl Document {
         ensures growth { IfOk result (λ done. length self.new.text ≤ length self.old.text + growth_of edits.now) }
         ensures refused { OnErr result (self.new ≡ self.old) }
     {
+        // The invariant of a document is known to the proof from where a field of it is looked at.
         let _text = &self.text;
         if edits.is_empty() {
             return Ok(());
