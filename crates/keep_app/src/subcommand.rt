@@ -1,5 +1,5 @@
-//! The table of subcommands. What `clap` is told, what the words ask for by the definitions, and what help shows are all read
-//! off it.
+//! The table of subcommands: what `clap` is told, what the words ask for, and what help shows. By `row_at` of `words.rt` it is
+//! the list of the definitions (`specs/Table`).
 use crate::help;
 use crate::help::Help;
 
@@ -42,7 +42,7 @@ pub enum Word {
 /// most two words. (A struct with references has no name in definitions, so this is a tuple.)
 pub type Subcommand = (&'static str, Ask, &'static [Word], Help);
 
-/// All subcommands. The definitions cite it.
+/// All subcommands.
 pub const SUBCOMMANDS: [Subcommand; 13] = [
     ("check", Ask::Check, &[], help::CHECK),
     ("check-wide", Ask::CheckWide, &[], help::CHECK_WIDE),
