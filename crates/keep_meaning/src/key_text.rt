@@ -9,7 +9,7 @@ use keep_syntax::KeyPart;
 use keep_token::{Leaf, decode_string};
 use std::alloc::{AllocError, Global};
 
-/// The decoded text of a key part: as it stands in the document, or a copy with its escapes replaced.
+/// The decoded text of a key part: as it is written in the document, or a copy with its escapes replaced.
 #[derive(Drop)]
 pub enum KeyText<'a> {
     /// The bytes of the document, without marks.
@@ -30,8 +30,8 @@ impl KeyText<'_> {
     }
 }
 
-/// The decoded text of a key part of the document. It takes memory only where the part has escapes, and running out of it
-/// is the only error.
+/// The decoded text of a key part of the document. It takes memory only where the part has escapes, and running out of
+/// it is the only error.
 #[inline(always)]
 pub fn key_text<'a>(alloc: Global, text: &'a str, part: KeyPart) -> Result<KeyText<'a>, AllocError>
     requires { IsKeyAt text.now part }

@@ -51,8 +51,8 @@ impl Role {
         }
     }
 
-    /// The role that stands for all marks so far and one more: it allows what they all allow.
-    pub fn and_then(self, later: Role) -> Role
+    /// The role that represents all marks so far and one more: it allows what they all allow.
+    pub fn joined_with(self, later: Role) -> Role
         requires { IsTrue (allows self later) }
         ensures { (next : Role) → allows result next ≡ (allows self next && allows later next) }
     {
@@ -68,7 +68,7 @@ pub fn state_after(state: Option<Role>, role: Role) -> Option<Role>
 {
     match state {
         None => Some(role),
-        Some(state) if state.allows(role) => Some(state.and_then(role)),
+        Some(state) if state.allows(role) => Some(state.joined_with(role)),
         Some(_) => None,
     }
 }
