@@ -19,7 +19,7 @@ use Rattle.keep_meaning.specs.Marks.{Mention, marks}
 use Rattle.keep_meaning.specs.Meaning.{said_in}
 use Rattle.keep_meaning.specs.Nodes.{is_node, has, is_element, fact_at, kind_at, kind_or_table, moment_kind, node_number, node_paths, numbered_at}
 use Rattle.keep_meaning.proofs.Shared.{paths-nodes_in}
-use Rattle.keep_nodes.specs.Told.{Telling}
+use Rattle.keep_nodes.specs.Facts.{NodeInfos}
 use Rattle.keep_rules.specs.Lookup.{number_of, path_numbered}
 use Rattle.keep_rules.specs.declared.index.NodeId.{NodeId}
 use Rattle.keep_rules.proofs.Shared.{number_is}
@@ -178,10 +178,10 @@ module _ (path : List Part) (s : Document) (h : Holder) (held : IsHolder path s 
 
 -- ---- a node of a number
 
-module _ (d : ProfiledText) (syntax : Syntax) (index_of : Telling) (a : List Part) (s : Document) (holds : Holds d syntax index_of) (read : IsTextOfTree d s) (id : NodeId)
+module _ (d : ProfiledText) (syntax : Syntax) (index_of : NodeInfos) (a : List Part) (s : Document) (holds : Holds d syntax index_of) (read : IsTextOfTree d s) (id : NodeId)
     (node : node_number (node_paths (said_in s)) a ≡ Some id.0) where
   paths_are : index_of.paths ≡ node_paths (said_in s)
-  paths_are = ap (λ (t : Telling). t.paths) (told_is d syntax index_of s holds read) ∙ paths-nodes_in s
+  paths_are = ap (λ (t : NodeInfos). t.paths) (told_is d syntax index_of s holds read) ∙ paths-nodes_in s
 
   number : node_number index_of.paths a ≡ Some id.0
   number = ap (λ (ps : List (List Part)). node_number ps a) paths_are ∙ node

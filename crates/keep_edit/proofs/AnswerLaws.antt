@@ -8,14 +8,14 @@ use Rattle.keep_syntax.specs.Numbered.{tokens}
 use Rattle.keep_syntax.specs.Contract.{tokens_of}
 use Rattle.keep_syntax.proofs.LawLaws.{tokens_few}
 use Rattle.keep_meaning.specs.Nodes.{nodes_in, node_path}
-use Rattle.keep_nodes.specs.Told.{Telling}
+use Rattle.keep_nodes.specs.Facts.{NodeInfos}
 use Rattle.keep_meaning.proofs.Shared.{nodes_few}
 use Rattle.keep_edit.specs.Reading.{limit, ProfiledText, text_in, IsTextOfTree, telling_in, Holds}
 use Rattle.keep_edit.specs.Answers.{counts_of}
 use Rattle.keep_edit.specs.declared.document.Counts.{Counts}
 use Rattle.keep_edit.proofs.ReadLaws.{one_tree}
 
-pub seen : {a b : ProfiledText} {syntax : Syntax} {index : Telling} → a ≡ b → Holds a syntax index → Holds b syntax index
+pub seen : {a b : ProfiledText} {syntax : Syntax} {index : NodeInfos} → a ≡ b → Holds a syntax index → Holds b syntax index
 seen {a} {b} {syntax} {index} e h = subst (λ (x : ProfiledText). Holds x syntax index) e h
 
 pub text_seen : {profile : Profile} {bytes : List ℕ} {t : ProfiledText} → text_in profile bytes ≡ t → bytes ≡ t.text
@@ -24,28 +24,28 @@ text_seen e = ap (λ (x : ProfiledText). x.text) e
 pub profile_seen : {profile : Profile} {bytes : List ℕ} {t : ProfiledText} → text_in profile bytes ≡ t → profile ≡ t.profile
 profile_seen e = ap (λ (x : ProfiledText). x.profile) e
 
-pub tree_is : (t : ProfiledText) (syntax : Syntax) (index : Telling) (s : Document) (h : Holds t syntax index) → IsTextOfTree t s → h.tree ≡ s
+pub tree_is : (t : ProfiledText) (syntax : Syntax) (index : NodeInfos) (s : Document) (h : Holds t syntax index) → IsTextOfTree t s → h.tree ≡ s
 tree_is t syntax index s h read = one_tree t h.tree s h.read read
 
-pub tokens_are : (t : ProfiledText) (syntax : Syntax) (index : Telling) (s : Document) → Holds t syntax index → IsTextOfTree t s → tokens_of syntax t.text ≡ tokens s
+pub tokens_are : (t : ProfiledText) (syntax : Syntax) (index : NodeInfos) (s : Document) → Holds t syntax index → IsTextOfTree t s → tokens_of syntax t.text ≡ tokens s
 tokens_are t syntax index s h read = ap (tokens_of syntax) h.read.reads.spelled ∙ h.is.tokens ∙ ap tokens (tree_is t syntax index s h read)
 
-pub told_is : (t : ProfiledText) (syntax : Syntax) (index : Telling) (s : Document) → Holds t syntax index → IsTextOfTree t s → index ≡ telling_in s
+pub told_is : (t : ProfiledText) (syntax : Syntax) (index : NodeInfos) (s : Document) → Holds t syntax index → IsTextOfTree t s → index ≡ telling_in s
 told_is t syntax index s h read = h.told ∙ ap telling_in (tree_is t syntax index s h read)
 
 abbrev counted : ℕ → ℕ → Counts
 counted m n = record { tokens = m; nodes = n }
 
-pub counts_are : (t : ProfiledText) (syntax : Syntax) (index : Telling) (s : Document) (m n : ℕ) → Holds t syntax index → IsTextOfTree t s
+pub counts_are : (t : ProfiledText) (syntax : Syntax) (index : NodeInfos) (s : Document) (m n : ℕ) → Holds t syntax index → IsTextOfTree t s
     → m ≡ length (tokens_of syntax t.text) → n ≡ length index.paths → counted m n ≡ counts_of s
 counts_are t syntax index s m n h read e f =
     let tokens_many : m ≡ length (tokens s) = e ∙ ap length (tokens_are t syntax index s h read) in
-    let nodes_many : n ≡ length (nodes_in s) = f ∙ ap (λ (x : Telling). length x.paths) (told_is t syntax index s h read) ∙ length-map (nodes_in s) node_path in
+    let nodes_many : n ≡ length (nodes_in s) = f ∙ ap (λ (x : NodeInfos). length x.paths) (told_is t syntax index s h read) ∙ length-map (nodes_in s) node_path in
     ap (λ (x : ℕ). counted x n) tokens_many ∙ ap (counted (length (tokens s))) nodes_many
 
 -- ---- how many they are
 
-pub counts_few : (t : ProfiledText) (syntax : Syntax) (index : Telling) (m n : ℕ) → Holds t syntax index → m ≡ length (tokens_of syntax t.text) → n ≡ length index.paths
+pub counts_few : (t : ProfiledText) (syntax : Syntax) (index : NodeInfos) (m n : ℕ) → Holds t syntax index → m ≡ length (tokens_of syntax t.text) → n ≡ length index.paths
     → (m ≤ length t.text + 1) × (n ≤ length t.text + 1)
 counts_few t syntax index m n h e f =
     let same : counted m n ≡ counts_of h.tree = counts_are t syntax index h.tree m n h h.read e f in (

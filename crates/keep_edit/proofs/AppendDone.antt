@@ -17,7 +17,7 @@ use Rattle.keep_syntax.specs.Tree.{Written, Document, Content, mark, key_leaves,
 use Rattle.keep_meaning.specs.Counts.{statements_in}
 use Rattle.keep_meaning.specs.Marks.{start, reading_after}
 use Rattle.keep_meaning.specs.Meaning.{said_in}
-use Rattle.keep_nodes.specs.Told.{Telling}
+use Rattle.keep_nodes.specs.Facts.{NodeInfos}
 use Rattle.keep_rules.specs.Nested.{AreNested}
 use Rattle.keep_rules.specs.ReadDocuments.{IsIndexOf}
 use Rattle.keep_law.specs.declared.fault.EditFault.{EditFault}
@@ -40,11 +40,11 @@ use Rattle.keep_edit.proofs.EditedLaws.{standing}
 
 -- ---- the index is the document's
 
-pub index_of : (d : ProfiledText) (syntax : Syntax) (index : Telling) (s : Document) → Holds d syntax index → IsTextOfTree d s → IsIndexOf s index
+pub index_of : (d : ProfiledText) (syntax : Syntax) (index : NodeInfos) (s : Document) → Holds d syntax index → IsTextOfTree d s → IsIndexOf s index
 index_of d syntax index s holds read = record {
   obeys = read.obeys;
   nested = subst (λ (u : Document). AreNested (said_in u) (reading_after start (statements_in u)).tables) (tree_is d syntax index s holds read) holds.nested;
-  told = told_is d syntax index s holds read;
+  facts = told_is d syntax index s holds read;
 }
 
 -- ---- the refusal

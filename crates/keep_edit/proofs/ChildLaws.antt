@@ -7,7 +7,7 @@ use Rattle.keep_path.specs.Path.{Part}
 use Rattle.keep_meaning.specs.Meaning.{said_in}
 use Rattle.keep_meaning.specs.Nodes.{children, is_node, node_number, node_paths}
 use Rattle.keep_meaning.proofs.Shared.{paths-nodes_in}
-use Rattle.keep_nodes.specs.Told.{Telling}
+use Rattle.keep_nodes.specs.Facts.{NodeInfos}
 use Rattle.keep_rules.specs.declared.index.NodeId.{NodeId}
 use Rattle.keep_rules.specs.Lookup.{number_of, path_numbered, children_numbered}
 use Rattle.keep_rules.proofs.Shared.{number_is}
@@ -16,10 +16,10 @@ use Rattle.keep_edit.specs.Reading.{ProfiledText, IsTextOfTree, Holds}
 use Rattle.keep_edit.proofs.AnswerLaws.{told_is}
 use Rattle.keep_edit.proofs.NodeLaws.{no_node, a_node}
 
-module _ (d : ProfiledText) (syntax : Syntax) (index : Telling) (path : List Part) (s : Document) (holds : Holds d syntax index) (read : IsTextOfTree d s) (o : Option NodeId)
+module _ (d : ProfiledText) (syntax : Syntax) (index : NodeInfos) (path : List Part) (s : Document) (holds : Holds d syntax index) (read : IsTextOfTree d s) (o : Option NodeId)
     (found : number_of o ≡ node_number index.paths path) where
   paths_are : index.paths ≡ node_paths (said_in s)
-  paths_are = ap (λ (t : Telling). t.paths) (told_is d syntax index s holds read) ∙ paths-nodes_in s
+  paths_are = ap (λ (t : NodeInfos). t.paths) (told_is d syntax index s holds read) ∙ paths-nodes_in s
 
   pub no_children : o ≡ None → None ≡ child_count_of path s
   no_children none =

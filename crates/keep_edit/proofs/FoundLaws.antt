@@ -22,7 +22,7 @@ use Rattle.keep_meaning.specs.Meaning.{body_fact, said_in}
 use Rattle.keep_meaning.specs.Nodes.{is_at, is_root, is_node, fact_at, node_number, node_paths, is_element, is_begun, is_define, is_dotted, is_through, numbered_at, last_number, value_number, statement_number, first_that_fits, place_said}
 use Rattle.keep_path.specs.Path.{Part}
 use Rattle.keep_meaning.specs.Rules.{ObeysRules}
-use Rattle.keep_nodes.specs.Told.{Telling}
+use Rattle.keep_nodes.specs.Facts.{NodeInfos}
 use Rattle.keep_meaning.proofs.Shared.{paths-nodes_in, IsPart, part_ends}
 use Rattle.keep_law.specs.declared.fault.EditFault.{EditFault}
 use Rattle.keep_law.specs.declared.fault.EditFault.TheVariants as fault
@@ -43,9 +43,9 @@ pub record IsTold (path : List Part) (s : Document) (info : NodeInfo) : Type 0 w
   pub node : is_node path (said_in s) ≡ true
   pub is : info ≡ info_at path s
 
-module _ (d : ProfiledText) (syntax : Syntax) (index : Telling) (path : List Part) (s : Document) (holds : Holds d syntax index) (read : IsTextOfTree d s) where
+module _ (d : ProfiledText) (syntax : Syntax) (index : NodeInfos) (path : List Part) (s : Document) (holds : Holds d syntax index) (read : IsTextOfTree d s) where
   paths_are : index.paths ≡ node_paths (said_in s)
-  paths_are = ap (λ (t : Telling). t.paths) (told_is d syntax index s holds read) ∙ paths-nodes_in s
+  paths_are = ap (λ (t : NodeInfos). t.paths) (told_is d syntax index s holds read) ∙ paths-nodes_in s
 
   pub none_found : (o : Option NodeId) → o ≡ None → number_of o ≡ node_number index.paths path → is_node path (said_in s) ≡ false
   none_found o none found = no_node path (said_in s) (ap (λ (ps : List (List Part)). node_number ps path) (sym paths_are) ∙ sym found ∙ ap number_of none)
@@ -54,7 +54,7 @@ module _ (d : ProfiledText) (syntax : Syntax) (index : Telling) (path : List Par
   one_found id info o one found there =
       let number : node_number (node_paths (said_in s)) path ≡ Some id.0 = ap (λ (ps : List (List Part)). node_number ps path) (sym paths_are) ∙ sym found ∙ ap number_of one in
       let same : Some info ≡ Some (info_at path s) =
-      sym there ∙ ap (λ (t : Telling). slice_get t.infos id.0) (told_is d syntax index s holds read) ∙ info_of_number path s id.0 number in
+      sym there ∙ ap (λ (t : NodeInfos). slice_get t.infos id.0) (told_is d syntax index s holds read) ∙ info_of_number path s id.0 number in
       record { node = a_node path (said_in s) id.0 number; is = cc }
 
 -- ---- its kind
@@ -124,7 +124,7 @@ span_is d path s number info read of =
       ends = subst (IsCharBoundary d.text) (sym of.end) (ends_between d.text info.span.start (value_text of.value) read.utf8 there ends);
     }
 
-module _ (d : ProfiledText) (syntax : Syntax) (index : Telling) (path : List Part) (s : Document) (number : ℕ) (holds : Holds d syntax index) (read : IsTextOfTree d s) (found : value_number_of path s ≡ Some number) where
+module _ (d : ProfiledText) (syntax : Syntax) (index : NodeInfos) (path : List Part) (s : Document) (number : ℕ) (holds : Holds d syntax index) (read : IsTextOfTree d s) (found : value_number_of path s ≡ Some number) where
   pub values_are : values_of syntax ≡ numbered.values s
   values_are = holds.is.values ∙ ap numbered.values (tree_is d syntax index s holds read)
 

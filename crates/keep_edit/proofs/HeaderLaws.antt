@@ -27,7 +27,7 @@ use Rattle.keep_meaning.specs.Meaning.{statement_of, reading_behind, lines, said
 use Rattle.keep_meaning.specs.Nodes.{is_at, is_root, has, is_through, is_define, is_element, is_dotted, is_begun, paths_with, node_paths, node_number, children, numbered_at, last_number, value_number, statement_number, first_that_fits}
 use Rattle.keep_meaning.specs.Rules.{why_of, Allows}
 use Rattle.keep_meaning.proofs.Shared.{paths-nodes_in}
-use Rattle.keep_nodes.specs.Told.{Telling}
+use Rattle.keep_nodes.specs.Facts.{NodeInfos}
 use Rattle.keep_path.specs.Path.{Part, key, index, same_path}
 use Rattle.keep_rules.specs.declared.index.NodeId.{NodeId}
 use Rattle.keep_rules.specs.Lookup.{number_of, path_numbered, children_numbered, nth_child}
@@ -109,9 +109,9 @@ or_right : (a b : Bool) → (a || b) ≡ false → b ≡ false
 or_right true b h = absurd cc
 or_right false b h = h
 
-module _ (s : Document) (t : Telling) (h : IsIndexOf s t) where
+module _ (s : Document) (t : NodeInfos) (h : IsIndexOf s t) where
   paths_are : t.paths ≡ node_paths (said_in s)
-  paths_are = ap (λ (x : Telling). x.paths) h.told ∙ paths-nodes_in s
+  paths_are = ap (λ (x : NodeInfos). x.paths) h.facts ∙ paths-nodes_in s
 
   nested : AreNested (said_in s) (tables_in (said_in s))
   nested = subst (AreNested (said_in s)) (tables_are s) h.nested
@@ -129,7 +129,7 @@ module _ (s : Document) (t : Telling) (h : IsIndexOf s t) where
 
   told_there : (path : List Part) (i : ℕ) (info : NodeInfo) → node_number (node_paths (said_in s)) path ≡ Some i → slice_get t.infos i ≡ Some info → IsTold path s info
   told_there path i info number there =
-      let same : Some info ≡ Some _ = sym there ∙ ap (λ (x : Telling). slice_get x.infos i) h.told ∙ info_of_number path s i number in
+      let same : Some info ≡ Some _ = sym there ∙ ap (λ (x : NodeInfos). slice_get x.infos i) h.facts ∙ info_of_number path s i number in
       record { node = a_node path (said_in s) i number; is = cc }
 
   -- ---- a key's node

@@ -23,7 +23,7 @@ use Rattle.keep_meaning.specs.Marks.{Mention}
 use Rattle.keep_meaning.specs.Meaning.{said_in}
 use Rattle.keep_meaning.specs.Nodes.{is_node, node_number, node_paths, paths_with, has, is_element, fact_at, kind_at, kind_or_table, moment_kind, place_said}
 use Rattle.keep_meaning.proofs.Shared.{paths-nodes_in}
-use Rattle.keep_nodes.specs.Told.{Telling}
+use Rattle.keep_nodes.specs.Facts.{NodeInfos}
 use Rattle.keep_rules.specs.Lookup.{number_of, path_numbered}
 use Rattle.keep_rules.specs.declared.index.NodeId.{NodeId}
 use Rattle.keep_rules.proofs.Shared.{number_is}
@@ -113,9 +113,9 @@ no_dots (origin.Through v) h = refl
 no_dots origin.Root h = refl
 no_dots origin.Tables h = refl
 
-module _ (d : ProfiledText) (syntax : Syntax) (index : Telling) (path : List Part) (s : Document) (holds : Holds d syntax index) (read : IsTextOfTree d s) (h : Holder) (way : IsOnWay path s h) where
+module _ (d : ProfiledText) (syntax : Syntax) (index : NodeInfos) (path : List Part) (s : Document) (holds : Holds d syntax index) (read : IsTextOfTree d s) (h : Holder) (way : IsOnWay path s h) where
   paths_are : index.paths ≡ node_paths (said_in s)
-  paths_are = ap (λ (t : Telling). t.paths) (told_is d syntax index s holds read) ∙ paths-nodes_in s
+  paths_are = ap (λ (t : NodeInfos). t.paths) (told_is d syntax index s holds read) ∙ paths-nodes_in s
 
   here : (h.id.0 < length index.paths) × (path_numbered index h.id.0 ≡ take h.len path)
   here = number_is index.paths (take h.len path) h.id.0 (ap (λ (ps : List (List Part)). node_number ps (take h.len path)) paths_are ∙ way.node)

@@ -12,7 +12,7 @@ use Rattle.keep_syntax.specs.Contract.{values_of}
 use Rattle.keep_syntax.specs.Numbered as syntax_of
 use Rattle.keep_path.specs.Path.{Part, AreUtf8}
 use Rattle.keep_meaning.specs.Meaning.{said_in}
-use Rattle.keep_nodes.specs.Told.{Telling}
+use Rattle.keep_nodes.specs.Facts.{NodeInfos}
 use Rattle.keep_law.specs.declared.fault.EditFault.{EditFault}
 use Rattle.keep_law.specs.declared.fault.EditFault.TheVariants as fault
 use Rattle.keep_law.specs.Changed as changed
@@ -44,7 +44,7 @@ mapped_some : (f : ValueInfo → changed.Place) (o : Option ValueInfo) (p : chan
 mapped_some f None p e = absurd cc
 mapped_some f (Some info) p e = (info, refl, cc)
 
-module _ (d : ProfiledText) (syntax : Syntax) (index_of : Telling) (path : List Part) (s : Document) (v : Value) (bytes : List ℕ) (i : Insertion) (holds : Holds d syntax index_of) (read : IsTextOfTree d s) (value : IsTextOfValue bytes v)
+module _ (d : ProfiledText) (syntax : Syntax) (index_of : NodeInfos) (path : List Part) (s : Document) (v : Value) (bytes : List ℕ) (i : Insertion) (holds : Holds d syntax index_of) (read : IsTextOfTree d s) (value : IsTextOfValue bytes v)
     (there : IsInsertionOf d.profile path v s (Ok i)) (utf8 : AreUtf8 path) where
   given : IsGivenValue Wide v
   given = record { valid = value.reads.valid; obeys = value.obeys }

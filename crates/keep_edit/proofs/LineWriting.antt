@@ -22,7 +22,7 @@ use Rattle.keep_syntax.specs.Contract.{statements_of, values_of}
 use Rattle.keep_syntax.specs.Tree.{Written, Value, Document, key_leaves, bom_leaves, ended_leaves, line_leaves, text_of, text}
 use Rattle.keep_syntax.specs.Tree.{mark as written}
 use Rattle.keep_syntax.specs.Numbered as syntax
-use Rattle.keep_nodes.specs.Told.{Telling}
+use Rattle.keep_nodes.specs.Facts.{NodeInfos}
 use Rattle.keep_path.specs.Path.{Part}
 use Rattle.keep_law.specs.Edits.{key_with, new_header}
 use Rattle.keep_law.specs.Look.{keys_in}
@@ -139,7 +139,7 @@ none_missing d s at b newline old e h = sym (append-nil old) ∙ ap (λ (t : Lis
 pub section_ends : (n m : ℕ) (st : Statement) (ss : List Statement) → slice_get ss n ≡ Some st → m ≡ suc n → section_end (drop n ss) ≡ body_end st.line.end (drop m ss)
 section_ends n m st ss here next = ap section_end (from_here ss n st here) ∙ ap (λ (k : ℕ). body_end st.line.end (drop k ss)) (sym next)
 
-module _ (d : ProfiledText) (read_syntax : Syntax) (index : Telling) (s : Document) (holds : Holds d read_syntax index) (read : IsTextOfTree d s) where
+module _ (d : ProfiledText) (read_syntax : Syntax) (index : NodeInfos) (s : Document) (holds : Holds d read_syntax index) (read : IsTextOfTree d s) where
   pub statements_are : statements_of read_syntax ≡ syntax.statements s
   statements_are = holds.is.statements ∙ ap syntax.statements (tree_is d read_syntax index s holds read)
 

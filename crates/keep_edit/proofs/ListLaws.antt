@@ -18,7 +18,7 @@ use Rattle.keep_meaning.specs.Meaning.{said_in}
 use Rattle.keep_meaning.specs.Nodes.{kind_at, mention_of, node_at, node_info, node_paths, infos_in}
 use Rattle.keep_path.specs.Path.{Part}
 use Rattle.keep_path.specs.PathText.{encoded_path}
-use Rattle.keep_nodes.specs.Told.{Telling}
+use Rattle.keep_nodes.specs.Facts.{NodeInfos}
 use Rattle.keep_meaning.proofs.Shared.{mentions-numbered_in, paths-nodes_in}
 use Rattle.keep_edit.specs.declared.document.Entry.{Entry}
 use Rattle.keep_edit.specs.Answers.{entry_at, entries_of, AddsEntryPath}
@@ -58,14 +58,14 @@ kind_numbered s n info h is =
     cc
 
 -- what an index tells of all nodes
-record IsToldOf (s : Document) (index : Telling) : Type 0 where
+record IsToldOf (s : Document) (index : NodeInfos) : Type 0 where
   paths : index.paths ≡ node_paths (said_in s)
   infos : index.infos ≡ infos_in s
 
-told_of : (t : ProfiledText) (parts : Syntax) (index : Telling) (s : Document) → Holds t parts index → IsTextOfTree t s → IsToldOf s index
+told_of : (t : ProfiledText) (parts : Syntax) (index : NodeInfos) (s : Document) → Holds t parts index → IsTextOfTree t s → IsToldOf s index
 told_of t parts index s h read =
     let is : index ≡ telling_in s = told_is t parts index s h read in
-    record { paths = ap (λ (t : Telling). t.paths) is ∙ paths-nodes_in s; infos = ap (λ (t : Telling). t.infos) is }
+    record { paths = ap (λ (t : NodeInfos). t.paths) is ∙ paths-nodes_in s; infos = ap (λ (t : NodeInfos). t.infos) is }
 
 -- ---- one after another
 
@@ -76,7 +76,7 @@ entries_none s = by (node_paths (said_in s))
     by [] = refl
     by (p ∷ ps) = refl
 
-pub entries_more : (t : ProfiledText) (parts : Syntax) (index : Telling) (s : Document) (entries : List Entry) (n : ℕ) (path : List Part) (info : NodeInfo) → Holds t parts index → IsTextOfTree t s
+pub entries_more : (t : ProfiledText) (parts : Syntax) (index : NodeInfos) (s : Document) (entries : List Entry) (n : ℕ) (path : List Part) (info : NodeInfo) → Holds t parts index → IsTextOfTree t s
     → entries ≡ entries_before s n → 1 ≤ n → n < length index.paths → path ≡ path_numbered index n → slice_get index.infos n ≡ Some info
     → entries ++ entry path info.kind ∷ [] ≡ entries_before s (n + 1)
 entries_more t parts index s entries n path info h read so_far some within place told =
@@ -94,7 +94,7 @@ entries_more t parts index s entries n path info h read so_far some within place
     ∙ sym (map-append (entry_at (said_in s)) (drop 1 (take n paths)) (p ∷ []))
     ∙ ap (map (entry_at (said_in s))) (sym front)
 
-pub entries_all : (t : ProfiledText) (parts : Syntax) (index : Telling) (s : Document) (entries : List Entry) (n : ℕ) → Holds t parts index → IsTextOfTree t s → entries ≡ entries_before s n
+pub entries_all : (t : ProfiledText) (parts : Syntax) (index : NodeInfos) (s : Document) (entries : List Entry) (n : ℕ) → Holds t parts index → IsTextOfTree t s → entries ≡ entries_before s n
     → length index.paths ≤ n → entries ≡ entries_of s
 entries_all t parts index s entries n h read so_far past =
     let is : IsToldOf s index = told_of t parts index s h read in
@@ -107,7 +107,7 @@ path_of_entry paths n low =
     slice_get-get_or (drop 1 paths) n [] (omega (arith, length-drop 1 paths)) ∙ ap Some (get_or_after_one paths n [] ∙ ap (λ i. get_or paths i []) (omega arith))
 
 -- the path that was added and the kind that was told are those of the entry
-pub entry_added : (t : ProfiledText) (parts : Syntax) (index : Telling) (s : Document) (n : ℕ) (old new : List ℕ) (info : NodeInfo) → Holds t parts index → IsTextOfTree t s
+pub entry_added : (t : ProfiledText) (parts : Syntax) (index : NodeInfos) (s : Document) (n : ℕ) (old new : List ℕ) (info : NodeInfo) → Holds t parts index → IsTextOfTree t s
     → n + 1 < length index.paths → new ≡ old ++ encoded_path (path_numbered index (n + 1)) → slice_get index.infos (n + 1) ≡ Some info
     → AddsEntryPath (slice_get (entries_of s) n) (Some info.kind) old new
 entry_added t parts index s n old new info h read within text told =
@@ -122,7 +122,7 @@ entry_added t parts index s n old new info h read within text told =
     subst (λ (e : Option Entry). AddsEntryPath e (Some info.kind) old new) (sym there) (ap Some kind, text ∙ ap (λ q. old ++ encoded_path q) same)
 
 -- there is no entry of that number
-pub no_entry : (t : ProfiledText) (parts : Syntax) (index : Telling) (s : Document) (n : ℕ) (old : List ℕ) → Holds t parts index → IsTextOfTree t s → length index.paths ≤ n + 1
+pub no_entry : (t : ProfiledText) (parts : Syntax) (index : NodeInfos) (s : Document) (n : ℕ) (old : List ℕ) → Holds t parts index → IsTextOfTree t s → length index.paths ≤ n + 1
     → AddsEntryPath (slice_get (entries_of s) n) None old old
 no_entry t parts index s n old h read past =
     let is : IsToldOf s index = told_of t parts index s h read in

@@ -12,7 +12,7 @@ use Rattle.keep_syntax.specs.Grammar.{Reads}
 use Rattle.keep_syntax.specs.Contract.{IsSyntaxOf, IsTextOf}
 use Rattle.keep_syntax.proofs.DocumentLaws.{one_document}
 use Rattle.keep_rules.specs.ReadDocuments.{WasRead, IsIndexOf, IsRefusal}
-use Rattle.keep_nodes.specs.Told.{Telling}
+use Rattle.keep_nodes.specs.Facts.{NodeInfos}
 use Rattle.keep_edit.specs.Reading.{limit, ProfiledText, text_in, IsTextOfTree, IsRefused, TellsNoText, Holds}
 
 -- one text has one tree
@@ -27,11 +27,11 @@ pub was_read : {profile : Profile} {bytes : List ℕ} {syntax : Syntax} {d : Doc
 was_read {profile} reads is = record { profile = profile; limit = limit; reads = reads; is = is }
 
 -- what is read
-pub holds : (profile : Profile) (bytes : List ℕ) (syntax : Syntax) (index : Telling) → IsUtf8 bytes → ReadOf profile bytes syntax → IsTextOf syntax bytes
+pub holds : (profile : Profile) (bytes : List ℕ) (syntax : Syntax) (index : NodeInfos) → IsUtf8 bytes → ReadOf profile bytes syntax → IsTextOf syntax bytes
     → ((d : Document) → WasRead bytes syntax d → IsIndexOf d index) → Holds (text_in profile bytes) syntax index
 holds profile bytes syntax index utf8 (d, reads, is) of_text built =
     let i = built d (was_read reads is) in
-    record { tree = d; read = record { utf8 = utf8; reads = reads; obeys = i.obeys }; is = is; of_text = of_text; told = i.told; nested = i.nested }
+    record { tree = d; read = record { utf8 = utf8; reads = reads; obeys = i.obeys }; is = is; of_text = of_text; told = i.facts; nested = i.nested }
 
 -- ---- why not
 

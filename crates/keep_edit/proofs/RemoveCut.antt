@@ -24,7 +24,7 @@ use Rattle.keep_meaning.specs.KeyText.{text_at}
 use Rattle.keep_path.specs.Path.{Part}
 use Rattle.keep_meaning.specs.Meaning.{said_in}
 use Rattle.keep_meaning.specs.Nodes.{is_define, is_begun, statement_number}
-use Rattle.keep_nodes.specs.Told.{Telling}
+use Rattle.keep_nodes.specs.Facts.{NodeInfos}
 use Rattle.keep_law.specs.Changed.{Changed, Place, IsChangeOf, place_of}
 use Rattle.keep_law.specs.Edits.{remove, place, changed_or_same}
 use Rattle.keep_law.specs.Laws.{IsLawfulEdit}
@@ -237,7 +237,7 @@ no_header d path s n c read found h =
       | inr b ↦ begun_alone s path rules (has_some is_begun path (said_in s) (has_of path s read.obeys is_begun statement_number h.number b)) alone
     ]
 
-module _ (d : ProfiledText) (syntax : Syntax) (index : Telling) (path : List Part) (s : Document) (holds : Holds d syntax index) (read : IsTextOfTree d s) (allowed : refusal d.profile limit s (remove path) ≡ None) where
+module _ (d : ProfiledText) (syntax : Syntax) (index : NodeInfos) (path : List Part) (s : Document) (holds : Holds d syntax index) (read : IsTextOfTree d s) (allowed : refusal d.profile limit s (remove path) ≡ None) where
   statements_are : statements_of syntax ≡ numbered.statements s
   statements_are = holds.is.statements ∙ ap numbered.statements (tree_is d syntax index s holds read)
 

@@ -12,7 +12,7 @@ use Rattle.keep_meaning.specs.Meaning.{said_in}
 use Rattle.keep_rules.specs.declared.index.NodeId.{NodeId}
 use Rattle.keep_rules.specs.Lookup.{number_of}
 use Rattle.keep_meaning.specs.Nodes.{is_root, is_node, mark_count, node_number, node_paths}
-use Rattle.keep_nodes.specs.Told.{Telling}
+use Rattle.keep_nodes.specs.Facts.{NodeInfos}
 use Rattle.keep_meaning.proofs.Shared.{paths-nodes_in, parts_readable}
 use Rattle.keep_path.specs.Path.{Part, key, index as index_part}
 use Rattle.keep_law.specs.declared.fault.EditFault.{EditFault}
@@ -117,14 +117,14 @@ by_nothing (p ∷ q ∷ ps) e = absurd (none_last q ps e)
     none_last q (r ∷ ps) e = none_last r ps e
 
 -- a node that was looked for is there exactly if it was found
-pub node_test : (d : ProfiledText) (syntax : Syntax) (index : Telling) (path : List Part) (s : Document) → Holds d syntax index → IsTextOfTree d s
+pub node_test : (d : ProfiledText) (syntax : Syntax) (index : NodeInfos) (path : List Part) (s : Document) → Holds d syntax index → IsTextOfTree d s
     → (o : Option NodeId) → number_of o ≡ node_number index.paths path → is_node path (said_in s) ≡ is_some o
 node_test d syntax index path s holds read None found = none_found d syntax index path s holds read None refl found
 node_test d syntax index path s holds read (Some id) found =
-    let paths : index.paths ≡ node_paths (said_in s) = ap (λ (t : Telling). t.paths) (told_is d syntax index s holds read) ∙ paths-nodes_in s in
+    let paths : index.paths ≡ node_paths (said_in s) = ap (λ (t : NodeInfos). t.paths) (told_is d syntax index s holds read) ∙ paths-nodes_in s in
     a_node path (said_in s) id.0 (ap (λ (ps : List (List Part)). node_number ps path) (sym paths) ∙ sym found)
 
-pub beside_test : (d : ProfiledText) (syntax : Syntax) (index : Telling) (path : List Part) (t : List ℕ) (s : Document) → Holds d syntax index → IsTextOfTree d s
+pub beside_test : (d : ProfiledText) (syntax : Syntax) (index : NodeInfos) (path : List Part) (t : List ℕ) (s : Document) → Holds d syntax index → IsTextOfTree d s
     → (o : Option NodeId) → number_of o ≡ node_number index.paths (take (length path - 1) path ++ key t ∷ []) → is_node (beside path t) (said_in s) ≡ is_some o
 beside_test d syntax index path t s holds read o found =
     ap (λ q. is_node q (said_in s)) (sym (beside_is path t)) ∙ node_test d syntax index (take (length path - 1) path ++ key t ∷ []) s holds read o found

@@ -25,7 +25,7 @@ use Rattle.keep_meaning.specs.Marks.{Mention, fact_of}
 use Rattle.keep_meaning.specs.Meaning.{said_in}
 use Rattle.keep_meaning.specs.Nodes.{is_at, is_node, says_at, fact_at, first_of}
 use Rattle.keep_path.specs.Path.{Part}
-use Rattle.keep_nodes.specs.Told.{Telling}
+use Rattle.keep_nodes.specs.Facts.{NodeInfos}
 use Rattle.keep_meaning.proofs.Shared.{means_value}
 use Rattle.keep_law.specs.declared.fault.EditFault.{EditFault}
 use Rattle.keep_law.specs.declared.fault.EditFault.TheVariants.{NotFound, NotValue}
@@ -58,7 +58,7 @@ pub record IsValueAt (d : ProfiledText) (path : List Part) (s : Document) (numbe
   pub value : IsValueOf d.profile path s number i
   pub spelled : text s ≡ d.text
 
-pub value_at : (d : ProfiledText) (parts : Syntax) (index : Telling) (s : Document) (path : List Part) (number : ℕ) (i : ValueInfo) → Holds d parts index → IsTextOfTree d s
+pub value_at : (d : ProfiledText) (parts : Syntax) (index : NodeInfos) (s : Document) (path : List Part) (number : ℕ) (i : ValueInfo) → Holds d parts index → IsTextOfTree d s
     → IsFound path s (Ok number) → slice_get (values_of parts) number ≡ Some i → IsValueAt d path s number i
 value_at d parts index s path number i h read found there =
     record { value = (value_there d parts index path s number h read found i there).of; spelled = sym read.reads.spelled }

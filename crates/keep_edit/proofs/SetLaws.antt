@@ -19,7 +19,7 @@ use Rattle.keep_meaning.specs.Marks.{Mention, fact_of}
 use Rattle.keep_meaning.specs.Meaning.{said_in}
 use Rattle.keep_meaning.specs.Nodes.{is_at, is_root, is_node, first_of}
 use Rattle.keep_path.specs.Path.{Part}
-use Rattle.keep_nodes.specs.Told.{Telling}
+use Rattle.keep_nodes.specs.Facts.{NodeInfos}
 use Rattle.keep_law.specs.declared.fault.EditFault.{EditFault}
 use Rattle.keep_law.specs.declared.fault.EditFault.TheVariants as fault
 use Rattle.keep_law.specs.Edits.{Edit, set, place}
@@ -74,7 +74,7 @@ few_open : (bound : ℕ) (b : Bool) (n : ℕ) → cond b (suc n) n ≤ bound →
 few_open bound true n h = omega (arith, h)
 few_open bound false n h = h
 
-pub setting : (d : ProfiledText) (given : List ℕ) (syntax : Syntax) (index : Telling) (path : List Part) (s : Document) (v : Value) (number : ℕ) (info : ValueInfo) (deep : ℕ) → Holds d syntax index → IsTextOfTree d s
+pub setting : (d : ProfiledText) (given : List ℕ) (syntax : Syntax) (index : NodeInfos) (path : List Part) (s : Document) (v : Value) (number : ℕ) (info : ValueInfo) (deep : ℕ) → Holds d syntax index → IsTextOfTree d s
     → value_number_of path s ≡ Some number → slice_get (values_of syntax) number ≡ Some info → IsTextOfValue given v → deep ≡ value_depth v → IsSetting d given path s v info deep
 setting d given syntax index path s v number info deep holds read found here value deep_is =
     let there : IsValueThere d path s number info = value_there d syntax index path s number holds read found info here in

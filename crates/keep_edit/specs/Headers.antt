@@ -13,7 +13,7 @@ use Rattle.keep_meaning.specs.Marks.{marks, elements_of, entered_path}
 use Rattle.keep_meaning.specs.Meaning.{said_in}
 use Rattle.keep_meaning.specs.Nodes.{node_number}
 use Rattle.keep_meaning.specs.Rules.{why_of}
-use Rattle.keep_nodes.specs.Told.{Telling}
+use Rattle.keep_nodes.specs.Facts.{NodeInfos}
 use Rattle.keep_path.specs.Path.{Part}
 use Rattle.keep_rules.specs.declared.index.NodeId.{NodeId}
 use Rattle.keep_rules.specs.Lookup.{path_numbered}
@@ -59,7 +59,7 @@ abbrev pub entered_in : Document → List Part → List Part
 entered_in s path = entered_path (tables_in (said_in s)) path
 
 -- a header goes on from this path at this node, or at none, or is refused
-abbrev pub EntersAt : Document → Telling → List Part → Result (Option NodeId) Why → Type 0
+abbrev pub EntersAt : Document → NodeInfos → List Part → Result (Option NodeId) Why → Type 0
 EntersAt s t path (Ok (Some id)) = (is_stopped s path ≡ false) × (id.0 < length t.paths) × (path_numbered t id.0 ≡ entered_in s path)
 EntersAt s t path (Ok None) = (is_stopped s path ≡ false) × ((more : List Part) → node_number t.paths (entered_in s path ++ more) ≡ None)
 EntersAt s t path (Err why) = (is_stopped s path ≡ true) × (why ≡ why_of role.Through)

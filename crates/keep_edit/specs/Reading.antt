@@ -12,7 +12,7 @@ use Rattle.keep_meaning.specs.Marks.{start, reading_after}
 use Rattle.keep_meaning.specs.Meaning.{said_in}
 use Rattle.keep_meaning.specs.Nodes.{node_path, nodes_in, infos_in}
 use Rattle.keep_meaning.specs.ReadText.{IsRead, IsReadFault}
-use Rattle.keep_nodes.specs.Told.{Telling}
+use Rattle.keep_nodes.specs.Facts.{NodeInfos}
 use Rattle.keep_rules.specs.Nested.{AreNested}
 pub use Rattle.keep_value.specs.ValueTexts.{limit, IsTextOfValue, IsAcceptedValue, IsTextOfFact, IsRefusedValue}
 
@@ -43,11 +43,11 @@ abbrev pub TellsNoText : {T : Type 0} → List ℕ → Result T ReadFault → Ty
 TellsNoText bytes result = ¬ (IsUtf8 bytes) → result ≡ Err (Utf8 (utf8_valid_len bytes))
 
 -- what the nodes of a document tell
-abbrev pub telling_in : Document → Telling
+abbrev pub telling_in : Document → NodeInfos
 telling_in s = record { paths = map node_path (nodes_in s); infos = infos_in s }
 
 -- Of this text some document was read, and its syntax and its nodes are these.
-pub record Holds (t : ProfiledText) (syntax : Syntax) (index : Telling) : Type 0 where
+pub record Holds (t : ProfiledText) (syntax : Syntax) (index : NodeInfos) : Type 0 where
   pub tree : Document
   pub read : IsTextOfTree t tree
   pub is : IsSyntaxOf syntax tree

@@ -4,5 +4,5 @@ pub mod NewNodeLemmas
 pub mod KeyMapLemmas
 pub mod NodeRowLemmas
 pub mod StoredLemmas
-pub mod KeptLemmas
+pub mod PackedLemmas
 pub mod Shared

@@ -7,7 +7,7 @@ use Rattle.std.proofs.lemmas.Bool.Decides.{Decides-eqb}
 use Rattle.std.proofs.lemmas.Bool.{cases_lt}
 use Rattle.std.proofs.Math.Seq.{get_or-append_seam}
 use Rattle.keep_path.specs.Path.{Part}
-use Rattle.keep_nodes.specs.Trie.{Twig, link, path_after, paths_of, path_at, hanging_from, children_of, IsTrie}
+use Rattle.keep_nodes.specs.Trie.{TrieNode, link, path_after, paths_of, path_at, children_from, children_of, IsTrie}
 
 -- the paths of a list of links
 length-paths : (ps : List (List Part)) (ls : List (ℕ × Part)) → length (fold path_after ps ls) ≡ length ps + length ls
@@ -36,53 +36,53 @@ at_link ps (l ∷ ls) (suc j) n e d a h g =
     let p : List Part = get_or ps l.0 [] ++ l.1 ∷ [] in
     at_link (path_after ps l) ls j n e d (omega (arith, length-append ps (p ∷ []))) (omega arith) g
 
--- those that hang at a node
-pub record HangsAt (n i : ℕ) (hanging : List ℕ) (ls : List (ℕ × Part)) (k : ℕ) (e : ℕ × Part) : Type 0 where
+-- the children of a node
+pub record IsChildLink (n i : ℕ) (children : List ℕ) (ls : List (ℕ × Part)) (k : ℕ) (e : ℕ × Part) : Type 0 where
   pub place : ℕ
   pub inside : place < length ls
-  pub number : get_or hanging k 0 ≡ n + place
+  pub number : get_or children k 0 ≡ n + place
   pub parent : (get_or ls place e).0 ≡ i
 
-hanging_first : (n i : ℕ) (l : ℕ × Part) (ls : List (ℕ × Part)) (rest : List ℕ) (e : ℕ × Part) → ((k : ℕ) → k < length rest → HangsAt (n + 1) i rest ls k e)
-    → l.0 ≡ i → (k : ℕ) → k < length (n ∷ rest) → HangsAt n i (n ∷ rest) (l ∷ ls) k e
-hanging_first n i l ls rest e more is zero h = record { place = 0; inside = omega arith; number = omega arith; parent = is }
-hanging_first n i l ls rest e more is (suc k) h =
+children_first : (n i : ℕ) (l : ℕ × Part) (ls : List (ℕ × Part)) (rest : List ℕ) (e : ℕ × Part) → ((k : ℕ) → k < length rest → IsChildLink (n + 1) i rest ls k e)
+    → l.0 ≡ i → (k : ℕ) → k < length (n ∷ rest) → IsChildLink n i (n ∷ rest) (l ∷ ls) k e
+children_first n i l ls rest e more is zero h = record { place = 0; inside = omega arith; number = omega arith; parent = is }
+children_first n i l ls rest e more is (suc k) h =
     let r = more k (omega arith) in
     record { place = suc r.place; inside = omega arith; number = omega arith; parent = r.parent }
 
-hanging_at : (n i : ℕ) (ls : List (ℕ × Part)) (e : ℕ × Part) (k : ℕ) → k < length (hanging_from n i ls) → HangsAt n i (hanging_from n i ls) ls k e
-hanging_at n i [] e k h = absurd (omega arith)
-hanging_at n i (l ∷ ls) e k h =
-    (elim (l.0 == i) as (λ b. (l.0 == i) ≡ b → k < length (cond b (n ∷ hanging_from (n + 1) i ls) (hanging_from (n + 1) i ls))
-    → HangsAt n i (cond b (n ∷ hanging_from (n + 1) i ls) (hanging_from (n + 1) i ls)) (l ∷ ls) k e) [
-      | true ↦ λ is h. hanging_first n i l ls (hanging_from (n + 1) i ls) e (hanging_at (n + 1) i ls e) ((Decides-eqb l.0 i).0 is) k h
-      | false ↦ λ is h. let r = hanging_at (n + 1) i ls e k h in record { place = suc r.place; inside = omega arith; number = omega arith; parent = r.parent }
+children_at : (n i : ℕ) (ls : List (ℕ × Part)) (e : ℕ × Part) (k : ℕ) → k < length (children_from n i ls) → IsChildLink n i (children_from n i ls) ls k e
+children_at n i [] e k h = absurd (omega arith)
+children_at n i (l ∷ ls) e k h =
+    (elim (l.0 == i) as (λ b. (l.0 == i) ≡ b → k < length (cond b (n ∷ children_from (n + 1) i ls) (children_from (n + 1) i ls))
+    → IsChildLink n i (cond b (n ∷ children_from (n + 1) i ls) (children_from (n + 1) i ls)) (l ∷ ls) k e) [
+      | true ↦ λ is h. children_first n i l ls (children_from (n + 1) i ls) e (children_at (n + 1) i ls e) ((Decides-eqb l.0 i).0 is) k h
+      | false ↦ λ is h. let r = children_at (n + 1) i ls e k h in record { place = suc r.place; inside = omega arith; number = omega arith; parent = r.parent }
     ]) refl h
 
-pub record IsHanging (n : ℕ) (hanging : List ℕ) : Type 0 where
+pub record IsAmongChildren (n : ℕ) (children : List ℕ) : Type 0 where
   pub place : ℕ
-  pub inside : place < length hanging
-  pub number : get_or hanging place 0 ≡ n
+  pub inside : place < length children
+  pub number : get_or children place 0 ≡ n
 
-hanging_all : (n i : ℕ) (ls : List (ℕ × Part)) (j : ℕ) (e : ℕ × Part) → j < length ls → (get_or ls j e).0 ≡ i → IsHanging (n + j) (hanging_from n i ls)
-hanging_all n i [] j e h is = absurd (omega arith)
-hanging_all n i (l ∷ ls) zero e h is =
-    (elim (l.0 == i) as (λ b. b ≡ true → IsHanging (n + 0) (cond b (n ∷ hanging_from (n + 1) i ls) (hanging_from (n + 1) i ls))) [
+children_all : (n i : ℕ) (ls : List (ℕ × Part)) (j : ℕ) (e : ℕ × Part) → j < length ls → (get_or ls j e).0 ≡ i → IsAmongChildren (n + j) (children_from n i ls)
+children_all n i [] j e h is = absurd (omega arith)
+children_all n i (l ∷ ls) zero e h is =
+    (elim (l.0 == i) as (λ b. b ≡ true → IsAmongChildren (n + 0) (cond b (n ∷ children_from (n + 1) i ls) (children_from (n + 1) i ls))) [
       | true ↦ λ _. record { place = 0; inside = omega arith; number = omega arith }
       | false ↦ λ e. cc
     ]) ((Decides-eqb l.0 i).1 is)
-hanging_all n i (l ∷ ls) (suc j) e h is =
-    let r = hanging_all (n + 1) i ls j e (omega arith) is in
-    elim (l.0 == i) as (λ b. IsHanging (n + suc j) (cond b (n ∷ hanging_from (n + 1) i ls) (hanging_from (n + 1) i ls))) [
+children_all n i (l ∷ ls) (suc j) e h is =
+    let r = children_all (n + 1) i ls j e (omega arith) is in
+    elim (l.0 == i) as (λ b. IsAmongChildren (n + suc j) (cond b (n ∷ children_from (n + 1) i ls) (children_from (n + 1) i ls))) [
       | true ↦ record { place = suc r.place; inside = omega arith; number = omega arith }
       | false ↦ record { place = r.place; inside = r.inside; number = omega arith }
     ]
 
 -- in a list of nodes
-pub length-paths_of : (nodes : List Twig) → 0 < length nodes → length (paths_of nodes) ≡ length nodes
+pub length-paths_of : (nodes : List TrieNode) → 0 < length nodes → length (paths_of nodes) ≡ length nodes
 length-paths_of nodes h = omega (arith, length-paths ([] ∷ []) (drop 1 (map link nodes)), length-drop 1 (map link nodes), length-map nodes link)
 
-pub path_at-link : (nodes : List Twig) → IsTrie nodes → (i : ℕ) (d : Twig) → 0 < i → i < length nodes
+pub path_at-link : (nodes : List TrieNode) → IsTrie nodes → (i : ℕ) (d : TrieNode) → 0 < i → i < length nodes
     → path_at nodes i ≡ path_at nodes (get_or nodes i d).parent ++ (link (get_or nodes i d)).1 ∷ []
 path_at-link nodes trie i d low h =
     let ls : List (ℕ × Part) = drop 1 (map link nodes) in
@@ -93,22 +93,22 @@ path_at-link nodes trie i d low h =
     let below : (get_or ls (i - 1) (link d)).0 < i = subst (λ (l : ℕ × Part). l.0 < i) (sym same) up in
     at_link ([] ∷ []) ls (i - 1) i (link d) [] (omega arith) (omega arith) below ∙ ap (λ (l : ℕ × Part). path_at nodes l.0 ++ l.1 ∷ []) same
 
-pub record IsChildOf (nodes : List Twig) (i c : ℕ) : Type 0 where
+pub record IsChildOf (nodes : List TrieNode) (i c : ℕ) : Type 0 where
   pub later : 0 < c
   pub inside : c < length nodes
-  pub parent : (d : Twig) → (get_or nodes c d).parent ≡ i
-  pub path : (d : Twig) → path_at nodes c ≡ path_at nodes i ++ (link (get_or nodes c d)).1 ∷ []
+  pub parent : (d : TrieNode) → (get_or nodes c d).parent ≡ i
+  pub path : (d : TrieNode) → path_at nodes c ≡ path_at nodes i ++ (link (get_or nodes c d)).1 ∷ []
 
--- what the list of children tells
-pub child_at : (nodes : List Twig) → IsTrie nodes → (i k : ℕ) (d : Twig) → i < length nodes → k < length (children_of nodes i) → IsChildOf nodes i (get_or (children_of nodes i) k 0)
+-- what the list of children says of a child
+pub child_at : (nodes : List TrieNode) → IsTrie nodes → (i k : ℕ) (d : TrieNode) → i < length nodes → k < length (children_of nodes i) → IsChildOf nodes i (get_or (children_of nodes i) k 0)
 child_at nodes trie i k d h g =
     let ls : List (ℕ × Part) = drop 1 (map link nodes) in
-    let r = hanging_at 1 i ls (link d) k g in
+    let r = children_at 1 i ls (link d) k g in
     let many : length ls ≡ length nodes - 1 = omega (arith, length-drop 1 (map link nodes), length-map nodes link) in
     let c : ℕ = get_or (children_of nodes i) k 0 in
     let here : c < length nodes = omega (arith, r.number, r.inside) in
     let low : 0 < c = omega (arith, r.number) in
-    let own : (x : Twig) → (get_or nodes c x).parent ≡ i = λ x.
+    let own : (x : TrieNode) → (get_or nodes c x).parent ≡ i = λ x.
     let same : get_or ls r.place (link d) ≡ link (get_or nodes c x) =
     get_or-drop 1 (map link nodes) r.place (link d) ∙ ap (λ m. get_or (map link nodes) m (link d)) (let m : 1 + r.place ≡ c = omega (arith, r.number) in m) ∙ get_or-map link nodes c x (link d) here in
     ap (λ (l : ℕ × Part). l.0) (sym same) ∙ r.parent in
@@ -120,14 +120,14 @@ child_at nodes trie i k d h g =
     }
 
 -- each node but the root is among the children of its parent
-pub child_placed : (nodes : List Twig) (j : ℕ) (d : Twig) → 0 < j → j < length nodes → IsHanging j (children_of nodes (get_or nodes j d).parent)
+pub child_placed : (nodes : List TrieNode) (j : ℕ) (d : TrieNode) → 0 < j → j < length nodes → IsAmongChildren j (children_of nodes (get_or nodes j d).parent)
 child_placed nodes j d low h =
     let ls : List (ℕ × Part) = drop 1 (map link nodes) in
     let few : length ls ≡ length nodes - 1 = omega (arith, length-drop 1 (map link nodes), length-map nodes link) in
     let placed : get_or ls (j - 1) (link d) ≡ link (get_or nodes j d) =
     get_or-drop 1 (map link nodes) (j - 1) (link d) ∙ ap (λ m. get_or (map link nodes) m (link d)) (let m : 1 + (j - 1) ≡ j = omega arith in m) ∙ get_or-map link nodes j d (link d) h in
     let at : 1 + (j - 1) ≡ j = omega arith in
-    subst (λ (n : ℕ). IsHanging n (children_of nodes (get_or nodes j d).parent)) at (hanging_all 1 (get_or nodes j d).parent ls (j - 1) (link d) (omega arith) (ap (λ (l : ℕ × Part). l.0) placed))
+    subst (λ (n : ℕ). IsAmongChildren n (children_of nodes (get_or nodes j d).parent)) at (children_all 1 (get_or nodes j d).parent ls (j - 1) (link d) (omega arith) (ap (λ (l : ℕ × Part). l.0) placed))
 
 pub push_same : {X : Type 0} (a b : List X) (x y : X) → a ++ x ∷ [] ≡ b ++ y ∷ [] → (a ≡ b) × (x ≡ y)
 push_same [] [] x y h = (refl, cc)
@@ -142,7 +142,7 @@ push_same (c ∷ a) (e ∷ b) x y h =
     (let ta : a ≡ b = r.0 in cc, r.1)
 
 -- two nodes of one path are one
-pub one_node : (nodes : List Twig) → IsTrie nodes → (i j : ℕ) → i < length nodes → j < length nodes → path_at nodes i ≡ path_at nodes j → i ≡ j
+pub one_node : (nodes : List TrieNode) → IsTrie nodes → (i j : ℕ) → i < length nodes → j < length nodes → path_at nodes i ≡ path_at nodes j → i ≡ j
 one_node nodes trie i j h g same =
     let many : length (paths_of nodes) ≡ length nodes = length-paths_of nodes trie.root in
     elim (cases_lt i j) [
@@ -154,7 +154,7 @@ one_node nodes trie i j h g same =
     ]
 
 -- where no child has the part, no node has the path
-pub no_child : (nodes : List Twig) → IsTrie nodes → (i : ℕ) (p : Part) (e : Twig) → i < length nodes
+pub no_child : (nodes : List TrieNode) → IsTrie nodes → (i : ℕ) (p : Part) (e : TrieNode) → i < length nodes
     → ((k : ℕ) → k < length (children_of nodes i) → (link (get_or nodes (get_or (children_of nodes i) k 0) e)).1 ≢ p)
     → Contains (paths_of nodes) (path_at nodes i ++ p ∷ []) → ⊥
 no_child nodes trie i p e h none there =
@@ -172,16 +172,16 @@ no_child nodes trie i p e h none there =
           let up : (get_or nodes j e).parent < j = trie.parents j e low here in
           let split = push_same _ _ _ _ (sym (path_at-link nodes trie j e low here) ∙ is) in
           let same : (get_or nodes j e).parent ≡ i = one_node nodes trie _ i (omega arith) h split.0 in
-          let r = subst (λ (m : ℕ). IsHanging j (children_of nodes m)) same (child_placed nodes j e low here) in
+          let r = subst (λ (m : ℕ). IsAmongChildren j (children_of nodes m)) same (child_placed nodes j e low here) in
           none r.place r.inside (ap (λ m. (link (get_or nodes m e)).1) r.number ∙ split.1)
     ]
 
-pub hanging-push : (n i : ℕ) (ls : List (ℕ × Part)) (l : ℕ × Part) (m : ℕ) → n + length ls ≡ m → hanging_from n i (ls ++ l ∷ []) ≡ hanging_from n i ls ++ cond (l.0 == i) (m ∷ []) []
-hanging-push n i [] l m e = let same : n ≡ m = omega arith in rw same refl
-hanging-push n i (k ∷ ls) l m e =
-    let more = hanging-push (n + 1) i ls l m (omega arith) in
-    elim (k.0 == i) as (λ b. cond b (n ∷ hanging_from (n + 1) i (ls ++ l ∷ [])) (hanging_from (n + 1) i (ls ++ l ∷ []))
-    ≡ cond b (n ∷ hanging_from (n + 1) i ls) (hanging_from (n + 1) i ls) ++ cond (l.0 == i) (m ∷ []) []) [
+pub children-push : (n i : ℕ) (ls : List (ℕ × Part)) (l : ℕ × Part) (m : ℕ) → n + length ls ≡ m → children_from n i (ls ++ l ∷ []) ≡ children_from n i ls ++ cond (l.0 == i) (m ∷ []) []
+children-push n i [] l m e = let same : n ≡ m = omega arith in rw same refl
+children-push n i (k ∷ ls) l m e =
+    let more = children-push (n + 1) i ls l m (omega arith) in
+    elim (k.0 == i) as (λ b. cond b (n ∷ children_from (n + 1) i (ls ++ l ∷ [])) (children_from (n + 1) i (ls ++ l ∷ []))
+    ≡ cond b (n ∷ children_from (n + 1) i ls) (children_from (n + 1) i ls) ++ cond (l.0 == i) (m ∷ []) []) [
       | true ↦ ap (λ hs. n ∷ hs) more
       | false ↦ more
     ]
@@ -190,15 +190,15 @@ empty_list : {X : Type 0} (xs : List X) → length xs ≤ 0 → xs ≡ []
 empty_list [] h = refl
 empty_list (x ∷ xs) h = absurd (omega arith)
 
--- nothing hangs at a node that is not there yet
-pub none_hang : (nodes : List Twig) → IsTrie nodes → (d : Twig) → (i : ℕ) → length nodes ≤ i → children_of nodes i ≡ []
-none_hang nodes trie d i h =
+-- a node that is not there yet has no children
+pub no_children_past_end : (nodes : List TrieNode) → IsTrie nodes → (d : TrieNode) → (i : ℕ) → length nodes ≤ i → children_of nodes i ≡ []
+no_children_past_end nodes trie d i h =
     elim (cases_lt 0 (length (children_of nodes i))) [
       | inr none ↦ empty_list (children_of nodes i) none
       | inl some ↦
           let ls : List (ℕ × Part) = drop 1 (map link nodes) in
           let many : length ls ≡ length nodes - 1 = omega (arith, length-drop 1 (map link nodes), length-map nodes link) in
-          let r = hanging_at 1 i ls (link d) 0 some in
+          let r = children_at 1 i ls (link d) 0 some in
           let here : 1 + r.place < length nodes = omega (arith, r.inside) in
           let same : get_or ls r.place (link d) ≡ link (get_or nodes (1 + r.place) d) =
           get_or-drop 1 (map link nodes) r.place (link d) ∙ get_or-map link nodes (1 + r.place) d (link d) here in
@@ -206,13 +206,13 @@ none_hang nodes trie d i h =
     ]
 
 -- the root's path, and what is above a node
-pub path_at-root : (nodes : List Twig) → path_at nodes 0 ≡ []
+pub path_at-root : (nodes : List TrieNode) → path_at nodes 0 ≡ []
 path_at-root nodes = kept ([] ∷ []) (drop 1 (map link nodes)) 0 [] (omega arith)
 
-closed_once : (nodes : List Twig) → IsTrie nodes → (p : List Part) (x : Part) → Contains (paths_of nodes) (p ++ x ∷ []) → Contains (paths_of nodes) p
+closed_once : (nodes : List TrieNode) → IsTrie nodes → (p : List Part) (x : Part) → Contains (paths_of nodes) (p ++ x ∷ []) → Contains (paths_of nodes) p
 closed_once [] trie p x there = absurd (omega (arith, trie.root))
 closed_once (e ∷ rest) trie p x there =
-    let nodes : List Twig = e ∷ rest in
+    let nodes : List TrieNode = e ∷ rest in
     let j : ℕ = there.0 in
     let many : length (paths_of nodes) ≡ length nodes = length-paths_of nodes trie.root in
     let here : j < length nodes = omega (arith, there.1) in
@@ -228,10 +228,10 @@ closed_once (e ∷ rest) trie p x there =
           subst (Contains (paths_of nodes)) split.0 (Contains-get_or (paths_of nodes) (get_or nodes j e).parent [] (omega arith))
     ]
 
-pub closed : (nodes : List Twig) → IsTrie nodes → (q p : List Part) → Contains (paths_of nodes) (p ++ q) → Contains (paths_of nodes) p
+pub closed : (nodes : List TrieNode) → IsTrie nodes → (q p : List Part) → Contains (paths_of nodes) (p ++ q) → Contains (paths_of nodes) p
 closed nodes trie [] p there = subst (Contains (paths_of nodes)) (append-nil p) there
 closed nodes trie (x ∷ q) p there = closed_once nodes trie p x (closed nodes trie q (p ++ x ∷ []) (subst (Contains (paths_of nodes)) (sym (append_assoc p (x ∷ []) q)) there))
 
 -- a node's path is among the paths
-pub path_met : (nodes : List Twig) → IsTrie nodes → (i : ℕ) → i < length nodes → Contains (paths_of nodes) (path_at nodes i)
+pub path_met : (nodes : List TrieNode) → IsTrie nodes → (i : ℕ) → i < length nodes → Contains (paths_of nodes) (path_at nodes i)
 path_met nodes trie i h = Contains-get_or (paths_of nodes) i [] (omega (arith, length-paths_of nodes trie.root))

@@ -1,27 +1,27 @@
 -- The nodes, as contracts see them.
 use Rattle.std.specs.Prelude.{ℕ, List, ◌∷◌, ◌++◌, [], false, None, slice_index_or, slice_set}
 use Rattle.keep_meaning.specs.declared.node.Kind.TheVariants as kind
-use Rattle.keep_nodes.specs.declared.told.PlaceKind.TheVariants as place_kind
-use Rattle.keep_nodes.specs.declared.told.Told.{Told}
-use Rattle.keep_nodes.specs.Children.{Hung, Bare, Keyed, Listed, named, child_ids}
+use Rattle.keep_nodes.specs.declared.facts.PlaceKind.TheVariants as place_kind
+use Rattle.keep_nodes.specs.declared.facts.NodeFacts.{NodeFacts}
+use Rattle.keep_nodes.specs.Children.{ChildList, Bare, Keyed, Listed, named, child_ids}
 
--- where a node hangs, its number among the children there, what hangs at it, and what is told of it
+-- the parent of a node, its number among the children there, its own children, and the facts about it
 pub record Node : Type 0 where
   pub parent : ℕ
   pub number : ℕ
-  pub children : Hung
-  pub told : Told
+  pub children : ChildList
+  pub facts : NodeFacts
 
 pub record AllNodes : Type 0 where
   pub items : List Node
 
--- stands where there is no node
+-- in place of a node that is not there
 abbrev pub no_node : Node
 no_node = record {
   parent = 0;
   number = 0;
   children = Bare;
-  told = record {
+  facts = record {
     role = None;
     kind = kind.Table;
     passed = false;
@@ -36,18 +36,18 @@ no_node = record {
 abbrev pub node_at : List Node → ℕ → Node
 node_at nodes i = slice_index_or nodes i no_node
 
--- the nodes, where this hangs at one
-abbrev pub with_children : List Node → ℕ → Hung → List Node
+-- the nodes, where one has these children
+abbrev pub with_children : List Node → ℕ → ChildList → List Node
 with_children nodes i children = slice_set nodes i (record (node_at nodes i) { children = children })
 
--- the nodes, where this is told of one
-abbrev pub with_told : List Node → ℕ → Told → List Node
-with_told nodes i told = slice_set nodes i (record (node_at nodes i) { told = told })
+-- the nodes, where one has these facts
+abbrev pub with_facts : List Node → ℕ → NodeFacts → List Node
+with_facts nodes i facts = slice_set nodes i (record (node_at nodes i) { facts = facts })
 
 -- a child more, by its key
-abbrev pub and_key : Hung → List ℕ → ℕ → Hung
+abbrev pub and_key : ChildList → List ℕ → ℕ → ChildList
 and_key children text child = Keyed (named children ++ (text, child) ∷ [])
 
 -- an item or element more
-abbrev pub and_item : Hung → ℕ → Hung
+abbrev pub and_item : ChildList → ℕ → ChildList
 and_item children child = Listed (child_ids children ++ child ∷ [])

@@ -2,10 +2,10 @@
 use Rattle.std.specs.Prelude.{[], ◌∷◌, string_bytes}
 use Rattle.keep_nodes.specs.declared.children.Form.{Form}
 use Rattle.keep_nodes.specs.declared.children.Form.TheVariants.{Nothing, NoKeys, OneKey, Keys, Items}
-use Rattle.keep_nodes.specs.Children.{Hung, Bare, Keyed, Listed}
+use Rattle.keep_nodes.specs.Children.{ChildList, Bare, Keyed, Listed}
 
 -- the children that a form stores
-abbrev pub children_in : Form → Hung
+abbrev pub children_in : Form → ChildList
 children_in Nothing = Bare
 children_in NoKeys = Keyed []
 children_in (OneKey one) = Keyed ((string_bytes one.value.key, one.value.child) ∷ [])

@@ -2,10 +2,10 @@
 use Rattle.std.specs.Prelude.{◌≡◌, ℕ, ◌<◌, ◌==◌, if◌then◌else◌, List, [], ◌∷◌, ◌++◌, length, Option, Some, Contains, slice_set}
 use Rattle.keep_meaning.specs.declared.role.Role.{Role}
 use Rattle.keep_path.specs.Path.{Part}
-use Rattle.keep_nodes.specs.Trie.{Twig, Holding, IsTrie, paths_of, states_of, holdings_of, children_of}
+use Rattle.keep_nodes.specs.Trie.{TrieNode, Holding, IsTrie, paths_of, states_of, holdings_of, children_of}
 
--- a new node with this path and state hangs at a node
-pub record Grows (old new : List Twig) (parent : ℕ) (path : List Part) (state : Option Role) (holds : Holding) : Type 0 where
+-- a new node with this path and state is a child of a node
+pub record Grows (old new : List TrieNode) (parent : ℕ) (path : List Part) (state : Option Role) (holds : Holding) : Type 0 where
   pub trie : IsTrie old
   pub trie' : IsTrie new
   pub within : parent < length old
@@ -16,7 +16,7 @@ pub record Grows (old new : List Twig) (parent : ℕ) (path : List Part) (state 
   pub children : (i : ℕ) → children_of new i ≡ children_of old i ++ (if parent == i then length old ∷ [] else [])
 
 -- a node that is there takes another state
-pub record Restates (old new : List Twig) (id : ℕ) (next : Role) : Type 0 where
+pub record Restates (old new : List TrieNode) (id : ℕ) (next : Role) : Type 0 where
   pub trie : IsTrie old
   pub trie' : IsTrie new
   pub within : id < length old

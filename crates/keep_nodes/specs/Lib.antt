@@ -5,9 +5,9 @@ pub mod Seeds
 pub mod KeyMaps
 pub mod ChildForms
 pub mod AllNodes
-pub mod Hangs
+pub mod Links
 pub mod NodeRows
-pub mod Told
-pub mod Kept
+pub mod Facts
+pub mod Packed
 pub mod Stored
 pub use Rattle.keep_path.specs.Path

@@ -1,7 +1,7 @@
 //! The children of a node.
 ghost use Rattle.std.specs.Prelude.{◌≡◌, ◌<◌, ◌-◌, ◌∷◌, ◌++◌, [], false, None, OnOk, IfOk, IfSome, IfNone, bytes_eq, length, string_bytes, option_copied, option_map, slice_get, slice_index_or};
 ghost use Rattle.keep_nodes.specs.AllNodes.{and_key, and_item};
-ghost use Rattle.keep_nodes.specs.Children.{holding, none_hung, holds_of, named, child_ids, child_named, child_numbered};
+ghost use Rattle.keep_nodes.specs.Children.{holding, no_children, holds_of, named, child_ids, child_named, child_numbered};
 ghost use Rattle.keep_nodes.specs.Trie.{by_key, by_index};
 
 use crate::key_map::KeyMap;
@@ -50,9 +50,9 @@ pub struct Children {
 }
 
 impl Model for Children {
-    ghost use Rattle.keep_nodes.specs.Children.{Hung};
+    ghost use Rattle.keep_nodes.specs.Children.{ChildList};
 
-    ghost Value = { Hung };
+    ghost Value = { ChildList };
 
     ghost use Rattle.keep_nodes.specs.ChildForms.{children_in};
 
@@ -62,7 +62,7 @@ impl Model for Children {
 impl Children {
     /// None yet.
     pub fn none(alloc: Global, holds: Holds) -> Result<Children, AllocError>
-        ensures { IfOk result (λ children. children ≡ none_hung (holding holds)) }
+        ensures { IfOk result (λ children. children ≡ no_children (holding holds)) }
     {
         let form = match holds {
             Holds::Nothing => Form::Nothing,
@@ -159,7 +159,7 @@ impl Children {
         }
     }
 
-    /// The child that was added after so many others.
+    /// The child that was added after that many others.
     pub fn at(&self, number: usize) -> Option<usize>
         ensures { result ≡ slice_get (child_ids self.now) number }
     {

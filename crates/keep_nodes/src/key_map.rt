@@ -46,7 +46,7 @@ impl KeyMap {
         self.table.get(text).copied()
     }
 
-    /// The child that was added after so many others.
+    /// The child that was added after that many others.
     pub fn child_at(&self, number: usize) -> Option<usize>
         ensures { result ≡ slice_get (map (λ e. e.1) self.now) number }
     {
@@ -60,7 +60,7 @@ impl KeyMap {
         self.table.get_index(number).map(|(key, _)| key.as_str())
     }
 
-    /// Adds a child by a key that has none yet. If memory runs out, all is as before.
+    /// Adds a child by a key that has none yet. If memory runs out, the map is unchanged.
     pub fn add(&mut self, key: String, child: usize) -> Result<(), AllocError>
         requires { lookup (bytes_eq (string_bytes key)) self.old ≡ None }
         ensures { OnOk result (self.new ≡ self.old ++ (string_bytes key, child) ∷ []) }

@@ -2,13 +2,13 @@
 #![tactic(auto)]
 
 mod children;
-mod hangs;
-mod kept;
+mod facts;
 mod key_map;
+mod links;
 mod nodes;
+mod packed;
 mod seed;
-mod told;
 
 pub use children::Holds;
-pub use nodes::{Nodes, add_item, add_key, child_of, set_role, tell_more};
-pub use told::{PlaceKind, Told};
+pub use facts::{NodeFacts, PlaceKind};
+pub use nodes::{Nodes, add_facts, add_item, add_key, child_of, set_role};

@@ -1,18 +1,18 @@
 //! The nodes, in the order in which they are first met.
 ghost use Rattle.std.specs.Prelude.{◌≡◌, ◌<◌, ◌-◌, ◌∷◌, ◌++◌, [], length, None, Some, IfNone, IfSome, IfOk, OnOk, Contains, slice_get, slice_index_or, slice_set, option_copied, option_map};
-ghost use Rattle.keep_nodes.specs.AllNodes.{node_at, with_children, with_told, and_key, and_item};
-ghost use Rattle.keep_nodes.specs.Children.{holding, none_hung, holds_of, named, child_ids, child_named, child_numbered};
+ghost use Rattle.keep_nodes.specs.AllNodes.{node_at, with_children, with_facts, and_key, and_item};
+ghost use Rattle.keep_nodes.specs.Children.{holding, no_children, holds_of, named, child_ids, child_named, child_numbered};
 ghost use Rattle.keep_nodes.specs.Growth.{Grows, Restates};
 ghost use Rattle.keep_path.specs.Path.{key, index};
-ghost use Rattle.keep_nodes.specs.Stored.{IsStored, twigs, infos_of, info_at};
-ghost use Rattle.keep_nodes.specs.Told.{again, told_again, info_of};
+ghost use Rattle.keep_nodes.specs.Stored.{IsStored, trie_of, infos_of, info_at};
+ghost use Rattle.keep_nodes.specs.Facts.{joined_info, joined_facts, info_of};
 ghost use Rattle.keep_nodes.specs.Trie.{by_key, by_index, children_of, holds_at, paths_of, path_at};
 
 use crate::children::{Children, Holds};
-use crate::hangs::{Hang, Hangs};
-use crate::kept::Kept;
+use crate::facts::NodeFacts;
+use crate::links::{ParentLink, ParentLinks};
+use crate::packed::PackedFacts;
 use crate::seed::Seed;
-use crate::told::Told;
 use keep_meaning::Role;
 use std::alloc::{AllocError, Global};
 use std::marker::Model;
@@ -21,15 +21,15 @@ use std::marker::Model;
 #[derive(Drop)]
 pub struct Node {
     children: Children,
-    told: Kept,
+    facts: PackedFacts,
 }
 
-/// All nodes. Their parent links are stored in a separate vector, since marks and look-ups never ask for them; the root's link
-/// is never followed.
+/// All nodes. Their parent links are stored in a separate vector, since marks and look-ups never ask for them; the
+/// root's link is never followed.
 #[derive(Drop)]
 pub struct Nodes {
     list: Vec<Node>,
-    hangs: Hangs,
+    links: ParentLinks,
     seed: Seed,
 }
 
@@ -41,9 +41,9 @@ impl Model for Nodes {
 
     ghost use Rattle.keep_nodes.specs.NodeRows.{all_nodes};
 
-    ghost view = { λ n. all_nodes n.list.items n.hangs };
+    ghost view = { λ n. all_nodes n.list.items n.links };
 
-    ghost invariant = { λ n. length n.hangs ≡ length n.list.items };
+    ghost invariant = { λ n. length n.links ≡ length n.list.items };
 }
 
 impl Nodes {
@@ -53,7 +53,7 @@ impl Nodes {
     {
         Nodes {
             list: Vec::new(alloc),
-            hangs: Hangs::new(alloc),
+            links: ParentLinks::new(alloc),
             seed: Seed::of(text),
         }
     }
@@ -65,17 +65,17 @@ impl Nodes {
         self.list.len()
     }
 
-    /// What gives their memory.
+    /// The allocator of the nodes.
     pub fn allocator(&self) -> Global {
         *self.list.allocator()
     }
 
-    /// The node at which a node hangs.
+    /// The parent of a node.
     pub fn parent(&self, id: usize) -> usize
         requires { id < length self.now.items }
         ensures { result ≡ (node_at self.now.items id).parent }
     {
-        self.hangs.get(id).parent
+        self.links.get(id).parent
     }
 
     /// The number of a node among the children of its parent.
@@ -83,23 +83,23 @@ impl Nodes {
         requires { id < length self.now.items }
         ensures { result ≡ (node_at self.now.items id).number }
     {
-        self.hangs.get(id).number
+        self.links.get(id).number
     }
 
-    /// What is told of a node.
-    pub fn told(&self, id: usize) -> Told
+    /// The facts about a node.
+    pub fn facts(&self, id: usize) -> NodeFacts
         requires { id < length self.now.items }
-        ensures { result ≡ (node_at self.now.items id).told }
+        ensures { result ≡ (node_at self.now.items id).facts }
     {
-        self.list[id].told.told()
+        self.list[id].facts.unpack()
     }
 
-    /// What stands for the roles of the marks at a node, if there are any.
+    /// The role that represents those of the marks at a node, if there are any.
     pub fn role(&self, id: usize) -> Option<Role>
         requires { id < length self.now.items }
-        ensures { result ≡ (node_at self.now.items id).told.role }
+        ensures { result ≡ (node_at self.now.items id).facts.role }
     {
-        self.list[id].told.role()
+        self.list[id].facts.role()
     }
 
     /// The child of a node by a key.
@@ -135,7 +135,7 @@ impl Nodes {
         self.list[id].children.len()
     }
 
-    /// The child of a node that was added after so many others.
+    /// The child of a node that was added after that many others.
     pub fn child_at(&self, id: usize, number: usize) -> Option<usize>
         requires { id < length self.now.items }
         ensures { result ≡ slice_get (child_ids (node_at self.now.items id).children) number }
@@ -151,28 +151,28 @@ impl Nodes {
         self.list[id].children.key_at(number)
     }
 
-    /// Adds a node with no children, which its parent does not know yet.
+    /// Adds a node with no children, which is not yet among the children of its parent.
     #[inline(always)]
     pub fn push(
         &mut self,
         parent: usize,
         number: usize,
-        told: Told,
+        facts: NodeFacts,
         holds: Holds,
     ) -> Result<(), AllocError>
-        ensures { OnOk result (self.new.items ≡ self.old.items ++ record { parent = parent; number = number; children = none_hung (holding holds); told = told } ∷ []) }
+        ensures { OnOk result (self.new.items ≡ self.old.items ++ record { parent = parent; number = number; children = no_children (holding holds); facts = facts } ∷ []) }
     {
         let alloc = self.allocator();
         let children = Children::none(alloc, holds)?;
-        let told = Kept::of(alloc, told)?;
+        let facts = PackedFacts::of(alloc, facts)?;
         self.list.reserve(1)?;
-        self.hangs.push(Hang { parent, number })?;
-        self.list.push_reserved(Node { children, told });
+        self.links.push(ParentLink { parent, number })?;
+        self.list.push_reserved(Node { children, facts });
         Ok(())
     }
 
-    /// Hangs a node at a table, by a key that is not there yet.
-    fn hang_key(&mut self, id: usize, text: &str, child: usize) -> Result<(), AllocError>
+    /// Adds a node to the children of a table, by a key that is not there yet.
+    fn link_key(&mut self, id: usize, text: &str, child: usize) -> Result<(), AllocError>
         requires within { id < length self.old.items }
         requires holds { holds_of (node_at self.old.items id).children ≡ by_key }
         requires fresh { child_named (node_at self.old.items id).children text.now ≡ None }
@@ -183,8 +183,8 @@ impl Nodes {
         above.children.add_key(alloc, self.seed, text, child)
     }
 
-    /// Hangs a node at an array or an array of tables.
-    fn hang_item(&mut self, id: usize, child: usize) -> Result<(), AllocError>
+    /// Adds a node to the children of an array or an array of tables.
+    fn link_item(&mut self, id: usize, child: usize) -> Result<(), AllocError>
         requires within { id < length self.old.items }
         requires holds { holds_of (node_at self.old.items id).children ≡ by_index }
         ensures { OnOk result (self.new.items ≡ with_children self.old.items id (and_item (node_at self.old.items id).children child)) }
@@ -193,14 +193,19 @@ impl Nodes {
         above.children.add_item(child)
     }
 
-    /// Tells one thing more of a node, whose marks now stand for this role.
-    fn tell(&mut self, id: usize, role: Option<Role>, more: Told) -> Result<(), AllocError>
+    /// Joins the facts from one more mention of a node to its own; its role is now this one.
+    fn join_facts(
+        &mut self,
+        id: usize,
+        role: Option<Role>,
+        more: NodeFacts,
+    ) -> Result<(), AllocError>
         requires { id < length self.old.items }
-        ensures { OnOk result (self.new.items ≡ with_told self.old.items id (record (told_again (node_at self.old.items id).told more) { role = role })) }
+        ensures { OnOk result (self.new.items ≡ with_facts self.old.items id (record (joined_facts (node_at self.old.items id).facts more) { role = role })) }
     {
         let alloc = self.allocator();
         let node = &mut self.list[id];
-        node.told.tell(alloc, role, more)
+        node.facts.join(alloc, role, more)
     }
 }
 
@@ -208,83 +213,83 @@ impl Nodes {
 pub fn child_of(nodes: &Nodes, parent: usize, text: &str) -> Option<usize>
     requires stored { IsStored nodes.now.items }
     requires within { parent < length nodes.now.items }
-    requires keyed { holds_at (twigs nodes.now.items) parent ≡ by_key }
-    ensures none { IfNone result (Contains (paths_of (twigs nodes.now.items)) (path_at (twigs nodes.now.items) parent ++ key text.now ∷ []) → ⊥) }
+    requires keyed { holds_at (trie_of nodes.now.items) parent ≡ by_key }
+    ensures none { IfNone result (Contains (paths_of (trie_of nodes.now.items)) (path_at (trie_of nodes.now.items) parent ++ key text.now ∷ []) → ⊥) }
     ensures inside { IfSome result (λ child. child < length nodes.now.items) }
-    ensures found { IfSome result (λ child. path_at (twigs nodes.now.items) child ≡ path_at (twigs nodes.now.items) parent ++ key text.now ∷ []) }
+    ensures found { IfSome result (λ child. path_at (trie_of nodes.now.items) child ≡ path_at (trie_of nodes.now.items) parent ++ key text.now ∷ []) }
 {
     nodes.child(parent, text)
 }
 
-/// Hangs a new node at a table, where no node has its path yet.
+/// Adds a new node below a table, where no node has its path yet.
 pub fn add_key(
     nodes: &mut Nodes,
     parent: usize,
     text: &str,
     role: Role,
-    told: Told,
+    facts: NodeFacts,
     holds: Holds,
 ) -> Result<usize, AllocError>
     requires stored { IsStored nodes.old.items }
     requires within { parent < length nodes.old.items }
-    requires keyed { holds_at (twigs nodes.old.items) parent ≡ by_key }
-    requires fresh { Contains (paths_of (twigs nodes.old.items)) (path_at (twigs nodes.old.items) parent ++ key text.now ∷ []) → ⊥ }
-    ensures grows { OnOk result (Grows (twigs nodes.old.items) (twigs nodes.new.items) parent (path_at (twigs nodes.old.items) parent ++ key text.now ∷ []) (Some role) (holding holds)) }
+    requires keyed { holds_at (trie_of nodes.old.items) parent ≡ by_key }
+    requires fresh { Contains (paths_of (trie_of nodes.old.items)) (path_at (trie_of nodes.old.items) parent ++ key text.now ∷ []) → ⊥ }
+    ensures grows { OnOk result (Grows (trie_of nodes.old.items) (trie_of nodes.new.items) parent (path_at (trie_of nodes.old.items) parent ++ key text.now ∷ []) (Some role) (holding holds)) }
     ensures stored { OnOk result (IsStored nodes.new.items) }
-    ensures infos { OnOk result (infos_of nodes.new.items ≡ infos_of nodes.old.items ++ info_of told ∷ []) }
+    ensures infos { OnOk result (infos_of nodes.new.items ≡ infos_of nodes.old.items ++ info_of facts ∷ []) }
     ensures last { IfOk result (λ id. id ≡ length nodes.old.items) }
 {
     let id = nodes.len();
     let number = nodes.child_count(parent);
-    nodes.hang_key(parent, text, id)?;
+    nodes.link_key(parent, text, id)?;
     let role = Some(role);
-    nodes.push(parent, number, Told { role, ..told }, holds)?;
+    nodes.push(parent, number, NodeFacts { role, ..facts }, holds)?;
     Ok(id)
 }
 
-/// Hangs a new item at an array, or a new element at an array of tables, behind those that are there.
+/// Adds a new item to an array, or a new element to an array of tables, after those that are there.
 pub fn add_item(
     nodes: &mut Nodes,
     parent: usize,
-    told: Told,
+    facts: NodeFacts,
     holds: Holds,
 ) -> Result<usize, AllocError>
     requires stored { IsStored nodes.old.items }
     requires within { parent < length nodes.old.items }
-    requires listed { holds_at (twigs nodes.old.items) parent ≡ by_index }
-    requires fresh { Contains (paths_of (twigs nodes.old.items)) (path_at (twigs nodes.old.items) parent ++ index (length (children_of (twigs nodes.old.items) parent)) ∷ []) → ⊥ }
-    ensures grows { OnOk result (Grows (twigs nodes.old.items) (twigs nodes.new.items) parent (path_at (twigs nodes.old.items) parent ++ index (length (children_of (twigs nodes.old.items) parent)) ∷ []) None (holding holds)) }
+    requires listed { holds_at (trie_of nodes.old.items) parent ≡ by_index }
+    requires fresh { Contains (paths_of (trie_of nodes.old.items)) (path_at (trie_of nodes.old.items) parent ++ index (length (children_of (trie_of nodes.old.items) parent)) ∷ []) → ⊥ }
+    ensures grows { OnOk result (Grows (trie_of nodes.old.items) (trie_of nodes.new.items) parent (path_at (trie_of nodes.old.items) parent ++ index (length (children_of (trie_of nodes.old.items) parent)) ∷ []) None (holding holds)) }
     ensures stored { OnOk result (IsStored nodes.new.items) }
-    ensures infos { OnOk result (infos_of nodes.new.items ≡ infos_of nodes.old.items ++ info_of told ∷ []) }
+    ensures infos { OnOk result (infos_of nodes.new.items ≡ infos_of nodes.old.items ++ info_of facts ∷ []) }
     ensures last { IfOk result (λ id. id ≡ length nodes.old.items) }
 {
     let id = nodes.len();
     let number = nodes.child_count(parent);
-    nodes.hang_item(parent, id)?;
+    nodes.link_item(parent, id)?;
     let role = None;
-    nodes.push(parent, number, Told { role, ..told }, holds)?;
+    nodes.push(parent, number, NodeFacts { role, ..facts }, holds)?;
     Ok(id)
 }
 
-/// Gives a node another state, with one thing more that is said of it.
-pub fn set_role(nodes: &mut Nodes, id: usize, role: Role, more: Told) -> Result<(), AllocError>
+/// Gives a node another role, and joins the facts from one more mention to its own.
+pub fn set_role(nodes: &mut Nodes, id: usize, role: Role, more: NodeFacts) -> Result<(), AllocError>
     requires stored { IsStored nodes.old.items }
     requires within { id < length nodes.old.items }
-    ensures restates { OnOk result (Restates (twigs nodes.old.items) (twigs nodes.new.items) id role) }
+    ensures restates { OnOk result (Restates (trie_of nodes.old.items) (trie_of nodes.new.items) id role) }
     ensures stored { OnOk result (IsStored nodes.new.items) }
-    ensures infos { OnOk result (infos_of nodes.new.items ≡ slice_set (infos_of nodes.old.items) id (again (info_at nodes.old.items id) (info_of more))) }
+    ensures infos { OnOk result (infos_of nodes.new.items ≡ slice_set (infos_of nodes.old.items) id (joined_info (info_at nodes.old.items id) (info_of more))) }
 {
-    nodes.tell(id, Some(role), more)
+    nodes.join_facts(id, Some(role), more)
 }
 
-/// Tells one thing more of a node, whose state stays.
-pub fn tell_more(nodes: &mut Nodes, id: usize, more: Told) -> Result<(), AllocError>
+/// Joins the facts from one more mention of a node to its own; its role stays.
+pub fn add_facts(nodes: &mut Nodes, id: usize, more: NodeFacts) -> Result<(), AllocError>
     requires stored { IsStored nodes.old.items }
     requires within { id < length nodes.old.items }
-    ensures same { OnOk result (twigs nodes.new.items ≡ twigs nodes.old.items) }
+    ensures same { OnOk result (trie_of nodes.new.items ≡ trie_of nodes.old.items) }
     ensures stored { OnOk result (IsStored nodes.new.items) }
-    ensures infos { OnOk result (infos_of nodes.new.items ≡ slice_set (infos_of nodes.old.items) id (again (info_at nodes.old.items id) (info_of more))) }
+    ensures infos { OnOk result (infos_of nodes.new.items ≡ slice_set (infos_of nodes.old.items) id (joined_info (info_at nodes.old.items id) (info_of more))) }
 {
     let role = nodes.role(id);
-    nodes.tell(id, role, more)
+    nodes.join_facts(id, role, more)
 }

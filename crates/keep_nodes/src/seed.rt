@@ -4,8 +4,8 @@ ghost use Rattle.keep_nodes.specs.Seeds.{seed_of};
 
 use std::hash::{BuildHasher, DefaultHasher, FoldHasher, Hasher};
 
-/// Makes the hashers of the maps of one document. Each begins with a seed that all of the document's text goes into, so keys
-/// that collide under one seed do not collide in another document.
+/// Makes the hashers of the maps of one document. Each begins with a seed that all of the document's text goes into, so
+/// keys that collide under one seed do not collide in another document.
 #[derive(Clone, Copy)]
 pub struct Seed {
     start: FoldHasher,

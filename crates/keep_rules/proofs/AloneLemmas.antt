@@ -13,29 +13,29 @@ use Rattle.keep_syntax.specs.Grammar.{IsValue}
 use Rattle.keep_syntax.specs.Tree.{Value, value_text}
 use Rattle.keep_syntax.specs.Numbered.{info, inside_of, entries_values}
 use Rattle.keep_nodes.specs.AllNodes.{Node}
-use Rattle.keep_rules.specs.declared.ways.Fault.{Fault}
+use Rattle.keep_rules.specs.declared.key_walk.Fault.{Fault}
 use Rattle.keep_meaning.specs.Fact.{Fact}
 use Rattle.keep_meaning.specs.Rules.{ObeysRules, IsFirstFaulty}
 use Rattle.keep_meaning.specs.Marks as marks
 use Rattle.keep_meaning.specs.Marks.{Mention}
 use Rattle.keep_meaning.specs.Meaning.{body_fact, entries_said, value_said}
 use Rattle.keep_meaning.specs.Faults.{parts_in}
-use Rattle.keep_rules.specs.Inside.{Turn, turns, holding_of, turns_said, value_inside}
-use Rattle.keep_nodes.specs.Trie.{Twig, Holding}
+use Rattle.keep_rules.specs.NestedValues.{NestedValue, nested_values, holding_of, all_nested_mentions, value_nesting}
+use Rattle.keep_nodes.specs.Trie.{TrieNode, Holding}
 use Rattle.keep_rules.specs.Tables.{is_tables}
-use Rattle.keep_nodes.specs.Stored.{twigs}
-use Rattle.keep_rules.specs.Reads.{IsValueNode, AreInside}
+use Rattle.keep_nodes.specs.Stored.{trie_of}
+use Rattle.keep_rules.specs.Reads.{IsValueNode, AreValueNodes}
 use Rattle.keep_rules.specs.Roots.{IsRoot}
-use Rattle.keep_rules.specs.Stops.{FaultSays}
-use Rattle.keep_rules.specs.FlatValues.{leaf_holding, SaysTurn, SayAlone}
-use Rattle.keep_rules.specs.Plans.{EndsAt, AreNext, TookTurns, TurnsFault}
+use Rattle.keep_rules.specs.Stops.{FaultMeets}
+use Rattle.keep_rules.specs.FlatValues.{leaf_holding, MatchesNested, MatchAlone}
+use Rattle.keep_rules.specs.Plans.{EndsAt, AreNext, NestedValuesRead, NestedValuesFault}
 use Rattle.keep_rules.specs.ReadDocuments.{ValueObeys, IsValueRefusal, IsFaultAt}
-use Rattle.keep_rules.proofs.FirstKeyLemmas.{turns_many, first_keys, StandFrom, say_turns}
-use Rattle.keep_rules.proofs.FlatValueLemmas.{alone_say}
-use Rattle.keep_rules.proofs.InsideLemmas.{value_turns-say}
+use Rattle.keep_rules.proofs.FirstKeyLemmas.{nested_count, first_keys, AreFrom, match_nested}
+use Rattle.keep_rules.proofs.FlatValueLemmas.{alone_matches}
+use Rattle.keep_rules.proofs.NestedValueLemmas.{value_nested-mentions}
 use Rattle.keep_meaning.proofs.Shared.{length-entries_values, marked-parts_in}
-use Rattle.keep_rules.proofs.PlanLemmas.{says_weaker}
-use Rattle.keep_rules.proofs.RootLemmas.{rooted_world, first_low, fault_stands}
+use Rattle.keep_rules.proofs.PlanLemmas.{meets_weaker}
+use Rattle.keep_rules.proofs.RootLemmas.{rooted_represents, first_low, fault_placed}
 use Rattle.keep_rules.proofs.StopLemmas.{fault_is_first}
 use Rattle.keep_rules.proofs.SuitLemmas.{value_suits}
 use Rattle.keep_rules.proofs.UnderwayLemmas.{past_ends}
@@ -43,59 +43,59 @@ use Rattle.keep_rules.proofs.UnderwayLemmas.{past_ends}
 some_info : (a b : ValueInfo) → Some a ≡ Some b → a ≡ b
 some_info a b e = cc
 
--- the root stands for the value
-root_inside : (t : Twig) (f : Fact) → t.state ≡ None → t.holds ≡ holding_of f → AreInside (t ∷ []) (0 ∷ []) (value_inside f)
-root_inside t f state holds = record {
+-- the root represents the value
+root_nesting : (t : TrieNode) (f : Fact) → t.state ≡ None → t.holds ≡ holding_of f → AreValueNodes (t ∷ []) (0 ∷ []) (value_nesting f)
+root_nesting t f state holds = record {
   paths = refl;
   holdings = refl;
   entries = refl;
   each = λ j low. one j low;
-  apart = λ i j low high same. omega (arith, low, high);
+  distinct = λ i j low high same. omega (arith, low, high);
 }
   where
-    one : (j : ℕ) → j < 1 → IsValueNode (t ∷ []) (get_or (0 ∷ []) j 0) (value_inside f) j
+    one : (j : ℕ) → j < 1 → IsValueNode (t ∷ []) (get_or (0 ∷ []) j 0) (value_nesting f) j
     one zero low = record { inside = omega arith; here = refl; held = holds; plain = ap is_tables state; listed = λ is. refl }
     one (suc j) low = absurd (omega (arith, low))
 
 module _ (bytes : List ℕ) (profile : Profile) (v : Value) (is : IsValue profile v) (spelled : bytes ≡ value_text v) (f : Flat) (keys : f.keys ≡ parts_alone v) (values : f.values ≡ values_alone v)
     (nodes : List Node) (first : ValueInfo) (here : slice_get f.values 0 ≡ Some first) (h : Holding) (holds : h ≡ leaf_holding first.leaf) (root : IsRoot nodes h) where
-  pub alone_next : AreNext bytes f (twigs nodes) (0 ∷ []) 1 1 0 (value_inside (body_fact v.body)) (turns 0 1 v.inside)
+  pub alone_next : AreNext bytes f (trie_of nodes) (0 ∷ []) 1 1 0 (value_nesting (body_fact v.body)) (nested_values 0 1 v.inside)
   alone_next =
-      let say : SayAlone bytes (parts_alone v) v (values_alone v) = alone_say bytes profile v is spelled in
+      let matches : MatchAlone bytes (parts_alone v) v (values_alone v) = alone_matches bytes profile v is spelled in
       let own : ValueInfo = info alone 0 0 v.body v.inside None in
       let inner : List ValueInfo = entries_values (inside_of alone 0 0 v.body) v.inside in
-      let ts : List Turn = turns 0 1 v.inside in
+      let ts : List NestedValue = nested_values 0 1 v.inside in
       let same : own ≡ first = some_info own first (sym (ap (λ vs. slice_get vs 0) values) ∙ here) in
-      let stands : StandFrom f.values 1 inner = λ i other at. ap (λ vs. slice_get vs (1 + i)) values ∙ subst (λ (n : ℕ). slice_get (own ∷ inner) n ≡ Some other) (let e : suc i ≡ 1 + i = omega arith in e) at in
-      let ends : EndsAt f.values (1 + length ts) = past_ends f.values (1 + length ts) (omega (arith, ap length values, length-entries_values (inside_of alone 0 0 v.body) v.inside, turns_many 0 1 v.inside)) in
+      let is_open : AreFrom f.values 1 inner = λ i other at. ap (λ vs. slice_get vs (1 + i)) values ∙ subst (λ (n : ℕ). slice_get (own ∷ inner) n ≡ Some other) (let e : suc i ≡ 1 + i = omega arith in e) at in
+      let ends : EndsAt f.values (1 + length ts) = past_ends f.values (1 + length ts) (omega (arith, ap length values, length-entries_values (inside_of alone 0 0 v.body) v.inside, nested_count 0 1 v.inside)) in
       record {
-        inside = subst (λ (t : List Twig). AreInside t (0 ∷ []) (value_inside (body_fact v.body))) (sym root.alone)
-            (root_inside root.root (body_fact v.body) root.state (root.holds ∙ holds ∙ ap (λ (i : ValueInfo). leaf_holding i.leaf) (sym same) ∙ sym say.0.holds));
+        inside = subst (λ (t : List TrieNode). AreValueNodes t (0 ∷ []) (value_nesting (body_fact v.body))) (sym root.alone)
+            (root_nesting root.root (body_fact v.body) root.state (root.holds ∙ holds ∙ ap (λ (i : ValueInfo). leaf_holding i.leaf) (sym same) ∙ sym matches.0.holds));
         suit = value_suits profile v is;
-        say = say_turns bytes f 1 1 0 ts inner (subst (λ (ks : List KeyPart). AllZip (SaysTurn bytes ks 1) ts inner) (sym keys) say.1) (first_keys 0 1 (inside_of alone 0 0 v.body) v.inside) stands ends;
+        matches = match_nested bytes f 1 1 0 ts inner (subst (λ (ks : List KeyPart). AllZip (MatchesNested bytes ks 1) ts inner) (sym keys) matches.1) (first_keys 0 1 (inside_of alone 0 0 v.body) v.inside) is_open ends;
       }
 
-  said_inside : turns_said (value_inside (body_fact v.body)) (turns 0 1 v.inside) ≡ entries_said 0 v.inside
-  said_inside = value_turns-say v
+  mentions_inside : all_nested_mentions (value_nesting (body_fact v.body)) (nested_values 0 1 v.inside) ≡ entries_said 0 v.inside
+  mentions_inside = value_nested-mentions v
 
-  pub alone_obeys : (new : List Node) (ids : List ℕ) → TookTurns bytes f 1 1 nodes (0 ∷ []) new ids → ValueObeys v
-  alone_obeys new ids took =
-      let all = took (value_inside (body_fact v.body)) (turns 0 1 v.inside) 0 alone_next in
-      subst (λ (ms : List Mention). ObeysRules (marks.marks ms)) said_inside (all.world [] [] (rooted_world nodes h root)).index.knows.obeys
+  pub alone_obeys : (new : List Node) (ids : List ℕ) → NestedValuesRead bytes f 1 1 nodes (0 ∷ []) new ids → ValueObeys v
+  alone_obeys new ids was_read =
+      let all = was_read (value_nesting (body_fact v.body)) (nested_values 0 1 v.inside) 0 alone_next in
+      subst (λ (ms : List Mention). ObeysRules (marks.marks ms)) mentions_inside (all.represents [] [] (rooted_represents nodes h root)).index.states_represent.obeys
 
-  alone_breaks : (at : ℕ) (why : Why) → TurnsFault bytes f 1 1 nodes (0 ∷ []) at why → IsFirstFaulty (marks.marks (value_said v)) at why
+  alone_breaks : (at : ℕ) (why : Why) → NestedValuesFault bytes f 1 1 nodes (0 ∷ []) at why → IsFirstFaulty (marks.marks (value_said v)) at why
   alone_breaks at why faults =
-      let one = faults (value_inside (body_fact v.body)) (turns 0 1 v.inside) 0 alone_next [] [] (rooted_world nodes h root) in
-      let more : List Mention = turns_said (value_inside (body_fact v.body)) (turns 0 1 v.inside) in
-      subst (λ (ms : List Mention). IsFirstFaulty (marks.marks ms) at why) (append-nil more ∙ said_inside)
+      let one = faults (value_nesting (body_fact v.body)) (nested_values 0 1 v.inside) 0 alone_next [] [] (rooted_represents nodes h root) in
+      let more : List Mention = all_nested_mentions (value_nesting (body_fact v.body)) (nested_values 0 1 v.inside) in
+      subst (λ (ms : List Mention). IsFirstFaulty (marks.marks ms) at why) (append-nil more ∙ mentions_inside)
       (subst (λ (n : ℕ). IsFirstFaulty (marks.marks (more ++ [])) n why) (let e : 0 + one.within ≡ at = omega (arith, one.sum) in e) (fault_is_first [] more [] one.within why one.fault))
 
-  pub alone_within : (g : Fault) → FaultSays g (TurnsFault bytes f 1 1 nodes (0 ∷ [])) → FaultSays g (λ n w. n < length f.keys)
-  alone_within g says =
-      says_weaker g (TurnsFault bytes f 1 1 nodes (0 ∷ [])) (λ n w. n < length f.keys)
-      (λ n w faults. let low = first_low (marks.marks (value_said v)) n w (alone_breaks n w faults) in omega (arith, low, marked-parts_in v, ap length keys)) says
+  pub alone_within : (g : Fault) → FaultMeets g (NestedValuesFault bytes f 1 1 nodes (0 ∷ [])) → FaultMeets g (λ n w. n < length f.keys)
+  alone_within g meets =
+      meets_weaker g (NestedValuesFault bytes f 1 1 nodes (0 ∷ [])) (λ n w. n < length f.keys)
+      (λ n w faults. let low = first_low (marks.marks (value_said v)) n w (alone_breaks n w faults) in omega (arith, low, marked-parts_in v, ap length keys)) meets
 
-  pub alone_refused : (g : Fault) (r : ReadFault) → IsFaultAt f.keys g r → FaultSays g (TurnsFault bytes f 1 1 nodes (0 ∷ [])) → IsValueRefusal v r
-  alone_refused g r at says =
-      fault_stands (parts_in v) (marks.marks (value_said v)) (IsValueRefusal v) g r (subst (λ (ks : List KeyPart). IsFaultAt ks g r) keys at)
-      (says_weaker g (TurnsFault bytes f 1 1 nodes (0 ∷ [])) (λ n w. IsFirstFaulty (marks.marks (value_said v)) n w) alone_breaks says) (λ place why fault. fault) tt
+  pub alone_refused : (g : Fault) (r : ReadFault) → IsFaultAt f.keys g r → FaultMeets g (NestedValuesFault bytes f 1 1 nodes (0 ∷ [])) → IsValueRefusal v r
+  alone_refused g r at meets =
+      fault_placed (parts_in v) (marks.marks (value_said v)) (IsValueRefusal v) g r (subst (λ (ks : List KeyPart). IsFaultAt ks g r) keys at)
+      (meets_weaker g (NestedValuesFault bytes f 1 1 nodes (0 ∷ [])) (λ n w. IsFirstFaulty (marks.marks (value_said v)) n w) alone_breaks meets) (λ place why fault. fault) tt

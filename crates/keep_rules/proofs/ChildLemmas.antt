@@ -1,4 +1,4 @@
--- What the children of a node answer to a step, and the last step of a node's path.
+-- The child of a node by a step, and the last step of a node's path.
 use Rattle.std.proofs.Common.{◌≡◌, ◌≢◌, ℕ, suc, zero, ◌<◌, List, [], ◌∷◌, ◌++◌, length, get_or, refl, sym, ◌∙◌, ap, subst, arith, Option, Some, None}
 use Rattle.std.specs.Prelude.{slice_get}
 use Rattle.std.specs.Option.{option_map}
@@ -6,15 +6,15 @@ use Rattle.std.proofs.lemmas.Option.{slice_get-get_or, slice_get_within, get_or_
 use Rattle.keep_nodes.specs.AllNodes.{Node}
 use Rattle.keep_path.specs.Path.{Part, key, index}
 use Rattle.keep_meaning.specs.Nodes.{node_number}
-use Rattle.keep_nodes.specs.Children.{Hung, Bare, Keyed, Listed, holds_of, named, child_ids, child_named, child_numbered}
-use Rattle.keep_nodes.specs.Trie.{Twig, paths_of, path_at, children_of, by_key}
-use Rattle.keep_nodes.specs.Stored.{step_at, twig_in, twigs, IsStored}
-use Rattle.keep_nodes.proofs.Shared.{no_child, length_twigs, keyed_step, count_named, key_found, key_missing, IsStoredChild, stored_child, node_placed}
+use Rattle.keep_nodes.specs.Children.{ChildList, Bare, Keyed, Listed, holds_of, named, child_ids, child_named, child_numbered}
+use Rattle.keep_nodes.specs.Trie.{TrieNode, paths_of, path_at, children_of, by_key}
+use Rattle.keep_nodes.specs.Stored.{step_at, trie_node_in, trie_of, IsStored}
+use Rattle.keep_nodes.proofs.Shared.{no_child, length_trie_of, keyed_step, count_named, key_found, key_missing, IsStoredChild, stored_child, node_placed}
 use Rattle.keep_rules.proofs.LookupLemmas.{number_none, number_some}
 
 -- ---- the children of one node
 
-abbrev pub child_by : Hung → Part → Option ℕ
+abbrev pub child_by : ChildList → Part → Option ℕ
 child_by c (key text) = child_named c text
 child_by c (index n) = child_numbered c n
 
@@ -22,18 +22,18 @@ same_key : (a b : List ℕ) → key a ≡ key b → a ≡ b
 same_key a b e = cc
 
 -- the child by a step
-record IsStepTo (c : Hung) (p : Part) (id : ℕ) : Type 0 where
+record IsStepTo (c : ChildList) (p : Part) (id : ℕ) : Type 0 where
   pub place : ℕ
   pub inside : place < length (child_ids c)
   pub number : get_or (child_ids c) place 0 ≡ id
   pub step : step_at (named c) (holds_of c) place ≡ p
 
-found_by_key : (c : Hung) (text : List ℕ) (id : ℕ) → holds_of c ≡ by_key → child_named c text ≡ Some id → IsStepTo c (key text) id
+found_by_key : (c : ChildList) (text : List ℕ) (id : ℕ) → holds_of c ≡ by_key → child_named c text ≡ Some id → IsStepTo c (key text) id
 found_by_key c text id keyed h =
     let r = key_found c text id keyed h in
     record { place = r.place; inside = r.inside; number = r.number; step = keyed_step (named c) (holds_of c) r.place keyed ∙ ap key r.name }
 
-step_found : (c : Hung) (p : Part) (id : ℕ) → child_by c p ≡ Some id → IsStepTo c p id
+step_found : (c : ChildList) (p : Part) (id : ℕ) → child_by c p ≡ Some id → IsStepTo c p id
 step_found Bare (key text) id h = absurd cc
 step_found Bare (index n) id h = absurd cc
 step_found (Keyed pairs) (key text) id h = found_by_key (Keyed pairs) text id refl h
@@ -41,10 +41,10 @@ step_found (Keyed pairs) (index n) id h = absurd cc
 step_found (Listed ids) (key text) id h = absurd cc
 step_found (Listed ids) (index n) id h = record { place = n; inside = slice_get_within ids n id h; number = get_or_from_slice_get ids n id 0 h; step = refl }
 
-missing_by_key : (c : Hung) (text : List ℕ) (k : ℕ) → holds_of c ≡ by_key → child_named c text ≡ None → k < length (child_ids c) → step_at (named c) (holds_of c) k ≡ key text → ⊥
+missing_by_key : (c : ChildList) (text : List ℕ) (k : ℕ) → holds_of c ≡ by_key → child_named c text ≡ None → k < length (child_ids c) → step_at (named c) (holds_of c) k ≡ key text → ⊥
 missing_by_key c text k keyed h low same = key_missing c text k keyed h low (same_key _ text (sym (keyed_step (named c) (holds_of c) k keyed) ∙ same))
 
-step_missing : (c : Hung) (p : Part) (k : ℕ) → child_by c p ≡ None → k < length (child_ids c) → step_at (named c) (holds_of c) k ≡ p → ⊥
+step_missing : (c : ChildList) (p : Part) (k : ℕ) → child_by c p ≡ None → k < length (child_ids c) → step_at (named c) (holds_of c) k ≡ p → ⊥
 step_missing Bare p k h low same = absurd (omega arith)
 step_missing (Keyed pairs) (key text) k h low same = missing_by_key (Keyed pairs) text k refl h low same
 step_missing (Keyed pairs) (index n) k h low same = absurd cc
@@ -55,7 +55,7 @@ step_missing (Listed ids) (index n) k h low same =
     absurd cc
 
 -- by an index it is the child at that place
-pub index_is_place : (c : Hung) (n k : ℕ) → child_by c (index n) ≡ Some k → slice_get (child_ids c) n ≡ Some k
+pub index_is_place : (c : ChildList) (n k : ℕ) → child_by c (index n) ≡ Some k → slice_get (child_ids c) n ≡ Some k
 index_is_place Bare n k h = absurd cc
 index_is_place (Keyed pairs) n k h = absurd cc
 index_is_place (Listed ids) n k h = h
@@ -66,7 +66,7 @@ by_entry [] n text h = absurd cc
 by_entry (p ∷ ps) zero text h = cc
 by_entry (p ∷ ps) (suc n) text h = by_entry ps n text h
 
-pub key_step : (c : Hung) (n : ℕ) (text : List ℕ) → option_map (λ e. e.0) (slice_get (named c) n) ≡ Some text → step_at (named c) (holds_of c) n ≡ key text
+pub key_step : (c : ChildList) (n : ℕ) (text : List ℕ) → option_map (λ e. e.0) (slice_get (named c) n) ≡ Some text → step_at (named c) (holds_of c) n ≡ key text
 key_step Bare n text h = absurd cc
 key_step (Keyed pairs) n text h = ap key (by_entry (named (Keyed pairs)) n text h)
 key_step (Listed ids) n text h = absurd cc
@@ -76,10 +76,10 @@ entry_there [] n low h = absurd (omega arith)
 entry_there (p ∷ ps) zero low h = absurd cc
 entry_there (p ∷ ps) (suc n) low h = entry_there ps n (omega arith) h
 
-all_named : (c : Hung) (n : ℕ) → holds_of c ≡ by_key → n < length (child_ids c) → option_map (λ e. e.0) (slice_get (named c) n) ≡ None → ⊥
+all_named : (c : ChildList) (n : ℕ) → holds_of c ≡ by_key → n < length (child_ids c) → option_map (λ e. e.0) (slice_get (named c) n) ≡ None → ⊥
 all_named c n keyed low h = entry_there (named c) n (omega (arith, low, count_named c keyed)) h
 
-pub no_key_step : (c : Hung) (n : ℕ) → n < length (child_ids c) → option_map (λ e. e.0) (slice_get (named c) n) ≡ None → (holds_of c ≢ by_key) × (step_at (named c) (holds_of c) n ≡ index n)
+pub no_key_step : (c : ChildList) (n : ℕ) → n < length (child_ids c) → option_map (λ e. e.0) (slice_get (named c) n) ≡ None → (holds_of c ≢ by_key) × (step_at (named c) (holds_of c) n ≡ index n)
 no_key_step Bare n low h = absurd (omega arith)
 no_key_step (Keyed pairs) n low h = absurd (all_named (Keyed pairs) n refl low h)
 no_key_step (Listed ids) n low h = (λ e. cc, refl)
@@ -88,13 +88,13 @@ no_key_step (Listed ids) n low h = (λ e. cc, refl)
 
 -- a step leads to the node of the longer path, or to none
 pub stepped : (nodes : List Node) → IsStored nodes → (i : ℕ) (d : Node) (p : Part) → i < length nodes
-    → child_by (get_or nodes i d).children p ≡ node_number (paths_of (twigs nodes)) (path_at (twigs nodes) i ++ p ∷ [])
+    → child_by (get_or nodes i d).children p ≡ node_number (paths_of (trie_of nodes)) (path_at (trie_of nodes) i ++ p ∷ [])
 stepped nodes stored i d p h =
-    let c : Hung = (get_or nodes i d).children in
-    let ts : List Twig = twigs nodes in
-    let u : Twig = twig_in nodes d in
+    let c : ChildList = (get_or nodes i d).children in
+    let ts : List TrieNode = trie_of nodes in
+    let u : TrieNode = trie_node_in nodes d in
     let kids : child_ids c ≡ children_of ts i = stored.kids i d h in
-    let i_low : i < length ts = omega (arith, h, length_twigs nodes) in
+    let i_low : i < length ts = omega (arith, h, length_trie_of nodes) in
     (elim (child_by c p) as (λ o. child_by c p ≡ o → o ≡ node_number (paths_of ts) (path_at ts i ++ p ∷ [])) [
       | None ↦ λ is.
           sym (number_none (paths_of ts) (path_at ts i ++ p ∷ []) (no_child ts stored.trie i p u i_low (λ k low same.
@@ -104,12 +104,12 @@ stepped nodes stored i d p h =
           let r = step_found c p id is in
           let own : IsStoredChild nodes i r.place id d = subst (λ (n : ℕ). IsStoredChild nodes i r.place n d) r.number (stored_child nodes stored i r.place d h r.inside) in
           let path : path_at ts id ≡ path_at ts i ++ p ∷ [] = own.path ∙ ap (λ x. path_at ts i ++ x ∷ []) r.step in
-          sym (number_some ts stored.trie id (omega (arith, own.inside, length_twigs nodes))) ∙ ap (node_number (paths_of ts)) path
+          sym (number_some ts stored.trie id (omega (arith, own.inside, length_trie_of nodes))) ∙ ap (node_number (paths_of ts)) path
     ]) refl
 
 -- the path of a node by its parent's
 pub path_placed : (nodes : List Node) → IsStored nodes → (id : ℕ) (d : Node) → 0 < id → id < length nodes
-    → path_at (twigs nodes) id ≡ path_at (twigs nodes) (get_or nodes id d).parent
+    → path_at (trie_of nodes) id ≡ path_at (trie_of nodes) (get_or nodes id d).parent
     ++ step_at (named (get_or nodes (get_or nodes id d).parent d).children) (holds_of (get_or nodes (get_or nodes id d).parent d).children) (get_or nodes id d).number ∷ []
 path_placed nodes stored id d low h =
     let up : ℕ = (get_or nodes id d).parent in

@@ -13,7 +13,7 @@ use Rattle.keep_syntax.specs.Flat.{Flat}
 use Rattle.keep_syntax.specs.Numbered as syntax
 use Rattle.keep_syntax.specs.Tree.{Document}
 use Rattle.keep_nodes.specs.AllNodes.{Node, no_node}
-use Rattle.keep_rules.specs.declared.ways.Fault.{Fault}
+use Rattle.keep_rules.specs.declared.key_walk.Fault.{Fault}
 use Rattle.keep_path.specs.Path.{Part}
 use Rattle.keep_meaning.specs.Rules.{ObeysRules, IsFirstFaulty}
 use Rattle.keep_meaning.specs.Marks as marks
@@ -21,28 +21,28 @@ use Rattle.keep_meaning.specs.Marks.{Mention, Reading, statement_mentions, next_
 use Rattle.keep_meaning.specs.Meaning.{said_in}
 use Rattle.keep_meaning.specs.Counts.{Count, Numbered, numbered_mentions, numbered_from, count_from, no_count, statements_in, numbered_in}
 use Rattle.keep_meaning.specs.Nodes.{node_path, nodes_in, infos_in}
-use Rattle.keep_nodes.specs.Trie.{Twig, by_key}
-use Rattle.keep_nodes.specs.Stored.{twig_in, twigs, telling}
-use Rattle.keep_nodes.specs.Told.{Telling, root_telling, tell_all, ValuesAreNew}
-use Rattle.keep_rules.specs.Tells.{TellsTurn}
+use Rattle.keep_nodes.specs.Trie.{TrieNode, by_key}
+use Rattle.keep_nodes.specs.Stored.{trie_node_in, trie_of, node_infos}
+use Rattle.keep_nodes.specs.Facts.{NodeInfos, root_infos, with_mentions, ValuesAreNew}
+use Rattle.keep_rules.specs.AddedInfos.{AddsValue}
 use Rattle.keep_rules.specs.Reads.{IsReading}
 use Rattle.keep_rules.specs.Roots.{IsRoot}
-use Rattle.keep_rules.specs.Stops.{FaultSays}
-use Rattle.keep_rules.specs.FlatStatements.{SaysStatement, IsCountBefore}
-use Rattle.keep_rules.specs.ReadStatements.{IsRead, IsReadAsSaid, BreaksAsSaid}
+use Rattle.keep_rules.specs.Stops.{FaultMeets}
+use Rattle.keep_rules.specs.FlatStatements.{MatchesStatement, IsCountBefore}
+use Rattle.keep_rules.specs.ReadStatements.{IsRead, IsReadAsMatched, BreaksAsMatched}
 use Rattle.keep_rules.specs.ReadDocuments.{WasRead, IsIndexOf, IsRefusal, IsFaultAt}
 use Rattle.keep_meaning.proofs.Shared.{nodes_few, said_in-statements, paths-nodes_in, count_from-keys, numbered_from-append, statements-count, marked-parts}
 use Rattle.keep_rules.specs.Nested.{AreNested}
-use Rattle.keep_rules.proofs.NestedLemmas.{nested_world}
+use Rattle.keep_rules.proofs.NestedLemmas.{nested_represents}
 use Rattle.keep_rules.proofs.FlatCountLemmas.{document_counts}
-use Rattle.keep_rules.proofs.FlatLineLemmas.{document_says}
-use Rattle.keep_rules.proofs.PlanLemmas.{says_weaker}
+use Rattle.keep_rules.proofs.FlatLineLemmas.{document_matches}
+use Rattle.keep_rules.proofs.PlanLemmas.{meets_weaker}
 use Rattle.keep_rules.proofs.ReadLemmas.{IsReadTo, read_more, read_obeys, root_reads, mentions_from-append}
-use Rattle.keep_rules.proofs.RootLemmas.{first_low, fault_stands}
+use Rattle.keep_rules.proofs.RootLemmas.{first_low, fault_placed}
 use Rattle.keep_rules.proofs.StopLemmas.{fault_is_first}
-use Rattle.keep_rules.proofs.ToldAllLemmas.{told_in}
-use Rattle.keep_rules.proofs.ToldLemmas.{tell_all-append, values_new-append}
-use Rattle.keep_rules.proofs.TookLemmas.{tell_all-paths}
+use Rattle.keep_rules.proofs.AllInfoLemmas.{values_new_in}
+use Rattle.keep_rules.proofs.MentionInfoLemmas.{with_mentions-append, values_new-append}
+use Rattle.keep_rules.proofs.NestedReadLemmas.{with_mentions-paths}
 
 -- the statements of the document before that number
 abbrev pub before : Document → ℕ → List marks.Statement
@@ -51,16 +51,16 @@ before d number = take number (statements_in d)
 abbrev pub numbered_before : Document → ℕ → List Numbered
 numbered_before d number = numbered_from no_count start (before d number)
 
--- The nodes stand for so many statements of the document, and that is told of them.
+-- The nodes represent so many statements of the document, and have the facts from these.
 pub record IsReadUpTo (d : Document) (nodes : List Node) (body number : ℕ) : Type 0 where
-  pub reading : IsReadTo (twigs nodes) body (before d number)
-  pub told : telling nodes ≡ tell_all (syntax.values d) (syntax.parts d) root_telling (numbered_before d number)
+  pub reading : IsReadTo (trie_of nodes) body (before d number)
+  pub facts : node_infos nodes ≡ with_mentions (syntax.values d) (syntax.parts d) root_infos (numbered_before d number)
   pub fresh : ValuesAreNew ([] ∷ []) (numbered_before d number)
 
 pub begin_read : (d : Document) (nodes : List Node) → IsRoot nodes by_key → IsReadUpTo d nodes 0 0
 begin_read d nodes root = record {
-  reading = subst (λ (ts : List Twig). IsReading ts 0 [] start) (sym root.alone) (root_reads root.root root.state root.holds);
-  told = root.told;
+  reading = subst (λ (ts : List TrieNode). IsReading ts 0 [] start) (sym root.alone) (root_reads root.root root.state root.holds);
+  facts = root.facts;
   fresh = tt;
 }
 
@@ -81,12 +81,12 @@ module _ (bytes : List ℕ) (s : Syntax) (d : Document) (was : WasRead bytes s d
   next_before : before d (number + 1) ≡ before d number ++ statement_at d number ∷ []
   next_before = take_more (statements_in d) number (marks.keyval []) there
 
-  -- it says the next statement
-  pub said_at : SaysStatement bytes f.keys f.values st (statement_at d number)
-  said_at =
-      subst (λ (ks : List KeyPart). SaysStatement bytes ks f.values st (statement_at d number)) (sym keys)
-      (subst (λ (vs : List ValueInfo). SaysStatement bytes (syntax.parts d) vs st (statement_at d number)) (sym values)
-      (document_says bytes was.profile d was.reads.valid was.reads.spelled number st (statement_at d number) listed (slice_get-get_or (statements_in d) number (marks.keyval []) there)))
+  -- it is the next statement
+  pub mentions_at : MatchesStatement bytes f.keys f.values st (statement_at d number)
+  mentions_at =
+      subst (λ (ks : List KeyPart). MatchesStatement bytes ks f.values st (statement_at d number)) (sym keys)
+      (subst (λ (vs : List ValueInfo). MatchesStatement bytes (syntax.parts d) vs st (statement_at d number)) (sym values)
+      (document_matches bytes was.profile d was.reads.valid was.reads.spelled number st (statement_at d number) listed (slice_get-get_or (statements_in d) number (marks.keyval []) there)))
 
   next_numbered : numbered_before d (number + 1) ≡ numbered_before d number ++ numbered_mentions (count_from no_count start (before d number)) (statement_mentions (reading_after start (before d number)) (statement_at d number))
   next_numbered =
@@ -94,35 +94,35 @@ module _ (bytes : List ℕ) (s : Syntax) (d : Document) (was : WasRead bytes s d
       ∙ ap (λ ns. numbered_before d number ++ ns) (one_numbered (count_from no_count start (before d number)) (reading_after start (before d number)) (statement_at d number))
 
   -- one statement more
-  pub read_next : (old new : List Node) (body to : ℕ) → IsReadUpTo d old body number → IsReadAsSaid bytes f number st old body new to → IsReadUpTo d new to (number + 1)
+  pub read_next : (old new : List Node) (body to : ℕ) → IsReadUpTo d old body number → IsReadAsMatched bytes f number st old body new to → IsReadUpTo d new to (number + 1)
   read_next old new body to up read =
       let next : marks.Statement = statement_at d number in
       let c : Count = count_from no_count start (before d number) in
       let r : Reading = reading_after start (before d number) in
       let more : List Numbered = numbered_mentions c (statement_mentions r next) in
-      let one : IsRead f number st old body new to next = read next said_at in
-      let turn : TellsTurn f.values f.keys old new c (statement_mentions r next) = one.tells (mentions_from start (before d number)) r up.reading c (document_counts d number st listed) in
+      let one : IsRead f number st old body new to next = read next mentions_at in
+      let added : AddsValue f.values f.keys old new c (statement_mentions r next) = one.joined (mentions_from start (before d number)) r up.reading c (document_counts d number st listed) in
       record {
-        reading = subst (λ (ss : List marks.Statement). IsReadTo (twigs new) to ss) (sym next_before) (read_more (twigs old) (twigs new) body to (before d number) next up.reading one.reads);
-        told = turn.tells
-            ∙ ap (λ vs. tell_all vs f.keys (telling old) more) values ∙ ap (λ ks. tell_all (syntax.values d) ks (telling old) more) keys
-            ∙ ap (λ t. tell_all (syntax.values d) (syntax.parts d) t more) up.told
-            ∙ sym (tell_all-append (syntax.values d) (syntax.parts d) root_telling (numbered_before d number) more)
-            ∙ ap (tell_all (syntax.values d) (syntax.parts d) root_telling) (sym next_numbered);
+        reading = subst (λ (ss : List marks.Statement). IsReadTo (trie_of new) to ss) (sym next_before) (read_more (trie_of old) (trie_of new) body to (before d number) next up.reading one.reads);
+        facts = added.joined
+            ∙ ap (λ vs. with_mentions vs f.keys (node_infos old) more) values ∙ ap (λ ks. with_mentions (syntax.values d) ks (node_infos old) more) keys
+            ∙ ap (λ t. with_mentions (syntax.values d) (syntax.parts d) t more) up.facts
+            ∙ sym (with_mentions-append (syntax.values d) (syntax.parts d) root_infos (numbered_before d number) more)
+            ∙ ap (with_mentions (syntax.values d) (syntax.parts d) root_infos) (sym next_numbered);
         fresh = subst (ValuesAreNew ([] ∷ [])) (sym next_numbered)
             (values_new-append ([] ∷ []) (numbered_before d number) more up.fresh
-            (subst (λ (ps : List (List Part)). ValuesAreNew ps more) (ap (λ t. t.paths) up.told ∙ tell_all-paths (syntax.values d) (syntax.parts d) root_telling (numbered_before d number)) turn.fresh));
+            (subst (λ (ps : List (List Part)). ValuesAreNew ps more) (ap (λ t. t.paths) up.facts ∙ with_mentions-paths (syntax.values d) (syntax.parts d) root_infos (numbered_before d number)) added.fresh));
       }
 
   -- a fault in it is the document's first
-  break_first : (old : List Node) (body at : ℕ) (why : Why) → IsReadUpTo d old body number → BreaksAsSaid bytes f st old body at why → IsFirstFaulty (marks.marks (said_in d)) at why
+  break_first : (old : List Node) (body at : ℕ) (why : Why) → IsReadUpTo d old body number → BreaksAsMatched bytes f st old body at why → IsFirstFaulty (marks.marks (said_in d)) at why
   break_first old body at why up breaks =
       let next : marks.Statement = statement_at d number in
       let r : Reading = reading_after start (before d number) in
       let ms : List Mention = mentions_from start (before d number) in
       let rest : List marks.Statement = drop (number + 1) (statements_in d) in
       let later : List Mention = mentions_from (next_reading r next) rest in
-      let one = breaks next said_at ms r up.reading in
+      let one = breaks next mentions_at ms r up.reading in
       let counted : IsCountBefore number st (count_from no_count start (before d number)) = document_counts d number st listed in
       let whole : statements_in d ≡ before d number ++ next ∷ rest = sym (take-append-drop number (statements_in d)) ∙ ap (λ ss. before d number ++ ss) (drop_more (statements_in d) number (marks.keyval []) there) in
       let said : said_in d ≡ ms ++ (statement_mentions r next ++ later) = said_in-statements d ∙ ap mentions whole ∙ mentions_from-append start (before d number) (next ∷ rest) in
@@ -130,33 +130,33 @@ module _ (bytes : List ℕ) (s : Syntax) (d : Document) (was : WasRead bytes s d
       subst (λ (l : List Mention). IsFirstFaulty (marks.marks l) at why) (sym said)
       (subst (λ (n : ℕ). IsFirstFaulty (marks.marks (ms ++ (statement_mentions r next ++ later))) n why) place (fault_is_first ms (statement_mentions r next) later one.within why one.fault))
 
-  pub break_within : (old : List Node) (body : ℕ) (g : Fault) → IsReadUpTo d old body number → FaultSays g (BreaksAsSaid bytes f st old body) → FaultSays g (λ n w. n < length f.keys)
-  break_within old body g up says =
-      says_weaker g (BreaksAsSaid bytes f st old body) (λ n w. n < length f.keys)
-      (λ n w breaks. let low = first_low (marks.marks (said_in d)) n w (break_first old body n w up breaks) in omega (arith, low, marked-parts d, ap length keys)) says
+  pub break_within : (old : List Node) (body : ℕ) (g : Fault) → IsReadUpTo d old body number → FaultMeets g (BreaksAsMatched bytes f st old body) → FaultMeets g (λ n w. n < length f.keys)
+  break_within old body g up meets =
+      meets_weaker g (BreaksAsMatched bytes f st old body) (λ n w. n < length f.keys)
+      (λ n w breaks. let low = first_low (marks.marks (said_in d)) n w (break_first old body n w up breaks) in omega (arith, low, marked-parts d, ap length keys)) meets
 
-  pub break_refused : (old : List Node) (body : ℕ) (g : Fault) (r : ReadFault) → IsReadUpTo d old body number → IsFaultAt f.keys g r → FaultSays g (BreaksAsSaid bytes f st old body) → IsRefusal d r
-  break_refused old body g r up at says =
-      fault_stands (syntax.parts d) (marks.marks (said_in d)) (IsRefusal d) g r (subst (λ (ks : List KeyPart). IsFaultAt ks g r) keys at)
-      (says_weaker g (BreaksAsSaid bytes f st old body) (λ n w. IsFirstFaulty (marks.marks (said_in d)) n w) (λ n w breaks. break_first old body n w up breaks) says) (λ place why fault. fault) tt
+  pub break_refused : (old : List Node) (body : ℕ) (g : Fault) (r : ReadFault) → IsReadUpTo d old body number → IsFaultAt f.keys g r → FaultMeets g (BreaksAsMatched bytes f st old body) → IsRefusal d r
+  break_refused old body g r up at meets =
+      fault_placed (syntax.parts d) (marks.marks (said_in d)) (IsRefusal d) g r (subst (λ (ks : List KeyPart). IsFaultAt ks g r) keys at)
+      (meets_weaker g (BreaksAsMatched bytes f st old body) (λ n w. IsFirstFaulty (marks.marks (said_in d)) n w) (λ n w breaks. break_first old body n w up breaks) meets) (λ place why fault. fault) tt
 
 -- ---- all statements
 
-pub whole_read : (d : Document) (nodes : List Node) (body number : ℕ) → length (syntax.statements d) ≤ number → length (syntax.parts d) < 2 ^ 64 → IsReadUpTo d nodes body number → IsIndexOf d (telling nodes)
+pub whole_read : (d : Document) (nodes : List Node) (body number : ℕ) → length (syntax.statements d) ≤ number → length (syntax.parts d) < 2 ^ 64 → IsReadUpTo d nodes body number → IsIndexOf d (node_infos nodes)
 whole_read d nodes body number past few up =
     let all : before d number ≡ statements_in d = take_all number (statements_in d) (omega (arith, past, statements-count d)) in
     let fresh : ValuesAreNew ([] ∷ []) (numbered_in d) = subst (λ (ss : List marks.Statement). ValuesAreNew ([] ∷ []) (numbered_from no_count start ss)) all up.fresh in
     let said : mentions_from start (before d number) ≡ said_in d = ap mentions all ∙ sym (said_in-statements d) in
     let nested : AreNested (mentions_from start (before d number)) (reading_after start (before d number)).tables =
-    nested_world (twigs nodes) (mentions_from start (before d number)) (reading_after start (before d number)).tables up.reading.world (twig_in nodes no_node) in
+    nested_represents (trie_of nodes) (mentions_from start (before d number)) (reading_after start (before d number)).tables up.reading.represents (trie_node_in nodes no_node) in
     record {
       nested = subst (λ (ms : List Mention). AreNested ms (reading_after start (statements_in d)).tables) said
           (subst (λ (ss : List marks.Statement). AreNested (mentions_from start (before d number)) (reading_after start ss).tables) all nested);
-      obeys = subst (λ (ms : List Mention). ObeysRules (marks.marks ms)) (ap mentions all ∙ sym (said_in-statements d)) (read_obeys (twigs nodes) body (before d number) up.reading);
-      told = up.told ∙ ap (λ ss. tell_all (syntax.values d) (syntax.parts d) root_telling (numbered_from no_count start ss)) all ∙ told_in d (omega (arith, few, marked-parts d)) fresh
-          ∙ ap (λ ps. let t : Telling = record { paths = ps; infos = infos_in d } in t) (sym (paths-nodes_in d));
+      obeys = subst (λ (ms : List Mention). ObeysRules (marks.marks ms)) (ap mentions all ∙ sym (said_in-statements d)) (read_obeys (trie_of nodes) body (before d number) up.reading);
+      facts = up.facts ∙ ap (λ ss. with_mentions (syntax.values d) (syntax.parts d) root_infos (numbered_from no_count start ss)) all ∙ values_new_in d (omega (arith, few, marked-parts d)) fresh
+          ∙ ap (λ ps. let t : NodeInfos = record { paths = ps; infos = infos_in d } in t) (sym (paths-nodes_in d));
     }
 
 -- there are at most as many nodes as bytes and one
-pub index_few : (bytes : List ℕ) (s : Syntax) (d : Document) (t : Telling) → WasRead bytes s d → IsIndexOf d t → length t.paths ≤ length bytes + 1
-index_few bytes s d t was is = omega (arith, ap (λ u. length u.paths) is.told, length-map (nodes_in d) node_path, nodes_few was.profile d was.reads.valid, ap length was.reads.spelled)
+pub index_few : (bytes : List ℕ) (s : Syntax) (d : Document) (t : NodeInfos) → WasRead bytes s d → IsIndexOf d t → length t.paths ≤ length bytes + 1
+index_few bytes s d t was is = omega (arith, ap (λ u. length u.paths) is.facts, length-map (nodes_in d) node_path, nodes_few was.profile d was.reads.valid, ap length was.reads.spelled)

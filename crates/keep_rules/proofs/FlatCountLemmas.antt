@@ -19,7 +19,7 @@ pub record Before (c : Count) (st : Statement) : Type 0 where
   pub keys : c.keys ≡ st.first_key
   pub values : (first : ℕ) → st.value ≡ Some first → c.values ≡ first
 
--- these statements of the list stand behind what is counted
+-- these statements of the list follow what is counted
 abbrev AllCount : Count → Reading → List Statement → List marks.Statement → Type 0
 AllCount c r sts ss = (i : ℕ) (st : Statement) → slice_get sts i ≡ Some st → Before (count_from c r (take i ss)) st
 
@@ -36,13 +36,13 @@ pub record Agrees (c : Count) (k : syntax.Count) : Type 0 where
   pub keys : c.keys ≡ k.parts
   pub values : c.values ≡ k.values
 
--- a statement with so many key parts and values, and then those behind it
+-- a statement with so many key parts and values, and then those after it
 statement_counts : (k : syntax.Count) (c : Count) (r : Reading) (st : Statement) (s : marks.Statement) (sts : List Statement) (ss : List marks.Statement) (parts values : ℕ) → Agrees c k
     → st.first_key ≡ k.parts → ((first : ℕ) → st.value ≡ Some first → first ≡ k.values) → length (marks.marks (statement_mentions r s)) ≡ parts → valued (statement_mentions r s) ≡ values
     → ((d : Count) (q : Reading) → d.keys ≡ k.parts + parts → d.values ≡ k.values + values → AllCount d q sts ss) → AllCount c r (st ∷ sts) (s ∷ ss)
-statement_counts k c r st s sts ss parts values agrees keyed told keys said more =
+statement_counts k c r st s sts ss parts values agrees keyed facts keys said more =
     let ms : List Mention = statement_mentions r s in
-    one_counts c r st s sts ss (record { keys = agrees.keys ∙ sym keyed; values = λ first e. agrees.values ∙ sym (told first e) })
+    one_counts c r st s sts ss (record { keys = agrees.keys ∙ sym keyed; values = λ first e. agrees.values ∙ sym (facts first e) })
     (more (next_count c ms) (next_reading r s) (omega (arith, count_after-keys c ms, keys, agrees.keys)) (omega (arith, count_after-values c ms, said, agrees.values)))
 
 no_value : (n m : ℕ) → ◌≡◌ {A = Option ℕ} None (Some n) → n ≡ m
@@ -51,7 +51,7 @@ no_value n m e = absurd cc
 own_value : (n m : ℕ) → ◌≡◌ {A = Option ℕ} (Some m) (Some n) → n ≡ m
 own_value n m e = cc
 
--- a line, and then those behind it
+-- a line, and then those after it
 content_counts : (k : syntax.Count) (l : Line) (line_end : ℕ) (x : Content) (c : Count) (r : Reading) (sts : List Statement) (ss : List marks.Statement) → Agrees c k
     → ((d : Count) (q : Reading) → d.keys ≡ k.parts + length (content_parts (content_start k l) x) → d.values ≡ k.values + length (content_values (line_start k l) x) → AllCount d q sts ss)
     → AllCount c r (content_statements k l line_end x ++ sts) (cons_option (statement_of x) ss)

@@ -1,4 +1,4 @@
--- The statements of a document in one list say what its lines say, one after another.
+-- The flat list of a document's statements matches its lines, one after another.
 use Rattle.std.proofs.Common.{◌≡◌, ℕ, zero, suc, ◌+◌, List, [], ◌∷◌, ◌++◌, length, map, slice_get, refl, sym, ◌∙◌, ap, subst, arith, append_assoc, Some, None}
 use Rattle.std.specs.List.{filter_map, cons_option, AllZip, AllByRecursion}
 use Rattle.std.proofs.lemmas.List.{append-nil, length-append}
@@ -16,52 +16,52 @@ use Rattle.keep_syntax.specs.Numbered as syntax
 use Rattle.keep_syntax.specs.Numbered.{width, key_parts, key_count, value_count, info, inside_of, inside_start, entries_parts, entries_values, Count, content_start, line_start, content_parts, content_values, content_statements, line_parts, line_values, line_statements, next_line, first_line, over_lines}
 use Rattle.keep_meaning.specs.Counts.{line_statement, statements_in}
 use Rattle.keep_rules.specs.FirstKeys.{FirstKeys}
-use Rattle.keep_rules.specs.FlatStatements.{LineStarts, SaysKeys, SaysStatement}
-use Rattle.keep_rules.specs.FlatValues.{SaysTurn, SayKeyval}
-use Rattle.keep_rules.specs.Inside.{turns}
+use Rattle.keep_rules.specs.FlatStatements.{LineStarts, MatchesKeys, MatchesStatement}
+use Rattle.keep_rules.specs.FlatValues.{MatchesNested, MatchKeyval}
+use Rattle.keep_rules.specs.NestedValues.{nested_values}
 use Rattle.keep_meaning.specs.KeyText.{keys_in}
 use Rattle.keep_meaning.specs.Marks as marks
 use Rattle.keep_meaning.specs.Meaning.{keys_of, keyval_said, statement_of, line_of}
 use Rattle.keep_rules.proofs.FirstKeyLemmas.{first_keys}
-use Rattle.keep_rules.proofs.FlatValueLemmas.{keyval_say}
+use Rattle.keep_rules.proofs.FlatValueLemmas.{keyval_matches}
 use Rattle.keep_meaning.proofs.Shared.{IsPart, part_whole, part_left, part_right, part_placed, part_ends, part_taken, Spelled, spelled_left, keys_say, keys_within, head_spelled, content_spelled, LinesSpelled, line_spelled, next_spelled, lines_spelled, length-entries_values}
 
 -- ---- by number
 
-get_behind : {A : Type 0} (front rest : List A) (n : ℕ) → n ≡ length front → slice_get (front ++ rest) n ≡ slice_get rest 0
-get_behind [] rest n e = ap (slice_get rest) e
-get_behind (x ∷ front) rest zero e = absurd (omega arith)
-get_behind (x ∷ front) rest (suc n) e = get_behind front rest n (omega arith)
+get_after : {A : Type 0} (front rest : List A) (n : ℕ) → n ≡ length front → slice_get (front ++ rest) n ≡ slice_get rest 0
+get_after [] rest n e = ap (slice_get rest) e
+get_after (x ∷ front) rest zero e = absurd (omega arith)
+get_after (x ∷ front) rest (suc n) e = get_after front rest n (omega arith)
 
--- a part of a list at its place, and what stands behind it
-record StandsBefore {A : Type 0} (xs : List A) (at : ℕ) (ys rest : List A) : Type 0 where
+-- a part of a list at its place, and what follows it
+record IsRangeBefore {A : Type 0} (xs : List A) (at : ℕ) (ys rest : List A) : Type 0 where
   front : List A
   place : length front ≡ at
   whole : xs ≡ front ++ (ys ++ rest)
 
-stands_whole : {A : Type 0} (xs : List A) → StandsBefore xs 0 xs []
-stands_whole xs = record { front = []; place = refl; whole = sym (append-nil xs) }
+range_whole : {A : Type 0} (xs : List A) → IsRangeBefore xs 0 xs []
+range_whole xs = record { front = []; place = refl; whole = sym (append-nil xs) }
 
-stands_left : {A : Type 0} (xs : List A) (at : ℕ) (a b rest : List A) → StandsBefore xs at (a ++ b) rest → StandsBefore xs at a (b ++ rest)
-stands_left xs at a b rest h = record { front = h.front; place = h.place; whole = h.whole ∙ ap (λ w. h.front ++ w) (append_assoc a b rest) }
+range_left : {A : Type 0} (xs : List A) (at : ℕ) (a b rest : List A) → IsRangeBefore xs at (a ++ b) rest → IsRangeBefore xs at a (b ++ rest)
+range_left xs at a b rest h = record { front = h.front; place = h.place; whole = h.whole ∙ ap (λ w. h.front ++ w) (append_assoc a b rest) }
 
-stands_right : {A : Type 0} (xs : List A) (at : ℕ) (a b rest : List A) → StandsBefore xs at (a ++ b) rest → StandsBefore xs (at + length a) b rest
-stands_right xs at a b rest h = record {
+range_right : {A : Type 0} (xs : List A) (at : ℕ) (a b rest : List A) → IsRangeBefore xs at (a ++ b) rest → IsRangeBefore xs (at + length a) b rest
+range_right xs at a b rest h = record {
   front = h.front ++ a;
   place = length-append h.front a ∙ ap (λ n. n + length a) h.place;
   whole = h.whole ∙ ap (λ w. h.front ++ w) (append_assoc a b rest) ∙ sym (append_assoc h.front a (b ++ rest));
 }
 
-stands_part : {A : Type 0} (xs : List A) (at : ℕ) (ys rest : List A) → StandsBefore xs at ys rest → IsPart xs at ys
-stands_part xs at ys rest h = record { front = h.front; behind = rest; place = h.place; whole = h.whole }
+range_part : {A : Type 0} (xs : List A) (at : ℕ) (ys rest : List A) → IsRangeBefore xs at ys rest → IsPart xs at ys
+range_part xs at ys rest h = record { front = h.front; behind = rest; place = h.place; whole = h.whole }
 
--- what stands first in it, and behind it
-stands_first : {A : Type 0} (xs : List A) (at : ℕ) (y : A) (ys rest : List A) → StandsBefore xs at (y ∷ ys) rest → slice_get xs at ≡ Some y
-stands_first xs at y ys rest h = ap (λ zs. slice_get zs at) h.whole ∙ get_behind h.front (y ∷ (ys ++ rest)) at (sym h.place)
+-- the first element of it, and the first after it
+range_first : {A : Type 0} (xs : List A) (at : ℕ) (y : A) (ys rest : List A) → IsRangeBefore xs at (y ∷ ys) rest → slice_get xs at ≡ Some y
+range_first xs at y ys rest h = ap (λ zs. slice_get zs at) h.whole ∙ get_after h.front (y ∷ (ys ++ rest)) at (sym h.place)
 
-stands_next : {A : Type 0} (xs : List A) (at : ℕ) (ys rest : List A) (n : ℕ) → StandsBefore xs at ys rest → n ≡ at + length ys → slice_get xs n ≡ slice_get rest 0
-stands_next xs at ys rest n h e =
-    ap (λ zs. slice_get zs n) (h.whole ∙ sym (append_assoc h.front ys rest)) ∙ get_behind (h.front ++ ys) rest n (omega (arith, e, h.place, length-append h.front ys))
+range_next : {A : Type 0} (xs : List A) (at : ℕ) (ys rest : List A) (n : ℕ) → IsRangeBefore xs at ys rest → n ≡ at + length ys → slice_get xs n ≡ slice_get rest 0
+range_next xs at ys rest n h e =
+    ap (λ zs. slice_get zs n) (h.whole ∙ sym (append_assoc h.front ys rest)) ∙ get_after (h.front ++ ys) rest n (omega (arith, e, h.place, length-append h.front ys))
 
 zip_at : {A B : Type 0} (R : A → B → Type 0) (xs : List A) (ys : List B) (n : ℕ) (x : A) (y : B) → AllZip R xs ys → slice_get xs n ≡ Some x → slice_get ys n ≡ Some y → R x y
 zip_at R [] ys n x y all e f = absurd cc
@@ -74,7 +74,7 @@ zip_at R (a ∷ xs) (b ∷ ys) (suc n) x y all e f = zip_at R xs ys n x y all.1 
 nothing_starts : LineStarts [] 0
 nothing_starts i e = absurd cc
 
--- what stands first in further lines is a keyval's own
+-- the first value of further lines is a keyval's own
 content_starts : (c : Count) (l : Line) (x : Content) (rest : List ValueInfo) → LineStarts rest 0 → LineStarts (content_values (line_start c l) x ++ rest) 0
 content_starts c l blank rest h = h
 content_starts c l (keyval name v) rest h = λ (i : ValueInfo) e. (c.statements, owned i e)
@@ -97,92 +97,92 @@ lines_start c (e ∷ es) last rest h =
 
 module _ (bytes : List ℕ) (parts : List KeyPart) (values : List ValueInfo) (profile : Profile) where
   abbrev Says : Statement → marks.Statement → Type 0
-  Says st s = SaysStatement bytes parts values st s
+  Says st s = MatchesStatement bytes parts values st s
 
-  keys_told : (st : Statement) (at : ℕ) (k : Key) → Spelled bytes at (key_leaves k) → IsPart parts st.first_key (key_parts at k) → st.keys ≡ key_count k → SaysKeys bytes parts st (keys_of k)
-  keys_told st at k text among many = record {
+  keys_match : (st : Statement) (at : ℕ) (k : Key) → Spelled bytes at (key_leaves k) → IsPart parts st.first_key (key_parts at k) → st.keys ≡ key_count k → MatchesKeys bytes parts st (keys_of k)
+  keys_match st at k text among many = record {
     keys = ap (keys_in bytes parts st.first_key) many ∙ keys_say bytes parts at st.first_key k text among;
     some = omega (arith, many);
     within = omega (arith, many, keys_within parts at st.first_key k among);
   }
 
   -- a statement is that keyval, whose values begin there
-  keyval_told : (p : Start) (name : Name) (v : Value) (st : Statement) → IsValue profile v → Spelled bytes p.at (content_leaves (keyval name v)) → IsPart parts st.first_key (content_parts p.at (keyval name v))
+  keyval_match : (p : Start) (name : Name) (v : Value) (st : Statement) → IsValue profile v → Spelled bytes p.at (content_leaves (keyval name v)) → IsPart parts st.first_key (content_parts p.at (keyval name v))
       → st.first_key ≡ p.parts → st.keys ≡ key_count name.key → st.kind ≡ KeyVal → st.value ≡ Some p.values
-      → (rest : List ValueInfo) → StandsBefore values p.values (content_values p (keyval name v)) rest → LineStarts rest 0 → Says st (marks.keyval (keyval_said name v))
-  keyval_told p name v st is spelled among first many kind valued rest stands ends =
+      → (rest : List ValueInfo) → IsRangeBefore values p.values (content_values p (keyval name v)) rest → LineStarts rest 0 → Says st (marks.keyval (keyval_said name v))
+  keyval_match p name v st is spelled among first many kind valued rest range ends =
       let at : ℕ = p.at + width (name_leaves name) in
       let own : ValueInfo = info p at (key_count name.key) v.body v.inside None in
       let i : Start = inside_of p at (key_count name.key) v.body in
       let inner : List ValueInfo = entries_values i v.inside in
       let count : length inner ≡ value_count v.inside = length-entries_values i v.inside in
-      let inside : IsPart values (p.values + 1) inner = stands_part values (p.values + 1) inner rest (stands_right values p.values (own ∷ []) inner rest stands) in
-      let say : SayKeyval bytes parts p.values name v (own ∷ inner) = keyval_say bytes parts profile p name v is spelled (part_placed parts st.first_key p.parts (content_parts p.at (keyval name v)) first among) in
+      let inside : IsPart values (p.values + 1) inner = range_part values (p.values + 1) inner rest (range_right values p.values (own ∷ []) inner rest range) in
+      let matches : MatchKeyval bytes parts p.values name v (own ∷ inner) = keyval_matches bytes parts profile p name v is spelled (part_placed parts st.first_key p.parts (content_parts p.at (keyval name v)) first among) in
       record {
         profile = profile;
         name = name;
         value = v;
         is = is;
-        says = refl;
+        mentions = refl;
         kind = kind;
-        keys = keys_told st p.at name.key (spelled_left bytes p.at (key_leaves name.key) (name.before ++ (mark leaf.Equals (0x3D ∷ []) ++ name.behind)) (spelled_left bytes p.at (name_leaves name) (value_leaves v) spelled))
+        keys = keys_match st p.at name.key (spelled_left bytes p.at (key_leaves name.key) (name.before ++ (mark leaf.Equals (0x3D ∷ []) ++ name.behind)) (spelled_left bytes p.at (name_leaves name) (value_leaves v) spelled))
             (part_left parts st.first_key (key_parts p.at name.key) (entries_parts (inside_start at v.body) v.inside) among) many;
         valued = record {
           first = p.values;
           valued = valued;
           own = own;
-          here = stands_first values p.values own inner rest stands;
-          kind = say.0.kind;
-          holds = say.0.holds;
+          here = range_first values p.values own inner rest range;
+          kind = matches.0.kind;
+          holds = matches.0.holds;
           within = omega (arith, count, part_ends values (p.values + 1) inner inside);
-          inside = subst (λ (vs : List ValueInfo). AllZip (SaysTurn bytes parts p.values) (turns 1 2 v.inside) vs) (sym (part_taken values (p.values + 1) (value_count v.inside) inner inside count)) say.1;
-          firsts = subst (λ (vs : List ValueInfo). FirstKeys (st.first_key + st.keys) (turns 1 2 v.inside) vs) (sym (part_taken values (p.values + 1) (value_count v.inside) inner inside count))
-              (subst (λ (n : ℕ). FirstKeys n (turns 1 2 v.inside) inner) (let e : p.parts + key_count name.key ≡ st.first_key + st.keys = omega (arith, first, many) in e) (first_keys 1 2 i v.inside));
-          behind = λ next e. ends next (sym (stands_next values p.values (own ∷ inner) rest (p.values + 1 + value_count v.inside) stands (omega (arith, count))) ∙ e);
+          inside = subst (λ (vs : List ValueInfo). AllZip (MatchesNested bytes parts p.values) (nested_values 1 2 v.inside) vs) (sym (part_taken values (p.values + 1) (value_count v.inside) inner inside count)) matches.1;
+          firsts = subst (λ (vs : List ValueInfo). FirstKeys (st.first_key + st.keys) (nested_values 1 2 v.inside) vs) (sym (part_taken values (p.values + 1) (value_count v.inside) inner inside count))
+              (subst (λ (n : ℕ). FirstKeys n (nested_values 1 2 v.inside) inner) (let e : p.parts + key_count name.key ≡ st.first_key + st.keys = omega (arith, first, many) in e) (first_keys 1 2 i v.inside));
+          next_line = λ next e. ends next (sym (range_next values p.values (own ∷ inner) rest (p.values + 1 + value_count v.inside) range (omega (arith, count))) ∙ e);
         };
       }
 
-  content_says : (c : Count) (l : Line) (line_end : ℕ) (x : Content) (sts : List Statement) (ss : List marks.Statement) → IsContent profile x → Spelled bytes (content_start c l) (content_leaves x)
-      → IsPart parts c.parts (content_parts (content_start c l) x) → (rest : List ValueInfo) → StandsBefore values c.values (content_values (line_start c l) x) rest → LineStarts rest 0
+  content_matches : (c : Count) (l : Line) (line_end : ℕ) (x : Content) (sts : List Statement) (ss : List marks.Statement) → IsContent profile x → Spelled bytes (content_start c l) (content_leaves x)
+      → IsPart parts c.parts (content_parts (content_start c l) x) → (rest : List ValueInfo) → IsRangeBefore values c.values (content_values (line_start c l) x) rest → LineStarts rest 0
       → AllZip Says sts ss → AllZip Says (content_statements c l line_end x ++ sts) (cons_option (statement_of x) ss)
-  content_says c l line_end blank sts ss is spelled among rest stands ends more = more
-  content_says c l line_end (keyval name v) sts ss is spelled among rest stands ends more =
-      (keyval_told (line_start c l) name v (syntax.statement c l line_end KeyVal (key_count name.key) (Some c.values)) is.1 spelled among refl refl refl refl rest stands ends, more)
-  content_says c l line_end (header before key behind) sts ss is spelled among rest stands ends more =
+  content_matches c l line_end blank sts ss is spelled among rest range ends more = more
+  content_matches c l line_end (keyval name v) sts ss is spelled among rest range ends more =
+      (keyval_match (line_start c l) name v (syntax.statement c l line_end KeyVal (key_count name.key) (Some c.values)) is.1 spelled among refl refl refl refl rest range ends, more)
+  content_matches c l line_end (header before key behind) sts ss is spelled among rest range ends more =
       let at : ℕ = content_start c l + 1 + width before in
       let opens : Written = record { leaf = leaf.HeadOpen; text = 0x5B ∷ [] } in
       let closes : Written = record { leaf = leaf.HeadClose; text = 0x5D ∷ [] } in
-      ((refl, refl, keys_told (syntax.statement c l line_end Header (key_count key) None) at key (head_spelled bytes (content_start c l) opens closes before key behind spelled) among refl), more)
-  content_says c l line_end (element before key behind) sts ss is spelled among rest stands ends more =
+      ((refl, refl, keys_match (syntax.statement c l line_end Header (key_count key) None) at key (head_spelled bytes (content_start c l) opens closes before key behind spelled) among refl), more)
+  content_matches c l line_end (element before key behind) sts ss is spelled among rest range ends more =
       let at : ℕ = content_start c l + 2 + width before in
       let opens : Written = record { leaf = leaf.ElemOpen; text = 0x5B ∷ 0x5B ∷ [] } in
       let closes : Written = record { leaf = leaf.ElemClose; text = 0x5D ∷ 0x5D ∷ [] } in
-      ((refl, refl, keys_told (syntax.statement c l line_end Element (key_count key) None) at key (head_spelled bytes (content_start c l) opens closes before key behind spelled) among refl), more)
+      ((refl, refl, keys_match (syntax.statement c l line_end Element (key_count key) None) at key (head_spelled bytes (content_start c l) opens closes before key behind spelled) among refl), more)
 
   -- ---- all lines
 
-  lines_say : (c : Count) (es : List Ended) (last : Line) → AllByRecursion (IsEnded profile) es → IsLine profile last → LinesSpelled bytes c.at es last
-      → IsPart parts c.parts (over_lines (λ c l line_end. line_parts c l) c es last) → (rest : List ValueInfo) → StandsBefore values c.values (over_lines (λ c l line_end. line_values c l) c es last) rest → LineStarts rest 0
+  lines_match : (c : Count) (es : List Ended) (last : Line) → AllByRecursion (IsEnded profile) es → IsLine profile last → LinesSpelled bytes c.at es last
+      → IsPart parts c.parts (over_lines (λ c l line_end. line_parts c l) c es last) → (rest : List ValueInfo) → IsRangeBefore values c.values (over_lines (λ c l line_end. line_values c l) c es last) rest → LineStarts rest 0
       → AllZip Says (over_lines line_statements c es last) (filter_map line_statement (map line_of es ++ last ∷ []))
-  lines_say c [] last are is spelled among rest stands ends =
+  lines_match c [] last are is spelled among rest range ends =
       subst (λ (sts : List Statement). AllZip Says sts (filter_map line_statement (last ∷ []))) (append-nil (line_statements c last (c.at + width (line_leaves last))))
-      (content_says c last (c.at + width (line_leaves last)) last.content [] [] is.content (content_spelled bytes c last spelled) among rest stands ends tt)
-  lines_say c (e ∷ es) last are is spelled among rest stands ends =
+      (content_matches c last (c.at + width (line_leaves last)) last.content [] [] is.content (content_spelled bytes c last spelled) among rest range ends tt)
+  lines_match c (e ∷ es) last are is spelled among rest range ends =
       let ps : List KeyPart = over_lines (λ c l line_end. line_parts c l) (next_line c e) es last in
       let vs : List ValueInfo = over_lines (λ c l line_end. line_values c l) (next_line c e) es last in
-      content_says c e.line (c.at + width (ended_leaves e)) e.line.content (over_lines line_statements (next_line c e) es last) (filter_map line_statement (map line_of es ++ last ∷ [])) are.0.line.content
-      (content_spelled bytes c e.line (line_spelled bytes c e es last spelled)) (part_left parts c.parts (line_parts c e.line) ps among) (vs ++ rest) (stands_left values c.values (line_values c e.line) vs rest stands) (lines_start (next_line c e) es last rest ends)
-      (lines_say (next_line c e) es last are.1 is (next_spelled bytes c e es last spelled) (part_right parts c.parts (line_parts c e.line) ps among) rest (stands_right values c.values (line_values c e.line) vs rest stands) ends)
+      content_matches c e.line (c.at + width (ended_leaves e)) e.line.content (over_lines line_statements (next_line c e) es last) (filter_map line_statement (map line_of es ++ last ∷ [])) are.0.line.content
+      (content_spelled bytes c e.line (line_spelled bytes c e es last spelled)) (part_left parts c.parts (line_parts c e.line) ps among) (vs ++ rest) (range_left values c.values (line_values c e.line) vs rest range) (lines_start (next_line c e) es last rest ends)
+      (lines_match (next_line c e) es last are.1 is (next_spelled bytes c e es last spelled) (part_right parts c.parts (line_parts c e.line) ps among) rest (range_right values c.values (line_values c e.line) vs rest range) ends)
 
 -- ---- a document
 
--- The statements of a document in one list say what its lines say.
-pub statements_say : (bytes : List ℕ) (profile : Profile) (d : Document) → IsDocument profile d → bytes ≡ text d
-    → AllZip (SaysStatement bytes (syntax.parts d) (syntax.values d)) (syntax.statements d) (statements_in d)
-statements_say bytes profile d is e =
-    lines_say bytes (syntax.parts d) (syntax.values d) profile (first_line d) d.ended d.last is.ended is.last (lines_spelled bytes d e) (part_whole (syntax.parts d)) [] (stands_whole (syntax.values d)) nothing_starts
+-- The flat list of a document's statements matches its lines.
+pub statements_match : (bytes : List ℕ) (profile : Profile) (d : Document) → IsDocument profile d → bytes ≡ text d
+    → AllZip (MatchesStatement bytes (syntax.parts d) (syntax.values d)) (syntax.statements d) (statements_in d)
+statements_match bytes profile d is e =
+    lines_match bytes (syntax.parts d) (syntax.values d) profile (first_line d) d.ended d.last is.ended is.last (lines_spelled bytes d e) (part_whole (syntax.parts d)) [] (range_whole (syntax.values d)) nothing_starts
 
 -- the statement of a number
-pub document_says : (bytes : List ℕ) (profile : Profile) (d : Document) → IsDocument profile d → bytes ≡ text d → (i : ℕ) (st : Statement) (s : marks.Statement)
-    → slice_get (syntax.statements d) i ≡ Some st → slice_get (statements_in d) i ≡ Some s → SaysStatement bytes (syntax.parts d) (syntax.values d) st s
-document_says bytes profile d is e i st s here there = zip_at (SaysStatement bytes (syntax.parts d) (syntax.values d)) (syntax.statements d) (statements_in d) i st s (statements_say bytes profile d is e) here there
+pub document_matches : (bytes : List ℕ) (profile : Profile) (d : Document) → IsDocument profile d → bytes ≡ text d → (i : ℕ) (st : Statement) (s : marks.Statement)
+    → slice_get (syntax.statements d) i ≡ Some st → slice_get (statements_in d) i ≡ Some s → MatchesStatement bytes (syntax.parts d) (syntax.values d) st s
+document_matches bytes profile d is e i st s here there = zip_at (MatchesStatement bytes (syntax.parts d) (syntax.values d)) (syntax.statements d) (statements_in d) i st s (statements_match bytes profile d is e) here there

@@ -1,4 +1,4 @@
--- The values of a document in one list say what their text says, one value after another.
+-- The flat list of a document's values matches its tree.
 use Rattle.std.proofs.Common.{◌≡◌, ℕ, suc, ◌+◌, IsTrue, List, [], ◌∷◌, ◌++◌, length, refl, sym, ap, subst, arith, Option, Some, None}
 use Rattle.std.proofs.lemmas.Bool.{false≢true}
 use Rattle.std.specs.List.{All, AllZip, AllByRecursion}
@@ -16,9 +16,9 @@ use Rattle.keep_syntax.specs.Contract.{alone, parts_alone, values_alone}
 use Rattle.keep_syntax.specs.Numbered.{width, key_parts, named_parts, key_count, name_count, value_start, entries_parts, value_count, leaf_of, info, owner_in, inside_of, rest_of, entries_values, content_parts, content_values}
 use Rattle.keep_meaning.specs.Fact.{Fact}
 use Rattle.keep_meaning.specs.Meaning.{scalar_fact, body_fact}
-use Rattle.keep_rules.specs.Inside.{turn_fact, entry_turn, turns}
-use Rattle.keep_rules.specs.FlatValues.{LeafTells, SaysTurn, IsOwned, OwnsEntries, IsInside, SayKeyval, SayAlone}
-use Rattle.keep_rules.proofs.InsideLemmas.{fact_is}
+use Rattle.keep_rules.specs.NestedValues.{nested_fact, entry_nested, nested_values}
+use Rattle.keep_rules.specs.FlatValues.{LeafMatches, MatchesNested, IsOwned, OwnsEntries, IsInside, MatchKeyval, MatchAlone}
+use Rattle.keep_rules.proofs.NestedValueLemmas.{fact_is}
 use Rattle.keep_meaning.proofs.Shared.{length-named, length-entries_parts, IsPart, part_whole, part_left, part_right, part_placed, Spelled, spelled_left, spelled_right, keys_say, keys_within, length-key_parts}
 
 all_zip-append : {A B : Type 0} (R : A → B → Type 0) (xs zs : List A) (ys ws : List B) → AllZip R xs ys → AllZip R zs ws → AllZip R (xs ++ zs) (ys ++ ws)
@@ -29,32 +29,32 @@ all_zip-append R (x ∷ xs) zs (y ∷ ys) ws h g = (h.0, all_zip-append R xs zs 
 
 -- ---- kinds
 
-scalar_tells : (l : Leaf) (text : List ℕ) → IsTrue (is_scalar_leaf l) → LeafTells l (scalar_fact l text)
-scalar_tells leaf.Basic text is = record { kind = refl; holds = refl }
-scalar_tells leaf.Literal text is = record { kind = refl; holds = refl }
-scalar_tells leaf.MlBasic text is = record { kind = refl; holds = refl }
-scalar_tells leaf.MlLiteral text is = record { kind = refl; holds = refl }
-scalar_tells leaf.Integer text is = record { kind = refl; holds = refl }
-scalar_tells leaf.Float text is = record { kind = refl; holds = refl }
-scalar_tells leaf.Boolean text is = record { kind = refl; holds = refl }
-scalar_tells leaf.OffsetDateTime text is = record { kind = refl; holds = refl }
-scalar_tells leaf.LocalDateTime text is = record { kind = refl; holds = refl }
-scalar_tells leaf.LocalDate text is = record { kind = refl; holds = refl }
-scalar_tells leaf.LocalTime text is = record { kind = refl; holds = refl }
-scalar_tells l text is = absurd (false≢true is)
+scalar_matches : (l : Leaf) (text : List ℕ) → IsTrue (is_scalar_leaf l) → LeafMatches l (scalar_fact l text)
+scalar_matches leaf.Basic text is = record { kind = refl; holds = refl }
+scalar_matches leaf.Literal text is = record { kind = refl; holds = refl }
+scalar_matches leaf.MlBasic text is = record { kind = refl; holds = refl }
+scalar_matches leaf.MlLiteral text is = record { kind = refl; holds = refl }
+scalar_matches leaf.Integer text is = record { kind = refl; holds = refl }
+scalar_matches leaf.Float text is = record { kind = refl; holds = refl }
+scalar_matches leaf.Boolean text is = record { kind = refl; holds = refl }
+scalar_matches leaf.OffsetDateTime text is = record { kind = refl; holds = refl }
+scalar_matches leaf.LocalDateTime text is = record { kind = refl; holds = refl }
+scalar_matches leaf.LocalDate text is = record { kind = refl; holds = refl }
+scalar_matches leaf.LocalTime text is = record { kind = refl; holds = refl }
+scalar_matches l text is = absurd (false≢true is)
 
--- a value's leaf tells what the value means
-pub body_tells : (profile : Profile) (body : Body) → IsBody profile body → LeafTells (leaf_of body) (body_fact body)
-body_tells profile (scalar w) is = scalar_tells w.leaf w.text is.0
-body_tells profile (array first) is = record { kind = refl; holds = refl }
-body_tells profile (inline first) is = record { kind = refl; holds = refl }
+-- a value's leaf has the kind and the children of what the value means
+pub body_matches : (profile : Profile) (body : Body) → IsBody profile body → LeafMatches (leaf_of body) (body_fact body)
+body_matches profile (scalar w) is = scalar_matches w.leaf w.text is.0
+body_matches profile (array first) is = record { kind = refl; holds = refl }
+body_matches profile (inline first) is = record { kind = refl; holds = refl }
 
-turn_tells : (l : Leaf) (o : ℕ) (name : Option Name) (f : Fact) → LeafTells l f → LeafTells l (turn_fact (entry_turn o name f))
-turn_tells l o name f h = subst (LeafTells l) (sym (fact_is o name f)) h
+nested_leaf_matches : (l : Leaf) (o : ℕ) (name : Option Name) (f : Fact) → LeafMatches l f → LeafMatches l (nested_fact (entry_nested o name f))
+nested_leaf_matches l o name f h = subst (LeafMatches l) (sym (fact_is o name f)) h
 
 -- ---- owners
 
--- what stands in a value
+-- the entries of a value
 body_owns : (body : Body) (base v g : ℕ) → g + 1 ≡ base + v → OwnsEntries (place_in body) base v (owner_in body g)
 body_owns (scalar w) base v g e = tt
 body_owns (array first) base v g e = (g, refl, e)
@@ -64,10 +64,10 @@ name_spelled : (bytes : List ℕ) (at : ℕ) (n : Name) → Spelled bytes at (na
 name_spelled bytes at n h = spelled_left bytes at (key_leaves n.key) (n.before ++ (mark leaf.Equals (0x3D ∷ []) ++ n.behind)) h
 
 module _ (bytes : List ℕ) (parts : List KeyPart) (base : ℕ) where
-  -- an entry stands in its value, with its keys
+  -- an entry is in its value, with its keys
   entry_owned : (profile : Profile) (place : Place) (o : ℕ) (p : Start) (name : Option Name) (f : Fact) (at : ℕ) (body : Body) (inside : Entries) (comma : Option ℕ)
       → IsNamed profile place name → OwnsEntries place base o p.owner → Spelled bytes p.at (named_leaves name) → IsPart parts p.parts (named_parts p.at name)
-      → IsOwned bytes parts base (entry_turn o name f) (info p at (name_count name) body inside comma)
+      → IsOwned bytes parts base (entry_nested o name f) (info p at (name_count name) body inside comma)
   entry_owned profile in_scalar o p None f at body inside comma is owns text among = absurd is
   entry_owned profile in_scalar o p (Some n) f at body inside comma is owns text among = absurd is
   entry_owned profile in_array o p None f at body inside comma is owns text among = owns
@@ -78,11 +78,11 @@ module _ (bytes : List ℕ) (parts : List KeyPart) (base : ℕ) where
 
   -- ---- entries
 
-  -- The values of entries that begin at that place are their turns, one after another.
-  pub entries_say : (profile : Profile) (place : Place) (o v : ℕ) (p : Start) (es : Entries) → AreEntries profile place es → OwnsEntries place base o p.owner → p.values + 1 ≡ base + v
-      → Spelled bytes p.at (entries_leaves es) → IsPart parts p.parts (entries_parts p.at es) → AllZip (SaysTurn bytes parts base) (turns o v es) (entries_values p es)
-  entries_say profile place o v p none are owns number text among = tt
-  entries_say profile place o v p (entry name body inside after comma rest) are owns number text among =
+  -- The values of entries that begin at that place are their nested values, one after another.
+  pub entries_match : (profile : Profile) (place : Place) (o v : ℕ) (p : Start) (es : Entries) → AreEntries profile place es → OwnsEntries place base o p.owner → p.values + 1 ≡ base + v
+      → Spelled bytes p.at (entries_leaves es) → IsPart parts p.parts (entries_parts p.at es) → AllZip (MatchesNested bytes parts base) (nested_values o v es) (entries_values p es)
+  entries_match profile place o v p none are owns number text among = tt
+  entries_match profile place o v p (entry name body inside after comma rest) are owns number text among =
       let i : Start = inside_of p (value_start p.at name) (name_count name) body in
       let r : Start = rest_of p name body inside after comma in
       let further : List Written = entries_leaves rest in
@@ -96,25 +96,25 @@ module _ (bytes : List ℕ) (parts : List KeyPart) (base : ℕ) where
       let at_rest : Spelled bytes r.at further = spelled_right bytes (i.at + width (entries_leaves inside) + width (closing body) + width after) (comma_leaves comma) further at_comma in
       let inner : List KeyPart = entries_parts i.at inside in
       let outer : List KeyPart = entries_parts r.at rest in
-      let behind_name : IsPart parts (p.parts + name_count name) (inner ++ outer) = part_placed parts (p.parts + length (named_parts p.at name)) (p.parts + name_count name) (inner ++ outer) (ap (λ (n : ℕ). p.parts + n) (length-named p.at name)) (part_right parts p.parts (named_parts p.at name) (inner ++ outer) among) in
-      let behind_inside : IsPart parts r.parts outer = part_placed parts (p.parts + name_count name + length inner) r.parts outer (omega (arith, length-entries_parts i.at inside)) (part_right parts (p.parts + name_count name) inner outer behind_name) in
-      let tells : LeafTells (leaf_of body) (turn_fact (entry_turn o name (body_fact body))) = turn_tells (leaf_of body) o name (body_fact body) (body_tells profile body are.1) in (
+      let after_name : IsPart parts (p.parts + name_count name) (inner ++ outer) = part_placed parts (p.parts + length (named_parts p.at name)) (p.parts + name_count name) (inner ++ outer) (ap (λ (n : ℕ). p.parts + n) (length-named p.at name)) (part_right parts p.parts (named_parts p.at name) (inner ++ outer) among) in
+      let after_inside : IsPart parts r.parts outer = part_placed parts (p.parts + name_count name + length inner) r.parts outer (omega (arith, length-entries_parts i.at inside)) (part_right parts (p.parts + name_count name) inner outer after_name) in
+      let joined : LeafMatches (leaf_of body) (nested_fact (entry_nested o name (body_fact body))) = nested_leaf_matches (leaf_of body) o name (body_fact body) (body_matches profile body are.1) in (
         record {
-          kind = tells.kind;
-          holds = tells.holds;
+          kind = joined.kind;
+          holds = joined.holds;
           owned = entry_owned profile place o p name (body_fact body) (value_start p.at name) body inside _ are.0 owns (spelled_left bytes p.at (named_leaves name) opened text) (part_left parts p.parts (named_parts p.at name) (inner ++ outer) among);
         },
-        all_zip-append (SaysTurn bytes parts base) (turns v (suc v) inside) (turns o (suc v + value_count inside) rest) (entries_values i inside) (entries_values r rest)
-            (entries_say profile (place_in body) v (suc v) i inside are.2 (body_owns body base v p.values number) (omega arith) (spelled_left bytes i.at (entries_leaves inside) closed at_inside) (part_left parts i.parts inner outer behind_name))
-            (entries_say profile place o (suc v + value_count inside) r rest are.5 owns (omega arith) at_rest behind_inside),
+        all_zip-append (MatchesNested bytes parts base) (nested_values v (suc v) inside) (nested_values o (suc v + value_count inside) rest) (entries_values i inside) (entries_values r rest)
+            (entries_match profile (place_in body) v (suc v) i inside are.2 (body_owns body base v p.values number) (omega arith) (spelled_left bytes i.at (entries_leaves inside) closed at_inside) (part_left parts i.parts inner outer after_name))
+            (entries_match profile place o (suc v + value_count inside) r rest are.5 owns (omega arith) at_rest after_inside),
       )
 
 -- ---- a keyval, and a value alone
 
--- The values of a line's keyval that begins at that place are its turns.
-pub keyval_say : (bytes : List ℕ) (parts : List KeyPart) (profile : Profile) (p : Start) (name : Name) (v : Value) → IsValue profile v
-    → Spelled bytes p.at (content_leaves (keyval name v)) → IsPart parts p.parts (content_parts p.at (keyval name v)) → SayKeyval bytes parts p.values name v (content_values p (keyval name v))
-keyval_say bytes parts profile p name v is text among =
+-- The values of a line's keyval that begins at that place are its nested values.
+pub keyval_matches : (bytes : List ℕ) (parts : List KeyPart) (profile : Profile) (p : Start) (name : Name) (v : Value) → IsValue profile v
+    → Spelled bytes p.at (content_leaves (keyval name v)) → IsPart parts p.parts (content_parts p.at (keyval name v)) → MatchKeyval bytes parts p.values name v (content_values p (keyval name v))
+keyval_matches bytes parts profile p name v is text among =
     let at : ℕ = p.at + width (name_leaves name) in
     let i : Start = inside_of p at (key_count name.key) v.body in
     let inner : List KeyPart = entries_parts i.at v.inside in
@@ -122,29 +122,29 @@ keyval_say bytes parts profile p name v is text among =
     let at_value : Spelled bytes at (opening v.body ++ closed) = spelled_right bytes p.at (name_leaves name) (opening v.body ++ closed) text in
     let at_inside : Spelled bytes i.at closed = spelled_right bytes at (opening v.body) closed at_value in
     let own : IsPart parts p.parts (key_parts p.at name.key) = part_left parts p.parts (key_parts p.at name.key) inner among in
-    let behind_name : IsPart parts i.parts inner = part_placed parts (p.parts + length (key_parts p.at name.key)) i.parts inner (ap (λ (n : ℕ). p.parts + n) (length-key_parts p.at name.key)) (part_right parts p.parts (key_parts p.at name.key) inner among) in
-    let tells : LeafTells (leaf_of v.body) (body_fact v.body) = body_tells profile v.body is.body in (
+    let after_name : IsPart parts i.parts inner = part_placed parts (p.parts + length (key_parts p.at name.key)) i.parts inner (ap (λ (n : ℕ). p.parts + n) (length-key_parts p.at name.key)) (part_right parts p.parts (key_parts p.at name.key) inner among) in
+    let joined : LeafMatches (leaf_of v.body) (body_fact v.body) = body_matches profile v.body is.body in (
       record {
-        kind = tells.kind;
-        holds = tells.holds;
+        kind = joined.kind;
+        holds = joined.holds;
         keys = keys_say bytes parts p.at p.parts name.key (name_spelled bytes p.at name (spelled_left bytes p.at (name_leaves name) (opening v.body ++ closed) text)) own;
         within = keys_within parts p.at p.parts name.key own;
       },
-      entries_say bytes parts p.values profile (place_in v.body) 1 2 i v.inside is.inside (body_owns v.body p.values 1 p.values refl) (omega arith) (spelled_left bytes i.at (entries_leaves v.inside) (closing v.body) at_inside) behind_name,
+      entries_match bytes parts p.values profile (place_in v.body) 1 2 i v.inside is.inside (body_owns v.body p.values 1 p.values refl) (omega arith) (spelled_left bytes i.at (entries_leaves v.inside) (closing v.body) at_inside) after_name,
     )
 
 -- The values of a value alone, whose text this is.
-pub alone_say : (bytes : List ℕ) (profile : Profile) (v : Value) → IsValue profile v → bytes ≡ value_text v → SayAlone bytes (parts_alone v) v (values_alone v)
-alone_say bytes profile v is e =
+pub alone_matches : (bytes : List ℕ) (profile : Profile) (v : Value) → IsValue profile v → bytes ≡ value_text v → MatchAlone bytes (parts_alone v) v (values_alone v)
+alone_matches bytes profile v is e =
     let i : Start = inside_of alone 0 0 v.body in
     let closed : List Written = entries_leaves v.inside ++ closing v.body in
     let text : Spelled bytes 0 (opening v.body ++ closed) = subst (λ (t : List ℕ). IsPart bytes 0 t) e (part_whole bytes) in
     let at_inside : Spelled bytes i.at closed = spelled_right bytes 0 (opening v.body) closed text in (
-      body_tells profile v.body is.body,
-      entries_say bytes (parts_alone v) 1 profile (place_in v.body) 0 1 i v.inside is.inside (body_owns v.body 1 0 0 refl) refl (spelled_left bytes i.at (entries_leaves v.inside) (closing v.body) at_inside) (part_whole (parts_alone v)),
+      body_matches profile v.body is.body,
+      entries_match bytes (parts_alone v) 1 profile (place_in v.body) 0 1 i v.inside is.inside (body_owns v.body 1 0 0 refl) refl (spelled_left bytes i.at (entries_leaves v.inside) (closing v.body) at_inside) (part_whole (parts_alone v)),
     )
 
--- ---- what stands in a value is no line's
+-- ---- what is in a value is no line's value
 
 all-append : (xs ys : List ValueInfo) → AllByRecursion (λ (i : ValueInfo). IsInside i.owner) xs → AllByRecursion (λ (i : ValueInfo). IsInside i.owner) ys → AllByRecursion (λ (i : ValueInfo). IsInside i.owner) (xs ++ ys)
 all-append [] ys h g = g
@@ -162,7 +162,7 @@ entries_inside p (entry name body inside after comma rest) h =
     let r : Start = rest_of p name body inside after comma in
     (h, all-append (entries_values i inside) (entries_values r rest) (entries_inside i inside (body_inside body p.values)) (entries_inside r rest h))
 
--- The values in a value stand in arrays and inline tables.
-pub inside_owned : (p : Start) (at keys : ℕ) (v : Value) → All (λ (i : ValueInfo). IsInside i.owner) (entries_values (inside_of p at keys v.body) v.inside)
-inside_owned p at keys v =
+-- The values in a value are in arrays and inline tables.
+pub owned_inside : (p : Start) (at keys : ℕ) (v : Value) → All (λ (i : ValueInfo). IsInside i.owner) (entries_values (inside_of p at keys v.body) v.inside)
+owned_inside p at keys v =
     All-from_recursion (λ (i : ValueInfo). IsInside i.owner) (entries_values (inside_of p at keys v.body) v.inside) (entries_inside (inside_of p at keys v.body) v.inside (body_inside v.body p.values))

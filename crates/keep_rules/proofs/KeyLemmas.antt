@@ -1,4 +1,4 @@
--- The texts of a key, and the ways of headers and keyvals over them.
+-- The texts of a key, and the walks of headers and keyvals along them.
 use Rattle.std.proofs.Common.{◌≡◌, ℕ, zero, suc, ◌+◌, ◌-◌, ◌<◌, ◌≤◌, List, [], ◌∷◌, ◌++◌, length, get_or, take, drop, refl, sym, ◌∙◌, ap, subst, arith, Some, None}
 use Rattle.std.specs.Prelude.{slice_get}
 use Rattle.std.proofs.lemmas.List.{get_or-map, get_or-take, get_or-drop, take_more, take_all, take-append-drop, drop_more, length-map, length-take, length-take-le, length-drop}
@@ -10,23 +10,23 @@ use Rattle.keep_rules.specs.declared.keys.Keys.{Keys}
 use Rattle.keep_meaning.specs.declared.role.Role.TheVariants.{Through, Dotted}
 use Rattle.keep_path.specs.Path.{Part, key}
 use Rattle.keep_meaning.specs.KeyText.{part_text}
-use Rattle.keep_rules.specs.Keys.{AreKeys, parts_of, key_texts, key_text_at, way_texts, last_text}
+use Rattle.keep_rules.specs.Keys.{AreKeys, parts_of, key_texts, key_text_at, leading_texts, last_text}
 use Rattle.keep_meaning.specs.KeyText.{keys_in}
 use Rattle.keep_meaning.specs.declared.node.Kind.TheVariants as kind
 use Rattle.keep_meaning.specs.declared.node.Place.TheVariants as place
 use Rattle.keep_nodes.specs.AllNodes.{Node}
 use Rattle.keep_meaning.specs.Marks.{Mention, passing_mentions}
 use Rattle.keep_meaning.specs.Nodes.{key_span}
-use Rattle.keep_nodes.specs.Told.{named_info}
-use Rattle.keep_nodes.specs.Stored.{twigs}
-use Rattle.keep_rules.specs.Tells.{TellsOne, HeaderTells, KeyTells, WayTells}
-use Rattle.keep_nodes.specs.Trie.{Twig, by_key, path_at}
-use Rattle.keep_rules.specs.Standing.{IsWorld, IsMarked, Passes, WasRefused, HasNoElement, FaultIn}
+use Rattle.keep_nodes.specs.Facts.{named_info}
+use Rattle.keep_nodes.specs.Stored.{trie_of}
+use Rattle.keep_rules.specs.AddedInfos.{AddsInfo, HeaderAdds, KeyAdds, DottedAdds}
+use Rattle.keep_nodes.specs.Trie.{TrieNode, by_key, path_at}
+use Rattle.keep_rules.specs.Represents.{Represents, IsMarked, Passes, WasRefused, HasNoElement, FaultIn}
 use Rattle.keep_rules.specs.Steps.{Walks, Dots}
-use Rattle.keep_rules.specs.Ways.{header_said, dotted_way}
+use Rattle.keep_rules.specs.KeyWalks.{walk_mentions, dotted_mentions}
 use Rattle.keep_rules.proofs.StepLemmas.{walks_more, dots_more}
 use Rattle.keep_rules.proofs.StopLemmas.{walk_fault, dots_fault}
-use Rattle.keep_rules.proofs.TellWayLemmas.{walk_tells, dot_tells}
+use Rattle.keep_rules.proofs.KeyWalkInfoLemmas.{walk_adds, dot_adds}
 
 -- ---- the texts
 
@@ -46,84 +46,84 @@ length-keys_in bytes parts first count h =
 pub length-key_texts : (k : Keys) → AreKeys k → length (key_texts k) ≡ k.count
 length-key_texts k are = length-keys_in k.text.now (parts_of k) k.first k.count are.within
 
--- a key is its way and its last part
-pub texts_split : (k : Keys) → AreKeys k → way_texts k ++ last_text k ∷ [] ≡ key_texts k
+-- a key is its leading parts and its last part
+pub texts_split : (k : Keys) → AreKeys k → leading_texts k ++ last_text k ∷ [] ≡ key_texts k
 texts_split k are =
     let n : ℕ = k.count - 1 in
     let many : length (key_texts k) ≡ k.count = length-key_texts k are in
     sym (take_more (key_texts k) n [] (omega (arith, many, are.some))) ∙ take_all (n + 1) (key_texts k) (omega (arith, many, are.some))
 
-pub length-way_texts : (k : Keys) → AreKeys k → length (way_texts k) ≡ k.count - 1
-length-way_texts k are = length-take-le (k.count - 1) (key_texts k) (omega (arith, length-key_texts k are))
+pub length-leading_texts : (k : Keys) → AreKeys k → length (leading_texts k) ≡ k.count - 1
+length-leading_texts k are = length-take-le (k.count - 1) (key_texts k) (omega (arith, length-key_texts k are))
 
--- ---- the keys on a way, one after another
+-- ---- the leading keys, one after another
 
 -- one more of them
-pub way_more : (k : Keys) → AreKeys k → (i : ℕ) (text : List ℕ) → i < k.count → text ≡ key_text_at k i → take (i + 1) (key_texts k) ≡ take i (key_texts k) ++ text ∷ []
-way_more k are i text h is = take_more (key_texts k) i [] (omega (arith, h, length-key_texts k are)) ∙ ap (λ t. take i (key_texts k) ++ t ∷ []) (sym is)
+pub leading_more : (k : Keys) → AreKeys k → (i : ℕ) (text : List ℕ) → i < k.count → text ≡ key_text_at k i → take (i + 1) (key_texts k) ≡ take i (key_texts k) ++ text ∷ []
+leading_more k are i text h is = take_more (key_texts k) i [] (omega (arith, h, length-key_texts k are)) ∙ ap (λ t. take i (key_texts k) ++ t ∷ []) (sym is)
 
 pub so_many : (k : Keys) → AreKeys k → (i : ℕ) → i < k.count → length (take i (key_texts k)) ≡ i
 so_many k are i h = length-take-le i (key_texts k) (omega (arith, h, length-key_texts k are))
 
--- the way up to one of them, that one, and those behind it
+-- those before one of them, that one, and those after it
 take_less : {X : Type 0} (xs : List X) (i n : ℕ) → i ≤ n → take i (take n xs) ≡ take i xs
 take_less xs zero n h = refl
 take_less xs (suc i) zero h = absurd (omega (arith, h))
 take_less [] (suc i) (suc n) h = refl
 take_less (x ∷ xs) (suc i) (suc n) h = ap (λ t. x ∷ t) (take_less xs i n (omega (arith, h)))
 
-pub way_split : (k : Keys) → AreKeys k → (i : ℕ) (text : List ℕ) → i < k.count - 1 → text ≡ key_text_at k i → way_texts k ≡ take i (key_texts k) ++ text ∷ drop (i + 1) (way_texts k)
-way_split k are i text h is =
-    let way : List (List ℕ) = way_texts k in
-    let low : i < length way = omega (arith, h, length-way_texts k are) in
-    sym (take-append-drop i way) ∙ ap (λ r. take i way ++ r) (drop_more way i [] low)
-    ∙ ap (λ ts. ts ++ get_or way i [] ∷ drop (i + 1) way) (take_less (key_texts k) i (k.count - 1) (omega (arith, h)))
-    ∙ ap (λ t. take i (key_texts k) ++ t ∷ drop (i + 1) way) (get_or-take (k.count - 1) (key_texts k) i [] h ∙ sym is)
+pub leading_split : (k : Keys) → AreKeys k → (i : ℕ) (text : List ℕ) → i < k.count - 1 → text ≡ key_text_at k i → leading_texts k ≡ take i (key_texts k) ++ text ∷ drop (i + 1) (leading_texts k)
+leading_split k are i text h is =
+    let leading : List (List ℕ) = leading_texts k in
+    let low : i < length leading = omega (arith, h, length-leading_texts k are) in
+    sym (take-append-drop i leading) ∙ ap (λ r. take i leading ++ r) (drop_more leading i [] low)
+    ∙ ap (λ ts. ts ++ get_or leading i [] ∷ drop (i + 1) leading) (take_less (key_texts k) i (k.count - 1) (omega (arith, h)))
+    ∙ ap (λ t. take i (key_texts k) ++ t ∷ drop (i + 1) leading) (get_or-take (k.count - 1) (key_texts k) i [] h ∙ sym is)
 
-pub walked_more : (old mid new : List Twig) (at to : ℕ) (k : Keys) → AreKeys k → (i : ℕ) (text : List ℕ) → i < k.count → text ≡ key_text_at k i
+pub walked_more : (old mid new : List TrieNode) (at to : ℕ) (k : Keys) → AreKeys k → (i : ℕ) (text : List ℕ) → i < k.count → text ≡ key_text_at k i
     → Walks old mid at (take i (key_texts k)) → Passes mid new at to text → Walks old new to (take (i + 1) (key_texts k))
 walked_more old mid new at to k are i text h is walked pass =
-    subst (λ (ks : List (List ℕ)). Walks old new to ks) (sym (way_more k are i text h is)) (walks_more old mid new at to (take i (key_texts k)) text walked pass)
+    subst (λ (ks : List (List ℕ)). Walks old new to ks) (sym (leading_more k are i text h is)) (walks_more old mid new at to (take i (key_texts k)) text walked pass)
 
-pub walk_stops : (old mid : List Twig) (at : ℕ) (k : Keys) → AreKeys k → (i : ℕ) (text : List ℕ) → i < k.count - 1 → text ≡ key_text_at k i
+pub walk_stops : (old mid : List TrieNode) (at : ℕ) (k : Keys) → AreKeys k → (i : ℕ) (text : List ℕ) → i < k.count - 1 → text ≡ key_text_at k i
     → Walks old mid at (take i (key_texts k)) → WasRefused mid (path_at mid at ++ key text ∷ []) Through → HasNoElement mid (path_at mid at ++ key text ∷ [])
-    → (ms : List Mention) (ts : List (List Part)) → IsWorld old ms ts → FaultIn ms (header_said ts [] (way_texts k)) i NotATable
-walk_stops old mid at k are i text h is walked was plain ms ts world =
-    subst (λ (n : ℕ). FaultIn ms (header_said ts [] (way_texts k)) n NotATable) (so_many k are i (omega (arith, h)))
-    (subst (λ (ks : List (List ℕ)). FaultIn ms (header_said ts [] ks) (length (take i (key_texts k))) NotATable) (sym (way_split k are i text h is))
-    (walk_fault old mid at (take i (key_texts k)) text (drop (i + 1) (way_texts k)) walked was plain ms ts world))
+    → (ms : List Mention) (ts : List (List Part)) → Represents old ms ts → FaultIn ms (walk_mentions ts [] (leading_texts k)) i NotATable
+walk_stops old mid at k are i text h is walked was plain ms ts represents =
+    subst (λ (n : ℕ). FaultIn ms (walk_mentions ts [] (leading_texts k)) n NotATable) (so_many k are i (omega (arith, h)))
+    (subst (λ (ks : List (List ℕ)). FaultIn ms (walk_mentions ts [] ks) (length (take i (key_texts k))) NotATable) (sym (leading_split k are i text h is))
+    (walk_fault old mid at (take i (key_texts k)) text (drop (i + 1) (leading_texts k)) walked was plain ms ts represents))
 
-pub dotted_more : (old mid new : List Twig) (at by to : ℕ) (k : Keys) → AreKeys k → (i : ℕ) (text : List ℕ) → i < k.count → text ≡ key_text_at k i
+pub dotted_more : (old mid new : List TrieNode) (at by to : ℕ) (k : Keys) → AreKeys k → (i : ℕ) (text : List ℕ) → i < k.count → text ≡ key_text_at k i
     → Dots old mid at by (take i (key_texts k)) → IsMarked mid new (path_at mid by ++ key text ∷ []) Dotted by_key to → Dots old new at to (take (i + 1) (key_texts k))
 dotted_more old mid new at by to k are i text h is gone marked =
-    subst (λ (ks : List (List ℕ)). Dots old new at to ks) (sym (way_more k are i text h is)) (dots_more old mid new at by to (take i (key_texts k)) text gone marked)
+    subst (λ (ks : List (List ℕ)). Dots old new at to ks) (sym (leading_more k are i text h is)) (dots_more old mid new at by to (take i (key_texts k)) text gone marked)
 
-pub dots_stop : (old mid : List Twig) (at by : ℕ) (k : Keys) → AreKeys k → (i : ℕ) (text : List ℕ) → i < k.count - 1 → text ≡ key_text_at k i
+pub dots_stop : (old mid : List TrieNode) (at by : ℕ) (k : Keys) → AreKeys k → (i : ℕ) (text : List ℕ) → i < k.count - 1 → text ≡ key_text_at k i
     → Dots old mid at by (take i (key_texts k)) → WasRefused mid (path_at mid by ++ key text ∷ []) Dotted
-    → (ms : List Mention) (ts : List (List Part)) → IsWorld old ms ts → FaultIn ms (dotted_way (path_at old at) (way_texts k)) i NotByDots
-dots_stop old mid at by k are i text h is gone was ms ts world =
-    subst (λ (n : ℕ). FaultIn ms (dotted_way (path_at old at) (way_texts k)) n NotByDots) (so_many k are i (omega (arith, h)))
-    (subst (λ (ks : List (List ℕ)). FaultIn ms (dotted_way (path_at old at) ks) (length (take i (key_texts k))) NotByDots) (sym (way_split k are i text h is))
-    (dots_fault old mid at by (take i (key_texts k)) text (drop (i + 1) (way_texts k)) gone was ms ts world))
+    → (ms : List Mention) (ts : List (List Part)) → Represents old ms ts → FaultIn ms (dotted_mentions (path_at old at) (leading_texts k)) i NotByDots
+dots_stop old mid at by k are i text h is gone was ms ts represents =
+    subst (λ (n : ℕ). FaultIn ms (dotted_mentions (path_at old at) (leading_texts k)) n NotByDots) (so_many k are i (omega (arith, h)))
+    (subst (λ (ks : List (List ℕ)). FaultIn ms (dotted_mentions (path_at old at) ks) (length (take i (key_texts k))) NotByDots) (sym (leading_split k are i text h is))
+    (dots_fault old mid at by (take i (key_texts k)) text (drop (i + 1) (leading_texts k)) gone was ms ts represents))
 
--- ---- what is told on the way
+-- ---- the facts from the leading keys
 
 module _ (old mid new : List Node) (k : Keys) (are : AreKeys k) (i : ℕ) (text : List ℕ) (span : Span) where
   named_there : i < k.count → key_span (parts_of k) (k.first + i) ≡ Some span → key_span (parts_of k) (k.first + length (take i (key_texts k))) ≡ Some span
   named_there h named = subst (λ (n : ℕ). key_span (parts_of k) (k.first + n) ≡ Some span) (sym (so_many k are i h)) named
 
-  pub walked_told : (at statement : ℕ) → i < k.count → text ≡ key_text_at k i → key_span (parts_of k) (k.first + i) ≡ Some span → Walks (twigs old) (twigs mid) at (take i (key_texts k))
-      → HeaderTells old mid (parts_of k) k.first statement (λ tables. header_said tables [] (take i (key_texts k)))
-      → KeyTells mid new span statement (λ tables. passing_mentions tables (path_at (twigs mid) at ++ key text ∷ []))
-      → HeaderTells old new (parts_of k) k.first statement (λ tables. header_said tables [] (take (i + 1) (key_texts k)))
-  walked_told at statement h is named walked told last =
-      subst (λ (ks : List (List ℕ)). HeaderTells old new (parts_of k) k.first statement (λ tables. header_said tables [] ks)) (sym (way_more k are i text h is))
-      (walk_tells old mid new at (take i (key_texts k)) text (parts_of k) k.first statement span walked told (named_there h named) last)
+  pub walked_added : (at statement : ℕ) → i < k.count → text ≡ key_text_at k i → key_span (parts_of k) (k.first + i) ≡ Some span → Walks (trie_of old) (trie_of mid) at (take i (key_texts k))
+      → HeaderAdds old mid (parts_of k) k.first statement (λ tables. walk_mentions tables [] (take i (key_texts k)))
+      → KeyAdds mid new span statement (λ tables. passing_mentions tables (path_at (trie_of mid) at ++ key text ∷ []))
+      → HeaderAdds old new (parts_of k) k.first statement (λ tables. walk_mentions tables [] (take (i + 1) (key_texts k)))
+  walked_added at statement h is named walked facts last =
+      subst (λ (ks : List (List ℕ)). HeaderAdds old new (parts_of k) k.first statement (λ tables. walk_mentions tables [] ks)) (sym (leading_more k are i text h is))
+      (walk_adds old mid new at (take i (key_texts k)) text (parts_of k) k.first statement span walked facts (named_there h named) last)
 
-  pub dotted_told : (from at number : ℕ) → i < k.count → text ≡ key_text_at k i → key_span (parts_of k) (k.first + i) ≡ Some span → Dots (twigs old) (twigs mid) from at (take i (key_texts k))
-      → WayTells old mid (parts_of k) k.first number (dotted_way (path_at (twigs old) from) (take i (key_texts k)))
-      → TellsOne mid new (path_at (twigs mid) at ++ key text ∷ []) (named_info kind.Table None span (place.Dotted number))
-      → WayTells old new (parts_of k) k.first number (dotted_way (path_at (twigs old) from) (take (i + 1) (key_texts k)))
-  dotted_told from at number h is named gone told one =
-      subst (λ (ks : List (List ℕ)). WayTells old new (parts_of k) k.first number (dotted_way (path_at (twigs old) from) ks)) (sym (way_more k are i text h is))
-      (dot_tells old mid new from at (take i (key_texts k)) text (parts_of k) k.first number span gone told (named_there h named) one)
+  pub dotted_added : (from at number : ℕ) → i < k.count → text ≡ key_text_at k i → key_span (parts_of k) (k.first + i) ≡ Some span → Dots (trie_of old) (trie_of mid) from at (take i (key_texts k))
+      → DottedAdds old mid (parts_of k) k.first number (dotted_mentions (path_at (trie_of old) from) (take i (key_texts k)))
+      → AddsInfo mid new (path_at (trie_of mid) at ++ key text ∷ []) (named_info kind.Table None span (place.Dotted number))
+      → DottedAdds old new (parts_of k) k.first number (dotted_mentions (path_at (trie_of old) from) (take (i + 1) (key_texts k)))
+  dotted_added from at number h is named gone facts one =
+      subst (λ (ks : List (List ℕ)). DottedAdds old new (parts_of k) k.first number (dotted_mentions (path_at (trie_of old) from) ks)) (sym (leading_more k are i text h is))
+      (dot_adds old mid new from at (take i (key_texts k)) text (parts_of k) k.first number span gone facts (named_there h named) one)

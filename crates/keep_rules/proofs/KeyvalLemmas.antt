@@ -1,4 +1,4 @@
--- Keyvals as the statements that they say.
+-- Reading a keyval of the flat list as the statement that it is.
 use Rattle.std.proofs.Common.{◌≡◌, ℕ, zero, suc, ◌+◌, ◌<◌, ◌≤◌, false, List, [], ◌∷◌, ◌++◌, length, get_or, map, take, drop, slice_get, refl, sym, ◌∙◌, ap, subst, arith, inl, inr, Option, Some, None}
 use Rattle.std.specs.Option.{option_map}
 use Rattle.std.proofs.lemmas.Bool.{cases_Bool}
@@ -14,7 +14,7 @@ use Rattle.keep_meaning.specs.declared.node.Kind.{Kind}
 use Rattle.keep_nodes.specs.AllNodes.{Node}
 use Rattle.keep_meaning.specs.declared.role.Role.{Role}
 use Rattle.keep_meaning.specs.declared.role.Role.TheVariants.{Element}
-use Rattle.keep_rules.specs.declared.ways.Fault.{Fault}
+use Rattle.keep_rules.specs.declared.key_walk.Fault.{Fault}
 use Rattle.keep_meaning.specs.Fact.{Fact, array}
 use Rattle.keep_path.specs.Path.{Part}
 use Rattle.keep_meaning.specs.Rules.{allows}
@@ -22,36 +22,36 @@ use Rattle.keep_meaning.specs.Marks as marks
 use Rattle.keep_meaning.specs.Marks.{Mention, Reading, statement_mentions, below}
 use Rattle.keep_meaning.specs.Meaning.{keys_of, body_fact, keyval_said}
 use Rattle.keep_meaning.specs.Counts.{Count, numbered_mentions}
-use Rattle.keep_rules.specs.Keys.{AreKeysAt, AreKeys, key_texts, way_texts, last_text}
+use Rattle.keep_rules.specs.Keys.{AreKeysAt, AreKeys, key_texts, leading_texts, last_text}
 use Rattle.keep_meaning.specs.KeyText.{keys_in}
-use Rattle.keep_rules.specs.Inside.{Inside, Turn, turn_keyed, turns, turn_said, turns_said, next_inside, body_inside, keyval_turns}
-use Rattle.keep_nodes.specs.Trie.{Twig, Holding, by_key, by_index, path_at, state_at}
+use Rattle.keep_rules.specs.NestedValues.{NestingState, NestedValue, nested_keyed, nested_values, nested_mentions, all_nested_mentions, next_nesting, body_nesting, keyval_nested}
+use Rattle.keep_nodes.specs.Trie.{TrieNode, Holding, by_key, by_index, path_at, state_at}
 use Rattle.keep_rules.specs.Tables.{is_tables, IsShaped}
-use Rattle.keep_nodes.specs.Stored.{twigs, telling}
-use Rattle.keep_rules.specs.Standing.{IsWorld, IsOpen, FaultIn}
+use Rattle.keep_nodes.specs.Stored.{trie_of, node_infos}
+use Rattle.keep_rules.specs.Represents.{Represents, IsOpen, FaultIn}
 use Rattle.keep_rules.specs.Steps.{Gives}
-use Rattle.keep_rules.specs.Reads.{IsValueNode, AreInside}
-use Rattle.keep_rules.specs.Stops.{FaultSays}
-use Rattle.keep_rules.specs.Tells.{KeyedTells, TellsTurn}
-use Rattle.keep_nodes.specs.Told.{tell_all, ValuesAreNew}
-use Rattle.keep_rules.specs.Took.{Took}
+use Rattle.keep_rules.specs.Reads.{IsValueNode, AreValueNodes}
+use Rattle.keep_rules.specs.Stops.{FaultMeets}
+use Rattle.keep_rules.specs.AddedInfos.{KeyedAdds, AddsValue}
+use Rattle.keep_nodes.specs.Facts.{with_mentions, ValuesAreNew}
+use Rattle.keep_rules.specs.NestedReads.{NestedRead}
 use Rattle.keep_rules.specs.FlatValues.{leaf_kind, leaf_holding}
-use Rattle.keep_rules.specs.FlatStatements.{SaysKeyvalOf, SaysStatement}
-use Rattle.keep_rules.specs.Plans.{stand, EndsAt, SayTurns, AreNext, HasWorld, TookTurns, TurnsFault, fault_from}
-use Rattle.keep_rules.specs.ReadStatements.{HasReading, IsRead, Breaks, IsReadAsSaid, BreaksAsSaid}
-use Rattle.keep_rules.proofs.InsideLemmas.{turns_said-append, keyval_turns-say}
+use Rattle.keep_rules.specs.FlatStatements.{MatchesKeyvalOf, MatchesStatement}
+use Rattle.keep_rules.specs.Plans.{nodes_so_far, EndsAt, MatchNested, AreNext, RepresentsSome, NestedValuesRead, NestedValuesFault, fault_from}
+use Rattle.keep_rules.specs.ReadStatements.{HasReading, IsRead, Breaks, IsReadAsMatched, BreaksAsMatched}
+use Rattle.keep_rules.proofs.NestedValueLemmas.{all_nested_mentions-append, keyval_nested-mentions}
 use Rattle.keep_rules.proofs.SuitLemmas.{keyval_suits}
 use Rattle.keep_rules.proofs.ReadLemmas.{keyval_reads}
 use Rattle.keep_rules.proofs.StopLemmas.{fault_more, fault_within}
-use Rattle.keep_rules.proofs.PlanLemmas.{says_weaker, says_from, fault_low, KeyedFaults}
+use Rattle.keep_rules.proofs.PlanLemmas.{meets_weaker, meets_from, fault_low, KeyedFaults}
 use Rattle.keep_rules.proofs.UnderwayLemmas.{line_inside}
-use Rattle.keep_rules.proofs.FirstKeyLemmas.{turns_many, say_turns, stand_taken}
+use Rattle.keep_rules.proofs.FirstKeyLemmas.{nested_count, match_nested, taken_from}
 use Rattle.keep_rules.proofs.KeyLemmas.{texts_split, length-keys_in}
-use Rattle.keep_rules.proofs.TookLemmas.{took_keyed, took_then, turn_marks}
+use Rattle.keep_rules.proofs.NestedReadLemmas.{nested_read_keyed, nested_read_then, nested_marks}
 
 -- ---- the body
 
-open_plain : (nodes : List Twig) (at : ℕ) (path : List Part) (o : Option Role) → IsShaped nodes → IsOpen nodes at path → state_at nodes at ≡ o → is_tables (state_at nodes at) ≡ false
+open_plain : (nodes : List TrieNode) (at : ℕ) (path : List Part) (o : Option Role) → IsShaped nodes → IsOpen nodes at path → state_at nodes at ≡ o → is_tables (state_at nodes at) ≡ false
 open_plain nodes at path None shaped open_ e = ap is_tables e
 open_plain nodes at path (Some s) shaped open_ e = elim (cases_Bool (allows s Element)) [
   | inl lets ↦ absurd (let clash : by_key ≡ by_index = sym open_.open_to ∙ (shaped.fits at s open_.inside e).listed lets in cc)
@@ -59,16 +59,16 @@ open_plain nodes at path (Some s) shaped open_ e = elim (cases_Bool (allows s El
 ]
 
 -- a body with nothing in it yet
-open_inside : (nodes : List Twig) (at : ℕ) (path : List Part) → IsShaped nodes → IsOpen nodes at path → AreInside nodes (at ∷ []) (body_inside path)
-open_inside nodes at path shaped open_ = record {
+open_nesting : (nodes : List TrieNode) (at : ℕ) (path : List Part) → IsShaped nodes → IsOpen nodes at path → AreValueNodes nodes (at ∷ []) (body_nesting path)
+open_nesting nodes at path shaped open_ = record {
   paths = refl;
   holdings = refl;
   entries = refl;
   each = λ j low. one j low;
-  apart = λ i j low high same. omega (arith, low, high);
+  distinct = λ i j low high same. omega (arith, low, high);
 }
   where
-    one : (j : ℕ) → j < 1 → IsValueNode nodes (get_or (at ∷ []) j 0) (body_inside path) j
+    one : (j : ℕ) → j < 1 → IsValueNode nodes (get_or (at ∷ []) j 0) (body_nesting path) j
     one zero low = record {
       inside = open_.inside;
       here = open_.here;
@@ -84,164 +84,164 @@ some_value a b e = cc
 some_info : (a b : ValueInfo) → Some a ≡ Some b → a ≡ b
 some_info a b e = cc
 
--- what it says in a body
-said_in_body : (r : Reading) (path : List Part) (name : Name) (v : Value) → path ≡ r.body → turns_said (body_inside path) (keyval_turns name v) ≡ statement_mentions r (marks.keyval (keyval_said name v))
-said_in_body r path name v e = ap (λ q. turns_said (body_inside q) (keyval_turns name v)) e ∙ keyval_turns-say r.body name v
+-- its mentions in a body
+mentions_in_body : (r : Reading) (path : List Part) (name : Name) (v : Value) → path ≡ r.body → all_nested_mentions (body_nesting path) (keyval_nested name v) ≡ statement_mentions r (marks.keyval (keyval_said name v))
+mentions_in_body r path name v e = ap (λ q. all_nested_mentions (body_nesting q) (keyval_nested name v)) e ∙ keyval_nested-mentions r.body name v
 
 module _ (bytes : List ℕ) (f : Flat) (st : Statement) (old mid : List Node) (body top number : ℕ) (k : Keys) (info : ValueInfo) (kind : Kind) (holds : Holding)
     (texts : key_texts k ≡ keys_in bytes f.keys st.first_key st.keys) (are : AreKeys k) (listed : slice_get f.values number ≡ Some info) (valued : st.value ≡ Some number)
     (kind_is : kind ≡ leaf_kind info.leaf) (holds_is : holds ≡ leaf_holding info.leaf)
-    (gives : Gives (twigs old) (twigs mid) body top (way_texts k) (last_text k) holds) (tells : KeyedTells old mid body f.keys st.first_key (key_texts k) number kind info.span) where
+    (gives : Gives (trie_of old) (trie_of mid) body top (leading_texts k) (last_text k) holds) (joined : KeyedAdds old mid body f.keys st.first_key (key_texts k) number kind info.span) where
   -- the keyval's own value was read
-  pub top_took : (said : List Mention) (path : List Part) (says : SaysKeyvalOf bytes f.keys f.values st said) → IsShaped (twigs old) → IsOpen (twigs old) body path
-      → Took f.values f.keys (stand old (body ∷ [])) (stand mid (body ∷ top ∷ [])) number st.first_key (body_inside path) (turn_keyed 0 (keys_of says.name.key) (body_fact says.value.body) ∷ [])
-  top_took said path says shaped open_ =
-      let fact : Fact = body_fact says.value.body in
-      let s : Inside = body_inside path in
-      let same : says.valued.own ≡ info = some_info says.valued.own info (sym says.valued.here ∙ ap (slice_get f.values) (some_value says.valued.first number (sym says.valued.valued ∙ valued)) ∙ listed) in
-      let told : (c : Count) → c.values ≡ number → c.keys ≡ st.first_key → TellsTurn f.values f.keys old mid c (turn_said s (turn_keyed 0 (way_texts k ++ last_text k ∷ []) fact)) = λ c v first.
-      subst (λ (x : List (List ℕ)). TellsTurn f.values f.keys old mid c (turn_said s (turn_keyed 0 x fact))) (sym (texts_split k are))
-      (tells s 0 fact open_.here (says.valued.kind ∙ ap (λ (i : ValueInfo). leaf_kind i.leaf) same ∙ sym kind_is) f.values c (ap (option_map (λ (i : ValueInfo). i.span)) listed) v first) in
-      subst (λ (x : List (List ℕ)). Took f.values f.keys (stand old (body ∷ [])) (stand mid (body ∷ top ∷ [])) number st.first_key s (turn_keyed 0 x fact ∷ [])) (texts_split k are ∙ texts ∙ says.keys.keys)
-      (took_keyed f.values f.keys (stand old (body ∷ [])) (twigs mid) (telling mid) top number st.first_key s 0 (way_texts k) (last_text k) fact (open_inside (twigs old) body path shaped open_) (omega arith) refl
-      (subst (λ (x : Holding). Gives (twigs old) (twigs mid) body top (way_texts k) (last_text k) x) (holds_is ∙ ap (λ (i : ValueInfo). leaf_holding i.leaf) (sym same) ∙ sym says.valued.holds) gives)
-      (λ c v first. (told c v first).tells)
-      (λ c v first. (told c v first).fresh))
+  pub top_read : (said : List Mention) (path : List Part) (matches : MatchesKeyvalOf bytes f.keys f.values st said) → IsShaped (trie_of old) → IsOpen (trie_of old) body path
+      → NestedRead f.values f.keys (nodes_so_far old (body ∷ [])) (nodes_so_far mid (body ∷ top ∷ [])) number st.first_key (body_nesting path) (nested_keyed 0 (keys_of matches.name.key) (body_fact matches.value.body) ∷ [])
+  top_read said path matches shaped open_ =
+      let fact : Fact = body_fact matches.value.body in
+      let s : NestingState = body_nesting path in
+      let same : matches.valued.own ≡ info = some_info matches.valued.own info (sym matches.valued.here ∙ ap (slice_get f.values) (some_value matches.valued.first number (sym matches.valued.valued ∙ valued)) ∙ listed) in
+      let facts : (c : Count) → c.values ≡ number → c.keys ≡ st.first_key → AddsValue f.values f.keys old mid c (nested_mentions s (nested_keyed 0 (leading_texts k ++ last_text k ∷ []) fact)) = λ c v first.
+      subst (λ (x : List (List ℕ)). AddsValue f.values f.keys old mid c (nested_mentions s (nested_keyed 0 x fact))) (sym (texts_split k are))
+      (joined s 0 fact open_.here (matches.valued.kind ∙ ap (λ (i : ValueInfo). leaf_kind i.leaf) same ∙ sym kind_is) f.values c (ap (option_map (λ (i : ValueInfo). i.span)) listed) v first) in
+      subst (λ (x : List (List ℕ)). NestedRead f.values f.keys (nodes_so_far old (body ∷ [])) (nodes_so_far mid (body ∷ top ∷ [])) number st.first_key s (nested_keyed 0 x fact ∷ [])) (texts_split k are ∙ texts ∙ matches.keys.keys)
+      (nested_read_keyed f.values f.keys (nodes_so_far old (body ∷ [])) (trie_of mid) (node_infos mid) top number st.first_key s 0 (leading_texts k) (last_text k) fact (open_nesting (trie_of old) body path shaped open_) (omega arith) refl
+      (subst (λ (x : Holding). Gives (trie_of old) (trie_of mid) body top (leading_texts k) (last_text k) x) (holds_is ∙ ap (λ (i : ValueInfo). leaf_holding i.leaf) (sym same) ∙ sym matches.valued.holds) gives)
+      (λ c v first. (facts c v first).joined)
+      (λ c v first. (facts c v first).fresh))
 
   -- the values in it come next
-  pub inside_next : (said : List Mention) (path : List Part) (says : SaysKeyvalOf bytes f.keys f.values st said) → IsShaped (twigs old) → IsOpen (twigs old) body path
-      → AreNext bytes f (twigs mid) (body ∷ top ∷ []) number (number + 1) (st.first_key + st.keys) (next_inside (body_inside path) (turn_keyed 0 (keys_of says.name.key) (body_fact says.value.body))) (turns 1 2 says.value.inside)
-  inside_next said path says shaped open_ =
-      let at : says.valued.first ≡ number = some_value says.valued.first number (sym says.valued.valued ∙ valued) in
-      let n : ℕ = value_count says.value.inside in
-      let ts : List Turn = turns 1 2 says.value.inside in
-      let ends : EndsAt f.values ((says.valued.first + 1) + length ts) = λ other here inside.
-      let line = says.valued.behind other (ap (slice_get f.values) (let e : (says.valued.first + 1) + n ≡ (says.valued.first + 1) + length ts = omega (arith, turns_many 1 2 says.value.inside) in e) ∙ here) in
+  pub inside_next : (said : List Mention) (path : List Part) (matches : MatchesKeyvalOf bytes f.keys f.values st said) → IsShaped (trie_of old) → IsOpen (trie_of old) body path
+      → AreNext bytes f (trie_of mid) (body ∷ top ∷ []) number (number + 1) (st.first_key + st.keys) (next_nesting (body_nesting path) (nested_keyed 0 (keys_of matches.name.key) (body_fact matches.value.body))) (nested_values 1 2 matches.value.inside)
+  inside_next said path matches shaped open_ =
+      let at : matches.valued.first ≡ number = some_value matches.valued.first number (sym matches.valued.valued ∙ valued) in
+      let n : ℕ = value_count matches.value.inside in
+      let ts : List NestedValue = nested_values 1 2 matches.value.inside in
+      let ends : EndsAt f.values ((matches.valued.first + 1) + length ts) = λ other here inside.
+      let line = matches.valued.next_line other (ap (slice_get f.values) (let e : (matches.valued.first + 1) + n ≡ (matches.valued.first + 1) + length ts = omega (arith, nested_count 1 2 matches.value.inside) in e) ∙ here) in
       line_inside line.0 other.owner line.1 inside in
       record {
-        inside = (top_took said path says shaped open_).inside;
-        suit = (keyval_suits says.profile path says.name says.value says.is).1;
-        say = subst (λ (b : ℕ). SayTurns bytes f b (b + 1) (st.first_key + st.keys) ts) at
-            (say_turns bytes f says.valued.first (says.valued.first + 1) (st.first_key + st.keys) ts (take n (drop (says.valued.first + 1) f.values)) says.valued.inside says.valued.firsts (stand_taken f.values (says.valued.first + 1) n) ends);
+        inside = (top_read said path matches shaped open_).inside;
+        suit = (keyval_suits matches.profile path matches.name matches.value matches.is).1;
+        matches = subst (λ (b : ℕ). MatchNested bytes f b (b + 1) (st.first_key + st.keys) ts) at
+            (match_nested bytes f matches.valued.first (matches.valued.first + 1) (st.first_key + st.keys) ts (take n (drop (matches.valued.first + 1) f.values)) matches.valued.inside matches.valued.firsts (taken_from f.values (matches.valued.first + 1) n) ends);
       }
 
-  own_keys : (said : List Mention) (says : SaysKeyvalOf bytes f.keys f.values st said) → length (keys_of says.name.key) ≡ st.keys
-  own_keys said says = ap length (sym says.keys.keys) ∙ length-keys_in bytes f.keys st.first_key st.keys says.keys.within
+  own_keys : (said : List Mention) (matches : MatchesKeyvalOf bytes f.keys f.values st said) → length (keys_of matches.name.key) ≡ st.keys
+  own_keys said matches = ap length (sym matches.keys.keys) ∙ length-keys_in bytes f.keys st.first_key st.keys matches.keys.within
 
-  own_marks : (said : List Mention) (path : List Part) (says : SaysKeyvalOf bytes f.keys f.values st said) → length (marks.marks (turns_said (body_inside path) (turn_keyed 0 (keys_of says.name.key) (body_fact says.value.body) ∷ []))) ≡ st.keys
-  own_marks said path says =
-      let t : Turn = turn_keyed 0 (keys_of says.name.key) (body_fact says.value.body) in
-      ap (λ w. length (marks.marks w)) (append-nil (turn_said (body_inside path) t)) ∙ turn_marks (body_inside path) t (omega (arith, own_keys said says, says.keys.some)) ∙ own_keys said says
+  own_marks : (said : List Mention) (path : List Part) (matches : MatchesKeyvalOf bytes f.keys f.values st said) → length (marks.marks (all_nested_mentions (body_nesting path) (nested_keyed 0 (keys_of matches.name.key) (body_fact matches.value.body) ∷ []))) ≡ st.keys
+  own_marks said path matches =
+      let t : NestedValue = nested_keyed 0 (keys_of matches.name.key) (body_fact matches.value.body) in
+      ap (λ w. length (marks.marks w)) (append-nil (nested_mentions (body_nesting path) t)) ∙ nested_marks (body_nesting path) t (omega (arith, own_keys said matches, matches.keys.some)) ∙ own_keys said matches
 
   -- all its values were read
-  pub keyval_took : (new : List Node) (ids : List ℕ) → TookTurns bytes f number (number + 1) mid (body ∷ top ∷ []) new ids → (said : List Mention) (path : List Part) (says : SaysKeyvalOf bytes f.keys f.values st said) → IsShaped (twigs old) → IsOpen (twigs old) body path
-      → Took f.values f.keys (stand old (body ∷ [])) (stand new ids) number st.first_key (body_inside path) (keyval_turns says.name says.value)
-  keyval_took new ids took said path says shaped open_ =
-      let t : Turn = turn_keyed 0 (keys_of says.name.key) (body_fact says.value.body) in
-      let s : Inside = body_inside path in
-      let rest : Took f.values f.keys (stand mid (body ∷ top ∷ [])) (stand new ids) (number + 1) (st.first_key + st.keys) (next_inside s t) (turns 1 2 says.value.inside) = took (next_inside s t) (turns 1 2 says.value.inside) (st.first_key + st.keys) (inside_next said path says shaped open_) in
-      took_then f.values f.keys (stand old (body ∷ [])) (stand mid (body ∷ top ∷ [])) (stand new ids) number st.first_key s (t ∷ []) (turns 1 2 says.value.inside) (top_took said path says shaped open_)
-      (subst (λ (n : ℕ). Took f.values f.keys (stand mid (body ∷ top ∷ [])) (stand new ids) (number + 1) (st.first_key + n) (next_inside s t) (turns 1 2 says.value.inside)) (sym (own_marks said path says)) rest)
+  pub keyval_all_read : (new : List Node) (ids : List ℕ) → NestedValuesRead bytes f number (number + 1) mid (body ∷ top ∷ []) new ids → (said : List Mention) (path : List Part) (matches : MatchesKeyvalOf bytes f.keys f.values st said) → IsShaped (trie_of old) → IsOpen (trie_of old) body path
+      → NestedRead f.values f.keys (nodes_so_far old (body ∷ [])) (nodes_so_far new ids) number st.first_key (body_nesting path) (keyval_nested matches.name matches.value)
+  keyval_all_read new ids was_read said path matches shaped open_ =
+      let t : NestedValue = nested_keyed 0 (keys_of matches.name.key) (body_fact matches.value.body) in
+      let s : NestingState = body_nesting path in
+      let rest : NestedRead f.values f.keys (nodes_so_far mid (body ∷ top ∷ [])) (nodes_so_far new ids) (number + 1) (st.first_key + st.keys) (next_nesting s t) (nested_values 1 2 matches.value.inside) = was_read (next_nesting s t) (nested_values 1 2 matches.value.inside) (st.first_key + st.keys) (inside_next said path matches shaped open_) in
+      nested_read_then f.values f.keys (nodes_so_far old (body ∷ [])) (nodes_so_far mid (body ∷ top ∷ [])) (nodes_so_far new ids) number st.first_key s (t ∷ []) (nested_values 1 2 matches.value.inside) (top_read said path matches shaped open_)
+      (subst (λ (n : ℕ). NestedRead f.values f.keys (nodes_so_far mid (body ∷ top ∷ [])) (nodes_so_far new ids) (number + 1) (st.first_key + n) (next_nesting s t) (nested_values 1 2 matches.value.inside)) (sym (own_marks said path matches)) rest)
 
   -- so the keyval was read
-  keyval_read : (new : List Node) (ids : List ℕ) → TookTurns bytes f number (number + 1) mid (body ∷ top ∷ []) new ids → HasReading (twigs old) body → (n : ℕ) (said : List Mention) → SaysKeyvalOf bytes f.keys f.values st said → IsRead f n st old body new body (marks.keyval said)
-  keyval_read new ids took reading n said says =
-      let path : List Part = path_at (twigs old) body in
-      let open_ : IsOpen (twigs old) body path = record { inside = reading.2.stands.inside; here = refl; open_to = reading.2.stands.open_to } in
-      let all = keyval_took new ids took said path says reading.2.world.shaped open_ in
-      let ts : List Turn = keyval_turns says.name says.value in
-      subst (λ (l : List Mention). IsRead f n st old body new body (marks.keyval l)) (sym says.says) (record {
-        reads = keyval_reads (twigs old) (twigs new) body says.name says.value all.keeps
-            (λ ms r now. subst (λ (q : List Part). IsWorld (twigs new) (ms ++ turns_said (body_inside q) ts) r.tables) now.stands.here (all.world ms r.tables now.world));
-        tells = λ ms r now c counted. record {
-          tells = all.told c (counted.values number valued) counted.keys ∙ ap (λ w. tell_all f.values f.keys (telling old) (numbered_mentions c w)) (said_in_body r path says.name says.value now.stands.here);
-          fresh = subst (λ (w : List Mention). ValuesAreNew (telling old).paths (numbered_mentions c w)) (said_in_body r path says.name says.value now.stands.here) (all.fresh c (counted.values number valued) counted.keys);
+  keyval_read : (new : List Node) (ids : List ℕ) → NestedValuesRead bytes f number (number + 1) mid (body ∷ top ∷ []) new ids → HasReading (trie_of old) body → (n : ℕ) (said : List Mention) → MatchesKeyvalOf bytes f.keys f.values st said → IsRead f n st old body new body (marks.keyval said)
+  keyval_read new ids was_read reading n said matches =
+      let path : List Part = path_at (trie_of old) body in
+      let open_ : IsOpen (trie_of old) body path = record { inside = reading.2.is_open.inside; here = refl; open_to = reading.2.is_open.open_to } in
+      let all = keyval_all_read new ids was_read said path matches reading.2.represents.shaped open_ in
+      let ts : List NestedValue = keyval_nested matches.name matches.value in
+      subst (λ (l : List Mention). IsRead f n st old body new body (marks.keyval l)) (sym matches.mentions) (record {
+        reads = keyval_reads (trie_of old) (trie_of new) body matches.name matches.value all.keeps
+            (λ ms r now. subst (λ (q : List Part). Represents (trie_of new) (ms ++ all_nested_mentions (body_nesting q) ts) r.tables) now.is_open.here (all.represents ms r.tables now.represents));
+        joined = λ ms r now c counted. record {
+          joined = all.facts c (counted.values number valued) counted.keys ∙ ap (λ w. with_mentions f.values f.keys (node_infos old) (numbered_mentions c w)) (mentions_in_body r path matches.name matches.value now.is_open.here);
+          fresh = subst (λ (w : List Mention). ValuesAreNew (node_infos old).paths (numbered_mentions c w)) (mentions_in_body r path matches.name matches.value now.is_open.here) (all.fresh c (counted.values number valued) counted.keys);
         };
       })
 
-  pub keyval_is_read : (new : List Node) (ids : List ℕ) → TookTurns bytes f number (number + 1) mid (body ∷ top ∷ []) new ids → HasReading (twigs old) body → (n : ℕ) → IsReadAsSaid bytes f n st old body new body
-  keyval_is_read new ids took reading n (marks.header ks) says = absurd (let no : None ≡ Some number = sym says.1 ∙ valued in cc)
-  keyval_is_read new ids took reading n (marks.element_header ks) says = absurd (let no : None ≡ Some number = sym says.1 ∙ valued in cc)
-  keyval_is_read new ids took reading n (marks.keyval said) says = keyval_read new ids took reading n said says
+  pub keyval_is_read : (new : List Node) (ids : List ℕ) → NestedValuesRead bytes f number (number + 1) mid (body ∷ top ∷ []) new ids → HasReading (trie_of old) body → (n : ℕ) → IsReadAsMatched bytes f n st old body new body
+  keyval_is_read new ids was_read reading n (marks.header ks) matches = absurd (let no : None ≡ Some number = sym matches.1 ∙ valued in cc)
+  keyval_is_read new ids was_read reading n (marks.element_header ks) matches = absurd (let no : None ≡ Some number = sym matches.1 ∙ valued in cc)
+  keyval_is_read new ids was_read reading n (marks.keyval said) matches = keyval_read new ids was_read reading n said matches
 
-  -- what may come next, of some statement that it says
-  pub some_inside_next : (s : marks.Statement) × SaysStatement bytes f.keys f.values st s → HasReading (twigs old) body → (s : Inside) × (ts : List Turn) × (first : ℕ) × AreNext bytes f (twigs mid) (body ∷ top ∷ []) number (number + 1) first s ts
-  some_inside_next says reading = said_next says.0 says.1 reading
+  -- what may come next, of some statement that it is
+  pub some_inside_next : (s : marks.Statement) × MatchesStatement bytes f.keys f.values st s → HasReading (trie_of old) body → (s : NestingState) × (ts : List NestedValue) × (first : ℕ) × AreNext bytes f (trie_of mid) (body ∷ top ∷ []) number (number + 1) first s ts
+  some_inside_next matches reading = mentions_next matches.0 matches.1 reading
     where
-      said_next : (s : marks.Statement) → SaysStatement bytes f.keys f.values st s → HasReading (twigs old) body → (s : Inside) × (ts : List Turn) × (first : ℕ) × AreNext bytes f (twigs mid) (body ∷ top ∷ []) number (number + 1) first s ts
-      said_next (marks.header ks) says reading = absurd (let no : None ≡ Some number = sym says.1 ∙ valued in cc)
-      said_next (marks.element_header ks) says reading = absurd (let no : None ≡ Some number = sym says.1 ∙ valued in cc)
-      said_next (marks.keyval said) says reading = (
-        next_inside (body_inside reading.1.body) (turn_keyed 0 (keys_of says.name.key) (body_fact says.value.body)),
-        turns 1 2 says.value.inside,
+      mentions_next : (s : marks.Statement) → MatchesStatement bytes f.keys f.values st s → HasReading (trie_of old) body → (s : NestingState) × (ts : List NestedValue) × (first : ℕ) × AreNext bytes f (trie_of mid) (body ∷ top ∷ []) number (number + 1) first s ts
+      mentions_next (marks.header ks) matches reading = absurd (let no : None ≡ Some number = sym matches.1 ∙ valued in cc)
+      mentions_next (marks.element_header ks) matches reading = absurd (let no : None ≡ Some number = sym matches.1 ∙ valued in cc)
+      mentions_next (marks.keyval said) matches reading = (
+        next_nesting (body_nesting reading.1.body) (nested_keyed 0 (keys_of matches.name.key) (body_fact matches.value.body)),
+        nested_values 1 2 matches.value.inside,
         st.first_key + st.keys,
-        inside_next said reading.1.body says reading.2.world.shaped reading.2.stands,
+        inside_next said reading.1.body matches reading.2.represents.shaped reading.2.is_open,
       )
 
-  pub some_top_world : (s : marks.Statement) × SaysStatement bytes f.keys f.values st s → HasReading (twigs old) body → HasWorld (twigs mid)
-  some_top_world says reading = said_world says.0 says.1 reading
+  pub some_top_represents : (s : marks.Statement) × MatchesStatement bytes f.keys f.values st s → HasReading (trie_of old) body → RepresentsSome (trie_of mid)
+  some_top_represents matches reading = mentions_represented matches.0 matches.1 reading
     where
-      said_world : (s : marks.Statement) → SaysStatement bytes f.keys f.values st s → HasReading (twigs old) body → HasWorld (twigs mid)
-      said_world (marks.header ks) says reading = absurd (let no : None ≡ Some number = sym says.1 ∙ valued in cc)
-      said_world (marks.element_header ks) says reading = absurd (let no : None ≡ Some number = sym says.1 ∙ valued in cc)
-      said_world (marks.keyval said) says reading =
-          (_, reading.1.tables, (top_took said reading.1.body says reading.2.world.shaped reading.2.stands).world reading.0 reading.1.tables reading.2.world)
+      mentions_represented : (s : marks.Statement) → MatchesStatement bytes f.keys f.values st s → HasReading (trie_of old) body → RepresentsSome (trie_of mid)
+      mentions_represented (marks.header ks) matches reading = absurd (let no : None ≡ Some number = sym matches.1 ∙ valued in cc)
+      mentions_represented (marks.element_header ks) matches reading = absurd (let no : None ≡ Some number = sym matches.1 ∙ valued in cc)
+      mentions_represented (marks.keyval said) matches reading =
+          (_, reading.1.tables, (top_read said reading.1.body matches reading.2.represents.shaped reading.2.is_open).represents reading.0 reading.1.tables reading.2.represents)
 
   -- a fault in the values in it
-  inside_breaks : (at : ℕ) (why : Why) → TurnsFault bytes f number (number + 1) mid (body ∷ top ∷ []) at why → (said : List Mention) → SaysKeyvalOf bytes f.keys f.values st said → Breaks st old body (marks.keyval said) at why
-  inside_breaks at why faults said says ms r reading =
-      let s : Inside = body_inside r.body in
-      let t : Turn = turn_keyed 0 (keys_of says.name.key) (body_fact says.value.body) in
-      let ts : List Turn = turns 1 2 says.value.inside in
-      let took = top_took said r.body says reading.world.shaped reading.stands in
-      let one = faults (next_inside s t) ts (st.first_key + st.keys) (inside_next said r.body says reading.world.shaped reading.stands) (ms ++ turns_said s (t ∷ [])) r.tables (took.world ms r.tables reading.world) in
-      let more : List Mention = turns_said (next_inside s t) ts in
-      let whole : turns_said s (t ∷ []) ++ (more ++ []) ≡ statement_mentions r (marks.keyval said) =
-      ap (λ w. turns_said s (t ∷ []) ++ w) (append-nil more) ∙ sym (turns_said-append s (t ∷ []) ts) ∙ keyval_turns-say r.body says.name says.value ∙ ap (map (below r.body)) (sym says.says) in
+  inside_breaks : (at : ℕ) (why : Why) → NestedValuesFault bytes f number (number + 1) mid (body ∷ top ∷ []) at why → (said : List Mention) → MatchesKeyvalOf bytes f.keys f.values st said → Breaks st old body (marks.keyval said) at why
+  inside_breaks at why faults said matches ms r reading =
+      let s : NestingState = body_nesting r.body in
+      let t : NestedValue = nested_keyed 0 (keys_of matches.name.key) (body_fact matches.value.body) in
+      let ts : List NestedValue = nested_values 1 2 matches.value.inside in
+      let was_read = top_read said r.body matches reading.represents.shaped reading.is_open in
+      let one = faults (next_nesting s t) ts (st.first_key + st.keys) (inside_next said r.body matches reading.represents.shaped reading.is_open) (ms ++ all_nested_mentions s (t ∷ [])) r.tables (was_read.represents ms r.tables reading.represents) in
+      let more : List Mention = all_nested_mentions (next_nesting s t) ts in
+      let whole : all_nested_mentions s (t ∷ []) ++ (more ++ []) ≡ statement_mentions r (marks.keyval said) =
+      ap (λ w. all_nested_mentions s (t ∷ []) ++ w) (append-nil more) ∙ sym (all_nested_mentions-append s (t ∷ []) ts) ∙ keyval_nested-mentions r.body matches.name matches.value ∙ ap (map (below r.body)) (sym matches.mentions) in
       record {
-        within = length (marks.marks (turns_said s (t ∷ []))) + one.within;
-        sum = omega (arith, one.sum, own_marks said r.body says);
-        fault = subst (λ (w : List Mention). FaultIn ms w (length (marks.marks (turns_said s (t ∷ []))) + one.within) why) whole (fault_within ms (turns_said s (t ∷ [])) more [] one.within why one.fault);
+        within = length (marks.marks (all_nested_mentions s (t ∷ []))) + one.within;
+        sum = omega (arith, one.sum, own_marks said r.body matches);
+        fault = subst (λ (w : List Mention). FaultIn ms w (length (marks.marks (all_nested_mentions s (t ∷ []))) + one.within) why) whole (fault_within ms (all_nested_mentions s (t ∷ [])) more [] one.within why one.fault);
       }
 
-  pub inside_breaks_as_said : (g : Fault) → FaultSays g (TurnsFault bytes f number (number + 1) mid (body ∷ top ∷ [])) → FaultSays g (BreaksAsSaid bytes f st old body)
-  inside_breaks_as_said g faults = says_weaker g (TurnsFault bytes f number (number + 1) mid (body ∷ top ∷ [])) (BreaksAsSaid bytes f st old body) (λ at why fault s says. said_breaks at why fault s says) faults
+  pub inside_breaks_as_matched : (g : Fault) → FaultMeets g (NestedValuesFault bytes f number (number + 1) mid (body ∷ top ∷ [])) → FaultMeets g (BreaksAsMatched bytes f st old body)
+  inside_breaks_as_matched g faults = meets_weaker g (NestedValuesFault bytes f number (number + 1) mid (body ∷ top ∷ [])) (BreaksAsMatched bytes f st old body) (λ at why fault s matches. mentions_break at why fault s matches) faults
     where
-      said_breaks : (at : ℕ) (why : Why) → TurnsFault bytes f number (number + 1) mid (body ∷ top ∷ []) at why → BreaksAsSaid bytes f st old body at why
-      said_breaks at why fault (marks.header ks) says = absurd (let no : None ≡ Some number = sym says.1 ∙ valued in cc)
-      said_breaks at why fault (marks.element_header ks) says = absurd (let no : None ≡ Some number = sym says.1 ∙ valued in cc)
-      said_breaks at why fault (marks.keyval said) says = inside_breaks at why fault said says
+      mentions_break : (at : ℕ) (why : Why) → NestedValuesFault bytes f number (number + 1) mid (body ∷ top ∷ []) at why → BreaksAsMatched bytes f st old body at why
+      mentions_break at why fault (marks.header ks) matches = absurd (let no : None ≡ Some number = sym matches.1 ∙ valued in cc)
+      mentions_break at why fault (marks.element_header ks) matches = absurd (let no : None ≡ Some number = sym matches.1 ∙ valued in cc)
+      mentions_break at why fault (marks.keyval said) matches = inside_breaks at why fault said matches
 
 -- ---- a fault in its own keys
 
 module _ (bytes : List ℕ) (f : Flat) (st : Statement) (old : List Node) (body number : ℕ) (keys : List (List ℕ)) (texts : keys ≡ keys_in bytes f.keys st.first_key st.keys) (valued : st.value ≡ Some number) where
-  keys_break : (at : ℕ) (why : Why) → KeyedFaults (twigs old) body keys at why → BreaksAsSaid bytes f st old body (st.first_key + at) why
-  keys_break at why faults (marks.header ks) says = absurd (let no : None ≡ Some number = sym says.1 ∙ valued in cc)
-  keys_break at why faults (marks.element_header ks) says = absurd (let no : None ≡ Some number = sym says.1 ∙ valued in cc)
-  keys_break at why faults (marks.keyval said) says = λ ms r reading.
-      let s : Inside = body_inside r.body in
-      let fact : Fact = body_fact says.value.body in
-      let t : Turn = turn_keyed 0 (keys_of says.name.key) fact in
-      let one : FaultIn ms (turn_said s t) at why = subst (λ (x : List (List ℕ)). FaultIn ms (turn_said s (turn_keyed 0 x fact)) at why) (texts ∙ says.keys.keys) (faults s 0 fact reading.stands.here ms r.tables reading.world) in
-      let whole : turns_said s (keyval_turns says.name says.value) ≡ statement_mentions r (marks.keyval said) = keyval_turns-say r.body says.name says.value ∙ ap (map (below r.body)) (sym says.says) in
+  keys_break : (at : ℕ) (why : Why) → KeyedFaults (trie_of old) body keys at why → BreaksAsMatched bytes f st old body (st.first_key + at) why
+  keys_break at why faults (marks.header ks) matches = absurd (let no : None ≡ Some number = sym matches.1 ∙ valued in cc)
+  keys_break at why faults (marks.element_header ks) matches = absurd (let no : None ≡ Some number = sym matches.1 ∙ valued in cc)
+  keys_break at why faults (marks.keyval said) matches = λ ms r reading.
+      let s : NestingState = body_nesting r.body in
+      let fact : Fact = body_fact matches.value.body in
+      let t : NestedValue = nested_keyed 0 (keys_of matches.name.key) fact in
+      let one : FaultIn ms (nested_mentions s t) at why = subst (λ (x : List (List ℕ)). FaultIn ms (nested_mentions s (nested_keyed 0 x fact)) at why) (texts ∙ matches.keys.keys) (faults s 0 fact reading.is_open.here ms r.tables reading.represents) in
+      let whole : all_nested_mentions s (keyval_nested matches.name matches.value) ≡ statement_mentions r (marks.keyval said) = keyval_nested-mentions r.body matches.name matches.value ∙ ap (map (below r.body)) (sym matches.mentions) in
       record {
         within = at;
         sum = refl;
-        fault = subst (λ (w : List Mention). FaultIn ms w at why) whole (fault_more ms (turn_said s t) (turns_said (next_inside s t) (turns 1 2 says.value.inside)) at why one);
+        fault = subst (λ (w : List Mention). FaultIn ms w at why) whole (fault_more ms (nested_mentions s t) (all_nested_mentions (next_nesting s t) (nested_values 1 2 matches.value.inside)) at why one);
       }
 
-  pub keys_break_as_said : (g h : Fault) → h ≡ fault_from g st.first_key → FaultSays g (KeyedFaults (twigs old) body keys) → FaultSays h (BreaksAsSaid bytes f st old body)
-  keys_break_as_said g h from faults =
-      says_from g st.first_key h (BreaksAsSaid bytes f st old body) from (says_weaker g (KeyedFaults (twigs old) body keys) (λ at why. BreaksAsSaid bytes f st old body (st.first_key + at) why) (λ at why fault s says. keys_break at why fault s says) faults)
+  pub keys_break_as_matched : (g h : Fault) → h ≡ fault_from g st.first_key → FaultMeets g (KeyedFaults (trie_of old) body keys) → FaultMeets h (BreaksAsMatched bytes f st old body)
+  keys_break_as_matched g h from faults =
+      meets_from g st.first_key h (BreaksAsMatched bytes f st old body) from (meets_weaker g (KeyedFaults (trie_of old) body keys) (λ at why. BreaksAsMatched bytes f st old body (st.first_key + at) why) (λ at why fault s matches. keys_break at why fault s matches) faults)
 
-  pub keys_fault_fits : (most : ℕ) (g : Fault) → AreKeysAt bytes f.keys st.first_key st.keys → HasReading (twigs old) body → length f.keys ≤ most → FaultSays g (KeyedFaults (twigs old) body keys) → FaultSays g (λ at why. st.first_key + at ≤ most)
+  pub keys_fault_fits : (most : ℕ) (g : Fault) → AreKeysAt bytes f.keys st.first_key st.keys → HasReading (trie_of old) body → length f.keys ≤ most → FaultMeets g (KeyedFaults (trie_of old) body keys) → FaultMeets g (λ at why. st.first_key + at ≤ most)
   keys_fault_fits most g are reading fits faults =
-      says_weaker g (KeyedFaults (twigs old) body keys) (λ at why. st.first_key + at ≤ most)
+      meets_weaker g (KeyedFaults (trie_of old) body keys) (λ at why. st.first_key + at ≤ most)
       (λ at why fault.
-      let s : Inside = body_inside reading.1.body in
+      let s : NestingState = body_nesting reading.1.body in
       let many : length keys ≡ st.keys = ap length texts ∙ length-keys_in bytes f.keys st.first_key st.keys are.within in
-      let low = fault_low (fault s 0 array reading.2.stands.here reading.0 reading.1.tables reading.2.world) in
-      omega (arith, low, turn_marks s (turn_keyed 0 keys array) (omega (arith, many, are.some)), many, are.within, fits)) faults
+      let low = fault_low (fault s 0 array reading.2.is_open.here reading.0 reading.1.tables reading.2.represents) in
+      omega (arith, low, nested_marks s (nested_keyed 0 keys array) (omega (arith, many, are.some)), many, are.within, fits)) faults
 
 -- the nodes of the body and of the keyval's own value
 pub two_ids : (a b c : List ℕ) (body top : ℕ) → a ≡ [] → b ≡ a ++ body ∷ [] → c ≡ b ++ top ∷ [] → c ≡ body ∷ top ∷ []

@@ -1,4 +1,4 @@
--- The nodes of a document stand under one another as its headers say.
+-- The nodes of a document are nested as its headers say.
 use Rattle.std.proofs.Common.{◌≡◌, ℕ, zero, suc, ◌-◌, ◌<◌, Bool, true, false, cond, List, [], ◌∷◌, ◌++◌, length, get_or, refl, sym, ◌∙◌, ap, subst, arith, Option, Some, None}
 use Rattle.std.specs.Prelude.{◌==◌, slice_get, IsSome}
 use Rattle.std.specs.List.{list_all}
@@ -12,14 +12,14 @@ use Rattle.keep_meaning.specs.Marks.{Mention, elements_of, entered_path}
 use Rattle.keep_meaning.specs.Nodes.{node_paths, node_number, children}
 use Rattle.keep_meaning.specs.State.{IsState}
 use Rattle.keep_path.specs.Path.{Part, key, index}
-use Rattle.keep_nodes.specs.Trie.{Twig, IsTrie, paths_of, path_at, state_at, children_of}
+use Rattle.keep_nodes.specs.Trie.{TrieNode, IsTrie, paths_of, path_at, state_at, children_of}
 use Rattle.keep_nodes.proofs.Shared.{child_at, length-paths_of}
-use Rattle.keep_rules.specs.Known.{roles_said}
+use Rattle.keep_rules.specs.RoleStates.{mention_roles}
 use Rattle.keep_rules.specs.Nested.{AreNested}
-use Rattle.keep_rules.specs.Standing.{IsWorld}
+use Rattle.keep_rules.specs.Represents.{Represents}
 use Rattle.keep_rules.specs.Tables.{is_tables}
 use Rattle.keep_rules.proofs.LookupLemmas.{number_is, number_some, none_longer, nth_is, count_is}
-use Rattle.keep_rules.proofs.MarkLemmas.{state_known}
+use Rattle.keep_rules.proofs.MarkLemmas.{state_represents}
 use Rattle.keep_rules.proofs.TablesLemmas.{tables_listed}
 
 -- where a header enters that goes past an array of tables
@@ -29,12 +29,12 @@ enters tables path (suc m) e some =
     let more : (0 == suc m) ≡ false = grind (arith, nat_tests) in
     ap (λ (n : ℕ). cond (0 == n) path (path ++ index (n - 1) ∷ [])) e ∙ ap (λ (b : Bool). cond b path (path ++ index (suc m - 1) ∷ [])) more
 
-module _ (nodes : List Twig) (ms : List Mention) (tables : List (List Part)) (world : IsWorld nodes ms tables) (d : Twig) where
+module _ (nodes : List TrieNode) (ms : List Mention) (tables : List (List Part)) (represents : Represents nodes ms tables) (d : TrieNode) where
   trie : IsTrie nodes
-  trie = world.index.trie
+  trie = represents.index.trie
 
   paths : paths_of nodes ≡ node_paths ms
-  paths = world.index.knows.paths_are
+  paths = represents.index.states_represent.paths_are
 
   -- the node of a number
   low : (path : List Part) (i : ℕ) → node_number (node_paths ms) path ≡ Some i → (i < length nodes) × (path_at nodes i ≡ path)
@@ -45,7 +45,7 @@ module _ (nodes : List Twig) (ms : List Mention) (tables : List (List Part)) (wo
   count_at : (path : List Part) (i : ℕ) → node_number (node_paths ms) path ≡ Some i → elements_of path tables ≡ cond (is_tables (state_at nodes i)) (length (children_of nodes i)) 0
   count_at path i is =
       let r = low path i is in
-      ap (λ (p : List Part). elements_of p tables) (sym r.1) ∙ world.tables_are.counts i r.0
+      ap (λ (p : List Part). elements_of p tables) (sym r.1) ∙ represents.tables_are.counts i r.0
 
   tables_at : (path : List Part) (i : ℕ) → node_number (node_paths ms) path ≡ Some i → 0 < elements_of path tables → is_tables (state_at nodes i) ≡ true
   tables_at path i is some = by (is_tables (state_at nodes i)) refl
@@ -55,14 +55,14 @@ module _ (nodes : List Twig) (ms : List Mention) (tables : List (List Part)) (wo
       by false e = absurd (omega (arith, some, count_at path i is ∙ ap (λ (b : Bool). cond {A = ℕ} b (length (children_of nodes i)) 0) e))
 
   listed : (path : List Part) (k : List ℕ) (i : ℕ) → node_number (node_paths ms) (path ++ key k ∷ []) ≡ Some i
-      → list_all (λ role. allows role Element) (roles_said (path ++ key k ∷ []) ms) ≡ true → 0 < elements_of (path ++ key k ∷ []) tables
+      → list_all (λ role. allows role Element) (mention_roles (path ++ key k ∷ []) ms) ≡ true → 0 < elements_of (path ++ key k ∷ []) tables
   listed path k i is open_to =
       let r = low (path ++ key k ∷ []) i is in
-      let there : is_tables (state_at nodes i) ≡ true = by (state_at nodes i) refl (world.shaped.marked i path k r.0 r.1) (state_known nodes ms world.index i (path ++ key k ∷ []) r.0 r.1) in
-      let some : 0 < length (children_of nodes i) = world.begun i r.0 there in
+      let there : is_tables (state_at nodes i) ≡ true = by (state_at nodes i) refl (represents.shaped.marked i path k r.0 r.1) (state_represents nodes ms represents.index i (path ++ key k ∷ []) r.0 r.1) in
+      let some : 0 < length (children_of nodes i) = represents.begun i r.0 there in
       omega (arith, some, count_at (path ++ key k ∷ []) i is ∙ ap (λ (b : Bool). cond {A = ℕ} b (length (children_of nodes i)) 0) there)
     where
-      by : (o : Option Role) → state_at nodes i ≡ o → IsSome o → IsState o (roles_said (path ++ key k ∷ []) ms) → is_tables o ≡ true
+      by : (o : Option Role) → state_at nodes i ≡ o → IsSome o → IsState o (mention_roles (path ++ key k ∷ []) ms) → is_tables o ≡ true
       by None e some state = cc
       by (Some s) e some state = state Element ∙ open_to
 
@@ -77,7 +77,7 @@ module _ (nodes : List Twig) (ms : List Mention) (tables : List (List Part)) (wo
       let last : ℕ = get_or ids n 0 in
       let within : n < length ids = omega (arith, some, many) in
       let child = child_at nodes trie i n d r.0 within in
-      let here : path_at nodes last ≡ path ++ index n ∷ [] = world.shaped.elements i n r.0 (tables_listed nodes world.shaped i r.0 there) within ∙ ap (λ (p : List Part). p ++ index n ∷ []) r.1 in
+      let here : path_at nodes last ≡ path ++ index n ∷ [] = represents.shaped.elements i n r.0 (tables_listed nodes represents.shaped i r.0 there) within ∙ ap (λ (p : List Part). p ++ index n ∷ []) r.1 in
       let counted : length (children path (paths_of nodes)) ≡ length ids = ap (λ (p : List Part). length (children p (paths_of nodes))) (sym r.1) ∙ count_is nodes trie i d r.0 in
       let found : option_and_then (node_number (paths_of nodes)) (slice_get (children path (paths_of nodes)) n) ≡ Some last =
       ap (λ (p : List Part). option_and_then (node_number (paths_of nodes)) (slice_get (children p (paths_of nodes)) n)) (sym r.1)
@@ -88,8 +88,8 @@ module _ (nodes : List Twig) (ms : List Mention) (tables : List (List Part)) (wo
       ∙ ap (node_number (paths_of nodes)) (here ∙ sym (enters tables path (length ids) many (omega (arith, some, many)))) in
       subst (λ (ps : List (List Part)). option_and_then (node_number ps) (slice_get (children path ps) (length (children path ps) - 1)) ≡ node_number ps (entered_path tables path)) paths whole
 
-  pub nested_world : AreNested ms tables
-  nested_world = record {
+  pub nested_represents : AreNested ms tables
+  nested_represents = record {
     closed = λ path more none. subst (λ (ps : List (List Part)). node_number ps path ≡ None → node_number ps (path ++ more) ≡ None) paths (none_longer nodes trie path more) none;
     listed = listed;
     entered = entered;

@@ -11,55 +11,55 @@ use Rattle.keep_meaning.specs.declared.role.Role.TheVariants.{Through, Past, Def
 use Rattle.keep_path.specs.Path.{Part, key, index}
 use Rattle.keep_meaning.specs.Rules.{allows}
 use Rattle.keep_meaning.specs.Marks.{through, past, passed, Mention, elements_of, passing_mentions, entered_path}
-use Rattle.keep_nodes.specs.Trie.{Twig, Holding, by_key, by_index, IsTrie, paths_of, path_at, states_of, state_at, holds_at, children_of}
+use Rattle.keep_nodes.specs.Trie.{TrieNode, Holding, by_key, by_index, IsTrie, paths_of, path_at, states_of, state_at, holds_at, children_of}
 use Rattle.keep_meaning.specs.State.{IsState}
 use Rattle.keep_rules.specs.Tables.{is_tables, Fits, IsShaped}
-use Rattle.keep_rules.specs.Known.{roles_said, Knows, IsIndexOf}
-use Rattle.keep_rules.specs.Standing.{Keeps, IsMarked, IsWorld, Passes, IsLastElement, HasNoElement}
+use Rattle.keep_rules.specs.RoleStates.{mention_roles, StatesRepresent, IsIndexOf}
+use Rattle.keep_rules.specs.Represents.{Keeps, IsMarked, Represents, Passes, IsLastElement, HasNoElement}
 use Rattle.keep_nodes.proofs.Shared.{length-paths_of, child_at, first}
-use Rattle.keep_rules.proofs.KnownLemmas.{known_same, obeys_push, obeys_bare, false_ne}
+use Rattle.keep_rules.proofs.RoleStateLemmas.{represented_same, obeys_push, obeys_bare, false_ne}
 use Rattle.keep_rules.proofs.TablesLemmas.{tables_listed}
-use Rattle.keep_rules.proofs.MarkLemmas.{state_known}
+use Rattle.keep_rules.proofs.MarkLemmas.{state_represents}
 
--- what a header says of a path without elements, and of one with some
+-- the mentions of a header that passes a path without elements, and one with some
 pub passing-none : (tables : List (List Part)) (path : List Part) → elements_of path tables ≡ 0 → passing_mentions tables path ≡ record { path = path; says = through } ∷ []
 passing-none tables path none = ap (λ c. cond (0 == c) (record { path = path; says = through } ∷ []) (record { path = path; says = past } ∷ record { path = entered_path tables path; says = passed } ∷ [])) none
 
 entered-none : (tables : List (List Part)) (path : List Part) → elements_of path tables ≡ 0 → entered_path tables path ≡ path
 entered-none tables path none = ap (λ c. cond (0 == c) path (path ++ index (c - 1) ∷ [])) none
 
-apart : (c : ℕ) → 0 < c → (0 == c) ≡ false
-apart c h = false_ne (0 == c) (λ t. absurd (omega (arith, (Decides-eqb 0 c).0 t, h)))
+not_zero : (c : ℕ) → 0 < c → (0 == c) ≡ false
+not_zero c h = false_ne (0 == c) (λ t. absurd (omega (arith, (Decides-eqb 0 c).0 t, h)))
 
 pub passing-some : (tables : List (List Part)) (path : List Part) → 0 < elements_of path tables → passing_mentions tables path ≡ record { path = path; says = past } ∷ record { path = entered_path tables path; says = passed } ∷ []
-passing-some tables path some = ap (λ b. cond b (record { path = path; says = through } ∷ []) (record { path = path; says = past } ∷ record { path = entered_path tables path; says = passed } ∷ [])) (apart _ some)
+passing-some tables path some = ap (λ b. cond b (record { path = path; says = through } ∷ []) (record { path = path; says = past } ∷ record { path = entered_path tables path; says = passed } ∷ [])) (not_zero _ some)
 
 pub entered-some : (tables : List (List Part)) (path : List Part) → 0 < elements_of path tables → entered_path tables path ≡ path ++ index (elements_of path tables - 1) ∷ []
-entered-some tables path some = ap (λ b. cond b path (path ++ index (elements_of path tables - 1) ∷ [])) (apart _ some)
+entered-some tables path some = ap (λ b. cond b path (path ++ index (elements_of path tables - 1) ∷ [])) (not_zero _ some)
 
 -- a mark that names no array of tables
-pub world_marked : {old new : List Twig} {path : List Part} {role : Role} {holds : Holding} {id : ℕ} → IsMarked old new path role holds id → allows role Element ≡ false
-    → (ms w : List Mention) (tables : List (List Part)) → IsIndexOf new (ms ++ w) → IsWorld old ms tables → IsWorld new (ms ++ w) tables
-world_marked marked other ms w tables known world = record {
+pub represents_marked : {old new : List TrieNode} {path : List Part} {role : Role} {holds : Holding} {id : ℕ} → IsMarked old new path role holds id → allows role Element ≡ false
+    → (ms w : List Mention) (tables : List (List Part)) → IsIndexOf new (ms ++ w) → Represents old ms tables → Represents new (ms ++ w) tables
+represents_marked marked other ms w tables known represents = record {
   index = known;
   shaped = marked.shaped;
-  tables_are = marked.tables tables world.tables_are;
-  begun = marked.begun other world.begun;
+  tables_are = marked.tables tables represents.tables_are;
+  begun = marked.begun other represents.begun;
 }
 
 -- a key without elements
-pub passes_marked : (old new : List Twig) (parent id : ℕ) (k : List ℕ) → IsMarked old new (path_at old parent ++ key k ∷ []) Through by_key id → HasNoElement old (path_at old parent ++ key k ∷ []) → Passes old new parent id k
+pub passes_marked : (old new : List TrieNode) (parent id : ℕ) (k : List ℕ) → IsMarked old new (path_at old parent ++ key k ∷ []) Through by_key id → HasNoElement old (path_at old parent ++ key k ∷ []) → Passes old new parent id k
 passes_marked old new parent id k marked none =
     let p : List Part = path_at old parent ++ key k ∷ [] in
     record {
       keeps = marked.keeps;
-      world = λ ms tables world.
-          let zero : elements_of p tables ≡ 0 = none tables world.tables_are world.begun in
-          let grown : IsIndexOf new (ms ++ record { path = p; says = through } ∷ []) = marked.index ms through refl world.index in
-          world_marked marked refl ms (passing_mentions tables p) tables
-          (subst (λ (w : List Mention). IsIndexOf new (ms ++ w)) (sym (passing-none tables p zero)) grown) world;
-      stands = λ ms tables world.
-          let zero : elements_of p tables ≡ 0 = none tables world.tables_are world.begun in
+      represents = λ ms tables represents.
+          let zero : elements_of p tables ≡ 0 = none tables represents.tables_are represents.begun in
+          let grown : IsIndexOf new (ms ++ record { path = p; says = through } ∷ []) = marked.index ms through refl represents.index in
+          represents_marked marked refl ms (passing_mentions tables p) tables
+          (subst (λ (w : List Mention). IsIndexOf new (ms ++ w)) (sym (passing-none tables p zero)) grown) represents;
+      is_open = λ ms tables represents.
+          let zero : elements_of p tables ≡ 0 = none tables represents.tables_are represents.begun in
           record {
             inside = marked.inside;
             here = marked.here ∙ sym (entered-none tables p zero);
@@ -107,76 +107,76 @@ all_past : (o : Option Role) (roles : List Role) → is_tables o ≡ true → Is
 all_past None roles t is = cc
 all_past (Some s) roles t is = sym (is Past) ∙ lets_past s t
 
-pub keeps_same : (nodes : List Twig) → Keeps nodes nodes
+pub keeps_same : (nodes : List TrieNode) → Keeps nodes nodes
 keeps_same nodes = record { longer = omega arith; paths = λ i h. refl; holdings = λ i h. refl; kinds = λ i h. refl }
 
--- the elements of an array of tables, and where the last of them stands
-pub elements_there : (nodes : List Twig) (p : List Part) (child to : ℕ) → IsLastElement nodes p child to → (ms : List Mention) (tables : List (List Part)) → IsWorld nodes ms tables → elements_of p tables ≡ length (children_of nodes child)
-elements_there nodes p child to last ms tables world =
-    ap (λ q. elements_of q tables) (sym last.here) ∙ world.tables_are.counts child last.inside ∙ ap (λ t. cond t (length (children_of nodes child)) 0) last.tables
+-- the elements of an array of tables, and the node of the last of them
+pub elements_there : (nodes : List TrieNode) (p : List Part) (child to : ℕ) → IsLastElement nodes p child to → (ms : List Mention) (tables : List (List Part)) → Represents nodes ms tables → elements_of p tables ≡ length (children_of nodes child)
+elements_there nodes p child to last ms tables represents =
+    ap (λ q. elements_of q tables) (sym last.here) ∙ represents.tables_are.counts child last.inside ∙ ap (λ t. cond t (length (children_of nodes child)) 0) last.tables
 
-pub element_place : (nodes : List Twig) (p : List Part) (child to : ℕ) → IsLastElement nodes p child to → (ms : List Mention) (tables : List (List Part)) → IsWorld nodes ms tables → path_at nodes to ≡ entered_path tables p
-element_place nodes p child to last ms tables world =
+pub element_place : (nodes : List TrieNode) (p : List Part) (child to : ℕ) → IsLastElement nodes p child to → (ms : List Mention) (tables : List (List Part)) → Represents nodes ms tables → path_at nodes to ≡ entered_path tables p
+element_place nodes p child to last ms tables represents =
     let kids : ℕ = length (children_of nodes child) in
     let low : kids - 1 < kids = omega (arith, last.some) in
-    let counted : elements_of p tables ≡ kids = elements_there nodes p child to last ms tables world in
-    ap (path_at nodes) last.last ∙ world.shaped.elements child (kids - 1) last.inside (tables_listed nodes world.shaped child last.inside last.tables) low
+    let counted : elements_of p tables ≡ kids = elements_there nodes p child to last ms tables represents in
+    ap (path_at nodes) last.last ∙ represents.shaped.elements child (kids - 1) last.inside (tables_listed nodes represents.shaped child last.inside last.tables) low
     ∙ ap (λ q. q ++ index (kids - 1) ∷ []) last.here ∙ ap (λ c. p ++ index (c - 1) ∷ []) (sym counted) ∙ sym (entered-some tables p (omega (arith, last.some, counted)))
 
 -- past an array of tables to its last element
-pub passes_element : (nodes : List Twig) (parent child to : ℕ) (k : List ℕ) → IsLastElement nodes (path_at nodes parent ++ key k ∷ []) child to → Passes nodes nodes parent to k
+pub passes_element : (nodes : List TrieNode) (parent child to : ℕ) (k : List ℕ) → IsLastElement nodes (path_at nodes parent ++ key k ∷ []) child to → Passes nodes nodes parent to k
 passes_element nodes parent child to k last =
     let kids : ℕ = length (children_of nodes child) in
     let p : List Part = path_at nodes parent ++ key k ∷ [] in
     let low : kids - 1 < kids = omega (arith, last.some) in
-    let counted : (tables : List (List Part)) (ms : List Mention) → IsWorld nodes ms tables → elements_of p tables ≡ kids = λ tables ms world. elements_there nodes p child to last ms tables world in
-    let placed : (tables : List (List Part)) (ms : List Mention) → IsWorld nodes ms tables → path_at nodes to ≡ entered_path tables p = λ tables ms world. element_place nodes p child to last ms tables world in
+    let counted : (tables : List (List Part)) (ms : List Mention) → Represents nodes ms tables → elements_of p tables ≡ kids = λ tables ms represents. elements_there nodes p child to last ms tables represents in
+    let placed : (tables : List (List Part)) (ms : List Mention) → Represents nodes ms tables → path_at nodes to ≡ entered_path tables p = λ tables ms represents. element_place nodes p child to last ms tables represents in
     let in_place : (trie : IsTrie nodes) → to < length nodes = λ trie.
     subst (λ (x : ℕ). x < length nodes) (sym last.last) (child_at nodes trie child (kids - 1) (first nodes trie) last.inside low).inside in
     record {
       keeps = keeps_same nodes;
-      world = λ ms tables world.
-          let trie : IsTrie nodes = world.index.trie in
-          let some : 0 < elements_of p tables = omega (arith, last.some, counted tables ms world) in
-          let goal_path = placed tables ms world in
+      represents = λ ms tables represents.
+          let trie : IsTrie nodes = represents.index.trie in
+          let some : 0 < elements_of p tables = omega (arith, last.some, counted tables ms represents) in
+          let goal_path = placed tables ms represents in
           let m1 : Mention = record { path = p; says = past } in
           let m2 : Mention = record { path = entered_path tables p; says = passed } in
-          let own : IsState (state_at nodes child) (roles_said p ms) = state_known nodes ms world.index child p last.inside last.here in
+          let own : IsState (state_at nodes child) (mention_roles p ms) = state_represents nodes ms represents.index child p last.inside last.here in
           let size : length (paths_of nodes) ≡ length nodes = length-paths_of nodes trie.root in
-          let one : Knows (paths_of nodes) (states_of nodes) (ms ++ m1 ∷ []) =
-          known_same (paths_of nodes) (states_of nodes) ms m1 child world.index.knows trie.distinct (omega (arith, last.inside)) (sym last.here)
-          (state_past (state_at nodes child) (roles_said p ms) last.tables own)
-          (obeys_push ms m1 Past refl (all_past (state_at nodes child) (roles_said p ms) last.tables own) world.index.knows.obeys) in
-          let rest : IsState (state_at nodes to) (roles_said (entered_path tables p) (ms ++ m1 ∷ [])) =
-          subst (λ (q : List Part). IsState (state_at nodes to) (roles_said q (ms ++ m1 ∷ []))) goal_path (one.states_are to (omega (arith, in_place trie))) in
-          let two : Knows (paths_of nodes) (states_of nodes) ((ms ++ m1 ∷ []) ++ m2 ∷ []) =
-          known_same (paths_of nodes) (states_of nodes) (ms ++ m1 ∷ []) m2 to one trie.distinct (omega (arith, in_place trie)) (sym goal_path)
-          (subst (λ (rs : List Role). IsState (state_at nodes to) rs) (sym (append-nil (roles_said (entered_path tables p) (ms ++ m1 ∷ [])))) rest)
+          let one : StatesRepresent (paths_of nodes) (states_of nodes) (ms ++ m1 ∷ []) =
+          represented_same (paths_of nodes) (states_of nodes) ms m1 child represents.index.states_represent trie.distinct (omega (arith, last.inside)) (sym last.here)
+          (state_past (state_at nodes child) (mention_roles p ms) last.tables own)
+          (obeys_push ms m1 Past refl (all_past (state_at nodes child) (mention_roles p ms) last.tables own) represents.index.states_represent.obeys) in
+          let rest : IsState (state_at nodes to) (mention_roles (entered_path tables p) (ms ++ m1 ∷ [])) =
+          subst (λ (q : List Part). IsState (state_at nodes to) (mention_roles q (ms ++ m1 ∷ []))) goal_path (one.states_are to (omega (arith, in_place trie))) in
+          let two : StatesRepresent (paths_of nodes) (states_of nodes) ((ms ++ m1 ∷ []) ++ m2 ∷ []) =
+          represented_same (paths_of nodes) (states_of nodes) (ms ++ m1 ∷ []) m2 to one trie.distinct (omega (arith, in_place trie)) (sym goal_path)
+          (subst (λ (rs : List Role). IsState (state_at nodes to) rs) (sym (append-nil (mention_roles (entered_path tables p) (ms ++ m1 ∷ [])))) rest)
           (obeys_bare (ms ++ m1 ∷ []) m2 refl one.obeys) in
           let whole : (ms ++ m1 ∷ []) ++ m2 ∷ [] ≡ ms ++ passing_mentions tables p = append_assoc ms (m1 ∷ []) (m2 ∷ []) ∙ ap (λ w. ms ++ w) (sym (passing-some tables p some)) in
           record {
-            index = record { trie = trie; knows = subst (λ (w : List Mention). Knows (paths_of nodes) (states_of nodes) w) whole two };
-            shaped = world.shaped;
-            tables_are = world.tables_are;
-            begun = world.begun;
+            index = record { trie = trie; states_represent = subst (λ (w : List Mention). StatesRepresent (paths_of nodes) (states_of nodes) w) whole two };
+            shaped = represents.shaped;
+            tables_are = represents.tables_are;
+            begun = represents.begun;
           };
-      stands = λ ms tables world.
-          let bare = world.shaped.plain child (kids - 1) last.inside last.tables low in
+      is_open = λ ms tables represents.
+          let bare = represents.shaped.plain child (kids - 1) last.inside last.tables low in
           record {
-            inside = in_place world.index.trie;
-            here = placed tables ms world;
+            inside = in_place represents.index.trie;
+            here = placed tables ms represents;
             open_to = ap (holds_at nodes) last.last ∙ bare.1;
           };
     }
 
-pub none_unmet : (nodes : List Twig) (path : List Part) → (Contains (paths_of nodes) path → ⊥) → HasNoElement nodes path
+pub none_unmet : (nodes : List TrieNode) (path : List Part) → (Contains (paths_of nodes) path → ⊥) → HasNoElement nodes path
 none_unmet nodes path fresh = λ ts are begun. are.unmet path fresh
 
-pub none_plain : (nodes : List Twig) (path : List Part) (child : ℕ) → child < length nodes → path_at nodes child ≡ path → is_tables (state_at nodes child) ≡ false → HasNoElement nodes path
+pub none_plain : (nodes : List TrieNode) (path : List Part) (child : ℕ) → child < length nodes → path_at nodes child ≡ path → is_tables (state_at nodes child) ≡ false → HasNoElement nodes path
 none_plain nodes path child h here plain = λ ts are begun.
     ap (λ p. elements_of p ts) (sym here) ∙ are.counts child h ∙ ap (λ t. cond t (length (children_of nodes child)) 0) plain
 
-pub none_empty : (nodes : List Twig) (path : List Part) (child : ℕ) → child < length nodes → path_at nodes child ≡ path → length (children_of nodes child) ≡ 0 → HasNoElement nodes path
+pub none_empty : (nodes : List TrieNode) (path : List Part) (child : ℕ) → child < length nodes → path_at nodes child ≡ path → length (children_of nodes child) ≡ 0 → HasNoElement nodes path
 none_empty nodes path child h here empty = λ ts are begun.
     elim (cases_Bool (is_tables (state_at nodes child))) [
       | inl t ↦ absurd (omega (arith, begun child h t, empty))
@@ -200,12 +200,12 @@ pub fits_value : (h : Holding) → Fits Value h
 fits_value h = record { listed = λ t. absurd cc; opened = λ t. absurd cc }
 
 -- the element is a table
-pub element_inside : (nodes : List Twig) (path : List Part) (child to : ℕ) → IsTrie nodes → IsLastElement nodes path child to → to < length nodes
+pub element_inside : (nodes : List TrieNode) (path : List Part) (child to : ℕ) → IsTrie nodes → IsLastElement nodes path child to → to < length nodes
 element_inside nodes path child to trie last =
     let low : length (children_of nodes child) - 1 < length (children_of nodes child) = omega (arith, last.some) in
     subst (λ (x : ℕ). x < length nodes) (sym last.last) (child_at nodes trie child (length (children_of nodes child) - 1) (first nodes trie) last.inside low).inside
 
-pub element_keyed : (nodes : List Twig) (path : List Part) (child to : ℕ) → IsShaped nodes → IsLastElement nodes path child to → holds_at nodes to ≡ by_key
+pub element_keyed : (nodes : List TrieNode) (path : List Part) (child to : ℕ) → IsShaped nodes → IsLastElement nodes path child to → holds_at nodes to ≡ by_key
 element_keyed nodes path child to shaped last =
     let low : length (children_of nodes child) - 1 < length (children_of nodes child) = omega (arith, last.some) in
     ap (holds_at nodes) last.last ∙ (shaped.plain child (length (children_of nodes child) - 1) last.inside last.tables low).1

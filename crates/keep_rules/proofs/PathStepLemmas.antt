@@ -1,4 +1,4 @@
--- A node's path as it is written: the text of its parent's path, and the node's own step behind it.
+-- A node's path as it is written: the text of its parent's path, and the node's own step after it.
 use Rattle.std.proofs.Common.{◌≡◌, ◌≢◌, ℕ, ◌<◌, List, [], ◌∷◌, ◌++◌, length, refl, sym, ◌∙◌, ap, append_assoc, append-nil, arith, Some, None, inl, inr}
 use Rattle.std.specs.Prelude.{◌==◌, if◌then◌else◌, slice_get}
 use Rattle.std.specs.List.{flat_map}
@@ -11,19 +11,19 @@ use Rattle.keep_nodes.specs.Children.{named}
 use Rattle.keep_rules.specs.Lookup.{parent_at}
 use Rattle.keep_path.specs.Path.{Part, key, index}
 use Rattle.keep_path.specs.PathText.{encoded_path, first_text, part_text, index_text}
-use Rattle.keep_nodes.specs.Stored.{twigs}
+use Rattle.keep_nodes.specs.Stored.{trie_of}
 use Rattle.keep_nodes.specs.Trie.{path_at}
 use Rattle.keep_rules.proofs.ClimbLemmas.{IsRead, kids_at, earlier, key_last, index_last, parent_read}
-use Rattle.keep_nodes.proofs.Shared.{length_twigs, path_at-root, one_node}
+use Rattle.keep_nodes.proofs.Shared.{length_trie_of, path_at-root, one_node}
 
--- a step as it is written behind a path
+-- a step as it is written after a path
 abbrev step_text : List Part → Part → List ℕ
 step_text [] part = first_text part
 step_text (p ∷ ps) part = part_text part
 
-step_behind : (path : List Part) (part : Part) → path ≢ [] → step_text path part ≡ part_text part
-step_behind [] part some = absurd (some refl)
-step_behind (p ∷ ps) part some = refl
+step_after : (path : List Part) (part : Part) → path ≢ [] → step_text path part ≡ part_text part
+step_after [] part some = absurd (some refl)
+step_after (p ∷ ps) part some = refl
 
 step_of_index : (path : List Part) (n : ℕ) → step_text path (index n) ≡ index_text n
 step_of_index [] n = refl
@@ -45,39 +45,39 @@ added before old new path longer part text is shown o n =
     ∙ ap (λ t. before ++ t) (sym (encoded_more path part))
     ∙ ap (λ p. before ++ encoded_path p) is
 
-parent_path : (nodes : List Node) (id up number : ℕ) → IsRead nodes id up number → path_at (twigs nodes) (parent_at nodes id) ≡ path_at (twigs nodes) up
-parent_path nodes id up number r = ap (path_at (twigs nodes)) (parent_read nodes id no_node r.inside ∙ sym r.parent)
+parent_path : (nodes : List Node) (id up number : ℕ) → IsRead nodes id up number → path_at (trie_of nodes) (parent_at nodes id) ≡ path_at (trie_of nodes) up
+parent_path nodes id up number r = ap (path_at (trie_of nodes)) (parent_read nodes id no_node r.inside ∙ sym r.parent)
 
 -- the root's path alone is empty
-no_empty : (nodes : List Node) (id up number : ℕ) → IsRead nodes id up number → up ≢ 0 → path_at (twigs nodes) (parent_at nodes id) ≢ []
+no_empty : (nodes : List Node) (id up number : ℕ) → IsRead nodes id up number → up ≢ 0 → path_at (trie_of nodes) (parent_at nodes id) ≢ []
 no_empty nodes id up number r other empty =
     let below : up < length nodes = omega (arith, earlier nodes id up number r, r.inside) in
-    let same : path_at (twigs nodes) up ≡ path_at (twigs nodes) 0 = sym (parent_path nodes id up number r) ∙ empty ∙ sym (path_at-root (twigs nodes)) in
-    other (one_node (twigs nodes) r.stored.trie up 0 (omega (arith, below, length_twigs nodes)) (omega (arith, below, length_twigs nodes)) same)
+    let same : path_at (trie_of nodes) up ≡ path_at (trie_of nodes) 0 = sym (parent_path nodes id up number r) ∙ empty ∙ sym (path_at-root (trie_of nodes)) in
+    other (one_node (trie_of nodes) r.stored.trie up 0 (omega (arith, below, length_trie_of nodes)) (omega (arith, below, length_trie_of nodes)) same)
 
 key_shown : (nodes : List Node) (id up number : ℕ) (text : List ℕ) → IsRead nodes id up number
-    → step_text (path_at (twigs nodes) (parent_at nodes id)) (key text) ≡ (if up == 0 then encoded_key text else 0x2E ∷ encoded_key text)
+    → step_text (path_at (trie_of nodes) (parent_at nodes id)) (key text) ≡ (if up == 0 then encoded_key text else 0x2E ∷ encoded_key text)
 key_shown nodes id up number text r = elim (eqb_tells up 0) [
   | inl same ↦
-      let empty : path_at (twigs nodes) (parent_at nodes id) ≡ [] = parent_path nodes id up number r ∙ ap (path_at (twigs nodes)) same.1 ∙ path_at-root (twigs nodes) in
+      let empty : path_at (trie_of nodes) (parent_at nodes id) ≡ [] = parent_path nodes id up number r ∙ ap (path_at (trie_of nodes)) same.1 ∙ path_at-root (trie_of nodes) in
       ap (λ (p : List Part). step_text p (key text)) empty ∙ ap (λ b. if b then encoded_key text else 0x2E ∷ encoded_key text) (sym same.0)
   | inr other ↦
-      step_behind (path_at (twigs nodes) (parent_at nodes id)) (key text) (no_empty nodes id up number r other.1)
+      step_after (path_at (trie_of nodes) (parent_at nodes id)) (key text) (no_empty nodes id up number r other.1)
       ∙ ap (λ b. if b then encoded_key text else 0x2E ∷ encoded_key text) (sym other.0)
 ]
 
 -- the step is a key
 pub key_added : (nodes : List Node) (id up number : ℕ) (text before old new : List ℕ) → IsRead nodes id up number → Some text ≡ option_map (λ p. p.0) (slice_get (named (kids_at nodes up)) number)
-    → old ≡ before ++ encoded_path (path_at (twigs nodes) (parent_at nodes id)) → new ≡ old ++ (if up == 0 then encoded_key text else 0x2E ∷ encoded_key text)
-    → new ≡ before ++ encoded_path (path_at (twigs nodes) id)
+    → old ≡ before ++ encoded_path (path_at (trie_of nodes) (parent_at nodes id)) → new ≡ old ++ (if up == 0 then encoded_key text else 0x2E ∷ encoded_key text)
+    → new ≡ before ++ encoded_path (path_at (trie_of nodes) id)
 key_added nodes id up number text before old new r is o n =
-    added before old new (path_at (twigs nodes) (parent_at nodes id)) (path_at (twigs nodes) id) (key text) _
-    (key_last nodes id up number text (path_at (twigs nodes) (parent_at nodes id)) r is refl) (key_shown nodes id up number text r) o n
+    added before old new (path_at (trie_of nodes) (parent_at nodes id)) (path_at (trie_of nodes) id) (key text) _
+    (key_last nodes id up number text (path_at (trie_of nodes) (parent_at nodes id)) r is refl) (key_shown nodes id up number text r) o n
 
 -- the step is an index
 pub index_added : (nodes : List Node) (id up number : ℕ) (before old new : List ℕ) → IsRead nodes id up number → None ≡ option_map (λ p. p.0) (slice_get (named (kids_at nodes up)) number)
-    → old ≡ before ++ encoded_path (path_at (twigs nodes) (parent_at nodes id)) → new ≡ old ++ index_text number
-    → new ≡ before ++ encoded_path (path_at (twigs nodes) id)
+    → old ≡ before ++ encoded_path (path_at (trie_of nodes) (parent_at nodes id)) → new ≡ old ++ index_text number
+    → new ≡ before ++ encoded_path (path_at (trie_of nodes) id)
 index_added nodes id up number before old new r is o n =
-    added before old new (path_at (twigs nodes) (parent_at nodes id)) (path_at (twigs nodes) id) (index number) (index_text number)
-    (index_last nodes id up number (path_at (twigs nodes) (parent_at nodes id)) r is refl) (step_of_index (path_at (twigs nodes) (parent_at nodes id)) number) o n
+    added before old new (path_at (trie_of nodes) (parent_at nodes id)) (path_at (trie_of nodes) id) (index number) (index_text number)
+    (index_last nodes id up number (path_at (trie_of nodes) (parent_at nodes id)) r is refl) (step_of_index (path_at (trie_of nodes) (parent_at nodes id)) number) o n

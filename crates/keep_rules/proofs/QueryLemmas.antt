@@ -1,4 +1,4 @@
--- What the nodes as they are kept answer, told by the paths and by what is told of each.
+-- The answers of the stored nodes, by the paths of the nodes and the facts about them.
 use Rattle.std.proofs.Common.{◌≡◌, ℕ, suc, ◌+◌, ◌<◌, ◌≤◌, true, false, if◌then◌else◌, List, [], ◌∷◌, ◌++◌, length, take, drop, take-take, refl, sym, ◌∙◌, ap, arith, Option, Some, None}
 use Rattle.std.specs.Prelude.{IfSome, IsNone, slice_get, nat_lt, min}
 use Rattle.std.proofs.lemmas.Bool.Decides.{Decides-ltb}
@@ -12,49 +12,49 @@ use Rattle.keep_path.specs.Path.{Part, index}
 use Rattle.keep_meaning.specs.Nodes.{node_number}
 use Rattle.keep_nodes.specs.Children.{child_ids}
 use Rattle.keep_rules.specs.Lookup.{number_of, path_numbered, children_numbered, nth_child}
-use Rattle.keep_nodes.specs.Stored.{twig_in, twigs, telling, infos_of, IsStored}
-use Rattle.keep_nodes.specs.Told.{Telling, info_of}
-use Rattle.keep_nodes.proofs.Shared.{length-paths_of, path_at-root, length_twigs}
+use Rattle.keep_nodes.specs.Stored.{trie_node_in, trie_of, node_infos, infos_of, IsStored}
+use Rattle.keep_nodes.specs.Facts.{NodeInfos, info_of}
+use Rattle.keep_nodes.proofs.Shared.{length-paths_of, path_at-root, length_trie_of}
 use Rattle.keep_rules.proofs.LookupLemmas.{number_is, number_some, none_longer, nth_is, count_is}
 use Rattle.keep_rules.proofs.ChildLemmas.{child_by, stepped, index_is_place}
 
--- a node, and what is told of all
-pub record IsNode (nodes : List Node) (t : Telling) (i : ℕ) : Type 0 where
+-- a node, and the facts about all
+pub record IsNode (nodes : List Node) (t : NodeInfos) (i : ℕ) : Type 0 where
   pub stored : IsStored nodes
-  pub view : telling nodes ≡ t
+  pub view : node_infos nodes ≡ t
   pub inside : i < length t.paths
 
-pub count_paths : (nodes : List Node) (t : Telling) → IsStored nodes → telling nodes ≡ t → length t.paths ≡ length nodes
-count_paths nodes t stored view = ap (λ (x : Telling). length x.paths) (sym view) ∙ length-paths_of (twigs nodes) stored.trie.root ∙ length_twigs nodes
+pub count_paths : (nodes : List Node) (t : NodeInfos) → IsStored nodes → node_infos nodes ≡ t → length t.paths ≡ length nodes
+count_paths nodes t stored view = ap (λ (x : NodeInfos). length x.paths) (sym view) ∙ length-paths_of (trie_of nodes) stored.trie.root ∙ length_trie_of nodes
 
-pub low_node : (nodes : List Node) (t : Telling) (i : ℕ) → IsNode nodes t i → i < length nodes
+pub low_node : (nodes : List Node) (t : NodeInfos) (i : ℕ) → IsNode nodes t i → i < length nodes
 low_node nodes t i r = omega (arith, r.inside, count_paths nodes t r.stored r.view)
 
-pub child_answer : (nodes : List Node) (t : Telling) (i : ℕ) (p : Part) → IsNode nodes t i → child_by (node_at nodes i).children p ≡ node_number t.paths (path_numbered t i ++ p ∷ [])
-child_answer nodes t i p r = stepped nodes r.stored i no_node p (low_node nodes t i r) ∙ ap (λ (x : Telling). node_number x.paths (path_numbered x i ++ p ∷ [])) r.view
+pub child_answer : (nodes : List Node) (t : NodeInfos) (i : ℕ) (p : Part) → IsNode nodes t i → child_by (node_at nodes i).children p ≡ node_number t.paths (path_numbered t i ++ p ∷ [])
+child_answer nodes t i p r = stepped nodes r.stored i no_node p (low_node nodes t i r) ∙ ap (λ (x : NodeInfos). node_number x.paths (path_numbered x i ++ p ∷ [])) r.view
 
-pub count_answer : (nodes : List Node) (t : Telling) (i : ℕ) → IsNode nodes t i → length (child_ids (node_at nodes i).children) ≡ length (children_numbered t i)
+pub count_answer : (nodes : List Node) (t : NodeInfos) (i : ℕ) → IsNode nodes t i → length (child_ids (node_at nodes i).children) ≡ length (children_numbered t i)
 count_answer nodes t i r =
-    ap length (r.stored.kids i no_node (low_node nodes t i r)) ∙ sym (count_is (twigs nodes) r.stored.trie i (twig_in nodes no_node) (omega (arith, low_node nodes t i r, length_twigs nodes)))
-    ∙ ap (λ (x : Telling). length (children_numbered x i)) r.view
+    ap length (r.stored.kids i no_node (low_node nodes t i r)) ∙ sym (count_is (trie_of nodes) r.stored.trie i (trie_node_in nodes no_node) (omega (arith, low_node nodes t i r, length_trie_of nodes)))
+    ∙ ap (λ (x : NodeInfos). length (children_numbered x i)) r.view
 
-pub nth_answer : (nodes : List Node) (t : Telling) (i k : ℕ) → IsNode nodes t i → slice_get (child_ids (node_at nodes i).children) k ≡ nth_child t i k
+pub nth_answer : (nodes : List Node) (t : NodeInfos) (i k : ℕ) → IsNode nodes t i → slice_get (child_ids (node_at nodes i).children) k ≡ nth_child t i k
 nth_answer nodes t i k r =
-    ap (λ ids. slice_get ids k) (r.stored.kids i no_node (low_node nodes t i r)) ∙ sym (nth_is (twigs nodes) r.stored.trie i k (twig_in nodes no_node) (omega (arith, low_node nodes t i r, length_twigs nodes)))
-    ∙ ap (λ (x : Telling). nth_child x i k) r.view
+    ap (λ ids. slice_get ids k) (r.stored.kids i no_node (low_node nodes t i r)) ∙ sym (nth_is (trie_of nodes) r.stored.trie i k (trie_node_in nodes no_node) (omega (arith, low_node nodes t i r, length_trie_of nodes)))
+    ∙ ap (λ (x : NodeInfos). nth_child x i k) r.view
 
-pub indexed_answer : (nodes : List Node) (t : Telling) (i k id : ℕ) → IsNode nodes t i → node_number t.paths (path_numbered t i ++ index k ∷ []) ≡ Some id → slice_get (child_ids (node_at nodes i).children) k ≡ Some id
+pub indexed_answer : (nodes : List Node) (t : NodeInfos) (i k id : ℕ) → IsNode nodes t i → node_number t.paths (path_numbered t i ++ index k ∷ []) ≡ Some id → slice_get (child_ids (node_at nodes i).children) k ≡ Some id
 indexed_answer nodes t i k id r is = index_is_place (node_at nodes i).children k id (child_answer nodes t i (index k) r ∙ is)
 
-pub info_answer : (nodes : List Node) (t : Telling) (i : ℕ) → IsNode nodes t i → slice_get t.infos i ≡ Some (info_of (node_at nodes i).told)
+pub info_answer : (nodes : List Node) (t : NodeInfos) (i : ℕ) → IsNode nodes t i → slice_get t.infos i ≡ Some (info_of (node_at nodes i).facts)
 info_answer nodes t i r =
-    let told : NodeInfo = info_of (node_at nodes i).told in
-    ap (λ (x : Telling). slice_get x.infos i) (sym r.view) ∙ slice_get-get_or (infos_of nodes) i told (omega (arith, low_node nodes t i r, length-map nodes (λ (x : Node). info_of x.told)))
-    ∙ ap Some (get_or-map (λ (x : Node). info_of x.told) nodes i no_node told (low_node nodes t i r))
+    let facts : NodeInfo = info_of (node_at nodes i).facts in
+    ap (λ (x : NodeInfos). slice_get x.infos i) (sym r.view) ∙ slice_get-get_or (infos_of nodes) i facts (omega (arith, low_node nodes t i r, length-map nodes (λ (x : Node). info_of x.facts)))
+    ∙ ap Some (get_or-map (λ (x : Node). info_of x.facts) nodes i no_node facts (low_node nodes t i r))
 
 -- ---- a number that was found is a node's
 
-pub number_within : (t : Telling) (path : List Part) (o : Option NodeId) → number_of o ≡ node_number t.paths path → IfSome o (λ id. id.0 < length t.paths)
+pub number_within : (t : NodeInfos) (path : List Part) (o : Option NodeId) → number_of o ≡ node_number t.paths path → IfSome o (λ id. id.0 < length t.paths)
 number_within t path None is = tt
 number_within t path (Some id) is = (number_is t.paths path id.0 (sym is)).0
 
@@ -62,7 +62,7 @@ pub none_number : (o : Option NodeId) → IsNone o → number_of o ≡ None
 none_number None h = refl
 none_number (Some id) h = absurd cc
 
-pub nth_within : (t : Telling) (i n : ℕ) (o : Option NodeId) → number_of o ≡ nth_child t i n → IfSome o (λ id. id.0 < length t.paths)
+pub nth_within : (t : NodeInfos) (i n : ℕ) (o : Option NodeId) → number_of o ≡ nth_child t i n → IfSome o (λ id. id.0 < length t.paths)
 nth_within t i n None is = tt
 nth_within t i n (Some id) is = option_and_then_some (node_number t.paths) (slice_get (children_numbered t i) n) id.0 (sym is) (λ path _ found. (number_is t.paths path id.0 found).0)
 
@@ -79,28 +79,28 @@ node_past n m h = (elim (nat_lt n m) as (λ b. nat_lt n m ≡ b → None ≡ (if
 
 -- ---- step by step
 
--- all nodes, and what is told of them
-pub record IsSeen (nodes : List Node) (t : Telling) : Type 0 where
+-- all nodes, and the facts about them
+pub record IsSeen (nodes : List Node) (t : NodeInfos) : Type 0 where
   pub stored : IsStored nodes
-  pub view : telling nodes ≡ t
+  pub view : node_infos nodes ≡ t
 
-seen_root : (nodes : List Node) (t : Telling) → IsSeen nodes t → (0 < length t.paths) × (path_numbered t 0 ≡ [])
-seen_root nodes t s = (omega (arith, count_paths nodes t s.stored s.view, s.stored.trie.root, length_twigs nodes), ap (λ (x : Telling). path_numbered x 0) (sym s.view) ∙ path_at-root (twigs nodes))
+seen_root : (nodes : List Node) (t : NodeInfos) → IsSeen nodes t → (0 < length t.paths) × (path_numbered t 0 ≡ [])
+seen_root nodes t s = (omega (arith, count_paths nodes t s.stored s.view, s.stored.trie.root, length_trie_of nodes), ap (λ (x : NodeInfos). path_numbered x 0) (sym s.view) ∙ path_at-root (trie_of nodes))
 
-seen_number : (nodes : List Node) (t : Telling) → IsSeen nodes t → (i : ℕ) → i < length t.paths → node_number t.paths (path_numbered t i) ≡ Some i
+seen_number : (nodes : List Node) (t : NodeInfos) → IsSeen nodes t → (i : ℕ) → i < length t.paths → node_number t.paths (path_numbered t i) ≡ Some i
 seen_number nodes t s i h =
-    ap (λ (x : Telling). node_number x.paths (path_numbered x i)) (sym s.view) ∙ number_some (twigs nodes) s.stored.trie i (omega (arith, h, count_paths nodes t s.stored s.view, length_twigs nodes))
+    ap (λ (x : NodeInfos). node_number x.paths (path_numbered x i)) (sym s.view) ∙ number_some (trie_of nodes) s.stored.trie i (omega (arith, h, count_paths nodes t s.stored s.view, length_trie_of nodes))
 
-pub seen_longer : (nodes : List Node) (t : Telling) → IsSeen nodes t → (path more : List Part) → node_number t.paths path ≡ None → node_number t.paths (path ++ more) ≡ None
+pub seen_longer : (nodes : List Node) (t : NodeInfos) → IsSeen nodes t → (path more : List Part) → node_number t.paths path ≡ None → node_number t.paths (path ++ more) ≡ None
 seen_longer nodes t s path more is =
-    ap (λ (x : Telling). node_number x.paths (path ++ more)) (sym s.view) ∙ none_longer (twigs nodes) s.stored.trie path more (ap (λ (x : Telling). node_number x.paths path) s.view ∙ is)
+    ap (λ (x : NodeInfos). node_number x.paths (path ++ more)) (sym s.view) ∙ none_longer (trie_of nodes) s.stored.trie path more (ap (λ (x : NodeInfos). node_number x.paths path) s.view ∙ is)
 
--- behind some steps: the node to which they lead
-pub record IsAt (t : Telling) (path : List Part) (done id : ℕ) : Type 0 where
+-- after some steps: the node to which they lead
+pub record IsAt (t : NodeInfos) (path : List Part) (done id : ℕ) : Type 0 where
   pub inside : id < length t.paths
   pub led : path_numbered t id ≡ take done path
 
-pub at_root : (nodes : List Node) (t : Telling) → IsSeen nodes t → (path : List Part) → IsAt t path 0 0
+pub at_root : (nodes : List Node) (t : NodeInfos) → IsSeen nodes t → (path : List Part) → IsAt t path 0 0
 at_root nodes t s path = record { inside = (seen_root nodes t s).0; led = (seen_root nodes t s).1 }
 
 step_taken : (path : List Part) (done : ℕ) (p : Part) → slice_get path done ≡ Some p → take (done + 1) path ≡ take done path ++ p ∷ []
@@ -108,14 +108,14 @@ step_taken path done p is =
     ap (λ k. take k path) (let k : done + 1 ≡ suc done = omega arith in k) ∙ take-suc path done p (slice_get_within path done p is) ∙ ap (λ q. take done path ++ q ∷ []) (get_or_from_slice_get path done p p is)
 
 -- the next step leads on
-pub at_next : (t : Telling) (path : List Part) (done id next : ℕ) (p : Part) → IsAt t path done id → slice_get path done ≡ Some p
+pub at_next : (t : NodeInfos) (path : List Part) (done id next : ℕ) (p : Part) → IsAt t path done id → slice_get path done ≡ Some p
     → Some next ≡ node_number t.paths (path_numbered t id ++ p ∷ []) → IsAt t path (done + 1) next
 at_next t path done id next p at step is =
     let r = number_is t.paths (path_numbered t id ++ p ∷ []) next (sym is) in
     record { inside = r.0; led = r.1 ∙ ap (λ q. q ++ p ∷ []) at.led ∙ sym (step_taken path done p step) }
 
 -- or to no node, and so do all steps
-pub at_none : (nodes : List Node) (t : Telling) → IsSeen nodes t → (path : List Part) (done id n : ℕ) (p : Part) → IsAt t path done id → slice_get path done ≡ Some p → done < n
+pub at_none : (nodes : List Node) (t : NodeInfos) → IsSeen nodes t → (path : List Part) (done id n : ℕ) (p : Part) → IsAt t path done id → slice_get path done ≡ Some p → done < n
     → None ≡ node_number t.paths (path_numbered t id ++ p ∷ []) → None ≡ node_number t.paths (take n path)
 at_none nodes t s path done id n p at step more is =
     let front : take n path ≡ (path_numbered t id ++ p ∷ []) ++ drop (done + 1) (take n path) =
@@ -127,6 +127,6 @@ pub step_there : (path : List Part) (done : ℕ) → done < length path → slic
 step_there path done h is = let there = slice_get-get_or path done (index 0) h in absurd cc
 
 -- all steps are done
-pub at_end : (nodes : List Node) (t : Telling) → IsSeen nodes t → (path : List Part) (done n id : ℕ) → IsAt t path done id → done ≡ min n (length path) → Some id ≡ node_number t.paths (take n path)
+pub at_end : (nodes : List Node) (t : NodeInfos) → IsSeen nodes t → (path : List Part) (done n id : ℕ) → IsAt t path done id → done ≡ min n (length path) → Some id ≡ node_number t.paths (take n path)
 at_end nodes t s path done n id at is =
     sym (seen_number nodes t s id at.inside) ∙ ap (node_number t.paths) (at.led ∙ ap (λ k. take k path) is ∙ take_min n path)

@@ -11,40 +11,40 @@ use Rattle.keep_meaning.specs.Marks as marks
 use Rattle.keep_meaning.specs.Marks.{Mention, Statement, Reading, statement_mentions, next_reading, mentions_from, reading_after, mentions, start, elements_of, header, element_header, keyval, define}
 use Rattle.keep_meaning.specs.Meaning.{keyval_said}
 use Rattle.keep_meaning.specs.Nodes.{node_paths}
-use Rattle.keep_nodes.specs.Trie.{Twig, by_key, paths_of, path_at, state_at, children_of}
+use Rattle.keep_nodes.specs.Trie.{TrieNode, by_key, paths_of, path_at, state_at, children_of}
 use Rattle.keep_meaning.specs.State.{IsState}
-use Rattle.keep_rules.specs.Known.{IsIndexOf}
+use Rattle.keep_rules.specs.RoleStates.{IsIndexOf}
 use Rattle.keep_rules.specs.Tables.{is_tables, IsShaped}
-use Rattle.keep_rules.specs.Standing.{Keeps, IsMarked, IsWorld, IsOpen, Begins, FaultIn}
-use Rattle.keep_rules.specs.Ways.{header_at, header_said}
+use Rattle.keep_rules.specs.Represents.{Keeps, IsMarked, Represents, IsOpen, Begins, FaultIn}
+use Rattle.keep_rules.specs.KeyWalks.{walk_path, walk_mentions}
 use Rattle.keep_rules.specs.Steps.{Walks}
-use Rattle.keep_rules.specs.Inside.{Turn, Inside, turn_said, turns_said, inside_after, next_inside, body_inside, keyval_turns}
+use Rattle.keep_rules.specs.NestedValues.{NestedValue, NestingState, nested_mentions, all_nested_mentions, nesting_after, next_nesting, body_nesting, keyval_nested}
 use Rattle.keep_rules.specs.Reads.{IsReading, Reads, FaultsIn}
-use Rattle.keep_rules.proofs.WayLemmas.{header_way-split, header_path-split}
-use Rattle.keep_rules.proofs.PassLemmas.{world_marked}
+use Rattle.keep_rules.proofs.KeyWalkLemmas.{header_way-split, header_path-split}
+use Rattle.keep_rules.proofs.PassLemmas.{represents_marked}
 use Rattle.keep_rules.proofs.StepLemmas.{keeps_then, stays_open}
-use Rattle.keep_rules.proofs.InsideLemmas.{turns_said-append, keyval_turns-say}
+use Rattle.keep_rules.proofs.NestedValueLemmas.{all_nested_mentions-append, keyval_nested-mentions}
 use Rattle.keep_rules.proofs.StopLemmas.{fault_within, fault_is_first}
 
 -- `[..]`
-pub header_reads : (old mid new : List Twig) (at to : ℕ) (way : List (List ℕ)) (last : List ℕ) → Walks old mid at way → IsMarked mid new (path_at mid at ++ key last ∷ []) Define by_key to
-    → (body : ℕ) → Reads old body new to (header (way ++ last ∷ []))
-header_reads old mid new at to way last walked marked body ms r reading =
+pub header_reads : (old mid new : List TrieNode) (at to : ℕ) (leading : List (List ℕ)) (last : List ℕ) → Walks old mid at leading → IsMarked mid new (path_at mid at ++ key last ∷ []) Define by_key to
+    → (body : ℕ) → Reads old body new to (header (leading ++ last ∷ []))
+header_reads old mid new at to leading last walked marked body ms r reading =
     let ts : List (List Part) = r.tables in
-    let p : List Part = header_at ts [] way ++ key last ∷ [] in
-    let before = walked.world ms ts reading.world in
-    let full : path_at mid at ++ key last ∷ [] ≡ p = ap (λ q. q ++ key last ∷ []) (walked.stands ms ts reading.world).here in
-    let full' : p ≡ marks.header_path ts [] (way ++ last ∷ []) = sym (header_path-split ts [] way last) in
-    let step : IsIndexOf new ((ms ++ header_said ts [] way) ++ record { path = p; says = define } ∷ []) =
-    subst (λ (q : List Part). IsIndexOf new ((ms ++ header_said ts [] way) ++ record { path = q; says = define } ∷ [])) full (marked.index (ms ++ header_said ts [] way) define refl before.index) in
-    let whole : (ms ++ header_said ts [] way) ++ record { path = p; says = define } ∷ [] ≡ ms ++ statement_mentions r (header (way ++ last ∷ [])) =
-    append_assoc ms (header_said ts [] way) (record { path = p; says = define } ∷ [])
-    ∙ ap (λ w. ms ++ (w ++ record { path = p; says = define } ∷ [])) (sym (header_way-split ts [] way last))
-    ∙ ap (λ q. ms ++ (marks.header_way ts [] (way ++ last ∷ []) ++ record { path = q; says = define } ∷ [])) full' in
+    let p : List Part = walk_path ts [] leading ++ key last ∷ [] in
+    let before = walked.represents ms ts reading.represents in
+    let full : path_at mid at ++ key last ∷ [] ≡ p = ap (λ q. q ++ key last ∷ []) (walked.is_open ms ts reading.represents).here in
+    let full' : p ≡ marks.header_path ts [] (leading ++ last ∷ []) = sym (header_path-split ts [] leading last) in
+    let step : IsIndexOf new ((ms ++ walk_mentions ts [] leading) ++ record { path = p; says = define } ∷ []) =
+    subst (λ (q : List Part). IsIndexOf new ((ms ++ walk_mentions ts [] leading) ++ record { path = q; says = define } ∷ [])) full (marked.index (ms ++ walk_mentions ts [] leading) define refl before.index) in
+    let whole : (ms ++ walk_mentions ts [] leading) ++ record { path = p; says = define } ∷ [] ≡ ms ++ statement_mentions r (header (leading ++ last ∷ [])) =
+    append_assoc ms (walk_mentions ts [] leading) (record { path = p; says = define } ∷ [])
+    ∙ ap (λ w. ms ++ (w ++ record { path = p; says = define } ∷ [])) (sym (header_way-split ts [] leading last))
+    ∙ ap (λ q. ms ++ (marks.header_way ts [] (leading ++ last ∷ []) ++ record { path = q; says = define } ∷ [])) full' in
     record {
-      world = subst (λ (w : List Mention). IsWorld new w ts) whole (world_marked marked refl (ms ++ header_said ts [] way) (record { path = p; says = define } ∷ []) ts step before);
-      rooted = (keeps_then walked.keeps marked.keeps).holdings 0 reading.world.index.trie.root ∙ reading.rooted;
-      stands = record {
+      represents = subst (λ (w : List Mention). Represents new w ts) whole (represents_marked marked refl (ms ++ walk_mentions ts [] leading) (record { path = p; says = define } ∷ []) ts step before);
+      rooted = (keeps_then walked.keeps marked.keeps).holdings 0 reading.represents.index.trie.root ∙ reading.rooted;
+      is_open = record {
         inside = marked.inside;
         here = marked.here ∙ full ∙ full';
         open_to = marked.opened refl;
@@ -52,45 +52,45 @@ header_reads old mid new at to way last walked marked body ms r reading =
     }
 
 -- `[[..]]`
-pub element_reads : (old mid new : List Twig) (at to : ℕ) (way : List (List ℕ)) (last : List ℕ) → Walks old mid at way → Begins mid new at to last
-    → (body : ℕ) → Reads old body new to (element_header (way ++ last ∷ []))
-element_reads old mid new at to way last walked begun body ms r reading =
+pub element_reads : (old mid new : List TrieNode) (at to : ℕ) (leading : List (List ℕ)) (last : List ℕ) → Walks old mid at leading → Begins mid new at to last
+    → (body : ℕ) → Reads old body new to (element_header (leading ++ last ∷ []))
+element_reads old mid new at to leading last walked begun body ms r reading =
     let ts : List (List Part) = r.tables in
-    let p : List Part = header_at ts [] way ++ key last ∷ [] in
-    let hp : List Part = marks.header_path ts [] (way ++ last ∷ []) in
-    let before = walked.world ms ts reading.world in
-    let full : path_at mid at ++ key last ∷ [] ≡ hp = ap (λ q. q ++ key last ∷ []) (walked.stands ms ts reading.world).here ∙ sym (header_path-split ts [] way last) in
+    let p : List Part = walk_path ts [] leading ++ key last ∷ [] in
+    let hp : List Part = marks.header_path ts [] (leading ++ last ∷ []) in
+    let before = walked.represents ms ts reading.represents in
+    let full : path_at mid at ++ key last ∷ [] ≡ hp = ap (λ q. q ++ key last ∷ []) (walked.is_open ms ts reading.represents).here ∙ sym (header_path-split ts [] leading last) in
     let two : List Part → List Mention = λ q. record { path = q; says = marks.element } ∷ record { path = q ++ index (elements_of q ts) ∷ []; says = marks.begun } ∷ [] in
-    let step : IsWorld new ((ms ++ header_said ts [] way) ++ two hp) (ts ++ hp ∷ []) =
-    subst (λ (q : List Part). IsWorld new ((ms ++ header_said ts [] way) ++ two q) (ts ++ q ∷ [])) full (begun.world (ms ++ header_said ts [] way) ts before) in
-    let whole : (ms ++ header_said ts [] way) ++ two hp ≡ ms ++ statement_mentions r (element_header (way ++ last ∷ [])) =
-    append_assoc ms (header_said ts [] way) (two hp) ∙ ap (λ w. ms ++ (w ++ two hp)) (sym (header_way-split ts [] way last)) in
+    let step : Represents new ((ms ++ walk_mentions ts [] leading) ++ two hp) (ts ++ hp ∷ []) =
+    subst (λ (q : List Part). Represents new ((ms ++ walk_mentions ts [] leading) ++ two q) (ts ++ q ∷ [])) full (begun.represents (ms ++ walk_mentions ts [] leading) ts before) in
+    let whole : (ms ++ walk_mentions ts [] leading) ++ two hp ≡ ms ++ statement_mentions r (element_header (leading ++ last ∷ [])) =
+    append_assoc ms (walk_mentions ts [] leading) (two hp) ∙ ap (λ w. ms ++ (w ++ two hp)) (sym (header_way-split ts [] leading last)) in
     record {
-      world = subst (λ (w : List Mention). IsWorld new w (ts ++ hp ∷ [])) whole step;
-      rooted = (keeps_then walked.keeps begun.keeps).holdings 0 reading.world.index.trie.root ∙ reading.rooted;
-      stands = subst (λ (q : List Part). IsOpen new to (q ++ index (elements_of q ts) ∷ [])) full (begun.stands (ms ++ header_said ts [] way) ts before);
+      represents = subst (λ (w : List Mention). Represents new w (ts ++ hp ∷ [])) whole step;
+      rooted = (keeps_then walked.keeps begun.keeps).holdings 0 reading.represents.index.trie.root ∙ reading.rooted;
+      is_open = subst (λ (q : List Part). IsOpen new to (q ++ index (elements_of q ts) ∷ [])) full (begun.is_open (ms ++ walk_mentions ts [] leading) ts before);
     }
 
 -- a keyval, whose values were all read
-pub keyval_reads : (old new : List Twig) (body : ℕ) (name : Name) (v : Value) → Keeps old new
-    → ((ms : List Mention) (r : Reading) → IsReading old body ms r → IsWorld new (ms ++ turns_said (body_inside r.body) (keyval_turns name v)) r.tables)
+pub keyval_reads : (old new : List TrieNode) (body : ℕ) (name : Name) (v : Value) → Keeps old new
+    → ((ms : List Mention) (r : Reading) → IsReading old body ms r → Represents new (ms ++ all_nested_mentions (body_nesting r.body) (keyval_nested name v)) r.tables)
     → Reads old body new body (keyval (keyval_said name v))
-keyval_reads old new body name v keeps world ms r reading = record {
-  world = subst (λ (w : List Mention). IsWorld new (ms ++ w) r.tables) (keyval_turns-say r.body name v) (world ms r reading);
-  rooted = keeps.holdings 0 reading.world.index.trie.root ∙ reading.rooted;
-  stands = stays_open keeps reading.stands;
+keyval_reads old new body name v keeps represents ms r reading = record {
+  represents = subst (λ (w : List Mention). Represents new (ms ++ w) r.tables) (keyval_nested-mentions r.body name v) (represents ms r reading);
+  rooted = keeps.holdings 0 reading.represents.index.trie.root ∙ reading.rooted;
+  is_open = stays_open keeps reading.is_open;
 }
 
 -- a fault in one of them
-pub turn_faults : (s : Inside) (ts : List Turn) (i : ℕ) (t : Turn) (ms : List Mention) (n : ℕ) (why : Why) → i < length ts → t ≡ get_or ts i t
-    → FaultIn (ms ++ turns_said s (take i ts)) (turn_said (inside_after s (take i ts)) t) n why → FaultIn ms (turns_said s ts) (length (marks.marks (turns_said s (take i ts))) + n) why
-turn_faults s ts i t ms n why h is f =
-    let before : List Turn = take i ts in
-    let rest : List Turn = drop (i + 1) ts in
+pub nested_faults : (s : NestingState) (ts : List NestedValue) (i : ℕ) (t : NestedValue) (ms : List Mention) (n : ℕ) (why : Why) → i < length ts → t ≡ get_or ts i t
+    → FaultIn (ms ++ all_nested_mentions s (take i ts)) (nested_mentions (nesting_after s (take i ts)) t) n why → FaultIn ms (all_nested_mentions s ts) (length (marks.marks (all_nested_mentions s (take i ts))) + n) why
+nested_faults s ts i t ms n why h is f =
+    let before : List NestedValue = take i ts in
+    let rest : List NestedValue = drop (i + 1) ts in
     let split : ts ≡ before ++ t ∷ rest = sym (take-append-drop i ts) ∙ ap (λ r. before ++ r) (drop_more ts i t h) ∙ ap (λ x. before ++ x ∷ rest) (sym is) in
-    let said : turns_said s ts ≡ turns_said s before ++ (turn_said (inside_after s before) t ++ turns_said (next_inside (inside_after s before) t) rest) = ap (turns_said s) split ∙ turns_said-append s before (t ∷ rest) in
-    subst (λ (w : List Mention). FaultIn ms w (length (marks.marks (turns_said s before)) + n) why) (sym said)
-    (fault_within ms (turns_said s before) (turn_said (inside_after s before) t) (turns_said (next_inside (inside_after s before) t) rest) n why f)
+    let said : all_nested_mentions s ts ≡ all_nested_mentions s before ++ (nested_mentions (nesting_after s before) t ++ all_nested_mentions (next_nesting (nesting_after s before) t) rest) = ap (all_nested_mentions s) split ∙ all_nested_mentions-append s before (t ∷ rest) in
+    subst (λ (w : List Mention). FaultIn ms w (length (marks.marks (all_nested_mentions s before)) + n) why) (sym said)
+    (fault_within ms (all_nested_mentions s before) (nested_mentions (nesting_after s before) t) (all_nested_mentions (next_nesting (nesting_after s before) t) rest) n why f)
 
 -- ---- statement after statement
 
@@ -102,10 +102,10 @@ pub reading_after-push : (r : Reading) (ss : List Statement) (s : Statement) →
 reading_after-push r [] s = refl
 reading_after-push r (t ∷ ss) s = reading_after-push (next_reading r t) ss s
 
-abbrev pub IsReadTo : List Twig → ℕ → List Statement → Type 0
+abbrev pub IsReadTo : List TrieNode → ℕ → List Statement → Type 0
 IsReadTo nodes body ss = IsReading nodes body (mentions_from start ss) (reading_after start ss)
 
-pub read_more : (old new : List Twig) (body to : ℕ) (ss : List Statement) (s : Statement) → IsReadTo old body ss → Reads old body new to s → IsReadTo new to (ss ++ s ∷ [])
+pub read_more : (old new : List TrieNode) (body to : ℕ) (ss : List Statement) (s : Statement) → IsReadTo old body ss → Reads old body new to s → IsReadTo new to (ss ++ s ∷ [])
 read_more old new body to ss s before reads =
     let r : Reading = reading_after start ss in
     let step : IsReading new to (mentions_from start ss ++ statement_mentions r s) (next_reading r s) = reads (mentions_from start ss) r before in
@@ -115,14 +115,14 @@ read_more old new body to ss s before reads =
     subst (λ (x : Reading). IsReading new to (mentions_from start (ss ++ s ∷ [])) x) (sym (reading_after-push start ss s)) one
 
 -- the nodes are those of the document, and its marks obey the rules
-pub read_nodes : (nodes : List Twig) (body : ℕ) (ss : List Statement) → IsReadTo nodes body ss → paths_of nodes ≡ node_paths (mentions ss)
-read_nodes nodes body ss reading = reading.world.index.knows.paths_are
+pub read_nodes : (nodes : List TrieNode) (body : ℕ) (ss : List Statement) → IsReadTo nodes body ss → paths_of nodes ≡ node_paths (mentions ss)
+read_nodes nodes body ss reading = reading.represents.index.states_represent.paths_are
 
-pub read_obeys : (nodes : List Twig) (body : ℕ) (ss : List Statement) → IsReadTo nodes body ss → ObeysRules (marks.marks (mentions ss))
-read_obeys nodes body ss reading = reading.world.index.knows.obeys
+pub read_obeys : (nodes : List TrieNode) (body : ℕ) (ss : List Statement) → IsReadTo nodes body ss → ObeysRules (marks.marks (mentions ss))
+read_obeys nodes body ss reading = reading.represents.index.states_represent.obeys
 
 -- the fault of a statement is the first of the document
-pub read_breaks : (old : List Twig) (body : ℕ) (ss : List Statement) (s : Statement) (rest : List Statement) (number : ℕ) (why : Why) → IsReadTo old body ss → FaultsIn old body s number why
+pub read_breaks : (old : List TrieNode) (body : ℕ) (ss : List Statement) (s : Statement) (rest : List Statement) (number : ℕ) (why : Why) → IsReadTo old body ss → FaultsIn old body s number why
     → IsFirstFaulty (marks.marks (mentions (ss ++ s ∷ rest))) (length (marks.marks (mentions ss)) + number) why
 read_breaks old body ss s rest number why before faults =
     let r : Reading = reading_after start ss in
@@ -131,14 +131,14 @@ read_breaks old body ss s rest number why before faults =
 
 -- ---- before any statement
 
-root_state : (i : ℕ) (t : Twig) → t.state ≡ None → i < 1 → state_at (t ∷ []) i ≡ None
+root_state : (i : ℕ) (t : TrieNode) → t.state ≡ None → i < 1 → state_at (t ∷ []) i ≡ None
 root_state zero t e h = e
 root_state (suc i) t e h = absurd (omega arith)
 
 state_of_none : (s : Option Role) → s ≡ None → IsState s []
 state_of_none s e = subst (λ (o : Option Role). IsState o []) (sym e) refl
 
-root_shaped : (t : Twig) → t.state ≡ None → IsShaped (t ∷ [])
+root_shaped : (t : TrieNode) → t.state ≡ None → IsShaped (t ∷ [])
 root_shaped t none = record {
   elements = λ i k h l low. absurd (omega arith);
   plain = λ i k h l low. absurd (omega arith);
@@ -150,16 +150,16 @@ root_shaped t none = record {
     root_path zero p k h is = absurd (omega (arith, ap length is, length-append p (key k ∷ [])))
     root_path (suc i) p k h is = absurd (omega arith)
 
--- the root alone, of which nothing or one thing that is no mark was said
-pub root_world : (t : Twig) → t.state ≡ None → IsWorld (t ∷ []) [] []
-root_world t none = record {
+-- the root alone, with no mention or with one that is no mark
+pub root_represents : (t : TrieNode) → t.state ≡ None → Represents (t ∷ []) [] []
+root_represents t none = record {
   index = record {
     trie = record {
       root = omega arith;
       parents = λ i d low h. absurd (omega arith);
       distinct = λ i j d low h e. absurd (omega arith);
     };
-    knows = record {
+    states_represent = record {
       paths_are = refl;
       many = refl;
       states_are = λ i h. state_of_none (state_at (t ∷ []) i) (root_state i t none h);
@@ -175,9 +175,9 @@ root_world t none = record {
   begun = λ i h l. absurd (let no : true ≡ false = sym l ∙ ap is_tables (root_state i t none h) in cc);
 }
 
-pub root_reads : (t : Twig) → t.state ≡ None → t.holds ≡ by_key → IsReading (t ∷ []) 0 [] start
+pub root_reads : (t : TrieNode) → t.state ≡ None → t.holds ≡ by_key → IsReading (t ∷ []) 0 [] start
 root_reads t none keyed = record {
-  world = root_world t none;
+  represents = root_represents t none;
   rooted = keyed;
-  stands = record { inside = omega arith; here = refl; open_to = keyed };
+  is_open = record { inside = omega arith; here = refl; open_to = keyed };
 }

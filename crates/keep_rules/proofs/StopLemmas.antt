@@ -12,34 +12,34 @@ use Rattle.keep_path.specs.Path.{Part, key, index}
 use Rattle.keep_meaning.specs.Rules.{Mark, ObeysRules, IsRefused, IsFirstFaulty, why_of}
 use Rattle.keep_meaning.specs.Marks as marks
 use Rattle.keep_meaning.specs.Marks.{Mention, Saying, role_of, with_path, mark_of, elements_of, entered_path, passing_mentions, header, element_header}
-use Rattle.keep_nodes.specs.Trie.{Twig, path_at}
-use Rattle.keep_rules.specs.Standing.{IsWorld, WasRefused, HasNoElement, FaultIn}
-use Rattle.keep_rules.specs.Ways.{header_at, header_said, dotted_way}
+use Rattle.keep_nodes.specs.Trie.{TrieNode, path_at}
+use Rattle.keep_rules.specs.Represents.{Represents, WasRefused, HasNoElement, FaultIn}
+use Rattle.keep_rules.specs.KeyWalks.{walk_path, walk_mentions, dotted_mentions}
 use Rattle.keep_rules.specs.Steps.{Walks, Dots}
-use Rattle.keep_rules.specs.Inside.{turn_keyed, Inside, path_of_value, turn_said}
+use Rattle.keep_rules.specs.NestedValues.{nested_keyed, NestingState, path_of_value, nested_mentions}
 use Rattle.keep_rules.specs.Reads.{FaultsIn}
 use Rattle.keep_rules.proofs.PassLemmas.{passing-none}
-use Rattle.keep_rules.proofs.WayLemmas.{header_said-append, header_way-split, header_path-split, marks-header_said, dotted_way-append, marks-dotted_way}
-use Rattle.keep_rules.proofs.TurnLemmas.{keyed_says}
+use Rattle.keep_rules.proofs.KeyWalkLemmas.{walk_mentions-append, header_way-split, header_path-split, marks-walk_mentions, dotted_mentions-append, marks-dotted_mentions}
+use Rattle.keep_rules.proofs.NextValueLemmas.{keyed_mentions_are}
 
--- a refused mark, behind others in order
-pub one_fault : (nodes : List Twig) (path : List Part) (role : Role) (says : Saying) (ms way rest : List Mention) (ts : List (List Part)) (n : ℕ)
-    → IsWorld nodes (ms ++ way) ts → WasRefused nodes path role → role_of says ≡ Some role → length (marks.marks way) ≡ n
-    → FaultIn ms (way ++ record { path = path; says = says } ∷ rest) n (why_of role)
-one_fault nodes path role says ms way rest ts n world was is counted = record {
-  done = way;
+-- a refused mark, after others in order
+pub one_fault : (nodes : List TrieNode) (path : List Part) (role : Role) (says : Saying) (ms leading rest : List Mention) (ts : List (List Part)) (n : ℕ)
+    → Represents nodes (ms ++ leading) ts → WasRefused nodes path role → role_of says ≡ Some role → length (marks.marks leading) ≡ n
+    → FaultIn ms (leading ++ record { path = path; says = says } ∷ rest) n (why_of role)
+one_fault nodes path role says ms leading rest ts n represents was is counted = record {
+  done = leading;
   faulty = record { path = path; says = says };
   rest = rest;
   here = refl;
   role = role;
   is = is;
   count = counted;
-  obeys = world.index.knows.obeys;
-  refused = was (ms ++ way) world.index;
+  obeys = represents.index.states_represent.obeys;
+  refused = was (ms ++ leading) represents.index;
   reason = refl;
 }
 
--- the same fault, with more said before and behind
+-- the same fault, with more mentions before and after
 pub fault_within : (ms before more rest : List Mention) (n : ℕ) (why : Why) → FaultIn (ms ++ before) more n why → FaultIn ms (before ++ (more ++ rest)) (length (marks.marks before) + n) why
 fault_within ms before more rest n why f =
     let joined : (ms ++ before) ++ f.done ≡ ms ++ (before ++ f.done) = append_assoc ms before f.done in
@@ -81,84 +81,84 @@ fault_is_first ms more later number why fault =
 
 -- ---- headers
 
--- a key on the way
-pub walk_fault : (old mid : List Twig) (at : ℕ) (ks : List (List ℕ)) (k : List ℕ) (rest : List (List ℕ)) → Walks old mid at ks
+-- a leading key
+pub walk_fault : (old mid : List TrieNode) (at : ℕ) (ks : List (List ℕ)) (k : List ℕ) (rest : List (List ℕ)) → Walks old mid at ks
     → WasRefused mid (path_at mid at ++ key k ∷ []) Through → HasNoElement mid (path_at mid at ++ key k ∷ [])
-    → (ms : List Mention) (ts : List (List Part)) → IsWorld old ms ts → FaultIn ms (header_said ts [] (ks ++ k ∷ rest)) (length ks) NotATable
-walk_fault old mid at ks k rest walked was plain ms ts world =
-    let p : List Part = header_at ts [] ks ++ key k ∷ [] in
-    let full : path_at mid at ++ key k ∷ [] ≡ p = ap (λ q. q ++ key k ∷ []) (walked.stands ms ts world).here in
-    let there = walked.world ms ts world in
+    → (ms : List Mention) (ts : List (List Part)) → Represents old ms ts → FaultIn ms (walk_mentions ts [] (ks ++ k ∷ rest)) (length ks) NotATable
+walk_fault old mid at ks k rest walked was plain ms ts represents =
+    let p : List Part = walk_path ts [] ks ++ key k ∷ [] in
+    let full : path_at mid at ++ key k ∷ [] ≡ p = ap (λ q. q ++ key k ∷ []) (walked.is_open ms ts represents).here in
+    let there = walked.represents ms ts represents in
     let zero : elements_of p ts ≡ 0 = ap (λ q. elements_of q ts) (sym full) ∙ plain ts there.tables_are there.begun in
-    let whole : header_said ts [] (ks ++ k ∷ rest) ≡ header_said ts [] ks ++ record { path = p; says = marks.through } ∷ header_said ts (entered_path ts p) rest =
-    header_said-append ts [] ks (k ∷ rest) ∙ ap (λ w. header_said ts [] ks ++ (w ++ header_said ts (entered_path ts p) rest)) (passing-none ts p zero) in
+    let whole : walk_mentions ts [] (ks ++ k ∷ rest) ≡ walk_mentions ts [] ks ++ record { path = p; says = marks.through } ∷ walk_mentions ts (entered_path ts p) rest =
+    walk_mentions-append ts [] ks (k ∷ rest) ∙ ap (λ w. walk_mentions ts [] ks ++ (w ++ walk_mentions ts (entered_path ts p) rest)) (passing-none ts p zero) in
     subst (λ (w : List Mention). FaultIn ms w (length ks) NotATable) (sym whole)
-    (one_fault mid p Through marks.through ms (header_said ts [] ks) (header_said ts (entered_path ts p) rest) ts (length ks) there (subst (λ (q : List Part). WasRefused mid q Through) full was) refl (marks-header_said ts [] ks))
+    (one_fault mid p Through marks.through ms (walk_mentions ts [] ks) (walk_mentions ts (entered_path ts p) rest) ts (length ks) there (subst (λ (q : List Part). WasRefused mid q Through) full was) refl (marks-walk_mentions ts [] ks))
 
--- where the way is at fault, the header is
-header_whole : (ts : List (List Part)) (way : List (List ℕ)) (last : List ℕ) → marks.header_way ts [] (way ++ last ∷ []) ++ record { path = marks.header_path ts [] (way ++ last ∷ []); says = marks.define } ∷ []
-    ≡ header_said ts [] way ++ record { path = header_at ts [] way ++ key last ∷ []; says = marks.define } ∷ []
-header_whole ts way last = ap (λ w. w ++ record { path = marks.header_path ts [] (way ++ last ∷ []); says = marks.define } ∷ []) (header_way-split ts [] way last)
-    ∙ ap (λ p. header_said ts [] way ++ record { path = p; says = marks.define } ∷ []) (header_path-split ts [] way last)
+-- where a leading key is at fault, the header is
+header_whole : (ts : List (List Part)) (leading : List (List ℕ)) (last : List ℕ) → marks.header_way ts [] (leading ++ last ∷ []) ++ record { path = marks.header_path ts [] (leading ++ last ∷ []); says = marks.define } ∷ []
+    ≡ walk_mentions ts [] leading ++ record { path = walk_path ts [] leading ++ key last ∷ []; says = marks.define } ∷ []
+header_whole ts leading last = ap (λ w. w ++ record { path = marks.header_path ts [] (leading ++ last ∷ []); says = marks.define } ∷ []) (header_way-split ts [] leading last)
+    ∙ ap (λ p. walk_mentions ts [] leading ++ record { path = p; says = marks.define } ∷ []) (header_path-split ts [] leading last)
 
-element_whole : (ts : List (List Part)) (way : List (List ℕ)) (last : List ℕ) → marks.statement_mentions (record { tables = ts; body = [] }) (element_header (way ++ last ∷ []))
-    ≡ header_said ts [] way ++ record { path = header_at ts [] way ++ key last ∷ []; says = marks.element } ∷ record { path = (header_at ts [] way ++ key last ∷ []) ++ index (elements_of (header_at ts [] way ++ key last ∷ []) ts) ∷ []; says = marks.begun } ∷ []
-element_whole ts way last =
-    ap (λ w. w ++ record { path = marks.header_path ts [] (way ++ last ∷ []); says = marks.element } ∷ record { path = marks.header_path ts [] (way ++ last ∷ []) ++ index (elements_of (marks.header_path ts [] (way ++ last ∷ [])) ts) ∷ []; says = marks.begun } ∷ []) (header_way-split ts [] way last)
-    ∙ ap (λ p. header_said ts [] way ++ record { path = p; says = marks.element } ∷ record { path = p ++ index (elements_of p ts) ∷ []; says = marks.begun } ∷ []) (header_path-split ts [] way last)
+element_whole : (ts : List (List Part)) (leading : List (List ℕ)) (last : List ℕ) → marks.statement_mentions (record { tables = ts; body = [] }) (element_header (leading ++ last ∷ []))
+    ≡ walk_mentions ts [] leading ++ record { path = walk_path ts [] leading ++ key last ∷ []; says = marks.element } ∷ record { path = (walk_path ts [] leading ++ key last ∷ []) ++ index (elements_of (walk_path ts [] leading ++ key last ∷ []) ts) ∷ []; says = marks.begun } ∷ []
+element_whole ts leading last =
+    ap (λ w. w ++ record { path = marks.header_path ts [] (leading ++ last ∷ []); says = marks.element } ∷ record { path = marks.header_path ts [] (leading ++ last ∷ []) ++ index (elements_of (marks.header_path ts [] (leading ++ last ∷ [])) ts) ∷ []; says = marks.begun } ∷ []) (header_way-split ts [] leading last)
+    ∙ ap (λ p. walk_mentions ts [] leading ++ record { path = p; says = marks.element } ∷ record { path = p ++ index (elements_of p ts) ∷ []; says = marks.begun } ∷ []) (header_path-split ts [] leading last)
 
-pub header_way_faults : (old : List Twig) (way : List (List ℕ)) (last : List ℕ) (n : ℕ) (why : Why)
-    → ((ms : List Mention) (ts : List (List Part)) → IsWorld old ms ts → FaultIn ms (header_said ts [] way) n why) → (body : ℕ) → FaultsIn old body (header (way ++ last ∷ [])) n why
-header_way_faults old way last n why faults body ms r reading =
-    subst (λ (w : List Mention). FaultIn ms w n why) (sym (header_whole r.tables way last)) (fault_more ms (header_said r.tables [] way) _ n why (faults ms r.tables reading.world))
+pub header_walk_faults : (old : List TrieNode) (leading : List (List ℕ)) (last : List ℕ) (n : ℕ) (why : Why)
+    → ((ms : List Mention) (ts : List (List Part)) → Represents old ms ts → FaultIn ms (walk_mentions ts [] leading) n why) → (body : ℕ) → FaultsIn old body (header (leading ++ last ∷ [])) n why
+header_walk_faults old leading last n why faults body ms r reading =
+    subst (λ (w : List Mention). FaultIn ms w n why) (sym (header_whole r.tables leading last)) (fault_more ms (walk_mentions r.tables [] leading) _ n why (faults ms r.tables reading.represents))
 
-pub element_way_faults : (old : List Twig) (way : List (List ℕ)) (last : List ℕ) (n : ℕ) (why : Why)
-    → ((ms : List Mention) (ts : List (List Part)) → IsWorld old ms ts → FaultIn ms (header_said ts [] way) n why) → (body : ℕ) → FaultsIn old body (element_header (way ++ last ∷ [])) n why
-element_way_faults old way last n why faults body ms r reading =
-    subst (λ (w : List Mention). FaultIn ms w n why) (sym (element_whole r.tables way last)) (fault_more ms (header_said r.tables [] way) _ n why (faults ms r.tables reading.world))
+pub element_walk_faults : (old : List TrieNode) (leading : List (List ℕ)) (last : List ℕ) (n : ℕ) (why : Why)
+    → ((ms : List Mention) (ts : List (List Part)) → Represents old ms ts → FaultIn ms (walk_mentions ts [] leading) n why) → (body : ℕ) → FaultsIn old body (element_header (leading ++ last ∷ [])) n why
+element_walk_faults old leading last n why faults body ms r reading =
+    subst (λ (w : List Mention). FaultIn ms w n why) (sym (element_whole r.tables leading last)) (fault_more ms (walk_mentions r.tables [] leading) _ n why (faults ms r.tables reading.represents))
 
 -- the last key
-pub header_faults : (old mid : List Twig) (at : ℕ) (way : List (List ℕ)) (last : List ℕ) → Walks old mid at way → WasRefused mid (path_at mid at ++ key last ∷ []) Define → (body : ℕ) → FaultsIn old body (header (way ++ last ∷ [])) (length way) DefinedTwice
-header_faults old mid at way last walked was body ms r reading =
-    let full : path_at mid at ++ key last ∷ [] ≡ header_at r.tables [] way ++ key last ∷ [] = ap (λ q. q ++ key last ∷ []) (walked.stands ms r.tables reading.world).here in
-    subst (λ (w : List Mention). FaultIn ms w (length way) DefinedTwice) (sym (header_whole r.tables way last))
-    (one_fault mid (header_at r.tables [] way ++ key last ∷ []) Define marks.define ms (header_said r.tables [] way) [] r.tables (length way) (walked.world ms r.tables reading.world)
-    (subst (λ (q : List Part). WasRefused mid q Define) full was) refl (marks-header_said r.tables [] way))
+pub header_faults : (old mid : List TrieNode) (at : ℕ) (leading : List (List ℕ)) (last : List ℕ) → Walks old mid at leading → WasRefused mid (path_at mid at ++ key last ∷ []) Define → (body : ℕ) → FaultsIn old body (header (leading ++ last ∷ [])) (length leading) DefinedTwice
+header_faults old mid at leading last walked was body ms r reading =
+    let full : path_at mid at ++ key last ∷ [] ≡ walk_path r.tables [] leading ++ key last ∷ [] = ap (λ q. q ++ key last ∷ []) (walked.is_open ms r.tables reading.represents).here in
+    subst (λ (w : List Mention). FaultIn ms w (length leading) DefinedTwice) (sym (header_whole r.tables leading last))
+    (one_fault mid (walk_path r.tables [] leading ++ key last ∷ []) Define marks.define ms (walk_mentions r.tables [] leading) [] r.tables (length leading) (walked.represents ms r.tables reading.represents)
+    (subst (λ (q : List Part). WasRefused mid q Define) full was) refl (marks-walk_mentions r.tables [] leading))
 
-pub element_faults : (old mid : List Twig) (at : ℕ) (way : List (List ℕ)) (last : List ℕ) → Walks old mid at way → WasRefused mid (path_at mid at ++ key last ∷ []) Element → (body : ℕ) → FaultsIn old body (element_header (way ++ last ∷ [])) (length way) NotAnArray
-element_faults old mid at way last walked was body ms r reading =
-    let full : path_at mid at ++ key last ∷ [] ≡ header_at r.tables [] way ++ key last ∷ [] = ap (λ q. q ++ key last ∷ []) (walked.stands ms r.tables reading.world).here in
-    subst (λ (w : List Mention). FaultIn ms w (length way) NotAnArray) (sym (element_whole r.tables way last))
-    (one_fault mid (header_at r.tables [] way ++ key last ∷ []) Element marks.element ms (header_said r.tables [] way) _ r.tables (length way) (walked.world ms r.tables reading.world)
-    (subst (λ (q : List Part). WasRefused mid q Element) full was) refl (marks-header_said r.tables [] way))
+pub element_faults : (old mid : List TrieNode) (at : ℕ) (leading : List (List ℕ)) (last : List ℕ) → Walks old mid at leading → WasRefused mid (path_at mid at ++ key last ∷ []) Element → (body : ℕ) → FaultsIn old body (element_header (leading ++ last ∷ [])) (length leading) NotAnArray
+element_faults old mid at leading last walked was body ms r reading =
+    let full : path_at mid at ++ key last ∷ [] ≡ walk_path r.tables [] leading ++ key last ∷ [] = ap (λ q. q ++ key last ∷ []) (walked.is_open ms r.tables reading.represents).here in
+    subst (λ (w : List Mention). FaultIn ms w (length leading) NotAnArray) (sym (element_whole r.tables leading last))
+    (one_fault mid (walk_path r.tables [] leading ++ key last ∷ []) Element marks.element ms (walk_mentions r.tables [] leading) _ r.tables (length leading) (walked.represents ms r.tables reading.represents)
+    (subst (λ (q : List Part). WasRefused mid q Element) full was) refl (marks-walk_mentions r.tables [] leading))
 
 -- ---- values with keys
 
-pub dots_fault : (old mid : List Twig) (at by : ℕ) (ks : List (List ℕ)) (k : List ℕ) (rest : List (List ℕ)) → Dots old mid at by ks → WasRefused mid (path_at mid by ++ key k ∷ []) Dotted
-    → (ms : List Mention) (ts : List (List Part)) → IsWorld old ms ts → FaultIn ms (dotted_way (path_at old at) (ks ++ k ∷ rest)) (length ks) NotByDots
-dots_fault old mid at by ks k rest dots was ms ts world =
+pub dots_fault : (old mid : List TrieNode) (at by : ℕ) (ks : List (List ℕ)) (k : List ℕ) (rest : List (List ℕ)) → Dots old mid at by ks → WasRefused mid (path_at mid by ++ key k ∷ []) Dotted
+    → (ms : List Mention) (ts : List (List Part)) → Represents old ms ts → FaultIn ms (dotted_mentions (path_at old at) (ks ++ k ∷ rest)) (length ks) NotByDots
+dots_fault old mid at by ks k rest dots was ms ts represents =
     let p : List Part = path_at old at in
     let q : List Part = (p ++ map key ks) ++ key k ∷ [] in
-    let full : path_at mid by ++ key k ∷ [] ≡ q = ap (λ r. r ++ key k ∷ []) dots.stands.here in
-    subst (λ (w : List Mention). FaultIn ms w (length ks) NotByDots) (sym (dotted_way-append p ks (k ∷ rest)))
-    (one_fault mid q Dotted marks.dotted ms (dotted_way p ks) (dotted_way q rest) ts (length ks) (dots.world ms ts world) (subst (λ (r : List Part). WasRefused mid r Dotted) full was) refl (marks-dotted_way p ks))
+    let full : path_at mid by ++ key k ∷ [] ≡ q = ap (λ r. r ++ key k ∷ []) dots.is_open.here in
+    subst (λ (w : List Mention). FaultIn ms w (length ks) NotByDots) (sym (dotted_mentions-append p ks (k ∷ rest)))
+    (one_fault mid q Dotted marks.dotted ms (dotted_mentions p ks) (dotted_mentions q rest) ts (length ks) (dots.represents ms ts represents) (subst (λ (r : List Part). WasRefused mid r Dotted) full was) refl (marks-dotted_mentions p ks))
 
--- a fault on the way of a value in the nodes so far
-pub keyed_way_fault : (old : List Twig) (ids : List ℕ) (s : Inside) (o at : ℕ) (way : List (List ℕ)) (last : List ℕ) (f : Fact) (n : ℕ) (why : Why) → path_at old at ≡ path_of_value s o
-    → ((ms : List Mention) (ts : List (List Part)) → IsWorld old ms ts → FaultIn ms (dotted_way (path_at old at) way) n why)
-    → (ms : List Mention) (ts : List (List Part)) → IsWorld old ms ts → FaultIn ms (turn_said s (turn_keyed o (way ++ last ∷ []) f)) n why
-keyed_way_fault old ids s o at way last f n why here faults ms ts world =
-    let said : turn_said s (turn_keyed o (way ++ last ∷ []) f) ≡ dotted_way (path_at old at) way ++ record { path = (path_at old at ++ map key way) ++ key last ∷ []; says = marks.value f } ∷ [] =
-    keyed_says (path_of_value s o) way last f ∙ ap (λ p. dotted_way p way ++ record { path = (p ++ map key way) ++ key last ∷ []; says = marks.value f } ∷ []) (sym here) in
-    subst (λ (w : List Mention). FaultIn ms w n why) (sym said) (fault_more ms (dotted_way (path_at old at) way) _ n why (faults ms ts world))
+-- a fault in the leading keys of a value in the nodes so far
+pub keyed_walk_fault : (old : List TrieNode) (ids : List ℕ) (s : NestingState) (o at : ℕ) (leading : List (List ℕ)) (last : List ℕ) (f : Fact) (n : ℕ) (why : Why) → path_at old at ≡ path_of_value s o
+    → ((ms : List Mention) (ts : List (List Part)) → Represents old ms ts → FaultIn ms (dotted_mentions (path_at old at) leading) n why)
+    → (ms : List Mention) (ts : List (List Part)) → Represents old ms ts → FaultIn ms (nested_mentions s (nested_keyed o (leading ++ last ∷ []) f)) n why
+keyed_walk_fault old ids s o at leading last f n why here faults ms ts represents =
+    let said : nested_mentions s (nested_keyed o (leading ++ last ∷ []) f) ≡ dotted_mentions (path_at old at) leading ++ record { path = (path_at old at ++ map key leading) ++ key last ∷ []; says = marks.value f } ∷ [] =
+    keyed_mentions_are (path_of_value s o) leading last f ∙ ap (λ p. dotted_mentions p leading ++ record { path = (p ++ map key leading) ++ key last ∷ []; says = marks.value f } ∷ []) (sym here) in
+    subst (λ (w : List Mention). FaultIn ms w n why) (sym said) (fault_more ms (dotted_mentions (path_at old at) leading) _ n why (faults ms ts represents))
 
-pub keyed_fault : (old mid : List Twig) (s : Inside) (o at by : ℕ) (way : List (List ℕ)) (last : List ℕ) (f : Fact) → path_at old at ≡ path_of_value s o → Dots old mid at by way → WasRefused mid (path_at mid by ++ key last ∷ []) Value
-    → (ms : List Mention) (ts : List (List Part)) → IsWorld old ms ts → FaultIn ms (turn_said s (turn_keyed o (way ++ last ∷ []) f)) (length way) DuplicateKey
-keyed_fault old mid s o at by way last f here dots was ms ts world =
+pub keyed_fault : (old mid : List TrieNode) (s : NestingState) (o at by : ℕ) (leading : List (List ℕ)) (last : List ℕ) (f : Fact) → path_at old at ≡ path_of_value s o → Dots old mid at by leading → WasRefused mid (path_at mid by ++ key last ∷ []) Value
+    → (ms : List Mention) (ts : List (List Part)) → Represents old ms ts → FaultIn ms (nested_mentions s (nested_keyed o (leading ++ last ∷ []) f)) (length leading) DuplicateKey
+keyed_fault old mid s o at by leading last f here dots was ms ts represents =
     let p : List Part = path_at old at in
-    let q : List Part = (p ++ map key way) ++ key last ∷ [] in
-    let full : path_at mid by ++ key last ∷ [] ≡ q = ap (λ r. r ++ key last ∷ []) dots.stands.here in
-    let said : turn_said s (turn_keyed o (way ++ last ∷ []) f) ≡ dotted_way p way ++ record { path = q; says = marks.value f } ∷ [] =
-    keyed_says (path_of_value s o) way last f ∙ ap (λ p. dotted_way p way ++ record { path = (p ++ map key way) ++ key last ∷ []; says = marks.value f } ∷ []) (sym here) in
-    subst (λ (w : List Mention). FaultIn ms w (length way) DuplicateKey) (sym said)
-    (one_fault mid q Value (marks.value f) ms (dotted_way p way) [] ts (length way) (dots.world ms ts world) (subst (λ (r : List Part). WasRefused mid r Value) full was) refl (marks-dotted_way p way))
+    let q : List Part = (p ++ map key leading) ++ key last ∷ [] in
+    let full : path_at mid by ++ key last ∷ [] ≡ q = ap (λ r. r ++ key last ∷ []) dots.is_open.here in
+    let said : nested_mentions s (nested_keyed o (leading ++ last ∷ []) f) ≡ dotted_mentions p leading ++ record { path = q; says = marks.value f } ∷ [] =
+    keyed_mentions_are (path_of_value s o) leading last f ∙ ap (λ p. dotted_mentions p leading ++ record { path = (p ++ map key leading) ++ key last ∷ []; says = marks.value f } ∷ []) (sym here) in
+    subst (λ (w : List Mention). FaultIn ms w (length leading) DuplicateKey) (sym said)
+    (one_fault mid q Value (marks.value f) ms (dotted_mentions p leading) [] ts (length leading) (dots.represents ms ts represents) (subst (λ (r : List Part). WasRefused mid r Value) full was) refl (marks-dotted_mentions p leading))

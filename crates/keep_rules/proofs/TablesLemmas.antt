@@ -11,39 +11,39 @@ use Rattle.keep_meaning.specs.declared.role.Role.TheVariants.{Through, Past, Def
 use Rattle.keep_path.specs.Path.{Part, key, index, same_path}
 use Rattle.keep_meaning.specs.Rules.{allows}
 use Rattle.keep_meaning.specs.Marks.{elements_of}
-use Rattle.keep_nodes.specs.Trie.{Twig, Holding, nothing, by_key, by_index, IsTrie, paths_of, path_at, states_of, state_at, holds_at, children_of}
+use Rattle.keep_nodes.specs.Trie.{TrieNode, Holding, nothing, by_key, by_index, IsTrie, paths_of, path_at, states_of, state_at, holds_at, children_of}
 use Rattle.keep_nodes.specs.Growth.{Grows, Restates}
 use Rattle.keep_meaning.specs.State.{IsState}
 use Rattle.keep_rules.specs.Tables.{is_tables, Fits, IsShaped, AreTables, AllBegun}
 use Rattle.keep_path.proofs.Shared.{path_decides}
-use Rattle.keep_rules.proofs.KnownLemmas.{false_ne}
+use Rattle.keep_rules.proofs.RoleStateLemmas.{false_ne}
 use Rattle.keep_nodes.proofs.Shared.{child_at, push_same, one_node, no_child, many, first, longer, path_below, path_last, state_below, state_last, holds_below, holds_last, children_other, children_here, children_last}
 
 -- ---- what a node is
 
-pub tables_listed : (nodes : List Twig) → IsShaped nodes → (i : ℕ) → i < length nodes → is_tables (state_at nodes i) ≡ true → holds_at nodes i ≡ by_index
+pub tables_listed : (nodes : List TrieNode) → IsShaped nodes → (i : ℕ) → i < length nodes → is_tables (state_at nodes i) ≡ true → holds_at nodes i ≡ by_index
 tables_listed nodes are i h t = by_state (state_at nodes i) refl t
   where
     by_state : (o : Option Role) → state_at nodes i ≡ o → is_tables o ≡ true → holds_at nodes i ≡ by_index
     by_state None e t = cc
     by_state (Some s) e t = (are.fits i s h e).listed t
 
-pub key_plain : (nodes : List Twig) → IsShaped nodes → (i : ℕ) → i < length nodes → holds_at nodes i ≡ by_key → is_tables (state_at nodes i) ≡ false
-key_plain nodes are i h k = false_ne _ (λ t. apart (sym k ∙ tables_listed nodes are i h t))
+pub key_plain : (nodes : List TrieNode) → IsShaped nodes → (i : ℕ) → i < length nodes → holds_at nodes i ≡ by_key → is_tables (state_at nodes i) ≡ false
+key_plain nodes are i h k = false_ne _ (λ t. kinds_differ (sym k ∙ tables_listed nodes are i h t))
   where
-    apart : by_key ≡ by_index → ⊥
-    apart e = cc
+    kinds_differ : by_key ≡ by_index → ⊥
+    kinds_differ e = cc
 
 -- ---- arrays and arrays of tables, with one node more
 
 -- what the new node is
-pub record Joins (old : List Twig) (parent : ℕ) (path : List Part) (state : Option Role) (holds : Holding) : Type 0 where
+pub record Joins (old : List TrieNode) (parent : ℕ) (path : List Part) (state : Option Role) (holds : Holding) : Type 0 where
   pub ends : holds_at old parent ≡ by_index → path ≡ path_at old parent ++ index (length (children_of old parent)) ∷ []
   pub bare : is_tables (state_at old parent) ≡ true → (state ≡ None) × (holds ≡ by_key)
   pub named : (p : List Part) (k : List ℕ) → path ≡ p ++ key k ∷ [] → IsSome state
   pub fits : (s : Role) → state ≡ Some s → Fits s holds
 
-elements_grown : {old new : List Twig} {parent : ℕ} {path : List Part} {state : Option Role} {holds : Holding} → (g : Grows old new parent path state holds) → Joins old parent path state holds → IsShaped old
+elements_grown : {old new : List TrieNode} {parent : ℕ} {path : List Part} {state : Option Role} {holds : Holding} → (g : Grows old new parent path state holds) → Joins old parent path state holds → IsShaped old
     → (i k : ℕ) → i < length new → holds_at new i ≡ by_index → k < length (children_of new i) → path_at new (get_or (children_of new i) k 0) ≡ path_at new i ++ index k ∷ []
 elements_grown {old = old} {new = new} {parent = parent} {path = path} g joins are i k h t low = elim (cases_lt i (length old)) [
   | inl below ↦
@@ -73,7 +73,7 @@ elements_grown {old = old} {new = new} {parent = parent} {path = path} g joins a
       absurd (omega (arith, ap (λ j. length (children_of new j)) last, ap length (children_last g)))
 ]
 
-plain_grown : {old new : List Twig} {parent : ℕ} {path : List Part} {state : Option Role} {holds : Holding} → (g : Grows old new parent path state holds) → Joins old parent path state holds → IsShaped old
+plain_grown : {old new : List TrieNode} {parent : ℕ} {path : List Part} {state : Option Role} {holds : Holding} → (g : Grows old new parent path state holds) → Joins old parent path state holds → IsShaped old
     → (i k : ℕ) → i < length new → is_tables (state_at new i) ≡ true → k < length (children_of new i) → (state_at new (get_or (children_of new i) k 0) ≡ None) × (holds_at new (get_or (children_of new i) k 0) ≡ by_key)
 plain_grown {old = old} {new = new} {parent = parent} g joins are i k h t low = elim (cases_lt i (length old)) [
   | inl below ↦
@@ -107,10 +107,10 @@ plain_grown {old = old} {new = new} {parent = parent} g joins are i k h t low = 
       absurd (omega (arith, ap (λ j. length (children_of new j)) last, ap length (children_last g)))
 ]
 
-not_there : {old new : List Twig} {parent : ℕ} {path : List Part} {state : Option Role} {holds : Holding} → (g : Grows old new parent path state holds) → (p : List Part) → (Contains (paths_of new) p → ⊥) → Contains (paths_of old) p → ⊥
+not_there : {old new : List TrieNode} {parent : ℕ} {path : List Part} {state : Option Role} {holds : Holding} → (g : Grows old new parent path state holds) → (p : List Part) → (Contains (paths_of new) p → ⊥) → Contains (paths_of old) p → ⊥
 not_there {old = old} {path = path} g p none there = none (subst (λ (ps : List (List Part)). Contains ps p) (sym g.paths) (Contains-append_left (paths_of old) (path ∷ []) p there))
 
-pub shaped_grown : {old new : List Twig} {parent : ℕ} {path : List Part} {state : Option Role} {holds : Holding} → (g : Grows old new parent path state holds) → Joins old parent path state holds → IsShaped old → IsShaped new
+pub shaped_grown : {old new : List TrieNode} {parent : ℕ} {path : List Part} {state : Option Role} {holds : Holding} → (g : Grows old new parent path state holds) → Joins old parent path state holds → IsShaped old → IsShaped new
 shaped_grown {old = old} {new = new} {path = path} {state = state} {holds = holds} g joins are = record {
   elements = elements_grown g joins are;
   plain = plain_grown g joins are;
@@ -133,7 +133,7 @@ no_count true n e = e
 no_count false n e = refl
 
 -- where the parent is no array of tables, the arrays of tables have their elements as before
-pub tables_joined : {old new : List Twig} {parent : ℕ} {path : List Part} {state : Option Role} {holds : Holding} → (g : Grows old new parent path state holds) → is_tables (state_at old parent) ≡ false → (ts : List (List Part)) → AreTables old ts → AreTables new ts
+pub tables_joined : {old new : List TrieNode} {parent : ℕ} {path : List Part} {state : Option Role} {holds : Holding} → (g : Grows old new parent path state holds) → is_tables (state_at old parent) ≡ false → (ts : List (List Part)) → AreTables old ts → AreTables new ts
 tables_joined {old = old} {new = new} {parent = parent} {path = path} g plain ts are = record {
   counts = λ i h. elim (cases_lt i (length old)) [
     | inl below ↦
@@ -160,7 +160,7 @@ elements_other : (path other : List Part) (ts : List (List Part)) → (other ≡
 elements_other path other ts ne = fold-append (λ (a : ℕ) (t : List Part). a + cond (same_path t path) 1 0) 0 ts (other ∷ []) ∙ ap (λ b. elements_of path ts + cond b 1 0) (false_ne _ (λ t. ne ((path_decides other path).0 t))) ∙ add-zero (elements_of path ts)
 
 -- the element of an array of tables
-pub element_joins : (old : List Twig) (id : ℕ) (path : List Part) → path_at old id ≡ path → Joins old id (path ++ index (length (children_of old id)) ∷ []) None by_key
+pub element_joins : (old : List TrieNode) (id : ℕ) (path : List Part) → path_at old id ≡ path → Joins old id (path ++ index (length (children_of old id)) ∷ []) None by_key
 element_joins old id path here = record {
   ends = λ t. ap (λ p. p ++ index (length (children_of old id)) ∷ []) (sym here);
   bare = λ t. (refl, refl);
@@ -169,7 +169,7 @@ element_joins old id path here = record {
 }
 
 -- a new element of an array of tables
-pub tables_begun : (old new : List Twig) (id : ℕ) (path : List Part) (ts : List (List Part)) → path_at old id ≡ path → is_tables (state_at old id) ≡ true
+pub tables_begun : (old new : List TrieNode) (id : ℕ) (path : List Part) (ts : List (List Part)) → path_at old id ≡ path → is_tables (state_at old id) ≡ true
     → Grows old new id (path ++ index (length (children_of old id)) ∷ []) None by_key → AreTables old ts → AreTables new (ts ++ path ∷ [])
 tables_begun old new id path ts here tables g are =
     let n : ℕ = length (children_of old id) in
@@ -202,7 +202,7 @@ tables_begun old new id path ts here tables g are =
     }
 
 -- the arrays of tables with their elements, but for a new one
-pub begun_others : {old new : List Twig} {parent : ℕ} {path : List Part} {state : Option Role} {holds : Holding} → (g : Grows old new parent path state holds) → is_tables (state_at old parent) ≡ false → AllBegun old → (i : ℕ) → i < length new → (i ≡ length old → ⊥) → is_tables (state_at new i) ≡ true → 0 < length (children_of new i)
+pub begun_others : {old new : List TrieNode} {parent : ℕ} {path : List Part} {state : Option Role} {holds : Holding} → (g : Grows old new parent path state holds) → is_tables (state_at old parent) ≡ false → AllBegun old → (i : ℕ) → i < length new → (i ≡ length old → ⊥) → is_tables (state_at new i) ≡ true → 0 < length (children_of new i)
 begun_others {old = old} {parent = parent} g plain begun i h ne t = elim (cases_lt i (length old)) [
   | inl below ↦
       let t' : is_tables (state_at old i) ≡ true = ap is_tables (sym (state_below g i below)) ∙ t in
@@ -211,14 +211,14 @@ begun_others {old = old} {parent = parent} g plain begun i h ne t = elim (cases_
   | inr above ↦ absurd (ne (omega (arith, longer g)))
 ]
 
-pub begun_joined : {old new : List Twig} {parent : ℕ} {path : List Part} {state : Option Role} {holds : Holding} → (g : Grows old new parent path state holds) → is_tables (state_at old parent) ≡ false → is_tables state ≡ false → AllBegun old → AllBegun new
+pub begun_joined : {old new : List TrieNode} {parent : ℕ} {path : List Part} {state : Option Role} {holds : Holding} → (g : Grows old new parent path state holds) → is_tables (state_at old parent) ≡ false → is_tables state ≡ false → AllBegun old → AllBegun new
 begun_joined {old = old} {new = new} g plain bare begun i h t = elim (cases_eq i (length old)) [
   | inl last ↦ absurd (let no : true ≡ false = sym t ∙ ap (λ j. is_tables (state_at new j)) last ∙ ap is_tables (state_last g) ∙ bare in cc)
   | inr ne ↦ begun_others g plain begun i h ne t
 ]
 
 -- after a new element all arrays of tables have one, where the others had
-pub begun_begun : (old new : List Twig) (id : ℕ) (path : List Part) → Grows old new id path None by_key
+pub begun_begun : (old new : List TrieNode) (id : ℕ) (path : List Part) → Grows old new id path None by_key
     → ((i : ℕ) → i < length old → (i ≡ id → ⊥) → is_tables (state_at old i) ≡ true → 0 < length (children_of old i)) → AllBegun new
 begun_begun old new id path g others i h t = elim (cases_lt i (length old)) [
   | inl below ↦ elim (cases_eq i id) [
@@ -234,16 +234,16 @@ begun_begun old new id path g others i h t = elim (cases_lt i (length old)) [
 
 -- ---- another state
 
-pub state_same : {old new : List Twig} {id : ℕ} {next : Role} → Restates old new id next → state_at new id ≡ Some next
-state_same {old = old} {id = id} {next = next} g = ap (λ ss. get_or ss id None) g.states ∙ get_or-set_same (states_of old) id (Some next) None (omega (arith, g.within, length-map old (λ (n : Twig). n.state)))
+pub state_same : {old new : List TrieNode} {id : ℕ} {next : Role} → Restates old new id next → state_at new id ≡ Some next
+state_same {old = old} {id = id} {next = next} g = ap (λ ss. get_or ss id None) g.states ∙ get_or-set_same (states_of old) id (Some next) None (omega (arith, g.within, length-map old (λ (n : TrieNode). n.state)))
 
-state_other : {old new : List Twig} {id : ℕ} {next : Role} → Restates old new id next → (i : ℕ) → (i ≡ id → ⊥) → state_at new i ≡ state_at old i
+state_other : {old new : List TrieNode} {id : ℕ} {next : Role} → Restates old new id next → (i : ℕ) → (i ≡ id → ⊥) → state_at new i ≡ state_at old i
 state_other {old = old} {id = id} {next = next} g i ne = ap (λ ss. get_or ss i None) g.states ∙ get_or-set_other (states_of old) id i (Some next) None ne
 
-pub holds_same : {old new : List Twig} {id : ℕ} {next : Role} → Restates old new id next → (i : ℕ) → holds_at new i ≡ holds_at old i
+pub holds_same : {old new : List TrieNode} {id : ℕ} {next : Role} → Restates old new id next → (i : ℕ) → holds_at new i ≡ holds_at old i
 holds_same g i = ap (λ hs. get_or hs i nothing) g.holdings
 
-pub kind_same : {old new : List Twig} {id : ℕ} {next : Role} → Restates old new id next → allows next Element ≡ is_tables (state_at old id) → (i : ℕ) → is_tables (state_at new i) ≡ is_tables (state_at old i)
+pub kind_same : {old new : List TrieNode} {id : ℕ} {next : Role} → Restates old new id next → allows next Element ≡ is_tables (state_at old id) → (i : ℕ) → is_tables (state_at new i) ≡ is_tables (state_at old i)
 kind_same {old = old} {new = new} {id = id} g kind i = elim (cases_eq i id) [
   | inl here ↦ ap (λ j. is_tables (state_at new j)) here ∙ ap is_tables (state_same g) ∙ kind ∙ ap (λ j. is_tables (state_at old j)) (sym here)
   | inr other ↦ ap is_tables (state_other g i other)
@@ -252,7 +252,7 @@ kind_same {old = old} {new = new} {id = id} g kind i = elim (cases_eq i id) [
 some_same : (a b s : Role) → Some a ≡ Some b → a ≡ b
 some_same a b s e = cc
 
-pub tables_restated : {old new : List Twig} {id : ℕ} {next : Role} → Restates old new id next → allows next Element ≡ is_tables (state_at old id) → (ts : List (List Part)) → AreTables old ts → AreTables new ts
+pub tables_restated : {old new : List TrieNode} {id : ℕ} {next : Role} → Restates old new id next → allows next Element ≡ is_tables (state_at old id) → (ts : List (List Part)) → AreTables old ts → AreTables new ts
 tables_restated {old = old} {new = new} {id = id} {next = next} g kind ts are = record {
   counts = λ i h.
       ap (λ ps. elements_of (get_or ps i []) ts) g.paths ∙ are.counts i (omega (arith, g.many))
@@ -260,7 +260,7 @@ tables_restated {old = old} {new = new} {id = id} {next = next} g kind ts are = 
   unmet = λ p none. are.unmet p (λ there. none (subst (λ (ps : List (List Part)). Contains ps p) (sym g.paths) there));
 }
 
-pub shaped_restated : {old new : List Twig} {id : ℕ} {next : Role} (before : List Part) (name : List ℕ) → path_at old id ≡ before ++ key name ∷ [] → Restates old new id next → allows next Element ≡ is_tables (state_at old id)
+pub shaped_restated : {old new : List TrieNode} {id : ℕ} {next : Role} (before : List Part) (name : List ℕ) → path_at old id ≡ before ++ key name ∷ [] → Restates old new id next → allows next Element ≡ is_tables (state_at old id)
     → Fits next (holds_at old id) → IsShaped old → IsShaped new
 shaped_restated {old = old} {new = new} {id = id} {next = next} before name named g kind fits are = record {
   elements = λ i k h t low.
@@ -288,12 +288,12 @@ shaped_restated {old = old} {new = new} {id = id} {next = next} before name name
   ];
 }
 
-pub begun_again : {old new : List Twig} {id : ℕ} {next : Role} → Restates old new id next → allows next Element ≡ is_tables (state_at old id) → AllBegun old → AllBegun new
-begun_again g kind begun =
+pub begun_existing : {old new : List TrieNode} {id : ℕ} {next : Role} → Restates old new id next → allows next Element ≡ is_tables (state_at old id) → AllBegun old → AllBegun new
+begun_existing g kind begun =
     λ i h t. omega (arith, begun i (omega (arith, g.many)) (sym (kind_same g kind i) ∙ t), ap length (g.children i))
 
 -- what is numbered has no item or element of the next number yet
-pub next_fresh : (nodes : List Twig) (id : ℕ) → IsTrie nodes → IsShaped nodes → id < length nodes → holds_at nodes id ≡ by_index
+pub next_fresh : (nodes : List TrieNode) (id : ℕ) → IsTrie nodes → IsShaped nodes → id < length nodes → holds_at nodes id ≡ by_index
     → Contains (paths_of nodes) (path_at nodes id ++ index (length (children_of nodes id)) ∷ []) → ⊥
 next_fresh nodes id trie are h listed =
     no_child nodes trie id (index (length (children_of nodes id))) (first nodes trie) h (λ k low same.

@@ -1,4 +1,4 @@
--- Values inside a value, on the way.
+-- Nested values, of which some are read.
 use Rattle.std.proofs.Common.{◌≡◌, ℕ, ◌+◌, ◌≤◌, List, [], ◌∷◌, ◌++◌, length, refl, sym, ◌∙◌, ap, subst, arith, length-append, Some}
 use Rattle.std.specs.Prelude.{slice_get}
 use Rattle.std.proofs.lemmas.List.{append_assoc, append-nil}
@@ -10,50 +10,50 @@ use Rattle.keep_syntax.specs.declared.info.Owner.TheVariants as owner
 use Rattle.keep_syntax.specs.declared.info.ValueInfo.{ValueInfo}
 use Rattle.keep_syntax.specs.Flat.{Flat}
 use Rattle.keep_nodes.specs.AllNodes.{Node}
-use Rattle.keep_rules.specs.declared.ways.Fault.{Fault}
+use Rattle.keep_rules.specs.declared.key_walk.Fault.{Fault}
 use Rattle.keep_meaning.specs.Marks as marks
 use Rattle.keep_meaning.specs.Marks.{Mention, mark_of}
-use Rattle.keep_rules.specs.Inside.{Inside, Turn, turn_item, turn_keyed, AllSuit, turn_said, turns_said, inside_after, next_inside}
-use Rattle.keep_nodes.specs.Stored.{twigs}
+use Rattle.keep_rules.specs.NestedValues.{NestingState, NestedValue, nested_item, nested_keyed, AllSuit, nested_mentions, all_nested_mentions, nesting_after, next_nesting}
+use Rattle.keep_nodes.specs.Stored.{trie_of}
 use Rattle.keep_rules.specs.Tables.{IsShaped}
-use Rattle.keep_rules.specs.Standing.{FaultIn}
-use Rattle.keep_rules.specs.Reads.{AreInside}
-use Rattle.keep_rules.specs.Stops.{FaultSays}
-use Rattle.keep_rules.specs.Took.{turn_keys, turns_keys, HasKeys, Took}
-use Rattle.keep_rules.specs.FlatValues.{SaysTurn, IsInside}
-use Rattle.keep_rules.specs.Plans.{stand, EndsAt, SayTurns, IsNext, AreNext, HasWorld, TookTurn, TurnFaults, TookTurns, TurnsFault}
-use Rattle.keep_rules.proofs.InsideLemmas.{turns_said-append, inside_after-append}
+use Rattle.keep_rules.specs.Represents.{FaultIn}
+use Rattle.keep_rules.specs.Reads.{AreValueNodes}
+use Rattle.keep_rules.specs.Stops.{FaultMeets}
+use Rattle.keep_rules.specs.NestedReads.{nested_keys, all_nested_keys, HasKeys, NestedRead}
+use Rattle.keep_rules.specs.FlatValues.{MatchesNested, IsInside}
+use Rattle.keep_rules.specs.Plans.{nodes_so_far, EndsAt, MatchNested, IsNext, AreNext, RepresentsSome, NestedValueRead, NestedValueFaults, NestedValuesRead, NestedValuesFault}
+use Rattle.keep_rules.proofs.NestedValueLemmas.{all_nested_mentions-append, nesting_after-append}
 use Rattle.keep_rules.proofs.PassLemmas.{keeps_same}
 use Rattle.keep_rules.proofs.StopLemmas.{fault_within}
-use Rattle.keep_rules.proofs.PlanLemmas.{says_weaker}
-use Rattle.keep_rules.proofs.TookLemmas.{took_none, took_then, turn_marks}
+use Rattle.keep_rules.proofs.PlanLemmas.{meets_weaker}
+use Rattle.keep_rules.proofs.NestedReadLemmas.{nested_read_none, nested_read_then, nested_marks}
 
--- the first of the turns are read, and the next value has this number
-pub record Underway (bytes : List ℕ) (f : Flat) (base from first : ℕ) (old : List Node) (ids : List ℕ) (now : List Node) (ids' : List ℕ) (number : ℕ) (s : Inside) (ts : List Turn) : Type 0 where
-  pub done : List Turn
-  pub left : List Turn
+-- the first of the nested values are read, and the next has this number
+pub record Underway (bytes : List ℕ) (f : Flat) (base from first : ℕ) (old : List Node) (ids : List ℕ) (now : List Node) (ids' : List ℕ) (number : ℕ) (s : NestingState) (ts : List NestedValue) : Type 0 where
+  pub done : List NestedValue
+  pub left : List NestedValue
   pub whole : ts ≡ done ++ left
   pub here : number ≡ from + length done
-  pub took : Took f.values f.keys (stand old ids) (stand now ids') from first s done
-  pub keys : length (marks.marks (turns_said s done)) ≡ turns_keys done
-  pub suit : AllSuit (inside_after s done) left
-  pub say : SayTurns bytes f base number (first + turns_keys done) left
+  pub was_read : NestedRead f.values f.keys (nodes_so_far old ids) (nodes_so_far now ids') from first s done
+  pub keys : length (marks.marks (all_nested_mentions s done)) ≡ all_nested_keys done
+  pub suit : AllSuit (nesting_after s done) left
+  pub matches : MatchNested bytes f base number (first + all_nested_keys done) left
 
--- of all turns that the values say
+-- of all nested values that the values may be
 abbrev pub AreUnderway : List ℕ → Flat → ℕ → ℕ → List Node → List ℕ → List Node → List ℕ → ℕ → Type 0
 AreUnderway bytes f base from old ids now ids' number =
-    (s : Inside) (ts : List Turn) (first : ℕ) → AreNext bytes f (twigs old) ids base from first s ts → Underway bytes f base from first old ids now ids' number s ts
+    (s : NestingState) (ts : List NestedValue) (first : ℕ) → AreNext bytes f (trie_of old) ids base from first s ts → Underway bytes f base from first old ids now ids' number s ts
 
-pub begin_underway : (bytes : List ℕ) (f : Flat) (base from : ℕ) (old : List Node) (ids : List ℕ) → IsShaped (twigs old) → AreUnderway bytes f base from old ids old ids from
+pub begin_underway : (bytes : List ℕ) (f : Flat) (base from : ℕ) (old : List Node) (ids : List ℕ) → IsShaped (trie_of old) → AreUnderway bytes f base from old ids old ids from
 begin_underway bytes f base from old ids shaped s ts first next = record {
   done = [];
   left = ts;
   whole = refl;
   here = omega arith;
-  took = took_none f.values f.keys (stand old ids) from first s shaped (keeps_same (twigs old)) next.inside;
+  was_read = nested_read_none f.values f.keys (nodes_so_far old ids) from first s shaped (keeps_same (trie_of old)) next.inside;
   keys = refl;
   suit = next.suit;
-  say = subst (λ (n : ℕ). SayTurns bytes f base from n ts) (let e : first ≡ first + 0 = omega arith in e) next.say;
+  matches = subst (λ (n : ℕ). MatchNested bytes f base from n ts) (let e : first ≡ first + 0 = omega arith in e) next.matches;
 }
 
 -- ---- what comes next
@@ -63,108 +63,108 @@ pub record IsThere (values : List ValueInfo) (number : ℕ) (info : ValueInfo) :
   pub listed : slice_get values number ≡ Some info
   pub inside : IsInside info.owner
 
--- the next turn, with those behind it
-pub record HasNext (bytes : List ℕ) (f : Flat) (base first : ℕ) (now : List Node) (ids' : List ℕ) (number : ℕ) (info : ValueInfo) (s : Inside) (left : List Turn) : Type 0 where
-  pub turn : Turn
-  pub rest : List Turn
-  pub split : left ≡ turn ∷ rest
-  pub next : IsNext bytes f.keys (twigs now) ids' base info s turn
+-- the next nested value, with those after it
+pub record HasNext (bytes : List ℕ) (f : Flat) (base first : ℕ) (now : List Node) (ids' : List ℕ) (number : ℕ) (info : ValueInfo) (s : NestingState) (left : List NestedValue) : Type 0 where
+  pub nested : NestedValue
+  pub rest : List NestedValue
+  pub split : left ≡ nested ∷ rest
+  pub next : IsNext bytes f.keys (trie_of now) ids' base info s nested
   pub first_is : info.first_key ≡ first
-  pub suit : AllSuit (next_inside s turn) rest
-  pub say : SayTurns bytes f base (number + 1) (first + turn_keys turn) rest
+  pub suit : AllSuit (next_nesting s nested) rest
+  pub matches : MatchNested bytes f base (number + 1) (first + nested_keys nested) rest
 
 same_info : (a b : ValueInfo) → Some a ≡ Some b → a ≡ b
 same_info a b e = cc
 
-has_next : (bytes : List ℕ) (f : Flat) (base first : ℕ) (now : List Node) (ids' : List ℕ) (number : ℕ) (info : ValueInfo) (s : Inside) (left : List Turn)
-    → IsThere f.values number info → AreInside (twigs now) ids' s → AllSuit s left → SayTurns bytes f base number first left → HasNext bytes f base first now ids' number info s left
-has_next bytes f base first now ids' number info s [] there are suit say = absurd (say info there.listed there.inside)
-has_next bytes f base first now ids' number info s (t ∷ ts) there are suit say =
-    let same : say.0 ≡ info = same_info say.0 info (sym say.1 ∙ there.listed) in
+has_next : (bytes : List ℕ) (f : Flat) (base first : ℕ) (now : List Node) (ids' : List ℕ) (number : ℕ) (info : ValueInfo) (s : NestingState) (left : List NestedValue)
+    → IsThere f.values number info → AreValueNodes (trie_of now) ids' s → AllSuit s left → MatchNested bytes f base number first left → HasNext bytes f base first now ids' number info s left
+has_next bytes f base first now ids' number info s [] there are suit matches = absurd (matches info there.listed there.inside)
+has_next bytes f base first now ids' number info s (t ∷ ts) there are suit matches =
+    let same : matches.0 ≡ info = same_info matches.0 info (sym matches.1 ∙ there.listed) in
     record {
-      turn = t;
+      nested = t;
       rest = ts;
       split = refl;
-      next = record { inside = are; suits = suit.0; says = subst (λ (i : ValueInfo). SaysTurn bytes f.keys base t i) same say.2; keys = say.3 };
-      first_is = ap (λ (i : ValueInfo). i.first_key) (sym same) ∙ say.4;
+      next = record { inside = are; suits = suit.0; matches = subst (λ (i : ValueInfo). MatchesNested bytes f.keys base t i) same matches.2; keys = matches.3 };
+      first_is = ap (λ (i : ValueInfo). i.first_key) (sym same) ∙ matches.4;
       suit = suit.1;
-      say = say.5;
+      matches = matches.5;
     }
 
-underway_next : (bytes : List ℕ) (f : Flat) (base from first : ℕ) (old : List Node) (ids : List ℕ) (now : List Node) (ids' : List ℕ) (number : ℕ) (info : ValueInfo) (s : Inside) (ts : List Turn)
-    → IsThere f.values number info → (u : Underway bytes f base from first old ids now ids' number s ts) → HasNext bytes f base (first + turns_keys u.done) now ids' number info (inside_after s u.done) u.left
+underway_next : (bytes : List ℕ) (f : Flat) (base from first : ℕ) (old : List Node) (ids : List ℕ) (now : List Node) (ids' : List ℕ) (number : ℕ) (info : ValueInfo) (s : NestingState) (ts : List NestedValue)
+    → IsThere f.values number info → (u : Underway bytes f base from first old ids now ids' number s ts) → HasNext bytes f base (first + all_nested_keys u.done) now ids' number info (nesting_after s u.done) u.left
 underway_next bytes f base from first old ids now ids' number info s ts there u =
-    has_next bytes f base (first + turns_keys u.done) now ids' number info (inside_after s u.done) u.left there u.took.inside u.suit u.say
+    has_next bytes f base (first + all_nested_keys u.done) now ids' number info (nesting_after s u.done) u.left there u.was_read.inside u.suit u.matches
 
 pub some_next : (bytes : List ℕ) (f : Flat) (base from : ℕ) (old : List Node) (ids : List ℕ) (now : List Node) (ids' : List ℕ) (number : ℕ) (info : ValueInfo)
-    → IsThere f.values number info → AreUnderway bytes f base from old ids now ids' number → (s : Inside) × (ts : List Turn) × (first : ℕ) × AreNext bytes f (twigs old) ids base from first s ts
-    → (s : Inside) × (t : Turn) × IsNext bytes f.keys (twigs now) ids' base info s t
+    → IsThere f.values number info → AreUnderway bytes f base from old ids now ids' number → (s : NestingState) × (ts : List NestedValue) × (first : ℕ) × AreNext bytes f (trie_of old) ids base from first s ts
+    → (s : NestingState) × (t : NestedValue) × IsNext bytes f.keys (trie_of now) ids' base info s t
 some_next bytes f base from old ids now ids' number info there under next =
     let u = under next.0 next.1 next.2 next.3 in
     let n = underway_next bytes f base from next.2 old ids now ids' number info next.0 next.1 there u in
-    (inside_after next.0 u.done, n.turn, n.next)
+    (nesting_after next.0 u.done, n.nested, n.next)
 
 pub some_shaped : (bytes : List ℕ) (f : Flat) (base from : ℕ) (old : List Node) (ids : List ℕ) (now : List Node) (ids' : List ℕ) (number : ℕ)
-    → AreUnderway bytes f base from old ids now ids' number → (s : Inside) × (ts : List Turn) × (first : ℕ) × AreNext bytes f (twigs old) ids base from first s ts → IsShaped (twigs now)
-some_shaped bytes f base from old ids now ids' number under next = (under next.0 next.1 next.2 next.3).took.shaped
+    → AreUnderway bytes f base from old ids now ids' number → (s : NestingState) × (ts : List NestedValue) × (first : ℕ) × AreNext bytes f (trie_of old) ids base from first s ts → IsShaped (trie_of now)
+some_shaped bytes f base from old ids now ids' number under next = (under next.0 next.1 next.2 next.3).was_read.shaped
 
-pub some_world : (bytes : List ℕ) (f : Flat) (base from : ℕ) (old : List Node) (ids : List ℕ) (now : List Node) (ids' : List ℕ) (number : ℕ)
-    → AreUnderway bytes f base from old ids now ids' number → (s : Inside) × (ts : List Turn) × (first : ℕ) × AreNext bytes f (twigs old) ids base from first s ts → HasWorld (twigs old) → HasWorld (twigs now)
-some_world bytes f base from old ids now ids' number under next world =
+pub represents_some : (bytes : List ℕ) (f : Flat) (base from : ℕ) (old : List Node) (ids : List ℕ) (now : List Node) (ids' : List ℕ) (number : ℕ)
+    → AreUnderway bytes f base from old ids now ids' number → (s : NestingState) × (ts : List NestedValue) × (first : ℕ) × AreNext bytes f (trie_of old) ids base from first s ts → RepresentsSome (trie_of old) → RepresentsSome (trie_of now)
+represents_some bytes f base from old ids now ids' number under next represents =
     let u = under next.0 next.1 next.2 next.3 in
-    (world.0 ++ turns_said next.0 u.done, world.1, u.took.world world.0 world.1 world.2)
+    (represents.0 ++ all_nested_mentions next.0 u.done, represents.1, u.was_read.represents represents.0 represents.1 represents.2)
 
 -- ---- one more
 
-turns_keys-push : (ts : List Turn) (t : Turn) → turns_keys (ts ++ t ∷ []) ≡ turns_keys ts + turn_keys t
-turns_keys-push [] t = omega arith
-turns_keys-push (x ∷ ts) t = omega (arith, turns_keys-push ts t)
+all_nested_keys-push : (ts : List NestedValue) (t : NestedValue) → all_nested_keys (ts ++ t ∷ []) ≡ all_nested_keys ts + nested_keys t
+all_nested_keys-push [] t = omega arith
+all_nested_keys-push (x ∷ ts) t = omega (arith, all_nested_keys-push ts t)
 
-marks-push : (s : Inside) (ts : List Turn) (t : Turn) → HasKeys t → length (marks.marks (turns_said s ts)) ≡ turns_keys ts → length (marks.marks (turns_said s (ts ++ t ∷ []))) ≡ turns_keys (ts ++ t ∷ [])
+marks-push : (s : NestingState) (ts : List NestedValue) (t : NestedValue) → HasKeys t → length (marks.marks (all_nested_mentions s ts)) ≡ all_nested_keys ts → length (marks.marks (all_nested_mentions s (ts ++ t ∷ []))) ≡ all_nested_keys (ts ++ t ∷ [])
 marks-push s ts t has e =
-    let said : turns_said s (ts ++ t ∷ []) ≡ turns_said s ts ++ turn_said (inside_after s ts) t = turns_said-append s ts (t ∷ []) ∙ ap (λ w. turns_said s ts ++ w) (append-nil (turn_said (inside_after s ts) t)) in
-    ap (λ w. length (marks.marks w)) said ∙ ap length (filter_map-append mark_of (turns_said s ts) (turn_said (inside_after s ts) t))
-    ∙ length-append (marks.marks (turns_said s ts)) (marks.marks (turn_said (inside_after s ts) t)) ∙ omega (arith, e, turn_marks (inside_after s ts) t has, turns_keys-push ts t)
+    let said : all_nested_mentions s (ts ++ t ∷ []) ≡ all_nested_mentions s ts ++ nested_mentions (nesting_after s ts) t = all_nested_mentions-append s ts (t ∷ []) ∙ ap (λ w. all_nested_mentions s ts ++ w) (append-nil (nested_mentions (nesting_after s ts) t)) in
+    ap (λ w. length (marks.marks w)) said ∙ ap length (filter_map-append mark_of (all_nested_mentions s ts) (nested_mentions (nesting_after s ts) t))
+    ∙ length-append (marks.marks (all_nested_mentions s ts)) (marks.marks (nested_mentions (nesting_after s ts) t)) ∙ omega (arith, e, nested_marks (nesting_after s ts) t has, all_nested_keys-push ts t)
 
 pub underway_more : (bytes : List ℕ) (f : Flat) (base from : ℕ) (old : List Node) (ids : List ℕ) (now : List Node) (ids' : List ℕ) (new : List Node) (ids'' : List ℕ) (number : ℕ) (info : ValueInfo)
-    → IsThere f.values number info → AreUnderway bytes f base from old ids now ids' number → TookTurn bytes f base info now ids' new ids'' number → AreUnderway bytes f base from old ids new ids'' (number + 1)
-underway_more bytes f base from old ids now ids' new ids'' number info there under took s ts first next =
+    → IsThere f.values number info → AreUnderway bytes f base from old ids now ids' number → NestedValueRead bytes f base info now ids' new ids'' number → AreUnderway bytes f base from old ids new ids'' (number + 1)
+underway_more bytes f base from old ids now ids' new ids'' number info there under was_read s ts first next =
     let u = under s ts first next in
     let n = underway_next bytes f base from first old ids now ids' number info s ts there u in
-    let one : Took f.values f.keys (stand now ids') (stand new ids'') number info.first_key (inside_after s u.done) (n.turn ∷ []) = took (inside_after s u.done) n.turn n.next in
-    let two : Took f.values f.keys (stand now ids') (stand new ids'') (from + length u.done) (first + length (marks.marks (turns_said s u.done))) (inside_after s u.done) (n.turn ∷ []) =
-    subst (λ (k : ℕ). Took f.values f.keys (stand now ids') (stand new ids'') k (first + length (marks.marks (turns_said s u.done))) (inside_after s u.done) (n.turn ∷ [])) u.here
-    (subst (λ (k : ℕ). Took f.values f.keys (stand now ids') (stand new ids'') number k (inside_after s u.done) (n.turn ∷ [])) (n.first_is ∙ ap (λ k. first + k) (sym u.keys)) one) in
+    let one : NestedRead f.values f.keys (nodes_so_far now ids') (nodes_so_far new ids'') number info.first_key (nesting_after s u.done) (n.nested ∷ []) = was_read (nesting_after s u.done) n.nested n.next in
+    let two : NestedRead f.values f.keys (nodes_so_far now ids') (nodes_so_far new ids'') (from + length u.done) (first + length (marks.marks (all_nested_mentions s u.done))) (nesting_after s u.done) (n.nested ∷ []) =
+    subst (λ (k : ℕ). NestedRead f.values f.keys (nodes_so_far now ids') (nodes_so_far new ids'') k (first + length (marks.marks (all_nested_mentions s u.done))) (nesting_after s u.done) (n.nested ∷ [])) u.here
+    (subst (λ (k : ℕ). NestedRead f.values f.keys (nodes_so_far now ids') (nodes_so_far new ids'') number k (nesting_after s u.done) (n.nested ∷ [])) (n.first_is ∙ ap (λ k. first + k) (sym u.keys)) one) in
     record {
-      done = u.done ++ n.turn ∷ [];
+      done = u.done ++ n.nested ∷ [];
       left = n.rest;
-      whole = u.whole ∙ ap (λ l. u.done ++ l) n.split ∙ sym (append_assoc u.done (n.turn ∷ []) n.rest);
-      here = omega (arith, u.here, length-append u.done (n.turn ∷ []));
-      took = took_then f.values f.keys (stand old ids) (stand now ids') (stand new ids'') from first s u.done (n.turn ∷ []) u.took two;
-      keys = marks-push s u.done n.turn n.next.keys u.keys;
-      suit = subst (λ (x : Inside). AllSuit x n.rest) (sym (inside_after-append s u.done (n.turn ∷ []))) n.suit;
-      say = subst (λ (k : ℕ). SayTurns bytes f base (number + 1) k n.rest) (let e : (first + turns_keys u.done) + turn_keys n.turn ≡ first + turns_keys (u.done ++ n.turn ∷ []) = omega (arith, turns_keys-push u.done n.turn) in e) n.say;
+      whole = u.whole ∙ ap (λ l. u.done ++ l) n.split ∙ sym (append_assoc u.done (n.nested ∷ []) n.rest);
+      here = omega (arith, u.here, length-append u.done (n.nested ∷ []));
+      was_read = nested_read_then f.values f.keys (nodes_so_far old ids) (nodes_so_far now ids') (nodes_so_far new ids'') from first s u.done (n.nested ∷ []) u.was_read two;
+      keys = marks-push s u.done n.nested n.next.keys u.keys;
+      suit = subst (λ (x : NestingState). AllSuit x n.rest) (sym (nesting_after-append s u.done (n.nested ∷ []))) n.suit;
+      matches = subst (λ (k : ℕ). MatchNested bytes f base (number + 1) k n.rest) (let e : (first + all_nested_keys u.done) + nested_keys n.nested ≡ first + all_nested_keys (u.done ++ n.nested ∷ []) = omega (arith, all_nested_keys-push u.done n.nested) in e) n.matches;
     }
 
 -- ---- the end
 
-not_inside : (bytes : List ℕ) (f : Flat) (base : ℕ) (t : Turn) (info : ValueInfo) → SaysTurn bytes f.keys base t info → IsInside info.owner
-not_inside bytes f base (turn_item o fact) info says = subst IsInside (sym says.owned.1) tt
-not_inside bytes f base (turn_keyed o ks fact) info says = subst IsInside (sym says.owned.1) tt
+not_inside : (bytes : List ℕ) (f : Flat) (base : ℕ) (t : NestedValue) (info : ValueInfo) → MatchesNested bytes f.keys base t info → IsInside info.owner
+not_inside bytes f base (nested_item o fact) info matches = subst IsInside (sym matches.owned.1) tt
+not_inside bytes f base (nested_keyed o ks fact) info matches = subst IsInside (sym matches.owned.1) tt
 
--- no value is left where the next one stands in no value
-none_left : (bytes : List ℕ) (f : Flat) (base first number : ℕ) (left : List Turn) → EndsAt f.values number → SayTurns bytes f base number first left → left ≡ []
-none_left bytes f base first number [] ends say = refl
-none_left bytes f base first number (t ∷ ts) ends say = absurd (ends say.0 say.1 (not_inside bytes f base t say.0 say.2))
+-- no value is left where the next one is in no value
+none_left : (bytes : List ℕ) (f : Flat) (base first number : ℕ) (left : List NestedValue) → EndsAt f.values number → MatchNested bytes f base number first left → left ≡ []
+none_left bytes f base first number [] ends matches = refl
+none_left bytes f base first number (t ∷ ts) ends matches = absurd (ends matches.0 matches.1 (not_inside bytes f base t matches.0 matches.2))
 
 pub underway_ends : (bytes : List ℕ) (f : Flat) (base from : ℕ) (old : List Node) (ids : List ℕ) (now : List Node) (ids' : List ℕ) (number : ℕ)
-    → EndsAt f.values number → AreUnderway bytes f base from old ids now ids' number → TookTurns bytes f base from old ids now ids'
+    → EndsAt f.values number → AreUnderway bytes f base from old ids now ids' number → NestedValuesRead bytes f base from old ids now ids'
 underway_ends bytes f base from old ids now ids' number ends under s ts first next =
     let u = under s ts first next in
-    let all : ts ≡ u.done = u.whole ∙ ap (λ l. u.done ++ l) (none_left bytes f base (first + turns_keys u.done) number u.left ends u.say) ∙ append-nil u.done in
-    subst (λ (l : List Turn). Took f.values f.keys (stand old ids) (stand now ids') from first s l) (sym all) u.took
+    let all : ts ≡ u.done = u.whole ∙ ap (λ l. u.done ++ l) (none_left bytes f base (first + all_nested_keys u.done) number u.left ends u.matches) ∙ append-nil u.done in
+    subst (λ (l : List NestedValue). NestedRead f.values f.keys (nodes_so_far old ids) (nodes_so_far now ids') from first s l) (sym all) u.was_read
 
--- behind the last value
+-- after the last value
 pub past_ends : (values : List ValueInfo) (number : ℕ) → length values ≤ number → EndsAt values number
 past_ends values number h info listed inside = absurd (omega (arith, h, slice_get_within values number info listed))
 
@@ -184,42 +184,42 @@ other_inside (owner.Item g) other = tt
 -- ---- a fault
 
 pub underway_fault : (bytes : List ℕ) (f : Flat) (base from : ℕ) (old : List Node) (ids : List ℕ) (now : List Node) (ids' : List ℕ) (number : ℕ) (info : ValueInfo) (at : ℕ) (why : Why)
-    → IsThere f.values number info → AreUnderway bytes f base from old ids now ids' number → TurnFaults bytes f base info now ids' at why → TurnsFault bytes f base from old ids at why
-underway_fault bytes f base from old ids now ids' number info at why there under faults s ts first next ms tables world =
+    → IsThere f.values number info → AreUnderway bytes f base from old ids now ids' number → NestedValueFaults bytes f base info now ids' at why → NestedValuesFault bytes f base from old ids at why
+underway_fault bytes f base from old ids now ids' number info at why there under faults s ts first next ms tables represents =
     let u = under s ts first next in
     let n = underway_next bytes f base from first old ids now ids' number info s ts there u in
-    let one = faults (inside_after s u.done) n.turn n.next (ms ++ turns_said s u.done) tables (u.took.world ms tables world) in
-    let rest : List Mention = turns_said (next_inside (inside_after s u.done) n.turn) n.rest in
-    let said : turns_said s ts ≡ turns_said s u.done ++ (turn_said (inside_after s u.done) n.turn ++ rest) =
-    ap (turns_said s) (u.whole ∙ ap (λ l. u.done ++ l) n.split) ∙ turns_said-append s u.done (n.turn ∷ n.rest) in
+    let one = faults (nesting_after s u.done) n.nested n.next (ms ++ all_nested_mentions s u.done) tables (u.was_read.represents ms tables represents) in
+    let rest : List Mention = all_nested_mentions (next_nesting (nesting_after s u.done) n.nested) n.rest in
+    let said : all_nested_mentions s ts ≡ all_nested_mentions s u.done ++ (nested_mentions (nesting_after s u.done) n.nested ++ rest) =
+    ap (all_nested_mentions s) (u.whole ∙ ap (λ l. u.done ++ l) n.split) ∙ all_nested_mentions-append s u.done (n.nested ∷ n.rest) in
     record {
-      within = length (marks.marks (turns_said s u.done)) + one.within;
+      within = length (marks.marks (all_nested_mentions s u.done)) + one.within;
       sum = omega (arith, one.sum, n.first_is, u.keys);
-      fault = subst (λ (w : List Mention). FaultIn ms w (length (marks.marks (turns_said s u.done)) + one.within) why) (sym said)
-          (fault_within ms (turns_said s u.done) (turn_said (inside_after s u.done) n.turn) rest one.within why one.fault);
+      fault = subst (λ (w : List Mention). FaultIn ms w (length (marks.marks (all_nested_mentions s u.done)) + one.within) why) (sym said)
+          (fault_within ms (all_nested_mentions s u.done) (nested_mentions (nesting_after s u.done) n.nested) rest one.within why one.fault);
     }
 
 pub underway_faults : (bytes : List ℕ) (f : Flat) (base from : ℕ) (old : List Node) (ids : List ℕ) (now : List Node) (ids' : List ℕ) (number : ℕ) (info : ValueInfo) (g : Fault)
-    → IsThere f.values number info → AreUnderway bytes f base from old ids now ids' number → FaultSays g (TurnFaults bytes f base info now ids') → FaultSays g (TurnsFault bytes f base from old ids)
-underway_faults bytes f base from old ids now ids' number info g there under says =
-    says_weaker g (TurnFaults bytes f base info now ids') (TurnsFault bytes f base from old ids)
-    (λ at why faults. underway_fault bytes f base from old ids now ids' number info at why there under faults) says
+    → IsThere f.values number info → AreUnderway bytes f base from old ids now ids' number → FaultMeets g (NestedValueFaults bytes f base info now ids') → FaultMeets g (NestedValuesFault bytes f base from old ids)
+underway_faults bytes f base from old ids now ids' number info g there under meets =
+    meets_weaker g (NestedValueFaults bytes f base info now ids') (NestedValuesFault bytes f base from old ids)
+    (λ at why faults. underway_fault bytes f base from old ids now ids' number info at why there under faults) meets
 
--- ---- the same, where the nodes of the values so far are lent as a slice
+-- ---- these laws, where the nodes of the values so far are lent as a slice
 
 pub some_next_seen : (bytes : List ℕ) (f : Flat) (base from : ℕ) (old : List Node) (ids : List ℕ) (now : List Node) (ids' seen : List ℕ) (number : ℕ) (info : ValueInfo) → seen ≡ ids'
-    → IsThere f.values number info → AreUnderway bytes f base from old ids now ids' number → (s : Inside) × (ts : List Turn) × (first : ℕ) × AreNext bytes f (twigs old) ids base from first s ts
-    → (s : Inside) × (t : Turn) × IsNext bytes f.keys (twigs now) seen base info s t
+    → IsThere f.values number info → AreUnderway bytes f base from old ids now ids' number → (s : NestingState) × (ts : List NestedValue) × (first : ℕ) × AreNext bytes f (trie_of old) ids base from first s ts
+    → (s : NestingState) × (t : NestedValue) × IsNext bytes f.keys (trie_of now) seen base info s t
 some_next_seen bytes f base from old ids now ids' seen number info same there under next =
-    subst (λ (l : List ℕ). (s : Inside) × (t : Turn) × IsNext bytes f.keys (twigs now) l base info s t) (sym same) (some_next bytes f base from old ids now ids' number info there under next)
+    subst (λ (l : List ℕ). (s : NestingState) × (t : NestedValue) × IsNext bytes f.keys (trie_of now) l base info s t) (sym same) (some_next bytes f base from old ids now ids' number info there under next)
 
 pub underway_more_seen : (bytes : List ℕ) (f : Flat) (base from : ℕ) (old : List Node) (ids : List ℕ) (now : List Node) (ids' seen : List ℕ) (new : List Node) (ids'' : List ℕ) (to number : ℕ) (info : ValueInfo) → seen ≡ ids' → ids'' ≡ ids' ++ to ∷ []
-    → IsThere f.values number info → AreUnderway bytes f base from old ids now ids' number → TookTurn bytes f base info now seen new (seen ++ to ∷ []) number → AreUnderway bytes f base from old ids new ids'' (number + 1)
-underway_more_seen bytes f base from old ids now ids' seen new ids'' to number info same pushed there under took =
+    → IsThere f.values number info → AreUnderway bytes f base from old ids now ids' number → NestedValueRead bytes f base info now seen new (seen ++ to ∷ []) number → AreUnderway bytes f base from old ids new ids'' (number + 1)
+underway_more_seen bytes f base from old ids now ids' seen new ids'' to number info same pushed there under was_read =
     underway_more bytes f base from old ids now ids' new ids'' number info there under
-    (subst (λ (l : List ℕ). TookTurn bytes f base info now ids' new l number) (sym pushed) (subst (λ (l : List ℕ). TookTurn bytes f base info now l new (l ++ to ∷ []) number) same took))
+    (subst (λ (l : List ℕ). NestedValueRead bytes f base info now ids' new l number) (sym pushed) (subst (λ (l : List ℕ). NestedValueRead bytes f base info now l new (l ++ to ∷ []) number) same was_read))
 
 pub underway_faults_seen : (bytes : List ℕ) (f : Flat) (base from : ℕ) (old : List Node) (ids : List ℕ) (now : List Node) (ids' seen : List ℕ) (number : ℕ) (info : ValueInfo) (g : Fault) → seen ≡ ids'
-    → IsThere f.values number info → AreUnderway bytes f base from old ids now ids' number → FaultSays g (TurnFaults bytes f base info now seen) → FaultSays g (TurnsFault bytes f base from old ids)
-underway_faults_seen bytes f base from old ids now ids' seen number info g same there under says =
-    underway_faults bytes f base from old ids now ids' number info g there under (subst (λ (l : List ℕ). FaultSays g (TurnFaults bytes f base info now l)) same says)
+    → IsThere f.values number info → AreUnderway bytes f base from old ids now ids' number → FaultMeets g (NestedValueFaults bytes f base info now seen) → FaultMeets g (NestedValuesFault bytes f base from old ids)
+underway_faults_seen bytes f base from old ids now ids' seen number info g same there under meets =
+    underway_faults bytes f base from old ids now ids' number info g there under (subst (λ (l : List ℕ). FaultMeets g (NestedValueFaults bytes f base info now l)) same meets)

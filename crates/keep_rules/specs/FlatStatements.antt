@@ -1,4 +1,4 @@
--- The statements of a document in one list, as what their text says.
+-- How the flat list of a document's statements matches its tree.
 use Rattle.std.specs.Prelude.{◌≡◌, ℕ, ◌+◌, ◌<◌, ◌≤◌, List, length, take, drop, slice_get, Some, None}
 use Rattle.std.specs.List.{AllZip}
 use Rattle.keep_token.specs.declared.leaf.Profile.{Profile}
@@ -11,27 +11,27 @@ use Rattle.keep_syntax.specs.Tree.{Name, Value}
 use Rattle.keep_syntax.specs.Grammar.{IsValue}
 use Rattle.keep_syntax.specs.Numbered.{value_count}
 use Rattle.keep_meaning.specs.Counts.{Count}
-use Rattle.keep_rules.specs.FlatValues.{leaf_kind, leaf_holding, SaysTurn}
+use Rattle.keep_rules.specs.FlatValues.{leaf_kind, leaf_holding, MatchesNested}
 use Rattle.keep_rules.specs.FirstKeys.{FirstKeys}
-use Rattle.keep_rules.specs.Inside.{holding_of, turns}
+use Rattle.keep_rules.specs.NestedValues.{holding_of, nested_values}
 use Rattle.keep_meaning.specs.KeyText.{keys_in}
 use Rattle.keep_meaning.specs.Marks as marks
 use Rattle.keep_meaning.specs.Marks.{Mention}
 use Rattle.keep_meaning.specs.Meaning.{keys_of, body_fact, keyval_said}
 use Rattle.keep_meaning.specs.Nodes.{fact_kind}
 
--- what stands there, if anything does, is the value of a line's keyval
+-- the value of that number, if there is one, is that of a line's keyval
 abbrev pub LineStarts : List ValueInfo → ℕ → Type 0
 LineStarts values n = (info : ValueInfo) → slice_get values n ≡ Some info → (i : ℕ) × (info.owner ≡ owner.Line i)
 
 -- the key parts of a statement mean these keys
-pub record SaysKeys (bytes : List ℕ) (parts : List KeyPart) (st : Statement) (ks : List (List ℕ)) : Type 0 where
+pub record MatchesKeys (bytes : List ℕ) (parts : List KeyPart) (st : Statement) (ks : List (List ℕ)) : Type 0 where
   pub keys : keys_in bytes parts st.first_key st.keys ≡ ks
   pub some : 0 < st.keys
   pub within : st.first_key + st.keys ≤ length parts
 
 -- the values of a statement are this value and those in it, and the next is another line's
-pub record SaysValues (bytes : List ℕ) (parts : List KeyPart) (values : List ValueInfo) (v : Value) (st : Statement) : Type 0 where
+pub record MatchesValues (bytes : List ℕ) (parts : List KeyPart) (values : List ValueInfo) (v : Value) (st : Statement) : Type 0 where
   pub first : ℕ
   pub valued : st.value ≡ Some first
   pub own : ValueInfo
@@ -39,28 +39,28 @@ pub record SaysValues (bytes : List ℕ) (parts : List KeyPart) (values : List V
   pub kind : fact_kind (body_fact v.body) ≡ leaf_kind own.leaf
   pub holds : holding_of (body_fact v.body) ≡ leaf_holding own.leaf
   pub within : first + 1 + value_count v.inside ≤ length values
-  pub inside : AllZip (SaysTurn bytes parts first) (turns 1 2 v.inside) (take (value_count v.inside) (drop (first + 1) values))
-  pub firsts : FirstKeys (st.first_key + st.keys) (turns 1 2 v.inside) (take (value_count v.inside) (drop (first + 1) values))
-  pub behind : LineStarts values (first + 1 + value_count v.inside)
+  pub inside : AllZip (MatchesNested bytes parts first) (nested_values 1 2 v.inside) (take (value_count v.inside) (drop (first + 1) values))
+  pub firsts : FirstKeys (st.first_key + st.keys) (nested_values 1 2 v.inside) (take (value_count v.inside) (drop (first + 1) values))
+  pub next_line : LineStarts values (first + 1 + value_count v.inside)
 
--- a statement is the keyval that says this
-pub record SaysKeyvalOf (bytes : List ℕ) (parts : List KeyPart) (values : List ValueInfo) (st : Statement) (said : List Mention) : Type 0 where
+-- a statement of the flat list is a keyval with these mentions
+pub record MatchesKeyvalOf (bytes : List ℕ) (parts : List KeyPart) (values : List ValueInfo) (st : Statement) (said : List Mention) : Type 0 where
   pub profile : Profile
   pub name : Name
   pub value : Value
   pub is : IsValue profile value
-  pub says : said ≡ keyval_said name value
+  pub mentions : said ≡ keyval_said name value
   pub kind : st.kind ≡ KeyVal
-  pub keys : SaysKeys bytes parts st (keys_of name.key)
-  pub valued : SaysValues bytes parts values value st
+  pub keys : MatchesKeys bytes parts st (keys_of name.key)
+  pub valued : MatchesValues bytes parts values value st
 
--- the statement of the list says this
-abbrev pub SaysStatement : List ℕ → List KeyPart → List ValueInfo → Statement → marks.Statement → Type 0
-SaysStatement bytes parts values st (marks.header ks) = (st.kind ≡ Header) × (st.value ≡ None) × SaysKeys bytes parts st ks
-SaysStatement bytes parts values st (marks.element_header ks) = (st.kind ≡ Element) × (st.value ≡ None) × SaysKeys bytes parts st ks
-SaysStatement bytes parts values st (marks.keyval ms) = SaysKeyvalOf bytes parts values st ms
+-- this statement of the flat list is that statement
+abbrev pub MatchesStatement : List ℕ → List KeyPart → List ValueInfo → Statement → marks.Statement → Type 0
+MatchesStatement bytes parts values st (marks.header ks) = (st.kind ≡ Header) × (st.value ≡ None) × MatchesKeys bytes parts st ks
+MatchesStatement bytes parts values st (marks.element_header ks) = (st.kind ≡ Element) × (st.value ≡ None) × MatchesKeys bytes parts st ks
+MatchesStatement bytes parts values st (marks.keyval ms) = MatchesKeyvalOf bytes parts values st ms
 
--- so many statements, values and key parts stand before it, which has that number
+-- so many statements, values and key parts are before the statement of that number
 pub record IsCountBefore (number : ℕ) (st : Statement) (c : Count) : Type 0 where
   pub statements : c.statements ≡ number
   pub keys : c.keys ≡ st.first_key

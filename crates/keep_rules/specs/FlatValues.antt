@@ -1,4 +1,4 @@
--- The values of a document in one list, as what their text says one after another.
+-- How the flat list of a document's values matches its tree.
 use Rattle.std.specs.Prelude.{◌≡◌, ℕ, ◌+◌, ◌≤◌, List, [], ◌∷◌, length, ⊤}
 use Rattle.std.specs.List.{AllZip}
 use Rattle.keep_token.specs.declared.leaf.Leaf.{Leaf}
@@ -12,13 +12,13 @@ use Rattle.keep_syntax.specs.Grammar.{Place, in_scalar, in_array, in_inline}
 use Rattle.keep_meaning.specs.declared.node.Kind.{Kind}
 use Rattle.keep_meaning.specs.declared.node.Kind.TheVariants as kind
 use Rattle.keep_meaning.specs.Fact.{Fact}
-use Rattle.keep_rules.specs.Inside.{Turn, turn_item, turn_keyed, holding_of, turn_fact, turns}
+use Rattle.keep_rules.specs.NestedValues.{NestedValue, nested_item, nested_keyed, holding_of, nested_fact, nested_values}
 use Rattle.keep_meaning.specs.KeyText.{keys_in}
 use Rattle.keep_meaning.specs.Meaning.{keys_of, body_fact}
 use Rattle.keep_meaning.specs.Nodes.{fact_kind}
 use Rattle.keep_nodes.specs.Trie.{Holding, nothing, by_key, by_index}
 
--- ---- what a value's leaf tells
+-- ---- the kind of a value, by its leaf
 
 abbrev pub leaf_kind : Leaf → Kind
 leaf_kind leaf.Basic = kind.Str
@@ -36,52 +36,52 @@ leaf_kind leaf.ArrayOpen = kind.Array
 leaf_kind leaf.InlineOpen = kind.Inline
 leaf_kind _ = kind.Table
 
--- what may stand in it
+-- what children it may have
 abbrev pub leaf_holding : Leaf → Holding
 leaf_holding leaf.ArrayOpen = by_index
 leaf_holding leaf.InlineOpen = by_key
 leaf_holding _ = nothing
 
--- the leaf tells what this means
-pub record LeafTells (l : Leaf) (f : Fact) : Type 0 where
+-- the leaf has the kind and the children of this fact
+pub record LeafMatches (l : Leaf) (f : Fact) : Type 0 where
   pub kind : fact_kind f ≡ leaf_kind l
   pub holds : holding_of f ≡ leaf_holding l
 
 -- ---- the values in one value
 
--- An item stands in its array, and what has a key in its inline table. The value of the number `base` in the document
--- is number 1 here, since number 0 is what the whole stands in.
-abbrev pub IsOwned : List ℕ → List KeyPart → ℕ → Turn → ValueInfo → Type 0
-IsOwned bytes parts base (turn_item o f) info = (g : ℕ) × (info.owner ≡ owner.Item g) × (g + 1 ≡ base + o)
-IsOwned bytes parts base (turn_keyed o ks f) info =
+-- An item is in its array, and what has a key in its inline table. The value of the number `base` in the document
+-- is number 1 here, since number 0 is what the whole is in.
+abbrev pub IsOwned : List ℕ → List KeyPart → ℕ → NestedValue → ValueInfo → Type 0
+IsOwned bytes parts base (nested_item o f) info = (g : ℕ) × (info.owner ≡ owner.Item g) × (g + 1 ≡ base + o)
+IsOwned bytes parts base (nested_keyed o ks f) info =
     (g : ℕ) × (info.owner ≡ owner.Inline g) × (g + 1 ≡ base + o)
     × (keys_in bytes parts info.first_key info.keys ≡ ks) × (info.first_key + info.keys ≤ length parts)
 
--- this value of the list is that one
-pub record SaysTurn (bytes : List ℕ) (parts : List KeyPart) (base : ℕ) (t : Turn) (info : ValueInfo) : Type 0 where
-  pub kind : fact_kind (turn_fact t) ≡ leaf_kind info.leaf
-  pub holds : holding_of (turn_fact t) ≡ leaf_holding info.leaf
+-- this value of the flat list is that nested value
+pub record MatchesNested (bytes : List ℕ) (parts : List KeyPart) (base : ℕ) (t : NestedValue) (info : ValueInfo) : Type 0 where
+  pub kind : fact_kind (nested_fact t) ≡ leaf_kind info.leaf
+  pub holds : holding_of (nested_fact t) ≡ leaf_holding info.leaf
   pub owned : IsOwned bytes parts base t info
 
--- the value of a line's keyval, with its keys
-pub record SaysKeyval (bytes : List ℕ) (parts : List KeyPart) (ks : List (List ℕ)) (f : Fact) (info : ValueInfo) : Type 0 where
+-- this value of the flat list is that of a line's keyval, with its keys
+pub record MatchesKeyval (bytes : List ℕ) (parts : List KeyPart) (ks : List (List ℕ)) (f : Fact) (info : ValueInfo) : Type 0 where
   pub kind : fact_kind f ≡ leaf_kind info.leaf
   pub holds : holding_of f ≡ leaf_holding info.leaf
   pub keys : keys_in bytes parts info.first_key info.keys ≡ ks
   pub within : info.first_key + info.keys ≤ length parts
 
--- the values of a keyval: its own, which has this number, and those inside
-abbrev pub SayKeyval : List ℕ → List KeyPart → ℕ → Name → Value → List ValueInfo → Type 0
-SayKeyval bytes parts base name v [] = ⊥
-SayKeyval bytes parts base name v (first ∷ inside) =
-    SaysKeyval bytes parts (keys_of name.key) (body_fact v.body) first × AllZip (SaysTurn bytes parts base) (turns 1 2 v.inside) inside
+-- these values of the flat list are those of a keyval: its own, which has this number, and those inside
+abbrev pub MatchKeyval : List ℕ → List KeyPart → ℕ → Name → Value → List ValueInfo → Type 0
+MatchKeyval bytes parts base name v [] = ⊥
+MatchKeyval bytes parts base name v (first ∷ inside) =
+    MatchesKeyval bytes parts (keys_of name.key) (body_fact v.body) first × AllZip (MatchesNested bytes parts base) (nested_values 1 2 v.inside) inside
 
--- the values of a value alone
-abbrev pub SayAlone : List ℕ → List KeyPart → Value → List ValueInfo → Type 0
-SayAlone bytes parts v [] = ⊥
-SayAlone bytes parts v (first ∷ inside) = LeafTells first.leaf (body_fact v.body) × AllZip (SaysTurn bytes parts 1) (turns 0 1 v.inside) inside
+-- these values of the flat list are those of a value alone
+abbrev pub MatchAlone : List ℕ → List KeyPart → Value → List ValueInfo → Type 0
+MatchAlone bytes parts v [] = ⊥
+MatchAlone bytes parts v (first ∷ inside) = LeafMatches first.leaf (body_fact v.body) × AllZip (MatchesNested bytes parts 1) (nested_values 0 1 v.inside) inside
 
--- the entries of this owner stand in the value of the number o
+-- the entries of this owner are in the value of the number o
 abbrev pub OwnsEntries : Place → ℕ → ℕ → Owner → Type 0
 OwnsEntries in_scalar base o w = ⊤
 OwnsEntries in_array base o w = (g : ℕ) × (w ≡ owner.Item g) × (g + 1 ≡ base + o)

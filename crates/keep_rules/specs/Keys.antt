@@ -1,4 +1,4 @@
--- A key of a document: so many of its key parts from one on.
+-- A key of a document: a number of its key parts from one on.
 use Rattle.std.specs.Prelude.{◌≡◌, ℕ, ◌+◌, ◌-◌, ◌<◌, ◌≤◌, List, length, take, Some, slice_get, slice_index_or, []}
 use Rattle.keep_syntax.specs.declared.info.KeyPart.{KeyPart}
 use Rattle.keep_syntax.specs.Flat.{flat}
@@ -6,13 +6,13 @@ use Rattle.keep_rules.specs.declared.keys.Keys.{Keys}
 use Rattle.keep_meaning.specs.KeyText.{IsKeyAt}
 use Rattle.keep_meaning.specs.KeyText.{keys_in}
 
--- such a key stands in the document
+-- the document has such a key
 pub record AreKeysAt (bytes : List ℕ) (parts : List KeyPart) (first count : ℕ) : Type 0 where
   pub some : 0 < count
   pub within : first + count ≤ length parts
   pub each : (n : ℕ) (p : KeyPart) → first ≤ n → n < first + count → slice_get parts n ≡ Some p → IsKeyAt bytes p
 
--- the key parts of the document that a key stands in
+-- all key parts of the document that a key is in
 abbrev pub parts_of : Keys → List KeyPart
 parts_of k = (flat k.parts.now).keys
 
@@ -23,8 +23,8 @@ abbrev pub key_text_at : Keys → ℕ → List ℕ
 key_text_at k number = slice_index_or (key_texts k) number []
 
 -- all parts but the last
-abbrev pub way_texts : Keys → List (List ℕ)
-way_texts k = take (k.count - 1) (key_texts k)
+abbrev pub leading_texts : Keys → List (List ℕ)
+leading_texts k = take (k.count - 1) (key_texts k)
 
 abbrev pub AreKeys : Keys → Type 0
 AreKeys k = AreKeysAt k.text.now (parts_of k) k.first k.count

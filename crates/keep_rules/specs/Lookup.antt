@@ -5,30 +5,30 @@ use Rattle.keep_rules.specs.declared.index.NodeId.{NodeId}
 use Rattle.keep_nodes.specs.AllNodes.{Node}
 use Rattle.keep_path.specs.Path.{Part}
 use Rattle.keep_meaning.specs.Nodes.{node_number, children}
-use Rattle.keep_nodes.specs.Told.{Telling}
+use Rattle.keep_nodes.specs.Facts.{NodeInfos}
 
 -- the number of the node that was found
 abbrev pub number_of : Option NodeId → Option ℕ
 number_of found = option_map (λ id. id.0) found
 
 -- the path of the node of that number
-abbrev pub path_numbered : Telling → ℕ → List Part
+abbrev pub path_numbered : NodeInfos → ℕ → List Part
 path_numbered t i = slice_index_or t.paths i []
 
 -- the paths of the nodes one step below it, in the order of first meeting
-abbrev pub children_numbered : Telling → ℕ → List (List Part)
+abbrev pub children_numbered : NodeInfos → ℕ → List (List Part)
 children_numbered t i = children (path_numbered t i) t.paths
 
--- the number of the child that stands at n among them
-abbrev pub nth_child : Telling → ℕ → ℕ → Option ℕ
+-- the number of the n-th child among them
+abbrev pub nth_child : NodeInfos → ℕ → ℕ → Option ℕ
 nth_child t i n = option_and_then (node_number t.paths) (slice_get (children_numbered t i) n)
 
--- ---- the way up
+-- ---- the nodes up to the root
 
 abbrev pub parent_at : List Node → ℕ → ℕ
 parent_at nodes i = slice_index_or (map (λ n. n.parent) nodes) i 0
 
 -- a node, its parent and so on, up to below another
-abbrev pub IsWay : List Node → ℕ → List ℕ → ℕ → Type 0
-IsWay nodes id [] top = id ≡ top
-IsWay nodes id (n ∷ way) top = (id ≡ n) × (0 < n) × (n < length nodes) × IsWay nodes (parent_at nodes n) way top
+abbrev pub AreAncestors : List Node → ℕ → List ℕ → ℕ → Type 0
+AreAncestors nodes id [] top = id ≡ top
+AreAncestors nodes id (n ∷ ancestors) top = (id ≡ n) × (0 < n) × (n < length nodes) × AreAncestors nodes (parent_at nodes n) ancestors top

@@ -1,87 +1,88 @@
--- What the flat list of values says from a number on, and what reading it does.
+-- The nested values in the flat list from a number on, and what reading them does.
 use Rattle.std.specs.Prelude.{◌≡◌, ℕ, ◌+◌, List, [], ◌∷◌, Some, slice_get}
 use Rattle.keep_syntax.specs.declared.fault.Why.{Why}
 use Rattle.keep_syntax.specs.declared.info.KeyPart.{KeyPart}
 use Rattle.keep_syntax.specs.declared.info.ValueInfo.{ValueInfo}
 use Rattle.keep_syntax.specs.Flat.{Flat}
 use Rattle.keep_nodes.specs.AllNodes.{Node}
-use Rattle.keep_rules.specs.declared.ways.Fault.{Fault}
-use Rattle.keep_rules.specs.declared.ways.Fault.TheVariants.{Define, Memory}
+use Rattle.keep_rules.specs.declared.key_walk.Fault.{Fault}
+use Rattle.keep_rules.specs.declared.key_walk.Fault.TheVariants.{Define, Memory}
 use Rattle.keep_meaning.specs.KeyText.{IsKeyAt}
 use Rattle.keep_path.specs.Path.{Part}
 use Rattle.keep_meaning.specs.Marks.{Mention}
-use Rattle.keep_rules.specs.Inside.{Inside, Turn, Suits, AllSuit, turn_said, turns_said}
-use Rattle.keep_nodes.specs.Trie.{Twig}
-use Rattle.keep_nodes.specs.Stored.{twigs, telling}
-use Rattle.keep_rules.specs.Standing.{IsWorld, FaultIn}
-use Rattle.keep_rules.specs.Reads.{AreInside}
-use Rattle.keep_rules.specs.Took.{turn_keys, HasKeys, Stand, Took}
-use Rattle.keep_rules.specs.FlatValues.{SaysTurn, IsInside}
+use Rattle.keep_rules.specs.NestedValues.{NestingState, NestedValue, Suits, AllSuit, nested_mentions, all_nested_mentions}
+use Rattle.keep_nodes.specs.Trie.{TrieNode}
+use Rattle.keep_nodes.specs.Stored.{trie_of, node_infos}
+use Rattle.keep_rules.specs.Represents.{Represents, FaultIn}
+use Rattle.keep_rules.specs.Reads.{AreValueNodes}
+use Rattle.keep_rules.specs.NestedReads.{nested_keys, HasKeys, NodesSoFar, NestedRead}
+use Rattle.keep_rules.specs.FlatValues.{MatchesNested, IsInside}
 
 -- each key part can be read in the text
 abbrev pub AreReadable : List ℕ → List KeyPart → Type 0
 AreReadable bytes parts = (n : ℕ) (p : KeyPart) → slice_get parts n ≡ Some p → IsKeyAt bytes p
 
--- the nodes as they are kept, with the nodes of the values so far
-abbrev pub stand : List Node → List ℕ → Stand
-stand nodes ids = record { twigs = twigs nodes; telling = telling nodes; ids = ids }
+-- the stored nodes, with the nodes of the values so far
+abbrev pub nodes_so_far : List Node → List ℕ → NodesSoFar
+nodes_so_far nodes ids = record { trie = trie_of nodes; node_infos = node_infos nodes; ids = ids }
 
--- the value of that number stands in no value
+-- the value of that number is in no value
 abbrev pub EndsAt : List ValueInfo → ℕ → Type 0
 EndsAt values number = (info : ValueInfo) → slice_get values number ≡ Some info → IsInside info.owner → ⊥
 
--- Those from a number on, with the key parts from `first` on, say these turns; what follows stands in no value.
-abbrev pub SayTurns : List ℕ → Flat → ℕ → ℕ → ℕ → List Turn → Type 0
-SayTurns bytes f base from first [] = EndsAt f.values from
-SayTurns bytes f base from first (t ∷ ts) =
-    (info : ValueInfo) × (slice_get f.values from ≡ Some info) × SaysTurn bytes f.keys base t info × HasKeys t × (info.first_key ≡ first) × SayTurns bytes f base (from + 1) (first + turn_keys t) ts
+-- Those from a number on, with the key parts from `first` on, are these nested values; what follows is in no value.
+abbrev pub MatchNested : List ℕ → Flat → ℕ → ℕ → ℕ → List NestedValue → Type 0
+MatchNested bytes f base from first [] = EndsAt f.values from
+MatchNested bytes f base from first (t ∷ ts) =
+    (info : ValueInfo) × (slice_get f.values from ≡ Some info) × MatchesNested bytes f.keys base t info × HasKeys t × (info.first_key ≡ first) × MatchNested bytes f base (from + 1) (first + nested_keys t) ts
 
--- this value says the turn, which may come next in the values so far
-pub record IsNext (bytes : List ℕ) (parts : List KeyPart) (nodes : List Twig) (ids : List ℕ) (base : ℕ) (info : ValueInfo) (s : Inside) (t : Turn) : Type 0 where
-  pub inside : AreInside nodes ids s
+-- this value of the flat list is that nested value, which may come next in the values so far
+pub record IsNext (bytes : List ℕ) (parts : List KeyPart) (nodes : List TrieNode) (ids : List ℕ) (base : ℕ) (info : ValueInfo) (s : NestingState) (t : NestedValue) : Type 0 where
+  pub inside : AreValueNodes nodes ids s
   pub suits : Suits s t
-  pub says : SaysTurn bytes parts base t info
+  pub matches : MatchesNested bytes parts base t info
   pub keys : HasKeys t
 
--- the values from a number on say turns that may come next
-pub record AreNext (bytes : List ℕ) (f : Flat) (nodes : List Twig) (ids : List ℕ) (base from first : ℕ) (s : Inside) (ts : List Turn) : Type 0 where
-  pub inside : AreInside nodes ids s
+-- the values from a number on are nested values that may come next
+pub record AreNext (bytes : List ℕ) (f : Flat) (nodes : List TrieNode) (ids : List ℕ) (base from first : ℕ) (s : NestingState) (ts : List NestedValue) : Type 0 where
+  pub inside : AreValueNodes nodes ids s
   pub suit : AllSuit s ts
-  pub say : SayTurns bytes f base from first ts
+  pub matches : MatchNested bytes f base from first ts
 
--- The nodes stand for something that was said.
-abbrev pub HasWorld : List Twig → Type 0
-HasWorld nodes = (ms : List Mention) × (tables : List (List Part)) × IsWorld nodes ms tables
+-- The nodes represent some mentions.
+abbrev pub RepresentsSome : List TrieNode → Type 0
+RepresentsSome nodes = (ms : List Mention) × (tables : List (List Part)) × Represents nodes ms tables
 
--- Among these sayings, which have the key parts from `first` on, the key part of that number makes the first faulty mark.
+-- Among these mentions, which have the key parts from `first` on, the key part of that number makes the first faulty
+-- mark.
 pub record FaultFrom (ms more : List Mention) (first number : ℕ) (why : Why) : Type 0 where
   pub within : ℕ
   pub sum : number ≡ first + within
   pub fault : FaultIn ms more within why
 
--- the value was read as every turn that it says
-abbrev pub TookTurn : List ℕ → Flat → ℕ → ValueInfo → List Node → List ℕ → List Node → List ℕ → ℕ → Type 0
-TookTurn bytes f base info old ids new ids' number =
-    (s : Inside) (t : Turn) → IsNext bytes f.keys (twigs old) ids base info s t → Took f.values f.keys (stand old ids) (stand new ids') number info.first_key s (t ∷ [])
+-- the value was read as each nested value that it may be
+abbrev pub NestedValueRead : List ℕ → Flat → ℕ → ValueInfo → List Node → List ℕ → List Node → List ℕ → ℕ → Type 0
+NestedValueRead bytes f base info old ids new ids' number =
+    (s : NestingState) (t : NestedValue) → IsNext bytes f.keys (trie_of old) ids base info s t → NestedRead f.values f.keys (nodes_so_far old ids) (nodes_so_far new ids') number info.first_key s (t ∷ [])
 
 -- it breaks the rules there
-abbrev pub TurnFaults : List ℕ → Flat → ℕ → ValueInfo → List Node → List ℕ → ℕ → Why → Type 0
-TurnFaults bytes f base info old ids number why =
-    (s : Inside) (t : Turn) → IsNext bytes f.keys (twigs old) ids base info s t
-    → (ms : List Mention) (tables : List (List Part)) → IsWorld (twigs old) ms tables → FaultFrom ms (turn_said s t) info.first_key number why
+abbrev pub NestedValueFaults : List ℕ → Flat → ℕ → ValueInfo → List Node → List ℕ → ℕ → Why → Type 0
+NestedValueFaults bytes f base info old ids number why =
+    (s : NestingState) (t : NestedValue) → IsNext bytes f.keys (trie_of old) ids base info s t
+    → (ms : List Mention) (tables : List (List Part)) → Represents (trie_of old) ms tables → FaultFrom ms (nested_mentions s t) info.first_key number why
 
--- the values from a number on were read as all turns that they say
-abbrev pub TookTurns : List ℕ → Flat → ℕ → ℕ → List Node → List ℕ → List Node → List ℕ → Type 0
-TookTurns bytes f base from old ids new ids' =
-    (s : Inside) (ts : List Turn) (first : ℕ) → AreNext bytes f (twigs old) ids base from first s ts → Took f.values f.keys (stand old ids) (stand new ids') from first s ts
+-- the values from a number on were read as all nested values that they may be
+abbrev pub NestedValuesRead : List ℕ → Flat → ℕ → ℕ → List Node → List ℕ → List Node → List ℕ → Type 0
+NestedValuesRead bytes f base from old ids new ids' =
+    (s : NestingState) (ts : List NestedValue) (first : ℕ) → AreNext bytes f (trie_of old) ids base from first s ts → NestedRead f.values f.keys (nodes_so_far old ids) (nodes_so_far new ids') from first s ts
 
 -- one of them breaks the rules there
-abbrev pub TurnsFault : List ℕ → Flat → ℕ → ℕ → List Node → List ℕ → ℕ → Why → Type 0
-TurnsFault bytes f base from old ids number why =
-    (s : Inside) (ts : List Turn) (first : ℕ) → AreNext bytes f (twigs old) ids base from first s ts
-    → (ms : List Mention) (tables : List (List Part)) → IsWorld (twigs old) ms tables → FaultFrom ms (turns_said s ts) first number why
+abbrev pub NestedValuesFault : List ℕ → Flat → ℕ → ℕ → List Node → List ℕ → ℕ → Why → Type 0
+NestedValuesFault bytes f base from old ids number why =
+    (s : NestingState) (ts : List NestedValue) (first : ℕ) → AreNext bytes f (trie_of old) ids base from first s ts
+    → (ms : List Mention) (tables : List (List Part)) → Represents (trie_of old) ms tables → FaultFrom ms (all_nested_mentions s ts) first number why
 
--- the fault by its number behind so many key parts
+-- the fault by its number after so many key parts
 abbrev pub fault_from : Fault → ℕ → Fault
 fault_from (Define number why) first = Define (first + number) why
 fault_from Memory first = Memory

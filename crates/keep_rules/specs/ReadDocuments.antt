@@ -1,4 +1,4 @@
--- What the index of a document tells, and where a document breaks the definition rules.
+-- The index of a document, and where a document breaks the definition rules.
 use Rattle.std.specs.Prelude.{◌≡◌, ℕ, List, map, Some, slice_get}
 use Rattle.keep_token.specs.declared.leaf.Profile.{Profile}
 use Rattle.keep_syntax.specs.declared.alone.ValueSyntax.{ValueSyntax}
@@ -9,36 +9,36 @@ use Rattle.keep_syntax.specs.declared.syntax.Syntax.{Syntax}
 use Rattle.keep_syntax.specs.Contract.{IsSyntaxOf, IsValueSyntaxOf}
 use Rattle.keep_syntax.specs.Grammar.{Reads, ReadsValue}
 use Rattle.keep_syntax.specs.Tree.{Value, Document}
-use Rattle.keep_rules.specs.declared.ways.Fault.{Fault}
-use Rattle.keep_rules.specs.declared.ways.Fault.TheVariants.{Define, Memory}
+use Rattle.keep_rules.specs.declared.key_walk.Fault.{Fault}
+use Rattle.keep_rules.specs.declared.key_walk.Fault.TheVariants.{Define, Memory}
 use Rattle.keep_meaning.specs.Faults.{IsFaultIn, IsFaultInValue}
 use Rattle.keep_meaning.specs.Counts.{statements_in}
 use Rattle.keep_meaning.specs.Marks.{marks, start, reading_after}
 use Rattle.keep_meaning.specs.Meaning.{said_in, value_said}
 use Rattle.keep_meaning.specs.Nodes.{node_path, nodes_in, infos_in}
 use Rattle.keep_meaning.specs.Rules.{ObeysRules}
-use Rattle.keep_nodes.specs.Told.{Telling}
+use Rattle.keep_nodes.specs.Facts.{NodeInfos}
 use Rattle.keep_rules.specs.Nested.{AreNested}
 
--- The text was read as this document, in some profile and to some depth, and the syntax is what is known of it.
+-- The text was read as this document, in some profile and to some depth, and the syntax is that of the document.
 pub record WasRead (bytes : List ℕ) (s : Syntax) (d : Document) : Type 0 where
   pub profile : Profile
   pub limit : ℕ
   pub reads : Reads profile limit bytes d
   pub is : IsSyntaxOf s d
 
--- the same of one value
+-- the text was read as this value
 pub record WasReadAlone (bytes : List ℕ) (s : ValueSyntax) (v : Value) : Type 0 where
   pub profile : Profile
   pub limit : ℕ
   pub reads : ReadsValue profile limit bytes v
   pub is : IsValueSyntaxOf s v
 
--- The document obeys the rules, and this is told of its nodes, which stand under one another as its headers say.
-pub record IsIndexOf (d : Document) (t : Telling) : Type 0 where
+-- The document obeys the rules, and these are its nodes with their facts, nested as its headers say.
+pub record IsIndexOf (d : Document) (t : NodeInfos) : Type 0 where
   pub obeys : ObeysRules (marks (said_in d))
   pub nested : AreNested (said_in d) (reading_after start (statements_in d)).tables
-  pub told : t ≡ record { paths = map node_path (nodes_in d); infos = infos_in d }
+  pub facts : t ≡ record { paths = map node_path (nodes_in d); infos = infos_in d }
 
 abbrev pub ValueObeys : Value → Type 0
 ValueObeys v = ObeysRules (marks (value_said v))

@@ -1,4 +1,4 @@
--- What reading a statement of the flat list does to the nodes, and to what is told of them.
+-- What reading a statement of the flat list does to the nodes and to the facts about them.
 use Rattle.std.specs.Prelude.{ℕ, List}
 use Rattle.keep_syntax.specs.declared.fault.Why.{Why}
 use Rattle.keep_syntax.specs.declared.info.Statement.{Statement}
@@ -10,12 +10,12 @@ use Rattle.keep_nodes.specs.AllNodes.{Node}
 use Rattle.keep_meaning.specs.Marks as marks
 use Rattle.keep_meaning.specs.Marks.{Mention, Reading, statement_mentions}
 use Rattle.keep_meaning.specs.Counts.{Count}
-use Rattle.keep_nodes.specs.Trie.{Twig}
-use Rattle.keep_nodes.specs.Stored.{twigs}
+use Rattle.keep_nodes.specs.Trie.{TrieNode}
+use Rattle.keep_nodes.specs.Stored.{trie_of}
 use Rattle.keep_rules.specs.Reads.{IsReading, Reads}
-use Rattle.keep_rules.specs.Tells.{TellsTurn}
+use Rattle.keep_rules.specs.AddedInfos.{AddsValue}
 use Rattle.keep_rules.specs.Statements.{header_of, element_of}
-use Rattle.keep_rules.specs.FlatStatements.{SaysStatement, IsCountBefore}
+use Rattle.keep_rules.specs.FlatStatements.{MatchesStatement, IsCountBefore}
 use Rattle.keep_rules.specs.Plans.{FaultFrom}
 
 -- the header with these keys
@@ -23,22 +23,22 @@ abbrev pub head_of : StatementKind → Keys → marks.Statement
 head_of Element k = element_of k
 head_of _ k = header_of k
 
--- The nodes stand for something that was said, with the body at that node.
-abbrev pub HasReading : List Twig → ℕ → Type 0
+-- The nodes represent some mentions, with the body at that node.
+abbrev pub HasReading : List TrieNode → ℕ → Type 0
 HasReading nodes body = (ms : List Mention) × (r : Reading) × IsReading nodes body ms r
 
--- the statement was read, and told
+-- the statement was read, and its facts were added
 pub record IsRead (f : Flat) (number : ℕ) (st : Statement) (old : List Node) (body : ℕ) (new : List Node) (to : ℕ) (s : marks.Statement) : Type 0 where
-  pub reads : Reads (twigs old) body (twigs new) to s
-  pub tells : (ms : List Mention) (r : Reading) → IsReading (twigs old) body ms r → (c : Count) → IsCountBefore number st c → TellsTurn f.values f.keys old new c (statement_mentions r s)
+  pub reads : Reads (trie_of old) body (trie_of new) to s
+  pub joined : (ms : List Mention) (r : Reading) → IsReading (trie_of old) body ms r → (c : Count) → IsCountBefore number st c → AddsValue f.values f.keys old new c (statement_mentions r s)
 
 -- it breaks the rules there
 abbrev pub Breaks : Statement → List Node → ℕ → marks.Statement → ℕ → Why → Type 0
-Breaks st old body s number why = (ms : List Mention) (r : Reading) → IsReading (twigs old) body ms r → FaultFrom ms (statement_mentions r s) st.first_key number why
+Breaks st old body s number why = (ms : List Mention) (r : Reading) → IsReading (trie_of old) body ms r → FaultFrom ms (statement_mentions r s) st.first_key number why
 
--- as every statement that it says
-abbrev pub IsReadAsSaid : List ℕ → Flat → ℕ → Statement → List Node → ℕ → List Node → ℕ → Type 0
-IsReadAsSaid bytes f number st old body new to = (s : marks.Statement) → SaysStatement bytes f.keys f.values st s → IsRead f number st old body new to s
+-- the statement of the flat list was read as each statement that it may be
+abbrev pub IsReadAsMatched : List ℕ → Flat → ℕ → Statement → List Node → ℕ → List Node → ℕ → Type 0
+IsReadAsMatched bytes f number st old body new to = (s : marks.Statement) → MatchesStatement bytes f.keys f.values st s → IsRead f number st old body new to s
 
-abbrev pub BreaksAsSaid : List ℕ → Flat → Statement → List Node → ℕ → ℕ → Why → Type 0
-BreaksAsSaid bytes f st old body number why = (s : marks.Statement) → SaysStatement bytes f.keys f.values st s → Breaks st old body s number why
+abbrev pub BreaksAsMatched : List ℕ → Flat → Statement → List Node → ℕ → ℕ → Why → Type 0
+BreaksAsMatched bytes f st old body number why = (s : marks.Statement) → MatchesStatement bytes f.keys f.values st s → Breaks st old body s number why

@@ -1,15 +1,15 @@
--- The nodes before anything is said.
+-- The nodes before any mention.
 use Rattle.std.specs.Prelude.{◌≡◌, List, [], ◌∷◌, None}
 use Rattle.keep_nodes.specs.AllNodes.{Node}
-use Rattle.keep_nodes.specs.Stored.{IsStored, twigs, telling}
-use Rattle.keep_nodes.specs.Told.{root_telling}
-use Rattle.keep_nodes.specs.Trie.{Twig, Holding}
+use Rattle.keep_nodes.specs.Stored.{IsStored, trie_of, node_infos}
+use Rattle.keep_nodes.specs.Facts.{root_infos}
+use Rattle.keep_nodes.specs.Trie.{TrieNode, Holding}
 
--- the root stands alone, and holds this
+-- the root is the only node, and may have these children
 pub record IsRoot (nodes : List Node) (h : Holding) : Type 0 where
-  pub root : Twig
-  pub alone : twigs nodes ≡ root ∷ []
+  pub root : TrieNode
+  pub alone : trie_of nodes ≡ root ∷ []
   pub state : root.state ≡ None
   pub holds : root.holds ≡ h
   pub stored : IsStored nodes
-  pub told : telling nodes ≡ root_telling
+  pub facts : node_infos nodes ≡ root_infos

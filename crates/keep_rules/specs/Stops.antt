@@ -1,15 +1,15 @@
--- What a fault tells.
+-- What holds of a fault.
 use Rattle.std.specs.Prelude.{ℕ}
 use Rattle.keep_syntax.specs.declared.fault.Why.{Why}
 use Rattle.keep_rules.specs.declared.mark.Stop.{Stop}
 use Rattle.keep_rules.specs.declared.mark.Stop.TheVariants as stop
-use Rattle.keep_rules.specs.declared.ways.Fault.{Fault}
-use Rattle.keep_rules.specs.declared.ways.Fault.TheVariants.{Define, Memory}
+use Rattle.keep_rules.specs.declared.key_walk.Fault.{Fault}
+use Rattle.keep_rules.specs.declared.key_walk.Fault.TheVariants.{Define, Memory}
 
 -- where it is not out of memory, this holds of its number and reason
-abbrev pub FaultSays : Fault → (ℕ → Why → Type 0) → Type 0
-FaultSays (Define number why) P = P number why
-FaultSays Memory P = Unit {0}
+abbrev pub FaultMeets : Fault → (ℕ → Why → Type 0) → Type 0
+FaultMeets (Define number why) P = P number why
+FaultMeets Memory P = Unit {0}
 
 -- the fault where the key of that number stops
 abbrev pub fault_of_key : Stop → ℕ → Why → Fault

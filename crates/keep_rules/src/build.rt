@@ -2,25 +2,25 @@
 ghost use Rattle.std.specs.Prelude.{◌≡◌, ◌<◌, ℕ, length, List, IfOk, OnOk, IfErr};
 ghost use Rattle.keep_nodes.specs.Children.{holding};
 ghost use Rattle.keep_meaning.specs.Fact.{Fact};
-ghost use Rattle.keep_rules.specs.Inside.{Inside, path_of_value, turn_said, turn_keyed};
-ghost use Rattle.keep_rules.specs.Keys.{AreKeys, parts_of, key_texts, last_text, way_texts};
+ghost use Rattle.keep_rules.specs.NestedValues.{NestingState, path_of_value, nested_mentions, nested_keyed};
+ghost use Rattle.keep_rules.specs.Keys.{AreKeys, parts_of, key_texts, last_text, leading_texts};
 ghost use Rattle.keep_meaning.specs.Marks.{Mention};
 ghost use Rattle.keep_path.specs.Path.{Part};
 ghost use Rattle.keep_rules.specs.Reads.{Reads, FaultsIn};
-ghost use Rattle.keep_rules.specs.Standing.{IsWorld, FaultIn};
+ghost use Rattle.keep_rules.specs.Represents.{Represents, FaultIn};
 ghost use Rattle.keep_rules.specs.Statements.{header_of, element_of};
 ghost use Rattle.keep_rules.specs.Steps.{Gives};
-ghost use Rattle.keep_rules.specs.Stops.{FaultSays, fault_of_key};
-ghost use Rattle.keep_nodes.specs.Stored.{IsStored, twigs};
+ghost use Rattle.keep_rules.specs.Stops.{FaultMeets, fault_of_key};
+ghost use Rattle.keep_nodes.specs.Stored.{IsStored, trie_of};
 ghost use Rattle.keep_rules.specs.Tables.{IsShaped};
-ghost use Rattle.keep_rules.specs.Tells.{StatementTells, KeyedTells};
+ghost use Rattle.keep_rules.specs.AddedInfos.{StatementAdds, KeyedAdds};
 ghost use Rattle.keep_nodes.specs.Trie.{by_key, holds_at, path_at};
 
+use crate::key_walk::{Fault, walk_dotted, walk_header};
 use crate::keys::Keys;
 use crate::mark::{Stop, begin, mark};
-use crate::ways::{Fault, dots, walk};
 use keep_meaning::{Kind, Place, Role};
-use keep_nodes::{Holds, Nodes, Told};
+use keep_nodes::{Holds, NodeFacts, Nodes};
 use keep_syntax::{Span, Why};
 
 /// The fault of the key of that number.
@@ -36,24 +36,24 @@ fn fault_of(stop: Stop, number: usize, why: Why) -> Fault
 /// Reads the header `[..]` of that statement, and gives the node of the table that it defines.
 pub fn header(nodes: &mut Nodes, keys: Keys<'_>, statement: usize) -> Result<usize, Fault>
     requires stored { IsStored nodes.old.items }
-    requires shaped { IsShaped (twigs nodes.old.items) }
-    requires rooted { holds_at (twigs nodes.old.items) 0 ≡ by_key }
+    requires shaped { IsShaped (trie_of nodes.old.items) }
+    requires rooted { holds_at (trie_of nodes.old.items) 0 ≡ by_key }
     requires keys { AreKeys keys }
     ensures stored { OnOk result (IsStored nodes.new.items) }
-    ensures ok { IfOk result (λ to. (body : ℕ) → Reads (twigs nodes.old.items) body (twigs nodes.new.items) to (header_of keys.entry)) }
-    ensures told { IfOk result (λ to. StatementTells nodes.old.items nodes.new.items (parts_of keys.entry) keys.entry.first statement (header_of keys.entry)) }
-    ensures define { IfErr result (λ fault. FaultSays fault (λ number why. (body : ℕ) → FaultsIn (twigs nodes.old.items) body (header_of keys.entry) number why)) }
+    ensures ok { IfOk result (λ to. (body : ℕ) → Reads (trie_of nodes.old.items) body (trie_of nodes.new.items) to (header_of keys.entry)) }
+    ensures facts { IfOk result (λ to. StatementAdds nodes.old.items nodes.new.items (parts_of keys.entry) keys.entry.first statement (header_of keys.entry)) }
+    ensures define { IfErr result (λ fault. FaultMeets fault (λ number why. (body : ℕ) → FaultsIn (trie_of nodes.old.items) body (header_of keys.entry) number why)) }
 {
-    let parent = walk(nodes, keys, statement)?;
+    let parent = walk_header(nodes, keys, statement)?;
     let number = keys.count - 1;
     let name = keys.name(nodes.allocator(), number)?;
-    let told = Told::named(Kind::Table, None, name.span, Place::Header(statement));
+    let facts = NodeFacts::named(Kind::Table, None, name.span, Place::Header(statement));
     match mark(
         nodes,
         parent,
         name.text.as_str(),
         Role::Define,
-        told,
+        facts,
         Holds::Keys,
     ) {
         Ok(to) => Ok(to),
@@ -64,15 +64,15 @@ pub fn header(nodes: &mut Nodes, keys: Keys<'_>, statement: usize) -> Result<usi
 /// Reads the element header `[[..]]` of that statement, and gives the node of the element that it begins.
 pub fn element(nodes: &mut Nodes, keys: Keys<'_>, statement: usize) -> Result<usize, Fault>
     requires stored { IsStored nodes.old.items }
-    requires shaped { IsShaped (twigs nodes.old.items) }
-    requires rooted { holds_at (twigs nodes.old.items) 0 ≡ by_key }
+    requires shaped { IsShaped (trie_of nodes.old.items) }
+    requires rooted { holds_at (trie_of nodes.old.items) 0 ≡ by_key }
     requires keys { AreKeys keys }
     ensures stored { OnOk result (IsStored nodes.new.items) }
-    ensures ok { IfOk result (λ to. (body : ℕ) → Reads (twigs nodes.old.items) body (twigs nodes.new.items) to (element_of keys.entry)) }
-    ensures told { IfOk result (λ to. StatementTells nodes.old.items nodes.new.items (parts_of keys.entry) keys.entry.first statement (element_of keys.entry)) }
-    ensures define { IfErr result (λ fault. FaultSays fault (λ number why. (body : ℕ) → FaultsIn (twigs nodes.old.items) body (element_of keys.entry) number why)) }
+    ensures ok { IfOk result (λ to. (body : ℕ) → Reads (trie_of nodes.old.items) body (trie_of nodes.new.items) to (element_of keys.entry)) }
+    ensures facts { IfOk result (λ to. StatementAdds nodes.old.items nodes.new.items (parts_of keys.entry) keys.entry.first statement (element_of keys.entry)) }
+    ensures define { IfErr result (λ fault. FaultMeets fault (λ number why. (body : ℕ) → FaultsIn (trie_of nodes.old.items) body (element_of keys.entry) number why)) }
 {
-    let parent = walk(nodes, keys, statement)?;
+    let parent = walk_header(nodes, keys, statement)?;
     let number = keys.count - 1;
     let name = keys.name(nodes.allocator(), number)?;
     match begin(nodes, parent, name.text.as_str(), name.span, statement) {
@@ -81,8 +81,8 @@ pub fn element(nodes: &mut Nodes, keys: Keys<'_>, statement: usize) -> Result<us
     }
 }
 
-/// Gives a value with a key to the table at a node: the value of that number, of this kind, which stands there and
-/// holds this.
+/// Gives a value with a key to the table at a node: the value of that number, kind and place, which may have these
+/// children.
 pub fn give_value(
     nodes: &mut Nodes,
     from: usize,
@@ -93,20 +93,20 @@ pub fn give_value(
     holds: Holds,
 ) -> Result<usize, Fault>
     requires stored { IsStored nodes.old.items }
-    requires shaped { IsShaped (twigs nodes.old.items) }
+    requires shaped { IsShaped (trie_of nodes.old.items) }
     requires within { from < length nodes.old.items }
-    requires keyed { holds_at (twigs nodes.old.items) from ≡ by_key }
+    requires keyed { holds_at (trie_of nodes.old.items) from ≡ by_key }
     requires keys { AreKeys keys }
     ensures stored { OnOk result (IsStored nodes.new.items) }
-    ensures ok { IfOk result (λ to. Gives (twigs nodes.old.items) (twigs nodes.new.items) from to (way_texts keys.entry) (last_text keys.entry) (holding holds)) }
-    ensures told { IfOk result (λ to. KeyedTells nodes.old.items nodes.new.items from (parts_of keys.entry) keys.entry.first (key_texts keys.entry) value kind span) }
-    ensures define { IfErr result (λ fault. FaultSays fault (λ number why. (s : Inside) (o : ℕ) (f : Fact) → path_at (twigs nodes.old.items) from ≡ path_of_value s o → (ms : List Mention) (tables : List (List Part)) → IsWorld (twigs nodes.old.items) ms tables → FaultIn ms (turn_said s (turn_keyed o (key_texts keys.entry) f)) number why)) }
+    ensures ok { IfOk result (λ to. Gives (trie_of nodes.old.items) (trie_of nodes.new.items) from to (leading_texts keys.entry) (last_text keys.entry) (holding holds)) }
+    ensures facts { IfOk result (λ to. KeyedAdds nodes.old.items nodes.new.items from (parts_of keys.entry) keys.entry.first (key_texts keys.entry) value kind span) }
+    ensures define { IfErr result (λ fault. FaultMeets fault (λ number why. (s : NestingState) (o : ℕ) (f : Fact) → path_at (trie_of nodes.old.items) from ≡ path_of_value s o → (ms : List Mention) (tables : List (List Part)) → Represents (trie_of nodes.old.items) ms tables → FaultIn ms (nested_mentions s (nested_keyed o (key_texts keys.entry) f)) number why)) }
 {
-    let parent = dots(nodes, from, keys, value)?;
+    let parent = walk_dotted(nodes, from, keys, value)?;
     let number = keys.count - 1;
     let name = keys.name(nodes.allocator(), number)?;
-    let told = Told::named(kind, Some(span), name.span, Place::Value(value));
-    match mark(nodes, parent, name.text.as_str(), Role::Value, told, holds) {
+    let facts = NodeFacts::named(kind, Some(span), name.span, Place::Value(value));
+    match mark(nodes, parent, name.text.as_str(), Role::Value, facts, holds) {
         Ok(to) => Ok(to),
         Err(stop) => Err(fault_of(stop, number, Role::Value.why())),
     }

@@ -5,32 +5,32 @@ ghost use Rattle.keep_syntax.specs.Tree.{Document, Value};
 ghost use Rattle.keep_nodes.specs.Children.{holding};
 ghost use Rattle.keep_rules.specs.ReadDocuments.{WasRead, WasReadAlone, IsIndexOf, ValueObeys, IsRefusal, IsValueRefusal, IsFaultAt};
 ghost use Rattle.keep_rules.specs.Roots.{IsRoot};
-ghost use Rattle.keep_rules.specs.Stops.{FaultSays};
-ghost use Rattle.keep_nodes.specs.Stored.{IsStored, telling, twigs};
+ghost use Rattle.keep_rules.specs.Stops.{FaultMeets};
+ghost use Rattle.keep_nodes.specs.Stored.{IsStored, node_infos, trie_of};
 ghost use Rattle.keep_nodes.specs.Trie.{by_key, holds_at};
 
-use crate::inside::{push_id, read_inside};
+use crate::key_walk::Fault;
 use crate::kinds::holds_of_leaf;
+use crate::nested_values::{push_id, read_nested};
 use crate::statement::read_statement;
-use crate::ways::Fault;
 use keep_meaning::{Kind, Place};
-use keep_nodes::{Holds, Nodes, Told};
+use keep_nodes::{Holds, NodeFacts, Nodes};
 use keep_syntax::{Parts, ReadFault, Syntax, ValueSyntax};
 use std::alloc::{AllocError, Global};
 
-/// The root of a document or a value of that text alone, which holds this.
+/// The root of a document or of a value alone, which may have these children.
 fn root(alloc: Global, text: &str, holds: Holds) -> Result<Nodes, AllocError>
     ensures { IfOk result (λ nodes. IsRoot nodes.items (holding holds)) }
 {
-    let told = Told::unnamed(Kind::Table, None, Place::Root);
+    let facts = NodeFacts::unnamed(Kind::Table, None, Place::Root);
     let mut nodes = Nodes::new(alloc, text);
-    nodes.push(0, 0, told, holds)?;
+    nodes.push(0, 0, facts, holds)?;
     Ok(nodes)
 }
 
 /// The fault, with the place of its key part in the text.
 fn read_fault(parts: &Parts, fault: Fault) -> ReadFault
-    requires { FaultSays fault (λ number why. number < length (flat parts.now).keys) }
+    requires { FaultMeets fault (λ number why. number < length (flat parts.now).keys) }
     ensures { IsFaultAt (flat parts.now).keys fault result }
 {
     match fault {
@@ -46,8 +46,8 @@ fn read_fault(parts: &Parts, fault: Fault) -> ReadFault
 pub fn read_document(alloc: Global, text: &str, syntax: &Syntax) -> Result<Nodes, ReadFault>
     requires { (d : Document) × WasRead text.now syntax.now d }
     ensures stored { IfOk result (λ nodes. IsStored nodes.items) }
-    ensures rooted { IfOk result (λ nodes. holds_at (twigs nodes.items) 0 ≡ by_key) }
-    ensures ok { IfOk result (λ nodes. (d : Document) → WasRead text.now syntax.now d → IsIndexOf d (telling nodes.items)) }
+    ensures rooted { IfOk result (λ nodes. holds_at (trie_of nodes.items) 0 ≡ by_key) }
+    ensures ok { IfOk result (λ nodes. (d : Document) → WasRead text.now syntax.now d → IsIndexOf d (node_infos nodes.items)) }
     ensures faults { IfErr result (λ fault. (d : Document) → WasRead text.now syntax.now d → IsRefusal d fault) }
 {
     let parts = syntax.parts();
@@ -75,7 +75,7 @@ pub fn read_alone(alloc: Global, text: &str, syntax: &ValueSyntax) -> Result<(),
     let mut nodes = root(alloc, text, holds)?;
     let mut ids = Vec::new(alloc);
     push_id(&mut ids, 0)?;
-    match read_inside(&mut nodes, &mut ids, text, parts, 1, 1) {
+    match read_nested(&mut nodes, &mut ids, text, parts, 1, 1) {
         Ok(()) => Ok(()),
         Err(fault) => Err(read_fault(parts, fault)),
     }

@@ -28,8 +28,8 @@ use std::marker::Model;
 pub struct NodeId(pub usize);
 
 /// The nodes of a document: the root table, and each table, array of tables and value below it, down to the items of
-/// arrays and the pairs of inline tables. They stand in the order in which the text, read from its start, first meets
-/// them: a key part that only leads on to further ones meets its table too. So each stands behind the one above it.
+/// arrays and the pairs of inline tables. They are in the order in which the text, read from its start, first meets
+/// them: a key part that only leads on to further ones meets its table too. So each comes after its parent.
 #[derive(Drop)]
 pub struct Index {
     nodes: Nodes,
@@ -37,27 +37,27 @@ pub struct Index {
 
 impl Model for Index {
     ghost use Rattle.std.specs.Prelude.{◌≡◌};
-    ghost use Rattle.keep_nodes.specs.Told.{Telling};
+    ghost use Rattle.keep_nodes.specs.Facts.{NodeInfos};
 
-    ghost Value = { Telling };
+    ghost Value = { NodeInfos };
 
-    ghost use Rattle.keep_nodes.specs.Stored.{IsStored, telling, twigs};
+    ghost use Rattle.keep_nodes.specs.Stored.{IsStored, node_infos, trie_of};
     ghost use Rattle.keep_nodes.specs.Trie.{by_key, holds_at};
 
-    ghost view = { λ i. telling i.nodes.items };
+    ghost view = { λ i. node_infos i.nodes.items };
 
-    ghost invariant = { λ i. IsStored i.nodes.items × (holds_at (twigs i.nodes.items) 0 ≡ by_key) };
+    ghost invariant = { λ i. IsStored i.nodes.items × (holds_at (trie_of i.nodes.items) 0 ≡ by_key) };
 }
 
 impl Index {
     /// Reads the definitions of a document (TOML 1.0.0: Keys, Table, Inline Table, Array of Tables): the nodes that its
-    /// headers, key parts and values name, if of any two key parts that name one path the earlier lets the later stand.
+    /// headers, key parts and values name, if of any two key parts that name one path the earlier allows the later.
     /// `syntax` is what was read of that text. The nodes are no more than the bytes of the text and one.
     ///
     /// # Errors
     ///
-    /// `Define` where the document breaks the rules: with the start of the first key part that an earlier one does not let
-    /// stand, in bytes from the start of the text, and the reason. `Memory` where memory was refused. No other.
+    /// `Define` where the document breaks the rules: with the start of the first key part that an earlier one does not
+    /// allow, in bytes from the start of the text, and the reason. `Memory` where memory was refused. No other.
     pub fn build(alloc: Global, text: &str, syntax: &Syntax) -> Result<Index, ReadFault>
         requires { (d : Document) × WasRead text.now syntax.now d }
         ensures ok { (d : Document) → WasRead text.now syntax.now d → IfOk result (IsIndexOf d) }
@@ -69,13 +69,13 @@ impl Index {
         Ok(Index { nodes })
     }
 
-    /// Whether the key parts in a value alone keep the definition rules (TOML 1.0.0: Keys, Inline Table). `syntax` is what
-    /// was read of that text.
+    /// Whether the key parts in a value alone keep the definition rules (TOML 1.0.0: Keys, Inline Table). `syntax` is
+    /// what was read of that text.
     ///
     /// # Errors
     ///
-    /// `Define` where the value breaks the rules: with the start of the first key part that an earlier one does not let
-    /// stand, in bytes from the start of the text, and the reason. `Memory` where memory was refused. No other.
+    /// `Define` where the value breaks the rules: with the start of the first key part that an earlier one does not
+    /// allow, in bytes from the start of the text, and the reason. `Memory` where memory was refused. No other.
     pub fn check_value(alloc: Global, text: &str, syntax: &ValueSyntax) -> Result<(), ReadFault>
         requires { (v : Value) × WasReadAlone text.now syntax.now v }
         ensures ok { (v : Value) → WasReadAlone text.now syntax.now v → OnOk result (ValueObeys v) }
@@ -85,7 +85,8 @@ impl Index {
         read_alone(alloc, text, syntax)
     }
 
-    /// How many nodes there are: one at least, the root table, and at most one more than the text that was read has bytes.
+    /// How many nodes there are: one at least, the root table, and at most one more than the text that was read has
+    /// bytes.
     pub fn node_count(&self) -> usize
         ensures counted { result ≡ length self.now.paths }
         ensures few { (bytes : List ℕ) (s : syntax.Syntax) (d : Document) → WasRead bytes s d → IsIndexOf d self.now → result ≤ length bytes + 1 }
@@ -113,9 +114,9 @@ impl Index {
         path_to(alloc, &self.nodes, id.0)
     }
 
-    /// Adds the text of the node's path, as `Path::encode` writes it. No path is made: beside the text it takes the memory of
-    /// the node numbers from the node up to the root. The only error is that memory was refused; then `out` may have grown by
-    /// a part of the text.
+    /// Adds the text of the node's path, as `Path::encode` writes it. No path is made: beside the text it takes the
+    /// memory of the node numbers from the node up to the root. The only error is that memory was refused; then `out`
+    /// may have grown by a part of the text.
     pub fn push_path_text(&self, id: NodeId, out: &mut String) -> Result<(), AllocError>
         requires { id.0 < length self.now.paths }
         ensures { OnOk result (string_bytes out.new ≡ string_bytes out.old ++ encoded_path (path_numbered self.now id.0)) }
@@ -123,7 +124,8 @@ impl Index {
         push_path(out, &self.nodes, id.0)
     }
 
-    /// The node of that path; None where the document has none there. It takes no memory, and one look-up for each step.
+    /// The node of that path; None where the document has none there. It takes no memory, and one look-up for each
+    /// step.
     pub fn find(&self, path: &Path) -> Option<NodeId>
         ensures found { number_of result ≡ node_number self.now.paths path.now }
         ensures within { IfSome result (λ id. id.0 < length self.now.paths) }
@@ -131,8 +133,8 @@ impl Index {
         self.find_first(path, path.len())
     }
 
-    /// The node to which the first `n` steps of the path lead, or all where it has fewer; None where the document has none
-    /// there.
+    /// The node to which the first `n` steps of the path lead, or all where it has fewer; None where the document has
+    /// none there.
     pub fn find_first(&self, path: &Path, n: usize) -> Option<NodeId>
         ensures found { number_of result ≡ node_number self.now.paths (take n path.now) }
         ensures within { IfSome result (λ id. id.0 < length self.now.paths) }
@@ -144,8 +146,8 @@ impl Index {
         Some(NodeId(id))
     }
 
-    /// The node to which one more step leads from a node; None where the document has none there, and then none at a longer
-    /// path that begins so.
+    /// The node to which one more step leads from a node; None where the document has none there, and then none at a
+    /// longer path that begins so.
     pub fn step(&self, id: NodeId, step: &Step) -> Option<NodeId>
         requires { id.0 < length self.now.paths }
         ensures found { number_of result ≡ node_number self.now.paths (path_numbered self.now id.0 ++ part_of step.now ∷ []) }
@@ -164,8 +166,8 @@ impl Index {
         self.nodes.child(id.0, text).map(NodeId)
     }
 
-    /// The node of a path with this key, decoded, in place of its last step; None if the document has none there. For the
-    /// root's path it is a key of the root.
+    /// The node of a path with this key, decoded, in place of its last step; None if the document has none there. For
+    /// the root's path it is a key of the root.
     pub fn sibling(&self, path: &Path, text: &str) -> Option<NodeId>
         ensures found { number_of result ≡ node_number self.now.paths (take (length path.now - 1) path.now ++ key text.now ∷ []) }
         ensures within { IfSome result (λ id. id.0 < length self.now.paths) }
@@ -175,8 +177,8 @@ impl Index {
         nodes.child(parent.0, text).map(NodeId)
     }
 
-    /// How many nodes stand one step below: a table's keys, an array's items or the elements of an array of tables; 0
-    /// where another value stands.
+    /// How many nodes are one step below: a table's keys, an array's items or the elements of an array of tables; 0
+    /// for any other value.
     pub fn child_count(&self, id: NodeId) -> usize
         requires { id.0 < length self.now.paths }
         ensures { result ≡ length (children_numbered self.now id.0) }
@@ -195,11 +197,11 @@ impl Index {
         self.nodes.child_at(id.0, n).map(NodeId)
     }
 
-    /// What stands at the node, and where it comes from.
+    /// The facts about the node: what it is, and where it comes from.
     pub fn node(&self, id: NodeId) -> NodeInfo
         requires { id.0 < length self.now.paths }
         ensures { slice_get self.now.infos id.0 ≡ Some result }
     {
-        self.nodes.told(id.0).info()
+        self.nodes.facts(id.0).info()
     }
 }

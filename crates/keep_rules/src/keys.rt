@@ -1,4 +1,4 @@
-//! The keys of a document, as they stand in it.
+//! The keys of a document, as they are written in it.
 ghost use Rattle.std.specs.Prelude.{◌≡◌, ◌+◌, ◌<◌, Some, slice_get, IfOk};
 ghost use Rattle.keep_meaning.specs.KeyText.{text_of_key};
 ghost use Rattle.keep_rules.specs.Keys.{AreKeys, parts_of, key_text_at};
@@ -8,7 +8,7 @@ use keep_meaning::key_text::{KeyText, key_text};
 use keep_syntax::{KeyPart, Parts, Span};
 use std::alloc::{AllocError, Global};
 
-/// A key as it stands in the document: so many of its key parts, from the one number `first` on.
+/// A key as it is written in the document: `count` of its key parts, from the one number `first` on.
 #[derive(Clone, Copy)]
 pub struct Keys<'a> {
     pub text: &'a str,
@@ -17,7 +17,7 @@ pub struct Keys<'a> {
     pub count: usize,
 }
 
-/// A part of a key: its decoded text, and where it stands.
+/// A part of a key: its decoded text, and its place.
 #[derive(Drop)]
 pub struct Name<'a> {
     pub text: KeyText<'a>,
@@ -34,7 +34,7 @@ impl<'a> Keys<'a> {
         self.parts.key_part(self.first + number)
     }
 
-    /// The same, decoded. Want of memory is the only error.
+    /// The key part of that number within the key, decoded. The only error is out of memory.
     #[inline(always)]
     pub fn name(&self, alloc: Global, number: usize) -> Result<Name<'a>, AllocError>
         requires keys { AreKeys self.now }

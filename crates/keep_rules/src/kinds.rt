@@ -1,4 +1,4 @@
-//! What a value's leaf tells of its node.
+//! The facts about a value's node that follow from its leaf.
 ghost use Rattle.std.specs.Prelude.{◌≡◌};
 ghost use Rattle.keep_nodes.specs.Children.{holding};
 ghost use Rattle.keep_rules.specs.FlatValues.{leaf_kind, leaf_holding};
@@ -26,7 +26,7 @@ pub fn kind_of(leaf: Leaf) -> Kind
     }
 }
 
-/// What may hang at a value's node.
+/// What children a value's node may have.
 pub fn holds_of_leaf(leaf: Leaf) -> Holds
     ensures { holding result ≡ leaf_holding leaf }
 {

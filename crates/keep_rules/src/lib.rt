@@ -1,18 +1,18 @@
-//! What the definitions of a document say: the paths of its values and tables, whether the definition rules hold, and
-//! which nodes there are.
+//! Reading a document by the definition rules: the paths of its values and tables, whether the rules hold, and which
+//! nodes there are.
 #![tactic(auto)]
 
 mod build;
 mod document;
 mod index;
-mod inside;
+mod key_walk;
 mod keys;
 mod kinds;
 mod mark;
+mod nested_values;
 mod path_text;
 mod queries;
 mod statement;
-mod ways;
 
 pub use index::{Index, NodeId};
 pub use keep_meaning::{Kind, NodeInfo, Place, Role};

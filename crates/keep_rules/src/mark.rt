@@ -3,16 +3,16 @@ ghost use Rattle.std.specs.Prelude.{◌≡◌, ℕ, List, ◌<◌, ◌∷◌, �
 ghost use Rattle.keep_nodes.specs.Children.{holding};
 ghost use Rattle.keep_meaning.specs.Marks.{passing_mentions};
 ghost use Rattle.keep_path.specs.Path.{Part, key};
-ghost use Rattle.keep_rules.specs.Standing.{IsMarked, WasRefused, IsLastElement, HasNoElement, Passes, Begins};
+ghost use Rattle.keep_rules.specs.Represents.{IsMarked, WasRefused, IsLastElement, HasNoElement, Passes, Begins};
 ghost use Rattle.keep_rules.specs.Steps.{AddsItem};
-ghost use Rattle.keep_nodes.specs.Stored.{IsStored, twigs};
+ghost use Rattle.keep_nodes.specs.Stored.{IsStored, trie_of};
 ghost use Rattle.keep_rules.specs.Tables.{Fits, IsShaped, is_tables};
-ghost use Rattle.keep_rules.specs.Tells.{TellsOne, KeyTells, ItemTells, begin_mentions};
-ghost use Rattle.keep_nodes.specs.Told.{info_of};
+ghost use Rattle.keep_rules.specs.AddedInfos.{AddsInfo, KeyAdds, ItemAdds, begin_mentions};
+ghost use Rattle.keep_nodes.specs.Facts.{info_of};
 ghost use Rattle.keep_nodes.specs.Trie.{Holding, by_key, by_index, holds_at, path_at, state_at};
 
 use keep_meaning::{Kind, Place, Role, state_after};
-use keep_nodes::{Holds, Nodes, Told, add_item, add_key, child_of, set_role, tell_more};
+use keep_nodes::{Holds, NodeFacts, Nodes, add_facts, add_item, add_key, child_of, set_role};
 use keep_syntax::Span;
 use std::alloc::AllocError;
 
@@ -37,58 +37,59 @@ impl From<AllocError> for Stop {
     }
 }
 
-/// Makes a mark of that role at a key of a table, and tells this of its node, which holds this if it is new.
+/// Makes a mark of that role at a key of a table, and adds these facts to its node, which may have these children if it
+/// is new.
 pub fn mark(
     nodes: &mut Nodes,
     parent: usize,
     text: &str,
     role: Role,
-    told: Told,
+    facts: NodeFacts,
     holds: Holds,
 ) -> Result<usize, Stop>
     requires stored { IsStored nodes.old.items }
-    requires shaped { IsShaped (twigs nodes.old.items) }
+    requires shaped { IsShaped (trie_of nodes.old.items) }
     requires within { parent < length nodes.old.items }
-    requires keyed { holds_at (twigs nodes.old.items) parent ≡ by_key }
+    requires keyed { holds_at (trie_of nodes.old.items) parent ≡ by_key }
     requires fits { Fits role (holding holds) }
-    ensures ok { IfOk result (λ id. IsMarked (twigs nodes.old.items) (twigs nodes.new.items) (path_at (twigs nodes.old.items) parent ++ key text.now ∷ []) role (holding holds) id) }
+    ensures ok { IfOk result (λ id. IsMarked (trie_of nodes.old.items) (trie_of nodes.new.items) (path_at (trie_of nodes.old.items) parent ++ key text.now ∷ []) role (holding holds) id) }
     ensures stored { OnOk result (IsStored nodes.new.items) }
-    ensures told { IfOk result (λ id. TellsOne nodes.old.items nodes.new.items (path_at (twigs nodes.old.items) parent ++ key text.now ∷ []) (info_of told)) }
-    ensures refused { result ≡ Err Stop.Refused → WasRefused (twigs nodes.old.items) (path_at (twigs nodes.old.items) parent ++ key text.now ∷ []) role }
+    ensures facts { IfOk result (λ id. AddsInfo nodes.old.items nodes.new.items (path_at (trie_of nodes.old.items) parent ++ key text.now ∷ []) (info_of facts)) }
+    ensures refused { result ≡ Err Stop.Refused → WasRefused (trie_of nodes.old.items) (path_at (trie_of nodes.old.items) parent ++ key text.now ∷ []) role }
 {
     match child_of(nodes, parent, text) {
-        None => Ok(add_key(nodes, parent, text, role, told, holds)?),
+        None => Ok(add_key(nodes, parent, text, role, facts, holds)?),
         Some(child) => {
-            mark_again(nodes, child, role, told)?;
+            mark_existing(nodes, child, role, facts)?;
             Ok(child)
         }
     }
 }
 
-/// Makes a mark of that role at a node that is there, and tells this of it.
-fn mark_again(nodes: &mut Nodes, id: usize, role: Role, told: Told) -> Result<(), Stop>
+/// Makes a mark of that role at a node that is there, and adds these facts to it.
+fn mark_existing(nodes: &mut Nodes, id: usize, role: Role, facts: NodeFacts) -> Result<(), Stop>
     requires stored { IsStored nodes.old.items }
-    requires shaped { IsShaped (twigs nodes.old.items) }
+    requires shaped { IsShaped (trie_of nodes.old.items) }
     requires within { id < length nodes.old.items }
-    ensures ok { OnOk result ((before : List Part) (k : List ℕ) (holds : Holding) → path_at (twigs nodes.old.items) id ≡ before ++ key k ∷ [] → IsMarked (twigs nodes.old.items) (twigs nodes.new.items) (before ++ key k ∷ []) role holds id) }
+    ensures ok { OnOk result ((before : List Part) (k : List ℕ) (holds : Holding) → path_at (trie_of nodes.old.items) id ≡ before ++ key k ∷ [] → IsMarked (trie_of nodes.old.items) (trie_of nodes.new.items) (before ++ key k ∷ []) role holds id) }
     ensures stored { OnOk result (IsStored nodes.new.items) }
-    ensures told { OnOk result (TellsOne nodes.old.items nodes.new.items (path_at (twigs nodes.old.items) id) (info_of told)) }
-    ensures refused { result ≡ Err Stop.Refused → WasRefused (twigs nodes.old.items) (path_at (twigs nodes.old.items) id) role }
+    ensures facts { OnOk result (AddsInfo nodes.old.items nodes.new.items (path_at (trie_of nodes.old.items) id) (info_of facts)) }
+    ensures refused { result ≡ Err Stop.Refused → WasRefused (trie_of nodes.old.items) (path_at (trie_of nodes.old.items) id) role }
 {
     let Some(next) = state_after(nodes.role(id), role) else {
         return Err(Stop::Refused);
     };
-    set_role(nodes, id, next, told)?;
+    set_role(nodes, id, next, facts)?;
     Ok(())
 }
 
-/// The last element of the array of tables at a node, if one stands there.
+/// The last element of the array of tables at a node, if it is one.
 fn last_element(nodes: &Nodes, id: usize) -> Option<usize>
     requires stored { IsStored nodes.now.items }
-    requires shaped { IsShaped (twigs nodes.now.items) }
+    requires shaped { IsShaped (trie_of nodes.now.items) }
     requires within { id < length nodes.now.items }
-    ensures some { IfSome result (λ last. IsLastElement (twigs nodes.now.items) (path_at (twigs nodes.now.items) id) id last) }
-    ensures none { IfNone result (HasNoElement (twigs nodes.now.items) (path_at (twigs nodes.now.items) id)) }
+    ensures some { IfSome result (λ last. IsLastElement (trie_of nodes.now.items) (path_at (trie_of nodes.now.items) id) id last) }
+    ensures none { IfNone result (HasNoElement (trie_of nodes.now.items) (path_at (trie_of nodes.now.items) id)) }
 {
     if !names_tables(nodes.role(id)) {
         return None;
@@ -105,29 +106,29 @@ pub fn pass(
     statement: usize,
 ) -> Result<usize, Stop>
     requires stored { IsStored nodes.old.items }
-    requires shaped { IsShaped (twigs nodes.old.items) }
+    requires shaped { IsShaped (trie_of nodes.old.items) }
     requires within { parent < length nodes.old.items }
-    requires keyed { holds_at (twigs nodes.old.items) parent ≡ by_key }
+    requires keyed { holds_at (trie_of nodes.old.items) parent ≡ by_key }
     ensures stored { OnOk result (IsStored nodes.new.items) }
-    ensures shaped { OnOk result (IsShaped (twigs nodes.new.items)) }
+    ensures shaped { OnOk result (IsShaped (trie_of nodes.new.items)) }
     ensures inside { IfOk result (λ to. to < length nodes.new.items) }
-    ensures keyed { IfOk result (λ to. holds_at (twigs nodes.new.items) to ≡ by_key) }
-    ensures ok { IfOk result (λ to. Passes (twigs nodes.old.items) (twigs nodes.new.items) parent to text.now) }
-    ensures told { IfOk result (λ to. KeyTells nodes.old.items nodes.new.items span statement (λ tables. passing_mentions tables (path_at (twigs nodes.old.items) parent ++ key text.now ∷ []))) }
-    ensures refused { result ≡ Err Stop.Refused → WasRefused (twigs nodes.old.items) (path_at (twigs nodes.old.items) parent ++ key text.now ∷ []) Role.Through }
-    ensures plain { result ≡ Err Stop.Refused → HasNoElement (twigs nodes.old.items) (path_at (twigs nodes.old.items) parent ++ key text.now ∷ []) }
+    ensures keyed { IfOk result (λ to. holds_at (trie_of nodes.new.items) to ≡ by_key) }
+    ensures ok { IfOk result (λ to. Passes (trie_of nodes.old.items) (trie_of nodes.new.items) parent to text.now) }
+    ensures facts { IfOk result (λ to. KeyAdds nodes.old.items nodes.new.items span statement (λ tables. passing_mentions tables (path_at (trie_of nodes.old.items) parent ++ key text.now ∷ []))) }
+    ensures refused { result ≡ Err Stop.Refused → WasRefused (trie_of nodes.old.items) (path_at (trie_of nodes.old.items) parent ++ key text.now ∷ []) Role.Through }
+    ensures plain { result ≡ Err Stop.Refused → HasNoElement (trie_of nodes.old.items) (path_at (trie_of nodes.old.items) parent ++ key text.now ∷ []) }
 {
-    let through = Told::named(Kind::Table, None, span, Place::Through(statement));
+    let through = NodeFacts::named(Kind::Table, None, span, Place::Through(statement));
     let Some(child) = child_of(nodes, parent, text) else {
         return mark(nodes, parent, text, Role::Through, through, Holds::Keys);
     };
     let Some(last) = last_element(nodes, child) else {
-        mark_again(nodes, child, Role::Through, through)?;
+        mark_existing(nodes, child, Role::Through, through)?;
         return Ok(child);
     };
-    let past = Told::named(Kind::Table, None, span, Place::Root);
-    tell_more(nodes, child, past)?;
-    tell_more(nodes, last, Told::passed())?;
+    let past = NodeFacts::named(Kind::Table, None, span, Place::Root);
+    add_facts(nodes, child, past)?;
+    add_facts(nodes, last, NodeFacts::passed())?;
     Ok(last)
 }
 
@@ -140,21 +141,21 @@ pub fn begin(
     statement: usize,
 ) -> Result<usize, Stop>
     requires stored { IsStored nodes.old.items }
-    requires shaped { IsShaped (twigs nodes.old.items) }
+    requires shaped { IsShaped (trie_of nodes.old.items) }
     requires within { parent < length nodes.old.items }
-    requires keyed { holds_at (twigs nodes.old.items) parent ≡ by_key }
+    requires keyed { holds_at (trie_of nodes.old.items) parent ≡ by_key }
     ensures stored { OnOk result (IsStored nodes.new.items) }
-    ensures ok { IfOk result (λ to. Begins (twigs nodes.old.items) (twigs nodes.new.items) parent to text.now) }
-    ensures told { IfOk result (λ to. KeyTells nodes.old.items nodes.new.items span statement (begin_mentions (path_at (twigs nodes.old.items) parent ++ key text.now ∷ []))) }
-    ensures refused { result ≡ Err Stop.Refused → WasRefused (twigs nodes.old.items) (path_at (twigs nodes.old.items) parent ++ key text.now ∷ []) Role.Element }
+    ensures ok { IfOk result (λ to. Begins (trie_of nodes.old.items) (trie_of nodes.new.items) parent to text.now) }
+    ensures facts { IfOk result (λ to. KeyAdds nodes.old.items nodes.new.items span statement (begin_mentions (path_at (trie_of nodes.old.items) parent ++ key text.now ∷ []))) }
+    ensures refused { result ≡ Err Stop.Refused → WasRefused (trie_of nodes.old.items) (path_at (trie_of nodes.old.items) parent ++ key text.now ∷ []) Role.Element }
 {
-    let tables = Told::named(Kind::Tables, None, span, Place::Tables);
+    let tables = NodeFacts::named(Kind::Tables, None, span, Place::Tables);
     let id = mark(nodes, parent, text, Role::Element, tables, Holds::Items)?;
-    let element = Told::unnamed(Kind::Table, None, Place::Element(statement));
+    let element = NodeFacts::unnamed(Kind::Table, None, Place::Element(statement));
     Ok(add_item(nodes, id, element, Holds::Keys)?)
 }
 
-/// Adds an item to an array: the value of that number, of this kind, which stands there and holds this.
+/// Adds an item to an array: the value of that number, kind and place, which may have these children.
 pub fn give_item(
     nodes: &mut Nodes,
     array: usize,
@@ -164,16 +165,16 @@ pub fn give_item(
     holds: Holds,
 ) -> Result<usize, AllocError>
     requires stored { IsStored nodes.old.items }
-    requires shaped { IsShaped (twigs nodes.old.items) }
+    requires shaped { IsShaped (trie_of nodes.old.items) }
     requires within { array < length nodes.old.items }
-    requires listed { holds_at (twigs nodes.old.items) array ≡ by_index }
-    requires plain { is_tables (state_at (twigs nodes.old.items) array) ≡ false }
-    ensures ok { IfOk result (λ to. AddsItem (twigs nodes.old.items) (twigs nodes.new.items) array to (holding holds)) }
+    requires listed { holds_at (trie_of nodes.old.items) array ≡ by_index }
+    requires plain { is_tables (state_at (trie_of nodes.old.items) array) ≡ false }
+    ensures ok { IfOk result (λ to. AddsItem (trie_of nodes.old.items) (trie_of nodes.new.items) array to (holding holds)) }
     ensures stored { OnOk result (IsStored nodes.new.items) }
-    ensures told { IfOk result (λ to. ItemTells nodes.old.items nodes.new.items array value kind span) }
+    ensures facts { IfOk result (λ to. ItemAdds nodes.old.items nodes.new.items array value kind span) }
 {
-    let told = Told::unnamed(kind, Some(span), Place::Value(value));
-    add_item(nodes, array, told, holds)
+    let facts = NodeFacts::unnamed(kind, Some(span), Place::Value(value));
+    add_item(nodes, array, facts, holds)
 }
 
 /// Whether a path in this state is that of an array of tables.

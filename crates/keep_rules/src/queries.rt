@@ -1,9 +1,9 @@
-//! Looking up nodes by steps, and finding the way back.
+//! Looking up nodes by steps, and paths by nodes.
 ghost use Rattle.std.specs.Prelude.{◌≡◌, ◌<◌, ◌∷◌, ◌++◌, [], IfOk, OnOk, length};
-ghost use Rattle.keep_rules.specs.Lookup.{parent_at, IsWay};
+ghost use Rattle.keep_rules.specs.Lookup.{parent_at, AreAncestors};
 ghost use Rattle.keep_meaning.specs.Nodes.{node_number};
 ghost use Rattle.keep_path.specs.Step.{part_of};
-ghost use Rattle.keep_nodes.specs.Stored.{IsStored, twigs};
+ghost use Rattle.keep_nodes.specs.Stored.{IsStored, trie_of};
 ghost use Rattle.keep_nodes.specs.Trie.{by_key, holds_at, path_at, paths_of};
 
 use keep_nodes::Nodes;
@@ -14,7 +14,7 @@ use std::alloc::{AllocError, Global};
 pub fn child_by(nodes: &Nodes, id: usize, step: &Step) -> Option<usize>
     requires stored { IsStored nodes.now.items }
     requires within { id < length nodes.now.items }
-    ensures { result ≡ node_number (paths_of (twigs nodes.now.items)) (path_at (twigs nodes.now.items) id ++ part_of step.now ∷ []) }
+    ensures { result ≡ node_number (paths_of (trie_of nodes.now.items)) (path_at (trie_of nodes.now.items) id ++ part_of step.now ∷ []) }
 {
     match step {
         Step::Key(text) => nodes.child(id, text.as_str()),
@@ -25,41 +25,45 @@ pub fn child_by(nodes: &Nodes, id: usize, step: &Step) -> Option<usize>
 /// The path of a node.
 pub fn path_to(alloc: Global, nodes: &Nodes, id: usize) -> Result<Path, AllocError>
     requires stored { IsStored nodes.now.items }
-    requires rooted { holds_at (twigs nodes.now.items) 0 ≡ by_key }
+    requires rooted { holds_at (trie_of nodes.now.items) 0 ≡ by_key }
     requires within { id < length nodes.now.items }
-    ensures { IfOk result (λ path. path ≡ path_at (twigs nodes.now.items) id) }
+    ensures { IfOk result (λ path. path ≡ path_at (trie_of nodes.now.items) id) }
 {
     let mut path = Path::new(alloc);
-    let mut way = way_up(alloc, nodes, id)?;
-    while let Some(node) = way.pop() {
+    let mut ancestors = ancestors_of(alloc, nodes, id)?;
+    while let Some(node) = ancestors.pop() {
         push_step(&mut path, nodes, node)?;
     }
     Ok(path)
 }
 
-/// The nodes from one up to below the root.
-pub(crate) fn way_up(alloc: Global, nodes: &Nodes, id: usize) -> Result<Vec<usize>, AllocError>
+/// A node and its ancestors, up to below the root.
+pub(crate) fn ancestors_of(
+    alloc: Global,
+    nodes: &Nodes,
+    id: usize,
+) -> Result<Vec<usize>, AllocError>
     requires stored { IsStored nodes.now.items }
     requires within { id < length nodes.now.items }
-    ensures { IfOk result (λ way. IsWay nodes.now.items id way.items 0) }
+    ensures { IfOk result (λ ancestors. AreAncestors nodes.now.items id ancestors.items 0) }
 {
-    let mut way = Vec::new(alloc);
+    let mut ancestors = Vec::new(alloc);
     let mut node = id;
     while node != 0 {
-        way.push(node)?;
+        ancestors.push(node)?;
         node = nodes.parent(node);
     }
-    Ok(way)
+    Ok(ancestors)
 }
 
 /// Adds the last step of a node's path to the path of its parent.
 fn push_step(path: &mut Path, nodes: &Nodes, id: usize) -> Result<(), AllocError>
     requires stored { IsStored nodes.now.items }
-    requires rooted { holds_at (twigs nodes.now.items) 0 ≡ by_key }
+    requires rooted { holds_at (trie_of nodes.now.items) 0 ≡ by_key }
     requires later { 0 < id }
     requires within { id < length nodes.now.items }
-    requires above { path.old ≡ path_at (twigs nodes.now.items) (parent_at nodes.now.items id) }
-    ensures { OnOk result (path.new ≡ path_at (twigs nodes.now.items) id) }
+    requires above { path.old ≡ path_at (trie_of nodes.now.items) (parent_at nodes.now.items id) }
+    ensures { OnOk result (path.new ≡ path_at (trie_of nodes.now.items) id) }
 {
     let number = nodes.number(id);
     match nodes.key_at(nodes.parent(id), number) {

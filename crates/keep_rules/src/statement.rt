@@ -1,23 +1,23 @@
 //! Reading the statements of a document, one after another.
 ghost use Rattle.std.specs.Prelude.{◌≡◌, ℕ, List, Some, None, IfOk, OnOk, IfErr};
 ghost use Rattle.keep_syntax.specs.Flat.{flat};
-ghost use Rattle.keep_rules.specs.FlatStatements.{SaysStatement};
+ghost use Rattle.keep_rules.specs.FlatStatements.{MatchesStatement};
 ghost use Rattle.keep_rules.specs.Keys.{AreKeys, parts_of};
 ghost use Rattle.keep_meaning.specs.Marks as marks;
 ghost use Rattle.keep_rules.specs.Plans.{AreReadable};
-ghost use Rattle.keep_rules.specs.ReadStatements.{HasReading, IsReadAsSaid, BreaksAsSaid, head_of};
+ghost use Rattle.keep_rules.specs.ReadStatements.{HasReading, IsReadAsMatched, BreaksAsMatched, head_of};
 ghost use Rattle.keep_rules.specs.Reads.{Reads, FaultsIn};
-ghost use Rattle.keep_rules.specs.Stops.{FaultSays};
-ghost use Rattle.keep_nodes.specs.Stored.{IsStored, twigs};
+ghost use Rattle.keep_rules.specs.Stops.{FaultMeets};
+ghost use Rattle.keep_nodes.specs.Stored.{IsStored, trie_of};
 ghost use Rattle.keep_rules.specs.Tables.{IsShaped};
-ghost use Rattle.keep_rules.specs.Tells.{StatementTells};
+ghost use Rattle.keep_rules.specs.AddedInfos.{StatementAdds};
 ghost use Rattle.keep_nodes.specs.Trie.{by_key, holds_at};
 
 use crate::build::{element, give_value, header};
-use crate::inside::{fault_from, push_id, read_inside};
+use crate::key_walk::Fault;
 use crate::keys::Keys;
 use crate::kinds::{holds_of_leaf, kind_of};
-use crate::ways::Fault;
+use crate::nested_values::{fault_from, push_id, read_nested};
 use keep_nodes::Nodes;
 use keep_syntax::{Parts, Statement, StatementKind};
 
@@ -29,13 +29,13 @@ fn read_head(
     number: usize,
 ) -> Result<usize, Fault>
     requires stored { IsStored nodes.old.items }
-    requires shaped { IsShaped (twigs nodes.old.items) }
-    requires rooted { holds_at (twigs nodes.old.items) 0 ≡ by_key }
+    requires shaped { IsShaped (trie_of nodes.old.items) }
+    requires rooted { holds_at (trie_of nodes.old.items) 0 ≡ by_key }
     requires keys { AreKeys keys }
     ensures stored { OnOk result (IsStored nodes.new.items) }
-    ensures ok { IfOk result (λ to. (body : ℕ) → Reads (twigs nodes.old.items) body (twigs nodes.new.items) to (head_of kind keys.entry)) }
-    ensures told { IfOk result (λ to. StatementTells nodes.old.items nodes.new.items (parts_of keys.entry) keys.entry.first number (head_of kind keys.entry)) }
-    ensures define { IfErr result (λ fault. FaultSays fault (λ at why. (body : ℕ) → FaultsIn (twigs nodes.old.items) body (head_of kind keys.entry) at why)) }
+    ensures ok { IfOk result (λ to. (body : ℕ) → Reads (trie_of nodes.old.items) body (trie_of nodes.new.items) to (head_of kind keys.entry)) }
+    ensures facts { IfOk result (λ to. StatementAdds nodes.old.items nodes.new.items (parts_of keys.entry) keys.entry.first number (head_of kind keys.entry)) }
+    ensures define { IfErr result (λ fault. FaultMeets fault (λ at why. (body : ℕ) → FaultsIn (trie_of nodes.old.items) body (head_of kind keys.entry) at why)) }
 {
     match kind {
         StatementKind::Element => element(nodes, keys, number),
@@ -53,12 +53,12 @@ fn read_header(
 ) -> Result<usize, Fault>
     requires stored { IsStored nodes.old.items }
     requires readable { AreReadable text.now (flat parts.now).keys }
-    requires says { (s : marks.Statement) × SaysStatement text.now (flat parts.now).keys (flat parts.now).values statement s }
-    requires reading { (body : ℕ) × HasReading (twigs nodes.old.items) body }
+    requires matches { (s : marks.Statement) × MatchesStatement text.now (flat parts.now).keys (flat parts.now).values statement s }
+    requires reading { (body : ℕ) × HasReading (trie_of nodes.old.items) body }
     requires head { statement.value ≡ None }
     ensures stored { OnOk result (IsStored nodes.new.items) }
-    ensures read { IfOk result (λ to. (body : ℕ) → IsReadAsSaid text.now (flat parts.now) number statement nodes.old.items body nodes.new.items to) }
-    ensures define { IfErr result (λ fault. FaultSays fault (λ at why. (body : ℕ) → BreaksAsSaid text.now (flat parts.now) statement nodes.old.items body at why)) }
+    ensures read { IfOk result (λ to. (body : ℕ) → IsReadAsMatched text.now (flat parts.now) number statement nodes.old.items body nodes.new.items to) }
+    ensures define { IfErr result (λ fault. FaultMeets fault (λ at why. (body : ℕ) → BreaksAsMatched text.now (flat parts.now) statement nodes.old.items body at why)) }
 {
     let keys = Keys {
         text,
@@ -72,8 +72,8 @@ fn read_header(
     }
 }
 
-/// Reads a keyval of the body at that node, whose value has the number `number`. `ids` has room for the nodes of the values
-/// in it.
+/// Reads a keyval of the body at that node, whose value has the number `number`. `ids` is a buffer for the nodes of the
+/// values in it.
 fn read_keyval(
     nodes: &mut Nodes,
     ids: &mut Vec<usize>,
@@ -85,12 +85,12 @@ fn read_keyval(
 ) -> Result<(), Fault>
     requires stored { IsStored nodes.old.items }
     requires readable { AreReadable text.now (flat parts.now).keys }
-    requires says { (s : marks.Statement) × SaysStatement text.now (flat parts.now).keys (flat parts.now).values statement s }
-    requires reading { HasReading (twigs nodes.old.items) body }
+    requires matches { (s : marks.Statement) × MatchesStatement text.now (flat parts.now).keys (flat parts.now).values statement s }
+    requires reading { HasReading (trie_of nodes.old.items) body }
     requires valued { statement.value ≡ Some number }
     ensures stored { OnOk result (IsStored nodes.new.items) }
-    ensures read { OnOk result ((n : ℕ) → IsReadAsSaid text.now (flat parts.now) n statement nodes.old.items body nodes.new.items body) }
-    ensures define { IfErr result (λ fault. FaultSays fault (BreaksAsSaid text.now (flat parts.now) statement nodes.old.items body)) }
+    ensures read { OnOk result ((n : ℕ) → IsReadAsMatched text.now (flat parts.now) n statement nodes.old.items body nodes.new.items body) }
+    ensures define { IfErr result (λ fault. FaultMeets fault (BreaksAsMatched text.now (flat parts.now) statement nodes.old.items body)) }
 {
     let value = parts.value(number);
     let keys = Keys {
@@ -108,11 +108,11 @@ fn read_keyval(
     ids.clear();
     push_id(ids, body)?;
     push_id(ids, top)?;
-    read_inside(nodes, ids, text, parts, number, number + 1)
+    read_nested(nodes, ids, text, parts, number, number + 1)
 }
 
-/// Reads the statement of that number in the body at that node, and gives the node of the body behind it. `ids` has room
-/// for the nodes of the values in one statement.
+/// Reads the statement of that number in the body at that node, and gives the node of the body after it. `ids` is a
+/// buffer for the nodes of the values in one statement.
 pub fn read_statement(
     nodes: &mut Nodes,
     ids: &mut Vec<usize>,
@@ -124,11 +124,11 @@ pub fn read_statement(
 ) -> Result<usize, Fault>
     requires stored { IsStored nodes.old.items }
     requires readable { AreReadable text.now (flat parts.now).keys }
-    requires says { (s : marks.Statement) × SaysStatement text.now (flat parts.now).keys (flat parts.now).values statement s }
-    requires reading { HasReading (twigs nodes.old.items) body }
+    requires matches { (s : marks.Statement) × MatchesStatement text.now (flat parts.now).keys (flat parts.now).values statement s }
+    requires reading { HasReading (trie_of nodes.old.items) body }
     ensures stored { OnOk result (IsStored nodes.new.items) }
-    ensures read { IfOk result (λ to. IsReadAsSaid text.now (flat parts.now) number statement nodes.old.items body nodes.new.items to) }
-    ensures define { IfErr result (λ fault. FaultSays fault (BreaksAsSaid text.now (flat parts.now) statement nodes.old.items body)) }
+    ensures read { IfOk result (λ to. IsReadAsMatched text.now (flat parts.now) number statement nodes.old.items body nodes.new.items to) }
+    ensures define { IfErr result (λ fault. FaultMeets fault (BreaksAsMatched text.now (flat parts.now) statement nodes.old.items body)) }
 {
     match statement.value {
         Some(value) => {

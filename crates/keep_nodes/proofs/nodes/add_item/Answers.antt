@@ -1,26 +1,26 @@
 use Rattle.std.proofs.Common.{◌≡◌, ◌∷◌, ◌++◌, [], List, length, ap, sym, refl, ◌∙◌, subst, None}
 use Rattle.keep_nodes.specs.AllNodes.{Node, no_node, node_at, and_item}
 use Rattle.keep_path.specs.Path.{index}
-use Rattle.keep_nodes.specs.Children.{Hung, holding, none_hung, holds_of, child_ids}
+use Rattle.keep_nodes.specs.Children.{ChildList, holding, no_children, holds_of, child_ids}
 use Rattle.keep_nodes.specs.Trie.{by_index, children_of}
-use Rattle.keep_nodes.specs.Stored.{twigs, IsStored, infos_of}
+use Rattle.keep_nodes.specs.Stored.{trie_of, IsStored, infos_of}
 use Rattle.keep_nodes.proofs.StoredLemmas.{holds_read, IsAdded, with_one, no_names, item_step, none_ids, none_holds, grows_with, stored_added, infos_added}
 use Rattle.keep_nodes.proofs.nodes.add_item.Goals as goal
 
-pub hang_item-requires-clause-holds : goal.hang_item-requires-clause-holds
-hang_item-requires-clause-holds c = holds_read c.args.nodes.now.items c.args.parent no_node by_index c.requires.within c.requires.listed
+pub link_item-requires-clause-holds : goal.link_item-requires-clause-holds
+link_item-requires-clause-holds c = holds_read c.args.nodes.now.items c.args.parent no_node by_index c.requires.within c.requires.listed
 
 new : goal.In_ok-push → Node
-new c = record { parent = c.args.parent; number = c.child_count-number.result; children = none_hung (holding c.args.holds); told = record c.args.told { role = None } }
+new c = record { parent = c.args.parent; number = c.child_count-number.result; children = no_children (holding c.args.holds); facts = record c.args.facts { role = None } }
 
-kids : goal.In_ok-push → Hung
+kids : goal.In_ok-push → ChildList
 kids c = and_item (node_at c.args.nodes.now.items c.args.parent).children c.len-id.result
 
-added : (c : goal.In_ok-push) → IsAdded c.args.nodes.now.items c.args.parent no_node (kids c) (new c) (index (length (children_of (twigs c.args.nodes.now.items) c.args.parent)))
+added : (c : goal.In_ok-push) → IsAdded c.args.nodes.now.items c.args.parent no_node (kids c) (new c) (index (length (children_of (trie_of c.args.nodes.now.items) c.args.parent)))
 unfolding new kids
 added c =
     let nodes : List Node = c.args.nodes.now.items in
-    let above : Hung = (node_at nodes c.args.parent).children in
+    let above : ChildList = (node_at nodes c.args.parent).children in
     let listed : holds_of above ≡ by_index = holds_read nodes c.args.parent no_node by_index c.requires.within c.requires.listed in
     record {
       stored = c.requires.stored;
@@ -29,7 +29,7 @@ added c =
       ids = ap (λ n. child_ids above ++ n ∷ []) c.len-id.ensures;
       names = [];
       named_is = sym (ap (λ ns. ns ++ []) (no_names above listed));
-      hangs = refl;
+      parent_is = refl;
       last = c.child_count-number.ensures;
       step = item_step (kids c) c.child_count-number.result _ refl (c.child_count-number.ensures ∙ ap length (c.requires.stored.kids c.args.parent no_node c.requires.within));
       bare = none_ids (holding c.args.holds);
@@ -37,7 +37,7 @@ added c =
 
 items : (c : goal.In_ok-push) → c.push.new.self.items ≡ with_one c.args.nodes.now.items c.args.parent no_node (kids c) (new c)
 unfolding new kids
-items c = c.in_ok-push.ensures ∙ ap (λ (ns : List Node). ns ++ new c ∷ []) c.in_ok-hang_item.ensures
+items c = c.in_ok-push.ensures ∙ ap (λ (ns : List Node). ns ++ new c ∷ []) c.in_ok-link_item.ensures
 
 pub returns-clause-grows : goal.returns-clause-grows
 unfolding new kids

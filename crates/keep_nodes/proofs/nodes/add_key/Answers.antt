@@ -1,30 +1,30 @@
 use Rattle.std.proofs.Common.{◌≡◌, ◌∷◌, ◌++◌, [], List, ap, sym, refl, ◌∙◌, subst, Some}
 use Rattle.keep_nodes.specs.AllNodes.{Node, no_node, node_at, and_key}
 use Rattle.keep_path.specs.Path.{key}
-use Rattle.keep_nodes.specs.Children.{Hung, holding, none_hung, holds_of, child_ids}
+use Rattle.keep_nodes.specs.Children.{ChildList, holding, no_children, holds_of, child_ids}
 use Rattle.keep_nodes.specs.Trie.{by_key}
 use Rattle.keep_nodes.specs.Stored.{IsStored, infos_of}
 use Rattle.keep_nodes.proofs.StoredLemmas.{holds_read, not_named, IsAdded, with_one, key_ids, key_step, none_ids, none_holds, grows_with, stored_added, infos_added}
 use Rattle.keep_nodes.proofs.nodes.add_key.Goals as goal
 
-pub hang_key-requires-clause-holds : goal.hang_key-requires-clause-holds
-hang_key-requires-clause-holds c = holds_read c.args.nodes.now.items c.args.parent no_node by_key c.requires.within c.requires.keyed
+pub link_key-requires-clause-holds : goal.link_key-requires-clause-holds
+link_key-requires-clause-holds c = holds_read c.args.nodes.now.items c.args.parent no_node by_key c.requires.within c.requires.keyed
 
-pub hang_key-requires-clause-fresh : goal.hang_key-requires-clause-fresh
-hang_key-requires-clause-fresh c =
+pub link_key-requires-clause-fresh : goal.link_key-requires-clause-fresh
+link_key-requires-clause-fresh c =
     not_named c.args.nodes.now.items c.requires.stored c.args.parent no_node c.args.text.now c.requires.within (holds_read c.args.nodes.now.items c.args.parent no_node by_key c.requires.within c.requires.keyed) c.requires.fresh
 
 new : goal.In_ok-push → Node
-new c = record { parent = c.args.parent; number = c.child_count-number.result; children = none_hung (holding c.args.holds); told = record c.args.told { role = Some c.args.role } }
+new c = record { parent = c.args.parent; number = c.child_count-number.result; children = no_children (holding c.args.holds); facts = record c.args.facts { role = Some c.args.role } }
 
-kids : goal.In_ok-push → Hung
+kids : goal.In_ok-push → ChildList
 kids c = and_key (node_at c.args.nodes.now.items c.args.parent).children c.args.text.now c.len-id.result
 
 added : (c : goal.In_ok-push) → IsAdded c.args.nodes.now.items c.args.parent no_node (kids c) (new c) (key c.args.text.now)
 unfolding new kids
 added c =
     let nodes : List Node = c.args.nodes.now.items in
-    let above : Hung = (node_at nodes c.args.parent).children in
+    let above : ChildList = (node_at nodes c.args.parent).children in
     let keyed : holds_of above ≡ by_key = holds_read nodes c.args.parent no_node by_key c.requires.within c.requires.keyed in
     record {
       stored = c.requires.stored;
@@ -33,7 +33,7 @@ added c =
       ids = key_ids above c.args.text.now c.len-id.result keyed ∙ ap (λ n. child_ids above ++ n ∷ []) c.len-id.ensures;
       names = (c.args.text.now, c.len-id.result) ∷ [];
       named_is = refl;
-      hangs = refl;
+      parent_is = refl;
       last = c.child_count-number.ensures;
       step = key_step above (kids c) c.args.text.now c.args.text.now c.len-id.result c.child_count-number.result keyed refl refl c.child_count-number.ensures refl;
       bare = none_ids (holding c.args.holds);
@@ -41,7 +41,7 @@ added c =
 
 items : (c : goal.In_ok-push) → c.push.new.self.items ≡ with_one c.args.nodes.now.items c.args.parent no_node (kids c) (new c)
 unfolding new kids
-items c = c.in_ok-push.ensures ∙ ap (λ (ns : List Node). ns ++ new c ∷ []) c.in_ok-hang_key.ensures
+items c = c.in_ok-push.ensures ∙ ap (λ (ns : List Node). ns ++ new c ∷ []) c.in_ok-link_key.ensures
 
 pub returns-clause-grows : goal.returns-clause-grows
 unfolding new kids

@@ -2,19 +2,19 @@ use Rattle.std.proofs.Common.{List, ap, sym, refl, ◌∙◌, subst, Some}
 use Rattle.indexmap.proofs.MapLemmas.{OnOk-map}
 use Rattle.keep_nodes.specs.AllNodes.{Node, no_node, node_at}
 use Rattle.keep_nodes.specs.Growth.{Restates}
-use Rattle.keep_nodes.specs.Stored.{IsStored, twigs, infos_of}
-use Rattle.keep_nodes.specs.Told.{told_again, info_of}
-use Rattle.keep_nodes.proofs.KeptLemmas.{info_again}
+use Rattle.keep_nodes.specs.Stored.{IsStored, trie_of, infos_of}
+use Rattle.keep_nodes.specs.Facts.{joined_facts, info_of}
+use Rattle.keep_nodes.proofs.PackedLemmas.{info_joined}
 use Rattle.keep_nodes.proofs.StoredLemmas.{IsChanged, restates_changed, stored_changed, infos_changed}
 use Rattle.keep_nodes.proofs.nodes.set_role.Goals as goal
 
-old : goal.After-tell → Node
+old : goal.After-join_facts → Node
 old c = node_at c.args.nodes.now.items c.args.id
 
-changed : goal.After-tell → Node
-changed c = record (old c) { told = record (told_again (old c).told c.args.more) { role = Some c.args.role } }
+changed : goal.After-join_facts → Node
+changed c = record (old c) { facts = record (joined_facts (old c).facts c.args.more) { role = Some c.args.role } }
 
-is_changed : (c : goal.After-tell) → IsChanged c.args.nodes.now.items c.args.id no_node (changed c)
+is_changed : (c : goal.After-join_facts) → IsChanged c.args.nodes.now.items c.args.id no_node (changed c)
 unfolding old changed
 is_changed c = record { stored = c.requires.stored; within = c.requires.within; parent = refl; number = refl; children = refl }
 
@@ -22,15 +22,15 @@ pub returns-clause-restates : goal.returns-clause-restates
 unfolding old changed
 returns-clause-restates c =
     let nodes = c.args.nodes.now.items in
-    OnOk-map c.tell.result _ _
-    (λ is. subst (λ (ns : List Node). Restates (twigs nodes) (twigs ns) c.args.id c.args.role) (sym is) (restates_changed nodes c.args.id no_node (changed c) c.args.role (is_changed c) refl)) c.tell.ensures
+    OnOk-map c.join_facts.result _ _
+    (λ is. subst (λ (ns : List Node). Restates (trie_of nodes) (trie_of ns) c.args.id c.args.role) (sym is) (restates_changed nodes c.args.id no_node (changed c) c.args.role (is_changed c) refl)) c.join_facts.ensures
 
 pub returns-clause-stored : goal.returns-clause-stored
 unfolding old changed
 returns-clause-stored c =
-    OnOk-map c.tell.result _ _ (λ is. subst IsStored (sym is) (stored_changed c.args.nodes.now.items c.args.id no_node (changed c) c.args.role (is_changed c) refl)) c.tell.ensures
+    OnOk-map c.join_facts.result _ _ (λ is. subst IsStored (sym is) (stored_changed c.args.nodes.now.items c.args.id no_node (changed c) c.args.role (is_changed c) refl)) c.join_facts.ensures
 
 pub returns-clause-infos : goal.returns-clause-infos
 unfolding old changed
 returns-clause-infos c =
-    OnOk-map c.tell.result _ _ (λ is. ap infos_of is ∙ infos_changed c.args.nodes.now.items c.args.id no_node (changed c) (info_of c.args.more) c.requires.within (info_again (old c).told c.args.more)) c.tell.ensures
+    OnOk-map c.join_facts.result _ _ (λ is. ap infos_of is ∙ infos_changed c.args.nodes.now.items c.args.id no_node (changed c) (info_of c.args.more) c.requires.within (info_joined (old c).facts c.args.more)) c.join_facts.ensures

@@ -4,30 +4,30 @@ use Rattle.keep_syntax.specs.declared.fault.Why.{Why}
 use Rattle.keep_rules.specs.Keys.{last_text}
 use Rattle.keep_rules.specs.Reads.{FaultsIn}
 use Rattle.keep_rules.specs.Statements.{element_of}
-use Rattle.keep_nodes.specs.Stored.{twigs}
-use Rattle.keep_rules.proofs.BuildLemmas.{says_fault, element_way_stops, element_read, element_stops, element_all_told}
+use Rattle.keep_nodes.specs.Stored.{trie_of}
+use Rattle.keep_rules.proofs.BuildLemmas.{meets_fault, element_walk_stops, element_read, element_stops, element_all_added}
 use Rattle.keep_rules.proofs.build.element.Goals as goal
 
 pub returns-in_err-parent-clause-define : goal.returns-in_err-parent-clause-define
 returns-in_err-parent-clause-define c =
     let p = err_from_is_err_and c.from_residual.result c.from_residual.ensures.1 in
-    rw (p.1, p.2) (element_way_stops c.args.keys c.requires.keys (twigs c.args.nodes.now.items) _ c.in_err-parent.ensures.define)
+    rw (p.1, p.2) (element_walk_stops c.args.keys c.requires.keys (trie_of c.args.nodes.now.items) _ c.in_err-parent.ensures.define)
 
 pub returns-in-Ok-clause-ok : goal.returns-in-Ok-clause-ok
 returns-in-Ok-clause-ok c =
     let is : c.as_str.result.now ≡ last_text c.args.keys = c.as_str.ensures ∙ c.in_ok-name.ensures.text in
-    element_read c.args.keys c.requires.keys c.as_str.result.now is (twigs c.args.nodes.now.items) (twigs c.walk.new.nodes.items) (twigs c.begin.new.nodes.items) c.in_ok-parent.parent c.in-Ok.to c.in_ok-parent.ensures.ok c.in-Ok.ensures.ok
+    element_read c.args.keys c.requires.keys c.as_str.result.now is (trie_of c.args.nodes.now.items) (trie_of c.walk_header.new.nodes.items) (trie_of c.begin.new.nodes.items) c.in_ok-parent.parent c.in-Ok.to c.in_ok-parent.ensures.ok c.in-Ok.ensures.ok
 
-pub returns-in-Ok-clause-told : goal.returns-in-Ok-clause-told
-returns-in-Ok-clause-told c =
+pub returns-in-Ok-clause-facts : goal.returns-in-Ok-clause-facts
+returns-in-Ok-clause-facts c =
     let is : c.as_str.result.now ≡ last_text c.args.keys = c.as_str.ensures ∙ c.in_ok-name.ensures.text in
-    element_all_told c.args.keys c.requires.keys c.as_str.result.now is c.args.nodes.now.items c.walk.new.nodes.items c.begin.new.nodes.items c.in_ok-parent.parent c.args.statement c.in_ok-name.name.span c.in_ok-name.ensures.span
-    c.in_ok-parent.ensures.ok c.in_ok-parent.ensures.told c.in-Ok.ensures.told
+    element_all_added c.args.keys c.requires.keys c.as_str.result.now is c.args.nodes.now.items c.walk_header.new.nodes.items c.begin.new.nodes.items c.in_ok-parent.parent c.args.statement c.in_ok-name.name.span c.in_ok-name.ensures.span
+    c.in_ok-parent.ensures.ok c.in_ok-parent.ensures.facts c.in-Ok.ensures.facts
 
 pub returns-clause-define : goal.returns-clause-define
 returns-clause-define c =
-    let old = twigs c.args.nodes.now.items in
+    let old = trie_of c.args.nodes.now.items in
     let is : c.as_str.result.now ≡ last_text c.args.keys = c.as_str.ensures ∙ c.in_ok-name.ensures.text in
-    says_fault c.in-Err.stop (c.args.keys.count - 1) c.why.result c.fault_of.result (λ n w. (body : ℕ) → FaultsIn old body (element_of c.args.keys) n w) c.fault_of.ensures (λ stops.
+    meets_fault c.in-Err.stop (c.args.keys.count - 1) c.why.result c.fault_of.result (λ n w. (body : ℕ) → FaultsIn old body (element_of c.args.keys) n w) c.fault_of.ensures (λ stops.
     subst (λ (w : Why). (body : ℕ) → FaultsIn old body (element_of c.args.keys) (c.args.keys.count - 1) w) (sym c.why.ensures)
-    (element_stops c.args.keys c.requires.keys c.as_str.result.now is old (twigs c.walk.new.nodes.items) c.in_ok-parent.parent c.in_ok-parent.ensures.ok (c.in-Err.ensures.refused (ap Err stops))))
+    (element_stops c.args.keys c.requires.keys c.as_str.result.now is old (trie_of c.walk_header.new.nodes.items) c.in_ok-parent.parent c.in_ok-parent.ensures.ok (c.in-Err.ensures.refused (ap Err stops))))

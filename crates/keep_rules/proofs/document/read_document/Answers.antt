@@ -1,11 +1,11 @@
--- The nodes stand for the statements so far.
+-- The nodes represent the statements so far.
 use Rattle.std.proofs.Common.{◌∙◌, ◌^◌, ◌<◌, ◌≤◌, length, slice_get, ap, sym, arith}
 use Rattle.keep_syntax.specs.Flat.{flat}
 use Rattle.keep_syntax.specs.Numbered as syntax
 use Rattle.keep_syntax.specs.Tree.{Document}
 use Rattle.keep_meaning.specs.Marks.{start, mentions_from, reading_after}
 use Rattle.keep_rules.specs.ReadDocuments.{WasRead}
-use Rattle.keep_rules.proofs.DocumentLemmas.{before, begin_read, said_at, statement_at, read_next, break_within, break_refused, whole_read}
+use Rattle.keep_rules.proofs.DocumentLemmas.{before, begin_read, mentions_at, statement_at, read_next, break_within, break_refused, whole_read}
 use Rattle.keep_meaning.proofs.Shared.{syntax_readable}
 use Rattle.keep_rules.proofs.PartLemmas.{few_keys}
 use Rattle.keep_rules.proofs.document.read_document.Goals as goal
@@ -18,8 +18,8 @@ read_statement-requires-clause-readable c = λ n p at.
     syntax_readable c.args.syntax.now c.args.text.now c.requires.1.profile c.requires.0 c.utf8.text c.requires.1.reads.valid c.requires.1.reads.spelled c.requires.1.is n p
     (ap (λ q. slice_get (flat q).keys n) (sym c.parts-parts.ensures) ∙ at)
 
-pub read_statement-requires-clause-says : goal.read_statement-requires-clause-says
-read_statement-requires-clause-says c = (statement_at c.requires.0 c.loop-number.number, said_at c.args.text.now c.args.syntax.now c.requires.0 c.requires.1 (flat c.parts-parts.result.now) (ap (λ p. (flat p).keys) c.parts-parts.ensures ∙ c.requires.1.is.parts) (ap (λ p. (flat p).values) c.parts-parts.ensures ∙ c.requires.1.is.values) c.loop-number.number c.statement-statement.result c.statement-statement.ensures)
+pub read_statement-requires-clause-matches : goal.read_statement-requires-clause-matches
+read_statement-requires-clause-matches c = (statement_at c.requires.0 c.loop-number.number, mentions_at c.args.text.now c.args.syntax.now c.requires.0 c.requires.1 (flat c.parts-parts.result.now) (ap (λ p. (flat p).keys) c.parts-parts.ensures ∙ c.requires.1.is.parts) (ap (λ p. (flat p).values) c.parts-parts.ensures ∙ c.requires.1.is.values) c.loop-number.number c.statement-statement.result c.statement-statement.ensures)
 
 pub read_statement-requires-clause-reading : goal.read_statement-requires-clause-reading
 read_statement-requires-clause-reading c =

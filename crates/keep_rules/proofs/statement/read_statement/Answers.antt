@@ -2,7 +2,7 @@
 use Rattle.std.proofs.Common.{ℕ}
 use Rattle.std.proofs.lemmas.Result.{IfOk-weaker}
 use Rattle.keep_syntax.specs.Flat.{flat}
-use Rattle.keep_rules.specs.ReadStatements.{IsReadAsSaid}
+use Rattle.keep_rules.specs.ReadStatements.{IsReadAsMatched}
 use Rattle.keep_rules.proofs.statement.read_statement.Goals as goal
 
 pub returns-in_ok-read_keyval-in-Some-clause-read :
@@ -11,5 +11,5 @@ returns-in_ok-read_keyval-in-Some-clause-read c = c.in_ok-read_keyval-in-Some.en
 
 pub returns-in-None-clause-read : goal.returns-in-None-clause-read
 returns-in-None-clause-read c =
-    IfOk-weaker c.read_header.result (λ to. (body : ℕ) → IsReadAsSaid c.args.text.now (flat c.args.parts.now) c.args.number c.args.statement c.args.nodes.now.items body c.read_header.new.nodes.items to)
-    (λ to. IsReadAsSaid c.args.text.now (flat c.args.parts.now) c.args.number c.args.statement c.args.nodes.now.items c.args.body c.read_header.new.nodes.items to) (λ to read. read c.args.body) c.read_header.ensures.read
+    IfOk-weaker c.read_header.result (λ to. (body : ℕ) → IsReadAsMatched c.args.text.now (flat c.args.parts.now) c.args.number c.args.statement c.args.nodes.now.items body c.read_header.new.nodes.items to)
+    (λ to. IsReadAsMatched c.args.text.now (flat c.args.parts.now) c.args.number c.args.statement c.args.nodes.now.items c.args.body c.read_header.new.nodes.items to) (λ to read. read c.args.body) c.read_header.ensures.read

@@ -1,5 +1,5 @@
 use Rattle.std.proofs.Common.{arith, ap, ◌∙◌, length}
-use Rattle.keep_nodes.specs.Children.{Hung, child_ids}
+use Rattle.keep_nodes.specs.Children.{ChildList, child_ids}
 use Rattle.keep_nodes.proofs.NodeRowLemmas.{count_seen, children_read}
 use Rattle.keep_nodes.proofs.nodes.Nodes.child_count.Goals as goal
 
@@ -8,4 +8,4 @@ index-requires c = omega (arith, c.requires, count_seen _ _ _ c.self.view_is c.s
 
 pub returns : goal.returns
 returns c =
-    c.len.ensures ∙ ap (λ (x : Hung). length (child_ids x)) (children_read _ _ _ c.self.view_is c.self.invariant c.args.id c.requires c.index.result.now c.index.ensures)
+    c.len.ensures ∙ ap (λ (x : ChildList). length (child_ids x)) (children_read _ _ _ c.self.view_is c.self.invariant c.args.id c.requires c.index.result.now c.index.ensures)

@@ -1,6 +1,6 @@
 use Rattle.std.proofs.Common.{arith, ap, ◌∙◌}
 use Rattle.std.specs.Prelude.{slice_get, option_map}
-use Rattle.keep_nodes.specs.Children.{Hung, named}
+use Rattle.keep_nodes.specs.Children.{ChildList, named}
 use Rattle.keep_nodes.proofs.NodeRowLemmas.{count_seen, children_read}
 use Rattle.keep_nodes.proofs.nodes.Nodes.key_at.Goals as goal
 
@@ -9,4 +9,4 @@ index-requires c = omega (arith, c.requires, count_seen _ _ _ c.self.view_is c.s
 
 pub returns : goal.returns
 returns c =
-    c.key_at.ensures ∙ ap (λ (x : Hung). option_map (λ e. e.0) (slice_get (named x) c.args.number)) (children_read _ _ _ c.self.view_is c.self.invariant c.args.id c.requires c.index.result.now c.index.ensures)
+    c.key_at.ensures ∙ ap (λ (x : ChildList). option_map (λ e. e.0) (slice_get (named x) c.args.number)) (children_read _ _ _ c.self.view_is c.self.invariant c.args.id c.requires c.index.result.now c.index.ensures)

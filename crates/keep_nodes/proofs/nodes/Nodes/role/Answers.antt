@@ -1,10 +1,10 @@
 use Rattle.std.proofs.Common.{arith, ◌∙◌, ap}
-use Rattle.keep_nodes.specs.declared.told.Told.{Told}
-use Rattle.keep_nodes.proofs.NodeRowLemmas.{count_seen, told_read}
+use Rattle.keep_nodes.specs.declared.facts.NodeFacts.{NodeFacts}
+use Rattle.keep_nodes.proofs.NodeRowLemmas.{count_seen, facts_read}
 use Rattle.keep_nodes.proofs.nodes.Nodes.role.Goals as goal
 
 pub index-requires : goal.index-requires
 index-requires c = omega (arith, c.requires, count_seen _ _ _ c.self.view_is c.self.invariant, c.self.inside.list.ok.0)
 
 pub returns : goal.returns
-returns c = c.role.ensures ∙ ap (λ (t : Told). t.role) (told_read _ _ _ c.self.view_is c.self.invariant c.args.id c.requires c.index.result.now c.index.ensures)
+returns c = c.role.ensures ∙ ap (λ (t : NodeFacts). t.role) (facts_read _ _ _ c.self.view_is c.self.invariant c.args.id c.requires c.index.result.now c.index.ensures)

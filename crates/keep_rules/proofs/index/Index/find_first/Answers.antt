@@ -2,7 +2,7 @@ use Rattle.std.proofs.Common.{◌∷◌, ◌++◌, [], ◌∙◌, ap, sym, arith
 use Rattle.keep_rules.specs.Lookup.{number_of, path_numbered}
 use Rattle.keep_meaning.specs.Nodes.{node_number}
 use Rattle.keep_path.specs.Step.{part_of}
-use Rattle.keep_nodes.specs.Told.{Telling}
+use Rattle.keep_nodes.specs.Facts.{NodeInfos}
 use Rattle.keep_rules.proofs.QueryLemmas.{count_paths, at_root, at_next, at_none, step_there, at_end}
 use Rattle.keep_rules.proofs.index.Index.find_first.Goals as goal
 
@@ -21,12 +21,12 @@ returns-in_err-id-clause-found c =
     ap number_of c.from_residual-in_err-id.ensures
     ∙ at_none c.self.inside.nodes.items c.args.self.now record { stored = c.self.invariant.0; view = c.self.view_is } c.args.path.now c.loop-number.number c.loop-number.id c.args.n (part_of c.in_ok-step.field-0.now)
     c.loop-number.invariant (sym c.in_ok-step.ensures) (omega arith)
-    (c.in_err-id.ensures ∙ ap (λ (x : Telling). node_number x.paths (path_numbered x c.loop-number.id ++ part_of c.in_ok-step.field-0.now ∷ [])) c.self.view_is)
+    (c.in_err-id.ensures ∙ ap (λ (x : NodeInfos). node_number x.paths (path_numbered x c.loop-number.id ++ part_of c.in_ok-step.field-0.now ∷ [])) c.self.view_is)
 
 pub loop-number-preserved : goal.loop-number-preserved
 loop-number-preserved c =
     at_next c.args.self.now c.args.path.now c.loop-number.number c.loop-number.id c.in_ok-id.id (part_of c.in_ok-step.field-0.now) c.loop-number.invariant (sym c.in_ok-step.ensures)
-    (c.in_ok-id.ensures ∙ ap (λ (x : Telling). node_number x.paths (path_numbered x c.loop-number.id ++ part_of c.in_ok-step.field-0.now ∷ [])) c.self.view_is)
+    (c.in_ok-id.ensures ∙ ap (λ (x : NodeInfos). node_number x.paths (path_numbered x c.loop-number.id ++ part_of c.in_ok-step.field-0.now ∷ [])) c.self.view_is)
 
 pub returns-clause-found : goal.returns-clause-found
 returns-clause-found c =

@@ -1,0 +1,43 @@
+-- Joining facts in place gives the joined facts.
+use Rattle.std.proofs.Common.{◌≡◌, ℕ, ◌+◌, ◌-◌, ◌^◌, Bool, true, false, cond, ◌||◌, ◌&&◌, ◌==◌, Option, Some, None, refl, arith}
+use Rattle.std.proofs.lemmas.Bool.Decides.{nat_tests}
+use Rattle.std.specs.Prelude.{min, nat_le}
+use Rattle.keep_syntax.specs.declared.info.Span.{Span}
+use Rattle.keep_meaning.specs.declared.node.Kind.{Kind}
+use Rattle.keep_meaning.specs.declared.role.Role.{Role}
+use Rattle.keep_nodes.specs.declared.facts.PlaceKind.{PlaceKind}
+use Rattle.keep_nodes.specs.declared.facts.NodeFacts.{NodeFacts}
+use Rattle.keep_nodes.specs.Facts.{later_kind, rank, place_of, joined_facts, joined_info, info_of}
+
+-- the joined facts, where two tests say whether no key part named the node yet, and whether the later place is stored
+pub joined_in_place : (old more : NodeFacts) (role : Option Role) (kind : Kind) (marks : ℕ) → kind ≡ later_kind old.kind more.kind → marks ≡ min (old.marks + more.marks) (2 ^ 64 - 1)
+    → (place : PlaceKind) (key value : Span) (number : ℕ) (first later : Bool) → (old.marks == 0) ≡ first → nat_le (rank (place_of old.place old.number)) (rank (place_of more.place more.number)) ≡ later
+    → place ≡ cond later more.place old.place → key ≡ cond first more.key old.key → value ≡ cond later more.value old.value → number ≡ cond later more.number old.number
+    → record { role = role; kind = kind; passed = old.passed || more.passed; place = place; marks = marks; key = key; value = value; number = number } ≡ record (joined_facts old more) { role = role }
+joined_in_place old more role kind marks kinds sum place key value number first true is_first is_later places keys values numbers = rw (is_first, is_later, kinds, sum, places, keys, values, numbers) refl
+joined_in_place old more role kind marks kinds sum place key value number first false is_first is_later places keys values numbers = rw (is_first, is_later, kinds, sum, places, keys, values, numbers) refl
+
+-- ---- the joined facts as the callers of the library see them
+
+marks_joined : (n m : ℕ) → (min (n + m) (2 ^ 64 - 1) == 0) ≡ ((n == 0) && (m == 0))
+marks_joined n m = grind (arith, nat_tests)
+
+key_joined : (old more : NodeFacts) → (info_of (joined_facts old more)).key_span ≡ (joined_info (info_of old) (info_of more)).key_span
+key_joined old more =
+    rw marks_joined (elim (old.marks == 0) as (λ b. cond (b && (more.marks == 0)) None (Some (cond b more.key old.key)) ≡ cond b (cond (more.marks == 0) None (Some more.key)) (cond b None (Some old.key))) [
+      | true ↦ refl
+      | false ↦ refl
+    ])
+
+place_joined : (old more : NodeFacts) (later : Bool) → (info_of (cond later more old)).place ≡ cond later (info_of more).place (info_of old).place
+place_joined old more true = refl
+place_joined old more false = refl
+
+value_joined : (old more : NodeFacts) (later : Bool) → (info_of (cond later more old)).value_span ≡ cond later (info_of more).value_span (info_of old).value_span
+value_joined old more true = refl
+value_joined old more false = refl
+
+pub info_joined : (old more : NodeFacts) → info_of (joined_facts old more) ≡ joined_info (info_of old) (info_of more)
+info_joined old more =
+    let later : Bool = nat_le (rank (place_of old.place old.number)) (rank (place_of more.place more.number)) in
+    rw (key_joined old more, value_joined old more later, place_joined old more later) refl

@@ -1,0 +1,93 @@
+-- The facts that one operation adds: to a new node, and to one that is there.
+use Rattle.std.proofs.Common.{◌≡◌, ◌≢◌, ℕ, suc, ◌+◌, ◌<◌, Bool, true, false, cond, not, ◌||◌, List, [], ◌∷◌, ◌++◌, length, get_or, set, refl, sym, ◌∙◌, ap, subst, arith, Option, Some, None}
+use Rattle.std.specs.Prelude.{Contains, AllPairs, nat_lt}
+use Rattle.std.specs.List.{list_any, position_or_len}
+use Rattle.std.proofs.lemmas.List.Elements.{Contains-get_or}
+use Rattle.std.proofs.lemmas.List.Sums.{position_or_len_is}
+use Rattle.std.proofs.lemmas.Bool.Decides.{nat_tests}
+use Rattle.keep_syntax.specs.declared.info.KeyPart.{KeyPart}
+use Rattle.keep_syntax.specs.declared.info.ValueInfo.{ValueInfo}
+use Rattle.keep_meaning.specs.declared.node.NodeInfo.{NodeInfo}
+use Rattle.keep_nodes.specs.AllNodes.{Node}
+use Rattle.keep_meaning.specs.declared.role.Role.{Role}
+use Rattle.keep_path.specs.Path.{Part, same_path}
+use Rattle.keep_meaning.specs.Counts.{Numbered}
+use Rattle.keep_meaning.specs.Nodes.{node_number, paths_with}
+use Rattle.keep_nodes.specs.Facts.{joined_info, no_info, NodeInfos, with_info, with_info_at, with_mentions, mention_info, paths_after}
+use Rattle.keep_nodes.specs.Trie.{Holding, IsTrie, paths_of, path_at}
+use Rattle.keep_nodes.specs.Growth.{Grows}
+use Rattle.keep_nodes.specs.Stored.{trie_of, infos_of, info_at, node_infos}
+use Rattle.keep_rules.specs.AddedInfos.{AddsInfo}
+use Rattle.keep_path.proofs.Shared.{path_decides}
+use Rattle.keep_rules.proofs.RoleStateLemmas.{false_ne}
+use Rattle.keep_nodes.proofs.Shared.{length-paths_of}
+
+-- ---- the number of a path
+
+first_passes : (n m : ℕ) → n ≡ m → nat_lt n m ≡ false
+first_passes n m e = grind (arith, nat_tests)
+
+low_passes : (n m : ℕ) → n < m → nat_lt n m ≡ true
+low_passes n m e = grind (arith, nat_tests)
+
+pub unmet_number : (paths : List (List Part)) (p : List Part) → (Contains paths p → ⊥) → node_number paths p ≡ None
+unmet_number paths p none =
+    let end : position_or_len (same_path p) paths ≡ length paths =
+    position_or_len_is (same_path p) paths (length paths) [] (omega arith)
+    (λ k h. false_ne (same_path p (get_or paths k [])) (λ t. none (subst (Contains paths) (sym ((path_decides p (get_or paths k [])).0 t)) (Contains-get_or paths k [] h)))) (λ low. absurd (omega (arith, low))) in
+    ap (λ b. cond b (Some (position_or_len (same_path p) paths)) None) (first_passes _ _ end)
+
+pub met_number : (paths : List (List Part)) (p : List Part) (i : ℕ) → AllPairs (λ p q. p ≢ q) paths → i < length paths → get_or paths i [] ≡ p → node_number paths p ≡ Some i
+met_number paths p i distinct h is =
+    let here : position_or_len (same_path p) paths ≡ i =
+    position_or_len_is (same_path p) paths i [] (omega (arith, h))
+    (λ k low. false_ne (same_path p (get_or paths k [])) (λ t. distinct k i [] low h (sym ((path_decides p (get_or paths k [])).0 t) ∙ sym is))) (λ low. (path_decides p (get_or paths i [])).1 (sym is)) in
+    ap (λ b. cond b (Some (position_or_len (same_path p) paths)) None) (low_passes (position_or_len (same_path p) paths) (length paths) (omega (arith, here, h))) ∙ ap Some here
+
+-- ---- the facts from one more mention
+
+pub with_info_fresh : (t : NodeInfos) (p : List Part) (more : NodeInfo) → (Contains t.paths p → ⊥) → with_info t p more ≡ record { paths = t.paths ++ p ∷ []; infos = t.infos ++ more ∷ [] }
+with_info_fresh t p more fresh = ap (λ o. with_info_at t o p more) (unmet_number t.paths p fresh)
+
+pub with_info_there : (t : NodeInfos) (p : List Part) (more : NodeInfo) (i : ℕ) → AllPairs (λ p q. p ≢ q) t.paths → i < length t.paths → get_or t.paths i [] ≡ p
+    → with_info t p more ≡ record t { infos = set t.infos i (joined_info (get_or t.infos i no_info) more) }
+with_info_there t p more i distinct h is = ap (λ o. with_info_at t o p more) (met_number t.paths p i distinct h is)
+
+-- of a new node
+pub added_at_new : (old new : List Node) (parent : ℕ) (p : List Part) (state : Option Role) (holds : Holding) (more : NodeInfo) → Grows (trie_of old) (trie_of new) parent p state holds
+    → infos_of new ≡ infos_of old ++ more ∷ [] → AddsInfo old new p more
+added_at_new old new parent p state holds more g infos =
+    ap (λ ps. record { paths = ps; infos = infos_of new }) g.paths ∙ ap (λ is. record { paths = paths_of (trie_of old) ++ p ∷ []; infos = is }) infos ∙ sym (with_info_fresh (node_infos old) p more g.fresh)
+
+-- of one that is there
+pub added_at_existing : (old new : List Node) (id : ℕ) (p : List Part) (more : NodeInfo) → IsTrie (trie_of old) → id < length (trie_of old) → path_at (trie_of old) id ≡ p → paths_of (trie_of new) ≡ paths_of (trie_of old)
+    → infos_of new ≡ set (infos_of old) id (joined_info (info_at old id) more) → AddsInfo old new p more
+added_at_existing old new id p more trie h here paths infos =
+    ap (λ ps. record { paths = ps; infos = infos_of new }) paths ∙ ap (λ is. record { paths = paths_of (trie_of old); infos = is }) infos
+    ∙ sym (with_info_there (node_infos old) p more id trie.distinct (omega (arith, h, length-paths_of (trie_of old) trie.root)) here)
+
+-- ---- the paths after it
+
+some_lower : {X : Type 0} (f : X → Bool) (xs : List X) → nat_lt (position_or_len f xs) (length xs) ≡ list_any f xs
+some_lower f [] = refl
+some_lower f (x ∷ xs) =
+    elim (f x) as (λ b. nat_lt (cond (not b) (1 + position_or_len f xs) 0) (suc (length xs)) ≡ (b || list_any f xs)) [
+      | true ↦ low_passes 0 (suc (length xs)) (omega arith)
+      | false ↦ one_more (position_or_len f xs) (length xs) ∙ some_lower f xs
+    ]
+  where
+    one_more : (n m : ℕ) → nat_lt (1 + n) (suc m) ≡ nat_lt n m
+    one_more n m = grind (arith, nat_tests)
+
+pub with_info-paths : (t : NodeInfos) (p : List Part) (more : NodeInfo) → (with_info t p more).paths ≡ paths_with t.paths p
+with_info-paths t p more =
+    (elim (nat_lt (position_or_len (same_path p) t.paths) (length t.paths)) as (λ b. (with_info_at t (cond b (Some (position_or_len (same_path p) t.paths)) None) p more).paths ≡ cond b t.paths (t.paths ++ p ∷ [])) [
+      | true ↦ refl
+      | false ↦ refl
+    ])
+    ∙ ap (λ b. cond b t.paths (t.paths ++ p ∷ [])) (some_lower (same_path p) t.paths)
+
+pub with_mentions-paths : (values : List ValueInfo) (parts : List KeyPart) (t : NodeInfos) (ns : List Numbered) → (with_mentions values parts t ns).paths ≡ paths_after t.paths ns
+with_mentions-paths values parts t [] = refl
+with_mentions-paths values parts t (n ∷ ns) =
+    with_mentions-paths values parts (with_info t n.mention.path (mention_info values parts n)) ns ∙ ap (λ ps. paths_after ps ns) (with_info-paths t n.mention.path (mention_info values parts n))

@@ -1,0 +1,58 @@
+-- The values so far are read as the first of the nested values that they may be.
+use Rattle.std.proofs.Common.{◌+◌, [], ◌∷◌, length, ap, ◌∙◌, arith, length-append}
+use Rattle.std.proofs.lemmas.Result.{err_from_is_err_and}
+use Rattle.keep_syntax.specs.Flat.{flat}
+use Rattle.keep_rules.proofs.UnderwayLemmas.{begin_underway, some_next_seen, some_shaped, represents_some, underway_more_seen, underway_ends, past_ends, line_ends, other_inside, underway_faults_seen, IsThere}
+use Rattle.keep_rules.proofs.nested_values.read_nested.Goals as goal
+
+pub loop-number-init : goal.loop-number-init
+loop-number-init c = record {
+  stored = c.requires.stored;
+  numbered = c.requires.numbered;
+  underway = begin_underway c.args.text.now (flat c.args.parts.now) c.args.base c.args.from c.args.nodes.now.items c.args.ids.now.items c.requires.shaped;
+}
+
+pub returns-in-Line-clause-was_read : goal.returns-in-Line-clause-was_read
+returns-in-Line-clause-was_read c =
+    underway_ends c.args.text.now (flat c.args.parts.now) c.args.base c.args.from _ _ _ _ c.loop-number.number
+    (line_ends (flat c.args.parts.now).values c.loop-number.number c.value-value.result c.in-Line.field-0 c.value-value.ensures c.in-Line.is) c.loop-number.invariant.underway
+
+pub read_value-requires : goal.read_value-requires
+read_value-requires c =
+    let there : IsThere (flat c.args.parts.now).values c.loop-number.number c.value-value.result = record { listed = c.value-value.ensures; inside = other_inside c.value-value.result.owner c.in_default.not-Line } in
+    record {
+      stored = c.loop-number.invariant.stored;
+      shaped = some_shaped c.args.text.now (flat c.args.parts.now) c.args.base c.args.from _ _ c.loop-number.nodes.items c.loop-number.ids.items c.loop-number.number c.loop-number.invariant.underway c.requires.next;
+      readable = c.requires.readable;
+      numbered = ap (λ l. c.args.base + length l) c.as_slice.ensures.value ∙ c.loop-number.invariant.numbered;
+      listed = c.value-value.ensures;
+      next = some_next_seen c.args.text.now (flat c.args.parts.now) c.args.base c.args.from _ _ c.loop-number.nodes.items c.loop-number.ids.items c.as_slice.result.now c.loop-number.number c.value-value.result c.as_slice.ensures.value there
+          c.loop-number.invariant.underway c.requires.next;
+      represents = represents_some c.args.text.now (flat c.args.parts.now) c.args.base c.args.from _ _ c.loop-number.nodes.items c.loop-number.ids.items c.loop-number.number c.loop-number.invariant.underway c.requires.next c.requires.represents;
+    }
+
+pub returns-in_err-id : goal.returns-in_err-id
+returns-in_err-id c =
+    let p = err_from_is_err_and c.from_residual.result c.from_residual.ensures.1 in
+    let there : IsThere (flat c.args.parts.now).values c.loop-number.number c.value-value.result = record { listed = c.value-value.ensures; inside = other_inside c.value-value.result.owner c.in_default.not-Line } in
+    rw (p.1, p.2) (record {
+      stored = tt;
+      was_read = tt;
+      define = underway_faults_seen c.args.text.now (flat c.args.parts.now) c.args.base c.args.from c.args.nodes.now.items c.args.ids.now.items c.loop-number.nodes.items c.loop-number.ids.items c.as_slice.result.now c.loop-number.number
+          c.value-value.result _ c.as_slice.ensures.value there c.loop-number.invariant.underway c.in_err-id.ensures.define;
+    })
+
+pub loop-number-preserved : goal.loop-number-preserved
+loop-number-preserved c =
+    let there : IsThere (flat c.args.parts.now).values c.loop-number.number c.value-value.result = record { listed = c.value-value.ensures; inside = other_inside c.value-value.result.owner c.in_default.not-Line } in
+    record {
+      stored = c.in_ok-id.ensures.stored;
+      numbered = omega (arith, c.loop-number.invariant.numbered, ap length c.in_ok-push_id.ensures, length-append c.loop-number.ids.items (c.in_ok-id.id ∷ []));
+      underway = underway_more_seen c.args.text.now (flat c.args.parts.now) c.args.base c.args.from c.args.nodes.now.items c.args.ids.now.items c.loop-number.nodes.items c.loop-number.ids.items c.as_slice.result.now
+          c.read_value.new.nodes.items c.push_id.new.ids.items c.in_ok-id.id c.loop-number.number c.value-value.result c.as_slice.ensures.value c.in_ok-push_id.ensures there c.loop-number.invariant.underway c.in_ok-id.ensures.was_read;
+    }
+
+pub returns-clause-was_read : goal.returns-clause-was_read
+returns-clause-was_read c =
+    underway_ends c.args.text.now (flat c.args.parts.now) c.args.base c.args.from _ _ _ _ c.loop-number.number
+    (past_ends (flat c.args.parts.now).values c.loop-number.number (omega (arith, c.loop-number-test.false, c.value_count-number-end.ensures))) c.loop-number.invariant.underway

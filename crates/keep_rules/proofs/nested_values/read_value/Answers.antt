@@ -1,0 +1,41 @@
+-- What the callees ensure of one value is what holds of it as a nested value.
+use Rattle.std.proofs.Common.{◌-◌, ◌^◌, refl}
+use Rattle.keep_syntax.specs.Flat.{flat}
+use Rattle.keep_rules.specs.declared.keys.Keys.{Keys}
+use Rattle.keep_rules.specs.Keys.{key_texts}
+use Rattle.keep_rules.proofs.PlanLemmas.{item_read_all, some_next_keys, keyed_read_all, keyed_fault_fits, keyed_fault_meets}
+use Rattle.keep_rules.proofs.PartLemmas.{few_keys}
+use Rattle.keep_rules.proofs.nested_values.read_value.Goals as goal
+use Rattle.keep_rules.proofs.nested_values.read_value.Goals.{In-Inline}
+
+pub give_value-requires-clause-keys : goal.give_value-requires-clause-keys
+give_value-requires-clause-keys c =
+    some_next_keys c.args.text.now (flat c.args.parts.now).keys _ _ c.args.base c.args.value c.in-Inline.table c.requires.readable c.in-Inline.is c.requires.next
+
+own_keys : In-Inline → Keys
+own_keys c = record { text = c.args.text; parts = c.args.parts; first = c.args.value.first_key; count = c.args.value.keys }
+
+pub fault_from-requires : goal.fault_from-requires
+unfolding own_keys
+fault_from-requires c =
+    keyed_fault_fits c.args.text.now (flat c.args.parts.now).keys _ c.args.ids.now c.args.base c.args.value (key_texts (own_keys (goal.at.fault_from-requires c).In-Inline)) c.in-Inline.table _ (2 ^ 64 - 1) c.in-Err.fault
+    c.in-Inline.is refl refl c.requires.next c.requires.represents (few_keys c.args.parts.now) c.in-Err.ensures.define
+
+pub returns-in_ok-give_item-in-Item-clause-was_read : goal.returns-in_ok-give_item-in-Item-clause-was_read
+returns-in_ok-give_item-in-Item-clause-was_read c =
+    item_read_all c.args.text.now (flat c.args.parts.now) c.args.base c.args.value _ _ c.args.ids.now c.args.number c.in-Item.array _ _ _ _ c.in-Item.is refl c.kind_of-kind.ensures c.holds_of_leaf-holds.ensures c.requires.listed
+    c.in_ok-give_item-in-Item.ensures.ok c.in_ok-give_item-in-Item.ensures.facts
+
+pub returns-in-Ok-clause-was_read : goal.returns-in-Ok-clause-was_read
+unfolding own_keys
+returns-in-Ok-clause-was_read c =
+    let listed = (goal.at.returns-in-Ok-clause-was_read c).In-Inline in
+    let keys = some_next_keys c.args.text.now (flat c.args.parts.now).keys _ _ c.args.base c.args.value c.in-Inline.table c.requires.readable c.in-Inline.is c.requires.next in
+    keyed_read_all c.args.text.now (flat c.args.parts.now) c.args.base c.args.value _ _ c.args.ids.now (own_keys listed) c.args.number c.in-Inline.table _ _ _ _ c.in-Inline.is refl c.kind_of-kind.ensures c.holds_of_leaf-holds.ensures c.requires.listed
+    keys refl c.in-Ok.ensures.ok c.in-Ok.ensures.facts
+
+pub returns-in-Err-clause-define : goal.returns-in-Err-clause-define
+unfolding own_keys
+returns-in-Err-clause-define c =
+    keyed_fault_meets c.args.text.now (flat c.args.parts.now) c.args.base c.args.value c.args.nodes.now.items c.args.ids.now (key_texts (own_keys (goal.at.returns-in-Err-clause-define c).In-Inline)) c.in-Inline.table _ c.in-Err.fault c.fault_from.result
+    c.in-Inline.is refl refl c.fault_from.ensures c.in-Err.ensures.define

@@ -1,0 +1,95 @@
+-- How the nodes represent the mentions so far, and what a key part, an element and an item do to them.
+use Rattle.std.specs.Prelude.{◌≡◌, ℕ, ◌<◌, ◌≤◌, ◌-◌, List, [], ◌∷◌, ◌++◌, length, Some, slice_index_or, true, false}
+use Rattle.keep_syntax.specs.declared.fault.Why.{Why}
+use Rattle.keep_meaning.specs.declared.role.Role.{Role}
+use Rattle.keep_meaning.specs.declared.role.Role.TheVariants.{Element, Through, Value}
+use Rattle.keep_path.specs.Path.{Part, key, index}
+use Rattle.keep_meaning.specs.Rules.{allows, ObeysRules, IsRefused, why_of}
+use Rattle.keep_meaning.specs.Marks.{Saying, Mention, marks, role_of, passing_mentions, entered_path, elements_of, element, begun}
+use Rattle.keep_nodes.specs.Trie.{TrieNode, Holding, by_key, by_index, IsTrie, path_at, state_at, holds_at, children_of}
+use Rattle.keep_rules.specs.Tables.{is_tables, IsShaped, AreTables, AllBegun}
+use Rattle.keep_rules.specs.RoleStates.{IsIndexOf}
+
+-- the nodes before keep their numbers and paths, and what children they may have
+pub record Keeps (old new : List TrieNode) : Type 0 where
+  pub longer : length old ≤ length new
+  pub paths : (i : ℕ) → i < length old → path_at new i ≡ path_at old i
+  pub holdings : (i : ℕ) → i < length old → holds_at new i ≡ holds_at old i
+  pub kinds : (i : ℕ) → i < length old → is_tables (state_at new i) ≡ is_tables (state_at old i)
+
+-- arrays and arrays of tables have no more children than before
+abbrev pub KeepsItems : List TrieNode → List TrieNode → Type 0
+KeepsItems old new = (i : ℕ) → i < length old → holds_at old i ≡ by_index → children_of new i ≡ children_of old i
+
+-- a mark of this role was made at the path, which is that of the node `id`; a new node may have these children
+pub record IsMarked (old new : List TrieNode) (path : List Part) (role : Role) (holds : Holding) (id : ℕ) : Type 0 where
+  pub trie : IsTrie new
+  pub shaped : IsShaped new
+  pub keeps : Keeps old new
+  pub items : KeepsItems old new
+  pub inside : id < length new
+  pub here : path_at new id ≡ path
+  pub index : (ms : List Mention) (says : Saying) → role_of says ≡ Some role → IsIndexOf old ms → IsIndexOf new (ms ++ record { path = path; says = says } ∷ [])
+  pub kind : is_tables (state_at new id) ≡ allows role Element
+  pub opened : allows role Through ≡ true → holds_at new id ≡ by_key
+  pub valued : role ≡ Value → (holds_at new id ≡ holds) × (children_of new id ≡ []) × (length old ≤ id)
+  pub tables : (ts : List (List Part)) → AreTables old ts → AreTables new ts
+  pub begun : allows role Element ≡ false → AllBegun old → AllBegun new
+  pub begun_others : AllBegun old → (i : ℕ) → i < length new → (i ≡ id → ⊥) → is_tables (state_at new i) ≡ true → 0 < length (children_of new i)
+
+-- some earlier mark does not allow one of this role at this path
+abbrev pub WasRefused : List TrieNode → List Part → Role → Type 0
+WasRefused nodes path role = (ms : List Mention) → IsIndexOf nodes ms → IsRefused (marks ms) (record { role = role; path = path })
+
+-- the nodes represent these mentions, with these `[[..]]` lines
+pub record Represents (nodes : List TrieNode) (ms : List Mention) (tables : List (List Part)) : Type 0 where
+  pub index : IsIndexOf nodes ms
+  pub shaped : IsShaped nodes
+  pub tables_are : AreTables nodes tables
+  pub begun : AllBegun nodes
+
+-- the node `at` has this path, and may have children by keys
+pub record IsOpen (nodes : List TrieNode) (at : ℕ) (path : List Part) : Type 0 where
+  pub inside : at < length nodes
+  pub here : path_at nodes at ≡ path
+  pub open_to : holds_at nodes at ≡ by_key
+
+-- the path is not that of an array of tables
+abbrev pub HasNoElement : List TrieNode → List Part → Type 0
+HasNoElement nodes path = (tables : List (List Part)) → AreTables nodes tables → AllBegun nodes → elements_of path tables ≡ 0
+
+-- the array of tables at a path, and its last element
+pub record IsLastElement (nodes : List TrieNode) (path : List Part) (child to : ℕ) : Type 0 where
+  pub inside : child < length nodes
+  pub here : path_at nodes child ≡ path
+  pub tables : is_tables (state_at nodes child) ≡ true
+  pub some : 0 < length (children_of nodes child)
+  pub last : to ≡ slice_index_or (children_of nodes child) (length (children_of nodes child) - 1) 0
+
+-- a header went past a key, from a node to the node `to`
+pub record Passes (old new : List TrieNode) (at to : ℕ) (k : List ℕ) : Type 0 where
+  pub keeps : Keeps old new
+  pub represents : (ms : List Mention) (tables : List (List Part)) → Represents old ms tables → Represents new (ms ++ passing_mentions tables (path_at old at ++ key k ∷ [])) tables
+  pub is_open : (ms : List Mention) (tables : List (List Part)) → Represents old ms tables → IsOpen new to (entered_path tables (path_at old at ++ key k ∷ []))
+
+-- a `[[..]]` whose last key is k began an element, from a node to the element's node `to`
+pub record Begins (old new : List TrieNode) (at to : ℕ) (k : List ℕ) : Type 0 where
+  pub keeps : Keeps old new
+  pub shaped : IsShaped new
+  pub represents : (ms : List Mention) (tables : List (List Part)) → Represents old ms tables
+      → Represents new (ms ++ record { path = path_at old at ++ key k ∷ []; says = element } ∷ record { path = (path_at old at ++ key k ∷ []) ++ index (elements_of (path_at old at ++ key k ∷ []) tables) ∷ []; says = begun } ∷ [])
+      (tables ++ (path_at old at ++ key k ∷ []) ∷ [])
+  pub is_open : (ms : List Mention) (tables : List (List Part)) → Represents old ms tables → IsOpen new to ((path_at old at ++ key k ∷ []) ++ index (elements_of (path_at old at ++ key k ∷ []) tables) ∷ [])
+
+-- the first faulty mark is among these mentions, after so many of their marks
+pub record FaultIn (ms more : List Mention) (number : ℕ) (why : Why) : Type 0 where
+  pub done : List Mention
+  pub faulty : Mention
+  pub rest : List Mention
+  pub here : more ≡ done ++ faulty ∷ rest
+  pub role : Role
+  pub is : role_of faulty.says ≡ Some role
+  pub count : length (marks done) ≡ number
+  pub obeys : ObeysRules (marks (ms ++ done))
+  pub refused : IsRefused (marks (ms ++ done)) (record { role = role; path = faulty.path })
+  pub reason : why ≡ why_of role

@@ -1,0 +1,116 @@
+//! Walks along the keys of headers and keyvals.
+ghost use Rattle.std.specs.Prelude.{◌≡◌, ◌<◌, length, List, [], IfOk, OnOk, IfErr};
+ghost use Rattle.keep_rules.specs.Keys.{AreKeys, parts_of, leading_texts};
+ghost use Rattle.keep_meaning.specs.Marks.{Mention};
+ghost use Rattle.keep_path.specs.Path.{Part};
+ghost use Rattle.keep_rules.specs.Represents.{Represents, FaultIn};
+ghost use Rattle.keep_rules.specs.Steps.{Walks, Dots};
+ghost use Rattle.keep_rules.specs.Stops.{FaultMeets};
+ghost use Rattle.keep_nodes.specs.Stored.{IsStored, trie_of};
+ghost use Rattle.keep_rules.specs.Tables.{IsShaped};
+ghost use Rattle.keep_rules.specs.AddedInfos.{HeaderAdds, DottedAdds};
+ghost use Rattle.keep_nodes.specs.Trie.{by_key, holds_at, path_at};
+ghost use Rattle.keep_rules.specs.KeyWalks.{walk_mentions, dotted_mentions};
+
+use crate::keys::Keys;
+use crate::mark::{Stop, mark, pass};
+use keep_meaning::{Kind, Place, Role};
+use keep_nodes::{Holds, NodeFacts, Nodes};
+use keep_syntax::Why;
+use std::alloc::AllocError;
+
+/// Why a walk along keys ended early.
+#[derive(Clone, Copy, Debug, PartialEq, Eq)]
+pub enum Fault {
+    /// The key of that number, from 0, is not allowed.
+    Define { number: usize, why: Why },
+    /// Memory was refused.
+    Memory,
+}
+
+impl From<AllocError> for Fault {
+    ghost use Rattle.std.specs.Prelude.{◌≡◌};
+    ghost use Rattle.keep_rules.specs.declared.key_walk.Fault.{Fault};
+    ghost use Rattle.keep_rules.specs.declared.key_walk.Fault.TheVariants.{Memory};
+
+    ghost from_gives = { λ _ fault. fault ≡ Memory };
+
+    fn from(_: AllocError) -> Self {
+        Fault::Memory
+    }
+}
+
+/// Goes along a header's keys but the last, from the root.
+pub fn walk_header(nodes: &mut Nodes, keys: Keys<'_>, statement: usize) -> Result<usize, Fault>
+    requires stored { IsStored nodes.old.items }
+    requires shaped { IsShaped (trie_of nodes.old.items) }
+    requires rooted { holds_at (trie_of nodes.old.items) 0 ≡ by_key }
+    requires keys { AreKeys keys }
+    ensures stored { OnOk result (IsStored nodes.new.items) }
+    ensures shaped { OnOk result (IsShaped (trie_of nodes.new.items)) }
+    ensures inside { IfOk result (λ to. to < length nodes.new.items) }
+    ensures keyed { IfOk result (λ to. holds_at (trie_of nodes.new.items) to ≡ by_key) }
+    ensures ok { IfOk result (λ to. Walks (trie_of nodes.old.items) (trie_of nodes.new.items) to (leading_texts keys.entry)) }
+    ensures facts { IfOk result (λ to. HeaderAdds nodes.old.items nodes.new.items (parts_of keys.entry) keys.entry.first statement (λ tables. walk_mentions tables [] (leading_texts keys.entry))) }
+    ensures define { IfErr result (λ fault. FaultMeets fault (λ number why. (ms : List Mention) (tables : List (List Part)) → Represents (trie_of nodes.old.items) ms tables → FaultIn ms (walk_mentions tables [] (leading_texts keys.entry)) number why)) }
+{
+    let mut at = 0;
+    for number in 0..keys.count - 1 {
+        let name = keys.name(nodes.allocator(), number)?;
+        at = match pass(nodes, at, name.text.as_str(), name.span, statement) {
+            Ok(to) => to,
+            Err(Stop::Refused) => {
+                return Err(Fault::Define {
+                    number,
+                    why: Role::Through.why(),
+                });
+            }
+            Err(Stop::Memory) => return Err(Fault::Memory),
+        };
+    }
+    Ok(at)
+}
+
+/// Goes along the keys but the last of the value of that number, from the table that it is in.
+pub fn walk_dotted(
+    nodes: &mut Nodes,
+    from: usize,
+    keys: Keys<'_>,
+    value: usize,
+) -> Result<usize, Fault>
+    requires stored { IsStored nodes.old.items }
+    requires shaped { IsShaped (trie_of nodes.old.items) }
+    requires within { from < length nodes.old.items }
+    requires keyed { holds_at (trie_of nodes.old.items) from ≡ by_key }
+    requires keys { AreKeys keys }
+    ensures stored { OnOk result (IsStored nodes.new.items) }
+    ensures shaped { OnOk result (IsShaped (trie_of nodes.new.items)) }
+    ensures inside { IfOk result (λ to. to < length nodes.new.items) }
+    ensures ok { IfOk result (λ to. Dots (trie_of nodes.old.items) (trie_of nodes.new.items) from to (leading_texts keys.entry)) }
+    ensures facts { IfOk result (λ to. DottedAdds nodes.old.items nodes.new.items (parts_of keys.entry) keys.entry.first value (dotted_mentions (path_at (trie_of nodes.old.items) from) (leading_texts keys.entry))) }
+    ensures define { IfErr result (λ fault. FaultMeets fault (λ number why. (ms : List Mention) (tables : List (List Part)) → Represents (trie_of nodes.old.items) ms tables → FaultIn ms (dotted_mentions (path_at (trie_of nodes.old.items) from) (leading_texts keys.entry)) number why)) }
+{
+    let mut at = from;
+    for number in 0..keys.count - 1 {
+        let name = keys.name(nodes.allocator(), number)?;
+        let dotted = NodeFacts::named(Kind::Table, None, name.span, Place::Dotted(value));
+        at = match mark(
+            nodes,
+            at,
+            name.text.as_str(),
+            Role::Dotted,
+            dotted,
+            Holds::Keys,
+        ) {
+            Ok(to) => to,
+            Err(Stop::Refused) => {
+                return Err(Fault::Define {
+                    number,
+                    why: Role::Dotted.why(),
+                });
+            }
+            Err(Stop::Memory) => return Err(Fault::Memory),
+        };
+    }
+    Ok(at)
+}
