@@ -13,3 +13,5 @@ pub mod Nesting
 pub mod Contract
 pub mod Laws
 pub mod FlatLines
+pub mod WholeLines
+pub mod Lifted
