@@ -34,3 +34,9 @@ pub mod NumberLaws
 pub mod ValueCodeLaws
 pub mod NestingLaws
 pub mod WholeCodeLaws
+pub mod LineStartLaws
+pub mod LiftLaws
+pub mod LinesLaws
+pub mod ReplacedLaws
+pub mod HeadLaws
+pub mod MoveLaws

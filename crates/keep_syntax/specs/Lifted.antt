@@ -1,5 +1,5 @@
--- Numbers and places after a count. Lifting takes what is numbered from 0 to after a count: each place and number grows by
--- what the count has. Moving takes it from after one count to after another.
+-- Numbers and places after a count. Lifting takes what is numbered from 0 to after a count: each place and number grows
+-- by what the count has. Moving takes it from after one count to after another.
 use Rattle.std.specs.Prelude.{ℕ, ◌+◌, ◌-◌, Option, Some, None}
 use Rattle.keep_syntax.specs.declared.info.Span.{Span}
 use Rattle.keep_syntax.specs.declared.info.Start.{Start}

@@ -1,4 +1,4 @@
--- Whole lines of a document: where they begin, which of them a span touches, and the document with some of them replaced.
+-- Whole lines of a document: where they begin, which of them a span touches, and a document with some replaced.
 use Rattle.std.specs.Prelude.{ℕ, ◌+◌, leb, ltb, if◌then◌else◌, List, [], ◌∷◌, ◌++◌, length, None}
 use Rattle.keep_syntax.specs.declared.info.Span.{Span}
 use Rattle.keep_syntax.specs.Tree.{Line, blank, Ended, Document, ended_leaves, bom_leaves, text}
@@ -10,8 +10,8 @@ empty_line = record { before = []; content = blank; after = []; comment = None }
 
 -- ---- where lines begin
 
--- Where lines begin, the first of them at a place. A line ends with a newline of the tree, and not with one inside a value.
--- The last place is where the line after them begins.
+-- Where lines begin, the first of them at a place. A line ends with a newline of the tree, not with one inside a value. The
+-- last place is where the line after them begins.
 abbrev pub line_starts : ℕ → List Ended → List ℕ
 line_starts at [] = at ∷ []
 line_starts at (e ∷ es) = at ∷ line_starts (at + width (ended_leaves e)) es
@@ -35,7 +35,8 @@ abbrev pub first_from : ℕ → ℕ → List ℕ → ℕ
 first_from place high [] = high
 first_from place high (x ∷ xs) = if leb place x then x else first_from place high xs
 
--- From the last line start at or before the span's start to the first line start at or after its end, or to the end of the text.
+-- From the last line start at or before the span's start to the first line start at or after its end, or to the end of
+-- the text.
 abbrev pub touched : Document → Span → Span
 touched s sp = span (last_to sp.start (begin s) (starts_of s)) (first_from sp.end (length (text s)) (starts_of s))
 
@@ -50,7 +51,8 @@ abbrev pub lines_from : ℕ → ℕ → List Ended → List Ended
 lines_from place at [] = []
 lines_from place at (e ∷ es) = if ltb at place then lines_from place (at + width (ended_leaves e)) es else e ∷ es
 
--- The document with the lines of `whole` replaced by those of m. Its last line is that of m if `whole` ends with the text.
+-- The document with the lines of `whole` replaced by those of m. Its last line is that of m if `whole` ends with the
+-- text.
 abbrev pub replaced : Document → Span → Document → Document
 replaced s whole m = record {
   bom = s.bom;

@@ -1,0 +1,115 @@
+-- Lines among which some are new: a list over them is the list over those before, then over the new ones, lifted, and then over
+-- those after, moved.
+use Rattle.std.proofs.Common.{◌≡◌, ℕ, ◌+◌, List, [], ◌∷◌, ◌++◌, map, refl, sym, ap, ◌∙◌, arith, append_assoc, Option, Some, None}
+use Rattle.std.proofs.lemmas.List.{map-append}
+use Rattle.keep_syntax.specs.declared.info.Span.{Span}
+use Rattle.keep_syntax.specs.declared.info.Owner.{Owner}
+use Rattle.keep_syntax.specs.declared.info.Owner.TheVariants as owner
+use Rattle.keep_syntax.specs.Tree.{Line, Ended, ended_leaves}
+use Rattle.keep_syntax.specs.Numbered.{width, Count, line_statements, line_parts, line_values, next_line, over_lines, behind_lines}
+use Rattle.keep_syntax.proofs.LineNumberingLaws.{over_ended}
+use Rattle.keep_syntax.specs.Lifted.{origin, plus, lift_there, lift_span, lift_owner, lift_key, lift_statement, lift_value, moved, moved_there, moved_span, moved_owner, moved_key, moved_statement, moved_value}
+use Rattle.keep_syntax.proofs.LiftLaws.{lifted_next, lifted_over, lifted_line_statements, lifted_line_parts, lifted_line_values, count_is}
+
+-- ---- lists over lines
+
+abbrev pub OverLine : Type 0 → Type 0
+OverLine A = Count → Line → ℕ → List A
+
+-- after a count it is the list from 0, lifted
+abbrev pub Lifts : {A : Type 0} → OverLine A → (Count → A → A) → Type 0
+Lifts f lift = (c d : Count) (l : Line) (end : ℕ) → f (plus c d) l (c.at + end) ≡ map (lift c) (f d l end)
+
+pub over-front : {A : Type 0} (f : OverLine A) (c : Count) (front es : List Ended) (last : Line) → over_lines f c (front ++ es) last ≡ over_ended f c front ++ over_lines f (behind_lines c front) es last
+over-front f c [] es last = refl
+over-front {A} f c (e ∷ front) es last =
+    let here : List A = f c e.line (c.at + width (ended_leaves e)) in
+    ap (λ xs. here ++ xs) (over-front f (next_line c e) front es last) ∙ sym (append_assoc here (over_ended f (next_line c e) front) (over_lines f (behind_lines (next_line c e) front) es last))
+
+pub lifted_ended : {A : Type 0} (f : OverLine A) (lift : Count → A → A) → Lifts f lift → (c d : Count) (es : List Ended) → over_ended f (plus c d) es ≡ map (lift c) (over_ended f d es)
+lifted_ended f lift h c d [] = refl
+lifted_ended f lift h c d (e ∷ es) =
+    ap (λ n. f (plus c d) e.line n ++ over_ended f (next_line (plus c d) e) es) (let a : c.at + d.at + width (ended_leaves e) ≡ c.at + (d.at + width (ended_leaves e)) = omega arith in a)
+    ∙ ap (λ xs. xs ++ over_ended f (next_line (plus c d) e) es) (h c d e.line (d.at + width (ended_leaves e)))
+    ∙ ap (λ k. map (lift c) (f d e.line (d.at + width (ended_leaves e))) ++ over_ended f k es) (lifted_next c d e)
+    ∙ ap (λ xs. map (lift c) (f d e.line (d.at + width (ended_leaves e))) ++ xs) (lifted_ended f lift h c (next_line d e) es)
+    ∙ sym (map-append (lift c) (f d e.line (d.at + width (ended_leaves e))) (over_ended f (next_line d e) es))
+
+pub plus-origin : (c : Count) → plus c origin ≡ c
+plus-origin c = count_is (omega arith) (omega arith) (omega arith) (omega arith)
+
+-- ---- moving undoes a lift and lifts anew
+
+abbrev pub Moves : {A : Type 0} → (Count → A → A) → (Count → Count → A → A) → Type 0
+Moves {A} lift move = (a b : Count) (x : A) → move a b (lift a x) ≡ lift b x
+
+moves_all : {A : Type 0} (lift : Count → A → A) (move : Count → Count → A → A) → Moves lift move → (a b : Count) (xs : List A) → map (move a b) (map (lift a) xs) ≡ map (lift b) xs
+moves_all lift move h a b [] = refl
+moves_all lift move h a b (x ∷ xs) = let e = h a b x in let f = moves_all lift move h a b xs in cc
+
+-- The list over lines among which some are new: of the front unchanged, of the new lines as from 0 but lifted, and of those
+-- after as before but moved.
+pub lines_law : {A : Type 0} (f : OverLine A) (lift : Count → A → A) (move : Count → Count → A → A) → Lifts f lift → Moves lift move
+    → (c : Count) (front gone new back : List Ended) (last : Line)
+    → over_lines f c (front ++ (new ++ back)) last
+    ≡ over_ended f c front
+    ++ (map (lift (behind_lines c front)) (over_ended f origin new)
+    ++ map (move (behind_lines (behind_lines c front) gone) (behind_lines (behind_lines c front) new)) (over_lines f (behind_lines (behind_lines c front) gone) back last))
+lines_law {A} f lift move h m c front gone new back last =
+    let a : Count = behind_lines c front in
+    let old : Count = behind_lines a gone in
+    let now : Count = behind_lines a new in
+    let alone : List A = over_lines f origin back last in
+    let was : over_lines f old back last ≡ map (lift old) alone = ap (λ k. over_lines f k back last) (sym (plus-origin old)) ∙ lifted_over f lift h old origin back last in
+    let is : over_lines f now back last ≡ map (lift now) alone = ap (λ k. over_lines f k back last) (sym (plus-origin now)) ∙ lifted_over f lift h now origin back last in
+    let there : over_lines f now back last ≡ map (move old now) (over_lines f old back last) = is ∙ sym (ap (map (move old now)) was ∙ moves_all lift move m old now alone) in
+    let fresh : over_ended f a new ≡ map (lift a) (over_ended f origin new) = ap (λ k. over_ended f k new) (sym (plus-origin a)) ∙ lifted_ended f lift h a origin new in
+    over-front f c front (new ++ back) last
+    ∙ ap (λ xs. over_ended f c front ++ xs) (over-front f a new back last ∙ ap (λ xs. xs ++ over_lines f now back last) fresh ∙ ap (λ xs. map (lift a) (over_ended f origin new) ++ xs) there)
+
+-- ---- of statements, key parts and values
+
+moved_back : (old new n : ℕ) → moved old new (old + n) ≡ new + n
+moved_back old new n = omega arith
+
+back_there : (old new : ℕ) (o : Option ℕ) → moved_there old new (lift_there old o) ≡ lift_there new o
+back_there old new None = refl
+back_there old new (Some n) = ap Some (moved_back old new n)
+
+back_span : (old new : ℕ) (s : Span) → moved_span old new (lift_span old s) ≡ lift_span new s
+back_span old new s = let a = moved_back old new s.start in let b = moved_back old new s.end in cc
+
+back_owner : (a b : Count) (o : Owner) → moved_owner a b (lift_owner a o) ≡ lift_owner b o
+back_owner a b (owner.Line n) = ap owner.Line (moved_back a.statements b.statements n)
+back_owner a b (owner.Inline n) = ap owner.Inline (moved_back a.values b.values n)
+back_owner a b (owner.Item n) = ap owner.Item (moved_back a.values b.values n)
+
+pub moves_keys : Moves lift_key moved_key
+moves_keys a b k = let s = back_span a.at b.at k.span in cc
+
+pub moves_statements : Moves lift_statement moved_statement
+moves_statements a b s =
+    let x = back_span a.at b.at s.span in let y = back_span a.at b.at s.line in let z = moved_back a.parts b.parts s.first_key in let w = back_there a.values b.values s.value in cc
+
+pub moves_values : Moves lift_value moved_value
+moves_values a b v =
+    let x = back_span a.at b.at v.span in let y = back_span a.at b.at v.whole in let z = back_owner a b v.owner in let u = moved_back a.parts b.parts v.first_key in
+    let s = back_there a.at b.at v.comma_before in let t = back_there a.at b.at v.comma_after in cc
+
+-- the three laws
+abbrev pub LinesLaw : {A : Type 0} → OverLine A → (Count → A → A) → (Count → Count → A → A) → Type 0
+LinesLaw f lift move =
+    (c : Count) (front gone new back : List Ended) (last : Line)
+    → over_lines f c (front ++ (new ++ back)) last
+    ≡ over_ended f c front
+    ++ (map (lift (behind_lines c front)) (over_ended f origin new)
+    ++ map (move (behind_lines (behind_lines c front) gone) (behind_lines (behind_lines c front) new)) (over_lines f (behind_lines (behind_lines c front) gone) back last))
+
+pub statements_law : LinesLaw line_statements lift_statement moved_statement
+statements_law = lines_law line_statements lift_statement moved_statement lifted_line_statements moves_statements
+
+pub parts_law : LinesLaw (λ c l line_end. line_parts c l) lift_key moved_key
+parts_law = lines_law (λ c l line_end. line_parts c l) lift_key moved_key (λ c d l end. lifted_line_parts c d l) moves_keys
+
+pub values_law : LinesLaw (λ c l line_end. line_values c l) lift_value moved_value
+values_law = lines_law (λ c l line_end. line_values c l) lift_value moved_value (λ c d l end. lifted_line_values c d l) moves_values
