@@ -40,3 +40,4 @@ pub mod LinesLaws
 pub mod ReplacedLaws
 pub mod HeadLaws
 pub mod MoveLaws
+pub mod TouchedLaws

@@ -1,5 +1,5 @@
 -- What the code keeps of lines, one behind the other.
-use Rattle.std.proofs.Common.{◌≡◌, ℕ, ◌+◌, ◌<◌, List, [], ◌∷◌, ◌++◌, length, drop, Option, Some, None, Result, Ok, Err, refl, sym, ap, ◌∙◌, subst, arith, IsCharBoundary}
+use Rattle.std.proofs.Common.{◌≡◌, ℕ, ◌+◌, ◌<◌, List, [], ◌∷◌, ◌++◌, length, drop, Option, Some, None, Result, Ok, Err, refl, sym, ap, ◌∙◌, subst, arith, append_assoc, IsCharBoundary}
 use Rattle.std.specs.Prelude.{OnOk, IsOkUnless}
 use Rattle.std.specs.List.{flat_map}
 use Rattle.std.proofs.lemmas.List.{append-nil, drop_all, length-drop}
@@ -14,9 +14,11 @@ use Rattle.keep_syntax.specs.declared.info.Statement.{Statement}
 use Rattle.keep_syntax.specs.Tree.{Written, Content, blank, keyval, header, element, Line, Ended, line_leaves, ended_leaves}
 use Rattle.keep_syntax.specs.Numbered.{width, Count, line_parts, line_values, line_statements, content_statements, behind_lines}
 use Rattle.keep_syntax.specs.Reading.{Fault, Bad, written, line_at, lines_of}
-use Rattle.keep_syntax.specs.Flat.{Flat, Taken, only, both, add_at, Grows, PartIs, Fails}
-use Rattle.keep_syntax.specs.FlatLines.{count_at, statement_list, LineIs, newline_by, NewlineRead, ended_list, with_statements, lines_taken, LinesRead}
+use Rattle.keep_syntax.specs.Flat.{Flat, Taken, only, both, add_at, Grows, Fails}
+use Rattle.keep_syntax.specs.FlatLines.{count_at, statement_list, LineIs, newline_by, NewlineRead, ended_list, with_statements, lines_taken, LinesAre, LinesRead}
+use Rattle.keep_syntax.specs.WholeLines.{line_starts}
 use Rattle.keep_syntax.proofs.LoopLaws.{done}
+use Rattle.keep_syntax.proofs.NumberingLaws.{width-append}
 use Rattle.keep_syntax.proofs.StepLaws.{lines_newline, lines_last, lines_err, lines_bad}
 use Rattle.keep_syntax.proofs.LineNumberingLaws.{over_ended, ended-snoc, over-last, behind_lines-at, behind_lines-statements, behind_lines-parts, behind_lines-values}
 use Rattle.keep_syntax.proofs.FlatLaws.{same_flat, same_taken, grows_nothing, grows_then, grows_as, grown_keys, grown_values, grown_statements}
@@ -130,33 +132,44 @@ count_is text begin here old now es g =
     (grown_keys (all_taken c es) g ∙ sym (behind_lines-parts c es))
     (grown_values (all_taken c es) g ∙ sym (behind_lines-values c es))
 
+-- ---- where lines begin
+
+-- one line more, and the next begins after it
+line_starts-snoc : (at : ℕ) (es : List Ended) (e : Ended) (end : ℕ) → end ≡ at + width (flat_map ended_leaves (es ++ (e ∷ [])))
+    → line_starts at (es ++ (e ∷ [])) ≡ line_starts at es ++ (end ∷ [])
+line_starts-snoc at [] e end h = ap (λ (n : ℕ). at ∷ n ∷ []) (omega (arith, h, width-append (ended_leaves e) []))
+line_starts-snoc at (d ∷ es) e end h =
+    ap (λ (ns : List ℕ). at ∷ ns) (line_starts-snoc (at + width (ended_leaves d)) es e end (omega (arith, h, width-append (ended_leaves d) (flat_map ended_leaves (es ++ (e ∷ []))))))
+
 -- ---- the loop
 
--- the lines so far
-pub record LinesSoFar (profile : Profile) (room : ℕ) (text : List ℕ) (begin here : ℕ) (old now : Flat) : Type 0 where
+-- the lines so far, and where they and the next one begin
+pub record LinesSoFar (profile : Profile) (room : ℕ) (text : List ℕ) (begin here : ℕ) (old now : Flat) (before after : List ℕ) : Type 0 where
   pub front : List Ended
   pub bound : IsCharBoundary text here
   pub read : lines_of profile room [] (drop begin text) ≡ lines_of profile room front (drop here text)
   pub grows : Grows text old now begin here (all_taken (count_at begin old) front)
+  pub starts : after ≡ before ++ line_starts begin front
 
-pub lines_none : (profile : Profile) (room : ℕ) (text : List ℕ) (begin : ℕ) (old : Flat) → IsCharBoundary text begin → LinesSoFar profile room text begin begin old old
-lines_none profile room text begin old bound = record { front = []; bound = bound; read = refl; grows = grows_nothing text old begin }
+pub lines_none : (profile : Profile) (room : ℕ) (text : List ℕ) (begin : ℕ) (old : Flat) (before after : List ℕ) → IsCharBoundary text begin → after ≡ before ++ (begin ∷ [])
+    → LinesSoFar profile room text begin begin old old before after
+lines_none profile room text begin old before after bound first = record { front = []; bound = bound; read = refl; grows = grows_nothing text old begin; starts = first }
 
-pub lines_fail : (profile : Profile) (room : ℕ) (text : List ℕ) (begin here : ℕ) (old now : Flat) (e : ReadFault) → LinesSoFar profile room text begin here old now → Fails text e (line_at profile room (drop here text)) → Fails text e (lines_of profile room [] (drop begin text))
-lines_fail profile room text begin here old now e s k =
+pub lines_fail : (profile : Profile) (room : ℕ) (text : List ℕ) (begin here : ℕ) (old now : Flat) (before after : List ℕ) (e : ReadFault) → LinesSoFar profile room text begin here old now before after → Fails text e (line_at profile room (drop here text)) → Fails text e (lines_of profile room [] (drop begin text))
+lines_fail profile room text begin here old now before after e s k =
     fails_through text e (line_at profile room (drop here text)) (lines_of profile room [] (drop begin text)) (λ d h. s.read ∙ lines_err profile room s.front (drop here text) d h) k
 
-pub lines_refuse : (profile : Profile) (room : ℕ) (text : List ℕ) (begin here close : ℕ) (st : Option Statement) (old now f1 f2 : Flat) (e : ReadFault) → LinesSoFar profile room text begin here old now → LineIs profile room text here now f1 close st → (close ≡ length text → ⊥)
+pub lines_refuse : (profile : Profile) (room : ℕ) (text : List ℕ) (begin here close : ℕ) (st : Option Statement) (old now f1 f2 : Flat) (before after : List ℕ) (e : ReadFault) → LinesSoFar profile room text begin here old now before after → LineIs profile room text here now f1 close st → (close ≡ length text → ⊥)
     → NewlineRead text close f1 f2 (Err e) → Fails text e (lines_of profile room [] (drop begin text))
-lines_refuse profile room text begin here close st old now f1 f2 e s i more k =
+lines_refuse profile room text begin here close st old now f1 f2 before after e s i more k =
     let rest = drop close text in
     let some : 0 < length rest = omega (arith, length-drop close text, i.read.bound.0, more) in
     fails_through text e (newline_by rest (gap_at rest)) (lines_of profile room [] (drop begin text))
     (λ d h. s.read ∙ lines_bad profile room s.front (drop here text) i.read.part rest i.read.is_read some (λ n g. newline_not rest d n h g) ∙ ap Err (sym (newline_bad rest d h))) k
 
-pub lines_more : (profile : Profile) (room : ℕ) (text : List ℕ) (begin here close end : ℕ) (st : Option Statement) (old now f1 f2 new : Flat) → LinesSoFar profile room text begin here old now → LineIs profile room text here now f1 close st
-    → NewlineRead text close f1 f2 (Ok end) → new ≡ with_statements (ended_list end st) f2 → LinesSoFar profile room text begin end old new
-lines_more profile room text begin here close end st old now f1 f2 new s i nl is =
+pub lines_more : (profile : Profile) (room : ℕ) (text : List ℕ) (begin here close end : ℕ) (st : Option Statement) (old now f1 f2 new : Flat) (before after later : List ℕ) → LinesSoFar profile room text begin here old now before after → LineIs profile room text here now f1 close st
+    → NewlineRead text close f1 f2 (Ok end) → new ≡ with_statements (ended_list end st) f2 → later ≡ after ++ (end ∷ []) → LinesSoFar profile room text begin end old new before later
+lines_more profile room text begin here close end st old now f1 f2 new before after later s i nl is next =
     let c = count_at begin old in
     let n = count_at here now in
     let l = i.read.part in
@@ -168,18 +181,21 @@ lines_more profile room text begin here close end st old now f1 f2 new s i nl is
     let told : ss ≡ line_statements n l (n.at + width (ended_leaves e)) = ended_is n l st close end i.told ∙ ap (line_statements n l) g.place in
     let one : Grows text now new here end (one_taken n e) = grows_as (one_taken n e) (same_taken _ (one_taken n e) refl told (append-nil (line_parts n l)) (append-nil (line_values n l))) g in
     let counted : Grows text now new here end (one_taken (behind_lines c s.front) e) = grows_as (one_taken (behind_lines c s.front) e) (ap (λ (m : Count). one_taken m e) (count_is text begin here old now s.front s.grows)) one in
+    let all : Grows text old new begin end (all_taken c (s.front ++ (e ∷ []))) = grows_as (all_taken c (s.front ++ (e ∷ []))) (all_snoc c s.front e) (grows_then s.grows counted) in
     record {
       front = s.front ++ (e ∷ []);
       bound = nl.bound;
       read = s.read ∙ lines_newline profile room s.front (drop here text) l (drop close text) found.0 i.read.is_read found.1
           ∙ ap (λ (x : Written). let d : Ended = record { line = l; newline = x } in lines_of profile room (s.front ++ (d ∷ [])) (drop found.0 (drop close text))) (sym found.2)
           ∙ ap (λ (t : List ℕ). lines_of profile room (s.front ++ (e ∷ [])) t) (sym found.3);
-      grows = grows_as (all_taken c (s.front ++ (e ∷ []))) (all_snoc c s.front e) (grows_then s.grows counted);
+      grows = all;
+      starts = next ∙ ap (λ (ns : List ℕ). ns ++ (end ∷ [])) s.starts ∙ append_assoc before (line_starts begin s.front) (end ∷ [])
+          ∙ ap (λ (ns : List ℕ). before ++ ns) (sym (line_starts-snoc begin s.front e end all.place));
     }
 
-lines_end : (profile : Profile) (room : ℕ) (text : List ℕ) (begin here close : ℕ) (st : Option Statement) (old now f1 new : Flat) → LinesSoFar profile room text begin here old now → LineIs profile room text here now f1 close st
-    → new ≡ with_statements (ended_list close st) f1 → close ≡ length text → PartIs text begin 0 (lines_of profile room [] (drop begin text)) (lines_taken (count_at begin old)) old new (length text)
-lines_end profile room text begin here close st old now f1 new s i is at_end =
+lines_end : (profile : Profile) (room : ℕ) (text : List ℕ) (begin here close : ℕ) (st : Option Statement) (old now f1 new : Flat) (before after : List ℕ) → LinesSoFar profile room text begin here old now before after → LineIs profile room text here now f1 close st
+    → new ≡ with_statements (ended_list close st) f1 → close ≡ length text → LinesAre profile room text begin old new before after
+lines_end profile room text begin here close st old now f1 new before after s i is at_end =
     let c = count_at begin old in
     let n = count_at here now in
     let l = i.read.part in
@@ -192,14 +208,17 @@ lines_end profile room text begin here close st old now f1 new s i is at_end =
     let nothing_left : drop close text ≡ [] = drop_all close text (omega (arith, at_end)) in
     let nothing_behind : drop (length text) text ≡ [] = drop_all (length text) text (omega arith) in
     record {
-      part = (s.front, l);
-      bound = subst (λ (m : ℕ). IsCharBoundary text m) at_end i.read.bound;
-      forward = omega (arith, s.grows.place, i.read.forward, at_end);
-      is_read = s.read ∙ lines_last profile room s.front (drop here text) l (i.read.is_read ∙ ap (λ (t : List ℕ). done (l, t)) nothing_left) ∙ ap (λ (t : List ℕ). done ((s.front, l), t)) (sym nothing_behind);
-      grows = subst (λ (m : ℕ). Grows text old new begin m (lines_taken c (s.front, l))) at_end whole;
+      read = record {
+        part = (s.front, l);
+        bound = subst (λ (m : ℕ). IsCharBoundary text m) at_end i.read.bound;
+        forward = omega (arith, s.grows.place, i.read.forward, at_end);
+        is_read = s.read ∙ lines_last profile room s.front (drop here text) l (i.read.is_read ∙ ap (λ (t : List ℕ). done (l, t)) nothing_left) ∙ ap (λ (t : List ℕ). done ((s.front, l), t)) (sym nothing_behind);
+        grows = subst (λ (m : ℕ). Grows text old new begin m (lines_taken c (s.front, l))) at_end whole;
+      };
+      starts = s.starts;
     }
 
-pub lines_told : {A : Type 0} (profile : Profile) (room : ℕ) (text : List ℕ) (begin here close : ℕ) (st : Option Statement) (old now f1 new : Flat) (r : Result A ReadFault) → LinesSoFar profile room text begin here old now → LineIs profile room text here now f1 close st
-    → OnOk r (new ≡ with_statements (ended_list close st) f1) → IsOkUnless r faults.Memory → close ≡ length text → LinesRead profile room text begin old new r
-lines_told profile room text begin here close st old now f1 new (Ok x) s i is only at_end = lines_end profile room text begin here close st old now f1 new s i is at_end
-lines_told profile room text begin here close st old now f1 new (Err e) s i is only at_end = fails_memory text e (lines_of profile room [] (drop begin text)) only
+pub lines_told : {A : Type 0} (profile : Profile) (room : ℕ) (text : List ℕ) (begin here close : ℕ) (st : Option Statement) (old now f1 new : Flat) (before after : List ℕ) (r : Result A ReadFault) → LinesSoFar profile room text begin here old now before after → LineIs profile room text here now f1 close st
+    → OnOk r (new ≡ with_statements (ended_list close st) f1) → IsOkUnless r faults.Memory → close ≡ length text → LinesRead profile room text begin old new before after r
+lines_told profile room text begin here close st old now f1 new before after (Ok x) s i is only at_end = lines_end profile room text begin here close st old now f1 new before after s i is at_end
+lines_told profile room text begin here close st old now f1 new before after (Err e) s i is only at_end = fails_memory text e (lines_of profile room [] (drop begin text)) only

@@ -28,6 +28,18 @@ if_false b x y e = rw e refl
 
 -- ---- places
 
+-- where a line begins at or before a place, it does not matter what else would be given
+pub last_any : (place low other at : ℕ) (es : List Ended) → at ≤ place → last_to place low (line_starts at es) ≡ last_to place other (line_starts at es)
+last_any place low other at [] h = if_true (leb at place) at low (le-leb at place h) ∙ sym (if_true (leb at place) at other (le-leb at place h))
+last_any place low other at (e ∷ es) h = if_true (leb at place) _ low (le-leb at place h) ∙ sym (if_true (leb at place) _ other (le-leb at place h))
+
+-- the first of the starts is where the first line begins
+pub same_begin : (a b : ℕ) (es ds : List Ended) → line_starts a es ≡ line_starts b ds → a ≡ b
+same_begin a b [] [] h = cc
+same_begin a b [] (d ∷ ds) h = cc
+same_begin a b (e ∷ es) [] h = cc
+same_begin a b (e ∷ es) (d ∷ ds) h = cc
+
 pub line_low : (start low at : ℕ) (es : List Ended) → low ≤ at → low ≤ last_to start low (line_starts at es)
 line_low start low at [] h = by (leb at start)
   where

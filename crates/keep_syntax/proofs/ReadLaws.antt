@@ -35,8 +35,8 @@ use Rattle.keep_syntax.proofs.CutLaws.{cut_placed, start_holds, start_forward}
 
 -- ---- documents
 
-abbrev syntax_of : Parts → Syntax
-syntax_of p = record { parts = p }
+abbrev syntax_of : Parts → List ℕ → ℕ → Syntax
+syntax_of p lines len = record { parts = p; lines = lines; len = len }
 
 inner_text : (d : Document) → text d ≡ text_of (inner_leaves d)
 inner_text d = ap text_of (leaves_end d) ∙ text_of-append (inner_leaves d) (mark leaf.End []) ∙ append-nil (text_of (inner_leaves d))
@@ -44,53 +44,64 @@ inner_text d = ap text_of (leaves_end d) ∙ text_of-append (inner_leaves d) (ma
 tokens_are : (d : Document) → cut (text d) (kinds (inner_leaves d) ++ (leaf.End ∷ [])) (starts 0 (inner_leaves d)) ≡ tokens d
 tokens_are d = cut_placed (text d) [] (inner_leaves d) 0 refl (inner_text d) ∙ ap (placed 0) (sym (leaves_end d))
 
-pub is_syntax : (profile : Profile) (limit : ℕ) (bytes : List ℕ) (p : Parts) (h : DocumentIs profile limit bytes (flat p)) → IsSyntaxOf (syntax_of p) h.document
+-- what was read of a text of so many bytes
+abbrev pub DocumentOf : Profile → ℕ → List ℕ → Parts → List ℕ → ℕ → Type 0
+DocumentOf profile limit bytes p lines len = DocumentIs profile limit bytes (flat p) lines × (len ≡ length bytes)
+
+pub is_read : (profile : Profile) (limit : ℕ) (bytes : List ℕ) (f : Flat) (lines : List ℕ) (h : DocumentIs profile limit bytes f lines) → Reads profile limit bytes h.document
+is_read profile limit bytes f lines h = document_found profile limit bytes h.document h.is_read
+
+pub is_syntax : (profile : Profile) (limit : ℕ) (bytes : List ℕ) (p : Parts) (lines : List ℕ) (len : ℕ) (h : DocumentOf profile limit bytes p lines len) → IsSyntaxOf (syntax_of p lines len) h.0.document
 unfolding add_at
-is_syntax profile limit bytes p h =
-    let d = h.document in
-    let kept = h.grows.kept in
+is_syntax profile limit bytes p lines len h =
+    let d = h.0.document in
+    let kept = h.0.grows.kept in
     record {
       tokens = ap (λ (f : Flat). cut_by f (text d)) kept ∙ tokens_are d;
       statements = ap (λ (f : Flat). f.statements) kept;
       parts = ap (λ (f : Flat). f.keys) kept;
       values = ap (λ (f : Flat). f.values) kept;
+      stored = kept;
+      lines = h.0.lines;
+      len = h.1 ∙ ap length (is_read profile limit bytes (flat p) lines h.0).spelled;
     }
 
-pub is_read : (profile : Profile) (limit : ℕ) (bytes : List ℕ) (p : Parts) (h : DocumentIs profile limit bytes (flat p)) → Reads profile limit bytes h.document
-is_read profile limit bytes p h = document_found profile limit bytes h.document h.is_read
+pub found : (profile : Profile) (limit : ℕ) (bytes : List ℕ) (p : Parts) (lines : List ℕ) (len : ℕ) → DocumentOf profile limit bytes p lines len
+    → (d : Document) × Reads profile limit bytes d × IsSyntaxOf (syntax_of p lines len) d
+found profile limit bytes p lines len h = (h.0.document, is_read profile limit bytes (flat p) lines h.0, is_syntax profile limit bytes p lines len h)
 
-pub found : (profile : Profile) (limit : ℕ) (bytes : List ℕ) (p : Parts) → DocumentIs profile limit bytes (flat p) → (d : Document) × Reads profile limit bytes d × IsSyntaxOf (syntax_of p) d
-found profile limit bytes p h = (h.document, is_read profile limit bytes p h, is_syntax profile limit bytes p h)
+pub only : (profile : Profile) (limit : ℕ) (bytes : List ℕ) (p : Parts) (lines : List ℕ) (len : ℕ) → DocumentOf profile limit bytes p lines len
+    → (d : Document) → Reads profile limit bytes d → IsSyntaxOf (syntax_of p lines len) d
+only profile limit bytes p lines len h d r =
+    subst (λ (x : Document). IsSyntaxOf (syntax_of p lines len) x) (ok_is h.0.document d (sym h.0.is_read ∙ document_read profile limit bytes d r)) (is_syntax profile limit bytes p lines len h)
 
-pub only : (profile : Profile) (limit : ℕ) (bytes : List ℕ) (p : Parts) → DocumentIs profile limit bytes (flat p) → (d : Document) → Reads profile limit bytes d → IsSyntaxOf (syntax_of p) d
-only profile limit bytes p h d r =
-    subst (λ (x : Document). IsSyntaxOf (syntax_of p) x) (ok_is h.document d (sym h.is_read ∙ document_read profile limit bytes d r)) (is_syntax profile limit bytes p h)
-
-pub of_text : (profile : Profile) (limit : ℕ) (bytes : List ℕ) (p : Parts) → DocumentIs profile limit bytes (flat p) → IsTextOf (syntax_of p) bytes
+pub of_text : (profile : Profile) (limit : ℕ) (bytes : List ℕ) (p : Parts) (lines : List ℕ) (len : ℕ) → DocumentOf profile limit bytes p lines len → IsTextOf (syntax_of p lines len) bytes
 unfolding add_at
-of_text profile limit bytes p h =
-    let d = h.document in
+of_text profile limit bytes p lines len h =
+    let d = h.0.document in
     let inner = inner_leaves d in
-    let spelled = (is_read profile limit bytes p h).spelled in
-    let begin : (flat p).starts ≡ starts 0 inner = ap (λ (f : Flat). f.starts) h.grows.kept in
+    let spelled = (is_read profile limit bytes (flat p) lines h.0).spelled in
+    let begin : (flat p).starts ≡ starts 0 inner = ap (λ (f : Flat). f.starts) h.0.grows.kept in
     record {
       document = d;
       spelled = spelled;
-      is = is_syntax profile limit bytes p h;
-      cuts = λ n. subst (λ (ss : List ℕ). IsCharBoundary bytes (start_in bytes ss n)) (sym begin) (start_holds (IsCharBoundary bytes) bytes (starts 0 inner) h.grows.bounds (IsCharBoundary-end bytes) n);
+      is = is_syntax profile limit bytes p lines len h;
+      cuts = λ n. subst (λ (ss : List ℕ). IsCharBoundary bytes (start_in bytes ss n)) (sym begin) (start_holds (IsCharBoundary bytes) bytes (starts 0 inner) h.0.grows.bounds (IsCharBoundary-end bytes) n);
       forward = λ n. subst (λ (ss : List ℕ). start_in bytes ss n ≤ start_in bytes ss (n + 1)) (sym begin)
           (subst (λ (m : ℕ). start_in bytes (starts 0 inner) n ≤ start_in bytes (starts 0 inner) m) (sym (add-one n)) (start_forward bytes 0 inner (omega (arith, ap length (spelled ∙ inner_text d))) n));
     }
 
-pub within : (profile : Profile) (limit : ℕ) (bytes : List ℕ) (p : Parts) → DocumentIs profile limit bytes (flat p) → AllByRecursion (IsWithin limit) (values_of (syntax_of p))
-within profile limit bytes p h =
-    subst (λ (vs : List ValueInfo). AllByRecursion (IsWithin limit) vs) (sym (is_syntax profile limit bytes p h).values) (values_within profile limit bytes h.document (is_read profile limit bytes p h))
+pub within : (profile : Profile) (limit : ℕ) (bytes : List ℕ) (p : Parts) (lines : List ℕ) (len : ℕ) → DocumentOf profile limit bytes p lines len → AllByRecursion (IsWithin limit) (values_of (syntax_of p lines len))
+within profile limit bytes p lines len h =
+    subst (λ (vs : List ValueInfo). AllByRecursion (IsWithin limit) vs) (sym (is_syntax profile limit bytes p lines len h).values) (values_within profile limit bytes h.0.document (is_read profile limit bytes (flat p) lines h.0))
 
-pub few : (profile : Profile) (limit : ℕ) (bytes : List ℕ) (p : Parts) → DocumentIs profile limit bytes (flat p) → length (tokens_of (syntax_of p) bytes) ≤ length bytes + 1
-few profile limit bytes p h =
-    let r = is_read profile limit bytes p h in
-    let same : length (tokens_of (syntax_of p) bytes) ≡ length (tokens h.document) = ap (λ (b : List ℕ). length (tokens_of (syntax_of p) b)) r.spelled ∙ ap length (is_syntax profile limit bytes p h).tokens in
-    omega (arith, same, marks_placed 0 (leaves h.document), marks_count 0 (leaves h.document), leaves_count profile limit bytes h.document r)
+pub few : (profile : Profile) (limit : ℕ) (bytes : List ℕ) (p : Parts) (lines : List ℕ) (len : ℕ) → DocumentOf profile limit bytes p lines len → length (tokens_of (syntax_of p lines len) bytes) ≤ length bytes + 1
+few profile limit bytes p lines len h =
+    let d = h.0.document in
+    let s = syntax_of p lines len in
+    let r = is_read profile limit bytes (flat p) lines h.0 in
+    let same : length (tokens_of s bytes) ≡ length (tokens d) = ap (λ (b : List ℕ). length (tokens_of s b)) r.spelled ∙ ap length (is_syntax profile limit bytes p lines len h).tokens in
+    omega (arith, same, marks_placed 0 (leaves d), marks_count 0 (leaves d), leaves_count profile limit bytes d r)
 
 -- what is read leaves no fault but out of memory
 memory_only : {A : Type 0} (bytes : List ℕ) (e : ReadFault) (r : Result A Fault) (x : A) → Fails bytes e r → r ≡ Ok x → e ≡ faults.Memory

@@ -1,5 +1,5 @@
 -- What the code keeps of whole texts.
-use Rattle.std.proofs.Common.{◌≡◌, ℕ, ◌+◌, ◌<◌, Bool, true, false, ◌==◌, List, [], ◌∷◌, length, drop, Result, Ok, refl, ap, ◌∙◌, subst, arith, IsUtf8, IsCharBoundary}
+use Rattle.std.proofs.Common.{◌≡◌, ℕ, ◌+◌, ◌<◌, Bool, true, false, ◌==◌, List, [], ◌∷◌, ◌++◌, length, drop, Result, Ok, refl, ap, ◌∙◌, subst, arith, IsUtf8, IsCharBoundary}
 use Rattle.std.proofs.lemmas.Bool.{false≢true}
 use Rattle.std.proofs.lemmas.Bool.Decides.{nat_tests}
 use Rattle.std.proofs.lemmas.Str.{IsCharBoundary-start, IsCharBoundary-past_char}
@@ -11,8 +11,9 @@ use Rattle.keep_syntax.specs.declared.fault.ReadFault.{ReadFault}
 use Rattle.keep_syntax.specs.Tree.{Value, Document, bom_leaves}
 use Rattle.keep_syntax.specs.Numbered.{Count, first_line, statements, parts, values}
 use Rattle.keep_syntax.specs.Reading.{Fault, ◌>>=◌, lines_of, has_bom, behind_bom, read_document, value_of, read_one_value}
-use Rattle.keep_syntax.specs.Flat.{Flat, only, both, empty, kinds, starts, add_at, with_mark, Grows, PartIs, Fails, IsSyntax, value_taken, ValueRead}
-use Rattle.keep_syntax.specs.FlatLines.{count_at, lines_taken, BomRead, document_taken, DocumentIs, alone, OneIs}
+use Rattle.keep_syntax.specs.Flat.{Flat, only, both, empty, kinds, starts, add_at, with_mark, Grows, Fails, IsSyntax, value_taken, ValueRead}
+use Rattle.keep_syntax.specs.FlatLines.{count_at, lines_taken, LinesAre, BomRead, document_taken, DocumentIs, alone, OneIs}
+use Rattle.keep_syntax.specs.WholeLines.{line_starts}
 use Rattle.keep_syntax.proofs.LoopLaws.{done, ok_is}
 use Rattle.keep_syntax.proofs.FlatLaws.{grows_nothing, grows_then, grows_as, grows_mark, grown_keys, grown_values, grown_statements}
 use Rattle.keep_syntax.proofs.LineLoopLaws.{same_count}
@@ -63,9 +64,10 @@ pub document_fails : (profile : Profile) (limit : ℕ) (text : List ℕ) (begin 
 document_fails profile limit text begin old new e b k =
     fails_through text e (lines_of profile limit [] (drop begin text)) (read_document profile limit text) (λ d h. document_behind profile limit text begin old new b ∙ rw h refl) k
 
-pub document_is : (profile : Profile) (limit : ℕ) (text : List ℕ) (begin : ℕ) (old mid new : Flat) → old ≡ empty → BomRead text old mid (Ok begin) → PartIs text begin 0 (lines_of profile limit [] (drop begin text)) (lines_taken (count_at begin mid)) mid new (length text)
-    → DocumentIs profile limit text new
-document_is profile limit text begin old mid new e b ls =
+pub document_is : (profile : Profile) (limit : ℕ) (text : List ℕ) (begin : ℕ) (old mid new : Flat) (none starts : List ℕ) → old ≡ empty → none ≡ [] → BomRead text old mid (Ok begin) → LinesAre profile limit text begin mid new none starts
+    → DocumentIs profile limit text new starts
+document_is profile limit text begin old mid new none starts e nothing b all =
+    let ls = all.read in
     let d : Document = record { bom = b.part; ended = ls.part.0; last = ls.part.1 } in
     let bom = only (bom_leaves b.part) in
     let counted : count_at begin mid ≡ first_line d =
@@ -76,13 +78,14 @@ document_is profile limit text begin old mid new e b ls =
       document = d;
       is_read = document_behind profile limit text begin old mid b ∙ rw ls.is_read refl;
       grows = subst (λ (f : Flat). Grows text f new 0 (length text) (document_taken d)) e g;
+      lines = all.starts ∙ ap (λ (ns : List ℕ). ns ++ line_starts begin ls.part.0) nothing ∙ ap (λ (n : ℕ). line_starts n ls.part.0) (omega (arith, b.grows.place));
     }
 
 -- the lists that are kept are those of the document
-pub document_kept : (profile : Profile) (limit : ℕ) (text : List ℕ) (new : Flat) (h : DocumentIs profile limit text new)
+pub document_kept : (profile : Profile) (limit : ℕ) (text : List ℕ) (new : Flat) (places : List ℕ) (h : DocumentIs profile limit text new places)
     → new ≡ record { kinds = kinds (document_taken h.document).leaves; starts = starts 0 (document_taken h.document).leaves; statements = statements h.document; keys = parts h.document; values = values h.document }
 unfolding add_at
-document_kept profile limit text new h = h.grows.kept
+document_kept profile limit text new places h = h.grows.kept
 
 -- ---- one value
 

@@ -1,11 +1,12 @@
 -- What the public functions ensure: which document, or which value, was read of a text, and what a fault tells.
-use Rattle.std.specs.Prelude.{◌≡◌, ℕ, ◌+◌, ◌≤◌, List, drop, None, ⊤, IsCharBoundary}
+use Rattle.std.specs.Prelude.{◌≡◌, ℕ, ◌+◌, ◌≤◌, List, length, drop, None, ⊤, IsCharBoundary}
 use Rattle.keep_token.specs.declared.leaf.Profile.{Profile}
 use Rattle.keep_syntax.specs.declared.fault.ReadFault.{ReadFault}
 use Rattle.keep_syntax.specs.declared.fault.ReadFault.TheVariants as faults
 use Rattle.keep_syntax.specs.declared.info.Statement.{Statement}
 use Rattle.keep_syntax.specs.declared.info.KeyPart.{KeyPart}
 use Rattle.keep_syntax.specs.declared.info.ValueInfo.{ValueInfo}
+use Rattle.keep_syntax.specs.declared.info.Span.{Span}
 use Rattle.keep_syntax.specs.declared.info.Start.{Start}
 use Rattle.keep_syntax.specs.declared.info.Owner.TheVariants as owner
 use Rattle.keep_syntax.specs.declared.info.Token.{Token}
@@ -18,6 +19,8 @@ use Rattle.keep_syntax.specs.Numbered.{Placed, tokens, statements, parts, values
 use Rattle.keep_syntax.specs.Deep.{IsTooDeep, IsValueTooDeep}
 use Rattle.keep_syntax.specs.Flat.{flat}
 use Rattle.keep_syntax.specs.Cut.{start_in, cut_by}
+use Rattle.keep_syntax.specs.FlatLines.{flat_of}
+use Rattle.keep_syntax.specs.WholeLines.{begin, starts_of}
 
 -- ---- what a syntax holds
 
@@ -34,12 +37,16 @@ parts_of s = (flat s.parts).keys
 abbrev pub values_of : Syntax → List ValueInfo
 values_of s = (flat s.parts).values
 
--- Its tokens, statements, key parts and values are those of the document, each in text order.
+-- Its tokens, statements, key parts and values are those of the document, each in text order. `stored` says of all vectors
+-- together that they have what the document has and no more. It also has where the lines begin and the length of the text.
 pub record IsSyntaxOf (s : Syntax) (d : Document) : Type 0 where
   pub tokens : tokens_of s (text d) ≡ tokens d
   pub statements : statements_of s ≡ statements d
   pub parts : parts_of s ≡ parts d
   pub values : values_of s ≡ values d
+  pub stored : flat s.parts ≡ flat_of d
+  pub lines : s.lines ≡ starts_of d
+  pub len : s.len ≡ length (text d)
 
 -- It was read of this text: a document within the limit has the text, and these are its tokens, statements, key parts and values.
 abbrev pub IsReadOf : Profile → ℕ → List ℕ → Syntax → Type 0
@@ -52,6 +59,14 @@ pub record IsTextOf (s : Syntax) (bytes : List ℕ) : Type 0 where
   pub is : IsSyntaxOf s document
   pub cuts : (n : ℕ) → IsCharBoundary bytes (start_in bytes (flat s.parts).starts n)
   pub forward : (n : ℕ) → start_in bytes (flat s.parts).starts n ≤ start_in bytes (flat s.parts).starts (n + 1)
+
+-- The span lies in the text that was read, after its byte order mark.
+pub record IsSpanIn (s : Syntax) (sp : Span) : Type 0 where
+  pub document : Document
+  pub is : IsSyntaxOf s document
+  pub low : begin document ≤ sp.start
+  pub order : sp.start ≤ sp.end
+  pub within : sp.end ≤ length (text document)
 
 -- ---- one value
 

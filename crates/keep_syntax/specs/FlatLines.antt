@@ -13,9 +13,10 @@ use Rattle.keep_syntax.specs.declared.info.StatementKind.TheVariants.{KeyVal, He
 use Rattle.keep_syntax.specs.declared.line.Head.{Head}
 use Rattle.keep_syntax.specs.declared.parts.Parts.{Parts}
 use Rattle.keep_syntax.specs.Tree.{Written, Content, blank, keyval, header, element, Value, Line, Document, content_leaves, comment_leaves, line_leaves, ended_leaves, bom_leaves}
+use Rattle.keep_syntax.specs.WholeLines.{line_starts, starts_of}
 use Rattle.keep_syntax.specs.Numbered.{span, key_count, content_parts, content_values, Count, line_parts, line_values, line_statements, over_lines, statements, parts, values}
 use Rattle.keep_syntax.specs.Reading.{Bad, Read, written, content_at, comment_at, line_at, Lines, lines_of, has_bom, behind_bom, read_document, read_one_value}
-use Rattle.keep_syntax.specs.Flat.{Flat, flat, empty, Taken, only, Grows, Fails, PartIs, PartRead, value_taken}
+use Rattle.keep_syntax.specs.Flat.{Flat, flat, empty, add_at, Taken, only, Grows, Fails, PartIs, PartRead, value_taken}
 
 -- ---- the content of a line
 
@@ -86,10 +87,14 @@ lines_taken c ls = record {
   values = over_lines (λ c l line_end. line_values c l) c ls.0 ls.1;
 }
 
--- all lines from a place on, up to the end of the text
-abbrev pub LinesRead : {A : Type 0} → Profile → ℕ → List ℕ → ℕ → Flat → Flat → Result A ReadFault → Type 0
-LinesRead profile room text at old new (Ok r) = PartIs text at 0 (lines_of profile room [] (drop at text)) (lines_taken (count_at at old)) old new (length text)
-LinesRead profile room text at old new (Err e) = Fails text e (lines_of profile room [] (drop at text))
+-- All lines from a place on, up to the end of the text, were read, and the places where they begin are stored.
+pub record LinesAre (profile : Profile) (room : ℕ) (text : List ℕ) (at : ℕ) (old new : Flat) (before after : List ℕ) : Type 0 where
+  pub read : PartIs text at 0 (lines_of profile room [] (drop at text)) (lines_taken (count_at at old)) old new (length text)
+  pub starts : after ≡ before ++ line_starts at read.part.0
+
+abbrev pub LinesRead : {A : Type 0} → Profile → ℕ → List ℕ → ℕ → Flat → Flat → List ℕ → List ℕ → Result A ReadFault → Type 0
+LinesRead profile room text at old new before after (Ok r) = LinesAre profile room text at old new before after
+LinesRead profile room text at old new before after (Err e) = Fails text e (lines_of profile room [] (drop at text))
 
 -- ---- whole texts
 
@@ -106,13 +111,19 @@ document_taken d = record {
   values = values d;
 }
 
-pub record DocumentIs (profile : Profile) (limit : ℕ) (text : List ℕ) (new : Flat) : Type 0 where
+-- all that is stored of it
+abbrev pub flat_of : Document → Flat
+flat_of d = add_at empty 0 (document_taken d)
+
+-- A document was read: what is stored of it, and where its lines begin.
+pub record DocumentIs (profile : Profile) (limit : ℕ) (text : List ℕ) (new : Flat) (starts : List ℕ) : Type 0 where
   pub document : Document
   pub is_read : read_document profile limit text ≡ Ok document
   pub grows : Grows text empty new 0 (length text) (document_taken document)
+  pub lines : starts ≡ starts_of document
 
-abbrev pub DocumentRead : Profile → ℕ → List ℕ → Result Parts ReadFault → Type 0
-DocumentRead profile limit text (Ok made) = DocumentIs profile limit text (flat made)
+abbrev pub DocumentRead : Profile → ℕ → List ℕ → Result (Parts × List ℕ) ReadFault → Type 0
+DocumentRead profile limit text (Ok made) = DocumentIs profile limit text (flat made.0) made.1
 DocumentRead profile limit text (Err e) = Fails text e (read_document profile limit text)
 
 -- where a value alone begins

@@ -11,6 +11,7 @@ use crate::gap::space;
 use crate::info::{Limits, Owner, Span, Start, Statement, StatementKind};
 use crate::key::{key, name};
 use crate::parts::{Parts, push_mark, push_statement, statement_count};
+use crate::starts::Starts;
 use crate::text::{byte_at, misplaced, sign};
 use crate::value::value;
 use keep_token::{Leaf, scan_gap};
@@ -230,12 +231,19 @@ fn tell(out: &mut Parts, statement: Option<Statement>, end: usize) -> Result<(),
     }
 }
 
-/// All lines from the byte `begin` on.
-pub fn lines(text: &str, begin: usize, limits: Limits, out: &mut Parts) -> Result<(), ReadFault>
+/// All lines from the byte `begin` on, and in `starts` where each of them begins.
+pub fn lines(
+    text: &str,
+    begin: usize,
+    limits: Limits,
+    out: &mut Parts,
+    starts: &mut Starts,
+) -> Result<(), ReadFault>
     requires { IsCharBoundary text.now begin }
-    ensures { lines_spec.LinesRead limits.profile limits.depth text.now begin (spec.flat out.old) (spec.flat out.new) result }
+    ensures { lines_spec.LinesRead limits.profile limits.depth text.now begin (spec.flat out.old) (spec.flat out.new) starts.old starts.new result }
 {
     let mut at = begin;
+    starts.push(at)?;
     'lines: loop {
         let (close, statement) = line(text, at, limits, out)?;
         if close == text.len() {
@@ -243,6 +251,7 @@ pub fn lines(text: &str, begin: usize, limits: Limits, out: &mut Parts) -> Resul
         }
         let end = newline(text, close, out)?;
         tell(out, statement, end)?;
+        starts.push(end)?;
         at = end;
     }
 }

@@ -1,4 +1,4 @@
-//! Where each token begins, kept in one byte a token.
+//! Where each token begins, or each line, stored in one byte each.
 ghost use Rattle.std.specs.Prelude.{◌≡◌, ◌≢◌, ◌+◌, ◌++◌, [], ◌∷◌, OnOk, OnErr};
 ghost use Rattle.keep_syntax.specs.declared.starts.TheConstants.{FAR};
 ghost use Rattle.keep_syntax.specs.Starts.{AllSmall, places_at};
@@ -51,6 +51,7 @@ fn step_to(from: usize, to: usize) -> u8
 
 impl Starts {
     ghost use Rattle.keep_syntax.specs.Cut.{places_left};
+    ghost use Rattle.keep_syntax.specs.WholeLines.{first_from, last_to};
 
     /// No place yet.
     pub fn new(alloc: Global) -> Starts
@@ -90,6 +91,32 @@ impl Starts {
             steps: self.steps.as_slice(),
             far: self.far.as_slice(),
         }
+    }
+
+    /// The last of ascending places that is at most `place`, or else `low`.
+    pub fn last_to(&self, place: usize, low: usize) -> usize
+        ensures { result ≡ last_to place low self.now }
+    {
+        let mut last = low;
+        'places: for at in self.iter() {
+            if place < at {
+                return last;
+            }
+            last = at;
+        }
+        last
+    }
+
+    /// The first of ascending places that is at least `place`, or else `high`.
+    pub fn first_from(&self, place: usize, high: usize) -> usize
+        ensures { result ≡ first_from place high self.now }
+    {
+        'places: for at in self.iter() {
+            if place <= at {
+                return at;
+            }
+        }
+        high
     }
 }
 

@@ -6,11 +6,13 @@ ghost use Rattle.keep_syntax.specs.declared.fault.ReadFault.TheVariants.{Memory}
 ghost use Rattle.keep_syntax.specs.Tree.{Document};
 ghost use Rattle.keep_syntax.specs.Grammar.{Reads};
 ghost use Rattle.keep_syntax.specs.Nesting.{IsWithin};
+ghost use Rattle.keep_syntax.specs.WholeLines.{touched};
 ghost use Rattle.keep_syntax.specs.Contract as spec;
 
 use crate::fault::ReadFault;
-use crate::info::{KeyPart, Limits, Statement, ValueInfo};
+use crate::info::{KeyPart, Limits, Span, Statement, ValueInfo};
 use crate::parts::{Parts, mark_count, statement_at, statement_count};
+use crate::starts::Starts;
 use crate::tokens::Tokens;
 use crate::whole::read_lines;
 use std::alloc::Global;
@@ -19,6 +21,10 @@ use std::alloc::Global;
 #[derive(Debug, Drop)]
 pub struct Syntax {
     parts: Parts,
+    /// Where each line begins.
+    lines: Starts,
+    /// How many bytes the text has.
+    len: usize,
 }
 
 impl Syntax {
@@ -37,8 +43,12 @@ impl Syntax {
         ensures within { IfOk result (λ s. AllByRecursion (IsWithin limits.depth) (spec.values_of s)) }
         ensures few { IfOk result (λ s. length (spec.tokens_of s text.now) ≤ length text.now + 1) }
     {
-        let parts = read_lines(alloc, text, limits)?;
-        Ok(Syntax { parts })
+        let (parts, lines) = read_lines(alloc, text, limits)?;
+        Ok(Syntax {
+            parts,
+            lines,
+            len: text.len(),
+        })
     }
 
     /// How many tokens there are, `End` counted: at most one more than the text that was read has bytes.
@@ -102,6 +112,18 @@ impl Syntax {
         ensures within { (profile : Profile) (limit : ℕ) (bytes : List ℕ) → spec.IsReadOf profile limit bytes self.now → IsWithin limit result }
     {
         self.parts.value(number)
+    }
+
+    /// The lines that a span touches: from the last line start at or before its start to the first line start at or after its
+    /// end, or to the end of the text. The newlines inside a value end no line.
+    pub fn lines(&self, span: Span) -> Span
+        requires { spec.IsSpanIn self.now span }
+        ensures { (d : Document) → spec.IsSyntaxOf self.now d → result ≡ touched d span }
+    {
+        Span {
+            start: self.lines.last_to(span.start, 0),
+            end: self.lines.first_from(span.end, self.len),
+        }
     }
 
     /// What is kept of the text, each part by its number.

@@ -8,6 +8,7 @@ use crate::fault::ReadFault;
 use crate::info::{Limits, Owner, Start};
 use crate::line::lines;
 use crate::parts::{Parts, push_mark};
+use crate::starts::Starts;
 use crate::text::{byte_at, misplaced};
 use crate::value::value;
 use keep_token::Leaf;
@@ -32,14 +33,15 @@ fn bom(text: &str, out: &mut Parts) -> Result<usize, ReadFault>
     }
 }
 
-/// The parts of a document.
-pub fn read_lines(alloc: Global, text: &str, limits: Limits) -> Result<Parts, ReadFault>
+/// The parts of a document, and where its lines begin.
+pub fn read_lines(alloc: Global, text: &str, limits: Limits) -> Result<(Parts, Starts), ReadFault>
     ensures { lines_spec.DocumentRead limits.profile limits.depth text.now result }
 {
     let mut out = Parts::new(alloc);
     let begin = bom(text, &mut out)?;
-    lines(text, begin, limits, &mut out)?;
-    Ok(out)
+    let mut starts = Starts::new(alloc);
+    lines(text, begin, limits, &mut out, &mut starts)?;
+    Ok((out, starts))
 }
 
 /// The parts of one value.
