@@ -5,6 +5,7 @@ pub mod Remove
 pub mod Rename
 pub mod Append
 pub mod Growth
+pub mod Touched
 pub mod Values
 pub mod EditLaws
 pub mod Rows

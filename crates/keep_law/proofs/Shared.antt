@@ -42,3 +42,5 @@ pub use Rattle.keep_law.proofs.Insert.KeyvalPlaces.{IsInlineLaw, dots_placed, in
 pub use Rattle.keep_law.proofs.Insert.InsertPlaces.{IsThroughHeader, element_placed, header_placed, headed_within, holder_front, plain_rest, root_placed, through_header, through_placed}
 pub use Rattle.keep_law.proofs.Insert.InsertDottedPlace.{IsBaseAt, IsDottedPlaced, dotted_placed}
 pub use Rattle.keep_law.proofs.Common.Texts.{text_of-append}
+pub use Rattle.keep_law.proofs.Touched.FitLaws.{touched_lines_are_lines}
+pub use Rattle.keep_law.proofs.Touched.TouchedCuts.{IsCut, touched_in_new_cut}

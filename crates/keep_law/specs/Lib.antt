@@ -6,6 +6,7 @@ pub mod Edits
 pub mod Refusals
 pub mod Trees
 pub mod Answers
+pub mod TouchedLines
 pub mod Laws
 pub mod Removal
 pub mod Insertion

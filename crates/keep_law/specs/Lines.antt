@@ -3,6 +3,7 @@ use Rattle.std.specs.Prelude.{ℕ, zero, suc, ◌+◌, Bool, true, false, ◌&&�
 use Rattle.std.specs.List.{flat_map}
 use Rattle.keep_token.specs.declared.leaf.Leaf.TheVariants as leaf
 use Rattle.keep_syntax.specs.Tree.{Written, Content, blank, keyval, header, element, Line, Ended, Document, name_leaves, content_leaves, comment_leaves, line_leaves, ended_leaves, bom_leaves, leaves, text_of}
+use Rattle.keep_syntax.specs.WholeLines.{empty_line}
 use Rattle.keep_path.specs.Path.{Part, key, same_path}
 use Rattle.keep_meaning.specs.Marks.{Reading, start, header_path, below}
 use Rattle.keep_meaning.specs.Meaning.{keys_of, step, keyed_mentions, line_said, behind_line, reading_behind}
@@ -34,9 +35,6 @@ page_of s = record { ended = s.ended; last = s.last }
 -- seen from the document
 abbrev pub in_document : Document → Option (Changed Page) → Option (Changed Document)
 in_document s = within (with_page s) (text_of (bom_leaves s.bom)) []
-
-abbrev pub empty_line : Line
-empty_line = record { before = []; content = blank; after = []; comment = None }
 
 -- ---- one line
 

@@ -1,5 +1,6 @@
 //! Laws of the edits, each the contract of a function that does nothing.
 ghost use Rattle.keep_law.specs.Laws as spec;
+ghost use Rattle.keep_law.specs.TouchedLines as touched;
 
 /// A `set` that is not refused changes the document as it is stated: in its text, its tree and its size.
 pub fn set_is_lawful()
@@ -44,4 +45,10 @@ pub fn change_is_put()
 /// By an edit the text grows by no more than what the edit gives, and twelve bytes.
 pub fn growth_is_bounded()
     ensures { spec.GrowthIsBounded }
+{}
+
+/// The touched lines of an edit, in the new text, are lines of their own, and all others stay as they are. So an edit needs
+/// to scan only those.
+pub fn touched_lines_are_lines()
+    ensures { touched.TouchedLinesAreLines }
 {}

@@ -13,7 +13,8 @@ use Rattle.keep_syntax.specs.Grammar.{IsSpace, IsBlank, IsGap, IsNamed, IsComma,
 use Rattle.keep_law.specs.Edits.{key_part}
 use Rattle.keep_meaning.specs.Meaning.{key_value, further_value, keys_of}
 use Rattle.keep_law.specs.Values.{space}
-use Rattle.keep_law.specs.Lines.{put_lines, empty_line, new_line, plain_line, newline_of, first_newline}
+use Rattle.keep_syntax.specs.WholeLines.{empty_line}
+use Rattle.keep_law.specs.Lines.{put_lines, new_line, plain_line, newline_of, first_newline}
 use Rattle.keep_law.specs.Edits.{at_line, key_with, name_with, further_part}
 use Rattle.keep_law.proofs.Common.Runs.{AllOf, all_join}
 use Rattle.keep_law.proofs.Common.SetLaw.{EachTo}

@@ -5,7 +5,8 @@ use Rattle.keep_syntax.specs.Tree.{Written, Gap, Name, Value, Content, blank, ke
 use Rattle.keep_path.specs.Path.{Part}
 use Rattle.keep_meaning.specs.Marks.{Mention, below, Reading, start}
 use Rattle.keep_meaning.specs.Meaning.{keyval_said, line_said, behind_line, lines_said, reading_behind, line_of, lines, said_in}
-use Rattle.keep_law.specs.Lines.{put_lines, empty_line, body_length, more_lines, new_line, newline_of}
+use Rattle.keep_syntax.specs.WholeLines.{empty_line}
+use Rattle.keep_law.specs.Lines.{put_lines, body_length, more_lines, new_line, newline_of}
 use Rattle.keep_law.specs.Edits.{at_line}
 use Rattle.keep_law.proofs.Common.Runs.{all_left, all_right, AllOf, Rules, IsApart, IsUnder, rules_replaced}
 use Rattle.keep_law.proofs.Common.SetLaw.{EachTo}

@@ -16,7 +16,8 @@ use Rattle.keep_meaning.specs.Marks.{Reading, start}
 use Rattle.keep_meaning.specs.Meaning.{step, lines}
 use Rattle.keep_law.specs.Changed.{Changed, within}
 use Rattle.keep_law.specs.Values.{is_comment_leaf, joined_gap, kept_gap, past_ws, Row, take_out, taken_first, taken_only, taken_last, is_last_named, entry_front, removal}
-use Rattle.keep_law.specs.Lines.{with_page, in_lines, in_line, drop_front, drop_lines, last_line, begins, body_length, empty_line}
+use Rattle.keep_syntax.specs.WholeLines.{empty_line}
+use Rattle.keep_law.specs.Lines.{with_page, in_lines, in_line, drop_front, drop_lines, last_line, begins, body_length}
 use Rattle.std.specs.Prelude.{drop}
 use Rattle.keep_law.specs.Edits.{remove, change, inside, is_own, clear_line, without_lines}
 use Rattle.keep_law.proofs.Common.SetLaw.{EachTo, to_within, to_or_else}
