@@ -1,62 +1,58 @@
--- What an edit makes of a document: from where it is done, and from its law.
-use Rattle.std.proofs.Common.{◌≡◌, ℕ, List, length, sym, ap, subst, ◌∙◌, arith, Option, Result, Ok, Err, refl}
-use Rattle.std.specs.Prelude.{IsUtf8, IfOk, string_bytes}
-use Rattle.std.proofs.lemmas.Str.{IsUtf8-string_bytes}
-use Rattle.keep_syntax.specs.declared.info.Span.{Span}
+-- What an edit answers, by the text that was made: the document after it, or that text alone.
+use Rattle.std.proofs.Common.{◌≡◌, sym, subst, refl, Option, Some, None, Result, Ok, Err, String, Global}
+use Rattle.std.specs.Prelude.{string_bytes}
 use Rattle.keep_syntax.specs.Tree.{Document}
-use Rattle.keep_syntax.specs.Grammar.{Reads}
 use Rattle.keep_law.specs.declared.fault.EditFault.{EditFault}
 use Rattle.keep_law.specs.declared.fault.EditFault.TheVariants as fault
 use Rattle.keep_law.specs.declared.splice.Splice.{Splice}
-use Rattle.keep_law.specs.Changed.{put}
-use Rattle.keep_law.specs.Edits.{Edit, place, edited_document}
-use Rattle.keep_law.specs.Laws.{IsStanding, IsLawfulEdit}
-use Rattle.keep_edit.specs.Reading.{limit, ProfiledText, text_in, IsAccepted, IsTextOfTree}
-use Rattle.keep_edit.specs.Answers.{IsEdited, IsMade, IsDone, EditMade, EditDone, splice_of}
-use Rattle.keep_edit.specs.Places.{place_at, IsDoneAt, IsSplicedAt, IsMovedIn}
-use Rattle.keep_edit.specs.declared.document.Edited.{Edited}
-use Rattle.keep_edit.proofs.SetLaws.{done_of, full_of}
+use Rattle.keep_law.specs.Edits.{Edit}
+use Rattle.keep_splice.specs.declared.edited.Edited.{Edited}
+use Rattle.keep_edit.specs.Reading.{ProfiledText, text_in, IsTextOfTree}
+use Rattle.keep_edit.specs.Answers.{IsEdited, IsMade, IsTextAfter, IsDone, EditMade, EditDone, EditTold, refusal_in}
+use Rattle.keep_edit.specs.Places.{IsMovedIn}
 
--- a document that was read is one of which the laws speak
-pub standing : (d : ProfiledText) (s : Document) → IsTextOfTree d s → IsStanding d.profile limit s
-standing d s read = record { valid = read.reads.valid; shallow = read.reads.shallow; obeys = read.obeys }
+-- ---- what an edit answers, by what was made of it
 
--- what an edit answers that is refused
-pub refused_made : (s : Document) (e : Edit) (old : ProfiledText) (given : List ℕ) (f : EditFault) → IsDoneAt s e old given (Err f) → EditMade s e old (Err f)
-refused_made s e old given f h = subst (λ (r : Option EditFault). IsDone (IsMade s e old) r (Err f)) (sym h) refl
+done_as : {T U : Type 0} (good : T → Type 0) (fine : U → Type 0) (x : T) (y : U) (r : Option EditFault) → IsDone good r (Ok x) → (good x → fine y) → IsDone fine r (Ok y)
+done_as good fine x y None h k = k h
+done_as good fine x y (Some f) h k = absurd cc
 
--- an edit that is not refused, and its law
-module _ (d : ProfiledText) (s : Document) (e : Edit) (span : Span) (given : List ℕ) (read : IsTextOfTree d s) (at : IsDoneAt s e d given (Ok span)) (law : IsLawfulEdit d.profile limit s e) where
-  -- the new text is that of the edited document
-  edited : (new : List ℕ) → IsUtf8 new → new ≡ put d.text (place_at span given) → IsEdited s e (text_in d.profile new) d (splice_of (place_at span given))
-  edited new utf8 is =
-      let put_is : new ≡ put d.text (place s e) = is ∙ ap (put d.text) (sym at.1) in
-      let reads : Reads d.profile limit new (edited_document s e) =
-      subst (λ (t : List ℕ). Reads d.profile limit t (edited_document s e)) (ap (λ (t : List ℕ). put t (place s e)) (sym read.reads.spelled) ∙ sym put_is) law.reads in (
-        ap splice_of (sym at.1),
-        record {
-          profile = refl;
-          text = put_is;
-          tree = record { utf8 = utf8; reads = reads; obeys = law.obeys };
-          changed = law.tree;
-          growth = omega (arith, law.growth, ap length reads.spelled, ap length read.reads.spelled);
-        },
-      )
+not_done : {T U : Type 0} (good : T → Type 0) (fine : U → Type 0) (f : EditFault) (r : Option EditFault) → IsDone good r (Err f) → IsDone fine r (Err f)
+not_done good fine f None h = h
+not_done {T} {U} good fine f (Some g) h = let same : f ≡ g = cc in rw same refl
 
-  pub full_made : EditMade s e d (Err fault.Memory)
-  full_made = subst (λ (r : Option EditFault). IsDone (IsMade s e d) r (Err fault.Memory)) (sym at.0) refl
+-- out of memory can stand in place of what is done
+done_or_full : {T U : Type 0} (good : T → Type 0) (fine : U → Type 0) (x : T) (r : Option EditFault) → IsDone good r (Ok x) → IsDone fine r (Err fault.Memory)
+done_or_full good fine x None h = refl
+done_or_full good fine x (Some f) h = absurd cc
 
-  pub spliced_made : (result : Result Edited EditFault) → IsSplicedAt d.text span given result → EditMade s e d result
-  spliced_made (Err f) h = subst (λ (g : EditFault). EditMade s e d (Err g)) (sym h) full_made
-  spliced_made (Ok made) (text, splice) =
-      subst (λ (r : Option EditFault). IsDone (IsMade s e d) r (Ok made)) (sym at.0)
-      (subst (λ (p : Splice). IsEdited s e (text_in d.profile (string_bytes made.text)) d p) (sym splice) (edited (string_bytes made.text) (IsUtf8-string_bytes made.text) text))
+module _ (s : Document) (e : Edit) (old : ProfiledText) where
+  abbrev is_told : String Global → Type 0
+  is_told text = IsTextAfter s e (text_in old.profile (string_bytes text)) old
 
-  pub spliced_accepted : (result : Result Edited EditFault) → IsSplicedAt d.text span given result → IfOk result (λ made. IsAccepted (text_in d.profile (string_bytes made.text)))
-  spliced_accepted (Err f) h = tt
-  spliced_accepted (Ok made) (text, splice) = (edited_document s e, (edited (string_bytes made.text) (IsUtf8-string_bytes made.text) text).1.tree)
+  pub told_of : (made : Edited) → EditMade s e old (Ok made) → EditTold s e old (Ok made.text)
+  told_of made h = done_as (IsMade s e old) is_told made made.text (refusal_in old s e) h (λ (k : IsMade s e old made). k.1)
+
+  pub untold_of : (f : EditFault) → EditMade s e old (Err f) → EditTold s e old (Err f)
+  untold_of f h = not_done (IsMade s e old) is_told f (refusal_in old s e) h
+
+  module _ (new : ProfiledText) where
+    pub done_of : (made : Edited) → new ≡ text_in old.profile (string_bytes made.text) → EditMade s e old (Ok made) → EditDone s e old new (Ok made.splice)
+    done_of made is h =
+        done_as (IsMade s e old) (IsEdited s e new old) made made.splice (refusal_in old s e) h (λ (k : IsMade s e old made). subst (λ (t : ProfiledText). IsEdited s e t old made.splice) (sym is) k)
+
+    pub undone_of : (f : EditFault) → EditMade s e old (Err f) → EditDone s e old new (Err f)
+    undone_of f h = not_done (IsMade s e old) (IsEdited s e new old) f (refusal_in old s e) h
+
+    pub full_of : (made : Edited) → EditMade s e old (Ok made) → EditDone s e old new (Err fault.Memory)
+    full_of made h = done_or_full (IsMade s e old) (IsEdited s e new old) made (refusal_in old s e) h
 
 -- what an edit answers once the document of its text is moved in
 pub moved_done : (s : Document) (e : Edit) (old new : ProfiledText) (made : Edited) (result : Result Splice EditFault) → EditMade s e old (Ok made) → IsMovedIn made old new result → EditDone s e old new result
 moved_done s e old new made (Ok splice) h (same, is) = subst (λ (p : Splice). EditDone s e old new (Ok p)) (sym same) (done_of s e old new made is h)
 moved_done s e old new made (Err f) h (full, kept) = subst (λ (g : EditFault). EditDone s e old new (Err g)) (sym full) (full_of s e old new made h)
+
+-- what was made for a document that is seen as this one
+pub made_of : {seen_as old : ProfiledText} (s : Document) (e : Edit) (result : Result Edited EditFault) → seen_as ≡ old → (IsTextOfTree seen_as s → EditMade s e seen_as result) → IsTextOfTree old s
+    → EditMade s e old result
+made_of s e result same h = subst (λ (d : ProfiledText). IsTextOfTree d s → EditMade s e d result) same h

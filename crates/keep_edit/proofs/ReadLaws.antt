@@ -1,5 +1,5 @@
 -- Reading a document: what is known of it then, and why it is refused.
-use Rattle.std.proofs.Common.{◌≡◌, ℕ, List, Err, ap, refl, sym, ◌∙◌, inl, inr}
+use Rattle.std.proofs.Common.{◌≡◌, ℕ, List, Err, ap, refl, sym, inl, inr}
 use Rattle.std.specs.Prelude.{IsUtf8}
 use Rattle.std.specs.Str.{IsValidUpTo}
 use Rattle.std.proofs.lemmas.Str.{utf8_valid_len-IsValidUpTo}
@@ -10,14 +10,9 @@ use Rattle.keep_syntax.specs.declared.syntax.Syntax.{Syntax}
 use Rattle.keep_syntax.specs.Tree.{Document}
 use Rattle.keep_syntax.specs.Grammar.{Reads}
 use Rattle.keep_syntax.specs.Contract.{IsSyntaxOf, IsTextOf}
-use Rattle.keep_syntax.proofs.DocumentLaws.{one_document}
 use Rattle.keep_rules.specs.ReadDocuments.{WasRead, IsIndexOf, IsRefusal}
 use Rattle.keep_nodes.specs.Facts.{NodeInfos}
-use Rattle.keep_edit.specs.Reading.{limit, ProfiledText, text_in, IsTextOfTree, IsRefused, TellsNoText, Holds}
-
--- one text has one tree
-pub one_tree : (t : ProfiledText) (s u : Document) → IsTextOfTree t s → IsTextOfTree t u → s ≡ u
-one_tree t s u h k = one_document t.profile s u h.reads.valid k.reads.valid (sym h.reads.spelled ∙ k.reads.spelled)
+use Rattle.keep_edit.specs.Reading.{limit, ProfiledText, text_in, IsRefused, TellsNoText, Holds}
 
 -- the tree that the syntax was read of
 abbrev pub ReadOf : Profile → List ℕ → Syntax → Type 0

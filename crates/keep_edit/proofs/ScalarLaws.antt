@@ -33,7 +33,7 @@ use Rattle.keep_law.specs.Refusals.{has_value}
 use Rattle.keep_law.proofs.Shared.{integer_at_leaf, leaf_of_integer, string_at_leaf, string_of_leaf, no_string, IsValueOf}
 use Rattle.keep_edit.specs.Answers.{integer_of, int_value_of, str_value_of, HasNoValue, IsFound}
 use Rattle.keep_edit.specs.Reading.{ProfiledText, IsTextOfTree, Holds}
-use Rattle.keep_edit.proofs.FoundLaws.{value_there}
+use Rattle.keep_splice.proofs.Shared.{value_there}
 
 -- ---- the leaf that a scalar is
 

@@ -1,13 +1,6 @@
 pub mod Reading
 pub mod Answers
 pub mod Places
-pub mod Removing
-pub mod Inserting
-pub mod Holding
 pub mod Lists
-pub mod Newlines
 pub mod Headers
-pub mod Writing
-pub mod Aiming
-pub mod PutLines
 pub mod Children

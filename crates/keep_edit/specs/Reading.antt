@@ -1,38 +1,11 @@
 -- What is read: whole texts, in a profile, to the standard depth. What is read of single values is told by keep_value.
-use Rattle.std.specs.Prelude.{◌≡◌, ℕ, List, ◌⊎◌, map, Result, Err, IsUtf8}
+use Rattle.std.specs.Prelude.{◌≡◌, ℕ, List, ◌⊎◌, Result, Err, IsUtf8}
 use Rattle.std.specs.Str.Lossy.{utf8_valid_len}
-use Rattle.keep_token.specs.declared.leaf.Profile.{Profile}
 use Rattle.keep_syntax.specs.declared.fault.ReadFault.{ReadFault}
 use Rattle.keep_syntax.specs.declared.fault.ReadFault.TheVariants.{Memory, Utf8}
-use Rattle.keep_syntax.specs.declared.syntax.Syntax.{Syntax}
-use Rattle.keep_syntax.specs.Tree.{Document}
-use Rattle.keep_syntax.specs.Contract.{IsSyntaxOf, IsTextOf}
-use Rattle.keep_meaning.specs.Counts.{statements_in}
-use Rattle.keep_meaning.specs.Marks.{start, reading_after}
-use Rattle.keep_meaning.specs.Meaning.{said_in}
-use Rattle.keep_meaning.specs.Nodes.{node_path, nodes_in, infos_in}
-use Rattle.keep_meaning.specs.ReadText.{IsRead, IsReadFault}
-use Rattle.keep_nodes.specs.Facts.{NodeInfos}
-use Rattle.keep_rules.specs.Nested.{AreNested}
+use Rattle.keep_meaning.specs.ReadText.{IsReadFault}
 pub use Rattle.keep_value.specs.ValueTexts.{limit, IsTextOfValue, IsAcceptedValue, IsTextOfFact, IsRefusedValue}
-
--- ---- documents
-
--- a text, with the profile that it is read in
-pub record ProfiledText : Type 0 where
-  pub text : List ℕ
-  pub profile : Profile
-
-abbrev pub text_in : Profile → List ℕ → ProfiledText
-text_in profile bytes = record { text = bytes; profile = profile }
-
--- The text is that of this document, by the grammar of its profile and to the standard depth, and the rules hold.
-abbrev pub IsTextOfTree : ProfiledText → Document → Type 0
-IsTextOfTree t s = IsRead t.profile limit t.text s
-
--- the text of some document
-abbrev pub IsAccepted : ProfiledText → Type 0
-IsAccepted t = (s : Document) × IsTextOfTree t s
+pub use Rattle.keep_splice.specs.Reading.{ProfiledText, text_in, IsTextOfTree, IsAccepted, telling_in, Holds}
 
 -- why a text is none, or out of memory
 abbrev pub IsRefused : ProfiledText → ReadFault → Type 0
@@ -41,16 +14,3 @@ IsRefused t fault = (fault ≡ Memory) ⊎ IsReadFault t.profile limit t.text fa
 -- If the bytes are no text, this is told, with the length of their longest prefix that is text.
 abbrev pub TellsNoText : {T : Type 0} → List ℕ → Result T ReadFault → Type 0
 TellsNoText bytes result = ¬ (IsUtf8 bytes) → result ≡ Err (Utf8 (utf8_valid_len bytes))
-
--- what the nodes of a document tell
-abbrev pub telling_in : Document → NodeInfos
-telling_in s = record { paths = map node_path (nodes_in s); infos = infos_in s }
-
--- Of this text some document was read, and its syntax and its nodes are these.
-pub record Holds (t : ProfiledText) (syntax : Syntax) (index : NodeInfos) : Type 0 where
-  pub tree : Document
-  pub read : IsTextOfTree t tree
-  pub is : IsSyntaxOf syntax tree
-  pub of_text : IsTextOf syntax t.text
-  pub told : index ≡ telling_in tree
-  pub nested : AreNested (said_in tree) (reading_after start (statements_in tree)).tables

@@ -1,24 +1,20 @@
 //! Documents, and what can be asked of them.
-ghost use Rattle.std.specs.Prelude.{◌≡◌, ◌≤◌, ◌+◌, ◌++◌, length, string_bytes, take, drop, IfOk, IfErr, IsOkUnless, OnErr, MatchResult, Ok, Err};
+ghost use Rattle.std.specs.Prelude.{◌≡◌, ◌≤◌, ◌+◌, length, string_bytes, IfOk, IfErr, IsOkUnless, MatchResult, Ok, Err};
 ghost use Rattle.std.specs.Option.{option_map};
 ghost use Rattle.keep_token.specs.declared.leaf.Profile.TheVariants.{Strict};
 ghost use Rattle.keep_syntax.specs.declared.fault.ReadFault.TheVariants.{Memory};
 ghost use Rattle.keep_syntax.specs.Tree as tree;
 ghost use Rattle.keep_syntax.specs.Contract.{left};
 ghost use Rattle.keep_syntax.specs.Numbered as syntax;
-ghost use Rattle.keep_meaning.specs.KeyText.{text_at};
-ghost use Rattle.keep_law.specs.declared.fault.EditFault.TheVariants as law;
 ghost use Rattle.keep_edit.specs.Reading.{IsAccepted, IsRefused, IsTextOfTree, TellsNoText, text_in};
-ghost use Rattle.keep_edit.specs.Answers.{IsSpanOf};
-ghost use Rattle.keep_edit.specs.Places.{IsMovedIn, IsSplicedAt};
 
 mod entries;
 
-use keep_law::{EditFault, Splice};
-use keep_rules::{Index, Kind, NodeId, Path, Place};
-use keep_syntax::{Limits, ReadFault, STANDARD_DEPTH, Span, Syntax, Tokens};
+use keep_law::EditFault;
+use keep_rules::{Index, Kind, NodeId, Path};
+use keep_splice::{DocumentRef, part_at};
+use keep_syntax::{Limits, ReadFault, STANDARD_DEPTH, Syntax, Tokens};
 use keep_token::{Leaf, Profile, decode_string, integer_of, text_of};
-use keep_value::ValueText;
 use std::alloc::{AllocError, Global};
 use std::marker::Model;
 
@@ -43,16 +39,9 @@ pub struct Entry {
 #[derive(Drop)]
 pub struct Document {
     pub(crate) text: String,
-    profile: Profile,
+    pub(crate) profile: Profile,
     pub(crate) syntax: Syntax,
     pub(crate) index: Index,
-}
-
-/// The text that an edit gives, and its splice.
-#[derive(Drop)]
-pub(crate) struct Edited {
-    pub(crate) text: String,
-    pub(crate) splice: Splice,
 }
 
 impl Model for Document {
@@ -146,7 +135,11 @@ impl Document {
     }
 
     /// Reads the document of a text.
-    fn of_text(alloc: Global, text: String, profile: Profile) -> Result<Document, ReadFault>
+    pub(crate) fn of_text(
+        alloc: Global,
+        text: String,
+        profile: Profile,
+    ) -> Result<Document, ReadFault>
         ensures text { IfOk result (λ document. document ≡ text_in profile (string_bytes text)) }
         ensures accepted { IfOk result IsAccepted }
         ensures only { IsAccepted (text_in profile (string_bytes text)) → IsOkUnless result Memory }
@@ -202,10 +195,26 @@ impl Document {
             nodes: self.index.node_count(),
         }
     }
+
+    /// The text alone. It takes no memory.
+    pub fn into_text(self) -> String
+        ensures text { string_bytes result ≡ self.text }
+        ensures accepted { IsAccepted self }
+    {
+        let Document { text, .. } = self;
+        text
+    }
+
+    /// The document as its edits look at it.
+    pub(crate) fn as_ref(&self) -> DocumentRef<'_>
+        ensures { result ≡ self.now }
+    {
+        DocumentRef::new(self.text.as_str(), self.profile, &self.syntax, &self.index)
+    }
 }
 
 impl Document {
-    ghost use Rattle.keep_edit.specs.Answers.{kind_of, int_value_of, str_value_of, entries_of, IsFound};
+    ghost use Rattle.keep_edit.specs.Answers.{kind_of, int_value_of, str_value_of, entries_of};
     ghost use Rattle.keep_law.specs.Answers as answers;
 
     /// What stands at a path; None where it names no node.
@@ -215,19 +224,6 @@ impl Document {
     {
         let id = self.index.find(path)?;
         Some(self.index.node(id).kind)
-    }
-
-    /// The number of the value at a path.
-    fn found(&self, path: &Path) -> Result<usize, EditFault>
-        ensures { (s : tree.Document) → IsTextOfTree self.now s → IsFound path.now s result }
-    {
-        let Some(id) = self.index.find(path) else {
-            return Err(EditFault::NotFound);
-        };
-        match self.index.node(id).place {
-            Place::Value(number) => Ok(number),
-            _ => Err(EditFault::NotValue),
-        }
     }
 
     /// The text of the value at a path, as it is written. It takes no memory.
@@ -241,7 +237,7 @@ impl Document {
         ensures accepted { IsAccepted self.now }
     {
         let text = self.text.as_str();
-        let number = self.found(path)?;
+        let number = self.as_ref().found(path)?;
         Ok(part_at(text, self.syntax.value(number).span))
     }
 
@@ -251,7 +247,7 @@ impl Document {
         ensures accepted { IsAccepted self.now }
     {
         let text = self.text.as_str();
-        let number = self.found(path).ok()?;
+        let number = self.as_ref().found(path).ok()?;
         let value = self.syntax.value(number);
         match value.leaf {
             Leaf::Integer => integer_of(part_at(text, value.span)),
@@ -266,7 +262,7 @@ impl Document {
         ensures accepted { IsAccepted self.now }
     {
         let text = self.text.as_str();
-        let Ok(number) = self.found(path) else {
+        let Ok(number) = self.as_ref().found(path) else {
             return Ok(None);
         };
         let value = self.syntax.value(number);
@@ -292,164 +288,5 @@ impl Document {
             entries.push(Entry { path, kind })?;
         }
         Ok(entries)
-    }
-}
-
-impl Document {
-    ghost use Rattle.keep_syntax.specs.Tree.{Value};
-    ghost use Rattle.keep_law.specs.Edits.{set};
-    ghost use Rattle.keep_token.specs.declared.leaf.Profile.TheVariants.{Wide};
-    ghost use Rattle.keep_edit.specs.Reading.{IsAcceptedValue, IsTextOfValue};
-    ghost use Rattle.keep_edit.specs.Answers.{EditDone, EditTold, EditMade};
-
-    /// The text with a value in place of the one that stands at a path, and where it was written.
-    fn edited(&self, path: &Path, value: &ValueText) -> Result<Edited, EditFault>
-        ensures made { (s : tree.Document) → IsTextOfTree self.now s → (v : Value) → IsTextOfValue value.now v → EditMade s (set path.now v) self.now result }
-        ensures accepted { IfOk result (λ edited. IsAccepted (text_in self.now.profile (string_bytes edited.text))) }
-        ensures of { IsAccepted self.now }
-        ensures value { IsAcceptedValue Wide value.now }
-    {
-        let old = self.text.as_str();
-        let new = value.as_str();
-        let number = self.found(path)?;
-        let found = self.syntax.value(number);
-        if found.depth + value.depth() > STANDARD_DEPTH {
-            return Err(EditFault::TooDeep);
-        }
-        if !value.is_allowed_in(self.profile) {
-            return Err(EditFault::Profile);
-        }
-        edited_at(*self.text.allocator(), old, found.span, new)
-    }
-
-    /// Writes a value in place of the one that stands at a path. Every other byte is kept. After a refusal the document is as
-    /// before. The document's own allocator gives the memory.
-    ///
-    /// # Errors
-    ///
-    /// The first that holds: `NotFound` where the path names no node; `NotValue` where the node has no value with a text of
-    /// its own; `TooDeep` where arrays and inline tables would enclose one another deeper than the standard depth; `Profile`
-    /// where the document was read in Strict and the value is none of Strict's grammar; else `Memory` where memory was
-    /// refused.
-    pub fn set(&mut self, path: &Path, value: &ValueText) -> Result<Splice, EditFault>
-        ensures done { (s : tree.Document) → IsTextOfTree self.old s → (v : Value) → IsTextOfValue value.now v → EditDone s (set path.now v) self.old self.new result }
-        ensures accepted { IsAccepted self.old }
-        ensures value { IsAcceptedValue Wide value.now }
-        ensures read { IsAccepted self.new }
-        ensures refused { OnErr result (self.new ≡ self.old) }
-    {
-        let edited = self.edited(path, value)?;
-        self.replaced(edited)
-    }
-
-    /// Reads the text that an edit gives, and moves its document in. The only error is out of memory, and then the document is
-    /// as before.
-    pub(crate) fn replaced(&mut self, edited: Edited) -> Result<Splice, EditFault>
-        requires { IsAccepted (text_in self.old.profile (string_bytes edited.text)) }
-        ensures moved { IsMovedIn edited self.old self.new result }
-        ensures read { IsAccepted self.new }
-    {
-        let Edited { text, splice } = edited;
-        let alloc = *self.text.allocator();
-        match Document::of_text(alloc, text, self.profile) {
-            Ok(document) => {
-                *self = document;
-                Ok(splice)
-            }
-            Err(fault) => Err(growth_refused(fault)),
-        }
-    }
-
-    /// The document once more, read of its text. The only error is out of memory.
-    pub(crate) fn copied(&self) -> Result<Document, EditFault>
-        ensures copy { MatchResult result (λ copy. copy ≡ self.now) (λ fault. fault ≡ law.Memory) }
-        ensures of { IsAccepted self.now }
-    {
-        let alloc = *self.text.allocator();
-        let Ok(bytes) = String::from_str(alloc, self.text.as_str()) else {
-            return Err(EditFault::Memory);
-        };
-        match Document::of_text(alloc, bytes, self.profile) {
-            Ok(document) => Ok(document),
-            Err(fault) => Err(growth_refused(fault)),
-        }
-    }
-
-    /// The text that the document has after `set`. The document stays as it is, and nothing is read anew.
-    ///
-    /// # Errors
-    ///
-    /// Those of `set`.
-    pub fn text_with(&self, path: &Path, value: &ValueText) -> Result<String, EditFault>
-        ensures told { (s : tree.Document) → IsTextOfTree self.now s → (v : Value) → IsTextOfValue value.now v → EditTold s (set path.now v) self.now result }
-        ensures accepted { IsAccepted self.now }
-        ensures value { IsAcceptedValue Wide value.now }
-    {
-        let edited = self.edited(path, value)?;
-        Ok(edited.text)
-    }
-
-    /// The text alone. It takes no memory.
-    pub fn into_text(self) -> String
-        ensures text { string_bytes result ≡ self.text }
-        ensures accepted { IsAccepted self }
-    {
-        let Document { text, .. } = self;
-        text
-    }
-}
-
-/// The part of a text that stands at a span.
-pub(crate) fn part_at(text: &str, span: Span) -> &str
-    requires { IsSpanOf text.now span }
-    ensures { result.now ≡ text_at text.now span }
-{
-    &text[span.start..span.end]
-}
-
-/// The text with other bytes in place of those of a span, and its splice. The only error is out of memory.
-pub(crate) fn edited_at(
-    alloc: Global,
-    old: &str,
-    span: Span,
-    new: &str,
-) -> Result<Edited, EditFault>
-    requires { IsSpanOf old.now span }
-    ensures { IsSplicedAt old.now span new.now result }
-{
-    let Ok(text) = spliced(alloc, old, span, new) else {
-        return Err(EditFault::Memory);
-    };
-    let splice = Splice {
-        start: span.start,
-        end: span.end,
-        added: new.len(),
-    };
-    Ok(Edited { text, splice })
-}
-
-/// The text with other bytes in place of those of a span.
-fn spliced(alloc: Global, text: &str, span: Span, new: &str) -> Result<String, AllocError>
-    requires { IsSpanOf text.now span }
-    ensures { IfOk result (λ out. string_bytes out ≡ take span.start text.now ++ (new.now ++ drop span.end text.now)) }
-{
-    let mut out = String::with_capacity(
-        alloc,
-        (text.len() - (span.end - span.start)).saturating_add(new.len()),
-    )?;
-    out.push_str(&text[..span.start])?;
-    out.push_str(new)?;
-    out.push_str(&text[span.end..])?;
-    Ok(out)
-}
-
-/// A text that is known to be a document's is refused only where memory runs out.
-fn growth_refused(fault: ReadFault) -> EditFault
-    requires { fault ≡ Memory }
-    ensures { result ≡ law.Memory }
-{
-    match fault {
-        ReadFault::Memory => EditFault::Memory,
-        _ => unreachable!(),
     }
 }

@@ -1,15 +1,9 @@
 //! Documents: reading them, asking what they hold, and editing them in place.
 #![tactic(auto)]
 
-mod append;
+mod changes;
 mod document;
 mod edits;
-mod header;
-mod holder;
-mod insert;
-mod newline;
-mod remove;
-mod rename;
 
 pub use document::{Counts, Document, Entry};
 pub use edits::Edit;

@@ -1,4 +1,5 @@
-use Rattle.keep_edit.proofs.AnswerLaws.{seen, counts_are, counts_few}
+use Rattle.keep_splice.proofs.Shared.{seen}
+use Rattle.keep_edit.proofs.CountLaws.{counts_are, counts_few}
 use Rattle.keep_edit.proofs.document.Document.counts.Goals as goal
 
 pub returns-clause-counts : goal.returns-clause-counts

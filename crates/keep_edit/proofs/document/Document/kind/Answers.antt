@@ -1,6 +1,7 @@
 use Rattle.std.proofs.Common.{◌∙◌}
-use Rattle.keep_edit.proofs.AnswerLaws.{seen}
-use Rattle.keep_edit.proofs.FoundLaws.{none_found, one_found, no_kind, its_kind}
+use Rattle.keep_splice.proofs.Shared.{seen}
+use Rattle.keep_splice.proofs.Shared.{none_found, one_found}
+use Rattle.keep_edit.proofs.PathLaws.{no_kind, its_kind}
 use Rattle.keep_edit.proofs.document.Document.kind.Goals as goal
 
 pub returns-in_err-id-clause-kind : goal.returns-in_err-id-clause-kind

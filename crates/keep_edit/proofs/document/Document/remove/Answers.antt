@@ -1,14 +1,13 @@
 use Rattle.std.proofs.lemmas.Result.{err_from_is_err_and}
 use Rattle.keep_law.specs.Edits.{remove}
-use Rattle.keep_edit.proofs.SetLaws.{undone_of}
-use Rattle.keep_edit.proofs.EditedLaws.{moved_done}
+use Rattle.keep_edit.proofs.EditedLaws.{made_of, moved_done, undone_of}
 use Rattle.keep_edit.proofs.document.Document.remove.Goals as goal
 
-pub returns-in_err-edited-clause-done : goal.returns-in_err-edited-clause-done
-returns-in_err-edited-clause-done c = λ s read.
+pub returns-in_err-removed-clause-done : goal.returns-in_err-removed-clause-done
+returns-in_err-removed-clause-done c = λ s read.
     let p = err_from_is_err_and c.from_residual.result c.from_residual.ensures.1 in
-    rw (p.1, p.2) (undone_of s (remove c.args.path.now) c.args.self.now _ _ (c.in_err-edited.ensures.made s read))
+    rw (p.1, p.2) (undone_of s (remove c.args.path.now) c.args.self.now _ _ (made_of s (remove c.args.path.now) _ c.as_ref.ensures (λ k. c.in_err-removed.ensures.made s k) read))
 
 pub returns-clause-done : goal.returns-clause-done
 returns-clause-done c = λ s read.
-    moved_done s (remove c.args.path.now) c.args.self.now _ c.in_ok-edited.edited _ (c.in_ok-edited.ensures.made s read) c.replaced.ensures.moved
+    moved_done s (remove c.args.path.now) c.args.self.now _ c.in_ok-removed.removed _ (made_of s (remove c.args.path.now) _ c.as_ref.ensures (λ k. c.in_ok-removed.ensures.made s k) read) c.replaced.ensures.moved

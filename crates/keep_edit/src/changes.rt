@@ -1,0 +1,267 @@
+//! The edits of a document: keep_splice decides each and makes the text after it, which is read and takes the document's place.
+ghost use Rattle.std.specs.Prelude.{◌≡◌, OnErr, MatchResult, string_bytes};
+ghost use Rattle.keep_token.specs.declared.leaf.Profile.TheVariants.{Wide};
+ghost use Rattle.keep_syntax.specs.declared.fault.ReadFault.TheVariants.{Memory};
+ghost use Rattle.keep_syntax.specs.Tree as tree;
+ghost use Rattle.keep_syntax.specs.Tree.{Value};
+ghost use Rattle.keep_law.specs.Edits.{set, insert, rename, remove, append_table, append_element};
+ghost use Rattle.keep_law.specs.declared.fault.EditFault.TheVariants as law;
+ghost use Rattle.keep_edit.specs.Reading.{IsAccepted, IsAcceptedValue, IsTextOfTree, IsTextOfValue, text_in};
+ghost use Rattle.keep_edit.specs.Answers.{EditDone, EditTold};
+ghost use Rattle.keep_edit.specs.Headers.{key_texts};
+ghost use Rattle.keep_edit.specs.Places.{IsMovedIn};
+
+use crate::document::Document;
+use keep_law::{EditFault, Splice};
+use keep_rules::Path;
+use keep_splice::{DocumentRef, Edited, Header};
+use keep_syntax::ReadFault;
+use keep_value::ValueText;
+
+impl Document {
+    /// Writes a value in place of the one that stands at a path. Every other byte is kept. After a refusal the document is as
+    /// before. The document's own allocator gives the memory.
+    ///
+    /// # Errors
+    ///
+    /// The first that holds: `NotFound` where the path names no node; `NotValue` where the node has no value with a text of
+    /// its own; `TooDeep` where arrays and inline tables would enclose one another deeper than the standard depth; `Profile`
+    /// where the document was read in Strict and the value is none of Strict's grammar; else `Memory` where memory was
+    /// refused.
+    pub fn set(&mut self, path: &Path, value: &ValueText) -> Result<Splice, EditFault>
+        ensures done { (s : tree.Document) → IsTextOfTree self.old s → (v : Value) → IsTextOfValue value.now v → EditDone s (set path.now v) self.old self.new result }
+        ensures accepted { IsAccepted self.old }
+        ensures value { IsAcceptedValue Wide value.now }
+        ensures read { IsAccepted self.new }
+        ensures refused { OnErr result (self.new ≡ self.old) }
+    {
+        let alloc = *self.text.allocator();
+        let edited = self.as_ref().edited(alloc, path, value)?;
+        self.replaced(edited)
+    }
+
+    /// The text that the document has after `set`. The document stays as it is, and nothing is read anew.
+    ///
+    /// # Errors
+    ///
+    /// Those of `set`.
+    pub fn text_with(&self, path: &Path, value: &ValueText) -> Result<String, EditFault>
+        ensures told { (s : tree.Document) → IsTextOfTree self.now s → (v : Value) → IsTextOfValue value.now v → EditTold s (set path.now v) self.now result }
+        ensures accepted { IsAccepted self.now }
+        ensures value { IsAcceptedValue Wide value.now }
+    {
+        let alloc = *self.text.allocator();
+        let edited = self.as_ref().edited(alloc, path, value)?;
+        Ok(edited.text)
+    }
+
+    /// Writes a value at a new path: as an item of an array before the item that is there, or behind the last; as a keyval
+    /// behind the last of a body, of an inline table, or of those that go on from the same table by dots; or below a new header.
+    /// The keys of the path that the table does not have yet are written with dots. Every other byte is kept. After a refusal the
+    /// document is as before. The document's own allocator gives the memory.
+    ///
+    /// # Errors
+    ///
+    /// The first that holds: `NotFound` if the path ends in an index past the last item, or a part of it that is new has an
+    /// index; `Exists` if the path names a node, unless it is an item; `NotTable` if the longest prefix that names a node is no
+    /// table; `TooDeep` if arrays and inline tables would enclose one another deeper than the standard depth; `Profile` if the
+    /// document was read in Strict and the value is none of Strict's grammar; else `Memory` if memory was refused.
+    pub fn insert(&mut self, path: &Path, value: &ValueText) -> Result<Splice, EditFault>
+        ensures done { (s : tree.Document) → IsTextOfTree self.old s → (v : tree.Value) → IsTextOfValue value.now v → EditDone s (insert path.now v) self.old self.new result }
+        ensures accepted { IsAccepted self.old }
+        ensures value { IsAcceptedValue Wide value.now }
+        ensures read { IsAccepted self.new }
+        ensures refused { OnErr result (self.new ≡ self.old) }
+    {
+        let alloc = *self.text.allocator();
+        let inserted = self.as_ref().inserted(alloc, path, value)?;
+        self.replaced(inserted)
+    }
+
+    /// The text that the document has after `insert`. The document stays as it is, and nothing is read anew.
+    ///
+    /// # Errors
+    ///
+    /// Those of `insert`.
+    pub fn text_inserted(&self, path: &Path, value: &ValueText) -> Result<String, EditFault>
+        ensures told { (s : tree.Document) → IsTextOfTree self.now s → (v : tree.Value) → IsTextOfValue value.now v → EditTold s (insert path.now v) self.now result }
+        ensures accepted { IsAccepted self.now }
+        ensures value { IsAcceptedValue Wide value.now }
+    {
+        let alloc = *self.text.allocator();
+        let inserted = self.as_ref().inserted(alloc, path, value)?;
+        Ok(inserted.text)
+    }
+
+    /// Writes another key in place of the last key of a path: bare if it can be, else as a basic string. Every other byte is
+    /// kept. After a refusal the document is as before. The document's own allocator gives the memory.
+    ///
+    /// # Errors
+    ///
+    /// The first that holds: `NotFound` if the path names no node; `Exists` if the new key names a node under the same
+    /// parent, also if it is the old key; `NotKey` if the path is the root or ends in an index; `Scattered` if not exactly one
+    /// key part names the path; else `Memory` if memory was refused.
+    pub fn rename(&mut self, path: &Path, key: &str) -> Result<Splice, EditFault>
+        ensures done { (s : tree.Document) → IsTextOfTree self.old s → EditDone s (rename path.now key.now) self.old self.new result }
+        ensures accepted { IsAccepted self.old }
+        ensures read { IsAccepted self.new }
+        ensures refused { OnErr result (self.new ≡ self.old) }
+    {
+        let alloc = *self.text.allocator();
+        let renamed = self.as_ref().renamed(alloc, path, key)?;
+        self.replaced(renamed)
+    }
+
+    /// The text that the document has after `rename`. The document stays as it is, and nothing is read anew.
+    ///
+    /// # Errors
+    ///
+    /// Those of `rename`.
+    pub fn text_renamed(&self, path: &Path, key: &str) -> Result<String, EditFault>
+        ensures told { (s : tree.Document) → IsTextOfTree self.now s → EditTold s (rename path.now key.now) self.now result }
+        ensures accepted { IsAccepted self.now }
+    {
+        let alloc = *self.text.allocator();
+        let renamed = self.as_ref().renamed(alloc, path, key)?;
+        Ok(renamed.text)
+    }
+
+    /// Removes the node of a path: a keyval with its line, of which a comment behind it stays; an item of an array, or a keyval
+    /// in braces, with one comma; a table or an element with its header and body. Every other byte is kept. After a refusal the
+    /// document is as before. The document's own allocator gives the memory.
+    ///
+    /// # Errors
+    ///
+    /// The first that holds: `NotFound` if the path names no node; `NotKey` if it is the root; `Scattered` if neither a value
+    /// nor one header with its body is the whole node, as for a table that dotted keys define, or that a header goes through;
+    /// else `Memory` if memory was refused.
+    pub fn remove(&mut self, path: &Path) -> Result<Splice, EditFault>
+        ensures done { (s : tree.Document) → IsTextOfTree self.old s → EditDone s (remove path.now) self.old self.new result }
+        ensures accepted { IsAccepted self.old }
+        ensures read { IsAccepted self.new }
+        ensures refused { OnErr result (self.new ≡ self.old) }
+    {
+        let alloc = *self.text.allocator();
+        let removed = self.as_ref().removed(alloc, path)?;
+        self.replaced(removed)
+    }
+
+    /// The text that the document has after `remove`. The document stays as it is, and nothing is read anew.
+    ///
+    /// # Errors
+    ///
+    /// Those of `remove`.
+    pub fn text_removed(&self, path: &Path) -> Result<String, EditFault>
+        ensures told { (s : tree.Document) → IsTextOfTree self.now s → EditTold s (remove path.now) self.now result }
+        ensures accepted { IsAccepted self.now }
+    {
+        let alloc = *self.text.allocator();
+        let removed = self.as_ref().removed(alloc, path)?;
+        Ok(removed.text)
+    }
+
+    /// Writes the header `[..]` of a table at the end of the text, behind a blank line. Every other byte is kept. After a refusal
+    /// the document is as before. The document's own allocator gives the memory.
+    ///
+    /// # Errors
+    ///
+    /// The first that holds: `NotKey` if there are no keys; `Conflict` with the reason if the document's key parts do not allow
+    /// one of the header's; else `Memory` if memory was refused.
+    pub fn append_table(&mut self, keys: &[String]) -> Result<Splice, EditFault>
+        ensures done { (s : tree.Document) → IsTextOfTree self.old s → EditDone s (append_table (key_texts keys.now)) self.old self.new result }
+        ensures accepted { IsAccepted self.old }
+        ensures read { IsAccepted self.new }
+        ensures refused { OnErr result (self.new ≡ self.old) }
+    {
+        let alloc = *self.text.allocator();
+        let appended = self.as_ref().appended(alloc, keys, Header::Table)?;
+        self.replaced(appended)
+    }
+
+    /// The text that the document has after `append_table`. The document stays as it is, and nothing is read anew.
+    ///
+    /// # Errors
+    ///
+    /// Those of `append_table`.
+    pub fn text_with_table(&self, keys: &[String]) -> Result<String, EditFault>
+        ensures told { (s : tree.Document) → IsTextOfTree self.now s → EditTold s (append_table (key_texts keys.now)) self.now result }
+        ensures accepted { IsAccepted self.now }
+    {
+        let alloc = *self.text.allocator();
+        Ok(self.as_ref().appended(alloc, keys, Header::Table)?.text)
+    }
+
+    /// Writes the header `[[..]]` of an element of an array of tables at the end of the text, behind a blank line. Every other
+    /// byte is kept. After a refusal the document is as before. The document's own allocator gives the memory.
+    ///
+    /// # Errors
+    ///
+    /// Those of `append_table`.
+    pub fn append_element(&mut self, keys: &[String]) -> Result<Splice, EditFault>
+        ensures done { (s : tree.Document) → IsTextOfTree self.old s → EditDone s (append_element (key_texts keys.now)) self.old self.new result }
+        ensures accepted { IsAccepted self.old }
+        ensures read { IsAccepted self.new }
+        ensures refused { OnErr result (self.new ≡ self.old) }
+    {
+        let alloc = *self.text.allocator();
+        let appended = self.as_ref().appended(alloc, keys, Header::Element)?;
+        self.replaced(appended)
+    }
+
+    /// The text that the document has after `append_element`. The document stays as it is, and nothing is read anew.
+    ///
+    /// # Errors
+    ///
+    /// Those of `append_table`.
+    pub fn text_with_element(&self, keys: &[String]) -> Result<String, EditFault>
+        ensures told { (s : tree.Document) → IsTextOfTree self.now s → EditTold s (append_element (key_texts keys.now)) self.now result }
+        ensures accepted { IsAccepted self.now }
+    {
+        let alloc = *self.text.allocator();
+        Ok(self.as_ref().appended(alloc, keys, Header::Element)?.text)
+    }
+
+    /// Reads the text that an edit gives, and moves its document in. The only error is out of memory, and then the document is
+    /// as before.
+    pub(crate) fn replaced(&mut self, edited: Edited) -> Result<Splice, EditFault>
+        requires { IsAccepted (text_in self.old.profile (string_bytes edited.text)) }
+        ensures moved { IsMovedIn edited self.old self.new result }
+        ensures read { IsAccepted self.new }
+    {
+        let Edited { text, splice } = edited;
+        let alloc = *self.text.allocator();
+        match Document::of_text(alloc, text, self.profile) {
+            Ok(document) => {
+                *self = document;
+                Ok(splice)
+            }
+            Err(fault) => Err(growth_refused(fault)),
+        }
+    }
+
+    /// The document once more, read of its text. The only error is out of memory.
+    pub(crate) fn copied(&self) -> Result<Document, EditFault>
+        ensures copy { MatchResult result (λ copy. copy ≡ self.now) (λ fault. fault ≡ law.Memory) }
+        ensures of { IsAccepted self.now }
+    {
+        let alloc = *self.text.allocator();
+        let Ok(bytes) = String::from_str(alloc, self.text.as_str()) else {
+            return Err(EditFault::Memory);
+        };
+        match Document::of_text(alloc, bytes, self.profile) {
+            Ok(document) => Ok(document),
+            Err(fault) => Err(growth_refused(fault)),
+        }
+    }
+}
+
+/// A text that is known to be a document's is refused only where memory runs out.
+fn growth_refused(fault: ReadFault) -> EditFault
+    requires { fault ≡ Memory }
+    ensures { result ≡ law.Memory }
+{
+    match fault {
+        ReadFault::Memory => EditFault::Memory,
+        _ => unreachable!(),
+    }
+}

@@ -1,0 +1,56 @@
+-- What an edit makes of a document: from where it is done, and from its law.
+use Rattle.std.proofs.Common.{◌≡◌, ℕ, List, length, sym, ap, subst, ◌∙◌, arith, Option, Result, Ok, Err, refl}
+use Rattle.std.specs.Prelude.{IsUtf8, IfOk, string_bytes}
+use Rattle.std.proofs.lemmas.Str.{IsUtf8-string_bytes}
+use Rattle.keep_syntax.specs.declared.info.Span.{Span}
+use Rattle.keep_syntax.specs.Tree.{Document}
+use Rattle.keep_syntax.specs.Grammar.{Reads}
+use Rattle.keep_law.specs.declared.fault.EditFault.{EditFault}
+use Rattle.keep_law.specs.declared.fault.EditFault.TheVariants as fault
+use Rattle.keep_law.specs.declared.splice.Splice.{Splice}
+use Rattle.keep_law.specs.Changed.{put}
+use Rattle.keep_law.specs.Edits.{Edit, place, edited_document}
+use Rattle.keep_law.specs.Laws.{IsStanding, IsLawfulEdit}
+use Rattle.keep_splice.specs.Reading.{limit, ProfiledText, text_in, IsAccepted, IsTextOfTree}
+use Rattle.keep_splice.specs.Answers.{IsEdited, IsMade, IsDone, EditMade, splice_of}
+use Rattle.keep_splice.specs.Places.{place_at, IsDoneAt, IsSplicedAt}
+use Rattle.keep_splice.specs.declared.edited.Edited.{Edited}
+
+-- a document that was read is one of which the laws speak
+pub standing : (d : ProfiledText) (s : Document) → IsTextOfTree d s → IsStanding d.profile limit s
+standing d s read = record { valid = read.reads.valid; shallow = read.reads.shallow; obeys = read.obeys }
+
+-- what an edit answers that is refused
+pub refused_made : (s : Document) (e : Edit) (old : ProfiledText) (given : List ℕ) (f : EditFault) → IsDoneAt s e old given (Err f) → EditMade s e old (Err f)
+refused_made s e old given f h = subst (λ (r : Option EditFault). IsDone (IsMade s e old) r (Err f)) (sym h) refl
+
+-- an edit that is not refused, and its law
+module _ (d : ProfiledText) (s : Document) (e : Edit) (span : Span) (given : List ℕ) (read : IsTextOfTree d s) (at : IsDoneAt s e d given (Ok span)) (law : IsLawfulEdit d.profile limit s e) where
+  -- the new text is that of the edited document
+  edited : (new : List ℕ) → IsUtf8 new → new ≡ put d.text (place_at span given) → IsEdited s e (text_in d.profile new) d (splice_of (place_at span given))
+  edited new utf8 is =
+      let put_is : new ≡ put d.text (place s e) = is ∙ ap (put d.text) (sym at.1) in
+      let reads : Reads d.profile limit new (edited_document s e) =
+      subst (λ (t : List ℕ). Reads d.profile limit t (edited_document s e)) (ap (λ (t : List ℕ). put t (place s e)) (sym read.reads.spelled) ∙ sym put_is) law.reads in (
+        ap splice_of (sym at.1),
+        record {
+          profile = refl;
+          text = put_is;
+          tree = record { utf8 = utf8; reads = reads; obeys = law.obeys };
+          changed = law.tree;
+          growth = omega (arith, law.growth, ap length reads.spelled, ap length read.reads.spelled);
+        },
+      )
+
+  pub full_made : EditMade s e d (Err fault.Memory)
+  full_made = subst (λ (r : Option EditFault). IsDone (IsMade s e d) r (Err fault.Memory)) (sym at.0) refl
+
+  pub spliced_made : (result : Result Edited EditFault) → IsSplicedAt d.text span given result → EditMade s e d result
+  spliced_made (Err f) h = subst (λ (g : EditFault). EditMade s e d (Err g)) (sym h) full_made
+  spliced_made (Ok made) (text, splice) =
+      subst (λ (r : Option EditFault). IsDone (IsMade s e d) r (Ok made)) (sym at.0)
+      (subst (λ (p : Splice). IsEdited s e (text_in d.profile (string_bytes made.text)) d p) (sym splice) (edited (string_bytes made.text) (IsUtf8-string_bytes made.text) text))
+
+  pub spliced_accepted : (result : Result Edited EditFault) → IsSplicedAt d.text span given result → IfOk result (λ made. IsAccepted (text_in d.profile (string_bytes made.text)))
+  spliced_accepted (Err f) h = tt
+  spliced_accepted (Ok made) (text, splice) = (edited_document s e, (edited (string_bytes made.text) (IsUtf8-string_bytes made.text) text).1.tree)

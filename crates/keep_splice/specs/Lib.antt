@@ -1,0 +1,11 @@
+pub mod Reading
+pub mod Answers
+pub mod Places
+pub mod Removing
+pub mod Inserting
+pub mod Holding
+pub mod Newlines
+pub mod Headers
+pub mod Writing
+pub mod Aiming
+pub mod PutLines

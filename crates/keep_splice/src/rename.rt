@@ -1,0 +1,69 @@
+//! Renaming keys.
+ghost use Rattle.std.specs.Prelude.{◌≡◌, not, ◌&&◌, string_bytes, IfOk};
+ghost use Rattle.keep_syntax.specs.Tree as tree;
+ghost use Rattle.keep_token.specs.Encoded.{encoded_key};
+ghost use Rattle.keep_meaning.specs.Nodes.{is_root};
+ghost use Rattle.keep_law.specs.Edits.{rename};
+ghost use Rattle.keep_law.specs.Refusals.{ends_in_index};
+ghost use Rattle.keep_splice.specs.Reading.{IsAccepted, IsTextOfTree, text_in};
+ghost use Rattle.keep_splice.specs.Answers.{EditMade};
+ghost use Rattle.keep_splice.specs.Places.{IsDoneAt};
+
+use crate::document::DocumentRef;
+use crate::edited::{Edited, edited_at};
+use keep_law::EditFault;
+use keep_rules::{Path, Step};
+use keep_syntax::Span;
+use keep_token::encode_key;
+use std::alloc::Global;
+
+impl<'a> DocumentRef<'a> {
+    /// The text with another key in place of the last key of a path, and where it was written.
+    ///
+    /// # Errors
+    ///
+    /// The refusal of the edit, whatever memory there is; else `Memory` if memory was refused.
+    pub fn renamed(&self, alloc: Global, path: &Path, key: &str) -> Result<Edited, EditFault>
+        ensures made { (s : tree.Document) → IsTextOfTree self.now s → EditMade s (rename path.now key.now) self.now result }
+        ensures accepted { IfOk result (λ edited. IsAccepted (text_in self.now.profile (string_bytes edited.text))) }
+        ensures of { IsAccepted self.now }
+    {
+        let text = self.text;
+        let span = self.key_to_rename(path, key)?;
+        let Ok(new) = encode_key(alloc, key) else {
+            return Err(EditFault::Memory);
+        };
+        edited_at(alloc, text, span, new.as_str())
+    }
+
+    /// Where the key stands that a new one replaces. It takes no memory.
+    fn key_to_rename(&self, path: &Path, key: &str) -> Result<Span, EditFault>
+        ensures { (s : tree.Document) → IsTextOfTree self.now s → IsDoneAt s (rename path.now key.now) self.now (encoded_key key.now) result }
+    {
+        let Some(id) = self.index.find(path) else {
+            return Err(EditFault::NotFound);
+        };
+        if !ends_in_key(path) {
+            return Err(EditFault::NotKey);
+        }
+        if self.index.sibling(path, key).is_some() {
+            return Err(EditFault::Exists);
+        }
+        let node = self.index.node(id);
+        match node.key_span {
+            Some(span) if node.marks == 1 => Ok(span),
+            _ => Err(EditFault::Scattered),
+        }
+    }
+}
+
+/// Whether a path ends in a key: it is not the root's, and does not end in an index.
+fn ends_in_key(path: &Path) -> bool
+    ensures { result ≡ (not (is_root path.now) && not (ends_in_index path.now)) }
+{
+    match path.step(path.len().saturating_sub(1)) {
+        Some(Step::Key(_)) => true,
+        Some(Step::Index(_)) => false,
+        None => false,
+    }
+}

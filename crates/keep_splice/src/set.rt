@@ -1,0 +1,41 @@
+//! Setting values.
+ghost use Rattle.std.specs.Prelude.{IfOk, string_bytes};
+ghost use Rattle.keep_token.specs.declared.leaf.Profile.TheVariants.{Wide};
+ghost use Rattle.keep_syntax.specs.Tree as tree;
+ghost use Rattle.keep_law.specs.Edits.{set};
+ghost use Rattle.keep_splice.specs.Answers.{EditMade};
+ghost use Rattle.keep_splice.specs.Reading.{IsAccepted, IsAcceptedValue, IsTextOfTree, IsTextOfValue, text_in};
+
+use crate::document::DocumentRef;
+use crate::edited::{Edited, edited_at};
+use keep_law::EditFault;
+use keep_rules::Path;
+use keep_syntax::STANDARD_DEPTH;
+use keep_value::ValueText;
+use std::alloc::Global;
+
+impl<'a> DocumentRef<'a> {
+    /// The text with a value in place of the one that stands at a path, and where it was written.
+    ///
+    /// # Errors
+    ///
+    /// The refusal of the edit, whatever memory there is; else `Memory` if memory was refused.
+    pub fn edited(&self, alloc: Global, path: &Path, value: &ValueText) -> Result<Edited, EditFault>
+        ensures made { (s : tree.Document) → IsTextOfTree self.now s → (v : tree.Value) → IsTextOfValue value.now v → EditMade s (set path.now v) self.now result }
+        ensures accepted { IfOk result (λ edited. IsAccepted (text_in self.now.profile (string_bytes edited.text))) }
+        ensures of { IsAccepted self.now }
+        ensures value { IsAcceptedValue Wide value.now }
+    {
+        let old = self.text;
+        let new = value.as_str();
+        let number = self.found(path)?;
+        let found = self.syntax.value(number);
+        if found.depth + value.depth() > STANDARD_DEPTH {
+            return Err(EditFault::TooDeep);
+        }
+        if !value.is_allowed_in(self.profile) {
+            return Err(EditFault::Profile);
+        }
+        edited_at(alloc, old, found.span, new)
+    }
+}
