@@ -1,10 +1,2 @@
-pub mod Appends
-pub mod Loses
-pub mod Parse
-pub mod Rows
-pub mod Building
 pub mod KeyLaws
-pub mod AnswerLaws
-pub mod ProfileLaws
-pub mod ListLines
 pub mod ScriptLaws

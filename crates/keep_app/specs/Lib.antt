@@ -1,12 +1,4 @@
-pub mod Answer
-pub mod Chosen
-pub mod Counted
-pub mod KeepApp
 pub mod PathWords
-pub mod Run
 pub mod Script
 pub mod Scripting
-pub mod Status
-pub mod Table
 pub mod Uses
-pub mod Wanted

@@ -1,15 +1,15 @@
 -- What the words of the command line come to.
 use Rattle.std.specs.Prelude.{◌≡◌, ◌⊎◌, ⊤, ℕ, List, [], ◌∷◌, Option, Some, None, map, string_bytes}
-use Rattle.keep_app.specs.declared.command.Command.{Command}
-use Rattle.keep_app.specs.declared.command.Command.TheVariants as command
+use Rattle.keep_run.specs.declared.command.Command.{Command}
+use Rattle.keep_run.specs.declared.command.Command.TheVariants as command
 use Rattle.keep_edit.specs.declared.edits.Edit.{Edit}
 use Rattle.keep_edit.specs.declared.edits.Edit.TheVariants as edit
-use Rattle.keep_app.specs.declared.fault.UseFault.{UseFault}
-use Rattle.keep_app.specs.declared.fault.UseFault.TheVariants as fault
-use Rattle.keep_app.specs.declared.subcommand.Ask.{Ask}
-use Rattle.keep_app.specs.declared.subcommand.Ask.TheVariants as ask
-use Rattle.keep_app.specs.declared.subcommand.Word.{Word}
-use Rattle.keep_app.specs.declared.subcommand.Word.TheVariants as word
+use Rattle.keep_words.specs.declared.fault.UseFault.{UseFault}
+use Rattle.keep_words.specs.declared.fault.UseFault.TheVariants as fault
+use Rattle.keep_words.specs.declared.subcommand.Ask.{Ask}
+use Rattle.keep_words.specs.declared.subcommand.Ask.TheVariants as ask
+use Rattle.keep_words.specs.declared.subcommand.Word.{Word}
+use Rattle.keep_words.specs.declared.subcommand.Word.TheVariants as word
 use Rattle.keep_token.specs.declared.leaf.Profile.TheVariants.{Strict, Wide}
 use Rattle.keep_path.specs.Path.{Part, key, index}
 use Rattle.keep_path.specs.PathText.{FirstIndex, IsPathText}
@@ -18,7 +18,7 @@ use Rattle.keep_edit.specs.Headers.{key_texts}
 use Rattle.keep_edit.specs.Reading.{limit, IsAcceptedValue}
 pub use Rattle.keep_app.specs.PathWords.{IsKeysText, IsPath}
 use Rattle.keep_app.specs.Script.{IsScript, IsScriptFault}
-use Rattle.keep_app.specs.Wanted.{Wanted}
+use Rattle.keep_words.specs.Wanted.{Wanted}
 
 -- ---- one word
 
@@ -133,19 +133,18 @@ abbrev pub IsApplied : Edit → Command → Type 0
 IsApplied e (command.Apply edits) = edits.items ≡ e ∷ []
 IsApplied e _ = ⊥
 
--- ---- the profile of a command's values
-
--- the edit gives no value but of Strict's grammar
-abbrev pub IsStrictEdit : Edit → Type 0
-IsStrictEdit (edit.Set path value) = IsAcceptedValue Strict value
-IsStrictEdit (edit.Insert path value) = IsAcceptedValue Strict value
-IsStrictEdit _ = ⊤
-
-abbrev pub AreStrict : List Edit → Type 0
-AreStrict [] = ⊤
-AreStrict (e ∷ es) = IsStrictEdit e × AreStrict es
-
--- Its values are of the profile that it reads the document in. (Wide has all values.)
-abbrev pub HasOwnValues : Command → Type 0
-HasOwnValues (command.Apply edits) = AreStrict edits.items
-HasOwnValues _ = ⊤
+-- what the words of a subcommand are, by what it asks
+abbrev pub kinds_of : Ask → List Word
+kinds_of ask.Check = []
+kinds_of ask.CheckWide = []
+kinds_of ask.List = []
+kinds_of ask.Get = word.Path ∷ []
+kinds_of ask.Text = word.Path ∷ []
+kinds_of ask.Set = word.Path ∷ word.Value ∷ []
+kinds_of ask.Insert = word.Path ∷ word.Value ∷ []
+kinds_of ask.Rename = word.Path ∷ word.Key ∷ []
+kinds_of ask.Remove = word.Path ∷ []
+kinds_of ask.Table = word.Keys ∷ []
+kinds_of ask.Element = word.Keys ∷ []
+kinds_of ask.Apply = word.Script ∷ []
+kinds_of ask.ApplyWide = word.WideScript ∷ []

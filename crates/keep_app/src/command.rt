@@ -1,37 +1,18 @@
-//! The commands, and the words that ask for them.
-ghost use Rattle.std.specs.Prelude.{◌≡◌, ◌⊎◌, ◌∷◌, [], true, Some, IfOk, MatchResult, map, option_map, slice_get, string_bytes};
-ghost use Rattle.keep_app.specs.declared.subcommand.Word.TheVariants as Word;
-ghost use Rattle.keep_app.specs.Chosen.{wanted_of_chosen};
+//! The words that ask for commands.
+ghost use Rattle.std.specs.Prelude.{◌≡◌, ◌⊎◌, ◌∷◌, [], true, Some, IfOk, MatchResult, length, map, option_map, slice_get, string_bytes};
+ghost use Rattle.keep_words.specs.declared.subcommand.Word.TheVariants as Word;
+ghost use Rattle.keep_words.specs.Chosen.{wanted_of_chosen};
 ghost use Rattle.keep_path.specs.Path.{key};
 ghost use Rattle.keep_path.specs.PathText.{AreKeys, IsPathText};
-ghost use Rattle.keep_app.specs.Uses.{key_in, Asks, HasOwnValues, IsApplied, IsCommand, IsKeysFault, IsKeysText, IsWordFault, IsGivenValue, IsPathFault, IsUseFault, IsValueFault};
-ghost use Rattle.keep_app.specs.Wanted.{IsWhole, has_plain_words, wanted_of};
+ghost use Rattle.keep_run.specs.OwnValues.{HasOwnValues};
+ghost use Rattle.keep_app.specs.Uses.{key_in, kinds_of, Asks, IsApplied, IsCommand, IsKeysFault, IsKeysText, IsWordFault, IsGivenValue, IsPathFault, IsUseFault, IsValueFault};
+ghost use Rattle.keep_words.specs.Wanted.{IsWhole, has_plain_words, wanted_of};
 
-use crate::fault::UseFault;
 use crate::script::script_of;
-use crate::subcommand::Ask;
-use crate::words::{Chosen, chosen_of};
 use keep_edit::{Edit, Path, PathFault, Profile, ReadFault, Step, ValueText};
+use keep_run::command::Command;
+use keep_words::{Ask, Chosen, UseFault, chosen_of};
 use std::alloc::{AllocError, Global};
-
-/// What the program is asked.
-#[derive(Debug, Drop)]
-pub enum Command {
-    /// Whether the input is a document, and how large.
-    Check,
-    /// The same in the profile Wide.
-    CheckWide,
-    /// All nodes but the root, with their kinds.
-    List,
-    /// The text of the value at a path, as it is written.
-    Get(Path),
-    /// What the string at a path means.
-    Text(Path),
-    /// The document after these edits, in order.
-    Apply(Vec<Edit>),
-    /// The same in the profile Wide.
-    ApplyWide(Vec<Edit>),
-}
 
 /// The command that the words ask for. The first word is the program's name.
 ///
@@ -49,42 +30,53 @@ pub fn command_of(alloc: Global, words: &[String]) -> Result<Command, UseFault>
     command_from(alloc, &chosen)
 }
 
-// The arms read the words from left to right, as the table has them.
 fn command_from(alloc: Global, chosen: &Chosen) -> Result<Command, UseFault>
     requires { IsWhole (wanted_of_chosen chosen.now) }
     ensures asked { MatchResult result (Asks (Some (wanted_of_chosen chosen.now)))
         (λ fault. (fault ≡ UseFault.Memory) ⊎ IsUseFault (Some (wanted_of_chosen chosen.now)) fault) }
     ensures values { IfOk result HasOwnValues }
 {
-    let words = chosen.words.as_slice();
-    match chosen.row.1 {
+    command_by(alloc, chosen.row.1, chosen.words.as_slice())
+}
+
+// The command of a subcommand and its words, which are as many as it has.
+fn command_by(alloc: Global, ask: Ask, words: &[String]) -> Result<Command, UseFault>
+    requires { length words.now ≡ length (kinds_of ask) }
+    ensures asked { MatchResult result (IsCommand ask (map string_bytes words.now))
+        (λ fault. (fault ≡ UseFault.Memory) ⊎ IsWordFault (kinds_of ask) (map string_bytes words.now) fault) }
+    ensures values { IfOk result HasOwnValues }
+{
+    match ask {
         Ask::Check => Ok(Command::Check),
         Ask::CheckWide => Ok(Command::CheckWide),
         Ask::List => Ok(Command::List),
-        Ask::Get => Ok(Command::Get(path_of(alloc, words[0].as_str())?)),
-        Ask::Text => Ok(Command::Text(path_of(alloc, words[0].as_str())?)),
+        Ask::Get => get_of(alloc, words[0].as_str()),
+        Ask::Text => text_of(alloc, words[0].as_str()),
         Ask::Set => set_of(alloc, words[0].as_str(), words[1].as_str()),
         Ask::Insert => insert_of(alloc, words[0].as_str(), words[1].as_str()),
-        Ask::Rename => {
-            let path = path_of(alloc, words[0].as_str())?;
-            let key = key_of(alloc, words[1].as_str())?;
-            one_edit(alloc, Edit::Rename(path, key))
-        }
-        Ask::Remove => {
-            let path = path_of(alloc, words[0].as_str())?;
-            one_edit(alloc, Edit::Remove(path))
-        }
-        Ask::Table => {
-            let keys = keys_of(alloc, words[0].as_str())?;
-            one_edit(alloc, Edit::Table(keys))
-        }
-        Ask::Element => {
-            let keys = keys_of(alloc, words[0].as_str())?;
-            one_edit(alloc, Edit::Element(keys))
-        }
+        Ask::Rename => rename_of(alloc, words[0].as_str(), words[1].as_str()),
+        Ask::Remove => remove_of(alloc, words[0].as_str()),
+        Ask::Table => table_of(alloc, words[0].as_str()),
+        Ask::Element => element_of(alloc, words[0].as_str()),
         Ask::Apply => apply_of(alloc, words[0].as_str()),
         Ask::ApplyWide => apply_wide_of(alloc, words[0].as_str()),
     }
+}
+
+fn get_of(alloc: Global, path: &str) -> Result<Command, UseFault>
+    ensures asked { MatchResult result (IsCommand Ask.Get (path.now ∷ []))
+        (λ fault. (fault ≡ UseFault.Memory) ⊎ IsWordFault (Word.Path ∷ []) (path.now ∷ []) fault) }
+    ensures values { IfOk result HasOwnValues }
+{
+    Ok(Command::Get(path_of(alloc, path)?))
+}
+
+fn text_of(alloc: Global, path: &str) -> Result<Command, UseFault>
+    ensures asked { MatchResult result (IsCommand Ask.Text (path.now ∷ []))
+        (λ fault. (fault ≡ UseFault.Memory) ⊎ IsWordFault (Word.Path ∷ []) (path.now ∷ []) fault) }
+    ensures values { IfOk result HasOwnValues }
+{
+    Ok(Command::Text(path_of(alloc, path)?))
 }
 
 fn set_of(alloc: Global, path: &str, value: &str) -> Result<Command, UseFault>
@@ -105,6 +97,43 @@ fn insert_of(alloc: Global, path: &str, value: &str) -> Result<Command, UseFault
     let path = path_of(alloc, path)?;
     let value = value_of(alloc, value)?;
     one_edit(alloc, Edit::Insert(path, value))
+}
+
+fn rename_of(alloc: Global, path: &str, key: &str) -> Result<Command, UseFault>
+    ensures asked { MatchResult result (IsCommand Ask.Rename (path.now ∷ key.now ∷ []))
+        (λ fault. (fault ≡ UseFault.Memory) ⊎ IsWordFault (Word.Path ∷ Word.Key ∷ []) (path.now ∷ key.now ∷ []) fault) }
+    ensures values { IfOk result HasOwnValues }
+{
+    let from = path_of(alloc, path)?;
+    let key = key_of(alloc, key)?;
+    one_edit(alloc, Edit::Rename(from, key))
+}
+
+fn remove_of(alloc: Global, path: &str) -> Result<Command, UseFault>
+    ensures asked { MatchResult result (IsCommand Ask.Remove (path.now ∷ []))
+        (λ fault. (fault ≡ UseFault.Memory) ⊎ IsWordFault (Word.Path ∷ []) (path.now ∷ []) fault) }
+    ensures values { IfOk result HasOwnValues }
+{
+    let path = path_of(alloc, path)?;
+    one_edit(alloc, Edit::Remove(path))
+}
+
+fn table_of(alloc: Global, keys: &str) -> Result<Command, UseFault>
+    ensures asked { MatchResult result (IsCommand Ask.Table (keys.now ∷ []))
+        (λ fault. (fault ≡ UseFault.Memory) ⊎ IsWordFault (Word.Keys ∷ []) (keys.now ∷ []) fault) }
+    ensures values { IfOk result HasOwnValues }
+{
+    let keys = keys_of(alloc, keys)?;
+    one_edit(alloc, Edit::Table(keys))
+}
+
+fn element_of(alloc: Global, keys: &str) -> Result<Command, UseFault>
+    ensures asked { MatchResult result (IsCommand Ask.Element (keys.now ∷ []))
+        (λ fault. (fault ≡ UseFault.Memory) ⊎ IsWordFault (Word.Keys ∷ []) (keys.now ∷ []) fault) }
+    ensures values { IfOk result HasOwnValues }
+{
+    let keys = keys_of(alloc, keys)?;
+    one_edit(alloc, Edit::Element(keys))
 }
 
 fn apply_of(alloc: Global, script: &str) -> Result<Command, UseFault>

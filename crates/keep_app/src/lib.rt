@@ -1,13 +1,14 @@
-//! The library of the program: its commands, the answers to them, and the run from an input to an output.
+//! From words to a command: what the words of the command line ask for, and the edits of scripts. It offers what the
+//! program needs of the crates below.
 #![tactic(auto)]
 
-pub mod answer;
-pub mod command;
-pub mod counted;
-pub mod fault;
-pub mod given;
-mod help;
-pub mod run;
-pub mod script;
-mod subcommand;
-mod words;
+mod command;
+mod script;
+
+pub use command::command_of;
+pub use keep_run::command::Command;
+pub use keep_run::counted::Counted;
+pub use keep_run::fault::RunFault;
+pub use keep_run::run::{Done, run};
+pub use keep_words::{EntryWhy, GivenFault, UseFault, given_words};
+pub use script::script_of;

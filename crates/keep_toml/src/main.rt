@@ -1,11 +1,7 @@
 //! Reads a TOML document from standard input, and answers on standard output.
 #![tactic(auto)]
 
-use keep_app::command::{Command, command_of};
-use keep_app::counted::Counted;
-use keep_app::fault::{RunFault, UseFault};
-use keep_app::given::{GivenFault, given_words};
-use keep_app::run;
+use keep_app::{Command, Counted, GivenFault, RunFault, UseFault, command_of, given_words, run};
 use std::io;
 use std::io::Write;
 use std::process::ExitCode;
@@ -45,7 +41,7 @@ fn refused(rt: &HostRuntime, fault: &UseFault) -> io::Result<u8> {
 fn answered(rt: &HostRuntime, command: &Command) -> io::Result<u8> {
     let mut input = Counted::new(rt.stdin());
     let mut output = Counted::new(rt.stdout());
-    let fault = match run::run(rt.alloc(), command, &mut input, &mut output) {
+    let fault = match run(rt.alloc(), command, &mut input, &mut output) {
         Ok(done) => match output.into_inner().flush() {
             Ok(()) => return Ok(0),
             Err(_) => RunFault::Write {

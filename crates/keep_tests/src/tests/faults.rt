@@ -1,6 +1,5 @@
 //! Faults that no row over the program meets: those of later edits than the first, and of no words at all.
-use keep_app::command::command_of;
-use keep_app::fault::{RunFault, UseFault};
+use keep_app::{RunFault, UseFault, command_of};
 use keep_edit::{EditFault, Why};
 use std::alloc::Global;
 use std::test::Fail;

@@ -1,5 +1,5 @@
 //! The words of a command line that a fake environment gives.
-use keep_app::given::{GivenFault, given_words};
+use keep_app::{GivenFault, given_words};
 use std::env::{Env, FillError};
 use std::test::Fail;
 

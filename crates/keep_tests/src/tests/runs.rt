@@ -1,10 +1,7 @@
 //! Runs over readers and writers that answer little at a time, fail, or never end. tests/rows shows the answers.
-ghost use Rattle.keep_app.specs.Counted.{IsFresh};
+ghost use Rattle.keep_run.specs.Counted.{IsFresh};
 
-use keep_app::command::Command;
-use keep_app::counted::Counted;
-use keep_app::fault::RunFault;
-use keep_app::run::{Done, run};
+use keep_app::{Command, Counted, Done, RunFault, run};
 use keep_edit::{Edit, Path, ValueText};
 use std::alloc::Global;
 use std::io;

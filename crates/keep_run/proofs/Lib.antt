@@ -1,0 +1,5 @@
+pub mod Appends
+pub mod Loses
+pub mod AnswerLaws
+pub mod ProfileLaws
+pub mod ListLines

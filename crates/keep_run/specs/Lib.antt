@@ -1,0 +1,5 @@
+pub mod Answer
+pub mod Counted
+pub mod OwnValues
+pub mod Run
+pub mod Status

@@ -1,0 +1,183 @@
+//! The answer to a command.
+ghost use Rattle.std.specs.Prelude.{◌≡◌, ◌⊎◌, ◌++◌, codes, IfOk, MatchResult, OnOk, string_bytes};
+ghost use Rattle.keep_syntax.specs.Tree as tree;
+ghost use Rattle.keep_edit.specs.Answers.{entries_of};
+ghost use Rattle.keep_edit.specs.Reading.{IsAccepted, IsTextOfTree, text_in};
+ghost use Rattle.keep_run.specs.Answer.{counts_line, kind_word, lines_of, profile_of, AppliesTo, IsRefusal, IsText};
+ghost use Rattle.keep_run.specs.Answer as spec;
+
+use crate::command::Command;
+use crate::fault::RunFault;
+use keep_edit::{Counts, Document, Edit, EditFault, Kind, Path, Profile, ReadFault};
+use std::alloc::{AllocError, Global};
+use std::mem;
+
+fn counts_text(alloc: Global, counts: Counts) -> Result<String, AllocError>
+    ensures { IfOk result (λ text. string_bytes text ≡ counts_line counts) }
+{
+    format!(in alloc; "ok tokens={} nodes={}\n", counts.tokens, counts.nodes)
+}
+
+fn line_of(alloc: Global, value: &str) -> Result<String, AllocError>
+    ensures { IfOk result (λ text. string_bytes text ≡ value.now ++ codes "\n") }
+{
+    let mut text = String::with_capacity(alloc, value.len().saturating_add(1))?;
+    text.push_str(value)?;
+    text.push_str("\n")?;
+    Ok(text)
+}
+
+// The word of a kind.
+fn word_of(kind: Kind) -> &'static str
+    ensures { result.now ≡ kind_word kind }
+{
+    match kind {
+        Kind::Str => "string",
+        Kind::Integer => "integer",
+        Kind::Float => "float",
+        Kind::Boolean => "boolean",
+        Kind::OffsetDateTime => "offset-date-time",
+        Kind::LocalDateTime => "local-date-time",
+        Kind::LocalDate => "local-date",
+        Kind::LocalTime => "local-time",
+        Kind::Array => "array",
+        Kind::Inline => "inline-table",
+        Kind::Table => "table",
+        Kind::Tables => "array-of-tables",
+    }
+}
+
+// The lines of all nodes but the root. Each path is written straight into the text: an owned path for each node would take far
+// more memory than the text does.
+fn list_text(alloc: Global, document: &Document) -> Result<String, AllocError>
+    ensures lines { (s : tree.Document) → IsTextOfTree document.now s → IfOk result (λ text. string_bytes text ≡ lines_of (entries_of s)) }
+    ensures accepted { IsAccepted document.now }
+{
+    let mut text = String::new(alloc);
+    for number in 0..document.counts().nodes {
+        let Some(kind) = document.push_entry_path(number, &mut text)? else {
+            return Ok(text);
+        };
+        push_kind(&mut text, kind)?;
+    }
+    Ok(text)
+}
+
+// What stands behind the path in a node's line.
+fn push_kind(text: &mut String, kind: Kind) -> Result<(), AllocError>
+    ensures { OnOk result (string_bytes text.new ≡ string_bytes text.old ++ (codes "\t" ++ (kind_word kind ++ codes "\n"))) }
+{
+    text.push_str("\t")?;
+    text.push_str(word_of(kind))?;
+    text.push_str("\n")
+}
+
+fn of_read(fault: ReadFault) -> RunFault
+    ensures { result ≡ spec.of_read fault }
+{
+    match fault {
+        ReadFault::Memory => RunFault::Memory,
+        fault => RunFault::Document(fault),
+    }
+}
+
+fn of_edit(index: usize, fault: EditFault) -> RunFault
+    ensures { result ≡ spec.of_edit index fault }
+{
+    match fault {
+        EditFault::Memory => RunFault::Memory,
+        fault => RunFault::Edit { index, fault },
+    }
+}
+
+fn checked(alloc: Global, document: &Document) -> Result<String, RunFault>
+    ensures check { MatchResult result (λ text. IsText Command.Check document.now (string_bytes text)) (λ fault. fault ≡ RunFault.Memory) }
+    ensures wide { IfOk result (λ text. IsText Command.CheckWide document.now (string_bytes text)) }
+{
+    Ok(counts_text(alloc, document.counts())?)
+}
+
+fn listed(alloc: Global, document: &Document) -> Result<String, RunFault>
+    ensures { MatchResult result (λ text. IsText Command.List document.now (string_bytes text)) (λ fault. fault ≡ RunFault.Memory) }
+{
+    Ok(list_text(alloc, document)?)
+}
+
+fn got(alloc: Global, document: &Document, path: &Path) -> Result<String, RunFault>
+    ensures { MatchResult result (λ text. IsText (Command.Get path.now) document.now (string_bytes text))
+        (λ fault. (fault ≡ RunFault.Memory) ⊎ IsRefusal (Command.Get path.now) document.now fault) }
+{
+    match document.get(path) {
+        Ok(value) => Ok(line_of(alloc, value)?),
+        Err(fault) => Err(of_edit(0, fault)),
+    }
+}
+
+fn meant(alloc: Global, document: &Document, path: &Path) -> Result<String, RunFault>
+    ensures { MatchResult result (λ text. IsText (Command.Text path.now) document.now (string_bytes text))
+        (λ fault. (fault ≡ RunFault.Memory) ⊎ IsRefusal (Command.Text path.now) document.now fault) }
+{
+    match document.str_value(alloc, path)? {
+        Some(text) => Ok(text),
+        None if document.kind(path).is_none() => Err(of_edit(0, EditFault::NotFound)),
+        None => Err(of_edit(0, EditFault::NotValue)),
+    }
+}
+
+// The text after the edits in order, or the first refusal. Nothing is asked of the document behind the last of them, so that
+// one gives its text alone, and the text is not read once more.
+fn applied(document: Document, edits: &[Edit]) -> Result<String, RunFault>
+    ensures { (s : tree.Document) → IsTextOfTree document s
+        → MatchResult result (λ text. AppliesTo document.profile edits.now s (string_bytes text)) (spec.Refused document.profile edits.now s) }
+{
+    if edits.is_empty() {
+        return Ok(document.into_text());
+    }
+    let last = edits.len() - 1;
+    let mut changed = document;
+    for index in 0..last {
+        match changed.apply(&edits[index]) {
+            Ok(_) => {}
+            Err(fault) => return Err(of_edit(index, fault)),
+        }
+    }
+    let text = changed.text_applied(&edits[last]);
+    // As in `answer`: the program ends with its answer.
+    mem::forget(changed);
+    match text {
+        Ok(text) => Ok(text),
+        Err(fault) => Err(of_edit(last, fault)),
+    }
+}
+
+// The profile that a command reads the document in.
+fn profile_for(command: &Command) -> Profile
+    ensures { result ≡ profile_of command.now }
+{
+    match command {
+        Command::CheckWide | Command::ApplyWide(_) => Profile::Wide,
+        _ => Profile::Strict,
+    }
+}
+
+/// What the program writes for a command and the bytes of its input.
+pub fn answer(alloc: Global, command: &Command, bytes: Vec<u8>) -> Result<String, RunFault>
+    ensures { MatchResult result (λ text. IsText command.now (text_in (profile_of command.now) bytes.items) (string_bytes text))
+        (λ fault. (fault ≡ RunFault.Memory) ⊎ IsRefusal command.now (text_in (profile_of command.now) bytes.items) fault) }
+{
+    let document = match Document::read_owned_in(alloc, bytes, profile_for(command)) {
+        Ok(document) => document,
+        Err(fault) => return Err(of_read(fault)),
+    };
+    let answer = match command {
+        Command::Check | Command::CheckWide => checked(alloc, &document),
+        Command::List => listed(alloc, &document),
+        Command::Get(path) => got(alloc, &document, path),
+        Command::Text(path) => meant(alloc, &document, path),
+        Command::Apply(edits) => return applied(document, edits.as_slice()),
+        Command::ApplyWide(edits) => return applied(document, edits.as_slice()),
+    };
+    // The program ends with its answer: to take the document apart piece by piece would only cost time.
+    mem::forget(document);
+    answer
+}

@@ -1,0 +1,7 @@
+use Rattle.clap.specs.Words.{app_of}
+use Rattle.keep_words.specs.Table.{first_row, row_of, table}
+use Rattle.keep_words.proofs.Building.{row_added}
+use Rattle.keep_words.proofs.words.keep_command.Goals as goal
+
+pub loop-number-preserved : goal.loop-number-preserved
+loop-number-preserved c = row_added table c.loop-number.number first_row (row_of c.row_at.result) (app_of c.loop-number.command) (app_of c.in_ok-command-2.command) c.loop-number-test.true c.row_at.ensures c.loop-number.invariant c.in_ok-command-2.ensures

@@ -1,0 +1,5 @@
+pub mod App
+pub mod Chosen
+pub mod Status
+pub mod Table
+pub mod Wanted
