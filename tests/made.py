@@ -1,23 +1,11 @@
 """Rows that are made rather than written down: large documents, whose answers follow from how they are made."""
-from dataclasses import dataclass
+from ask import Row
 
 LIMIT = 16_777_216
 # So many arrays and inline tables may enclose one another.
 DEPTH = 128
 # From so many on, what is kept of a text does not fit into 16 bits.
 MANY = 65_536
-
-
-@dataclass
-class Row:
-    """What the program is given, and what is wanted of it."""
-
-    name: str
-    words: list
-    given: bytes = b""
-    status: int = 0
-    output: bytes = b""
-    error: bytes = b""
 
 
 def large_rows():
