@@ -18,11 +18,21 @@ def large_rows():
     elements = b"[[a]]\n" * 10_000
     yield Row("10,000 elements", [b"check"], elements, 0, b"ok tokens=40001 nodes=10002\n")
     keys = b"".join(b"k%d = 1\n" % it for it in range(10_000))
-    yield Row("10,000 keys", [b"check"], keys, 0, b"ok tokens=60001 nodes=10001\n")
     yield Row("the last of 10,000 keys", [b"set", b"k9999", b"2"], keys, 0, keys[:-2] + b"2\n")
-    twice = b"keep-toml: definition at 6: DuplicateKey"
-    yield Row("10,000 times one key", [b"check"], b"a = 1\n" * 10_000, 1, b"", twice)
+    yield from hostile_rows()
     yield from wide_rows()
+
+
+def hostile_rows():
+    """Documents that are made to cost much, in both profiles."""
+    for check in (b"check", b"check-wide"):
+        brackets, braces = b"a = " + b"[" * 1_000_000, b"a = " + b"{a=" * 1_000
+        yield Row("a million brackets", [check], brackets, 1, b"", b"keep-toml: too deep at %d" % (4 + DEPTH))
+        yield Row("a thousand open braces", [check], braces, 1, b"", b"keep-toml: too deep at %d" % (4 + 3 * DEPTH))
+        twice = b"keep-toml: definition at 6: DuplicateKey"
+        yield Row("10,000 times one key", [check], b"a = 1\n" * 10_000, 1, b"", twice)
+        keys = b"".join(b"k%d = 1\n" % it for it in range(10_000))
+        yield Row("10,000 keys", [check], keys, 0, b"ok tokens=60001 nodes=10001\n")
 
 
 def wide_rows():
