@@ -1,7 +1,7 @@
 """How the tests ask the programs that were built: the program itself by words and an input, and keep_rows by rows.
 
-In a cell of a file of rows \\n, \\r, \\t and \\\\ stand for those bytes, \\xHH for a byte by two hexadecimal digits, and
-\\e for nothing (an empty word).
+In a cell of a file of rows \\n, \\r, \\t and \\\\ stand for those bytes, \\xHH for a byte by two hexadecimal digits,
+and \\e for nothing (an empty word).
 """
 import os
 import re

@@ -3,14 +3,15 @@
 
     tests/changed.py KEEP_TOML KEEP_ROWS
 
-Each text of documents.tsv is cut after every byte, and in each every byte in turn is changed to 00, 0D, 22, 5B and FF. The
-program reads each of these texts in both profiles: it is accepted, or it is refused with a named fault at a place of the
-text. The verdict in the strict profile is that of Python's own reader; what is accepted there is accepted in the wide one too.
+Each text of documents.tsv is cut after every byte, and in each every byte in turn is changed to 00, 0D, 22, 5B and
+FF. The program reads each of these texts in both profiles: it is accepted, or it is refused with a named fault at a
+place of the text. The verdict in the strict profile is that of Python's own reader; what is accepted there is
+accepted in the wide one too.
 
-keep_rows tells more of each text that is accepted, in the profile that accepted it: its tokens joined are the text, tokens
-and nodes are no more than its bytes and one, `list` and `get` agree with Python's reader. Then the six edits are made at each
-path of `list`: an edit is refused or not as the definitions say, it keeps the other bytes, and the same is asked of its result.
-The program makes the edits in the strict profile too, and answers the same.
+keep_rows tells more of each text that is accepted, in the profile that accepted it: its tokens joined are the text,
+tokens and nodes are no more than its bytes and one, `list` and `get` agree with Python's reader. Then the six edits
+are made at each path of `list`: an edit is refused or not as the definitions say, it keeps the other bytes, and the
+same is asked of its result. The program makes the edits in the strict profile too, and answers the same.
 """
 import re
 import sys
@@ -124,8 +125,8 @@ def tokens_failure(text, count, found):
 def values_of(keep_rows, profile, looked):
     """Documents with their values, and what is wrong with these; `looked` has texts and their kinds."""
     group = GROUPS[profile][0]
-    asked = [(group, word, text, path.encode()) for text, kinds in looked for path in kinds for word in (b"get", b"string")]
-    found = iter(answers(keep_rows, asked))
+    paths = [(text, path.encode()) for text, kinds in looked for path in kinds]
+    found = iter(answers(keep_rows, [(group, word, *it) for it in paths for word in (b"get", b"string")]))
     for text, kinds in looked:
         document, whys = Document(text, kinds, {}), []
         for path in kinds:
@@ -141,7 +142,8 @@ def looked_at(keep_rows, profile, texts):
     asked = [list(facts_questions(text, profile)) for text in texts]
     found = answers(keep_rows, [it for questions in asked for it in questions])
     facts = [facts_of(text, found[4 * number : 4 * number + 4]) for number, text in enumerate(texts)]
-    with_values = values_of(keep_rows, profile, [(text, kinds) for text, (kinds, _) in zip(texts, facts) if kinds is not None])
+    accepted = [(text, kinds) for text, (kinds, _) in zip(texts, facts) if kinds is not None]
+    with_values = values_of(keep_rows, profile, accepted)
     for kinds, why in facts:
         document, other = (None, None) if kinds is None else next(with_values)
         if document and profile == "strict":
@@ -179,7 +181,7 @@ def length_of(document, path):
 
 
 def outcome_of(document, found):
-    """The outcome of an edit, the place where the text was changed, and the text behind it, as keep_rows prints them."""
+    """The outcome of an edit, the place where the text was changed, and the text after it, as keep_rows prints them."""
     line, _, text = found.partition(b"\n")
     place = re.fullmatch(rb"(\d+) (\d+) (\d+)", line)
     return (MADE, [int(it) for it in place.groups()], text) if place else (line.decode(), None, text)
@@ -210,7 +212,8 @@ def program_edit_failure(keep_toml, document, edit, text):
     words = [it.encode() for it in (edit.op, edit.path, *([edit.word] if edit.word else []))]
     ran = answer(keep_toml, words, document.text)
     wanted = (0, text) if text is not None else (1, b"")
-    return None if (ran.returncode, ran.stdout) == wanted else f"the program: {ran.returncode} {ran.stdout} {ran.stderr}"
+    is_well = (ran.returncode, ran.stdout) == wanted
+    return None if is_well else f"the program: {ran.returncode} {ran.stdout} {ran.stderr}"
 
 
 def edits_failures(keep_toml, keep_rows, profile, document):

@@ -1,6 +1,7 @@
 """What holds of every document and of every edit, by the definitions. Each law answers what is wrong, or None.
 
-A document is known here by its text, by what `list` and `get` print, and by the tree that Python's own reader has of it.
+A document is known here by its text, by what `list` and `get` print, and by the tree that Python's own reader has of
+it.
 """
 import copy
 import re

@@ -7,15 +7,16 @@ from reader import BYTE_ORDER_MARK, read
 HERE = Path(__file__).resolve().parent
 # What is put somewhere into a text.
 PIECES = [
-    *(b"[", b"]", b"[[", b"]]", b"{", b"}", b"=", b".", b",", b"#", b'"', b"'", b'"""', b"'''", b"\\", b"\n", b"\r\n", b"\r"),
-    *(b" ", b"\t", b"\x00", b"\x7f", b"\xff", b"\xc3\xa9", b"\xef\xbb\xbf", b"0", b"1_0", b"-", b"+", b"e", b":", b"T", b"Z"),
-    *(b" # c\n", b"a", b"b", b'"a"', b"a.b", b"a = 1\n", b"b.c = [1, 2,]\n", b"[a]\n", b"[a.b]\n", b"[[a]]\n", b"[[a.b]]\n"),
-    *(b"c = { x = 1, y.z = 'z' } # c\n", b"d = [ # c\n 1, {k = 2}\n]\n", b's = """\na\\\n  b"""\n', b"t = 07:32:00.5\n", b"\\u00e9"),
+    *(b"[", b"]", b"[[", b"]]", b"{", b"}", b"=", b".", b",", b"#", b'"', b"'", b'"""', b"'''", b"\\", b"\\u00e9"),
+    *(b"\n", b"\r\n", b"\r", b" ", b"\t", b"\x00", b"\x7f", b"\xff", b"\xc3\xa9", b"\xef\xbb\xbf", b" # c\n"),
+    *(b"0", b"1_0", b"-", b"+", b"e", b":", b"T", b"Z", b"a", b"b", b'"a"', b"a.b", b"a = 1\n", b"b.c = [1, 2,]\n"),
+    *(b"[a]\n", b"[a.b]\n", b"[[a]]\n", b"[[a.b]]\n", b"c = { x = 1, y.z = 'z' } # c\n"),
+    *(b"d = [ # c\n 1, {k = 2}\n]\n", b's = """\na\\\n  b"""\n', b"t = 07:32:00.5\n"),
 ]
 
 
 def seeds():
-    """What documents are made of, in two lists: the small texts of documents.tsv, and what is accepted of the rows' inputs."""
+    """What documents are made of: the small texts of documents.tsv, and the inputs of rows that are accepted."""
     small = [plain(text) for _, (_, text) in cells_of(HERE / "documents.tsv")]
     given = {plain(cells[2]) for _, cells in cells_of(HERE / "model_cases.tsv")}
     for file in (HERE / "rows").glob("*.tsv"):

@@ -3,9 +3,9 @@
 
     tests/planted.py KEEP_TOML
 
-The program of tests/wrong is wrong in one way that its environment names. It stands in the place of KEEP_TOML, and a test has
-to fail over it, in a few seconds. ./fuzz also has to keep the document, over which it then fails again, but not over the
-right program.
+The program of tests/wrong is wrong in one way that its environment names. It stands in the place of KEEP_TOML, and a
+test has to fail over it, in a few seconds. ./fuzz also has to keep the document, over which it then fails again, but
+not over the right program.
 """
 import os
 import subprocess
@@ -21,7 +21,8 @@ from ask import Count, failure, in_parallel
 HERE = Path(__file__).resolve().parent
 WRONG = str(HERE / "wrong")
 FUZZ = str(HERE.parent / "fuzz")
-SECONDS = "10"
+# (a worker stops at the first fault, so this is for slow machines)
+SECONDS = "30"
 FOUND_BY_FUZZ = """
     always_out_of_memory accepts_all counts_too_much forgets_the_last_entry has_other_kinds has_other_values
     has_other_strings makes_no_edit drops_gaps drops_comments drops_the_last_newline removes_a_line_more

@@ -1,8 +1,9 @@
 """Python's own reader of TOML v1.0.0, as a second opinion on documents of the strict profile.
 
-A tree is a dict for a table, a list for an array, and for a scalar a pair of its kind, in the words of `list`, and what it
-means. Some choices of this project (docs/DECISIONS.md) are not tomllib's: they are made here (a byte order mark is taken
-off, an integer has 64 bits), or there is no opinion (second 60, year 0000, depth). tomllib reads CR LF in a string as LF.
+A tree is a dict for a table, a list for an array, and for a scalar a pair of its kind, in the words of `list`, and
+what it means. Some choices of this project (docs/DECISIONS.md) are not tomllib's: they are made here (a byte order
+mark is taken off, an integer has 64 bits), or there is no opinion (second 60, year 0000, depth). tomllib reads CR LF
+in a string as LF.
 """
 import datetime
 import json
@@ -50,7 +51,7 @@ def parsed(text):
 
 
 def with_other_times(text):
-    """The text with seconds and years that tomllib takes in the place of second 60 and year 0000, which is a leap year."""
+    """The text with second 59 for second 60, and for the leap year 0000 another that tomllib takes."""
     return re.sub(rb"\b0000-", b"0004-", re.sub(rb"(\d\d:\d\d:)60", rb"\g<1>59", text))
 
 
@@ -85,7 +86,7 @@ def depth(tree):
 
 
 def entries(tree, path=()):
-    """The steps and the kinds of all that is below a table: a tree does not tell the two kinds of tables, or of arrays."""
+    """The steps and the kinds of all that is below a table: either kind of tables, or of arrays, has the same tree."""
     for step, it in tree.items() if isinstance(tree, dict) else enumerate(tree):
         steps = (*path, step)
         if isinstance(it, dict):

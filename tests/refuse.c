@@ -1,7 +1,7 @@
 // A heap for tests, loaded before the C library's (LD_PRELOAD). Growths are numbered from 1, over the whole process:
-// REFUSE_AT=n refuses the n-th, REFUSE_AT=n,m two of them. With REFUSE_COUNT set, the number of all growths is written to
-// standard error at the end, as `all growths=9`. A request of 2^62 bytes is refused and begins a count of growths; one of
-// 2^62 + 1 bytes is refused too, and writes that count, as `growths=3`.
+// REFUSE_AT=n refuses the n-th, REFUSE_AT=n,m two of them. With REFUSE_COUNT set, the number of all growths is written
+// to standard error at the end, as `all growths=9`. A request of 2^62 bytes is refused and begins a count of growths;
+// one of 2^62 + 1 bytes is refused too, and writes that count, as `growths=3`.
 #include <errno.h>
 #include <stddef.h>
 #include <stdio.h>

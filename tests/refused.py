@@ -36,8 +36,8 @@ OUT_OF_MEMORY = b"out of memory"
 # What keep_rows answers where a path or an edit of a row could not be read: the only reason is memory.
 UNREAD = (OUT_OF_MEMORY, b"no path", b"no such edit")
 DONE = re.compile(rb"\d+ \d+ \d+$|done$")
-# How keep_rows prints that an edit does not agree with the text alone, and a list of edits with the edits one by one; and
-# that the document is not what is read afresh from its text, for which memory may be missing too.
+# How keep_rows prints that an edit does not agree with the text alone, and a list of edits with the edits one by one;
+# and that the document is not what is read afresh from its text, for which memory may be missing too.
 TEXT_DOUBT = b", but the text alone is told otherwise"
 LIST_DOUBT = b", but one by one the edits answer otherwise"
 DOCUMENT_DOUBT = b", but the document tells otherwise"

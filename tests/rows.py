@@ -11,8 +11,9 @@ standard input, the standard output, and then the words. A cell is written as as
 ends in * is the beginning of what is written there; an empty one is nothing. Expected answers come from outside the
 program: from the tables of the language, or computed by other means (made.py).
 
-A line of model_cases.tsv is a case that an independent model of the program answered: the status, the line on standard
-error or - where clap speaks, the input, the output, and then the words. A cell has \\xHH for bytes, and no other escape.
+A line of model_cases.tsv is a case that an independent model of the program answered: the status, the line on
+standard error or - where clap speaks, the input, the output, and then the words. A cell has \\xHH for bytes, and no
+other escape.
 """
 import re
 import sys

@@ -1,4 +1,5 @@
-// Streams for tests, loaded before the C library's (LD_PRELOAD). Standard input and output answer little at a call, or fail:
+// Streams for tests, loaded before the C library's (LD_PRELOAD). Standard input and output answer little at a call,
+// or fail:
 // READ_STEP=n, WRITE_STEP=n     at most n bytes a call; WRITE_STEP=0 takes nothing
 // READ_FAILS=k, WRITE_FAILS=k   the call of this number, from 0, fails
 // ERROR=e                       with this error of the system

@@ -3,10 +3,10 @@
 
     tests/streams.py KEEP_TOML STREAMS
 
-STREAMS is the library that tests/streams.c makes, which stands between the program and the system: it gives and takes one
-byte a call, and fails at the call of each number in turn. With '-' only the streams that the system itself offers are tried.
-Whatever fails ends with status 3 and one line on standard error. A failing input leaves standard output empty; a failing
-output has the bytes that it took before, and they are told by their number.
+STREAMS is the library that tests/streams.c makes, which stands between the program and the system: it gives and takes
+one byte a call, and fails at the call of each number in turn. With '-' only the streams that the system itself offers
+are tried. Whatever fails ends with status 3 and one line on standard error. A failing input leaves standard output
+empty; a failing output has the bytes that it took before, and they are told by their number.
 """
 import errno
 import os
@@ -22,6 +22,7 @@ from ask import Count, Row, answer, failure, in_parallel, rows_of, short
 
 HERE = Path(__file__).resolve().parent
 LIMIT = 16_777_216
+TOO_LONG = b"keep-toml: input longer than %d bytes" % LIMIT
 ERRORS = (errno.EINTR, errno.EAGAIN, errno.EIO, errno.EISDIR, errno.ENOMEM, errno.EPIPE, errno.ENOSPC, errno.ECONNRESET)
 # The status of words that can't be read, so that no input is.
 WORDS = 2
@@ -67,14 +68,13 @@ def error_settings(row):
 
 def space_settings():
     """Inputs of spaces, in blocks or one a turn, with how often the program asks."""
-    too_long, turns = b"keep-toml: input longer than %d bytes" % LIMIT, {1: LIMIT + 1, 65_536: LIMIT // 65_536 + 1}
-    for step, count in turns.items():
-        for spaces in (LIMIT, LIMIT + 1, -1):
-            fault, writes = (b"", 1) if spaces == LIMIT else (too_long + b"\n", 0)
-            output = b"ok tokens=2 nodes=1\n" if spaces == LIMIT else b""
-            told = fault + b"reads=%d writes=%d" % (count, writes)
-            row = Row(f"{spaces} spaces", [b"check"], b"", 3 if fault else 0, output, told)
-            yield {"SPACES": spaces, "READ_STEP": step, "CALLS": 1}, row
+    for step, turns in ((1, LIMIT + 1), (65_536, LIMIT // 65_536 + 1)):
+        settings = {"READ_STEP": step, "CALLS": 1}
+        output, calls = b"ok tokens=2 nodes=1\n", b"reads=%d writes=1" % turns
+        yield {**settings, "SPACES": LIMIT}, Row("as many spaces as may be", [b"check"], b"", 0, output, calls)
+        calls = TOO_LONG + b"\nreads=%d writes=0" % turns
+        yield {**settings, "SPACES": LIMIT + 1}, Row("a space too many", [b"check"], b"", 3, b"", calls)
+        yield {**settings, "SPACES": -1}, Row("spaces that never end", [b"check"], b"", 3, b"", calls)
 
 
 def run_settings(count, program, streams, cases):
@@ -97,7 +97,7 @@ REDIRECTED = [
     ("an input that is open for writing", "0>/dev/null", read_failed(Row("", [b"check"]))),
     ("a folder as input", "</", read_failed(Row("", [b"check"]))),
     ("no input", "</dev/null", Row("", [b"check"], b"", 0, b"ok tokens=1 nodes=1\n")),
-    ("an endless input", "</dev/zero", Row("", [b"check"], b"", 3, b"", b"keep-toml: input longer than %d bytes" % LIMIT)),
+    ("an endless input", "</dev/zero", Row("", [b"check"], b"", 3, b"", TOO_LONG)),
     ("a closed output", ">&-", write_failed(Row("", [b"check"], b"a = 1"), 0)),
     ("an output that is open for reading", "1</dev/null", write_failed(Row("", [b"check"], b"a = 1"), 0)),
     ("a full device", ">/dev/full", write_failed(Row("", [b"check"], b"a = 1"), 0)),
@@ -138,7 +138,8 @@ def run_closing_pipes(count, program):
 
 def closing_failure(program, file, taken, whole):
     with open(file, "rb") as given:
-        ran = subprocess.Popen([program, "list"], stdin=given, stdout=subprocess.PIPE, stderr=subprocess.PIPE, bufsize=0)
+        pipes = {"stdout": subprocess.PIPE, "stderr": subprocess.PIPE, "bufsize": 0}
+        ran = subprocess.Popen([program, "list"], stdin=given, **pipes)
     got = b""
     while len(got) < taken:
         got += ran.stdout.read(taken - len(got))
@@ -156,7 +157,7 @@ def run_endless_pipe(count, program):
         ran = answer(program, [b"check"], None, stdin=lines.stdout)
         lines.stdout.close()
         lines.terminate()
-    row = Row("an endless pipe", [], b"", 3, b"", b"keep-toml: input longer than %d bytes" % LIMIT)
+    row = Row("an endless pipe", [], b"", 3, b"", TOO_LONG)
     count.add(row.name, failure(row, ran))
 
 
