@@ -1,2 +1,3 @@
+pub mod CommandLaws
 pub mod KeyLaws
 pub mod ScriptLaws

@@ -1,5 +1,5 @@
 -- The edits of a script, element by element.
-use Rattle.std.proofs.Common.{◌≡◌, ◌+◌, ◌∙◌, ◌⊎◌, ℕ, zero, suc, List, [], ◌∷◌, ◌++◌, map, length, Option, None, Some, ◌<◌, refl, sym, ap, subst, inl, inr, arith, Vec, Global, String}
+use Rattle.std.proofs.Common.{◌≡◌, ◌+◌, ◌∙◌, ◌⊎◌, ℕ, suc, List, [], ◌∷◌, ◌++◌, map, length, Option, None, Some, ◌<◌, refl, sym, ap, subst, inl, inr, arith, Vec, Global, String}
 use Rattle.std.specs.Prelude.{Result, Ok, Err, IsErrAnd, MatchResult}
 use Rattle.std.proofs.Math.Nat.{add-zero}
 use Rattle.keep_token.specs.declared.leaf.Profile.{Profile}

@@ -1,7 +1,6 @@
 -- What a script's text means: a document whose only key is `edit`, an array of tables, each of which tells an edit.
-use Rattle.std.specs.Prelude.{◌≡◌, ⊤, ℕ, zero, suc, ◌<◌, List, [], ◌∷◌, codes, length, map, Option, Some, None, if◌then◌else◌, string_bytes, Vec}
-use Rattle.std.specs.Global.{Global}
-use Rattle.std.specs.Option.{option_and_then, option_map}
+use Rattle.std.specs.Prelude.{◌≡◌, ⊤, ℕ, zero, suc, ◌<◌, List, [], ◌∷◌, codes, length, Option, Some, None, if◌then◌else◌, string_bytes}
+use Rattle.std.specs.Option.{option_and_then}
 use Rattle.std.specs.Str.{bytes_eq}
 use Rattle.keep_token.specs.declared.leaf.Profile.{Profile}
 use Rattle.keep_token.specs.declared.leaf.Profile.TheVariants.{Strict}

@@ -1,5 +1,5 @@
 -- What the words of the command line come to.
-use Rattle.std.specs.Prelude.{◌≡◌, ◌⊎◌, ⊤, ℕ, List, [], ◌∷◌, Option, Some, None, map, string_bytes}
+use Rattle.std.specs.Prelude.{◌≡◌, ◌⊎◌, ⊤, ℕ, List, [], ◌∷◌, Option, Some, None, string_bytes}
 use Rattle.keep_run.specs.declared.command.Command.{Command}
 use Rattle.keep_run.specs.declared.command.Command.TheVariants as command
 use Rattle.keep_edit.specs.declared.edits.Edit.{Edit}

@@ -1,24 +1,17 @@
 //! Questions about documents.
 use crate::paths::path_of;
 use crate::row::{Answer, Row, unknown};
+use crate::syntax::push_tokens;
 use keep_edit::{Document, Entry, Path, Profile, ReadFault};
-use std::alloc::Global;
+use std::alloc::{AllocError, Global};
 use std::fmt::Write;
 
 /// The first word is the bytes of a document. What is no document of the profile is answered by its fault.
 pub fn answer(alloc: Global, row: &Row, profile: Profile) -> Answer {
-    match document(alloc, row, profile) {
-        Ok(text) => Ok(text),
+    match read(alloc, row.bytes(0), profile) {
+        Ok(document) => told_of(alloc, &document, row),
         Err(fault) => fault.to_string(alloc),
     }
-}
-
-fn document(alloc: Global, row: &Row, profile: Profile) -> Result<String, ReadFault> {
-    let document = read(alloc, row.bytes(0), profile)?;
-    if row.question() == "as in strict" {
-        return as_in_strict(alloc, &document);
-    }
-    Ok(told_of(alloc, &document, row)?)
 }
 
 /// The document of these bytes by the grammar of a profile.
@@ -29,11 +22,33 @@ pub fn read(alloc: Global, bytes: &[u8], profile: Profile) -> Result<Document, R
     }
 }
 
-// Whether a document tells all that it tells where it is read in Strict.
-fn as_in_strict(alloc: Global, document: &Document) -> Result<String, ReadFault> {
-    let strict = Document::read(alloc, document.text().as_bytes())?;
-    let same = facts(alloc, document)?.as_str() == facts(alloc, &strict)?.as_str();
-    Ok(format!(in alloc; "{same}")?)
+// Whether a document has all the facts that it has where it is read in Strict.
+fn as_in_strict(alloc: Global, document: &Document) -> Answer {
+    match Document::read(alloc, document.text().as_bytes()) {
+        Ok(strict) => shown(alloc, has_facts_of(alloc, document, &strict)),
+        Err(fault) => fault.to_string(alloc),
+    }
+}
+
+fn shown(alloc: Global, same: Result<bool, AllocError>) -> Answer {
+    let same = same?;
+    format!(in alloc; "{same}")
+}
+
+/// Whether a document has the facts of another.
+pub fn has_facts_of(
+    alloc: Global,
+    document: &Document,
+    other: &Document,
+) -> Result<bool, AllocError> {
+    let facts = facts_of(alloc, document)?;
+    has_facts(alloc, other, facts.as_str())
+}
+
+/// Whether these are the facts of a document.
+pub fn has_facts(alloc: Global, document: &Document, facts: &str) -> Result<bool, AllocError> {
+    let found = facts_of(alloc, document)?;
+    Ok(found.as_str() == facts)
 }
 
 fn told_of(alloc: Global, document: &Document, row: &Row) -> Answer {
@@ -42,6 +57,7 @@ fn told_of(alloc: Global, document: &Document, row: &Row) -> Answer {
         "counts" => format!(in alloc; "{:?}", document.counts()),
         "list" => list(alloc, document),
         "get by steps" => got_by_steps(alloc, document, row),
+        "as in strict" => as_in_strict(alloc, document),
         question => told_at(alloc, document, question, row.text(1)),
     }
 }
@@ -50,10 +66,14 @@ fn told_of(alloc: Global, document: &Document, row: &Row) -> Answer {
 fn list(alloc: Global, document: &Document) -> Answer {
     let mut out = String::new(alloc);
     for entry in document.list(alloc)? {
-        let path = entry.path.encode(alloc)?;
-        writeln!(out, "{path} {:?}", entry.kind)?;
+        push_entry(alloc, &mut out, &entry)?;
     }
     Ok(out)
+}
+
+fn push_entry(alloc: Global, out: &mut String, entry: &Entry) -> Result<(), AllocError> {
+    let path = entry.path.encode(alloc)?;
+    writeln!(out, "{path} {:?}", entry.kind)
 }
 
 fn got_by_steps(alloc: Global, document: &Document, row: &Row) -> Answer {
@@ -90,26 +110,32 @@ fn string(alloc: Global, document: &Document, path: &Path) -> Answer {
     }
 }
 
-/// All that a document tells: its counts, its tokens and its nodes.
-pub fn facts(alloc: Global, document: &Document) -> Answer {
+/// The facts of a document: its counts, its tokens and its nodes.
+pub fn facts_of(alloc: Global, document: &Document) -> Answer {
     let mut out = format!(in alloc; "{:?}\n", document.counts())?;
-    for token in document.tokens() {
-        writeln!(out, "{:?} {} {}", token.leaf, token.at, token.text)?;
-    }
-    for entry in document.list(alloc)? {
-        out.push_str(node(alloc, document, &entry)?.as_str())?;
-    }
+    push_tokens(&mut out, document.tokens())?;
+    push_nodes(alloc, &mut out, document)?;
     Ok(out)
 }
 
+fn push_nodes(alloc: Global, out: &mut String, document: &Document) -> Result<(), AllocError> {
+    for entry in document.list(alloc)? {
+        push_node(alloc, out, document, &entry)?;
+    }
+    Ok(())
+}
+
 // A node: its path, its kind, and its value as it is written, as an integer and as a string.
-fn node(alloc: Global, document: &Document, entry: &Entry) -> Answer {
+fn push_node(
+    alloc: Global,
+    out: &mut String,
+    document: &Document,
+    entry: &Entry,
+) -> Result<(), AllocError> {
     let path = entry.path.encode(alloc)?;
     let written = document.get(&entry.path);
     let integer = document.int_value(&entry.path);
+    write!(out, "{path} {:?} {written:?} {integer:?} ", entry.kind)?;
     let string = string(alloc, document, &entry.path)?;
-    format!(in alloc;
-        "{path} {:?} {written:?} {integer:?} {string}\n",
-        entry.kind
-    )
+    writeln!(out, "{string}")
 }

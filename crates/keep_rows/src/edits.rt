@@ -1,5 +1,5 @@
 //! Edits of documents.
-use crate::documents::{facts, read};
+use crate::documents::{facts_of, has_facts, has_facts_of, read};
 use crate::row::{Answer, Row, unknown};
 use keep_edit::{Document, EditFault, Path, Profile, ReadFault, Splice, Step, ValueText};
 use std::alloc::{AllocError, Global};
@@ -8,42 +8,63 @@ use std::alloc::{AllocError, Global};
 /// `element`). The document is read in the profile, a value in Strict, or for `set wide` in Wide. The answer is a line for
 /// each edit, and then the text of the document.
 pub fn answer(alloc: Global, row: &Row, profile: Profile) -> Answer {
-    match edited(alloc, row, profile) {
-        Ok(text) => Ok(text),
+    match read(alloc, row.bytes(0), profile) {
+        Ok(document) => edited(alloc, row, document),
         Err(fault) => fault.to_string(alloc),
     }
 }
 
-fn edited(alloc: Global, row: &Row, profile: Profile) -> Result<String, ReadFault> {
-    let mut document = read(alloc, row.bytes(0), profile)?;
+fn edited(alloc: Global, row: &Row, mut document: Document) -> Answer {
+    let lines = edit_lines(alloc, row, &mut document);
+    with_text(lines, document.into_text())
+}
+
+fn with_text(lines: Answer, text: String) -> Answer {
+    let mut out = lines?;
+    out.push_str(text.as_str())?;
+    Ok(out)
+}
+
+fn edit_lines(alloc: Global, row: &Row, document: &mut Document) -> Answer {
     let mut out = String::new(alloc);
     for word in (1..row.word_count()).step_by(2) {
-        let line = edit(alloc, &mut document, row, word)?;
+        let line = edit(alloc, document, row, word)?;
         out.push_str(line.as_str())?;
     }
-    out.push_str(document.into_text().as_str())?;
     Ok(out)
 }
 
 // The edit of the path that is this word of a row, and the word behind it.
 fn edit(alloc: Global, document: &mut Document, row: &Row, word: usize) -> Answer {
-    let Ok(path) = Path::read(alloc, row.text(word)) else {
-        return String::from_str(alloc, "no path\n");
-    };
     let text = row.text(word.saturating_add(1));
-    match row.question() {
-        "set" => set_to(alloc, document, &path, ValueText::read(alloc, text)),
-        "set wide" => {
-            let value = ValueText::read_in(alloc, text, Profile::Wide);
-            set_to(alloc, document, &path, value)
-        }
-        "insert" => insert(alloc, document, &path, text),
-        "rename" => rename(alloc, document, &path, text),
-        "remove" => remove(alloc, document, &path),
-        "table" => append_table(alloc, document, &path),
-        "element" => append_element(alloc, document, &path),
+    match Path::read(alloc, row.text(word)) {
+        Ok(path) => edit_at(alloc, document, row.question(), &path, text),
+        Err(_) => String::from_str(alloc, "no path\n"),
+    }
+}
+
+fn edit_at(
+    alloc: Global,
+    document: &mut Document,
+    question: &str,
+    path: &Path,
+    text: &str,
+) -> Answer {
+    match question {
+        "set" => set_to(alloc, document, path, ValueText::read(alloc, text)),
+        "set wide" => set_wide(alloc, document, path, text),
+        "insert" => insert_to(alloc, document, path, ValueText::read(alloc, text)),
+        "rename" => rename(alloc, document, path, text),
+        "remove" => remove(alloc, document, path),
+        "table" => append_table(alloc, document, keys_of(alloc, path)),
+        "element" => append_element(alloc, document, keys_of(alloc, path)),
         _ => unknown(alloc),
     }
+}
+
+fn set_wide(alloc: Global, document: &mut Document, path: &Path, text: &str) -> Answer {
+    let value = ValueText::read_in(alloc, text, Profile::Wide);
+    set_to(alloc, document, path, value)
 }
 
 fn set_to(
@@ -61,51 +82,61 @@ fn set_to(
 /// What comes of setting a path to a value, in a line: the splice (from, to, bytes added) or the fault, and whether
 /// `text_with` or a document that is read afresh tells otherwise.
 pub fn set(alloc: Global, document: &mut Document, path: &Path, value: &ValueText) -> Answer {
-    let told = told_by(alloc, document.text_with(path, value))?;
-    let before = facts(alloc, document)?;
+    let before = before(alloc, document, document.text_with(path, value))?;
     let done = document.set(path, value);
-    outcome(alloc, document, &told, &before, done)
+    outcome(alloc, document, &before, done)
 }
 
-fn insert(alloc: Global, document: &mut Document, path: &Path, text: &str) -> Answer {
-    let value = match ValueText::read(alloc, text) {
-        Ok(value) => value,
-        Err(fault) => return format!(in alloc; "{fault}\n"),
-    };
-    let told = told_by(alloc, document.text_inserted(path, &value))?;
-    let before = facts(alloc, document)?;
-    let done = document.insert(path, &value);
-    outcome(alloc, document, &told, &before, done)
+fn insert_to(
+    alloc: Global,
+    document: &mut Document,
+    path: &Path,
+    value: Result<ValueText, ReadFault>,
+) -> Answer {
+    match value {
+        Ok(value) => insert(alloc, document, path, &value),
+        Err(fault) => format!(in alloc; "{fault}\n"),
+    }
+}
+
+fn insert(alloc: Global, document: &mut Document, path: &Path, value: &ValueText) -> Answer {
+    let before = before(alloc, document, document.text_inserted(path, value))?;
+    let done = document.insert(path, value);
+    outcome(alloc, document, &before, done)
 }
 
 fn rename(alloc: Global, document: &mut Document, path: &Path, key: &str) -> Answer {
-    let told = told_by(alloc, document.text_renamed(path, key))?;
-    let before = facts(alloc, document)?;
+    let before = before(alloc, document, document.text_renamed(path, key))?;
     let done = document.rename(path, key);
-    outcome(alloc, document, &told, &before, done)
+    outcome(alloc, document, &before, done)
 }
 
 fn remove(alloc: Global, document: &mut Document, path: &Path) -> Answer {
-    let told = told_by(alloc, document.text_removed(path))?;
-    let before = facts(alloc, document)?;
+    let before = before(alloc, document, document.text_removed(path))?;
     let done = document.remove(path);
-    outcome(alloc, document, &told, &before, done)
+    outcome(alloc, document, &before, done)
 }
 
-fn append_table(alloc: Global, document: &mut Document, path: &Path) -> Answer {
-    let keys = keys_of(alloc, path)?;
-    let told = told_by(alloc, document.text_with_table(keys.as_slice()))?;
-    let before = facts(alloc, document)?;
+fn append_table(
+    alloc: Global,
+    document: &mut Document,
+    keys: Result<Vec<String>, AllocError>,
+) -> Answer {
+    let keys = keys?;
+    let before = before(alloc, document, document.text_with_table(keys.as_slice()))?;
     let done = document.append_table(keys.as_slice());
-    outcome(alloc, document, &told, &before, done)
+    outcome(alloc, document, &before, done)
 }
 
-fn append_element(alloc: Global, document: &mut Document, path: &Path) -> Answer {
-    let keys = keys_of(alloc, path)?;
-    let told = told_by(alloc, document.text_with_element(keys.as_slice()))?;
-    let before = facts(alloc, document)?;
+fn append_element(
+    alloc: Global,
+    document: &mut Document,
+    keys: Result<Vec<String>, AllocError>,
+) -> Answer {
+    let keys = keys?;
+    let before = before(alloc, document, document.text_with_element(keys.as_slice()))?;
     let done = document.append_element(keys.as_slice());
-    outcome(alloc, document, &told, &before, done)
+    outcome(alloc, document, &before, done)
 }
 
 /// The keys of a path, without its indexes.
@@ -119,8 +150,24 @@ pub fn keys_of(alloc: Global, path: &Path) -> Result<Vec<String>, AllocError> {
     Ok(keys)
 }
 
-// The text that an edit would give, or its fault.
-fn told_by(alloc: Global, text: Result<String, EditFault>) -> Answer {
+// What is known before an edit: the text that it is to give, or its fault, and the facts of the document.
+#[derive(Drop)]
+struct Earlier {
+    text: String,
+    facts: String,
+}
+
+fn before(
+    alloc: Global,
+    document: &Document,
+    text: Result<String, EditFault>,
+) -> Result<Earlier, AllocError> {
+    let text = text_or_fault(alloc, text)?;
+    let facts = facts_of(alloc, document)?;
+    Ok(Earlier { text, facts })
+}
+
+fn text_or_fault(alloc: Global, text: Result<String, EditFault>) -> Answer {
     match text {
         Ok(text) => Ok(text),
         Err(fault) => fault.to_string(alloc),
@@ -130,24 +177,26 @@ fn told_by(alloc: Global, text: Result<String, EditFault>) -> Answer {
 fn outcome(
     alloc: Global,
     document: &Document,
-    told: &String,
-    before: &String,
+    before: &Earlier,
     done: Result<Splice, EditFault>,
 ) -> Answer {
     match done {
-        Ok(splice) => {
-            let agrees = told.as_str() == document.text();
-            let doubt = doubt_of(agrees, is_as_read(alloc, document)?);
-            format!(in alloc; "{} {} {}{doubt}\n", splice.start, splice.end, splice.added)
-        }
-        Err(fault) => {
-            let name = fault.to_string(alloc)?;
-            let after = facts(alloc, document)?;
-            let agrees = told.as_str() == name.as_str();
-            let doubt = doubt_of(agrees, after.as_str() == before.as_str());
-            format!(in alloc; "{name}{doubt}\n")
-        }
+        Ok(splice) => made(alloc, document, before, splice),
+        Err(fault) => refused(alloc, document, before, fault),
     }
+}
+
+fn made(alloc: Global, document: &Document, before: &Earlier, splice: Splice) -> Answer {
+    let agrees = before.text.as_str() == document.text();
+    let doubt = doubt_of(agrees, is_as_read(alloc, document)?);
+    format!(in alloc; "{} {} {}{doubt}\n", splice.start, splice.end, splice.added)
+}
+
+fn refused(alloc: Global, document: &Document, before: &Earlier, fault: EditFault) -> Answer {
+    let name = fault.to_string(alloc)?;
+    let agrees = before.text.as_str() == name.as_str();
+    let doubt = doubt_of(agrees, has_facts(alloc, document, before.facts.as_str())?);
+    format!(in alloc; "{name}{doubt}\n")
 }
 
 fn doubt_of(agrees: bool, is_whole: bool) -> &'static str {
@@ -158,16 +207,10 @@ fn doubt_of(agrees: bool, is_whole: bool) -> &'static str {
     }
 }
 
-/// Whether a document tells what one tells that is read from its text.
+/// Whether a document has the facts of one that is read from its text.
 pub fn is_as_read(alloc: Global, document: &Document) -> Result<bool, AllocError> {
-    let told = facts(alloc, document)?;
-    match facts_of(alloc, document) {
-        Ok(afresh) => Ok(told.as_str() == afresh.as_str()),
+    match read(alloc, document.text().as_bytes(), document.profile()) {
+        Ok(afresh) => has_facts_of(alloc, document, &afresh),
         Err(_) => Ok(false),
     }
-}
-
-fn facts_of(alloc: Global, document: &Document) -> Result<String, ReadFault> {
-    let afresh = read(alloc, document.text().as_bytes(), document.profile())?;
-    Ok(facts(alloc, &afresh)?)
 }

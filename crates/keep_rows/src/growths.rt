@@ -1,7 +1,7 @@
 //! Questions that take no memory: what each asks stands between two marks, which a heap that counts its growths reads.
 use crate::edits::keys_of;
 use crate::row::{Answer, Row};
-use keep_edit::{Document, EditFault, Path, ReadFault, ValueText};
+use keep_edit::{Document, EditFault, Path, ValueText};
 use std::alloc::{AllocError, Global};
 use std::fmt::Write;
 
@@ -17,37 +17,61 @@ fn mark(alloc: Global, bytes: usize) {
 
 /// The words are a document, a path and the value for `set`.
 pub fn answer(alloc: Global, row: &Row) -> Answer {
-    match asked(alloc, row) {
-        Ok(text) => Ok(text),
+    match Document::read(alloc, row.bytes(0)) {
+        Ok(mut document) => asked(alloc, &mut document, row),
         Err(fault) => fault.to_string(alloc),
     }
 }
 
-fn asked(alloc: Global, row: &Row) -> Result<String, ReadFault> {
-    let mut document = Document::read(alloc, row.bytes(0))?;
-    let value = ValueText::read(alloc, row.text(2))?;
-    Ok(asked_at(alloc, &mut document, row, &value)?)
+fn asked(alloc: Global, document: &mut Document, row: &Row) -> Answer {
+    match ValueText::read(alloc, row.text(2)) {
+        Ok(value) => asked_with(alloc, document, row, &value),
+        Err(fault) => fault.to_string(alloc),
+    }
 }
 
-fn asked_at(alloc: Global, document: &mut Document, row: &Row, value: &ValueText) -> Answer {
-    let Ok(path) = Path::read(alloc, row.text(1)) else {
-        return String::from_str(alloc, "no path");
-    };
-    let keys = keys_of(alloc, &path)?;
+fn asked_with(alloc: Global, document: &mut Document, row: &Row, value: &ValueText) -> Answer {
+    match Path::read(alloc, row.text(1)) {
+        Ok(path) => asked_at(alloc, document, row.question(), &path, value),
+        Err(_) => String::from_str(alloc, "no path"),
+    }
+}
+
+fn asked_at(
+    alloc: Global,
+    document: &mut Document,
+    question: &str,
+    path: &Path,
+    value: &ValueText,
+) -> Answer {
+    let keys = keys_of(alloc, path)?;
     // What is told finds room here, so that telling it takes no memory either.
     let mut out = String::with_capacity(alloc, 4096)?;
     mark(alloc, BEGIN);
-    let told = match row.question() {
-        "set" => write!(out, "{:?}", document.set(&path, value)),
-        "no edits" => write!(out, "{:?}", document.apply_all(&[])),
-        "text_with" => tell_text(&mut out, document.text_with(&path, value)),
+    let told = match question {
         "text_with_table" => tell_text(&mut out, document.text_with_table(keys.as_slice())),
         "text_with_element" => tell_text(&mut out, document.text_with_element(keys.as_slice())),
-        question => tell(&mut out, alloc, document, question, &path),
+        question => tell_edit(&mut out, alloc, document, question, path, value),
     };
     mark(alloc, END);
     told?;
     Ok(out)
+}
+
+fn tell_edit(
+    out: &mut String,
+    alloc: Global,
+    document: &mut Document,
+    question: &str,
+    path: &Path,
+    value: &ValueText,
+) -> Result<(), AllocError> {
+    match question {
+        "set" => write!(out, "{:?}", document.set(path, value)),
+        "no edits" => write!(out, "{:?}", document.apply_all(&[])),
+        "text_with" => tell_text(out, document.text_with(path, value)),
+        question => tell(out, alloc, document, question, path),
+    }
 }
 
 fn tell_text(out: &mut String, told: Result<String, EditFault>) -> Result<(), AllocError> {

@@ -2,24 +2,26 @@
 use crate::row::{Answer, Row, unknown};
 use keep_rules::{Index, NodeId, Path};
 use keep_syntax::{Limits, ReadFault, Syntax, ValueSyntax};
-use std::alloc::Global;
+use std::alloc::{AllocError, Global};
 
 /// The first word is the text of a document, or for `value` of a value. What the rules refuse is answered by its fault.
 pub fn answer(alloc: Global, row: &Row) -> Answer {
-    let told = match row.question() {
-        "value" => value(alloc, row.text(0)),
-        _ => document(alloc, row),
-    };
-    match told {
-        Ok(text) => Ok(text),
-        Err(fault) => fault.to_string(alloc),
+    match row.question() {
+        "value" => verdict(alloc, value_check(alloc, row.text(0))),
+        _ => document(alloc, row, index_of(alloc, row.text(0))),
     }
 }
 
-fn value(alloc: Global, text: &str) -> Result<String, ReadFault> {
+fn value_check(alloc: Global, text: &str) -> Result<(), ReadFault> {
     let syntax = ValueSyntax::read(alloc, text, Limits::STANDARD)?;
-    Index::check_value(alloc, text, &syntax)?;
-    Ok(String::from_str(alloc, "ok")?)
+    Index::check_value(alloc, text, &syntax)
+}
+
+fn verdict(alloc: Global, checked: Result<(), ReadFault>) -> Answer {
+    match checked {
+        Ok(()) => String::from_str(alloc, "ok"),
+        Err(fault) => fault.to_string(alloc),
+    }
 }
 
 fn index_of(alloc: Global, text: &str) -> Result<Index, ReadFault> {
@@ -27,9 +29,11 @@ fn index_of(alloc: Global, text: &str) -> Result<Index, ReadFault> {
     Index::build(alloc, text, &syntax)
 }
 
-fn document(alloc: Global, row: &Row) -> Result<String, ReadFault> {
-    let index = index_of(alloc, row.text(0))?;
-    Ok(told_of(alloc, &index, row)?)
+fn document(alloc: Global, row: &Row, index: Result<Index, ReadFault>) -> Answer {
+    match index {
+        Ok(index) => told_of(alloc, &index, row),
+        Err(fault) => fault.to_string(alloc),
+    }
 }
 
 fn told_of(alloc: Global, index: &Index, row: &Row) -> Answer {
@@ -67,12 +71,23 @@ fn paths(alloc: Global, index: &Index) -> Answer {
     let mut out = String::new(alloc);
     for number in 0..index.node_count() {
         if let Some(id) = index.node_at(number) {
-            let path = index.path_of(alloc, id)?;
-            out.push_str(path.encode(alloc)?.as_str())?;
-            out.push_str("\n")?;
+            push_path(alloc, &mut out, index.path_of(alloc, id))?;
         }
     }
     Ok(out)
+}
+
+fn push_path(
+    alloc: Global,
+    out: &mut String,
+    path: Result<Path, AllocError>,
+) -> Result<(), AllocError> {
+    push_line(out, path?.encode(alloc))
+}
+
+fn push_line(out: &mut String, line: Answer) -> Result<(), AllocError> {
+    out.push_str(line?.as_str())?;
+    out.push_str("\n")
 }
 
 // What is told of the node at a path.

@@ -10,51 +10,59 @@ use std::alloc::{AllocError, Global};
 /// with its fault, and then the text of the document.
 pub fn answer(alloc: Global, row: &Row, profile: Profile) -> Answer {
     match row.question() {
-        "all" => match edited(alloc, row, profile) {
-            Ok(text) => Ok(text),
-            Err(fault) => fault.to_string(alloc),
-        },
+        "all" => edited(alloc, row, profile, edits_of(alloc, row, profile)),
         _ => unknown(alloc),
     }
 }
 
-fn edited(alloc: Global, row: &Row, profile: Profile) -> Result<String, ReadFault> {
-    let Some(edits) = edits_of(alloc, row, profile)? else {
-        return Ok(String::from_str(alloc, "no such edit")?);
-    };
-    let expected = one_by_one(alloc, row, profile, edits.as_slice())?;
-    at_once(alloc, row, profile, edits.as_slice(), expected.as_str())
+fn edited(
+    alloc: Global,
+    row: &Row,
+    profile: Profile,
+    edits: Result<Option<Vec<Edit>>, ReadFault>,
+) -> Answer {
+    match edits {
+        Ok(Some(edits)) => compared(alloc, row, profile, edits.as_slice()),
+        Ok(None) => String::from_str(alloc, "no such edit"),
+        Err(fault) => fault.to_string(alloc),
+    }
+}
+
+fn compared(alloc: Global, row: &Row, profile: Profile, edits: &[Edit]) -> Answer {
+    let expected = one_by_one(alloc, row, profile, edits)?;
+    at_once(alloc, row, profile, edits, expected.as_str())
 }
 
 // What comes of the edits one by one. After a refusal the text is to be as before.
-fn one_by_one(
-    alloc: Global,
-    row: &Row,
-    profile: Profile,
-    edits: &[Edit],
-) -> Result<String, ReadFault> {
-    let mut document = read(alloc, row.bytes(0), profile)?;
-    let done = fold(&mut document, edits);
+fn one_by_one(alloc: Global, row: &Row, profile: Profile, edits: &[Edit]) -> Answer {
+    match read(alloc, row.bytes(0), profile) {
+        Ok(mut document) => folded(alloc, &mut document, edits, row.text(0)),
+        Err(fault) => fault.to_string(alloc),
+    }
+}
+
+fn folded(alloc: Global, document: &mut Document, edits: &[Edit], before: &str) -> Answer {
+    let done = fold(document, edits);
     let text = if done.is_ok() {
         document.text()
     } else {
-        row.text(0)
+        before
     };
-    Ok(told(alloc, done, text)?)
+    told(alloc, done, text)
 }
 
 // What comes of the list, and a doubt where something else was expected.
-fn at_once(
-    alloc: Global,
-    row: &Row,
-    profile: Profile,
-    edits: &[Edit],
-    expected: &str,
-) -> Result<String, ReadFault> {
-    let mut document = read(alloc, row.bytes(0), profile)?;
+fn at_once(alloc: Global, row: &Row, profile: Profile, edits: &[Edit], expected: &str) -> Answer {
+    match read(alloc, row.bytes(0), profile) {
+        Ok(mut document) => listed(alloc, &mut document, edits, expected),
+        Err(fault) => fault.to_string(alloc),
+    }
+}
+
+fn listed(alloc: Global, document: &mut Document, edits: &[Edit], expected: &str) -> Answer {
     let done = document.apply_all(edits);
     let outcome = told(alloc, done, document.text())?;
-    Ok(doubted(alloc, &document, outcome.as_str(), expected)?)
+    doubted(alloc, document, outcome.as_str(), expected)
 }
 
 fn doubted(alloc: Global, document: &Document, outcome: &str, expected: &str) -> Answer {

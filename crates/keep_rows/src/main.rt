@@ -16,7 +16,7 @@ mod values;
 
 use keep_edit::Profile;
 use row::{Answer, Row};
-use std::alloc::Global;
+use std::alloc::{AllocError, Global};
 use std::io;
 use std::io::{BufRead, BufReader};
 use std::process::ExitCode;
@@ -53,7 +53,11 @@ fn failure_of(alloc: Global, line: &str) -> io::Result<Verdict> {
         return Ok(Verdict::NoRow);
     }
     let row = Row::read(alloc, line)?;
-    let found = answer(alloc, &row)?;
+    Ok(verdict_of(alloc, &row, answer(alloc, &row))?)
+}
+
+fn verdict_of(alloc: Global, row: &Row, found: Answer) -> Result<Verdict, AllocError> {
+    let found = found?;
     if found.as_bytes() == row.wanted() {
         return Ok(Verdict::Passed);
     }

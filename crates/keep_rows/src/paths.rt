@@ -7,23 +7,27 @@ use std::fmt::Write;
 /// The word is the text of a path; for `is key` then the number of a step and a key; for `built` the words are steps,
 /// those of digits alone being indexes.
 pub fn answer(alloc: Global, row: &Row) -> Answer {
-    let told = match row.question() {
-        "read" => read_path(alloc, row.text(0)),
-        "first index" => first_index(alloc, row.text(0)),
-        "built" => built(alloc, row),
-        "is key" => is_key(alloc, row.text(0), row.number(1), row.text(2)),
+    match row.question() {
+        "built" => built(alloc, path_of(alloc, row, 0, row.word_count())),
         "faults" => faults(alloc),
-        _ => return unknown(alloc),
-    };
-    match told {
-        Ok(text) => Ok(text),
+        "first index" => first_index(alloc, row.text(0)),
+        _ => asked(alloc, row, Path::read(alloc, row.text(0))),
+    }
+}
+
+fn asked(alloc: Global, row: &Row, path: Result<Path, PathFault>) -> Answer {
+    match path {
+        Ok(path) => told(alloc, row, &path),
         Err(fault) => fault.to_string(alloc),
     }
 }
 
-fn read_path(alloc: Global, text: &str) -> Result<String, PathFault> {
-    let path = Path::read(alloc, text)?;
-    Ok(told_of(alloc, &path)?)
+fn told(alloc: Global, row: &Row, path: &Path) -> Answer {
+    match row.question() {
+        "read" => told_of(alloc, path),
+        "is key" => is_key(alloc, path, row.number(1), row.text(2)),
+        _ => unknown(alloc),
+    }
 }
 
 // The steps of a path, each key in angle brackets, each index in parentheses, then its text and the length of that.
@@ -46,20 +50,21 @@ fn push_step(out: &mut String, step: Option<&Step>) -> Result<(), AllocError> {
 }
 
 // Whether the step of a number is this key.
-fn is_key(alloc: Global, text: &str, number: usize, key: &str) -> Result<String, PathFault> {
-    let path = Path::read(alloc, text)?;
+fn is_key(alloc: Global, path: &Path, number: usize, key: &str) -> Answer {
     let found = path.step(number).map(|step| step.is_key(key));
-    Ok(format!(in alloc; "{found:?}")?)
+    format!(in alloc; "{found:?}")
 }
 
-fn first_index(alloc: Global, text: &str) -> Result<String, PathFault> {
-    let _path = Path::read(alloc, text)?;
-    Ok(format!(in alloc; "{:?}", Path::first_index(text))?)
+fn first_index(alloc: Global, text: &str) -> Answer {
+    match Path::read(alloc, text) {
+        Ok(_) => format!(in alloc; "{:?}", Path::first_index(text)),
+        Err(fault) => fault.to_string(alloc),
+    }
 }
 
-fn built(alloc: Global, row: &Row) -> Result<String, PathFault> {
-    let path = path_of(alloc, row, 0, row.word_count())?;
-    Ok(told_of(alloc, &path)?)
+fn built(alloc: Global, path: Result<Path, AllocError>) -> Answer {
+    let path = path?;
+    told_of(alloc, &path)
 }
 
 /// The path whose steps are these words of a row.
@@ -79,6 +84,6 @@ fn push_word(path: &mut Path, word: &str) -> Result<(), AllocError> {
 }
 
 // How the faults of paths print.
-fn faults(alloc: Global) -> Result<String, PathFault> {
-    Ok(format!(in alloc; "{}, {}", PathFault::BadPath { at: 3 }, PathFault::Memory)?)
+fn faults(alloc: Global) -> Answer {
+    format!(in alloc; "{}, {}", PathFault::BadPath { at: 3 }, PathFault::Memory)
 }

@@ -17,7 +17,7 @@ impl Row {
     pub fn read(alloc: Global, line: &str) -> Result<Row, AllocError> {
         let mut cells = Vec::new(alloc);
         for cell in line.split('\t') {
-            cells.push(bytes_of(alloc, cell)?)?;
+            push_cell(&mut cells, bytes_of(alloc, cell))?;
         }
         Ok(Row { cells })
     }
@@ -97,22 +97,33 @@ enum Escape {
     Digit(u8),
 }
 
+fn push_cell(
+    cells: &mut Vec<Vec<u8>>,
+    cell: Result<Vec<u8>, AllocError>,
+) -> Result<(), AllocError> {
+    Ok(cells.push(cell?)?)
+}
+
 // The bytes that a cell stands for.
 fn bytes_of(alloc: Global, cell: &str) -> Result<Vec<u8>, AllocError> {
     let mut bytes = Vec::new(alloc);
     let mut escape = Escape::None;
     for &byte in cell.as_bytes() {
-        escape = match (escape, byte) {
-            (Escape::None, b'\\') => Escape::Begun,
-            (Escape::Begun, b'x') => Escape::Hex,
-            (Escape::Begun, b'e') => Escape::None,
-            (Escape::Hex, digit) => Escape::Digit(value_of(digit)),
-            (Escape::None, byte) => pushed(&mut bytes, byte)?,
-            (Escape::Begun, byte) => pushed(&mut bytes, escaped(byte))?,
-            (Escape::Digit(high), digit) => pushed(&mut bytes, high << 4 | value_of(digit))?,
-        };
+        escape = after_byte(&mut bytes, escape, byte)?;
     }
     Ok(bytes)
+}
+
+fn after_byte(bytes: &mut Vec<u8>, escape: Escape, byte: u8) -> Result<Escape, AllocError> {
+    match (escape, byte) {
+        (Escape::None, b'\\') => Ok(Escape::Begun),
+        (Escape::Begun, b'x') => Ok(Escape::Hex),
+        (Escape::Begun, b'e') => Ok(Escape::None),
+        (Escape::Hex, digit) => Ok(Escape::Digit(value_of(digit))),
+        (Escape::None, byte) => pushed(bytes, byte),
+        (Escape::Begun, byte) => pushed(bytes, escaped(byte)),
+        (Escape::Digit(high), digit) => pushed(bytes, high << 4 | value_of(digit)),
+    }
 }
 
 fn pushed(bytes: &mut Vec<u8>, byte: u8) -> Result<Escape, AllocError> {

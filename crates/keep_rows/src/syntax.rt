@@ -1,43 +1,48 @@
 //! Questions about the syntax of a document, or of a value alone.
 use crate::row::{Answer, Row, unknown};
-use keep_syntax::{Limits, ReadFault, Syntax, ValueSyntax};
-use std::alloc::Global;
+use keep_syntax::{Limits, ReadFault, Syntax, Tokens, ValueSyntax};
+use std::alloc::{AllocError, Global};
 use std::fmt::Write;
 
 /// The words are a text and the limits. A text that can't be read is answered by its fault.
 pub fn answer(alloc: Global, row: &Row) -> Answer {
     let text = row.text(0);
     let limits = row.limits(1);
-    let told = match row.question() {
+    match row.question() {
         "tokens" => tokens(alloc, text, limits),
-        "alone" => alone(alloc, text, limits),
-        "depth" => depth(alloc, text, limits),
-        question => document(alloc, question, text, limits),
-    };
-    match told {
-        Ok(text) => Ok(text),
-        Err(fault) => fault.to_string(alloc),
+        "alone" => alone(alloc, ValueSyntax::read(alloc, text, limits)),
+        "depth" => depth(alloc, ValueSyntax::read(alloc, text, limits)),
+        question => document(alloc, question, Syntax::read(alloc, text, limits)),
     }
 }
 
 // The tokens, each on its line: its kind, its place and its text.
-fn tokens(alloc: Global, text: &str, limits: Limits) -> Result<String, ReadFault> {
-    let syntax = Syntax::read(alloc, text, limits)?;
-    let mut out = String::new(alloc);
-    for token in syntax.tokens(text) {
-        writeln!(out, "{:?} {} {}", token.leaf, token.at, token.text)?;
+fn tokens(alloc: Global, text: &str, limits: Limits) -> Answer {
+    match Syntax::read(alloc, text, limits) {
+        Ok(syntax) => token_lines(alloc, syntax.tokens(text)),
+        Err(fault) => fault.to_string(alloc),
     }
+}
+
+fn token_lines(alloc: Global, tokens: Tokens<'_>) -> Answer {
+    let mut out = String::new(alloc);
+    push_tokens(&mut out, tokens)?;
     Ok(out)
 }
 
-fn document(
-    alloc: Global,
-    question: &str,
-    text: &str,
-    limits: Limits,
-) -> Result<String, ReadFault> {
-    let syntax = Syntax::read(alloc, text, limits)?;
-    Ok(told_of(alloc, question, &syntax)?)
+/// Writes tokens, each on its line: its kind, its place and its text.
+pub fn push_tokens(out: &mut String, tokens: Tokens<'_>) -> Result<(), AllocError> {
+    for token in tokens {
+        writeln!(out, "{:?} {} {}", token.leaf, token.at, token.text)?;
+    }
+    Ok(())
+}
+
+fn document(alloc: Global, question: &str, syntax: Result<Syntax, ReadFault>) -> Answer {
+    match syntax {
+        Ok(syntax) => told_of(alloc, question, &syntax),
+        Err(fault) => fault.to_string(alloc),
+    }
 }
 
 fn told_of(alloc: Global, question: &str, syntax: &Syntax) -> Answer {
@@ -75,20 +80,38 @@ fn values(alloc: Global, syntax: &Syntax) -> Answer {
 }
 
 // The key parts and the values of a value that stands alone.
-fn alone(alloc: Global, text: &str, limits: Limits) -> Result<String, ReadFault> {
-    let syntax = ValueSyntax::read(alloc, text, limits)?;
+fn alone(alloc: Global, syntax: Result<ValueSyntax, ReadFault>) -> Answer {
+    match syntax {
+        Ok(syntax) => alone_lines(alloc, &syntax),
+        Err(fault) => fault.to_string(alloc),
+    }
+}
+
+fn alone_lines(alloc: Global, syntax: &ValueSyntax) -> Answer {
     let mut out = String::new(alloc);
-    for number in 0..syntax.key_count() {
-        writeln!(out, "{:?}", syntax.key_part(number))?;
-    }
-    for number in 0..syntax.value_count() {
-        writeln!(out, "{:?}", syntax.value(number))?;
-    }
+    push_keys(&mut out, syntax)?;
+    push_values(&mut out, syntax)?;
     Ok(out)
 }
 
+fn push_keys(out: &mut String, syntax: &ValueSyntax) -> Result<(), AllocError> {
+    for number in 0..syntax.key_count() {
+        writeln!(out, "{:?}", syntax.key_part(number))?;
+    }
+    Ok(())
+}
+
+fn push_values(out: &mut String, syntax: &ValueSyntax) -> Result<(), AllocError> {
+    for number in 0..syntax.value_count() {
+        writeln!(out, "{:?}", syntax.value(number))?;
+    }
+    Ok(())
+}
+
 // How deep arrays and inline tables enclose one another in a value that stands alone.
-fn depth(alloc: Global, text: &str, limits: Limits) -> Result<String, ReadFault> {
-    let syntax = ValueSyntax::read(alloc, text, limits)?;
-    Ok(format!(in alloc; "{}", syntax.depth())?)
+fn depth(alloc: Global, syntax: Result<ValueSyntax, ReadFault>) -> Answer {
+    match syntax {
+        Ok(syntax) => format!(in alloc; "{}", syntax.depth()),
+        Err(fault) => fault.to_string(alloc),
+    }
 }

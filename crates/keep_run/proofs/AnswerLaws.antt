@@ -13,7 +13,7 @@ use Rattle.keep_law.specs.Refusals.{refusal}
 use Rattle.keep_law.specs.declared.splice.Splice.{Splice}
 use Rattle.keep_syntax.specs.declared.fault.ReadFault.{ReadFault}
 use Rattle.keep_syntax.specs.declared.fault.ReadFault.TheVariants as read
-use Rattle.keep_syntax.specs.Tree.{Value, Document}
+use Rattle.keep_syntax.specs.Tree.{Document}
 use Rattle.keep_meaning.specs.Marks.{Mention, fact_of}
 use Rattle.keep_meaning.specs.Meaning.{said_in}
 use Rattle.keep_meaning.specs.Nodes.{is_at, is_node, fact_at, first_of, kind_at}
@@ -24,7 +24,7 @@ use Rattle.keep_law.specs.declared.fault.EditFault.TheVariants as fault
 use Rattle.keep_law.specs.Answers as answers
 use Rattle.keep_law.specs.Answers.{get, string_of, string_at, at_node, applied_from}
 use Rattle.keep_edit.specs.Answers.{counts_of, entries_of, kind_of, str_value_of, refusal_in, IsDone, IsEdited, IsTextAfter}
-use Rattle.keep_edit.specs.Reading.{limit, ProfiledText, text_in, IsAccepted, IsRefused, IsTextOfTree, IsTextOfValue}
+use Rattle.keep_edit.specs.Reading.{limit, ProfiledText, text_in, IsAccepted, IsRefused, IsTextOfTree}
 use Rattle.keep_edit.specs.declared.document.Counts.{Counts}
 use Rattle.keep_run.specs.declared.command.Command.{Command}
 use Rattle.keep_run.specs.declared.command.Command.TheVariants.{Apply, ApplyWide, Check, CheckWide, Get, List as Listing, Text}

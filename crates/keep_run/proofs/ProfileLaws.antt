@@ -1,6 +1,6 @@
 -- Why no edit is refused for the profile of its value, where that is the profile of the document.
 use Rattle.std.proofs.Common.{◌≡◌, ◌⊎◌, ◌∙◌, ◌&&◌, ◌||◌, ℕ, zero, suc, Bool, true, false, not, List, [], ◌∷◌, take, Option, Some, None, refl, sym, ap, subst, inl, inr, option_map}
-use Rattle.std.specs.Prelude.{◌==◌, drop, length, nat_lt, string_bytes, Result, Ok, Err, IfErr, IsErrAnd}
+use Rattle.std.specs.Prelude.{◌==◌, drop, length, nat_lt, Result, Ok, Err, IfErr, IsErrAnd}
 use Rattle.std.specs.List.{AllZip, list_any}
 use Rattle.keep_token.specs.declared.leaf.Profile.{Profile}
 use Rattle.keep_token.specs.declared.leaf.Profile.TheVariants.{Strict, Wide}
@@ -8,7 +8,6 @@ use Rattle.keep_syntax.specs.Tree.{Document, Value}
 use Rattle.keep_meaning.specs.Meaning.{said_in}
 use Rattle.keep_meaning.specs.Marks.{Mention, Statement, element_header, header, marks, statement_mentions}
 use Rattle.keep_syntax.specs.declared.fault.Why.{Why}
-use Rattle.keep_edit.specs.Headers.{key_texts}
 use Rattle.keep_meaning.specs.Nodes.{fact_at, is_node, is_root, mark_count}
 use Rattle.keep_path.specs.Path.{Part}
 use Rattle.keep_law.specs.declared.fault.EditFault.{EditFault}

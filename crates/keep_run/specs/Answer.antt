@@ -1,5 +1,5 @@
 -- What the program answers to a command and the bytes that were read.
-use Rattle.std.specs.Prelude.{◌≡◌, ℕ, List, ◌++◌, suc, take, codes, decimal, string_bytes, Ok, Err, ⊤}
+use Rattle.std.specs.Prelude.{◌≡◌, ℕ, List, ◌++◌, suc, take, codes, decimal, Ok, Err, ⊤}
 use Rattle.std.specs.List.{flat_map, AllZip}
 use Rattle.keep_token.specs.declared.leaf.Profile.{Profile}
 use Rattle.keep_token.specs.declared.leaf.Profile.TheVariants.{Strict, Wide}

@@ -1,5 +1,6 @@
 //! The words of a command line that a fake environment gives.
 use keep_app::{GivenFault, given_words};
+use std::alloc::Global;
 use std::env::{Env, FillError};
 use std::test::Fail;
 
@@ -30,49 +31,57 @@ impl Env for Line<'_> {
     }
 }
 
+// Whether these words of a command line are read as those.
+fn gives(alloc: Global, words: &[&[u8]], wanted: &[&[u8]]) -> Result<bool, GivenFault> {
+    let given = given_words(alloc, &Line { words })?;
+    Ok(are(given.as_slice(), wanted))
+}
+
+fn are(words: &[String], wanted: &[&[u8]]) -> bool {
+    for number in 0..words.len().min(wanted.len()) {
+        if words[number].as_bytes() != wanted[number] {
+            return false;
+        }
+    }
+    words.len() == wanted.len()
+}
+
 #[test]
 fn the_name_by_which_the_program_was_called_is_not_read(rt: HostRuntime) -> Result<(), Fail> {
-    for name in [
-        b"keep_toml".as_slice(),
-        b"\xFF/keep".as_slice(),
-        b"".as_slice(),
-    ] {
+    const NAMES: &[&[u8]] = &[b"keep_toml", b"\xFF/keep", b""];
+    const WANTED: &[&[u8]] = &[b"keep-toml", b"get", b"a"];
+    for &name in NAMES {
         let words = [name, b"get".as_slice(), b"a".as_slice()];
-        let given = given_words(rt.alloc(), &Line { words: &words })?;
-        assert_eq!(rt; given.len(), 3);
-        assert_eq!(rt; given[0].as_str(), "keep-toml");
-        assert_eq!(rt; given[1].as_str(), "get");
-        assert_eq!(rt; given[2].as_str(), "a");
+        assert!(rt; gives(rt.alloc(), &words, WANTED)?, "{name:?}");
     }
     Ok(())
 }
 
 #[test]
 fn a_word_that_is_not_text_is_refused(rt: HostRuntime) {
-    let words = [
-        b"keep-toml".as_slice(),
-        b"get".as_slice(),
-        b"a\xFF".as_slice(),
-    ];
-    let given = given_words(rt.alloc(), &Line { words: &words });
-    assert!(rt; matches!(&given, Err(GivenFault::NotText)));
+    const WORDS: &[&[u8]] = &[b"keep-toml", b"get", b"a\xFF"];
+    assert!(rt; matches!(gives(rt.alloc(), WORDS, WORDS), Err(GivenFault::NotText)));
 }
 
 #[test]
 fn long_words_are_read_whole(rt: HostRuntime) -> Result<(), Fail> {
-    for len in [0usize, 1, 255, 256, 257, 5_000] {
-        let long = vec![in rt.alloc(); b'x'; len]?;
-        let words = [b"keep-toml".as_slice(), long.as_slice()];
-        let given = given_words(rt.alloc(), &Line { words: &words })?;
-        assert_eq!(rt; given.len(), 2);
-        assert_eq!(rt; given[1].as_bytes(), long.as_slice());
+    const LENGTHS: &[usize] = &[0, 1, 255, 256, 257, 5_000];
+    for &len in LENGTHS {
+        assert!(rt; gives_long(rt.alloc(), len)?, "{len}");
     }
     Ok(())
 }
 
+// Whether a word of this length is read whole.
+fn gives_long(alloc: Global, len: usize) -> Result<bool, GivenFault> {
+    let long = vec![in alloc; b'x'; len]?;
+    let words = [b"keep-toml".as_slice(), long.as_slice()];
+    gives(alloc, &words, &words)
+}
+
 #[test]
 fn a_line_without_any_word_gives_the_name_alone(rt: HostRuntime) -> Result<(), Fail> {
-    let given = given_words(rt.alloc(), &Line { words: &[] })?;
-    assert_eq!(rt; given.len(), 1);
+    const NAME: &[&[u8]] = &[b"keep-toml"];
+    assert!(rt; gives(rt.alloc(), &[], NAME)?);
     Ok(())
 }

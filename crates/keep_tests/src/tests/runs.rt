@@ -2,8 +2,8 @@
 ghost use Rattle.keep_run.specs.Counted.{IsFresh};
 
 use keep_app::{Command, Counted, Done, RunFault, run};
-use keep_edit::{Edit, Path, ValueText};
-use std::alloc::Global;
+use keep_edit::{Edit, Path, PathFault, ReadFault, ValueText};
+use std::alloc::{AllocError, Global};
 use std::io;
 use std::io::{ErrorKind, Read, Write};
 use std::test::Fail;
@@ -119,16 +119,20 @@ fn told_of(
     input: (u64, bool),
     output: Counted<Sink>,
 ) -> Result<String, Fail> {
-    let end = match ran {
-        Ok(done) => format!(in alloc; "wrote {}", done.written)?,
-        Err(fault) => fault.to_string(alloc)?,
-    };
     let (turns, has_failed) = input;
-    let calls = output.turns();
-    let is_refused = output.failed();
+    let calls = (output.turns(), output.failed());
     let taken = output.into_inner().taken;
     let text = str::from_utf8(taken.as_slice())?;
+    let end = end_of(alloc, ran)?;
+    let (calls, is_refused) = calls;
     Ok(format!(in alloc; "{end}; {turns} {has_failed}; {calls} {is_refused}; {text}")?)
+}
+
+fn end_of(alloc: Global, ran: Result<Done, RunFault>) -> Result<String, AllocError> {
+    match ran {
+        Ok(done) => format!(in alloc; "wrote {}", done.written),
+        Err(fault) => fault.to_string(alloc),
+    }
 }
 
 fn run_over<R: Read + Drop>(
@@ -144,6 +148,22 @@ fn run_over<R: Read + Drop>(
     told_of(alloc, ran, (input.turns(), input.failed()), output)
 }
 
+// Fails unless a run of this command comes to what is wanted.
+fn comes_to<R: Read + Drop>(
+    alloc: Global,
+    command: Result<Command, Fail>,
+    input: Counted<R>,
+    output: Counted<Sink>,
+    wanted: &str,
+) -> Result<(), Fail>
+    requires input { IsFresh input }
+    requires output { IsFresh output }
+{
+    let command = command?;
+    let told = run_over(alloc, &command, input, output)?;
+    same(told.as_str(), wanted)
+}
+
 #[test]
 fn an_error_of_any_kind_at_any_turn_is_told(rt: HostRuntime) -> Result<(), Fail> {
     const KINDS: &[ErrorKind] = &[
@@ -157,9 +177,14 @@ fn an_error_of_any_kind_at_any_turn_is_told(rt: HostRuntime) -> Result<(), Fail>
         for turn in 0..8u64 {
             let input = make_steps(b"a = 1 #", 1, Some((turn, kind)));
             let output = make_sink(rt.alloc(), 1, None);
-            let told = run_over(rt.alloc(), &Command::Check, input, output)?;
             let wanted = format!(in rt.alloc(); "read failed; {} true; 0 false; ", turn + 1)?;
-            same(told.as_str(), wanted.as_str())?;
+            comes_to(
+                rt.alloc(),
+                Ok(Command::Check),
+                input,
+                output,
+                wanted.as_str(),
+            )?;
         }
     }
     Ok(())
@@ -190,8 +215,7 @@ fn inputs_may_come_in_pieces(rt: HostRuntime) -> Result<(), Fail> {
     for &(bytes, step, fails_at, wanted) in CASES {
         let input = make_steps(bytes, step, fails_at);
         let output = make_sink(rt.alloc(), 100, None);
-        let told = run_over(rt.alloc(), &Command::Check, input, output)?;
-        same(told.as_str(), wanted)?;
+        comes_to(rt.alloc(), Ok(Command::Check), input, output, wanted)?;
     }
     Ok(())
 }
@@ -209,8 +233,13 @@ fn inputs_may_be_as_long_as_the_limit(rt: HostRuntime) -> Result<(), Fail> {
     ];
     for &(left, wanted) in CASES {
         let output = make_sink(rt.alloc(), 100, None);
-        let told = run_over(rt.alloc(), &Command::Check, make_spaces(left), output)?;
-        same(told.as_str(), wanted)?;
+        comes_to(
+            rt.alloc(),
+            Ok(Command::Check),
+            make_spaces(left),
+            output,
+            wanted,
+        )?;
     }
     Ok(())
 }
@@ -278,10 +307,9 @@ fn outputs_may_take_little_or_fail(rt: HostRuntime) -> Result<(), Fail> {
         ),
     ];
     for &(path, bytes, step, fails_at, wanted) in CASES {
-        let command = asked(rt.alloc(), path)?;
+        let input = make_steps(bytes, 100, None);
         let output = make_sink(rt.alloc(), step, fails_at);
-        let told = run_over(rt.alloc(), &command, make_steps(bytes, 100, None), output)?;
-        same(told.as_str(), wanted)?;
+        comes_to(rt.alloc(), asked(rt.alloc(), path), input, output, wanted)?;
     }
     Ok(())
 }
@@ -290,15 +318,23 @@ fn outputs_may_take_little_or_fail(rt: HostRuntime) -> Result<(), Fail> {
 fn sets(alloc: Global, edits: &[(&str, &str)]) -> Result<Command, Fail> {
     let mut made = Vec::new(alloc);
     for &(path, value) in edits {
-        made.push(edit(alloc, path, value)?)?;
+        push_set(
+            &mut made,
+            Path::read(alloc, path),
+            ValueText::read(alloc, value),
+        )?;
     }
     Ok(Command::Apply(made))
 }
 
-fn edit(alloc: Global, path: &str, value: &str) -> Result<Edit, Fail> {
-    let path = Path::read(alloc, path)?;
-    let value = ValueText::read(alloc, value)?;
-    Ok(Edit::Set(path, value))
+fn push_set(
+    edits: &mut Vec<Edit>,
+    path: Result<Path, PathFault>,
+    value: Result<ValueText, ReadFault>,
+) -> Result<(), Fail> {
+    let path = path?;
+    edits.push(Edit::Set(path, value?))?;
+    Ok(())
 }
 
 // The words of the program tell one edit alone, so these are no rows over it.
@@ -324,15 +360,9 @@ fn edits_are_made_in_turn(rt: HostRuntime) -> Result<(), Fail> {
         ),
     ];
     for &(text, edits, wanted) in CASES {
-        let command = sets(rt.alloc(), edits)?;
+        let input = make_steps(text.as_bytes(), 100, None);
         let output = make_sink(rt.alloc(), 100, None);
-        let told = run_over(
-            rt.alloc(),
-            &command,
-            make_steps(text.as_bytes(), 100, None),
-            output,
-        )?;
-        same(told.as_str(), wanted)?;
+        comes_to(rt.alloc(), sets(rt.alloc(), edits), input, output, wanted)?;
     }
     Ok(())
 }

@@ -1,4 +1,4 @@
-use Rattle.std.proofs.Common.{◌+◌, arith, ℕ, take, length-take}
+use Rattle.std.proofs.Common.{◌+◌, arith, ℕ, take, length-take, rules}
 use Rattle.keep_run.specs.declared.run.TheConstants.{LONGEST_INPUT}
 use Rattle.keep_run.proofs.Loses.{loses_kept, loses_more}
 use Rattle.keep_run.proofs.run.read_all.Goals as goal
@@ -19,3 +19,6 @@ returns-then-is_err-clause-taken g c =
     let bound = c.in-Ok.ensures.bound in let room = c.min-room.ensures in let len = c.len.ensures in let same = c.read.auto.buf in
     loses_more (LONGEST_INPUT + 1) (g.R.Read.remaining c.args.input.now.inner) (g.R.Read.remaining c.loop.input.inner) (g.R.Read.remaining c.read.new.self.inner)
     c.loop.bytes.items (take c.in-Ok.count c.read.new.buf) c.loop.invariant.taken c.in-Ok.ensures.bytes.0 (omega (arith, length-take {A = ℕ}))
+
+pub returns-in_default-clause-reads : goal.returns-in_default-clause-reads
+returns-in_default-clause-reads c = search rules
