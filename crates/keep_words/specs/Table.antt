@@ -18,20 +18,20 @@ row name asked words = record { name = name; ask = asked; words = words }
 -- all subcommands
 abbrev pub table : List Row
 table =
-  row (codes "check") ask.Check []
-  ∷ row (codes "check-wide") ask.CheckWide []
-  ∷ row (codes "list") ask.List []
-  ∷ row (codes "get") ask.Get (word.Path ∷ [])
-  ∷ row (codes "text") ask.Text (word.Path ∷ [])
-  ∷ row (codes "set") ask.Set (word.Path ∷ word.Value ∷ [])
-  ∷ row (codes "insert") ask.Insert (word.Path ∷ word.Value ∷ [])
-  ∷ row (codes "rename") ask.Rename (word.Path ∷ word.Key ∷ [])
-  ∷ row (codes "remove") ask.Remove (word.Path ∷ [])
-  ∷ row (codes "table") ask.Table (word.Keys ∷ [])
-  ∷ row (codes "element") ask.Element (word.Keys ∷ [])
-  ∷ row (codes "apply") ask.Apply (word.Script ∷ [])
-  ∷ row (codes "apply-wide") ask.ApplyWide (word.WideScript ∷ [])
-  ∷ []
+    row (codes "check") ask.Check []
+    ∷ row (codes "check-wide") ask.CheckWide []
+    ∷ row (codes "list") ask.List []
+    ∷ row (codes "get") ask.Get (word.Path ∷ [])
+    ∷ row (codes "text") ask.Text (word.Path ∷ [])
+    ∷ row (codes "set") ask.Set (word.Path ∷ word.Value ∷ [])
+    ∷ row (codes "insert") ask.Insert (word.Path ∷ word.Value ∷ [])
+    ∷ row (codes "rename") ask.Rename (word.Path ∷ word.Key ∷ [])
+    ∷ row (codes "remove") ask.Remove (word.Path ∷ [])
+    ∷ row (codes "table") ask.Table (word.Keys ∷ [])
+    ∷ row (codes "element") ask.Element (word.Keys ∷ [])
+    ∷ row (codes "apply") ask.Apply (word.Script ∷ [])
+    ∷ row (codes "apply-wide") ask.ApplyWide (word.WideScript ∷ [])
+    ∷ []
 
 abbrev pub first_row : Row
 first_row = get_or table 0 (row [] ask.Check [])
