@@ -41,3 +41,7 @@ pub mod ReplacedLaws
 pub mod HeadLaws
 pub mod MoveLaws
 pub mod TouchedLaws
+pub mod PieceLaws
+pub mod SplitLaws
+pub mod CountingLaws
+pub mod RereadLaws

@@ -47,6 +47,15 @@ moves_all : {A : Type 0} (lift : Count → A → A) (move : Count → Count → 
 moves_all lift move h a b [] = refl
 moves_all lift move h a b (x ∷ xs) = let e = h a b x in let f = moves_all lift move h a b xs in cc
 
+-- lines from one count on are those from another, moved
+pub moved_over : {A : Type 0} (f : OverLine A) (lift : Count → A → A) (move : Count → Count → A → A) → Lifts f lift → Moves lift move
+    → (a b : Count) (es : List Ended) (last : Line) → map (move a b) (over_lines f a es last) ≡ over_lines f b es last
+moved_over {A} f lift move h m a b es last =
+    let alone : List A = over_lines f origin es last in
+    let was : over_lines f a es last ≡ map (lift a) alone = ap (λ k. over_lines f k es last) (sym (plus-origin a)) ∙ lifted_over f lift h a origin es last in
+    let is : over_lines f b es last ≡ map (lift b) alone = ap (λ k. over_lines f k es last) (sym (plus-origin b)) ∙ lifted_over f lift h b origin es last in
+    ap (map (move a b)) was ∙ moves_all lift move m a b alone ∙ sym is
+
 -- The list over lines among which some are new: of the front unchanged, of the new lines as from 0 but lifted, and of those
 -- after as before but moved.
 pub lines_law : {A : Type 0} (f : OverLine A) (lift : Count → A → A) (move : Count → Count → A → A) → Lifts f lift → Moves lift move
@@ -113,3 +122,17 @@ parts_law = lines_law (λ c l line_end. line_parts c l) lift_key moved_key (λ c
 
 pub values_law : LinesLaw (λ c l line_end. line_values c l) lift_value moved_value
 values_law = lines_law (λ c l line_end. line_values c l) lift_value moved_value (λ c d l end. lifted_line_values c d l) moves_values
+
+-- ---- and moved
+
+abbrev pub MovesOver : {A : Type 0} → OverLine A → (Count → Count → A → A) → Type 0
+MovesOver f move = (a b : Count) (es : List Ended) (last : Line) → map (move a b) (over_lines f a es last) ≡ over_lines f b es last
+
+pub moved_statements : MovesOver line_statements moved_statement
+moved_statements = moved_over line_statements lift_statement moved_statement lifted_line_statements moves_statements
+
+pub moved_parts : MovesOver (λ c l line_end. line_parts c l) moved_key
+moved_parts = moved_over (λ c l line_end. line_parts c l) lift_key moved_key (λ c d l end. lifted_line_parts c d l) moves_keys
+
+pub moved_values : MovesOver (λ c l line_end. line_values c l) moved_value
+moved_values = moved_over (λ c l line_end. line_values c l) lift_value moved_value (λ c d l end. lifted_line_values c d l) moves_values

@@ -17,7 +17,8 @@ use Rattle.keep_syntax.specs.Numbered.{placed, tokens}
 use Rattle.keep_syntax.specs.Reading.{Fault, read_document, read_one_value}
 use Rattle.keep_syntax.specs.Flat.{Flat, flat, kinds, starts, add_at, Fails}
 use Rattle.keep_syntax.specs.Cut.{start_in, cut, cut_by}
-use Rattle.keep_syntax.specs.FlatLines.{DocumentIs, OneIs}
+use Rattle.keep_syntax.specs.FlatLines.{flat_of, DocumentIs, OneIs}
+use Rattle.keep_syntax.specs.WholeLines.{starts_of}
 use Rattle.keep_syntax.specs.Contract.{IsSyntaxOf, IsTextOf, IsValueSyntaxOf, IsReadOf, IsReadAlone, tokens_of, values_of, value_values_of, values_alone, IsFaultOf, IsValueFaultOf}
 use Rattle.keep_syntax.specs.Nesting.{IsWithin, deepest}
 use Rattle.keep_syntax.proofs.LoopLaws.{ok_is}
@@ -35,7 +36,7 @@ use Rattle.keep_syntax.proofs.CutLaws.{cut_placed, start_holds, start_forward}
 
 -- ---- documents
 
-abbrev syntax_of : Parts → List ℕ → ℕ → Syntax
+abbrev pub syntax_of : Parts → List ℕ → ℕ → Syntax
 syntax_of p lines len = record { parts = p; lines = lines; len = len }
 
 inner_text : (d : Document) → text d ≡ text_of (inner_leaves d)
@@ -51,20 +52,22 @@ DocumentOf profile limit bytes p lines len = DocumentIs profile limit bytes (fla
 pub is_read : (profile : Profile) (limit : ℕ) (bytes : List ℕ) (f : Flat) (lines : List ℕ) (h : DocumentIs profile limit bytes f lines) → Reads profile limit bytes h.document
 is_read profile limit bytes f lines h = document_found profile limit bytes h.document h.is_read
 
-pub is_syntax : (profile : Profile) (limit : ℕ) (bytes : List ℕ) (p : Parts) (lines : List ℕ) (len : ℕ) (h : DocumentOf profile limit bytes p lines len) → IsSyntaxOf (syntax_of p lines len) h.0.document
+-- all that is stored of a document
+pub syntax_is : (s : Syntax) (d : Document) → flat s.parts ≡ flat_of d → s.lines ≡ starts_of d → s.len ≡ length (text d) → IsSyntaxOf s d
 unfolding add_at
+syntax_is s d stored lines len = record {
+  tokens = ap (λ (f : Flat). cut_by f (text d)) stored ∙ tokens_are d;
+  statements = ap (λ (f : Flat). f.statements) stored;
+  parts = ap (λ (f : Flat). f.keys) stored;
+  values = ap (λ (f : Flat). f.values) stored;
+  stored = stored;
+  lines = lines;
+  len = len;
+}
+
+pub is_syntax : (profile : Profile) (limit : ℕ) (bytes : List ℕ) (p : Parts) (lines : List ℕ) (len : ℕ) (h : DocumentOf profile limit bytes p lines len) → IsSyntaxOf (syntax_of p lines len) h.0.document
 is_syntax profile limit bytes p lines len h =
-    let d = h.0.document in
-    let kept = h.0.grows.kept in
-    record {
-      tokens = ap (λ (f : Flat). cut_by f (text d)) kept ∙ tokens_are d;
-      statements = ap (λ (f : Flat). f.statements) kept;
-      parts = ap (λ (f : Flat). f.keys) kept;
-      values = ap (λ (f : Flat). f.values) kept;
-      stored = kept;
-      lines = h.0.lines;
-      len = h.1 ∙ ap length (is_read profile limit bytes (flat p) lines h.0).spelled;
-    }
+    syntax_is (syntax_of p lines len) h.0.document h.0.grows.kept h.0.lines (h.1 ∙ ap length (is_read profile limit bytes (flat p) lines h.0).spelled)
 
 pub found : (profile : Profile) (limit : ℕ) (bytes : List ℕ) (p : Parts) (lines : List ℕ) (len : ℕ) → DocumentOf profile limit bytes p lines len
     → (d : Document) × Reads profile limit bytes d × IsSyntaxOf (syntax_of p lines len) d

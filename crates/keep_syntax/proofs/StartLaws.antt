@@ -109,3 +109,17 @@ kept_more steps far new new_far last at kept is le = record {
   small = subst AllSmall (sym is.more) (small_more (places_at 0 steps far) at kept.small le);
   last_is = sym (ap (last_of 0) is.more ∙ last_more 0 (places_at 0 steps far) at);
 }
+
+-- ---- how many
+
+-- each step has its place
+pub places_all : (at : ℕ) (steps far : List ℕ) → length far ≡ fars steps → length (places_at at steps far) ≡ length steps
+places_all at [] far n = refl
+places_all at (step ∷ steps) [] n = elim (eqb_tells step FAR) [
+  | inl t ↦ absurd (omega (arith, fars_behind step steps true t.0))
+  | inr t ↦ ap length (near_step at step steps [] t.0) ∙ ap suc (places_all (at + step) steps [] (omega (arith, fars_behind step steps false t.0)))
+]
+places_all at (step ∷ steps) (place ∷ far) n = elim (eqb_tells step FAR) [
+  | inl t ↦ ap length (far_step at step steps place far t.0) ∙ ap suc (places_all place steps far (omega (arith, fars_behind step steps true t.0)))
+  | inr t ↦ ap length (near_step at step steps (place ∷ far) t.0) ∙ ap suc (places_all (at + step) steps (place ∷ far) (omega (arith, fars_behind step steps false t.0)))
+]

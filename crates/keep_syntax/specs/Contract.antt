@@ -1,5 +1,5 @@
 -- What the public functions ensure: which document, or which value, was read of a text, and what a fault tells.
-use Rattle.std.specs.Prelude.{◌≡◌, ℕ, ◌+◌, ◌≤◌, List, length, drop, None, ⊤, IsCharBoundary}
+use Rattle.std.specs.Prelude.{◌≡◌, ℕ, ◌+◌, ◌≤◌, ◌⊎◌, false, List, ◌++◌, length, take, drop, None, ⊤, IsCharBoundary}
 use Rattle.keep_token.specs.declared.leaf.Profile.{Profile}
 use Rattle.keep_syntax.specs.declared.fault.ReadFault.{ReadFault}
 use Rattle.keep_syntax.specs.declared.fault.ReadFault.TheVariants as faults
@@ -20,7 +20,7 @@ use Rattle.keep_syntax.specs.Deep.{IsTooDeep, IsValueTooDeep}
 use Rattle.keep_syntax.specs.Flat.{flat}
 use Rattle.keep_syntax.specs.Cut.{start_in, cut_by}
 use Rattle.keep_syntax.specs.FlatLines.{flat_of}
-use Rattle.keep_syntax.specs.WholeLines.{begin, starts_of}
+use Rattle.keep_syntax.specs.WholeLines.{empty_line, begin, starts_of, touched}
 
 -- ---- what a syntax holds
 
@@ -67,6 +67,31 @@ pub record IsSpanIn (s : Syntax) (sp : Span) : Type 0 where
   pub low : begin document ≤ sp.start
   pub order : sp.start ≤ sp.end
   pub within : sp.end ≤ length (text document)
+
+-- Lines can be replaced: `whole` is whole lines of d, which are those that some span touches. The document m has the text of
+-- the new lines, within the limit and with no byte order mark. It ends with a newline, so that its last line is empty, unless
+-- `whole` ends with the text.
+pub record CanReplace (profile : Profile) (limit : ℕ) (d : Document) (whole : Span) (lines : List ℕ) (m : Document) : Type 0 where
+  pub valid : IsDocument profile d
+  pub span : Span
+  pub low : begin d ≤ span.start
+  pub order : span.start ≤ span.end
+  pub within : span.end ≤ length (text d)
+  pub whole_is : touched d span ≡ whole
+  pub reads : Reads profile limit lines m
+  pub bom : m.bom ≡ false
+  pub closed : (m.last ≡ empty_line) ⊎ (whole.end ≡ length (text d))
+
+-- This is the syntax of a document with these lines, and the new ones are those of some document.
+pub record MayReread (profile : Profile) (limit : ℕ) (s : Syntax) (whole : Span) (lines : List ℕ) : Type 0 where
+  pub document : Document
+  pub is : IsSyntaxOf s document
+  pub new : Document
+  pub can : CanReplace profile limit document whole lines new
+
+-- a text with the bytes of a span replaced
+abbrev pub put_at : Span → List ℕ → List ℕ → List ℕ
+put_at sp new bytes = take sp.start bytes ++ (new ++ drop sp.end bytes)
 
 -- ---- one value
 

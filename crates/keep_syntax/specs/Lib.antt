@@ -15,3 +15,4 @@ pub mod Laws
 pub mod FlatLines
 pub mod WholeLines
 pub mod Lifted
+pub mod Rereading

@@ -1,12 +1,15 @@
 //! What is kept of a text: its tokens, statements, key parts and values, each in a flat vector in text order.
-ghost use Rattle.std.specs.Prelude.{◌≡◌, ◌<◌, length, slice_get, OnOk, IsOkUnless, Some};
+ghost use Rattle.std.specs.Prelude.{◌≡◌, ◌<◌, ◌≤◌, length, map, slice_get, slice_range, OnOk, IsOkUnless, Some};
 ghost use Rattle.keep_syntax.specs.declared.fault.ReadFault.TheVariants.{Memory};
 ghost use Rattle.keep_syntax.specs.Cut.{places_left};
+ghost use Rattle.keep_syntax.specs.Lifted.{moved};
+ghost use Rattle.keep_syntax.specs.Rereading as rereading;
 ghost use Rattle.keep_syntax.specs.Flat as spec;
 
 use crate::fault::ReadFault;
 use crate::info::{KeyPart, Span, Start, Statement, ValueInfo};
 use crate::keys::KeyParts;
+use crate::moves::Counts;
 use crate::starts::{Places, Starts};
 use crate::statements::Statements;
 use crate::values::Values;
@@ -112,6 +115,40 @@ pub fn push_statement(out: &mut Parts, statement: Statement) -> Result<(), ReadF
 {
     out.statements.push(statement)?;
     Ok(())
+}
+
+/// Stores a value of which all is known.
+pub fn push_info(out: &mut Parts, value: ValueInfo) -> Result<(), ReadFault>
+    ensures { OnOk result (spec.flat out.new ≡ spec.with_value value (spec.flat out.old)) }
+{
+    out.values.push(value)
+}
+
+/// Stores the tokens of another list from one count to another, moved to begin at the byte `at`.
+pub fn append_marks(
+    out: &mut Parts,
+    other: &Parts,
+    from: &Counts,
+    to: &Counts,
+    at: usize,
+) -> Result<(), ReadFault>
+    requires order { from.now.tokens ≤ to.now.tokens }
+    requires within { to.now.tokens ≤ length (spec.flat other.now).kinds }
+    ensures { OnOk result (spec.flat out.new ≡ rereading.with_marks (slice_range (spec.flat other.now).kinds from.now.tokens to.now.tokens)
+        (map (moved from.now.at at) (slice_range (spec.flat other.now).starts from.now.tokens to.now.tokens)) (spec.flat out.old)) }
+{
+    out.kinds
+        .extend_from_slice(&other.kinds[from.tokens..to.tokens])?;
+    out.starts
+        .append_moved(&other.starts, from.tokens, to.tokens, from.at, at)?;
+    Ok(())
+}
+
+/// How many tokens begin before a place.
+pub fn marks_before(out: &Parts, place: usize) -> usize
+    ensures { result ≡ rereading.places_before place (spec.flat out.now).starts }
+{
+    out.starts.count_before(place)
 }
 
 /// Keeps a value that begins at the byte `at`, with so many key parts of its own before it, in entries that begin at

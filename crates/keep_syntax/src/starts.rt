@@ -1,8 +1,9 @@
 //! Where each token begins, or each line, stored in one byte each.
-ghost use Rattle.std.specs.Prelude.{◌≡◌, ◌≢◌, ◌+◌, ◌++◌, [], ◌∷◌, OnOk, OnErr};
+ghost use Rattle.std.specs.Prelude.{◌≡◌, ◌≢◌, ◌+◌, ◌++◌, [], ◌∷◌, length, map, slice_range, OnOk, OnErr};
 ghost use Rattle.keep_syntax.specs.declared.starts.TheConstants.{FAR};
 ghost use Rattle.keep_syntax.specs.Starts.{AllSmall, places_at};
 
+use crate::moves::moved;
 use std::alloc::{AllocError, Global};
 use std::marker::Model;
 
@@ -51,6 +52,8 @@ fn step_to(from: usize, to: usize) -> u8
 
 impl Starts {
     ghost use Rattle.keep_syntax.specs.Cut.{places_left};
+    ghost use Rattle.keep_syntax.specs.Lifted as lifted;
+    ghost use Rattle.keep_syntax.specs.Rereading.{places_before};
     ghost use Rattle.keep_syntax.specs.WholeLines.{first_from, last_to};
 
     /// No place yet.
@@ -117,6 +120,56 @@ impl Starts {
             }
         }
         high
+    }
+
+    /// How many places there are.
+    pub fn len(&self) -> usize
+        ensures { result ≡ length self.now }
+    {
+        self.steps.len()
+    }
+
+    /// How many of ascending places are before `place`.
+    pub fn count_before(&self, place: usize) -> usize
+        ensures { result ≡ places_before place self.now }
+    {
+        let count = self.len();
+        let mut number = 0;
+        'places: for at in self.iter() {
+            if place <= at {
+                return number;
+            }
+            number += 1;
+            prove!(number <= count);
+        }
+        number
+    }
+
+    /// Stores also the places of another list from number `from` up to number `to`, moved from after `old` to after `new`.
+    pub fn append_moved(
+        &mut self,
+        other: &Starts,
+        from: usize,
+        to: usize,
+        old: usize,
+        new: usize,
+    ) -> Result<(), AllocError>
+        ensures { OnOk result (self.new ≡ self.old ++ map (lifted.moved old new) (slice_range other.now from to)) }
+    {
+        let mut number = 0;
+        'places: for at in other.iter() {
+            if number == to {
+                return Ok(());
+            }
+            if from <= number {
+                let Some(place) = moved(at, old, new) else {
+                    return Err(AllocError);
+                };
+                self.push(place)?;
+            }
+            number += 1;
+        }
+        Ok(())
     }
 }
 

@@ -6,16 +6,18 @@ ghost use Rattle.keep_syntax.specs.declared.fault.ReadFault.TheVariants.{Memory}
 ghost use Rattle.keep_syntax.specs.Tree.{Document};
 ghost use Rattle.keep_syntax.specs.Grammar.{Reads};
 ghost use Rattle.keep_syntax.specs.Nesting.{IsWithin};
-ghost use Rattle.keep_syntax.specs.WholeLines.{touched};
+ghost use Rattle.keep_syntax.specs.WholeLines.{touched, replaced};
 ghost use Rattle.keep_syntax.specs.Contract as spec;
 
 use crate::fault::ReadFault;
 use crate::info::{KeyPart, Limits, Span, Statement, ValueInfo};
+use crate::moves::moved;
 use crate::parts::{Parts, mark_count, statement_at, statement_count};
+use crate::reread::{replaced_parts, replaced_starts};
 use crate::starts::Starts;
 use crate::tokens::Tokens;
 use crate::whole::read_lines;
-use std::alloc::Global;
+use std::alloc::{AllocError, Global};
 
 /// What was read of a document: its tokens, statements, key parts and values, each in text order.
 #[derive(Debug, Drop)]
@@ -124,6 +126,54 @@ impl Syntax {
             start: self.lines.last_to(span.start, 0),
             end: self.lines.first_from(span.end, self.len),
         }
+    }
+
+    /// The syntax of the text with whole lines replaced by others. Only these are read; what is stored of all other lines is
+    /// moved.
+    ///
+    /// # Errors
+    ///
+    /// `AllocError` if memory runs out.
+    pub fn reread(
+        &self,
+        alloc: Global,
+        whole: Span,
+        lines: &str,
+        limits: Limits,
+    ) -> Result<Syntax, AllocError>
+        requires { spec.MayReread limits.profile limits.depth self.now whole lines.now }
+        ensures read { (d m : Document) → spec.IsSyntaxOf self.now d → spec.CanReplace limits.profile limits.depth d whole lines.now m
+            → IfOk result (λ s. spec.IsSyntaxOf s (replaced d whole m)) }
+    {
+        match self.with_lines(alloc, whole, lines, limits) {
+            Ok(syntax) => Ok(syntax),
+            Err(_) => Err(AllocError),
+        }
+    }
+
+    /// The same. A number that no machine word holds is answered as out of memory: a text that memory holds has none.
+    fn with_lines(
+        &self,
+        alloc: Global,
+        whole: Span,
+        lines: &str,
+        limits: Limits,
+    ) -> Result<Syntax, ReadFault>
+        requires { spec.MayReread limits.profile limits.depth self.now whole lines.now }
+        ensures { (d m : Document) → spec.IsSyntaxOf self.now d → spec.CanReplace limits.profile limits.depth d whole lines.now m
+            → IfOk result (λ s. spec.IsSyntaxOf s (replaced d whole m)) }
+    {
+        let (fresh, starts) = read_lines(alloc, lines, limits)?;
+        let size = lines.len();
+        let Some(end) = whole.start.checked_add(size) else {
+            return Err(ReadFault::Memory);
+        };
+        let Some(len) = moved(self.len, whole.end, end) else {
+            return Err(ReadFault::Memory);
+        };
+        let parts = replaced_parts(alloc, &self.parts, whole, self.len, &fresh, size, end)?;
+        let lines = replaced_starts(alloc, &self.lines, whole, self.len, &starts, size, end)?;
+        Ok(Syntax { parts, lines, len })
     }
 
     /// What is kept of the text, each part by its number.
