@@ -1,56 +1,101 @@
--- No leaf but End is empty, so there are at most as many tokens as bytes, and End.
-use Rattle.std.proofs.Common.{◌≡◌, ℕ, ◌+◌, ◌<◌, ◌≤◌, Bool, true, false, List, [], ◌∷◌, ◌++◌, length, Option, Some, None, refl, sym, ap, subst, arith, append_assoc}
-use Rattle.std.specs.List.{flat_map, AllByRecursion}
+-- No leaf but End is empty, so there are at most as many tokens as bytes, and End. And each begins a character.
+use Rattle.std.proofs.Common.{◌≡◌, ℕ, ◌+◌, ◌<◌, ◌≤◌, Bool, true, false, List, [], ◌∷◌, ◌++◌, length, Option, Some, None, refl, sym, ap, subst, ◌∙◌, arith, append_assoc, inl, inr}
+use Rattle.std.specs.Prelude.{IsTrue}
+use Rattle.std.specs.List.{flat_map, list_all, AllByRecursion}
+use Rattle.std.proofs.lemmas.Bool.{and_parts}
+use Rattle.std.proofs.lemmas.Bool.Decides.{nat_tests}
 use Rattle.std.proofs.lemmas.List.{length-append}
 use Rattle.keep_token.specs.declared.leaf.Profile.{Profile}
+use Rattle.keep_token.specs.declared.leaf.Profile.TheVariants.{Strict}
 use Rattle.keep_token.specs.declared.leaf.Leaf.{Leaf}
 use Rattle.keep_token.specs.declared.leaf.Leaf.TheVariants as leaf
+use Rattle.keep_token.specs.Abnf.{is_ws}
+use Rattle.keep_token.specs.Leaves.{IsLeaf, is_gap_leaf}
+use Rattle.keep_token.specs.Scanning.{first}
 use Rattle.keep_syntax.specs.declared.info.Brackets.{Brackets}
 use Rattle.keep_syntax.specs.declared.info.Brackets.TheVariants as brackets
 use Rattle.keep_syntax.specs.Tree.{Written, Gap, Further, Key, Name, Body, scalar, array, inline, Entries, none, entry, Value, Content, blank, keyval, header, element, Line, Ended, Document, text_of, mark, further_leaves, key_leaves, name_leaves, named_leaves, opening, closing, comma_leaves, entries_leaves, value_leaves, content_leaves, comment_leaves, line_leaves, ended_leaves, bom_leaves, leaves}
 use Rattle.keep_syntax.specs.Grammar.{IsSpace, IsBlank, IsKeyPart, IsFurther, IsKey, IsName, place_in, IsNamed, IsBody, AreEntries, IsValue, IsContent, IsAfter, IsComment, IsLine, IsEnded, IsDocument, Reads, ReadsValue}
 use Rattle.keep_syntax.specs.Numbered.{width, marks}
 use Rattle.keep_syntax.specs.Reading.{Item}
-use Rattle.keep_syntax.proofs.SpaceLaws.{text_of-append, place_of, gap_blank, space_blank, gap_leaf_some}
-use Rattle.keep_syntax.proofs.KeyLaws.{part_begins}
-use Rattle.keep_syntax.proofs.ValueLaws.{item_leaves, entry_leaves}
+use Rattle.keep_syntax.proofs.SpaceLaws.{text_of-append, place_of, gap_blank, space_blank}
+use Rattle.keep_syntax.proofs.KeyLaws.{is_key_first, part_begins}
+use Rattle.keep_syntax.proofs.ValueLaws.{is_scalar_first, item_leaves, entry_leaves}
 use Rattle.keep_syntax.proofs.AgainLaws.{scalar_begins}
 use Rattle.keep_syntax.proofs.DeepLaws.{comma_blank}
 use Rattle.keep_syntax.proofs.DocumentLaws.{lines_leaves}
 
--- none of these leaves is empty
+-- the leaf is not empty, and its first byte begins a character
+abbrev pub BeginsChar : Written → Type 0
+BeginsChar w = (0 < length w.text) × (128 ≤ first w.text → 192 ≤ first w.text)
+
 abbrev pub AreSome : List Written → Type 0
-AreSome ws = AllByRecursion (λ (w : Written). 0 < length w.text) ws
+AreSome ws = AllByRecursion BeginsChar ws
 
 pub some-append : (a b : List Written) → AreSome a → AreSome b → AreSome (a ++ b)
 some-append [] b h g = g
 some-append (w ∷ ws) b h g = (h.0, some-append ws b h.1 g)
 
-one_some : (w : Written) → 0 < length w.text → AreSome (w ∷ [])
-one_some w h = (h, tt)
+-- it begins with a byte of ASCII
+low_some : (w : Written) (c : ℕ) (cs : List ℕ) → w.text ≡ c ∷ cs → c < 128 → BeginsChar w
+low_some w c cs e h = (omega (arith, ap length e), λ k. absurd (omega (arith, k, h, ap first e)))
+
+sign_some : (l : Leaf) (c : ℕ) (cs : List ℕ) → c < 128 → AreSome (mark l (c ∷ cs))
+sign_some l c cs h = (low_some (record { leaf = l; text = c ∷ cs }) c cs refl h, tt)
+
+-- the first byte of a text that is not empty is one of these
+tested_some : (is : ℕ → Bool) → ((c : ℕ) → is c ≡ true → c < 128) → (w : Written) → 0 < length w.text → is (first (w.text ++ [])) ≡ true → BeginsChar w
+tested_some is low w some h = by w.text refl some h
+  where
+    by : (t : List ℕ) → w.text ≡ t → 0 < length t → is (first (t ++ [])) ≡ true → BeginsChar w
+    by [] e k g = absurd (omega (arith, k))
+    by (c ∷ cs) e k g = low_some w c cs e (low c g)
+
+key_low : (c : ℕ) → is_key_first c ≡ true → c < 128
+key_low c h = grind (arith, nat_tests)
+
+scalar_low : (c : ℕ) → is_scalar_first c ≡ true → c < 128
+scalar_low c h = grind (arith, nat_tests)
+
+ws_low : (c : ℕ) → is_ws c ≡ true → c < 128
+ws_low c h = grind (arith, nat_tests)
+
+ws_some : (w : Written) → 0 < length w.text → IsTrue (list_all is_ws w.text) → BeginsChar w
+ws_some w some all = by w.text refl some all
+  where
+    by : (t : List ℕ) → w.text ≡ t → 0 < length t → IsTrue (list_all is_ws t) → BeginsChar w
+    by [] e k g = absurd (omega (arith, k))
+    by (c ∷ cs) e k g = low_some w c cs e (ws_low c (and_parts (is_ws c) (list_all is_ws cs) g).0)
+
+gap_some : (w : Written) (l : Leaf) → w.leaf ≡ l → IsTrue (is_gap_leaf l) → IsLeaf Strict l w.text → BeginsChar w
+gap_some w leaf.Ws is k i = ws_some w i.0 i.1
+gap_some w leaf.Newline is k (inl e) = low_some w 0x0A [] e (omega arith)
+gap_some w leaf.Newline is k (inr e) = low_some w 0x0D (0x0A ∷ []) e (omega arith)
+gap_some w leaf.Comment is k (a, b, spelled, hash, all) = low_some w 0x23 b (spelled ∙ ap (λ (t : List ℕ). t ++ b) hash) (omega arith)
+gap_some w _ is k i = absurd cc
 
 -- as many leaves as bytes, or fewer
 pub some_count : (ws : List Written) → AreSome ws → length ws ≤ width ws
 some_count [] h = omega arith
-some_count (w ∷ ws) h = omega (arith, h.0, some_count ws h.1, length-append w.text (text_of ws))
+some_count (w ∷ ws) h = omega (arith, h.0.0, some_count ws h.1, length-append w.text (text_of ws))
 
 -- ---- each part
 
 blank_some : (g : Gap) → IsBlank g → AreSome g
 blank_some [] h = tt
-blank_some (w ∷ more) h = (gap_leaf_some w.leaf w.text h.0 h.1, blank_some more h.3)
+blank_some (w ∷ more) h = (gap_some w w.leaf refl h.0 h.1, blank_some more h.3)
 
 space_some : (g : Gap) → IsSpace g → AreSome g
 space_some g h = blank_some g (space_blank g h)
 
 part_some : (profile : Profile) (w : Written) → IsKeyPart profile w → AreSome (w ∷ [])
-part_some profile w h = one_some w (part_begins profile w [] h).0
+part_some profile w h = let begins = part_begins profile w [] h in (tested_some is_key_first key_low w begins.0 begins.1, tt)
 
 further_some : (profile : Profile) (f : Further) → IsFurther profile f → AreSome (further_leaves f)
 further_some profile f h =
     let dot = mark leaf.Dot (0x2E ∷ []) in
     some-append f.before (dot ++ (f.behind ++ (f.part ∷ []))) (space_some f.before h.before)
-    (some-append dot (f.behind ++ (f.part ∷ [])) (omega arith, tt) (some-append f.behind (f.part ∷ []) (space_some f.behind h.behind) (part_some profile f.part h.part)))
+    (some-append dot (f.behind ++ (f.part ∷ [])) (sign_some leaf.Dot 0x2E [] (omega arith)) (some-append f.behind (f.part ∷ []) (space_some f.behind h.behind) (part_some profile f.part h.part)))
 
 more_some : (profile : Profile) (fs : List Further) → AllByRecursion (IsFurther profile) fs → AreSome (flat_map further_leaves fs)
 more_some profile [] h = tt
@@ -63,7 +108,7 @@ name_some : (profile : Profile) (n : Name) → IsName profile n → AreSome (nam
 name_some profile n h =
     let equals = mark leaf.Equals (0x3D ∷ []) in
     some-append (key_leaves n.key) (n.before ++ (equals ++ n.behind)) (key_some profile n.key h.key)
-    (some-append n.before (equals ++ n.behind) (space_some n.before h.before) (some-append equals n.behind (omega arith, tt) (space_some n.behind h.behind)))
+    (some-append n.before (equals ++ n.behind) (space_some n.before h.before) (some-append equals n.behind (sign_some leaf.Equals 0x3D [] (omega arith)) (space_some n.behind h.behind)))
 
 named_some : (profile : Profile) (b : Brackets) (n : Option Name) → IsNamed profile (place_of b) n → AreSome (named_leaves n)
 named_some profile b None h = tt
@@ -72,15 +117,15 @@ named_some profile brackets.Inline (Some n) h = name_some profile n h
 
 comma_some : (comma : Option Gap) → ((g : Gap) → comma ≡ Some g → IsBlank g) → AreSome (comma_leaves comma)
 comma_some None h = tt
-comma_some (Some g) h = some-append (mark leaf.Comma (0x2C ∷ [])) g (omega arith, tt) (blank_some g (h g refl))
+comma_some (Some g) h = some-append (mark leaf.Comma (0x2C ∷ [])) g (sign_some leaf.Comma 0x2C [] (omega arith)) (blank_some g (h g refl))
 
 body_some : (profile : Profile) (body : Body) (inside : Entries) → IsBody profile body → AreEntries profile (place_in body) inside → ((b : Brackets) → AreEntries profile (place_of b) inside → AreSome (entries_leaves inside)) → AreSome (value_leaves (record { body = body; inside = inside }))
-body_some profile (scalar w) none h i ih = one_some w (scalar_begins profile w [] h).0
+body_some profile (scalar w) none h i ih = let begins = scalar_begins profile w [] h in (tested_some is_scalar_first scalar_low w begins.0 begins.1, tt)
 body_some profile (scalar w) (entry name body inside after comma rest) h i ih = absurd i.0
 body_some profile (array g) inside h i ih =
-    some-append (opening (array g)) (entries_leaves inside ++ closing (array g)) (omega arith, blank_some g (gap_blank profile brackets.Array g h)) (some-append (entries_leaves inside) (closing (array g)) (ih brackets.Array i) (omega arith, tt))
+    some-append (opening (array g)) (entries_leaves inside ++ closing (array g)) ((sign_some leaf.ArrayOpen 0x5B [] (omega arith)).0, blank_some g (gap_blank profile brackets.Array g h)) (some-append (entries_leaves inside) (closing (array g)) (ih brackets.Array i) (sign_some leaf.ArrayClose 0x5D [] (omega arith)))
 body_some profile (inline g) inside h i ih =
-    some-append (opening (inline g)) (entries_leaves inside ++ closing (inline g)) (omega arith, blank_some g (gap_blank profile brackets.Inline g h)) (some-append (entries_leaves inside) (closing (inline g)) (ih brackets.Inline i) (omega arith, tt))
+    some-append (opening (inline g)) (entries_leaves inside ++ closing (inline g)) ((sign_some leaf.InlineOpen 0x7B [] (omega arith)).0, blank_some g (gap_blank profile brackets.Inline g h)) (some-append (entries_leaves inside) (closing (inline g)) (ih brackets.Inline i) (sign_some leaf.InlineClose 0x7D [] (omega arith)))
 
 entries_some : (profile : Profile) (es : Entries) (b : Brackets) → AreEntries profile (place_of b) es → AreSome (entries_leaves es)
 entries_some profile none b h = tt
@@ -97,18 +142,18 @@ entries_some profile (entry name body inside after comma rest) b h =
 pub value_some : (profile : Profile) (v : Value) → IsValue profile v → AreSome (value_leaves v)
 value_some profile v h = body_some profile v.body v.inside h.body h.inside (λ b k. entries_some profile v.inside b k)
 
-header_some : (profile : Profile) (l m : Leaf) (s t : List ℕ) (before : Gap) (k : Key) (behind : Gap) → 0 < length s → 0 < length t → IsContent profile (header before k behind) → AreSome (mark l s ++ (before ++ (key_leaves k ++ (behind ++ mark m t))))
+header_some : (profile : Profile) (l m : Leaf) (s t : List ℕ) (before : Gap) (k : Key) (behind : Gap) → AreSome (mark l s) → AreSome (mark m t) → IsContent profile (header before k behind) → AreSome (mark l s ++ (before ++ (key_leaves k ++ (behind ++ mark m t))))
 header_some profile l m s t before k behind e f h =
-    some-append (mark l s) (before ++ (key_leaves k ++ (behind ++ mark m t))) (e, tt)
+    some-append (mark l s) (before ++ (key_leaves k ++ (behind ++ mark m t))) e
     (some-append before (key_leaves k ++ (behind ++ mark m t)) (space_some before h.0)
     (some-append (key_leaves k) (behind ++ mark m t) (key_some profile k h.1)
-    (some-append behind (mark m t) (space_some behind h.2) (f, tt))))
+    (some-append behind (mark m t) (space_some behind h.2) f)))
 
 content_some : (profile : Profile) (c : Content) → IsContent profile c → AreSome (content_leaves c)
 content_some profile blank h = tt
 content_some profile (keyval n v) h = some-append (name_leaves n) (value_leaves v) (name_some profile n h.0) (value_some profile v h.1)
-content_some profile (header before k behind) h = header_some profile leaf.HeadOpen leaf.HeadClose (0x5B ∷ []) (0x5D ∷ []) before k behind (omega arith) (omega arith) h
-content_some profile (element before k behind) h = header_some profile leaf.ElemOpen leaf.ElemClose (0x5B ∷ 0x5B ∷ []) (0x5D ∷ 0x5D ∷ []) before k behind (omega arith) (omega arith) h
+content_some profile (header before k behind) h = header_some profile leaf.HeadOpen leaf.HeadClose (0x5B ∷ []) (0x5D ∷ []) before k behind (sign_some leaf.HeadOpen 0x5B [] (omega arith)) (sign_some leaf.HeadClose 0x5D [] (omega arith)) h
+content_some profile (element before k behind) h = header_some profile leaf.ElemOpen leaf.ElemClose (0x5B ∷ 0x5B ∷ []) (0x5D ∷ 0x5D ∷ []) before k behind (sign_some leaf.ElemOpen 0x5B (0x5B ∷ []) (omega arith)) (sign_some leaf.ElemClose 0x5D (0x5D ∷ []) (omega arith)) h
 
 after_some : (c : Content) (g : Gap) → IsAfter c g → AreSome g
 after_some blank g h = subst (λ (ws : List Written). AreSome ws) (sym h) tt
@@ -118,7 +163,7 @@ after_some (element before k behind) g h = space_some g h
 
 comment_some : (o : Option Written) → IsComment o → AreSome (comment_leaves o)
 comment_some None h = tt
-comment_some (Some w) h = one_some w (gap_leaf_some leaf.Comment w.text refl h.1)
+comment_some (Some w) h = (gap_some w leaf.Comment h.0 refl h.1, tt)
 
 line_some : (profile : Profile) (l : Line) → IsLine profile l → AreSome (line_leaves l)
 line_some profile l h =
@@ -129,13 +174,13 @@ line_some profile l h =
 ended_some : (profile : Profile) (es : List Ended) → AllByRecursion (IsEnded profile) es → AreSome (flat_map ended_leaves es)
 ended_some profile [] h = tt
 ended_some profile (e ∷ es) h =
-    some-append (ended_leaves e) (flat_map ended_leaves es) (some-append (line_leaves e.line) (e.newline ∷ []) (line_some profile e.line h.0.line) (one_some e.newline (gap_leaf_some leaf.Newline e.newline.text refl h.0.newline))) (ended_some profile es h.1)
+    some-append (ended_leaves e) (flat_map ended_leaves es) (some-append (line_leaves e.line) (e.newline ∷ []) (line_some profile e.line h.0.line) (gap_some e.newline leaf.Newline h.0.kind refl h.0.newline, tt)) (ended_some profile es h.1)
 
 bom_some : (s : Document) → AreSome (bom_leaves s.bom)
 bom_some s = by s.bom
   where
     by : (b : Bool) → AreSome (bom_leaves b)
-    by true = (omega arith, tt)
+    by true = ((omega arith, λ k. omega arith), tt)
     by false = tt
 
 -- all leaves but End
@@ -145,7 +190,7 @@ inner_leaves s = bom_leaves s.bom ++ lines_leaves s.ended s.last
 pub leaves_end : (s : Document) → leaves s ≡ inner_leaves s ++ mark leaf.End []
 leaves_end s = simp append_assoc
 
--- No leaf of a document but End is empty.
+-- No leaf of a document but End is empty, and each begins a character.
 pub document_some : (profile : Profile) (s : Document) → IsDocument profile s → AreSome (inner_leaves s)
 document_some profile s h = some-append (bom_leaves s.bom) (lines_leaves s.ended s.last) (bom_some s) (some-append (flat_map ended_leaves s.ended) (line_leaves s.last) (ended_some profile s.ended h.ended) (line_some profile s.last h.last))
 

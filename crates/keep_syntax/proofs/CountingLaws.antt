@@ -16,7 +16,7 @@ use Rattle.keep_syntax.specs.Numbered.{width, Count, first_line, line_statements
 use Rattle.keep_syntax.specs.Flat.{Flat, kinds, starts}
 use Rattle.keep_syntax.specs.FlatLines.{count_at, flat_of}
 use Rattle.keep_syntax.specs.Rereading.{counts_at, places_before, statements_before, first_key, value_or, first_value, counts_before, nothing, part_of, joined}
-use Rattle.keep_syntax.proofs.CountLaws.{AreSome, document_some}
+use Rattle.keep_syntax.proofs.CountLaws.{BeginsChar, AreSome, document_some}
 use Rattle.keep_syntax.proofs.NumberingLaws.{width-append}
 use Rattle.keep_syntax.proofs.FlatLaws.{same_flat}
 use Rattle.keep_syntax.proofs.LineLoopLaws.{same_count}
@@ -58,7 +58,7 @@ places_found place (x ∷ xs) ys h k = if_true (ltb x place) _ _ (lt-ltb x place
 pub starts_before : (at end : ℕ) (ws : List Written) → AreSome ws → at + width ws ≤ end → Before end (starts at ws)
 starts_before at end [] h k = tt
 starts_before at end (w ∷ ws) h k =
-    (omega (arith, h.0, k, length-append w.text (text_of ws)), starts_before (at + length w.text) end ws h.1 (omega (arith, k, length-append w.text (text_of ws))))
+    (omega (arith, h.0.0, k, length-append w.text (text_of ws)), starts_before (at + length w.text) end ws h.1 (omega (arith, k, length-append w.text (text_of ws))))
 
 starts_from : (place at : ℕ) (ws : List Written) → place ≤ at → From place (starts at ws)
 starts_from place at [] h = tt
@@ -166,8 +166,8 @@ counts_join c x y place even low high begin after head values ek ev =
 some_front : (profile : Profile) (d : Document) (front rest : List Ended) → IsDocument profile d → d.ended ≡ front ++ rest → AreSome (flat_map ended_leaves front)
 some_front profile d front rest valid e =
     let some = document_some profile d valid in
-    let here = all_front (λ (w : Written). 0 < length w.text) (flat_map ended_leaves d.ended) (line_leaves d.last) (all_back (λ (w : Written). 0 < length w.text) (bom_leaves d.bom) (flat_map ended_leaves d.ended ++ line_leaves d.last) some) in
-    all_front (λ (w : Written). 0 < length w.text) (flat_map ended_leaves front) (flat_map ended_leaves rest)
+    let here = all_front BeginsChar (flat_map ended_leaves d.ended) (line_leaves d.last) (all_back BeginsChar (bom_leaves d.bom) (flat_map ended_leaves d.ended ++ line_leaves d.last) some) in
+    all_front BeginsChar (flat_map ended_leaves front) (flat_map ended_leaves rest)
     (subst (λ (ws : List Written). AreSome ws) (ap (flat_map ended_leaves) e ∙ flat_map-append ended_leaves front rest) here)
 
 -- How much comes before a line: all that is stored of the lines before it.
@@ -183,7 +183,7 @@ counts_found profile d front rest place valid e here =
     let size : c.at ≡ c0.at + width lines = behind_lines-at c0 front in
     let low : Before place x.starts =
     all_append (λ (n : ℕ). n < place) (starts 0 bom) (starts c0.at lines)
-    (starts_before 0 place bom (all_front (λ (w : Written). 0 < length w.text) bom (flat_map ended_leaves d.ended ++ line_leaves d.last) (document_some profile d valid)) (omega (arith, here, size)))
+    (starts_before 0 place bom (all_front BeginsChar bom (flat_map ended_leaves d.ended ++ line_leaves d.last) (document_some profile d valid)) (omega (arith, here, size)))
     (starts_before c0.at place lines (some_front profile d front rest valid e) (omega (arith, here, size))) in
     let head = head_is c rest d.last in
     let bytes = have_bytes profile front (all_front (IsEnded profile) front rest (subst (λ (es : List Ended). AllByRecursion (IsEnded profile) es) e valid.ended)) in

@@ -19,11 +19,11 @@ parted bytes front [] at p e h = (refl, refl, refl, p ∙ sym (ap length (e ∙ 
 parted bytes front (w ∷ []) at p e h =
     let next = at + length w.text in
     let end : next ≡ length bytes = omega (arith, p, ap length e, length-append front (w.text ++ []), ap length (append-nil w.text)) in
-    (refl, h.0, sym (slice_is bytes front w.text [] at next p refl e), (refl, refl, refl, end))
+    (refl, h.0.0, sym (slice_is bytes front w.text [] at next p refl e), (refl, refl, refl, end))
 parted bytes front (w ∷ v ∷ ws) at p e h =
     let next = at + length w.text in
     let rest = parted bytes (front ++ w.text) (v ∷ ws) next (omega (arith, p, length-append front w.text)) (e ∙ sym (append_assoc front w.text (text_of (v ∷ ws)))) h.1 in
-    (refl, h.0, sym (slice_is bytes front w.text (text_of (v ∷ ws)) at next p refl e), rest)
+    (refl, h.0.0, sym (slice_is bytes front w.text (text_of (v ∷ ws)) at next p refl e), rest)
 
 pub tokens_part : TokensPartition
 tokens_part profile d h =

@@ -45,3 +45,4 @@ pub mod PieceLaws
 pub mod SplitLaws
 pub mod CountingLaws
 pub mod RereadLaws
+pub mod ReplacedTextLaws

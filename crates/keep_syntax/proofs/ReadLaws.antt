@@ -39,7 +39,7 @@ use Rattle.keep_syntax.proofs.CutLaws.{cut_placed, start_holds, start_forward}
 abbrev pub syntax_of : Parts → List ℕ → ℕ → Syntax
 syntax_of p lines len = record { parts = p; lines = lines; len = len }
 
-inner_text : (d : Document) → text d ≡ text_of (inner_leaves d)
+pub inner_text : (d : Document) → text d ≡ text_of (inner_leaves d)
 inner_text d = ap text_of (leaves_end d) ∙ text_of-append (inner_leaves d) (mark leaf.End []) ∙ append-nil (text_of (inner_leaves d))
 
 tokens_are : (d : Document) → cut (text d) (kinds (inner_leaves d) ++ (leaf.End ∷ [])) (starts 0 (inner_leaves d)) ≡ tokens d

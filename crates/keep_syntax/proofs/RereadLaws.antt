@@ -300,18 +300,18 @@ appended_as {out} {out2} {new} other {a} {a2} {b} {b2} at p q r h =
     h ∙ ap (λ (x : Flat). appended x other a b at) p ∙ ap (λ (x : Counts). appended out2 other x b at) q ∙ ap (λ (x : Counts). appended out2 other a2 x at) r
 
 -- the lines of the new document
-middle_lines : {profile : Profile} {limit : ℕ} {d : Document} {whole : Span} {bytes : List ℕ} {m : Document} (h : CanReplace profile limit d whole bytes m)
+pub middle_lines : {profile : Profile} {limit : ℕ} {d : Document} {whole : Span} {bytes : List ℕ} {m : Document} (h : CanReplace profile limit d whole bytes m)
     → (replaced d whole m).ended ≡ (lines_of h).front ++ (m.ended ++ (lines_of h).back)
 middle_lines {d = d} {whole = whole} {m = m} h =
     ap (λ es. es ++ (m.ended ++ lines_from whole.end (begin d) d.ended)) (lines_of h).before ∙ ap (λ es. (lines_of h).front ++ (m.ended ++ es)) (lines_of h).from
 
-end_lines : {profile : Profile} {limit : ℕ} {d : Document} {whole : Span} {bytes : List ℕ} {m : Document} (h : CanReplace profile limit d whole bytes m) → length (text d) ≤ whole.end
+pub end_lines : {profile : Profile} {limit : ℕ} {d : Document} {whole : Span} {bytes : List ℕ} {m : Document} (h : CanReplace profile limit d whole bytes m) → length (text d) ≤ whole.end
     → (replaced d whole m).ended ≡ (lines_of h).front ++ m.ended
 end_lines {m = m} h past =
     middle_lines h ∙ ap (λ es. (lines_of h).front ++ (m.ended ++ es)) ((lines_of h).none past) ∙ ap (λ es. (lines_of h).front ++ es) (append-nil m.ended)
 
 -- the new lines end with a newline where others follow
-empty_last : {profile : Profile} {limit : ℕ} {d : Document} {whole : Span} {bytes : List ℕ} {m : Document} → CanReplace profile limit d whole bytes m → whole.end < length (text d) → m.last ≡ empty_line
+pub empty_last : {profile : Profile} {limit : ℕ} {d : Document} {whole : Span} {bytes : List ℕ} {m : Document} → CanReplace profile limit d whole bytes m → whole.end < length (text d) → m.last ≡ empty_line
 empty_last h more = elim h.closed [
   | inl e ↦ e
   | inr e ↦ absurd (omega (arith, e, more))

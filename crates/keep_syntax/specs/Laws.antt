@@ -4,10 +4,13 @@ use Rattle.std.specs.List.{flat_map}
 use Rattle.keep_token.specs.declared.leaf.Profile.{Profile}
 use Rattle.keep_token.specs.declared.leaf.Profile.TheVariants.{Strict, Wide}
 use Rattle.keep_token.specs.declared.leaf.Leaf.TheVariants as leaf
-use Rattle.keep_syntax.specs.Tree.{Document, Value, text, value_text}
+use Rattle.keep_syntax.specs.declared.info.Span.{Span}
+use Rattle.keep_syntax.specs.Tree.{Document, Value, text, value_text, depth}
 use Rattle.keep_syntax.specs.Grammar.{IsDocument, IsValue, Reads, ReadsValue}
 use Rattle.keep_syntax.specs.Numbered.{Placed, tokens}
 use Rattle.keep_syntax.specs.Profiles.{is_allowed_in}
+use Rattle.keep_syntax.specs.WholeLines.{replaced}
+use Rattle.keep_syntax.specs.Contract.{CanReplace, put_at}
 
 -- At most one document has a given text.
 abbrev pub OneDocument : Type 0
@@ -48,3 +51,10 @@ TokensAreFew = (profile : Profile) (limit : ℕ) (bytes : List ℕ) (d : Documen
 -- There are texts of any length with as many.
 abbrev pub TokensReachBound : Type 0
 TokensReachBound = (n : ℕ) → (d : Document) × IsDocument Strict d × (length (text d) ≡ n) × (length (tokens d) ≡ n + 1)
+
+-- A document with lines replaced has the text with these bytes replaced; it is one of the grammar, within the limit if the old
+-- one is.
+abbrev pub LinesAreReplaced : Type 0
+LinesAreReplaced =
+    (profile : Profile) (limit : ℕ) (d : Document) (whole : Span) (lines : List ℕ) (m : Document) → CanReplace profile limit d whole lines m → depth d ≤ limit
+    → Reads profile limit (put_at whole lines (text d)) (replaced d whole m)

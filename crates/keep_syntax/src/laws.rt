@@ -39,6 +39,11 @@ pub fn profile_is_tested()
     ensures { spec.ProfileIsTested }
 {}
 
+/// Whole lines of a document replaced by those of another give a document, of the text with these bytes replaced.
+pub fn lines_are_replaced()
+    ensures { spec.LinesAreReplaced }
+{}
+
 /// The standard limits are the standard depth, in each profile.
 pub fn standard_limits()
     ensures strict { Limits.STANDARD ≡ record { depth = standard_depth; profile = Strict } }

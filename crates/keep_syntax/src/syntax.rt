@@ -3,7 +3,7 @@ ghost use Rattle.std.specs.Prelude.{◌≡◌, ℕ, ◌+◌, ◌<◌, ◌≤◌,
 ghost use Rattle.std.specs.List.{AllByRecursion};
 ghost use Rattle.keep_token.specs.declared.leaf.Profile.{Profile};
 ghost use Rattle.keep_syntax.specs.declared.fault.ReadFault.TheVariants.{Memory};
-ghost use Rattle.keep_syntax.specs.Tree.{Document};
+ghost use Rattle.keep_syntax.specs.Tree.{Document, text};
 ghost use Rattle.keep_syntax.specs.Grammar.{Reads};
 ghost use Rattle.keep_syntax.specs.Nesting.{IsWithin};
 ghost use Rattle.keep_syntax.specs.WholeLines.{touched, replaced};
@@ -144,6 +144,8 @@ impl Syntax {
         requires { spec.MayReread limits.profile limits.depth self.now whole lines.now }
         ensures read { (d m : Document) → spec.IsSyntaxOf self.now d → spec.CanReplace limits.profile limits.depth d whole lines.now m
             → IfOk result (λ s. spec.IsSyntaxOf s (replaced d whole m)) }
+        ensures of_text { (d m : Document) → spec.IsSyntaxOf self.now d → spec.CanReplace limits.profile limits.depth d whole lines.now m
+            → IfOk result (λ s. spec.IsTextOf s (spec.put_at whole lines.now (text d))) }
     {
         match self.with_lines(alloc, whole, lines, limits) {
             Ok(syntax) => Ok(syntax),
