@@ -5,9 +5,11 @@ use Rattle.keep_syntax.specs.Tree.{Document}
 use Rattle.keep_law.specs.declared.fault.EditFault.{EditFault}
 use Rattle.keep_law.specs.declared.fault.EditFault.TheVariants as fault
 use Rattle.keep_law.specs.declared.splice.Splice.{Splice}
-use Rattle.keep_law.specs.Edits.{Edit}
+use Rattle.keep_law.specs.Changed.{Place}
+use Rattle.keep_law.specs.Edits.{Edit, place}
 use Rattle.keep_splice.specs.declared.edited.Edited.{Edited}
 use Rattle.keep_edit.specs.Reading.{ProfiledText, text_in, IsTextOfTree}
+use Rattle.keep_splice.specs.Answers.{IsMadeAt, splice_of}
 use Rattle.keep_edit.specs.Answers.{IsEdited, IsMade, IsTextAfter, IsDone, EditMade, EditDone, EditTold, refusal_in}
 use Rattle.keep_edit.specs.Places.{IsMovedIn}
 
@@ -37,9 +39,11 @@ module _ (s : Document) (e : Edit) (old : ProfiledText) where
   untold_of f h = not_done (IsMade s e old) is_told f (refusal_in old s e) h
 
   module _ (new : ProfiledText) where
-    pub done_of : (made : Edited) → new ≡ text_in old.profile (string_bytes made.text) → EditMade s e old (Ok made) → EditDone s e old new (Ok made.splice)
-    done_of made is h =
-        done_as (IsMade s e old) (IsEdited s e new old) made made.splice (refusal_in old s e) h (λ (k : IsMade s e old made). subst (λ (t : ProfiledText). IsEdited s e t old made.splice) (sym is) k)
+    pub done_of : (made : Edited) (splice : Splice) → new ≡ text_in old.profile (string_bytes made.text) → ((p : Place) → IsMadeAt p made → splice ≡ splice_of s p) → EditMade s e old (Ok made)
+        → EditDone s e old new (Ok splice)
+    done_of made splice is there h =
+        done_as (IsMade s e old) (IsEdited s e new old) made splice (refusal_in old s e) h
+        (λ (k : IsMade s e old made). (there (place s e) k.0, subst (λ (t : ProfiledText). IsTextAfter s e t old) (sym is) k.1))
 
     pub undone_of : (f : EditFault) → EditMade s e old (Err f) → EditDone s e old new (Err f)
     undone_of f h = not_done (IsMade s e old) (IsEdited s e new old) f (refusal_in old s e) h
@@ -48,9 +52,9 @@ module _ (s : Document) (e : Edit) (old : ProfiledText) where
     full_of made h = done_or_full (IsMade s e old) (IsEdited s e new old) made (refusal_in old s e) h
 
 -- what an edit answers once the document of its text is moved in
-pub moved_done : (s : Document) (e : Edit) (old new : ProfiledText) (made : Edited) (result : Result Splice EditFault) → EditMade s e old (Ok made) → IsMovedIn made old new result → EditDone s e old new result
-moved_done s e old new made (Ok splice) h (same, is) = subst (λ (p : Splice). EditDone s e old new (Ok p)) (sym same) (done_of s e old new made is h)
-moved_done s e old new made (Err f) h (full, kept) = subst (λ (g : EditFault). EditDone s e old new (Err g)) (sym full) (full_of s e old new made h)
+pub moved_done : (s : Document) (e : Edit) (old new : ProfiledText) (made : Edited) (result : Result Splice EditFault) → IsTextOfTree old s → EditMade s e old (Ok made) → IsMovedIn made old new result → EditDone s e old new result
+moved_done s e old new made (Ok splice) read h (there, is) = done_of s e old new made splice is (λ p m. there s p read m) h
+moved_done s e old new made (Err f) read h (full, kept) = subst (λ (g : EditFault). EditDone s e old new (Err g)) (sym full) (full_of s e old new made h)
 
 -- what was made for a document that is seen as this one
 pub made_of : {seen_as old : ProfiledText} (s : Document) (e : Edit) (result : Result Edited EditFault) → seen_as ≡ old → (IsTextOfTree seen_as s → EditMade s e seen_as result) → IsTextOfTree old s

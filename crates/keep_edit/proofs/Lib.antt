@@ -6,3 +6,4 @@ pub mod ScalarLaws
 pub mod EditedLaws
 pub mod FoldLaws
 pub mod ChildLaws
+pub mod TakeLaws

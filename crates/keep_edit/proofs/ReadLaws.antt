@@ -1,5 +1,5 @@
 -- Reading a document: what is known of it then, and why it is refused.
-use Rattle.std.proofs.Common.{◌≡◌, ℕ, List, Err, ap, refl, sym, inl, inr}
+use Rattle.std.proofs.Common.{◌≡◌, ℕ, List, Err, ap, refl, sym, subst, ◌∙◌, inl, inr}
 use Rattle.std.specs.Prelude.{IsUtf8}
 use Rattle.std.specs.Str.{IsValidUpTo}
 use Rattle.std.proofs.lemmas.Str.{utf8_valid_len-IsValidUpTo}
@@ -9,24 +9,27 @@ use Rattle.keep_syntax.specs.declared.fault.ReadFault.TheVariants as fault
 use Rattle.keep_syntax.specs.declared.syntax.Syntax.{Syntax}
 use Rattle.keep_syntax.specs.Tree.{Document}
 use Rattle.keep_syntax.specs.Grammar.{Reads}
-use Rattle.keep_syntax.specs.Contract.{IsSyntaxOf, IsTextOf}
+use Rattle.keep_syntax.specs.Contract.{IsSyntaxOf}
+use Rattle.keep_syntax.proofs.DocumentLaws.{one_document}
 use Rattle.keep_rules.specs.ReadDocuments.{WasRead, IsIndexOf, IsRefusal}
 use Rattle.keep_nodes.specs.Facts.{NodeInfos}
-use Rattle.keep_edit.specs.Reading.{limit, ProfiledText, text_in, IsRefused, TellsNoText, Holds}
-
--- the tree that the syntax was read of
-abbrev pub ReadOf : Profile → List ℕ → Syntax → Type 0
-ReadOf profile bytes syntax = (d : Document) × Reads profile limit bytes d × IsSyntaxOf syntax d
+use Rattle.keep_edit.specs.Reading.{limit, ProfiledText, text_in, IsRefused, IsSyntaxIn, IsTextOfTree, TellsNoText, Holds}
 
 pub was_read : {profile : Profile} {bytes : List ℕ} {syntax : Syntax} {d : Document} → Reads profile limit bytes d → IsSyntaxOf syntax d → WasRead bytes syntax d
 was_read {profile} reads is = record { profile = profile; limit = limit; reads = reads; is = is }
 
+-- the syntax is that of the one tree that the text has
+pub read_once : {profile : Profile} {bytes : List ℕ} {syntax : Syntax} {s : Document} → IsSyntaxIn (text_in profile bytes) syntax → IsTextOfTree (text_in profile bytes) s → WasRead bytes syntax s
+read_once {profile} {bytes} {syntax} {s} h read =
+    let same : h.tree ≡ s = one_document profile h.tree s h.reads.valid read.reads.valid (sym h.reads.spelled ∙ read.reads.spelled) in
+    was_read read.reads (subst (λ (d : Document). IsSyntaxOf syntax d) same h.is)
+
 -- what is read
-pub holds : (profile : Profile) (bytes : List ℕ) (syntax : Syntax) (index : NodeInfos) → IsUtf8 bytes → ReadOf profile bytes syntax → IsTextOf syntax bytes
+pub holds : (profile : Profile) (bytes : List ℕ) (syntax : Syntax) (index : NodeInfos) → IsUtf8 bytes → IsSyntaxIn (text_in profile bytes) syntax
     → ((d : Document) → WasRead bytes syntax d → IsIndexOf d index) → Holds (text_in profile bytes) syntax index
-holds profile bytes syntax index utf8 (d, reads, is) of_text built =
-    let i = built d (was_read reads is) in
-    record { tree = d; read = record { utf8 = utf8; reads = reads; obeys = i.obeys }; is = is; of_text = of_text; told = i.facts; nested = i.nested }
+holds profile bytes syntax index utf8 h built =
+    let i = built h.tree (was_read h.reads h.is) in
+    record { tree = h.tree; read = record { utf8 = utf8; reads = h.reads; obeys = i.obeys }; is = h.is; of_text = h.of_text; told = i.facts; nested = i.nested }
 
 -- ---- why not
 
@@ -43,6 +46,6 @@ by_rules profile bytes d (fault.Syntax at what) utf8 reads h = absurd h
 by_rules profile bytes d (fault.TooDeep at) utf8 reads h = absurd h
 by_rules profile bytes d (fault.Utf8 at) utf8 reads h = absurd h
 
-pub no_index : (profile : Profile) (bytes : List ℕ) (syntax : Syntax) (e : ReadFault) → IsUtf8 bytes → ReadOf profile bytes syntax → ((d : Document) → WasRead bytes syntax d → IsRefusal d e)
+pub no_index : (profile : Profile) (bytes : List ℕ) (syntax : Syntax) (e : ReadFault) → IsUtf8 bytes → IsSyntaxIn (text_in profile bytes) syntax → ((d : Document) → WasRead bytes syntax d → IsRefusal d e)
     → IsRefused (text_in profile bytes) e
-no_index profile bytes syntax e utf8 (d, reads, is) h = by_rules profile bytes d e utf8 reads (h d (was_read reads is))
+no_index profile bytes syntax e utf8 i h = by_rules profile bytes i.tree e utf8 i.reads (h i.tree (was_read i.reads i.is))

@@ -3,9 +3,20 @@ use Rattle.std.specs.Prelude.{◌≡◌, ℕ, List, ◌⊎◌, Result, Err, IsUt
 use Rattle.std.specs.Str.Lossy.{utf8_valid_len}
 use Rattle.keep_syntax.specs.declared.fault.ReadFault.{ReadFault}
 use Rattle.keep_syntax.specs.declared.fault.ReadFault.TheVariants.{Memory, Utf8}
+use Rattle.keep_syntax.specs.declared.syntax.Syntax.{Syntax}
+use Rattle.keep_syntax.specs.Tree.{Document}
+use Rattle.keep_syntax.specs.Grammar.{Reads}
+use Rattle.keep_syntax.specs.Contract.{IsSyntaxOf, IsTextOf}
 use Rattle.keep_meaning.specs.ReadText.{IsReadFault}
 pub use Rattle.keep_value.specs.ValueTexts.{limit, IsTextOfValue, IsAcceptedValue, IsTextOfFact, IsRefusedValue}
 pub use Rattle.keep_splice.specs.Reading.{ProfiledText, text_in, IsTextOfTree, IsAccepted, telling_in, Holds}
+
+-- The text is that of some document, by the grammar of its profile and to the standard depth, and this is its syntax.
+pub record IsSyntaxIn (t : ProfiledText) (syntax : Syntax) : Type 0 where
+  pub tree : Document
+  pub reads : Reads t.profile limit t.text tree
+  pub is : IsSyntaxOf syntax tree
+  pub of_text : IsTextOf syntax t.text
 
 -- why a text is none, or out of memory
 abbrev pub IsRefused : ProfiledText → ReadFault → Type 0

@@ -1,5 +1,5 @@
 //! The edits of a document: keep_splice decides each and makes the text after it, which is read and takes the document's place.
-ghost use Rattle.std.specs.Prelude.{◌≡◌, OnErr, MatchResult, string_bytes};
+ghost use Rattle.std.specs.Prelude.{◌≡◌, IfOk, OnErr, MatchResult, string_bytes};
 ghost use Rattle.keep_token.specs.declared.leaf.Profile.TheVariants.{Wide};
 ghost use Rattle.keep_syntax.specs.declared.fault.ReadFault.TheVariants.{Memory};
 ghost use Rattle.keep_syntax.specs.Tree as tree;
@@ -9,14 +9,15 @@ ghost use Rattle.keep_law.specs.declared.fault.EditFault.TheVariants as law;
 ghost use Rattle.keep_edit.specs.Reading.{IsAccepted, IsAcceptedValue, IsTextOfTree, IsTextOfValue, text_in};
 ghost use Rattle.keep_edit.specs.Answers.{EditDone, EditTold};
 ghost use Rattle.keep_edit.specs.Headers.{key_texts};
-ghost use Rattle.keep_edit.specs.Places.{IsMovedIn};
+ghost use Rattle.keep_edit.specs.Places.{IsMovedIn, IsOfEdit, IsReread};
 
 use crate::document::Document;
 use keep_law::{EditFault, Splice};
 use keep_rules::Path;
 use keep_splice::{DocumentRef, Edited, Header};
-use keep_syntax::ReadFault;
+use keep_syntax::{Limits, ReadFault, STANDARD_DEPTH, Syntax};
 use keep_value::ValueText;
+use std::alloc::AllocError;
 
 impl Document {
     /// Writes a value in place of the one that stands at a path. Every other byte is kept. After a refusal the document is as
@@ -221,22 +222,51 @@ impl Document {
         Ok(self.as_ref().appended(alloc, keys, Header::Element)?.text)
     }
 
-    /// Reads the text that an edit gives, and moves its document in. The only error is out of memory, and then the document is
-    /// as before.
+    /// Moves in the document of the text that an edit gives. Of that text only the lines are scanned that the edit touches. The
+    /// only error is out of memory, and then the document is as before.
     pub(crate) fn replaced(&mut self, edited: Edited) -> Result<Splice, EditFault>
-        requires { IsAccepted (text_in self.old.profile (string_bytes edited.text)) }
+        requires { IsOfEdit self.old edited }
         ensures moved { IsMovedIn edited self.old self.new result }
         ensures read { IsAccepted self.new }
     {
-        let Edited { text, splice } = edited;
+        let Ok((syntax, scanned)) = self.reread(&edited) else {
+            return Err(EditFault::Memory);
+        };
+        let Edited { text, place, added } = edited;
         let alloc = *self.text.allocator();
-        match Document::of_text(alloc, text, self.profile) {
+        match Document::of_syntax(alloc, text, self.profile, syntax) {
             Ok(document) => {
                 *self = document;
-                Ok(splice)
+                Ok(Splice {
+                    start: place.start,
+                    end: place.end,
+                    added,
+                    scanned,
+                })
             }
             Err(fault) => Err(growth_refused(fault)),
         }
+    }
+
+    /// The syntax of the text that an edit gives, and how many bytes are scanned for it: those of the lines that the edit
+    /// touches. The only error is out of memory.
+    fn reread(&self, edited: &Edited) -> Result<(Syntax, usize), AllocError>
+        requires { IsOfEdit self.now edited.now }
+        ensures { IfOk result (IsReread self.now edited.now) }
+    {
+        let text = edited.text.as_str();
+        let place = edited.place;
+        let whole = self.syntax.lines(place);
+        let end = whole.end - (place.end - place.start) + edited.added;
+        let limits = Limits {
+            depth: STANDARD_DEPTH,
+            profile: self.profile,
+        };
+        let alloc = *self.text.allocator();
+        let syntax = self
+            .syntax
+            .reread(alloc, whole, &text[whole.start..end], limits)?;
+        Ok((syntax, end - whole.start))
     }
 
     /// The document once more, read of its text. The only error is out of memory.

@@ -6,7 +6,7 @@ ghost use Rattle.keep_syntax.specs.declared.fault.ReadFault.TheVariants.{Memory}
 ghost use Rattle.keep_syntax.specs.Tree as tree;
 ghost use Rattle.keep_syntax.specs.Contract.{left};
 ghost use Rattle.keep_syntax.specs.Numbered as syntax;
-ghost use Rattle.keep_edit.specs.Reading.{IsAccepted, IsRefused, IsTextOfTree, TellsNoText, text_in};
+ghost use Rattle.keep_edit.specs.Reading.{IsAccepted, IsRefused, IsSyntaxIn, IsTextOfTree, TellsNoText, text_in};
 
 mod entries;
 
@@ -150,6 +150,22 @@ impl Document {
             profile,
         };
         let syntax = Syntax::read(alloc, text.as_str(), limits)?;
+        Document::of_syntax(alloc, text, profile, syntax)
+    }
+
+    /// The document of a text by the syntax that was read of it, which is known to be none only by the definition rules.
+    pub(crate) fn of_syntax(
+        alloc: Global,
+        text: String,
+        profile: Profile,
+        syntax: Syntax,
+    ) -> Result<Document, ReadFault>
+        requires { IsSyntaxIn (text_in profile (string_bytes text)) syntax }
+        ensures text { IfOk result (λ document. document ≡ text_in profile (string_bytes text)) }
+        ensures accepted { IfOk result IsAccepted }
+        ensures only { IsAccepted (text_in profile (string_bytes text)) → IsOkUnless result Memory }
+        ensures faults { IfErr result (IsRefused (text_in profile (string_bytes text))) }
+    {
         let index = Index::build(alloc, text.as_str(), &syntax)?;
         Ok(Document {
             text,

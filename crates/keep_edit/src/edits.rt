@@ -72,8 +72,8 @@ impl Document {
     }
 
     /// Makes all edits in their order, each on the document after those before it; or none of them: after a refusal the
-    /// document is as before. They are made on a copy, which is read of the document's text: k edits take at most k + 1
-    /// readings, and an empty list takes no memory. The document's own allocator gives the memory.
+    /// document is as before. They are made on a copy, which is read of the document's text once; then each
+    /// edit reads the lines that it touches. An empty list takes no memory. The document's own allocator gives the memory.
     ///
     /// # Errors
     ///

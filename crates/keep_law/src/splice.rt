@@ -7,4 +7,6 @@ pub struct Splice {
     pub end: usize,
     /// How many bytes stand there now.
     pub added: usize,
+    /// How many bytes of the new text are scanned for it: those of the lines that the change touches.
+    pub scanned: usize,
 }

@@ -7,13 +7,12 @@ use Rattle.keep_syntax.specs.Tree.{Document}
 use Rattle.keep_syntax.specs.Grammar.{Reads}
 use Rattle.keep_law.specs.declared.fault.EditFault.{EditFault}
 use Rattle.keep_law.specs.declared.fault.EditFault.TheVariants as fault
-use Rattle.keep_law.specs.declared.splice.Splice.{Splice}
-use Rattle.keep_law.specs.Changed.{put}
-use Rattle.keep_law.specs.Edits.{Edit, place, edited_document}
+use Rattle.keep_law.specs.Changed.{Changed, Place, place_of, put}
+use Rattle.keep_law.specs.Edits.{Edit, changed_or_same, place, edited_document}
 use Rattle.keep_law.specs.Laws.{IsStanding, IsLawfulEdit}
-use Rattle.keep_splice.specs.Reading.{limit, ProfiledText, text_in, IsAccepted, IsTextOfTree}
-use Rattle.keep_splice.specs.Answers.{IsEdited, IsMade, IsDone, EditMade, splice_of}
-use Rattle.keep_splice.specs.Places.{place_at, IsDoneAt, IsSplicedAt}
+use Rattle.keep_splice.specs.Reading.{limit, ProfiledText, text_in, IsTextOfTree}
+use Rattle.keep_splice.specs.Answers.{IsMade, IsMadeAt, IsTextAfter, IsDone, EditMade}
+use Rattle.keep_splice.specs.Places.{place_at, IsDoneAt, IsOfEdit, IsSplicedAt}
 use Rattle.keep_splice.specs.declared.edited.Edited.{Edited}
 
 -- a document that was read is one of which the laws speak
@@ -27,30 +26,36 @@ refused_made s e old given f h = subst (λ (r : Option EditFault). IsDone (IsMad
 -- an edit that is not refused, and its law
 module _ (d : ProfiledText) (s : Document) (e : Edit) (span : Span) (given : List ℕ) (read : IsTextOfTree d s) (at : IsDoneAt s e d given (Ok span)) (law : IsLawfulEdit d.profile limit s e) where
   -- the new text is that of the edited document
-  edited : (new : List ℕ) → IsUtf8 new → new ≡ put d.text (place_at span given) → IsEdited s e (text_in d.profile new) d (splice_of (place_at span given))
+  edited : (new : List ℕ) → IsUtf8 new → new ≡ put d.text (place_at span given) → IsTextAfter s e (text_in d.profile new) d
   edited new utf8 is =
       let put_is : new ≡ put d.text (place s e) = is ∙ ap (put d.text) (sym at.1) in
       let reads : Reads d.profile limit new (edited_document s e) =
-      subst (λ (t : List ℕ). Reads d.profile limit t (edited_document s e)) (ap (λ (t : List ℕ). put t (place s e)) (sym read.reads.spelled) ∙ sym put_is) law.reads in (
-        ap splice_of (sym at.1),
-        record {
-          profile = refl;
-          text = put_is;
-          tree = record { utf8 = utf8; reads = reads; obeys = law.obeys };
-          changed = law.tree;
-          growth = omega (arith, law.growth, ap length reads.spelled, ap length read.reads.spelled);
-        },
-      )
+      subst (λ (t : List ℕ). Reads d.profile limit t (edited_document s e)) (ap (λ (t : List ℕ). put t (place s e)) (sym read.reads.spelled) ∙ sym put_is) law.reads in
+      record {
+        profile = refl;
+        text = put_is;
+        tree = record { utf8 = utf8; reads = reads; obeys = law.obeys };
+        changed = law.tree;
+        growth = omega (arith, law.growth, ap length reads.spelled, ap length read.reads.spelled);
+      }
 
   pub full_made : EditMade s e d (Err fault.Memory)
   full_made = subst (λ (r : Option EditFault). IsDone (IsMade s e d) r (Err fault.Memory)) (sym at.0) refl
 
   pub spliced_made : (result : Result Edited EditFault) → IsSplicedAt d.text span given result → EditMade s e d result
   spliced_made (Err f) h = subst (λ (g : EditFault). EditMade s e d (Err g)) (sym h) full_made
-  spliced_made (Ok made) (text, splice) =
+  spliced_made (Ok made) (text, there) =
       subst (λ (r : Option EditFault). IsDone (IsMade s e d) r (Ok made)) (sym at.0)
-      (subst (λ (p : Splice). IsEdited s e (text_in d.profile (string_bytes made.text)) d p) (sym splice) (edited (string_bytes made.text) (IsUtf8-string_bytes made.text) text))
+      (subst (λ (p : Place). IsMadeAt p made) (sym at.1) there, edited (string_bytes made.text) (IsUtf8-string_bytes made.text) text)
 
-  pub spliced_accepted : (result : Result Edited EditFault) → IsSplicedAt d.text span given result → IfOk result (λ made. IsAccepted (text_in d.profile (string_bytes made.text)))
-  spliced_accepted (Err f) h = tt
-  spliced_accepted (Ok made) (text, splice) = (edited_document s e, (edited (string_bytes made.text) (IsUtf8-string_bytes made.text) text).1.tree)
+  pub spliced_of_edit : (result : Result Edited EditFault) → IsSplicedAt d.text span given result → IfOk result (IsOfEdit d)
+  spliced_of_edit (Err f) h = tt
+  spliced_of_edit (Ok made) (text, there) = record {
+    tree = s;
+    edit = e;
+    changed = law.changed;
+    read = read;
+    is = law.is;
+    new = subst (λ (c : Option (Changed Document)). IsTextOfTree (text_in d.profile (string_bytes made.text)) (changed_or_same s c).to) law.is (edited (string_bytes made.text) (IsUtf8-string_bytes made.text) text).tree;
+    at = subst (λ (c : Option (Changed Document)). IsMadeAt (place_of (changed_or_same s c)) made) law.is (subst (λ (p : Place). IsMadeAt p made) (sym at.1) there);
+  }

@@ -2,6 +2,7 @@
 use Rattle.std.specs.Prelude.{◌≡◌, ◌≤◌, ◌+◌, ℕ, true, false, List, length, Option, Some, None, Result, Ok, Err, MatchResult, IsCharBoundary, string_bytes}
 use Rattle.keep_syntax.specs.Tree.{Document}
 use Rattle.keep_syntax.specs.declared.info.Span.{Span}
+use Rattle.keep_syntax.specs.Numbered.{span}
 use Rattle.keep_meaning.specs.Counts.{numbered_in, is_value}
 use Rattle.keep_meaning.specs.Meaning.{said_in}
 use Rattle.keep_meaning.specs.Nodes.{is_node, numbered_at, last_number, value_number}
@@ -13,6 +14,7 @@ use Rattle.keep_law.specs.Changed.{Place, put}
 use Rattle.keep_law.specs.Edits.{Edit, edited_document, place}
 use Rattle.keep_law.specs.Laws.{given_size}
 use Rattle.keep_law.specs.Refusals.{refusal, has_value}
+use Rattle.keep_law.specs.TouchedLines.{scanned}
 use Rattle.keep_law.specs.Trees.{IsTreeOf}
 use Rattle.keep_splice.specs.Reading.{limit, ProfiledText, text_in, IsTextOfTree}
 use Rattle.keep_splice.specs.declared.edited.Edited.{Edited}
@@ -43,9 +45,9 @@ pub record IsSpanOf (bytes : List ℕ) (span : Span) : Type 0 where
 
 -- ---- edits
 
--- where the bytes were replaced, and by how many
-abbrev pub splice_of : Place → Splice
-splice_of p = record { start = p.start; end = p.end; added = length p.new }
+-- where bytes of a document were replaced, by how many, and how many of the new text are scanned for it
+abbrev pub splice_of : Document → Place → Splice
+splice_of s p = record { start = p.start; end = p.end; added = length p.new; scanned = scanned s p }
 
 -- What holds of the text after an edit. Its profile is the old one's. The edit's place has its new bytes, and every other
 -- byte is kept. It is the text of the new tree. That tree is the old one, changed as the edit says and nowhere else. And the
@@ -59,7 +61,7 @@ pub record IsTextAfter (s : Document) (e : Edit) (new : ProfiledText) (old : Pro
 
 -- The splice is the edit's, and the text is what it is after the edit.
 abbrev pub IsEdited : Document → Edit → ProfiledText → ProfiledText → Splice → Type 0
-IsEdited s e new old splice = (splice ≡ splice_of (place s e)) × IsTextAfter s e new old
+IsEdited s e new old splice = (splice ≡ splice_of s (place s e)) × IsTextAfter s e new old
 
 -- what an edit answers, by its refusal: out of memory can stand in place of what an edit does alone
 abbrev pub IsDone : {T : Type 0} → (T → Type 0) → Option EditFault → Result T EditFault → Type 0
@@ -70,9 +72,14 @@ IsDone good None result = MatchResult result good (λ f. f ≡ Memory)
 abbrev pub refusal_in : ProfiledText → Document → Edit → Option EditFault
 refusal_in old s e = refusal old.profile limit s e
 
-abbrev pub IsMade : Document → Edit → ProfiledText → Edited → Type 0
-IsMade s e old made = IsEdited s e (text_in old.profile (string_bytes made.text)) old made.splice
+-- it was made at this place
+abbrev pub IsMadeAt : Place → Edited → Type 0
+IsMadeAt p made = (made.place ≡ span p.start p.end) × (made.added ≡ length p.new)
 
--- the changed text is made, with its splice
+-- It was made at the edit's place, and its text is what it is after the edit.
+abbrev pub IsMade : Document → Edit → ProfiledText → Edited → Type 0
+IsMade s e old made = IsMadeAt (place s e) made × IsTextAfter s e (text_in old.profile (string_bytes made.text)) old
+
+-- the changed text is made
 abbrev pub EditMade : Document → Edit → ProfiledText → Result Edited EditFault → Type 0
 EditMade s e old result = IsDone (IsMade s e old) (refusal_in old s e) result

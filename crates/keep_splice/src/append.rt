@@ -6,7 +6,8 @@ ghost use Rattle.keep_syntax.specs.Tree as tree;
 ghost use Rattle.keep_law.specs.TextEnds as text_ends;
 ghost use Rattle.keep_splice.specs.Answers.{EditMade};
 ghost use Rattle.keep_splice.specs.Headers.{edit_of, key_texts, keys_text, header_text, opening, closing};
-ghost use Rattle.keep_splice.specs.Reading.{IsAccepted, IsTextOfTree, text_in};
+ghost use Rattle.keep_splice.specs.Places.{IsOfEdit};
+ghost use Rattle.keep_splice.specs.Reading.{IsAccepted, IsTextOfTree};
 
 use crate::document::DocumentRef;
 use crate::edited::{Edited, edited_at};
@@ -29,7 +30,7 @@ impl<'a> DocumentRef<'a> {
         header: Header,
     ) -> Result<Edited, EditFault>
         ensures made { (s : tree.Document) → IsTextOfTree self.now s → EditMade s (edit_of header (key_texts keys.now)) self.now result }
-        ensures accepted { IfOk result (λ edited. IsAccepted (text_in self.now.profile (string_bytes edited.text))) }
+        ensures of_edit { IfOk result (IsOfEdit self.now) }
         ensures of { IsAccepted self.now }
     {
         let text = self.text;

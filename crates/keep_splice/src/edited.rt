@@ -4,15 +4,18 @@ ghost use Rattle.keep_meaning.specs.KeyText.{text_at};
 ghost use Rattle.keep_splice.specs.Answers.{IsSpanOf};
 ghost use Rattle.keep_splice.specs.Places.{IsSplicedAt};
 
-use keep_law::{EditFault, Splice};
+use keep_law::EditFault;
 use keep_syntax::Span;
 use std::alloc::{AllocError, Global};
 
-/// The text that an edit gives, and its splice.
+/// The text that an edit gives, and where it differs from the old one.
 #[derive(Drop)]
 pub struct Edited {
     pub text: String,
-    pub splice: Splice,
+    /// The bytes of the old text that are replaced.
+    pub place: Span,
+    /// How many bytes replace them.
+    pub added: usize,
 }
 
 /// The part of a text that stands at a span.
@@ -23,7 +26,7 @@ pub fn part_at(text: &str, span: Span) -> &str
     &text[span.start..span.end]
 }
 
-/// The text with other bytes in place of those of a span, and its splice. The only error is out of memory.
+/// The text with other bytes in place of those of a span, and which they are. The only error is out of memory.
 pub(crate) fn edited_at(
     alloc: Global,
     old: &str,
@@ -36,12 +39,12 @@ pub(crate) fn edited_at(
     let Ok(text) = spliced(alloc, old, span, new) else {
         return Err(EditFault::Memory);
     };
-    let splice = Splice {
-        start: span.start,
-        end: span.end,
-        added: new.len(),
-    };
-    Ok(Edited { text, splice })
+    let added = new.len();
+    Ok(Edited {
+        text,
+        place: span,
+        added,
+    })
 }
 
 /// The text with other bytes in place of those of a span.

@@ -10,7 +10,8 @@ ghost use Rattle.keep_meaning.specs.Meaning.{said_in};
 ghost use Rattle.keep_meaning.specs.Nodes.{node_number, node_paths};
 ghost use Rattle.keep_law.specs.Edits.{insert};
 ghost use Rattle.keep_law.specs.Look.{is_index, item_number};
-ghost use Rattle.keep_splice.specs.Reading.{IsAccepted, IsAcceptedValue, IsTextOfTree, IsTextOfValue, text_in};
+ghost use Rattle.keep_splice.specs.Places.{IsOfEdit};
+ghost use Rattle.keep_splice.specs.Reading.{IsAccepted, IsAcceptedValue, IsTextOfTree, IsTextOfValue};
 ghost use Rattle.keep_splice.specs.Answers.{EditMade, value_number_of};
 ghost use Rattle.keep_splice.specs.Aiming.{IsAimed, IsItemAimed, IsItemOf, IsKeyvalAimed, longest_front, spot_in_braces};
 ghost use Rattle.keep_splice.specs.Holding.{IsHolder};
@@ -66,7 +67,7 @@ impl<'a> DocumentRef<'a> {
         value: &ValueText,
     ) -> Result<Edited, EditFault>
         ensures made { (s : tree.Document) → IsTextOfTree self.now s → (v : tree.Value) → IsTextOfValue value.now v → EditMade s (insert path.now v) self.now result }
-        ensures accepted { IfOk result (λ edited. IsAccepted (text_in self.now.profile (string_bytes edited.text))) }
+        ensures of_edit { IfOk result (IsOfEdit self.now) }
         ensures of { IsAccepted self.now }
         ensures value { IsAcceptedValue Wide value.now }
     {

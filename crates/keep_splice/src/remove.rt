@@ -1,5 +1,5 @@
 //! Removing nodes.
-ghost use Rattle.std.specs.Prelude.{◌≡◌, ◌⊎◌, ℕ, suc, ◌≤◌, ◌<◌, List, length, drop, Ok, IfOk, string_bytes};
+ghost use Rattle.std.specs.Prelude.{◌≡◌, ◌⊎◌, ℕ, suc, ◌≤◌, ◌<◌, List, length, drop, Ok, IfOk};
 ghost use Rattle.std.specs.List.{prefix_len};
 ghost use Rattle.keep_token.specs.Abnf as abnf;
 ghost use Rattle.keep_syntax.specs.Numbered.{span};
@@ -11,7 +11,8 @@ ghost use Rattle.keep_law.specs.Edits.{remove};
 ghost use Rattle.keep_law.specs.Insertion as insertion;
 ghost use Rattle.keep_law.specs.Removal as removal;
 ghost use Rattle.keep_splice.specs.Answers.{EditMade};
-ghost use Rattle.keep_splice.specs.Reading.{IsAccepted, IsTextOfTree, text_in};
+ghost use Rattle.keep_splice.specs.Places.{IsOfEdit};
+ghost use Rattle.keep_splice.specs.Reading.{IsAccepted, IsTextOfTree};
 ghost use Rattle.keep_splice.specs.Removing.{cut_place, KeepsNothing, KeepsGap, IsEntryIn, IsCutAt, IsRemovalOf};
 
 use crate::document::DocumentRef;
@@ -45,7 +46,7 @@ impl<'a> DocumentRef<'a> {
     /// The refusal of the edit, whatever memory there is; else `Memory` if memory was refused.
     pub fn removed(&self, alloc: Global, path: &Path) -> Result<Edited, EditFault>
         ensures made { (s : tree.Document) → IsTextOfTree self.now s → EditMade s (remove path.now) self.now result }
-        ensures accepted { IfOk result (λ edited. IsAccepted (text_in self.now.profile (string_bytes edited.text))) }
+        ensures of_edit { IfOk result (IsOfEdit self.now) }
         ensures of { IsAccepted self.now }
     {
         let text = self.text;

@@ -1,13 +1,13 @@
 //! Renaming keys.
-ghost use Rattle.std.specs.Prelude.{◌≡◌, not, ◌&&◌, string_bytes, IfOk};
+ghost use Rattle.std.specs.Prelude.{◌≡◌, not, ◌&&◌, IfOk};
 ghost use Rattle.keep_syntax.specs.Tree as tree;
 ghost use Rattle.keep_token.specs.Encoded.{encoded_key};
 ghost use Rattle.keep_meaning.specs.Nodes.{is_root};
 ghost use Rattle.keep_law.specs.Edits.{rename};
 ghost use Rattle.keep_law.specs.Refusals.{ends_in_index};
-ghost use Rattle.keep_splice.specs.Reading.{IsAccepted, IsTextOfTree, text_in};
+ghost use Rattle.keep_splice.specs.Reading.{IsAccepted, IsTextOfTree};
 ghost use Rattle.keep_splice.specs.Answers.{EditMade};
-ghost use Rattle.keep_splice.specs.Places.{IsDoneAt};
+ghost use Rattle.keep_splice.specs.Places.{IsDoneAt, IsOfEdit};
 
 use crate::document::DocumentRef;
 use crate::edited::{Edited, edited_at};
@@ -25,7 +25,7 @@ impl<'a> DocumentRef<'a> {
     /// The refusal of the edit, whatever memory there is; else `Memory` if memory was refused.
     pub fn renamed(&self, alloc: Global, path: &Path, key: &str) -> Result<Edited, EditFault>
         ensures made { (s : tree.Document) → IsTextOfTree self.now s → EditMade s (rename path.now key.now) self.now result }
-        ensures accepted { IfOk result (λ edited. IsAccepted (text_in self.now.profile (string_bytes edited.text))) }
+        ensures of_edit { IfOk result (IsOfEdit self.now) }
         ensures of { IsAccepted self.now }
     {
         let text = self.text;

@@ -1,10 +1,11 @@
 //! Setting values.
-ghost use Rattle.std.specs.Prelude.{IfOk, string_bytes};
+ghost use Rattle.std.specs.Prelude.{IfOk};
 ghost use Rattle.keep_token.specs.declared.leaf.Profile.TheVariants.{Wide};
 ghost use Rattle.keep_syntax.specs.Tree as tree;
 ghost use Rattle.keep_law.specs.Edits.{set};
 ghost use Rattle.keep_splice.specs.Answers.{EditMade};
-ghost use Rattle.keep_splice.specs.Reading.{IsAccepted, IsAcceptedValue, IsTextOfTree, IsTextOfValue, text_in};
+ghost use Rattle.keep_splice.specs.Places.{IsOfEdit};
+ghost use Rattle.keep_splice.specs.Reading.{IsAccepted, IsAcceptedValue, IsTextOfTree, IsTextOfValue};
 
 use crate::document::DocumentRef;
 use crate::edited::{Edited, edited_at};
@@ -22,7 +23,7 @@ impl<'a> DocumentRef<'a> {
     /// The refusal of the edit, whatever memory there is; else `Memory` if memory was refused.
     pub fn edited(&self, alloc: Global, path: &Path, value: &ValueText) -> Result<Edited, EditFault>
         ensures made { (s : tree.Document) → IsTextOfTree self.now s → (v : tree.Value) → IsTextOfValue value.now v → EditMade s (set path.now v) self.now result }
-        ensures accepted { IfOk result (λ edited. IsAccepted (text_in self.now.profile (string_bytes edited.text))) }
+        ensures of_edit { IfOk result (IsOfEdit self.now) }
         ensures of { IsAccepted self.now }
         ensures value { IsAcceptedValue Wide value.now }
     {

@@ -11,4 +11,4 @@ returns-in_err-appended-clause-done c = λ s read.
 
 pub returns-clause-done : goal.returns-clause-done
 returns-clause-done c = λ s read.
-    moved_done s (append_table (key_texts c.args.keys.now)) c.args.self.now _ c.in_ok-appended.appended _ (made_of s (append_table (key_texts c.args.keys.now)) _ c.as_ref.ensures (λ k. c.in_ok-appended.ensures.made s k) read) c.replaced.ensures.moved
+    moved_done s (append_table (key_texts c.args.keys.now)) c.args.self.now _ c.in_ok-appended.appended _ read (made_of s (append_table (key_texts c.args.keys.now)) _ c.as_ref.ensures (λ k. c.in_ok-appended.ensures.made s k) read) c.replaced.ensures.moved

@@ -10,4 +10,4 @@ returns-in_err-inserted-clause-done c = λ s read v value.
 
 pub returns-clause-done : goal.returns-clause-done
 returns-clause-done c = λ s read v value.
-    moved_done s (insert c.args.path.now v) c.args.self.now _ c.in_ok-inserted.inserted _ (made_of s (insert c.args.path.now v) _ c.as_ref.ensures (λ k. c.in_ok-inserted.ensures.made s k v value) read) c.replaced.ensures.moved
+    moved_done s (insert c.args.path.now v) c.args.self.now _ c.in_ok-inserted.inserted _ read (made_of s (insert c.args.path.now v) _ c.as_ref.ensures (λ k. c.in_ok-inserted.ensures.made s k v value) read) c.replaced.ensures.moved

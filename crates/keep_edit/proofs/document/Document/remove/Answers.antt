@@ -10,4 +10,4 @@ returns-in_err-removed-clause-done c = λ s read.
 
 pub returns-clause-done : goal.returns-clause-done
 returns-clause-done c = λ s read.
-    moved_done s (remove c.args.path.now) c.args.self.now _ c.in_ok-removed.removed _ (made_of s (remove c.args.path.now) _ c.as_ref.ensures (λ k. c.in_ok-removed.ensures.made s k) read) c.replaced.ensures.moved
+    moved_done s (remove c.args.path.now) c.args.self.now _ c.in_ok-removed.removed _ read (made_of s (remove c.args.path.now) _ c.as_ref.ensures (λ k. c.in_ok-removed.ensures.made s k) read) c.replaced.ensures.moved

@@ -10,4 +10,4 @@ returns-in_err-renamed-clause-done c = λ s read.
 
 pub returns-clause-done : goal.returns-clause-done
 returns-clause-done c = λ s read.
-    moved_done s (rename c.args.path.now c.args.key.now) c.args.self.now _ c.in_ok-renamed.renamed _ (made_of s (rename c.args.path.now c.args.key.now) _ c.as_ref.ensures (λ k. c.in_ok-renamed.ensures.made s k) read) c.replaced.ensures.moved
+    moved_done s (rename c.args.path.now c.args.key.now) c.args.self.now _ c.in_ok-renamed.renamed _ read (made_of s (rename c.args.path.now c.args.key.now) _ c.as_ref.ensures (λ k. c.in_ok-renamed.ensures.made s k) read) c.replaced.ensures.moved

@@ -4,7 +4,7 @@ use Rattle.keep_law.specs.declared.fault.EditFault.TheVariants as fault
 use Rattle.keep_splice.specs.Headers.{edit_of, key_texts}
 use Rattle.keep_splice.proofs.AnswerLaws.{text_seen, seen}
 use Rattle.keep_splice.proofs.AppendDone.{index_of, refused_as, some_keys, done_there, law_of, end_span, given_text, given_as, spliced_as}
-use Rattle.keep_splice.proofs.EditedLaws.{refused_made, full_made, spliced_made, spliced_accepted}
+use Rattle.keep_splice.proofs.EditedLaws.{refused_made, full_made, spliced_made, spliced_of_edit}
 use Rattle.keep_splice.proofs.document.DocumentRef.appended.Goals as goal
 
 pub returns-in-Err-clause-made : goal.returns-in-Err-clause-made
@@ -31,8 +31,8 @@ returns-clause-made c = λ s read.
     (c.as_str.ensures.value ∙ c.in-Ok.ensures ∙ given_as d s c.args.header c.args.keys.now _ _ whole (c.newline.ensures s read)) c.edited_at.ensures in
     spliced_made d s (edit_of c.args.header (key_texts c.args.keys.now)) (end_span d) (given_text d s c.args.header c.args.keys.now) read at (law_of d s c.args.header c.args.keys.now read at.0) c.edited_at.result is
 
-pub returns-clause-accepted : goal.returns-clause-accepted
-returns-clause-accepted c =
+pub returns-clause-of_edit : goal.returns-clause-of_edit
+returns-clause-of_edit c =
     let d = c.args.self.now in
     let h = seen c.self.view_is c.self.invariant in
     let s = h.tree in
@@ -42,4 +42,4 @@ returns-clause-accepted c =
     let whole = text_seen c.self.view_is in
     let is = spliced_as d _ (given_text d s c.args.header c.args.keys.now) c.as_str.result.now c.edited_at.result whole
     (c.as_str.ensures.value ∙ c.in-Ok.ensures ∙ given_as d s c.args.header c.args.keys.now _ _ whole (c.newline.ensures s read)) c.edited_at.ensures in
-    spliced_accepted d s (edit_of c.args.header (key_texts c.args.keys.now)) (end_span d) (given_text d s c.args.header c.args.keys.now) read at (law_of d s c.args.header c.args.keys.now read at.0) c.edited_at.result is
+    spliced_of_edit d s (edit_of c.args.header (key_texts c.args.keys.now)) (end_span d) (given_text d s c.args.header c.args.keys.now) read at (law_of d s c.args.header c.args.keys.now read at.0) c.edited_at.result is

@@ -3,7 +3,7 @@ use Rattle.keep_law.specs.Edits.{set}
 use Rattle.keep_splice.proofs.AnswerLaws.{text_seen, seen}
 use Rattle.keep_splice.proofs.FoundLaws.{value_inside}
 use Rattle.keep_splice.proofs.SetLaws.{setting, depth_low, deep_done, foreign_done, allowed_by, done_at, set_law}
-use Rattle.keep_splice.proofs.EditedLaws.{spliced_made, spliced_accepted}
+use Rattle.keep_splice.proofs.EditedLaws.{spliced_made, spliced_of_edit}
 use Rattle.keep_splice.proofs.document.DocumentRef.edited.Goals as goal
 
 pub value-found-requires : goal.value-found-requires
@@ -47,13 +47,13 @@ returns-clause-made c = λ s read v value.
     (done_at _ _ _ _ _ _ _ at (record { fits = c.if-found-depth-gt-STANDARD_DEPTH.false; allowed = allowed }))
     (set_law _ _ _ _ _ _ _ at (record { fits = c.if-found-depth-gt-STANDARD_DEPTH.false; allowed = allowed })) c.edited_at.result is
 
-pub returns-clause-accepted : goal.returns-clause-accepted
-returns-clause-accepted c =
+pub returns-clause-of_edit : goal.returns-clause-of_edit
+returns-clause-of_edit c =
     let h = seen c.self.view_is c.self.invariant in
     let (v, value) = c.as_str-new.ensures.accepted in
     let at = setting _ _ _ _ c.args.path.now h.tree v _ _ _ h h.read (c.in_ok-number.ensures h.tree h.read) c.value-found.ensures.stored value (c.depth.ensures v value) in
     let allowed = allowed_by v c.self.view_is (c.is_allowed_in.ensures v value) c.if-not-is_allowed_in.false in
     let is = rw (text_seen c.self.view_is, c.as_str-new.ensures.text) at c.edited_at.ensures in
-    spliced_accepted c.args.self.now h.tree (set c.args.path.now v) c.value-found.result.span c.args.value.now h.read
+    spliced_of_edit c.args.self.now h.tree (set c.args.path.now v) c.value-found.result.span c.args.value.now h.read
     (done_at _ _ _ _ _ _ _ at (record { fits = c.if-found-depth-gt-STANDARD_DEPTH.false; allowed = allowed }))
     (set_law _ _ _ _ _ _ _ at (record { fits = c.if-found-depth-gt-STANDARD_DEPTH.false; allowed = allowed })) c.edited_at.result is

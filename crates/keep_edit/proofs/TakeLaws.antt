@@ -1,0 +1,129 @@
+-- The syntax of the text that an edit gives, by the touched lines alone.
+--
+-- The law of the touched lines gives a document m of the new lines that can replace the touched ones (`can`). With these replaced
+-- the document is the one after the edit, so the syntax that is reread for it is that of the new text (`reread_is`).
+use Rattle.std.proofs.Common.{◌≡◌, ◌∙◌, ℕ, ◌+◌, ◌-◌, ◌≤◌, ◌⊎◌, List, length, refl, sym, ap, subst, arith, IsUtf8}
+use Rattle.std.specs.Prelude.{slice_range, string_bytes}
+use Rattle.keep_token.specs.declared.leaf.Profile.{Profile}
+use Rattle.keep_syntax.specs.declared.info.Span.{Span}
+use Rattle.keep_syntax.specs.declared.syntax.Syntax.{Syntax}
+use Rattle.keep_syntax.specs.Tree.{Document, text}
+use Rattle.keep_syntax.specs.Grammar.{Reads}
+use Rattle.keep_syntax.specs.Numbered.{span}
+use Rattle.keep_syntax.specs.WholeLines.{begin, empty_line, touched, replaced}
+use Rattle.keep_syntax.specs.Contract.{CanReplace, IsSpanIn, IsSyntaxOf, IsTextOf}
+use Rattle.keep_syntax.proofs.LineStartLaws.{next_high}
+use Rattle.keep_law.specs.Changed.{Place, place_of}
+use Rattle.keep_law.specs.TouchedLines.{scanned, touched_by, touched_in_new, TouchesLines}
+use Rattle.keep_law.proofs.Touched.FitLaws.{touched_lines_are_lines}
+use Rattle.keep_law.proofs.Touched.TouchedCuts.{IsCut, touched_in_new_cut}
+use Rattle.keep_nodes.specs.Facts.{NodeInfos}
+use Rattle.keep_splice.specs.Answers.{IsMadeAt}
+use Rattle.keep_splice.specs.declared.edited.Edited.{Edited}
+use Rattle.keep_splice.proofs.Shared.{one_tree}
+use Rattle.keep_edit.specs.Places.{IsOfEdit, IsReread}
+use Rattle.keep_edit.specs.Reading.{limit, ProfiledText, text_in, Holds, IsSyntaxIn, IsTextOfTree}
+
+-- the end of the new lines
+abbrev pub end_by : Span → Edited → ℕ
+end_by whole made = whole.end - (made.place.end - made.place.start) + made.added
+
+module _ (old : ProfiledText) (made : Edited) (syntax : Syntax) (index : NodeInfos) (h : Holds old syntax index) (o : IsOfEdit old made) where
+  pub is_syntax : (s : Document) → IsTextOfTree old s → IsSyntaxOf syntax s
+  is_syntax s read = subst (λ (d : Document). IsSyntaxOf syntax d) (one_tree old h.tree s h.read read) h.is
+
+  pub touches : TouchesLines old.profile limit o.tree o.changed
+  touches = touched_lines_are_lines old.profile limit o.tree o.edit o.changed o.read.reads.valid o.is o.new.reads.valid o.new.reads.shallow
+
+  pub in_text : IsSpanIn syntax made.place
+  in_text =
+      let t = touches in
+      let e = o.at.0 in
+      record {
+        document = o.tree;
+        is = is_syntax o.tree o.read;
+        low = subst (λ (x : Span). begin o.tree ≤ x.start) (sym e) t.low;
+        order = subst (λ (x : Span). x.start ≤ x.end) (sym e) (omega arith);
+        within = subst (λ (x : Span). x.end ≤ length (text o.tree)) (sym e) t.within;
+      }
+
+  -- the touched lines
+  module _ (whole : Span) (are : (d : Document) → IsSyntaxOf syntax d → whole ≡ touched d made.place) where
+    -- the change ends in them
+    pub high : made.place.end ≤ whole.end
+    unfolding in_text
+    high =
+        let i = in_text in
+        subst (λ (x : Span). made.place.end ≤ x.end) (sym (are o.tree (is_syntax o.tree o.read))) (next_high made.place.end (length (text o.tree)) (begin o.tree) o.tree.ended i.within)
+
+    -- by any place where the text was made
+    whole_at : (s : Document) (p : Place) → IsTextOfTree old s → IsMadeAt p made → whole ≡ touched_by s p
+    whole_at s p read m = are s (is_syntax s read) ∙ ap (touched s) m.0
+
+    end_at : (s : Document) (p : Place) → IsTextOfTree old s → IsMadeAt p made → end_by whole made ≡ (touched_in_new s p).end
+    end_at s p read m =
+        let from : made.place.start ≡ p.start = ap (λ (x : Span). x.start) m.0 in
+        let to : made.place.end ≡ p.end = ap (λ (x : Span). x.end) m.0 in
+        let last : whole.end ≡ (touched_by s p).end = ap (λ (x : Span). x.end) (whole_at s p read m) in
+        omega (arith, m.1, from, to, last, high)
+
+    pub cut : IsCut (string_bytes made.text) (span whole.start (end_by whole made))
+    cut =
+        let spelled = o.new.reads.spelled in
+        let p : Place = place_of o.changed in
+        let first : whole.start ≡ (touched_in_new o.tree p).start = ap (λ (x : Span). x.start) (whole_at o.tree p o.read o.at) in
+        let last : end_by whole made ≡ (touched_in_new o.tree p).end = end_at o.tree p o.read o.at in
+        let there : IsCut (text o.changed.to) (touched_in_new o.tree p) =
+        touched_in_new_cut old.profile o.tree o.edit o.changed o.read.reads.valid (subst IsUtf8 o.read.reads.spelled o.read.utf8) o.is (subst IsUtf8 spelled o.new.utf8) in
+        subst (λ (x : List ℕ). IsCut x (span whole.start (end_by whole made))) (sym spelled)
+        (subst (λ (a : ℕ). IsCut (text o.changed.to) (span a (end_by whole made))) (sym first) (subst (λ (b : ℕ). IsCut (text o.changed.to) (span (touched_in_new o.tree p).start b)) (sym last) there))
+
+    can : CanReplace old.profile limit o.tree whole (slice_range (string_bytes made.text) whole.start (end_by whole made)) touches.lines
+    unfolding in_text
+    can =
+        let t = touches in
+        let i = in_text in
+        let p : Place = place_of o.changed in
+        let first : whole.start ≡ (touched_in_new o.tree p).start = ap (λ (x : Span). x.start) (whole_at o.tree p o.read o.at) in
+        let last : end_by whole made ≡ (touched_in_new o.tree p).end = end_at o.tree p o.read o.at in
+        let bytes : slice_range (text o.changed.to) (touched_in_new o.tree p).start (touched_in_new o.tree p).end ≡ slice_range (string_bytes made.text) whole.start (end_by whole made) =
+        ap (λ (a : ℕ). slice_range (text o.changed.to) a (touched_in_new o.tree p).end) (sym first)
+        ∙ ap (λ (b : ℕ). slice_range (text o.changed.to) whole.start b) (sym last)
+        ∙ ap (λ (x : List ℕ). slice_range x whole.start (end_by whole made)) (sym o.new.reads.spelled) in
+        record {
+          valid = o.read.reads.valid;
+          span = made.place;
+          low = i.low;
+          order = i.order;
+          within = i.within;
+          whole_is = sym (are o.tree (is_syntax o.tree o.read));
+          reads = subst (λ (x : List ℕ). Reads old.profile limit x t.lines) bytes t.reads;
+          bom = t.bom;
+          closed = subst (λ (x : Span). (t.lines.last ≡ empty_line) ⊎ (x.end ≡ length (text o.tree))) (sym (whole_at o.tree p o.read o.at)) t.closed;
+        }
+
+    -- the same of bytes and a profile that are these
+    pub can_as : (profile : Profile) (lines : List ℕ) → profile ≡ old.profile → lines ≡ slice_range (string_bytes made.text) whole.start (end_by whole made) → CanReplace profile limit o.tree whole lines touches.lines
+    can_as profile lines e f =
+        subst (λ (p : Profile). CanReplace p limit o.tree whole lines touches.lines) (sym e)
+        (subst (λ (x : List ℕ). CanReplace old.profile limit o.tree whole x touches.lines) (sym f) can)
+
+    -- The syntax of the document with the lines replaced is that of the new text, and the lines are those to be scanned.
+    pub reread_is : (s : Syntax) → IsSyntaxOf s (replaced o.tree whole touches.lines) → IsTextOf s (text (replaced o.tree whole touches.lines)) → IsReread old made (s, end_by whole made - whole.start)
+    reread_is s is of_text =
+        let same : replaced o.tree whole touches.lines ≡ o.changed.to =
+        ap (λ (w : Span). replaced o.tree w touches.lines) (whole_at o.tree (place_of o.changed) o.read o.at) ∙ sym touches.is in
+        record {
+          syntax = record {
+            tree = o.changed.to;
+            reads = o.new.reads;
+            is = subst (λ (d : Document). IsSyntaxOf s d) same is;
+            of_text = subst (λ (t : List ℕ). IsTextOf s t) (ap text same ∙ sym o.new.reads.spelled) of_text;
+          };
+          scanned = λ u p read m. count u p read m;
+        }
+      where
+        count : (u : Document) (p : Place) → IsTextOfTree old u → IsMadeAt p made → end_by whole made - whole.start ≡ scanned u p
+        count u p read m =
+            let first : whole.start ≡ (touched_by u p).start = ap (λ (x : Span). x.start) (whole_at u p read m) in
+            ap (λ (n : ℕ). n - whole.start) (end_at u p read m) ∙ ap (λ (n : ℕ). (touched_in_new u p).end - n) first
