@@ -17,7 +17,8 @@ where the two differ. So more is shown of edits:
 - the document has its text, tokens, counts, nodes and values as before. For that, two growths are refused, one of them
   for the text alone: so both are out of memory, and a doubt could only be about the document;
 - an edit that is refused for another reason is never out of memory.
-The same of lists of edits, which keep_rows makes first one by one and then at once.
+The same of lists of edits, which keep_rows makes first one by one and then at once. Of a push to a path and of a list, the
+questions whose names end in `again` make what was refused once more.
 
 Some calls take no memory: the rows of keep_rows in the group `quiet` mark the growths of one call each, and have none.
 """
@@ -35,6 +36,7 @@ REFUSED = Row("", [], b"", 4, b"", b"keep-toml: out of memory")
 OUT_OF_MEMORY = b"out of memory"
 # What keep_rows answers where a path or an edit of a row could not be read: the only reason is memory.
 UNREAD = (OUT_OF_MEMORY, b"no path", b"no such edit")
+AGAIN = b"refused and made again: "
 DONE = re.compile(rb"\d+ \d+ \d+$|done$")
 # How keep_rows prints that an edit does not agree with the text alone, and a list of edits with the edits one by one;
 # and that the document is not what is read afresh from its text, for which memory may be missing too.
@@ -123,7 +125,8 @@ def call_failure(ask, wanted, cells):
     if question.ample != wanted:
         return f"with ample memory: {short(question.ample)}"
     front = wanted.partition(b"\n")[0]
-    is_well = lambda it: it.startswith(UNREAD) or (TEXT_DOUBT in it or DOCUMENT_DOUBT in it) and it.startswith(front)
+    doubts = (TEXT_DOUBT, DOCUMENT_DOUBT, b"\n" + OUT_OF_MEMORY)
+    is_well = lambda it: it.startswith(UNREAD) or it.startswith(front) and any(doubt in it for doubt in doubts)
     return other(question.refused(), is_well)
 
 
@@ -163,17 +166,30 @@ def list_failure(ask, wanted, cells):
     if why := other(found, lambda it: is_well(it) or it == wanted + DOCUMENT_DOUBT):
         return why
     refusals = [it for it, answered in found.items() if answered == one_by_one_fails]
-    for refusal in (refusals[0], refusals[-1]):
+    as_many = False
+    for refusal in (*refusals[::8], refusals[-1]):
         both = question.refused_beside(refusal)
         if why := other(both, is_well):
             return why
-        if not any(it.endswith(b" Memory\n" + text) for it in both.values()):
-            return f"growth {refusal}: never as many edits at once as one by one"
-    return None
+        as_many |= any(it.endswith(b" Memory\n" + text) for it in both.values())
+    return None if as_many else "never as many edits at once as one by one"
+
+
+def again_failure(ask, wanted, cells):
+    """Of a push to a path, or a list of edits: a refused one has changed nothing, and made again it has the wanted answer."""
+    question = ask(cells)
+    if question.ample != wanted:
+        return f"with ample memory: {short(question.ample)}"
+    found = question.refused()
+    if why := other(found, lambda it: it == AGAIN + wanted or it.startswith(UNREAD)):
+        return why
+    return None if AGAIN + wanted in found.values() else "no growth of the call itself is refused"
 
 
 def library_failure(program, refuse, wanted, cells):
     ask = lambda cells: Question(program, refuse, cells)
+    if cells[1].endswith(b" again"):
+        return again_failure(ask, wanted, cells)
     if cells[0].endswith(b"edits"):
         return list_failure(ask, wanted, cells)
     if cells[0].endswith(b"edit") and DONE.match(wanted.partition(b"\n")[0]):
