@@ -7,10 +7,10 @@ use std::alloc::{AllocError, Global};
 
 /// The words are the bytes of a document, and then for each edit its name, its path, and a value, a key or nothing. The
 /// document and the values are read in the profile. The answer is a line, `done` or the number of the edit that is refused
-/// with its fault, and then the text of the document.
+/// with its fault, and then the text of the document. For `all again` a list for which memory was refused is made again.
 pub fn answer(alloc: Global, row: &Row, profile: Profile) -> Answer {
     match row.question() {
-        "all" => edited(alloc, row, profile, edits_of(alloc, row, profile)),
+        "all" | "all again" => edited(alloc, row, profile, edits_of(alloc, row, profile)),
         _ => unknown(alloc),
     }
 }
@@ -22,9 +22,45 @@ fn edited(
     edits: Result<Option<Vec<Edit>>, ReadFault>,
 ) -> Answer {
     match edits {
-        Ok(Some(edits)) => compared(alloc, row, profile, edits.as_slice()),
+        Ok(Some(edits)) => listed_as(alloc, row, profile, edits.as_slice()),
         Ok(None) => String::from_str(alloc, "no such edit"),
         Err(fault) => fault.to_string(alloc),
+    }
+}
+
+fn listed_as(alloc: Global, row: &Row, profile: Profile, edits: &[Edit]) -> Answer {
+    match row.question() {
+        "all again" => again(alloc, row, profile, edits),
+        _ => compared(alloc, row, profile, edits),
+    }
+}
+
+fn again(alloc: Global, row: &Row, profile: Profile, edits: &[Edit]) -> Answer {
+    match read(alloc, row.bytes(0), profile) {
+        Ok(mut document) => listed_again(alloc, &mut document, edits, row.text(0)),
+        Err(fault) => fault.to_string(alloc),
+    }
+}
+
+fn listed_again(alloc: Global, document: &mut Document, edits: &[Edit], before: &str) -> Answer {
+    match document.apply_all(edits) {
+        Err((_, EditFault::Memory)) => made_again(alloc, document, edits, before),
+        done => told(alloc, done, document.text()),
+    }
+}
+
+fn made_again(alloc: Global, document: &mut Document, edits: &[Edit], before: &str) -> Answer {
+    let is_kept = document.text() == before;
+    let done = document.apply_all(edits);
+    let outcome = told(alloc, done, document.text())?;
+    format!(in alloc; "{}{outcome}", again_of(is_kept))
+}
+
+fn again_of(is_kept: bool) -> &'static str {
+    if is_kept {
+        "refused and made again: "
+    } else {
+        "changed by a refused list: "
     }
 }
 

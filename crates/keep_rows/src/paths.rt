@@ -9,6 +9,7 @@ use std::fmt::Write;
 pub fn answer(alloc: Global, row: &Row) -> Answer {
     match row.question() {
         "built" => built(alloc, path_of(alloc, row, 0, row.word_count())),
+        "built again" => built_again(alloc, row),
         "faults" => faults(alloc),
         "first index" => first_index(alloc, row.text(0)),
         _ => asked(alloc, row, Path::read(alloc, row.text(0))),
@@ -65,6 +66,31 @@ fn first_index(alloc: Global, text: &str) -> Answer {
 fn built(alloc: Global, path: Result<Path, AllocError>) -> Answer {
     let path = path?;
     told_of(alloc, &path)
+}
+
+// The same, and each push for which memory was refused is made again. What it answered comes first.
+fn built_again(alloc: Global, row: &Row) -> Answer {
+    let mut out = String::new(alloc);
+    let mut path = Path::new(alloc);
+    for word in 0..row.word_count() {
+        out.push_str(pushed(alloc, &mut path, row.text(word))?)?;
+    }
+    out.push_str(told_of(alloc, &path)?.as_str())?;
+    Ok(out)
+}
+
+fn pushed(alloc: Global, path: &mut Path, word: &str) -> Result<&'static str, AllocError> {
+    let before = told_of(alloc, path)?;
+    if push_word(path, word).is_ok() {
+        return Ok("");
+    }
+    let after = told_of(alloc, path)?;
+    push_word(path, word)?;
+    Ok(if after.as_str() == before.as_str() {
+        "refused and made again: "
+    } else {
+        "changed by a refused push: "
+    })
 }
 
 /// The path whose steps are these words of a row.
