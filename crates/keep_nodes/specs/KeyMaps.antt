@@ -1,7 +1,13 @@
 -- The entries of a map from keys to children.
-use Rattle.std.specs.Prelude.{ℕ, List, String, string_bytes}
+use Rattle.std.specs.Prelude.{◌≡◌, ℕ, List, [], ◌∷◌, ◌++◌, None, String, string_bytes, bytes_eq}
+use Rattle.std.specs.Map.{lookup}
 use Rattle.std.specs.Global.{Global}
 
 -- a key's bytes, and its child
 abbrev pub named_pair : String Global × ℕ → List ℕ × ℕ
 named_pair e = (string_bytes e.0, e.1)
+
+-- each key differs from those before it: from those of the entries that were there, and from those in front of it
+abbrev pub HasOwnKeys : List (List ℕ × ℕ) → List (List ℕ × ℕ) → Type 0
+HasOwnKeys there [] = Unit {0}
+HasOwnKeys there (e ∷ es) = (lookup (bytes_eq e.0) there ≡ None) × HasOwnKeys (there ++ e ∷ []) es

@@ -1,9 +1,10 @@
 //! The children of a node.
-ghost use Rattle.std.specs.Prelude.{◌≡◌, ◌<◌, ◌-◌, ◌∷◌, ◌++◌, [], false, None, OnOk, IfOk, IfSome, IfNone, bytes_eq, length, string_bytes, option_copied, option_map, slice_get, slice_index_or};
+ghost use Rattle.std.specs.Prelude.{◌≡◌, ◌<◌, ◌-◌, ◌∷◌, ◌++◌, [], None, OnOk, IfOk, IfSome, IfNone, length, option_copied, option_map, slice_get, slice_index_or};
 ghost use Rattle.keep_nodes.specs.AllNodes.{and_key, and_item};
 ghost use Rattle.keep_nodes.specs.Children.{holding, no_children, holds_of, named, child_ids, child_named, child_numbered};
 ghost use Rattle.keep_nodes.specs.Trie.{by_key, by_index};
 
+use crate::few_keys::{FewKeys, MOST_KEYS};
 use crate::key_map::KeyMap;
 use crate::seed::Seed;
 use std::alloc::{AllocError, Global};
@@ -37,6 +38,8 @@ pub enum Form {
     NoKeys,
     /// At a table with one key, with which a look-up compares.
     OneKey(Box<OnlyKey>),
+    /// At a table with a few keys, with each of which a look-up compares.
+    FewKeys(Box<FewKeys>),
     /// At a table with more keys.
     Keys(Box<KeyMap>),
     /// At an array or an array of tables.
@@ -78,6 +81,7 @@ impl Children {
     {
         match &self.form {
             Form::OneKey(only) => (text == only.key.as_str()).then_some(only.child),
+            Form::FewKeys(keys) => keys.child(text),
             Form::Keys(keys) => keys.child(text),
             _ => None,
         }
@@ -99,8 +103,19 @@ impl Children {
         let form = match mem::replace(&mut self.form, Form::NoKeys) {
             Form::NoKeys => Form::OneKey(Box::new(alloc, OnlyKey { key, child })?),
             Form::OneKey(only) => {
-                let keys = two_keys(alloc, seed, Box::into_inner(only), key, child)?;
-                Form::Keys(Box::new(alloc, keys)?)
+                let only = Box::into_inner(only);
+                let keys = FewKeys::two(alloc, (only.key, only.child), (key, child))?;
+                Form::FewKeys(Box::new(alloc, keys)?)
+            }
+            Form::FewKeys(mut keys) => {
+                if keys.len() < MOST_KEYS {
+                    keys.add(key, child)?;
+                    Form::FewKeys(keys)
+                } else {
+                    let mut keys = Box::into_inner(keys).into_map(alloc, seed)?;
+                    keys.add(key, child)?;
+                    Form::Keys(Box::new(alloc, keys)?)
+                }
             }
             Form::Keys(mut keys) => {
                 keys.add(key, child)?;
@@ -133,6 +148,7 @@ impl Children {
         match &self.form {
             Form::Nothing | Form::NoKeys => 0,
             Form::OneKey(_) => 1,
+            Form::FewKeys(keys) => keys.len(),
             Form::Keys(keys) => keys.len(),
             Form::Items(items) => items.len(),
         }
@@ -166,6 +182,7 @@ impl Children {
         match &self.form {
             Form::Nothing | Form::NoKeys => None,
             Form::OneKey(only) => (number == 0).then_some(only.child),
+            Form::FewKeys(keys) => keys.child_at(number),
             Form::Keys(keys) => keys.child_at(number),
             Form::Items(items) => items.get(number).copied(),
         }
@@ -177,25 +194,9 @@ impl Children {
     {
         match &self.form {
             Form::OneKey(only) => (number == 0).then_some(only.key.as_str()),
+            Form::FewKeys(keys) => keys.key_at(number),
             Form::Keys(keys) => keys.key_at(number),
             _ => None,
         }
     }
-}
-
-/// A map of two keys.
-fn two_keys(
-    alloc: Global,
-    seed: Seed,
-    first: OnlyKey,
-    key: String,
-    child: usize,
-) -> Result<KeyMap, AllocError>
-    requires { bytes_eq (string_bytes key) (string_bytes first.key) ≡ false }
-    ensures { IfOk result (λ keys. keys ≡ (string_bytes first.key, first.child) ∷ (string_bytes key, child) ∷ []) }
-{
-    let mut keys = KeyMap::new(alloc, seed);
-    keys.add(first.key, first.child)?;
-    keys.add(key, child)?;
-    Ok(keys)
 }

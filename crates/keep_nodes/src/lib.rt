@@ -3,6 +3,7 @@
 
 mod children;
 mod facts;
+mod few_keys;
 mod key_map;
 mod links;
 mod nodes;

@@ -1,0 +1,109 @@
+//! The children of a table of few keys.
+ghost use Rattle.std.specs.Prelude.{◌≡◌, ◌<◌, ◌≤◌, ◌∷◌, ◌++◌, [], None, IfOk, OnOk, bytes_eq, false, length, map, option_copied, option_map, slice_get, string_bytes};
+ghost use Rattle.std.specs.Map.{lookup};
+
+use crate::key_map::KeyMap;
+use crate::seed::Seed;
+use std::alloc::{AllocError, Global};
+use std::marker::Model;
+
+/// How many keys are compared one after another at most.
+pub const MOST_KEYS: usize = 8;
+
+/// The children of a table by their keys, decoded, in the order in which they were added, in one vector. A look-up
+/// compares one key after another.
+#[derive(Drop)]
+pub struct FewKeys {
+    entries: Vec<(String, usize)>,
+}
+
+impl Model for FewKeys {
+    ghost use Rattle.std.specs.Prelude.{ℕ, ◌≤◌, List, [], length, map};
+    ghost use Rattle.keep_nodes.specs.declared.few_keys.TheConstants.{MOST_KEYS};
+    ghost use Rattle.keep_nodes.specs.KeyMaps.{named_pair, HasOwnKeys};
+
+    ghost Value = { List (List ℕ × ℕ) };
+
+    ghost view = { λ keys. map named_pair keys.entries.items };
+
+    ghost invariant = { λ keys. (length keys.entries.items ≤ MOST_KEYS) × HasOwnKeys [] (map named_pair keys.entries.items) };
+}
+
+impl FewKeys {
+    /// The children of two keys.
+    pub fn two(
+        alloc: Global,
+        first: (String, usize),
+        second: (String, usize),
+    ) -> Result<FewKeys, AllocError>
+        requires { bytes_eq (string_bytes second.0) (string_bytes first.0) ≡ false }
+        ensures { IfOk result (λ keys. keys ≡ (string_bytes first.0, first.1) ∷ (string_bytes second.0, second.1) ∷ []) }
+    {
+        let mut entries = Vec::with_capacity(alloc, 2)?;
+        entries.push_reserved(first);
+        entries.push_reserved(second);
+        Ok(FewKeys { entries })
+    }
+
+    /// How many children there are.
+    pub fn len(&self) -> usize
+        ensures len { result ≡ length self.now }
+        ensures few { result ≤ MOST_KEYS }
+    {
+        self.entries.len()
+    }
+
+    /// The child of that key.
+    pub fn child(&self, text: &str) -> Option<usize>
+        ensures { result ≡ lookup (bytes_eq text.now) self.now }
+    {
+        for (key, child) in &self.entries {
+            if text == key.as_str() {
+                return Some(*child);
+            }
+        }
+        None
+    }
+
+    /// The child that was added after that many others.
+    pub fn child_at(&self, number: usize) -> Option<usize>
+        ensures { result ≡ slice_get (map (λ e. e.1) self.now) number }
+    {
+        child_in(&self.entries, number)
+    }
+
+    /// The key of that child.
+    pub fn key_at(&self, number: usize) -> Option<&str>
+        ensures { option_copied result ≡ option_map (λ e. e.0) (slice_get self.now number) }
+    {
+        self.entries.get(number).map(|(key, _)| key.as_str())
+    }
+
+    /// Adds a child by a key that has none yet. If memory runs out, nothing is changed.
+    pub fn add(&mut self, key: String, child: usize) -> Result<(), AllocError>
+        requires few { length self.old < MOST_KEYS }
+        requires fresh { lookup (bytes_eq (string_bytes key)) self.old ≡ None }
+        ensures { OnOk result (self.new ≡ self.old ++ (string_bytes key, child) ∷ []) }
+    {
+        self.entries.push((key, child))?;
+        Ok(())
+    }
+
+    /// The same children as a map.
+    pub fn into_map(self, alloc: Global, seed: Seed) -> Result<KeyMap, AllocError>
+        ensures { IfOk result (λ keys. keys ≡ self) }
+    {
+        let mut keys = KeyMap::new(alloc, seed);
+        for (key, child) in self.entries {
+            keys.add(key, child)?;
+        }
+        Ok(keys)
+    }
+}
+
+/// The child of the entry of that number.
+fn child_in(entries: &[(String, usize)], number: usize) -> Option<usize>
+    ensures { result ≡ slice_get (map (λ e. e.1) entries.now) number }
+{
+    entries.get(number).map(|(_, child)| *child)
+}
