@@ -21,6 +21,7 @@ def large_rows():
     yield Row("the last of 10,000 keys", [b"set", b"k9999", b"2"], keys, 0, keys[:-2] + b"2\n")
     yield from hostile_rows()
     yield from wide_rows()
+    yield from table_rows()
 
 
 def hostile_rows():
@@ -33,6 +34,20 @@ def hostile_rows():
         yield Row("10,000 times one key", [check], b"a = 1\n" * 10_000, 1, b"", twice)
         keys = b"".join(b"k%d = 1\n" % it for it in range(10_000))
         yield Row("10,000 keys", [check], keys, 0, b"ok tokens=60001 nodes=10001\n")
+
+
+def table_rows():
+    """Tables of few and of many keys: how many there are decides how they are stored."""
+    for many in (1, 2, 3, 7, 8, 9, 10, 33):
+        names = [b"k%d" % it for it in range(many)]
+        keys = b"".join(name + b" = 1\n" for name in names)
+        yield Row("a table of %d keys" % many, [b"list"], keys, 0, b"".join(name + b"\tinteger\n" for name in names))
+        for it, name in enumerate(names):
+            place = sum(len(above) + 5 for above in names[:it])
+            new = keys[: place + len(name) + 3] + b"2" + keys[place + len(name) + 4 :]
+            yield Row("key %d of %d" % (it, many), [b"set", name, b"2"], keys, 0, new)
+            twice = b"keep-toml: definition at %d: DuplicateKey" % len(keys)
+            yield Row("key %d of %d, twice" % (it, many), [b"check"], keys + name + b" = 2\n", 1, b"", twice)
 
 
 def wide_rows():

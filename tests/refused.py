@@ -17,8 +17,8 @@ where the two differ. So more is shown of edits:
 - the document has its text, tokens, counts, nodes and values as before. For that, two growths are refused, one of them
   for the text alone: so both are out of memory, and a doubt could only be about the document;
 - an edit that is refused for another reason is never out of memory.
-The same of lists of edits, which keep_rows makes first one by one and then at once. Of a push to a path and of a list, the
-questions whose names end in `again` make what was refused once more.
+The same of lists of edits, which keep_rows makes first one by one and then at once. Of a push to a path, of a list, and of
+lines that are reread, the questions whose names end in `again` make what was refused once more.
 
 Some calls take no memory: the rows of keep_rows in the group `quiet` mark the growths of one call each, and have none.
 """
@@ -176,7 +176,7 @@ def list_failure(ask, wanted, cells):
 
 
 def again_failure(ask, wanted, cells):
-    """Of a push to a path, or a list of edits: a refused one has changed nothing, and made again it has the wanted answer."""
+    """Of a push, a list of edits or lines reread: a refused one has changed nothing, and made again has the wanted answer."""
     question = ask(cells)
     if question.ample != wanted:
         return f"with ample memory: {short(question.ample)}"

@@ -4,13 +4,21 @@ use crate::edits::{is_as_read, keys_of};
 use crate::row::{Answer, Row, unknown};
 use keep_edit::{Document, Edit, EditFault, Path, Profile, ReadFault, Splice, ValueText};
 use std::alloc::{AllocError, Global};
+use std::fmt::Write;
 
 /// The words are the bytes of a document, and then for each edit its name, its path, and a value, a key or nothing. The
 /// document and the values are read in the profile. The answer is a line, `done` or the number of the edit that is refused
-/// with its fault, and then the text of the document. For `all again` a list for which memory was refused is made again.
+/// with its fault, and then the text of the document. For `all again` a list for which memory was refused is made again. For
+/// `splices` the answer is a line for each edit, made one after another: the splice (from, to, bytes added, bytes scanned) or
+/// the fault.
 pub fn answer(alloc: Global, row: &Row, profile: Profile) -> Answer {
     match row.question() {
-        "all" | "all again" => edited(alloc, row, profile, edits_of(alloc, row, profile)),
+        "all" | "all again" | "splices" => edited(
+            alloc,
+            row,
+            profile,
+            edits_of(alloc, row, profile),
+        ),
         _ => unknown(alloc),
     }
 }
@@ -31,7 +39,30 @@ fn edited(
 fn listed_as(alloc: Global, row: &Row, profile: Profile, edits: &[Edit]) -> Answer {
     match row.question() {
         "all again" => again(alloc, row, profile, edits),
+        "splices" => splices(alloc, row, profile, edits),
         _ => compared(alloc, row, profile, edits),
+    }
+}
+
+fn splices(alloc: Global, row: &Row, profile: Profile, edits: &[Edit]) -> Answer {
+    match read(alloc, row.bytes(0), profile) {
+        Ok(mut document) => splice_lines(alloc, &mut document, edits),
+        Err(fault) => fault.to_string(alloc),
+    }
+}
+
+fn splice_lines(alloc: Global, document: &mut Document, edits: &[Edit]) -> Answer {
+    let mut out = String::new(alloc);
+    for edit in edits {
+        push_splice(&mut out, document.apply(edit))?;
+    }
+    Ok(out)
+}
+
+fn push_splice(out: &mut String, done: Result<Splice, EditFault>) -> Result<(), AllocError> {
+    match done {
+        Ok(it) => writeln!(out, "{} {} {} {}", it.start, it.end, it.added, it.scanned),
+        Err(fault) => writeln!(out, "{fault}"),
     }
 }
 

@@ -8,6 +8,7 @@ mod edits;
 mod growths;
 mod index;
 mod leaves;
+mod lines;
 mod lists;
 mod paths;
 mod row;
@@ -69,6 +70,7 @@ fn answer(alloc: Global, row: &Row) -> Answer {
     match row.group() {
         "leaf" => leaves::answer(alloc, row),
         "syntax" => syntax::answer(alloc, row),
+        "lines" => lines::answer(alloc, row),
         "value" => values::answer(alloc, row, Profile::Strict),
         "wide value" => values::answer(alloc, row, Profile::Wide),
         "path" => paths::answer(alloc, row),

@@ -45,7 +45,8 @@ fn document(alloc: Global, question: &str, syntax: Result<Syntax, ReadFault>) ->
     }
 }
 
-fn told_of(alloc: Global, question: &str, syntax: &Syntax) -> Answer {
+/// What is told of a syntax: `counts`, `statements`, `keys` or `values`.
+pub fn told_of(alloc: Global, question: &str, syntax: &Syntax) -> Answer {
     match question {
         "counts" => format!(in alloc; "{}", syntax.token_count()),
         "statements" => statements(alloc, syntax),
