@@ -5,8 +5,8 @@ use Rattle.std.proofs.lemmas.Grind.{get_or_after_one}
 use Rattle.std.specs.Option.{option_map}
 use Rattle.std.proofs.lemmas.List.{map-append, length-map, length-take-le, drop-append-le, take_more, take_all}
 use Rattle.std.proofs.lemmas.Option.{slice_get-map, slice_get-get_or, slice_get_past}
-use Rattle.keep_syntax.specs.declared.info.KeyPart.{KeyPart}
-use Rattle.keep_syntax.specs.declared.info.ValueInfo.{ValueInfo}
+use Rattle.keep_parts.specs.declared.info.KeyPart.{KeyPart}
+use Rattle.keep_parts.specs.declared.info.ValueInfo.{ValueInfo}
 use Rattle.keep_syntax.specs.declared.syntax.Syntax.{Syntax}
 use Rattle.keep_syntax.specs.Tree.{Document}
 use Rattle.keep_syntax.specs.Numbered as syntax

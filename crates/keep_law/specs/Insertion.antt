@@ -1,7 +1,7 @@
 -- Where `insert` writes and what, by the lists of all statements and values, and the bytes of the text.
 use Rattle.std.specs.Prelude.{ℕ, suc, ◌==◌, nat_lt, Bool, true, false, not, if◌then◌else◌, List, [], ◌∷◌, ◌++◌, take, drop, codes, Option, Some, None}
-use Rattle.keep_syntax.specs.declared.info.Statement.{Statement}
-use Rattle.keep_syntax.specs.declared.info.ValueInfo.{ValueInfo}
+use Rattle.keep_parts.specs.declared.info.Statement.{Statement}
+use Rattle.keep_parts.specs.declared.info.ValueInfo.{ValueInfo}
 use Rattle.keep_syntax.specs.Tree.{Name, Value, named_leaves, text_of}
 use Rattle.keep_law.specs.Changed.{Place}
 use Rattle.keep_law.specs.Edits.{name_with, new_header}

@@ -2,8 +2,8 @@
 use Rattle.std.specs.Prelude.{ℕ, ◌≤◌, IsTrue, IsCharBoundary, List, slice_range, string_bytes, ◌-◌, map, take, drop}
 use Rattle.keep_token.specs.declared.leaf.Profile.TheVariants.{Wide}
 use Rattle.keep_token.specs.Leaves.{IsLeaf, is_key_leaf}
-use Rattle.keep_syntax.specs.declared.info.KeyPart.{KeyPart}
-use Rattle.keep_syntax.specs.declared.info.Span.{Span}
+use Rattle.keep_parts.specs.declared.info.KeyPart.{KeyPart}
+use Rattle.keep_parts.specs.declared.info.Span.{Span}
 use Rattle.keep_meaning.specs.declared.key_text.KeyText.{KeyText}
 use Rattle.keep_meaning.specs.declared.key_text.KeyText.TheVariants.{Plain, Decoded}
 use Rattle.keep_meaning.specs.Meaning.{string_value}

@@ -4,9 +4,9 @@ use Rattle.std.specs.List.{count_by, filter_map, list_any}
 use Rattle.std.specs.Option.{option_map, option_and_then}
 use Rattle.keep_token.specs.declared.leaf.Leaf.{Leaf}
 use Rattle.keep_token.specs.declared.leaf.Leaf.TheVariants as leaf
-use Rattle.keep_syntax.specs.declared.info.Span.{Span}
-use Rattle.keep_syntax.specs.declared.info.KeyPart.{KeyPart}
-use Rattle.keep_syntax.specs.declared.info.ValueInfo.{ValueInfo}
+use Rattle.keep_parts.specs.declared.info.Span.{Span}
+use Rattle.keep_parts.specs.declared.info.KeyPart.{KeyPart}
+use Rattle.keep_parts.specs.declared.info.ValueInfo.{ValueInfo}
 use Rattle.keep_syntax.specs.Tree.{Document}
 use Rattle.keep_syntax.specs.Numbered as syntax
 use Rattle.keep_meaning.specs.declared.node.Kind.{Kind}

@@ -1,6 +1,6 @@
 -- The facts about a node, as they are stored.
 use Rattle.std.specs.Prelude.{ℕ, ◌+◌, ◌<◌, ◌≤◌, ◌^◌}
-use Rattle.keep_syntax.specs.declared.info.Span.{Span}
+use Rattle.keep_parts.specs.declared.info.Span.{Span}
 use Rattle.keep_nodes.specs.declared.facts.NodeFacts.{NodeFacts}
 use Rattle.keep_nodes.specs.declared.packed.Form.{Form}
 use Rattle.keep_nodes.specs.declared.packed.Form.TheVariants.{Packed, Boxed}

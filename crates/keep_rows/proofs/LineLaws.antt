@@ -5,7 +5,7 @@ use Rattle.std.specs.Prelude.{slice_index, leb}
 use Rattle.std.specs.List.{flat_map}
 use Rattle.std.proofs.lemmas.List.{length-append}
 use Rattle.keep_token.specs.declared.leaf.Profile.{Profile}
-use Rattle.keep_syntax.specs.declared.info.Span.{Span}
+use Rattle.keep_parts.specs.declared.info.Span.{Span}
 use Rattle.keep_syntax.specs.declared.syntax.Syntax.{Syntax}
 use Rattle.keep_syntax.specs.Tree.{Written, Gap, Content, blank, keyval, header, element, Line, Ended, Document, line_leaves, ended_leaves, bom_leaves, text_of, text}
 use Rattle.keep_syntax.specs.Grammar.{IsDocument}
@@ -15,7 +15,7 @@ use Rattle.keep_syntax.specs.Contract.{IsReadOf, IsSpanIn}
 use Rattle.keep_syntax.proofs.CountLaws.{BeginsChar, AreSome, document_some}
 use Rattle.keep_syntax.proofs.CountingLaws.{all_back}
 use Rattle.keep_syntax.proofs.NumberingLaws.{width-append}
-use Rattle.keep_syntax.proofs.LineStartLaws.{if_true}
+use Rattle.keep_parts.proofs.TestLaws.{if_true}
 use Rattle.keep_syntax.proofs.SplitLaws.{bytes_of, text_length}
 
 -- ---- the byte order mark

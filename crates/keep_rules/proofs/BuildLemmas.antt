@@ -1,6 +1,6 @@
 -- Statements and values by their keys: the leading ones, and the last.
 use Rattle.std.proofs.Common.{◌≡◌, ℕ, ◌+◌, ◌-◌, List, [], ◌∷◌, ◌++◌, length, refl, sym, subst, Some}
-use Rattle.keep_syntax.specs.declared.info.Span.{Span}
+use Rattle.keep_parts.specs.declared.info.Span.{Span}
 use Rattle.keep_syntax.specs.declared.fault.Why.{Why}
 use Rattle.keep_syntax.specs.declared.fault.Why.TheVariants.{DefinedTwice, NotAnArray, DuplicateKey}
 use Rattle.keep_rules.specs.declared.keys.Keys.{Keys}

@@ -3,8 +3,8 @@ use Rattle.std.proofs.Common.{◌≡◌, ℕ, zero, suc, ◌+◌, ◌-◌, ◌<�
 use Rattle.std.specs.Prelude.{slice_get}
 use Rattle.std.proofs.lemmas.List.{get_or-map, get_or-take, get_or-drop, take_more, take_all, take-append-drop, drop_more, length-map, length-take, length-take-le, length-drop}
 use Rattle.std.proofs.lemmas.Option.{slice_get_within, get_or_from_slice_get}
-use Rattle.keep_syntax.specs.declared.info.Span.{Span}
-use Rattle.keep_syntax.specs.declared.info.KeyPart.{KeyPart}
+use Rattle.keep_parts.specs.declared.info.Span.{Span}
+use Rattle.keep_parts.specs.declared.info.KeyPart.{KeyPart}
 use Rattle.keep_syntax.specs.declared.fault.Why.TheVariants.{NotATable, NotByDots}
 use Rattle.keep_rules.specs.declared.keys.Keys.{Keys}
 use Rattle.keep_meaning.specs.declared.role.Role.TheVariants.{Through, Dotted}

@@ -3,7 +3,7 @@ use Rattle.std.proofs.Common.{◌≡◌, ℕ, zero, suc, ◌<◌, List, [], ◌�
 use Rattle.keep_syntax.specs.declared.fault.ReadFault.{ReadFault}
 use Rattle.keep_syntax.specs.declared.fault.ReadFault.TheVariants as faults
 use Rattle.keep_syntax.specs.declared.fault.Why.{Why}
-use Rattle.keep_syntax.specs.declared.info.KeyPart.{KeyPart}
+use Rattle.keep_parts.specs.declared.info.KeyPart.{KeyPart}
 use Rattle.keep_nodes.specs.AllNodes.{Node}
 use Rattle.keep_nodes.specs.declared.facts.NodeFacts.{NodeFacts}
 use Rattle.keep_rules.specs.declared.key_walk.Fault.{Fault}

@@ -1,6 +1,6 @@
 -- Where the keys of values begin among the key parts of the document.
 use Rattle.std.specs.Prelude.{◌≡◌, ℕ, ◌+◌, List, ◌∷◌}
-use Rattle.keep_syntax.specs.declared.info.ValueInfo.{ValueInfo}
+use Rattle.keep_parts.specs.declared.info.ValueInfo.{ValueInfo}
 use Rattle.keep_rules.specs.NestedValues.{NestedValue}
 use Rattle.keep_rules.specs.NestedReads.{nested_keys, HasKeys}
 

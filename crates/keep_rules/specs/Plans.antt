@@ -1,9 +1,9 @@
 -- The nested values in the flat list from a number on, and what reading them does.
 use Rattle.std.specs.Prelude.{◌≡◌, ℕ, ◌+◌, List, [], ◌∷◌, Some, slice_get}
 use Rattle.keep_syntax.specs.declared.fault.Why.{Why}
-use Rattle.keep_syntax.specs.declared.info.KeyPart.{KeyPart}
-use Rattle.keep_syntax.specs.declared.info.ValueInfo.{ValueInfo}
-use Rattle.keep_syntax.specs.Flat.{Flat}
+use Rattle.keep_parts.specs.declared.info.KeyPart.{KeyPart}
+use Rattle.keep_parts.specs.declared.info.ValueInfo.{ValueInfo}
+use Rattle.keep_parts.specs.Flat.{Flat}
 use Rattle.keep_nodes.specs.AllNodes.{Node}
 use Rattle.keep_rules.specs.declared.key_walk.Fault.{Fault}
 use Rattle.keep_rules.specs.declared.key_walk.Fault.TheVariants.{Define, Memory}

@@ -1,10 +1,10 @@
 -- What reading a statement of the flat list does to the nodes and to the facts about them.
 use Rattle.std.specs.Prelude.{ℕ, List}
 use Rattle.keep_syntax.specs.declared.fault.Why.{Why}
-use Rattle.keep_syntax.specs.declared.info.Statement.{Statement}
-use Rattle.keep_syntax.specs.declared.info.StatementKind.{StatementKind}
-use Rattle.keep_syntax.specs.declared.info.StatementKind.TheVariants.{Element}
-use Rattle.keep_syntax.specs.Flat.{Flat}
+use Rattle.keep_parts.specs.declared.info.Statement.{Statement}
+use Rattle.keep_parts.specs.declared.info.StatementKind.{StatementKind}
+use Rattle.keep_parts.specs.declared.info.StatementKind.TheVariants.{Element}
+use Rattle.keep_parts.specs.Flat.{Flat}
 use Rattle.keep_rules.specs.declared.keys.Keys.{Keys}
 use Rattle.keep_nodes.specs.AllNodes.{Node}
 use Rattle.keep_meaning.specs.Marks as marks

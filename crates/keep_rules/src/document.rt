@@ -1,6 +1,6 @@
 //! Reading all definitions of a document, or of a value alone.
 ghost use Rattle.std.specs.Prelude.{◌≡◌, ◌<◌, length, IfOk, IfErr};
-ghost use Rattle.keep_syntax.specs.Flat.{flat};
+ghost use Rattle.keep_parts.specs.Flat.{flat};
 ghost use Rattle.keep_syntax.specs.Tree.{Document, Value};
 ghost use Rattle.keep_nodes.specs.Children.{holding};
 ghost use Rattle.keep_rules.specs.ReadDocuments.{WasRead, WasReadAlone, IsIndexOf, ValueObeys, IsRefusal, IsValueRefusal, IsFaultAt};

@@ -1,6 +1,6 @@
 //! Reading the values that are nested in a value, one after another.
 ghost use Rattle.std.specs.Prelude.{◌≡◌, ◌+◌, ◌≤◌, ◌∷◌, ◌++◌, ℕ, [], List, Some, length, slice_get, IfOk, OnOk, IfErr};
-ghost use Rattle.keep_syntax.specs.Flat.{flat};
+ghost use Rattle.keep_parts.specs.Flat.{flat};
 ghost use Rattle.keep_rules.specs.NestedValues.{NestingState, NestedValue};
 ghost use Rattle.keep_rules.specs.Plans.{AreReadable, IsNext, AreNext, RepresentsSome, NestedValueRead, NestedValueFaults, NestedValuesRead, NestedValuesFault, fault_from};
 ghost use Rattle.keep_rules.specs.Stops.{FaultMeets};

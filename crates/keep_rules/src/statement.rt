@@ -1,6 +1,6 @@
 //! Reading the statements of a document, one after another.
 ghost use Rattle.std.specs.Prelude.{◌≡◌, ℕ, List, Some, None, IfOk, OnOk, IfErr};
-ghost use Rattle.keep_syntax.specs.Flat.{flat};
+ghost use Rattle.keep_parts.specs.Flat.{flat};
 ghost use Rattle.keep_rules.specs.FlatStatements.{MatchesStatement};
 ghost use Rattle.keep_rules.specs.Keys.{AreKeys, parts_of};
 ghost use Rattle.keep_meaning.specs.Marks as marks;

@@ -11,7 +11,7 @@ use Rattle.keep_token.specs.declared.leaf.Leaf.TheVariants as leaf
 use Rattle.keep_token.specs.declared.leaf.Profile.{Profile}
 use Rattle.keep_token.specs.Encoded.{encoded_key}
 use Rattle.keep_syntax.specs.declared.syntax.Syntax.{Syntax}
-use Rattle.keep_syntax.specs.declared.info.Span.{Span}
+use Rattle.keep_parts.specs.declared.info.Span.{Span}
 use Rattle.keep_syntax.specs.Tree as tree
 use Rattle.keep_syntax.specs.Tree.{Written, Document, Content, mark, key_leaves, further_leaves, text_of, text}
 use Rattle.keep_meaning.specs.Counts.{statements_in}

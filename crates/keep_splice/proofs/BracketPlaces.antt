@@ -6,7 +6,7 @@ use Rattle.std.specs.Prelude.{IsUtf8, ⊤}
 use Rattle.std.specs.List.{AllByRecursion}
 use Rattle.std.specs.Option.{option_map, option_and_then}
 use Rattle.keep_token.specs.declared.leaf.Profile.TheVariants.{Wide}
-use Rattle.keep_syntax.specs.declared.info.ValueInfo.{ValueInfo}
+use Rattle.keep_parts.specs.declared.info.ValueInfo.{ValueInfo}
 use Rattle.keep_syntax.specs.Tree.{Value, Document}
 use Rattle.keep_syntax.specs.Numbered as syntax
 use Rattle.keep_path.specs.Path.{Part, index}

@@ -6,9 +6,9 @@ use Rattle.std.proofs.Common.{◌≡◌, ℕ, ◌<◌, ◌≤◌, true, false, L
 use Rattle.std.specs.Prelude.{IsCharBoundary}
 use Rattle.std.specs.List.{list_any}
 use Rattle.std.specs.Option.{option_map, option_and_then}
-use Rattle.keep_syntax.specs.declared.info.Owner.{Owner}
-use Rattle.keep_syntax.specs.declared.info.Owner.TheVariants as owner
-use Rattle.keep_syntax.specs.declared.info.Statement.{Statement}
+use Rattle.keep_parts.specs.declared.info.Owner.{Owner}
+use Rattle.keep_parts.specs.declared.info.Owner.TheVariants as owner
+use Rattle.keep_parts.specs.declared.info.Statement.{Statement}
 use Rattle.keep_syntax.specs.Tree.{Value, Document, text}
 use Rattle.keep_syntax.specs.Numbered as syntax
 use Rattle.keep_path.specs.Path.{Part}

@@ -1,8 +1,8 @@
 -- A body goes on over a keyval, and ends before a header and behind the last statement.
 use Rattle.std.proofs.Common.{◌≡◌, ℕ, zero, suc, ◌-◌, ◌≤◌, List, [], ◌∷◌, length, take, drop, slice_get, refl, sym, ap, ◌∙◌, arith, Some}
-use Rattle.keep_syntax.specs.declared.info.Statement.{Statement}
-use Rattle.keep_syntax.specs.declared.info.StatementKind.{StatementKind}
-use Rattle.keep_syntax.specs.declared.info.StatementKind.TheVariants as kind
+use Rattle.keep_parts.specs.declared.info.Statement.{Statement}
+use Rattle.keep_parts.specs.declared.info.StatementKind.{StatementKind}
+use Rattle.keep_parts.specs.declared.info.StatementKind.TheVariants as kind
 use Rattle.keep_syntax.specs.Numbered.{span}
 use Rattle.keep_meaning.specs.KeyText.{text_at}
 use Rattle.keep_law.specs.Removal.{body_end, section_place}

@@ -1,7 +1,7 @@
 -- What is answered of an edit, by the tree of the document: the number of a value, the text after the edit, or the refusal.
 use Rattle.std.specs.Prelude.{◌≡◌, ◌≤◌, ◌+◌, ℕ, true, false, List, length, Option, Some, None, Result, Ok, Err, MatchResult, IsCharBoundary, string_bytes}
 use Rattle.keep_syntax.specs.Tree.{Document}
-use Rattle.keep_syntax.specs.declared.info.Span.{Span}
+use Rattle.keep_parts.specs.declared.info.Span.{Span}
 use Rattle.keep_syntax.specs.Numbered.{span}
 use Rattle.keep_meaning.specs.Counts.{numbered_in, is_value}
 use Rattle.keep_meaning.specs.Meaning.{said_in}

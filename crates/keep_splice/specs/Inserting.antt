@@ -2,9 +2,9 @@
 use Rattle.std.specs.Prelude.{◌≡◌, ◌⊎◌, ℕ, suc, ◌≤◌, ◌<◌, Bool, true, false, List, [], ◌∷◌, ◌++◌, length, take, drop, Option, Some, None, Result, Ok, Err, slice_get}
 use Rattle.std.specs.Option.{option_map, option_and_then}
 use Rattle.keep_token.specs.declared.leaf.Profile.{Profile}
-use Rattle.keep_syntax.specs.declared.info.Owner.TheVariants as owner
-use Rattle.keep_syntax.specs.declared.info.Statement.{Statement}
-use Rattle.keep_syntax.specs.declared.info.ValueInfo.{ValueInfo}
+use Rattle.keep_parts.specs.declared.info.Owner.TheVariants as owner
+use Rattle.keep_parts.specs.declared.info.Statement.{Statement}
+use Rattle.keep_parts.specs.declared.info.ValueInfo.{ValueInfo}
 use Rattle.keep_syntax.specs.Tree.{Value, Document, text}
 use Rattle.keep_syntax.specs.Numbered as syntax
 use Rattle.keep_path.specs.Path.{Part, index}

@@ -6,22 +6,24 @@ use Rattle.std.proofs.lemmas.List.{length-append}
 use Rattle.std.proofs.lemmas.Grind.{flat_map-append}
 use Rattle.std.proofs.Math.Seq.{take-append_seam, drop-append_seam, take-length}
 use Rattle.keep_token.specs.declared.leaf.Profile.{Profile}
-use Rattle.keep_syntax.specs.declared.info.KeyPart.{KeyPart}
-use Rattle.keep_syntax.specs.declared.info.Statement.{Statement}
-use Rattle.keep_syntax.specs.declared.info.ValueInfo.{ValueInfo}
-use Rattle.keep_syntax.specs.declared.moves.Counts.{Counts}
+use Rattle.keep_parts.specs.declared.info.KeyPart.{KeyPart}
+use Rattle.keep_parts.specs.declared.info.Statement.{Statement}
+use Rattle.keep_parts.specs.declared.info.ValueInfo.{ValueInfo}
+use Rattle.keep_parts.specs.declared.moves.Counts.{Counts}
 use Rattle.keep_syntax.specs.Tree.{Written, Content, blank, keyval, header, element, Line, Ended, Document, text_of, line_leaves, ended_leaves, bom_leaves}
 use Rattle.keep_syntax.specs.Grammar.{IsEnded, IsDocument}
 use Rattle.keep_syntax.specs.Numbered.{width, Count, first_line, line_statements, content_statements, next_line, behind_lines}
-use Rattle.keep_syntax.specs.Flat.{Flat, kinds, starts}
-use Rattle.keep_syntax.specs.FlatLines.{count_at, flat_of}
-use Rattle.keep_syntax.specs.Rereading.{counts_at, places_before, statements_before, first_key, value_or, first_value, counts_before, nothing, part_of, joined}
+use Rattle.keep_parts.specs.Flat.{Flat}
+use Rattle.keep_syntax.specs.Growth.{kinds, starts}
+use Rattle.keep_parts.specs.Rereading.{count_at, counts_at, places_before, statements_before, first_key, value_or, first_value, counts_before, nothing, part_of, joined}
+use Rattle.keep_syntax.specs.FlatLines.{flat_of}
 use Rattle.keep_syntax.proofs.CountLaws.{BeginsChar, AreSome, document_some}
 use Rattle.keep_syntax.proofs.NumberingLaws.{width-append}
-use Rattle.keep_syntax.proofs.FlatLaws.{same_flat}
+use Rattle.keep_parts.proofs.FlatLaws.{same_flat}
 use Rattle.keep_syntax.proofs.LineLoopLaws.{same_count}
 use Rattle.keep_syntax.proofs.LineNumberingLaws.{over_ended, behind_lines-at, behind_lines-statements, behind_lines-parts, behind_lines-values}
-use Rattle.keep_syntax.proofs.LineStartLaws.{HaveBytes, if_true, if_false}
+use Rattle.keep_parts.proofs.TestLaws.{if_true, if_false}
+use Rattle.keep_syntax.proofs.LineStartLaws.{HaveBytes}
 use Rattle.keep_syntax.proofs.SplitLaws.{have_bytes}
 use Rattle.keep_syntax.proofs.HeadLaws.{HeadIs, ByValue, ValuesFrom, head_is, values_from}
 use Rattle.keep_syntax.proofs.PieceLaws.{bom_piece, ended_piece, lines_piece, flat_pieces, lines_front, joined_assoc}

@@ -6,7 +6,7 @@ use Rattle.keep_token.specs.declared.leaf.Leaf.{Leaf}
 use Rattle.keep_token.specs.declared.leaf.Leaf.TheVariants as leaf
 use Rattle.keep_syntax.specs.Tree.{Written, text_of, mark}
 use Rattle.keep_syntax.specs.Numbered.{width, Placed, placed}
-use Rattle.keep_syntax.specs.Flat.{kinds, starts}
+use Rattle.keep_syntax.specs.Growth.{kinds, starts}
 use Rattle.keep_syntax.specs.Cut.{start_in, cut}
 
 -- ---- by number

@@ -13,10 +13,11 @@ use Rattle.keep_syntax.specs.declared.fault.ReadFault.TheVariants as faults
 use Rattle.keep_syntax.specs.declared.info.Brackets.{Brackets}
 use Rattle.keep_syntax.specs.Tree.{Gap, mark}
 use Rattle.keep_syntax.specs.Reading.{Fault, Bad, Deep, written, space_at, blank_at, in_front, is_free, gap_in}
-use Rattle.keep_syntax.specs.Flat.{Flat, only, with_mark, Grows, PartRead, Fails, SignIs, SpaceRead, BlankRead, IsSyntax}
+use Rattle.keep_parts.specs.Flat.{Flat, with_mark}
+use Rattle.keep_syntax.specs.Growth.{only, Grows, PartRead, Fails, SignIs, SpaceRead, BlankRead, IsSyntax}
 use Rattle.keep_syntax.proofs.LoopLaws.{done}
 use Rattle.keep_syntax.proofs.SpaceLaws.{blank_step, blank_stop}
-use Rattle.keep_syntax.proofs.FlatLaws.{grows_nothing, grows_then, grows_mark}
+use Rattle.keep_syntax.proofs.GrowthLaws.{grows_nothing, grows_then, grows_mark}
 
 -- ---- places
 

@@ -8,15 +8,16 @@ use Rattle.keep_token.specs.declared.leaf.Leaf.TheVariants as leaf
 use Rattle.keep_token.specs.declared.leaf.Profile.{Profile}
 use Rattle.keep_token.specs.Scanning.{key_at, moved}
 use Rattle.keep_syntax.specs.declared.fault.ReadFault.{ReadFault}
-use Rattle.keep_syntax.specs.declared.info.KeyPart.{KeyPart}
+use Rattle.keep_parts.specs.declared.info.KeyPart.{KeyPart}
 use Rattle.keep_syntax.specs.Tree.{Written, Gap, Further, Key, Name, mark, further_leaves, key_leaves}
 use Rattle.keep_syntax.specs.Numbered.{width, span, further_parts, key_parts}
 use Rattle.keep_syntax.specs.Numbered as numbered
 use Rattle.keep_syntax.specs.Reading.{Bad, Read, ◌>>=◌, goes_on, ready, written, space_at, part_of, part_at, further_by, further_at, more_of, key_of, name_of}
-use Rattle.keep_syntax.specs.Flat.{Flat, Taken, with_mark, with_key, Grows, Fails, SignIs, SpaceRead, KeyPartRead, FurtherRead, KeyRead, NameRead, part_taken, further_taken, key_taken, name_taken}
+use Rattle.keep_parts.specs.Flat.{Flat, with_mark, with_key}
+use Rattle.keep_syntax.specs.Growth.{Taken, Grows, Fails, SignIs, SpaceRead, KeyPartRead, FurtherRead, KeyRead, NameRead, part_taken, further_taken, key_taken, name_taken}
 use Rattle.keep_syntax.proofs.LoopLaws.{done, ok_is, loop_on, loop_ready, loop_err}
 use Rattle.keep_syntax.proofs.KeyLaws.{further_shortens}
-use Rattle.keep_syntax.proofs.FlatLaws.{width-append, same_taken, grows_nothing, grows_then, grows_as, grows_key}
+use Rattle.keep_syntax.proofs.GrowthLaws.{width-append, same_taken, grows_nothing, grows_then, grows_as, grows_key}
 use Rattle.keep_syntax.proofs.GapCodeLaws.{moved_some, first-drop, behind_leaf, behind_sign, leaf_end, leaf_grows, sign_grows, fails_through}
 
 -- ---- a key part

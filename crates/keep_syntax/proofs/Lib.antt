@@ -6,8 +6,7 @@ pub mod ValueLaws
 pub mod AgainLaws
 pub mod WholeLaws
 pub mod DeepLaws
-pub mod StartLaws
-pub mod FlatLaws
+pub mod GrowthLaws
 pub mod LineLaws
 pub mod DocumentLaws
 pub mod DeepLineLaws
@@ -39,7 +38,6 @@ pub mod LiftLaws
 pub mod LinesLaws
 pub mod ReplacedLaws
 pub mod HeadLaws
-pub mod MoveLaws
 pub mod TouchedLaws
 pub mod PieceLaws
 pub mod SplitLaws

@@ -5,16 +5,17 @@ use Rattle.keep_token.specs.declared.leaf.Leaf.{Leaf}
 use Rattle.keep_token.specs.declared.leaf.Leaf.TheVariants as leaf
 use Rattle.keep_token.specs.declared.leaf.Profile.{Profile}
 use Rattle.keep_syntax.specs.declared.fault.ReadFault.{ReadFault}
-use Rattle.keep_syntax.specs.declared.info.Start.{Start}
-use Rattle.keep_syntax.specs.declared.info.StatementKind.TheVariants.{KeyVal, Header, Element}
+use Rattle.keep_parts.specs.declared.info.Start.{Start}
+use Rattle.keep_parts.specs.declared.info.StatementKind.TheVariants.{KeyVal, Header, Element}
 use Rattle.keep_syntax.specs.declared.line.Head.{Head}
 use Rattle.keep_syntax.specs.Tree.{Written, Gap, Further, Key, keyval, header, element, mark, key_leaves, name_leaves, content_leaves}
 use Rattle.keep_syntax.specs.Numbered.{width, key_count, key_parts, further_parts, entries_parts, inside_start, value_values}
 use Rattle.keep_syntax.specs.Reading.{space_at, key_of, name_of, value_of, is_line_end, keyval_of, header_by, element_by, content_at}
-use Rattle.keep_syntax.specs.Flat.{Flat, Taken, only, Fails, IsSyntax, SignIs, SpaceRead, KeyRead, NameRead, ValueRead, key_taken, name_taken}
+use Rattle.keep_parts.specs.Flat.{Flat}
+use Rattle.keep_syntax.specs.Growth.{Taken, only, Fails, IsSyntax, SignIs, SpaceRead, KeyRead, NameRead, ValueRead, key_taken, name_taken}
 use Rattle.keep_syntax.specs.FlatLines.{content_taken, ContentIs}
 use Rattle.keep_syntax.proofs.LoopLaws.{done, ok_is}
-use Rattle.keep_syntax.proofs.FlatLaws.{same_taken, grows_then, grows_as, grown_keys, grown_values}
+use Rattle.keep_syntax.proofs.GrowthLaws.{same_taken, grows_then, grows_as, grown_keys, grown_values}
 use Rattle.keep_syntax.proofs.GapCodeLaws.{first-drop, behind_leaf, behind_sign, sign_grows, fails_bad, fails_through}
 
 -- ---- which content

@@ -10,18 +10,21 @@ use Rattle.keep_token.specs.Scanning.{gap_at}
 use Rattle.keep_token.proofs.GapLaws.{Gaps, white, line, comment, nothing, gap_cases}
 use Rattle.keep_syntax.specs.declared.fault.ReadFault.{ReadFault}
 use Rattle.keep_syntax.specs.declared.fault.ReadFault.TheVariants as faults
-use Rattle.keep_syntax.specs.declared.info.Statement.{Statement}
+use Rattle.keep_parts.specs.declared.info.Statement.{Statement}
 use Rattle.keep_syntax.specs.Tree.{Written, Content, blank, keyval, header, element, Line, Ended, line_leaves, ended_leaves}
 use Rattle.keep_syntax.specs.Numbered.{width, Count, line_parts, line_values, line_statements, content_statements, behind_lines}
 use Rattle.keep_syntax.specs.Reading.{Fault, Bad, written, line_at, lines_of}
-use Rattle.keep_syntax.specs.Flat.{Flat, Taken, only, both, add_at, Grows, Fails}
-use Rattle.keep_syntax.specs.FlatLines.{count_at, statement_list, LineIs, newline_by, NewlineRead, ended_list, with_statements, lines_taken, LinesAre, LinesRead}
+use Rattle.keep_parts.specs.Flat.{Flat}
+use Rattle.keep_syntax.specs.Growth.{Taken, only, both, add_at, Grows, Fails}
+use Rattle.keep_parts.specs.Rereading.{count_at, with_statements}
+use Rattle.keep_syntax.specs.FlatLines.{statement_list, LineIs, newline_by, NewlineRead, ended_list, lines_taken, LinesAre, LinesRead}
 use Rattle.keep_syntax.specs.WholeLines.{line_starts}
 use Rattle.keep_syntax.proofs.LoopLaws.{done}
 use Rattle.keep_syntax.proofs.NumberingLaws.{width-append}
 use Rattle.keep_syntax.proofs.StepLaws.{lines_newline, lines_last, lines_err, lines_bad}
 use Rattle.keep_syntax.proofs.LineNumberingLaws.{over_ended, ended-snoc, over-last, behind_lines-at, behind_lines-statements, behind_lines-parts, behind_lines-values}
-use Rattle.keep_syntax.proofs.FlatLaws.{same_flat, same_taken, grows_nothing, grows_then, grows_as, grown_keys, grown_values, grown_statements}
+use Rattle.keep_parts.proofs.FlatLaws.{same_flat}
+use Rattle.keep_syntax.proofs.GrowthLaws.{same_taken, grows_nothing, grows_then, grows_as, grown_keys, grown_values, grown_statements}
 use Rattle.keep_syntax.proofs.GapCodeLaws.{fails_memory, fails_through}
 
 -- ---- a newline

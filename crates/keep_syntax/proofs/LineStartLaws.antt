@@ -2,6 +2,7 @@
 use Rattle.std.proofs.Common.{◌≡◌, ℕ, ◌+◌, ◌<◌, ◌≤◌, Bool, true, false, List, [], ◌∷◌, refl, sym, ◌∙◌, arith, le-leb, lt-ltb, le-ltb, leb-true}
 use Rattle.std.specs.Prelude.{⊤, ltb, leb, if◌then◌else◌}
 use Rattle.std.proofs.lemmas.Bool.{lt-leb}
+use Rattle.keep_parts.proofs.TestLaws.{if_true, if_false}
 use Rattle.keep_syntax.specs.Tree.{Ended, ended_leaves}
 use Rattle.keep_syntax.specs.Numbered.{width}
 use Rattle.keep_syntax.specs.WholeLines.{line_starts, last_to, first_from, lines_before, lines_from}
@@ -17,14 +18,6 @@ next_of end total at es = first_from end total (line_starts at es)
 abbrev pub HaveBytes : List Ended → Type 0
 HaveBytes [] = ⊤
 HaveBytes (e ∷ es) = (0 < width (ended_leaves e)) × HaveBytes es
-
--- ---- tests
-
-pub if_true : {A : Type 0} (b : Bool) (x y : A) → b ≡ true → (if b then x else y) ≡ x
-if_true b x y e = rw e refl
-
-pub if_false : {A : Type 0} (b : Bool) (x y : A) → b ≡ false → (if b then x else y) ≡ y
-if_false b x y e = rw e refl
 
 -- ---- places
 

@@ -4,17 +4,18 @@ use Rattle.std.specs.Option.{is_some}
 use Rattle.std.proofs.lemmas.List.{append-nil}
 use Rattle.keep_token.specs.declared.leaf.Profile.{Profile}
 use Rattle.keep_syntax.specs.declared.fault.ReadFault.{ReadFault}
-use Rattle.keep_syntax.specs.declared.info.Start.{Start}
+use Rattle.keep_parts.specs.declared.info.Start.{Start}
 use Rattle.keep_syntax.specs.declared.info.Brackets.{Brackets}
-use Rattle.keep_syntax.specs.declared.info.KeyPart.{KeyPart}
-use Rattle.keep_syntax.specs.declared.info.ValueInfo.{ValueInfo}
+use Rattle.keep_parts.specs.declared.info.KeyPart.{KeyPart}
+use Rattle.keep_parts.specs.declared.info.ValueInfo.{ValueInfo}
 use Rattle.keep_syntax.specs.Tree.{Written, Gap, Name, Entries, none, Value, named_leaves, value_leaves, comma_leaves}
 use Rattle.keep_syntax.specs.Numbered.{width, entries_parts, entries_values, info, inside_of, inside_start, value_start, comma_start, comma_place, name_count, named_parts, behind}
 use Rattle.keep_syntax.specs.Reading.{Turn, goes_on, ready, join, Item, entry_of, turn_of, value_of, close_byte, gap_in, named_in, after_by, item_by, entry_by, entries_by}
-use Rattle.keep_syntax.specs.Flat.{Flat, Taken, with_comma, Grows, Fails, NamedRead, ValueRead, AfterRead, AfterKept, named_taken, value_taken, entries_taken, item_taken, EntriesAre, ItemIs, ItemRead}
+use Rattle.keep_parts.specs.Flat.{Flat, with_comma}
+use Rattle.keep_syntax.specs.Growth.{Taken, Grows, Fails, NamedRead, ValueRead, AfterRead, AfterKept, named_taken, value_taken, entries_taken, item_taken, EntriesAre, ItemIs, ItemRead}
 use Rattle.keep_syntax.proofs.LoopLaws.{done, loop_on, loop_ready, loop_err}
 use Rattle.keep_syntax.proofs.ValueLaws.{value_takes, entry_shortens}
-use Rattle.keep_syntax.proofs.FlatLaws.{same_taken, grows_nothing, grows_then, grows_as, grows_changed, grown_values, grown_keys}
+use Rattle.keep_syntax.proofs.GrowthLaws.{same_taken, grows_nothing, grows_then, grows_as, grows_changed, grown_values, grown_keys}
 use Rattle.keep_syntax.proofs.NumberLaws.{same_start, leaves-join, behind-at, behind-join, values-join, parts-join, value_end-width, length-values, length-named, length-parts, behind-values, behind-parts}
 use Rattle.keep_syntax.proofs.GapCodeLaws.{first-drop, fails_through}
 

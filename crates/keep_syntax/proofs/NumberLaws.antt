@@ -1,14 +1,14 @@
 -- Tokens, key parts and values of entries, one behind the other, and how many there are.
 use Rattle.std.proofs.Common.{◌≡◌, ℕ, suc, ◌+◌, List, [], ◌∷◌, ◌++◌, length, Option, Some, None, refl, sym, ap, ◌∙◌, append_assoc, arith}
 use Rattle.std.proofs.lemmas.List.{length-append}
-use Rattle.keep_syntax.specs.declared.info.Start.{Start}
-use Rattle.keep_syntax.specs.declared.info.Owner.{Owner}
-use Rattle.keep_syntax.specs.declared.info.KeyPart.{KeyPart}
-use Rattle.keep_syntax.specs.declared.info.ValueInfo.{ValueInfo}
+use Rattle.keep_parts.specs.declared.info.Start.{Start}
+use Rattle.keep_parts.specs.declared.info.Owner.{Owner}
+use Rattle.keep_parts.specs.declared.info.KeyPart.{KeyPart}
+use Rattle.keep_parts.specs.declared.info.ValueInfo.{ValueInfo}
 use Rattle.keep_syntax.specs.Tree.{Further, Name, Entries, none, entry, Value, named_leaves, opening, closing, comma_leaves, entries_leaves, value_leaves}
 use Rattle.keep_syntax.specs.Numbered.{width, entries_parts, value_count, part_count, name_count, named_parts, further_parts, entries_values, inside_of, rest_of, behind, info, value_start, inside_start, value_end, comma_start, entry_end, comma_place}
 use Rattle.keep_syntax.specs.Reading.{join}
-use Rattle.keep_syntax.proofs.FlatLaws.{width-append}
+use Rattle.keep_syntax.proofs.GrowthLaws.{width-append}
 
 -- starts with the same parts
 pub same_start : (a b : Start) → a.at ≡ b.at → a.values ≡ b.values → a.parts ≡ b.parts → a.owner ≡ b.owner → a.depth ≡ b.depth → a.comma ≡ b.comma → a ≡ b

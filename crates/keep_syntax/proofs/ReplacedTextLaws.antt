@@ -8,11 +8,12 @@ use Rattle.std.proofs.lemmas.Str.{IsCharBoundary-end}
 use Rattle.std.proofs.lemmas.Grind.{flat_map-append}
 use Rattle.std.proofs.Math.Seq.{take-append_seam, drop-append_seam}
 use Rattle.keep_token.specs.declared.leaf.Profile.{Profile}
-use Rattle.keep_syntax.specs.declared.info.Span.{Span}
+use Rattle.keep_parts.specs.declared.info.Span.{Span}
 use Rattle.keep_syntax.specs.declared.syntax.Syntax.{Syntax}
 use Rattle.keep_syntax.specs.Tree.{Written, Line, Ended, Document, line_leaves, ended_leaves, bom_leaves, text_of, text, lines_depth, content_depth, depth}
 use Rattle.keep_syntax.specs.Grammar.{IsLine, IsEnded, IsDocument}
-use Rattle.keep_syntax.specs.Flat.{Flat, flat, starts, add_at}
+use Rattle.keep_parts.specs.Flat.{Flat, flat}
+use Rattle.keep_syntax.specs.Growth.{starts, add_at}
 use Rattle.keep_syntax.specs.Cut.{start_in}
 use Rattle.keep_syntax.specs.WholeLines.{begin, replaced}
 use Rattle.keep_syntax.specs.Contract.{IsSyntaxOf, IsTextOf, CanReplace, put_at}
@@ -21,7 +22,7 @@ use Rattle.keep_syntax.proofs.SpaceLaws.{text_of-append}
 use Rattle.keep_syntax.proofs.CountLaws.{BeginsChar, AreSome, inner_leaves, document_some}
 use Rattle.keep_syntax.proofs.CutLaws.{start_holds, start_forward}
 use Rattle.keep_syntax.proofs.ReadLaws.{inner_text}
-use Rattle.keep_syntax.proofs.LineStartLaws.{if_true, if_false}
+use Rattle.keep_parts.proofs.TestLaws.{if_true, if_false}
 use Rattle.keep_syntax.proofs.SplitLaws.{Split}
 use Rattle.keep_syntax.proofs.CountingLaws.{all_append, all_front, all_back}
 use Rattle.keep_syntax.proofs.RereadLaws.{lines_of, middle_lines, end_lines, empty_last}

@@ -5,32 +5,33 @@ use Rattle.std.specs.List.{flat_map, AllByRecursion}
 use Rattle.std.proofs.lemmas.List.{append-nil, length-append, map-append}
 use Rattle.std.proofs.lemmas.Grind.{flat_map-append}
 use Rattle.keep_token.specs.declared.leaf.Profile.{Profile}
-use Rattle.keep_syntax.specs.declared.info.Span.{Span}
-use Rattle.keep_syntax.specs.declared.info.Owner.{Owner}
-use Rattle.keep_syntax.specs.declared.info.Owner.TheVariants as owner
-use Rattle.keep_syntax.specs.declared.info.KeyPart.{KeyPart}
-use Rattle.keep_syntax.specs.declared.info.Statement.{Statement}
-use Rattle.keep_syntax.specs.declared.info.ValueInfo.{ValueInfo}
-use Rattle.keep_syntax.specs.declared.moves.Counts.{Counts}
-use Rattle.keep_syntax.specs.declared.parts.Parts.{Parts}
+use Rattle.keep_parts.specs.declared.info.Span.{Span}
+use Rattle.keep_parts.specs.declared.info.Owner.{Owner}
+use Rattle.keep_parts.specs.declared.info.Owner.TheVariants as owner
+use Rattle.keep_parts.specs.declared.info.KeyPart.{KeyPart}
+use Rattle.keep_parts.specs.declared.info.Statement.{Statement}
+use Rattle.keep_parts.specs.declared.info.ValueInfo.{ValueInfo}
+use Rattle.keep_parts.specs.declared.moves.Counts.{Counts}
+use Rattle.keep_parts.specs.declared.parts.Parts.{Parts}
 use Rattle.keep_syntax.specs.declared.syntax.Syntax.{Syntax}
 use Rattle.keep_syntax.specs.Tree.{Line, Ended, Document, line_leaves, ended_leaves, bom_leaves, text}
 use Rattle.keep_syntax.specs.Grammar.{IsEnded, IsDocument, Reads}
 use Rattle.keep_syntax.specs.Numbered.{span, width, Count, first_line, next_line, behind_lines}
-use Rattle.keep_syntax.specs.Flat.{Flat, flat, empty}
-use Rattle.keep_syntax.specs.FlatLines.{count_at, flat_of, DocumentIs}
+use Rattle.keep_parts.specs.Flat.{Flat, flat, empty}
+use Rattle.keep_parts.specs.Rereading.{count_at, nothing, counts_at, counts_before, places_before, IsPart, part_of, moved_flat, joined, appended, with_front, with_new, with_back, replaced_flat, CanMove, front_starts, back_starts, replaced_starts}
+use Rattle.keep_syntax.specs.FlatLines.{flat_of, DocumentIs}
 use Rattle.keep_syntax.specs.WholeLines.{empty_line, line_starts, lines_from, begin, starts_of, replaced}
-use Rattle.keep_syntax.specs.Lifted.{origin, moved, moved_there, moved_span, moved_owner, moved_key, moved_statement, moved_value}
-use Rattle.keep_syntax.specs.Rereading.{nothing, counts_at, counts_before, places_before, IsPart, part_of, moved_flat, joined, appended, with_front, with_new, with_back, replaced_flat, CanMove, front_starts, back_starts, replaced_starts}
+use Rattle.keep_parts.specs.Lifted.{origin, moved, moved_there, moved_span, moved_owner, moved_key, moved_statement, moved_value}
 use Rattle.keep_syntax.specs.Contract.{IsSyntaxOf, CanReplace, MayReread}
 use Rattle.keep_syntax.proofs.LoopLaws.{ok_is}
 use Rattle.keep_syntax.proofs.DocumentLaws.{document_read}
 use Rattle.keep_syntax.proofs.ReadLaws.{syntax_of, syntax_is}
 use Rattle.keep_syntax.proofs.NumberingLaws.{width-append}
-use Rattle.keep_syntax.proofs.FlatLaws.{same_flat}
+use Rattle.keep_parts.proofs.FlatLaws.{same_flat}
 use Rattle.keep_syntax.proofs.LineLoopLaws.{same_count}
 use Rattle.keep_syntax.proofs.LineNumberingLaws.{behind_lines-at, behind_lines-statements, behind_lines-parts, behind_lines-values}
-use Rattle.keep_syntax.proofs.LineStartLaws.{HaveBytes, if_true, if_false}
+use Rattle.keep_parts.proofs.TestLaws.{if_true, if_false}
+use Rattle.keep_syntax.proofs.LineStartLaws.{HaveBytes}
 use Rattle.keep_syntax.proofs.SplitLaws.{bytes_of, have_bytes, Split, document_split, text_length}
 use Rattle.keep_syntax.proofs.PieceLaws.{bom_piece, ended_piece, lines_piece, flat_pieces, flat_lines, lines_replaced, lines_replaced_last, lines_moved, lines_ended}
 use Rattle.keep_syntax.proofs.CountingLaws.{Before, From, places_found, all_front, before_piece, before_even, before_count, flat_before, counts_found, lines_even, part_front, part_back, part_all, range_front, range_back, range_all}

@@ -6,18 +6,19 @@ use Rattle.keep_token.specs.declared.leaf.Leaf.TheVariants as leaf
 use Rattle.keep_token.specs.declared.leaf.Profile.{Profile}
 use Rattle.keep_token.specs.Scanning.{scalar_at, moved}
 use Rattle.keep_syntax.specs.declared.fault.ReadFault.{ReadFault}
-use Rattle.keep_syntax.specs.declared.info.Start.{Start}
-use Rattle.keep_syntax.specs.declared.info.Owner.{Owner}
+use Rattle.keep_parts.specs.declared.info.Start.{Start}
+use Rattle.keep_parts.specs.declared.info.Owner.{Owner}
 use Rattle.keep_syntax.specs.declared.info.Brackets.{Brackets}
 use Rattle.keep_syntax.specs.declared.info.Brackets.TheVariants as brackets
-use Rattle.keep_syntax.specs.declared.info.ValueInfo.{ValueInfo}
+use Rattle.keep_parts.specs.declared.info.ValueInfo.{ValueInfo}
 use Rattle.keep_syntax.specs.Tree.{Gap, Name, scalar, Entries, none, Value, mark, entries_leaves, value_leaves}
 use Rattle.keep_syntax.specs.Numbered.{width, span, entries_parts, entries_values, value_values, info, inside_of, inside_start, value_end, leaf_of}
 use Rattle.keep_syntax.specs.Numbered as numbered
 use Rattle.keep_syntax.specs.Reading.{Bad, Read, written, scalar_of, value_by, value_of, entries_by, body_in, open_byte, close_byte, gap_in, is_free, named_in, name_of, after_by, comma_by}
-use Rattle.keep_syntax.specs.Flat.{Flat, Taken, only, both, with_mark, with_value, begun, with_end, with_comma, ChangesValue, Grows, PartRead, Fails, SignIs, GapRead, NameRead, NamedRead, ScalarRead, BracketRead, bracket_of, open_leaf, close_leaf, owner_in, value_taken, entries_taken, AfterIs, EntriesAre}
+use Rattle.keep_parts.specs.Flat.{Flat, with_mark, with_value, begun, with_end, with_comma, ChangesValue}
+use Rattle.keep_syntax.specs.Growth.{Taken, only, both, Grows, PartRead, Fails, SignIs, GapRead, NameRead, NamedRead, ScalarRead, BracketRead, bracket_of, open_leaf, close_leaf, owner_in, value_taken, entries_taken, AfterIs, EntriesAre}
 use Rattle.keep_syntax.proofs.LoopLaws.{done, ok_is}
-use Rattle.keep_syntax.proofs.FlatLaws.{same_taken, grows_nothing, grows_then, grows_as, grows_value, grows_changed, grown_values, grown_keys, one_value}
+use Rattle.keep_syntax.proofs.GrowthLaws.{same_taken, grows_nothing, grows_then, grows_as, grows_value, grows_changed, grown_values, grown_keys, one_value}
 use Rattle.keep_syntax.proofs.NumberLaws.{same_start}
 use Rattle.keep_syntax.proofs.GapCodeLaws.{moved_some, first-drop, behind_leaf, behind_sign, leaf_end, leaf_grows, sign_grows, fails_through}
 

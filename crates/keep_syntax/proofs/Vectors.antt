@@ -4,9 +4,9 @@ use Rattle.keep_token.specs.declared.leaf.Leaf.TheVariants as leaf
 use Rattle.keep_token.specs.declared.leaf.Profile.TheVariants.{Strict, Wide}
 use Rattle.keep_token.specs.Strings.{Plain, Break}
 use Rattle.keep_token.proofs.NumberLaws.{integer_text_from}
-use Rattle.keep_syntax.specs.declared.info.Owner.TheVariants as owner
-use Rattle.keep_syntax.specs.declared.info.StatementKind.TheVariants.{KeyVal, Header, Element}
-use Rattle.keep_syntax.specs.declared.info.Start.{Start}
+use Rattle.keep_parts.specs.declared.info.Owner.TheVariants as owner
+use Rattle.keep_parts.specs.declared.info.StatementKind.TheVariants.{KeyVal, Header, Element}
+use Rattle.keep_parts.specs.declared.info.Start.{Start}
 use Rattle.keep_syntax.specs.Tree.{scalar, array, inline, none, entry, Value, blank, keyval, header, element, Document, depth}
 use Rattle.keep_syntax.specs.Numbered.{span, values, value_values, entries_parts, inside_start, statements, parts, tokens}
 use Rattle.keep_syntax.specs.Grammar.{Reads, ReadsValue}

@@ -11,11 +11,13 @@ use Rattle.keep_syntax.specs.declared.fault.ReadFault.{ReadFault}
 use Rattle.keep_syntax.specs.Tree.{Value, Document, bom_leaves}
 use Rattle.keep_syntax.specs.Numbered.{Count, first_line, statements, parts, values}
 use Rattle.keep_syntax.specs.Reading.{Fault, ◌>>=◌, lines_of, has_bom, behind_bom, read_document, value_of, read_one_value}
-use Rattle.keep_syntax.specs.Flat.{Flat, only, both, empty, kinds, starts, add_at, with_mark, Grows, Fails, IsSyntax, value_taken, ValueRead}
-use Rattle.keep_syntax.specs.FlatLines.{count_at, lines_taken, LinesAre, BomRead, document_taken, DocumentIs, alone, OneIs}
+use Rattle.keep_parts.specs.Flat.{Flat, empty, with_mark}
+use Rattle.keep_syntax.specs.Growth.{only, both, kinds, starts, add_at, Grows, Fails, IsSyntax, value_taken, ValueRead}
+use Rattle.keep_parts.specs.Rereading.{count_at}
+use Rattle.keep_syntax.specs.FlatLines.{lines_taken, LinesAre, BomRead, document_taken, DocumentIs, alone, OneIs}
 use Rattle.keep_syntax.specs.WholeLines.{line_starts}
 use Rattle.keep_syntax.proofs.LoopLaws.{done, ok_is}
-use Rattle.keep_syntax.proofs.FlatLaws.{grows_nothing, grows_then, grows_as, grows_mark, grown_keys, grown_values, grown_statements}
+use Rattle.keep_syntax.proofs.GrowthLaws.{grows_nothing, grows_then, grows_as, grows_mark, grown_keys, grown_values, grown_statements}
 use Rattle.keep_syntax.proofs.LineLoopLaws.{same_count}
 use Rattle.keep_syntax.proofs.GapCodeLaws.{fails_bad, fails_through}
 

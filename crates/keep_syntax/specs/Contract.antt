@@ -3,12 +3,12 @@ use Rattle.std.specs.Prelude.{◌≡◌, ℕ, ◌+◌, ◌≤◌, ◌⊎◌, fal
 use Rattle.keep_token.specs.declared.leaf.Profile.{Profile}
 use Rattle.keep_syntax.specs.declared.fault.ReadFault.{ReadFault}
 use Rattle.keep_syntax.specs.declared.fault.ReadFault.TheVariants as faults
-use Rattle.keep_syntax.specs.declared.info.Statement.{Statement}
-use Rattle.keep_syntax.specs.declared.info.KeyPart.{KeyPart}
-use Rattle.keep_syntax.specs.declared.info.ValueInfo.{ValueInfo}
-use Rattle.keep_syntax.specs.declared.info.Span.{Span}
-use Rattle.keep_syntax.specs.declared.info.Start.{Start}
-use Rattle.keep_syntax.specs.declared.info.Owner.TheVariants as owner
+use Rattle.keep_parts.specs.declared.info.Statement.{Statement}
+use Rattle.keep_parts.specs.declared.info.KeyPart.{KeyPart}
+use Rattle.keep_parts.specs.declared.info.ValueInfo.{ValueInfo}
+use Rattle.keep_parts.specs.declared.info.Span.{Span}
+use Rattle.keep_parts.specs.declared.info.Start.{Start}
+use Rattle.keep_parts.specs.declared.info.Owner.TheVariants as owner
 use Rattle.keep_syntax.specs.declared.info.Token.{Token}
 use Rattle.keep_syntax.specs.declared.syntax.Syntax.{Syntax}
 use Rattle.keep_syntax.specs.declared.alone.ValueSyntax.{ValueSyntax}
@@ -17,7 +17,7 @@ use Rattle.keep_syntax.specs.Tree.{Value, Document, text, value_text, value_dept
 use Rattle.keep_syntax.specs.Grammar.{IsValue, IsDocument, Reads, ReadsValue}
 use Rattle.keep_syntax.specs.Numbered.{Placed, tokens, statements, parts, values, inside_start, entries_parts, value_values}
 use Rattle.keep_syntax.specs.Deep.{IsTooDeep, IsValueTooDeep}
-use Rattle.keep_syntax.specs.Flat.{flat}
+use Rattle.keep_parts.specs.Flat.{flat}
 use Rattle.keep_syntax.specs.Cut.{start_in, cut_by}
 use Rattle.keep_syntax.specs.FlatLines.{flat_of}
 use Rattle.keep_syntax.specs.WholeLines.{empty_line, begin, starts_of, touched}

@@ -2,10 +2,8 @@
 use Rattle.std.specs.Prelude.{ℕ, List, [], ◌∷◌, ◌++◌, length, get_or, drop, slice_range}
 use Rattle.keep_token.specs.declared.leaf.Leaf.{Leaf}
 use Rattle.keep_token.specs.declared.leaf.Leaf.TheVariants as leaf
-use Rattle.keep_syntax.specs.declared.starts.Places.{Places}
 use Rattle.keep_syntax.specs.Numbered.{Placed}
-use Rattle.keep_syntax.specs.Starts.{places_at}
-use Rattle.keep_syntax.specs.Flat.{Flat}
+use Rattle.keep_parts.specs.Flat.{Flat}
 
 -- where the token of this number begins, if those kept begin so; End begins at the end of the text
 abbrev pub start_in : List ℕ → List ℕ → ℕ → ℕ
@@ -23,7 +21,3 @@ all_kinds f = f.kinds ++ (leaf.End ∷ [])
 -- the tokens that what is kept tells of a text
 abbrev pub cut_by : Flat → List ℕ → List Placed
 cut_by f text = cut text (all_kinds f) f.starts
-
--- the places that an iterator over them has not given yet
-abbrev pub places_left : Places → List ℕ
-places_left p = places_at p.at p.steps.now p.far.now

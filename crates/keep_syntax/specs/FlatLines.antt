@@ -6,17 +6,20 @@ use Rattle.keep_token.specs.declared.leaf.Leaf.TheVariants as leaf
 use Rattle.keep_token.specs.declared.leaf.Profile.{Profile}
 use Rattle.keep_token.specs.Scanning.{gap_at}
 use Rattle.keep_syntax.specs.declared.fault.ReadFault.{ReadFault}
-use Rattle.keep_syntax.specs.declared.info.Owner.TheVariants as owner
-use Rattle.keep_syntax.specs.declared.info.Start.{Start}
-use Rattle.keep_syntax.specs.declared.info.Statement.{Statement}
-use Rattle.keep_syntax.specs.declared.info.StatementKind.TheVariants.{KeyVal, Header, Element}
+use Rattle.keep_parts.specs.declared.info.Owner.TheVariants as owner
+use Rattle.keep_parts.specs.declared.info.Start.{Start}
+use Rattle.keep_parts.specs.declared.info.Statement.{Statement}
+use Rattle.keep_parts.specs.declared.info.StatementKind.TheVariants.{KeyVal, Header, Element}
 use Rattle.keep_syntax.specs.declared.line.Head.{Head}
-use Rattle.keep_syntax.specs.declared.parts.Parts.{Parts}
+use Rattle.keep_parts.specs.declared.parts.Parts.{Parts}
 use Rattle.keep_syntax.specs.Tree.{Written, Content, blank, keyval, header, element, Value, Line, Document, content_leaves, comment_leaves, line_leaves, ended_leaves, bom_leaves}
+use Rattle.keep_parts.specs.Rereading.{count_at}
+pub use Rattle.keep_parts.specs.Rereading.{with_statements}
 use Rattle.keep_syntax.specs.WholeLines.{line_starts, starts_of}
 use Rattle.keep_syntax.specs.Numbered.{span, key_count, content_parts, content_values, Count, line_parts, line_values, line_statements, over_lines, statements, parts, values}
 use Rattle.keep_syntax.specs.Reading.{Bad, Read, written, content_at, comment_at, line_at, Lines, lines_of, has_bom, behind_bom, read_document, read_one_value}
-use Rattle.keep_syntax.specs.Flat.{Flat, flat, empty, add_at, Taken, only, Grows, Fails, PartIs, PartRead, value_taken}
+use Rattle.keep_parts.specs.Flat.{Flat, flat, empty}
+use Rattle.keep_syntax.specs.Growth.{add_at, Taken, only, Grows, Fails, PartIs, PartRead, value_taken}
 
 -- ---- the content of a line
 
@@ -43,10 +46,6 @@ ContentRead profile room text p old new (Err e) = Fails text e (content_at profi
 
 abbrev pub CommentRead : List ℕ → ℕ → Flat → Flat → Result ℕ ReadFault → Type 0
 CommentRead text at old new r = PartRead text at 0 (Ok (comment_at (drop at text))) (λ w. only (comment_leaves w)) old new r
-
--- what comes before a line that begins at a place
-abbrev pub count_at : ℕ → Flat → Count
-count_at at f = record { at = at; statements = length f.statements; parts = length f.keys; values = length f.values }
 
 abbrev pub line_taken : Count → Line → Taken
 line_taken c l = record { leaves = line_leaves l; statements = []; keys = line_parts c l; values = line_values c l }
@@ -75,9 +74,6 @@ NewlineRead text at old new r = PartRead text at 1 (newline_by (drop at text) (g
 abbrev pub ended_list : ℕ → Option Statement → List Statement
 ended_list end None = []
 ended_list end (Some s) = record s { line = span s.line.start end } ∷ []
-
-abbrev pub with_statements : List Statement → Flat → Flat
-with_statements ss f = record f { statements = f.statements ++ ss }
 
 abbrev pub lines_taken : Count → Lines → Taken
 lines_taken c ls = record {

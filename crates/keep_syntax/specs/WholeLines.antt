@@ -1,6 +1,7 @@
 -- Whole lines of a document: where they begin, which of them a span touches, and a document with some replaced.
-use Rattle.std.specs.Prelude.{ℕ, ◌+◌, leb, ltb, if◌then◌else◌, List, [], ◌∷◌, ◌++◌, length, None}
-use Rattle.keep_syntax.specs.declared.info.Span.{Span}
+use Rattle.std.specs.Prelude.{ℕ, ◌+◌, ltb, if◌then◌else◌, List, [], ◌∷◌, ◌++◌, length, None}
+use Rattle.keep_parts.specs.declared.info.Span.{Span}
+pub use Rattle.keep_parts.specs.Starts.{last_to, first_from}
 use Rattle.keep_syntax.specs.Tree.{Line, blank, Ended, Document, ended_leaves, bom_leaves, text}
 use Rattle.keep_syntax.specs.Numbered.{width, span}
 
@@ -24,16 +25,6 @@ abbrev pub starts_of : Document → List ℕ
 starts_of s = line_starts (begin s) s.ended
 
 -- ---- the lines that a span touches
-
--- the last of ascending places that is at most `place`, or else `low`
-abbrev pub last_to : ℕ → ℕ → List ℕ → ℕ
-last_to place low [] = low
-last_to place low (x ∷ xs) = if leb x place then last_to place x xs else low
-
--- the first of them that is at least `place`, or else `high`
-abbrev pub first_from : ℕ → ℕ → List ℕ → ℕ
-first_from place high [] = high
-first_from place high (x ∷ xs) = if leb place x then x else first_from place high xs
 
 -- From the last line start at or before the span's start to the first line start at or after its end, or to the end of
 -- the text.

@@ -10,9 +10,9 @@ ghost use Rattle.keep_syntax.specs.Contract as spec;
 
 use crate::depth::deepest;
 use crate::fault::ReadFault;
-use crate::info::{KeyPart, Limits, ValueInfo};
-use crate::parts::Parts;
+use crate::info::Limits;
 use crate::whole::read_one;
+use keep_parts::{KeyPart, Parts, ValueInfo};
 use std::alloc::Global;
 
 /// What was read of one value: its key parts and values, each in text order. The value itself has the number 0, and

@@ -1,11 +1,10 @@
 //! How deep arrays and inline tables enclose one another.
 ghost use Rattle.std.specs.Prelude.{◌≡◌};
 ghost use Rattle.std.specs.List.{AllByRecursion};
-ghost use Rattle.keep_syntax.specs.Flat.{flat};
+ghost use Rattle.keep_parts.specs.Flat.{flat};
 ghost use Rattle.keep_syntax.specs.Nesting as spec;
 
-use crate::info::ValueInfo;
-use crate::parts::Parts;
+use keep_parts::{Parts, ValueInfo};
 use keep_token::Leaf;
 
 // how many arrays and inline tables are open in a value, itself counted

@@ -1,11 +1,11 @@
 //! Gaps: what stands between the parts. (TOML v1.0.0, "Comment"; toml.abnf: `ws`, `ws-comment-newline`)
 ghost use Rattle.std.specs.Prelude.{◌≡◌, IsCharBoundary};
-ghost use Rattle.keep_syntax.specs.Flat as spec;
+ghost use Rattle.keep_syntax.specs.Growth as spec;
 ghost use Rattle.keep_syntax.specs.Reading.{is_free};
 
 use crate::fault::ReadFault;
 use crate::info::Brackets;
-use crate::parts::{Parts, push_mark};
+use keep_parts::{Parts, push_mark};
 use keep_token::{Leaf, Profile, scan_gap};
 
 /// `ws`: white space from the byte `at` on, if there is some, and where it ends.

@@ -1,12 +1,11 @@
 //! Keys. (TOML v1.0.0, "Keys"; toml.abnf: `key`, `keyval-sep`)
 ghost use Rattle.std.specs.Prelude.{◌≡◌, IsCharBoundary};
-ghost use Rattle.keep_syntax.specs.Flat as spec;
+ghost use Rattle.keep_syntax.specs.Growth as spec;
 
 use crate::fault::ReadFault;
 use crate::gap::space;
-use crate::info::{KeyPart, Span};
-use crate::parts::{Parts, push_key, push_mark};
 use crate::text::{byte_at, misplaced, sign};
+use keep_parts::{KeyPart, Parts, Span, push_key, push_mark};
 use keep_token::{Leaf, Profile, scan_key};
 
 /// `simple-key`: the key part at the byte `at`, and where it ends.

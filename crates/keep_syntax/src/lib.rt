@@ -7,27 +7,18 @@ mod fault;
 mod gap;
 mod info;
 mod key;
-mod keys;
 pub mod laws;
 mod line;
-mod moves;
-mod parts;
 mod reread;
-mod starts;
-mod statements;
 mod syntax;
 mod text;
 mod tokens;
 mod value;
-mod values;
 mod whole;
 
 pub use alone::ValueSyntax;
 pub use fault::{ReadFault, Why};
-pub use info::{
-    Brackets, KeyPart, Limits, Mark, Owner, STANDARD_DEPTH, Span, Start, Statement, StatementKind,
-    Token, ValueInfo,
-};
-pub use parts::Parts;
+pub use info::{Brackets, Limits, Mark, STANDARD_DEPTH, Token};
+pub use keep_parts::{KeyPart, Owner, Parts, Span, Start, Statement, StatementKind, ValueInfo};
 pub use syntax::Syntax;
 pub use tokens::Tokens;

@@ -2,18 +2,20 @@
 //! toml.abnf: `expression`)
 ghost use Rattle.std.specs.Prelude.{◌≡◌, ◌+◌, ◌==◌, false, length, slice_index, IsCharBoundary, OnOk, IsOkUnless};
 ghost use Rattle.keep_syntax.specs.declared.fault.ReadFault.TheVariants.{Memory};
-ghost use Rattle.keep_syntax.specs.Flat as spec;
+ghost use Rattle.keep_parts.specs.Flat as spec;
 ghost use Rattle.keep_syntax.specs.FlatLines as lines_spec;
 ghost use Rattle.keep_syntax.specs.Reading.{is_line_end};
 
 use crate::fault::ReadFault;
 use crate::gap::space;
-use crate::info::{Limits, Owner, Span, Start, Statement, StatementKind};
+use crate::info::Limits;
 use crate::key::{key, name};
-use crate::parts::{Parts, push_mark, push_statement, statement_count};
-use crate::starts::Starts;
 use crate::text::{byte_at, misplaced, sign};
 use crate::value::value;
+use keep_parts::{
+    Owner, Parts, Span, Start, Starts, Statement, StatementKind, push_mark, push_statement,
+    statement_count,
+};
 use keep_token::{Leaf, scan_gap};
 
 /// A statement but for its places: how many key parts it has, and the number of a keyval's value.
@@ -225,7 +227,8 @@ fn tell(out: &mut Parts, statement: Option<Statement>, end: usize) -> Result<(),
                 start: found.line.start,
                 end,
             };
-            push_statement(out, Statement { line, ..found })
+            push_statement(out, Statement { line, ..found })?;
+            Ok(())
         }
         None => Ok(()),
     }

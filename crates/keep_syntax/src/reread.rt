@@ -1,18 +1,16 @@
 //! Storing again what is stored of other lines. What comes before a place shows in the statements after it.
 ghost use Rattle.std.specs.Prelude.{◌≡◌, ◌≤◌, length, map, drop, slice_range, OnOk, IfOk};
-ghost use Rattle.keep_syntax.specs.Flat.{flat};
-ghost use Rattle.keep_syntax.specs.FlatLines.{count_at, with_statements};
-ghost use Rattle.keep_syntax.specs.Lifted as lifted;
-ghost use Rattle.keep_syntax.specs.Rereading as spec;
+ghost use Rattle.keep_parts.specs.Flat.{flat};
+ghost use Rattle.keep_parts.specs.Rereading.{count_at, with_statements};
+ghost use Rattle.keep_parts.specs.Lifted as lifted;
+ghost use Rattle.keep_parts.specs.Rereading as spec;
 
 use crate::fault::ReadFault;
-use crate::info::Span;
-use crate::moves::{Counts, moved_key, moved_statement, moved_value};
-use crate::parts::{
-    Parts, append_marks, mark_count, marks_before, push_info, push_key, push_statement,
-    statement_at, statement_count,
+use keep_parts::{
+    Counts, Parts, Span, Starts, append_marks, mark_count, marks_before, moved_key,
+    moved_statement, moved_value, push_info, push_key, push_statement, statement_at,
+    statement_count,
 };
-use crate::starts::Starts;
 use std::alloc::Global;
 
 /// How many statements have a line that begins before a place.

@@ -10,13 +10,14 @@ ghost use Rattle.keep_syntax.specs.WholeLines.{touched, replaced};
 ghost use Rattle.keep_syntax.specs.Contract as spec;
 
 use crate::fault::ReadFault;
-use crate::info::{KeyPart, Limits, Span, Statement, ValueInfo};
-use crate::moves::moved;
-use crate::parts::{Parts, mark_count, statement_at, statement_count};
+use crate::info::Limits;
 use crate::reread::{replaced_parts, replaced_starts};
-use crate::starts::Starts;
 use crate::tokens::Tokens;
 use crate::whole::read_lines;
+use keep_parts::{
+    KeyPart, Parts, Span, Starts, Statement, ValueInfo, mark_count, moved, statement_at,
+    statement_count,
+};
 use std::alloc::{AllocError, Global};
 
 /// What was read of a document: its tokens, statements, key parts and values, each in text order.

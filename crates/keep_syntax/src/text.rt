@@ -1,9 +1,9 @@
 //! Single bytes of a text.
 ghost use Rattle.std.specs.Prelude.{◌≡◌, ℕ, ◌+◌, ◌-◌, ◌<◌, ◌≤◌, List, length, slice_index, IsCharBoundary};
-ghost use Rattle.keep_syntax.specs.Flat as spec;
+ghost use Rattle.keep_syntax.specs.Growth as spec;
 
 use crate::fault::ReadFault;
-use crate::parts::{Parts, push_mark};
+use keep_parts::{Parts, push_mark};
 use keep_token::{Leaf, What};
 
 /// The byte at a place, or 0 past the end.

@@ -1,11 +1,11 @@
 //! The tokens of a document one after another.
 ghost use Rattle.std.specs.Prelude.{◌≡◌, ℕ, ◌+◌, ◌<◌, ◌≤◌, ◌^◌, drop, slice_get, IfSome, IsCharBoundary};
-ghost use Rattle.keep_syntax.specs.Cut.{start_in, all_kinds, places_left};
-ghost use Rattle.keep_syntax.specs.Flat.{flat};
+ghost use Rattle.keep_parts.specs.Left.{places_left};
+ghost use Rattle.keep_syntax.specs.Cut.{start_in, all_kinds};
+ghost use Rattle.keep_parts.specs.Flat.{flat};
 
 use crate::info::Token;
-use crate::parts::{Parts, mark_at, mark_count, mark_starts};
-use crate::starts::Places;
+use keep_parts::{Parts, Places, mark_at, mark_count, mark_starts};
 use keep_token::Leaf;
 
 /// The tokens of a document in text order, `End` the last. The result of [`crate::Syntax::tokens`].

@@ -3,15 +3,15 @@
 //! A loop goes along the entries of an array or an inline table, and a recursion down into it, so a document's depth
 //! alone bounds the native stack.
 ghost use Rattle.std.specs.Prelude.{◌≡◌, ◌+◌, ◌≤◌, ◌<◌, ◌^◌, length, slice_index, IsCharBoundary};
-ghost use Rattle.keep_syntax.specs.Flat as spec;
+ghost use Rattle.keep_syntax.specs.Growth as spec;
 ghost use Rattle.keep_syntax.specs.Reading.{open_byte, close_byte};
 
 use crate::fault::ReadFault;
 use crate::gap::{gap_in, is_free};
-use crate::info::{Brackets, Limits, Owner, Start};
+use crate::info::{Brackets, Limits};
 use crate::key::name;
-use crate::parts::{Parts, push_mark, push_value, set_comma, set_end};
 use crate::text::{byte_at, misplaced, sign};
+use keep_parts::{Owner, Parts, Start, push_mark, push_value, set_comma, set_end};
 use keep_token::{Leaf, Profile, What, scan_scalar};
 
 /// A string, a number, a date, a time or a truth value at the byte `at`, and where it ends.

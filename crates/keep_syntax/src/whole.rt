@@ -1,16 +1,15 @@
 //! Whole texts: a document, or one value, and nothing else. (toml.abnf: `toml`, `val`)
 ghost use Rattle.std.specs.Prelude.{◌≡◌};
-ghost use Rattle.keep_syntax.specs.Flat as spec;
+ghost use Rattle.keep_parts.specs.Flat as spec;
 ghost use Rattle.keep_syntax.specs.FlatLines as lines_spec;
 ghost use Rattle.keep_syntax.specs.Reading.{has_bom};
 
 use crate::fault::ReadFault;
-use crate::info::{Limits, Owner, Start};
+use crate::info::Limits;
 use crate::line::lines;
-use crate::parts::{Parts, push_mark};
-use crate::starts::Starts;
 use crate::text::{byte_at, misplaced};
 use crate::value::value;
+use keep_parts::{Owner, Parts, Start, Starts, push_mark};
 use keep_token::Leaf;
 use std::alloc::Global;
 

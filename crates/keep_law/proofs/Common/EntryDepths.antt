@@ -5,8 +5,8 @@ use Rattle.std.proofs.lemmas.List.{append-nil}
 use Rattle.std.proofs.lemmas.List.Elements.{filter-append}
 use Rattle.std.proofs.lemmas.List.Sums.{sum_by-append}
 use Rattle.keep_token.specs.declared.leaf.Profile.{Profile}
-use Rattle.keep_syntax.specs.declared.info.Start.{Start}
-use Rattle.keep_syntax.specs.declared.info.ValueInfo.{ValueInfo}
+use Rattle.keep_parts.specs.declared.info.Start.{Start}
+use Rattle.keep_parts.specs.declared.info.ValueInfo.{ValueInfo}
 use Rattle.keep_syntax.specs.Tree.{Name, Body, scalar, array, inline, Entries, none, entry}
 use Rattle.keep_syntax.specs.Grammar.{Place, place_in, AreEntries}
 use Rattle.keep_syntax.specs.Numbered.{value_start, comma_start, comma_place, name_count, info, inside_of, rest_of, entries_values}

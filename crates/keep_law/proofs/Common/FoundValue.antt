@@ -4,8 +4,8 @@ use Rattle.std.specs.Prelude.{⊤}
 use Rattle.std.specs.List.{AllByRecursion}
 use Rattle.std.proofs.lemmas.List.{map-append, append-nil}
 use Rattle.keep_token.specs.declared.leaf.Profile.{Profile}
-use Rattle.keep_syntax.specs.declared.info.Start.{Start}
-use Rattle.keep_syntax.specs.declared.info.ValueInfo.{ValueInfo}
+use Rattle.keep_parts.specs.declared.info.Start.{Start}
+use Rattle.keep_parts.specs.declared.info.ValueInfo.{ValueInfo}
 use Rattle.keep_syntax.specs.Tree.{Gap, Name, Body, Entries, none, entry, Value, Content, blank, keyval, header, element, Line, Ended, Document, name_leaves, named_leaves, opening, closing, comma_leaves, comment_leaves, ended_leaves, bom_leaves, text_of, value_text}
 use Rattle.keep_syntax.specs.Grammar.{Place, place_in, AreEntries, IsValue, IsContent, IsLine, IsEnded, IsDocument}
 use Rattle.keep_syntax.specs.Numbered as syntax

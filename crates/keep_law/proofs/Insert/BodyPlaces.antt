@@ -6,9 +6,9 @@
 -- Theorems: `root_end`, `headed_at`, `through_at`.
 use Rattle.std.proofs.Common.{◌≡◌, ℕ, zero, suc, ◌+◌, ◌<◌, true, false, List, [], ◌∷◌, ◌++◌, length, map, drop, refl, sym, ap, subst, ◌∙◌, length-append, arith, Option, Some, None, inl, inr, drop_at}
 use Rattle.std.proofs.lemmas.Bool.{and_parts}
-use Rattle.keep_syntax.specs.declared.info.Statement.{Statement}
-use Rattle.keep_syntax.specs.declared.info.StatementKind.{StatementKind}
-use Rattle.keep_syntax.specs.declared.info.StatementKind.TheVariants as kind
+use Rattle.keep_parts.specs.declared.info.Statement.{Statement}
+use Rattle.keep_parts.specs.declared.info.StatementKind.{StatementKind}
+use Rattle.keep_parts.specs.declared.info.StatementKind.TheVariants as kind
 use Rattle.keep_syntax.specs.Tree.{Written, Gap, Content, blank, keyval, header, element, Line, Ended, Document}
 use Rattle.keep_syntax.specs.Numbered as syntax
 use Rattle.keep_syntax.specs.Numbered.{Count, key_count, line_statements, content_statements, over_lines, first_line, behind_lines, statement}

@@ -3,8 +3,8 @@ use Rattle.std.proofs.Common.{◌≡◌, ℕ, zero, suc, ◌+◌, ◌<◌, ◌�
 use Rattle.std.specs.Prelude.{codes, ⊤}
 use Rattle.keep_token.specs.declared.leaf.Profile.{Profile}
 use Rattle.keep_token.specs.declared.leaf.Profile.TheVariants.{Wide}
-use Rattle.keep_syntax.specs.declared.info.Start.{Start}
-use Rattle.keep_syntax.specs.declared.info.ValueInfo.{ValueInfo}
+use Rattle.keep_parts.specs.declared.info.Start.{Start}
+use Rattle.keep_parts.specs.declared.info.ValueInfo.{ValueInfo}
 use Rattle.keep_syntax.specs.Tree.{Name, Body, scalar, array, inline, Entries, none, entry, Value, Document, text_of}
 use Rattle.keep_syntax.specs.Grammar.{IsNamed, IsBody, AreEntries, in_array}
 use Rattle.keep_syntax.specs.Numbered as syntax

@@ -12,8 +12,8 @@ use Rattle.keep_token.specs.Leaves.{IsLeaf, is_gap_leaf}
 use Rattle.keep_token.specs.Pieces.{first}
 use Rattle.keep_syntax.specs.declared.info.Brackets.{Brackets}
 use Rattle.keep_syntax.specs.declared.info.Brackets.TheVariants as brackets
-use Rattle.keep_syntax.specs.declared.info.Start.{Start}
-use Rattle.keep_syntax.specs.declared.info.ValueInfo.{ValueInfo}
+use Rattle.keep_parts.specs.declared.info.Start.{Start}
+use Rattle.keep_parts.specs.declared.info.ValueInfo.{ValueInfo}
 use Rattle.keep_syntax.specs.Tree.{Gap, Name, Body, Entries, none, entry, Value, name_leaves, named_leaves, opening, closing, entries_leaves, text_of, value_text}
 use Rattle.keep_syntax.specs.Grammar.{AreEntries, IsGap, IsBlank, GoesOn, is_ws_leaf, IsNamed, IsBody, place_in}
 use Rattle.keep_syntax.specs.Numbered.{value_start, value_end, comma_start, comma_place, name_count, info, inside_of, rest_of, entries_values}

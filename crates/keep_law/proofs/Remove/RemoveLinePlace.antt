@@ -10,10 +10,10 @@ use Rattle.keep_token.specs.declared.leaf.Profile.TheVariants.{Strict}
 use Rattle.keep_token.specs.Abnf.{is_ws}
 use Rattle.keep_token.specs.Leaves.{IsLeaf}
 use Rattle.keep_token.specs.Pieces.{first}
-use Rattle.keep_syntax.specs.declared.info.Owner.TheVariants as owner
-use Rattle.keep_syntax.specs.declared.info.Statement.{Statement}
-use Rattle.keep_syntax.specs.declared.info.StatementKind.TheVariants.{KeyVal}
-use Rattle.keep_syntax.specs.declared.info.ValueInfo.{ValueInfo}
+use Rattle.keep_parts.specs.declared.info.Owner.TheVariants as owner
+use Rattle.keep_parts.specs.declared.info.Statement.{Statement}
+use Rattle.keep_parts.specs.declared.info.StatementKind.TheVariants.{KeyVal}
+use Rattle.keep_parts.specs.declared.info.ValueInfo.{ValueInfo}
 use Rattle.keep_syntax.specs.Tree.{Written, Gap, Name, Value, Content, blank, keyval, header, element, Line, Ended, Document, name_leaves, value_leaves, content_leaves, line_leaves, comment_leaves, ended_leaves, bom_leaves, text_of, text}
 use Rattle.keep_syntax.specs.Grammar.{IsSpace, IsAfter, IsComment, IsLine, IsEnded, IsDocument, IsName, IsContent}
 use Rattle.keep_syntax.specs.Numbered as syntax

@@ -14,10 +14,10 @@ use Rattle.keep_token.specs.Leaves.{IsLeaf, is_gap_leaf}
 use Rattle.keep_token.specs.Pieces.{first}
 use Rattle.keep_syntax.specs.declared.info.Brackets.{Brackets}
 use Rattle.keep_syntax.specs.declared.info.Brackets.TheVariants as brackets
-use Rattle.keep_syntax.specs.declared.info.Owner.{Owner}
-use Rattle.keep_syntax.specs.declared.info.Owner.TheVariants as owner
-use Rattle.keep_syntax.specs.declared.info.Start.{Start}
-use Rattle.keep_syntax.specs.declared.info.ValueInfo.{ValueInfo}
+use Rattle.keep_parts.specs.declared.info.Owner.{Owner}
+use Rattle.keep_parts.specs.declared.info.Owner.TheVariants as owner
+use Rattle.keep_parts.specs.declared.info.Start.{Start}
+use Rattle.keep_parts.specs.declared.info.ValueInfo.{ValueInfo}
 use Rattle.keep_syntax.specs.Tree.{Written, Gap, Body, scalar, array, inline, Entries, Value, Document, text_of, text}
 use Rattle.keep_syntax.specs.Grammar.{IsBlank, AreEntries, IsDocument, place_in}
 use Rattle.keep_syntax.specs.Numbered as syntax

@@ -3,7 +3,7 @@
 use Rattle.std.proofs.Common.{◌≡◌, ℕ, ◌+◌, ◌-◌, List, [], ◌∷◌, ◌++◌, length, map, refl, sym, ap, subst, ◌∙◌, append_assoc, length-append, arith, Option, Some, None}
 use Rattle.std.specs.Prelude.{true, codes, position}
 use Rattle.std.proofs.lemmas.List.{map-append, append-nil, length-map}
-use Rattle.keep_syntax.specs.declared.info.KeyPart.{KeyPart}
+use Rattle.keep_parts.specs.declared.info.KeyPart.{KeyPart}
 use Rattle.keep_syntax.specs.Tree.{Written, Gap, Key, Name, Body, Entries, none, entry, Value, Content, blank, keyval, header, element, Line, Ended, Document, name_leaves, named_leaves, opening, closing, comma_leaves, comment_leaves, ended_leaves, bom_leaves, text_of}
 use Rattle.keep_syntax.specs.Numbered as syntax
 use Rattle.keep_syntax.specs.Numbered.{value_start, inside_start, entry_end, key_parts, named_parts, name_count, entries_parts, content_start, content_parts, line_parts, over_lines, next_line, first_line}

@@ -11,7 +11,7 @@ use Rattle.std.proofs.lemmas.List.{append-nil, length-append}
 use Rattle.std.proofs.Math.Seq.{take-append_seam, drop-append_seam}
 use Rattle.keep_token.specs.declared.leaf.Profile.{Profile}
 use Rattle.keep_token.specs.declared.leaf.Leaf.TheVariants as leaf
-use Rattle.keep_syntax.specs.declared.info.Span.{Span}
+use Rattle.keep_parts.specs.declared.info.Span.{Span}
 use Rattle.keep_law.specs.Changed.{Changed, IsChangeOf, place_of}
 use Rattle.keep_law.proofs.Common.LineTexts.{change-is}
 use Rattle.keep_law.proofs.Common.Texts.{EachIs}
@@ -23,7 +23,8 @@ use Rattle.keep_syntax.specs.Numbered.{width, span}
 use Rattle.keep_syntax.proofs.SpaceLaws.{text_of-append}
 use Rattle.keep_law.specs.Lines.{page_text, line_text, ended_text}
 use Rattle.keep_syntax.specs.WholeLines.{empty_line, line_starts, last_to, lines_before, lines_from, begin, touched, replaced}
-use Rattle.keep_syntax.proofs.LineStartLaws.{line_of, next_of, HaveBytes, line_step, before_step, from_step, none_before, all_from, line_low, if_true, if_false}
+use Rattle.keep_parts.proofs.TestLaws.{if_true, if_false}
+use Rattle.keep_syntax.proofs.LineStartLaws.{line_of, next_of, HaveBytes, line_step, before_step, from_step, none_before, all_from, line_low}
 use Rattle.keep_law.proofs.Touched.SwapLaws.{FillPage, have_bytes, page_cons, fill_rest}
 
 -- ---- lists that all are so

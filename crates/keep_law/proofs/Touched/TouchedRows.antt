@@ -5,7 +5,7 @@ use Rattle.keep_token.specs.declared.leaf.Profile.{Profile}
 use Rattle.keep_token.specs.declared.leaf.Profile.TheVariants.{Strict, Wide}
 use Rattle.keep_token.specs.Scanning.{gap_at, key_at, scalar_at}
 use Rattle.keep_token.specs.Words.{word_leaf}
-use Rattle.keep_syntax.specs.declared.info.Span.{Span}
+use Rattle.keep_parts.specs.declared.info.Span.{Span}
 use Rattle.keep_syntax.specs.Limit.{standard_depth}
 use Rattle.keep_syntax.specs.Tree.{Document, text}
 use Rattle.keep_syntax.specs.Numbered.{span}

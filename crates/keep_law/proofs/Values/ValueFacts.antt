@@ -8,7 +8,7 @@ use Rattle.keep_token.specs.declared.leaf.Leaf.TheVariants as leaf
 use Rattle.keep_token.specs.declared.leaf.Profile.{Profile}
 use Rattle.keep_token.specs.Leaves.{is_scalar_leaf}
 use Rattle.keep_token.specs.Numbers.{integer_value}
-use Rattle.keep_syntax.specs.declared.info.ValueInfo.{ValueInfo}
+use Rattle.keep_parts.specs.declared.info.ValueInfo.{ValueInfo}
 use Rattle.keep_syntax.specs.Tree.{Body, scalar, array, inline, Entries, none, entry, Document, text, value_text}
 use Rattle.keep_syntax.specs.Grammar.{place_in, IsBody, AreEntries}
 use Rattle.keep_syntax.specs.Numbered.{leaf_of}

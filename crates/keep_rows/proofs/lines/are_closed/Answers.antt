@@ -1,5 +1,5 @@
 use Rattle.std.proofs.Common.{ap, length, sym, ◌∙◌, eqb-true}
-use Rattle.keep_syntax.specs.declared.info.Span.{Span}
+use Rattle.keep_parts.specs.declared.info.Span.{Span}
 use Rattle.keep_rows.proofs.LineLaws.{last_is_empty}
 use Rattle.keep_rows.proofs.lines.are_closed.Goals as goal
 

@@ -1,6 +1,6 @@
 -- The root represents the value.
 use Rattle.std.proofs.Common.{◌∙◌, ℕ, List, [], ◌∷◌, ◌++◌, slice_get, ap, sym, subst}
-use Rattle.keep_syntax.specs.Flat.{flat}
+use Rattle.keep_parts.specs.Flat.{flat}
 use Rattle.keep_syntax.specs.Tree.{Value}
 use Rattle.keep_rules.specs.NestedValues.{value_nesting, nested_values}
 use Rattle.keep_meaning.specs.Meaning.{body_fact}

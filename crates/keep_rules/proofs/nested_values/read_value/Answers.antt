@@ -1,6 +1,6 @@
 -- What the callees ensure of one value is what holds of it as a nested value.
 use Rattle.std.proofs.Common.{◌-◌, ◌^◌, refl}
-use Rattle.keep_syntax.specs.Flat.{flat}
+use Rattle.keep_parts.specs.Flat.{flat}
 use Rattle.keep_rules.specs.declared.keys.Keys.{Keys}
 use Rattle.keep_rules.specs.Keys.{key_texts}
 use Rattle.keep_rules.proofs.PlanLemmas.{item_read_all, some_next_keys, keyed_read_all, keyed_fault_fits, keyed_fault_meets}

@@ -1,7 +1,7 @@
 -- A keyval's own value is read, and then those in it.
 use Rattle.std.proofs.Common.{ℕ, ◌+◌, ◌-◌, ◌^◌, List, refl, sym, subst}
 use Rattle.std.proofs.lemmas.Result.{on_ok_weaker, MatchResult-weaker}
-use Rattle.keep_syntax.specs.Flat.{flat}
+use Rattle.keep_parts.specs.Flat.{flat}
 use Rattle.keep_rules.specs.NestedValues.{NestingState, NestedValue}
 use Rattle.keep_rules.specs.Plans.{AreNext, NestedValuesRead, NestedValuesFault}
 use Rattle.keep_rules.specs.Stops.{FaultMeets}

@@ -1,5 +1,5 @@
 use Rattle.std.proofs.Common.{refl, length, arith}
-use Rattle.keep_syntax.specs.Flat.{flat}
+use Rattle.keep_parts.specs.Flat.{flat}
 use Rattle.keep_syntax.proofs.RereadLaws.{reread_is, may_move}
 use Rattle.keep_syntax.proofs.syntax.Syntax.with_lines.Goals as goal
 

@@ -1,0 +1,4 @@
+pub mod StartLaws
+pub mod TestLaws
+pub mod FlatLaws
+pub mod MoveLaws

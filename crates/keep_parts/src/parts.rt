@@ -1,0 +1,229 @@
+//! What is kept of a text: its tokens, statements, key parts and values, each in a flat vector in text order.
+ghost use Rattle.std.specs.Prelude.{◌≡◌, ◌<◌, ◌≤◌, length, map, slice_get, slice_range, OnOk, Some};
+ghost use Rattle.keep_parts.specs.Left.{places_left};
+ghost use Rattle.keep_parts.specs.Lifted.{moved};
+ghost use Rattle.keep_parts.specs.Rereading as rereading;
+ghost use Rattle.keep_parts.specs.Flat as spec;
+
+use crate::info::{KeyPart, Span, Start, Statement, ValueInfo};
+use crate::keys::KeyParts;
+use crate::moves::Counts;
+use crate::starts::{Places, Starts};
+use crate::statements::Statements;
+use crate::values::Values;
+use keep_token::Leaf;
+use std::alloc::{AllocError, Global};
+
+/// The tokens but `End`, the statements, the key parts and the values of a text. A token ends where the next begins.
+#[derive(Debug, Drop)]
+pub struct Parts {
+    kinds: Vec<Leaf>,
+    starts: Starts,
+    statements: Statements,
+    keys: KeyParts,
+    values: Values,
+}
+
+/// A number that may be missing: whether it is there, and which.
+pub fn apart(number: Option<usize>) -> (bool, usize)
+    ensures { spec.if_there result.0 result.1 ≡ number }
+{
+    match number {
+        Some(number) => (true, number),
+        None => (false, 0),
+    }
+}
+
+/// The same put together again.
+pub fn if_there(there: bool, number: usize) -> Option<usize>
+    ensures { result ≡ spec.if_there there number }
+{
+    if there { Some(number) } else { None }
+}
+
+impl Parts {
+    /// Nothing yet.
+    pub fn new(alloc: Global) -> Parts
+        ensures { spec.flat result ≡ spec.empty }
+    {
+        Parts {
+            kinds: Vec::new(alloc),
+            starts: Starts::new(alloc),
+            statements: Statements::new(alloc),
+            keys: KeyParts::new(alloc),
+            values: Values::new(alloc),
+        }
+    }
+
+    /// How many key parts are kept.
+    pub fn key_count(&self) -> usize
+        ensures { result ≡ length (spec.flat self.now).keys }
+    {
+        self.keys.len()
+    }
+
+    /// The key part of this number.
+    pub fn key_part(&self, number: usize) -> KeyPart
+        requires { number < length (spec.flat self.now).keys }
+        ensures { slice_get (spec.flat self.now).keys number ≡ Some result }
+    {
+        self.keys.get(number)
+    }
+
+    /// How many values are kept.
+    pub fn value_count(&self) -> usize
+        ensures { result ≡ length (spec.flat self.now).values }
+    {
+        self.values.len()
+    }
+
+    /// The value of this number.
+    pub fn value(&self, number: usize) -> ValueInfo
+        requires { number < length (spec.flat self.now).values }
+        ensures { slice_get (spec.flat self.now).values number ≡ Some result }
+    {
+        self.values.get(number)
+    }
+}
+
+/// Keeps a token that begins at the byte `at`.
+#[inline(always)]
+pub fn push_mark(out: &mut Parts, leaf: Leaf, at: usize) -> Result<(), AllocError>
+    ensures ok { OnOk result (spec.flat out.new ≡ spec.with_mark leaf at (spec.flat out.old)) }
+{
+    out.kinds.push(leaf)?;
+    out.starts.push(at)?;
+    Ok(())
+}
+
+/// Keeps a key part.
+pub fn push_key(out: &mut Parts, part: KeyPart) -> Result<(), AllocError>
+    ensures ok { OnOk result (spec.flat out.new ≡ spec.with_key part (spec.flat out.old)) }
+{
+    out.keys.push(part)?;
+    Ok(())
+}
+
+/// Keeps a statement.
+pub fn push_statement(out: &mut Parts, statement: Statement) -> Result<(), AllocError>
+    ensures ok { OnOk result (spec.flat out.new ≡ spec.with_statement statement (spec.flat out.old)) }
+{
+    out.statements.push(statement)?;
+    Ok(())
+}
+
+/// Stores a value of which all is known.
+pub fn push_info(out: &mut Parts, value: ValueInfo) -> Result<(), AllocError>
+    ensures { OnOk result (spec.flat out.new ≡ spec.with_value value (spec.flat out.old)) }
+{
+    out.values.push(value)
+}
+
+/// Stores the tokens of another list from one count to another, moved to begin at the byte `at`.
+pub fn append_marks(
+    out: &mut Parts,
+    other: &Parts,
+    from: &Counts,
+    to: &Counts,
+    at: usize,
+) -> Result<(), AllocError>
+    requires order { from.now.tokens ≤ to.now.tokens }
+    requires within { to.now.tokens ≤ length (spec.flat other.now).kinds }
+    ensures { OnOk result (spec.flat out.new ≡ rereading.with_marks (slice_range (spec.flat other.now).kinds from.now.tokens to.now.tokens)
+        (map (moved from.now.at at) (slice_range (spec.flat other.now).starts from.now.tokens to.now.tokens)) (spec.flat out.old)) }
+{
+    out.kinds
+        .extend_from_slice(&other.kinds[from.tokens..to.tokens])?;
+    out.starts
+        .append_moved(&other.starts, from.tokens, to.tokens, from.at, at)?;
+    Ok(())
+}
+
+/// How many tokens begin before a place.
+pub fn marks_before(out: &Parts, place: usize) -> usize
+    ensures { result ≡ rereading.places_before place (spec.flat out.now).starts }
+{
+    out.starts.count_before(place)
+}
+
+/// Keeps a value that begins at the byte `at`, with so many key parts of its own before it, in entries that begin at
+/// `start`. The bytes `at..end` are known to be its own.
+pub fn push_value(
+    out: &mut Parts,
+    leaf: Leaf,
+    at: usize,
+    end: usize,
+    keys: usize,
+    start: &Start,
+) -> Result<(), AllocError>
+    ensures ok { OnOk result (spec.flat out.new
+        ≡ spec.with_value (spec.begun leaf at end keys start.now) (spec.flat out.old)) }
+{
+    out.values.push(ValueInfo {
+        leaf,
+        span: Span { start: at, end },
+        whole: Span {
+            start: start.at,
+            end,
+        },
+        owner: start.owner,
+        depth: start.depth,
+        first_key: start.parts,
+        keys,
+        comma_before: start.comma,
+        comma_after: None,
+    })
+}
+
+/// Tells where the comma behind a value stands.
+pub fn set_comma(out: &mut Parts, number: usize, at: usize)
+    requires { number < length (spec.flat out.old).values }
+    ensures change { spec.ChangesValue (spec.with_comma at) number (spec.flat out.old) (spec.flat out.new) }
+{
+    out.values.set_comma(number, at);
+}
+
+/// Tells where a value ends.
+pub fn set_end(out: &mut Parts, number: usize, end: usize)
+    requires { number < length (spec.flat out.old).values }
+    ensures change { spec.ChangesValue (spec.with_end end) number (spec.flat out.old) (spec.flat out.new) }
+{
+    out.values.set_end(number, end);
+}
+
+/// How many tokens are kept.
+pub fn mark_count(out: &Parts) -> usize
+    ensures { result ≡ length (spec.flat out.now).kinds }
+{
+    out.kinds.len()
+}
+
+/// How many statements are kept.
+pub fn statement_count(out: &Parts) -> usize
+    ensures { result ≡ length (spec.flat out.now).statements }
+{
+    out.statements.len()
+}
+
+/// The statement of this number.
+pub fn statement_at(out: &Parts, number: usize) -> Statement
+    requires { number < length (spec.flat out.now).statements }
+    ensures { slice_get (spec.flat out.now).statements number ≡ Some result }
+{
+    out.statements.get(number)
+}
+
+/// The kind of the token of this number.
+pub fn mark_at(out: &Parts, number: usize) -> Leaf
+    requires { number < length (spec.flat out.now).kinds }
+    ensures { slice_get (spec.flat out.now).kinds number ≡ Some result }
+{
+    out.kinds[number]
+}
+
+/// Where the tokens begin, one after another.
+pub fn mark_starts(out: &Parts) -> Places<'_>
+    ensures { places_left result ≡ (spec.flat out.now).starts }
+{
+    out.starts.iter()
+}

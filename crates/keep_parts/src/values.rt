@@ -1,0 +1,204 @@
+//! The values of a text as they are kept, in text order.
+ghost use Rattle.std.specs.Prelude.{◌≡◌, ◌<◌, ◌+◌, ◌++◌, ◌∷◌, [], length, slice_get, IfSome, OnOk, None, Some};
+ghost use Rattle.keep_parts.specs.Fits.{FitsValue, IsNear};
+ghost use Rattle.keep_parts.specs.Flat as spec;
+
+use crate::info::{Owner, Span, ValueInfo};
+use crate::parts::{apart, if_there};
+use keep_token::Leaf;
+use std::alloc::{AllocError, Global};
+
+/// What a value stands in, its number apart.
+#[derive(Clone, Copy, Debug)]
+pub enum Within {
+    Line,
+    Inline,
+    Item,
+}
+
+/// A value in 40 bytes. `anchor` is where the comma before it stands, or where its keyval starts if there is none. The
+/// keyval starts `gap` bytes behind the anchor, and the value `lead` bytes behind that. What is told later has a word of
+/// its own: `end`, which is the end of its keyval too, and `after`. Numbers stand apart from what tells whether they are
+/// there and of what they are, so that all of that shares one word with the number of its keys.
+#[derive(Clone, Copy, Debug)]
+pub struct NarrowValue {
+    leaf: Leaf,
+    within: Within,
+    depth: u16,
+    has_before: bool,
+    has_after: bool,
+    keys: u16,
+    anchor: u32,
+    owner: u32,
+    first_key: u32,
+    gap: u16,
+    lead: u16,
+    end: usize,
+    after: usize,
+}
+
+/// The values of a text, in text order: those before the first that does not fit into 40 bytes, then the others.
+#[derive(Debug, Drop)]
+pub struct Values {
+    narrow: Vec<NarrowValue>,
+    wide: Vec<ValueInfo>,
+}
+
+/// What a value stands in, and the number of that.
+fn owner_apart(owner: Owner) -> (Within, usize)
+    ensures { spec.owner_of result.0 result.1 ≡ owner }
+{
+    match owner {
+        Owner::Line(number) => (Within::Line, number),
+        Owner::Inline(number) => (Within::Inline, number),
+        Owner::Item(number) => (Within::Item, number),
+    }
+}
+
+/// The same put together again.
+fn owner_of(within: Within, number: usize) -> Owner
+    ensures { result ≡ spec.owner_of within number }
+{
+    match within {
+        Within::Line => Owner::Line(number),
+        Within::Inline => Owner::Inline(number),
+        Within::Item => Owner::Item(number),
+    }
+}
+
+/// How many bytes a place stands behind another, if that fits into 16 bits.
+fn distance(from: usize, to: usize) -> Option<u16>
+    ensures kept { IfSome result (λ gap. from + gap ≡ to) }
+    ensures wide { result ≡ None → IsNear from to → ⊥ }
+{
+    u16::try_from(to.checked_sub(from)?).ok()
+}
+
+/// The value in 40 bytes, if its numbers fit and it ends with its keyval.
+fn narrowed(value: &ValueInfo) -> Option<NarrowValue>
+    ensures kept { IfSome result (λ narrow. spec.shown narrow ≡ value.now) }
+    ensures wide { result ≡ None → FitsValue value.now → ⊥ }
+{
+    if value.span.end != value.whole.end {
+        return None;
+    }
+    let (within, owner) = owner_apart(value.owner);
+    let (has_after, after) = apart(value.comma_after);
+    let anchor = value.comma_before.unwrap_or(value.whole.start);
+    Some(NarrowValue {
+        leaf: value.leaf,
+        within,
+        depth: value.depth,
+        has_before: value.comma_before.is_some(),
+        has_after,
+        keys: u16::try_from(value.keys).ok()?,
+        anchor: u32::try_from(anchor).ok()?,
+        owner: u32::try_from(owner).ok()?,
+        first_key: u32::try_from(value.first_key).ok()?,
+        gap: distance(anchor, value.whole.start)?,
+        lead: distance(value.whole.start, value.span.start)?,
+        end: value.span.end,
+        after,
+    })
+}
+
+/// The value that is kept so.
+fn shown(value: &NarrowValue) -> ValueInfo
+    ensures { result ≡ spec.shown value.now }
+{
+    let anchor = value.anchor as usize;
+    let start = anchor + value.gap as usize;
+    ValueInfo {
+        leaf: value.leaf,
+        span: Span {
+            start: start + value.lead as usize,
+            end: value.end,
+        },
+        whole: Span {
+            start,
+            end: value.end,
+        },
+        owner: owner_of(value.within, value.owner as usize),
+        depth: value.depth,
+        first_key: value.first_key as usize,
+        keys: value.keys as usize,
+        comma_before: if_there(value.has_before, anchor),
+        comma_after: if_there(value.has_after, value.after),
+    }
+}
+
+impl Values {
+    /// Nothing yet.
+    pub fn new(alloc: Global) -> Values
+        ensures { spec.values_in result ≡ [] }
+    {
+        Values {
+            narrow: Vec::new(alloc),
+            wide: Vec::new(alloc),
+        }
+    }
+
+    /// How many there are.
+    pub fn len(&self) -> usize
+        ensures { result ≡ length (spec.values_in self.now) }
+    {
+        self.narrow.len() + self.wide.len()
+    }
+
+    /// The value of this number.
+    pub fn get(&self, number: usize) -> ValueInfo
+        requires { number < length (spec.values_in self.now) }
+        ensures { slice_get (spec.values_in self.now) number ≡ Some result }
+    {
+        let narrow = self.narrow.len();
+        if number < narrow {
+            shown(&self.narrow[number])
+        } else {
+            self.wide[number - narrow]
+        }
+    }
+
+    /// One more.
+    pub fn push(&mut self, value: ValueInfo) -> Result<(), AllocError>
+        ensures ok { OnOk result (spec.values_in self.new ≡ spec.values_in self.old ++ value ∷ []) }
+    {
+        if self.wide.is_empty() {
+            if let Some(narrow) = narrowed(&value) {
+                self.narrow.push(narrow)?;
+                return Ok(());
+            }
+        }
+        self.wide.push(value)?;
+        Ok(())
+    }
+
+    /// Tells where the comma behind a value stands.
+    pub fn set_comma(&mut self, number: usize, at: usize)
+        requires { number < length (spec.values_in self.old) }
+        ensures change { spec.Changes (spec.with_comma at) number (spec.values_in self.old) (spec.values_in self.new) }
+    {
+        let narrow = self.narrow.len();
+        if number < narrow {
+            let value = &mut self.narrow[number];
+            value.has_after = true;
+            value.after = at;
+        } else {
+            self.wide[number - narrow].comma_after = Some(at);
+        }
+    }
+
+    /// Tells where a value ends.
+    pub fn set_end(&mut self, number: usize, end: usize)
+        requires { number < length (spec.values_in self.old) }
+        ensures change { spec.Changes (spec.with_end end) number (spec.values_in self.old) (spec.values_in self.new) }
+    {
+        let narrow = self.narrow.len();
+        if number < narrow {
+            self.narrow[number].end = end;
+        } else {
+            let value = &mut self.wide[number - narrow];
+            value.span.end = end;
+            value.whole.end = end;
+        }
+    }
+}

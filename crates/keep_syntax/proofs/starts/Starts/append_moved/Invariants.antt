@@ -1,8 +1,0 @@
-use Rattle.std.proofs.Common.{◌≡◌, ◌≤◌, ◌++◌, map, drop, slice_range}
-use Rattle.keep_syntax.specs.Cut.{places_left}
-use Rattle.keep_syntax.specs.Lifted.{moved}
-use Rattle.keep_syntax.proofs.starts.Starts.append_moved.Given as goal
-
-abbrev pub invariant-places : goal.invariant-places
-invariant-places l =
-    (l.number ≤ l.to) × (places_left l.at-iterator ≡ drop l.number l.other) × (l.self ≡ l.fn.self ++ map (moved l.old l.new) (slice_range l.other l.from l.number))

@@ -1,7 +1,0 @@
-use Rattle.std.proofs.Common.{◌≡◌, ◌≤◌, ◌+◌, length}
-use Rattle.keep_syntax.specs.Cut.{places_left}
-use Rattle.keep_syntax.specs.Rereading.{places_before}
-use Rattle.keep_syntax.proofs.starts.Starts.count_before.Given as goal
-
-abbrev pub invariant-places : goal.invariant-places
-invariant-places l = (places_before l.place l.self ≡ l.number + places_before l.place (places_left l.at-iterator)) × (l.number + length (places_left l.at-iterator) ≤ l.count)
