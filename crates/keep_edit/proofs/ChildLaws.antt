@@ -13,8 +13,7 @@ use Rattle.keep_rules.specs.Lookup.{number_of, path_numbered, children_numbered}
 use Rattle.keep_rules.proofs.Shared.{number_is}
 use Rattle.keep_edit.specs.Children.{child_count_of}
 use Rattle.keep_edit.specs.Reading.{ProfiledText, IsTextOfTree, Holds}
-use Rattle.keep_splice.proofs.Shared.{told_is}
-use Rattle.keep_splice.proofs.Shared.{no_node, a_node}
+use Rattle.keep_splice.proofs.Shared.{told_is, no_node, a_node}
 
 module _ (d : ProfiledText) (syntax : Syntax) (index : NodeInfos) (path : List Part) (s : Document) (holds : Holds d syntax index) (read : IsTextOfTree d s) (o : Option NodeId)
     (found : number_of o ≡ node_number index.paths path) where

@@ -5,7 +5,7 @@ use Rattle.keep_syntax.specs.declared.syntax.Syntax.{Syntax}
 use Rattle.keep_syntax.specs.Tree.{Document}
 use Rattle.keep_syntax.specs.Numbered.{tokens}
 use Rattle.keep_syntax.specs.Contract.{tokens_of}
-use Rattle.keep_syntax.proofs.LawLaws.{tokens_few}
+use Rattle.keep_syntax.proofs.Shared.{tokens_few}
 use Rattle.keep_meaning.specs.Nodes.{nodes_in, node_path}
 use Rattle.keep_nodes.specs.Facts.{NodeInfos}
 use Rattle.keep_meaning.proofs.Shared.{nodes_few}

@@ -23,8 +23,7 @@ use Rattle.keep_meaning.proofs.Shared.{mentions-numbered_in, paths-nodes_in}
 use Rattle.keep_edit.specs.declared.document.Entry.{Entry}
 use Rattle.keep_edit.specs.Answers.{entry_at, entries_of, AddsEntryPath}
 use Rattle.keep_edit.specs.Reading.{ProfiledText, IsTextOfTree, telling_in, Holds}
-use Rattle.keep_splice.proofs.Shared.{told_is}
-use Rattle.keep_splice.proofs.Shared.{kind_told}
+use Rattle.keep_splice.proofs.Shared.{told_is, kind_told}
 
 -- ---- what stands at the nodes
 

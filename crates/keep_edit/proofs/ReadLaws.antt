@@ -10,7 +10,7 @@ use Rattle.keep_syntax.specs.declared.syntax.Syntax.{Syntax}
 use Rattle.keep_syntax.specs.Tree.{Document}
 use Rattle.keep_syntax.specs.Grammar.{Reads}
 use Rattle.keep_syntax.specs.Contract.{IsSyntaxOf}
-use Rattle.keep_syntax.proofs.DocumentLaws.{one_document}
+use Rattle.keep_syntax.proofs.Shared.{one_document}
 use Rattle.keep_rules.specs.ReadDocuments.{WasRead, IsIndexOf, IsRefusal}
 use Rattle.keep_nodes.specs.Facts.{NodeInfos}
 use Rattle.keep_edit.specs.Reading.{limit, ProfiledText, text_in, IsRefused, IsSyntaxIn, IsTextOfTree, TellsNoText, Holds}

@@ -11,7 +11,7 @@ use Rattle.keep_token.specs.declared.leaf.Profile.{Profile}
 use Rattle.keep_token.specs.declared.leaf.Profile.TheVariants.{Strict, Wide}
 use Rattle.keep_token.specs.Leaves.{IsLeaf, Means, is_scalar_leaf, is_one_line, is_many_lines}
 use Rattle.keep_token.specs.Numbers.{Integer, integer_value}
-use Rattle.keep_token.proofs.ProfileLaws.{leaf_wider}
+use Rattle.keep_token.proofs.Shared.{leaf_wider}
 use Rattle.keep_parts.specs.declared.info.ValueInfo.{ValueInfo}
 use Rattle.keep_syntax.specs.declared.syntax.Syntax.{Syntax}
 use Rattle.keep_syntax.specs.Contract.{values_of}

@@ -12,11 +12,10 @@ use Rattle.keep_syntax.specs.Grammar.{Reads}
 use Rattle.keep_syntax.specs.Numbered.{span}
 use Rattle.keep_syntax.specs.WholeLines.{begin, empty_line, touched, replaced}
 use Rattle.keep_syntax.specs.Contract.{CanReplace, IsSpanIn, IsSyntaxOf, IsTextOf}
-use Rattle.keep_syntax.proofs.LineStartLaws.{next_high}
+use Rattle.keep_syntax.proofs.Shared.{next_high}
 use Rattle.keep_law.specs.Changed.{Place, place_of}
 use Rattle.keep_law.specs.TouchedLines.{scanned, touched_by, touched_in_new, TouchesLines}
-use Rattle.keep_law.proofs.Touched.FitLaws.{touched_lines_are_lines}
-use Rattle.keep_law.proofs.Touched.TouchedCuts.{IsCut, touched_in_new_cut}
+use Rattle.keep_law.proofs.Shared.{touched_lines_are_lines, IsCut, touched_in_new_cut}
 use Rattle.keep_nodes.specs.Facts.{NodeInfos}
 use Rattle.keep_splice.specs.Answers.{IsMadeAt}
 use Rattle.keep_splice.specs.declared.edited.Edited.{Edited}

@@ -4,7 +4,7 @@ use Rattle.keep_token.specs.declared.leaf.Profile.{Profile}
 use Rattle.keep_syntax.specs.Tree.{Value, Content, header, element, Document, text, content_depth, depth}
 use Rattle.keep_syntax.specs.Grammar.{IsValue, Reads}
 use Rattle.keep_syntax.specs.Profiles.{is_allowed_in}
-use Rattle.keep_syntax.proofs.ProfileTest.{allowed_value}
+use Rattle.keep_syntax.proofs.Shared.{allowed_value}
 use Rattle.keep_path.specs.Path.{Part}
 use Rattle.keep_meaning.specs.Rules.{ObeysRules}
 use Rattle.keep_meaning.specs.Marks.{marks}

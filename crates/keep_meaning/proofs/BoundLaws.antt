@@ -8,7 +8,7 @@ use Rattle.keep_token.specs.declared.leaf.Profile.TheVariants.{Strict}
 use Rattle.keep_token.specs.declared.leaf.Leaf.TheVariants as leaf
 use Rattle.keep_syntax.specs.Tree.{Written, Gap, Further, Key, Name, Body, scalar, array, inline, Entries, none, entry, Value, Content, blank, keyval, header, element, Line, Ended, Document, mark, further_leaves, key_leaves, name_leaves, named_leaves, opening, closing, comma_leaves, entries_leaves, value_leaves, content_leaves, comment_leaves, line_leaves, ended_leaves, bom_leaves, leaves, text, depth}
 use Rattle.keep_syntax.specs.Grammar.{IsDocument}
-use Rattle.keep_syntax.proofs.CountLaws.{leaves_count}
+use Rattle.keep_syntax.proofs.Shared.{leaves_count}
 use Rattle.keep_path.specs.Path.{Part, key, index, same_path}
 use Rattle.keep_meaning.specs.Fact.{Fact}
 use Rattle.keep_meaning.specs.Marks.{through, past, passed, define, element as says_element, begun, value as says_value, item, Mention, below, Reading, statement_mentions, elements_of, entered_path, passing_mentions, header_way, header_path, start}

@@ -12,8 +12,7 @@ use Rattle.keep_token.specs.Abnf.{is_ws, Newline}
 use Rattle.keep_token.specs.Numbers.{sum_of_digits}
 use Rattle.keep_token.specs.Strings.{Piece, Plain, Letter, Number, Break, LineEnd, text_of, value_of, ml_value_of, letter_value, digit_count, is_basic, is_literal, is_blank_run, Each, IsMlBasicPiece, IsMlLiteralPiece, takes_all}
 use Rattle.keep_token.specs.Leaves.{Means, is_string_leaf}
-use Rattle.keep_token.proofs.StringBodies.{literal_value, ml_literal_value, basic_body}
-use Rattle.keep_token.proofs.StringManyLines.{takes_all_rest}
+use Rattle.keep_token.proofs.Shared.{literal_value, ml_literal_value, basic_body, takes_all_rest}
 use Rattle.keep_meaning.specs.Meaning.{is_blank_byte, escape_length, escape_value, unescaped_text, without_newline, between_marks, string_value}
 
 -- ---- escapes

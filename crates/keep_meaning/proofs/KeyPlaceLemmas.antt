@@ -12,8 +12,7 @@ use Rattle.keep_token.specs.declared.leaf.Leaf.TheVariants as leaf
 use Rattle.keep_token.specs.Abnf.{Some1, is_bare}
 use Rattle.keep_token.specs.Leaves.{IsLeaf, is_key_leaf}
 use Rattle.keep_token.specs.Strings as strings
-use Rattle.keep_token.proofs.GapLeaves.{all_pass}
-use Rattle.keep_token.proofs.ProfileLaws.{leaf_wider}
+use Rattle.keep_token.proofs.Shared.{all_pass, leaf_wider}
 use Rattle.keep_parts.specs.declared.info.KeyPart.{KeyPart}
 use Rattle.keep_syntax.specs.Tree.{Written, Gap, Further, Key, Name, Entries, none, entry, Value, Content, blank, keyval, header, element, Line, Ended, Document, mark, further_leaves, key_leaves, name_leaves, named_leaves, opening, closing, comma_leaves, entries_leaves, value_leaves, content_leaves, line_leaves, text_of, text, value_text}
 use Rattle.keep_syntax.specs.Grammar.{IsKeyPart, IsFurther, IsKey, IsName, Place, in_scalar, in_array, in_inline, place_in, IsNamed, AreEntries, IsValue, IsContent, IsLine, IsEnded, IsDocument}

@@ -9,7 +9,7 @@ use Rattle.keep_token.specs.declared.leaf.Leaf.{Leaf}
 use Rattle.keep_token.specs.declared.leaf.Leaf.TheVariants as leaf
 use Rattle.keep_token.specs.Strings.{text_of}
 use Rattle.keep_token.specs.Leaves.{IsLeaf, is_key_leaf, is_one_line}
-use Rattle.keep_token.proofs.StringBodies.{start_cut, one_ascii}
+use Rattle.keep_token.proofs.Shared.{start_cut, one_ascii}
 use Rattle.keep_meaning.specs.Meaning.{unescaped_text, between_marks, string_value}
 use Rattle.keep_meaning.proofs.DecodeLaws.{one_between, plain_read}
 

@@ -7,7 +7,7 @@ use Rattle.keep_token.specs.declared.leaf.Profile.{Profile}
 use Rattle.keep_token.specs.declared.leaf.Profile.TheVariants.{Strict, Wide}
 use Rattle.keep_token.specs.Leaves.{IsLeaf, Means, is_string_leaf}
 use Rattle.keep_token.specs.Strings.{value_of, ml_value_of}
-use Rattle.keep_token.proofs.ProfileLaws.{means_wider}
+use Rattle.keep_token.proofs.Shared.{means_wider}
 use Rattle.keep_meaning.specs.Laws.{StringValueIsMeaning, NodesAreFew}
 use Rattle.keep_meaning.specs.Meaning.{string_value}
 use Rattle.keep_meaning.proofs.BoundLaws.{nodes_few}

@@ -2,3 +2,4 @@ pub mod StartLaws
 pub mod TestLaws
 pub mod FlatLaws
 pub mod MoveLaws
+pub mod Shared

@@ -9,8 +9,7 @@ use Rattle.keep_token.specs.declared.leaf.Profile.TheVariants.{Strict, Wide}
 use Rattle.keep_token.specs.Leaves.{IsLeaf, is_key_leaf, Means}
 use Rattle.keep_token.specs.Pieces.{first}
 use Rattle.keep_token.specs.Scanning.{key_at}
-use Rattle.keep_token.proofs.KeyLaws.{key_found}
-use Rattle.keep_token.proofs.StringMeans.{means_wider}
+use Rattle.keep_token.proofs.Shared.{key_found, means_wider}
 use Rattle.keep_path.specs.Path.{Part, key, index}
 use Rattle.keep_path.specs.PathText.{AreKeys, FirstIndex, IsPathText, StepsText}
 use Rattle.keep_path.specs.PathReading.{KeyFound, KeyRead, StepRead}

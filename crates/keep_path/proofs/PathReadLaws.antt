@@ -8,9 +8,7 @@ use Rattle.keep_token.specs.Abnf.{is_bare}
 use Rattle.keep_token.specs.Leaves.{IsLeaf, is_key_leaf, Means}
 use Rattle.keep_token.specs.Pieces.{first}
 use Rattle.keep_token.specs.Scanning.{key_at}
-use Rattle.keep_token.proofs.Ends.{some_injective}
-use Rattle.keep_token.proofs.KeyLaws.{key_found, key_again}
-use Rattle.keep_token.proofs.StringMeans.{means_one, means_wider}
+use Rattle.keep_token.proofs.Shared.{some_injective, key_found, key_again, means_one, means_wider}
 use Rattle.std.specs.Fmt.{decimal}
 use Rattle.keep_path.proofs.IndexLaws.{index_one}
 use Rattle.keep_path.specs.Path.{Part, key, index}

@@ -5,7 +5,7 @@ use Rattle.std.specs.List.{flat_map}
 use Rattle.std.proofs.lemmas.Str.{IsUtf8-string_bytes}
 use Rattle.keep_token.specs.Encoded.{encoded_key, encoded_key_leaf, is_bare_text}
 use Rattle.keep_token.specs.Leaves.{is_key_leaf}
-use Rattle.keep_token.proofs.EncodedStrings.{key_is_leaf, key_means}
+use Rattle.keep_token.proofs.Shared.{key_is_leaf, key_means}
 use Rattle.keep_path.proofs.ByteLaws.{text_bytes}
 use Rattle.keep_path.specs.declared.step.Step.{Step}
 use Rattle.keep_path.specs.declared.step.Step.TheVariants.{Key, Index}

@@ -6,7 +6,7 @@ use Rattle.std.specs.Fmt.{decimal}
 use Rattle.keep_token.specs.declared.leaf.Leaf.{Leaf}
 use Rattle.keep_token.specs.declared.leaf.Profile.TheVariants.{Strict, Wide}
 use Rattle.keep_token.specs.Leaves.{IsLeaf, KeyLeaf}
-use Rattle.keep_token.proofs.ProfileLaws.{leaf_wider}
+use Rattle.keep_token.proofs.Shared.{leaf_wider}
 use Rattle.keep_path.specs.Path.{Part, key, index}
 use Rattle.keep_path.specs.PathText.{StepsText, IsPathText}
 use Rattle.keep_path.specs.PathReading.{KeyRead, StepRead}

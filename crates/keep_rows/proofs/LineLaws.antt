@@ -12,11 +12,8 @@ use Rattle.keep_syntax.specs.Grammar.{IsDocument}
 use Rattle.keep_syntax.specs.Numbered.{width, span}
 use Rattle.keep_syntax.specs.WholeLines.{empty_line, line_starts, last_to, begin, touched}
 use Rattle.keep_syntax.specs.Contract.{IsReadOf, IsSpanIn}
-use Rattle.keep_syntax.proofs.CountLaws.{BeginsChar, AreSome, document_some}
-use Rattle.keep_syntax.proofs.CountingLaws.{all_back}
-use Rattle.keep_syntax.proofs.NumberingLaws.{width-append}
-use Rattle.keep_parts.proofs.TestLaws.{if_true}
-use Rattle.keep_syntax.proofs.SplitLaws.{bytes_of, text_length}
+use Rattle.keep_syntax.proofs.Shared.{BeginsChar, AreSome, document_some, all_back, width-append, bytes_of, text_length}
+use Rattle.keep_parts.proofs.Shared.{if_true}
 
 -- ---- the byte order mark
 

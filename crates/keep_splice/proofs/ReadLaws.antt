@@ -1,7 +1,7 @@
 -- One text has one tree.
 use Rattle.std.proofs.Common.{◌≡◌, sym, ◌∙◌}
 use Rattle.keep_syntax.specs.Tree.{Document}
-use Rattle.keep_syntax.proofs.DocumentLaws.{one_document}
+use Rattle.keep_syntax.proofs.Shared.{one_document}
 use Rattle.keep_splice.specs.Reading.{ProfiledText, IsTextOfTree}
 
 -- one text has one tree

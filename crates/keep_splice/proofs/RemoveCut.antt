@@ -18,8 +18,7 @@ use Rattle.keep_syntax.specs.Tree.{Document, text}
 use Rattle.keep_syntax.specs.Contract.{statements_of, values_of}
 use Rattle.keep_syntax.specs.Numbered as numbered
 use Rattle.keep_syntax.specs.Numbered.{span}
-use Rattle.keep_syntax.proofs.GapCodeLaws.{first-drop}
-use Rattle.keep_syntax.proofs.SpaceLaws.{is_solid}
+use Rattle.keep_syntax.proofs.Shared.{first-drop, is_solid}
 use Rattle.keep_meaning.specs.KeyText.{text_at}
 use Rattle.keep_path.specs.Path.{Part}
 use Rattle.keep_meaning.specs.Meaning.{said_in}

@@ -12,8 +12,7 @@ use Rattle.keep_syntax.specs.Deep.{is_opening}
 use Rattle.keep_syntax.specs.Nesting.{IsWithin}
 use Rattle.keep_syntax.specs.Contract.{values_of}
 use Rattle.keep_syntax.specs.Numbered as numbered
-use Rattle.keep_syntax.proofs.DepthLaws.{values_within}
-use Rattle.keep_syntax.proofs.DeepestLaws.{all_at}
+use Rattle.keep_syntax.proofs.Shared.{values_within, all_at}
 use Rattle.keep_meaning.specs.Fact.{is_value_fact}
 use Rattle.keep_meaning.specs.Marks.{Mention, fact_of}
 use Rattle.keep_meaning.specs.Meaning.{said_in}

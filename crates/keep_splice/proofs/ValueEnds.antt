@@ -17,9 +17,7 @@ use Rattle.keep_token.specs.Abnf.{is_word}
 use Rattle.keep_token.specs.Leaves.{IsLeaf, is_scalar_leaf, word_len, has_date_shape}
 use Rattle.keep_token.specs.Pieces.{first}
 use Rattle.keep_token.specs.Strings as strings
-use Rattle.keep_token.proofs.GapLaws.{tested, prefix_len-positive}
-use Rattle.keep_token.proofs.WordLaws.{word_len_again, word_first}
-use Rattle.keep_token.proofs.ScalarLaws.{scalar_kind, a_word, a_basic, a_literal, a_ml_basic, a_ml_literal}
+use Rattle.keep_token.proofs.Shared.{tested, prefix_len-positive, word_len_again, word_first, scalar_kind, a_word, a_basic, a_literal, a_ml_basic, a_ml_literal}
 use Rattle.keep_syntax.specs.Tree.{Written, Body, scalar, array, inline, none, entry, Entries, Value, mark, entries_leaves, text_of, value_text}
 use Rattle.keep_syntax.specs.Grammar.{IsValue, IsBody, AreEntries, in_scalar, place_in}
 use Rattle.keep_meaning.proofs.Shared.{IsPart, part_ends, HasAsciiEnds}

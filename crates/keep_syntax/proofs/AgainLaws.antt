@@ -11,7 +11,7 @@ use Rattle.keep_syntax.specs.declared.info.Brackets.TheVariants as brackets
 use Rattle.keep_syntax.specs.Tree.{Written, Gap, Name, Body, scalar, array, inline, Entries, none, entry, Value, text_of, named_leaves, comma_leaves, entries_leaves, value_text, around, entries_depth, value_depth}
 use Rattle.keep_syntax.specs.Grammar.{place_in, IsGap, IsNamed, IsBody, MayEndInComma, IsComma, AreEntries, IsValue}
 use Rattle.keep_syntax.specs.Reading.{Deep, Read, ready, open_byte, close_byte, body_in, is_free, gap_in, join, Item, entry_of, named_in, after_by, item_by, turn_of, entry_by, entries_by, bracket_by, value_by, value_of}
-use Rattle.keep_syntax.proofs.TokenLaws.{scalar_found, scalar_again}
+use Rattle.keep_token.proofs.Shared.{scalar_found, scalar_again}
 use Rattle.keep_syntax.proofs.LoopLaws.{loop_on, loop_ready}
 use Rattle.keep_syntax.proofs.SpaceLaws.{is_solid, solid_no_ws, place_of, gap_again, gap_blank, is_stop, may_follow}
 use Rattle.keep_syntax.proofs.KeyLaws.{key_first_solid, is_key_first, name_again, name_begins}

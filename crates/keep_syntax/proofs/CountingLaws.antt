@@ -19,10 +19,9 @@ use Rattle.keep_parts.specs.Rereading.{count_at, counts_at, places_before, state
 use Rattle.keep_syntax.specs.FlatLines.{flat_of}
 use Rattle.keep_syntax.proofs.CountLaws.{BeginsChar, AreSome, document_some}
 use Rattle.keep_syntax.proofs.NumberingLaws.{width-append}
-use Rattle.keep_parts.proofs.FlatLaws.{same_flat}
+use Rattle.keep_parts.proofs.Shared.{same_flat, if_true, if_false}
 use Rattle.keep_syntax.proofs.LineLoopLaws.{same_count}
 use Rattle.keep_syntax.proofs.LineNumberingLaws.{over_ended, behind_lines-at, behind_lines-statements, behind_lines-parts, behind_lines-values}
-use Rattle.keep_parts.proofs.TestLaws.{if_true, if_false}
 use Rattle.keep_syntax.proofs.LineStartLaws.{HaveBytes}
 use Rattle.keep_syntax.proofs.SplitLaws.{have_bytes}
 use Rattle.keep_syntax.proofs.HeadLaws.{HeadIs, ByValue, ValuesFrom, head_is, values_from}

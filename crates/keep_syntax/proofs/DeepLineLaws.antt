@@ -6,7 +6,7 @@ use Rattle.keep_token.specs.declared.leaf.Profile.{Profile}
 use Rattle.keep_token.specs.declared.leaf.Leaf.{Leaf}
 use Rattle.keep_token.specs.declared.leaf.Leaf.TheVariants as leaf
 use Rattle.keep_token.specs.Scanning.{first, gap_at}
-use Rattle.keep_token.proofs.GapLaws.{tested, white, line, comment, nothing, gap_cases}
+use Rattle.keep_token.proofs.Shared.{tested, white, line, comment, nothing, gap_cases}
 use Rattle.keep_syntax.specs.Tree.{Written, Gap, Key, Content, blank, keyval, header, element, Line, Ended, Document, mark, key_leaves, name_leaves, value_leaves, content_leaves, comment_leaves, line_leaves, ended_leaves, bom_leaves, leaves, text}
 use Rattle.keep_syntax.specs.Grammar.{IsContent, IsAfter, IsComment, IsLine, IsEnded, IsDocument, Reads}
 use Rattle.keep_syntax.specs.Deep.{open_by, IsTooDeep}

@@ -10,7 +10,7 @@ use Rattle.keep_token.specs.declared.leaf.Leaf.TheVariants as leaf
 use Rattle.keep_token.specs.Abnf.{is_ws, is_bare}
 use Rattle.keep_token.specs.Leaves.{IsLeaf}
 use Rattle.keep_token.specs.Scanning.{first, gap_at, key_at}
-use Rattle.keep_token.proofs.GapLaws.{tested, newline_again, white, line, comment, nothing, gap_cases}
+use Rattle.keep_token.proofs.Shared.{tested, newline_again, white, line, comment, nothing, gap_cases}
 use Rattle.keep_syntax.specs.Tree.{Written, Line, Ended, Document, mark, text_of, line_leaves, ended_leaves, bom_leaves, text, content_depth, lines_depth, depth}
 use Rattle.keep_syntax.specs.Grammar.{IsLine, IsEnded, IsDocument, Reads}
 use Rattle.keep_syntax.specs.Reading.{Fault, Bad, ◌>>=◌, Turn, goes_on, ready, written, space_at, part_at, key_of, name_of, value_of, header_by, element_by, is_line_end, content_at, after_of, line_by, line_at, Lines, newline_of, behind_line, ended_at, lines_of, has_bom, behind_bom, read_document}

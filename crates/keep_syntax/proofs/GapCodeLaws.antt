@@ -5,7 +5,7 @@ use Rattle.keep_token.specs.declared.leaf.Leaf.{Leaf}
 use Rattle.keep_token.specs.declared.leaf.Leaf.TheVariants as leaf
 use Rattle.keep_token.specs.declared.leaf.Profile.{Profile}
 use Rattle.keep_token.specs.Scanning.{first, gap_at, moved}
-use Rattle.keep_token.proofs.GapLaws.{white, line, comment, nothing, gap_cases}
+use Rattle.keep_token.proofs.Shared.{white, line, comment, nothing, gap_cases}
 use Rattle.std.specs.List.{prefix_len}
 use Rattle.keep_token.specs.Abnf.{is_ws}
 use Rattle.keep_syntax.specs.declared.fault.ReadFault.{ReadFault}

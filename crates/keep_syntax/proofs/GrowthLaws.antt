@@ -10,7 +10,7 @@ use Rattle.keep_syntax.specs.Tree.{Written, mark, text_of}
 use Rattle.keep_syntax.specs.Numbered.{width}
 use Rattle.keep_parts.specs.Flat.{Flat, with_mark, with_statement, with_key, with_value, ChangesValue}
 use Rattle.keep_syntax.specs.Growth.{Taken, only, both, kinds, starts, add_at, Grows}
-use Rattle.keep_parts.proofs.FlatLaws.{same_flat}
+use Rattle.keep_parts.proofs.Shared.{same_flat}
 use Rattle.keep_syntax.proofs.SpaceLaws.{text_of-append}
 
 -- ---- leaves

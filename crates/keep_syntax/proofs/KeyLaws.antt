@@ -8,11 +8,10 @@ use Rattle.keep_token.specs.declared.leaf.Leaf.{Leaf}
 use Rattle.keep_token.specs.declared.leaf.Leaf.TheVariants as leaf
 use Rattle.keep_token.specs.Abnf.{is_ws, is_bare}
 use Rattle.keep_token.specs.Scanning.{first, key_at}
-use Rattle.keep_token.proofs.GapLaws.{tested}
+use Rattle.keep_token.proofs.Shared.{tested, key_found, key_again}
 use Rattle.keep_syntax.specs.Tree.{Written, Gap, Further, Key, Name, text_of, mark, further_leaves, key_leaves, name_leaves}
 use Rattle.keep_syntax.specs.Grammar.{IsSpace, IsKeyPart, IsFurther, IsKey, IsName}
 use Rattle.keep_syntax.specs.Reading.{Deep, Read, ◌>>=◌, Turn, goes_on, ready, written, space_at, part_of, part_at, further_at, more_of, key_of, equals_by, name_of}
-use Rattle.keep_syntax.proofs.TokenLaws.{key_found, key_again}
 use Rattle.keep_syntax.proofs.LoopLaws.{bind_ok, bind_err, ok_is, Shortens, loop_on, loop_ready, repeat_holds, repeat_deep}
 use Rattle.keep_syntax.proofs.SpaceLaws.{text_of-append, is_solid, solid_no_ws, space_takes, space_shortens, space_again, space_class}
 

@@ -1,4 +1,3 @@
-pub mod TokenLaws
 pub mod LoopLaws
 pub mod SpaceLaws
 pub mod KeyLaws
@@ -44,3 +43,4 @@ pub mod SplitLaws
 pub mod CountingLaws
 pub mod RereadLaws
 pub mod ReplacedTextLaws
+pub mod Shared

@@ -10,7 +10,7 @@ use Rattle.keep_token.specs.declared.leaf.Leaf.TheVariants as leaf
 use Rattle.keep_token.specs.Abnf.{is_ws, is_comment}
 use Rattle.keep_token.specs.Leaves.{IsLeaf}
 use Rattle.keep_token.specs.Scanning.{first, gap_at, may_follow_scalar}
-use Rattle.keep_token.proofs.GapLaws.{tested, comment_again, newline_again, Gaps, white, line, comment, nothing, gap_cases}
+use Rattle.keep_token.proofs.Shared.{tested, comment_again, newline_again, Gaps, white, line, comment, nothing, gap_cases}
 use Rattle.keep_syntax.specs.Tree.{Written, Gap, Key, Name, Value, Content, blank, keyval, header, element, Line, mark, text_of, key_leaves, name_leaves, value_leaves, value_text, content_leaves, comment_leaves, line_leaves, content_depth}
 use Rattle.keep_syntax.specs.Grammar.{IsContent, IsAfter, IsComment, IsLine}
 use Rattle.keep_syntax.specs.Reading.{Bad, Read, ◌>>=◌, space_at, key_of, name_of, value_of, is_line_end, keyval_of, header_by, element_by, content_at, after_of, comment_of, comment_at, line_by, line_at}

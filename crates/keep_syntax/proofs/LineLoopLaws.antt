@@ -7,7 +7,7 @@ use Rattle.std.proofs.lemmas.Grind.{flat_map-append}
 use Rattle.keep_token.specs.declared.leaf.Leaf.TheVariants as leaf
 use Rattle.keep_token.specs.declared.leaf.Profile.{Profile}
 use Rattle.keep_token.specs.Scanning.{gap_at}
-use Rattle.keep_token.proofs.GapLaws.{Gaps, white, line, comment, nothing, gap_cases}
+use Rattle.keep_token.proofs.Shared.{Gaps, white, line, comment, nothing, gap_cases}
 use Rattle.keep_syntax.specs.declared.fault.ReadFault.{ReadFault}
 use Rattle.keep_syntax.specs.declared.fault.ReadFault.TheVariants as faults
 use Rattle.keep_parts.specs.declared.info.Statement.{Statement}
@@ -23,7 +23,7 @@ use Rattle.keep_syntax.proofs.LoopLaws.{done}
 use Rattle.keep_syntax.proofs.NumberingLaws.{width-append}
 use Rattle.keep_syntax.proofs.StepLaws.{lines_newline, lines_last, lines_err, lines_bad}
 use Rattle.keep_syntax.proofs.LineNumberingLaws.{over_ended, ended-snoc, over-last, behind_lines-at, behind_lines-statements, behind_lines-parts, behind_lines-values}
-use Rattle.keep_parts.proofs.FlatLaws.{same_flat}
+use Rattle.keep_parts.proofs.Shared.{same_flat}
 use Rattle.keep_syntax.proofs.GrowthLaws.{same_taken, grows_nothing, grows_then, grows_as, grown_keys, grown_values, grown_statements}
 use Rattle.keep_syntax.proofs.GapCodeLaws.{fails_memory, fails_through}
 

@@ -11,7 +11,7 @@ use Rattle.keep_syntax.specs.FlatLines.{lines_taken, flat_of}
 use Rattle.keep_syntax.specs.WholeLines.{empty_line}
 use Rattle.keep_parts.specs.Lifted.{origin, moved}
 use Rattle.keep_parts.specs.Rereading.{moved_flat, joined}
-use Rattle.keep_parts.proofs.FlatLaws.{same_flat}
+use Rattle.keep_parts.proofs.Shared.{same_flat}
 use Rattle.keep_syntax.proofs.GrowthLaws.{kinds-append, starts-append}
 use Rattle.keep_syntax.proofs.LineNumberingLaws.{over_ended, over-last, behind_lines-at}
 use Rattle.keep_syntax.proofs.LineLoopLaws.{all_taken}

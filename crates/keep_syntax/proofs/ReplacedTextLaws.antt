@@ -22,7 +22,7 @@ use Rattle.keep_syntax.proofs.SpaceLaws.{text_of-append}
 use Rattle.keep_syntax.proofs.CountLaws.{BeginsChar, AreSome, inner_leaves, document_some}
 use Rattle.keep_syntax.proofs.CutLaws.{start_holds, start_forward}
 use Rattle.keep_syntax.proofs.ReadLaws.{inner_text}
-use Rattle.keep_parts.proofs.TestLaws.{if_true, if_false}
+use Rattle.keep_parts.proofs.Shared.{if_true, if_false}
 use Rattle.keep_syntax.proofs.SplitLaws.{Split}
 use Rattle.keep_syntax.proofs.CountingLaws.{all_append, all_front, all_back}
 use Rattle.keep_syntax.proofs.RereadLaws.{lines_of, middle_lines, end_lines, empty_last}

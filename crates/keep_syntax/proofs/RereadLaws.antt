@@ -27,10 +27,9 @@ use Rattle.keep_syntax.proofs.LoopLaws.{ok_is}
 use Rattle.keep_syntax.proofs.DocumentLaws.{document_read}
 use Rattle.keep_syntax.proofs.ReadLaws.{syntax_of, syntax_is}
 use Rattle.keep_syntax.proofs.NumberingLaws.{width-append}
-use Rattle.keep_parts.proofs.FlatLaws.{same_flat}
+use Rattle.keep_parts.proofs.Shared.{same_flat, if_true, if_false}
 use Rattle.keep_syntax.proofs.LineLoopLaws.{same_count}
 use Rattle.keep_syntax.proofs.LineNumberingLaws.{behind_lines-at, behind_lines-statements, behind_lines-parts, behind_lines-values}
-use Rattle.keep_parts.proofs.TestLaws.{if_true, if_false}
 use Rattle.keep_syntax.proofs.LineStartLaws.{HaveBytes}
 use Rattle.keep_syntax.proofs.SplitLaws.{bytes_of, have_bytes, Split, document_split, text_length}
 use Rattle.keep_syntax.proofs.PieceLaws.{bom_piece, ended_piece, lines_piece, flat_pieces, flat_lines, lines_replaced, lines_replaced_last, lines_moved, lines_ended}

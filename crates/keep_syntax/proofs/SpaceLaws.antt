@@ -14,7 +14,7 @@ use Rattle.keep_token.specs.declared.leaf.Leaf.TheVariants as leaf
 use Rattle.keep_token.specs.Abnf.{Newline, between, is_ws, is_comment, is_word}
 use Rattle.keep_token.specs.Leaves.{IsLeaf, is_gap_leaf}
 use Rattle.keep_token.specs.Scanning.{first, gap_at, may_follow_scalar}
-use Rattle.keep_token.proofs.GapLaws.{tested, ws_found, ws_again, newline_again, comment_again, Found, white, line, comment, nothing, gap_cases}
+use Rattle.keep_token.proofs.Shared.{tested, ws_found, ws_again, newline_again, comment_again, Found, white, line, comment, nothing, gap_cases}
 use Rattle.keep_syntax.specs.declared.info.Brackets.{Brackets}
 use Rattle.keep_syntax.specs.declared.info.Brackets.TheVariants as brackets
 use Rattle.keep_syntax.specs.Tree.{Written, Gap, text_of, mark}

@@ -3,7 +3,7 @@ use Rattle.std.proofs.Common.{◌≡◌, ℕ, ◌<◌, arith, true, false, ◌==
 use Rattle.keep_token.specs.declared.leaf.Profile.{Profile}
 use Rattle.keep_token.specs.declared.leaf.Leaf.TheVariants as leaf
 use Rattle.keep_token.specs.Scanning.{first, gap_at}
-use Rattle.keep_token.proofs.GapLaws.{Gaps, white, line, comment, nothing, gap_cases}
+use Rattle.keep_token.proofs.Shared.{Gaps, white, line, comment, nothing, gap_cases}
 use Rattle.keep_syntax.specs.declared.info.Brackets.{Brackets}
 use Rattle.keep_syntax.specs.Tree.{Written, Gap, Further, Entries, none, Line, Ended}
 use Rattle.keep_syntax.specs.Reading.{Fault, Bad, Read, goes_on, ready, written, space_at, part_at, further_at, more_of, close_byte, join, Item, entry_of, item_by, turn_of, entry_by, entries_by, value_of, line_at, newline_of, ended_at, lines_of}

@@ -11,13 +11,12 @@ use Rattle.keep_token.specs.Abnf.{is_word}
 use Rattle.keep_token.specs.Leaves.{word_len}
 use Rattle.keep_token.specs.Words.{word_leaf}
 use Rattle.keep_token.specs.Scanning.{first, scalar_at, with_len}
-use Rattle.keep_token.proofs.GapLaws.{tested}
+use Rattle.keep_token.proofs.Shared.{tested, scalar_found}
 use Rattle.keep_syntax.specs.declared.info.Brackets.{Brackets}
 use Rattle.keep_syntax.specs.declared.info.Brackets.TheVariants as brackets
 use Rattle.keep_syntax.specs.Tree.{Written, Gap, Name, scalar, Entries, none, entry, Value, text_of, mark, named_leaves, comma_leaves, entries_leaves, value_leaves, value_text, entries_depth, value_depth}
 use Rattle.keep_syntax.specs.Grammar.{IsGap, IsNamed, MayEndInComma, IsComma, AreEntries, IsValue}
 use Rattle.keep_syntax.specs.Reading.{Deep, Read, ◌>>=◌, Turn, goes_on, ready, written, open_byte, close_byte, body_in, is_free, gap_in, name_of, join, Item, entry_of, named_in, after_by, item_by, turn_of, entry_by, entries_by, bracket_by, scalar_of, value_by, value_of}
-use Rattle.keep_syntax.proofs.TokenLaws.{scalar_found}
 use Rattle.keep_syntax.proofs.LoopLaws.{bind_ok, ok_is, Shortens, repeat_holds}
 use Rattle.keep_syntax.proofs.SpaceLaws.{text_of-append, is_solid, place_of, gap_takes, gap_shortens}
 use Rattle.keep_syntax.proofs.KeyLaws.{first_is, key_first_solid, name_takes}

@@ -40,6 +40,6 @@ pub mod ProfileLaws
 pub mod ScalarLaws
 pub mod EncodedStrings
 pub mod ScanEnds
-pub mod Scans
+pub mod Shared
 mod NumberVectors
 pub mod ClassLaws

@@ -4,7 +4,7 @@ use Rattle.keep_token.specs.declared.leaf.Profile.TheVariants.{Strict, Wide}
 use Rattle.keep_syntax.specs.Tree.{Value}
 use Rattle.keep_syntax.specs.Grammar.{IsValue}
 use Rattle.keep_syntax.specs.Profiles.{is_allowed_in}
-use Rattle.keep_syntax.proofs.ProfileTest.{value_allowed}
+use Rattle.keep_syntax.proofs.Shared.{value_allowed}
 use Rattle.keep_value.specs.ValueTexts.{IsTextOfValue, IsAcceptedValue}
 use Rattle.keep_value.proofs.ValueLaws.{in_wide, one_tree}
 

@@ -8,7 +8,7 @@ use Rattle.keep_token.specs.Leaves.{IsLeaf, Means, is_scalar_leaf}
 use Rattle.keep_token.specs.Numbers.{integer_value}
 use Rattle.keep_token.specs.declared.leaf.Profile.{Profile}
 use Rattle.keep_token.specs.declared.leaf.Profile.TheVariants.{Strict, Wide}
-use Rattle.keep_token.proofs.StringMeans.{means_wider}
+use Rattle.keep_token.proofs.Shared.{means_wider}
 use Rattle.keep_syntax.specs.declared.alone.ValueSyntax.{ValueSyntax}
 use Rattle.keep_syntax.specs.declared.fault.ReadFault.{ReadFault}
 use Rattle.keep_syntax.specs.declared.fault.ReadFault.TheVariants as fault
@@ -16,9 +16,7 @@ use Rattle.keep_syntax.specs.Tree.{scalar, none, Value, value_depth}
 use Rattle.keep_syntax.specs.Grammar.{IsValue, ReadsValue}
 use Rattle.keep_syntax.specs.Contract.{IsValueSyntaxOf}
 use Rattle.keep_syntax.specs.Profiles.{is_allowed_in}
-use Rattle.keep_syntax.proofs.ProfileTest.{allowed_value, value_allowed}
-use Rattle.keep_syntax.proofs.WiderLaws.{reads_value_wider}
-use Rattle.keep_syntax.proofs.WholeLaws.{one_value}
+use Rattle.keep_syntax.proofs.Shared.{allowed_value, value_allowed, reads_value_wider, one_value}
 use Rattle.keep_meaning.specs.Fact as fact
 use Rattle.keep_meaning.specs.Meaning.{scalar_fact}
 use Rattle.keep_rules.specs.ReadDocuments.{WasReadAlone, ValueObeys, IsValueRefusal}

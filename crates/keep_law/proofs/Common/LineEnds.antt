@@ -19,9 +19,7 @@ use Rattle.keep_token.specs.Abnf.{is_ws, is_comment, is_word}
 use Rattle.keep_token.specs.Leaves.{IsLeaf, is_scalar_leaf, word_len, has_date_shape}
 use Rattle.keep_token.specs.Pieces.{first}
 use Rattle.keep_token.specs.Strings as strings
-use Rattle.keep_token.proofs.GapLaws.{tested, prefix_len-positive}
-use Rattle.keep_token.proofs.WordLaws.{word_len_again, word_first}
-use Rattle.keep_token.proofs.ScalarLaws.{scalar_kind, a_word, a_basic, a_literal, a_ml_basic, a_ml_literal}
+use Rattle.keep_token.proofs.Shared.{tested, prefix_len-positive, word_len_again, word_first, scalar_kind, a_word, a_basic, a_literal, a_ml_basic, a_ml_literal}
 use Rattle.keep_syntax.specs.Tree.{Written, Gap, Body, scalar, array, inline, Entries, none, entry, Value, Content, blank, keyval, header, element, Line, Ended, mark, key_leaves, name_leaves, entries_leaves, value_leaves, content_leaves, comment_leaves, line_leaves, ended_leaves, text_of, value_text}
 use Rattle.keep_syntax.specs.Grammar.{IsSpace, IsValue, IsBody, AreEntries, in_scalar, place_in, IsContent, IsAfter, IsComment, IsLine, IsEnded}
 use Rattle.keep_law.specs.Lines.{line_text, content_text, is_empty, is_empty_list}

@@ -12,7 +12,7 @@ use Rattle.keep_parts.specs.declared.info.StatementKind.TheVariants as kind
 use Rattle.keep_syntax.specs.Tree.{Written, Gap, Content, blank, keyval, header, element, Line, Ended, Document}
 use Rattle.keep_syntax.specs.Numbered as syntax
 use Rattle.keep_syntax.specs.Numbered.{Count, key_count, line_statements, content_statements, over_lines, first_line, behind_lines, statement}
-use Rattle.keep_syntax.proofs.LineNumberingLaws.{over_ended, behind_lines-statements}
+use Rattle.keep_syntax.proofs.Shared.{over_ended, behind_lines-statements}
 use Rattle.keep_path.specs.Path.{Part, same_path}
 use Rattle.keep_meaning.specs.Marks as marks_of
 use Rattle.keep_meaning.specs.Marks.{define, begun, Mention, Reading, start, below, statement_mentions, next_reading, header_path}

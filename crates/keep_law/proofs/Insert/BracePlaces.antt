@@ -10,11 +10,10 @@ use Rattle.keep_parts.specs.declared.info.ValueInfo.{ValueInfo}
 use Rattle.keep_syntax.specs.Tree.{Name, named_leaves, Body, scalar, array, inline, Entries, none, entry, Value, Document, text_of}
 use Rattle.keep_syntax.specs.Grammar.{IsValue, IsBody, AreEntries, in_inline}
 use Rattle.keep_syntax.specs.declared.info.Brackets.TheVariants as brackets
-use Rattle.keep_syntax.proofs.SpaceLaws.{gap_blank}
+use Rattle.keep_syntax.proofs.Shared.{gap_blank, allowed_value}
 use Rattle.keep_token.specs.Pieces.{first}
 use Rattle.keep_syntax.specs.Numbered as syntax
 use Rattle.keep_syntax.specs.Numbered.{inside_of}
-use Rattle.keep_syntax.proofs.ProfileTest.{allowed_value}
 use Rattle.keep_path.specs.Path.{Part, key}
 use Rattle.keep_meaning.specs.Marks.{Mention}
 use Rattle.keep_meaning.specs.Meaning.{entries_said, step, lines, said_in}

@@ -14,8 +14,7 @@ use Rattle.keep_syntax.specs.declared.info.Brackets.{Brackets}
 use Rattle.keep_syntax.specs.Tree.{Gap, Entries, Document, comma_leaves, text_of, text}
 use Rattle.keep_syntax.specs.Grammar.{AreEntries, IsGap, IsBlank}
 use Rattle.keep_syntax.specs.Reading.{close_byte}
-use Rattle.keep_syntax.proofs.AgainLaws.{entries_begin}
-use Rattle.keep_syntax.proofs.SpaceLaws.{newline_class, comment_class, place_of as grammar_place, gap_blank}
+use Rattle.keep_syntax.proofs.Shared.{entries_begin, newline_class, comment_class, place_of as grammar_place, gap_blank}
 use Rattle.keep_law.specs.Changed.{Changed, Place, IsChangeOf, place_of}
 use Rattle.keep_law.specs.Edits.{Edit, change, changed_or_same}
 use Rattle.keep_law.specs.Values.{entries_text, entry_back}

@@ -6,9 +6,7 @@ use Rattle.keep_token.specs.Pieces.{first}
 use Rattle.keep_syntax.specs.Tree.{Body, Value, Document, value_text}
 use Rattle.keep_syntax.specs.Grammar.{IsValue, IsDocument}
 use Rattle.keep_syntax.specs.Numbered as syntax
-use Rattle.keep_syntax.proofs.AgainLaws.{value_begins}
-use Rattle.keep_syntax.proofs.ValueLaws.{value_first_solid}
-use Rattle.keep_syntax.proofs.SpaceLaws.{is_solid}
+use Rattle.keep_syntax.proofs.Shared.{value_begins, value_first_solid, is_solid}
 use Rattle.keep_path.specs.Path.{Part, same_path}
 use Rattle.keep_meaning.specs.Marks.{Mention, below, item}
 use Rattle.keep_meaning.specs.Meaning.{body_fact, valued_mentions, entries_said, said_in, value_said}

@@ -9,7 +9,7 @@ use Rattle.keep_syntax.specs.Tree.{Name, Body, scalar, array, inline, Entries, n
 use Rattle.keep_syntax.specs.Grammar.{IsNamed, IsBody, AreEntries, in_array}
 use Rattle.keep_syntax.specs.Numbered as syntax
 use Rattle.keep_syntax.specs.Numbered.{inside_of}
-use Rattle.keep_syntax.proofs.ProfileTest.{allowed_value}
+use Rattle.keep_syntax.proofs.Shared.{allowed_value, gap_blank}
 use Rattle.keep_path.specs.Path.{Part, key, index}
 use Rattle.keep_meaning.specs.Fact as fact
 use Rattle.keep_meaning.specs.Marks.{Mention, below, item}
@@ -44,7 +44,6 @@ use Rattle.keep_law.proofs.Insert.LineBefore.{IsLowPlace}
 use Rattle.keep_law.proofs.Remove.RemoveLinePlace.{is_high}
 use Rattle.keep_token.specs.Pieces.{first}
 use Rattle.keep_syntax.specs.declared.info.Brackets.TheVariants as brackets
-use Rattle.keep_syntax.proofs.SpaceLaws.{gap_blank}
 use Rattle.keep_law.proofs.Insert.EntryThere.{first_in, infos_before, said_before, values_there, said_there, count_there}
 
 -- ---- nothing is taken out

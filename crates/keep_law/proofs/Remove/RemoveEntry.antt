@@ -18,10 +18,7 @@ use Rattle.keep_syntax.specs.Tree.{Gap, Name, Body, Entries, none, entry, Value,
 use Rattle.keep_syntax.specs.Grammar.{AreEntries, IsGap, IsBlank, GoesOn, is_ws_leaf, IsNamed, IsBody, place_in}
 use Rattle.keep_syntax.specs.Numbered.{value_start, value_end, comma_start, comma_place, name_count, info, inside_of, rest_of, entries_values}
 use Rattle.keep_syntax.specs.Reading.{close_byte}
-use Rattle.keep_syntax.proofs.AgainLaws.{entries_begin, value_begins}
-use Rattle.keep_syntax.proofs.KeyLaws.{key_first_solid, name_begins}
-use Rattle.keep_syntax.proofs.ValueLaws.{value_first_solid}
-use Rattle.keep_syntax.proofs.SpaceLaws.{is_solid, text_of-append, solid_no_ws, newline_class, comment_class, place_of, gap_blank}
+use Rattle.keep_syntax.proofs.Shared.{entries_begin, value_begins, key_first_solid, name_begins, value_first_solid, is_solid, text_of-append, solid_no_ws, newline_class, comment_class, place_of, gap_blank}
 use Rattle.keep_meaning.specs.Fact.{Fact}
 use Rattle.keep_path.specs.Path.{Part, key, index, same_path}
 use Rattle.keep_meaning.specs.Marks.{Saying, value, item, Mention, below}

@@ -18,9 +18,7 @@ use Rattle.keep_syntax.specs.Tree.{Written, Gap, Name, Value, Content, blank, ke
 use Rattle.keep_syntax.specs.Grammar.{IsSpace, IsAfter, IsComment, IsLine, IsEnded, IsDocument, IsName, IsContent}
 use Rattle.keep_syntax.specs.Numbered as syntax
 use Rattle.keep_syntax.specs.Numbered.{span, width, Count, key_count, info, inside_of, entries_values, value_end, content_start, line_start, line_values, line_statements, over_lines, next_line, first_line, behind_lines, statement}
-use Rattle.keep_syntax.proofs.LineNumberingLaws.{over_ended, behind_lines-at, behind_lines-statements}
-use Rattle.keep_syntax.proofs.KeyLaws.{key_first_solid, name_begins}
-use Rattle.keep_syntax.proofs.SpaceLaws.{is_solid, space_class, newline_class, comment_class}
+use Rattle.keep_syntax.proofs.Shared.{over_ended, behind_lines-at, behind_lines-statements, key_first_solid, name_begins, is_solid, space_class, newline_class, comment_class}
 use Rattle.keep_path.specs.Path.{Part}
 use Rattle.keep_meaning.specs.Marks.{Mention, Reading, start, below}
 use Rattle.keep_meaning.specs.Meaning.{body_fact, entries_said, step, line_said, behind_line, lines_said, reading_behind, line_of, lines, said_in}

@@ -23,7 +23,7 @@ use Rattle.keep_syntax.specs.Grammar.{IsBlank, AreEntries, IsDocument, place_in}
 use Rattle.keep_syntax.specs.Numbered as syntax
 use Rattle.keep_syntax.specs.Numbered.{span, info, inside_of, owner_in, entries_values}
 use Rattle.keep_syntax.specs.Reading.{close_byte}
-use Rattle.keep_syntax.proofs.SpaceLaws.{is_solid}
+use Rattle.keep_syntax.proofs.Shared.{is_solid}
 use Rattle.keep_meaning.specs.KeyText.{text_at}
 use Rattle.keep_path.specs.Path.{Part}
 use Rattle.keep_meaning.specs.Marks.{Mention, below}

@@ -14,7 +14,7 @@ use Rattle.keep_syntax.specs.Tree.{Written, Gap, Content, blank, keyval, header,
 use Rattle.keep_syntax.specs.Grammar.{IsDocument}
 use Rattle.keep_syntax.specs.Numbered as syntax
 use Rattle.keep_syntax.specs.Numbered.{width, Count, key_count, line_statements, content_statements, over_lines, next_line, first_line, behind_lines, statement}
-use Rattle.keep_syntax.proofs.LineNumberingLaws.{over_ended, behind_lines-statements}
+use Rattle.keep_syntax.proofs.Shared.{over_ended, behind_lines-statements}
 use Rattle.keep_path.specs.Path.{Part, same_path}
 use Rattle.keep_meaning.specs.Marks as marks_of
 use Rattle.keep_meaning.specs.Marks.{Saying, Mention, Reading, start, statement_mentions, next_reading, mentions_from, reading_after, header_way}

@@ -8,9 +8,7 @@ use Rattle.keep_token.specs.declared.leaf.Profile.{Profile}
 use Rattle.keep_token.specs.declared.leaf.Profile.TheVariants.{Strict, Wide}
 use Rattle.keep_token.specs.Encoded.{is_bare_text, encoded_key, encoded_key_leaf}
 use Rattle.keep_token.specs.Leaves.{IsLeaf, is_key_leaf, is_string_leaf}
-use Rattle.keep_token.proofs.EncodedStrings.{key_is_leaf, key_means}
-use Rattle.keep_token.proofs.ProfileLaws.{leaf_wider}
-use Rattle.keep_token.proofs.StringMeans.{means_wider}
+use Rattle.keep_token.proofs.Shared.{key_is_leaf, key_means, leaf_wider, means_wider}
 use Rattle.keep_path.proofs.Shared.{text_bytes}
 use Rattle.keep_meaning.proofs.Shared.{means_value}
 use Rattle.keep_law.proofs.Common.Runs.{AllOf}

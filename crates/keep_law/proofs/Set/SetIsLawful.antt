@@ -7,7 +7,7 @@ use Rattle.keep_token.specs.declared.leaf.Profile.TheVariants.{Wide}
 use Rattle.keep_syntax.specs.Tree.{Value, Document, text, value_text, value_depth, depth}
 use Rattle.keep_syntax.specs.Grammar.{IsValue, IsDocument, Reads}
 use Rattle.keep_syntax.specs.Profiles.{is_allowed_in}
-use Rattle.keep_syntax.proofs.ProfileTest.{allowed_value}
+use Rattle.keep_syntax.proofs.Shared.{allowed_value}
 use Rattle.keep_meaning.specs.Fact.{Fact, is_value_fact}
 use Rattle.keep_path.specs.Path.{Part}
 use Rattle.keep_meaning.specs.Rules.{ObeysRules}

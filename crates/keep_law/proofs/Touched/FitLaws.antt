@@ -20,11 +20,10 @@ use Rattle.keep_law.proofs.Touched.TouchLaws.{Touches, EachTouches, have_newline
 use Rattle.keep_syntax.specs.Tree.{Written, Line, Ended, Document, line_leaves, ended_leaves, bom_leaves, text_of, text, lines_depth, content_depth, depth}
 use Rattle.keep_syntax.specs.Grammar.{IsLine, IsEnded, IsDocument}
 use Rattle.keep_syntax.specs.Numbered.{width, span}
-use Rattle.keep_syntax.proofs.SpaceLaws.{text_of-append}
+use Rattle.keep_syntax.proofs.Shared.{text_of-append, line_of, next_of, HaveBytes, line_step, before_step, from_step, none_before, all_from, line_low}
 use Rattle.keep_law.specs.Lines.{page_text, line_text, ended_text}
 use Rattle.keep_syntax.specs.WholeLines.{empty_line, line_starts, last_to, lines_before, lines_from, begin, touched, replaced}
-use Rattle.keep_parts.proofs.TestLaws.{if_true, if_false}
-use Rattle.keep_syntax.proofs.LineStartLaws.{line_of, next_of, HaveBytes, line_step, before_step, from_step, none_before, all_from, line_low}
+use Rattle.keep_parts.proofs.Shared.{if_true, if_false}
 use Rattle.keep_law.proofs.Touched.SwapLaws.{FillPage, have_bytes, page_cons, fill_rest}
 
 -- ---- lists that all are so

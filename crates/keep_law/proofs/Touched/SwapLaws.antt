@@ -12,10 +12,9 @@ use Rattle.std.proofs.lemmas.Bool.{lt-leb}
 use Rattle.std.specs.List.{flat_map, AllByRecursion}
 use Rattle.std.proofs.lemmas.List.{append-nil, length-append}
 use Rattle.keep_syntax.specs.Tree.{Written, Line, Ended, line_leaves, ended_leaves, text_of}
-use Rattle.keep_syntax.proofs.SpaceLaws.{text_of-append}
+use Rattle.keep_syntax.proofs.Shared.{text_of-append, line_of, next_of, HaveBytes, line_low, next_high, line_step, next_step, before_step, from_step, none_before, all_from}
 use Rattle.keep_syntax.specs.Numbered.{width}
-use Rattle.keep_parts.proofs.TestLaws.{if_true, if_false}
-use Rattle.keep_syntax.proofs.LineStartLaws.{line_of, next_of, HaveBytes, line_low, next_high, line_step, next_step, before_step, from_step, none_before, all_from}
+use Rattle.keep_parts.proofs.Shared.{if_true, if_false}
 use Rattle.keep_law.specs.Changed.{Changed, IsChangeOf, framed_change, within, or_else}
 use Rattle.keep_law.proofs.Common.Texts.{EachIs}
 use Rattle.keep_meaning.specs.Marks.{Reading}

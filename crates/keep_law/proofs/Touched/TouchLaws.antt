@@ -14,8 +14,7 @@ use Rattle.keep_token.specs.Leaves.{IsLeaf}
 use Rattle.keep_syntax.specs.Tree.{Written, Key, Name, Value, Content, blank, keyval, header, element, Line, Ended, Document, name_leaves, key_leaves, comment_leaves, line_leaves, ended_leaves, bom_leaves, value_leaves, text_of, text}
 use Rattle.keep_syntax.specs.Grammar.{IsLine, IsEnded, IsDocument, IsContent}
 use Rattle.keep_syntax.specs.Numbered.{span}
-use Rattle.keep_syntax.proofs.SpaceLaws.{text_of-append}
-use Rattle.keep_syntax.proofs.KeyLaws.{part_begins}
+use Rattle.keep_syntax.proofs.Shared.{text_of-append, part_begins}
 use Rattle.keep_path.specs.Path.{Part, same_path}
 use Rattle.keep_meaning.specs.Marks.{Reading, start}
 use Rattle.keep_meaning.specs.Meaning.{step, lines, said_in}

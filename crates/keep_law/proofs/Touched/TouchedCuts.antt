@@ -13,15 +13,14 @@ use Rattle.keep_token.specs.declared.leaf.Profile.{Profile}
 use Rattle.keep_token.specs.declared.leaf.Profile.TheVariants.{Strict}
 use Rattle.keep_token.specs.declared.leaf.Leaf.TheVariants as leaf
 use Rattle.keep_token.specs.Leaves.{IsLeaf}
-use Rattle.keep_token.proofs.StringUtf8.{cut_one}
+use Rattle.keep_token.proofs.Shared.{cut_one}
 use Rattle.keep_parts.specs.declared.info.Span.{Span}
 use Rattle.keep_syntax.specs.Tree.{Ended, Document, line_leaves, ended_leaves, bom_leaves, text_of, text}
 use Rattle.keep_syntax.specs.Grammar.{IsEnded, IsDocument}
 use Rattle.keep_syntax.specs.Numbered.{width, span}
 use Rattle.keep_syntax.specs.WholeLines.{line_starts, last_to, begin, touched}
-use Rattle.keep_syntax.proofs.SpaceLaws.{text_of-append}
-use Rattle.keep_parts.proofs.TestLaws.{if_true, if_false}
-use Rattle.keep_syntax.proofs.LineStartLaws.{line_of, next_of, next_high}
+use Rattle.keep_syntax.proofs.Shared.{text_of-append, line_of, next_of, next_high}
+use Rattle.keep_parts.proofs.Shared.{if_true, if_false}
 use Rattle.keep_law.specs.Changed.{Changed, IsChangeOf, place_of}
 use Rattle.keep_law.specs.Edits.{Edit, change}
 use Rattle.keep_law.specs.Lines.{line_text, ended_text}

@@ -3,7 +3,7 @@ use Rattle.keep_parts.specs.declared.info.KeyPart.{KeyPart}
 use Rattle.keep_parts.specs.Flat.{Flat, flat, with_key}
 use Rattle.keep_parts.specs.Lifted.{moved_key}
 use Rattle.keep_parts.specs.Rereading.{count_of}
-use Rattle.keep_parts.proofs.MoveLaws.{moved_next}
+use Rattle.keep_parts.proofs.Shared.{moved_next}
 use Rattle.keep_syntax.proofs.reread.append_keys.Goals as goal
 
 pub keys-preserved : goal.keys-preserved

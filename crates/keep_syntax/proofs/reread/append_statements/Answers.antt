@@ -3,7 +3,7 @@ use Rattle.keep_parts.specs.declared.info.Statement.{Statement}
 use Rattle.keep_parts.specs.Flat.{Flat, flat, with_statement}
 use Rattle.keep_parts.specs.Lifted.{moved_statement}
 use Rattle.keep_parts.specs.Rereading.{count_of}
-use Rattle.keep_parts.proofs.MoveLaws.{moved_next}
+use Rattle.keep_parts.proofs.Shared.{moved_next}
 use Rattle.keep_syntax.proofs.reread.append_statements.Goals as goal
 
 pub statements-preserved : goal.statements-preserved

@@ -3,7 +3,7 @@ use Rattle.keep_parts.specs.declared.info.ValueInfo.{ValueInfo}
 use Rattle.keep_parts.specs.Flat.{Flat, flat, with_value}
 use Rattle.keep_parts.specs.Lifted.{moved_value}
 use Rattle.keep_parts.specs.Rereading.{count_of}
-use Rattle.keep_parts.proofs.MoveLaws.{moved_next}
+use Rattle.keep_parts.proofs.Shared.{moved_next}
 use Rattle.keep_syntax.proofs.reread.append_values.Goals as goal
 
 pub values-preserved : goal.values-preserved

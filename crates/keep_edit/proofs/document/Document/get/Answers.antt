@@ -1,7 +1,6 @@
 use Rattle.std.proofs.Common.{refl, ◌∙◌}
 use Rattle.std.proofs.lemmas.Result.{err_from_is_err_and}
-use Rattle.keep_splice.proofs.Shared.{text_seen, seen}
-use Rattle.keep_splice.proofs.Shared.{value_inside, value_there}
+use Rattle.keep_splice.proofs.Shared.{text_seen, seen, value_inside, value_there}
 use Rattle.keep_edit.proofs.PathLaws.{got, not_got}
 use Rattle.keep_edit.proofs.document.Document.get.Goals as goal
 

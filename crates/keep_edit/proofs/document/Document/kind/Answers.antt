@@ -1,6 +1,5 @@
 use Rattle.std.proofs.Common.{◌∙◌}
-use Rattle.keep_splice.proofs.Shared.{seen}
-use Rattle.keep_splice.proofs.Shared.{none_found, one_found}
+use Rattle.keep_splice.proofs.Shared.{seen, none_found, one_found}
 use Rattle.keep_edit.proofs.PathLaws.{no_kind, its_kind}
 use Rattle.keep_edit.proofs.document.Document.kind.Goals as goal
 

@@ -1,6 +1,6 @@
 use Rattle.std.proofs.Common.{ℕ, List, ap, arith, length, refl, subst}
 use Rattle.keep_syntax.specs.Contract.{IsTextOf}
-use Rattle.keep_syntax.proofs.ReplacedTextLaws.{replaced_text}
+use Rattle.keep_syntax.proofs.Shared.{replaced_text}
 use Rattle.keep_splice.proofs.Shared.{seen, profile_seen}
 use Rattle.keep_edit.proofs.TakeLaws.{touches, is_syntax, in_text, high, cut, can_as, reread_is}
 use Rattle.keep_edit.proofs.document.Document.reread.Goals as goal
