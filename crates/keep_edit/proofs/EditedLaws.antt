@@ -1,6 +1,6 @@
 -- What an edit answers, by the text that was made: the document after it, or that text alone.
-use Rattle.std.proofs.Common.{◌≡◌, sym, subst, refl, Option, Some, None, Result, Ok, Err, String, Global}
-use Rattle.std.specs.Prelude.{string_bytes}
+use Rattle.std.proofs.Common.{◌≡◌, ℕ, List, sym, subst, refl, Option, Some, None, Result, Ok, Err, String, Global}
+use Rattle.std.specs.Prelude.{MatchResult, string_bytes}
 use Rattle.keep_syntax.specs.Tree.{Document}
 use Rattle.keep_law.specs.declared.fault.EditFault.{EditFault}
 use Rattle.keep_law.specs.declared.fault.EditFault.TheVariants as fault
@@ -9,9 +9,9 @@ use Rattle.keep_law.specs.Changed.{Place}
 use Rattle.keep_law.specs.Edits.{Edit, place}
 use Rattle.keep_splice.specs.declared.edited.Edited.{Edited}
 use Rattle.keep_edit.specs.Reading.{ProfiledText, text_in, IsTextOfTree}
-use Rattle.keep_splice.specs.Answers.{IsMadeAt, splice_of}
+use Rattle.keep_splice.specs.Answers.{IsMadeAt, splice_of, text_after}
 use Rattle.keep_edit.specs.Answers.{IsEdited, IsMade, IsTextAfter, IsDone, EditMade, EditDone, EditTold, refusal_in}
-use Rattle.keep_edit.specs.Places.{IsMovedIn}
+use Rattle.keep_edit.specs.Places.{IsMovedIn, after}
 
 -- ---- what an edit answers, by what was made of it
 
@@ -32,14 +32,16 @@ module _ (s : Document) (e : Edit) (old : ProfiledText) where
   abbrev is_told : String Global → Type 0
   is_told text = IsTextAfter s e (text_in old.profile (string_bytes text)) old
 
-  pub told_of : (made : Edited) → EditMade s e old (Ok made) → EditTold s e old (Ok made.text)
-  told_of made h = done_as (IsMade s e old) is_told made made.text (refusal_in old s e) h (λ (k : IsMade s e old made). k.1)
+  pub told_of : (made : Edited) (result : Result (String Global) EditFault) → EditMade s e old (Ok made) → MatchResult result (λ text. string_bytes text ≡ text_after old.text made) (λ f. f ≡ fault.Memory) → EditTold s e old result
+  told_of made (Ok text) h is =
+      done_as (IsMade s e old) is_told made text (refusal_in old s e) h (λ (k : IsMade s e old made). subst (λ (t : List ℕ). IsTextAfter s e (text_in old.profile t) old) (sym is) k.1)
+  told_of made (Err f) h is = subst (λ (g : EditFault). EditTold s e old (Err g)) (sym is) (done_or_full (IsMade s e old) is_told made (refusal_in old s e) h)
 
   pub untold_of : (f : EditFault) → EditMade s e old (Err f) → EditTold s e old (Err f)
   untold_of f h = not_done (IsMade s e old) is_told f (refusal_in old s e) h
 
   module _ (new : ProfiledText) where
-    pub done_of : (made : Edited) (splice : Splice) → new ≡ text_in old.profile (string_bytes made.text) → ((p : Place) → IsMadeAt p made → splice ≡ splice_of s p) → EditMade s e old (Ok made)
+    pub done_of : (made : Edited) (splice : Splice) → new ≡ after old made → ((p : Place) → IsMadeAt p made → splice ≡ splice_of s p) → EditMade s e old (Ok made)
         → EditDone s e old new (Ok splice)
     done_of made splice is there h =
         done_as (IsMade s e old) (IsEdited s e new old) made splice (refusal_in old s e) h

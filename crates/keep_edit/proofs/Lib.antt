@@ -7,3 +7,4 @@ pub mod EditedLaws
 pub mod FoldLaws
 pub mod ChildLaws
 pub mod TakeLaws
+pub mod PatchLaws

@@ -17,7 +17,7 @@ use Rattle.keep_law.specs.Changed.{Place, place_of}
 use Rattle.keep_law.specs.TouchedLines.{scanned, touched_by, touched_in_new, TouchesLines}
 use Rattle.keep_law.proofs.Shared.{touched_lines_are_lines, IsCut, touched_in_new_cut}
 use Rattle.keep_nodes.specs.Facts.{NodeInfos}
-use Rattle.keep_splice.specs.Answers.{IsMadeAt}
+use Rattle.keep_splice.specs.Answers.{IsMadeAt, text_after}
 use Rattle.keep_splice.specs.declared.edited.Edited.{Edited}
 use Rattle.keep_splice.proofs.Shared.{one_tree}
 use Rattle.keep_edit.specs.Places.{IsOfEdit, IsReread}
@@ -25,7 +25,7 @@ use Rattle.keep_edit.specs.Reading.{limit, ProfiledText, text_in, Holds, IsSynta
 
 -- the end of the new lines
 abbrev pub end_by : Span → Edited → ℕ
-end_by whole made = whole.end - (made.place.end - made.place.start) + made.added
+end_by whole made = whole.end - (made.place.end - made.place.start) + length (string_bytes made.new)
 
 module _ (old : ProfiledText) (made : Edited) (syntax : Syntax) (index : NodeInfos) (h : Holds old syntax index) (o : IsOfEdit old made) where
   pub is_syntax : (s : Document) → IsTextOfTree old s → IsSyntaxOf syntax s
@@ -64,9 +64,10 @@ module _ (old : ProfiledText) (made : Edited) (syntax : Syntax) (index : NodeInf
         let from : made.place.start ≡ p.start = ap (λ (x : Span). x.start) m.0 in
         let to : made.place.end ≡ p.end = ap (λ (x : Span). x.end) m.0 in
         let last : whole.end ≡ (touched_by s p).end = ap (λ (x : Span). x.end) (whole_at s p read m) in
-        omega (arith, m.1, from, to, last, high)
+        let added = ap length m.1 in
+        omega (arith, added, from, to, last, high)
 
-    pub cut : IsCut (string_bytes made.text) (span whole.start (end_by whole made))
+    pub cut : IsCut (text_after old.text made) (span whole.start (end_by whole made))
     cut =
         let spelled = o.new.reads.spelled in
         let p : Place = place_of o.changed in
@@ -77,7 +78,7 @@ module _ (old : ProfiledText) (made : Edited) (syntax : Syntax) (index : NodeInf
         subst (λ (x : List ℕ). IsCut x (span whole.start (end_by whole made))) (sym spelled)
         (subst (λ (a : ℕ). IsCut (text o.changed.to) (span a (end_by whole made))) (sym first) (subst (λ (b : ℕ). IsCut (text o.changed.to) (span (touched_in_new o.tree p).start b)) (sym last) there))
 
-    can : CanReplace old.profile limit o.tree whole (slice_range (string_bytes made.text) whole.start (end_by whole made)) touches.lines
+    can : CanReplace old.profile limit o.tree whole (slice_range (text_after old.text made) whole.start (end_by whole made)) touches.lines
     unfolding in_text
     can =
         let t = touches in
@@ -85,7 +86,7 @@ module _ (old : ProfiledText) (made : Edited) (syntax : Syntax) (index : NodeInf
         let p : Place = place_of o.changed in
         let first : whole.start ≡ (touched_in_new o.tree p).start = ap (λ (x : Span). x.start) (whole_at o.tree p o.read o.at) in
         let last : end_by whole made ≡ (touched_in_new o.tree p).end = end_at o.tree p o.read o.at in
-        let bytes : slice_range (text o.changed.to) (touched_in_new o.tree p).start (touched_in_new o.tree p).end ≡ slice_range (string_bytes made.text) whole.start (end_by whole made) =
+        let bytes : slice_range (text o.changed.to) (touched_in_new o.tree p).start (touched_in_new o.tree p).end ≡ slice_range (text_after old.text made) whole.start (end_by whole made) =
         ap (λ (a : ℕ). slice_range (text o.changed.to) a (touched_in_new o.tree p).end) (sym first)
         ∙ ap (λ (b : ℕ). slice_range (text o.changed.to) whole.start b) (sym last)
         ∙ ap (λ (x : List ℕ). slice_range x whole.start (end_by whole made)) (sym o.new.reads.spelled) in
@@ -102,7 +103,7 @@ module _ (old : ProfiledText) (made : Edited) (syntax : Syntax) (index : NodeInf
         }
 
     -- the same of bytes and a profile that are these
-    pub can_as : (profile : Profile) (lines : List ℕ) → profile ≡ old.profile → lines ≡ slice_range (string_bytes made.text) whole.start (end_by whole made) → CanReplace profile limit o.tree whole lines touches.lines
+    pub can_as : (profile : Profile) (lines : List ℕ) → profile ≡ old.profile → lines ≡ slice_range (text_after old.text made) whole.start (end_by whole made) → CanReplace profile limit o.tree whole lines touches.lines
     can_as profile lines e f =
         subst (λ (p : Profile). CanReplace p limit o.tree whole lines touches.lines) (sym e)
         (subst (λ (x : List ℕ). CanReplace old.profile limit o.tree whole x touches.lines) (sym f) can)

@@ -1,6 +1,7 @@
 pub mod Reading
 pub mod Answers
 pub mod Places
+pub mod Patches
 pub mod Lists
 pub mod Headers
 pub mod Children

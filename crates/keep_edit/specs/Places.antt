@@ -1,5 +1,5 @@
--- What becomes of a document by the text that was made for it.
-use Rattle.std.specs.Prelude.{◌≡◌, ℕ, Result, Ok, Err, string_bytes}
+-- What becomes of a document by an edit that was decided for it.
+use Rattle.std.specs.Prelude.{◌≡◌, ℕ, Result, Ok, Err}
 use Rattle.keep_syntax.specs.declared.syntax.Syntax.{Syntax}
 use Rattle.keep_syntax.specs.Tree.{Document}
 use Rattle.keep_law.specs.declared.fault.EditFault.{EditFault}
@@ -7,17 +7,34 @@ use Rattle.keep_law.specs.declared.fault.EditFault.TheVariants.{Memory}
 use Rattle.keep_law.specs.declared.splice.Splice.{Splice}
 use Rattle.keep_law.specs.Changed.{Place}
 use Rattle.keep_law.specs.TouchedLines as touched
-use Rattle.keep_splice.specs.Answers.{IsMadeAt, splice_of}
+use Rattle.keep_nodes.specs.Facts.{NodeInfos}
+use Rattle.keep_splice.specs.Answers.{IsMadeAt, splice_of, text_after}
 use Rattle.keep_splice.specs.declared.edited.Edited.{Edited}
-use Rattle.keep_edit.specs.Reading.{ProfiledText, IsSyntaxIn, IsTextOfTree, text_in}
+use Rattle.keep_edit.specs.Reading.{ProfiledText, Holds, IsSyntaxIn, IsTextOfTree, text_in}
 pub use Rattle.keep_splice.specs.Places.{IsOfEdit}
 
--- It is the syntax of the text that was made, with how many bytes were scanned for it: those of the touched lines.
+-- the text after the edit, in the document's profile
+abbrev pub after : ProfiledText → Edited → ProfiledText
+after old made = text_in old.profile (text_after old.text made)
+
+-- The edit was written into the text of a document, of which syntax and index are what they were.
+pub record IsPatched (old : ProfiledText) (made : Edited) (syntax : Syntax) (index : NodeInfos) (new : ProfiledText) : Type 0 where
+  pub holds : Holds old syntax index
+  pub edit : IsOfEdit old made
+  pub is : new ≡ after old made
+
+-- It is the syntax of the text after the edit, with how many bytes were scanned for it: those of the touched lines.
 pub record IsReread (old : ProfiledText) (made : Edited) (read : Syntax × ℕ) : Type 0 where
-  pub syntax : IsSyntaxIn (text_in old.profile (string_bytes made.text)) read.0
+  pub syntax : IsSyntaxIn (after old made) read.0
   pub scanned : (s : Document) (p : Place) → IsTextOfTree old s → IsMadeAt p made → read.1 ≡ touched.scanned s p
 
--- The document has the text that was made, and the splice is that of its place; or memory ran out and it is as before.
+-- The syntax is that of the text after the edit, with this index and so many bytes scanned; or memory ran out, and it still is
+-- that of the old text.
+abbrev pub IsTaken : ProfiledText → Edited → NodeInfos → Syntax → Result (NodeInfos × ℕ) EditFault → Type 0
+IsTaken old made index syntax (Ok read) = Holds (after old made) syntax read.0 × ((s : Document) (p : Place) → IsTextOfTree old s → IsMadeAt p made → read.1 ≡ touched.scanned s p)
+IsTaken old made index syntax (Err f) = (f ≡ Memory) × Holds old syntax index
+
+-- The document has the text after the edit, and the splice is that of its place; or memory ran out and it is as before.
 abbrev pub IsMovedIn : Edited → ProfiledText → ProfiledText → Result Splice EditFault → Type 0
-IsMovedIn made old new (Ok splice) = ((s : Document) (p : Place) → IsTextOfTree old s → IsMadeAt p made → splice ≡ splice_of s p) × (new ≡ text_in old.profile (string_bytes made.text))
+IsMovedIn made old new (Ok splice) = ((s : Document) (p : Place) → IsTextOfTree old s → IsMadeAt p made → splice ≡ splice_of s p) × (new ≡ after old made)
 IsMovedIn made old new (Err f) = (f ≡ Memory) × (new ≡ old)

@@ -1,23 +1,27 @@
-//! The edits of a document: keep_splice decides each and makes the text after it, which is read and takes the document's place.
-ghost use Rattle.std.specs.Prelude.{◌≡◌, IfOk, OnErr, MatchResult, string_bytes};
+//! The edits of a document: keep_splice decides each, and it is made in the document's own text and syntax.
+ghost use Rattle.std.specs.Prelude.{◌≡◌, OnErr, MatchResult, string_bytes};
 ghost use Rattle.keep_token.specs.declared.leaf.Profile.TheVariants.{Wide};
 ghost use Rattle.keep_syntax.specs.declared.fault.ReadFault.TheVariants.{Memory};
 ghost use Rattle.keep_syntax.specs.Tree as tree;
 ghost use Rattle.keep_syntax.specs.Tree.{Value};
 ghost use Rattle.keep_law.specs.Edits.{set, insert, rename, remove, append_table, append_element};
 ghost use Rattle.keep_law.specs.declared.fault.EditFault.TheVariants as law;
-ghost use Rattle.keep_edit.specs.Reading.{IsAccepted, IsAcceptedValue, IsTextOfTree, IsTextOfValue, text_in};
+ghost use Rattle.keep_nodes.specs.Facts.{NodeInfos};
+ghost use Rattle.keep_splice.specs.Answers.{text_after};
+ghost use Rattle.keep_edit.specs.Reading.{IsAccepted, IsAcceptedValue, IsTextOfTree, IsTextOfValue, ProfiledText, text_in};
 ghost use Rattle.keep_edit.specs.Answers.{EditDone, EditTold};
 ghost use Rattle.keep_edit.specs.Headers.{key_texts};
-ghost use Rattle.keep_edit.specs.Places.{IsMovedIn, IsOfEdit, IsReread};
+ghost use Rattle.keep_edit.specs.Places.{IsMovedIn, IsOfEdit, IsPatched, IsTaken};
 
 use crate::document::Document;
+use crate::patch::{put_back, put_in};
 use keep_law::{EditFault, Splice};
-use keep_rules::Path;
+use keep_rules::{Index, Path};
 use keep_splice::{DocumentRef, Edited, Header};
-use keep_syntax::{Limits, ReadFault, STANDARD_DEPTH, Syntax};
+use keep_syntax::{Limits, ReadFault, STANDARD_DEPTH, Span, Syntax};
+use keep_token::Profile;
 use keep_value::ValueText;
-use std::alloc::AllocError;
+use std::alloc::Global;
 
 impl Document {
     /// Writes a value in place of the one that stands at a path. Every other byte is kept. After a refusal the document is as
@@ -53,7 +57,7 @@ impl Document {
     {
         let alloc = *self.text.allocator();
         let edited = self.as_ref().edited(alloc, path, value)?;
-        Ok(edited.text)
+        self.text_after(alloc, &edited)
     }
 
     /// Writes a value at a new path: as an item of an array before the item that is there, or behind the last; as a keyval
@@ -91,7 +95,7 @@ impl Document {
     {
         let alloc = *self.text.allocator();
         let inserted = self.as_ref().inserted(alloc, path, value)?;
-        Ok(inserted.text)
+        self.text_after(alloc, &inserted)
     }
 
     /// Writes another key in place of the last key of a path: bare if it can be, else as a basic string. Every other byte is
@@ -124,7 +128,7 @@ impl Document {
     {
         let alloc = *self.text.allocator();
         let renamed = self.as_ref().renamed(alloc, path, key)?;
-        Ok(renamed.text)
+        self.text_after(alloc, &renamed)
     }
 
     /// Removes the node of a path: a keyval with its line, of which a comment behind it stays; an item of an array, or a keyval
@@ -158,7 +162,7 @@ impl Document {
     {
         let alloc = *self.text.allocator();
         let removed = self.as_ref().removed(alloc, path)?;
-        Ok(removed.text)
+        self.text_after(alloc, &removed)
     }
 
     /// Writes the header `[..]` of a table at the end of the text, behind a blank line. Every other byte is kept. After a refusal
@@ -189,7 +193,8 @@ impl Document {
         ensures accepted { IsAccepted self.now }
     {
         let alloc = *self.text.allocator();
-        Ok(self.as_ref().appended(alloc, keys, Header::Table)?.text)
+        let header = self.as_ref().appended(alloc, keys, Header::Table)?;
+        self.text_after(alloc, &header)
     }
 
     /// Writes the header `[[..]]` of an element of an array of tables at the end of the text, behind a blank line. Every other
@@ -219,54 +224,50 @@ impl Document {
         ensures accepted { IsAccepted self.now }
     {
         let alloc = *self.text.allocator();
-        Ok(self.as_ref().appended(alloc, keys, Header::Element)?.text)
+        let header = self.as_ref().appended(alloc, keys, Header::Element)?;
+        self.text_after(alloc, &header)
     }
 
-    /// Moves in the document of the text that an edit gives. Of that text only the lines are scanned that the edit touches. The
-    /// only error is out of memory, and then the document is as before.
+    /// The text after an edit that was decided for the document. The only error is out of memory.
+    fn text_after(&self, alloc: Global, edited: &Edited) -> Result<String, EditFault>
+        requires { IsOfEdit self.now edited.now }
+        ensures { MatchResult result (λ text. string_bytes text ≡ text_after self.now.text edited.now) (λ fault. fault ≡ law.Memory) }
+    {
+        match edited.text_after(alloc, self.text.as_str()) {
+            Ok(text) => Ok(text),
+            Err(_) => Err(EditFault::Memory),
+        }
+    }
+
+    /// Makes an edit that was decided for the document, in place. Of the text after it only the lines are scanned that the edit
+    /// touches. The only error is out of memory, and then the document is as before.
     pub(crate) fn replaced(&mut self, edited: Edited) -> Result<Splice, EditFault>
         requires { IsOfEdit self.old edited }
         ensures moved { IsMovedIn edited self.old self.new result }
         ensures read { IsAccepted self.new }
     {
-        let Ok((syntax, scanned)) = self.reread(&edited) else {
+        let alloc = *self.text.allocator();
+        let profile = self.profile;
+        let Ok(kept) = put_in(&mut self.text, &edited) else {
             return Err(EditFault::Memory);
         };
-        let Edited { text, place, added } = edited;
-        let alloc = *self.text.allocator();
-        match Document::of_syntax(alloc, text, self.profile, syntax) {
-            Ok(document) => {
-                *self = document;
+        match reread(alloc, self.text.as_str(), profile, &mut self.syntax, &edited) {
+            Ok((index, scanned)) => {
+                self.index = index;
+                let Span { start, end } = edited.place;
+                let added = edited.new.as_str().len();
                 Ok(Splice {
-                    start: place.start,
-                    end: place.end,
+                    start,
+                    end,
                     added,
                     scanned,
                 })
             }
-            Err(fault) => Err(growth_refused(fault)),
+            Err(fault) => {
+                put_back(&mut self.text, &edited, kept.as_str());
+                Err(fault)
+            }
         }
-    }
-
-    /// The syntax of the text that an edit gives, and how many bytes are scanned for it: those of the lines that the edit
-    /// touches. The only error is out of memory.
-    fn reread(&self, edited: &Edited) -> Result<(Syntax, usize), AllocError>
-        requires { IsOfEdit self.now edited.now }
-        ensures { IfOk result (IsReread self.now edited.now) }
-    {
-        let text = edited.text.as_str();
-        let place = edited.place;
-        let whole = self.syntax.lines(place);
-        let end = whole.end - (place.end - place.start) + edited.added;
-        let limits = Limits {
-            depth: STANDARD_DEPTH,
-            profile: self.profile,
-        };
-        let alloc = *self.text.allocator();
-        let syntax = self
-            .syntax
-            .reread(alloc, whole, &text[whole.start..end], limits)?;
-        Ok((syntax, end - whole.start))
     }
 
     /// The document once more, read of its text. The only error is out of memory.
@@ -282,6 +283,38 @@ impl Document {
             Ok(document) => Ok(document),
             Err(fault) => Err(growth_refused(fault)),
         }
+    }
+}
+
+/// Makes of the syntax of a document that of the text after an edit, builds the index of it, and tells how many bytes are
+/// scanned: those of the lines that the edit touches. The only error is out of memory, and then the syntax is as before.
+fn reread(
+    alloc: Global,
+    text: &str,
+    profile: Profile,
+    syntax: &mut Syntax,
+    edited: &Edited,
+) -> Result<(Index, usize), EditFault>
+    requires { (old : ProfiledText) × (index : NodeInfos) × IsPatched old edited.now syntax.old index (text_in profile text.now) }
+    ensures { (old : ProfiledText) (index : NodeInfos) → IsPatched old edited.now syntax.old index (text_in profile text.now)
+        → IsTaken old edited.now index syntax.new result }
+{
+    let Span { start, end } = edited.place;
+    let whole = syntax.lines(edited.place);
+    let last = whole.end - (end - start) + edited.new.as_str().len();
+    let limits = Limits {
+        depth: STANDARD_DEPTH,
+        profile,
+    };
+    let Ok(read) = syntax.reread(alloc, whole, &text[whole.start..last], limits) else {
+        return Err(EditFault::Memory);
+    };
+    match Index::build(alloc, text, &read) {
+        Ok(index) => {
+            *syntax = read;
+            Ok((index, last - whole.start))
+        }
+        Err(fault) => Err(growth_refused(fault)),
     }
 }
 

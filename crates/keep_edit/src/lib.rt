@@ -4,6 +4,7 @@
 mod changes;
 mod document;
 mod edits;
+mod patch;
 
 pub use document::{Counts, Document, Entry};
 pub use edits::Edit;

@@ -12,6 +12,7 @@ use Rattle.keep_token.specs.declared.leaf.Profile.{Profile}
 use Rattle.keep_token.specs.Encoded.{encoded_key}
 use Rattle.keep_syntax.specs.declared.syntax.Syntax.{Syntax}
 use Rattle.keep_parts.specs.declared.info.Span.{Span}
+use Rattle.keep_syntax.specs.Numbered.{span}
 use Rattle.keep_syntax.specs.Tree as tree
 use Rattle.keep_syntax.specs.Tree.{Written, Document, Content, mark, key_leaves, further_leaves, text_of, text}
 use Rattle.keep_meaning.specs.Counts.{statements_in}
@@ -31,9 +32,8 @@ use Rattle.keep_law.proofs.Shared.{append_place, append_table_lawful, append_ele
 use Rattle.keep_splice.specs.Headers.{role_of, edit_of, key_texts, conflict_from, keys_text, header_text}
 use Rattle.keep_splice.specs.declared.header.Header.{Header}
 use Rattle.keep_splice.specs.declared.header.Header.TheVariants.{Table, Element}
-use Rattle.keep_splice.specs.Places.{place_at, IsDoneAt, IsSplicedAt}
+use Rattle.keep_splice.specs.Places.{place_at, IsDoneAt, IsPatchAt}
 use Rattle.keep_splice.specs.Reading.{limit, ProfiledText, Holds, IsTextOfTree}
-use Rattle.keep_splice.specs.declared.edited.Edited.{Edited}
 use Rattle.keep_splice.proofs.AnswerLaws.{tree_is, told_is}
 use Rattle.keep_splice.proofs.AppendLaws.{further_key}
 use Rattle.keep_splice.proofs.EditedLaws.{standing}
@@ -136,9 +136,12 @@ law_of d s Element keys read allowed = append_element_lawful d.profile limit s (
 pub some_keys : (keys : List (String Global)) → (length keys == 0) ≡ false → keys ≡ [] → ⊥
 some_keys keys e none = let k : false ≡ true = sym e ∙ ap (λ (l : List (String Global)). length l == 0) none in absurd cc
 
-pub spliced_as : (d : ProfiledText) (t given new : List ℕ) (result : Result Edited EditFault) → t ≡ d.text → new ≡ given → IsSplicedAt t (record { start = length t; end = length t }) new result → IsSplicedAt d.text (end_span d) given result
-spliced_as d t given new result e f h =
-    subst (λ (g : List ℕ). IsSplicedAt d.text (end_span d) g result) f (subst (λ (x : List ℕ). IsSplicedAt x (record { start = length x; end = length x }) new result) e h)
+-- what was made is written at the end
+pub patch_as : (d : ProfiledText) (at : ℕ) (t given : List ℕ) (new : String Global) → at ≡ length t → t ≡ d.text → string_bytes new ≡ given
+    → IsPatchAt (end_span d) given (Ok (record { place = record { start = at; end = at }; new = new }))
+patch_as d at t given new e whole is =
+    let there : at ≡ length d.text = e ∙ ap length whole in
+    (ap (λ (n : ℕ). span n n) there, is)
 
 pub given_as : (d : ProfiledText) (s : Document) (header : Header) (keys : List (String Global)) (t newline : List ℕ) → t ≡ d.text → newline ≡ (newline_of s).text
     → header_at_end t newline (header_text header (key_texts keys)) ≡ given_text d s header keys

@@ -1,4 +1,4 @@
--- What is answered of an edit, by the tree of the document: the number of a value, the text after the edit, or the refusal.
+-- What is answered of an edit, by the tree of the document: the number of a value, what the edit writes and where, or the refusal.
 use Rattle.std.specs.Prelude.{◌≡◌, ◌≤◌, ◌+◌, ℕ, true, false, List, length, Option, Some, None, Result, Ok, Err, MatchResult, IsCharBoundary, string_bytes}
 use Rattle.keep_syntax.specs.Tree.{Document}
 use Rattle.keep_parts.specs.declared.info.Span.{Span}
@@ -72,14 +72,18 @@ IsDone good None result = MatchResult result good (λ f. f ≡ Memory)
 abbrev pub refusal_in : ProfiledText → Document → Edit → Option EditFault
 refusal_in old s e = refusal old.profile limit s e
 
--- it was made at this place
+-- it is of this place
 abbrev pub IsMadeAt : Place → Edited → Type 0
-IsMadeAt p made = (made.place ≡ span p.start p.end) × (made.added ≡ length p.new)
+IsMadeAt p made = (made.place ≡ span p.start p.end) × (string_bytes made.new ≡ p.new)
 
--- It was made at the edit's place, and its text is what it is after the edit.
+-- the old text with the new bytes in place of those of the span
+abbrev pub text_after : List ℕ → Edited → List ℕ
+text_after old made = put old (record { start = made.place.start; end = made.place.end; new = string_bytes made.new })
+
+-- It is of the edit's place, and the text with it is what it is after the edit.
 abbrev pub IsMade : Document → Edit → ProfiledText → Edited → Type 0
-IsMade s e old made = IsMadeAt (place s e) made × IsTextAfter s e (text_in old.profile (string_bytes made.text)) old
+IsMade s e old made = IsMadeAt (place s e) made × IsTextAfter s e (text_in old.profile (text_after old.text made)) old
 
--- the changed text is made
+-- the edit is decided
 abbrev pub EditMade : Document → Edit → ProfiledText → Result Edited EditFault → Type 0
 EditMade s e old result = IsDone (IsMade s e old) (refusal_in old s e) result

@@ -10,7 +10,7 @@ ghost use Rattle.keep_splice.specs.Places.{IsOfEdit};
 ghost use Rattle.keep_splice.specs.Reading.{IsAccepted, IsTextOfTree};
 
 use crate::document::DocumentRef;
-use crate::edited::{Edited, edited_at};
+use crate::edited::Edited;
 use crate::header::{Header, check_header};
 use keep_law::EditFault;
 use keep_syntax::Span;
@@ -18,7 +18,7 @@ use keep_token::encode_key;
 use std::alloc::{AllocError, Global};
 
 impl<'a> DocumentRef<'a> {
-    /// The text with a header at its end, and where it was written.
+    /// A header at the end of the text: what is written, and where.
     ///
     /// # Errors
     ///
@@ -44,7 +44,10 @@ impl<'a> DocumentRef<'a> {
             return Err(EditFault::Memory);
         };
         let end = text.len();
-        edited_at(alloc, text, Span { start: end, end }, new.as_str())
+        Ok(Edited {
+            place: Span { start: end, end },
+            new,
+        })
     }
 }
 

@@ -21,7 +21,7 @@ mod keys;
 mod lines;
 
 use crate::document::DocumentRef;
-use crate::edited::{Edited, edited_at};
+use crate::edited::Edited;
 use crate::holder::Holder;
 use crate::insert::keys::push_keyed;
 use keep_law::EditFault;
@@ -55,7 +55,7 @@ pub(crate) struct Insertion {
 }
 
 impl<'a> DocumentRef<'a> {
-    /// The text with a value at a new path, and where it was written.
+    /// A value at a new path: what is written, and where.
     ///
     /// # Errors
     ///
@@ -71,7 +71,8 @@ impl<'a> DocumentRef<'a> {
         ensures of { IsAccepted self.now }
         ensures value { IsAcceptedValue Wide value.now }
     {
-        let old = self.text;
+        // The invariant of a document is known to the proof from where a field of it is looked at.
+        let _text = self.text;
         let given = value.as_str();
         let insertion = self.insertion(path, value)?;
         let Ok(mut new) = String::with_capacity(alloc, given.len()) else {
@@ -80,7 +81,10 @@ impl<'a> DocumentRef<'a> {
         let Ok(at) = self.push_insertion(alloc, &mut new, path, insertion, value) else {
             return Err(EditFault::Memory);
         };
-        edited_at(alloc, old, Span { start: at, end: at }, new.as_str())
+        Ok(Edited {
+            place: Span { start: at, end: at },
+            new,
+        })
     }
 
     /// Adds what is inserted, and returns the byte offset at which it is. The only error is out of memory.

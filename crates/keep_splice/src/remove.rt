@@ -39,7 +39,7 @@ pub(crate) struct Cut {
 }
 
 impl<'a> DocumentRef<'a> {
-    /// The text without the node of a path, and where it was cut.
+    /// The text without the node of a path: where it is cut, and what is put back there.
     ///
     /// # Errors
     ///
@@ -52,7 +52,7 @@ impl<'a> DocumentRef<'a> {
         let text = self.text;
         let piece = self.piece(path)?;
         let cut = self.cut(piece);
-        edited_at(alloc, text, cut.span, part_at(text, cut.kept))
+        edited_at(alloc, cut.span, part_at(text, cut.kept))
     }
 
     /// What goes with the node of a path, or why it can't be removed. It takes no memory.

@@ -10,7 +10,7 @@ ghost use Rattle.keep_splice.specs.Answers.{EditMade};
 ghost use Rattle.keep_splice.specs.Places.{IsDoneAt, IsOfEdit};
 
 use crate::document::DocumentRef;
-use crate::edited::{Edited, edited_at};
+use crate::edited::Edited;
 use keep_law::EditFault;
 use keep_rules::{Path, Step};
 use keep_syntax::Span;
@@ -18,7 +18,7 @@ use keep_token::encode_key;
 use std::alloc::Global;
 
 impl<'a> DocumentRef<'a> {
-    /// The text with another key in place of the last key of a path, and where it was written.
+    /// Another key in place of the last key of a path: what is written, and where.
     ///
     /// # Errors
     ///
@@ -28,12 +28,13 @@ impl<'a> DocumentRef<'a> {
         ensures of_edit { IfOk result (IsOfEdit self.now) }
         ensures of { IsAccepted self.now }
     {
-        let text = self.text;
+        // The invariant of a document is known to the proof from where a field of it is looked at.
+        let _text = self.text;
         let span = self.key_to_rename(path, key)?;
         let Ok(new) = encode_key(alloc, key) else {
             return Err(EditFault::Memory);
         };
-        edited_at(alloc, text, span, new.as_str())
+        Ok(Edited { place: span, new })
     }
 
     /// Where the key stands that a new one replaces. It takes no memory.

@@ -16,7 +16,7 @@ use keep_value::ValueText;
 use std::alloc::Global;
 
 impl<'a> DocumentRef<'a> {
-    /// The text with a value in place of the one that stands at a path, and where it was written.
+    /// A value in place of the one at a path: what is written, and where.
     ///
     /// # Errors
     ///
@@ -27,7 +27,8 @@ impl<'a> DocumentRef<'a> {
         ensures of { IsAccepted self.now }
         ensures value { IsAcceptedValue Wide value.now }
     {
-        let old = self.text;
+        // The invariant of a document is known to the proof from where a field of it is looked at.
+        let _text = self.text;
         let new = value.as_str();
         let number = self.found(path)?;
         let found = self.syntax.value(number);
@@ -37,6 +38,6 @@ impl<'a> DocumentRef<'a> {
         if !value.is_allowed_in(self.profile) {
             return Err(EditFault::Profile);
         }
-        edited_at(alloc, old, found.span, new)
+        edited_at(alloc, found.span, new)
     }
 }

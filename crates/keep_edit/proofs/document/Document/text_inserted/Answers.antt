@@ -9,4 +9,4 @@ returns-in_err-inserted-clause-told c = λ s read v value.
     rw (p.1, p.2) (untold_of s (insert c.args.path.now v) c.args.self.now _ (made_of s (insert c.args.path.now v) _ c.as_ref.ensures (λ k. c.in_err-inserted.ensures.made s k v value) read))
 
 pub returns-clause-told : goal.returns-clause-told
-returns-clause-told c = λ s read v value. told_of s (insert c.args.path.now v) c.args.self.now _ (made_of s (insert c.args.path.now v) _ c.as_ref.ensures (λ k. c.in_ok-inserted.ensures.made s k v value) read)
+returns-clause-told c = λ s read v value. told_of s (insert c.args.path.now v) c.args.self.now c.in_ok-inserted.inserted _ (made_of s (insert c.args.path.now v) _ c.as_ref.ensures (λ k. c.in_ok-inserted.ensures.made s k v value) read) c.text_after.ensures

@@ -9,4 +9,4 @@ returns-in_err-removed-clause-told c = λ s read.
     rw (p.1, p.2) (untold_of s (remove c.args.path.now) c.args.self.now _ (made_of s (remove c.args.path.now) _ c.as_ref.ensures (λ k. c.in_err-removed.ensures.made s k) read))
 
 pub returns-clause-told : goal.returns-clause-told
-returns-clause-told c = λ s read. told_of s (remove c.args.path.now) c.args.self.now _ (made_of s (remove c.args.path.now) _ c.as_ref.ensures (λ k. c.in_ok-removed.ensures.made s k) read)
+returns-clause-told c = λ s read. told_of s (remove c.args.path.now) c.args.self.now c.in_ok-removed.removed _ (made_of s (remove c.args.path.now) _ c.as_ref.ensures (λ k. c.in_ok-removed.ensures.made s k) read) c.text_after.ensures

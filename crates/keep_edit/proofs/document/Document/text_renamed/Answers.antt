@@ -9,4 +9,4 @@ returns-in_err-renamed-clause-told c = λ s read.
     rw (p.1, p.2) (untold_of s (rename c.args.path.now c.args.key.now) c.args.self.now _ (made_of s (rename c.args.path.now c.args.key.now) _ c.as_ref.ensures (λ k. c.in_err-renamed.ensures.made s k) read))
 
 pub returns-clause-told : goal.returns-clause-told
-returns-clause-told c = λ s read. told_of s (rename c.args.path.now c.args.key.now) c.args.self.now _ (made_of s (rename c.args.path.now c.args.key.now) _ c.as_ref.ensures (λ k. c.in_ok-renamed.ensures.made s k) read)
+returns-clause-told c = λ s read. told_of s (rename c.args.path.now c.args.key.now) c.args.self.now c.in_ok-renamed.renamed _ (made_of s (rename c.args.path.now c.args.key.now) _ c.as_ref.ensures (λ k. c.in_ok-renamed.ensures.made s k) read) c.text_after.ensures

@@ -9,4 +9,4 @@ returns-in_err-edited-clause-told c = λ s read v value.
     rw (p.1, p.2) (untold_of s (set c.args.path.now v) c.args.self.now _ (made_of s (set c.args.path.now v) _ c.as_ref.ensures (λ k. c.in_err-edited.ensures.made s k v value) read))
 
 pub returns-clause-told : goal.returns-clause-told
-returns-clause-told c = λ s read v value. told_of s (set c.args.path.now v) c.args.self.now _ (made_of s (set c.args.path.now v) _ c.as_ref.ensures (λ k. c.in_ok-edited.ensures.made s k v value) read)
+returns-clause-told c = λ s read v value. told_of s (set c.args.path.now v) c.args.self.now c.in_ok-edited.edited _ (made_of s (set c.args.path.now v) _ c.as_ref.ensures (λ k. c.in_ok-edited.ensures.made s k v value) read) c.text_after.ensures

@@ -1,10 +1,10 @@
-use Rattle.std.proofs.Common.{◌∙◌, ap, sym}
+use Rattle.std.proofs.Common.{◌∙◌, ap, refl, sym}
 use Rattle.std.specs.Option.{option_map}
 use Rattle.keep_law.specs.declared.fault.EditFault.TheVariants as fault
 use Rattle.keep_splice.specs.Headers.{edit_of, key_texts}
 use Rattle.keep_splice.proofs.AnswerLaws.{text_seen, seen}
-use Rattle.keep_splice.proofs.AppendDone.{index_of, refused_as, some_keys, done_there, law_of, end_span, given_text, given_as, spliced_as}
-use Rattle.keep_splice.proofs.EditedLaws.{refused_made, full_made, spliced_made, spliced_of_edit}
+use Rattle.keep_splice.proofs.AppendDone.{index_of, refused_as, some_keys, done_there, law_of, end_span, given_text, given_as, patch_as}
+use Rattle.keep_splice.proofs.EditedLaws.{refused_made, full_made, patch_made, of_edit}
 use Rattle.keep_splice.proofs.document.DocumentRef.appended.Goals as goal
 
 pub returns-in-Err-clause-made : goal.returns-in-Err-clause-made
@@ -27,9 +27,9 @@ returns-clause-made c = λ s read.
     let some = some_keys c.args.keys.now (sym c.is_empty.ensures ∙ c.if-is_empty.false) in
     let at = done_there d s c.args.header c.args.keys.now some read (c.in_default.ensures s (index_of d _ _ s (seen c.self.view_is c.self.invariant) read)) in
     let whole = text_seen c.self.view_is in
-    let is = spliced_as d _ (given_text d s c.args.header c.args.keys.now) c.as_str.result.now c.edited_at.result whole
-    (c.as_str.ensures.value ∙ c.in-Ok.ensures ∙ given_as d s c.args.header c.args.keys.now _ _ whole (c.newline.ensures s read)) c.edited_at.ensures in
-    spliced_made d s (edit_of c.args.header (key_texts c.args.keys.now)) (end_span d) (given_text d s c.args.header c.args.keys.now) read at (law_of d s c.args.header c.args.keys.now read at.0) c.edited_at.result is
+    let is = patch_as d _ _ (given_text d s c.args.header c.args.keys.now) c.in-Ok.new refl whole
+    (c.in-Ok.ensures ∙ given_as d s c.args.header c.args.keys.now _ _ whole (c.newline.ensures s read)) in
+    patch_made d s (edit_of c.args.header (key_texts c.args.keys.now)) (end_span d) (given_text d s c.args.header c.args.keys.now) read at (law_of d s c.args.header c.args.keys.now read at.0) _ is
 
 pub returns-clause-of_edit : goal.returns-clause-of_edit
 returns-clause-of_edit c =
@@ -40,6 +40,6 @@ returns-clause-of_edit c =
     let some = some_keys c.args.keys.now (sym c.is_empty.ensures ∙ c.if-is_empty.false) in
     let at = done_there d s c.args.header c.args.keys.now some read (c.in_default.ensures s (index_of d _ _ s h read)) in
     let whole = text_seen c.self.view_is in
-    let is = spliced_as d _ (given_text d s c.args.header c.args.keys.now) c.as_str.result.now c.edited_at.result whole
-    (c.as_str.ensures.value ∙ c.in-Ok.ensures ∙ given_as d s c.args.header c.args.keys.now _ _ whole (c.newline.ensures s read)) c.edited_at.ensures in
-    spliced_of_edit d s (edit_of c.args.header (key_texts c.args.keys.now)) (end_span d) (given_text d s c.args.header c.args.keys.now) read at (law_of d s c.args.header c.args.keys.now read at.0) c.edited_at.result is
+    let is = patch_as d _ _ (given_text d s c.args.header c.args.keys.now) c.in-Ok.new refl whole
+    (c.in-Ok.ensures ∙ given_as d s c.args.header c.args.keys.now _ _ whole (c.newline.ensures s read)) in
+    of_edit d s (edit_of c.args.header (key_texts c.args.keys.now)) (end_span d) (given_text d s c.args.header c.args.keys.now) read at (law_of d s c.args.header c.args.keys.now read at.0) _ is

@@ -1,9 +1,9 @@
 use Rattle.std.proofs.Common.{arith}
 use Rattle.keep_law.specs.Edits.{set}
-use Rattle.keep_splice.proofs.AnswerLaws.{text_seen, seen}
+use Rattle.keep_splice.proofs.AnswerLaws.{seen}
 use Rattle.keep_splice.proofs.FoundLaws.{value_inside}
 use Rattle.keep_splice.proofs.SetLaws.{setting, depth_low, deep_done, foreign_done, allowed_by, done_at, set_law}
-use Rattle.keep_splice.proofs.EditedLaws.{spliced_made, spliced_of_edit}
+use Rattle.keep_splice.proofs.EditedLaws.{patch_made, patch_of_edit}
 use Rattle.keep_splice.proofs.document.DocumentRef.edited.Goals as goal
 
 pub value-found-requires : goal.value-found-requires
@@ -30,20 +30,13 @@ returns-then-not-is_allowed_in-clause-made c = λ s read v value.
     let at = setting _ _ _ _ c.args.path.now s v _ _ _ h read (c.in_ok-number.ensures s read) c.value-found.ensures.stored value (c.depth.ensures v value) in
     foreign_done _ _ _ _ _ _ _ at _ c.if-found-depth-gt-STANDARD_DEPTH.false (allowed_by v c.self.view_is (c.is_allowed_in.ensures v value) c.if-not-is_allowed_in.true)
 
-pub edited_at-requires : goal.edited_at-requires
-edited_at-requires c =
-    let h = seen c.self.view_is c.self.invariant in
-    let (v, value) = c.as_str-new.ensures.accepted in
-    let at = setting _ _ _ _ c.args.path.now h.tree v _ _ _ h h.read (c.in_ok-number.ensures h.tree h.read) c.value-found.ensures.stored value (c.depth.ensures v value) in
-    rw (text_seen c.self.view_is) at.there.span
-
 pub returns-clause-made : goal.returns-clause-made
 returns-clause-made c = λ s read v value.
     let h = seen c.self.view_is c.self.invariant in
     let at = setting _ _ _ _ c.args.path.now s v _ _ _ h read (c.in_ok-number.ensures s read) c.value-found.ensures.stored value (c.depth.ensures v value) in
     let allowed = allowed_by v c.self.view_is (c.is_allowed_in.ensures v value) c.if-not-is_allowed_in.false in
-    let is = rw (text_seen c.self.view_is, c.as_str-new.ensures.text) at c.edited_at.ensures in
-    spliced_made c.args.self.now s (set c.args.path.now v) c.value-found.result.span c.args.value.now read
+    let is = rw c.as_str-new.ensures.text at c.edited_at.ensures in
+    patch_made c.args.self.now s (set c.args.path.now v) c.value-found.result.span c.args.value.now read
     (done_at _ _ _ _ _ _ _ at (record { fits = c.if-found-depth-gt-STANDARD_DEPTH.false; allowed = allowed }))
     (set_law _ _ _ _ _ _ _ at (record { fits = c.if-found-depth-gt-STANDARD_DEPTH.false; allowed = allowed })) c.edited_at.result is
 
@@ -53,7 +46,7 @@ returns-clause-of_edit c =
     let (v, value) = c.as_str-new.ensures.accepted in
     let at = setting _ _ _ _ c.args.path.now h.tree v _ _ _ h h.read (c.in_ok-number.ensures h.tree h.read) c.value-found.ensures.stored value (c.depth.ensures v value) in
     let allowed = allowed_by v c.self.view_is (c.is_allowed_in.ensures v value) c.if-not-is_allowed_in.false in
-    let is = rw (text_seen c.self.view_is, c.as_str-new.ensures.text) at c.edited_at.ensures in
-    spliced_of_edit c.args.self.now h.tree (set c.args.path.now v) c.value-found.result.span c.args.value.now h.read
+    let is = rw c.as_str-new.ensures.text at c.edited_at.ensures in
+    patch_of_edit c.args.self.now h.tree (set c.args.path.now v) c.value-found.result.span c.args.value.now h.read
     (done_at _ _ _ _ _ _ _ at (record { fits = c.if-found-depth-gt-STANDARD_DEPTH.false; allowed = allowed }))
     (set_law _ _ _ _ _ _ _ at (record { fits = c.if-found-depth-gt-STANDARD_DEPTH.false; allowed = allowed })) c.edited_at.result is

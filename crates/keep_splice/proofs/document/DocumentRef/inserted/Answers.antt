@@ -1,8 +1,8 @@
-use Rattle.std.proofs.Common.{[]}
+use Rattle.std.proofs.Common.{[], refl}
 use Rattle.std.proofs.lemmas.Result.{err_from_is_err_and}
 use Rattle.keep_law.specs.Edits.{insert}
-use Rattle.keep_splice.proofs.AnswerLaws.{text_seen, seen}
-use Rattle.keep_splice.proofs.EditedLaws.{refused_made, spliced_made, spliced_of_edit}
+use Rattle.keep_splice.proofs.AnswerLaws.{seen}
+use Rattle.keep_splice.proofs.EditedLaws.{refused_made, patch_made, of_edit}
 use Rattle.keep_splice.proofs.InsertedLaws.{insert_law, inserted_at}
 use Rattle.keep_splice.proofs.document.DocumentRef.inserted.Goals as goal
 
@@ -17,21 +17,12 @@ push_insertion-requires-clause-aimed c =
     let (v, value) = c.as_str-given.ensures.accepted in
     (h.tree, h.read, (v, value, c.in_ok-insertion.ensures.insertion h.tree h.read v value))
 
-pub edited_at-requires : goal.edited_at-requires
-edited_at-requires c =
-    let h = seen c.self.view_is c.self.invariant in
-    let (v, value) = c.as_str-given.ensures.accepted in
-    let at = inserted_at _ _ _ c.args.path.now h.tree v c.args.value.now _ h h.read value (c.in_ok-insertion.ensures.insertion h.tree h.read v value) c.insertion.ensures.utf8 c.in-Ok-push_insertion.at _ _ c.in-Ok.ensures.bytes
-    (c.in-Ok-push_insertion.ensures h.tree h.read v value (c.in_ok-insertion.ensures.insertion h.tree h.read v value)) in
-    rw (text_seen c.self.view_is) at.2
-
 pub returns-clause-made : goal.returns-clause-made
 returns-clause-made c = λ s read v value.
     let h = seen c.self.view_is c.self.invariant in
     let at = inserted_at _ _ _ c.args.path.now s v c.args.value.now _ h read value (c.in_ok-insertion.ensures.insertion s read v value) c.insertion.ensures.utf8 c.in-Ok-push_insertion.at _ _ c.in-Ok.ensures.bytes
     (c.in-Ok-push_insertion.ensures s read v value (c.in_ok-insertion.ensures.insertion s read v value)) in
-    let is = rw (text_seen c.self.view_is, c.as_str.ensures.value) at c.edited_at.ensures in
-    spliced_made c.args.self.now s (insert c.args.path.now v) _ _ read at (insert_law _ _ _ c.args.path.now s v c.args.value.now _ h read value (c.in_ok-insertion.ensures.insertion s read v value) c.insertion.ensures.utf8) c.edited_at.result is
+    patch_made c.args.self.now s (insert c.args.path.now v) _ _ read at (insert_law _ _ _ c.args.path.now s v c.args.value.now _ h read value (c.in_ok-insertion.ensures.insertion s read v value) c.insertion.ensures.utf8) _ (refl, refl)
 
 pub returns-clause-of_edit : goal.returns-clause-of_edit
 returns-clause-of_edit c =
@@ -39,5 +30,4 @@ returns-clause-of_edit c =
     let (v, value) = c.as_str-given.ensures.accepted in
     let at = inserted_at _ _ _ c.args.path.now h.tree v c.args.value.now _ h h.read value (c.in_ok-insertion.ensures.insertion h.tree h.read v value) c.insertion.ensures.utf8 c.in-Ok-push_insertion.at _ _ c.in-Ok.ensures.bytes
     (c.in-Ok-push_insertion.ensures h.tree h.read v value (c.in_ok-insertion.ensures.insertion h.tree h.read v value)) in
-    let is = rw (text_seen c.self.view_is, c.as_str.ensures.value) at c.edited_at.ensures in
-    spliced_of_edit c.args.self.now h.tree (insert c.args.path.now v) _ _ h.read at (insert_law _ _ _ c.args.path.now h.tree v c.args.value.now _ h h.read value (c.in_ok-insertion.ensures.insertion h.tree h.read v value) c.insertion.ensures.utf8) c.edited_at.result is
+    of_edit c.args.self.now h.tree (insert c.args.path.now v) _ _ h.read at (insert_law _ _ _ c.args.path.now h.tree v c.args.value.now _ h h.read value (c.in_ok-insertion.ensures.insertion h.tree h.read v value) c.insertion.ensures.utf8) _ (refl, refl)

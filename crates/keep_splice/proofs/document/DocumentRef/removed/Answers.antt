@@ -3,7 +3,7 @@ use Rattle.std.proofs.lemmas.Result.{err_from_is_err_and}
 use Rattle.keep_meaning.specs.KeyText.{text_at}
 use Rattle.keep_law.specs.Edits.{remove}
 use Rattle.keep_splice.proofs.AnswerLaws.{text_seen, seen}
-use Rattle.keep_splice.proofs.EditedLaws.{refused_made, spliced_made, spliced_of_edit}
+use Rattle.keep_splice.proofs.EditedLaws.{refused_made, patch_made, patch_of_edit}
 use Rattle.keep_splice.proofs.RemoveCut.{removal_law, removal_done}
 use Rattle.keep_splice.proofs.document.DocumentRef.removed.Goals as goal
 
@@ -23,18 +23,12 @@ part_at-requires c =
     let at = c.cut-cut.ensures c.args.path.now h.tree h.read (c.in_ok-piece.ensures h.tree h.read) in
     rw (text_seen c.self.view_is) at.2
 
-pub edited_at-requires : goal.edited_at-requires
-edited_at-requires c =
-    let h = seen c.self.view_is c.self.invariant in
-    let at = c.cut-cut.ensures c.args.path.now h.tree h.read (c.in_ok-piece.ensures h.tree h.read) in
-    rw (text_seen c.self.view_is) at.1
-
 pub returns-clause-made : goal.returns-clause-made
 returns-clause-made c = λ s read.
     let piece = c.in_ok-piece.ensures s read in
     let at = c.cut-cut.ensures c.args.path.now s read piece in
     let is = rw (c.part_at.ensures, text_seen c.self.view_is) at c.edited_at.ensures in
-    spliced_made c.args.self.now s (remove c.args.path.now) c.cut-cut.result.span (text_at c.args.self.now.text c.cut-cut.result.kept) read
+    patch_made c.args.self.now s (remove c.args.path.now) c.cut-cut.result.span (text_at c.args.self.now.text c.cut-cut.result.kept) read
     (removal_done c.args.self.now c.args.path.now s c.in_ok-piece.piece c.cut-cut.result piece at) (removal_law c.args.self.now c.args.path.now s read piece.0) c.edited_at.result is
 
 pub returns-clause-of_edit : goal.returns-clause-of_edit
@@ -43,5 +37,5 @@ returns-clause-of_edit c =
     let piece = c.in_ok-piece.ensures h.tree h.read in
     let at = c.cut-cut.ensures c.args.path.now h.tree h.read piece in
     let is = rw (c.part_at.ensures, text_seen c.self.view_is) at c.edited_at.ensures in
-    spliced_of_edit c.args.self.now h.tree (remove c.args.path.now) c.cut-cut.result.span (text_at c.args.self.now.text c.cut-cut.result.kept) h.read
+    patch_of_edit c.args.self.now h.tree (remove c.args.path.now) c.cut-cut.result.span (text_at c.args.self.now.text c.cut-cut.result.kept) h.read
     (removal_done c.args.self.now c.args.path.now h.tree c.in_ok-piece.piece c.cut-cut.result piece at) (removal_law c.args.self.now c.args.path.now h.tree h.read piece.0) c.edited_at.result is

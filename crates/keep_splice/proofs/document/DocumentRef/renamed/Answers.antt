@@ -1,8 +1,9 @@
+use Rattle.std.proofs.Common.{refl}
 use Rattle.std.proofs.lemmas.Result.{err_from_is_err_and}
 use Rattle.keep_token.specs.Encoded.{encoded_key}
 use Rattle.keep_law.specs.Edits.{rename}
-use Rattle.keep_splice.proofs.AnswerLaws.{text_seen, seen}
-use Rattle.keep_splice.proofs.EditedLaws.{refused_made, full_made, spliced_made, spliced_of_edit}
+use Rattle.keep_splice.proofs.AnswerLaws.{seen}
+use Rattle.keep_splice.proofs.EditedLaws.{refused_made, full_made, patch_made, of_edit}
 use Rattle.keep_splice.proofs.RenameLaws.{law_of}
 use Rattle.keep_splice.proofs.document.DocumentRef.renamed.Goals as goal
 
@@ -16,20 +17,13 @@ returns-in_default-clause-made c = λ s read.
     full_made c.args.self.now s (rename c.args.path.now c.args.key.now) c.in_ok-span.span (encoded_key c.args.key.now) read (c.in_ok-span.ensures s read)
     (law_of c.args.self.now s c.args.path.now c.args.key.now read c.utf8.key (c.in_ok-span.ensures s read).0)
 
-pub edited_at-requires : goal.edited_at-requires
-edited_at-requires c =
-    let h = seen c.self.view_is c.self.invariant in
-    rw (text_seen c.self.view_is) (c.in_ok-span.ensures h.tree h.read).2
-
 pub returns-clause-made : goal.returns-clause-made
 returns-clause-made c = λ s read.
     let at = c.in_ok-span.ensures s read in
-    let is = rw (text_seen c.self.view_is, c.as_str.ensures.value, c.in-Ok.ensures.text) at c.edited_at.ensures in
-    spliced_made c.args.self.now s (rename c.args.path.now c.args.key.now) c.in_ok-span.span (encoded_key c.args.key.now) read at (law_of c.args.self.now s c.args.path.now c.args.key.now read c.utf8.key at.0) c.edited_at.result is
+    patch_made c.args.self.now s (rename c.args.path.now c.args.key.now) c.in_ok-span.span (encoded_key c.args.key.now) read at (law_of c.args.self.now s c.args.path.now c.args.key.now read c.utf8.key at.0) _ (refl, c.in-Ok.ensures.text)
 
 pub returns-clause-of_edit : goal.returns-clause-of_edit
 returns-clause-of_edit c =
     let h = seen c.self.view_is c.self.invariant in
     let at = c.in_ok-span.ensures h.tree h.read in
-    let is = rw (text_seen c.self.view_is, c.as_str.ensures.value, c.in-Ok.ensures.text) at c.edited_at.ensures in
-    spliced_of_edit c.args.self.now h.tree (rename c.args.path.now c.args.key.now) c.in_ok-span.span (encoded_key c.args.key.now) h.read at (law_of c.args.self.now h.tree c.args.path.now c.args.key.now h.read c.utf8.key at.0) c.edited_at.result is
+    of_edit c.args.self.now h.tree (rename c.args.path.now c.args.key.now) c.in_ok-span.span (encoded_key c.args.key.now) h.read at (law_of c.args.self.now h.tree c.args.path.now c.args.key.now h.read c.utf8.key at.0) _ (refl, c.in-Ok.ensures.text)

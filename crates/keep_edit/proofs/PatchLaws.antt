@@ -1,0 +1,85 @@
+-- An edit that is written into a text: where its bytes begin and end there, and that the old bytes bring back the old text.
+use Rattle.std.proofs.Common.{◌≡◌, ℕ, ◌+◌, ◌-◌, ◌≤◌, List, ◌++◌, length, take, drop, refl, sym, ap, ap₂, subst, ◌∙◌, arith, append_assoc, IsUtf8, IsCharBoundary}
+use Rattle.std.specs.Prelude.{String, string_bytes, string_len, slice_range}
+use Rattle.std.specs.Global.{Global}
+use Rattle.std.specs.List.{replace_range}
+use Rattle.std.proofs.lemmas.List.{length-append, length-take-le, length-drop, take-append-drop, drop-drop}
+use Rattle.std.proofs.lemmas.Str.{IsUtf8-append, IsUtf8-drop, IsUtf8-string_bytes, IsCharBoundary-at_seam}
+use Rattle.std.proofs.Math.Seq.{take-append_seam, drop-append_seam}
+use Rattle.keep_meaning.specs.KeyText.{text_at}
+use Rattle.keep_splice.specs.Answers.{IsSpanOf, text_after}
+use Rattle.keep_splice.specs.declared.edited.Edited.{Edited}
+use Rattle.keep_edit.specs.Patches.{CanPutBack}
+
+-- ---- of any bytes
+
+module _ (before new : List ℕ) (start end : ℕ) (ordered : start ≤ end) (within : end ≤ length before) where
+  front : List ℕ
+  front = take start before
+
+  front_len : length front ≡ start
+  unfolding front
+  front_len = length-take-le start before (omega arith)
+
+  pub part_len : length (slice_range before start end) ≡ end - start
+  part_len =
+      let all : length (drop start before) ≡ length before - start = length-drop start before in
+      length-take-le (end - start) (drop start before) (omega (arith, all))
+
+  pub put_len : length (take start before ++ (new ++ drop end before)) ≡ start + (length new + (length before - end))
+  unfolding front front_len
+  put_len =
+      length-append front (new ++ drop end before)
+      ∙ ap₂ (λ (a b : ℕ). a + b) front_len (length-append new (drop end before) ∙ ap (λ (n : ℕ). length new + n) (length-drop end before))
+
+  -- the part with what stands before and behind it
+  whole : (take start before ++ slice_range before start end) ++ drop end before ≡ before
+  whole =
+      let behind : drop (end - start) (drop start before) ≡ drop end before =
+      drop-drop (end - start) start before ∙ ap (λ (n : ℕ). drop n before) (let sum : start + (end - start) ≡ end = omega arith in sum) in
+      append_assoc (take start before) (slice_range before start end) (drop end before)
+      ∙ ap (λ (x : List ℕ). take start before ++ (slice_range before start end ++ x)) (sym behind)
+      ∙ ap (λ (x : List ℕ). take start before ++ x) (take-append-drop (end - start) (drop start before))
+      ∙ take-append-drop start before
+
+  pub back : replace_range (take start before ++ (new ++ drop end before)) start (start + length new) (slice_range before start end) ≡ before
+  unfolding front front_len
+  back =
+      let first : take start (take start before ++ (new ++ drop end before)) ≡ take start before =
+      ap (λ (n : ℕ). take n (take start before ++ (new ++ drop end before))) (sym front_len) ∙ take-append_seam front (new ++ drop end before) in
+      let size : length (front ++ new) ≡ start + length new = length-append front new ∙ ap (λ (n : ℕ). n + length new) front_len in
+      let last : drop (start + length new) (take start before ++ (new ++ drop end before)) ≡ drop end before =
+      ap₂ (λ (n : ℕ) (x : List ℕ). drop n x) (sym size) (sym (append_assoc front new (drop end before))) ∙ drop-append_seam (front ++ new) (drop end before) in
+      ap₂ (λ (a b : List ℕ). (a ++ slice_range before start end) ++ b) first last ∙ whole
+
+  module _ (new_utf8 : IsUtf8 new) (utf8 : IsUtf8 before) (ends : IsCharBoundary before end) where
+    pub start_cut : IsCharBoundary (take start before ++ (new ++ drop end before)) start
+    unfolding front front_len
+    start_cut =
+        subst (λ (n : ℕ). IsCharBoundary (take start before ++ (new ++ drop end before)) n) front_len
+        (IsCharBoundary-at_seam (take start before ++ (new ++ drop end before)) front (new ++ drop end before) refl (IsUtf8-append new (drop end before) new_utf8 (IsUtf8-drop before end utf8 ends)))
+
+    pub end_cut : IsCharBoundary (take start before ++ (new ++ drop end before)) (start + length new)
+    unfolding front front_len
+    end_cut =
+        let size : length (front ++ new) ≡ start + length new = length-append front new ∙ ap (λ (n : ℕ). n + length new) front_len in
+        subst (λ (n : ℕ). IsCharBoundary (take start before ++ (new ++ drop end before)) n) size
+        (IsCharBoundary-at_seam (take start before ++ (new ++ drop end before)) (front ++ new) (drop end before) (sym (append_assoc front new (drop end before))) (IsUtf8-drop before end utf8 ends))
+
+-- ---- of an edit
+
+module _ (made : Edited) (before kept : List ℕ) (text : String Global) (can : CanPutBack made before kept text) where
+  pub starts_there : IsCharBoundary (string_bytes text) made.place.start
+  starts_there =
+      subst (λ (x : List ℕ). IsCharBoundary x made.place.start) (sym can.put)
+      (start_cut before (string_bytes made.new) made.place.start made.place.end can.inside.ordered can.inside.within (IsUtf8-string_bytes made.new) can.utf8 can.inside.ends)
+
+  pub ends_there : IsCharBoundary (string_bytes text) (made.place.start + length (string_bytes made.new))
+  ends_there =
+      subst (λ (x : List ℕ). IsCharBoundary x (made.place.start + length (string_bytes made.new))) (sym can.put)
+      (end_cut before (string_bytes made.new) made.place.start made.place.end can.inside.ordered can.inside.within (IsUtf8-string_bytes made.new) can.utf8 can.inside.ends)
+
+  pub is_back : (new : List ℕ) → new ≡ replace_range (string_bytes text) made.place.start (made.place.start + length (string_bytes made.new)) kept → new ≡ before
+  is_back new is =
+      is ∙ ap₂ (λ (x y : List ℕ). replace_range x made.place.start (made.place.start + length (string_bytes made.new)) y) can.put can.kept
+      ∙ back before (string_bytes made.new) made.place.start made.place.end can.inside.ordered can.inside.within
