@@ -1,15 +1,23 @@
 -- An edit that is written into a text: where its bytes begin and end there, and that the old bytes bring back the old text.
 use Rattle.std.proofs.Common.{◌≡◌, ℕ, ◌+◌, ◌-◌, ◌≤◌, List, ◌++◌, length, take, drop, refl, sym, ap, ap₂, subst, ◌∙◌, arith, append_assoc, IsUtf8, IsCharBoundary}
-use Rattle.std.specs.Prelude.{String, string_bytes, string_len, slice_range}
+use Rattle.std.specs.Prelude.{String, string_bytes, slice_range}
 use Rattle.std.specs.Global.{Global}
 use Rattle.std.specs.List.{replace_range}
 use Rattle.std.proofs.lemmas.List.{length-append, length-take-le, length-drop, take-append-drop, drop-drop}
 use Rattle.std.proofs.lemmas.Str.{IsUtf8-append, IsUtf8-drop, IsUtf8-string_bytes, IsCharBoundary-at_seam}
 use Rattle.std.proofs.Math.Seq.{take-append_seam, drop-append_seam}
-use Rattle.keep_meaning.specs.KeyText.{text_at}
-use Rattle.keep_splice.specs.Answers.{IsSpanOf, text_after}
+use Rattle.keep_token.specs.declared.leaf.Profile.{Profile}
+use Rattle.keep_parts.specs.declared.info.Span.{Span}
+use Rattle.keep_syntax.specs.Numbered.{span}
+use Rattle.keep_syntax.specs.Tree.{Document}
+use Rattle.keep_law.specs.declared.splice.Splice.{Splice}
+use Rattle.keep_law.specs.Changed.{Place}
+use Rattle.keep_law.specs.TouchedLines.{scanned}
+use Rattle.keep_splice.specs.Answers.{IsMadeAt, splice_of, text_after}
 use Rattle.keep_splice.specs.declared.edited.Edited.{Edited}
 use Rattle.keep_edit.specs.Patches.{CanPutBack}
+use Rattle.keep_edit.specs.Places.{after}
+use Rattle.keep_edit.specs.Reading.{ProfiledText, text_in}
 
 -- ---- of any bytes
 
@@ -81,5 +89,20 @@ module _ (made : Edited) (before kept : List ℕ) (text : String Global) (can : 
 
   pub is_back : (new : List ℕ) → new ≡ replace_range (string_bytes text) made.place.start (made.place.start + length (string_bytes made.new)) kept → new ≡ before
   is_back new is =
-      is ∙ ap₂ (λ (x y : List ℕ). replace_range x made.place.start (made.place.start + length (string_bytes made.new)) y) can.put can.kept
+      is ∙ ap₂ (λ (x y : List ℕ). replace_range x made.place.start (made.place.start + length (string_bytes made.new)) y) can.put can.was
       ∙ back before (string_bytes made.new) made.place.start made.place.end can.inside.ordered can.inside.within
+
+-- ---- of a document
+
+-- by the bytes that the document's text is seen as
+pub patched_is : (old : ProfiledText) (made : Edited) (profile : Profile) (bytes new : List ℕ) → text_in profile bytes ≡ old → new ≡ text_after bytes made → text_in profile new ≡ after old made
+patched_is old made profile bytes new same put = ap (λ (b : List ℕ). text_in profile b) put ∙ ap (λ (d : ProfiledText). after d made) same
+
+splice_with : Span → ℕ → ℕ → Splice
+splice_with place added n = record { start = place.start; end = place.end; added = added; scanned = n }
+
+pub splice_is : (s : Document) (p : Place) (made : Edited) (added n : ℕ) → IsMadeAt p made → added ≡ length (string_bytes made.new) → n ≡ scanned s p
+    → ◌≡◌ {A = Splice} (record { start = made.place.start; end = made.place.end; added = added; scanned = n }) (splice_of s p)
+unfolding splice_with
+splice_is s p made added n at size count =
+    ap₂ (λ (x : Span) (a : ℕ). splice_with x a n) at.0 (size ∙ ap length at.1) ∙ ap (λ (m : ℕ). splice_with (span p.start p.end) (length p.new) m) count

@@ -2,7 +2,7 @@
 --
 -- The law of the touched lines gives a document m of the new lines that can replace the touched ones (`can`). With these replaced
 -- the document is the one after the edit, so the syntax that is reread for it is that of the new text (`reread_is`).
-use Rattle.std.proofs.Common.{◌≡◌, ◌∙◌, ℕ, ◌+◌, ◌-◌, ◌≤◌, ◌⊎◌, List, length, refl, sym, ap, subst, arith, IsUtf8}
+use Rattle.std.proofs.Common.{◌≡◌, ◌∙◌, ℕ, ◌+◌, ◌-◌, ◌≤◌, ◌⊎◌, List, length, sym, ap, subst, arith, IsUtf8}
 use Rattle.std.specs.Prelude.{slice_range, string_bytes}
 use Rattle.keep_token.specs.declared.leaf.Profile.{Profile}
 use Rattle.keep_parts.specs.declared.info.Span.{Span}
@@ -11,8 +11,8 @@ use Rattle.keep_syntax.specs.Tree.{Document, text}
 use Rattle.keep_syntax.specs.Grammar.{Reads}
 use Rattle.keep_syntax.specs.Numbered.{span}
 use Rattle.keep_syntax.specs.WholeLines.{begin, empty_line, touched, replaced}
-use Rattle.keep_syntax.specs.Contract.{CanReplace, IsSpanIn, IsSyntaxOf, IsTextOf}
-use Rattle.keep_syntax.proofs.Shared.{next_high}
+use Rattle.keep_syntax.specs.Contract.{CanReplace, IsSpanIn, IsSyntaxOf, IsTextOf, put_at}
+use Rattle.keep_syntax.proofs.Shared.{next_high, replaced_text}
 use Rattle.keep_law.specs.Changed.{Place, place_of}
 use Rattle.keep_law.specs.TouchedLines.{scanned, touched_by, touched_in_new, TouchesLines}
 use Rattle.keep_law.proofs.Shared.{touched_lines_are_lines, IsCut, touched_in_new_cut}
@@ -20,8 +20,10 @@ use Rattle.keep_nodes.specs.Facts.{NodeInfos}
 use Rattle.keep_splice.specs.Answers.{IsMadeAt, text_after}
 use Rattle.keep_splice.specs.declared.edited.Edited.{Edited}
 use Rattle.keep_splice.proofs.Shared.{one_tree}
-use Rattle.keep_edit.specs.Places.{IsOfEdit, IsReread}
-use Rattle.keep_edit.specs.Reading.{limit, ProfiledText, text_in, Holds, IsSyntaxIn, IsTextOfTree}
+use Rattle.keep_rules.specs.ReadDocuments.{WasRead, IsIndexOf}
+use Rattle.keep_edit.specs.Places.{after, IsOfEdit, IsReread}
+use Rattle.keep_edit.specs.Reading.{limit, ProfiledText, Holds, IsSyntaxIn, IsTextOfTree}
+use Rattle.keep_edit.proofs.ReadLaws.{holds, read_once}
 
 -- the end of the new lines
 abbrev pub end_by : Span → Edited → ℕ
@@ -127,3 +129,22 @@ module _ (old : ProfiledText) (made : Edited) (syntax : Syntax) (index : NodeInf
         count u p read m =
             let first : whole.start ≡ (touched_by u p).start = ap (λ (x : Span). x.start) (whole_at u p read m) in
             ap (λ (n : ℕ). n - whole.start) (end_at u p read m) ∙ ap (λ (n : ℕ). (touched_in_new u p).end - n) first
+
+    -- by what the call says that gave it, of the new lines as they stand in the new text
+    pub is_reread : (profile : Profile) (lines : List ℕ) (s : Syntax) → profile ≡ old.profile → lines ≡ slice_range (text_after old.text made) whole.start (end_by whole made)
+        → ((d m : Document) → IsSyntaxOf syntax d → CanReplace profile limit d whole lines m → IsSyntaxOf s (replaced d whole m))
+        → ((d m : Document) → IsSyntaxOf syntax d → CanReplace profile limit d whole lines m → IsTextOf s (put_at whole lines (text d)))
+        → IsReread old made (s, end_by whole made - whole.start)
+    is_reread profile lines s e f reads texts =
+        let m : Document = touches.lines in
+        let k : CanReplace profile limit o.tree whole lines m = can_as profile lines e f in
+        let is : IsSyntaxOf syntax o.tree = is_syntax o.tree o.read in
+        reread_is s (reads o.tree m is k) (subst (λ (t : List ℕ). IsTextOf s t) (replaced_text k) (texts o.tree m is k))
+
+  -- the index that is built of it
+  pub holds_after : (s : Syntax) (fresh : NodeInfos) → IsSyntaxIn (after old made) s → ((d : Document) → WasRead (text_after old.text made) s d → IsIndexOf d fresh) → Holds (after old made) s fresh
+  holds_after s fresh is built = holds old.profile (text_after old.text made) s fresh o.new.utf8 is built
+
+  -- it is the syntax of a document that obeys the rules
+  pub read_after : (s : Syntax) → IsSyntaxIn (after old made) s → WasRead (text_after old.text made) s o.changed.to
+  read_after s is = read_once is o.new

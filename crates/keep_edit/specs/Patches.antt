@@ -10,7 +10,7 @@ use Rattle.keep_splice.specs.declared.edited.Edited.{Edited}
 pub record CanPutBack (made : Edited) (before kept : List ℕ) (text : String Global) : Type 0 where
   pub utf8 : IsUtf8 before
   pub inside : IsSpanOf before made.place
-  pub kept : kept ≡ text_at before made.place
+  pub was : kept ≡ text_at before made.place
   pub put : string_bytes text ≡ text_after before made
   pub room : string_len text + length kept ≤ string_capacity text
 

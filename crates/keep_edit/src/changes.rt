@@ -251,7 +251,13 @@ impl Document {
         let Ok(kept) = put_in(&mut self.text, &edited) else {
             return Err(EditFault::Memory);
         };
-        match reread(alloc, self.text.as_str(), profile, &mut self.syntax, &edited) {
+        match reread(
+            alloc,
+            self.text.as_str(),
+            profile,
+            &mut self.syntax,
+            &edited,
+        ) {
             Ok((index, scanned)) => {
                 self.index = index;
                 let Span { start, end } = edited.place;
