@@ -5,3 +5,6 @@ pub mod Left
 pub mod Flat
 pub mod Lifted
 pub mod Rereading
+pub mod Exchanging
+pub mod Shifting
+pub mod InPlace

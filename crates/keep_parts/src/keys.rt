@@ -3,6 +3,8 @@ ghost use Rattle.std.specs.Prelude.{◌≡◌, ◌<◌, None, ◌++◌, ◌∷�
 ghost use Rattle.keep_parts.specs.Fits.{FitsKey};
 ghost use Rattle.keep_parts.specs.Flat as spec;
 
+mod shifting;
+
 use crate::info::{KeyPart, Span};
 use keep_token::Leaf;
 use std::alloc::{AllocError, Global};
@@ -18,8 +20,8 @@ pub struct NarrowKeyPart {
 /// The key parts of a text, in text order: those before the first whose numbers do not fit into 8 bytes, then the others.
 #[derive(Debug, Drop)]
 pub struct KeyParts {
-    narrow: Vec<NarrowKeyPart>,
-    wide: Vec<KeyPart>,
+    pub(super) narrow: Vec<NarrowKeyPart>,
+    pub(super) wide: Vec<KeyPart>,
 }
 
 /// The key part in 8 bytes, if its numbers fit.

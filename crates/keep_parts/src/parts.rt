@@ -5,6 +5,8 @@ ghost use Rattle.keep_parts.specs.Lifted.{moved};
 ghost use Rattle.keep_parts.specs.Rereading as rereading;
 ghost use Rattle.keep_parts.specs.Flat as spec;
 
+pub mod exchanging;
+
 use crate::info::{KeyPart, Span, Start, Statement, ValueInfo};
 use crate::keys::KeyParts;
 use crate::moves::Counts;

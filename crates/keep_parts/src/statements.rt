@@ -3,6 +3,8 @@ ghost use Rattle.std.specs.Prelude.{◌≡◌, ◌<◌, None, ◌++◌, ◌∷�
 ghost use Rattle.keep_parts.specs.Fits.{FitsStatement};
 ghost use Rattle.keep_parts.specs.Flat as spec;
 
+mod shifting;
+
 use crate::info::{Span, Statement, StatementKind};
 use crate::parts::if_there;
 use std::alloc::{AllocError, Global};
@@ -25,8 +27,8 @@ pub struct NarrowStatement {
 /// The statements of a text, in text order: those before the first whose numbers do not fit into 24 bytes, then the others.
 #[derive(Debug, Drop)]
 pub struct Statements {
-    narrow: Vec<NarrowStatement>,
-    wide: Vec<Statement>,
+    pub(super) narrow: Vec<NarrowStatement>,
+    pub(super) wide: Vec<Statement>,
 }
 
 /// The statement in 24 bytes, if its numbers fit.

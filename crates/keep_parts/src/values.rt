@@ -3,6 +3,8 @@ ghost use Rattle.std.specs.Prelude.{◌≡◌, ◌<◌, ◌+◌, ◌++◌, ◌�
 ghost use Rattle.keep_parts.specs.Fits.{FitsValue, IsNear};
 ghost use Rattle.keep_parts.specs.Flat as spec;
 
+mod shifting;
+
 use crate::info::{Owner, Span, ValueInfo};
 use crate::parts::{apart, if_there};
 use keep_token::Leaf;
@@ -40,8 +42,8 @@ pub struct NarrowValue {
 /// The values of a text, in text order: those before the first that does not fit into 40 bytes, then the others.
 #[derive(Debug, Drop)]
 pub struct Values {
-    narrow: Vec<NarrowValue>,
-    wide: Vec<ValueInfo>,
+    pub(super) narrow: Vec<NarrowValue>,
+    pub(super) wide: Vec<ValueInfo>,
 }
 
 /// What a value stands in, and the number of that.

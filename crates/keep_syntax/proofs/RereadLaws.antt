@@ -37,7 +37,7 @@ use Rattle.keep_syntax.proofs.CountingLaws.{Before, From, places_found, all_fron
 
 -- ---- moving from nothing to nothing
 
-stays : (n : ℕ) → moved 0 0 n ≡ n
+pub stays : (n : ℕ) → moved 0 0 n ≡ n
 stays n = omega arith
 
 stays_there : (o : Option ℕ) → moved_there 0 0 o ≡ o
@@ -52,17 +52,17 @@ stays_owner (owner.Line n) = ap owner.Line (stays n)
 stays_owner (owner.Inline n) = ap owner.Inline (stays n)
 stays_owner (owner.Item n) = ap owner.Item (stays n)
 
-stays_key : (k : KeyPart) → moved_key origin origin k ≡ k
+pub stays_key : (k : KeyPart) → moved_key origin origin k ≡ k
 stays_key k = ap (λ (x : Span). record k { span = x }) (stays_span k.span)
 
-stays_statement : (s : Statement) → moved_statement origin origin s ≡ s
+pub stays_statement : (s : Statement) → moved_statement origin origin s ≡ s
 stays_statement s =
     ap (λ (x : Span). record (moved_statement origin origin s) { span = x }) (stays_span s.span)
     ∙ ap (λ (x : Span). record s { line = x; first_key = moved 0 0 s.first_key; value = moved_there 0 0 s.value }) (stays_span s.line)
     ∙ ap (λ (n : ℕ). record s { first_key = n; value = moved_there 0 0 s.value }) (stays s.first_key)
     ∙ ap (λ (o : Option ℕ). record s { value = o }) (stays_there s.value)
 
-stays_value : (v : ValueInfo) → moved_value origin origin v ≡ v
+pub stays_value : (v : ValueInfo) → moved_value origin origin v ≡ v
 stays_value v =
     let first = moved 0 0 v.first_key in
     let before = moved_there 0 0 v.comma_before in
@@ -74,7 +74,7 @@ stays_value v =
     ∙ ap (λ (o : Option ℕ). record v { comma_before = o; comma_after = after }) (stays_there v.comma_before)
     ∙ ap (λ (o : Option ℕ). record v { comma_after = o }) (stays_there v.comma_after)
 
-map_same : {A : Type 0} (f : A → A) → ((x : A) → f x ≡ x) → (xs : List A) → map f xs ≡ xs
+pub map_same : {A : Type 0} (f : A → A) → ((x : A) → f x ≡ x) → (xs : List A) → map f xs ≡ xs
 map_same f h [] = refl
 map_same f h (x ∷ xs) = let e = h x in let k = map_same f h xs in cc
 

@@ -163,7 +163,7 @@ pub fn append_moved(
 }
 
 /// What comes before everything.
-fn nothing() -> Counts
+pub fn nothing() -> Counts
     ensures { result ≡ spec.nothing }
 {
     Counts {

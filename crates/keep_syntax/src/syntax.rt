@@ -9,6 +9,8 @@ ghost use Rattle.keep_syntax.specs.Nesting.{IsWithin};
 ghost use Rattle.keep_syntax.specs.WholeLines.{touched, replaced};
 ghost use Rattle.keep_syntax.specs.Contract as spec;
 
+mod rereading;
+
 use crate::fault::ReadFault;
 use crate::info::Limits;
 use crate::reread::{replaced_parts, replaced_starts};
@@ -18,6 +20,7 @@ use keep_parts::{
     KeyPart, Parts, Span, Starts, Statement, ValueInfo, mark_count, moved, statement_at,
     statement_count,
 };
+pub use rereading::Replaced;
 use std::alloc::{AllocError, Global};
 
 /// What was read of a document: its tokens, statements, key parts and values, each in text order.

@@ -1,0 +1,11 @@
+use Rattle.std.proofs.Common.{◌++◌, length, ap, ◌∙◌, arith, append_assoc}
+use Rattle.std.proofs.lemmas.List.{length-append}
+use Rattle.keep_parts.proofs.ExchangeLaws.{first_to_end}
+use Rattle.keep_parts.proofs.exchange.swap_runs.Goals as goal
+
+pub returns : goal.returns
+returns g c = λ front mid back new is a b before.
+    c.to_end.ensures (front ++ new) mid back
+    (c.to_start.ensures (front ++ (mid ++ back)) new is (omega (arith, before, length-append front (mid ++ back), length-append mid back)) ∙ first_to_end front mid back new c.args.from a)
+    (omega (arith, a, before, length-append front new, ap length is, length-append (front ++ (mid ++ back)) new, length-append front (mid ++ back), length-append mid back)) b
+    ∙ append_assoc front new (back ++ mid)
