@@ -12,7 +12,8 @@ use Rattle.keep_syntax.specs.Grammar.{Reads}
 use Rattle.keep_syntax.specs.Numbered.{span}
 use Rattle.keep_syntax.specs.WholeLines.{begin, empty_line, touched, replaced}
 use Rattle.keep_syntax.specs.Contract.{CanReplace, IsSpanIn, IsSyntaxOf, IsTextOf, put_at}
-use Rattle.keep_syntax.proofs.Shared.{next_high, replaced_text}
+use Rattle.keep_syntax.proofs.Shared.{next_high, replaced_text, same_syntax, same_text}
+use Rattle.keep_syntax.specs.Undoing.{IsSame}
 use Rattle.keep_law.specs.Changed.{Place, place_of}
 use Rattle.keep_law.specs.TouchedLines.{scanned, touched_by, touched_in_new, TouchesLines}
 use Rattle.keep_law.proofs.Shared.{touched_lines_are_lines, IsCut, touched_in_new_cut}
@@ -148,3 +149,7 @@ module _ (old : ProfiledText) (made : Edited) (syntax : Syntax) (index : NodeInf
   -- it is the syntax of a document that obeys the rules
   pub read_after : (s : Syntax) → IsSyntaxIn (after old made) s → WasRead (text_after old.text made) s o.changed.to
   read_after s is = read_once is o.new
+
+-- what stores the same is of the same text
+pub holds_same : (t : ProfiledText) (a b : Syntax) (index : NodeInfos) → IsSame a b → Holds t b index → Holds t a index
+holds_same t a b index same h = record { tree = h.tree; read = h.read; is = same_syntax same h.is; of_text = same_text same h.of_text; told = h.told; nested = h.nested }

@@ -293,7 +293,7 @@ impl Document {
 }
 
 /// Makes of the syntax of a document that of the text after an edit, builds the index of it, and tells how many bytes are
-/// scanned: those of the lines that the edit touches. The only error is out of memory, and then the syntax is as before.
+/// scanned: those of the lines that the edit touches. The only error is out of memory, and then the syntax is restored.
 fn reread(
     alloc: Global,
     text: &str,
@@ -312,15 +312,15 @@ fn reread(
         depth: STANDARD_DEPTH,
         profile,
     };
-    let Ok(read) = syntax.reread(alloc, whole, &text[whole.start..last], limits) else {
+    let Ok(replaced) = syntax.replace(whole, &text[whole.start..last], limits) else {
         return Err(EditFault::Memory);
     };
-    match Index::build(alloc, text, &read) {
-        Ok(index) => {
-            *syntax = read;
-            Ok((index, last - whole.start))
+    match Index::build(alloc, text, syntax) {
+        Ok(index) => Ok((index, last - whole.start)),
+        Err(fault) => {
+            syntax.restore(replaced);
+            Err(growth_refused(fault))
         }
-        Err(fault) => Err(growth_refused(fault)),
     }
 }
 

@@ -18,3 +18,4 @@ pub use Rattle.keep_syntax.proofs.SplitLaws.{bytes_of, text_length}
 pub use Rattle.keep_syntax.proofs.ValueLaws.{value_first_solid}
 pub use Rattle.keep_syntax.proofs.WholeLaws.{one_value}
 pub use Rattle.keep_syntax.proofs.WiderLaws.{reads_value_wider}
+pub use Rattle.keep_syntax.proofs.SameLaws.{same_syntax, same_text}

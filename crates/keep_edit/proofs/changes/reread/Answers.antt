@@ -1,6 +1,6 @@
 use Rattle.std.proofs.Common.{ap, arith, length, refl}
 use Rattle.keep_splice.proofs.Shared.{text_seen, profile_seen}
-use Rattle.keep_edit.proofs.TakeLaws.{touches, is_syntax, in_text, high, cut, can_as, is_reread, holds_after, read_after}
+use Rattle.keep_edit.proofs.TakeLaws.{touches, is_syntax, in_text, high, cut, can_as, is_reread, holds_after, read_after, holds_same}
 use Rattle.keep_edit.proofs.changes.reread.Goals as goal
 
 pub lines-whole-requires : goal.lines-whole-requires
@@ -37,8 +37,8 @@ range-requires-clause-end_boundary c =
     let (old, index, p) = c.requires in
     rw (c.as_str.ensures.value, text_seen p.is) (cut old c.args.edited.now _ index p.holds p.edit c.lines-whole.result c.lines-whole.ensures).ends
 
-pub reread-requires : goal.reread-requires
-reread-requires c =
+pub replace-requires : goal.replace-requires
+replace-requires c =
     let (old, index, p) = c.requires in
     let k = can_as old c.args.edited.now _ index p.holds p.edit c.lines-whole.result c.lines-whole.ensures c.args.profile c.range.result.now (profile_seen p.is) (rw (c.range.ensures.value, c.as_str.ensures.value, text_seen p.is) refl) in
     record { document = p.edit.tree; is = is_syntax old c.args.edited.now _ index p.holds p.edit p.edit.tree p.edit.read; new = (touches old c.args.edited.now _ index p.holds p.edit).lines; can = k }
@@ -46,16 +46,22 @@ reread-requires c =
 pub build-requires : goal.build-requires
 build-requires c =
     let (old, index, p) = c.requires in
-    let r = is_reread old c.args.edited.now _ index p.holds p.edit c.lines-whole.result c.lines-whole.ensures c.args.profile c.range.result.now c.in-Ok.read (profile_seen p.is) (rw (c.range.ensures.value, c.as_str.ensures.value, text_seen p.is) refl) c.in-Ok.ensures.read c.in-Ok.ensures.of_text in
-    rw (text_seen p.is) (p.edit.changed.to, read_after old c.args.edited.now _ index p.holds p.edit c.in-Ok.read r.syntax)
+    let r = is_reread old c.args.edited.now _ index p.holds p.edit c.lines-whole.result c.lines-whole.ensures c.args.profile c.range.result.now c.replace.new.self (profile_seen p.is) (rw (c.range.ensures.value, c.as_str.ensures.value, text_seen p.is) refl) c.in-Ok.ensures.read c.in-Ok.ensures.of_text in
+    rw (text_seen p.is) (p.edit.changed.to, read_after old c.args.edited.now _ index p.holds p.edit c.replace.new.self r.syntax)
 
 pub growth_refused-requires : goal.growth_refused-requires
 growth_refused-requires c =
     let (old, index, p) = c.requires in
-    let r = is_reread old c.args.edited.now _ index p.holds p.edit c.lines-whole.result c.lines-whole.ensures c.args.profile c.range.result.now c.in-Ok.read (profile_seen p.is) (rw (c.range.ensures.value, c.as_str.ensures.value, text_seen p.is) refl) c.in-Ok.ensures.read c.in-Ok.ensures.of_text in
-    c.in-Err.ensures.read p.edit.changed.to (rw (text_seen p.is) (read_after old c.args.edited.now _ index p.holds p.edit c.in-Ok.read r.syntax)) p.edit.new.obeys
+    let r = is_reread old c.args.edited.now _ index p.holds p.edit c.lines-whole.result c.lines-whole.ensures c.args.profile c.range.result.now c.replace.new.self (profile_seen p.is) (rw (c.range.ensures.value, c.as_str.ensures.value, text_seen p.is) refl) c.in-Ok.ensures.read c.in-Ok.ensures.of_text in
+    c.in-Err.ensures.read p.edit.changed.to (rw (text_seen p.is) (read_after old c.args.edited.now _ index p.holds p.edit c.replace.new.self r.syntax)) p.edit.new.obeys
 
 pub returns-in-Ok-build : goal.returns-in-Ok-build
 returns-in-Ok-build c = λ old index p.
-    let r = is_reread old c.args.edited.now _ index p.holds p.edit c.lines-whole.result c.lines-whole.ensures c.args.profile c.range.result.now c.in-Ok.read (profile_seen p.is) (rw (c.range.ensures.value, c.as_str.ensures.value, text_seen p.is) refl) c.in-Ok.ensures.read c.in-Ok.ensures.of_text in
-    (holds_after old c.args.edited.now _ index p.holds p.edit c.in-Ok.read c.in-Ok-build.index r.syntax (λ d w. c.in-Ok-build.ensures.ok d (rw (text_seen p.is) w)), λ s q read at. rw c.as_str.ensures.value (r.scanned s q read at))
+    let r = is_reread old c.args.edited.now _ index p.holds p.edit c.lines-whole.result c.lines-whole.ensures c.args.profile c.range.result.now c.replace.new.self (profile_seen p.is) (rw (c.range.ensures.value, c.as_str.ensures.value, text_seen p.is) refl) c.in-Ok.ensures.read c.in-Ok.ensures.of_text in
+    (holds_after old c.args.edited.now _ index p.holds p.edit c.replace.new.self c.in-Ok-build.index r.syntax (λ d w. c.in-Ok-build.ensures.ok d (rw (text_seen p.is) w)), λ s q read at. rw c.as_str.ensures.value (r.scanned s q read at))
+
+pub returns-in_default : goal.returns-in_default
+returns-in_default c = λ old index p. (refl, holds_same old _ _ index c.in_default.ensures.refused p.holds)
+
+pub returns-in-Err : goal.returns-in-Err
+returns-in-Err c = λ old index p. (c.growth_refused.ensures, holds_same old _ _ index (c.restore.ensures c.args.syntax.now c.in-Ok.ensures.undo) p.holds)
