@@ -173,8 +173,8 @@ def growth_law(old, edit, new):
 def kept_law(old, edit, new):
     """Each byte outside the edit's span is kept, as far as the texts alone can tell."""
     laws = {"set": keeps_by_set, "insert": keeps_by_insert, "rename": keeps_by_rename, "remove": keeps_by_remove}
-    is_kept = laws.get(edit.op, keeps_by_append)(old, edit, new)
-    return None if is_kept else f"other bytes changed: {new!r}"
+    is_preserved = laws.get(edit.op, keeps_by_append)(old, edit, new)
+    return None if is_preserved else f"other bytes changed: {new!r}"
 
 
 def keeps_by_set(old, edit, new):

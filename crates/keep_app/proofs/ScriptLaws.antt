@@ -83,14 +83,14 @@ no_tree profile bytes s fault.Memory read h = absurd h
 of_tree : (profile : Profile) (bytes : List ℕ) (s : Document) (r : Result (Vec Edit Global) UseFault) → IsTextOfTree (text_in Strict bytes) s
     → MatchResult r (λ edits. Tells profile s edits.items) (λ f. (f ≡ fault.Memory) ⊎ IsTreeFault profile s f)
     → MatchResult r (λ edits. IsScript profile bytes edits.items) (λ f. (f ≡ fault.Memory) ⊎ IsScriptFault profile bytes f)
-of_tree profile bytes s (Ok edits) read told = record { tree = s; read = read; count = told.count; entries = told.entries }
+of_tree profile bytes s (Ok edits) read stated = record { tree = s; read = read; count = stated.count; entries = stated.entries }
 of_tree profile bytes s (Err f) read (inl memory) = inl memory
 of_tree profile bytes s (Err f) read (inr fault) = inr (no_tree profile bytes s f read fault)
 
-pub script_told : (profile : Profile) (bytes : List ℕ) (d : ProfiledText) (r : Result (Vec Edit Global) UseFault) → d ≡ text_in Strict bytes → IsAccepted d
+pub script_stated : (profile : Profile) (bytes : List ℕ) (d : ProfiledText) (r : Result (Vec Edit Global) UseFault) → d ≡ text_in Strict bytes → IsAccepted d
     → ((s : Document) → IsTextOfTree d s → MatchResult r (λ edits. Tells profile s edits.items) (λ f. (f ≡ fault.Memory) ⊎ IsTreeFault profile s f))
     → MatchResult r (λ edits. IsScript profile bytes edits.items) (λ f. (f ≡ fault.Memory) ⊎ IsScriptFault profile bytes f)
-script_told profile bytes d r same (s, h) k = of_tree profile bytes s r (subst (λ (t : ProfiledText). IsTextOfTree t s) same h) (k s h)
+script_stated profile bytes d r same (s, h) k = of_tree profile bytes s r (subst (λ (t : ProfiledText). IsTextOfTree t s) same h) (k s h)
 
 -- ---- the profile of the values
 

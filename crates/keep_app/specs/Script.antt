@@ -93,7 +93,7 @@ Makes profile op.Table path third (edit.Table keys) = IsKeysText path (key_texts
 Makes profile op.Element path third (edit.Element keys) = IsKeysText path (key_texts keys.items)
 Makes _ _ _ _ _ = ⊥
 
--- the element of this number tells this edit
+-- the element with this number tells this edit
 abbrev pub IsEntry : Profile → Document → ℕ → Edit → Type 0
 IsEntry profile s n e = (o : Op) × (op_of s n ≡ Some o) × ((path : List ℕ) × (third : List ℕ) × HasKeys s n (third_key o) path third × Makes profile o path third e)
 
@@ -121,7 +121,7 @@ MakesNone profile o path third why.Path = IsPathFor o path → ⊥
 MakesNone profile o path third why.Value = IsPathFor o path × TakesValue o × (IsAcceptedValue profile third → ⊥)
 MakesNone profile o path third _ = ⊥
 
--- the element of this number tells no edit, and this is the first reason
+-- the element with this number tells no edit, and this is the first reason
 abbrev pub IsNoEntry : Profile → Document → ℕ → EntryWhy → Type 0
 IsNoEntry profile s n why.Op = op_of s n ≡ None
 IsNoEntry profile s n why.Keys = (o : Op) × (op_of s n ≡ Some o) × ((path : List ℕ) (third : List ℕ) → HasKeys s n (third_key o) path third → ⊥)
@@ -136,7 +136,7 @@ pub record IsScript (profile : Profile) (bytes : List ℕ) (edits : List Edit) :
   pub count : element_count tree ≡ Some (length edits)
   pub entries : AreEntries profile tree 0 edits
 
--- the element of this number is the first that tells no edit
+-- the element with this number is the first that tells no edit
 pub record IsFirstFault (profile : Profile) (s : Document) (n : ℕ) (why : EntryWhy) : Type 0 where
   pub before : List Edit
   pub many : length before ≡ n

@@ -17,7 +17,7 @@ use Rattle.keep_app.specs.declared.script.Texts.{Texts}
 use Rattle.keep_app.specs.Script.{element_count, AreEntries, HasKeys, IsNoEntry, MakesNone}
 use Rattle.keep_app.specs.PathWords.{IsKeysText, IsPath}
 
--- these edits are told by all elements
+-- these edits are given by all elements
 pub record Tells (profile : Profile) (s : Document) (edits : List Edit) : Type 0 where
   pub count : element_count s ≡ Some (length edits)
   pub entries : AreEntries profile s 0 edits

@@ -26,7 +26,7 @@ use Rattle.keep_words.specs.Wanted.{Wanted}
 abbrev pub IsGivenValue : List ℕ → List ℕ → Type 0
 IsGivenValue word value = (value ≡ word) × IsAcceptedValue Strict word
 
--- The word is no path's text. (Where it fails is not told here.)
+-- The word is no path's text. (Where it fails is not said here.)
 abbrev pub IsPathFault : List ℕ → UseFault → Type 0
 IsPathFault word (fault.Path at) = IsPath word → ⊥
 IsPathFault word _ = ⊥
@@ -41,7 +41,7 @@ abbrev pub key_in : Option Part → Option (List ℕ)
 key_in None = None
 key_in (Some part) = elim part [ key text ↦ Some text | index n ↦ None ]
 
--- The word is no path's text (where it fails is not told here), or its first index stands there.
+-- The word is no path's text (where it fails is not said here), or its first index is there.
 abbrev pub IsKeysFault : List ℕ → UseFault → Type 0
 IsKeysFault word (fault.Path at) = (IsPath word → ⊥) ⊎ FirstIndex word at
 IsKeysFault word _ = ⊥

@@ -215,7 +215,7 @@ fn keys_in(alloc: Global, path: &Path) -> Result<Vec<String>, AllocError>
     Ok(keys)
 }
 
-// The key at a place of a path; None where an index stands there, or nothing.
+// The key at a place of a path; None where an index is there, or nothing.
 pub(crate) fn key_at(path: &Path, number: usize) -> Option<&str>
     ensures { option_map (λ text. text.now) result ≡ key_in (slice_get path.now number) }
 {
@@ -226,7 +226,7 @@ pub(crate) fn key_at(path: &Path, number: usize) -> Option<&str>
     }
 }
 
-// A key is taken as it stands. The only error is out of memory.
+// A key is taken as it is written. The only error is out of memory.
 fn key_of(alloc: Global, text: &str) -> Result<String, UseFault>
     ensures { MatchResult result (λ key. string_bytes key ≡ text.now) (λ fault. fault ≡ UseFault.Memory) }
 {

@@ -80,7 +80,7 @@ fn element_count(alloc: Global, document: &Document) -> Result<Option<usize>, Al
     Ok(counted(keys, document.kind(&path), document.child_count(&path)))
 }
 
-// The same by the number of top-level keys, and the kind and the elements of `edit`.
+// How many elements `edit` has, by the number of top-level keys and the kind of `edit`.
 fn counted(keys: Option<usize>, kind: Option<Kind>, elements: Option<usize>) -> Option<usize>
     ensures { result ≡ spec.counted keys kind elements }
 {

@@ -12,7 +12,7 @@ use Rattle.keep_meaning.proofs.Shared.{nodes_few}
 use Rattle.keep_edit.specs.Reading.{limit, ProfiledText, IsTextOfTree, Holds}
 use Rattle.keep_edit.specs.Answers.{counts_of}
 use Rattle.keep_edit.specs.declared.document.Counts.{Counts}
-use Rattle.keep_splice.proofs.Shared.{told_is, tokens_are}
+use Rattle.keep_splice.proofs.Shared.{stated_is, tokens_are}
 
 abbrev counted : ℕ → ℕ → Counts
 counted m n = record { tokens = m; nodes = n }
@@ -21,7 +21,7 @@ pub counts_are : (t : ProfiledText) (syntax : Syntax) (index : NodeInfos) (s : D
     → m ≡ length (tokens_of syntax t.text) → n ≡ length index.paths → counted m n ≡ counts_of s
 counts_are t syntax index s m n h read e f =
     let tokens_many : m ≡ length (tokens s) = e ∙ ap length (tokens_are t syntax index s h read) in
-    let nodes_many : n ≡ length (nodes_in s) = f ∙ ap (λ (x : NodeInfos). length x.paths) (told_is t syntax index s h read) ∙ length-map (nodes_in s) node_path in
+    let nodes_many : n ≡ length (nodes_in s) = f ∙ ap (λ (x : NodeInfos). length x.paths) (stated_is t syntax index s h read) ∙ length-map (nodes_in s) node_path in
     ap (λ (x : ℕ). counted x n) tokens_many ∙ ap (counted (length (tokens s))) nodes_many
 
 -- ---- how many they are

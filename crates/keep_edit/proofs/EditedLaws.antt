@@ -10,7 +10,7 @@ use Rattle.keep_law.specs.Edits.{Edit, place}
 use Rattle.keep_splice.specs.declared.edited.Edited.{Edited}
 use Rattle.keep_edit.specs.Reading.{ProfiledText, text_in, IsTextOfTree}
 use Rattle.keep_splice.specs.Answers.{IsMadeAt, splice_of, text_after}
-use Rattle.keep_edit.specs.Answers.{IsEdited, IsMade, IsTextAfter, IsDone, EditMade, EditDone, EditTold, refusal_in}
+use Rattle.keep_edit.specs.Answers.{IsEdited, IsMade, IsTextAfter, IsDone, EditMade, EditDone, EditReported, refusal_in}
 use Rattle.keep_edit.specs.Places.{IsMovedIn, after}
 
 -- ---- what an edit answers, by what was made of it
@@ -23,22 +23,22 @@ not_done : {T U : Type 0} (good : T → Type 0) (fine : U → Type 0) (f : EditF
 not_done good fine f None h = h
 not_done {T} {U} good fine f (Some g) h = let same : f ≡ g = cc in rw same refl
 
--- out of memory can stand in place of what is done
+-- out of memory can be the answer in place of what is done
 done_or_full : {T U : Type 0} (good : T → Type 0) (fine : U → Type 0) (x : T) (r : Option EditFault) → IsDone good r (Ok x) → IsDone fine r (Err fault.Memory)
 done_or_full good fine x None h = refl
 done_or_full good fine x (Some f) h = absurd cc
 
 module _ (s : Document) (e : Edit) (old : ProfiledText) where
-  abbrev is_told : String Global → Type 0
-  is_told text = IsTextAfter s e (text_in old.profile (string_bytes text)) old
+  abbrev is_computed : String Global → Type 0
+  is_computed text = IsTextAfter s e (text_in old.profile (string_bytes text)) old
 
-  pub told_of : (made : Edited) (result : Result (String Global) EditFault) → EditMade s e old (Ok made) → MatchResult result (λ text. string_bytes text ≡ text_after old.text made) (λ f. f ≡ fault.Memory) → EditTold s e old result
-  told_of made (Ok text) h is =
-      done_as (IsMade s e old) is_told made text (refusal_in old s e) h (λ (k : IsMade s e old made). subst (λ (t : List ℕ). IsTextAfter s e (text_in old.profile t) old) (sym is) k.1)
-  told_of made (Err f) h is = subst (λ (g : EditFault). EditTold s e old (Err g)) (sym is) (done_or_full (IsMade s e old) is_told made (refusal_in old s e) h)
+  pub report_of : (made : Edited) (result : Result (String Global) EditFault) → EditMade s e old (Ok made) → MatchResult result (λ text. string_bytes text ≡ text_after old.text made) (λ f. f ≡ fault.Memory) → EditReported s e old result
+  report_of made (Ok text) h is =
+      done_as (IsMade s e old) is_computed made text (refusal_in old s e) h (λ (k : IsMade s e old made). subst (λ (t : List ℕ). IsTextAfter s e (text_in old.profile t) old) (sym is) k.1)
+  report_of made (Err f) h is = subst (λ (g : EditFault). EditReported s e old (Err g)) (sym is) (done_or_full (IsMade s e old) is_computed made (refusal_in old s e) h)
 
-  pub untold_of : (f : EditFault) → EditMade s e old (Err f) → EditTold s e old (Err f)
-  untold_of f h = not_done (IsMade s e old) is_told f (refusal_in old s e) h
+  pub untold_of : (f : EditFault) → EditMade s e old (Err f) → EditReported s e old (Err f)
+  untold_of f h = not_done (IsMade s e old) is_computed f (refusal_in old s e) h
 
   module _ (new : ProfiledText) where
     pub done_of : (made : Edited) (splice : Splice) → new ≡ after old made → ((p : Place) → IsMadeAt p made → splice ≡ splice_of s p) → EditMade s e old (Ok made)
@@ -56,7 +56,7 @@ module _ (s : Document) (e : Edit) (old : ProfiledText) where
 -- what an edit answers once the document of its text is moved in
 pub moved_done : (s : Document) (e : Edit) (old new : ProfiledText) (made : Edited) (result : Result Splice EditFault) → IsTextOfTree old s → EditMade s e old (Ok made) → IsMovedIn made old new result → EditDone s e old new result
 moved_done s e old new made (Ok splice) read h (there, is) = done_of s e old new made splice is (λ p m. there s p read m) h
-moved_done s e old new made (Err f) read h (full, kept) = subst (λ (g : EditFault). EditDone s e old new (Err g)) (sym full) (full_of s e old new made h)
+moved_done s e old new made (Err f) read h (full, preserved) = subst (λ (g : EditFault). EditDone s e old new (Err g)) (sym full) (full_of s e old new made h)
 
 -- what was made for a document that is seen as this one
 pub made_of : {seen_as old : ProfiledText} (s : Document) (e : Edit) (result : Result Edited EditFault) → seen_as ≡ old → (IsTextOfTree seen_as s → EditMade s e seen_as result) → IsTextOfTree old s

@@ -1,4 +1,4 @@
--- The entries of a document: node by node, each with its path and what stands there.
+-- The entries of a document: node by node, each with its path and what is there.
 use Rattle.std.proofs.Common.{◌≡◌, ℕ, ◌+◌, ◌<◌, ◌≤◌, List, [], ◌∷◌, ◌++◌, length, length-drop, map, take, drop, get_or, refl, sym, ap, subst, ◌∙◌, arith, Option, Some, None}
 use Rattle.std.specs.Prelude.{slice_get}
 use Rattle.std.proofs.lemmas.Grind.{get_or_after_one}
@@ -14,7 +14,7 @@ use Rattle.keep_meaning.specs.declared.node.Kind.{Kind}
 use Rattle.keep_meaning.specs.declared.node.NodeInfo.{NodeInfo}
 use Rattle.keep_meaning.specs.Counts.{numbered_in}
 use Rattle.keep_rules.specs.Lookup.{path_numbered}
-use Rattle.keep_meaning.specs.Meaning.{said_in}
+use Rattle.keep_meaning.specs.Meaning.{mentions_in}
 use Rattle.keep_meaning.specs.Nodes.{kind_at, mention_of, node_at, node_info, node_paths, infos_in}
 use Rattle.keep_path.specs.Path.{Part}
 use Rattle.keep_path.specs.PathText.{encoded_path}
@@ -23,81 +23,81 @@ use Rattle.keep_meaning.proofs.Shared.{mentions-numbered_in, paths-nodes_in}
 use Rattle.keep_edit.specs.declared.document.Entry.{Entry}
 use Rattle.keep_edit.specs.Answers.{entry_at, entries_of, AddsEntryPath}
 use Rattle.keep_edit.specs.Reading.{ProfiledText, IsTextOfTree, telling_in, Holds}
-use Rattle.keep_splice.proofs.Shared.{told_is, kind_told}
+use Rattle.keep_splice.proofs.Shared.{stated_is, kind_stated}
 
--- ---- what stands at the nodes
+-- ---- what is at the nodes
 
 kinds-of : (s : Document) (values : List ValueInfo) (parts : List KeyPart) (paths : List (List Part))
-    → map (λ i. i.kind) (map (node_info values parts) (map (node_at (numbered_in s)) paths)) ≡ map (λ path. kind_at path (said_in s)) paths
+    → map (λ i. i.kind) (map (node_info values parts) (map (node_at (numbered_in s)) paths)) ≡ map (λ path. kind_at path (mentions_in s)) paths
 kinds-of s values parts [] = refl
-kinds-of s values parts (p ∷ ps) = ap (λ k. k ∷ map (λ i. i.kind) (map (node_info values parts) (map (node_at (numbered_in s)) ps))) (kind_told p s) ∙ ap (λ ks. kind_at p (said_in s) ∷ ks) (kinds-of s values parts ps)
+kinds-of s values parts (p ∷ ps) = ap (λ k. k ∷ map (λ i. i.kind) (map (node_info values parts) (map (node_at (numbered_in s)) ps))) (kind_stated p s) ∙ ap (λ ks. kind_at p (mentions_in s) ∷ ks) (kinds-of s values parts ps)
 
-kinds-infos_in : (s : Document) → map (λ i. i.kind) (infos_in s) ≡ map (λ path. kind_at path (said_in s)) (node_paths (said_in s))
+kinds-infos_in : (s : Document) → map (λ i. i.kind) (infos_in s) ≡ map (λ path. kind_at path (mentions_in s)) (node_paths (mentions_in s))
 kinds-infos_in s =
     kinds-of s (syntax.values s) (syntax.parts s) (node_paths (map mention_of (numbered_in s)))
-    ∙ ap (λ ms. map (λ path. kind_at path (said_in s)) (node_paths ms)) (mentions-numbered_in s)
+    ∙ ap (λ ms. map (λ path. kind_at path (mentions_in s)) (node_paths ms)) (mentions-numbered_in s)
 
 -- ---- the entry of a node
 
 -- so many nodes, the root among them, have their entries
 abbrev pub entries_before : Document → ℕ → List Entry
-entries_before s n = map (entry_at (said_in s)) (drop 1 (take n (node_paths (said_in s))))
+entries_before s n = map (entry_at (mentions_in s)) (drop 1 (take n (node_paths (mentions_in s))))
 
 abbrev entry : List Part → Kind → Entry
 entry path kind = record { path = path; kind = kind }
 
-kind_numbered : (s : Document) (n : ℕ) (info : NodeInfo) → n < length (node_paths (said_in s)) → slice_get (infos_in s) n ≡ Some info
-    → info.kind ≡ kind_at (get_or (node_paths (said_in s)) n []) (said_in s)
+kind_numbered : (s : Document) (n : ℕ) (info : NodeInfo) → n < length (node_paths (mentions_in s)) → slice_get (infos_in s) n ≡ Some info
+    → info.kind ≡ kind_at (get_or (node_paths (mentions_in s)) n []) (mentions_in s)
 kind_numbered s n info h is =
-    let paths : List (List Part) = node_paths (said_in s) in
-    let told : slice_get (map (λ i. i.kind) (infos_in s)) n ≡ Some info.kind = slice_get-map (λ i. i.kind) (infos_in s) n ∙ ap (option_map (λ i. i.kind)) is in
-    let said : slice_get (map (λ path. kind_at path (said_in s)) paths) n ≡ Some (kind_at (get_or paths n []) (said_in s)) =
-    slice_get-map (λ path. kind_at path (said_in s)) paths n ∙ ap (option_map (λ path. kind_at path (said_in s))) (slice_get-get_or paths n [] h) in
-    let both : Some info.kind ≡ Some (kind_at (get_or paths n []) (said_in s)) = sym told ∙ ap (λ (ks : List Kind). slice_get ks n) (kinds-infos_in s) ∙ said in
+    let paths : List (List Part) = node_paths (mentions_in s) in
+    let stated : slice_get (map (λ i. i.kind) (infos_in s)) n ≡ Some info.kind = slice_get-map (λ i. i.kind) (infos_in s) n ∙ ap (option_map (λ i. i.kind)) is in
+    let mentioned : slice_get (map (λ path. kind_at path (mentions_in s)) paths) n ≡ Some (kind_at (get_or paths n []) (mentions_in s)) =
+    slice_get-map (λ path. kind_at path (mentions_in s)) paths n ∙ ap (option_map (λ path. kind_at path (mentions_in s))) (slice_get-get_or paths n [] h) in
+    let both : Some info.kind ≡ Some (kind_at (get_or paths n []) (mentions_in s)) = sym stated ∙ ap (λ (ks : List Kind). slice_get ks n) (kinds-infos_in s) ∙ mentioned in
     cc
 
 -- what an index tells of all nodes
-record IsToldOf (s : Document) (index : NodeInfos) : Type 0 where
-  paths : index.paths ≡ node_paths (said_in s)
+record IsStatedOf (s : Document) (index : NodeInfos) : Type 0 where
+  paths : index.paths ≡ node_paths (mentions_in s)
   infos : index.infos ≡ infos_in s
 
-told_of : (t : ProfiledText) (parts : Syntax) (index : NodeInfos) (s : Document) → Holds t parts index → IsTextOfTree t s → IsToldOf s index
-told_of t parts index s h read =
-    let is : index ≡ telling_in s = told_is t parts index s h read in
+report_of : (t : ProfiledText) (parts : Syntax) (index : NodeInfos) (s : Document) → Holds t parts index → IsTextOfTree t s → IsStatedOf s index
+report_of t parts index s h read =
+    let is : index ≡ telling_in s = stated_is t parts index s h read in
     record { paths = ap (λ (t : NodeInfos). t.paths) is ∙ paths-nodes_in s; infos = ap (λ (t : NodeInfos). t.infos) is }
 
 -- ---- one after another
 
 pub entries_none : (s : Document) → [] ≡ entries_before s 1
-entries_none s = by (node_paths (said_in s))
+entries_none s = by (node_paths (mentions_in s))
   where
-    by : (paths : List (List Part)) → [] ≡ map (entry_at (said_in s)) (drop 1 (take 1 paths))
+    by : (paths : List (List Part)) → [] ≡ map (entry_at (mentions_in s)) (drop 1 (take 1 paths))
     by [] = refl
     by (p ∷ ps) = refl
 
 pub entries_more : (t : ProfiledText) (parts : Syntax) (index : NodeInfos) (s : Document) (entries : List Entry) (n : ℕ) (path : List Part) (info : NodeInfo) → Holds t parts index → IsTextOfTree t s
     → entries ≡ entries_before s n → 1 ≤ n → n < length index.paths → path ≡ path_numbered index n → slice_get index.infos n ≡ Some info
     → entries ++ entry path info.kind ∷ [] ≡ entries_before s (n + 1)
-entries_more t parts index s entries n path info h read so_far some within place told =
-    let is : IsToldOf s index = told_of t parts index s h read in
-    let paths : List (List Part) = node_paths (said_in s) in
+entries_more t parts index s entries n path info h read so_far some within place stated =
+    let is : IsStatedOf s index = report_of t parts index s h read in
+    let paths : List (List Part) = node_paths (mentions_in s) in
     let low : n < length paths = omega (arith, within, ap (λ (ps : List (List Part)). length ps) is.paths) in
     let p : List Part = get_or paths n [] in
     let here : path ≡ p = place ∙ ap (λ (ps : List (List Part)). get_or ps n []) is.paths in
-    let kind : info.kind ≡ kind_at p (said_in s) = kind_numbered s n info low (ap (λ (is : List NodeInfo). slice_get is n) (sym is.infos) ∙ told) in
-    let next : entry path info.kind ≡ entry_at (said_in s) p = ap (λ q. entry q info.kind) here ∙ ap (entry p) kind in
-    let front : drop 1 (take (n + 1) paths) ≡ drop 1 (take n paths) ++ p ∷ [] =
+    let kind : info.kind ≡ kind_at p (mentions_in s) = kind_numbered s n info low (ap (λ (is : List NodeInfo). slice_get is n) (sym is.infos) ∙ stated) in
+    let next : entry path info.kind ≡ entry_at (mentions_in s) p = ap (λ q. entry q info.kind) here ∙ ap (entry p) kind in
+    let prefix : drop 1 (take (n + 1) paths) ≡ drop 1 (take n paths) ++ p ∷ [] =
     ap (drop 1) (take_more paths n [] low) ∙ drop-append-le 1 (take n paths) (p ∷ []) (omega (arith, length-take-le n paths (omega arith))) in
     ap (λ es. es ++ entry path info.kind ∷ []) so_far
     ∙ ap (λ e. entries_before s n ++ e ∷ []) next
-    ∙ sym (map-append (entry_at (said_in s)) (drop 1 (take n paths)) (p ∷ []))
-    ∙ ap (map (entry_at (said_in s))) (sym front)
+    ∙ sym (map-append (entry_at (mentions_in s)) (drop 1 (take n paths)) (p ∷ []))
+    ∙ ap (map (entry_at (mentions_in s))) (sym prefix)
 
 pub entries_all : (t : ProfiledText) (parts : Syntax) (index : NodeInfos) (s : Document) (entries : List Entry) (n : ℕ) → Holds t parts index → IsTextOfTree t s → entries ≡ entries_before s n
     → length index.paths ≤ n → entries ≡ entries_of s
 entries_all t parts index s entries n h read so_far past =
-    let is : IsToldOf s index = told_of t parts index s h read in
-    so_far ∙ ap (λ ps. map (entry_at (said_in s)) (drop 1 ps)) (take_all n (node_paths (said_in s)) (omega (arith, past, ap (λ (ps : List (List Part)). length ps) is.paths)))
+    let is : IsStatedOf s index = report_of t parts index s h read in
+    so_far ∙ ap (λ ps. map (entry_at (mentions_in s)) (drop 1 ps)) (take_all n (node_paths (mentions_in s)) (omega (arith, past, ap (λ (ps : List (List Part)). length ps) is.paths)))
 
 -- ---- by number
 
@@ -105,26 +105,26 @@ path_of_entry : (paths : List (List Part)) (n : ℕ) → n + 1 < length paths �
 path_of_entry paths n low =
     slice_get-get_or (drop 1 paths) n [] (omega (arith, length-drop 1 paths)) ∙ ap Some (get_or_after_one paths n [] ∙ ap (λ i. get_or paths i []) (omega arith))
 
--- the path that was added and the kind that was told are those of the entry
+-- the path that was added and the kind that was reported are those of the entry
 pub entry_added : (t : ProfiledText) (parts : Syntax) (index : NodeInfos) (s : Document) (n : ℕ) (old new : List ℕ) (info : NodeInfo) → Holds t parts index → IsTextOfTree t s
     → n + 1 < length index.paths → new ≡ old ++ encoded_path (path_numbered index (n + 1)) → slice_get index.infos (n + 1) ≡ Some info
     → AddsEntryPath (slice_get (entries_of s) n) (Some info.kind) old new
-entry_added t parts index s n old new info h read within text told =
-    let is : IsToldOf s index = told_of t parts index s h read in
-    let paths : List (List Part) = node_paths (said_in s) in
+entry_added t parts index s n old new info h read within text stated =
+    let is : IsStatedOf s index = report_of t parts index s h read in
+    let paths : List (List Part) = node_paths (mentions_in s) in
     let low : n + 1 < length paths = omega (arith, within, ap (λ (ps : List (List Part)). length ps) is.paths) in
     let p : List Part = get_or paths (n + 1) [] in
-    let kind : info.kind ≡ kind_at p (said_in s) = kind_numbered s (n + 1) info low (ap (λ (is : List NodeInfo). slice_get is (n + 1)) (sym is.infos) ∙ told) in
-    let there : slice_get (entries_of s) n ≡ Some (entry_at (said_in s) p) =
-    slice_get-map (entry_at (said_in s)) (drop 1 paths) n ∙ ap (option_map (entry_at (said_in s))) (path_of_entry paths n low) in
+    let kind : info.kind ≡ kind_at p (mentions_in s) = kind_numbered s (n + 1) info low (ap (λ (is : List NodeInfo). slice_get is (n + 1)) (sym is.infos) ∙ stated) in
+    let there : slice_get (entries_of s) n ≡ Some (entry_at (mentions_in s) p) =
+    slice_get-map (entry_at (mentions_in s)) (drop 1 paths) n ∙ ap (option_map (entry_at (mentions_in s))) (path_of_entry paths n low) in
     let same : path_numbered index (n + 1) ≡ p = ap (λ (ps : List (List Part)). get_or ps (n + 1) []) is.paths in
     subst (λ (e : Option Entry). AddsEntryPath e (Some info.kind) old new) (sym there) (ap Some kind, text ∙ ap (λ q. old ++ encoded_path q) same)
 
--- there is no entry of that number
+-- there is no entry with that number
 pub no_entry : (t : ProfiledText) (parts : Syntax) (index : NodeInfos) (s : Document) (n : ℕ) (old : List ℕ) → Holds t parts index → IsTextOfTree t s → length index.paths ≤ n + 1
     → AddsEntryPath (slice_get (entries_of s) n) None old old
 no_entry t parts index s n old h read past =
-    let is : IsToldOf s index = told_of t parts index s h read in
-    let paths : List (List Part) = node_paths (said_in s) in
-    let few : length (entries_of s) ≤ n = omega (arith, past, ap (λ (ps : List (List Part)). length ps) is.paths, length-map (drop 1 paths) (entry_at (said_in s)), length-drop 1 paths) in
+    let is : IsStatedOf s index = report_of t parts index s h read in
+    let paths : List (List Part) = node_paths (mentions_in s) in
+    let few : length (entries_of s) ≤ n = omega (arith, past, ap (λ (ps : List (List Part)). length ps) is.paths, length-map (drop 1 paths) (entry_at (mentions_in s)), length-drop 1 paths) in
     subst (λ (e : Option Entry). AddsEntryPath e None old old) (sym (slice_get_past (entries_of s) n few)) (refl, refl)

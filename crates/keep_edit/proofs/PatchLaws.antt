@@ -22,11 +22,11 @@ use Rattle.keep_edit.specs.Reading.{ProfiledText, text_in}
 -- ---- of any bytes
 
 module _ (before new : List ℕ) (start end : ℕ) (ordered : start ≤ end) (within : end ≤ length before) where
-  front : List ℕ
-  front = take start before
+  prefix : List ℕ
+  prefix = take start before
 
-  front_len : length front ≡ start
-  unfolding front
+  front_len : length prefix ≡ start
+  unfolding prefix
   front_len = length-take-le start before (omega arith)
 
   pub part_len : length (slice_range before start end) ≡ end - start
@@ -35,12 +35,12 @@ module _ (before new : List ℕ) (start end : ℕ) (ordered : start ≤ end) (wi
       length-take-le (end - start) (drop start before) (omega (arith, all))
 
   pub put_len : length (take start before ++ (new ++ drop end before)) ≡ start + (length new + (length before - end))
-  unfolding front front_len
+  unfolding prefix front_len
   put_len =
-      length-append front (new ++ drop end before)
+      length-append prefix (new ++ drop end before)
       ∙ ap₂ (λ (a b : ℕ). a + b) front_len (length-append new (drop end before) ∙ ap (λ (n : ℕ). length new + n) (length-drop end before))
 
-  -- the part with what stands before and behind it
+  -- the part with what comes before and after it
   whole : (take start before ++ slice_range before start end) ++ drop end before ≡ before
   whole =
       let behind : drop (end - start) (drop start before) ≡ drop end before =
@@ -51,46 +51,46 @@ module _ (before new : List ℕ) (start end : ℕ) (ordered : start ≤ end) (wi
       ∙ take-append-drop start before
 
   pub back : replace_range (take start before ++ (new ++ drop end before)) start (start + length new) (slice_range before start end) ≡ before
-  unfolding front front_len
+  unfolding prefix front_len
   back =
       let first : take start (take start before ++ (new ++ drop end before)) ≡ take start before =
-      ap (λ (n : ℕ). take n (take start before ++ (new ++ drop end before))) (sym front_len) ∙ take-append_seam front (new ++ drop end before) in
-      let size : length (front ++ new) ≡ start + length new = length-append front new ∙ ap (λ (n : ℕ). n + length new) front_len in
+      ap (λ (n : ℕ). take n (take start before ++ (new ++ drop end before))) (sym front_len) ∙ take-append_seam prefix (new ++ drop end before) in
+      let size : length (prefix ++ new) ≡ start + length new = length-append prefix new ∙ ap (λ (n : ℕ). n + length new) front_len in
       let last : drop (start + length new) (take start before ++ (new ++ drop end before)) ≡ drop end before =
-      ap₂ (λ (n : ℕ) (x : List ℕ). drop n x) (sym size) (sym (append_assoc front new (drop end before))) ∙ drop-append_seam (front ++ new) (drop end before) in
+      ap₂ (λ (n : ℕ) (x : List ℕ). drop n x) (sym size) (sym (append_assoc prefix new (drop end before))) ∙ drop-append_seam (prefix ++ new) (drop end before) in
       ap₂ (λ (a b : List ℕ). (a ++ slice_range before start end) ++ b) first last ∙ whole
 
   module _ (new_utf8 : IsUtf8 new) (utf8 : IsUtf8 before) (ends : IsCharBoundary before end) where
     pub start_cut : IsCharBoundary (take start before ++ (new ++ drop end before)) start
-    unfolding front front_len
+    unfolding prefix front_len
     start_cut =
         subst (λ (n : ℕ). IsCharBoundary (take start before ++ (new ++ drop end before)) n) front_len
-        (IsCharBoundary-at_seam (take start before ++ (new ++ drop end before)) front (new ++ drop end before) refl (IsUtf8-append new (drop end before) new_utf8 (IsUtf8-drop before end utf8 ends)))
+        (IsCharBoundary-at_seam (take start before ++ (new ++ drop end before)) prefix (new ++ drop end before) refl (IsUtf8-append new (drop end before) new_utf8 (IsUtf8-drop before end utf8 ends)))
 
     pub end_cut : IsCharBoundary (take start before ++ (new ++ drop end before)) (start + length new)
-    unfolding front front_len
+    unfolding prefix front_len
     end_cut =
-        let size : length (front ++ new) ≡ start + length new = length-append front new ∙ ap (λ (n : ℕ). n + length new) front_len in
+        let size : length (prefix ++ new) ≡ start + length new = length-append prefix new ∙ ap (λ (n : ℕ). n + length new) front_len in
         subst (λ (n : ℕ). IsCharBoundary (take start before ++ (new ++ drop end before)) n) size
-        (IsCharBoundary-at_seam (take start before ++ (new ++ drop end before)) (front ++ new) (drop end before) (sym (append_assoc front new (drop end before))) (IsUtf8-drop before end utf8 ends))
+        (IsCharBoundary-at_seam (take start before ++ (new ++ drop end before)) (prefix ++ new) (drop end before) (sym (append_assoc prefix new (drop end before))) (IsUtf8-drop before end utf8 ends))
 
 -- ---- of an edit
 
-module _ (made : Edited) (before kept : List ℕ) (text : String Global) (can : CanPutBack made before kept text) where
+module _ (made : Edited) (before preserved : List ℕ) (text : String Global) (can : CanPutBack made before preserved text) where
   pub starts_there : IsCharBoundary (string_bytes text) made.place.start
   starts_there =
       subst (λ (x : List ℕ). IsCharBoundary x made.place.start) (sym can.put)
-      (start_cut before (string_bytes made.new) made.place.start made.place.end can.inside.ordered can.inside.within (IsUtf8-string_bytes made.new) can.utf8 can.inside.ends)
+      (start_cut before (string_bytes made.new) made.place.start made.place.end can.nested.ordered can.nested.within (IsUtf8-string_bytes made.new) can.utf8 can.nested.ends)
 
   pub ends_there : IsCharBoundary (string_bytes text) (made.place.start + length (string_bytes made.new))
   ends_there =
       subst (λ (x : List ℕ). IsCharBoundary x (made.place.start + length (string_bytes made.new))) (sym can.put)
-      (end_cut before (string_bytes made.new) made.place.start made.place.end can.inside.ordered can.inside.within (IsUtf8-string_bytes made.new) can.utf8 can.inside.ends)
+      (end_cut before (string_bytes made.new) made.place.start made.place.end can.nested.ordered can.nested.within (IsUtf8-string_bytes made.new) can.utf8 can.nested.ends)
 
-  pub is_back : (new : List ℕ) → new ≡ replace_range (string_bytes text) made.place.start (made.place.start + length (string_bytes made.new)) kept → new ≡ before
+  pub is_back : (new : List ℕ) → new ≡ replace_range (string_bytes text) made.place.start (made.place.start + length (string_bytes made.new)) preserved → new ≡ before
   is_back new is =
       is ∙ ap₂ (λ (x y : List ℕ). replace_range x made.place.start (made.place.start + length (string_bytes made.new)) y) can.put can.was
-      ∙ back before (string_bytes made.new) made.place.start made.place.end can.inside.ordered can.inside.within
+      ∙ back before (string_bytes made.new) made.place.start made.place.end can.nested.ordered can.nested.within
 
 -- ---- of a document
 

@@ -1,4 +1,4 @@
--- What stands at a path: its kind, and the text of its value.
+-- What is at a path: its kind, and the text of its value.
 use Rattle.std.proofs.Common.{◌≡◌, ℕ, ◌<◌, Bool, true, false, ◌||◌, List, [], ◌∷◌, length, slice_get, refl, sym, ap, subst, ◌∙◌, arith, Option, Some, None, Result, Ok, Err}
 use Rattle.std.specs.Prelude.{IsCharBoundary}
 use Rattle.std.specs.List.{list_any}
@@ -12,14 +12,14 @@ use Rattle.keep_syntax.specs.Contract.{values_of}
 use Rattle.keep_syntax.specs.Numbered as numbered
 use Rattle.keep_rules.specs.declared.index.NodeId.{NodeId}
 use Rattle.keep_meaning.specs.declared.node.NodeInfo.{NodeInfo}
-use Rattle.keep_meaning.specs.declared.node.Place.TheVariants as place
+use Rattle.keep_meaning.specs.declared.node.Origin.TheVariants as origin
 use Rattle.keep_meaning.specs.Counts.{Numbered, is_value, numbered_in}
 use Rattle.keep_meaning.specs.Fact.{Fact}
 use Rattle.keep_meaning.specs.KeyText.{text_at}
 use Rattle.keep_rules.specs.Lookup.{number_of}
 use Rattle.keep_meaning.specs.Marks.{Mention, marks}
-use Rattle.keep_meaning.specs.Meaning.{body_fact, said_in}
-use Rattle.keep_meaning.specs.Nodes.{is_at, is_root, is_node, fact_at, node_number, node_paths, is_element, is_begun, is_define, is_dotted, is_through, numbered_at, last_number, value_number, statement_number, first_that_fits, place_said}
+use Rattle.keep_meaning.specs.Meaning.{body_fact, mentions_in}
+use Rattle.keep_meaning.specs.Nodes.{is_at, is_root, is_node, fact_at, node_number, node_paths, is_element, is_begun, is_define, is_dotted, is_through, numbered_at, last_number, value_number, statement_number, first_that_fits, mentioned_origin}
 use Rattle.keep_path.specs.Path.{Part}
 use Rattle.keep_meaning.specs.Rules.{ObeysRules}
 use Rattle.keep_nodes.specs.Facts.{NodeInfos}
@@ -32,20 +32,20 @@ use Rattle.keep_law.specs.Refusals.{has_value}
 use Rattle.keep_law.proofs.Shared.{get_is_right, IsValueOf, value_of_number, none_of_number, fact_past}
 use Rattle.keep_edit.specs.Reading.{ProfiledText, IsTextOfTree, Holds}
 use Rattle.keep_edit.specs.Answers.{kind_of, value_number_of, HasNoValue, IsSpanOf}
-use Rattle.keep_splice.proofs.Shared.{kind_told, fact_node, IsTold, IsValueThere}
+use Rattle.keep_splice.proofs.Shared.{kind_stated, fact_node, IsStated, IsValueThere}
 
 -- ---- its kind
 
-pub no_kind : (path : List Part) (s : Document) → is_node path (said_in s) ≡ false → None ≡ kind_of path s
+pub no_kind : (path : List Part) (s : Document) → is_node path (mentions_in s) ≡ false → None ≡ kind_of path s
 no_kind path s none = rw none refl
 
-pub its_kind : (path : List Part) (s : Document) (info : NodeInfo) → IsTold path s info → Some info.kind ≡ kind_of path s
-its_kind path s info told = rw told.node (ap Some (ap (λ (i : NodeInfo). i.kind) told.is ∙ kind_told path s))
+pub its_kind : (path : List Part) (s : Document) (info : NodeInfo) → IsStated path s info → Some info.kind ≡ kind_of path s
+its_kind path s info stated = rw stated.node (ap Some (ap (λ (i : NodeInfo). i.kind) stated.is ∙ kind_stated path s))
 
 -- ---- its text
 
-value_names : (profile : Profile) (path : List Part) (s : Document) (number : ℕ) (info : ValueInfo) → IsValueOf profile path s number info → is_node path (said_in s) ≡ true
-value_names profile path s number info of = fact_node path (said_in s) (body_fact of.value.body) of.fact
+value_names : (profile : Profile) (path : List Part) (s : Document) (number : ℕ) (info : ValueInfo) → IsValueOf profile path s number info → is_node path (mentions_in s) ≡ true
+value_names profile path s number info of = fact_node path (mentions_in s) (body_fact of.value.body) of.fact
 
 -- what is answered where the path names a node or not
 abbrev answered : Bool → Option (List ℕ) → Result (List ℕ) EditFault
@@ -56,7 +56,7 @@ got d path s number info t read there e =
     let spelled : text_at (text s) info.span ≡ t = ap (λ (b : List ℕ). text_at b info.span) (sym read.reads.spelled) ∙ sym e in
     ap (λ b. answered b (value_at path s)) (value_names d.profile path s number info there.of) ∙ ap or_not_value (there.of.got ∙ ap Some spelled)
 
-no_value_got : (path : List Part) (s : Document) → ObeysRules (marks (said_in s)) → has_value path (said_in s) ≡ false → value_at path s ≡ None
+no_value_got : (path : List Part) (s : Document) → ObeysRules (marks (mentions_in s)) → has_value path (mentions_in s) ≡ false → value_at path s ≡ None
 no_value_got path s obeys none = subst (λ (b : Bool). GivesText path s b (value_at path s)) none (get_is_right path s obeys)
 
 pub not_got : (d : ProfiledText) (path : List Part) (s : Document) (f : EditFault) → IsTextOfTree d s → HasNoValue path s f → get path s ≡ Err f

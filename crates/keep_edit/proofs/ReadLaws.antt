@@ -29,7 +29,7 @@ pub holds : (profile : Profile) (bytes : List ℕ) (syntax : Syntax) (index : No
     → ((d : Document) → WasRead bytes syntax d → IsIndexOf d index) → Holds (text_in profile bytes) syntax index
 holds profile bytes syntax index utf8 h built =
     let i = built h.tree (was_read h.reads h.is) in
-    record { tree = h.tree; read = record { utf8 = utf8; reads = h.reads; obeys = i.obeys }; is = h.is; of_text = h.of_text; told = i.facts; nested = i.nested }
+    record { tree = h.tree; read = record { utf8 = utf8; reads = h.reads; obeys = i.obeys }; is = h.is; of_text = h.of_text; stated = i.facts; nested = i.nested }
 
 -- ---- why not
 

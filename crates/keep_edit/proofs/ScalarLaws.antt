@@ -1,4 +1,4 @@
--- What stands at a path is told by the leaf and the text of its value: integers and strings.
+-- What is at a path is determined by the leaf and the text of its value: integers and strings.
 use Rattle.std.proofs.Common.{◌≡◌, ℕ, ℤ, Bool, true, false, ◌||◌, List, [], ◌∷◌, refl, sym, ap, ◌∙◌, subst, Option, Some, None, Result, Ok, Err, ◌⊎◌, inl, inr}
 use Rattle.std.specs.Prelude.{◌↔◌, IsTrue, IsSome, IfSome, slice_get}
 use Rattle.std.specs.List.{list_any, filter_map}
@@ -22,8 +22,8 @@ use Rattle.keep_meaning.specs.Fact as fact
 use Rattle.keep_meaning.specs.Fact.{Fact, is_value_fact}
 use Rattle.keep_meaning.specs.KeyText.{text_at}
 use Rattle.keep_meaning.specs.Marks.{Mention, fact_of}
-use Rattle.keep_meaning.specs.Meaning.{said_in}
-use Rattle.keep_meaning.specs.Nodes.{is_at, is_node, says_at, fact_at, first_of}
+use Rattle.keep_meaning.specs.Meaning.{mentions_in}
+use Rattle.keep_meaning.specs.Nodes.{is_at, is_node, kinds_at, fact_at, first_of}
 use Rattle.keep_path.specs.Path.{Part}
 use Rattle.keep_nodes.specs.Facts.{NodeInfos}
 use Rattle.keep_meaning.proofs.Shared.{means_value}
@@ -37,23 +37,23 @@ use Rattle.keep_splice.proofs.Shared.{value_there}
 
 -- ---- the leaf that a scalar is
 
-body_spelled : (profile : Profile) (body : Body) (inside : Entries) → IsBody profile body → AreEntries profile (place_in body) inside → IsTrue (is_scalar_leaf (leaf_of body))
-    → IsLeaf profile (leaf_of body) (value_text (record { body = body; inside = inside }))
-body_spelled profile (array first) inside is are kind = absurd (false≢true kind)
-body_spelled profile (inline first) inside is are kind = absurd (false≢true kind)
+body_spelled : (profile : Profile) (body : Body) (nested : Entries) → IsBody profile body → AreEntries profile (place_in body) nested → IsTrue (is_scalar_leaf (leaf_of body))
+    → IsLeaf profile (leaf_of body) (value_text (record { body = body; nested = nested }))
+body_spelled profile (array first) nested is are kind = absurd (false≢true kind)
+body_spelled profile (inline first) nested is are kind = absurd (false≢true kind)
 body_spelled profile (scalar w) none is are kind = subst (λ (t : List ℕ). IsLeaf profile w.leaf t) (sym (append-nil w.text)) is.1
-body_spelled profile (scalar w) (entry name body inside after comma rest) is are kind = absurd are.0
+body_spelled profile (scalar w) (entry name body nested after comma rest) is are kind = absurd are.0
 
 -- its text is one of its leaf
 scalar_spelled : (profile : Profile) (path : List Part) (s : Document) (v : ℕ) (i : ValueInfo) → IsValueOf profile path s v i → IsTrue (is_scalar_leaf i.leaf) → IsLeaf profile i.leaf (text_at (text s) i.span)
 scalar_spelled profile path s v i h kind =
     let own : IsLeaf profile (leaf_of h.value.body) (value_text h.value) =
-    body_spelled profile h.value.body h.value.inside h.valid.body h.valid.inside (subst (λ (l : Leaf). IsTrue (is_scalar_leaf l)) h.leaf kind) in
+    body_spelled profile h.value.body h.value.nested h.valid.body h.valid.nested (subst (λ (l : Leaf). IsTrue (is_scalar_leaf l)) h.leaf kind) in
     subst (λ (l : Leaf). IsLeaf profile l (text_at (text s) i.span)) (sym h.leaf) (subst (λ (t : List ℕ). IsLeaf profile (leaf_of h.value.body) t) (sym h.spelled) own)
 
 -- ---- what was found
 
--- The value of this number is the path's, with what is told of it, and the document has these bytes.
+-- The value with this number is the path's, with what is known of it, and the document has these bytes.
 pub record IsValueAt (d : ProfiledText) (path : List Part) (s : Document) (number : ℕ) (i : ValueInfo) : Type 0 where
   pub value : IsValueOf d.profile path s number i
   pub spelled : text s ≡ d.text
@@ -70,12 +70,12 @@ number_of_some path s (Err f) o number e some h = absurd cc
 
 -- ---- where nothing is found
 
-silent-step : (path : List Part) (m : Mention) (ms : List Mention) → (list_any (is_at path) ms ≡ false → says_at path ms ≡ []) → (b : Bool) → is_at path m ≡ b → list_any (is_at path) (m ∷ ms) ≡ false
-    → says_at path (m ∷ ms) ≡ []
+silent-step : (path : List Part) (m : Mention) (ms : List Mention) → (list_any (is_at path) ms ≡ false → kinds_at path ms ≡ []) → (b : Bool) → is_at path m ≡ b → list_any (is_at path) (m ∷ ms) ≡ false
+    → kinds_at path (m ∷ ms) ≡ []
 silent-step path m ms h true e absent = let k : true ≡ false = rw e at absent in absurd cc
 silent-step path m ms h false e absent = rw e (h (rw e at absent))
 
-silent : (path : List Part) (ms : List Mention) → list_any (is_at path) ms ≡ false → says_at path ms ≡ []
+silent : (path : List Part) (ms : List Mention) → list_any (is_at path) ms ≡ false → kinds_at path ms ≡ []
 silent path [] absent = refl
 silent path (m ∷ ms) absent = silent-step path m ms (silent path ms) (is_at path m) refl absent
 
@@ -85,11 +85,11 @@ unmentioned (p ∷ ps) ms h = h
 
 no_node : (path : List Part) (ms : List Mention) → is_node path ms ≡ false → has_value path ms ≡ false
 no_node path ms h =
-    let none : fact_at path ms ≡ None = ap (λ says. first_of (filter_map fact_of says)) (silent path ms (unmentioned path ms h)) in
+    let none : fact_at path ms ≡ None = ap (λ mention_kind. first_of (filter_map fact_of mention_kind)) (silent path ms (unmentioned path ms h)) in
     ap (λ (o : Option Fact). elim o [ None ↦ false | Some f ↦ is_value_fact f ]) none
 
-no_value : (path : List Part) (s : Document) (f : EditFault) → HasNoValue path s f → has_value path (said_in s) ≡ false
-no_value path s NotFound h = no_node path (said_in s) h
+no_value : (path : List Part) (s : Document) (f : EditFault) → HasNoValue path s f → has_value path (mentions_in s) ≡ false
+no_value path s NotFound h = no_node path (mentions_in s) h
 no_value path s NotValue h = h.1
 no_value path s _ h = absurd h
 
@@ -108,7 +108,7 @@ no_integer_fact (Some fact.inline) h = refl
 
 pub no_integer_found : (path : List Part) (s : Document) (found : Result ℕ EditFault) (o : Option ℕ) → o ≡ result_ok found → o ≡ None → IsFound path s found → None ≡ int_value_of path s
 no_integer_found path s (Ok number) o e absent h = absurd cc
-no_integer_found path s (Err f) o e absent h = sym (no_integer_fact (fact_at path (said_in s)) (no_value path s f h))
+no_integer_found path s (Err f) o e absent h = sym (no_integer_fact (fact_at path (mentions_in s)) (no_value path s f h))
 
 -- the integer that was read
 integer_read : (t : List ℕ) (r : Option ℤ) → Integer t → (IsSome r ↔ Integer t) → IfSome r (λ n. n ≡ integer_value t) → r ≡ Some (integer_value t)
@@ -127,9 +127,9 @@ integer_found d t path s number i r h kind here some value =
     ∙ ap integer_of (sym (integer_at_leaf d.profile path s number i h.value kind))
 
 pub no_integer_leaf : (d : ProfiledText) (path : List Part) (s : Document) (number : ℕ) (i : ValueInfo) → IsValueAt d path s number i → (i.leaf ≡ leaf.Integer → ⊥) → None ≡ int_value_of path s
-no_integer_leaf d path s number i h other = by (fact_at path (said_in s)) refl
+no_integer_leaf d path s number i h other = by (fact_at path (mentions_in s)) refl
   where
-    by : (o : Option Fact) → fact_at path (said_in s) ≡ o → None ≡ integer_of o
+    by : (o : Option Fact) → fact_at path (mentions_in s) ≡ o → None ≡ integer_of o
     by None e = refl
     by (Some fact.table) e = refl
     by (Some (fact.string v)) e = refl
@@ -143,7 +143,7 @@ no_integer_leaf d path s number i h other = by (fact_at path (said_in s)) refl
 -- ---- strings
 
 pub no_string_found : (path : List Part) (s : Document) (f : EditFault) → IsFound path s (Err f) → None ≡ str_value_of path s
-no_string_found path s f h = sym (no_string path (said_in s) (no_value path s f h))
+no_string_found path s f h = sym (no_string path (mentions_in s) (no_value path s f h))
 
 abbrev pub is_quoted : Leaf → Bool
 is_quoted l = is_one_line l || is_many_lines l

@@ -105,7 +105,7 @@ module _ (old : ProfiledText) (made : Edited) (syntax : Syntax) (index : NodeInf
           closed = subst (λ (x : Span). (t.lines.last ≡ empty_line) ⊎ (x.end ≡ length (text o.tree))) (sym (whole_at o.tree p o.read o.at)) t.closed;
         }
 
-    -- the same of bytes and a profile that are these
+    -- the lines can be replaced, said of bytes and a profile that equal these
     pub can_as : (profile : Profile) (lines : List ℕ) → profile ≡ old.profile → lines ≡ slice_range (text_after old.text made) whole.start (end_by whole made) → CanReplace profile limit o.tree whole lines touches.lines
     can_as profile lines e f =
         subst (λ (p : Profile). CanReplace p limit o.tree whole lines touches.lines) (sym e)
@@ -131,7 +131,7 @@ module _ (old : ProfiledText) (made : Edited) (syntax : Syntax) (index : NodeInf
             let first : whole.start ≡ (touched_by u p).start = ap (λ (x : Span). x.start) (whole_at u p read m) in
             ap (λ (n : ℕ). n - whole.start) (end_at u p read m) ∙ ap (λ (n : ℕ). (touched_in_new u p).end - n) first
 
-    -- by what the call says that gave it, of the new lines as they stand in the new text
+    -- by what the call says that gave it, of the new lines as they are in the new text
     pub is_reread : (profile : Profile) (lines : List ℕ) (s : Syntax) → profile ≡ old.profile → lines ≡ slice_range (text_after old.text made) whole.start (end_by whole made)
         → ((d m : Document) → IsSyntaxOf syntax d → CanReplace profile limit d whole lines m → IsSyntaxOf s (replaced d whole m))
         → ((d m : Document) → IsSyntaxOf syntax d → CanReplace profile limit d whole lines m → IsTextOf s (put_at whole lines (text d)))
@@ -152,4 +152,4 @@ module _ (old : ProfiledText) (made : Edited) (syntax : Syntax) (index : NodeInf
 
 -- what stores the same is of the same text
 pub holds_same : (t : ProfiledText) (a b : Syntax) (index : NodeInfos) → IsSame a b → Holds t b index → Holds t a index
-holds_same t a b index same h = record { tree = h.tree; read = h.read; is = same_syntax same h.is; of_text = same_text same h.of_text; told = h.told; nested = h.nested }
+holds_same t a b index same h = record { tree = h.tree; read = h.read; is = same_syntax same h.is; of_text = same_text same h.of_text; stated = h.stated; nested = h.nested }

@@ -7,7 +7,7 @@ use Rattle.keep_meaning.specs.declared.node.Kind.{Kind}
 use Rattle.keep_meaning.specs.Fact as fact
 use Rattle.keep_meaning.specs.Fact.{Fact}
 use Rattle.keep_meaning.specs.Marks.{Mention}
-use Rattle.keep_meaning.specs.Meaning.{said_in}
+use Rattle.keep_meaning.specs.Meaning.{mentions_in}
 use Rattle.keep_meaning.specs.Nodes.{node_paths, nodes_in, is_node, kind_at, fact_at}
 use Rattle.keep_path.specs.Path.{Part}
 use Rattle.keep_path.specs.PathText.{encoded_path}
@@ -31,9 +31,9 @@ entry_at ms path = record { path = path; kind = kind_at path ms }
 
 -- all nodes but the root, in the order of the text
 abbrev pub entries_of : Document → List Entry
-entries_of s = map (entry_at (said_in s)) (drop 1 (node_paths (said_in s)))
+entries_of s = map (entry_at (mentions_in s)) (drop 1 (node_paths (mentions_in s)))
 
--- Behind a text the path of an entry is written, and its kind is told; where there is none, nothing is.
+-- After a text the path of an entry is written, and its kind is reported; where there is none, nothing is.
 abbrev pub AddsEntryPath : Option Entry → Option Kind → List ℕ → List ℕ → Type 0
 AddsEntryPath None kind old new = (kind ≡ None) × (new ≡ old)
 AddsEntryPath (Some e) kind old new = (kind ≡ Some e.kind) × (new ≡ old ++ encoded_path e.path)
@@ -41,7 +41,7 @@ AddsEntryPath (Some e) kind old new = (kind ≡ Some e.kind) × (new ≡ old ++ 
 -- ---- one node
 
 abbrev pub kind_of : List Part → Document → Option Kind
-kind_of path s = if is_node path (said_in s) then Some (kind_at path (said_in s)) else None
+kind_of path s = if is_node path (mentions_in s) then Some (kind_at path (mentions_in s)) else None
 
 -- what an integer means
 abbrev pub integer_of : Option Fact → Option ℤ
@@ -49,11 +49,11 @@ integer_of None = None
 integer_of (Some f) = elim f [ fact.integer n ↦ Some n | _ ↦ None ]
 
 abbrev pub int_value_of : List Part → Document → Option ℤ
-int_value_of path s = integer_of (fact_at path (said_in s))
+int_value_of path s = integer_of (fact_at path (mentions_in s))
 
 -- what a string means
 abbrev pub str_value_of : List Part → Document → Option (List ℕ)
-str_value_of path s = string_of (fact_at path (said_in s))
+str_value_of path s = string_of (fact_at path (mentions_in s))
 
 -- ---- edits
 
@@ -61,6 +61,6 @@ str_value_of path s = string_of (fact_at path (said_in s))
 abbrev pub EditDone : Document → Edit → ProfiledText → ProfiledText → Result Splice EditFault → Type 0
 EditDone s e old new result = IsDone (IsEdited s e new old) (refusal_in old s e) result
 
--- the changed text is told
-abbrev pub EditTold : Document → Edit → ProfiledText → Result (String Global) EditFault → Type 0
-EditTold s e old result = IsDone (λ text. IsTextAfter s e (text_in old.profile (string_bytes text)) old) (refusal_in old s e) result
+-- the changed text is given
+abbrev pub EditReported : Document → Edit → ProfiledText → Result (String Global) EditFault → Type 0
+EditReported s e old result = IsDone (λ text. IsTextAfter s e (text_in old.profile (string_bytes text)) old) (refusal_in old s e) result

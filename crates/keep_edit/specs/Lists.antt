@@ -50,13 +50,14 @@ pub record AreMade (s : Document) (edits : List Edit) (old : ProfiledText) (new 
   pub read : IsTextOfTree new tree
   pub profile : new.profile ≡ old.profile
 
--- The edit of this number, from 0, is the first that is refused, on the document after those before it, and this is why.
+-- The edit with this number, from 0, is the first that is refused, on the document after those before it, and this is
+-- why.
 pub record IsRefusedAt (s : Document) (edits : List Edit) (profile : Profile) (number : ℕ) (f : EditFault) : Type 0 where
   pub es : List law.Edit
   pub are : AllZip IsEdit (take (suc number) edits) es
   pub refused : applied_edits profile limit es s ≡ Err (record { number = number; fault = f })
 
--- Memory ran out at the edit of this number: neither it nor one before it is refused.
+-- Memory ran out at the edit with this number: neither it nor one before it is refused.
 pub record IsOutOfMemoryAt (s : Document) (edits : List Edit) (profile : Profile) (number : ℕ) (f : EditFault) : Type 0 where
   pub memory : f ≡ Memory
   pub here : number < length edits
@@ -65,13 +66,13 @@ pub record IsOutOfMemoryAt (s : Document) (edits : List Edit) (profile : Profile
   pub tree : Document
   pub allowed : applied_edits profile limit es s ≡ Ok tree
 
--- Memory ran out for the copy that a list of edits is made on, which is told as that of its first edit.
+-- Memory ran out for the copy that a list of edits is made on, which is reported as that of its first edit.
 pub record IsNotCopied (edits : List Edit) (number : ℕ) (f : EditFault) : Type 0 where
   pub memory : f ≡ Memory
   pub first : number ≡ 0
   pub some : 0 < length edits
 
--- why edits that are made one after another stop at the edit of this number
+-- why edits that are made one after another stop at the edit with this number
 abbrev pub StopsAt : Document → List Edit → Profile → ℕ → EditFault → Type 0
 StopsAt s edits profile number f = IsRefusedAt s edits profile number f ⊎ IsOutOfMemoryAt s edits profile number f
 

@@ -1,4 +1,5 @@
--- What is read: whole texts, in a profile, to the standard depth. What is read of single values is told by keep_value.
+-- What is read: whole texts, in a profile, to the standard depth. What is read of single values is defined by
+-- keep_value.
 use Rattle.std.specs.Prelude.{◌≡◌, ℕ, List, ◌⊎◌, Result, Err, IsUtf8}
 use Rattle.std.specs.Str.Lossy.{utf8_valid_len}
 use Rattle.keep_syntax.specs.declared.fault.ReadFault.{ReadFault}
@@ -22,6 +23,6 @@ pub record IsSyntaxIn (t : ProfiledText) (syntax : Syntax) : Type 0 where
 abbrev pub IsRefused : ProfiledText → ReadFault → Type 0
 IsRefused t fault = (fault ≡ Memory) ⊎ IsReadFault t.profile limit t.text fault
 
--- If the bytes are no text, this is told, with the length of their longest prefix that is text.
+-- If the bytes are no text, this is reported, with the length of their longest prefix that is text.
 abbrev pub TellsNoText : {T : Type 0} → List ℕ → Result T ReadFault → Type 0
 TellsNoText bytes result = ¬ (IsUtf8 bytes) → result ≡ Err (Utf8 (utf8_valid_len bytes))

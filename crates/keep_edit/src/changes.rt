@@ -9,7 +9,7 @@ ghost use Rattle.keep_law.specs.declared.fault.EditFault.TheVariants as law;
 ghost use Rattle.keep_nodes.specs.Facts.{NodeInfos};
 ghost use Rattle.keep_splice.specs.Answers.{text_after};
 ghost use Rattle.keep_edit.specs.Reading.{IsAccepted, IsAcceptedValue, IsTextOfTree, IsTextOfValue, ProfiledText, text_in};
-ghost use Rattle.keep_edit.specs.Answers.{EditDone, EditTold};
+ghost use Rattle.keep_edit.specs.Answers.{EditDone, EditReported};
 ghost use Rattle.keep_edit.specs.Headers.{key_texts};
 ghost use Rattle.keep_edit.specs.Places.{IsMovedIn, IsOfEdit, IsPatched, IsTaken};
 
@@ -24,15 +24,15 @@ use keep_value::ValueText;
 use std::alloc::Global;
 
 impl Document {
-    /// Writes a value in place of the one that stands at a path. Every other byte is kept. After a refusal the document is as
-    /// before. The document's own allocator gives the memory.
+    /// Writes a value in place of the one that is at a path. Every other byte is kept. After a refusal the document is
+    /// as before. The document's own allocator gives the memory.
     ///
     /// # Errors
     ///
-    /// The first that holds: `NotFound` where the path names no node; `NotValue` where the node has no value with a text of
-    /// its own; `TooDeep` where arrays and inline tables would enclose one another deeper than the standard depth; `Profile`
-    /// where the document was read in Strict and the value is none of Strict's grammar; else `Memory` where memory was
-    /// refused.
+    /// The first that holds: `NotFound` where the path names no node; `NotValue` where the node has no value with a
+    /// text of its own; `TooDeep` where arrays and inline tables would enclose one another deeper than the standard
+    /// depth; `Profile` where the document was read in Strict and the value is none of Strict's grammar; else `Memory`
+    /// where memory was refused.
     pub fn set(&mut self, path: &Path, value: &ValueText) -> Result<Splice, EditFault>
         ensures done { (s : tree.Document) → IsTextOfTree self.old s → (v : Value) → IsTextOfValue value.now v → EditDone s (set path.now v) self.old self.new result }
         ensures accepted { IsAccepted self.old }
@@ -51,7 +51,7 @@ impl Document {
     ///
     /// Those of `set`.
     pub fn text_with(&self, path: &Path, value: &ValueText) -> Result<String, EditFault>
-        ensures told { (s : tree.Document) → IsTextOfTree self.now s → (v : Value) → IsTextOfValue value.now v → EditTold s (set path.now v) self.now result }
+        ensures stated { (s : tree.Document) → IsTextOfTree self.now s → (v : Value) → IsTextOfValue value.now v → EditReported s (set path.now v) self.now result }
         ensures accepted { IsAccepted self.now }
         ensures value { IsAcceptedValue Wide value.now }
     {
@@ -60,17 +60,18 @@ impl Document {
         self.text_after(alloc, &edited)
     }
 
-    /// Writes a value at a new path: as an item of an array before the item that is there, or behind the last; as a keyval
-    /// behind the last of a body, of an inline table, or of those that go on from the same table by dots; or below a new header.
-    /// The keys of the path that the table does not have yet are written with dots. Every other byte is kept. After a refusal the
-    /// document is as before. The document's own allocator gives the memory.
+    /// Writes a value at a new path: as an item of an array before the item that is there, or after the last; as a
+    /// keyval after the last of a body, of an inline table, or of those that continue from the same table by dots; or
+    /// below a new header. The keys of the path that the table does not have yet are written with dots. Every other
+    /// byte is kept. After a refusal the document is as before. The document's own allocator gives the memory.
     ///
     /// # Errors
     ///
-    /// The first that holds: `NotFound` if the path ends in an index past the last item, or a part of it that is new has an
-    /// index; `Exists` if the path names a node, unless it is an item; `NotTable` if the longest prefix that names a node is no
-    /// table; `TooDeep` if arrays and inline tables would enclose one another deeper than the standard depth; `Profile` if the
-    /// document was read in Strict and the value is none of Strict's grammar; else `Memory` if memory was refused.
+    /// The first that holds: `NotFound` if the path ends in an index past the last item, or a part of it that is new
+    /// has an index; `Exists` if the path names a node, unless it is an item; `NotTable` if the longest prefix that
+    /// names a node is no table; `TooDeep` if arrays and inline tables would enclose one another deeper than the
+    /// standard depth; `Profile` if the document was read in Strict and the value is none of Strict's grammar; else
+    /// `Memory` if memory was refused.
     pub fn insert(&mut self, path: &Path, value: &ValueText) -> Result<Splice, EditFault>
         ensures done { (s : tree.Document) → IsTextOfTree self.old s → (v : tree.Value) → IsTextOfValue value.now v → EditDone s (insert path.now v) self.old self.new result }
         ensures accepted { IsAccepted self.old }
@@ -89,7 +90,7 @@ impl Document {
     ///
     /// Those of `insert`.
     pub fn text_inserted(&self, path: &Path, value: &ValueText) -> Result<String, EditFault>
-        ensures told { (s : tree.Document) → IsTextOfTree self.now s → (v : tree.Value) → IsTextOfValue value.now v → EditTold s (insert path.now v) self.now result }
+        ensures stated { (s : tree.Document) → IsTextOfTree self.now s → (v : tree.Value) → IsTextOfValue value.now v → EditReported s (insert path.now v) self.now result }
         ensures accepted { IsAccepted self.now }
         ensures value { IsAcceptedValue Wide value.now }
     {
@@ -123,7 +124,7 @@ impl Document {
     ///
     /// Those of `rename`.
     pub fn text_renamed(&self, path: &Path, key: &str) -> Result<String, EditFault>
-        ensures told { (s : tree.Document) → IsTextOfTree self.now s → EditTold s (rename path.now key.now) self.now result }
+        ensures stated { (s : tree.Document) → IsTextOfTree self.now s → EditReported s (rename path.now key.now) self.now result }
         ensures accepted { IsAccepted self.now }
     {
         let alloc = *self.text.allocator();
@@ -131,15 +132,15 @@ impl Document {
         self.text_after(alloc, &renamed)
     }
 
-    /// Removes the node of a path: a keyval with its line, of which a comment behind it stays; an item of an array, or a keyval
-    /// in braces, with one comma; a table or an element with its header and body. Every other byte is kept. After a refusal the
-    /// document is as before. The document's own allocator gives the memory.
+    /// Removes the node of a path: a keyval with its line, of which a comment after it stays; an item of an array, or a
+    /// keyval in braces, with one comma; a table or an element with its header and body. Every other byte is kept.
+    /// After a refusal the document is as before. The document's own allocator gives the memory.
     ///
     /// # Errors
     ///
-    /// The first that holds: `NotFound` if the path names no node; `NotKey` if it is the root; `Scattered` if neither a value
-    /// nor one header with its body is the whole node, as for a table that dotted keys define, or that a header goes through;
-    /// else `Memory` if memory was refused.
+    /// The first that holds: `NotFound` if the path names no node; `NotKey` if it is the root; `Scattered` if neither a
+    /// value nor one header with its body is the whole node, as for a table that dotted keys define, or that a header
+    /// goes through; else `Memory` if memory was refused.
     pub fn remove(&mut self, path: &Path) -> Result<Splice, EditFault>
         ensures done { (s : tree.Document) → IsTextOfTree self.old s → EditDone s (remove path.now) self.old self.new result }
         ensures accepted { IsAccepted self.old }
@@ -157,7 +158,7 @@ impl Document {
     ///
     /// Those of `remove`.
     pub fn text_removed(&self, path: &Path) -> Result<String, EditFault>
-        ensures told { (s : tree.Document) → IsTextOfTree self.now s → EditTold s (remove path.now) self.now result }
+        ensures stated { (s : tree.Document) → IsTextOfTree self.now s → EditReported s (remove path.now) self.now result }
         ensures accepted { IsAccepted self.now }
     {
         let alloc = *self.text.allocator();
@@ -165,13 +166,13 @@ impl Document {
         self.text_after(alloc, &removed)
     }
 
-    /// Writes the header `[..]` of a table at the end of the text, behind a blank line. Every other byte is kept. After a refusal
-    /// the document is as before. The document's own allocator gives the memory.
+    /// Writes the header `[..]` of a table at the end of the text, after a blank line. Every other byte is kept. After
+    /// a refusal the document is as before. The document's own allocator gives the memory.
     ///
     /// # Errors
     ///
-    /// The first that holds: `NotKey` if there are no keys; `Conflict` with the reason if the document's key parts do not allow
-    /// one of the header's; else `Memory` if memory was refused.
+    /// The first that holds: `NotKey` if there are no keys; `Conflict` with the reason if the document's key parts do
+    /// not allow one of the header's; else `Memory` if memory was refused.
     pub fn append_table(&mut self, keys: &[String]) -> Result<Splice, EditFault>
         ensures done { (s : tree.Document) → IsTextOfTree self.old s → EditDone s (append_table (key_texts keys.now)) self.old self.new result }
         ensures accepted { IsAccepted self.old }
@@ -189,7 +190,7 @@ impl Document {
     ///
     /// Those of `append_table`.
     pub fn text_with_table(&self, keys: &[String]) -> Result<String, EditFault>
-        ensures told { (s : tree.Document) → IsTextOfTree self.now s → EditTold s (append_table (key_texts keys.now)) self.now result }
+        ensures stated { (s : tree.Document) → IsTextOfTree self.now s → EditReported s (append_table (key_texts keys.now)) self.now result }
         ensures accepted { IsAccepted self.now }
     {
         let alloc = *self.text.allocator();
@@ -197,8 +198,8 @@ impl Document {
         self.text_after(alloc, &header)
     }
 
-    /// Writes the header `[[..]]` of an element of an array of tables at the end of the text, behind a blank line. Every other
-    /// byte is kept. After a refusal the document is as before. The document's own allocator gives the memory.
+    /// Writes the header `[[..]]` of an element of an array of tables at the end of the text, after a blank line. Every
+    /// other byte is kept. After a refusal the document is as before. The document's own allocator gives the memory.
     ///
     /// # Errors
     ///
@@ -220,7 +221,7 @@ impl Document {
     ///
     /// Those of `append_table`.
     pub fn text_with_element(&self, keys: &[String]) -> Result<String, EditFault>
-        ensures told { (s : tree.Document) → IsTextOfTree self.now s → EditTold s (append_element (key_texts keys.now)) self.now result }
+        ensures stated { (s : tree.Document) → IsTextOfTree self.now s → EditReported s (append_element (key_texts keys.now)) self.now result }
         ensures accepted { IsAccepted self.now }
     {
         let alloc = *self.text.allocator();
@@ -248,7 +249,7 @@ impl Document {
     {
         let alloc = *self.text.allocator();
         let profile = self.profile;
-        let Ok(kept) = put_in(&mut self.text, &edited) else {
+        let Ok(preserved) = put_in(&mut self.text, &edited) else {
             return Err(EditFault::Memory);
         };
         match reread(
@@ -270,7 +271,7 @@ impl Document {
                 })
             }
             Err(fault) => {
-                put_back(&mut self.text, &edited, kept.as_str());
+                put_back(&mut self.text, &edited, preserved.as_str());
                 Err(fault)
             }
         }

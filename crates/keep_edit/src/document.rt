@@ -233,7 +233,7 @@ impl Document {
     ghost use Rattle.keep_edit.specs.Answers.{kind_of, int_value_of, str_value_of, entries_of};
     ghost use Rattle.keep_law.specs.Answers as answers;
 
-    /// What stands at a path; None where it names no node.
+    /// What is at a path; None where it names no node.
     pub fn kind(&self, path: &Path) -> Option<Kind>
         ensures kind { (s : tree.Document) → IsTextOfTree self.now s → result ≡ kind_of path.now s }
         ensures accepted { IsAccepted self.now }
@@ -253,17 +253,17 @@ impl Document {
         ensures accepted { IsAccepted self.now }
     {
         let text = self.text.as_str();
-        let number = self.as_ref().found(path)?;
+        let number = self.as_ref().value_number(path)?;
         Ok(part_at(text, self.syntax.value(number).span))
     }
 
-    /// The integer at a path; None where something else stands there, or nothing. It takes no memory.
+    /// The integer at a path; None where something else is there, or nothing. It takes no memory.
     pub fn int_value(&self, path: &Path) -> Option<i64>
         ensures integer { (s : tree.Document) → IsTextOfTree self.now s → result ≡ int_value_of path.now s }
         ensures accepted { IsAccepted self.now }
     {
         let text = self.text.as_str();
-        let number = self.as_ref().found(path).ok()?;
+        let number = self.as_ref().value_number(path).ok()?;
         let value = self.syntax.value(number);
         match value.leaf {
             Leaf::Integer => integer_of(part_at(text, value.span)),
@@ -271,14 +271,14 @@ impl Document {
         }
     }
 
-    /// What the string at a path means, decoded; None where something else stands there, or nothing. The only error is
+    /// What the string at a path means, decoded; None where something else is there, or nothing. The only error is
     /// out of memory.
     pub fn str_value(&self, alloc: Global, path: &Path) -> Result<Option<String>, AllocError>
         ensures string { (s : tree.Document) → IsTextOfTree self.now s → IfOk result (λ found. option_map string_bytes found ≡ str_value_of path.now s) }
         ensures accepted { IsAccepted self.now }
     {
         let text = self.text.as_str();
-        let Ok(number) = self.as_ref().found(path) else {
+        let Ok(number) = self.as_ref().value_number(path) else {
             return Ok(None);
         };
         let value = self.syntax.value(number);

@@ -3,7 +3,7 @@ ghost use Rattle.std.specs.Prelude.{◌≡◌, ◌+◌, ◌≤◌, length, IfOk,
 ghost use Rattle.keep_syntax.specs.Tree as tree;
 ghost use Rattle.keep_law.specs.Edits as law;
 ghost use Rattle.keep_edit.specs.Reading.{IsAccepted, IsTextOfTree};
-ghost use Rattle.keep_edit.specs.Answers.{EditDone, EditTold};
+ghost use Rattle.keep_edit.specs.Answers.{EditDone, EditReported};
 ghost use Rattle.keep_edit.specs.Lists.{IsEdit, AllDone, EachDone, growth_of};
 
 use crate::document::Document;
@@ -57,7 +57,7 @@ impl Document {
     ///
     /// Those of `apply`.
     pub fn text_applied(&self, edit: &Edit) -> Result<String, EditFault>
-        ensures told { (s : tree.Document) → IsTextOfTree self.now s → (e : law.Edit) → IsEdit edit.now e → EditTold s e self.now result }
+        ensures stated { (s : tree.Document) → IsTextOfTree self.now s → (e : law.Edit) → IsEdit edit.now e → EditReported s e self.now result }
         ensures accepted { IsAccepted self.now }
         ensures edit { (e : law.Edit) × IsEdit edit.now e }
     {

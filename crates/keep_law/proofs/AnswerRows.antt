@@ -1,4 +1,4 @@
--- What is told of small documents, and what comes of lists of edits, computed from the texts.
+-- What is known of small documents, and what comes of lists of edits, computed from the texts.
 use Rattle.std.proofs.Common.{◌≡◌, ℕ, List, [], ◌∷◌, length, map, refl}
 use Rattle.std.specs.Prelude.{codes, Result, Ok, Err}
 use Rattle.keep_token.specs.declared.leaf.Profile.TheVariants.{Strict}
@@ -10,7 +10,7 @@ use Rattle.keep_syntax.specs.Reading.{Fault, repeat, space_at, blank_from, furth
 use Rattle.keep_meaning.specs.declared.node.Kind.{Kind}
 use Rattle.keep_meaning.specs.declared.node.Kind.TheVariants as kind
 use Rattle.keep_path.specs.Path.{Part, key, index}
-use Rattle.keep_meaning.specs.Meaning.{said_in}
+use Rattle.keep_meaning.specs.Meaning.{mentions_in}
 use Rattle.keep_meaning.specs.Nodes.{node_paths, kind_at}
 use Rattle.keep_law.specs.declared.fault.EditFault.{EditFault}
 use Rattle.keep_law.specs.declared.fault.EditFault.TheVariants as fault
@@ -18,30 +18,30 @@ use Rattle.keep_law.specs.Edits.{Edit, set, insert, rename, remove}
 use Rattle.keep_law.specs.Answers.{get, string_at, Listed, listed_in, Refused, applied_edits}
 use Rattle.keep_law.proofs.Rows.{value}
 
--- what is asked of a document, and what is told
+-- what is asked of a document, and what is answered
 pub data Row : Type 0 where
-  gets : (path : List Part) (told : Result (List ℕ) EditFault) → Row
-  string_is : (path : List Part) (told : Result (List ℕ) EditFault) → Row
+  gets : (path : List Part) (stated : Result (List ℕ) EditFault) → Row
+  string_is : (path : List Part) (stated : Result (List ℕ) EditFault) → Row
   counts : (tokens nodes : ℕ) → Row
   nodes_are : (paths : List (List Part)) (kinds : List Kind) → Row
   lists : (nodes : List Listed) → Row
-  becomes : (edits : List Edit) (told : Result (List ℕ) Refused) → Row
+  becomes : (edits : List Edit) (stated : Result (List ℕ) Refused) → Row
 
 abbrev text_of : Result Document Refused → Result (List ℕ) Refused
 text_of (Ok s) = Ok (text s)
 text_of (Err r) = Err r
 
 abbrev kinds_of : Document → List Kind
-kinds_of s = map (λ path. kind_at path (said_in s)) (node_paths (said_in s))
+kinds_of s = map (λ path. kind_at path (mentions_in s)) (node_paths (mentions_in s))
 
 -- what the definitions tell
-abbrev told : Document → Row → Row
-told s (gets path t) = gets path (get path s)
-told s (string_is path t) = string_is path (string_at path s)
-told s (counts tokens nodes) = counts (length (leaves s)) (length (node_paths (said_in s)))
-told s (nodes_are paths kinds) = nodes_are (node_paths (said_in s)) (kinds_of s)
-told s (lists nodes) = lists (listed_in s)
-told s (becomes edits t) = becomes edits (text_of (applied_edits Strict standard_depth edits s))
+abbrev stated : Document → Row → Row
+stated s (gets path t) = gets path (get path s)
+stated s (string_is path t) = string_is path (string_at path s)
+stated s (counts tokens nodes) = counts (length (leaves s)) (length (node_paths (mentions_in s)))
+stated s (nodes_are paths kinds) = nodes_are (node_paths (mentions_in s)) (kinds_of s)
+stated s (lists nodes) = lists (listed_in s)
+stated s (becomes edits t) = becomes edits (text_of (applied_edits Strict standard_depth edits s))
 
 abbrev Of : Result Document Fault → (Document → Type 0) → Type 0
 Of (Ok s) P = P s
@@ -49,7 +49,7 @@ Of (Err f) P = ⊥
 
 -- of the document with this text
 abbrev Tells : List ℕ → List Row → Type 0
-Tells text rows = Of (read_document Strict standard_depth text) (λ s. map (told s) rows ≡ rows)
+Tells text rows = Of (read_document Strict standard_depth text) (λ s. map (stated s) rows ≡ rows)
 
 number_with_comment : Tells (codes "a = 1 # x\n") (
     gets (key (codes "a") ∷ []) (Ok (codes "1"))
@@ -116,7 +116,7 @@ elements_in_order : Tells (codes "[[a]]\n[a.b]\n[[a]]\n[a.b]\n") (
 unfolding repeat space_at blank_from further_at key_of name_of item_by entry_by value_of content_at comment_at line_at ended_at read_document read_one_value gap_at key_at scalar_at word_leaf
 elements_in_order = refl
 
--- dotted keys in front of the keys that they hold, the root left out, keys in quotation marks where they must be
+-- dotted keys before the keys that they hold, the root left out, keys in quotation marks where they must be
 listed_in_order : Tells (codes "a.b = 1\n'x y' = \"s\"\n[t]\nu = {v = 1979-05-27}\n") (
     lists (
     record { path = codes "a"; kind = kind.Table }

@@ -24,7 +24,7 @@ pub mod NewLines
 pub mod Doubles
 pub mod Stops
 pub mod RemoveThere
-pub mod ValuesSay
+pub mod ValuesMention
 pub mod FoundValue
 pub mod ValueNumber
 pub mod EntryDepths

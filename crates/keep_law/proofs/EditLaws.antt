@@ -8,13 +8,13 @@ use Rattle.keep_syntax.proofs.Shared.{allowed_value}
 use Rattle.keep_path.specs.Path.{Part}
 use Rattle.keep_meaning.specs.Rules.{ObeysRules}
 use Rattle.keep_meaning.specs.Marks.{marks}
-use Rattle.keep_meaning.specs.Meaning.{said_in}
+use Rattle.keep_meaning.specs.Meaning.{mentions_in}
 use Rattle.keep_law.specs.Changed.{Changed, place_of, put}
 use Rattle.keep_law.specs.Edits.{Edit, set, insert, rename, remove, append_table, append_element, key_with, append, change, changed_or_same}
 use Rattle.keep_law.specs.Look.{keys_in, holder, item_number}
 use Rattle.keep_law.specs.Refusals.{refusal}
 use Rattle.keep_law.specs.Trees.{IsTreeOf}
-use Rattle.keep_law.specs.Laws.{given_size, IsStanding, IsLawfulEdit, ChangeIsPut, SetIsLawful, AppendTableIsLawful, AppendElementIsLawful, RemoveIsLawful, RenameIsLawful, GrowthIsBounded, IsGivenValue, InsertIsLawful}
+use Rattle.keep_law.specs.Laws.{given_size, IsEditable, IsLawfulEdit, ChangeIsPut, SetIsLawful, AppendTableIsLawful, AppendElementIsLawful, RemoveIsLawful, RenameIsLawful, GrowthIsBounded, IsGivenValue, InsertIsLawful}
 use Rattle.keep_law.proofs.Common.Texts.{EachIs, put-place_of}
 use Rattle.keep_law.proofs.Common.LineTexts.{change-is}
 use Rattle.keep_law.proofs.Common.SetLaw.{EachTo}
@@ -57,63 +57,63 @@ lawful profile limit s e c is whole low grown = record {
   changed = c;
   is = is;
   reads = edited_from (λ x. Reads profile limit (put (text s) (place_of x)) x.to) s e c is (record { valid = whole.valid; spelled = sym whole.spelled; shallow = low });
-  obeys = edited_from (λ x. ObeysRules (marks (said_in x.to))) s e c is whole.obeys;
-  tree = edited_from (λ x. IsTreeOf (said_in s) e (said_in x.to)) s e c is whole.tree;
+  obeys = edited_from (λ x. ObeysRules (marks (mentions_in x.to))) s e c is whole.obeys;
+  tree = edited_from (λ x. IsTreeOf (mentions_in s) e (mentions_in x.to)) s e c is whole.tree;
   growth = edited_from (λ x. length (text x.to) ≤ length (text s) + given_size e + 12) s e c is grown;
 }
 
 pub set_lawful : SetIsLawful
-set_lawful profile limit s path new standing given allowed =
-    let (c, law) = set_is_lawful profile limit s path new standing.valid standing.shallow standing.obeys given.valid given.obeys allowed in
+set_lawful profile limit s path new editable given allowed =
+    let (c, law) = set_is_lawful profile limit s path new editable.valid editable.shallow editable.obeys given.valid given.obeys allowed in
     lawful profile limit s (set path new) c law.is law.whole law.shallow (omega (arith, law.growth))
 
 -- ---- append_table, append_element
 
 -- an edit that appends a line without a value
-append_lawful : (profile : Profile) (limit : ℕ) (s : Document) (e : Edit) (content : Content) → change s e ≡ append s content → content_depth content ≡ 0 → IsStanding profile limit s
+append_lawful : (profile : Profile) (limit : ℕ) (s : Document) (e : Edit) (content : Content) → change s e ≡ append s content → content_depth content ≡ 0 → IsEditable profile limit s
     → EachChange (IsSetWhole profile s e) (change s e) → refusal profile limit s e ≡ None → IsLawfulEdit profile limit s e
-append_lawful profile limit s e content by flat standing right allowed =
+append_lawful profile limit s e content by flat editable right allowed =
     let a = appended s content in
     let c : Changed Document = line_change s a.number a.contents in
     let is : change s e ≡ Some c = by ∙ a.is in
     lawful profile limit s e c is (subst (EachChange (IsSetWhole profile s e)) is right)
-    (omega (arith, line_depth s a.number a.contents, a.flat, flat, standing.shallow))
-    (growth profile limit s e c standing.valid standing.obeys allowed is)
+    (omega (arith, line_depth s a.number a.contents, a.flat, flat, editable.shallow))
+    (growth profile limit s e c editable.valid editable.obeys allowed is)
 
 pub append_table_lawful : AppendTableIsLawful
-append_table_lawful profile limit s keys standing texts allowed =
-    append_lawful profile limit s (append_table keys) (header [] (key_with keys) []) refl refl standing
-    (append_table_is_right profile limit s keys allowed (key_texts profile keys texts) standing.valid standing.obeys) allowed
+append_table_lawful profile limit s keys editable texts allowed =
+    append_lawful profile limit s (append_table keys) (header [] (key_with keys) []) refl refl editable
+    (append_table_is_right profile limit s keys allowed (key_texts profile keys texts) editable.valid editable.obeys) allowed
 
 pub append_element_lawful : AppendElementIsLawful
-append_element_lawful profile limit s keys standing texts allowed =
-    append_lawful profile limit s (append_element keys) (element [] (key_with keys) []) refl refl standing
-    (append_element_is_right profile limit s keys allowed (key_texts profile keys texts) standing.valid standing.obeys) allowed
+append_element_lawful profile limit s keys editable texts allowed =
+    append_lawful profile limit s (append_element keys) (element [] (key_with keys) []) refl refl editable
+    (append_element_is_right profile limit s keys allowed (key_texts profile keys texts) editable.valid editable.obeys) allowed
 
 -- ---- insert
 
-inserted : (profile : Profile) (limit : ℕ) (s : Document) (path : List Part) (new : Value) → IsStanding profile limit s → IsGivenValue profile new → AllOf (IsKeyText profile) (keys_in path)
+inserted : (profile : Profile) (limit : ℕ) (s : Document) (path : List Part) (new : Value) → IsEditable profile limit s → IsGivenValue profile new → AllOf (IsKeyText profile) (keys_in path)
     → refusal profile limit s (insert path new) ≡ None → IsInsertedWhole profile limit s path new
-inserted profile limit s path new standing given texts allowed = by (item_number path (said_in s)) refl (has_lines s (holder path (said_in s))) refl
+inserted profile limit s path new editable given texts allowed = by (item_number path (mentions_in s)) refl (has_lines s (holder path (mentions_in s))) refl
   where
-    by : (o : Option ℕ) → item_number path (said_in s) ≡ o → (b : Bool) → has_lines s (holder path (said_in s)) ≡ b → IsInsertedWhole profile limit s path new
-    by (Some n) e b h = insert_item profile limit s path new n standing given e allowed
-    by None e true h = insert_whole profile limit s path new standing given texts e h allowed
-    by None e false h = insert_braces profile limit s path new standing given texts e h allowed
+    by : (o : Option ℕ) → item_number path (mentions_in s) ≡ o → (b : Bool) → has_lines s (holder path (mentions_in s)) ≡ b → IsInsertedWhole profile limit s path new
+    by (Some n) e b h = insert_item profile limit s path new n editable given e allowed
+    by None e true h = insert_whole profile limit s path new editable given texts e h allowed
+    by None e false h = insert_braces profile limit s path new editable given texts e h allowed
 
 -- the profile's grammar has a value that is not refused
 suiting : (profile : Profile) (limit : ℕ) (s : Document) (path : List Part) (new : Value) → refusal profile limit s (insert path new) ≡ None → is_allowed_in profile new ≡ true
-suiting profile limit s path new allowed = by (item_number path (said_in s)) refl
+suiting profile limit s path new allowed = by (item_number path (mentions_in s)) refl
   where
-    by : (o : Option ℕ) → item_number path (said_in s) ≡ o → is_allowed_in profile new ≡ true
+    by : (o : Option ℕ) → item_number path (mentions_in s) ≡ o → is_allowed_in profile new ≡ true
     by (Some n) e = (granted profile limit s path n new e allowed).suits
     by None e = suits_there profile limit s path new e allowed
 
 pub insert_lawful : InsertIsLawful
-insert_lawful profile limit s path new standing given texts allowed =
+insert_lawful profile limit s path new editable given texts allowed =
     let valid : IsValue profile new = allowed_value profile new given.valid (suiting profile limit s path new allowed) in
-    let r = inserted profile limit s path new standing (record { valid = valid; obeys = given.obeys }) (key_texts profile (keys_in path) texts) allowed in
-    lawful profile limit s (insert path new) r.changed r.is r.whole r.low (growth profile limit s (insert path new) r.changed standing.valid standing.obeys allowed r.is)
+    let r = inserted profile limit s path new editable (record { valid = valid; obeys = given.obeys }) (key_texts profile (keys_in path) texts) allowed in
+    lawful profile limit s (insert path new) r.changed r.is r.whole r.low (growth profile limit s (insert path new) r.changed editable.valid editable.obeys allowed r.is)
 
 -- ---- remove
 
@@ -121,19 +121,19 @@ depth_of : (n : ℕ) (o : Option (Changed Document)) (c : Changed Document) → 
 depth_of n o c is h = subst (EachTo (λ s'. depth s' ≤ n)) is h
 
 pub remove_lawful : RemoveIsLawful
-remove_lawful profile limit s path standing allowed =
-    let r = remove_any profile limit s path standing.valid standing.obeys allowed in
+remove_lawful profile limit s path editable allowed =
+    let r = remove_any profile limit s path editable.valid editable.obeys allowed in
     lawful profile limit s (remove path) r.changed r.is r.whole
-    (omega (arith, depth_of (depth s) (change s (remove path)) r.changed r.is (remove_depth s path), standing.shallow))
-    (growth profile limit s (remove path) r.changed standing.valid standing.obeys allowed r.is)
+    (omega (arith, depth_of (depth s) (change s (remove path)) r.changed r.is (remove_depth s path), editable.shallow))
+    (growth profile limit s (remove path) r.changed editable.valid editable.obeys allowed r.is)
 
 -- ---- rename
 
 pub rename_lawful : RenameIsLawful
-rename_lawful profile limit s path text standing utf8 allowed =
-    let r = rename_whole profile limit s path text standing.valid standing.obeys utf8 allowed in
-    lawful profile limit s (rename path text) r.changed r.is r.whole (omega (arith, r.flat, standing.shallow))
-    (growth profile limit s (rename path text) r.changed standing.valid standing.obeys allowed r.is)
+rename_lawful profile limit s path text editable utf8 allowed =
+    let r = rename_whole profile limit s path text editable.valid editable.obeys utf8 allowed in
+    lawful profile limit s (rename path text) r.changed r.is r.whole (omega (arith, r.flat, editable.shallow))
+    (growth profile limit s (rename path text) r.changed editable.valid editable.obeys allowed r.is)
 
 -- ---- growth
 

@@ -6,7 +6,7 @@ pub mod SectionLaw
 pub mod SectionFacts
 pub mod LineDepths
 pub mod InsertWhole
-pub mod WayFront
+pub mod WayPrefix
 pub mod SectionPlace
 pub mod InsertSection
 pub mod PutIn
@@ -21,7 +21,7 @@ pub mod ItemThere
 pub mod InsertItem
 pub mod LinesNamed
 pub mod HolderThere
-pub mod ValuedFront
+pub mod ValuedPrefix
 pub mod NamedEntries
 pub mod KeyvalPut
 pub mod BracesPlace
@@ -30,7 +30,7 @@ pub mod BracesLaw
 pub mod InsertBraces
 pub mod HolderFacts
 pub mod ItemNumbers
-pub mod OriginSaid
+pub mod OriginMentioned
 pub mod FoundThere
 pub mod EntryPlaces
 pub mod EntryThere

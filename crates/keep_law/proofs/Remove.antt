@@ -10,9 +10,9 @@ pub mod RemoveDepth
 pub mod RemoveWhole
 pub mod Shift
 pub mod ShiftWay
-pub mod KeyvalSays
+pub mod KeyvalMentions
 pub mod ShiftLines
-pub mod ShiftSaid
+pub mod ShiftMentioned
 pub mod ElementTree
 pub mod RemoveElement
 pub mod ElementThere

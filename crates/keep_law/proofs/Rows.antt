@@ -14,32 +14,32 @@ use Rattle.keep_syntax.specs.Reading.{Fault, repeat, space_at, blank_from, furth
 use Rattle.keep_path.specs.Path.{Part, key, index}
 use Rattle.keep_meaning.specs.Fact.{Fact}
 use Rattle.keep_meaning.specs.Marks.{Mention, marks}
-use Rattle.keep_meaning.specs.Meaning.{said_in}
+use Rattle.keep_meaning.specs.Meaning.{mentions_in}
 use Rattle.keep_meaning.specs.Nodes.{fact_at}
 use Rattle.keep_law.specs.declared.fault.EditFault.{EditFault}
 use Rattle.keep_law.specs.declared.fault.EditFault.TheVariants as fault
 use Rattle.keep_law.specs.Changed.{Place, put}
 use Rattle.keep_law.specs.Edits.{Edit, set, insert, rename, remove, append_table, append_element, edited_document, place}
 use Rattle.keep_law.specs.Refusals.{refusal, first_conflict}
-use Rattle.keep_law.specs.Trees.{source, fact_from, new_said}
+use Rattle.keep_law.specs.Trees.{source, fact_from, new_mentions}
 
 -- the value that a text is read as
 abbrev or_zero : Result Value Fault → Value
 or_zero (Ok v) = v
-or_zero (Err f) = record { body = scalar (record { leaf = leaf.Integer; text = codes "0" }); inside = none }
+or_zero (Err f) = record { body = scalar (record { leaf = leaf.Integer; text = codes "0" }); nested = none }
 
 abbrev pub value : List ℕ → Value
 value text = or_zero (read_one_value Wide standard_depth text)
 
--- the paths that either document speaks of, and what stands there
+-- the paths that either document speaks of, and what is there
 abbrev asked : Document → Document → List (List Part)
-asked s s' = [] ∷ map (λ m. m.path) (said_in s) ++ map (λ m. m.path) (said_in s')
+asked s s' = [] ∷ map (λ m. m.path) (mentions_in s) ++ map (λ m. m.path) (mentions_in s')
 
 abbrev facts : List (List Part) → List Mention → List (Option Fact)
 facts qs ms = map (λ q. fact_at q ms) qs
 
 abbrev facts_from : List (List Part) → List Mention → Edit → List (Option Fact)
-facts_from qs ms e = map (λ q. fact_from ms (new_said e) (source ms e q)) qs
+facts_from qs ms e = map (λ q. fact_from ms (new_mentions e) (source ms e q)) qs
 
 -- what comes of an edit
 pub record Outcome : Type 0 where
@@ -56,41 +56,41 @@ abbrev outcome : Profile → Document → Edit → List ℕ → Outcome
 outcome profile s e new =
     let s' : Document = edited_document s e in
     let p : Place = place s e in
-    record { refused = refusal profile standard_depth s e; conflict = first_conflict [] (marks (said_in s')); facts = facts (asked s s') (said_in s'); text = put (text s) p; start = p.start; end = p.end; added = length p.new; read_again = read_document profile standard_depth new }
+    record { refused = refusal profile standard_depth s e; conflict = first_conflict [] (marks (mentions_in s')); facts = facts (asked s s') (mentions_in s'); text = put (text s) p; start = p.start; end = p.end; added = length p.new; read_again = read_document profile standard_depth new }
 
 -- Nothing is refused, the rules hold, the facts come from where they are said to come from, start..end of the old text gives
 -- way to so many bytes, and reading the new text gives the new document.
 abbrev wanted : Document → Edit → List ℕ → ℕ → ℕ → ℕ → Outcome
 wanted s e new start end added =
     let s' : Document = edited_document s e in
-    record { refused = None; conflict = None; facts = facts_from (asked s s') (said_in s) e; text = new; start = start; end = end; added = added; read_again = Ok s' }
+    record { refused = None; conflict = None; facts = facts_from (asked s s') (mentions_in s) e; text = new; start = start; end = end; added = added; read_again = Ok s' }
 
 -- a row: the document's text, the edit, and the new text with the place; or the refusal, in TOML v1.0.0 and under a limit of depth
 pub data Row : Type 0 where
   goes : (profile : Profile) (old : List ℕ) (e : Edit) (new : List ℕ) (start end added : ℕ) → Row
   refuses : (limit : ℕ) (old : List ℕ) (e : Edit) (f : EditFault) → Row
 
-pub data Told : Type 0 where
-  made : Outcome → Told
-  refused : Option EditFault → Told
-  unread : Told
+pub data RowOutcome : Type 0 where
+  made : Outcome → RowOutcome
+  refused : Option EditFault → RowOutcome
+  unread : RowOutcome
 
 -- of the document that was read
-abbrev of : (Document → Told) → Told → Result Document Fault → Told
+abbrev of : (Document → RowOutcome) → RowOutcome → Result Document Fault → RowOutcome
 of f other (Ok s) = f s
 of f other (Err e) = other
 
 -- what the definitions tell of a row, and what they should
-abbrev told : Row → Told
-told (goes profile old e new start end added) = of (λ s. made (outcome profile s e new)) unread (read_document profile standard_depth old)
-told (refuses limit old e f) = of (λ s. refused (refusal Strict limit s e)) unread (read_document Strict standard_depth old)
+abbrev computed : Row → RowOutcome
+computed (goes profile old e new start end added) = of (λ s. made (outcome profile s e new)) unread (read_document profile standard_depth old)
+computed (refuses limit old e f) = of (λ s. refused (refusal Strict limit s e)) unread (read_document Strict standard_depth old)
 
-abbrev stated : Row → Told
+abbrev stated : Row → RowOutcome
 stated (goes profile old e new start end added) = of (λ s. made (wanted s e new start end added)) (refused None) (read_document profile standard_depth old)
 stated (refuses limit old e f) = refused (Some f)
 
 abbrev AllHold : List Row → Type 0
-AllHold rows = map told rows ≡ map stated rows
+AllHold rows = map computed rows ≡ map stated rows
 
 -- ---- set
 
@@ -130,11 +130,11 @@ set_rows = refl
 insert_lines : AllHold (
     -- insert section
     goes Strict (codes "x = 1\r\n[a.b]") (insert (key (codes "a") ∷ key (codes "c") ∷ []) (value (codes "1"))) (codes "x = 1\r\n[a.b]\r\n\r\n[a]\r\nc = 1\r\n") 12 12 16
-    -- insert behind bom
+    -- insert after bom
     ∷ goes Strict (0xEF ∷ 0xBB ∷ 0xBF ∷ codes "[t]\n") (insert (key (codes "k") ∷ []) (value (codes "true"))) (0xEF ∷ 0xBB ∷ 0xBF ∷ codes "k = true\n[t]\n") 3 3 9
     -- insert dotted line
     ∷ goes Strict (codes "p.q = 1\nz = 2\n") (insert (key (codes "p") ∷ key (codes "r") ∷ []) (value (codes "3"))) (codes "p.q = 1\np.r = 3\nz = 2\n") 8 8 8
-    -- insert behind last
+    -- insert after last
     ∷ goes Strict (codes "a = 1") (insert (key (codes "b") ∷ []) (value (codes "-2"))) (codes "a = 1\nb = -2\n") 5 5 8
     -- insert with the first newline, in an array
     ∷ goes Strict (codes "a = [\r\n1]\nb = 2") (insert (key (codes "c") ∷ []) (value (codes "3"))) (codes "a = [\r\n1]\nb = 2\r\nc = 3\r\n") 15 15 9
@@ -161,7 +161,7 @@ insert_in_values : AllHold (
     ∷ goes Strict (codes "a = [1 ]\n") (insert (key (codes "a") ∷ index 1 ∷ []) (value (codes "2"))) (codes "a = [1, 2 ]\n") 6 6 3
     -- insert first item
     ∷ goes Strict (codes "a = [1, 2 ]\n") (insert (key (codes "a") ∷ index 0 ∷ []) (value (codes "0"))) (codes "a = [0, 1, 2 ]\n") 5 5 3
-    -- insert behind dotted
+    -- insert after dotted
     ∷ goes Strict (codes "t = {p.q = 1, z = 2}") (insert (key (codes "t") ∷ key (codes "p") ∷ key (codes "r") ∷ []) (value (codes "3"))) (codes "t = {p.q = 1, p.r = 3, z = 2}") 12 12 9
     -- wide insert
     ∷ goes Wide (codes "a = {x = 1,\n # c\n}") (insert (key (codes "a") ∷ key (codes "y") ∷ []) (value (codes "2"))) (codes "a = {x = 1, y = 2,\n # c\n}") 10 10 7
@@ -301,7 +301,7 @@ append_rows : AllHold (
     ∷ refuses standard_depth (codes "[t]\n\n[[a.\"b c\"]]\n") (append_table ((codes "t") ∷ [])) (fault.Conflict why.DefinedTwice)
     -- append no keys
     ∷ refuses standard_depth (codes "[t]\n") (append_table []) fault.NotKey
-    -- append behind white space
+    -- append after white space
     ∷ goes Strict (codes "a = 1\n  ") (append_table ((codes "t") ∷ [])) (codes "a = 1\n  \n\n[t]\n") 8 8 6
     ∷ [])
 unfolding repeat space_at blank_from further_at key_of name_of item_by entry_by value_of content_at comment_at line_at ended_at read_document read_one_value gap_at key_at scalar_at word_leaf

@@ -1,13 +1,13 @@
 -- What the crates above build on, in one place.
-pub use Rattle.keep_law.proofs.Common.Runs.{AllOf, Allowed, Pairs, Rules, SomeOf, all_join, same_path-sound, says_allow}
+pub use Rattle.keep_law.proofs.Common.Runs.{AllOf, Allowed, Pairs, Rules, SomeOf, all_join, same_path-sound, kinds_allow}
 pub use Rattle.keep_law.proofs.Common.LineLaws.{EndsInKey}
 pub use Rattle.keep_law.proofs.Common.SetLaw.{IsAloneAt}
-pub use Rattle.keep_law.proofs.Remove.RemovePlace.{IsComma, IsEdged, IsInside, IsValueAt, same_place}
-pub use Rattle.keep_law.proofs.Common.LineEnds.{IsClosed, ended_ends, ends_at, ends_behind, line_quiet, line_some, quiet_append, value_closed}
-pub use Rattle.keep_law.proofs.Rename.RenameNumber.{IsKeyRenamed, marks_told, rename_place_is, rename_placed}
+pub use Rattle.keep_law.proofs.Remove.RemovePlace.{IsComma, IsEdged, IsNested, IsValueAt, same_place}
+pub use Rattle.keep_law.proofs.Common.LineEnds.{IsClosed, ended_ends, ends_at, ends_after, line_quiet, line_some, quiet_append, value_closed}
+pub use Rattle.keep_law.proofs.Rename.RenameNumber.{IsKeyRenamed, marks_stated, rename_place_is, rename_placed}
 pub use Rattle.keep_law.proofs.Remove.RemoveLinePlace.{IsLow, is_high}
 pub use Rattle.keep_law.proofs.Remove.RemovePlaces.{IsPlaced, IsRemoved, removed}
-pub use Rattle.keep_law.proofs.Common.Doubles.{IsSaid, has_some}
+pub use Rattle.keep_law.proofs.Common.Doubles.{IsMentioned, has_some}
 pub use Rattle.keep_law.proofs.Remove.RemoveSectionPlace.{IsSectionPlaced}
 pub use Rattle.keep_law.proofs.Values.ValuePlace.{IsValueOf, has_of_number, none_of_number, set_place, value_of_number}
 pub use Rattle.keep_law.proofs.Common.ValueThere.{alone_of_has, fact_past, some_cases}
@@ -20,26 +20,26 @@ pub use Rattle.keep_law.proofs.Remove.RemoveRefusal.{lines_begun, never_begun, n
 pub use Rattle.keep_law.proofs.Common.EntryDepths.{alone_of_bracket}
 pub use Rattle.keep_law.proofs.Insert.ItemThere.{IsItemPath, item_at, never_whole}
 pub use Rattle.keep_law.proofs.Insert.ItemNumbers.{AreNumbered, items_numbered}
-pub use Rattle.keep_law.proofs.Insert.OriginSaid.{is_origin, origin_said}
-pub use Rattle.keep_law.proofs.Insert.Origins.{IsDottedNode, dotted_ends, dotted_node, said_of_number, unsaid_of_none}
+pub use Rattle.keep_law.proofs.Insert.OriginMentioned.{is_origin, origin_mentioned}
+pub use Rattle.keep_law.proofs.Insert.Origins.{IsDottedNode, dotted_ends, dotted_node, mention_with_number, unsaid_of_none}
 pub use Rattle.keep_law.proofs.Insert.HolderFacts.{no_bracket_element}
 pub use Rattle.keep_law.proofs.Common.FromMarksLines.{path_ends}
 pub use Rattle.keep_law.proofs.EditLaws.{insert_lawful, remove_lawful, rename_lawful, set_lawful}
 pub use Rattle.keep_law.proofs.Common.Marks.{rules_of_document}
-pub use Rattle.keep_law.proofs.Remove.KeyvalSays.{said_below, said_keyval}
+pub use Rattle.keep_law.proofs.Remove.KeyvalMentions.{mentioned_below, mentions_keyval}
 pub use Rattle.keep_law.proofs.Remove.RemoveWhole.{shared_define}
 pub use Rattle.keep_law.proofs.Values.ValueDepths.{too_deep_at}
 pub use Rattle.keep_law.proofs.Append.AppendPlace.{append_place, text_is}
-pub use Rattle.keep_law.proofs.Append.AppendTable.{tables_told}
+pub use Rattle.keep_law.proofs.Append.AppendTable.{tables_stated}
 pub use Rattle.keep_law.proofs.Append.HeaderConflict.{LetsPass, element_met, table_met}
-pub use Rattle.keep_law.proofs.Append.HeaderMarks.{define_goes_on, define_twice, define_unlisted, dotted_goes_on, dotted_undefines, dotted_unlisted, element_again, element_undefines, lets_pass, marks_let, no_elements, none_counted, none_refuses, past_listed, roles_of, all_element, through_defines, through_goes_on, through_unlisted, value_refuses, value_unlisted}
+pub use Rattle.keep_law.proofs.Append.HeaderMarks.{define_continues, define_twice, define_unlisted, dotted_continues, dotted_undefines, dotted_unlisted, element_again, element_undefines, lets_pass, marks_let, no_elements, none_counted, none_refuses, past_listed, roles_of, all_element, through_defines, through_continues, through_unlisted, value_refuses, value_unlisted}
 pub use Rattle.keep_law.proofs.Common.FromMarksLines.{formed_lines}
 pub use Rattle.keep_law.proofs.EditLaws.{append_element_lawful, append_table_lawful}
 pub use Rattle.keep_law.proofs.Insert.LineBefore.{IsLowPlace, lines_low}
 pub use Rattle.keep_law.proofs.Insert.ItemPlaces.{IsItemLaw, item_law}
-pub use Rattle.keep_law.proofs.Insert.BracePlaces.{IsPutBehind}
+pub use Rattle.keep_law.proofs.Insert.BracePlaces.{IsPutAfter}
 pub use Rattle.keep_law.proofs.Insert.KeyvalPlaces.{IsInlineLaw, dots_placed, inline_placed}
-pub use Rattle.keep_law.proofs.Insert.InsertPlaces.{IsThroughHeader, element_placed, header_placed, headed_within, holder_front, plain_rest, root_placed, through_header, through_placed}
+pub use Rattle.keep_law.proofs.Insert.InsertPlaces.{IsThroughHeader, element_placed, header_placed, headed_within, holder_prefix, plain_rest, root_placed, through_header, through_placed}
 pub use Rattle.keep_law.proofs.Insert.InsertDottedPlace.{IsBaseAt, IsDottedPlaced, dotted_placed}
 pub use Rattle.keep_law.proofs.Common.Texts.{text_of-append}
 pub use Rattle.keep_law.proofs.Touched.FitLaws.{touched_lines_are_lines}

@@ -1,4 +1,4 @@
--- Where the value of a node is in a document, and what is told of it.
+-- Where the value of a node is in a document, and what is known of it.
 pub mod ValuePlace
 pub mod ValueFacts
 pub mod ValueDepths

@@ -1,4 +1,4 @@
--- What is told of a document's nodes, and what comes of a list of edits.
+-- What is known of a document's nodes, and what comes of a list of edits.
 use Rattle.std.specs.Prelude.{ℕ, suc, true, false, List, [], ◌∷◌, map, drop, Option, Some, None, Result, Ok, Err}
 use Rattle.std.specs.Option.{option_map}
 use Rattle.keep_token.specs.declared.leaf.Profile.{Profile}
@@ -8,13 +8,13 @@ use Rattle.keep_path.specs.Path.{Part}
 use Rattle.keep_meaning.specs.Fact.{Fact}
 use Rattle.keep_meaning.specs.Fact as fact
 use Rattle.keep_meaning.specs.Marks.{Mention}
-use Rattle.keep_meaning.specs.Meaning.{said_in}
+use Rattle.keep_meaning.specs.Meaning.{mentions_in}
 use Rattle.keep_meaning.specs.Nodes.{node_paths, is_node, kind_at, fact_at}
 use Rattle.keep_path.specs.PathText.{encoded_path}
 use Rattle.keep_law.specs.declared.fault.EditFault.{EditFault}
 use Rattle.keep_law.specs.declared.fault.EditFault.TheVariants as fault
 use Rattle.keep_law.specs.Values.{replacement}
-use Rattle.keep_law.specs.Edits.{Edit, edited_document, inside}
+use Rattle.keep_law.specs.Edits.{Edit, edited_document, nested}
 use Rattle.keep_law.specs.Refusals.{refusal}
 
 -- ---- one node
@@ -25,11 +25,11 @@ or_not_value None = Err fault.NotValue
 or_not_value (Some a) = Ok a
 
 abbrev pub at_node : {A : Type 0} → List Part → Document → Option A → Result A EditFault
-at_node path s found = elim (is_node path (said_in s)) [ true ↦ or_not_value found | false ↦ Err fault.NotFound ]
+at_node path s found = elim (is_node path (mentions_in s)) [ true ↦ or_not_value found | false ↦ Err fault.NotFound ]
 
 -- the text of the value at a path, as it is written
 abbrev pub value_at : List Part → Document → Option (List ℕ)
-value_at path s = option_map (λ c. c.old) (inside (λ more v. replacement v more v) path s)
+value_at path s = option_map (λ c. c.old) (nested (λ more v. replacement v more v) path s)
 
 abbrev pub get : List Part → Document → Result (List ℕ) EditFault
 get path s = at_node path s (value_at path s)
@@ -40,7 +40,7 @@ string_of None = None
 string_of (Some f) = elim f [ fact.string v ↦ Some v | _ ↦ None ]
 
 abbrev pub string_at : List Part → Document → Result (List ℕ) EditFault
-string_at path s = at_node path s (string_of (fact_at path (said_in s)))
+string_at path s = at_node path s (string_of (fact_at path (mentions_in s)))
 
 -- ---- all nodes but the root, in the order of the text
 
@@ -52,7 +52,7 @@ abbrev pub listed : List Mention → List Part → Listed
 listed ms path = record { path = encoded_path path; kind = kind_at path ms }
 
 abbrev pub listed_in : Document → List Listed
-listed_in s = map (listed (said_in s)) (drop 1 (node_paths (said_in s)))
+listed_in s = map (listed (mentions_in s)) (drop 1 (node_paths (mentions_in s)))
 
 -- ---- edits in their order
 

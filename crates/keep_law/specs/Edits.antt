@@ -4,11 +4,11 @@ use Rattle.keep_syntax.specs.Tree.{Written, Further, Key, Name, Value, Content, 
 use Rattle.keep_token.specs.Encoded.{encoded_key, encoded_key_leaf}
 use Rattle.keep_path.specs.Path.{Part, same_path}
 use Rattle.keep_meaning.specs.Marks.{Mention, Reading, start}
-use Rattle.keep_meaning.specs.Meaning.{said_in, lines, step}
+use Rattle.keep_meaning.specs.Meaning.{mentions_in, lines, step}
 use Rattle.keep_law.specs.Look.{holder, item_number, keys_in}
 use Rattle.keep_law.specs.Changed.{Changed, or_else, Place, place_of}
 use Rattle.keep_law.specs.Values.{Act, replacement, put_item, put_named, removal, renaming, space}
-use Rattle.keep_law.specs.Lines.{in_document, in_lines, in_line, rename_line, put_lines, drop_lines, last_line, begins, goes_through, goes_dotted, body_length, body_end, newline_of, new_line, content_text, is_empty, reading_at}
+use Rattle.keep_law.specs.Lines.{in_document, in_lines, in_line, rename_line, put_lines, drop_lines, last_line, begins, leads_through, leads_dotted, body_length, body_end, newline_of, new_line, content_text, is_empty, reading_at}
 
 -- An edit. Its value is the tree of a value's text.
 pub data Edit : Type 0 where
@@ -45,8 +45,8 @@ new_header keys = header [] (key_with keys) []
 -- ---- each edit's change, where it is not refused
 
 -- inside a line's value
-abbrev pub inside : Act → List Part → Document → Option (Changed Document)
-inside act path s = in_document s (in_lines (in_line act path) start s.ended s.last)
+abbrev pub nested : Act → List Part → Document → Option (Changed Document)
+nested act path s = in_document s (in_lines (in_line act path) start s.ended s.last)
 
 -- lines before line number n
 abbrev pub at_line : Document → ℕ → List Content → Option (Changed Document)
@@ -55,19 +55,19 @@ at_line s n contents = in_document s (Some (put_lines n (map (new_line (newline_
 abbrev pub without_lines : Document → ℕ → ℕ → Option (Changed Document)
 without_lines s i n = in_document s (Some (drop_lines i n s.ended s.last))
 
--- the number of the line behind the body of a root, a table or an element
+-- the number of the line after the body of a root, a table or an element
 abbrev pub end_of : Document → List Part → Option ℕ
 end_of s [] = Some (body_length (lines s))
 end_of s (p ∷ ps) = elim (last_line (begins (p ∷ ps)) start (lines s)) [ None ↦ None | Some i ↦ Some (body_end i (lines s)) ]
 
--- A keyval with a new path: the front of it that names a node is the holder, and the rest is new.
+-- A keyval with a new path: the prefix of it that names a node is the holder, and the rest is new.
 abbrev pub insert_line : Document → List Part → List Part → Value → Option (Changed Document)
 insert_line s a rest value =
     elim (end_of s a) [
       | Some n ↦ at_line s n (new_keyval rest value ∷ [])
-      | None ↦ elim (last_line (goes_dotted a) start (lines s)) [
+      | None ↦ elim (last_line (leads_dotted a) start (lines s)) [
         | Some i ↦ at_line s (suc i) (new_keyval (drop (length (reading_at i (lines s)).body) (a ++ rest)) value ∷ [])
-        | None ↦ elim (last_line (goes_through a) start (lines s)) [
+        | None ↦ elim (last_line (leads_through a) start (lines s)) [
           | Some i ↦ at_line s (body_end i (lines s)) (blank ∷ new_header (keys_in a) ∷ new_keyval rest value ∷ [])
           | None ↦ None
         ]
@@ -76,13 +76,13 @@ insert_line s a rest value =
 
 abbrev pub change_insert : Document → List Part → Value → Option (Changed Document)
 change_insert s path value =
-    let ms : List Mention = said_in s in
+    let ms : List Mention = mentions_in s in
     elim (item_number path ms) [
-      | Some n ↦ inside (put_item value) path s
+      | Some n ↦ nested (put_item value) path s
       | None ↦
           let a : List Part = holder path ms in
           let rest : List Part = drop (length a) path in
-          or_else (insert_line s a rest value) (inside (put_named name_with (length rest) value) path s)
+          or_else (insert_line s a rest value) (nested (put_named name_with (length rest) value) path s)
     ]
 
 -- the line is the keyval of that path
@@ -111,11 +111,11 @@ change_remove s path =
     or_else (in_document s (in_lines (clear_line path) start s.ended s.last))
     (or_else (elim (last_line (λ r l. is_own path r l.content) start (lines s)) [ None ↦ None | Some i ↦ without_lines s i 1 ])
     (or_else (elim (last_line (begins path) start (lines s)) [ None ↦ None | Some i ↦ without_lines s i (suc (body_length (drop (suc i) (lines s)))) ])
-    (inside removal path s)))
+    (nested removal path s)))
 
 abbrev pub change_rename : Document → List Part → List ℕ → Option (Changed Document)
 change_rename s path text =
-    or_else (in_document s (in_lines (rename_line (key_part text) path) start s.ended s.last)) (inside (renaming (key_part text)) path s)
+    or_else (in_document s (in_lines (rename_line (key_part text) path) start s.ended s.last)) (nested (renaming (key_part text)) path s)
 
 -- a header at the end of the text
 abbrev pub append : Document → Content → Option (Changed Document)
@@ -126,7 +126,7 @@ append s content = elim s.ended [
 
 -- the change of a document by an edit
 abbrev pub change : Document → Edit → Option (Changed Document)
-change s (set path value) = inside (replacement value) path s
+change s (set path value) = nested (replacement value) path s
 change s (insert path value) = change_insert s path value
 change s (rename path text) = change_rename s path text
 change s (remove path) = change_remove s path

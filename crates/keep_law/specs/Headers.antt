@@ -13,8 +13,8 @@ use Rattle.keep_path.specs.Path.{Part, key}
 abbrev pub is_refused : List Mark → Role → List Part → Bool
 is_refused earlier role path = list_any (refuses (record { role = role; path = path })) earlier
 
--- From a path on, with these keys to go. The last key's mark has this role; each before it goes on to the last element of an
--- array of tables, or marks its path as one that a header goes through.
+-- From a path on, with these keys to go. The last key's mark has this role; each before it continues to the last
+-- element of an array of tables, or marks its path as one that a header goes through.
 abbrev pub header_conflict : List Mark → List (List Part) → List Part → List (List ℕ) → Role → Option Why
 header_conflict earlier tables at [] role = None
 header_conflict earlier tables at (k ∷ []) role = if is_refused earlier role (at ++ key k ∷ []) then Some (why_of role) else None

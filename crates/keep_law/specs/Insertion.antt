@@ -27,15 +27,15 @@ keyed_text keys value = text_of (named_leaves (name_of keys)) ++ text_of_value v
 abbrev pub before_item : ValueInfo → Value → Place
 before_item v value = put_in v.whole.start (text_of_value value ++ codes ", ")
 
-abbrev pub behind_entry : ValueInfo → List (List ℕ) → Value → Place
-behind_entry v keys value = put_in v.span.end (codes ", " ++ keyed_text keys value)
+abbrev pub after_entry : ValueInfo → List (List ℕ) → Value → Place
+after_entry v keys value = put_in v.span.end (codes ", " ++ keyed_text keys value)
 
--- directly behind the opening bracket
+-- directly after the opening bracket
 abbrev pub in_empty : ValueInfo → List (List ℕ) → Value → Place
 in_empty v keys value = put_in (suc v.span.start) (keyed_text keys value)
 
--- The number of the last keyval of braces that stand so deep. Of the values behind the braces' own, those inside stand deeper,
--- and the braces' own keyvals by one. The first of these values has the number `at`.
+-- The number of the last keyval of braces that are so deep. Of the values after the braces' own, those inside are
+-- deeper, and the braces' own keyvals by one. The first of these values has the number `at`.
 abbrev pub last_keyval : ℕ → ℕ → List ValueInfo → Option ℕ
 last_keyval at depth [] = None
 last_keyval at depth (v ∷ vs) = elim (nat_lt depth v.depth) [
@@ -58,7 +58,7 @@ is_open (b ∷ c ∷ bs) = is_open (c ∷ bs)
 abbrev pub missing_newline : List ℕ → List ℕ → ℕ → ℕ → List ℕ
 missing_newline bytes newline start at = if is_open (drop start (take at bytes)) then newline else []
 
--- behind the line that ends at a place: a line with a keyval
+-- after the line that ends at a place: a line with a keyval
 abbrev pub line_at : List ℕ → List ℕ → ℕ → ℕ → List (List ℕ) → Value → Place
 line_at bytes newline start at keys value = put_in at (missing_newline bytes newline start at ++ (keyed_text keys value ++ newline))
 

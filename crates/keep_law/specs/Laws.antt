@@ -10,7 +10,7 @@ use Rattle.keep_path.specs.Path.{Part, key}
 use Rattle.keep_path.specs.PathText.{encoded_path}
 use Rattle.keep_meaning.specs.Rules.{ObeysRules}
 use Rattle.keep_meaning.specs.Marks.{marks}
-use Rattle.keep_meaning.specs.Meaning.{said_in, value_said}
+use Rattle.keep_meaning.specs.Meaning.{mentions_in, mentions_of_value}
 use Rattle.keep_meaning.specs.Nodes.{fact_at}
 use Rattle.keep_law.specs.Changed.{Changed, put}
 use Rattle.keep_law.specs.Edits.{Edit, set, insert, rename, remove, append_table, append_element, change, edited_document, place}
@@ -36,66 +36,67 @@ pub record IsLawfulEdit (profile : Profile) (limit : ℕ) (s : Document) (e : Ed
   pub changed : Changed Document
   pub is : change s e ≡ Some changed
   pub reads : Reads profile limit (put (text s) (place s e)) (edited_document s e)
-  pub obeys : ObeysRules (marks (said_in (edited_document s e)))
-  pub tree : IsTreeOf (said_in s) e (said_in (edited_document s e))
+  pub obeys : ObeysRules (marks (mentions_in (edited_document s e)))
+  pub tree : IsTreeOf (mentions_in s) e (mentions_in (edited_document s e))
   pub growth : length (text (edited_document s e)) ≤ length (text s) + given_size e + 12
 
 -- the document is valid, within the limit, and obeys the rules
-pub record IsStanding (profile : Profile) (limit : ℕ) (s : Document) : Type 0 where
+pub record IsEditable (profile : Profile) (limit : ℕ) (s : Document) : Type 0 where
   pub valid : IsDocument profile s
   pub shallow : depth s ≤ limit
-  pub obeys : ObeysRules (marks (said_in s))
+  pub obeys : ObeysRules (marks (mentions_in s))
 
 -- ---- set
 
 -- the value is of the profile's grammar and obeys the rules
 pub record IsGivenValue (profile : Profile) (v : Value) : Type 0 where
   pub valid : IsValue profile v
-  pub obeys : ObeysRules (marks (value_said v))
+  pub obeys : ObeysRules (marks (mentions_of_value v))
 
 -- The value may be any of Wide's grammar: what a Strict document can't hold is refused.
 abbrev pub SetIsLawful : Type 0
-SetIsLawful = (profile : Profile) (limit : ℕ) (s : Document) (path : List Part) (new : Value) → IsStanding profile limit s → IsGivenValue Wide new
+SetIsLawful = (profile : Profile) (limit : ℕ) (s : Document) (path : List Part) (new : Value) → IsEditable profile limit s → IsGivenValue Wide new
     → refusal profile limit s (set path new) ≡ None → IsLawfulEdit profile limit s (set path new)
 
 -- ---- append_table, append_element
 
 -- the keys are in UTF-8
 abbrev pub AppendTableIsLawful : Type 0
-AppendTableIsLawful = (profile : Profile) (limit : ℕ) (s : Document) (keys : List (List ℕ)) → IsStanding profile limit s → AllByRecursion IsUtf8 keys
+AppendTableIsLawful = (profile : Profile) (limit : ℕ) (s : Document) (keys : List (List ℕ)) → IsEditable profile limit s → AllByRecursion IsUtf8 keys
     → refusal profile limit s (append_table keys) ≡ None → IsLawfulEdit profile limit s (append_table keys)
 
 abbrev pub AppendElementIsLawful : Type 0
-AppendElementIsLawful = (profile : Profile) (limit : ℕ) (s : Document) (keys : List (List ℕ)) → IsStanding profile limit s → AllByRecursion IsUtf8 keys
+AppendElementIsLawful = (profile : Profile) (limit : ℕ) (s : Document) (keys : List (List ℕ)) → IsEditable profile limit s → AllByRecursion IsUtf8 keys
     → refusal profile limit s (append_element keys) ≡ None → IsLawfulEdit profile limit s (append_element keys)
 
 -- ---- insert
 
 -- the keys are in UTF-8, and the value is as for `set`
 abbrev pub InsertIsLawful : Type 0
-InsertIsLawful = (profile : Profile) (limit : ℕ) (s : Document) (path : List Part) (new : Value) → IsStanding profile limit s → IsGivenValue Wide new
+InsertIsLawful = (profile : Profile) (limit : ℕ) (s : Document) (path : List Part) (new : Value) → IsEditable profile limit s → IsGivenValue Wide new
     → AllByRecursion IsUtf8 (keys_in path) → refusal profile limit s (insert path new) ≡ None → IsLawfulEdit profile limit s (insert path new)
 
 -- ---- remove
 
 abbrev pub RemoveIsLawful : Type 0
-RemoveIsLawful = (profile : Profile) (limit : ℕ) (s : Document) (path : List Part) → IsStanding profile limit s
+RemoveIsLawful = (profile : Profile) (limit : ℕ) (s : Document) (path : List Part) → IsEditable profile limit s
     → refusal profile limit s (remove path) ≡ None → IsLawfulEdit profile limit s (remove path)
 
 -- ---- rename
 
 -- the key is in UTF-8
 abbrev pub RenameIsLawful : Type 0
-RenameIsLawful = (profile : Profile) (limit : ℕ) (s : Document) (path : List Part) (text : List ℕ) → IsStanding profile limit s → IsUtf8 text
+RenameIsLawful = (profile : Profile) (limit : ℕ) (s : Document) (path : List Part) (text : List ℕ) → IsEditable profile limit s → IsUtf8 text
     → refusal profile limit s (rename path text) ≡ None → IsLawfulEdit profile limit s (rename path text)
 
 -- ---- get
 
--- It is the text of a value whose facts are those at the path, and it stands in the document's text where `set` puts others.
+-- It is the text of a value whose facts are those at the path, and it is in the document's text where `set` puts
+-- others.
 pub record IsTextAt (path : List Part) (s : Document) (t : List ℕ) : Type 0 where
   pub value : Value
   pub spelled : t ≡ value_text value
-  pub facts : (q : List Part) → fact_at (path ++ q) (said_in s) ≡ fact_at q (value_said value)
+  pub facts : (q : List Part) → fact_at (path ++ q) (mentions_in s) ≡ fact_at q (mentions_of_value value)
   pub before : List ℕ
   pub behind : List ℕ
   pub here : text s ≡ before ++ (t ++ behind)
@@ -107,12 +108,12 @@ GivesText path s true found = (t : List ℕ) × (found ≡ Some t) × IsTextAt p
 GivesText path s false found = found ≡ None
 
 abbrev pub GetIsRight : Type 0
-GetIsRight = (path : List Part) (s : Document) → ObeysRules (marks (said_in s)) → GivesText path s (has_value path (said_in s)) (value_at path s)
+GetIsRight = (path : List Part) (s : Document) → ObeysRules (marks (mentions_in s)) → GivesText path s (has_value path (mentions_in s)) (value_at path s)
 
 -- ---- every edit
 
 abbrev pub GrowthIsBounded : Type 0
-GrowthIsBounded = (profile : Profile) (limit : ℕ) (s : Document) (e : Edit) → IsDocument profile s → ObeysRules (marks (said_in s)) → refusal profile limit s e ≡ None
+GrowthIsBounded = (profile : Profile) (limit : ℕ) (s : Document) (e : Edit) → IsDocument profile s → ObeysRules (marks (mentions_in s)) → refusal profile limit s e ≡ None
     → length (text (edited_document s e)) ≤ length (text s) + given_size e + 12
 
 -- A change replaces its place in the text, and nothing else.

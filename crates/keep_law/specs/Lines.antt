@@ -6,7 +6,7 @@ use Rattle.keep_syntax.specs.Tree.{Written, Content, blank, keyval, header, elem
 use Rattle.keep_syntax.specs.WholeLines.{empty_line}
 use Rattle.keep_path.specs.Path.{Part, key, same_path}
 use Rattle.keep_meaning.specs.Marks.{Reading, start, header_path, below}
-use Rattle.keep_meaning.specs.Meaning.{keys_of, step, keyed_mentions, line_said, behind_line, reading_behind}
+use Rattle.keep_meaning.specs.Meaning.{keys_of, step, keyed_mentions, line_mentions, after_line, reading_after_lines}
 use Rattle.keep_law.specs.Look.{strip}
 use Rattle.keep_meaning.specs.Nodes.{has, is_dotted, is_through}
 use Rattle.keep_law.specs.Changed.{Changed, framed_change, within, or_else}
@@ -43,7 +43,7 @@ abbrev pub in_lines : (Reading → Line → Option (Changed Line)) → Reading �
 in_lines f r [] last = within (λ l. record { ended = []; last = l }) [] [] (f r last)
 in_lines f r (e ∷ es) last =
     or_else (within (λ l. record { ended = record { line = l; newline = e.newline } ∷ es; last = last }) [] (e.newline.text ++ page_text (record { ended = es; last = last })) (f r e.line))
-    (within (λ b. record { ended = e ∷ b.ended; last = b.last }) (text_of (ended_leaves e)) [] (in_lines f (behind_line r e.line) es last))
+    (within (λ b. record { ended = e ∷ b.ended; last = b.last }) (text_of (ended_leaves e)) [] (in_lines f (after_line r e.line) es last))
 
 -- the value of a line's keyval, or what is inside it
 abbrev pub in_content : Act → List Part → List Part → Content → Option (Changed Content)
@@ -58,17 +58,17 @@ in_line act path r l =
     within (λ c. record l { content = c }) (text_of l.before) (text_of l.after ++ text_of (comment_leaves l.comment)) (in_content act r.body path l.content)
 
 -- the paths of the key parts of a line
-abbrev pub key_fronts : List (List ℕ) → List (List (List ℕ))
-key_fronts [] = []
-key_fronts (k ∷ ks) = (k ∷ []) ∷ map (λ front. k ∷ front) (key_fronts ks)
+abbrev pub key_prefixes : List (List ℕ) → List (List (List ℕ))
+key_prefixes [] = []
+key_prefixes (k ∷ ks) = (k ∷ []) ∷ map (λ prefix. k ∷ prefix) (key_prefixes ks)
 
 abbrev pub part_paths : Reading → Content → List (List Part)
 part_paths r blank = []
-part_paths r (keyval name value) = map (λ front. r.body ++ map key front) (key_fronts (keys_of name.key))
-part_paths r (header before k behind) = map (header_path r.tables []) (key_fronts (keys_of k))
-part_paths r (element before k behind) = map (header_path r.tables []) (key_fronts (keys_of k))
+part_paths r (keyval name value) = map (λ prefix. r.body ++ map key prefix) (key_prefixes (keys_of name.key))
+part_paths r (header before k behind) = map (header_path r.tables []) (key_prefixes (keys_of k))
+part_paths r (element before k behind) = map (header_path r.tables []) (key_prefixes (keys_of k))
 
--- the part of that number renamed
+-- the part with that number renamed
 abbrev pub rename_content : Written → ℕ → Content → Option (Changed Content)
 rename_content new n blank = None
 rename_content new n (keyval name value) = within (λ nm. keyval nm value) [] (text_of_value value) (rename_name new n name)
@@ -95,21 +95,21 @@ put_lines n new newline (e ∷ es) last = elim n [
 ]
 
 -- the first n lines gone
-abbrev pub drop_front : ℕ → List Ended → Line → Changed Page
-drop_front n [] last = elim n [
+abbrev pub drop_prefix : ℕ → List Ended → Line → Changed Page
+drop_prefix n [] last = elim n [
   | zero ↦ record { to = record { ended = []; last = last }; before = []; old = []; new = []; behind = line_text last }
   | suc m ↦ record { to = record { ended = []; last = empty_line }; before = []; old = line_text last; new = []; behind = [] }
 ]
-drop_front n (e ∷ es) last = elim n [
+drop_prefix n (e ∷ es) last = elim n [
   | zero ↦ record { to = record { ended = e ∷ es; last = last }; before = []; old = []; new = []; behind = page_text (record { ended = e ∷ es; last = last }) }
-  | suc m ↦ (let c = drop_front m es last in record c { old = text_of (ended_leaves e) ++ c.old })
+  | suc m ↦ (let c = drop_prefix m es last in record c { old = text_of (ended_leaves e) ++ c.old })
 ]
 
 -- n lines gone, from line number i on
 abbrev pub drop_lines : ℕ → ℕ → List Ended → Line → Changed Page
-drop_lines i n [] last = drop_front n [] last
+drop_lines i n [] last = drop_prefix n [] last
 drop_lines i n (e ∷ es) last = elim i [
-  | zero ↦ drop_front n (e ∷ es) last
+  | zero ↦ drop_prefix n (e ∷ es) last
   | suc j ↦ framed_change (λ b. record { ended = e ∷ b.ended; last = b.last }) (text_of (ended_leaves e)) [] (drop_lines j n es last)
 ]
 
@@ -122,7 +122,7 @@ option_suc (Some n) = Some (suc n)
 -- the number of the last line that passes
 abbrev pub last_line : (Reading → Line → Bool) → Reading → List Line → Option ℕ
 last_line test r [] = None
-last_line test r (l ∷ ls) = elim (last_line test (behind_line r l) ls) [
+last_line test r (l ∷ ls) = elim (last_line test (after_line r l) ls) [
   | Some n ↦ Some (suc n)
   | None ↦ (if test r l then Some zero else None)
 ]
@@ -134,15 +134,15 @@ is_header (element before k behind) = true
 is_header _ = false
 
 abbrev pub begins : List Part → Reading → Line → Bool
-begins path r l = is_header l.content && same_path (behind_line r l).body path
+begins path r l = is_header l.content && same_path (after_line r l).body path
 
--- a header goes on from the path
-abbrev pub goes_through : List Part → Reading → Line → Bool
-goes_through path r l = is_header l.content && has is_through path (line_said r l)
+-- a header continues from the path
+abbrev pub leads_through : List Part → Reading → Line → Bool
+leads_through path r l = is_header l.content && has is_through path (line_mentions r l)
 
--- a keyval's own key goes on from the path
-abbrev pub goes_dotted : List Part → Reading → Line → Bool
-goes_dotted path r l = elim l.content [
+-- a keyval's own key continues from the path
+abbrev pub leads_dotted : List Part → Reading → Line → Bool
+leads_dotted path r l = elim l.content [
   | blank ↦ false
   | keyval name value ↦ has is_dotted path (map (below r.body) (keyed_mentions (keys_of name.key) []))
   | header before k behind ↦ false
@@ -164,7 +164,7 @@ body_length (l ∷ ls) = elim l.content [
   | element before k behind ↦ 0
 ]
 
--- the number of the line behind the body that begins behind line i
+-- the number of the line after the body that begins after line i
 abbrev pub body_end : ℕ → List Line → ℕ
 body_end i ls = suc i + body_length (drop (suc i) ls)
 
@@ -198,6 +198,6 @@ is_empty_list (x ∷ xs) = false
 abbrev pub is_empty : Line → Bool
 is_empty l = is_empty_list (line_leaves l)
 
--- how the reading stands before line i
+-- what the reading is before line i
 abbrev pub reading_at : ℕ → List Line → Reading
-reading_at i ls = reading_behind start (take i ls)
+reading_at i ls = reading_after_lines start (take i ls)

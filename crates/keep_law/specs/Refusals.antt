@@ -12,7 +12,7 @@ use Rattle.keep_path.specs.Path.{Part, key}
 use Rattle.keep_meaning.specs.Rules.{Mark}
 use Rattle.keep_meaning.specs.Faults.{first_fault_after}
 use Rattle.keep_meaning.specs.Marks.{Mention, Statement, header, element_header, statement_mentions, Reading, marks}
-use Rattle.keep_meaning.specs.Meaning.{said_in}
+use Rattle.keep_meaning.specs.Meaning.{mentions_in}
 use Rattle.keep_law.specs.Look.{is_table, enclosing, holder, last_part, without_last, is_index, item_number, item_count}
 use Rattle.keep_meaning.specs.Nodes.{is_root, is_node, fact_at, has, is_define, is_begun, is_passed, is_through, is_element, mark_count}
 use Rattle.keep_law.specs.Edits.{Edit, set, insert, rename, remove, append_table, append_element}
@@ -55,12 +55,12 @@ first_conflict earlier more = option_map (λ f. f.why) (first_fault_after earlie
 
 -- the full paths of the `[[..]]` lines
 abbrev pub element_path : Mention → Option (List Part)
-element_path m = if is_element m.says then Some m.path else None
+element_path m = if is_element m.kind then Some m.path else None
 
 abbrev pub tables_in : List Mention → List (List Part)
 tables_in = filter_map element_path
 
--- how the reading stands at the end, but for the body
+-- what the reading is at the end, but for the body
 abbrev pub end_reading : List Mention → Reading
 end_reading ms = record { tables = tables_in ms; body = [] }
 
@@ -110,4 +110,4 @@ refusal_by profile limit ms (append_table keys) = or_conflict (first_that_holds 
 refusal_by profile limit ms (append_element keys) = or_conflict (first_that_holds ((is_empty keys, fault.NotKey) ∷ [])) (element_header keys) ms
 
 abbrev pub refusal : Profile → ℕ → Document → Edit → Option EditFault
-refusal profile limit s e = refusal_by profile limit (said_in s) e
+refusal profile limit s e = refusal_by profile limit (mentions_in s) e

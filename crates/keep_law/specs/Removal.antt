@@ -18,20 +18,20 @@ abbrev pub is_hash : ℕ → Bool
 is_hash byte = byte == 0x23
 
 -- the gap between two places, if it holds a comment
-abbrev pub kept_text : List ℕ → List ℕ
-kept_text gap = if list_any is_hash gap then gap else []
+abbrev pub preserved_text : List ℕ → List ℕ
+preserved_text gap = if list_any is_hash gap then gap else []
 
--- an item of an array, or a keyval in braces: with the comma behind it, else with the one before it, else alone
+-- an item of an array, or a keyval in braces: with the comma after it, else with the one before it, else alone
 abbrev pub entry_place : List ℕ → ValueInfo → Place
 entry_place bytes v = elim v.comma_after [
-  | Some comma ↦ record { start = v.whole.start; end = past_space bytes (suc comma); new = kept_text (text_at bytes (span v.span.end comma)) }
+  | Some comma ↦ record { start = v.whole.start; end = past_space bytes (suc comma); new = preserved_text (text_at bytes (span v.span.end comma)) }
   | None ↦ elim v.comma_before [
-    | Some comma ↦ record { start = comma; end = v.span.end; new = kept_text (text_at bytes (span (suc comma) v.whole.start)) }
+    | Some comma ↦ record { start = comma; end = v.span.end; new = preserved_text (text_at bytes (span (suc comma) v.whole.start)) }
     | None ↦ record { start = v.whole.start; end = v.span.end; new = [] }
   ]
 ]
 
--- a keyval on a line: up to a comment behind its value, else with its line
+-- a keyval on a line: up to a comment after its value, else with its line
 abbrev pub line_place : List ℕ → Statement → ValueInfo → Place
 line_place bytes s v =
     let end : ℕ = past_space bytes v.span.end in

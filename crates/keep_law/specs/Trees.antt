@@ -3,7 +3,7 @@ use Rattle.std.specs.Prelude.{◌≡◌, ℕ, ◌+◌, ◌-◌, Bool, true, fals
 use Rattle.keep_meaning.specs.Fact.{Fact, table}
 use Rattle.keep_path.specs.Path.{Part, key, index, same_path}
 use Rattle.keep_meaning.specs.Marks.{Mention, header_path, elements_of}
-use Rattle.keep_meaning.specs.Meaning.{value_said}
+use Rattle.keep_meaning.specs.Meaning.{mentions_of_value}
 use Rattle.keep_law.specs.Look.{strip, holder, last_part, without_last, item_number}
 use Rattle.keep_meaning.specs.Nodes.{fact_at, has, is_define, is_begun, is_dotted, is_root}
 use Rattle.keep_law.specs.Refusals.{tables_in, beside}
@@ -11,8 +11,8 @@ use Rattle.keep_law.specs.Edits.{Edit, set, insert, rename, remove, append_table
 
 -- where the fact at a path comes from
 pub data Source : Type 0 where
-  from : (path : List Part) → Source  -- what stood at this path
-  given : (path : List Part) → Source  -- what stands at this path of the new value
+  from : (path : List Part) → Source  -- what was there at this path
+  given : (path : List Part) → Source  -- what is at this path of the new value
   a_table : Source  -- a new table
   nothing : Source
 
@@ -44,7 +44,7 @@ put_out path n q = elim (strip path q) [
 abbrev pub has_fact : List Part → List Mention → Bool
 has_fact path ms = elim (fact_at path ms) [ None ↦ false | Some f ↦ true ]
 
--- a table that stands only because headers go through it
+-- a table that is there only because headers go through it
 abbrev pub is_through_alone : List Part → List Mention → Bool
 is_through_alone path ms = not (is_root path) && not ((has is_define path ms || has is_begun path ms) || (has is_dotted path ms || has_fact path ms))
 
@@ -81,11 +81,11 @@ fact_from ms new (given q) = fact_at q new
 fact_from ms new a_table = Some table
 fact_from ms new nothing = None
 
-abbrev pub new_said : Edit → List Mention
-new_said (set path value) = value_said value
-new_said (insert path value) = value_said value
-new_said _ = []
+abbrev pub new_mentions : Edit → List Mention
+new_mentions (set path value) = mentions_of_value value
+new_mentions (insert path value) = mentions_of_value value
+new_mentions _ = []
 
 -- The tree of the new document is that of the old one, changed as the edit says.
 abbrev pub IsTreeOf : List Mention → Edit → List Mention → Type 0
-IsTreeOf ms e new = (q : List Part) → fact_at q new ≡ fact_from ms (new_said e) (source ms e q)
+IsTreeOf ms e new = (q : List Part) → fact_at q new ≡ fact_from ms (new_mentions e) (source ms e q)

@@ -20,7 +20,7 @@ pub enum EditFault {
     /// The path does not end in a key, or there is no key.
     #[error("NotKey")]
     NotKey,
-    /// What the edit would take hold of is told by several places of the text.
+    /// What the edit would take hold of is written in several places of the text.
     #[error("Scattered")]
     Scattered,
     /// The new header would break a rule of definition.

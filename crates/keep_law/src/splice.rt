@@ -5,7 +5,7 @@ pub struct Splice {
     pub start: usize,
     /// Where it ended in the old text.
     pub end: usize,
-    /// How many bytes stand there now.
+    /// How many bytes are there now.
     pub added: usize,
     /// How many bytes of the new text are scanned for it: those of the lines that the change touches.
     pub scanned: usize,

@@ -6,13 +6,13 @@ use Rattle.std.proofs.lemmas.List.{length-append, length-map}
 use Rattle.keep_token.specs.declared.leaf.Profile.{Profile}
 use Rattle.keep_token.specs.declared.leaf.Profile.TheVariants.{Strict}
 use Rattle.keep_token.specs.declared.leaf.Leaf.TheVariants as leaf
-use Rattle.keep_syntax.specs.Tree.{Written, Gap, Further, Key, Name, Body, scalar, array, inline, Entries, none, entry, Value, Content, blank, keyval, header, element, Line, Ended, Document, mark, further_leaves, key_leaves, name_leaves, named_leaves, opening, closing, comma_leaves, entries_leaves, value_leaves, content_leaves, comment_leaves, line_leaves, ended_leaves, bom_leaves, leaves, text, depth}
+use Rattle.keep_syntax.specs.Tree.{Written, Gap, Further, Key, Name, Body, scalar, array, inline, Entries, none, entry, Value, Content, blank, keyval, header, element, Line, Ended, Document, token, further_leaves, key_leaves, name_leaves, named_leaves, opening, closing, comma_leaves, entries_leaves, value_leaves, content_leaves, comment_leaves, line_leaves, ended_leaves, bom_leaves, leaves, text, depth}
 use Rattle.keep_syntax.specs.Grammar.{IsDocument}
 use Rattle.keep_syntax.proofs.Shared.{leaves_count}
 use Rattle.keep_path.specs.Path.{Part, key, index, same_path}
 use Rattle.keep_meaning.specs.Fact.{Fact}
-use Rattle.keep_meaning.specs.Marks.{through, past, passed, define, element as says_element, begun, value as says_value, item, Mention, below, Reading, statement_mentions, elements_of, entered_path, passing_mentions, header_way, header_path, start}
-use Rattle.keep_meaning.specs.Meaning.{key_value, further_value, keys_of, body_fact, keyed_mentions, valued_mentions, entry_mentions, entries_said, statement_of, line_said, behind_line, lines_said, line_of, said_in}
+use Rattle.keep_meaning.specs.Marks.{through, past, passed, define, element as kinds_element, begun, value as mentions_value, item, Mention, below, Reading, statement_mentions, elements_of, entered_path, passing_mentions, header_way, header_path, start}
+use Rattle.keep_meaning.specs.Meaning.{key_value, further_value, keys_of, body_fact, keyed_mentions, valued_mentions, entry_mentions, entries_mentions, statement_of, line_mentions, after_line, lines_mentions, line_of, mentions_in}
 use Rattle.keep_meaning.specs.Nodes.{paths_with, node_path, node_paths, nodes_in}
 use Rattle.keep_meaning.proofs.CountLemmas.{paths-nodes_in}
 
@@ -39,7 +39,7 @@ length-keyed k (l ∷ ks) ms = omega (arith, length-map (keyed_mentions (l ∷ k
 further_many : (fs : List Further) → length fs + length fs ≤ length (flat_map further_leaves fs)
 further_many [] = omega arith
 further_many (f ∷ fs) =
-    let dot = mark leaf.Dot (0x2E ∷ []) in
+    let dot = token leaf.Dot (0x2E ∷ []) in
     omega (
       arith,
       length-append (further_leaves f) (flat_map further_leaves fs),
@@ -50,54 +50,54 @@ further_many (f ∷ fs) =
 
 -- ---- what entries say
 
-entry_few : (n : ℕ) (name : Option Name) (f : Fact) (inside : List Mention) → length (entry_mentions n name f inside) ≤ length (named_leaves name) + suc (length inside)
-entry_few n None f inside = omega (arith, length-map (valued_mentions (item f) inside) (below (index n ∷ [])))
-entry_few n (Some name) f inside =
+entry_few : (n : ℕ) (name : Option Name) (f : Fact) (nested : List Mention) → length (entry_mentions n name f nested) ≤ length (named_leaves name) + suc (length nested)
+entry_few n None f nested = omega (arith, length-map (valued_mentions (item f) nested) (below (index n ∷ [])))
+entry_few n (Some name) f nested =
     omega (
       arith,
-      length-keyed (key_value name.key.first) (map further_value name.key.more) (valued_mentions (says_value f) inside),
+      length-keyed (key_value name.key.first) (map further_value name.key.more) (valued_mentions (mentions_value f) nested),
       length-map name.key.more further_value,
-      length-append (key_leaves name.key) (name.before ++ (mark leaf.Equals (0x3D ∷ []) ++ name.behind)),
+      length-append (key_leaves name.key) (name.before ++ (token leaf.Equals (0x3D ∷ []) ++ name.behind)),
       further_many name.key.more,
     )
 
 -- a value has a leaf at least, and those of what is inside
-value_many : (v : Value) → suc (length (entries_leaves v.inside)) ≤ length (value_leaves v)
+value_many : (v : Value) → suc (length (entries_leaves v.nested)) ≤ length (value_leaves v)
 value_many v = by v.body
   where
-    by : (b : Body) → suc (length (entries_leaves v.inside)) ≤ length (opening b ++ (entries_leaves v.inside ++ closing b))
-    by (scalar w) = omega (arith, length-append (entries_leaves v.inside) [])
-    by (array first) = omega (arith, length-append first (entries_leaves v.inside ++ closing (array first)), length-append (entries_leaves v.inside) (closing (array first)))
-    by (inline first) = omega (arith, length-append first (entries_leaves v.inside ++ closing (inline first)), length-append (entries_leaves v.inside) (closing (inline first)))
+    by : (b : Body) → suc (length (entries_leaves v.nested)) ≤ length (opening b ++ (entries_leaves v.nested ++ closing b))
+    by (scalar w) = omega (arith, length-append (entries_leaves v.nested) [])
+    by (array first) = omega (arith, length-append first (entries_leaves v.nested ++ closing (array first)), length-append (entries_leaves v.nested) (closing (array first)))
+    by (inline first) = omega (arith, length-append first (entries_leaves v.nested ++ closing (inline first)), length-append (entries_leaves v.nested) (closing (inline first)))
 
--- an entry is its name, its value, and what stands behind
+-- an entry is its name, its value, and what comes after
 entry_many : (name : Option Name) (v : Value) (after : Gap) (comma : Option Gap) (rest : Entries)
-    → length (named_leaves name) + suc (length (entries_leaves v.inside)) + length (entries_leaves rest) ≤ length (entries_leaves (entry name v.body v.inside after comma rest))
+    → length (named_leaves name) + suc (length (entries_leaves v.nested)) + length (entries_leaves rest) ≤ length (entries_leaves (entry name v.body v.nested after comma rest))
 entry_many name v after comma rest =
     let behind : List Written = after ++ (comma_leaves comma ++ entries_leaves rest) in
     omega (
       arith,
-      length-append (named_leaves name) (opening v.body ++ (entries_leaves v.inside ++ (closing v.body ++ behind))),
-      length-append (opening v.body) (entries_leaves v.inside ++ (closing v.body ++ behind)),
-      length-append (entries_leaves v.inside) (closing v.body ++ behind),
+      length-append (named_leaves name) (opening v.body ++ (entries_leaves v.nested ++ (closing v.body ++ behind))),
+      length-append (opening v.body) (entries_leaves v.nested ++ (closing v.body ++ behind)),
+      length-append (entries_leaves v.nested) (closing v.body ++ behind),
       length-append (closing v.body) behind,
       length-append after (comma_leaves comma ++ entries_leaves rest),
       length-append (comma_leaves comma) (entries_leaves rest),
-      length-append (opening v.body) (entries_leaves v.inside ++ closing v.body),
-      length-append (entries_leaves v.inside) (closing v.body),
+      length-append (opening v.body) (entries_leaves v.nested ++ closing v.body),
+      length-append (entries_leaves v.nested) (closing v.body),
       value_many v,
     )
 
-entries_few : (n : ℕ) (es : Entries) → length (entries_said n es) ≤ length (entries_leaves es)
+entries_few : (n : ℕ) (es : Entries) → length (entries_mentions n es) ≤ length (entries_leaves es)
 entries_few n none = omega arith
-entries_few n (entry name body inside after comma rest) =
+entries_few n (entry name body nested after comma rest) =
     omega (
       arith,
-      length-append (entry_mentions n name (body_fact body) (entries_said 0 inside)) (entries_said (n + 1) rest),
-      entry_few n name (body_fact body) (entries_said 0 inside),
-      entries_few 0 inside,
+      length-append (entry_mentions n name (body_fact body) (entries_mentions 0 nested)) (entries_mentions (n + 1) rest),
+      entry_few n name (body_fact body) (entries_mentions 0 nested),
+      entries_few 0 nested,
       entries_few (n + 1) rest,
-      entry_many name (record { body = body; inside = inside }) after comma rest,
+      entry_many name (record { body = body; nested = nested }) after comma rest,
     )
 
 -- ---- what headers say
@@ -114,7 +114,7 @@ way_few tables at k (l ∷ ks) =
     omega (
       arith,
       length-append (passing_mentions tables path) (header_way tables (entered_path tables path) (l ∷ ks)),
-      passing_few (0 == elements_of path tables) (record { path = path; says = through }) (record { path = path; says = past }) (record { path = entered_path tables path; says = passed }),
+      passing_few (0 == elements_of path tables) (record { path = path; kind = through }) (record { path = path; kind = past }) (record { path = entered_path tables path; kind = passed }),
       way_few tables (entered_path tables path) l ks,
     )
 
@@ -135,19 +135,19 @@ header_many first last before k behind =
 content_few : (r : Reading) (c : Content) → length {A = Mention} (elim (statement_of c) [ None ↦ [] | Some s ↦ statement_mentions r s ]) ≤ length (content_leaves c)
 content_few r blank = omega arith
 content_few r (keyval name v) =
-    let inside : List Mention = entry_mentions 0 (Some name) (body_fact v.body) (entries_said 0 v.inside) in
+    let nested : List Mention = entry_mentions 0 (Some name) (body_fact v.body) (entries_mentions 0 v.nested) in
     omega (
       arith,
-      length-map inside (below r.body),
-      entry_few 0 (Some name) (body_fact v.body) (entries_said 0 v.inside),
-      entries_few 0 v.inside,
+      length-map nested (below r.body),
+      entry_few 0 (Some name) (body_fact v.body) (entries_mentions 0 v.nested),
+      entries_few 0 v.nested,
       value_many v,
       length-append (name_leaves name) (value_leaves v),
     )
 content_few r (header before k behind) =
     omega (
       arith,
-      length-append (header_way r.tables [] (keys_of k)) (record { path = header_path r.tables [] (keys_of k); says = define } ∷ []),
+      length-append (header_way r.tables [] (keys_of k)) (record { path = header_path r.tables [] (keys_of k); kind = define } ∷ []),
       way_few r.tables [] (key_value k.first) (map further_value k.more),
       length-map k.more further_value,
       header_many (record { leaf = leaf.HeadOpen; text = 0x5B ∷ [] }) (record { leaf = leaf.HeadClose; text = 0x5D ∷ [] }) before k behind,
@@ -156,13 +156,13 @@ content_few r (element before k behind) =
     let path : List Part = header_path r.tables [] (keys_of k) in
     omega (
       arith,
-      length-append (header_way r.tables [] (keys_of k)) (record { path = path; says = says_element } ∷ record { path = path ++ index (elements_of path r.tables) ∷ []; says = begun } ∷ []),
+      length-append (header_way r.tables [] (keys_of k)) (record { path = path; kind = kinds_element } ∷ record { path = path ++ index (elements_of path r.tables) ∷ []; kind = begun } ∷ []),
       way_few r.tables [] (key_value k.first) (map further_value k.more),
       length-map k.more further_value,
       header_many (record { leaf = leaf.ElemOpen; text = 0x5B ∷ 0x5B ∷ [] }) (record { leaf = leaf.ElemClose; text = 0x5D ∷ 0x5D ∷ [] }) before k behind,
     )
 
-line_few : (r : Reading) (l : Line) → length (line_said r l) ≤ length (line_leaves l)
+line_few : (r : Reading) (l : Line) → length (line_mentions r l) ≤ length (line_leaves l)
 line_few r l =
     omega (
       arith,
@@ -171,22 +171,22 @@ line_few r l =
       length-append (content_leaves l.content) (l.after ++ comment_leaves l.comment),
     )
 
-lines_few : (r : Reading) (es : List Ended) (last : Line) → length (lines_said r (map line_of es ++ last ∷ [])) ≤ length (flat_map ended_leaves es) + length (line_leaves last)
-lines_few r [] last = omega (arith, length-append (line_said r last) [], line_few r last)
+lines_few : (r : Reading) (es : List Ended) (last : Line) → length (lines_mentions r (map line_of es ++ last ∷ [])) ≤ length (flat_map ended_leaves es) + length (line_leaves last)
+lines_few r [] last = omega (arith, length-append (line_mentions r last) [], line_few r last)
 lines_few r (e ∷ es) last =
     omega (
       arith,
-      length-append (line_said r e.line) (lines_said (behind_line r e.line) (map line_of es ++ last ∷ [])),
+      length-append (line_mentions r e.line) (lines_mentions (after_line r e.line) (map line_of es ++ last ∷ [])),
       line_few r e.line,
-      lines_few (behind_line r e.line) es last,
+      lines_few (after_line r e.line) es last,
       length-append (ended_leaves e) (flat_map ended_leaves es),
       length-append (line_leaves e.line) (e.newline ∷ []),
     )
 
 -- A document says fewer things than it has leaves: End says nothing.
-pub said_few : (d : Document) → length (said_in d) + 1 ≤ length (leaves d)
-said_few d =
-    let end : List Written = mark leaf.End [] in
+pub mentions_few : (d : Document) → length (mentions_in d) + 1 ≤ length (leaves d)
+mentions_few d =
+    let end : List Written = token leaf.End [] in
     omega (
       arith,
       lines_few start d.ended d.last,
@@ -204,8 +204,8 @@ nodes_few profile d h =
       arith,
       length-map (nodes_in d) node_path,
       ap length (paths-nodes_in d),
-      node_paths_few (said_in d),
-      said_few d,
+      node_paths_few (mentions_in d),
+      mentions_few d,
       leaves_count profile (depth d) (text d) d (record { valid = h; spelled = refl; shallow = omega arith }),
     )
 

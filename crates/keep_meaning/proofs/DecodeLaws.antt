@@ -142,7 +142,7 @@ unescaped (Number c ds ∷ ps) each whole =
 unescaped (Break newline ∷ ps) each whole = newline_read newline (text_of ps) each.0 ∙ ap (λ t. newline ++ t) (unescaped ps each.1 (takes_all_rest (Break newline) ps whole))
 unescaped (LineEnd a b c ∷ ps) each whole = line_end_read a b c ps each.0 each.1 whole ∙ unescaped ps each.1 (takes_all_rest (LineEnd a b c) ps whole)
 
--- ---- a newline right behind the opening
+-- ---- a newline right after the opening
 
 no_newline : (text : List ℕ) → (slice_index text 0 == 0x0A) ≡ false → (slice_index text 0 == 0x0D) ≡ false → without_newline text ≡ text
 no_newline text lf cr = rw (lf, cr) refl

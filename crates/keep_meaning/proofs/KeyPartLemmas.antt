@@ -1,11 +1,11 @@
--- The key parts of a key, where it stands in the text, mean the keys that the key means.
+-- The key parts of a key, where it is in the text, mean the keys that the key means.
 use Rattle.std.proofs.Common.{◌≡◌, ℕ, suc, ◌+◌, ◌-◌, ◌≤◌, List, [], ◌∷◌, ◌++◌, length, map, take, drop, refl, sym, ◌∙◌, ap, subst, arith, append_assoc, take_at, drop_at}
 use Rattle.std.specs.List.{flat_map}
 use Rattle.std.proofs.lemmas.List.{length-append, append-nil}
 use Rattle.std.proofs.lemmas.List.Concat.{flat_map-append}
 use Rattle.keep_token.specs.declared.leaf.Leaf.TheVariants as leaf
 use Rattle.keep_parts.specs.declared.info.KeyPart.{KeyPart}
-use Rattle.keep_syntax.specs.Tree.{Written, Gap, Further, Key, header, element, mark, further_leaves, key_leaves, content_leaves, text_of}
+use Rattle.keep_syntax.specs.Tree.{Written, Gap, Further, Key, header, element, token, further_leaves, key_leaves, content_leaves, text_of}
 use Rattle.keep_syntax.specs.Numbered.{width, part_at, further_parts, key_parts, key_count, content_parts}
 use Rattle.keep_meaning.specs.Meaning.{key_value, further_value, keys_of, string_value}
 use Rattle.keep_meaning.specs.KeyText.{part_text}
@@ -15,37 +15,37 @@ use Rattle.keep_meaning.proofs.PlaceLemmas.{length-further}
 -- ---- a part of a list, at its place
 
 pub record IsPart {A : Type 0} (xs : List A) (at : ℕ) (ys : List A) : Type 0 where
-  pub front : List A
+  pub prefix : List A
   pub behind : List A
-  pub place : length front ≡ at
-  pub whole : xs ≡ front ++ (ys ++ behind)
+  pub place : length prefix ≡ at
+  pub whole : xs ≡ prefix ++ (ys ++ behind)
 
 -- all of it
 pub part_whole : {A : Type 0} (xs : List A) → IsPart xs 0 xs
-part_whole xs = record { front = []; behind = []; place = refl; whole = sym (append-nil xs) }
+part_whole xs = record { prefix = []; behind = []; place = refl; whole = sym (append-nil xs) }
 
 -- its two parts
 pub part_left : {A : Type 0} (xs : List A) (at : ℕ) (a b : List A) → IsPart xs at (a ++ b) → IsPart xs at a
-part_left xs at a b h = record { front = h.front; behind = b ++ h.behind; place = h.place; whole = h.whole ∙ ap (λ w. h.front ++ w) (append_assoc a b h.behind) }
+part_left xs at a b h = record { prefix = h.prefix; behind = b ++ h.behind; place = h.place; whole = h.whole ∙ ap (λ w. h.prefix ++ w) (append_assoc a b h.behind) }
 
 pub part_right : {A : Type 0} (xs : List A) (at : ℕ) (a b : List A) → IsPart xs at (a ++ b) → IsPart xs (at + length a) b
 part_right xs at a b h = record {
-  front = h.front ++ a;
+  prefix = h.prefix ++ a;
   behind = h.behind;
-  place = length-append h.front a ∙ ap (λ n. n + length a) h.place;
-  whole = h.whole ∙ ap (λ w. h.front ++ w) (append_assoc a b h.behind) ∙ sym (append_assoc h.front a (b ++ h.behind));
+  place = length-append h.prefix a ∙ ap (λ n. n + length a) h.place;
+  whole = h.whole ∙ ap (λ w. h.prefix ++ w) (append_assoc a b h.behind) ∙ sym (append_assoc h.prefix a (b ++ h.behind));
 }
 
 -- by the number that its place has
 pub part_placed : {A : Type 0} (xs : List A) (at to : ℕ) (ys : List A) → at ≡ to → IsPart xs at ys → IsPart xs to ys
-part_placed xs at to ys e h = record { front = h.front; behind = h.behind; place = h.place ∙ e; whole = h.whole }
+part_placed xs at to ys e h = record { prefix = h.prefix; behind = h.behind; place = h.place ∙ e; whole = h.whole }
 
 pub part_ends : {A : Type 0} (xs : List A) (at : ℕ) (ys : List A) → IsPart xs at ys → at + length ys ≤ length xs
-part_ends xs at ys h = omega (arith, ap length h.whole, length-append h.front (ys ++ h.behind), length-append ys h.behind, h.place)
+part_ends xs at ys h = omega (arith, ap length h.whole, length-append h.prefix (ys ++ h.behind), length-append ys h.behind, h.place)
 
--- what stands there
+-- what is there
 pub part_taken : {A : Type 0} (xs : List A) (at n : ℕ) (ys : List A) → IsPart xs at ys → length ys ≡ n → take n (drop at xs) ≡ ys
-part_taken xs at n ys h e = ap (λ w. take n (drop at w)) h.whole ∙ ap (take n) (drop_at h.front (ys ++ h.behind) at h.place) ∙ take_at ys h.behind n e
+part_taken xs at n ys h e = ap (λ w. take n (drop at w)) h.whole ∙ ap (take n) (drop_at h.prefix (ys ++ h.behind) at h.place) ∙ take_at ys h.behind n e
 
 -- ---- leaves in the text
 
@@ -64,56 +64,56 @@ spelled_right bytes at a b h = part_right bytes at (text_of a) (text_of b) (subs
 
 -- ---- keys
 
-part_says : (bytes : List ℕ) (at : ℕ) (w : Written) → IsPart bytes at w.text → part_text bytes (part_at at w) ≡ key_value w
-part_says bytes at w h =
+part_mentions : (bytes : List ℕ) (at : ℕ) (w : Written) → IsPart bytes at w.text → part_text bytes (part_at at w) ≡ key_value w
+part_mentions bytes at w h =
     let n : length w.text ≡ at + length w.text - at = omega arith in
     ap (string_value w.leaf) (part_taken bytes at (at + length w.text - at) w.text h n)
 
-further_say : (bytes : List ℕ) (at : ℕ) (fs : List Further) → Spelled bytes at (flat_map further_leaves fs) → map (part_text bytes) (further_parts at fs) ≡ map further_value fs
-further_say bytes at [] h = refl
-further_say bytes at (f ∷ fs) h =
+further_mention : (bytes : List ℕ) (at : ℕ) (fs : List Further) → Spelled bytes at (flat_map further_leaves fs) → map (part_text bytes) (further_parts at fs) ≡ map further_value fs
+further_mention bytes at [] h = refl
+further_mention bytes at (f ∷ fs) h =
     let more : List Written = flat_map further_leaves fs in
-    let dot : List Written = mark leaf.Dot (0x2E ∷ []) in
+    let dot : List Written = token leaf.Dot (0x2E ∷ []) in
     let from : ℕ = at + width f.before + 1 + width f.behind in
     let split : further_leaves f ++ more ≡ f.before ++ (dot ++ (f.behind ++ (f.part ∷ more))) = simp append_assoc in
     let text : Spelled bytes at (f.before ++ (dot ++ (f.behind ++ (f.part ∷ more)))) = subst (Spelled bytes at) split h in
     let a : Spelled bytes (at + width f.before) (dot ++ (f.behind ++ (f.part ∷ more))) = spelled_right bytes at f.before (dot ++ (f.behind ++ (f.part ∷ more))) text in
     let b : Spelled bytes (at + width f.before + 1) (f.behind ++ (f.part ∷ more)) = spelled_right bytes (at + width f.before) dot (f.behind ++ (f.part ∷ more)) a in
     let c : Spelled bytes from (f.part ∷ more) = spelled_right bytes (at + width f.before + 1) f.behind (f.part ∷ more) b in
-    ap (λ (k : List ℕ). k ∷ map (part_text bytes) (further_parts (from + length f.part.text) fs)) (part_says bytes from f.part (part_left bytes from f.part.text (text_of more) c))
-    ∙ ap (λ (ks : List (List ℕ)). key_value f.part ∷ ks) (further_say bytes (from + length f.part.text) fs (part_right bytes from f.part.text (text_of more) c))
+    ap (λ (k : List ℕ). k ∷ map (part_text bytes) (further_parts (from + length f.part.text) fs)) (part_mentions bytes from f.part (part_left bytes from f.part.text (text_of more) c))
+    ∙ ap (λ (ks : List (List ℕ)). key_value f.part ∷ ks) (further_mention bytes (from + length f.part.text) fs (part_right bytes from f.part.text (text_of more) c))
 
 -- the key parts of a key that is spelled there
-pub key_parts_say : (bytes : List ℕ) (at : ℕ) (k : Key) → Spelled bytes at (key_leaves k) → map (part_text bytes) (key_parts at k) ≡ keys_of k
-key_parts_say bytes at k h =
+pub key_parts_mention : (bytes : List ℕ) (at : ℕ) (k : Key) → Spelled bytes at (key_leaves k) → map (part_text bytes) (key_parts at k) ≡ keys_of k
+key_parts_mention bytes at k h =
     let more : List Written = flat_map further_leaves k.more in
-    ap (λ (t : List ℕ). t ∷ map (part_text bytes) (further_parts (at + length k.first.text) k.more)) (part_says bytes at k.first (part_left bytes at k.first.text (text_of more) h))
-    ∙ ap (λ (ts : List (List ℕ)). key_value k.first ∷ ts) (further_say bytes (at + length k.first.text) k.more (part_right bytes at k.first.text (text_of more) h))
+    ap (λ (t : List ℕ). t ∷ map (part_text bytes) (further_parts (at + length k.first.text) k.more)) (part_mentions bytes at k.first (part_left bytes at k.first.text (text_of more) h))
+    ∙ ap (λ (ts : List (List ℕ)). key_value k.first ∷ ts) (further_mention bytes (at + length k.first.text) k.more (part_right bytes at k.first.text (text_of more) h))
 
 pub length-key_parts : (at : ℕ) (k : Key) → length (key_parts at k) ≡ key_count k
 length-key_parts at k = ap suc (length-further (at + length k.first.text) k.more)
 
--- the same among further key parts
-pub keys_say : (bytes : List ℕ) (parts : List KeyPart) (at first : ℕ) (k : Key) → Spelled bytes at (key_leaves k) → IsPart parts first (key_parts at k) → keys_in bytes parts first (key_count k) ≡ keys_of k
-keys_say bytes parts at first k text among = ap (map (part_text bytes)) (part_taken parts first (key_count k) (key_parts at k) among (length-key_parts at k)) ∙ key_parts_say bytes at k text
+-- a key's parts, among other key parts, mean the keys that the key means
+pub keys_mention : (bytes : List ℕ) (parts : List KeyPart) (at first : ℕ) (k : Key) → Spelled bytes at (key_leaves k) → IsPart parts first (key_parts at k) → keys_in bytes parts first (key_count k) ≡ keys_of k
+keys_mention bytes parts at first k text among = ap (map (part_text bytes)) (part_taken parts first (key_count k) (key_parts at k) among (length-key_parts at k)) ∙ key_parts_mention bytes at k text
 
 pub keys_within : (parts : List KeyPart) (at first : ℕ) (k : Key) → IsPart parts first (key_parts at k) → first + key_count k ≤ length parts
 keys_within parts at first k among = omega (arith, part_ends parts first (key_parts at k) among, length-key_parts at k)
 
 -- ---- the keys of headers
 
-pub header_keys_say : (bytes : List ℕ) (parts : List KeyPart) (at first : ℕ) (before : Gap) (k : Key) (behind : Gap)
+pub header_keys_mention : (bytes : List ℕ) (parts : List KeyPart) (at first : ℕ) (before : Gap) (k : Key) (behind : Gap)
     → Spelled bytes at (content_leaves (header before k behind)) → IsPart parts first (content_parts at (header before k behind)) → keys_in bytes parts first (key_count k) ≡ keys_of k
-header_keys_say bytes parts at first before k behind text among =
-    let end : List Written = behind ++ mark leaf.HeadClose (0x5D ∷ []) in
-    let a : Spelled bytes (at + 1) (before ++ (key_leaves k ++ end)) = spelled_right bytes at (mark leaf.HeadOpen (0x5B ∷ [])) (before ++ (key_leaves k ++ end)) text in
+header_keys_mention bytes parts at first before k behind text among =
+    let end : List Written = behind ++ token leaf.HeadClose (0x5D ∷ []) in
+    let a : Spelled bytes (at + 1) (before ++ (key_leaves k ++ end)) = spelled_right bytes at (token leaf.HeadOpen (0x5B ∷ [])) (before ++ (key_leaves k ++ end)) text in
     let b : Spelled bytes (at + 1 + width before) (key_leaves k ++ end) = spelled_right bytes (at + 1) before (key_leaves k ++ end) a in
-    keys_say bytes parts (at + 1 + width before) first k (spelled_left bytes (at + 1 + width before) (key_leaves k) end b) among
+    keys_mention bytes parts (at + 1 + width before) first k (spelled_left bytes (at + 1 + width before) (key_leaves k) end b) among
 
-pub element_keys_say : (bytes : List ℕ) (parts : List KeyPart) (at first : ℕ) (before : Gap) (k : Key) (behind : Gap)
+pub element_keys_mention : (bytes : List ℕ) (parts : List KeyPart) (at first : ℕ) (before : Gap) (k : Key) (behind : Gap)
     → Spelled bytes at (content_leaves (element before k behind)) → IsPart parts first (content_parts at (element before k behind)) → keys_in bytes parts first (key_count k) ≡ keys_of k
-element_keys_say bytes parts at first before k behind text among =
-    let end : List Written = behind ++ mark leaf.ElemClose (0x5D ∷ 0x5D ∷ []) in
-    let a : Spelled bytes (at + 2) (before ++ (key_leaves k ++ end)) = spelled_right bytes at (mark leaf.ElemOpen (0x5B ∷ 0x5B ∷ [])) (before ++ (key_leaves k ++ end)) text in
+element_keys_mention bytes parts at first before k behind text among =
+    let end : List Written = behind ++ token leaf.ElemClose (0x5D ∷ 0x5D ∷ []) in
+    let a : Spelled bytes (at + 2) (before ++ (key_leaves k ++ end)) = spelled_right bytes at (token leaf.ElemOpen (0x5B ∷ 0x5B ∷ [])) (before ++ (key_leaves k ++ end)) text in
     let b : Spelled bytes (at + 2 + width before) (key_leaves k ++ end) = spelled_right bytes (at + 2) before (key_leaves k ++ end) a in
-    keys_say bytes parts (at + 2 + width before) first k (spelled_left bytes (at + 2 + width before) (key_leaves k) end b) among
+    keys_mention bytes parts (at + 2 + width before) first k (spelled_left bytes (at + 2 + width before) (key_leaves k) end b) among

@@ -1,4 +1,4 @@
--- The key parts of a text stand in it between characters, each spelled as a key.
+-- The key parts of a text are in it between characters, each spelled as a key.
 use Rattle.std.proofs.Common.{◌≡◌, ℕ, zero, suc, ◌+◌, ◌-◌, ◌<◌, true, IsTrue, List, [], ◌∷◌, ◌++◌, length, get_or, take, drop, slice_get, sym, ◌∙◌, ap, subst, arith, append_assoc, Option, Some, None, IsUtf8, IsCharBoundary}
 use Rattle.std.specs.List.{flat_map, AllByRecursion}
 use Rattle.std.proofs.Math.Seq.{get_or-append_seam}
@@ -14,12 +14,12 @@ use Rattle.keep_token.specs.Leaves.{IsLeaf, is_key_leaf}
 use Rattle.keep_token.specs.Strings as strings
 use Rattle.keep_token.proofs.Shared.{all_pass, leaf_wider}
 use Rattle.keep_parts.specs.declared.info.KeyPart.{KeyPart}
-use Rattle.keep_syntax.specs.Tree.{Written, Gap, Further, Key, Name, Entries, none, entry, Value, Content, blank, keyval, header, element, Line, Ended, Document, mark, further_leaves, key_leaves, name_leaves, named_leaves, opening, closing, comma_leaves, entries_leaves, value_leaves, content_leaves, line_leaves, text_of, text, value_text}
+use Rattle.keep_syntax.specs.Tree.{Written, Gap, Further, Key, Name, Entries, none, entry, Value, Content, blank, keyval, header, element, Line, Ended, Document, token, further_leaves, key_leaves, name_leaves, named_leaves, opening, closing, comma_leaves, entries_leaves, value_leaves, content_leaves, line_leaves, text_of, text, value_text}
 use Rattle.keep_syntax.specs.Grammar.{IsKeyPart, IsFurther, IsKey, IsName, Place, in_scalar, in_array, in_inline, place_in, IsNamed, AreEntries, IsValue, IsContent, IsLine, IsEnded, IsDocument}
 use Rattle.keep_syntax.specs.declared.syntax.Syntax.{Syntax}
 use Rattle.keep_syntax.specs.declared.alone.ValueSyntax.{ValueSyntax}
 use Rattle.keep_syntax.specs.Contract.{parts_of, IsSyntaxOf, value_parts_of, IsValueSyntaxOf, parts_alone}
-use Rattle.keep_syntax.specs.Numbered.{width, part_at, further_parts, key_parts, named_parts, value_start, inside_start, entry_end, entries_parts, Count, content_start, content_parts, line_parts, next_line, first_line, over_lines, parts}
+use Rattle.keep_syntax.specs.Numbered.{width, part_at, further_parts, key_parts, named_parts, value_start, nested_start, entry_end, entries_parts, Count, content_start, content_parts, line_parts, next_line, first_line, over_lines, parts}
 use Rattle.keep_meaning.specs.KeyText.{IsKeyAt}
 use Rattle.keep_meaning.proofs.KeyPartLemmas.{IsPart, part_whole, part_left, part_right, part_ends, part_taken, Spelled, spelled_left, spelled_right}
 use Rattle.keep_meaning.proofs.LinePlaceLemmas.{head_spelled, content_spelled, LinesSpelled, line_spelled, next_spelled, lines_spelled}
@@ -31,13 +31,13 @@ pub record HasAsciiEnds (text : List ℕ) : Type 0 where
   pub first : get_or text 0 0 < 128
   pub last : get_or text (length text - 1) 0 < 128
 
-behind_front : (front : List ℕ) (c n : ℕ) → n ≡ length front → get_or (front ++ (c ∷ [])) n 0 ≡ c
-behind_front front c n e = ap (λ i. get_or (front ++ (c ∷ [])) i 0) e ∙ get_or-append_seam front c [] 0
+after_prefix : (prefix : List ℕ) (c n : ℕ) → n ≡ length prefix → get_or (prefix ++ (c ∷ [])) n 0 ≡ c
+after_prefix prefix c n e = ap (λ i. get_or (prefix ++ (c ∷ [])) i 0) e ∙ get_or-append_seam prefix c [] 0
 
 quoted_ends : (mark : ℕ) (body text : List ℕ) → mark < 128 → text ≡ mark ∷ body ++ (mark ∷ []) → HasAsciiEnds text
 quoted_ends mark body text low e =
     let many : length text ≡ length body + 2 = omega (arith, ap length e, length-append body (mark ∷ [])) in
-    let last : get_or text (length text - 1) 0 ≡ mark = ap (λ t. get_or t (length text - 1) 0) e ∙ behind_front (mark ∷ body) mark (length text - 1) (omega (arith, many)) in
+    let last : get_or text (length text - 1) 0 ≡ mark = ap (λ t. get_or t (length text - 1) 0) e ∙ after_prefix (mark ∷ body) mark (length text - 1) (omega (arith, many)) in
     record { some = omega (arith, many); first = subst (λ t. get_or t 0 0 < 128) (sym e) low; last = omega (arith, last) }
 
 bare_low : (c : ℕ) → is_bare c ≡ true → c < 128
@@ -56,13 +56,13 @@ key_ends profile leaf.Basic text kind h = quoted_ends 0x22 (strings.text_of h.0)
 key_ends profile leaf.Literal text kind h = quoted_ends 0x27 (strings.text_of h.0) text (omega arith) h.1.spelled
 key_ends profile _ text kind h = absurd cc
 
--- ---- where it stands
+-- ---- where it is
 
 -- a byte of a part of a text
 part_byte : (bytes : List ℕ) (at : ℕ) (t : List ℕ) (i : ℕ) → IsPart bytes at t → i < length t → get_or bytes (at + i) 0 ≡ get_or t i 0
 part_byte bytes at t i h lt =
-    let from : at + i ≡ length h.front + i = ap (λ n. n + i) (sym h.place) in
-    ap (λ n. get_or bytes n 0) from ∙ ap (λ b. get_or b (length h.front + i) 0) h.whole ∙ get_or-append-add h.front (t ++ h.behind) i 0 ∙ get_or_append_left t h.behind 0 i lt
+    let from : at + i ≡ length h.prefix + i = ap (λ n. n + i) (sym h.place) in
+    ap (λ n. get_or bytes n 0) from ∙ ap (λ b. get_or b (length h.prefix + i) 0) h.whole ∙ get_or-append-add h.prefix (t ++ h.behind) i 0 ∙ get_or_append_left t h.behind 0 i lt
 
 starts_between : (bytes : List ℕ) (at : ℕ) (t : List ℕ) → IsPart bytes at t → HasAsciiEnds t → IsCharBoundary bytes at
 starts_between bytes at t there ends =
@@ -107,7 +107,7 @@ module _ (bytes : List ℕ) (utf8 : IsUtf8 bytes) (profile : Profile) where
   further_readable at [] are h = tt
   further_readable at (f ∷ fs) are h =
       let more : List Written = flat_map further_leaves fs in
-      let dot : List Written = mark leaf.Dot (0x2E ∷ []) in
+      let dot : List Written = token leaf.Dot (0x2E ∷ []) in
       let from : ℕ = at + width f.before + 1 + width f.behind in
       let split : further_leaves f ++ more ≡ f.before ++ (dot ++ (f.behind ++ (f.part ∷ more))) = simp append_assoc in
       let text : Spelled bytes at (f.before ++ (dot ++ (f.behind ++ (f.part ∷ more)))) = subst (Spelled bytes at) split h in
@@ -126,7 +126,7 @@ module _ (bytes : List ℕ) (utf8 : IsUtf8 bytes) (profile : Profile) where
       )
 
   name_readable : (at : ℕ) (n : Name) → IsName profile n → Spelled bytes at (name_leaves n) → Readable (key_parts at n.key)
-  name_readable at n is h = key_readable at n.key is.key (spelled_left bytes at (key_leaves n.key) (n.before ++ (mark leaf.Equals (0x3D ∷ []) ++ n.behind)) h)
+  name_readable at n is h = key_readable at n.key is.key (spelled_left bytes at (key_leaves n.key) (n.before ++ (token leaf.Equals (0x3D ∷ []) ++ n.behind)) h)
 
   named_readable : (place : Place) (at : ℕ) (name : Option Name) → IsNamed profile place name → Spelled bytes at (named_leaves name) → Readable (named_parts at name)
   named_readable place at None is h = tt
@@ -138,32 +138,32 @@ module _ (bytes : List ℕ) (utf8 : IsUtf8 bytes) (profile : Profile) where
 
   entries_readable : (place : Place) (at : ℕ) (es : Entries) → AreEntries profile place es → Spelled bytes at (entries_leaves es) → Readable (entries_parts at es)
   entries_readable place at none are h = tt
-  entries_readable place at (entry name body inside after comma rest) are h =
+  entries_readable place at (entry name body nested after comma rest) are h =
       let further : List Written = entries_leaves rest in
       let ended : List Written = comma_leaves comma ++ further in
       let closed : List Written = closing body ++ (after ++ ended) in
-      let opened : List Written = opening body ++ (entries_leaves inside ++ closed) in
+      let opened : List Written = opening body ++ (entries_leaves nested ++ closed) in
       let from : ℕ = value_start at name in
-      let within : ℕ = inside_start from body in
-      let behind : ℕ = within + width (entries_leaves inside) in
+      let within : ℕ = nested_start from body in
+      let behind : ℕ = within + width (entries_leaves nested) in
       let past : ℕ = behind + width (closing body) in
       let a : Spelled bytes from opened = spelled_right bytes at (named_leaves name) opened h in
-      let b : Spelled bytes within (entries_leaves inside ++ closed) = spelled_right bytes from (opening body) (entries_leaves inside ++ closed) a in
-      let c : Spelled bytes behind closed = spelled_right bytes within (entries_leaves inside) closed b in
+      let b : Spelled bytes within (entries_leaves nested ++ closed) = spelled_right bytes from (opening body) (entries_leaves nested ++ closed) a in
+      let c : Spelled bytes behind closed = spelled_right bytes within (entries_leaves nested) closed b in
       let d : Spelled bytes past (after ++ ended) = spelled_right bytes behind (closing body) (after ++ ended) c in
       let e : Spelled bytes (past + width after) ended = spelled_right bytes past after ended d in
-      let f : Spelled bytes (entry_end at name body inside after comma) further = spelled_right bytes (past + width after) (comma_leaves comma) further e in
-      let inner : List KeyPart = entries_parts within inside in
-      let outer : List KeyPart = entries_parts (entry_end at name body inside after comma) rest in
+      let f : Spelled bytes (entry_end at name body nested after comma) further = spelled_right bytes (past + width after) (comma_leaves comma) further e in
+      let inner : List KeyPart = entries_parts within nested in
+      let outer : List KeyPart = entries_parts (entry_end at name body nested after comma) rest in
       all-append (IsKeyAt bytes) (named_parts at name) (inner ++ outer) (named_readable place at name are.0 (spelled_left bytes at (named_leaves name) opened h))
-      (all-append (IsKeyAt bytes) inner outer (entries_readable (place_in body) within inside are.2 (spelled_left bytes within (entries_leaves inside) closed b))
-      (entries_readable place (entry_end at name body inside after comma) rest are.5 f))
+      (all-append (IsKeyAt bytes) inner outer (entries_readable (place_in body) within nested are.2 (spelled_left bytes within (entries_leaves nested) closed b))
+      (entries_readable place (entry_end at name body nested after comma) rest are.5 f))
 
-  value_readable : (at : ℕ) (v : Value) → IsValue profile v → Spelled bytes at (value_leaves v) → Readable (entries_parts (inside_start at v.body) v.inside)
+  value_readable : (at : ℕ) (v : Value) → IsValue profile v → Spelled bytes at (value_leaves v) → Readable (entries_parts (nested_start at v.body) v.nested)
   value_readable at v is h =
-      let closed : List Written = entries_leaves v.inside ++ closing v.body in
-      entries_readable (place_in v.body) (inside_start at v.body) v.inside is.inside
-      (spelled_left bytes (inside_start at v.body) (entries_leaves v.inside) (closing v.body) (spelled_right bytes at (opening v.body) closed h))
+      let closed : List Written = entries_leaves v.nested ++ closing v.body in
+      entries_readable (place_in v.body) (nested_start at v.body) v.nested is.nested
+      (spelled_left bytes (nested_start at v.body) (entries_leaves v.nested) (closing v.body) (spelled_right bytes at (opening v.body) closed h))
 
   -- ---- lines
 
@@ -175,7 +175,7 @@ module _ (bytes : List ℕ) (utf8 : IsUtf8 bytes) (profile : Profile) where
   content_readable at blank is h = tt
   content_readable at (keyval name v) is h =
       let from : ℕ = at + width (name_leaves name) in
-      all-append (IsKeyAt bytes) (key_parts at name.key) (entries_parts (inside_start from v.body) v.inside)
+      all-append (IsKeyAt bytes) (key_parts at name.key) (entries_parts (nested_start from v.body) v.nested)
       (name_readable at name is.0 (spelled_left bytes at (name_leaves name) (value_leaves v) h))
       (value_readable from v is.1 (spelled_right bytes at (name_leaves name) (value_leaves v) h))
   content_readable at (header before key behind) is h =

@@ -1,4 +1,4 @@
--- A key part without escapes means what stands between its marks.
+-- A key part without escapes means what is between its marks.
 use Rattle.std.proofs.Common.{◌≡◌, ℕ, ◌-◌, Bool, false, ◌==◌, IsTrue, List, [], ◌∷◌, ◌++◌, length, take, drop, refl, sym, ap, ◌∙◌, subst, arith}
 use Rattle.std.specs.List.{slice_range, list_any}
 use Rattle.std.specs.Str.{IsUtf8, IsCharBoundary}
@@ -46,14 +46,14 @@ plain_text (c ∷ cs) h =
     let parts = or_parts (is_backslash c) (list_any is_backslash cs) h in
     plain_read c cs parts.0 ∙ ap (λ t. c ∷ t) (plain_text cs parts.1)
 
-none_inside : (text body : List ℕ) → text ≡ 0x22 ∷ body ++ (0x22 ∷ []) → list_any is_backslash text ≡ false → list_any is_backslash body ≡ false
-none_inside text body e h =
+none_nested : (text body : List ℕ) → text ≡ 0x22 ∷ body ++ (0x22 ∷ []) → list_any is_backslash text ≡ false → list_any is_backslash body ≡ false
+none_nested text body e h =
     (or_parts (list_any is_backslash body) (list_any is_backslash (0x22 ∷ [])) (sym (list_any-append is_backslash body (0x22 ∷ [])) ∙ sym (ap (list_any is_backslash) e) ∙ h)).0
 
 pub basic_plain : (l : Leaf) (text part : List ℕ) → l ≡ leaf.Basic → IsLeaf Wide l text → list_any is_backslash text ≡ false → part ≡ slice_range text 1 (length text - 1) → part ≡ string_value l text
 basic_plain leaf.Basic text part e (ps, string) none cut =
     let body = one_between 0x22 text (text_of ps) string.spelled in
-    let plain = plain_text (text_of ps) (none_inside text (text_of ps) string.spelled none) in
+    let plain = plain_text (text_of ps) (none_nested text (text_of ps) string.spelled none) in
     cut ∙ inner text ∙ body ∙ sym plain ∙ ap (unescaped_text 0) (sym body)
 basic_plain _ text part e h none cut = absurd cc
 

@@ -1,8 +1,8 @@
--- Where the lines of a text, and what stands in them, are spelled.
+-- Where the lines of a text, and what is in them, are spelled.
 use Rattle.std.proofs.Common.{◌≡◌, ℕ, ◌+◌, List, [], ◌∷◌, ◌++◌, length, sym, subst, arith, append_assoc}
 use Rattle.std.specs.List.{flat_map}
 use Rattle.keep_token.specs.declared.leaf.Leaf.TheVariants as leaf
-use Rattle.keep_syntax.specs.Tree.{Written, Gap, Key, Line, Ended, Document, mark, key_leaves, content_leaves, comment_leaves, line_leaves, ended_leaves, bom_leaves, text_of, text}
+use Rattle.keep_syntax.specs.Tree.{Written, Gap, Key, Line, Ended, Document, token, key_leaves, content_leaves, comment_leaves, line_leaves, ended_leaves, bom_leaves, text_of, text}
 use Rattle.keep_syntax.specs.Numbered.{width, Count, content_start, next_line, first_line}
 use Rattle.keep_meaning.proofs.KeyPartLemmas.{IsPart, part_whole, part_right, part_placed, Spelled, spelled_left, spelled_right}
 
@@ -27,7 +27,7 @@ LinesSpelled bytes at es last = Spelled bytes at (flat_map ended_leaves es ++ li
 first_spelled : (bytes : List ℕ) (at : ℕ) (e : Ended) (es : List Ended) (last : Line) → LinesSpelled bytes at (e ∷ es) last → Spelled bytes at (ended_leaves e ++ (flat_map ended_leaves es ++ line_leaves last))
 first_spelled bytes at e es last h = subst (Spelled bytes at) (append_assoc (ended_leaves e) (flat_map ended_leaves es) (line_leaves last)) h
 
--- the first of them, and those behind it
+-- the first of them, and those after it
 pub line_spelled : (bytes : List ℕ) (c : Count) (e : Ended) (es : List Ended) (last : Line) → LinesSpelled bytes c.at (e ∷ es) last → Spelled bytes c.at (line_leaves e.line)
 line_spelled bytes c e es last h =
     spelled_left bytes c.at (line_leaves e.line) (e.newline ∷ []) (spelled_left bytes c.at (ended_leaves e) (flat_map ended_leaves es ++ line_leaves last) (first_spelled bytes c.at e es last h))
@@ -35,10 +35,10 @@ line_spelled bytes c e es last h =
 pub next_spelled : (bytes : List ℕ) (c : Count) (e : Ended) (es : List Ended) (last : Line) → LinesSpelled bytes c.at (e ∷ es) last → LinesSpelled bytes (next_line c e).at es last
 next_spelled bytes c e es last h = spelled_right bytes c.at (ended_leaves e) (flat_map ended_leaves es ++ line_leaves last) (first_spelled bytes c.at e es last h)
 
--- all lines stand behind the byte order mark
+-- all lines come after the byte order mark
 pub lines_spelled : (bytes : List ℕ) (d : Document) → bytes ≡ text d → LinesSpelled bytes (first_line d).at d.ended d.last
 lines_spelled bytes d e =
-    let end : List Written = mark leaf.End [] in
+    let end : List Written = token leaf.End [] in
     let ended : List Written = flat_map ended_leaves d.ended in
     let from : ℕ = 0 + width (bom_leaves d.bom) in
     let whole : Spelled bytes 0 (bom_leaves d.bom ++ (ended ++ (line_leaves d.last ++ end))) = subst (λ (t : List ℕ). IsPart bytes 0 t) e (part_whole bytes) in

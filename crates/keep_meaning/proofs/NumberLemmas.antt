@@ -5,47 +5,47 @@ use Rattle.std.specs.List.{filter_map, cons_option}
 use Rattle.std.proofs.lemmas.List.{length-append, append_assoc}
 use Rattle.keep_syntax.specs.Tree.{Name, Entries, none, entry, Content, blank, keyval, header, element, Line, Ended, Document, name_leaves, line_leaves, ended_leaves}
 use Rattle.keep_syntax.specs.Numbered as syntax
-use Rattle.keep_syntax.specs.Numbered.{over_lines, line_values, line_statements, content_values, content_statements, line_start, next_line, first_line, entries_values, value_count, inside_of, rest_of}
+use Rattle.keep_syntax.specs.Numbered.{over_lines, line_values, line_statements, content_values, content_statements, line_start, next_line, first_line, entries_values, value_count, nested_of, rest_of}
 use Rattle.keep_parts.specs.declared.info.Start.{Start}
 use Rattle.keep_path.specs.Path.{Part, key, index}
 use Rattle.keep_meaning.specs.Fact.{Fact}
 use Rattle.keep_meaning.specs.Rules.{Mark}
-use Rattle.keep_meaning.specs.Marks.{Saying, through, past, define, element as says_element, dotted, value as says_value, begun, passed, item, Mention, Statement, below, Reading, statement_mentions, next_reading, reading_after, mentions_from, marks, with_path, role_of, elements_of, entered_path, passing_mentions, header_way, header_path, start}
-use Rattle.keep_meaning.specs.Meaning.{key_value, further_value, keys_of, body_fact, keyed_mentions, entry_mentions, entries_said, statement_of, line_said, behind_line, lines_said, line_of, said_in}
-use Rattle.keep_meaning.specs.Counts.{Count, is_value, is_mark, one_if, count_behind, numbered_mentions, count_after, next_count, count_from, numbered_from, line_statement, statements_in}
+use Rattle.keep_meaning.specs.Marks.{MentionKind, through, past, define, element as kinds_element, dotted, value as mentions_value, begun, passed, item, Mention, Statement, below, Reading, statement_mentions, next_reading, reading_after, mentions_from, marks, with_path, role_of, elements_of, entered_path, passing_mentions, header_way, header_path, start}
+use Rattle.keep_meaning.specs.Meaning.{key_value, further_value, keys_of, body_fact, keyed_mentions, entry_mentions, entries_mentions, statement_of, line_mentions, after_line, lines_mentions, line_of, mentions_in}
+use Rattle.keep_meaning.specs.Counts.{Count, is_value, is_mark, one_if, count_with_mention, numbered_mentions, count_after, next_count, count_from, numbered_from, line_statement, statements_in}
 use Rattle.keep_meaning.proofs.PlaceLemmas.{marked-append}
 
--- how many values are told
+-- how many values are stated
 abbrev pub valued : List Mention → ℕ
 valued [] = 0
-valued (m ∷ ms) = one_if (is_value m.says) + valued ms
+valued (m ∷ ms) = one_if (is_value m.kind) + valued ms
 
 -- ---- the numbers are counts
 
-pub one_mark : (s : Saying) (p : List Part) (xs : List Mark) → length (cons_option (with_path p (role_of s)) xs) ≡ one_if (is_mark s) + length xs
+pub one_mark : (s : MentionKind) (p : List Part) (xs : List Mark) → length (cons_option (with_path p (role_of s)) xs) ≡ one_if (is_mark s) + length xs
 one_mark through p xs = omega arith
 one_mark past p xs = omega arith
 one_mark define p xs = omega arith
-one_mark says_element p xs = omega arith
+one_mark kinds_element p xs = omega arith
 one_mark dotted p xs = omega arith
-one_mark (says_value f) p xs = omega arith
+one_mark (mentions_value f) p xs = omega arith
 one_mark begun p xs = omega arith
 one_mark passed p xs = omega arith
 one_mark (item f) p xs = omega arith
 
 pub count_after-keys : (c : Count) (ms : List Mention) → (count_after c ms).keys ≡ c.keys + length (marks ms)
 count_after-keys c [] = omega arith
-count_after-keys c (m ∷ ms) = omega (arith, count_after-keys (count_behind c m) ms, one_mark m.says m.path (marks ms))
+count_after-keys c (m ∷ ms) = omega (arith, count_after-keys (count_with_mention c m) ms, one_mark m.kind m.path (marks ms))
 
 pub count_after-values : (c : Count) (ms : List Mention) → (count_after c ms).values ≡ c.values + valued ms
 count_after-values c [] = omega arith
-count_after-values c (m ∷ ms) = omega (arith, count_after-values (count_behind c m) ms)
+count_after-values c (m ∷ ms) = omega (arith, count_after-values (count_with_mention c m) ms)
 
 pub count_after-statements : (c : Count) (ms : List Mention) → (count_after c ms).statements ≡ c.statements
 count_after-statements c [] = refl
-count_after-statements c (m ∷ ms) = count_after-statements (count_behind c m) ms
+count_after-statements c (m ∷ ms) = count_after-statements (count_with_mention c m) ms
 
--- the number of a statement is how many stand before it
+-- the number of a statement is how many come before it
 pub count_from-statements : (c : Count) (r : Reading) (ss : List Statement) → (count_from c r ss).statements ≡ c.statements + length ss
 count_from-statements c r [] = omega arith
 count_from-statements c r (s ∷ ss) =
@@ -62,7 +62,7 @@ count_from-keys c r (s ∷ ss) =
       marked-append (statement_mentions r s) (mentions_from (next_reading r s) ss),
     )
 
--- what is said by further statements comes behind, and leaves the numbers as they are
+-- what is said by further statements comes after, and leaves the numbers as they are
 pub numbered_from-append : (c : Count) (r : Reading) (xs ys : List Statement)
     → numbered_from c r (xs ++ ys) ≡ numbered_from c r xs ++ numbered_from (count_from c r xs) (reading_after r xs) ys
 numbered_from-append c r [] ys = refl
@@ -78,34 +78,34 @@ valued-append (x ∷ xs) ys = omega (arith, valued-append xs ys)
 
 pub valued-below : (at : List Part) (ms : List Mention) → valued (map (below at) ms) ≡ valued ms
 valued-below at [] = refl
-valued-below at (m ∷ ms) = ap (λ n. one_if (is_value m.says) + n) (valued-below at ms)
+valued-below at (m ∷ ms) = ap (λ n. one_if (is_value m.kind) + n) (valued-below at ms)
 
 pub valued-keyed : (k : List ℕ) (ks : List (List ℕ)) (ms : List Mention) → valued (keyed_mentions (k ∷ ks) ms) ≡ valued ms
 valued-keyed k [] ms = valued-below (key k ∷ []) ms
 valued-keyed k (l ∷ ks) ms = omega (arith, valued-below (key k ∷ []) (keyed_mentions (l ∷ ks) ms), valued-keyed l ks ms)
 
-valued-entry : (n : ℕ) (name : Option Name) (f : Fact) (inside : List Mention) → valued (entry_mentions n name f inside) ≡ suc (valued inside)
-valued-entry n None f inside = omega (arith, valued-below (index n ∷ []) inside)
-valued-entry n (Some name) f inside =
-    omega (arith, valued-keyed (key_value name.key.first) (map further_value name.key.more) (record { path = []; says = says_value f } ∷ inside))
+valued-entry : (n : ℕ) (name : Option Name) (f : Fact) (nested : List Mention) → valued (entry_mentions n name f nested) ≡ suc (valued nested)
+valued-entry n None f nested = omega (arith, valued-below (index n ∷ []) nested)
+valued-entry n (Some name) f nested =
+    omega (arith, valued-keyed (key_value name.key.first) (map further_value name.key.more) (record { path = []; kind = mentions_value f } ∷ nested))
 
-pub valued-entries : (n : ℕ) (es : Entries) → valued (entries_said n es) ≡ value_count es
+pub valued-entries : (n : ℕ) (es : Entries) → valued (entries_mentions n es) ≡ value_count es
 valued-entries n none = refl
-valued-entries n (entry name body inside after comma rest) =
+valued-entries n (entry name body nested after comma rest) =
     omega (
       arith,
-      valued-append (entry_mentions n name (body_fact body) (entries_said 0 inside)) (entries_said (n + 1) rest),
-      valued-entry n name (body_fact body) (entries_said 0 inside),
-      valued-entries 0 inside,
+      valued-append (entry_mentions n name (body_fact body) (entries_mentions 0 nested)) (entries_mentions (n + 1) rest),
+      valued-entry n name (body_fact body) (entries_mentions 0 nested),
+      valued-entries 0 nested,
       valued-entries (n + 1) rest,
     )
 
 pub length-entries_values : (p : Start) (es : Entries) → length (entries_values p es) ≡ value_count es
 length-entries_values p none = refl
-length-entries_values p (entry name body inside after comma rest) =
-    let i : Start = inside_of p (syntax.value_start p.at name) (syntax.name_count name) body in
-    let e : Start = rest_of p name body inside after comma in
-    omega (arith, length-append (entries_values i inside) (entries_values e rest), length-entries_values i inside, length-entries_values e rest)
+length-entries_values p (entry name body nested after comma rest) =
+    let i : Start = nested_of p (syntax.value_start p.at name) (syntax.name_count name) body in
+    let e : Start = rest_of p name body nested after comma in
+    omega (arith, length-append (entries_values i nested) (entries_values e rest), length-entries_values i nested, length-entries_values e rest)
 
 none_either : (b : Bool) (xs ys : List Mention) → valued xs ≡ 0 → valued ys ≡ 0 → valued (if b then xs else ys) ≡ 0
 none_either true xs ys h g = h
@@ -118,56 +118,56 @@ valued-way tables at (k ∷ l ∷ ks) =
     omega (
       arith,
       valued-append (passing_mentions tables (at ++ key k ∷ [])) (header_way tables (entered_path tables (at ++ key k ∷ [])) (l ∷ ks)),
-      none_either (0 == elements_of (at ++ key k ∷ []) tables) (record { path = at ++ key k ∷ []; says = through } ∷ []) (record { path = at ++ key k ∷ []; says = past } ∷ record { path = entered_path tables (at ++ key k ∷ []); says = passed } ∷ []) refl refl,
+      none_either (0 == elements_of (at ++ key k ∷ []) tables) (record { path = at ++ key k ∷ []; kind = through } ∷ []) (record { path = at ++ key k ∷ []; kind = past } ∷ record { path = entered_path tables (at ++ key k ∷ []); kind = passed } ∷ []) refl refl,
       valued-way tables (entered_path tables (at ++ key k ∷ [])) (l ∷ ks),
     )
 
 pub valued-content : (r : Reading) (p : Start) (c : Content) → valued (elim (statement_of c) [ None ↦ [] | Some s ↦ statement_mentions r s ]) ≡ length (content_values p c)
 valued-content r p blank = refl
 valued-content r p (keyval name v) =
-    let inside : List Mention = entry_mentions 0 (Some name) (body_fact v.body) (entries_said 0 v.inside) in
-    let i : Start = inside_of p (p.at + syntax.width (name_leaves name)) (syntax.key_count name.key) v.body in
-    omega (arith, valued-below r.body inside, valued-entry 0 (Some name) (body_fact v.body) (entries_said 0 v.inside), valued-entries 0 v.inside, length-entries_values i v.inside)
+    let nested : List Mention = entry_mentions 0 (Some name) (body_fact v.body) (entries_mentions 0 v.nested) in
+    let i : Start = nested_of p (p.at + syntax.width (name_leaves name)) (syntax.key_count name.key) v.body in
+    omega (arith, valued-below r.body nested, valued-entry 0 (Some name) (body_fact v.body) (entries_mentions 0 v.nested), valued-entries 0 v.nested, length-entries_values i v.nested)
 valued-content r p (header before k behind) =
-    omega (arith, valued-append (header_way r.tables [] (keys_of k)) (record { path = header_path r.tables [] (keys_of k); says = define } ∷ []), valued-way r.tables [] (keys_of k))
+    omega (arith, valued-append (header_way r.tables [] (keys_of k)) (record { path = header_path r.tables [] (keys_of k); kind = define } ∷ []), valued-way r.tables [] (keys_of k))
 valued-content r p (element before k behind) =
     let path : List Part = header_path r.tables [] (keys_of k) in
     omega (
       arith,
-      valued-append (header_way r.tables [] (keys_of k)) (record { path = path; says = says_element } ∷ record { path = path ++ index (elements_of path r.tables) ∷ []; says = begun } ∷ []),
+      valued-append (header_way r.tables [] (keys_of k)) (record { path = path; kind = kinds_element } ∷ record { path = path ++ index (elements_of path r.tables) ∷ []; kind = begun } ∷ []),
       valued-way r.tables [] (keys_of k),
     )
 
-valued-lines : (r : Reading) (c : syntax.Count) (es : List Ended) (last : Line) → valued (lines_said r (map line_of es ++ last ∷ [])) ≡ length (over_lines (λ c l line_end. line_values c l) c es last)
-valued-lines r c [] last = omega (arith, valued-append (line_said r last) [], valued-content r (line_start c last) last.content)
+valued-lines : (r : Reading) (c : syntax.Count) (es : List Ended) (last : Line) → valued (lines_mentions r (map line_of es ++ last ∷ [])) ≡ length (over_lines (λ c l line_end. line_values c l) c es last)
+valued-lines r c [] last = omega (arith, valued-append (line_mentions r last) [], valued-content r (line_start c last) last.content)
 valued-lines r c (e ∷ es) last =
     omega (
       arith,
-      valued-append (line_said r e.line) (lines_said (behind_line r e.line) (map line_of es ++ last ∷ [])),
+      valued-append (line_mentions r e.line) (lines_mentions (after_line r e.line) (map line_of es ++ last ∷ [])),
       valued-content r (line_start c e.line) e.line.content,
       length-append (line_values c e.line) (over_lines (λ c l line_end. line_values c l) (next_line c e) es last),
-      valued-lines (behind_line r e.line) (next_line c e) es last,
+      valued-lines (after_line r e.line) (next_line c e) es last,
     )
 
 -- a document tells as many values as keep_syntax numbers
-pub valued-values : (s : Document) → valued (said_in s) ≡ length (syntax.values s)
+pub valued-values : (s : Document) → valued (mentions_in s) ≡ length (syntax.values s)
 valued-values s = valued-lines start (first_line s) s.ended s.last
 
 -- ---- and as many statements
 
-told-line : (c : syntax.Count) (l : Line) (line_end : ℕ) (x : Content) (ss : List Statement) (n : ℕ) → length ss ≡ n
+stated-line : (c : syntax.Count) (l : Line) (line_end : ℕ) (x : Content) (ss : List Statement) (n : ℕ) → length ss ≡ n
     → length (cons_option (statement_of x) ss) ≡ length (content_statements c l line_end x) + n
-told-line c l line_end blank ss n h = omega (arith, h)
-told-line c l line_end (keyval name v) ss n h = omega (arith, h)
-told-line c l line_end (header before k behind) ss n h = omega (arith, h)
-told-line c l line_end (element before k behind) ss n h = omega (arith, h)
+stated-line c l line_end blank ss n h = omega (arith, h)
+stated-line c l line_end (keyval name v) ss n h = omega (arith, h)
+stated-line c l line_end (header before k behind) ss n h = omega (arith, h)
+stated-line c l line_end (element before k behind) ss n h = omega (arith, h)
 
 statements-lines : (c : syntax.Count) (es : List Ended) (last : Line) → length (filter_map line_statement (map line_of es ++ last ∷ [])) ≡ length (over_lines line_statements c es last)
-statements-lines c [] last = omega (arith, told-line c last (c.at + syntax.width (line_leaves last)) last.content [] 0 refl)
+statements-lines c [] last = omega (arith, stated-line c last (c.at + syntax.width (line_leaves last)) last.content [] 0 refl)
 statements-lines c (e ∷ es) last =
     omega (
       arith,
-      told-line c e.line (c.at + syntax.width (ended_leaves e)) e.line.content (filter_map line_statement (map line_of es ++ last ∷ [])) (length (over_lines line_statements (next_line c e) es last)) (statements-lines (next_line c e) es last),
+      stated-line c e.line (c.at + syntax.width (ended_leaves e)) e.line.content (filter_map line_statement (map line_of es ++ last ∷ [])) (length (over_lines line_statements (next_line c e) es last)) (statements-lines (next_line c e) es last),
       length-append (line_statements c e.line (c.at + syntax.width (ended_leaves e))) (over_lines line_statements (next_line c e) es last),
     )
 

@@ -13,8 +13,8 @@ use Rattle.keep_meaning.specs.declared.role.Role.{Role}
 use Rattle.keep_path.specs.Path.{Part, key, index}
 use Rattle.keep_meaning.specs.Fact.{Fact}
 use Rattle.keep_meaning.specs.Rules.{Mark, ObeysRules, IsFirstFaulty}
-use Rattle.keep_meaning.specs.Marks.{Mention, below, Reading, statement_mentions, mark_of, marks, with_path, role_of, elements_of, entered_path, passing_mentions, header_way, header_path, start, define, begun, element as says_element, value as marks_value}
-use Rattle.keep_meaning.specs.Meaning.{keys_of, further_value, key_value, body_fact, keyed_mentions, entry_mentions, entries_said, value_said, statement_of, line_said, behind_line, lines_said, line_of, said_in}
+use Rattle.keep_meaning.specs.Marks.{Mention, below, Reading, statement_mentions, mark_of, marks, with_path, role_of, elements_of, entered_path, passing_mentions, header_way, header_path, start, define, begun, element as kinds_element, value as marks_value}
+use Rattle.keep_meaning.specs.Meaning.{keys_of, further_value, key_value, body_fact, keyed_mentions, entry_mentions, entries_mentions, mentions_of_value, statement_of, line_mentions, after_line, lines_mentions, line_of, mentions_in}
 use Rattle.keep_meaning.specs.Faults.{Fault, FaultAt, first_fault, IsFirstFaultAt, at_part, fault_at, fault_in, fault_in_value, parts_in}
 use Rattle.keep_meaning.proofs.FaultLemmas.{Tells, first_fault-tells}
 
@@ -31,7 +31,7 @@ one_role (Some r) p q xs ys h = omega (arith, h)
 
 pub marked-below : (at : List Part) (ms : List Mention) → marked (map (below at) ms) ≡ marked ms
 marked-below at [] = refl
-marked-below at (m ∷ ms) = one_role (role_of m.says) (at ++ m.path) m.path (marks (map (below at) ms)) (marks ms) (marked-below at ms)
+marked-below at (m ∷ ms) = one_role (role_of m.kind) (at ++ m.path) m.path (marks (map (below at) ms)) (marks ms) (marked-below at ms)
 
 pub marked-keyed : (k : List ℕ) (ks : List (List ℕ)) (ms : List Mention) → marked (keyed_mentions (k ∷ ks) ms) ≡ length ks + marked ms
 marked-keyed k [] ms = marked-below (key k ∷ []) ms ∙ omega arith
@@ -41,19 +41,19 @@ length-keys : (fs : List Further) → length (map further_value fs) ≡ length f
 length-keys [] = refl
 length-keys (f ∷ fs) = ap suc (length-keys fs)
 
-marked-entry : (n : ℕ) (name : Option Name) (f : Fact) (inside : List Mention) → marked (entry_mentions n name f inside) ≡ name_count name + marked inside
-marked-entry n None f inside = marked-below (index n ∷ []) inside ∙ omega arith
-marked-entry n (Some name) f inside =
-    omega (arith, marked-keyed (key_value name.key.first) (map further_value name.key.more) (record { path = []; says = marks_value f } ∷ inside), length-keys name.key.more)
+marked-entry : (n : ℕ) (name : Option Name) (f : Fact) (nested : List Mention) → marked (entry_mentions n name f nested) ≡ name_count name + marked nested
+marked-entry n None f nested = marked-below (index n ∷ []) nested ∙ omega arith
+marked-entry n (Some name) f nested =
+    omega (arith, marked-keyed (key_value name.key.first) (map further_value name.key.more) (record { path = []; kind = marks_value f } ∷ nested), length-keys name.key.more)
 
-pub marked-entries : (n : ℕ) (es : Entries) → marked (entries_said n es) ≡ part_count es
+pub marked-entries : (n : ℕ) (es : Entries) → marked (entries_mentions n es) ≡ part_count es
 marked-entries n none = refl
-marked-entries n (entry name body inside after comma rest) =
+marked-entries n (entry name body nested after comma rest) =
     omega (
       arith,
-      marked-append (entry_mentions n name (body_fact body) (entries_said 0 inside)) (entries_said (n + 1) rest),
-      marked-entry n name (body_fact body) (entries_said 0 inside),
-      marked-entries 0 inside,
+      marked-append (entry_mentions n name (body_fact body) (entries_mentions 0 nested)) (entries_mentions (n + 1) rest),
+      marked-entry n name (body_fact body) (entries_mentions 0 nested),
+      marked-entries 0 nested,
       marked-entries (n + 1) rest,
     )
 
@@ -69,15 +69,15 @@ length-named at (Some n) = ap suc (length-further (at + length n.key.first.text)
 
 pub length-entries_parts : (at : ℕ) (es : Entries) → length (entries_parts at es) ≡ part_count es
 length-entries_parts at none = refl
-length-entries_parts at (entry name body inside after comma rest) =
-    let i : ℕ = syntax.inside_start (syntax.value_start at name) body in
-    let e : ℕ = syntax.entry_end at name body inside after comma in
+length-entries_parts at (entry name body nested after comma rest) =
+    let i : ℕ = syntax.nested_start (syntax.value_start at name) body in
+    let e : ℕ = syntax.entry_end at name body nested after comma in
     omega (
       arith,
-      length-append (named_parts at name) (entries_parts i inside ++ entries_parts e rest),
-      length-append (entries_parts i inside) (entries_parts e rest),
+      length-append (named_parts at name) (entries_parts i nested ++ entries_parts e rest),
+      length-append (entries_parts i nested) (entries_parts e rest),
       length-named at name,
-      length-entries_parts i inside,
+      length-entries_parts i nested,
       length-entries_parts e rest,
     )
 
@@ -103,21 +103,21 @@ marked-way tables at k (l ∷ ks) =
 pub marked-content : (r : Reading) (at : ℕ) (c : Content) → marked (elim (statement_of c) [ None ↦ [] | Some s ↦ statement_mentions r s ]) ≡ length (content_parts at c)
 marked-content r at blank = refl
 marked-content r at (keyval name v) =
-    let inside : List Mention = entry_mentions 0 (Some name) (body_fact v.body) (entries_said 0 v.inside) in
-    let from : ℕ = syntax.inside_start (at + syntax.width (name_leaves name)) v.body in
+    let nested : List Mention = entry_mentions 0 (Some name) (body_fact v.body) (entries_mentions 0 v.nested) in
+    let from : ℕ = syntax.nested_start (at + syntax.width (name_leaves name)) v.body in
     omega (
       arith,
-      marked-below r.body inside,
-      marked-entry 0 (Some name) (body_fact v.body) (entries_said 0 v.inside),
-      marked-entries 0 v.inside,
-      length-append (key_parts at name.key) (entries_parts from v.inside),
+      marked-below r.body nested,
+      marked-entry 0 (Some name) (body_fact v.body) (entries_mentions 0 v.nested),
+      marked-entries 0 v.nested,
+      length-append (key_parts at name.key) (entries_parts from v.nested),
       length-further (at + length name.key.first.text) name.key.more,
-      length-entries_parts from v.inside,
+      length-entries_parts from v.nested,
     )
 marked-content r at (header before k behind) =
     omega (
       arith,
-      marked-append (header_way r.tables [] (keys_of k)) (record { path = header_path r.tables [] (keys_of k); says = define } ∷ []),
+      marked-append (header_way r.tables [] (keys_of k)) (record { path = header_path r.tables [] (keys_of k); kind = define } ∷ []),
       marked-way r.tables [] (key_value k.first) (map further_value k.more),
       length-keys k.more,
       length-further (at + 1 + syntax.width before + length k.first.text) k.more,
@@ -126,31 +126,31 @@ marked-content r at (element before k behind) =
     let path : List Part = header_path r.tables [] (keys_of k) in
     omega (
       arith,
-      marked-append (header_way r.tables [] (keys_of k)) (record { path = path; says = says_element } ∷ record { path = path ++ index (elements_of path r.tables) ∷ []; says = begun } ∷ []),
+      marked-append (header_way r.tables [] (keys_of k)) (record { path = path; kind = kinds_element } ∷ record { path = path ++ index (elements_of path r.tables) ∷ []; kind = begun } ∷ []),
       marked-way r.tables [] (key_value k.first) (map further_value k.more),
       length-keys k.more,
       length-further (at + 2 + syntax.width before + length k.first.text) k.more,
     )
 
-marked-lines : (r : Reading) (c : Count) (es : List Ended) (last : Line) → marked (lines_said r (map line_of es ++ last ∷ [])) ≡ length (over_lines (λ c l line_end. line_parts c l) c es last)
+marked-lines : (r : Reading) (c : Count) (es : List Ended) (last : Line) → marked (lines_mentions r (map line_of es ++ last ∷ [])) ≡ length (over_lines (λ c l line_end. line_parts c l) c es last)
 marked-lines r c [] last =
-    omega (arith, marked-append (line_said r last) [], marked-content r (content_start c last) last.content)
+    omega (arith, marked-append (line_mentions r last) [], marked-content r (content_start c last) last.content)
 marked-lines r c (e ∷ es) last =
     omega (
       arith,
-      marked-append (line_said r e.line) (lines_said (behind_line r e.line) (map line_of es ++ last ∷ [])),
+      marked-append (line_mentions r e.line) (lines_mentions (after_line r e.line) (map line_of es ++ last ∷ [])),
       marked-content r (content_start c e.line) e.line.content,
       length-append (line_parts c e.line) (over_lines (λ c l line_end. line_parts c l) (next_line c e) es last),
-      marked-lines (behind_line r e.line) (next_line c e) es last,
+      marked-lines (after_line r e.line) (next_line c e) es last,
     )
 
 -- a document has as many marks as key parts
-pub marked-parts : (s : Document) → length (marks (said_in s)) ≡ length (syntax.parts s)
+pub marked-parts : (s : Document) → length (marks (mentions_in s)) ≡ length (syntax.parts s)
 marked-parts s = marked-lines start (first_line s) s.ended s.last
 
 -- so has a value
-pub marked-parts_in : (v : Value) → length (marks (value_said v)) ≡ length (parts_in v)
-marked-parts_in v = marked-entries 0 v.inside ∙ sym (length-entries_parts (syntax.inside_start 0 v.body) v.inside)
+pub marked-parts_in : (v : Value) → length (marks (mentions_of_value v)) ≡ length (parts_in v)
+marked-parts_in v = marked-entries 0 v.nested ∙ sym (length-entries_parts (syntax.nested_start 0 v.body) v.nested)
 
 -- ---- the computed fault
 
@@ -162,22 +162,22 @@ TellsPlace ms parts (Some f) = IsFirstFaultAt ms parts f.at f.why
 short : (ms : List Mark) (n : ℕ) (why : Why) → IsFirstFaulty ms n why → n < length ms
 short ms n why first = omega (arith, ap length first.here, length-append first.before (first.mark ∷ first.after), first.number)
 
-told : (ms : List Mark) (parts : List KeyPart) (f : Fault) (o : Option KeyPart) → IsFirstFaulty ms f.number f.why → slice_get parts f.number ≡ o → (o ≡ None → ⊥) → TellsPlace ms parts (at_part f.why o)
-told ms parts f None first here inside = absurd (inside refl)
-told ms parts f (Some part) first here inside = record { number = f.number; part = part; first = first; stands = here; here = refl }
+stated : (ms : List Mark) (parts : List KeyPart) (f : Fault) (o : Option KeyPart) → IsFirstFaulty ms f.number f.why → slice_get parts f.number ≡ o → (o ≡ None → ⊥) → TellsPlace ms parts (at_part f.why o)
+stated ms parts f None first here nested = absurd (nested refl)
+stated ms parts f (Some part) first here nested = record { number = f.number; part = part; first = first; occurs = here; here = refl }
 
 there : (parts : List KeyPart) (n : ℕ) → n < length parts → slice_get parts n ≡ None → ⊥
 there [] n lt e = absurd (omega arith)
 there (p ∷ ps) zero lt e = absurd cc
 there (p ∷ ps) (suc n) lt e = there ps n (omega arith) e
 
-place_told : (ms : List Mark) (parts : List KeyPart) (o : Option Fault) → length ms ≡ length parts → Tells ms o → TellsPlace ms parts (fault_at parts o)
-place_told ms parts None many h = h
-place_told ms parts (Some f) many h = told ms parts f (slice_get parts f.number) h refl (there parts f.number (omega (arith, short ms f.number f.why h, many)))
+place_stated : (ms : List Mark) (parts : List KeyPart) (o : Option Fault) → length ms ≡ length parts → Tells ms o → TellsPlace ms parts (fault_at parts o)
+place_stated ms parts None many h = h
+place_stated ms parts (Some f) many h = stated ms parts f (slice_get parts f.number) h refl (there parts f.number (omega (arith, short ms f.number f.why h, many)))
 
 -- None exactly where the rules hold, else the place and reason of the first faulty mark
-pub fault_in-tells : (s : Document) → TellsPlace (marks (said_in s)) (syntax.parts s) (fault_in s)
-fault_in-tells s = place_told (marks (said_in s)) (syntax.parts s) (first_fault (marks (said_in s))) (marked-parts s) (first_fault-tells (marks (said_in s)))
+pub fault_in-tells : (s : Document) → TellsPlace (marks (mentions_in s)) (syntax.parts s) (fault_in s)
+fault_in-tells s = place_stated (marks (mentions_in s)) (syntax.parts s) (first_fault (marks (mentions_in s))) (marked-parts s) (first_fault-tells (marks (mentions_in s)))
 
-pub fault_in_value-tells : (v : Value) → TellsPlace (marks (value_said v)) (parts_in v) (fault_in_value v)
-fault_in_value-tells v = place_told (marks (value_said v)) (parts_in v) (first_fault (marks (value_said v))) (marked-parts_in v) (first_fault-tells (marks (value_said v)))
+pub fault_in_value-tells : (v : Value) → TellsPlace (marks (mentions_of_value v)) (parts_in v) (fault_in_value v)
+fault_in_value-tells v = place_stated (marks (mentions_of_value v)) (parts_in v) (first_fault (marks (mentions_of_value v))) (marked-parts_in v) (first_fault-tells (marks (mentions_of_value v)))

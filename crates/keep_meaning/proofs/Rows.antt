@@ -9,11 +9,11 @@ use Rattle.keep_parts.specs.declared.info.Span.{Span}
 use Rattle.keep_syntax.specs.Tree.{Written, Gap, Further, Key, Name, Body, scalar, array, inline, Entries, none, entry, Value, Content, blank, keyval, header, element, Line, Ended, Document}
 use Rattle.keep_meaning.specs.declared.node.Kind.{Kind}
 use Rattle.keep_meaning.specs.declared.node.Kind.TheVariants as kind
-use Rattle.keep_meaning.specs.declared.node.Place.{Place}
-use Rattle.keep_meaning.specs.declared.node.Place.TheVariants as place
+use Rattle.keep_meaning.specs.declared.node.Origin.{Origin}
+use Rattle.keep_meaning.specs.declared.node.Origin.TheVariants as origin
 use Rattle.keep_meaning.specs.declared.node.NodeInfo.{NodeInfo}
 use Rattle.keep_path.specs.Path.{key, index}
-use Rattle.keep_meaning.specs.Meaning.{said_in}
+use Rattle.keep_meaning.specs.Meaning.{mentions_in}
 use Rattle.keep_meaning.specs.Nodes.{node_paths, infos_in, children, node_number}
 use Rattle.keep_meaning.specs.Faults.{FaultAt, fault_in, fault_in_value}
 
@@ -30,7 +30,7 @@ abbrev aname : Key → Gap → Gap → Name
 aname k b a = record { key = k; before = b; behind = a }
 
 abbrev avalue : Body → Entries → Value
-avalue b i = record { body = b; inside = i }
+avalue b i = record { body = b; nested = i }
 
 abbrev aline : Gap → Content → Gap → Option Written → Line
 aline b c a m = record { before = b; content = c; after = a; comment = m }
@@ -44,8 +44,8 @@ adoc b e l = record { bom = b; ended = e; last = l }
 abbrev span : ℕ → ℕ → Option Span
 span s e = Some (record { start = s; end = e })
 
-abbrev info : Kind → Option Span → Option Span → ℕ → Bool → Place → NodeInfo
-info k v n m p at = record { kind = k; value_span = v; key_span = n; marks = m; passed = p; place = at }
+abbrev info : Kind → Option Span → Option Span → ℕ → Bool → Origin → NodeInfo
+info k v n m p at = record { kind = k; value_span = v; key_span = n; marks = m; passed = p; origin = at }
 
 abbrev fault : ℕ → Why → Option FaultAt
 fault at why = Some (record { at = at; why = why })
@@ -55,47 +55,47 @@ below_element-ok : fault_in (adoc false ((anended (aline [] (element [] (akey (w
 below_element-ok = refl
 
 -- `[[a]]<LF>[a.s]<LF>x.y = 1<LF>`
-below_element-paths : node_paths (said_in (adoc false ((anended (aline [] (element [] (akey (w leaf.BareKey (codes "a")) []) []) [] None) (w leaf.Newline (10 ∷ []))) ∷ (anended (aline [] (header [] (akey (w leaf.BareKey (codes "a")) ((further [] [] (w leaf.BareKey (codes "s"))) ∷ [])) []) [] None) (w leaf.Newline (10 ∷ []))) ∷ (anended (aline [] (keyval (aname (akey (w leaf.BareKey (codes "x")) ((further [] [] (w leaf.BareKey (codes "y"))) ∷ [])) ((w leaf.Ws (codes " ")) ∷ []) ((w leaf.Ws (codes " ")) ∷ [])) (avalue (scalar (w leaf.Integer (codes "1"))) none)) [] None) (w leaf.Newline (10 ∷ []))) ∷ []) (aline [] blank [] None))) ≡ [] ∷ (key (codes "a") ∷ []) ∷ (key (codes "a") ∷ index 0 ∷ []) ∷ (key (codes "a") ∷ index 0 ∷ key (codes "s") ∷ []) ∷ (key (codes "a") ∷ index 0 ∷ key (codes "s") ∷ key (codes "x") ∷ []) ∷ (key (codes "a") ∷ index 0 ∷ key (codes "s") ∷ key (codes "x") ∷ key (codes "y") ∷ []) ∷ []
+below_element-paths : node_paths (mentions_in (adoc false ((anended (aline [] (element [] (akey (w leaf.BareKey (codes "a")) []) []) [] None) (w leaf.Newline (10 ∷ []))) ∷ (anended (aline [] (header [] (akey (w leaf.BareKey (codes "a")) ((further [] [] (w leaf.BareKey (codes "s"))) ∷ [])) []) [] None) (w leaf.Newline (10 ∷ []))) ∷ (anended (aline [] (keyval (aname (akey (w leaf.BareKey (codes "x")) ((further [] [] (w leaf.BareKey (codes "y"))) ∷ [])) ((w leaf.Ws (codes " ")) ∷ []) ((w leaf.Ws (codes " ")) ∷ [])) (avalue (scalar (w leaf.Integer (codes "1"))) none)) [] None) (w leaf.Newline (10 ∷ []))) ∷ []) (aline [] blank [] None))) ≡ [] ∷ (key (codes "a") ∷ []) ∷ (key (codes "a") ∷ index 0 ∷ []) ∷ (key (codes "a") ∷ index 0 ∷ key (codes "s") ∷ []) ∷ (key (codes "a") ∷ index 0 ∷ key (codes "s") ∷ key (codes "x") ∷ []) ∷ (key (codes "a") ∷ index 0 ∷ key (codes "s") ∷ key (codes "x") ∷ key (codes "y") ∷ []) ∷ []
 below_element-paths = refl
 
 -- `[[a]]<LF>[a.s]<LF>x.y = 1<LF>`
 below_element-infos : infos_in (adoc false ((anended (aline [] (element [] (akey (w leaf.BareKey (codes "a")) []) []) [] None) (w leaf.Newline (10 ∷ []))) ∷ (anended (aline [] (header [] (akey (w leaf.BareKey (codes "a")) ((further [] [] (w leaf.BareKey (codes "s"))) ∷ [])) []) [] None) (w leaf.Newline (10 ∷ []))) ∷ (anended (aline [] (keyval (aname (akey (w leaf.BareKey (codes "x")) ((further [] [] (w leaf.BareKey (codes "y"))) ∷ [])) ((w leaf.Ws (codes " ")) ∷ []) ((w leaf.Ws (codes " ")) ∷ [])) (avalue (scalar (w leaf.Integer (codes "1"))) none)) [] None) (w leaf.Newline (10 ∷ []))) ∷ []) (aline [] blank [] None)) ≡
-    info kind.Table None None 0 false place.Root
-    ∷ info kind.Tables None (span 2 3) 2 false place.Tables
-    ∷ info kind.Table None None 0 true (place.Element 0)
-    ∷ info kind.Table None (span 9 10) 1 false (place.Header 1)
-    ∷ info kind.Table None (span 12 13) 1 false (place.Dotted 0)
-    ∷ info kind.Integer (span 18 19) (span 14 15) 1 false (place.Value 0)
+    info kind.Table None None 0 false origin.Root
+    ∷ info kind.Tables None (span 2 3) 2 false origin.Tables
+    ∷ info kind.Table None None 0 true (origin.Element 0)
+    ∷ info kind.Table None (span 9 10) 1 false (origin.Header 1)
+    ∷ info kind.Table None (span 12 13) 1 false (origin.Dotted 0)
+    ∷ info kind.Integer (span 18 19) (span 14 15) 1 false (origin.Value 0)
     ∷ []
 below_element-infos = refl
 
 -- `[[a]]<LF>[a.s]<LF>x.y = 1<LF>`
-below_element-children : children (key (codes "a") ∷ index 0 ∷ key (codes "s") ∷ []) (node_paths (said_in (adoc false ((anended (aline [] (element [] (akey (w leaf.BareKey (codes "a")) []) []) [] None) (w leaf.Newline (10 ∷ []))) ∷ (anended (aline [] (header [] (akey (w leaf.BareKey (codes "a")) ((further [] [] (w leaf.BareKey (codes "s"))) ∷ [])) []) [] None) (w leaf.Newline (10 ∷ []))) ∷ (anended (aline [] (keyval (aname (akey (w leaf.BareKey (codes "x")) ((further [] [] (w leaf.BareKey (codes "y"))) ∷ [])) ((w leaf.Ws (codes " ")) ∷ []) ((w leaf.Ws (codes " ")) ∷ [])) (avalue (scalar (w leaf.Integer (codes "1"))) none)) [] None) (w leaf.Newline (10 ∷ []))) ∷ []) (aline [] blank [] None)))) ≡ (key (codes "a") ∷ index 0 ∷ key (codes "s") ∷ key (codes "x") ∷ []) ∷ []
+below_element-children : children (key (codes "a") ∷ index 0 ∷ key (codes "s") ∷ []) (node_paths (mentions_in (adoc false ((anended (aline [] (element [] (akey (w leaf.BareKey (codes "a")) []) []) [] None) (w leaf.Newline (10 ∷ []))) ∷ (anended (aline [] (header [] (akey (w leaf.BareKey (codes "a")) ((further [] [] (w leaf.BareKey (codes "s"))) ∷ [])) []) [] None) (w leaf.Newline (10 ∷ []))) ∷ (anended (aline [] (keyval (aname (akey (w leaf.BareKey (codes "x")) ((further [] [] (w leaf.BareKey (codes "y"))) ∷ [])) ((w leaf.Ws (codes " ")) ∷ []) ((w leaf.Ws (codes " ")) ∷ [])) (avalue (scalar (w leaf.Integer (codes "1"))) none)) [] None) (w leaf.Newline (10 ∷ []))) ∷ []) (aline [] blank [] None)))) ≡ (key (codes "a") ∷ index 0 ∷ key (codes "s") ∷ key (codes "x") ∷ []) ∷ []
 below_element-children = refl
 
 -- `a = [1, [2], {b.c = true}]<LF>d.e = "x"<LF>d.f = {}<LF>`
-inside-ok : fault_in (adoc false ((anended (aline [] (keyval (aname (akey (w leaf.BareKey (codes "a")) []) ((w leaf.Ws (codes " ")) ∷ []) ((w leaf.Ws (codes " ")) ∷ [])) (avalue (array []) (entry None (scalar (w leaf.Integer (codes "1"))) none [] (Some ((w leaf.Ws (codes " ")) ∷ [])) (entry None (array []) (entry None (scalar (w leaf.Integer (codes "2"))) none [] None none) [] (Some ((w leaf.Ws (codes " ")) ∷ [])) (entry None (inline []) (entry (Some (aname (akey (w leaf.BareKey (codes "b")) ((further [] [] (w leaf.BareKey (codes "c"))) ∷ [])) ((w leaf.Ws (codes " ")) ∷ []) ((w leaf.Ws (codes " ")) ∷ []))) (scalar (w leaf.Boolean (codes "true"))) none [] None none) [] None none))))) [] None) (w leaf.Newline (10 ∷ []))) ∷ (anended (aline [] (keyval (aname (akey (w leaf.BareKey (codes "d")) ((further [] [] (w leaf.BareKey (codes "e"))) ∷ [])) ((w leaf.Ws (codes " ")) ∷ []) ((w leaf.Ws (codes " ")) ∷ [])) (avalue (scalar (w leaf.Basic (34 ∷ 120 ∷ 34 ∷ []))) none)) [] None) (w leaf.Newline (10 ∷ []))) ∷ (anended (aline [] (keyval (aname (akey (w leaf.BareKey (codes "d")) ((further [] [] (w leaf.BareKey (codes "f"))) ∷ [])) ((w leaf.Ws (codes " ")) ∷ []) ((w leaf.Ws (codes " ")) ∷ [])) (avalue (inline []) none)) [] None) (w leaf.Newline (10 ∷ []))) ∷ []) (aline [] blank [] None)) ≡ None
-inside-ok = refl
+nested-ok : fault_in (adoc false ((anended (aline [] (keyval (aname (akey (w leaf.BareKey (codes "a")) []) ((w leaf.Ws (codes " ")) ∷ []) ((w leaf.Ws (codes " ")) ∷ [])) (avalue (array []) (entry None (scalar (w leaf.Integer (codes "1"))) none [] (Some ((w leaf.Ws (codes " ")) ∷ [])) (entry None (array []) (entry None (scalar (w leaf.Integer (codes "2"))) none [] None none) [] (Some ((w leaf.Ws (codes " ")) ∷ [])) (entry None (inline []) (entry (Some (aname (akey (w leaf.BareKey (codes "b")) ((further [] [] (w leaf.BareKey (codes "c"))) ∷ [])) ((w leaf.Ws (codes " ")) ∷ []) ((w leaf.Ws (codes " ")) ∷ []))) (scalar (w leaf.Boolean (codes "true"))) none [] None none) [] None none))))) [] None) (w leaf.Newline (10 ∷ []))) ∷ (anended (aline [] (keyval (aname (akey (w leaf.BareKey (codes "d")) ((further [] [] (w leaf.BareKey (codes "e"))) ∷ [])) ((w leaf.Ws (codes " ")) ∷ []) ((w leaf.Ws (codes " ")) ∷ [])) (avalue (scalar (w leaf.Basic (34 ∷ 120 ∷ 34 ∷ []))) none)) [] None) (w leaf.Newline (10 ∷ []))) ∷ (anended (aline [] (keyval (aname (akey (w leaf.BareKey (codes "d")) ((further [] [] (w leaf.BareKey (codes "f"))) ∷ [])) ((w leaf.Ws (codes " ")) ∷ []) ((w leaf.Ws (codes " ")) ∷ [])) (avalue (inline []) none)) [] None) (w leaf.Newline (10 ∷ []))) ∷ []) (aline [] blank [] None)) ≡ None
+nested-ok = refl
 
 -- `a = [1, [2], {b.c = true}]<LF>d.e = "x"<LF>d.f = {}<LF>`
-inside-paths : node_paths (said_in (adoc false ((anended (aline [] (keyval (aname (akey (w leaf.BareKey (codes "a")) []) ((w leaf.Ws (codes " ")) ∷ []) ((w leaf.Ws (codes " ")) ∷ [])) (avalue (array []) (entry None (scalar (w leaf.Integer (codes "1"))) none [] (Some ((w leaf.Ws (codes " ")) ∷ [])) (entry None (array []) (entry None (scalar (w leaf.Integer (codes "2"))) none [] None none) [] (Some ((w leaf.Ws (codes " ")) ∷ [])) (entry None (inline []) (entry (Some (aname (akey (w leaf.BareKey (codes "b")) ((further [] [] (w leaf.BareKey (codes "c"))) ∷ [])) ((w leaf.Ws (codes " ")) ∷ []) ((w leaf.Ws (codes " ")) ∷ []))) (scalar (w leaf.Boolean (codes "true"))) none [] None none) [] None none))))) [] None) (w leaf.Newline (10 ∷ []))) ∷ (anended (aline [] (keyval (aname (akey (w leaf.BareKey (codes "d")) ((further [] [] (w leaf.BareKey (codes "e"))) ∷ [])) ((w leaf.Ws (codes " ")) ∷ []) ((w leaf.Ws (codes " ")) ∷ [])) (avalue (scalar (w leaf.Basic (34 ∷ 120 ∷ 34 ∷ []))) none)) [] None) (w leaf.Newline (10 ∷ []))) ∷ (anended (aline [] (keyval (aname (akey (w leaf.BareKey (codes "d")) ((further [] [] (w leaf.BareKey (codes "f"))) ∷ [])) ((w leaf.Ws (codes " ")) ∷ []) ((w leaf.Ws (codes " ")) ∷ [])) (avalue (inline []) none)) [] None) (w leaf.Newline (10 ∷ []))) ∷ []) (aline [] blank [] None))) ≡ [] ∷ (key (codes "a") ∷ []) ∷ (key (codes "a") ∷ index 0 ∷ []) ∷ (key (codes "a") ∷ index 1 ∷ []) ∷ (key (codes "a") ∷ index 1 ∷ index 0 ∷ []) ∷ (key (codes "a") ∷ index 2 ∷ []) ∷ (key (codes "a") ∷ index 2 ∷ key (codes "b") ∷ []) ∷ (key (codes "a") ∷ index 2 ∷ key (codes "b") ∷ key (codes "c") ∷ []) ∷ (key (codes "d") ∷ []) ∷ (key (codes "d") ∷ key (codes "e") ∷ []) ∷ (key (codes "d") ∷ key (codes "f") ∷ []) ∷ []
-inside-paths = refl
+nested-paths : node_paths (mentions_in (adoc false ((anended (aline [] (keyval (aname (akey (w leaf.BareKey (codes "a")) []) ((w leaf.Ws (codes " ")) ∷ []) ((w leaf.Ws (codes " ")) ∷ [])) (avalue (array []) (entry None (scalar (w leaf.Integer (codes "1"))) none [] (Some ((w leaf.Ws (codes " ")) ∷ [])) (entry None (array []) (entry None (scalar (w leaf.Integer (codes "2"))) none [] None none) [] (Some ((w leaf.Ws (codes " ")) ∷ [])) (entry None (inline []) (entry (Some (aname (akey (w leaf.BareKey (codes "b")) ((further [] [] (w leaf.BareKey (codes "c"))) ∷ [])) ((w leaf.Ws (codes " ")) ∷ []) ((w leaf.Ws (codes " ")) ∷ []))) (scalar (w leaf.Boolean (codes "true"))) none [] None none) [] None none))))) [] None) (w leaf.Newline (10 ∷ []))) ∷ (anended (aline [] (keyval (aname (akey (w leaf.BareKey (codes "d")) ((further [] [] (w leaf.BareKey (codes "e"))) ∷ [])) ((w leaf.Ws (codes " ")) ∷ []) ((w leaf.Ws (codes " ")) ∷ [])) (avalue (scalar (w leaf.Basic (34 ∷ 120 ∷ 34 ∷ []))) none)) [] None) (w leaf.Newline (10 ∷ []))) ∷ (anended (aline [] (keyval (aname (akey (w leaf.BareKey (codes "d")) ((further [] [] (w leaf.BareKey (codes "f"))) ∷ [])) ((w leaf.Ws (codes " ")) ∷ []) ((w leaf.Ws (codes " ")) ∷ [])) (avalue (inline []) none)) [] None) (w leaf.Newline (10 ∷ []))) ∷ []) (aline [] blank [] None))) ≡ [] ∷ (key (codes "a") ∷ []) ∷ (key (codes "a") ∷ index 0 ∷ []) ∷ (key (codes "a") ∷ index 1 ∷ []) ∷ (key (codes "a") ∷ index 1 ∷ index 0 ∷ []) ∷ (key (codes "a") ∷ index 2 ∷ []) ∷ (key (codes "a") ∷ index 2 ∷ key (codes "b") ∷ []) ∷ (key (codes "a") ∷ index 2 ∷ key (codes "b") ∷ key (codes "c") ∷ []) ∷ (key (codes "d") ∷ []) ∷ (key (codes "d") ∷ key (codes "e") ∷ []) ∷ (key (codes "d") ∷ key (codes "f") ∷ []) ∷ []
+nested-paths = refl
 
 -- `a = [1, [2], {b.c = true}]<LF>d.e = "x"<LF>d.f = {}<LF>`
-inside-infos : infos_in (adoc false ((anended (aline [] (keyval (aname (akey (w leaf.BareKey (codes "a")) []) ((w leaf.Ws (codes " ")) ∷ []) ((w leaf.Ws (codes " ")) ∷ [])) (avalue (array []) (entry None (scalar (w leaf.Integer (codes "1"))) none [] (Some ((w leaf.Ws (codes " ")) ∷ [])) (entry None (array []) (entry None (scalar (w leaf.Integer (codes "2"))) none [] None none) [] (Some ((w leaf.Ws (codes " ")) ∷ [])) (entry None (inline []) (entry (Some (aname (akey (w leaf.BareKey (codes "b")) ((further [] [] (w leaf.BareKey (codes "c"))) ∷ [])) ((w leaf.Ws (codes " ")) ∷ []) ((w leaf.Ws (codes " ")) ∷ []))) (scalar (w leaf.Boolean (codes "true"))) none [] None none) [] None none))))) [] None) (w leaf.Newline (10 ∷ []))) ∷ (anended (aline [] (keyval (aname (akey (w leaf.BareKey (codes "d")) ((further [] [] (w leaf.BareKey (codes "e"))) ∷ [])) ((w leaf.Ws (codes " ")) ∷ []) ((w leaf.Ws (codes " ")) ∷ [])) (avalue (scalar (w leaf.Basic (34 ∷ 120 ∷ 34 ∷ []))) none)) [] None) (w leaf.Newline (10 ∷ []))) ∷ (anended (aline [] (keyval (aname (akey (w leaf.BareKey (codes "d")) ((further [] [] (w leaf.BareKey (codes "f"))) ∷ [])) ((w leaf.Ws (codes " ")) ∷ []) ((w leaf.Ws (codes " ")) ∷ [])) (avalue (inline []) none)) [] None) (w leaf.Newline (10 ∷ []))) ∷ []) (aline [] blank [] None)) ≡
-    info kind.Table None None 0 false place.Root
-    ∷ info kind.Array (span 4 26) (span 0 1) 1 false (place.Value 0)
-    ∷ info kind.Integer (span 5 6) None 0 false (place.Value 1)
-    ∷ info kind.Array (span 8 11) None 0 false (place.Value 2)
-    ∷ info kind.Integer (span 9 10) None 0 false (place.Value 3)
-    ∷ info kind.Inline (span 13 25) None 0 false (place.Value 4)
-    ∷ info kind.Table None (span 14 15) 1 false (place.Dotted 5)
-    ∷ info kind.Boolean (span 20 24) (span 16 17) 1 false (place.Value 5)
-    ∷ info kind.Table None (span 27 28) 2 false (place.Dotted 7)
-    ∷ info kind.Str (span 33 36) (span 29 30) 1 false (place.Value 6)
-    ∷ info kind.Inline (span 43 45) (span 39 40) 1 false (place.Value 7)
+nested-infos : infos_in (adoc false ((anended (aline [] (keyval (aname (akey (w leaf.BareKey (codes "a")) []) ((w leaf.Ws (codes " ")) ∷ []) ((w leaf.Ws (codes " ")) ∷ [])) (avalue (array []) (entry None (scalar (w leaf.Integer (codes "1"))) none [] (Some ((w leaf.Ws (codes " ")) ∷ [])) (entry None (array []) (entry None (scalar (w leaf.Integer (codes "2"))) none [] None none) [] (Some ((w leaf.Ws (codes " ")) ∷ [])) (entry None (inline []) (entry (Some (aname (akey (w leaf.BareKey (codes "b")) ((further [] [] (w leaf.BareKey (codes "c"))) ∷ [])) ((w leaf.Ws (codes " ")) ∷ []) ((w leaf.Ws (codes " ")) ∷ []))) (scalar (w leaf.Boolean (codes "true"))) none [] None none) [] None none))))) [] None) (w leaf.Newline (10 ∷ []))) ∷ (anended (aline [] (keyval (aname (akey (w leaf.BareKey (codes "d")) ((further [] [] (w leaf.BareKey (codes "e"))) ∷ [])) ((w leaf.Ws (codes " ")) ∷ []) ((w leaf.Ws (codes " ")) ∷ [])) (avalue (scalar (w leaf.Basic (34 ∷ 120 ∷ 34 ∷ []))) none)) [] None) (w leaf.Newline (10 ∷ []))) ∷ (anended (aline [] (keyval (aname (akey (w leaf.BareKey (codes "d")) ((further [] [] (w leaf.BareKey (codes "f"))) ∷ [])) ((w leaf.Ws (codes " ")) ∷ []) ((w leaf.Ws (codes " ")) ∷ [])) (avalue (inline []) none)) [] None) (w leaf.Newline (10 ∷ []))) ∷ []) (aline [] blank [] None)) ≡
+    info kind.Table None None 0 false origin.Root
+    ∷ info kind.Array (span 4 26) (span 0 1) 1 false (origin.Value 0)
+    ∷ info kind.Integer (span 5 6) None 0 false (origin.Value 1)
+    ∷ info kind.Array (span 8 11) None 0 false (origin.Value 2)
+    ∷ info kind.Integer (span 9 10) None 0 false (origin.Value 3)
+    ∷ info kind.Inline (span 13 25) None 0 false (origin.Value 4)
+    ∷ info kind.Table None (span 14 15) 1 false (origin.Dotted 5)
+    ∷ info kind.Boolean (span 20 24) (span 16 17) 1 false (origin.Value 5)
+    ∷ info kind.Table None (span 27 28) 2 false (origin.Dotted 7)
+    ∷ info kind.Str (span 33 36) (span 29 30) 1 false (origin.Value 6)
+    ∷ info kind.Inline (span 43 45) (span 39 40) 1 false (origin.Value 7)
     ∷ []
-inside-infos = refl
+nested-infos = refl
 
 -- `[a.b]<LF><LF>x = 1<LF>[a.c]<LF>[a.c.e]<LF>[a]<LF>[a.d]<LF>`
 through-ok : fault_in (adoc false ((anended (aline [] (header [] (akey (w leaf.BareKey (codes "a")) ((further [] [] (w leaf.BareKey (codes "b"))) ∷ [])) []) [] None) (w leaf.Newline (10 ∷ []))) ∷ (anended (aline [] blank [] None) (w leaf.Newline (10 ∷ []))) ∷ (anended (aline [] (keyval (aname (akey (w leaf.BareKey (codes "x")) []) ((w leaf.Ws (codes " ")) ∷ []) ((w leaf.Ws (codes " ")) ∷ [])) (avalue (scalar (w leaf.Integer (codes "1"))) none)) [] None) (w leaf.Newline (10 ∷ []))) ∷ (anended (aline [] (header [] (akey (w leaf.BareKey (codes "a")) ((further [] [] (w leaf.BareKey (codes "c"))) ∷ [])) []) [] None) (w leaf.Newline (10 ∷ []))) ∷ (anended (aline [] (header [] (akey (w leaf.BareKey (codes "a")) ((further [] [] (w leaf.BareKey (codes "c"))) ∷ (further [] [] (w leaf.BareKey (codes "e"))) ∷ [])) []) [] None) (w leaf.Newline (10 ∷ []))) ∷ (anended (aline [] (header [] (akey (w leaf.BareKey (codes "a")) []) []) [] None) (w leaf.Newline (10 ∷ []))) ∷ (anended (aline [] (header [] (akey (w leaf.BareKey (codes "a")) ((further [] [] (w leaf.BareKey (codes "d"))) ∷ [])) []) [] None) (w leaf.Newline (10 ∷ []))) ∷ []) (aline [] blank [] None)) ≡ None
@@ -103,51 +103,51 @@ through-ok = refl
 
 -- `[a.b]<LF><LF>x = 1<LF>[a.c]<LF>[a.c.e]<LF>[a]<LF>[a.d]<LF>`
 through-infos : infos_in (adoc false ((anended (aline [] (header [] (akey (w leaf.BareKey (codes "a")) ((further [] [] (w leaf.BareKey (codes "b"))) ∷ [])) []) [] None) (w leaf.Newline (10 ∷ []))) ∷ (anended (aline [] blank [] None) (w leaf.Newline (10 ∷ []))) ∷ (anended (aline [] (keyval (aname (akey (w leaf.BareKey (codes "x")) []) ((w leaf.Ws (codes " ")) ∷ []) ((w leaf.Ws (codes " ")) ∷ [])) (avalue (scalar (w leaf.Integer (codes "1"))) none)) [] None) (w leaf.Newline (10 ∷ []))) ∷ (anended (aline [] (header [] (akey (w leaf.BareKey (codes "a")) ((further [] [] (w leaf.BareKey (codes "c"))) ∷ [])) []) [] None) (w leaf.Newline (10 ∷ []))) ∷ (anended (aline [] (header [] (akey (w leaf.BareKey (codes "a")) ((further [] [] (w leaf.BareKey (codes "c"))) ∷ (further [] [] (w leaf.BareKey (codes "e"))) ∷ [])) []) [] None) (w leaf.Newline (10 ∷ []))) ∷ (anended (aline [] (header [] (akey (w leaf.BareKey (codes "a")) []) []) [] None) (w leaf.Newline (10 ∷ []))) ∷ (anended (aline [] (header [] (akey (w leaf.BareKey (codes "a")) ((further [] [] (w leaf.BareKey (codes "d"))) ∷ [])) []) [] None) (w leaf.Newline (10 ∷ []))) ∷ []) (aline [] blank [] None)) ≡
-    info kind.Table None None 0 false place.Root
-    ∷ info kind.Table None (span 1 2) 5 false (place.Header 4)
-    ∷ info kind.Table None (span 3 4) 1 false (place.Header 0)
-    ∷ info kind.Integer (span 11 12) (span 7 8) 1 false (place.Value 0)
-    ∷ info kind.Table None (span 16 17) 2 false (place.Header 2)
-    ∷ info kind.Table None (span 24 25) 1 false (place.Header 3)
-    ∷ info kind.Table None (span 34 35) 1 false (place.Header 5)
+    info kind.Table None None 0 false origin.Root
+    ∷ info kind.Table None (span 1 2) 5 false (origin.Header 4)
+    ∷ info kind.Table None (span 3 4) 1 false (origin.Header 0)
+    ∷ info kind.Integer (span 11 12) (span 7 8) 1 false (origin.Value 0)
+    ∷ info kind.Table None (span 16 17) 2 false (origin.Header 2)
+    ∷ info kind.Table None (span 24 25) 1 false (origin.Header 3)
+    ∷ info kind.Table None (span 34 35) 1 false (origin.Header 5)
     ∷ []
 through-infos = refl
 
 -- `<LF>[a.b]<LF>[a.c]<LF>`
 through-alone : infos_in (adoc false ((anended (aline [] blank [] None) (w leaf.Newline (10 ∷ []))) ∷ (anended (aline [] (header [] (akey (w leaf.BareKey (codes "a")) ((further [] [] (w leaf.BareKey (codes "b"))) ∷ [])) []) [] None) (w leaf.Newline (10 ∷ []))) ∷ (anended (aline [] (header [] (akey (w leaf.BareKey (codes "a")) ((further [] [] (w leaf.BareKey (codes "c"))) ∷ [])) []) [] None) (w leaf.Newline (10 ∷ []))) ∷ []) (aline [] blank [] None)) ≡
-    info kind.Table None None 0 false place.Root
-    ∷ info kind.Table None (span 2 3) 2 false (place.Through 1)
-    ∷ info kind.Table None (span 4 5) 1 false (place.Header 0)
-    ∷ info kind.Table None (span 10 11) 1 false (place.Header 1)
+    info kind.Table None None 0 false origin.Root
+    ∷ info kind.Table None (span 2 3) 2 false (origin.Through 1)
+    ∷ info kind.Table None (span 4 5) 1 false (origin.Header 0)
+    ∷ info kind.Table None (span 10 11) 1 false (origin.Header 1)
     ∷ []
 through-alone = refl
 
 -- `d = 1979-05-27<LF>f = 1.5<LF>`
 date-infos : infos_in (adoc false ((anended (aline [] (keyval (aname (akey (w leaf.BareKey (codes "d")) []) ((w leaf.Ws (codes " ")) ∷ []) ((w leaf.Ws (codes " ")) ∷ [])) (avalue (scalar (w leaf.LocalDate (codes "1979-05-27"))) none)) [] None) (w leaf.Newline (10 ∷ []))) ∷ (anended (aline [] (keyval (aname (akey (w leaf.BareKey (codes "f")) []) ((w leaf.Ws (codes " ")) ∷ []) ((w leaf.Ws (codes " ")) ∷ [])) (avalue (scalar (w leaf.Float (codes "1.5"))) none)) [] None) (w leaf.Newline (10 ∷ []))) ∷ []) (aline [] blank [] None)) ≡
-    info kind.Table None None 0 false place.Root
-    ∷ info kind.LocalDate (span 4 14) (span 0 1) 1 false (place.Value 0)
-    ∷ info kind.Float (span 19 22) (span 15 16) 1 false (place.Value 1)
+    info kind.Table None None 0 false origin.Root
+    ∷ info kind.LocalDate (span 4 14) (span 0 1) 1 false (origin.Value 0)
+    ∷ info kind.Float (span 19 22) (span 15 16) 1 false (origin.Value 1)
     ∷ []
 date-infos = refl
 
 -- `[b]<LF>[a]<LF>[b.c]<LF>`
-root-children : children [] (node_paths (said_in (adoc false ((anended (aline [] (header [] (akey (w leaf.BareKey (codes "b")) []) []) [] None) (w leaf.Newline (10 ∷ []))) ∷ (anended (aline [] (header [] (akey (w leaf.BareKey (codes "a")) []) []) [] None) (w leaf.Newline (10 ∷ []))) ∷ (anended (aline [] (header [] (akey (w leaf.BareKey (codes "b")) ((further [] [] (w leaf.BareKey (codes "c"))) ∷ [])) []) [] None) (w leaf.Newline (10 ∷ []))) ∷ []) (aline [] blank [] None)))) ≡ (key (codes "b") ∷ []) ∷ (key (codes "a") ∷ []) ∷ []
+root-children : children [] (node_paths (mentions_in (adoc false ((anended (aline [] (header [] (akey (w leaf.BareKey (codes "b")) []) []) [] None) (w leaf.Newline (10 ∷ []))) ∷ (anended (aline [] (header [] (akey (w leaf.BareKey (codes "a")) []) []) [] None) (w leaf.Newline (10 ∷ []))) ∷ (anended (aline [] (header [] (akey (w leaf.BareKey (codes "b")) ((further [] [] (w leaf.BareKey (codes "c"))) ∷ [])) []) [] None) (w leaf.Newline (10 ∷ []))) ∷ []) (aline [] blank [] None)))) ≡ (key (codes "b") ∷ []) ∷ (key (codes "a") ∷ []) ∷ []
 root-children = refl
 
 -- `[b]<LF>[a]<LF>[b.c]<LF>`
-root-child_none : slice_get (children [] (node_paths (said_in (adoc false ((anended (aline [] (header [] (akey (w leaf.BareKey (codes "b")) []) []) [] None) (w leaf.Newline (10 ∷ []))) ∷ (anended (aline [] (header [] (akey (w leaf.BareKey (codes "a")) []) []) [] None) (w leaf.Newline (10 ∷ []))) ∷ (anended (aline [] (header [] (akey (w leaf.BareKey (codes "b")) ((further [] [] (w leaf.BareKey (codes "c"))) ∷ [])) []) [] None) (w leaf.Newline (10 ∷ []))) ∷ []) (aline [] blank [] None))))) 2 ≡ None
+root-child_none : slice_get (children [] (node_paths (mentions_in (adoc false ((anended (aline [] (header [] (akey (w leaf.BareKey (codes "b")) []) []) [] None) (w leaf.Newline (10 ∷ []))) ∷ (anended (aline [] (header [] (akey (w leaf.BareKey (codes "a")) []) []) [] None) (w leaf.Newline (10 ∷ []))) ∷ (anended (aline [] (header [] (akey (w leaf.BareKey (codes "b")) ((further [] [] (w leaf.BareKey (codes "c"))) ∷ [])) []) [] None) (w leaf.Newline (10 ∷ []))) ∷ []) (aline [] blank [] None))))) 2 ≡ None
 root-child_none = refl
 
 -- `[[a]]<LF>[a.s]<LF>x.y = 1<LF>`
-below_element-find_none : node_number (node_paths (said_in (adoc false ((anended (aline [] (element [] (akey (w leaf.BareKey (codes "a")) []) []) [] None) (w leaf.Newline (10 ∷ []))) ∷ (anended (aline [] (header [] (akey (w leaf.BareKey (codes "a")) ((further [] [] (w leaf.BareKey (codes "s"))) ∷ [])) []) [] None) (w leaf.Newline (10 ∷ []))) ∷ (anended (aline [] (keyval (aname (akey (w leaf.BareKey (codes "x")) ((further [] [] (w leaf.BareKey (codes "y"))) ∷ [])) ((w leaf.Ws (codes " ")) ∷ []) ((w leaf.Ws (codes " ")) ∷ [])) (avalue (scalar (w leaf.Integer (codes "1"))) none)) [] None) (w leaf.Newline (10 ∷ []))) ∷ []) (aline [] blank [] None)))) (key (codes "a") ∷ index 1 ∷ []) ≡ None
+below_element-find_none : node_number (node_paths (mentions_in (adoc false ((anended (aline [] (element [] (akey (w leaf.BareKey (codes "a")) []) []) [] None) (w leaf.Newline (10 ∷ []))) ∷ (anended (aline [] (header [] (akey (w leaf.BareKey (codes "a")) ((further [] [] (w leaf.BareKey (codes "s"))) ∷ [])) []) [] None) (w leaf.Newline (10 ∷ []))) ∷ (anended (aline [] (keyval (aname (akey (w leaf.BareKey (codes "x")) ((further [] [] (w leaf.BareKey (codes "y"))) ∷ [])) ((w leaf.Ws (codes " ")) ∷ []) ((w leaf.Ws (codes " ")) ∷ [])) (avalue (scalar (w leaf.Integer (codes "1"))) none)) [] None) (w leaf.Newline (10 ∷ []))) ∷ []) (aline [] blank [] None)))) (key (codes "a") ∷ index 1 ∷ []) ≡ None
 below_element-find_none = refl
 
 -- `[[a]]<LF>[a.s]<LF>x.y = 1<LF>`
-below_element-find_first : node_number (node_paths (said_in (adoc false ((anended (aline [] (element [] (akey (w leaf.BareKey (codes "a")) []) []) [] None) (w leaf.Newline (10 ∷ []))) ∷ (anended (aline [] (header [] (akey (w leaf.BareKey (codes "a")) ((further [] [] (w leaf.BareKey (codes "s"))) ∷ [])) []) [] None) (w leaf.Newline (10 ∷ []))) ∷ (anended (aline [] (keyval (aname (akey (w leaf.BareKey (codes "x")) ((further [] [] (w leaf.BareKey (codes "y"))) ∷ [])) ((w leaf.Ws (codes " ")) ∷ []) ((w leaf.Ws (codes " ")) ∷ [])) (avalue (scalar (w leaf.Integer (codes "1"))) none)) [] None) (w leaf.Newline (10 ∷ []))) ∷ []) (aline [] blank [] None)))) (take 1 (key (codes "a") ∷ index 0 ∷ key (codes "s") ∷ [])) ≡ Some 1
+below_element-find_first : node_number (node_paths (mentions_in (adoc false ((anended (aline [] (element [] (akey (w leaf.BareKey (codes "a")) []) []) [] None) (w leaf.Newline (10 ∷ []))) ∷ (anended (aline [] (header [] (akey (w leaf.BareKey (codes "a")) ((further [] [] (w leaf.BareKey (codes "s"))) ∷ [])) []) [] None) (w leaf.Newline (10 ∷ []))) ∷ (anended (aline [] (keyval (aname (akey (w leaf.BareKey (codes "x")) ((further [] [] (w leaf.BareKey (codes "y"))) ∷ [])) ((w leaf.Ws (codes " ")) ∷ []) ((w leaf.Ws (codes " ")) ∷ [])) (avalue (scalar (w leaf.Integer (codes "1"))) none)) [] None) (w leaf.Newline (10 ∷ []))) ∷ []) (aline [] blank [] None)))) (take 1 (key (codes "a") ∷ index 0 ∷ key (codes "s") ∷ [])) ≡ Some 1
 below_element-find_first = refl
 
 -- `[[a]]<LF>[a.s]<LF>x.y = 1<LF>`
-below_element-node_at : slice_get (node_paths (said_in (adoc false ((anended (aline [] (element [] (akey (w leaf.BareKey (codes "a")) []) []) [] None) (w leaf.Newline (10 ∷ []))) ∷ (anended (aline [] (header [] (akey (w leaf.BareKey (codes "a")) ((further [] [] (w leaf.BareKey (codes "s"))) ∷ [])) []) [] None) (w leaf.Newline (10 ∷ []))) ∷ (anended (aline [] (keyval (aname (akey (w leaf.BareKey (codes "x")) ((further [] [] (w leaf.BareKey (codes "y"))) ∷ [])) ((w leaf.Ws (codes " ")) ∷ []) ((w leaf.Ws (codes " ")) ∷ [])) (avalue (scalar (w leaf.Integer (codes "1"))) none)) [] None) (w leaf.Newline (10 ∷ []))) ∷ []) (aline [] blank [] None)))) 2 ≡ Some (key (codes "a") ∷ index 0 ∷ [])
+below_element-node_at : slice_get (node_paths (mentions_in (adoc false ((anended (aline [] (element [] (akey (w leaf.BareKey (codes "a")) []) []) [] None) (w leaf.Newline (10 ∷ []))) ∷ (anended (aline [] (header [] (akey (w leaf.BareKey (codes "a")) ((further [] [] (w leaf.BareKey (codes "s"))) ∷ [])) []) [] None) (w leaf.Newline (10 ∷ []))) ∷ (anended (aline [] (keyval (aname (akey (w leaf.BareKey (codes "x")) ((further [] [] (w leaf.BareKey (codes "y"))) ∷ [])) ((w leaf.Ws (codes " ")) ∷ []) ((w leaf.Ws (codes " ")) ∷ [])) (avalue (scalar (w leaf.Integer (codes "1"))) none)) [] None) (w leaf.Newline (10 ∷ []))) ∷ []) (aline [] blank [] None)))) 2 ≡ Some (key (codes "a") ∷ index 0 ∷ [])
 below_element-node_at = refl
 
 -- `[f]<LF>p.c = 1<LF>[f.p]<LF>`
@@ -159,7 +159,7 @@ header_below_dotted : fault_in (adoc false ((anended (aline [] (header [] (akey 
 header_below_dotted = refl
 
 -- `[f]<LF>p.c = 1<LF>[f.p.q]<LF>`
-header_below_dotted-count : length (node_paths (said_in (adoc false ((anended (aline [] (header [] (akey (w leaf.BareKey (codes "f")) []) []) [] None) (w leaf.Newline (10 ∷ []))) ∷ (anended (aline [] (keyval (aname (akey (w leaf.BareKey (codes "p")) ((further [] [] (w leaf.BareKey (codes "c"))) ∷ [])) ((w leaf.Ws (codes " ")) ∷ []) ((w leaf.Ws (codes " ")) ∷ [])) (avalue (scalar (w leaf.Integer (codes "1"))) none)) [] None) (w leaf.Newline (10 ∷ []))) ∷ (anended (aline [] (header [] (akey (w leaf.BareKey (codes "f")) ((further [] [] (w leaf.BareKey (codes "p"))) ∷ (further [] [] (w leaf.BareKey (codes "q"))) ∷ [])) []) [] None) (w leaf.Newline (10 ∷ []))) ∷ []) (aline [] blank [] None)))) ≡ 5
+header_below_dotted-count : length (node_paths (mentions_in (adoc false ((anended (aline [] (header [] (akey (w leaf.BareKey (codes "f")) []) []) [] None) (w leaf.Newline (10 ∷ []))) ∷ (anended (aline [] (keyval (aname (akey (w leaf.BareKey (codes "p")) ((further [] [] (w leaf.BareKey (codes "c"))) ∷ [])) ((w leaf.Ws (codes " ")) ∷ []) ((w leaf.Ws (codes " ")) ∷ [])) (avalue (scalar (w leaf.Integer (codes "1"))) none)) [] None) (w leaf.Newline (10 ∷ []))) ∷ (anended (aline [] (header [] (akey (w leaf.BareKey (codes "f")) ((further [] [] (w leaf.BareKey (codes "p"))) ∷ (further [] [] (w leaf.BareKey (codes "q"))) ∷ [])) []) [] None) (w leaf.Newline (10 ∷ []))) ∷ []) (aline [] blank [] None)))) ≡ 5
 header_below_dotted-count = refl
 
 -- `[a.b]<LF>[[a]]<LF>`
@@ -175,33 +175,33 @@ two_elements-ok : fault_in (adoc false ((anended (aline [] (element [] (akey (w 
 two_elements-ok = refl
 
 -- `[[a]]<LF>[a.b]<LF>[[a]]<LF>[a.b]<LF>`
-two_elements-paths : node_paths (said_in (adoc false ((anended (aline [] (element [] (akey (w leaf.BareKey (codes "a")) []) []) [] None) (w leaf.Newline (10 ∷ []))) ∷ (anended (aline [] (header [] (akey (w leaf.BareKey (codes "a")) ((further [] [] (w leaf.BareKey (codes "b"))) ∷ [])) []) [] None) (w leaf.Newline (10 ∷ []))) ∷ (anended (aline [] (element [] (akey (w leaf.BareKey (codes "a")) []) []) [] None) (w leaf.Newline (10 ∷ []))) ∷ (anended (aline [] (header [] (akey (w leaf.BareKey (codes "a")) ((further [] [] (w leaf.BareKey (codes "b"))) ∷ [])) []) [] None) (w leaf.Newline (10 ∷ []))) ∷ []) (aline [] blank [] None))) ≡ [] ∷ (key (codes "a") ∷ []) ∷ (key (codes "a") ∷ index 0 ∷ []) ∷ (key (codes "a") ∷ index 0 ∷ key (codes "b") ∷ []) ∷ (key (codes "a") ∷ index 1 ∷ []) ∷ (key (codes "a") ∷ index 1 ∷ key (codes "b") ∷ []) ∷ []
+two_elements-paths : node_paths (mentions_in (adoc false ((anended (aline [] (element [] (akey (w leaf.BareKey (codes "a")) []) []) [] None) (w leaf.Newline (10 ∷ []))) ∷ (anended (aline [] (header [] (akey (w leaf.BareKey (codes "a")) ((further [] [] (w leaf.BareKey (codes "b"))) ∷ [])) []) [] None) (w leaf.Newline (10 ∷ []))) ∷ (anended (aline [] (element [] (akey (w leaf.BareKey (codes "a")) []) []) [] None) (w leaf.Newline (10 ∷ []))) ∷ (anended (aline [] (header [] (akey (w leaf.BareKey (codes "a")) ((further [] [] (w leaf.BareKey (codes "b"))) ∷ [])) []) [] None) (w leaf.Newline (10 ∷ []))) ∷ []) (aline [] blank [] None))) ≡ [] ∷ (key (codes "a") ∷ []) ∷ (key (codes "a") ∷ index 0 ∷ []) ∷ (key (codes "a") ∷ index 0 ∷ key (codes "b") ∷ []) ∷ (key (codes "a") ∷ index 1 ∷ []) ∷ (key (codes "a") ∷ index 1 ∷ key (codes "b") ∷ []) ∷ []
 two_elements-paths = refl
 
 -- `[[a]]<LF>[a.b]<LF>[[a]]<LF>[a.b]<LF>`
-two_elements-children : children (key (codes "a") ∷ []) (node_paths (said_in (adoc false ((anended (aline [] (element [] (akey (w leaf.BareKey (codes "a")) []) []) [] None) (w leaf.Newline (10 ∷ []))) ∷ (anended (aline [] (header [] (akey (w leaf.BareKey (codes "a")) ((further [] [] (w leaf.BareKey (codes "b"))) ∷ [])) []) [] None) (w leaf.Newline (10 ∷ []))) ∷ (anended (aline [] (element [] (akey (w leaf.BareKey (codes "a")) []) []) [] None) (w leaf.Newline (10 ∷ []))) ∷ (anended (aline [] (header [] (akey (w leaf.BareKey (codes "a")) ((further [] [] (w leaf.BareKey (codes "b"))) ∷ [])) []) [] None) (w leaf.Newline (10 ∷ []))) ∷ []) (aline [] blank [] None)))) ≡ (key (codes "a") ∷ index 0 ∷ []) ∷ (key (codes "a") ∷ index 1 ∷ []) ∷ []
+two_elements-children : children (key (codes "a") ∷ []) (node_paths (mentions_in (adoc false ((anended (aline [] (element [] (akey (w leaf.BareKey (codes "a")) []) []) [] None) (w leaf.Newline (10 ∷ []))) ∷ (anended (aline [] (header [] (akey (w leaf.BareKey (codes "a")) ((further [] [] (w leaf.BareKey (codes "b"))) ∷ [])) []) [] None) (w leaf.Newline (10 ∷ []))) ∷ (anended (aline [] (element [] (akey (w leaf.BareKey (codes "a")) []) []) [] None) (w leaf.Newline (10 ∷ []))) ∷ (anended (aline [] (header [] (akey (w leaf.BareKey (codes "a")) ((further [] [] (w leaf.BareKey (codes "b"))) ∷ [])) []) [] None) (w leaf.Newline (10 ∷ []))) ∷ []) (aline [] blank [] None)))) ≡ (key (codes "a") ∷ index 0 ∷ []) ∷ (key (codes "a") ∷ index 1 ∷ []) ∷ []
 two_elements-children = refl
 
 -- `[[a]]<LF>[a.b]<LF>[[a]]<LF>[a.b]<LF>`
-two_elements-root_children : children [] (node_paths (said_in (adoc false ((anended (aline [] (element [] (akey (w leaf.BareKey (codes "a")) []) []) [] None) (w leaf.Newline (10 ∷ []))) ∷ (anended (aline [] (header [] (akey (w leaf.BareKey (codes "a")) ((further [] [] (w leaf.BareKey (codes "b"))) ∷ [])) []) [] None) (w leaf.Newline (10 ∷ []))) ∷ (anended (aline [] (element [] (akey (w leaf.BareKey (codes "a")) []) []) [] None) (w leaf.Newline (10 ∷ []))) ∷ (anended (aline [] (header [] (akey (w leaf.BareKey (codes "a")) ((further [] [] (w leaf.BareKey (codes "b"))) ∷ [])) []) [] None) (w leaf.Newline (10 ∷ []))) ∷ []) (aline [] blank [] None)))) ≡ (key (codes "a") ∷ []) ∷ []
+two_elements-root_children : children [] (node_paths (mentions_in (adoc false ((anended (aline [] (element [] (akey (w leaf.BareKey (codes "a")) []) []) [] None) (w leaf.Newline (10 ∷ []))) ∷ (anended (aline [] (header [] (akey (w leaf.BareKey (codes "a")) ((further [] [] (w leaf.BareKey (codes "b"))) ∷ [])) []) [] None) (w leaf.Newline (10 ∷ []))) ∷ (anended (aline [] (element [] (akey (w leaf.BareKey (codes "a")) []) []) [] None) (w leaf.Newline (10 ∷ []))) ∷ (anended (aline [] (header [] (akey (w leaf.BareKey (codes "a")) ((further [] [] (w leaf.BareKey (codes "b"))) ∷ [])) []) [] None) (w leaf.Newline (10 ∷ []))) ∷ []) (aline [] blank [] None)))) ≡ (key (codes "a") ∷ []) ∷ []
 two_elements-root_children = refl
 
 -- `[[a]]<LF>[a.b]<LF>[[a]]<LF>[a.b]<LF>`
-two_elements-find : node_number (node_paths (said_in (adoc false ((anended (aline [] (element [] (akey (w leaf.BareKey (codes "a")) []) []) [] None) (w leaf.Newline (10 ∷ []))) ∷ (anended (aline [] (header [] (akey (w leaf.BareKey (codes "a")) ((further [] [] (w leaf.BareKey (codes "b"))) ∷ [])) []) [] None) (w leaf.Newline (10 ∷ []))) ∷ (anended (aline [] (element [] (akey (w leaf.BareKey (codes "a")) []) []) [] None) (w leaf.Newline (10 ∷ []))) ∷ (anended (aline [] (header [] (akey (w leaf.BareKey (codes "a")) ((further [] [] (w leaf.BareKey (codes "b"))) ∷ [])) []) [] None) (w leaf.Newline (10 ∷ []))) ∷ []) (aline [] blank [] None)))) (key (codes "a") ∷ index 1 ∷ key (codes "b") ∷ []) ≡ Some 5
+two_elements-find : node_number (node_paths (mentions_in (adoc false ((anended (aline [] (element [] (akey (w leaf.BareKey (codes "a")) []) []) [] None) (w leaf.Newline (10 ∷ []))) ∷ (anended (aline [] (header [] (akey (w leaf.BareKey (codes "a")) ((further [] [] (w leaf.BareKey (codes "b"))) ∷ [])) []) [] None) (w leaf.Newline (10 ∷ []))) ∷ (anended (aline [] (element [] (akey (w leaf.BareKey (codes "a")) []) []) [] None) (w leaf.Newline (10 ∷ []))) ∷ (anended (aline [] (header [] (akey (w leaf.BareKey (codes "a")) ((further [] [] (w leaf.BareKey (codes "b"))) ∷ [])) []) [] None) (w leaf.Newline (10 ∷ []))) ∷ []) (aline [] blank [] None)))) (key (codes "a") ∷ index 1 ∷ key (codes "b") ∷ []) ≡ Some 5
 two_elements-find = refl
 
 -- `[[a]]<LF>[a.b]<LF>[[a]]<LF>[a.b]<LF>`
-two_elements-find_none : node_number (node_paths (said_in (adoc false ((anended (aline [] (element [] (akey (w leaf.BareKey (codes "a")) []) []) [] None) (w leaf.Newline (10 ∷ []))) ∷ (anended (aline [] (header [] (akey (w leaf.BareKey (codes "a")) ((further [] [] (w leaf.BareKey (codes "b"))) ∷ [])) []) [] None) (w leaf.Newline (10 ∷ []))) ∷ (anended (aline [] (element [] (akey (w leaf.BareKey (codes "a")) []) []) [] None) (w leaf.Newline (10 ∷ []))) ∷ (anended (aline [] (header [] (akey (w leaf.BareKey (codes "a")) ((further [] [] (w leaf.BareKey (codes "b"))) ∷ [])) []) [] None) (w leaf.Newline (10 ∷ []))) ∷ []) (aline [] blank [] None)))) (key (codes "a") ∷ index 2 ∷ []) ≡ None
+two_elements-find_none : node_number (node_paths (mentions_in (adoc false ((anended (aline [] (element [] (akey (w leaf.BareKey (codes "a")) []) []) [] None) (w leaf.Newline (10 ∷ []))) ∷ (anended (aline [] (header [] (akey (w leaf.BareKey (codes "a")) ((further [] [] (w leaf.BareKey (codes "b"))) ∷ [])) []) [] None) (w leaf.Newline (10 ∷ []))) ∷ (anended (aline [] (element [] (akey (w leaf.BareKey (codes "a")) []) []) [] None) (w leaf.Newline (10 ∷ []))) ∷ (anended (aline [] (header [] (akey (w leaf.BareKey (codes "a")) ((further [] [] (w leaf.BareKey (codes "b"))) ∷ [])) []) [] None) (w leaf.Newline (10 ∷ []))) ∷ []) (aline [] blank [] None)))) (key (codes "a") ∷ index 2 ∷ []) ≡ None
 two_elements-find_none = refl
 
 -- `[[a]]<LF>[a.b]<LF>[[a]]<LF>[a.b]<LF>`
 two_elements-infos : infos_in (adoc false ((anended (aline [] (element [] (akey (w leaf.BareKey (codes "a")) []) []) [] None) (w leaf.Newline (10 ∷ []))) ∷ (anended (aline [] (header [] (akey (w leaf.BareKey (codes "a")) ((further [] [] (w leaf.BareKey (codes "b"))) ∷ [])) []) [] None) (w leaf.Newline (10 ∷ []))) ∷ (anended (aline [] (element [] (akey (w leaf.BareKey (codes "a")) []) []) [] None) (w leaf.Newline (10 ∷ []))) ∷ (anended (aline [] (header [] (akey (w leaf.BareKey (codes "a")) ((further [] [] (w leaf.BareKey (codes "b"))) ∷ [])) []) [] None) (w leaf.Newline (10 ∷ []))) ∷ []) (aline [] blank [] None)) ≡
-    info kind.Table None None 0 false place.Root
-    ∷ info kind.Tables None (span 2 3) 4 false place.Tables
-    ∷ info kind.Table None None 0 true (place.Element 0)
-    ∷ info kind.Table None (span 9 10) 1 false (place.Header 1)
-    ∷ info kind.Table None None 0 true (place.Element 2)
-    ∷ info kind.Table None (span 21 22) 1 false (place.Header 3)
+    info kind.Table None None 0 false origin.Root
+    ∷ info kind.Tables None (span 2 3) 4 false origin.Tables
+    ∷ info kind.Table None None 0 true (origin.Element 0)
+    ∷ info kind.Table None (span 9 10) 1 false (origin.Header 1)
+    ∷ info kind.Table None None 0 true (origin.Element 2)
+    ∷ info kind.Table None (span 21 22) 1 false (origin.Header 3)
     ∷ []
 two_elements-infos = refl
 
@@ -266,15 +266,15 @@ header_below_inline : fault_in (adoc false ((anended (aline [] (header [] (akey 
 header_below_inline = refl
 
 -- `(BOM)[t]<LF>[t]`
-behind_bom : fault_in (adoc true ((anended (aline [] (header [] (akey (w leaf.BareKey (codes "t")) []) []) [] None) (w leaf.Newline (10 ∷ []))) ∷ []) (aline [] (header [] (akey (w leaf.BareKey (codes "t")) []) []) [] None)) ≡ fault 8 why.DefinedTwice
-behind_bom = refl
+after_bom : fault_in (adoc true ((anended (aline [] (header [] (akey (w leaf.BareKey (codes "t")) []) []) [] None) (w leaf.Newline (10 ∷ []))) ∷ []) (aline [] (header [] (akey (w leaf.BareKey (codes "t")) []) []) [] None)) ≡ fault 8 why.DefinedTwice
+after_bom = refl
 
 -- `# c`
 comment-ok : fault_in (adoc false [] (aline [] blank [] (Some (w leaf.Comment (codes "# c"))))) ≡ None
 comment-ok = refl
 
 -- `# c`
-comment-count : length (node_paths (said_in (adoc false [] (aline [] blank [] (Some (w leaf.Comment (codes "# c"))))))) ≡ 1
+comment-count : length (node_paths (mentions_in (adoc false [] (aline [] blank [] (Some (w leaf.Comment (codes "# c"))))))) ≡ 1
 comment-count = refl
 
 -- `1.2 = 3`
@@ -282,7 +282,7 @@ numeric_keys-ok : fault_in (adoc false [] (aline [] (keyval (aname (akey (w leaf
 numeric_keys-ok = refl
 
 -- `1.2 = 3`
-numeric_keys-count : length (node_paths (said_in (adoc false [] (aline [] (keyval (aname (akey (w leaf.BareKey (codes "1")) ((further [] [] (w leaf.BareKey (codes "2"))) ∷ [])) ((w leaf.Ws (codes " ")) ∷ []) ((w leaf.Ws (codes " ")) ∷ [])) (avalue (scalar (w leaf.Integer (codes "3"))) none)) [] None)))) ≡ 3
+numeric_keys-count : length (node_paths (mentions_in (adoc false [] (aline [] (keyval (aname (akey (w leaf.BareKey (codes "1")) ((further [] [] (w leaf.BareKey (codes "2"))) ∷ [])) ((w leaf.Ws (codes " ")) ∷ []) ((w leaf.Ws (codes " ")) ∷ [])) (avalue (scalar (w leaf.Integer (codes "3"))) none)) [] None)))) ≡ 3
 numeric_keys-count = refl
 
 -- `"" = ''`
@@ -290,7 +290,7 @@ empty_key-ok : fault_in (adoc false [] (aline [] (keyval (aname (akey (w leaf.Ba
 empty_key-ok = refl
 
 -- `"" = ''`
-empty_key-count : length (node_paths (said_in (adoc false [] (aline [] (keyval (aname (akey (w leaf.Basic (34 ∷ 34 ∷ [])) []) ((w leaf.Ws (codes " ")) ∷ []) ((w leaf.Ws (codes " ")) ∷ [])) (avalue (scalar (w leaf.Literal (codes "''"))) none)) [] None)))) ≡ 2
+empty_key-count : length (node_paths (mentions_in (adoc false [] (aline [] (keyval (aname (akey (w leaf.Basic (34 ∷ 34 ∷ [])) []) ((w leaf.Ws (codes " ")) ∷ []) ((w leaf.Ws (codes " ")) ∷ [])) (avalue (scalar (w leaf.Literal (codes "''"))) none)) [] None)))) ≡ 2
 empty_key-count = refl
 
 -- `a . 'b' . "c" = 1`
@@ -298,7 +298,7 @@ spaced_keys-ok : fault_in (adoc false [] (aline [] (keyval (aname (akey (w leaf.
 spaced_keys-ok = refl
 
 -- `a . 'b' . "c" = 1`
-spaced_keys-count : length (node_paths (said_in (adoc false [] (aline [] (keyval (aname (akey (w leaf.BareKey (codes "a")) ((further ((w leaf.Ws (codes " ")) ∷ []) ((w leaf.Ws (codes " ")) ∷ []) (w leaf.Literal (codes "'b'"))) ∷ (further ((w leaf.Ws (codes " ")) ∷ []) ((w leaf.Ws (codes " ")) ∷ []) (w leaf.Basic (34 ∷ 99 ∷ 34 ∷ []))) ∷ [])) ((w leaf.Ws (codes " ")) ∷ []) ((w leaf.Ws (codes " ")) ∷ [])) (avalue (scalar (w leaf.Integer (codes "1"))) none)) [] None)))) ≡ 4
+spaced_keys-count : length (node_paths (mentions_in (adoc false [] (aline [] (keyval (aname (akey (w leaf.BareKey (codes "a")) ((further ((w leaf.Ws (codes " ")) ∷ []) ((w leaf.Ws (codes " ")) ∷ []) (w leaf.Literal (codes "'b'"))) ∷ (further ((w leaf.Ws (codes " ")) ∷ []) ((w leaf.Ws (codes " ")) ∷ []) (w leaf.Basic (34 ∷ 99 ∷ 34 ∷ []))) ∷ [])) ((w leaf.Ws (codes " ")) ∷ []) ((w leaf.Ws (codes " ")) ∷ [])) (avalue (scalar (w leaf.Integer (codes "1"))) none)) [] None)))) ≡ 4
 spaced_keys-count = refl
 
 -- `a = [1, [2, 'x'],]`
@@ -306,7 +306,7 @@ nested_arrays-ok : fault_in (adoc false [] (aline [] (keyval (aname (akey (w lea
 nested_arrays-ok = refl
 
 -- `a = [1, [2, 'x'],]`
-nested_arrays-count : length (node_paths (said_in (adoc false [] (aline [] (keyval (aname (akey (w leaf.BareKey (codes "a")) []) ((w leaf.Ws (codes " ")) ∷ []) ((w leaf.Ws (codes " ")) ∷ [])) (avalue (array []) (entry None (scalar (w leaf.Integer (codes "1"))) none [] (Some ((w leaf.Ws (codes " ")) ∷ [])) (entry None (array []) (entry None (scalar (w leaf.Integer (codes "2"))) none [] (Some ((w leaf.Ws (codes " ")) ∷ [])) (entry None (scalar (w leaf.Literal (codes "'x'"))) none [] None none)) [] (Some []) none)))) [] None)))) ≡ 6
+nested_arrays-count : length (node_paths (mentions_in (adoc false [] (aline [] (keyval (aname (akey (w leaf.BareKey (codes "a")) []) ((w leaf.Ws (codes " ")) ∷ []) ((w leaf.Ws (codes " ")) ∷ [])) (avalue (array []) (entry None (scalar (w leaf.Integer (codes "1"))) none [] (Some ((w leaf.Ws (codes " ")) ∷ [])) (entry None (array []) (entry None (scalar (w leaf.Integer (codes "2"))) none [] (Some ((w leaf.Ws (codes " ")) ∷ [])) (entry None (scalar (w leaf.Literal (codes "'x'"))) none [] None none)) [] (Some []) none)))) [] None)))) ≡ 6
 nested_arrays-count = refl
 
 -- `a = {b.c = 1, b.d = {}}`
@@ -314,7 +314,7 @@ dotted_in_braces-ok : fault_in (adoc false [] (aline [] (keyval (aname (akey (w 
 dotted_in_braces-ok = refl
 
 -- `a = {b.c = 1, b.d = {}}`
-dotted_in_braces-count : length (node_paths (said_in (adoc false [] (aline [] (keyval (aname (akey (w leaf.BareKey (codes "a")) []) ((w leaf.Ws (codes " ")) ∷ []) ((w leaf.Ws (codes " ")) ∷ [])) (avalue (inline []) (entry (Some (aname (akey (w leaf.BareKey (codes "b")) ((further [] [] (w leaf.BareKey (codes "c"))) ∷ [])) ((w leaf.Ws (codes " ")) ∷ []) ((w leaf.Ws (codes " ")) ∷ []))) (scalar (w leaf.Integer (codes "1"))) none [] (Some ((w leaf.Ws (codes " ")) ∷ [])) (entry (Some (aname (akey (w leaf.BareKey (codes "b")) ((further [] [] (w leaf.BareKey (codes "d"))) ∷ [])) ((w leaf.Ws (codes " ")) ∷ []) ((w leaf.Ws (codes " ")) ∷ []))) (inline []) none [] None none)))) [] None)))) ≡ 5
+dotted_in_braces-count : length (node_paths (mentions_in (adoc false [] (aline [] (keyval (aname (akey (w leaf.BareKey (codes "a")) []) ((w leaf.Ws (codes " ")) ∷ []) ((w leaf.Ws (codes " ")) ∷ [])) (avalue (inline []) (entry (Some (aname (akey (w leaf.BareKey (codes "b")) ((further [] [] (w leaf.BareKey (codes "c"))) ∷ [])) ((w leaf.Ws (codes " ")) ∷ []) ((w leaf.Ws (codes " ")) ∷ []))) (scalar (w leaf.Integer (codes "1"))) none [] (Some ((w leaf.Ws (codes " ")) ∷ [])) (entry (Some (aname (akey (w leaf.BareKey (codes "b")) ((further [] [] (w leaf.BareKey (codes "d"))) ∷ [])) ((w leaf.Ws (codes " ")) ∷ []) ((w leaf.Ws (codes " ")) ∷ []))) (inline []) none [] None none)))) [] None)))) ≡ 5
 dotted_in_braces-count = refl
 
 -- `[a]<LF>[b]<LF>[a.c]<LF>`
@@ -322,7 +322,7 @@ three_headers-ok : fault_in (adoc false ((anended (aline [] (header [] (akey (w 
 three_headers-ok = refl
 
 -- `[a]<LF>[b]<LF>[a.c]<LF>`
-three_headers-count : length (node_paths (said_in (adoc false ((anended (aline [] (header [] (akey (w leaf.BareKey (codes "a")) []) []) [] None) (w leaf.Newline (10 ∷ []))) ∷ (anended (aline [] (header [] (akey (w leaf.BareKey (codes "b")) []) []) [] None) (w leaf.Newline (10 ∷ []))) ∷ (anended (aline [] (header [] (akey (w leaf.BareKey (codes "a")) ((further [] [] (w leaf.BareKey (codes "c"))) ∷ [])) []) [] None) (w leaf.Newline (10 ∷ []))) ∷ []) (aline [] blank [] None)))) ≡ 4
+three_headers-count : length (node_paths (mentions_in (adoc false ((anended (aline [] (header [] (akey (w leaf.BareKey (codes "a")) []) []) [] None) (w leaf.Newline (10 ∷ []))) ∷ (anended (aline [] (header [] (akey (w leaf.BareKey (codes "b")) []) []) [] None) (w leaf.Newline (10 ∷ []))) ∷ (anended (aline [] (header [] (akey (w leaf.BareKey (codes "a")) ((further [] [] (w leaf.BareKey (codes "c"))) ∷ [])) []) [] None) (w leaf.Newline (10 ∷ []))) ∷ []) (aline [] blank [] None)))) ≡ 4
 three_headers-count = refl
 
 -- `[[a]]<LF>[[a.b]]<LF>[[a]]<LF>[[a.b]]<LF>`
@@ -330,7 +330,7 @@ nested_elements-ok : fault_in (adoc false ((anended (aline [] (element [] (akey 
 nested_elements-ok = refl
 
 -- `[[a]]<LF>[[a.b]]<LF>[[a]]<LF>[[a.b]]<LF>`
-nested_elements-count : length (node_paths (said_in (adoc false ((anended (aline [] (element [] (akey (w leaf.BareKey (codes "a")) []) []) [] None) (w leaf.Newline (10 ∷ []))) ∷ (anended (aline [] (element [] (akey (w leaf.BareKey (codes "a")) ((further [] [] (w leaf.BareKey (codes "b"))) ∷ [])) []) [] None) (w leaf.Newline (10 ∷ []))) ∷ (anended (aline [] (element [] (akey (w leaf.BareKey (codes "a")) []) []) [] None) (w leaf.Newline (10 ∷ []))) ∷ (anended (aline [] (element [] (akey (w leaf.BareKey (codes "a")) ((further [] [] (w leaf.BareKey (codes "b"))) ∷ [])) []) [] None) (w leaf.Newline (10 ∷ []))) ∷ []) (aline [] blank [] None)))) ≡ 8
+nested_elements-count : length (node_paths (mentions_in (adoc false ((anended (aline [] (element [] (akey (w leaf.BareKey (codes "a")) []) []) [] None) (w leaf.Newline (10 ∷ []))) ∷ (anended (aline [] (element [] (akey (w leaf.BareKey (codes "a")) ((further [] [] (w leaf.BareKey (codes "b"))) ∷ [])) []) [] None) (w leaf.Newline (10 ∷ []))) ∷ (anended (aline [] (element [] (akey (w leaf.BareKey (codes "a")) []) []) [] None) (w leaf.Newline (10 ∷ []))) ∷ (anended (aline [] (element [] (akey (w leaf.BareKey (codes "a")) ((further [] [] (w leaf.BareKey (codes "b"))) ∷ [])) []) [] None) (w leaf.Newline (10 ∷ []))) ∷ []) (aline [] blank [] None)))) ≡ 8
 nested_elements-count = refl
 
 -- `[x.y.z.w]<LF>[x]<LF>`
@@ -338,7 +338,7 @@ long_header-ok : fault_in (adoc false ((anended (aline [] (header [] (akey (w le
 long_header-ok = refl
 
 -- `[x.y.z.w]<LF>[x]<LF>`
-long_header-count : length (node_paths (said_in (adoc false ((anended (aline [] (header [] (akey (w leaf.BareKey (codes "x")) ((further [] [] (w leaf.BareKey (codes "y"))) ∷ (further [] [] (w leaf.BareKey (codes "z"))) ∷ (further [] [] (w leaf.BareKey (codes "w"))) ∷ [])) []) [] None) (w leaf.Newline (10 ∷ []))) ∷ (anended (aline [] (header [] (akey (w leaf.BareKey (codes "x")) []) []) [] None) (w leaf.Newline (10 ∷ []))) ∷ []) (aline [] blank [] None)))) ≡ 5
+long_header-count : length (node_paths (mentions_in (adoc false ((anended (aline [] (header [] (akey (w leaf.BareKey (codes "x")) ((further [] [] (w leaf.BareKey (codes "y"))) ∷ (further [] [] (w leaf.BareKey (codes "z"))) ∷ (further [] [] (w leaf.BareKey (codes "w"))) ∷ [])) []) [] None) (w leaf.Newline (10 ∷ []))) ∷ (anended (aline [] (header [] (akey (w leaf.BareKey (codes "x")) []) []) [] None) (w leaf.Newline (10 ∷ []))) ∷ []) (aline [] blank [] None)))) ≡ 5
 long_header-count = refl
 
 -- ``
@@ -346,7 +346,7 @@ empty-ok : fault_in (adoc false [] (aline [] blank [] None)) ≡ None
 empty-ok = refl
 
 -- ``
-empty-count : length (node_paths (said_in (adoc false [] (aline [] blank [] None)))) ≡ 1
+empty-count : length (node_paths (mentions_in (adoc false [] (aline [] blank [] None)))) ≡ 1
 empty-count = refl
 
 -- `{x=1,x=2}`

@@ -1,31 +1,31 @@
--- The numbers of what is said, by what stands before it: statements, values and key parts.
+-- The numbers of what is said, by what comes before it: statements, values and key parts.
 use Rattle.std.specs.Prelude.{ℕ, ◌+◌, Bool, true, false, List, [], ◌∷◌, ◌++◌, fold}
 use Rattle.std.specs.List.{filter_map}
 use Rattle.keep_syntax.specs.Tree.{Line, Document}
-use Rattle.keep_meaning.specs.Marks.{Saying, value, begun, passed, item, Mention, Statement, Reading, statement_mentions, next_reading, start}
+use Rattle.keep_meaning.specs.Marks.{MentionKind, value, begun, passed, item, Mention, Statement, Reading, statement_mentions, next_reading, start}
 use Rattle.keep_meaning.specs.Meaning.{statement_of, lines}
 use Rattle.std.specs.Prelude.{Option}
 
--- how many of each stand before
+-- how many of each come before
 pub record Count : Type 0 where
   pub statements : ℕ
   pub values : ℕ
   pub keys : ℕ
 
--- A mention, with what stands before it. So the three numbers are those of its statement, of the value that it tells (for
--- a keyval on its way the keyval's value), and of the key part that makes it.
+-- A mention, with what comes before it. So the three numbers are those of its statement, of the value that it tells
+-- (for a keyval on its way the keyval's value), and of the key part that makes it.
 pub record Numbered : Type 0 where
   pub mention : Mention
   pub before : Count
 
 -- said by the value's own text: a keyval's value or an item
-abbrev pub is_value : Saying → Bool
+abbrev pub is_value : MentionKind → Bool
 is_value (value fact) = true
 is_value (item fact) = true
 is_value _ = false
 
 -- said by a key part
-abbrev pub is_mark : Saying → Bool
+abbrev pub is_mark : MentionKind → Bool
 is_mark begun = false
 is_mark passed = false
 is_mark (item fact) = false
@@ -35,20 +35,20 @@ abbrev pub one_if : Bool → ℕ
 one_if true = 1
 one_if false = 0
 
--- behind a mention, in the same statement
-abbrev pub count_behind : Count → Mention → Count
-count_behind c m = record c { values = c.values + one_if (is_value m.says); keys = c.keys + one_if (is_mark m.says) }
+-- after a mention, in the same statement
+abbrev pub count_with_mention : Count → Mention → Count
+count_with_mention c m = record c { values = c.values + one_if (is_value m.kind); keys = c.keys + one_if (is_mark m.kind) }
 
 -- the mentions of one statement, or of one value, with their numbers
 abbrev pub numbered_mentions : Count → List Mention → List Numbered
 numbered_mentions c [] = []
-numbered_mentions c (m ∷ ms) = record { mention = m; before = c } ∷ numbered_mentions (count_behind c m) ms
+numbered_mentions c (m ∷ ms) = record { mention = m; before = c } ∷ numbered_mentions (count_with_mention c m) ms
 
--- behind them
+-- after them
 abbrev pub count_after : Count → List Mention → Count
-count_after c ms = fold count_behind c ms
+count_after c ms = fold count_with_mention c ms
 
--- behind a statement with these mentions
+-- after a statement with these mentions
 abbrev pub next_count : Count → List Mention → Count
 next_count c ms = let d = count_after c ms in record d { statements = d.statements + 1 }
 
@@ -60,7 +60,7 @@ abbrev pub numbered_from : Count → Reading → List Statement → List Numbere
 numbered_from c r [] = []
 numbered_from c r (s ∷ ss) = numbered_mentions c (statement_mentions r s) ++ numbered_from (next_count c (statement_mentions r s)) (next_reading r s) ss
 
--- behind statements
+-- after statements
 abbrev pub count_from : Count → Reading → List Statement → Count
 count_from c r [] = c
 count_from c r (s ∷ ss) = count_from (next_count c (statement_mentions r s)) (next_reading r s) ss

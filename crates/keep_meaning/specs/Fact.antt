@@ -1,4 +1,4 @@
--- What stands at a path, with what it means.
+-- What is at a path, with what it means.
 use Rattle.std.specs.Prelude.{ℕ, ℤ, Bool, true, false, List}
 use Rattle.keep_token.specs.declared.leaf.Leaf.{Leaf}
 
@@ -12,7 +12,7 @@ pub data Fact : Type 0 where
   inline : Fact
   table : Fact
 
--- what is told by the text of a value: all but a table of headers
+-- what is stated by the text of a value: all but a table of headers
 abbrev pub is_value_fact : Fact → Bool
 is_value_fact table = false
 is_value_fact _ = true

@@ -8,7 +8,7 @@ use Rattle.keep_meaning.specs.declared.key_text.KeyText.{KeyText}
 use Rattle.keep_meaning.specs.declared.key_text.KeyText.TheVariants.{Plain, Decoded}
 use Rattle.keep_meaning.specs.Meaning.{string_value}
 
--- what stands at a place
+-- what is at a place
 abbrev pub text_at : List ℕ → Span → List ℕ
 text_at bytes span = slice_range bytes span.start span.end
 
@@ -20,7 +20,7 @@ part_text bytes p = string_value p.leaf (text_at bytes p.span)
 abbrev pub keys_in : List ℕ → List KeyPart → ℕ → ℕ → List (List ℕ)
 keys_in bytes parts first count = map (part_text bytes) (take count (drop first parts))
 
--- a key part stands there, between characters
+-- a key part is there, between characters
 pub record IsKeyAt (bytes : List ℕ) (p : KeyPart) : Type 0 where
   pub start : IsCharBoundary bytes p.span.start
   pub end : IsCharBoundary bytes p.span.end

@@ -8,25 +8,25 @@ use Rattle.keep_meaning.specs.Fact.{Fact, table}
 use Rattle.keep_path.specs.Path.{Part, key, index, same_path}
 use Rattle.keep_meaning.specs.Rules.{Mark}
 
--- What the text says of a path at one place.
-pub data Saying : Type 0 where
-  through : Saying  -- a header goes on from it
-  past : Saying  -- a header goes on from its last element
-  define : Saying  -- `[..]` defines it
-  element : Saying  -- `[[..]]` names it
-  dotted : Saying  -- a keyval goes on from it
-  value : Fact → Saying  -- a keyval gives it this value
-  begun : Saying  -- it is the element that a `[[..]]` begins
-  passed : Saying  -- it is the element that a header goes past
-  item : Fact → Saying  -- it is this item of an array
+-- What kind of mention a path has at one place of the text.
+pub data MentionKind : Type 0 where
+  through : MentionKind  -- a header continues from it
+  past : MentionKind  -- a header continues from its last element
+  define : MentionKind  -- `[..]` defines it
+  element : MentionKind  -- `[[..]]` names it
+  dotted : MentionKind  -- a keyval continues from it
+  value : Fact → MentionKind  -- a keyval gives it this value
+  begun : MentionKind  -- it is the element that a `[[..]]` begins
+  passed : MentionKind  -- it is the element that a header goes past
+  item : Fact → MentionKind  -- it is this item of an array
 
 pub record Mention : Type 0 where
   pub path : List Part
-  pub says : Saying
+  pub kind : MentionKind
 
--- seen from outside what stands at a path
+-- seen from outside what is at a path
 abbrev pub below : List Part → Mention → Mention
-below at m = record { path = at ++ m.path; says = m.says }
+below at m = record { path = at ++ m.path; kind = m.kind }
 
 -- A statement: `[..]`, `[[..]]` with their keys, or a keyval. A keyval's mentions have paths that begin at its body.
 pub data Statement : Type 0 where
@@ -46,8 +46,8 @@ entered_path tables path = if 0 == elements_of path tables then path else path +
 abbrev pub passing_mentions : List (List Part) → List Part → List Mention
 passing_mentions tables path =
     if 0 == elements_of path tables
-    then record { path = path; says = through } ∷ []
-    else record { path = path; says = past } ∷ record { path = entered_path tables path; says = passed } ∷ []
+    then record { path = path; kind = through } ∷ []
+    else record { path = path; kind = past } ∷ record { path = entered_path tables path; kind = passed } ∷ []
 
 -- the full path of a header with these keys; `at` is the path so far
 abbrev pub header_path : List (List Part) → List Part → List (List ℕ) → List Part
@@ -67,31 +67,31 @@ pub record Reading : Type 0 where
   pub tables : List (List Part)
   pub body : List Part
 
--- What a statement says. A `[[..]]` line begins the element behind those that earlier such lines began (TOML 1.0.0,
--- Array of Tables); a keyval's paths go on from its body (TOML 1.0.0, Table).
+-- What a statement says. A `[[..]]` line begins the element after those that earlier such lines began (TOML 1.0.0,
+-- Array of Tables); a keyval's paths continue from its body (TOML 1.0.0, Table).
 abbrev pub statement_mentions : Reading → Statement → List Mention
-statement_mentions r (header keys) = header_way r.tables [] keys ++ record { path = header_path r.tables [] keys; says = define } ∷ []
+statement_mentions r (header keys) = header_way r.tables [] keys ++ record { path = header_path r.tables [] keys; kind = define } ∷ []
 statement_mentions r (element_header keys) =
     let path = header_path r.tables [] keys in
     header_way r.tables [] keys
-    ++ record { path = path; says = element }
-    ∷ record { path = path ++ index (elements_of path r.tables) ∷ []; says = begun } ∷ []
-statement_mentions r (keyval inside) = map (below r.body) inside
+    ++ record { path = path; kind = element }
+    ∷ record { path = path ++ index (elements_of path r.tables) ∷ []; kind = begun } ∷ []
+statement_mentions r (keyval nested) = map (below r.body) nested
 
--- how far the reading is behind a statement
+-- how far the reading is after a statement
 abbrev pub next_reading : Reading → Statement → Reading
 next_reading r (header keys) = record r { body = header_path r.tables [] keys }
 next_reading r (element_header keys) =
     let path = header_path r.tables [] keys in
     record r { tables = r.tables ++ path ∷ []; body = path ++ index (elements_of path r.tables) ∷ [] }
-next_reading r (keyval inside) = r
+next_reading r (keyval nested) = r
 
 -- what statements say, from a reading on
 abbrev pub mentions_from : Reading → List Statement → List Mention
 mentions_from r [] = []
 mentions_from r (s ∷ ss) = statement_mentions r s ++ mentions_from (next_reading r s) ss
 
--- how far the reading is behind statements
+-- how far the reading is after statements
 abbrev pub reading_after : Reading → List Statement → Reading
 reading_after r [] = r
 reading_after r (s ∷ ss) = reading_after (next_reading r s) ss
@@ -104,7 +104,7 @@ abbrev pub mentions : List Statement → List Mention
 mentions statements = mentions_from start statements
 
 -- the role of a key part, where a key part says it
-abbrev pub role_of : Saying → Option Role
+abbrev pub role_of : MentionKind → Option Role
 role_of through = Some Through
 role_of past = Some Past
 role_of define = Some Define
@@ -120,7 +120,7 @@ with_path path None = None
 with_path path (Some role) = Some (record { role = role; path = path })
 
 abbrev pub mark_of : Mention → Option Mark
-mark_of m = with_path m.path (role_of m.says)
+mark_of m = with_path m.path (role_of m.kind)
 
 -- the marks: one for each key part, in the order of the text
 abbrev pub marks : List Mention → List Mark
@@ -128,8 +128,8 @@ marks = filter_map mark_of
 
 -- ---- the tree
 
--- the fact that a saying tells
-abbrev pub fact_of : Saying → Option Fact
+-- the fact that a mention kind states
+abbrev pub fact_of : MentionKind → Option Fact
 fact_of (value fact) = Some fact
 fact_of (item fact) = Some fact
 fact_of define = Some table
@@ -145,7 +145,7 @@ with_fact path None = None
 with_fact path (Some fact) = Some (record { path = path; fact = fact })
 
 abbrev pub pair_of : Mention → Option Pair
-pair_of m = with_fact m.path (fact_of m.says)
+pair_of m = with_fact m.path (fact_of m.kind)
 
 -- The tree: the pairs of path and fact, in the order of the text.
 abbrev pub tree : List Mention → List Pair

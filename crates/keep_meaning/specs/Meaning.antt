@@ -12,14 +12,14 @@ use Rattle.keep_meaning.specs.Fact as fact
 use Rattle.keep_meaning.specs.Fact.{Fact}
 use Rattle.keep_path.specs.Path.{Part, key, index}
 use Rattle.keep_meaning.specs.Marks as marks
-use Rattle.keep_meaning.specs.Marks.{Statement, Mention, Saying, below, Reading}
+use Rattle.keep_meaning.specs.Marks.{Statement, Mention, MentionKind, below, Reading}
 
 -- ---- what a string leaf means, from left to right (TOML 1.0.0, String)
 
 abbrev pub is_blank_byte : ℕ → Bool
 is_blank_byte c = is_ws c || (c == 0x0A || c == 0x0D)
 
--- how many bytes belong to the escape behind a backslash
+-- how many bytes belong to the escape after a backslash
 abbrev pub escape_length : List ℕ → ℕ
 escape_length [] = 0
 escape_length (c ∷ cs) = if is_blank_byte c then prefix_len is_blank_byte (c ∷ cs) else 1 + digit_count Wide c
@@ -40,11 +40,11 @@ unescaped_text n (c ∷ cs) = elim n [
   | suc m ↦ unescaped_text m cs
 ]
 
--- a newline right behind the opening is left out (TOML 1.0.0, String)
+-- a newline right after the opening is left out (TOML 1.0.0, String)
 abbrev pub without_newline : List ℕ → List ℕ
 without_newline text = if slice_index text 0 == 0x0A then drop 1 text else if slice_index text 0 == 0x0D then drop 2 text else text
 
--- what stands between n marks on each side
+-- what is between n marks on each side
 abbrev pub between_marks : ℕ → List ℕ → List ℕ
 between_marks n text = take (length text - (n + n)) (drop n text)
 
@@ -81,7 +81,7 @@ body_fact (scalar w) = scalar_fact w.leaf w.text
 body_fact (array first) = fact.array
 body_fact (inline first) = fact.inline
 
--- ---- what entries say, by paths that begin at what they stand in
+-- ---- what entries say, by paths that begin at what they are in
 
 -- the path of an entry: its keys, or its number in the array
 abbrev pub step : ℕ → Option Name → List Part
@@ -89,57 +89,57 @@ step n None = index n ∷ []
 step n (Some name) = map key (keys_of name.key)
 
 -- What a value says of itself, and what is said inside it, by paths that begin at it.
-abbrev pub valued_mentions : Saying → List Mention → List Mention
-valued_mentions says inside = record { path = []; says = says } ∷ inside
+abbrev pub valued_mentions : MentionKind → List Mention → List Mention
+valued_mentions mention_kind nested = record { path = []; kind = mention_kind } ∷ nested
 
--- The same seen from where its key begins: the key goes on from each path on its way.
+-- The mentions of a value, seen from where its key begins: the key continues from each path on its way.
 abbrev pub keyed_mentions : List (List ℕ) → List Mention → List Mention
 keyed_mentions [] ms = ms
 keyed_mentions (k ∷ []) ms = map (below (key k ∷ [])) ms
-keyed_mentions (k ∷ l ∷ ks) ms = map (below (key k ∷ [])) (record { path = []; says = marks.dotted } ∷ keyed_mentions (l ∷ ks) ms)
+keyed_mentions (k ∷ l ∷ ks) ms = map (below (key k ∷ [])) (record { path = []; kind = marks.dotted } ∷ keyed_mentions (l ∷ ks) ms)
 
--- an item stands at its number, a keyval at its key
+-- an item is at its number, a keyval at its key
 abbrev pub entry_mentions : ℕ → Option Name → Fact → List Mention → List Mention
-entry_mentions n None f inside = map (below (index n ∷ [])) (valued_mentions (marks.item f) inside)
-entry_mentions n (Some name) f inside = keyed_mentions (keys_of name.key) (valued_mentions (marks.value f) inside)
+entry_mentions n None f nested = map (below (index n ∷ [])) (valued_mentions (marks.item f) nested)
+entry_mentions n (Some name) f nested = keyed_mentions (keys_of name.key) (valued_mentions (marks.value f) nested)
 
 -- what entries say; n is the number of the first item (TOML 1.0.0: Array, Inline Table)
-abbrev pub entries_said : ℕ → Entries → List Mention
-entries_said n none = []
-entries_said n (entry name body inside after comma rest) =
-    entry_mentions n name (body_fact body) (entries_said 0 inside) ++ entries_said (n + 1) rest
+abbrev pub entries_mentions : ℕ → Entries → List Mention
+entries_mentions n none = []
+entries_mentions n (entry name body nested after comma rest) =
+    entry_mentions n name (body_fact body) (entries_mentions 0 nested) ++ entries_mentions (n + 1) rest
 
 -- a line's keyval
-abbrev pub keyval_said : Name → Value → List Mention
-keyval_said name v = entry_mentions 0 (Some name) (body_fact v.body) (entries_said 0 v.inside)
+abbrev pub keyval_mentions : Name → Value → List Mention
+keyval_mentions name v = entry_mentions 0 (Some name) (body_fact v.body) (entries_mentions 0 v.nested)
 
 -- What a value alone says of itself and of what is in it, by paths that begin at the value.
-abbrev pub value_said : Value → List Mention
-value_said v = valued_mentions (marks.item (body_fact v.body)) (entries_said 0 v.inside)
+abbrev pub mentions_of_value : Value → List Mention
+mentions_of_value v = valued_mentions (marks.item (body_fact v.body)) (entries_mentions 0 v.nested)
 
 -- ---- statements
 
 abbrev pub statement_of : Content → Option Statement
 statement_of blank = None
-statement_of (keyval name value) = Some (marks.keyval (keyval_said name value))
+statement_of (keyval name value) = Some (marks.keyval (keyval_mentions name value))
 statement_of (header before k behind) = Some (marks.header (keys_of k))
 statement_of (element before k behind) = Some (marks.element_header (keys_of k))
 
--- what a line says, and how the reading stands behind it
-abbrev pub line_said : Reading → Line → List Mention
-line_said r l = elim (statement_of l.content) [ None ↦ [] | Some s ↦ marks.statement_mentions r s ]
+-- what a line says, and how the reading is after it
+abbrev pub line_mentions : Reading → Line → List Mention
+line_mentions r l = elim (statement_of l.content) [ None ↦ [] | Some s ↦ marks.statement_mentions r s ]
 
-abbrev pub behind_line : Reading → Line → Reading
-behind_line r l = elim (statement_of l.content) [ None ↦ r | Some s ↦ marks.next_reading r s ]
+abbrev pub after_line : Reading → Line → Reading
+after_line r l = elim (statement_of l.content) [ None ↦ r | Some s ↦ marks.next_reading r s ]
 
 -- of lines, in their order
-abbrev pub lines_said : Reading → List Line → List Mention
-lines_said r [] = []
-lines_said r (l ∷ ls) = line_said r l ++ lines_said (behind_line r l) ls
+abbrev pub lines_mentions : Reading → List Line → List Mention
+lines_mentions r [] = []
+lines_mentions r (l ∷ ls) = line_mentions r l ++ lines_mentions (after_line r l) ls
 
-abbrev pub reading_behind : Reading → List Line → Reading
-reading_behind r [] = r
-reading_behind r (l ∷ ls) = reading_behind (behind_line r l) ls
+abbrev pub reading_after_lines : Reading → List Line → Reading
+reading_after_lines r [] = r
+reading_after_lines r (l ∷ ls) = reading_after_lines (after_line r l) ls
 
 abbrev pub line_of : Ended → Line
 line_of e = e.line
@@ -148,5 +148,5 @@ abbrev pub lines : Document → List Line
 lines s = map line_of s.ended ++ s.last ∷ []
 
 -- all that a document says
-abbrev pub said_in : Document → List Mention
-said_in s = lines_said marks.start (lines s)
+abbrev pub mentions_in : Document → List Mention
+mentions_in s = lines_mentions marks.start (lines s)

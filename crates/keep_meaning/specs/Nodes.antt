@@ -11,13 +11,13 @@ use Rattle.keep_syntax.specs.Tree.{Document}
 use Rattle.keep_syntax.specs.Numbered as syntax
 use Rattle.keep_meaning.specs.declared.node.Kind.{Kind}
 use Rattle.keep_meaning.specs.declared.node.Kind.TheVariants as kind
-use Rattle.keep_meaning.specs.declared.node.Place.{Place}
-use Rattle.keep_meaning.specs.declared.node.Place.TheVariants as place
+use Rattle.keep_meaning.specs.declared.node.Origin.{Origin}
+use Rattle.keep_meaning.specs.declared.node.Origin.TheVariants as origin
 use Rattle.keep_meaning.specs.declared.node.NodeInfo.{NodeInfo}
 use Rattle.keep_meaning.specs.Fact as fact
 use Rattle.keep_meaning.specs.Fact.{Fact}
 use Rattle.keep_path.specs.Path.{Part, same_part, same_path}
-use Rattle.keep_meaning.specs.Marks.{Saying, through, define, element, dotted, begun, passed, Mention, marks, fact_of}
+use Rattle.keep_meaning.specs.Marks.{MentionKind, through, define, element, dotted, begun, passed, Mention, marks, fact_of}
 use Rattle.keep_meaning.specs.Counts.{Count, Numbered, is_value, is_mark, numbered_in}
 
 -- ---- what is said of a path
@@ -25,8 +25,8 @@ use Rattle.keep_meaning.specs.Counts.{Count, Numbered, is_value, is_mark, number
 abbrev pub is_at : List Part → Mention → Bool
 is_at path m = same_path m.path path
 
-abbrev pub says_at : List Part → List Mention → List Saying
-says_at path ms = map (λ m. m.says) (filter (is_at path) ms)
+abbrev pub kinds_at : List Part → List Mention → List MentionKind
+kinds_at path ms = map (λ m. m.kind) (filter (is_at path) ms)
 
 abbrev pub is_root : List Part → Bool
 is_root [] = true
@@ -40,37 +40,37 @@ abbrev pub first_of : List Fact → Option Fact
 first_of [] = None
 first_of (f ∷ fs) = Some f
 
--- what stands at the path, if its text or a header says so
+-- what is at the path, if its text or a header says so
 abbrev pub fact_at : List Part → List Mention → Option Fact
-fact_at path ms = first_of (filter_map fact_of (says_at path ms))
+fact_at path ms = first_of (filter_map fact_of (kinds_at path ms))
 
-abbrev pub is_through : Saying → Bool
+abbrev pub is_through : MentionKind → Bool
 is_through through = true
 is_through _ = false
 
-abbrev pub is_define : Saying → Bool
+abbrev pub is_define : MentionKind → Bool
 is_define define = true
 is_define _ = false
 
-abbrev pub is_element : Saying → Bool
+abbrev pub is_element : MentionKind → Bool
 is_element element = true
 is_element _ = false
 
-abbrev pub is_dotted : Saying → Bool
+abbrev pub is_dotted : MentionKind → Bool
 is_dotted dotted = true
 is_dotted _ = false
 
-abbrev pub is_begun : Saying → Bool
+abbrev pub is_begun : MentionKind → Bool
 is_begun begun = true
 is_begun _ = false
 
-abbrev pub is_passed : Saying → Bool
+abbrev pub is_passed : MentionKind → Bool
 is_passed passed = true
 is_passed _ = false
 
 -- such a thing is said of the path
-abbrev pub has : (Saying → Bool) → List Part → List Mention → Bool
-has is path ms = list_any is (says_at path ms)
+abbrev pub has : (MentionKind → Bool) → List Part → List Mention → Bool
+has is path ms = list_any is (kinds_at path ms)
 
 -- how many key parts name the path
 abbrev pub mark_count : List Part → List Mention → ℕ
@@ -124,11 +124,11 @@ kind_or_table None = kind.Table
 kind_or_table (Some f) = fact_kind f
 
 -- the kind of a node of which this is said
-abbrev pub kind_said : List Saying → Kind
-kind_said says = if list_any is_element says then kind.Tables else kind_or_table (first_of (filter_map fact_of says))
+abbrev pub mentioned_kind : List MentionKind → Kind
+mentioned_kind kinds = if list_any is_element kinds then kind.Tables else kind_or_table (first_of (filter_map fact_of kinds))
 
 abbrev pub kind_at : List Part → List Mention → Kind
-kind_at path ms = kind_said (says_at path ms)
+kind_at path ms = mentioned_kind (kinds_at path ms)
 
 -- ---- what is known of a node: from what is said at its path alone
 
@@ -141,16 +141,16 @@ numbered_at path ns = filter (is_numbered_at path) ns
 abbrev pub mention_of : Numbered → Mention
 mention_of n = n.mention
 
-abbrev pub saying_of : Numbered → Saying
-saying_of n = n.mention.says
+abbrev pub mention_kind_of : Numbered → MentionKind
+mention_kind_of n = n.mention.kind
 
--- the number that the last saying of one sort has, and the first
-abbrev pub last_number : (Saying → Bool) → (Count → ℕ) → List Numbered → Option ℕ
-last_number is number ns = fold (λ known n. if is n.mention.says then Some (number n.before) else known) None ns
+-- the number that the last mention of one kind has, and the first
+abbrev pub last_number : (MentionKind → Bool) → (Count → ℕ) → List Numbered → Option ℕ
+last_number is number ns = fold (λ known n. if is n.mention.kind then Some (number n.before) else known) None ns
 
-abbrev pub first_number : (Saying → Bool) → (Count → ℕ) → List Numbered → Option ℕ
+abbrev pub first_number : (MentionKind → Bool) → (Count → ℕ) → List Numbered → Option ℕ
 first_number is number [] = None
-first_number is number (n ∷ ns) = if is n.mention.says then Some (number n.before) else first_number is number ns
+first_number is number (n ∷ ns) = if is n.mention.kind then Some (number n.before) else first_number is number ns
 
 abbrev pub statement_number : Count → ℕ
 statement_number c = c.statements
@@ -161,23 +161,23 @@ value_number c = c.values
 abbrev pub key_number : Count → ℕ
 key_number c = c.keys
 
-abbrev pub first_that_fits : List (Option Place) → Place
-first_that_fits [] = place.Root
+abbrev pub first_that_fits : List (Option Origin) → Origin
+first_that_fits [] = origin.Root
 first_that_fits (None ∷ rest) = first_that_fits rest
 first_that_fits (Some p ∷ rest) = p
 
--- where a node comes from: the first that fits, by the last saying of its sort
-abbrev pub place_said : List Numbered → Place
-place_said ns = first_that_fits (
-    option_map place.Value (last_number is_value value_number ns)
-    ∷ option_map (λ i. place.Tables) (last_number is_element statement_number ns)
-    ∷ option_map place.Element (last_number is_begun statement_number ns)
-    ∷ option_map place.Header (last_number is_define statement_number ns)
-    ∷ option_map place.Dotted (last_number is_dotted value_number ns)
-    ∷ option_map place.Through (last_number is_through statement_number ns)
+-- where a node comes from: the first that fits, by the last mention of its kind
+abbrev pub mentioned_origin : List Numbered → Origin
+mentioned_origin ns = first_that_fits (
+    option_map origin.Value (last_number is_value value_number ns)
+    ∷ option_map (λ i. origin.Tables) (last_number is_element statement_number ns)
+    ∷ option_map origin.Element (last_number is_begun statement_number ns)
+    ∷ option_map origin.Header (last_number is_define statement_number ns)
+    ∷ option_map origin.Dotted (last_number is_dotted value_number ns)
+    ∷ option_map origin.Through (last_number is_through statement_number ns)
     ∷ [])
 
--- A node's path, the number of its value and of the first key part that names it, and what else is told of it.
+-- A node's path, the number of its value and of the first key part that names it, and what else is known of it.
 pub record Node : Type 0 where
   pub path : List Part
   pub kind : Kind
@@ -185,25 +185,25 @@ pub record Node : Type 0 where
   pub key : Option ℕ
   pub marks : ℕ
   pub passed : Bool
-  pub place : Place
+  pub origin : Origin
 
 abbrev pub node_path : Node → List Part
 node_path n = n.path
 
 -- the node at a path of which this is said
-abbrev pub node_said : List Part → List Numbered → Node
-node_said path ns = record {
+abbrev pub mentioned_node : List Part → List Numbered → Node
+mentioned_node path ns = record {
   path = path;
-  kind = kind_said (map saying_of ns);
+  kind = mentioned_kind (map mention_kind_of ns);
   value = last_number is_value value_number ns;
   key = first_number is_mark key_number ns;
-  marks = count_by (λ n. is_mark n.mention.says) ns;
-  passed = list_any (λ n. is_passed n.mention.says) ns;
-  place = place_said ns;
+  marks = count_by (λ n. is_mark n.mention.kind) ns;
+  passed = list_any (λ n. is_passed n.mention.kind) ns;
+  origin = mentioned_origin ns;
 }
 
 abbrev pub node_at : List Numbered → List Part → Node
-node_at ns path = node_said path (numbered_at path ns)
+node_at ns path = mentioned_node path (numbered_at path ns)
 
 abbrev pub nodes_of : List Numbered → List Node
 nodes_of ns = map (node_at ns) (node_paths (map mention_of ns))
@@ -227,9 +227,9 @@ node_info values parts n = record {
   key_span = option_and_then (key_span parts) n.key;
   marks = n.marks;
   passed = n.passed;
-  place = n.place;
+  origin = n.origin;
 }
 
--- what is told of each node of a document
+-- what is known of each node of a document
 abbrev pub infos_in : Document → List NodeInfo
 infos_in s = map (node_info (syntax.values s) (syntax.parts s)) (nodes_in s)

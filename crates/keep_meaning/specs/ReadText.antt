@@ -9,16 +9,16 @@ use Rattle.keep_syntax.specs.Grammar.{IsDocument, IsValue, Reads, ReadsValue}
 use Rattle.keep_syntax.specs.Deep.{IsTooDeep, IsValueTooDeep}
 use Rattle.keep_meaning.specs.Rules.{ObeysRules}
 use Rattle.keep_meaning.specs.Marks.{marks}
-use Rattle.keep_meaning.specs.Meaning.{said_in, value_said}
+use Rattle.keep_meaning.specs.Meaning.{mentions_in, mentions_of_value}
 use Rattle.keep_meaning.specs.Faults.{IsFaultIn, IsFaultInValue}
 
 -- The bytes are the text of this document, and its rules hold.
 pub record IsRead (profile : Profile) (limit : ℕ) (bytes : List ℕ) (s : Document) : Type 0 where
   pub utf8 : IsUtf8 bytes
   pub reads : Reads profile limit bytes s
-  pub obeys : ObeysRules (marks (said_in s))
+  pub obeys : ObeysRules (marks (mentions_in s))
 
--- Why bytes are no document, unless memory runs out. (Where and why the grammar fails is not told here.)
+-- Why bytes are no document, unless memory runs out. (Where and why the grammar fails is not said here.)
 abbrev pub IsReadFault : Profile → ℕ → List ℕ → ReadFault → Type 0
 IsReadFault profile limit bytes (Utf8 at) = (¬ (IsUtf8 bytes)) × (at ≡ utf8_valid_len bytes)
 IsReadFault profile limit bytes (Syntax at what) = IsUtf8 bytes × ((s : Document) → IsDocument profile s → bytes ≡ text s → ⊥)
@@ -29,7 +29,7 @@ IsReadFault profile limit bytes Memory = ⊥
 -- the text is that of this value, and its rules hold
 pub record IsValueText (profile : Profile) (limit : ℕ) (bytes : List ℕ) (v : Value) : Type 0 where
   pub reads : ReadsValue profile limit bytes v
-  pub obeys : ObeysRules (marks (value_said v))
+  pub obeys : ObeysRules (marks (mentions_of_value v))
 
 -- why a text is no value's, unless memory runs out
 abbrev pub IsValueFault : Profile → ℕ → List ℕ → ReadFault → Type 0

@@ -1,5 +1,5 @@
--- The definition rules, as a table over pairs of marks. (TOML 1.0.0: Keys, Table, Inline Table, Array of Tables. That dotted
--- keys may pass a table that stands only because a header went through it is this project's own choice.)
+-- The definition rules, as a table over pairs of marks. (TOML 1.0.0: Keys, Table, Inline Table, Array of Tables. That
+-- dotted keys may pass a table that is there only because a header went through it is this project's own choice.)
 use Rattle.std.specs.Prelude.{◌≡◌, ℕ, Bool, true, false, IsTrue, List, ◌∷◌, ◌++◌, length, AllPairs, Any, map, filter}
 use Rattle.keep_meaning.specs.declared.role.Role.{Role}
 use Rattle.keep_meaning.specs.declared.role.Role.TheVariants.{Through, Past, Define, Element, Dotted, Value}
@@ -35,7 +35,7 @@ why_of Element = NotAnArray
 why_of Dotted = NotByDots
 why_of Value = DuplicateKey
 
--- the earlier mark lets the later one stand
+-- the earlier mark allows the later one
 abbrev pub Allows : Mark → Mark → Type 0
 Allows earlier later = earlier.path ≡ later.path → IsTrue (allows earlier.role later.role)
 

@@ -8,5 +8,5 @@ pub mod laws;
 mod node;
 mod role;
 
-pub use node::{Kind, NodeInfo, Place};
+pub use node::{Kind, NodeInfo, Origin};
 pub use role::{Role, state_after};

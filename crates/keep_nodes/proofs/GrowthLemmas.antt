@@ -110,14 +110,14 @@ pub record IsRestated (old : List TrieNode) (id : ℕ) (d changed : TrieNode) (n
   pub state : changed.state ≡ Some next
   pub holds : changed.holds ≡ (get_or old id d).holds
 
-links_kept : (old : List TrieNode) (id : ℕ) (d changed : TrieNode) (next : Role) → IsRestated old id d changed next → map link (set old id changed) ≡ map link old
-links_kept old id d changed next is = map-set_same link old id changed d is.same
+links_preserved : (old : List TrieNode) (id : ℕ) (d changed : TrieNode) (next : Role) → IsRestated old id d changed next → map link (set old id changed) ≡ map link old
+links_preserved old id d changed next is = map-set_same link old id changed d is.same
 
-paths_kept : (old : List TrieNode) (id : ℕ) (d changed : TrieNode) (next : Role) → IsRestated old id d changed next → paths_of (set old id changed) ≡ paths_of old
-paths_kept old id d changed next is = ap (λ ls. fold path_after ([] ∷ []) (drop 1 ls)) (links_kept old id d changed next is)
+paths_preserved : (old : List TrieNode) (id : ℕ) (d changed : TrieNode) (next : Role) → IsRestated old id d changed next → paths_of (set old id changed) ≡ paths_of old
+paths_preserved old id d changed next is = ap (λ ls. fold path_after ([] ∷ []) (drop 1 ls)) (links_preserved old id d changed next is)
 
-trie_kept : (old : List TrieNode) (id : ℕ) (d changed : TrieNode) (next : Role) → IsRestated old id d changed next → IsTrie (set old id changed)
-trie_kept old id d changed next is = record {
+trie_preserved : (old : List TrieNode) (id : ℕ) (d changed : TrieNode) (next : Role) → IsRestated old id d changed next → IsTrie (set old id changed)
+trie_preserved old id d changed next is = record {
   root = omega (arith, is.trie.root, length-set old id changed);
   parents = λ j e low h. elim (cases_eq j id) [
     | inl here ↦
@@ -125,17 +125,17 @@ trie_kept old id d changed next is = record {
         omega (arith, ap (λ (n : TrieNode). n.parent) own, ap (λ (l : ℕ × Part). l.0) is.same, is.trie.parents id d (omega arith) is.within, here)
     | inr other ↦ omega (arith, ap (λ (n : TrieNode). n.parent) (get_or-set_other old id j changed e other), is.trie.parents j e low (omega (arith, length-set old id changed)))
   ];
-  distinct = let P : List (List Part) → Type 0 = AllPairs (λ p q. p ≢ q) in subst P (sym (paths_kept old id d changed next is)) is.trie.distinct;
+  distinct = let P : List (List Part) → Type 0 = AllPairs (λ p q. p ≢ q) in subst P (sym (paths_preserved old id d changed next is)) is.trie.distinct;
 }
 
 pub restates_set : (old : List TrieNode) (id : ℕ) (d changed : TrieNode) (next : Role) → IsRestated old id d changed next → Restates old (set old id changed) id next
 restates_set old id d changed next is = record {
   trie = is.trie;
-  trie' = trie_kept old id d changed next is;
+  trie' = trie_preserved old id d changed next is;
   within = is.within;
-  paths = paths_kept old id d changed next is;
+  paths = paths_preserved old id d changed next is;
   states = map-set (λ (n : TrieNode). n.state) old id changed ∙ ap (λ s. set (map (λ (n : TrieNode). n.state) old) id s) is.state;
   holdings = map-set_same (λ (n : TrieNode). n.holds) old id changed d is.holds;
-  children = λ i. ap (λ ls. children_from 1 i (drop 1 ls)) (links_kept old id d changed next is);
+  children = λ i. ap (λ ls. children_from 1 i (drop 1 ls)) (links_preserved old id d changed next is);
   many = length-set old id changed;
 }

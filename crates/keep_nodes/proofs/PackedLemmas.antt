@@ -5,17 +5,17 @@ use Rattle.std.specs.Prelude.{min, nat_le}
 use Rattle.keep_parts.specs.declared.info.Span.{Span}
 use Rattle.keep_meaning.specs.declared.node.Kind.{Kind}
 use Rattle.keep_meaning.specs.declared.role.Role.{Role}
-use Rattle.keep_nodes.specs.declared.facts.PlaceKind.{PlaceKind}
+use Rattle.keep_nodes.specs.declared.facts.OriginKind.{OriginKind}
 use Rattle.keep_nodes.specs.declared.facts.NodeFacts.{NodeFacts}
-use Rattle.keep_nodes.specs.Facts.{later_kind, rank, place_of, joined_facts, joined_info, info_of}
+use Rattle.keep_nodes.specs.Facts.{later_kind, rank, origin_of, joined_facts, joined_info, info_of}
 
 -- the joined facts, where two tests say whether no key part named the node yet, and whether the later place is stored
 pub joined_in_place : (old more : NodeFacts) (role : Option Role) (kind : Kind) (marks : ℕ) → kind ≡ later_kind old.kind more.kind → marks ≡ min (old.marks + more.marks) (2 ^ 64 - 1)
-    → (place : PlaceKind) (key value : Span) (number : ℕ) (first later : Bool) → (old.marks == 0) ≡ first → nat_le (rank (place_of old.place old.number)) (rank (place_of more.place more.number)) ≡ later
-    → place ≡ cond later more.place old.place → key ≡ cond first more.key old.key → value ≡ cond later more.value old.value → number ≡ cond later more.number old.number
-    → record { role = role; kind = kind; passed = old.passed || more.passed; place = place; marks = marks; key = key; value = value; number = number } ≡ record (joined_facts old more) { role = role }
-joined_in_place old more role kind marks kinds sum place key value number first true is_first is_later places keys values numbers = rw (is_first, is_later, kinds, sum, places, keys, values, numbers) refl
-joined_in_place old more role kind marks kinds sum place key value number first false is_first is_later places keys values numbers = rw (is_first, is_later, kinds, sum, places, keys, values, numbers) refl
+    → (origin : OriginKind) (key value : Span) (number : ℕ) (first later : Bool) → (old.marks == 0) ≡ first → nat_le (rank (origin_of old.origin old.number)) (rank (origin_of more.origin more.number)) ≡ later
+    → origin ≡ cond later more.origin old.origin → key ≡ cond first more.key old.key → value ≡ cond later more.value old.value → number ≡ cond later more.number old.number
+    → record { role = role; kind = kind; passed = old.passed || more.passed; origin = origin; marks = marks; key = key; value = value; number = number } ≡ record (joined_facts old more) { role = role }
+joined_in_place old more role kind marks kinds sum origin key value number first true is_first is_later places keys values numbers = rw (is_first, is_later, kinds, sum, places, keys, values, numbers) refl
+joined_in_place old more role kind marks kinds sum origin key value number first false is_first is_later places keys values numbers = rw (is_first, is_later, kinds, sum, places, keys, values, numbers) refl
 
 -- ---- the joined facts as the callers of the library see them
 
@@ -29,9 +29,9 @@ key_joined old more =
       | false ↦ refl
     ])
 
-place_joined : (old more : NodeFacts) (later : Bool) → (info_of (cond later more old)).place ≡ cond later (info_of more).place (info_of old).place
-place_joined old more true = refl
-place_joined old more false = refl
+origin_joined : (old more : NodeFacts) (later : Bool) → (info_of (cond later more old)).origin ≡ cond later (info_of more).origin (info_of old).origin
+origin_joined old more true = refl
+origin_joined old more false = refl
 
 value_joined : (old more : NodeFacts) (later : Bool) → (info_of (cond later more old)).value_span ≡ cond later (info_of more).value_span (info_of old).value_span
 value_joined old more true = refl
@@ -39,5 +39,5 @@ value_joined old more false = refl
 
 pub info_joined : (old more : NodeFacts) → info_of (joined_facts old more) ≡ joined_info (info_of old) (info_of more)
 info_joined old more =
-    let later : Bool = nat_le (rank (place_of old.place old.number)) (rank (place_of more.place more.number)) in
-    rw (key_joined old more, value_joined old more later, place_joined old more later) refl
+    let later : Bool = nat_le (rank (origin_of old.origin old.number)) (rank (origin_of more.origin more.number)) in
+    rw (key_joined old more, value_joined old more later, origin_joined old more later) refl

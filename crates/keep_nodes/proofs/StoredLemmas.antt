@@ -26,7 +26,7 @@ use Rattle.keep_nodes.proofs.GrowthLemmas.{IsAlike, rest_same, grows_alike, grow
 
 pub record IsFound (text : List ℕ) (ps : List (List ℕ × ℕ)) (id : ℕ) : Type 0 where
   pub place : ℕ
-  pub inside : place < length ps
+  pub nested : place < length ps
   pub name : (e : List ℕ × ℕ) → (get_or ps place e).0 ≡ text
   pub number : (e : List ℕ × ℕ) → (get_or ps place e).1 ≡ id
 
@@ -37,8 +37,8 @@ found : (text : List ℕ) (ps : List (List ℕ × ℕ)) (id : ℕ) → lookup (b
 found text [] id h = absurd cc
 found text (p ∷ ps) id h =
     (elim (bytes_eq text p.0) as (λ b. bytes_eq text p.0 ≡ b → cond b (Some p.1) (lookup (bytes_eq text) ps) ≡ Some id → IsFound text (p ∷ ps) id) [
-      | true ↦ λ is h. record { place = 0; inside = omega arith; name = λ e. sym ((bytes_eq-Decides text p.0).0 is); number = λ e. same_number p.1 id h }
-      | false ↦ λ is h. let r = found text ps id h in record { place = suc r.place; inside = omega (arith, r.inside); name = r.name; number = r.number }
+      | true ↦ λ is h. record { place = 0; nested = omega arith; name = λ e. sym ((bytes_eq-Decides text p.0).0 is); number = λ e. same_number p.1 id h }
+      | false ↦ λ is h. let r = found text ps id h in record { place = suc r.place; nested = omega (arith, r.nested); name = r.name; number = r.number }
     ]) refl h
 
 later_missing : (text : List ℕ) (p : List ℕ × ℕ) (ps : List (List ℕ × ℕ)) (k : ℕ) (e : List ℕ × ℕ) → bytes_eq text p.0 ≡ false → k < length (p ∷ ps) → (get_or (p ∷ ps) k e).0 ≡ text
@@ -70,7 +70,7 @@ count_named c keyed = ap length (ids_named c keyed) ∙ length-map (named c) (λ
 -- the child of a key is that of the entry which has it
 pub record IsAtKey (c : ChildList) (text : List ℕ) (id : ℕ) : Type 0 where
   pub place : ℕ
-  pub inside : place < length (child_ids c)
+  pub nested : place < length (child_ids c)
   pub number : get_or (child_ids c) place 0 ≡ id
   pub name : (get_or (named c) place ([], 0)).0 ≡ text
 
@@ -80,8 +80,8 @@ key_found c text id keyed is =
     let e : List ℕ × ℕ = ([], 0) in
     record {
       place = f.place;
-      inside = omega (arith, f.inside, count_named c keyed);
-      number = ap (λ ns. get_or ns f.place 0) (ids_named c keyed) ∙ get_or-map (λ e. e.1) (named c) f.place e 0 f.inside ∙ f.number e;
+      nested = omega (arith, f.nested, count_named c keyed);
+      number = ap (λ ns. get_or ns f.place 0) (ids_named c keyed) ∙ get_or-map (λ e. e.1) (named c) f.place e 0 f.nested ∙ f.number e;
       name = f.name e;
     }
 
@@ -117,7 +117,7 @@ step_below nodes p d n h = ap (λ o. step_in o n) (slice_get-get_or nodes p d h)
 -- the k-th child of a node
 pub record IsStoredChild (nodes : List Node) (p k id : ℕ) (d : Node) : Type 0 where
   pub later : 0 < id
-  pub inside : id < length nodes
+  pub nested : id < length nodes
   pub parent : (get_or nodes id d).parent ≡ p
   pub number : (get_or nodes id d).number ≡ k
   pub part : (u : TrieNode) → (get_or (trie_of nodes) id u).part ≡ step_at (named (get_or nodes p d).children) (holds_of (get_or nodes p d).children) k
@@ -131,14 +131,14 @@ stored_child nodes stored p k d h low =
     let kids : ids ≡ children_of (trie_of nodes) p = stored.kids p d h in
     let child : IsChildOf (trie_of nodes) p id =
     subst (λ (ks : List ℕ). IsChildOf (trie_of nodes) p (get_or ks k 0)) (sym kids) (child_at (trie_of nodes) stored.trie p k (trie_node_in nodes d) (omega (arith, h, length_trie_of nodes)) (omega (arith, low, ap length kids))) in
-    let inside : id < length nodes = omega (arith, child.inside, length_trie_of nodes) in
-    let parent : (get_or nodes id d).parent ≡ p = ap (λ (t : TrieNode). t.parent) (sym (here nodes id d (trie_node_in nodes d) inside)) ∙ child.parent (trie_node_in nodes d) in
+    let nested : id < length nodes = omega (arith, child.nested, length_trie_of nodes) in
+    let parent : (get_or nodes id d).parent ≡ p = ap (λ (t : TrieNode). t.parent) (sym (here nodes id d (trie_node_in nodes d) nested)) ∙ child.parent (trie_node_in nodes d) in
     let number : (get_or nodes id d).number ≡ k = stored.numbers p d h k d low in
     let part : (u : TrieNode) → (get_or (trie_of nodes) id u).part ≡ step_at (named (get_or nodes p d).children) (holds_of (get_or nodes p d).children) k = λ u.
-    ap (λ (t : TrieNode). t.part) (here nodes id d u inside) ∙ ap (λ q. step_in (slice_get nodes q) (get_or nodes id d).number) parent ∙ ap (λ m. step_in (slice_get nodes p) m) number ∙ step_below nodes p d k h in
+    ap (λ (t : TrieNode). t.part) (here nodes id d u nested) ∙ ap (λ q. step_in (slice_get nodes q) (get_or nodes id d).number) parent ∙ ap (λ m. step_in (slice_get nodes p) m) number ∙ step_below nodes p d k h in
     record {
       later = child.later;
-      inside = inside;
+      nested = nested;
       parent = parent;
       number = number;
       part = part;
@@ -161,10 +161,10 @@ node_placed nodes stored i d later h =
     let ids : List ℕ = child_ids (get_or nodes p d).children in
     let kids : ids ≡ children_of (trie_of nodes) p = stored.kids p d (omega (arith, earlier, h)) in
     let r : IsAmongChildren i ids = subst (IsAmongChildren i) (ap (children_of (trie_of nodes)) up ∙ sym kids) (child_placed (trie_of nodes) i u later h') in
-    let number : (get_or nodes i d).number ≡ r.place = ap (λ n. (get_or nodes n d).number) (sym r.number) ∙ stored.numbers p d (omega (arith, earlier, h)) r.place d r.inside in
+    let number : (get_or nodes i d).number ≡ r.place = ap (λ n. (get_or nodes n d).number) (sym r.number) ∙ stored.numbers p d (omega (arith, earlier, h)) r.place d r.nested in
     record {
       earlier = earlier;
-      low = omega (arith, number, r.inside);
+      low = omega (arith, number, r.nested);
       found = ap (λ k. get_or ids k 0) number ∙ r.number;
     }
 
@@ -174,7 +174,7 @@ pub keyed_step : (names : List (List ℕ × ℕ)) (holds : Holding) (k : ℕ) �
 keyed_step names holds k keyed = ap (λ h. step_at names h k) keyed
 
 pub record IsKeyChild (nodes : List Node) (parent id : ℕ) (text : List ℕ) : Type 0 where
-  pub inside : id < length nodes
+  pub nested : id < length nodes
   pub path : path_at (trie_of nodes) id ≡ path_at (trie_of nodes) parent ++ key text ∷ []
 
 pub child_found : (nodes : List Node) → IsStored nodes → (parent id : ℕ) (d : Node) (text : List ℕ) → parent < length nodes → holds_of (get_or nodes parent d).children ≡ by_key
@@ -182,9 +182,9 @@ pub child_found : (nodes : List Node) → IsStored nodes → (parent id : ℕ) (
 child_found nodes stored parent id d text h keyed is =
     let c : ChildList = (get_or nodes parent d).children in
     let f = key_found c text id keyed is in
-    let child : IsStoredChild nodes parent f.place id d = subst (λ (n : ℕ). IsStoredChild nodes parent f.place n d) f.number (stored_child nodes stored parent f.place d h f.inside) in
+    let child : IsStoredChild nodes parent f.place id d = subst (λ (n : ℕ). IsStoredChild nodes parent f.place n d) f.number (stored_child nodes stored parent f.place d h f.nested) in
     record {
-      inside = child.inside;
+      nested = child.nested;
       path = child.path ∙ ap (λ p. path_at (trie_of nodes) parent ++ p ∷ []) (keyed_step (named c) (holds_of c) f.place keyed ∙ ap key f.name);
     }
 
@@ -199,10 +199,10 @@ child_missing nodes stored parent d text h keyed is =
     let u : TrieNode = trie_node_in nodes d in
     let e : List ℕ × ℕ = ([], 0) in
     no_child (trie_of nodes) stored.trie parent (key text) u (omega (arith, h, length_trie_of nodes)) (λ k low same.
-    let inside : k < length (child_ids c) = omega (arith, low, ap length kids) in
-    let own : (get_or (trie_of nodes) (get_or (child_ids c) k 0) u).part ≡ key (get_or (named c) k e).0 = (stored_child nodes stored parent k d h inside).part u ∙ keyed_step (named c) (holds_of c) k keyed in
+    let nested : k < length (child_ids c) = omega (arith, low, ap length kids) in
+    let own : (get_or (trie_of nodes) (get_or (child_ids c) k 0) u).part ≡ key (get_or (named c) k e).0 = (stored_child nodes stored parent k d h nested).part u ∙ keyed_step (named c) (holds_of c) k keyed in
     let name : key (get_or (named c) k e).0 ≡ key text = sym own ∙ ap (λ ks. (get_or (trie_of nodes) (get_or ks k 0) u).part) kids ∙ same in
-    key_missing c text k keyed is inside (same_key _ text name))
+    key_missing c text k keyed is nested (same_key _ text name))
 
 -- a key that no path has is not among the children
 pub not_named : (nodes : List Node) → IsStored nodes → (parent : ℕ) (d : Node) (text : List ℕ) → parent < length nodes → holds_of (get_or nodes parent d).children ≡ by_key
@@ -210,7 +210,7 @@ pub not_named : (nodes : List Node) → IsStored nodes → (parent : ℕ) (d : N
 not_named nodes stored parent d text h keyed fresh = by_case (child_named (get_or nodes parent d).children text) refl
   where
     met : (id : ℕ) → IsKeyChild nodes parent id text → Contains (paths_of (trie_of nodes)) (path_at (trie_of nodes) parent ++ key text ∷ [])
-    met id child = subst (Contains (paths_of (trie_of nodes))) child.path (path_met (trie_of nodes) stored.trie id (omega (arith, child.inside, length_trie_of nodes)))
+    met id child = subst (Contains (paths_of (trie_of nodes))) child.path (path_met (trie_of nodes) stored.trie id (omega (arith, child.nested, length_trie_of nodes)))
 
     by_case : (o : Option ℕ) → child_named (get_or nodes parent d).children text ≡ o → o ≡ None
     by_case None e = refl
@@ -222,10 +222,10 @@ pub child_none : (nodes : List Node) → IsStored nodes → (parent : ℕ) (d : 
 child_none nodes stored parent d text None h keyed is = child_missing nodes stored parent d text h (holds_read nodes parent d by_key h keyed) (sym is)
 child_none nodes stored parent d text (Some id) h keyed is = tt
 
-pub child_inside : (nodes : List Node) → IsStored nodes → (parent : ℕ) (d : Node) (text : List ℕ) (o : Option ℕ) → parent < length nodes → holds_at (trie_of nodes) parent ≡ by_key
+pub child_nested : (nodes : List Node) → IsStored nodes → (parent : ℕ) (d : Node) (text : List ℕ) (o : Option ℕ) → parent < length nodes → holds_at (trie_of nodes) parent ≡ by_key
     → o ≡ child_named (get_or nodes parent d).children text → IfSome o (λ id. id < length nodes)
-child_inside nodes stored parent d text None h keyed is = tt
-child_inside nodes stored parent d text (Some id) h keyed is = (child_found nodes stored parent id d text h (holds_read nodes parent d by_key h keyed) (sym is)).inside
+child_nested nodes stored parent d text None h keyed is = tt
+child_nested nodes stored parent d text (Some id) h keyed is = (child_found nodes stored parent id d text h (holds_read nodes parent d by_key h keyed) (sym is)).nested
 
 pub child_path : (nodes : List Node) → IsStored nodes → (parent : ℕ) (d : Node) (text : List ℕ) (o : Option ℕ) → parent < length nodes → holds_at (trie_of nodes) parent ≡ by_key
     → o ≡ child_named (get_or nodes parent d).children text → IfSome o (λ id. path_at (trie_of nodes) id ≡ path_at (trie_of nodes) parent ++ key text ∷ [])
@@ -267,9 +267,9 @@ other_added : (nodes : List Node) (parent : ℕ) (changed new : Node) (i : ℕ) 
 other_added nodes parent changed new i e h other = below_added nodes parent changed new i e h ∙ get_or-set_other nodes parent i changed e other
 
 -- what the change leaves as it was
-kept_added : {X : Type 0} (f : Node → X) (nodes : List Node) (parent : ℕ) (d changed new : Node) → parent < length nodes → f changed ≡ f (get_or nodes parent d) → (i : ℕ) (e : Node) → i < length nodes
+preserved_added : {X : Type 0} (f : Node → X) (nodes : List Node) (parent : ℕ) (d changed new : Node) → parent < length nodes → f changed ≡ f (get_or nodes parent d) → (i : ℕ) (e : Node) → i < length nodes
     → f (get_or (set nodes parent changed ++ new ∷ []) i e) ≡ f (get_or nodes i e)
-kept_added f nodes parent d changed new within same i e h = elim (cases_eq i parent) [
+preserved_added f nodes parent d changed new within same i e h = elim (cases_eq i parent) [
   | inl at ↦ ap (λ k. f (get_or (set nodes parent changed ++ new ∷ []) k e)) at ∙ ap f (at_added nodes parent changed new e within) ∙ same ∙ ap f (get_or_default nodes parent d e within) ∙ ap (λ k. f (get_or nodes k e)) (sym at)
   | inr other ↦ ap f (other_added nodes parent changed new i e h other)
 ]
@@ -280,9 +280,9 @@ step_more names more by_index n low = refl
 step_more names more nothing n low = refl
 
 -- a step of a child that was there before
-step_kept : (nodes : List Node) (parent : ℕ) (d : Node) (kids : ChildList) (new : Node) (part : Part) → IsAdded nodes parent d kids new part → (p n : ℕ) → p < length nodes
+step_preserved : (nodes : List Node) (parent : ℕ) (d : Node) (kids : ChildList) (new : Node) (part : Part) → IsAdded nodes parent d kids new part → (p n : ℕ) → p < length nodes
     → n < length (child_ids (get_or nodes p d).children) → step_in (slice_get (with_one nodes parent d kids new) p) n ≡ step_in (slice_get nodes p) n
-step_kept nodes parent d kids new part added p n h low =
+step_preserved nodes parent d kids new part added p n h low =
     let changed : Node = record (get_or nodes parent d) { children = kids } in
     let all : List Node = with_one nodes parent d kids new in
     step_below all p d n (omega (arith, h, length_added nodes parent changed new)) ∙ (elim (cases_eq p parent) [
@@ -304,19 +304,19 @@ same_trie_node e f g i = cc
 trie_node_added : Node → ℕ → Part → TrieNode
 trie_node_added new parent part = record { parent = parent; part = part; state = new.facts.role; holds = holds_of new.children }
 
-trie_node_kept : (nodes : List Node) (parent : ℕ) (d : Node) (kids : ChildList) (new : Node) (part : Part) → IsAdded nodes parent d kids new part → (i : ℕ) → 0 < i → i < length nodes
+trie_node_preserved : (nodes : List Node) (parent : ℕ) (d : Node) (kids : ChildList) (new : Node) (part : Part) → IsAdded nodes parent d kids new part → (i : ℕ) → 0 < i → i < length nodes
     → trie_node_in (with_one nodes parent d kids new) (get_or (with_one nodes parent d kids new) i d) ≡ trie_node_in nodes (get_or nodes i d)
-trie_node_kept nodes parent d kids new part added i later h =
+trie_node_preserved nodes parent d kids new part added i later h =
     let changed : Node = record (get_or nodes parent d) { children = kids } in
     let all : List Node = with_one nodes parent d kids new in
     let placed = node_placed nodes added.stored i d later h in
-    let up : (get_or all i d).parent ≡ (get_or nodes i d).parent = kept_added (λ (n : Node). n.parent) nodes parent d changed new added.within refl i d h in
-    let number : (get_or all i d).number ≡ (get_or nodes i d).number = kept_added (λ (n : Node). n.number) nodes parent d changed new added.within refl i d h in
+    let up : (get_or all i d).parent ≡ (get_or nodes i d).parent = preserved_added (λ (n : Node). n.parent) nodes parent d changed new added.within refl i d h in
+    let number : (get_or all i d).number ≡ (get_or nodes i d).number = preserved_added (λ (n : Node). n.number) nodes parent d changed new added.within refl i d h in
     same_trie_node up
     (ap (λ p. step_in (slice_get all p) (get_or all i d).number) up ∙ ap (λ n. step_in (slice_get all (get_or nodes i d).parent) n) number
-    ∙ step_kept nodes parent d kids new part added (get_or nodes i d).parent (get_or nodes i d).number (omega (arith, placed.earlier, h)) placed.low)
-    (kept_added (λ (n : Node). n.facts.role) nodes parent d changed new added.within refl i d h)
-    (kept_added (λ (n : Node). holds_of n.children) nodes parent d changed new added.within added.holds i d h)
+    ∙ step_preserved nodes parent d kids new part added (get_or nodes i d).parent (get_or nodes i d).number (omega (arith, placed.earlier, h)) placed.low)
+    (preserved_added (λ (n : Node). n.facts.role) nodes parent d changed new added.within refl i d h)
+    (preserved_added (λ (n : Node). holds_of n.children) nodes parent d changed new added.within added.holds i d h)
 
 trie_node_last : (nodes : List Node) (parent : ℕ) (d : Node) (kids : ChildList) (new : Node) (part : Part) → IsAdded nodes parent d kids new part
     → trie_node_in (with_one nodes parent d kids new) new ≡ trie_node_added new parent part
@@ -351,7 +351,7 @@ alike_added nodes parent d kids new part added =
     record {
       many = many;
       rest = rest_same (trie_of all) (trie_of nodes ++ t ∷ []) many (λ i u later h. elim (cases_lt i (length nodes)) [
-        | inl below ↦ here all i d u (omega (arith, below, longer)) ∙ trie_node_kept nodes parent d kids new part added i later below ∙ sym (here nodes i d u below)
+        | inl below ↦ here all i d u (omega (arith, below, longer)) ∙ trie_node_preserved nodes parent d kids new part added i later below ∙ sym (here nodes i d u below)
             ∙ sym (get_or_append_left (trie_of nodes) (t ∷ []) u i (omega (arith, below, length_trie_of nodes)))
         | inr above ↦
             let is : i ≡ length nodes = omega (arith, above, h, length_trie_of all, longer) in
@@ -387,12 +387,12 @@ numbers_pushed all ids id are last k e low = elim (cases_lt k (length ids)) [
 ]
 
 -- the children that were there keep their numbers
-numbers_kept : (nodes : List Node) (parent : ℕ) (d : Node) (kids : ChildList) (new : Node) (part : Part) → IsAdded nodes parent d kids new part → (i : ℕ) (e : Node) → i < length nodes
+numbers_preserved : (nodes : List Node) (parent : ℕ) (d : Node) (kids : ChildList) (new : Node) (part : Part) → IsAdded nodes parent d kids new part → (i : ℕ) (e : Node) → i < length nodes
     → AreNumbered (with_one nodes parent d kids new) (child_ids (get_or nodes i e).children)
-numbers_kept nodes parent d kids new part added i e h k u low =
+numbers_preserved nodes parent d kids new part added i e h k u low =
     let changed : Node = record (get_or nodes parent d) { children = kids } in
     let id : ℕ = get_or (child_ids (get_or nodes i e).children) k 0 in
-    kept_added (λ (n : Node). n.number) nodes parent d changed new added.within refl id u (stored_child nodes added.stored i k e h low).inside ∙ added.stored.numbers i e h k u low
+    preserved_added (λ (n : Node). n.number) nodes parent d changed new added.within refl id u (stored_child nodes added.stored i k e h low).nested ∙ added.stored.numbers i e h k u low
 
 pub stored_added : (nodes : List Node) (parent : ℕ) (d : Node) (kids : ChildList) (new : Node) (part : Part) → IsAdded nodes parent d kids new part
     → (Contains (paths_of (trie_of nodes)) (path_at (trie_of nodes) parent ++ part ∷ []) → ⊥) → IsStored (with_one nodes parent d kids new)
@@ -423,10 +423,10 @@ stored_added nodes parent d kids new part added fresh =
         | inl below ↦ elim (cases_eq i parent) [
           | inl at ↦
               subst (AreNumbered all) (sym (ap (λ (n : Node). child_ids n.children) (at_parent i e at) ∙ added.ids))
-              (numbers_pushed all above (length nodes) (numbers_kept nodes parent d kids new part added parent d added.within)
+              (numbers_pushed all above (length nodes) (numbers_preserved nodes parent d kids new part added parent d added.within)
               (λ u. ap (λ (n : Node). n.number) (last_added nodes parent changed new (length nodes) u refl) ∙ added.last))
           | inr other ↦
-              subst (AreNumbered all) (sym (ap (λ (n : Node). child_ids n.children) (other_added nodes parent changed new i e below other))) (numbers_kept nodes parent d kids new part added i e below)
+              subst (AreNumbered all) (sym (ap (λ (n : Node). child_ids n.children) (other_added nodes parent changed new i e below other))) (numbers_preserved nodes parent d kids new part added i e below)
         ]
         | inr past ↦
             let is : i ≡ length nodes = omega (arith, h, past, longer) in
@@ -477,8 +477,8 @@ pub record IsChanged (nodes : List Node) (id : ℕ) (d changed : Node) : Type 0 
   pub children : changed.children ≡ (get_or nodes id d).children
 
 -- what the change leaves as it was
-kept_changed : {X : Type 0} (f : Node → X) (nodes : List Node) (id : ℕ) (d changed : Node) → id < length nodes → f changed ≡ f (get_or nodes id d) → (i : ℕ) (e : Node) → f (get_or (set nodes id changed) i e) ≡ f (get_or nodes i e)
-kept_changed f nodes id d changed within same i e = elim (cases_eq i id) [
+preserved_changed : {X : Type 0} (f : Node → X) (nodes : List Node) (id : ℕ) (d changed : Node) → id < length nodes → f changed ≡ f (get_or nodes id d) → (i : ℕ) (e : Node) → f (get_or (set nodes id changed) i e) ≡ f (get_or nodes i e)
+preserved_changed f nodes id d changed within same i e = elim (cases_eq i id) [
   | inl at ↦ ap (λ k. f (get_or (set nodes id changed) k e)) at ∙ ap f (get_or-set_same nodes id changed e within) ∙ same ∙ ap f (get_or_default nodes id d e within) ∙ ap (λ k. f (get_or nodes k e)) (sym at)
   | inr other ↦ ap f (get_or-set_other nodes id i changed e other)
 ]
@@ -487,7 +487,7 @@ step_changed : (nodes : List Node) (id : ℕ) (d changed : Node) → IsChanged n
 step_changed nodes id d changed is p n = elim (cases_lt p (length nodes)) [
   | inl below ↦
       step_below (set nodes id changed) p d n (omega (arith, below, length-set nodes id changed))
-      ∙ ap (λ c. step_at (named c) (holds_of c) n) (kept_changed (λ (x : Node). x.children) nodes id d changed is.within is.children p d) ∙ sym (step_below nodes p d n below)
+      ∙ ap (λ c. step_at (named c) (holds_of c) n) (preserved_changed (λ (x : Node). x.children) nodes id d changed is.within is.children p d) ∙ sym (step_below nodes p d n below)
   | inr above ↦ ap (λ o. step_in o n) (slice_get_past (set nodes id changed) p (omega (arith, above, length-set nodes id changed)) ∙ sym (slice_get_past nodes p above))
 ]
 
@@ -502,15 +502,15 @@ trie_of_changed nodes id d changed is =
 stored_as : (nodes : List Node) (id : ℕ) (d changed : Node) → IsChanged nodes id d changed → IsTrie (trie_of (set nodes id changed))
     → ((i : ℕ) → children_of (trie_of (set nodes id changed)) i ≡ children_of (trie_of nodes) i) → IsStored (set nodes id changed)
 stored_as nodes id d changed is trie same_kids =
-    let kept : (i : ℕ) (e : Node) → (get_or (set nodes id changed) i e).children ≡ (get_or nodes i e).children = λ i e.
-    kept_changed (λ (n : Node). n.children) nodes id d changed is.within is.children i e in
+    let preserved : (i : ℕ) (e : Node) → (get_or (set nodes id changed) i e).children ≡ (get_or nodes i e).children = λ i e.
+    preserved_changed (λ (n : Node). n.children) nodes id d changed is.within is.children i e in
     record {
       trie = trie;
-      kids = λ i e h. ap child_ids (kept i e) ∙ is.stored.kids i e (omega (arith, h, length-set nodes id changed)) ∙ sym (same_kids i);
+      kids = λ i e h. ap child_ids (preserved i e) ∙ is.stored.kids i e (omega (arith, h, length-set nodes id changed)) ∙ sym (same_kids i);
       numbers = λ i e h k u low.
           let ids : List ℕ = child_ids (get_or nodes i e).children in
-          let same : child_ids (get_or (set nodes id changed) i e).children ≡ ids = ap child_ids (kept i e) in
-          ap (λ ks. (get_or (set nodes id changed) (get_or ks k 0) u).number) same ∙ kept_changed (λ (n : Node). n.number) nodes id d changed is.within is.number (get_or ids k 0) u
+          let same : child_ids (get_or (set nodes id changed) i e).children ≡ ids = ap child_ids (preserved i e) in
+          ap (λ ks. (get_or (set nodes id changed) (get_or ks k 0) u).number) same ∙ preserved_changed (λ (n : Node). n.number) nodes id d changed is.within is.number (get_or ids k 0) u
           ∙ is.stored.numbers i e (omega (arith, h, length-set nodes id changed)) k u (omega (arith, low, ap length same));
     }
 
@@ -538,15 +538,15 @@ stored_changed nodes id d changed role is role_is =
     stored_as nodes id d changed is g.trie' g.children
 
 -- the same role
-pub trie_of_kept : (nodes : List Node) (id : ℕ) (d changed : Node) → IsChanged nodes id d changed → changed.facts.role ≡ (get_or nodes id d).facts.role → trie_of (set nodes id changed) ≡ trie_of nodes
-trie_of_kept nodes id d changed is role_is =
+pub trie_of_preserved : (nodes : List Node) (id : ℕ) (d changed : Node) → IsChanged nodes id d changed → changed.facts.role ≡ (get_or nodes id d).facts.role → trie_of (set nodes id changed) ≡ trie_of nodes
+trie_of_preserved nodes id d changed is role_is =
     map_by (trie_node_in (set nodes id changed)) (trie_node_in nodes) (λ n. same_trie_node refl (step_changed nodes id d changed is n.parent n.number) refl refl) (set nodes id changed)
     ∙ map-set_same (trie_node_in nodes) nodes id changed d (same_trie_node is.parent
     (ap (λ p. step_in (slice_get nodes p) changed.number) is.parent ∙ ap (λ n. step_in (slice_get nodes (get_or nodes id d).parent) n) is.number) role_is (ap holds_of is.children))
 
-pub stored_kept : (nodes : List Node) (id : ℕ) (d changed : Node) → IsChanged nodes id d changed → changed.facts.role ≡ (get_or nodes id d).facts.role → IsStored (set nodes id changed)
-stored_kept nodes id d changed is role_is =
-    let same = trie_of_kept nodes id d changed is role_is in
+pub stored_preserved : (nodes : List Node) (id : ℕ) (d changed : Node) → IsChanged nodes id d changed → changed.facts.role ≡ (get_or nodes id d).facts.role → IsStored (set nodes id changed)
+stored_preserved nodes id d changed is role_is =
+    let same = trie_of_preserved nodes id d changed is role_is in
     stored_as nodes id d changed is (subst IsTrie (sym same) is.stored.trie) (λ i. ap (λ ts. children_of ts i) same)
 
 -- the facts of one node, joined with more

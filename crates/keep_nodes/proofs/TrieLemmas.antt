@@ -16,11 +16,11 @@ length-paths ps (l ∷ ls) =
     let p : List Part = get_or ps l.0 [] ++ l.1 ∷ [] in
     omega (arith, length-paths (path_after ps l) ls, length-append ps (p ∷ []))
 
-kept : (ps : List (List Part)) (ls : List (ℕ × Part)) (i : ℕ) (d : List Part) → i < length ps → get_or (fold path_after ps ls) i d ≡ get_or ps i d
-kept ps [] i d h = refl
-kept ps (l ∷ ls) i d h =
+preserved : (ps : List (List Part)) (ls : List (ℕ × Part)) (i : ℕ) (d : List Part) → i < length ps → get_or (fold path_after ps ls) i d ≡ get_or ps i d
+preserved ps [] i d h = refl
+preserved ps (l ∷ ls) i d h =
     let p : List Part = get_or ps l.0 [] ++ l.1 ∷ [] in
-    kept (path_after ps l) ls i d (omega (arith, length-append ps (p ∷ []))) ∙ get_or_append_left ps (p ∷ []) d i h
+    preserved (path_after ps l) ls i d (omega (arith, length-append ps (p ∷ []))) ∙ get_or_append_left ps (p ∷ []) d i h
 
 at_link : (ps : List (List Part)) (ls : List (ℕ × Part)) (j n : ℕ) (e : ℕ × Part) (d : List Part) → length ps + j ≡ n → j < length ls → (get_or ls j e).0 < n
     → get_or (fold path_after ps ls) n d ≡ get_or (fold path_after ps ls) (get_or ls j e).0 [] ++ (get_or ls j e).1 ∷ []
@@ -29,8 +29,8 @@ at_link ps (l ∷ ls) zero n e d a h g =
     let p : List Part = get_or ps l.0 [] ++ l.1 ∷ [] in
     let longer : length (path_after ps l) ≡ length ps + 1 = omega (arith, length-append ps (p ∷ [])) in
     let same : n ≡ length ps = omega arith in
-    let own : get_or (fold path_after (path_after ps l) ls) n d ≡ p = rw same (kept (path_after ps l) ls (length ps) d (omega arith) ∙ get_or-append_seam ps p [] d) in
-    let up : get_or (fold path_after (path_after ps l) ls) l.0 [] ≡ get_or ps l.0 [] = kept (path_after ps l) ls l.0 [] (omega arith) ∙ get_or_append_left ps (p ∷ []) [] l.0 (omega arith) in
+    let own : get_or (fold path_after (path_after ps l) ls) n d ≡ p = rw same (preserved (path_after ps l) ls (length ps) d (omega arith) ∙ get_or-append_seam ps p [] d) in
+    let up : get_or (fold path_after (path_after ps l) ls) l.0 [] ≡ get_or ps l.0 [] = preserved (path_after ps l) ls l.0 [] (omega arith) ∙ get_or_append_left ps (p ∷ []) [] l.0 (omega arith) in
     own ∙ ap (λ q. q ++ l.1 ∷ []) (sym up)
 at_link ps (l ∷ ls) (suc j) n e d a h g =
     let p : List Part = get_or ps l.0 [] ++ l.1 ∷ [] in
@@ -39,16 +39,16 @@ at_link ps (l ∷ ls) (suc j) n e d a h g =
 -- the children of a node
 pub record IsChildLink (n i : ℕ) (children : List ℕ) (ls : List (ℕ × Part)) (k : ℕ) (e : ℕ × Part) : Type 0 where
   pub place : ℕ
-  pub inside : place < length ls
+  pub nested : place < length ls
   pub number : get_or children k 0 ≡ n + place
   pub parent : (get_or ls place e).0 ≡ i
 
 children_first : (n i : ℕ) (l : ℕ × Part) (ls : List (ℕ × Part)) (rest : List ℕ) (e : ℕ × Part) → ((k : ℕ) → k < length rest → IsChildLink (n + 1) i rest ls k e)
     → l.0 ≡ i → (k : ℕ) → k < length (n ∷ rest) → IsChildLink n i (n ∷ rest) (l ∷ ls) k e
-children_first n i l ls rest e more is zero h = record { place = 0; inside = omega arith; number = omega arith; parent = is }
+children_first n i l ls rest e more is zero h = record { place = 0; nested = omega arith; number = omega arith; parent = is }
 children_first n i l ls rest e more is (suc k) h =
     let r = more k (omega arith) in
-    record { place = suc r.place; inside = omega arith; number = omega arith; parent = r.parent }
+    record { place = suc r.place; nested = omega arith; number = omega arith; parent = r.parent }
 
 children_at : (n i : ℕ) (ls : List (ℕ × Part)) (e : ℕ × Part) (k : ℕ) → k < length (children_from n i ls) → IsChildLink n i (children_from n i ls) ls k e
 children_at n i [] e k h = absurd (omega arith)
@@ -56,26 +56,26 @@ children_at n i (l ∷ ls) e k h =
     (elim (l.0 == i) as (λ b. (l.0 == i) ≡ b → k < length (cond b (n ∷ children_from (n + 1) i ls) (children_from (n + 1) i ls))
     → IsChildLink n i (cond b (n ∷ children_from (n + 1) i ls) (children_from (n + 1) i ls)) (l ∷ ls) k e) [
       | true ↦ λ is h. children_first n i l ls (children_from (n + 1) i ls) e (children_at (n + 1) i ls e) ((Decides-eqb l.0 i).0 is) k h
-      | false ↦ λ is h. let r = children_at (n + 1) i ls e k h in record { place = suc r.place; inside = omega arith; number = omega arith; parent = r.parent }
+      | false ↦ λ is h. let r = children_at (n + 1) i ls e k h in record { place = suc r.place; nested = omega arith; number = omega arith; parent = r.parent }
     ]) refl h
 
 pub record IsAmongChildren (n : ℕ) (children : List ℕ) : Type 0 where
   pub place : ℕ
-  pub inside : place < length children
+  pub nested : place < length children
   pub number : get_or children place 0 ≡ n
 
 children_all : (n i : ℕ) (ls : List (ℕ × Part)) (j : ℕ) (e : ℕ × Part) → j < length ls → (get_or ls j e).0 ≡ i → IsAmongChildren (n + j) (children_from n i ls)
 children_all n i [] j e h is = absurd (omega arith)
 children_all n i (l ∷ ls) zero e h is =
     (elim (l.0 == i) as (λ b. b ≡ true → IsAmongChildren (n + 0) (cond b (n ∷ children_from (n + 1) i ls) (children_from (n + 1) i ls))) [
-      | true ↦ λ _. record { place = 0; inside = omega arith; number = omega arith }
+      | true ↦ λ _. record { place = 0; nested = omega arith; number = omega arith }
       | false ↦ λ e. cc
     ]) ((Decides-eqb l.0 i).1 is)
 children_all n i (l ∷ ls) (suc j) e h is =
     let r = children_all (n + 1) i ls j e (omega arith) is in
     elim (l.0 == i) as (λ b. IsAmongChildren (n + suc j) (cond b (n ∷ children_from (n + 1) i ls) (children_from (n + 1) i ls))) [
-      | true ↦ record { place = suc r.place; inside = omega arith; number = omega arith }
-      | false ↦ record { place = r.place; inside = r.inside; number = omega arith }
+      | true ↦ record { place = suc r.place; nested = omega arith; number = omega arith }
+      | false ↦ record { place = r.place; nested = r.nested; number = omega arith }
     ]
 
 -- in a list of nodes
@@ -95,7 +95,7 @@ path_at-link nodes trie i d low h =
 
 pub record IsChildOf (nodes : List TrieNode) (i c : ℕ) : Type 0 where
   pub later : 0 < c
-  pub inside : c < length nodes
+  pub nested : c < length nodes
   pub parent : (d : TrieNode) → (get_or nodes c d).parent ≡ i
   pub path : (d : TrieNode) → path_at nodes c ≡ path_at nodes i ++ (link (get_or nodes c d)).1 ∷ []
 
@@ -106,7 +106,7 @@ child_at nodes trie i k d h g =
     let r = children_at 1 i ls (link d) k g in
     let many : length ls ≡ length nodes - 1 = omega (arith, length-drop 1 (map link nodes), length-map nodes link) in
     let c : ℕ = get_or (children_of nodes i) k 0 in
-    let here : c < length nodes = omega (arith, r.number, r.inside) in
+    let here : c < length nodes = omega (arith, r.number, r.nested) in
     let low : 0 < c = omega (arith, r.number) in
     let own : (x : TrieNode) → (get_or nodes c x).parent ≡ i = λ x.
     let same : get_or ls r.place (link d) ≡ link (get_or nodes c x) =
@@ -114,7 +114,7 @@ child_at nodes trie i k d h g =
     ap (λ (l : ℕ × Part). l.0) (sym same) ∙ r.parent in
     record {
       later = low;
-      inside = here;
+      nested = here;
       parent = own;
       path = λ x. path_at-link nodes trie c x low here ∙ ap (λ m. path_at nodes m ++ (link (get_or nodes c x)).1 ∷ []) (own x);
     }
@@ -166,14 +166,14 @@ no_child nodes trie i p e h none there =
     elim (cases_lt 0 j) [
       | inr none ↦
           let top : j ≡ 0 = omega arith in
-          let root : path_at nodes j ≡ [] = rw top (kept ([] ∷ []) ls 0 [] (omega arith)) in
+          let root : path_at nodes j ≡ [] = rw top (preserved ([] ∷ []) ls 0 [] (omega arith)) in
           absurd (omega (arith, ap length (sym root ∙ is), length-append (path_at nodes i) (p ∷ [])))
       | inl low ↦
           let up : (get_or nodes j e).parent < j = trie.parents j e low here in
           let split = push_same _ _ _ _ (sym (path_at-link nodes trie j e low here) ∙ is) in
           let same : (get_or nodes j e).parent ≡ i = one_node nodes trie _ i (omega arith) h split.0 in
           let r = subst (λ (m : ℕ). IsAmongChildren j (children_of nodes m)) same (child_placed nodes j e low here) in
-          none r.place r.inside (ap (λ m. (link (get_or nodes m e)).1) r.number ∙ split.1)
+          none r.place r.nested (ap (λ m. (link (get_or nodes m e)).1) r.number ∙ split.1)
     ]
 
 pub children-push : (n i : ℕ) (ls : List (ℕ × Part)) (l : ℕ × Part) (m : ℕ) → n + length ls ≡ m → children_from n i (ls ++ l ∷ []) ≡ children_from n i ls ++ cond (l.0 == i) (m ∷ []) []
@@ -199,7 +199,7 @@ no_children_past_end nodes trie d i h =
           let ls : List (ℕ × Part) = drop 1 (map link nodes) in
           let many : length ls ≡ length nodes - 1 = omega (arith, length-drop 1 (map link nodes), length-map nodes link) in
           let r = children_at 1 i ls (link d) 0 some in
-          let here : 1 + r.place < length nodes = omega (arith, r.inside) in
+          let here : 1 + r.place < length nodes = omega (arith, r.nested) in
           let same : get_or ls r.place (link d) ≡ link (get_or nodes (1 + r.place) d) =
           get_or-drop 1 (map link nodes) r.place (link d) ∙ get_or-map link nodes (1 + r.place) d (link d) here in
           absurd (omega (arith, trie.parents (1 + r.place) d (omega arith) here, ap (λ (l : ℕ × Part). l.0) same, r.parent))
@@ -207,7 +207,7 @@ no_children_past_end nodes trie d i h =
 
 -- the root's path, and what is above a node
 pub path_at-root : (nodes : List TrieNode) → path_at nodes 0 ≡ []
-path_at-root nodes = kept ([] ∷ []) (drop 1 (map link nodes)) 0 [] (omega arith)
+path_at-root nodes = preserved ([] ∷ []) (drop 1 (map link nodes)) 0 [] (omega arith)
 
 closed_once : (nodes : List TrieNode) → IsTrie nodes → (p : List Part) (x : Part) → Contains (paths_of nodes) (p ++ x ∷ []) → Contains (paths_of nodes) p
 closed_once [] trie p x there = absurd (omega (arith, trie.root))

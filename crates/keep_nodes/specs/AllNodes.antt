@@ -1,7 +1,7 @@
 -- The nodes, as contracts see them.
 use Rattle.std.specs.Prelude.{ℕ, List, ◌∷◌, ◌++◌, [], false, None, slice_index_or, slice_set}
 use Rattle.keep_meaning.specs.declared.node.Kind.TheVariants as kind
-use Rattle.keep_nodes.specs.declared.facts.PlaceKind.TheVariants as place_kind
+use Rattle.keep_nodes.specs.declared.facts.OriginKind.TheVariants as origin_kind
 use Rattle.keep_nodes.specs.declared.facts.NodeFacts.{NodeFacts}
 use Rattle.keep_nodes.specs.Children.{ChildList, Bare, Keyed, Listed, named, child_ids}
 
@@ -25,7 +25,7 @@ no_node = record {
     role = None;
     kind = kind.Table;
     passed = false;
-    place = place_kind.Root;
+    origin = origin_kind.Root;
     marks = 0;
     key = record { start = 0; end = 0 };
     value = record { start = 0; end = 0 };

@@ -7,7 +7,7 @@ use Rattle.std.specs.Global.{Global}
 abbrev pub named_pair : String Global × ℕ → List ℕ × ℕ
 named_pair e = (string_bytes e.0, e.1)
 
--- each key differs from those before it: from those of the entries that were there, and from those in front of it
+-- each key differs from those before it: from those of the entries that were there, and from those before it
 abbrev pub HasOwnKeys : List (List ℕ × ℕ) → List (List ℕ × ℕ) → Type 0
 HasOwnKeys there [] = Unit {0}
 HasOwnKeys there (e ∷ es) = (lookup (bytes_eq e.0) there ≡ None) × HasOwnKeys (there ++ e ∷ []) es

@@ -24,11 +24,11 @@ span_of start len = record { start = start; end = start + len }
 
 -- the facts that a form holds
 abbrev pub facts_in : Form → NodeFacts
-facts_in (Packed role kind passed place marks key_len value_len key_start value_start number) = record {
+facts_in (Packed role kind passed origin marks key_len value_len key_start value_start number) = record {
   role = role;
   kind = kind;
   passed = passed;
-  place = place;
+  origin = origin;
   marks = marks;
   key = span_of key_start key_len;
   value = span_of value_start value_len;

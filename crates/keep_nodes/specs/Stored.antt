@@ -7,7 +7,7 @@ use Rattle.keep_nodes.specs.Children.{holds_of, named, child_ids}
 use Rattle.keep_nodes.specs.Trie.{TrieNode, Holding, by_key, IsTrie, paths_of, children_of}
 use Rattle.keep_nodes.specs.Facts.{NodeInfos, info_of, no_info}
 
--- the step of the child of that number: its key, or the number
+-- the step of the child with that number: its key, or the number
 abbrev pub step_at : List (List ℕ × ℕ) → Holding → ℕ → Part
 step_at names by_key number = key (slice_index_or names number ([], 0)).0
 step_at names _ number = index number

@@ -165,7 +165,7 @@ impl Children {
         }
     }
 
-    /// The item or element of that number.
+    /// The item or element with that number.
     pub fn item(&self, number: usize) -> Option<usize>
         ensures { result ≡ child_numbered self.now number }
     {

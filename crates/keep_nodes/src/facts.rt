@@ -1,14 +1,14 @@
 //! The facts about a node.
 ghost use Rattle.std.specs.Prelude.{◌≡◌, ℕ, None, IsTrue, nat_le};
-ghost use Rattle.keep_nodes.specs.Facts.{joined_info, joined_facts, later_kind, matches_place, info_of, place_span, rank, named_info, unnamed_info, passed_info, place_of};
+ghost use Rattle.keep_nodes.specs.Facts.{joined_info, joined_facts, later_kind, matches_origin, info_of, origin_span, rank, named_info, unnamed_info, passed_info, origin_of};
 
-use keep_meaning::{Kind, NodeInfo, Place, Role};
+use keep_meaning::{Kind, NodeInfo, Origin, Role};
 use keep_syntax::Span;
 
 /// Where a node comes from, without the number of the value or statement. In the order of their ranks, so that two are
 /// compared as they are.
 #[derive(Clone, Copy, Debug)]
-pub enum PlaceKind {
+pub enum OriginKind {
     Root,
     Through,
     Dotted,
@@ -27,7 +27,7 @@ pub struct NodeFacts {
     pub kind: Kind,
     /// It is an element that some header goes past.
     pub passed: bool,
-    pub place: PlaceKind,
+    pub origin: OriginKind,
     /// How many key parts name it.
     pub marks: usize,
     /// The first key part that names it, if any does.
@@ -43,16 +43,16 @@ const NO_SPAN: Span = Span { start: 0, end: 0 };
 
 impl NodeFacts {
     /// The facts from a key part that names a node, with the value that it gives, if any.
-    pub fn named(kind: Kind, value: Option<Span>, key: Span, place: Place) -> NodeFacts
-        requires { IsTrue (matches_place value place) }
-        ensures { info_of result ≡ named_info kind value key place }
+    pub fn named(kind: Kind, value: Option<Span>, key: Span, origin: Origin) -> NodeFacts
+        requires { IsTrue (matches_origin value origin) }
+        ensures { info_of result ≡ named_info kind value key origin }
     {
-        let (place, number) = place_parts(place);
+        let (origin, number) = origin_parts(origin);
         NodeFacts {
             role: None,
             kind,
             passed: false,
-            place,
+            origin,
             marks: 1,
             key,
             value: value.unwrap_or(NO_SPAN),
@@ -61,17 +61,17 @@ impl NodeFacts {
     }
 
     /// The facts from an item or an element, which no key part names.
-    pub fn unnamed(kind: Kind, value: Option<Span>, place: Place) -> NodeFacts
-        requires { IsTrue (matches_place value place) }
-        ensures info { info_of result ≡ unnamed_info kind value place }
+    pub fn unnamed(kind: Kind, value: Option<Span>, origin: Origin) -> NodeFacts
+        requires { IsTrue (matches_origin value origin) }
+        ensures info { info_of result ≡ unnamed_info kind value origin }
         ensures role { result.role ≡ None }
     {
-        let (place, number) = place_parts(place);
+        let (origin, number) = origin_parts(origin);
         NodeFacts {
             role: None,
             kind,
             passed: false,
-            place,
+            origin,
             marks: 0,
             key: NO_SPAN,
             value: value.unwrap_or(NO_SPAN),
@@ -85,7 +85,7 @@ impl NodeFacts {
     {
         NodeFacts {
             passed: true,
-            ..NodeFacts::unnamed(Kind::Table, None, Place::Root)
+            ..NodeFacts::unnamed(Kind::Table, None, Origin::Root)
         }
     }
 
@@ -93,10 +93,10 @@ impl NodeFacts {
     pub fn info(&self) -> NodeInfo
         ensures { result ≡ info_of self.now }
     {
-        let place = place_of(self.place, self.number);
+        let origin = origin_of(self.origin, self.number);
         NodeInfo {
             kind: self.kind,
-            value_span: value_at(place, self.value),
+            value_span: value_at(origin, self.value),
             key_span: if self.marks == 0 {
                 None
             } else {
@@ -104,7 +104,7 @@ impl NodeFacts {
             },
             marks: self.marks,
             passed: self.passed,
-            place,
+            origin,
         }
     }
 
@@ -114,7 +114,7 @@ impl NodeFacts {
         ensures info { info_of result ≡ joined_info (info_of self) (info_of more) }
         ensures role { result.role ≡ self.role }
     {
-        let later = if yields_to(self.place, more.place) {
+        let later = if yields_to(self.origin, more.origin) {
             more
         } else {
             self
@@ -123,7 +123,7 @@ impl NodeFacts {
             role: self.role,
             kind: later_kind(self.kind, more.kind),
             passed: self.passed || more.passed,
-            place: later.place,
+            origin: later.origin,
             // No document has so many key parts that this is less than the sum.
             marks: self.marks.saturating_add(more.marks),
             key: if self.marks == 0 { more.key } else { self.key },
@@ -134,41 +134,41 @@ impl NodeFacts {
 }
 
 /// Which place it is, and the number that it names, or 0.
-fn place_parts(place: Place) -> (PlaceKind, usize)
-    ensures { place_of result.0 result.1 ≡ place }
+fn origin_parts(origin: Origin) -> (OriginKind, usize)
+    ensures { origin_of result.0 result.1 ≡ origin }
 {
-    match place {
-        Place::Root => (PlaceKind::Root, 0),
-        Place::Value(number) => (PlaceKind::Value, number),
-        Place::Header(number) => (PlaceKind::Header, number),
-        Place::Element(number) => (PlaceKind::Element, number),
-        Place::Dotted(number) => (PlaceKind::Dotted, number),
-        Place::Through(number) => (PlaceKind::Through, number),
-        Place::Tables => (PlaceKind::Tables, 0),
+    match origin {
+        Origin::Root => (OriginKind::Root, 0),
+        Origin::Value(number) => (OriginKind::Value, number),
+        Origin::Header(number) => (OriginKind::Header, number),
+        Origin::Element(number) => (OriginKind::Element, number),
+        Origin::Dotted(number) => (OriginKind::Dotted, number),
+        Origin::Through(number) => (OriginKind::Through, number),
+        Origin::Tables => (OriginKind::Tables, 0),
     }
 }
 
 /// The place of that kind, with the number that it names.
-fn place_of(kind: PlaceKind, number: usize) -> Place
-    ensures { result ≡ place_of kind number }
+fn origin_of(kind: OriginKind, number: usize) -> Origin
+    ensures { result ≡ origin_of kind number }
 {
     match kind {
-        PlaceKind::Root => Place::Root,
-        PlaceKind::Value => Place::Value(number),
-        PlaceKind::Header => Place::Header(number),
-        PlaceKind::Element => Place::Element(number),
-        PlaceKind::Dotted => Place::Dotted(number),
-        PlaceKind::Through => Place::Through(number),
-        PlaceKind::Tables => Place::Tables,
+        OriginKind::Root => Origin::Root,
+        OriginKind::Value => Origin::Value(number),
+        OriginKind::Header => Origin::Header(number),
+        OriginKind::Element => Origin::Element(number),
+        OriginKind::Dotted => Origin::Dotted(number),
+        OriginKind::Through => Origin::Through(number),
+        OriginKind::Tables => Origin::Tables,
     }
 }
 
 /// The text of the value that a place names, if it names one.
-fn value_at(place: Place, value: Span) -> Option<Span>
-    ensures { result ≡ place_span place value }
+fn value_at(origin: Origin, value: Span) -> Option<Span>
+    ensures { result ≡ origin_span origin value }
 {
-    match place {
-        Place::Value(_) => Some(value),
+    match origin {
+        Origin::Value(_) => Some(value),
         _ => None,
     }
 }
@@ -181,23 +181,23 @@ pub fn later_kind(old: Kind, more: Kind) -> Kind
 }
 
 /// Whether a later place replaces an older one: it does, if its rank is not the lower.
-pub fn yields_to(old: PlaceKind, more: PlaceKind) -> bool
-    ensures { (m n : ℕ) → result ≡ nat_le (rank (place_of old m)) (rank (place_of more n)) }
+pub fn yields_to(old: OriginKind, more: OriginKind) -> bool
+    ensures { (m n : ℕ) → result ≡ nat_le (rank (origin_of old m)) (rank (origin_of more n)) }
 {
     rank_of(old) <= rank_of(more)
 }
 
 /// The rank of a place: of two places the one of the higher rank is stored.
-fn rank_of(kind: PlaceKind) -> u8
-    ensures { (number : ℕ) → result ≡ rank (place_of kind number) }
+fn rank_of(kind: OriginKind) -> u8
+    ensures { (number : ℕ) → result ≡ rank (origin_of kind number) }
 {
     match kind {
-        PlaceKind::Root => 0,
-        PlaceKind::Through => 1,
-        PlaceKind::Dotted => 2,
-        PlaceKind::Header => 3,
-        PlaceKind::Element => 4,
-        PlaceKind::Tables => 5,
-        PlaceKind::Value => 6,
+        OriginKind::Root => 0,
+        OriginKind::Through => 1,
+        OriginKind::Dotted => 2,
+        OriginKind::Header => 3,
+        OriginKind::Element => 4,
+        OriginKind::Tables => 5,
+        OriginKind::Value => 6,
     }
 }

@@ -89,7 +89,7 @@ impl FewKeys {
         Ok(())
     }
 
-    /// The same children as a map.
+    /// These children as a map.
     pub fn into_map(self, alloc: Global, seed: Seed) -> Result<KeyMap, AllocError>
         ensures { IfOk result (λ keys. keys ≡ self) }
     {
@@ -101,7 +101,7 @@ impl FewKeys {
     }
 }
 
-/// The child of the entry of that number.
+/// The child of the entry with that number.
 fn child_in(entries: &[(String, usize)], number: usize) -> Option<usize>
     ensures { result ≡ slice_get (map (λ e. e.1) entries.now) number }
 {

@@ -70,7 +70,7 @@ impl KeyMap {
     }
 }
 
-/// The child of the key of that number.
+/// The child of the key with that number.
 fn child_in(table: &IndexMap<String, usize, Seed>, number: usize) -> Option<usize>
     ensures { result ≡ slice_get (map (λ e. e.1) table.now.entries) number }
 {

@@ -11,5 +11,5 @@ mod packed;
 mod seed;
 
 pub use children::Holds;
-pub use facts::{NodeFacts, PlaceKind};
+pub use facts::{NodeFacts, OriginKind};
 pub use nodes::{Nodes, add_facts, add_item, add_key, child_of, set_role};

@@ -60,7 +60,7 @@ impl ParentLinks {
         }
     }
 
-    /// The parent link of the node of this number.
+    /// The parent link of the node with this number.
     pub fn get(&self, number: usize) -> ParentLink
         requires { number < length self.now }
         ensures { slice_get self.now number ≡ Some result }

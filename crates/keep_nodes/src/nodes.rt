@@ -110,7 +110,7 @@ impl Nodes {
         self.list[id].children.child(text)
     }
 
-    /// The item or element of that number.
+    /// The item or element with that number.
     pub fn item(&self, id: usize, number: usize) -> Option<usize>
         requires { id < length self.now.items }
         ensures { result ≡ child_numbered (node_at self.now.items id).children number }
@@ -215,7 +215,7 @@ pub fn child_of(nodes: &Nodes, parent: usize, text: &str) -> Option<usize>
     requires within { parent < length nodes.now.items }
     requires keyed { holds_at (trie_of nodes.now.items) parent ≡ by_key }
     ensures none { IfNone result (Contains (paths_of (trie_of nodes.now.items)) (path_at (trie_of nodes.now.items) parent ++ key text.now ∷ []) → ⊥) }
-    ensures inside { IfSome result (λ child. child < length nodes.now.items) }
+    ensures nested { IfSome result (λ child. child < length nodes.now.items) }
     ensures found { IfSome result (λ child. path_at (trie_of nodes.now.items) child ≡ path_at (trie_of nodes.now.items) parent ++ key text.now ∷ []) }
 {
     nodes.child(parent, text)

@@ -3,7 +3,7 @@ ghost use Rattle.std.specs.Prelude.{◌≡◌, IfNone, IfOk, IfSome, None, OnOk}
 ghost use Rattle.keep_nodes.specs.Packed.{Fits, FitsSpan, span_of, facts_in};
 ghost use Rattle.keep_nodes.specs.Facts.{joined_facts};
 
-use crate::facts::{NodeFacts, PlaceKind, later_kind, yields_to};
+use crate::facts::{NodeFacts, OriginKind, later_kind, yields_to};
 use keep_meaning::{Kind, Role};
 use keep_syntax::Span;
 use std::alloc::{AllocError, Global};
@@ -16,7 +16,7 @@ pub enum Form {
         role: Option<Role>,
         kind: Kind,
         passed: bool,
-        place: PlaceKind,
+        origin: OriginKind,
         marks: u16,
         key_len: u16,
         value_len: u16,
@@ -74,7 +74,7 @@ fn packed_form(facts: &NodeFacts) -> Option<Form>
         role: facts.role,
         kind: facts.kind,
         passed: facts.passed,
-        place: facts.place,
+        origin: facts.origin,
         marks: u16::try_from(facts.marks).ok()?,
         key_len,
         value_len,
@@ -105,7 +105,7 @@ impl PackedFacts {
                 role,
                 kind,
                 passed,
-                place,
+                origin,
                 marks,
                 key_len,
                 value_len,
@@ -116,7 +116,7 @@ impl PackedFacts {
                 role: *role,
                 kind: *kind,
                 passed: *passed,
-                place: *place,
+                origin: *origin,
                 marks: *marks as usize,
                 key: span_of(*key_start, *key_len),
                 value: span_of(*value_start, *value_len),
@@ -152,7 +152,7 @@ impl PackedFacts {
             role: state,
             kind,
             passed,
-            place,
+            origin,
             marks,
             key_len,
             value_len,
@@ -169,10 +169,10 @@ impl PackedFacts {
         } else {
             (*key_start, *key_len)
         };
-        if yields_to(*place, more.place) {
+        if yields_to(*origin, more.origin) {
             let value = packed_span(more.value)?;
             *number = u32::try_from(more.number).ok()?;
-            *place = more.place;
+            *origin = more.origin;
             (*value_start, *value_len) = value;
         }
         (*key_start, *key_len) = key;

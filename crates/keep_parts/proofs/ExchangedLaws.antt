@@ -4,7 +4,7 @@ use Rattle.std.specs.Prelude.{slice_range}
 use Rattle.std.specs.List.{AllByRecursion}
 use Rattle.std.proofs.lemmas.List.{length-append, map-append}
 use Rattle.keep_parts.specs.Exchanging.{HasRoom, Exchanged}
-use Rattle.keep_parts.proofs.ExchangeLaws.{three, take_front, drop_front, take_length}
+use Rattle.keep_parts.proofs.ExchangeLaws.{three, take_prefix, drop_prefix, take_length}
 use Rattle.keep_parts.proofs.ShiftLaws.{map_is, map_back}
 
 map_take : {A B : Type 0} (f : A → B) (n : ℕ) (xs : List A) → map f (take n xs) ≡ take n (map f xs)
@@ -18,15 +18,15 @@ map_drop f (suc n) [] = refl
 map_drop f (suc n) (x ∷ xs) = map_drop f n xs
 
 -- what is said after the exchange
-pub told_exchanged : {A B Z : Type 0} (tell : A → B) (f : A → A) (m : B → B) (P : A → Type 0) → ((x : A) → P x → tell (f x) ≡ m (tell x))
+pub unpacked_exchanged : {A B Z : Type 0} (unpack : A → B) (f : A → A) (m : B → B) (P : A → Type 0) → ((x : A) → P x → unpack (f x) ≡ m (unpack x))
     → (from to : ℕ) (p run q gone : Vec A Z) → Exchanged f from to p run q gone → AllByRecursion P (drop to p.items)
-    → map tell q.items ≡ take from (map tell p.items) ++ (map tell run.items ++ map m (drop to (map tell p.items)))
-told_exchanged tell f m P one from to p run q gone e all =
-    ap (map tell) e.items_are
-    ∙ map-append tell (take from p.items) (run.items ++ map f (drop to p.items))
-    ∙ ap (λ ys. map tell (take from p.items) ++ ys) (map-append tell run.items (map f (drop to p.items)))
-    ∙ ap (λ ys. ys ++ (map tell run.items ++ map tell (map f (drop to p.items)))) (map_take tell from p.items)
-    ∙ ap (λ ys. take from (map tell p.items) ++ (map tell run.items ++ ys)) (map_is tell f m P one (drop to p.items) all ∙ ap (map m) (map_drop tell to p.items))
+    → map unpack q.items ≡ take from (map unpack p.items) ++ (map unpack run.items ++ map m (drop to (map unpack p.items)))
+unpacked_exchanged unpack f m P one from to p run q gone e all =
+    ap (map unpack) e.items_are
+    ∙ map-append unpack (take from p.items) (run.items ++ map f (drop to p.items))
+    ∙ ap (λ ys. map unpack (take from p.items) ++ ys) (map-append unpack run.items (map f (drop to p.items)))
+    ∙ ap (λ ys. ys ++ (map unpack run.items ++ map unpack (map f (drop to p.items)))) (map_take unpack from p.items)
+    ∙ ap (λ ys. take from (map unpack p.items) ++ (map unpack run.items ++ ys)) (map_is unpack f m P one (drop to p.items) all ∙ ap (map m) (map_drop unpack to p.items))
 
 -- the same of vectors with the same elements
 pub same_exchanged : {A Z : Type 0} (f : A → A) (from to : ℕ) (p p1 run run1 q gone : Vec A Z) → p1.items ≡ p.items → run1.items ≡ run.items
@@ -56,17 +56,17 @@ pub exchanged_back : {A Z : Type 0} (f g : A → A) (P : A → Type 0) → ((x :
     → Exchanged f from to p run q gone → Exchanged g from until q gone r rest → r.items ≡ p.items
 exchanged_back f g P back from to until p run q gone r rest order within count all h k =
     let xs = p.items in
-    let front = take from xs in
+    let prefix = take from xs in
     let new = run.items in
     let after = map f (drop to xs) in
-    let l : length front ≡ from = take_length xs from (omega (arith, order, within, p.ok.0)) in
-    let n : length (front ++ new) ≡ until = omega (arith, length-append front new, l, count, run.ok.0) in
-    let now : q.items ≡ (front ++ new) ++ after = h.items_are ∙ sym (append_assoc front new after) in
+    let l : length prefix ≡ from = take_length xs from (omega (arith, order, within, p.ok.0)) in
+    let n : length (prefix ++ new) ≡ until = omega (arith, length-append prefix new, l, count, run.ok.0) in
+    let now : q.items ≡ (prefix ++ new) ++ after = h.items_are ∙ sym (append_assoc prefix new after) in
     k.items_are
     ∙ ap (λ ys. take from ys ++ (gone.items ++ map g (drop until q.items))) h.items_are
-    ∙ ap (λ ys. ys ++ (gone.items ++ map g (drop until q.items))) (take_front front (new ++ after) from l)
-    ∙ ap (λ ys. front ++ (ys ++ map g (drop until q.items))) h.run_is
-    ∙ ap (λ ys. front ++ (slice_range xs from to ++ map g (drop until ys))) now
-    ∙ ap (λ ys. front ++ (slice_range xs from to ++ map g ys)) (drop_front (front ++ new) after until n)
-    ∙ ap (λ ys. front ++ (slice_range xs from to ++ ys)) (map_back f g P back (drop to xs) all)
+    ∙ ap (λ ys. ys ++ (gone.items ++ map g (drop until q.items))) (take_prefix prefix (new ++ after) from l)
+    ∙ ap (λ ys. prefix ++ (ys ++ map g (drop until q.items))) h.run_is
+    ∙ ap (λ ys. prefix ++ (slice_range xs from to ++ map g (drop until ys))) now
+    ∙ ap (λ ys. prefix ++ (slice_range xs from to ++ map g ys)) (drop_prefix (prefix ++ new) after until n)
+    ∙ ap (λ ys. prefix ++ (slice_range xs from to ++ ys)) (map_back f g P back (drop to xs) all)
     ∙ sym (three xs from to order)

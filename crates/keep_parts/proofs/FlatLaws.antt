@@ -1,4 +1,4 @@
--- What is kept is the same if each list is, and a change of a value in its list.
+-- What is stored is the same if each list is, and a change of a value in its list.
 use Rattle.std.proofs.Common.{◌≡◌, ℕ, ◌-◌, ◌<◌, ◌≤◌, List, ◌∷◌, ◌++◌, length, get_or, map, sym, ap, ◌∙◌, arith}
 use Rattle.std.proofs.Math.ListN.{set, get_or-map, get_or-append}
 use Rattle.std.proofs.Math.Seq.{set-append_seam, get_or-append_seam}
@@ -7,9 +7,9 @@ use Rattle.keep_token.specs.declared.leaf.Leaf.{Leaf}
 use Rattle.keep_parts.specs.declared.info.Statement.{Statement}
 use Rattle.keep_parts.specs.declared.info.KeyPart.{KeyPart}
 use Rattle.keep_parts.specs.declared.info.ValueInfo.{ValueInfo}
-use Rattle.keep_parts.specs.declared.values.NarrowValue.{NarrowValue}
+use Rattle.keep_parts.specs.declared.values.PackedValue.{PackedValue}
 use Rattle.keep_parts.specs.declared.values.Values.{Values}
-use Rattle.keep_parts.specs.Flat.{Flat, shown, values_in}
+use Rattle.keep_parts.specs.Flat.{Flat, unpacked_value, values_in}
 
 pub same_flat : (a b : Flat) → a.kinds ≡ b.kinds → a.starts ≡ b.starts → a.statements ≡ b.statements → a.keys ≡ b.keys → a.values ≡ b.values → a ≡ b
 same_flat a b e1 e2 e3 e4 e5 =
@@ -19,38 +19,38 @@ same_flat a b e1 e2 e3 e4 e5 =
 -- ---- a value is changed
 
 -- the item at a place, and what a write there changes
-at_seam : {A : Type 0} (vs front : List A) (item : A) (back : List A) (number : ℕ) (d : A) → length front ≡ number → vs ≡ front ++ (item ∷ back) → get_or vs number d ≡ item
-at_seam {A} vs front item back number d len is =
-    ap (λ (l : List A). get_or l number d) is ∙ ap (λ (n : ℕ). get_or (front ++ (item ∷ back)) n d) (sym len) ∙ get_or-append_seam front item back d
+at_seam : {A : Type 0} (vs prefix : List A) (item : A) (back : List A) (number : ℕ) (d : A) → length prefix ≡ number → vs ≡ prefix ++ (item ∷ back) → get_or vs number d ≡ item
+at_seam {A} vs prefix item back number d len is =
+    ap (λ (l : List A). get_or l number d) is ∙ ap (λ (n : ℕ). get_or (prefix ++ (item ∷ back)) n d) (sym len) ∙ get_or-append_seam prefix item back d
 
-set_at_seam : {A : Type 0} (vs front : List A) (item : A) (back : List A) (number : ℕ) (a : A) → length front ≡ number → vs ≡ front ++ (item ∷ back) → set vs number a ≡ front ++ (a ∷ back)
-set_at_seam {A} vs front item back number a len is =
-    ap (λ (l : List A). set l number a) is ∙ ap (λ (n : ℕ). set (front ++ (item ∷ back)) n a) (sym len) ∙ set-append_seam front item back a
+set_at_seam : {A : Type 0} (vs prefix : List A) (item : A) (back : List A) (number : ℕ) (a : A) → length prefix ≡ number → vs ≡ prefix ++ (item ∷ back) → set vs number a ≡ prefix ++ (a ∷ back)
+set_at_seam {A} vs prefix item back number a len is =
+    ap (λ (l : List A). set l number a) is ∙ ap (λ (n : ℕ). set (prefix ++ (item ∷ back)) n a) (sym len) ∙ set-append_seam prefix item back a
 
-module _ (vs : Values) (front : List ValueInfo) (info : ValueInfo) (back : List ValueInfo) (number : ℕ) (len : length front ≡ number) (is : values_in vs ≡ front ++ (info ∷ back)) where
+module _ (vs : Values) (prefix : List ValueInfo) (info : ValueInfo) (back : List ValueInfo) (number : ℕ) (len : length prefix ≡ number) (is : values_in vs ≡ prefix ++ (info ∷ back)) where
   -- among those in few bits
-  module _ (below : number < length vs.narrow.items) where
-    below_shown : number < length (map shown vs.narrow.items)
-    below_shown = omega (arith, length-map vs.narrow.items shown)
+  module _ (below : number < length vs.packed.items) where
+    below_unpacked : number < length (map unpacked_value vs.packed.items)
+    below_unpacked = omega (arith, length-map vs.packed.items unpacked_value)
 
-    pub narrow_seam : (s : NarrowValue) → s ≡ get_or vs.narrow.items number s → shown s ≡ info
-    narrow_seam s e =
-        ap shown e ∙ sym (get_or-map shown vs.narrow.items number s) ∙ sym (get_or-append (map shown vs.narrow.items) vs.wide.items (shown s) number below_shown)
-        ∙ at_seam (values_in vs) front info back number (shown s) len is
+    pub packed_seam : (s : PackedValue) → s ≡ get_or vs.packed.items number s → unpacked_value s ≡ info
+    packed_seam s e =
+        ap unpacked_value e ∙ sym (get_or-map unpacked_value vs.packed.items number s) ∙ sym (get_or-append (map unpacked_value vs.packed.items) vs.unpacked.items (unpacked_value s) number below_unpacked)
+        ∙ at_seam (values_in vs) prefix info back number (unpacked_value s) len is
 
-    pub set_narrow_seam : (s : NarrowValue) → map shown (set vs.narrow.items number s) ++ vs.wide.items ≡ front ++ (shown s ∷ back)
-    set_narrow_seam s =
-        ap (λ (l : List ValueInfo). l ++ vs.wide.items) (map-set shown vs.narrow.items number s) ∙ sym (set-append_left (map shown vs.narrow.items) vs.wide.items number (shown s) below_shown)
-        ∙ set_at_seam (values_in vs) front info back number (shown s) len is
+    pub set_packed_seam : (s : PackedValue) → map unpacked_value (set vs.packed.items number s) ++ vs.unpacked.items ≡ prefix ++ (unpacked_value s ∷ back)
+    set_packed_seam s =
+        ap (λ (l : List ValueInfo). l ++ vs.unpacked.items) (map-set unpacked_value vs.packed.items number s) ∙ sym (set-append_left (map unpacked_value vs.packed.items) vs.unpacked.items number (unpacked_value s) below_unpacked)
+        ∙ set_at_seam (values_in vs) prefix info back number (unpacked_value s) len is
 
   -- among the others
-  module _ (narrow : ℕ) (count : length vs.narrow.items ≡ narrow) (past : narrow ≤ number) where
-    pub wide_seam : (v : ValueInfo) → v ≡ get_or vs.wide.items (number - narrow) v → v ≡ info
-    wide_seam v e =
-        e ∙ sym (get_or-append_right (map shown vs.narrow.items) vs.wide.items narrow number v (length-map vs.narrow.items shown ∙ count) past)
-        ∙ at_seam (values_in vs) front info back number v len is
+  module _ (packed : ℕ) (count : length vs.packed.items ≡ packed) (past : packed ≤ number) where
+    pub unpacked_seam : (v : ValueInfo) → v ≡ get_or vs.unpacked.items (number - packed) v → v ≡ info
+    unpacked_seam v e =
+        e ∙ sym (get_or-append_right (map unpacked_value vs.packed.items) vs.unpacked.items packed number v (length-map vs.packed.items unpacked_value ∙ count) past)
+        ∙ at_seam (values_in vs) prefix info back number v len is
 
-    pub set_wide_seam : (v : ValueInfo) → map shown vs.narrow.items ++ set vs.wide.items (number - narrow) v ≡ front ++ (v ∷ back)
-    set_wide_seam v =
-        sym (set-append_right (map shown vs.narrow.items) vs.wide.items narrow number v (length-map vs.narrow.items shown ∙ count) past)
-        ∙ set_at_seam (values_in vs) front info back number v len is
+    pub set_unpacked_seam : (v : ValueInfo) → map unpacked_value vs.packed.items ++ set vs.unpacked.items (number - packed) v ≡ prefix ++ (v ∷ back)
+    set_unpacked_seam v =
+        sym (set-append_right (map unpacked_value vs.packed.items) vs.unpacked.items packed number v (length-map vs.packed.items unpacked_value ∙ count) past)
+        ∙ set_at_seam (values_in vs) prefix info back number v len is

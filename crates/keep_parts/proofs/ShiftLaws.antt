@@ -8,14 +8,14 @@ use Rattle.keep_parts.specs.declared.info.ValueInfo.{ValueInfo}
 use Rattle.keep_parts.specs.declared.info.Owner.{Owner}
 use Rattle.keep_parts.specs.declared.info.Owner.TheVariants as owner
 use Rattle.keep_parts.specs.declared.moves.Counts.{Counts}
-use Rattle.keep_parts.specs.declared.statements.NarrowStatement.{NarrowStatement}
-use Rattle.keep_parts.specs.declared.keys.NarrowKeyPart.{NarrowKeyPart}
+use Rattle.keep_parts.specs.declared.statements.PackedStatement.{PackedStatement}
+use Rattle.keep_parts.specs.declared.keys.PackedKeyPart.{PackedKeyPart}
 use Rattle.keep_parts.specs.declared.values.Within.{Within}
 use Rattle.keep_parts.specs.declared.values.Within.TheVariants as within
-use Rattle.keep_parts.specs.declared.values.NarrowValue.{NarrowValue}
+use Rattle.keep_parts.specs.declared.values.PackedValue.{PackedValue}
 use Rattle.keep_parts.specs.Counts.{span}
 use Rattle.keep_parts.specs.Lifted.{moved, moved_there, moved_key, moved_statement, moved_value, moved_owner}
-use Rattle.keep_parts.specs.Flat.{told, told_key, shown, if_there, owner_of}
+use Rattle.keep_parts.specs.Flat.{unpacked_statement, unpacked_key_part, unpacked_value, if_there, owner_of}
 use Rattle.keep_parts.specs.Rereading.{count_of}
 use Rattle.keep_parts.specs.Shifting.{last_u32, last_usize, shifted_to, FitsMoved, shifted_key, CanShiftKey, shifted_statement, CanShiftStatement, owners_of, shifted_value, CanShiftValue}
 
@@ -43,13 +43,13 @@ there_back false last a b n h = refl
 
 -- ---- key parts
 
-pub key_is : (a b : Counts) (k : NarrowKeyPart) → CanShiftKey a b k → told_key (shifted_key a b k) ≡ moved_key (count_of a) (count_of b) (told_key k)
+pub key_is : (a b : Counts) (k : PackedKeyPart) → CanShiftKey a b k → unpacked_key_part (shifted_key a b k) ≡ moved_key (count_of a) (count_of b) (unpacked_key_part k)
 key_is a b k h =
     let at : ℕ → ℕ → KeyPart = λ x y. record { leaf = k.leaf; span = span x y } in
     ap (λ y. at (shifted_to last_u32 a.at b.at k.start) y) (fits_sum last_u32 a.at b.at k.start k.len h.start)
     ∙ ap (λ x. at x (moved a.at b.at (k.start + k.len))) (fits_is last_u32 a.at b.at k.start h.start)
 
-pub key_back : (a b : Counts) (k : NarrowKeyPart) → CanShiftKey a b k → shifted_key b a (shifted_key a b k) ≡ k
+pub key_back : (a b : Counts) (k : PackedKeyPart) → CanShiftKey a b k → shifted_key b a (shifted_key a b k) ≡ k
 key_back a b k h = ap (λ (n : ℕ). record k { start = n }) (fits_back last_u32 a.at b.at k.start h.start)
 
 -- ---- statements
@@ -59,7 +59,7 @@ six {A} {B} f {x} {x2} {y} {y2} {z} {z2} {w} {w2} {k} {k2} {v} {v2} p q r s t u 
     ap (λ (n : ℕ). f n y z w k v) p ∙ ap (λ (n : ℕ). f x2 n z w k v) q ∙ ap (λ (n : ℕ). f x2 y2 n w k v) r ∙ ap (λ (n : ℕ). f x2 y2 z2 n k v) s ∙ ap (λ (n : A). f x2 y2 z2 w2 n v) t
     ∙ ap (λ (n : B). f x2 y2 z2 w2 k2 n) u
 
-pub statement_is : (a b : Counts) (s : NarrowStatement) → CanShiftStatement a b s → told (shifted_statement a b s) ≡ moved_statement (count_of a) (count_of b) (told s)
+pub statement_is : (a b : Counts) (s : PackedStatement) → CanShiftStatement a b s → unpacked_statement (shifted_statement a b s) ≡ moved_statement (count_of a) (count_of b) (unpacked_statement s)
 statement_is a b s h =
     six (λ x y z w (k : ℕ) (v : Option ℕ). the_statement x y z w k v)
     (fits_sum last_u32 a.at b.at s.line_start s.before h.line_start)
@@ -72,7 +72,7 @@ statement_is a b s h =
     the_statement : ℕ → ℕ → ℕ → ℕ → ℕ → Option ℕ → Statement
     the_statement x y z w k v = record { kind = s.kind; span = span x y; line = span z w; first_key = k; keys = s.keys; value = v }
 
-pub statement_back : (a b : Counts) (s : NarrowStatement) → CanShiftStatement a b s → shifted_statement b a (shifted_statement a b s) ≡ s
+pub statement_back : (a b : Counts) (s : PackedStatement) → CanShiftStatement a b s → shifted_statement b a (shifted_statement a b s) ≡ s
 statement_back a b s h =
     let x = fits_back last_u32 a.at b.at s.line_start h.line_start in
     let y = fits_back last_u32 a.at b.at s.end h.end in
@@ -96,7 +96,7 @@ pub anchor_is : (test : Bool) (a b n : ℕ) → FitsMoved last_u32 a b n → if_
 anchor_is true a b n h = ap Some (fits_is last_u32 a b n h)
 anchor_is false a b n h = refl
 
-pub value_is : (a b : Counts) (v : NarrowValue) → CanShiftValue a b v → shown (shifted_value a b v) ≡ moved_value (count_of a) (count_of b) (shown v)
+pub value_is : (a b : Counts) (v : PackedValue) → CanShiftValue a b v → unpacked_value (shifted_value a b v) ≡ moved_value (count_of a) (count_of b) (unpacked_value v)
 value_is a b v h =
     let x : shifted_to last_u32 a.at b.at v.anchor + v.gap + v.lead ≡ moved a.at b.at (v.anchor + v.gap + v.lead) = omega (arith, h.anchor.fits, h.anchor.low) in
     let o = owner_is a b v.within v.owner h.owner in
@@ -114,7 +114,7 @@ value_is a b v h =
     the_value : ℕ → ℕ → ℕ → ℕ → Owner → Option ℕ → Option ℕ → ValueInfo
     the_value x y z k o m n = record { leaf = v.leaf; span = span x y; whole = span z y; owner = o; depth = v.depth; first_key = k; keys = v.keys; comma_before = m; comma_after = n }
 
-pub value_back : (a b : Counts) (v : NarrowValue) → CanShiftValue a b v → shifted_value b a (shifted_value a b v) ≡ v
+pub value_back : (a b : Counts) (v : PackedValue) → CanShiftValue a b v → shifted_value b a (shifted_value a b v) ≡ v
 value_back a b v h =
     let x = fits_back last_u32 a.at b.at v.anchor h.anchor in
     let o = fits_back last_u32 (owners_of v.within a) (owners_of v.within b) v.owner h.owner in

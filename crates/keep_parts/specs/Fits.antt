@@ -1,4 +1,4 @@
--- What is kept in few bytes: that whose numbers fit.
+-- What is packed into few bytes: that whose numbers fit.
 use Rattle.std.specs.Prelude.{◌≡◌, ℕ, ◌+◌, ◌<◌, ◌≤◌, ◌^◌, max}
 use Rattle.std.specs.Option.{unwrap_or}
 use Rattle.keep_parts.specs.declared.info.Owner.{Owner}
@@ -13,7 +13,7 @@ pub record FitsKey (part : KeyPart) : Type 0 where
   pub order : part.span.start ≤ part.span.end
   pub len : part.span.end < part.span.start + 2 ^ 16
 
--- a statement that stands in its line, with less than 64 KiB of that before it and behind it
+-- a statement that is in its line, with less than 64 KiB of that before it and after it
 pub record FitsStatement (s : Statement) : Type 0 where
   pub places : max s.line.start s.span.end < 2 ^ 32
   pub numbers : max s.first_key (unwrap_or s.value 0) < 2 ^ 32
@@ -23,13 +23,13 @@ pub record FitsStatement (s : Statement) : Type 0 where
   pub ends : s.span.end ≤ s.line.end
   pub behind : s.line.end < s.span.end + 2 ^ 16
 
--- the number of what a value stands in
+-- the number of what a value is in
 abbrev pub owner_number : Owner → ℕ
 owner_number (owner.Line number) = number
 owner_number (owner.Inline number) = number
 owner_number (owner.Item number) = number
 
--- where the comma before it stands, or else where its keyval starts
+-- where the comma before it is, or else where its keyval starts
 abbrev pub anchor : ValueInfo → ℕ
 anchor v = unwrap_or v.comma_before v.whole.start
 

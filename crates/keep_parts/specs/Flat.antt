@@ -1,17 +1,17 @@
--- What is kept of a text, as lists.
+-- What is stored of a text, as lists.
 use Rattle.std.specs.Prelude.{◌≡◌, ℕ, ◌+◌, List, [], ◌∷◌, ◌++◌, length, map, Bool, if◌then◌else◌, Option, Some, None}
 use Rattle.keep_token.specs.declared.leaf.Leaf.{Leaf}
 use Rattle.keep_parts.specs.declared.info.Statement.{Statement}
 use Rattle.keep_parts.specs.declared.info.KeyPart.{KeyPart}
 use Rattle.keep_parts.specs.declared.info.ValueInfo.{ValueInfo}
 use Rattle.keep_parts.specs.declared.info.Start.{Start}
-use Rattle.keep_parts.specs.declared.statements.NarrowStatement.{NarrowStatement}
+use Rattle.keep_parts.specs.declared.statements.PackedStatement.{PackedStatement}
 use Rattle.keep_parts.specs.declared.statements.Statements.{Statements}
-use Rattle.keep_parts.specs.declared.keys.NarrowKeyPart.{NarrowKeyPart}
+use Rattle.keep_parts.specs.declared.keys.PackedKeyPart.{PackedKeyPart}
 use Rattle.keep_parts.specs.declared.keys.KeyParts.{KeyParts}
 use Rattle.keep_parts.specs.declared.values.Within.{Within}
 use Rattle.keep_parts.specs.declared.values.Within.TheVariants as within
-use Rattle.keep_parts.specs.declared.values.NarrowValue.{NarrowValue}
+use Rattle.keep_parts.specs.declared.values.PackedValue.{PackedValue}
 use Rattle.keep_parts.specs.declared.values.Values.{Values}
 use Rattle.keep_parts.specs.declared.parts.Parts.{Parts}
 use Rattle.keep_parts.specs.declared.info.Owner.{Owner}
@@ -30,15 +30,15 @@ pub record Flat : Type 0 where
 abbrev pub if_there : Bool → ℕ → Option ℕ
 if_there there number = if there then Some number else None
 
--- what a value stands in, with its number
+-- what a value is in, with its number
 abbrev pub owner_of : Within → ℕ → Owner
 owner_of within.Line number = owner.Line number
 owner_of within.Inline number = owner.Inline number
 owner_of within.Item number = owner.Item number
 
--- the statement that is kept so
-abbrev pub told : NarrowStatement → Statement
-told s = record {
+-- the statement that was packed
+abbrev pub unpacked_statement : PackedStatement → Statement
+unpacked_statement s = record {
   kind = s.kind;
   span = span (s.line_start + s.before) s.end;
   line = span s.line_start (s.end + s.behind);
@@ -49,19 +49,19 @@ told s = record {
 
 -- those in 24 bytes, then the others
 abbrev pub statements_in : Statements → List Statement
-statements_in ss = map told ss.narrow.items ++ ss.wide.items
+statements_in ss = map unpacked_statement ss.packed.items ++ ss.unpacked.items
 
--- the key part that is kept so
-abbrev pub told_key : NarrowKeyPart → KeyPart
-told_key k = record { leaf = k.leaf; span = span k.start (k.start + k.len) }
+-- the key part that was packed
+abbrev pub unpacked_key_part : PackedKeyPart → KeyPart
+unpacked_key_part k = record { leaf = k.leaf; span = span k.start (k.start + k.len) }
 
 -- those in 8 bytes, then the others
 abbrev pub key_parts_in : KeyParts → List KeyPart
-key_parts_in ks = map told_key ks.narrow.items ++ ks.wide.items
+key_parts_in ks = map unpacked_key_part ks.packed.items ++ ks.unpacked.items
 
--- the value that is kept so
-abbrev pub shown : NarrowValue → ValueInfo
-shown s = record {
+-- the value that was packed
+abbrev pub unpacked_value : PackedValue → ValueInfo
+unpacked_value s = record {
   leaf = s.leaf;
   span = span (s.anchor + s.gap + s.lead) s.end;
   whole = span (s.anchor + s.gap) s.end;
@@ -75,7 +75,7 @@ shown s = record {
 
 -- those in 40 bytes, then the others
 abbrev pub values_in : Values → List ValueInfo
-values_in vs = map shown vs.narrow.items ++ vs.wide.items
+values_in vs = map unpacked_value vs.packed.items ++ vs.unpacked.items
 
 abbrev pub flat : Parts → Flat
 flat p = record { kinds = p.kinds.items; starts = p.starts; statements = statements_in p.statements; keys = key_parts_in p.keys; values = values_in p.values }
@@ -85,8 +85,8 @@ empty = record { kinds = []; starts = []; statements = []; keys = []; values = [
 
 -- ---- one more
 
-abbrev pub with_mark : Leaf → ℕ → Flat → Flat
-with_mark leaf at f = record f { kinds = f.kinds ++ leaf ∷ []; starts = f.starts ++ at ∷ [] }
+abbrev pub with_token : Leaf → ℕ → Flat → Flat
+with_token leaf at f = record f { kinds = f.kinds ++ leaf ∷ []; starts = f.starts ++ at ∷ [] }
 
 abbrev pub with_statement : Statement → Flat → Flat
 with_statement s f = record f { statements = f.statements ++ s ∷ [] }
@@ -97,7 +97,7 @@ with_key k f = record f { keys = f.keys ++ k ∷ [] }
 abbrev pub with_value : ValueInfo → Flat → Flat
 with_value v f = record f { values = f.values ++ v ∷ [] }
 
--- a value whose end and comma behind it are not known yet: it ends at this place
+-- a value whose end and comma after it are not known yet: it ends at this place
 abbrev pub begun : Leaf → ℕ → ℕ → ℕ → Start → ValueInfo
 begun leaf at end keys p = record {
   leaf = leaf;
@@ -117,13 +117,13 @@ with_comma at info = record info { comma_after = Some at }
 abbrev pub with_end : ℕ → ValueInfo → ValueInfo
 with_end end info = record info { span = span info.span.start end; whole = span info.whole.start end }
 
--- the value of this number is changed so, of a list
+-- the value with this number is changed so, of a list
 abbrev pub Changes : (ValueInfo → ValueInfo) → ℕ → List ValueInfo → List ValueInfo → Type 0
 Changes change number old new =
-    (front : List ValueInfo) (info : ValueInfo) (back : List ValueInfo) → length front ≡ number → old ≡ front ++ (info ∷ back) → new ≡ front ++ (change info ∷ back)
+    (prefix : List ValueInfo) (info : ValueInfo) (back : List ValueInfo) → length prefix ≡ number → old ≡ prefix ++ (info ∷ back) → new ≡ prefix ++ (change info ∷ back)
 
--- and of what is kept
+-- and of what is stored
 abbrev pub ChangesValue : (ValueInfo → ValueInfo) → ℕ → Flat → Flat → Type 0
 ChangesValue change number old new =
-    (front : List ValueInfo) (info : ValueInfo) (back : List ValueInfo) → length front ≡ number → old.values ≡ front ++ (info ∷ back)
-    → new ≡ record old { values = front ++ (change info ∷ back) }
+    (prefix : List ValueInfo) (info : ValueInfo) (back : List ValueInfo) → length prefix ≡ number → old.values ≡ prefix ++ (info ∷ back)
+    → new ≡ record old { values = prefix ++ (change info ∷ back) }

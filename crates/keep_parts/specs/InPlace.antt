@@ -12,15 +12,15 @@ use Rattle.keep_parts.specs.Exchanging.{HasRoom, Exchanged}
 
 -- all is packed
 pub record IsPacked (p : Parts) : Type 0 where
-  pub statements : p.statements.wide.items ≡ []
-  pub keys : p.keys.wide.items ≡ []
-  pub values : p.values.wide.items ≡ []
+  pub statements : p.statements.unpacked.items ≡ []
+  pub keys : p.keys.unpacked.items ≡ []
+  pub values : p.values.unpacked.items ≡ []
 
 -- what is stored from a count on can be moved in place from after a count to after another
 pub record CanShift (from old new : Counts) (p : Parts) : Type 0 where
-  pub statements : AllByRecursion (CanShiftStatement old new) (drop from.statements p.statements.narrow.items)
-  pub keys : AllByRecursion (CanShiftKey old new) (drop from.keys p.keys.narrow.items)
-  pub values : AllByRecursion (CanShiftValue old new) (drop from.values p.values.narrow.items)
+  pub statements : AllByRecursion (CanShiftStatement old new) (drop from.statements p.statements.packed.items)
+  pub keys : AllByRecursion (CanShiftKey old new) (drop from.keys p.keys.packed.items)
+  pub values : AllByRecursion (CanShiftValue old new) (drop from.values p.values.packed.items)
 
 -- a range of a list of some length
 pub record IsRange (from to len : ℕ) : Type 0 where
@@ -30,37 +30,37 @@ pub record IsRange (from to len : ℕ) : Type 0 where
 -- a run from one count to another
 pub record IsRun (from to : Counts) (p : Parts) : Type 0 where
   pub tokens : IsRange from.tokens to.tokens (vec_len p.kinds)
-  pub statements : IsRange from.statements to.statements (vec_len p.statements.narrow)
-  pub keys : IsRange from.keys to.keys (vec_len p.keys.narrow)
-  pub values : IsRange from.values to.values (vec_len p.values.narrow)
+  pub statements : IsRange from.statements to.statements (vec_len p.statements.packed)
+  pub keys : IsRange from.keys to.keys (vec_len p.keys.packed)
+  pub values : IsRange from.values to.values (vec_len p.values.packed)
 
 -- all numbers were moved
 pub record IsShifted (old new : Counts) (p q : Parts) : Type 0 where
   pub kinds : q.kinds.items ≡ p.kinds.items
-  pub statements : q.statements.narrow.items ≡ map (shifted_statement old new) p.statements.narrow.items
-  pub keys : q.keys.narrow.items ≡ map (shifted_key old new) p.keys.narrow.items
-  pub values : q.values.narrow.items ≡ map (shifted_value old new) p.values.narrow.items
-  pub wide_statements : q.statements.wide.items ≡ p.statements.wide.items
-  pub wide_keys : q.keys.wide.items ≡ p.keys.wide.items
-  pub wide_values : q.values.wide.items ≡ p.values.wide.items
+  pub statements : q.statements.packed.items ≡ map (shifted_statement old new) p.statements.packed.items
+  pub keys : q.keys.packed.items ≡ map (shifted_key old new) p.keys.packed.items
+  pub values : q.values.packed.items ≡ map (shifted_value old new) p.values.packed.items
+  pub unpacked_statements : q.statements.unpacked.items ≡ p.statements.unpacked.items
+  pub unpacked_keys : q.keys.unpacked.items ≡ p.keys.unpacked.items
+  pub unpacked_values : q.values.unpacked.items ≡ p.values.unpacked.items
 
 -- the same is stored, as lists
 pub record IsAsBefore (p q : Parts) : Type 0 where
   pub kinds : q.kinds.items ≡ p.kinds.items
   pub starts : q.starts ≡ p.starts
-  pub statements : q.statements.narrow.items ≡ p.statements.narrow.items
-  pub keys : q.keys.narrow.items ≡ p.keys.narrow.items
-  pub values : q.values.narrow.items ≡ p.values.narrow.items
-  pub wide_statements : q.statements.wide.items ≡ p.statements.wide.items
-  pub wide_keys : q.keys.wide.items ≡ p.keys.wide.items
-  pub wide_values : q.values.wide.items ≡ p.values.wide.items
+  pub statements : q.statements.packed.items ≡ p.statements.packed.items
+  pub keys : q.keys.packed.items ≡ p.keys.packed.items
+  pub values : q.values.packed.items ≡ p.values.packed.items
+  pub unpacked_statements : q.statements.unpacked.items ≡ p.statements.unpacked.items
+  pub unpacked_keys : q.keys.unpacked.items ≡ p.keys.unpacked.items
+  pub unpacked_values : q.values.unpacked.items ≡ p.values.unpacked.items
 
 -- there is memory for the run and for all that takes its place
 pub record CanExchange (from to : Counts) (p run : Parts) : Type 0 where
   pub kinds : HasRoom from.tokens to.tokens p.kinds run.kinds
-  pub statements : HasRoom from.statements to.statements p.statements.narrow run.statements.narrow
-  pub keys : HasRoom from.keys to.keys p.keys.narrow run.keys.narrow
-  pub values : HasRoom from.values to.values p.values.narrow run.values.narrow
+  pub statements : HasRoom from.statements to.statements p.statements.packed run.statements.packed
+  pub keys : HasRoom from.keys to.keys p.keys.packed run.keys.packed
+  pub values : HasRoom from.values to.values p.values.packed run.values.packed
 
 -- a token's kind has no number
 abbrev pub same : {A : Type 0} → A → A
@@ -69,14 +69,14 @@ same x = x
 -- the run and all of the other changed places, what is after it was moved, and the places of all tokens changed places
 pub record IsExchanged (from to old new : Counts) (p run q gone : Parts) : Type 0 where
   pub kinds : Exchanged same from.tokens to.tokens p.kinds run.kinds q.kinds gone.kinds
-  pub statements : Exchanged (shifted_statement old new) from.statements to.statements p.statements.narrow run.statements.narrow q.statements.narrow gone.statements.narrow
-  pub keys : Exchanged (shifted_key old new) from.keys to.keys p.keys.narrow run.keys.narrow q.keys.narrow gone.keys.narrow
-  pub values : Exchanged (shifted_value old new) from.values to.values p.values.narrow run.values.narrow q.values.narrow gone.values.narrow
+  pub statements : Exchanged (shifted_statement old new) from.statements to.statements p.statements.packed run.statements.packed q.statements.packed gone.statements.packed
+  pub keys : Exchanged (shifted_key old new) from.keys to.keys p.keys.packed run.keys.packed q.keys.packed gone.keys.packed
+  pub values : Exchanged (shifted_value old new) from.values to.values p.values.packed run.values.packed q.values.packed gone.values.packed
   pub starts : q.starts ≡ run.starts
   pub gone_starts : gone.starts ≡ p.starts
-  pub wide_statements : q.statements.wide.items ≡ p.statements.wide.items
-  pub wide_keys : q.keys.wide.items ≡ p.keys.wide.items
-  pub wide_values : q.values.wide.items ≡ p.values.wide.items
+  pub unpacked_statements : q.statements.unpacked.items ≡ p.statements.unpacked.items
+  pub unpacked_keys : q.keys.unpacked.items ≡ p.keys.unpacked.items
+  pub unpacked_values : q.values.unpacked.items ≡ p.values.unpacked.items
 
 -- where the tokens begin after the exchange: those before, the new ones, and those after
 abbrev pub replaced_places : Flat → Flat → Counts → Counts → ℕ → List ℕ
@@ -125,6 +125,6 @@ pub record UndoesRun (gone : Parts) (from to until : Counts) (before after : Par
   pub can : CanShift to to until before
   pub now : IsExchanged from to to until before run after gone
   pub tokens : until.tokens ≡ from.tokens + vec_len run.kinds
-  pub statements : until.statements ≡ from.statements + vec_len run.statements.narrow
-  pub keys : until.keys ≡ from.keys + vec_len run.keys.narrow
-  pub values : until.values ≡ from.values + vec_len run.values.narrow
+  pub statements : until.statements ≡ from.statements + vec_len run.statements.packed
+  pub keys : until.keys ≡ from.keys + vec_len run.keys.packed
+  pub values : until.values ≡ from.values + vec_len run.values.packed

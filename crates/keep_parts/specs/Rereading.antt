@@ -115,12 +115,12 @@ appended out other from to at = joined out (moved_flat (count_of from) (count_at
 -- ---- lines replaced
 
 -- what is stored of f up to a place
-abbrev pub with_front : Flat → ℕ → Flat
-with_front f start = appended empty f nothing (counts_before f start) 0
+abbrev pub with_prefix : Flat → ℕ → Flat
+with_prefix f start = appended empty f nothing (counts_before f start) 0
 
 -- and then all of g, a text of so many bytes
 abbrev pub with_new : Flat → Flat → ℕ → ℕ → Flat
-with_new f g start size = appended (with_front f start) g nothing (counts_at size g) start
+with_new f g start size = appended (with_prefix f start) g nothing (counts_at size g) start
 
 -- and then that of f from the end of the span on, which is the place `end` now; f is a text of `len` bytes
 abbrev pub with_back : Flat → Flat → Span → ℕ → ℕ → ℕ → Flat
@@ -131,12 +131,12 @@ replaced_flat f g whole len size end = if ltb whole.end len then with_back f g w
 
 -- what is before the span and after it can be taken
 pub record CanMove (f : Flat) (whole : Span) (len : ℕ) : Type 0 where
-  pub front : IsPart nothing (counts_before f whole.start) f
+  pub prefix : IsPart nothing (counts_before f whole.start) f
   pub back : whole.end < len → IsPart (counts_before f whole.end) (counts_at len f) f
 
 -- where lines begin, in the same way; the last place of the new ones is where the line after them begins
-abbrev pub front_starts : List ℕ → ℕ → List ℕ
-front_starts ns start = map (moved 0 0) (slice_range ns 0 (places_before start ns))
+abbrev pub prefix_starts : List ℕ → ℕ → List ℕ
+prefix_starts ns start = map (moved 0 0) (slice_range ns 0 (places_before start ns))
 
 abbrev pub back_starts : List ℕ → ℕ → ℕ → List ℕ
 back_starts ns from end = map (moved from end) (slice_range ns (places_before from ns) (length ns))
@@ -144,11 +144,11 @@ back_starts ns from end = map (moved from end) (slice_range ns (places_before fr
 abbrev pub replaced_starts : List ℕ → List ℕ → Span → ℕ → ℕ → ℕ → List ℕ
 replaced_starts ns ms whole len size end =
     if ltb whole.end len
-    then (front_starts ns whole.start ++ map (moved 0 whole.start) (slice_range ms 0 (places_before size ms))) ++ back_starts ns whole.end end
-    else front_starts ns whole.start ++ map (moved 0 whole.start) (slice_range ms 0 (length ms))
+    then (prefix_starts ns whole.start ++ map (moved 0 whole.start) (slice_range ms 0 (places_before size ms))) ++ back_starts ns whole.end end
+    else prefix_starts ns whole.start ++ map (moved 0 whole.start) (slice_range ms 0 (length ms))
 
-abbrev pub with_marks : List Leaf → List ℕ → Flat → Flat
-with_marks ls ns f = record f { kinds = f.kinds ++ ls; starts = f.starts ++ ns }
+abbrev pub with_tokens : List Leaf → List ℕ → Flat → Flat
+with_tokens ls ns f = record f { kinds = f.kinds ++ ls; starts = f.starts ++ ns }
 
 abbrev pub with_statements : List Statement → Flat → Flat
 with_statements ss f = record f { statements = f.statements ++ ss }

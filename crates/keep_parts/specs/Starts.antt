@@ -1,8 +1,8 @@
--- Where tokens begin, as it is kept.
+-- Where tokens begin, as it is stored.
 use Rattle.std.specs.Prelude.{◌≡◌, ℕ, ◌+◌, ◌<◌, ◌^◌, ◌==◌, leb, if◌then◌else◌, List, [], ◌∷◌, length, get_or, count_by}
 use Rattle.keep_parts.specs.declared.starts.TheConstants.{FAR}
 
--- The places that steps lead to: each stands so far behind the one before, or is the next of the far ones.
+-- The places that steps lead to: each is so far after the one before, or is the next of the far ones.
 abbrev pub places_at : ℕ → List ℕ → List ℕ → List ℕ
 places_at at [] far = []
 places_at at (step ∷ steps) [] = if step == FAR then [] else (at + step) ∷ places_at (at + step) steps []
@@ -23,7 +23,7 @@ abbrev pub fars : List ℕ → ℕ
 fars steps = count_by (λ step. step == FAR) steps
 
 -- Steps and far places that tell of places: each far step has its place, and the last place is known.
-pub record IsKept (steps far : List ℕ) (last : ℕ) : Type 0 where
+pub record StepsAreStored (steps far : List ℕ) (last : ℕ) : Type 0 where
   pub matched : length far ≡ fars steps
   pub small : AllSmall (places_at 0 steps far)
   pub last_is : last ≡ last_of 0 (places_at 0 steps far)

@@ -5,7 +5,7 @@ ghost use Rattle.std.specs.Prelude.{◌≡◌, List, ◌+◌, ◌-◌, ◌≤◌
 fn to_start<T>(items: &mut [T], from: usize, tail: usize)
     requires order { from ≤ tail }
     requires within { tail ≤ length items.old }
-    ensures { (front back : List T) → items.old ≡ front ++ back → length front ≡ tail → items.new ≡ take from front ++ (back ++ drop from front) }
+    ensures { (prefix back : List T) → items.old ≡ prefix ++ back → length prefix ≡ tail → items.new ≡ take from prefix ++ (back ++ drop from prefix) }
 {
     items[from..].rotate_left(tail - from);
 }
@@ -13,7 +13,7 @@ fn to_start<T>(items: &mut [T], from: usize, tail: usize)
 // Moves `count` elements from `start` on to the end.
 fn to_end<T>(items: &mut [T], start: usize, count: usize)
     requires { start + count ≤ length items.old }
-    ensures { (front mid back : List T) → items.old ≡ front ++ (mid ++ back) → length front ≡ start → length mid ≡ count → items.new ≡ front ++ (back ++ mid) }
+    ensures { (prefix mid back : List T) → items.old ≡ prefix ++ (mid ++ back) → length prefix ≡ start → length mid ≡ count → items.new ≡ prefix ++ (back ++ mid) }
 {
     items[start..].rotate_left(count);
 }
@@ -21,8 +21,8 @@ fn to_end<T>(items: &mut [T], start: usize, count: usize)
 // Of four runs, the last is moved to after the first, and the second to the end.
 fn swap_runs<T>(items: &mut [T], from: usize, gone: usize, before: usize)
     requires { (from + gone ≤ before) × (before ≤ length items.old) }
-    ensures { (front mid back new : List T) → items.old ≡ (front ++ (mid ++ back)) ++ new → length front ≡ from → length mid ≡ gone
-        → length front + (length mid + length back) ≡ before → items.new ≡ front ++ (new ++ (back ++ mid)) }
+    ensures { (prefix mid back new : List T) → items.old ≡ (prefix ++ (mid ++ back)) ++ new → length prefix ≡ from → length mid ≡ gone
+        → length prefix + (length mid + length back) ≡ before → items.new ≡ prefix ++ (new ++ (back ++ mid)) }
 {
     let added = items.len() - before;
     to_start(items, from, before);
@@ -32,8 +32,8 @@ fn swap_runs<T>(items: &mut [T], from: usize, gone: usize, before: usize)
 // `swap_runs` of the elements of a vector.
 fn swap_runs_in<T>(items: &mut Vec<T>, from: usize, gone: usize, before: usize)
     requires { (from + gone ≤ before) × (before ≤ vec_len items.old) }
-    ensures items { (front mid back new : List T) → items.old.items ≡ (front ++ (mid ++ back)) ++ new → length front ≡ from → length mid ≡ gone
-        → length front + (length mid + length back) ≡ before → items.new.items ≡ front ++ (new ++ (back ++ mid)) }
+    ensures items { (prefix mid back new : List T) → items.old.items ≡ (prefix ++ (mid ++ back)) ++ new → length prefix ≡ from → length mid ≡ gone
+        → length prefix + (length mid + length back) ≡ before → items.new.items ≡ prefix ++ (new ++ (back ++ mid)) }
     ensures len { vec_len items.new ≡ vec_len items.old }
     ensures capacity { vec_capacity items.new ≡ vec_capacity items.old }
 {

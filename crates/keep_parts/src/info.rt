@@ -1,4 +1,4 @@
-//! What is told of a text: spans, statements, key parts, values, and where entries begin.
+//! What is known of a text: spans, statements, key parts, values, and where entries begin.
 use keep_token::Leaf;
 
 /// The bytes `start..end` of the text.
@@ -24,9 +24,10 @@ pub struct Statement {
     pub kind: StatementKind,
     /// The keyval or the header.
     pub span: Span,
-    /// From the start of its line, behind a byte order mark, past its newline if it has one, over all lines of its value.
+    /// From the start of its line, after a byte order mark, past its newline if it has one, over all lines of its
+    /// value.
     pub line: Span,
-    /// How many key parts stand before `span`.
+    /// How many key parts come before `span`.
     pub first_key: usize,
     /// How many key parts it has, those inside its value left out.
     pub keys: usize,
@@ -41,10 +42,10 @@ pub struct KeyPart {
     pub span: Span,
 }
 
-/// What a value stands in.
+/// What a value is in.
 #[derive(Clone, Copy, Debug, PartialEq, Eq)]
 pub enum Owner {
-    /// The statement of this number.
+    /// The statement with this number.
     Line(usize),
     /// The inline table of this value number.
     Inline(usize),
@@ -63,18 +64,18 @@ pub struct ValueInfo {
     pub owner: Owner,
     /// How many arrays and inline tables are round it.
     pub depth: u16,
-    /// How many key parts stand before `whole`.
+    /// How many key parts come before `whole`.
     pub first_key: usize,
     /// How many key parts its own key has.
     pub keys: usize,
-    /// Where the comma before it stands, in its array or inline table.
+    /// Where the comma before it is, in its array or inline table.
     pub comma_before: Option<usize>,
-    /// Where the comma behind it stands.
+    /// Where the comma after it is.
     pub comma_after: Option<usize>,
 }
 
-/// Where entries begin: the byte, how many values and key parts come before, what they stand in, how many arrays
-/// and inline tables are round them, and where the comma before them stands.
+/// Where entries begin: the byte, how many values and key parts come before, what they are in, how many arrays
+/// and inline tables are round them, and where the comma before them is.
 #[derive(Clone, Copy, Debug, PartialEq, Eq)]
 pub struct Start {
     pub at: usize,

@@ -1,4 +1,4 @@
-//! The key parts of a text as they are kept, in text order.
+//! The key parts of a text as they are stored, in text order.
 ghost use Rattle.std.specs.Prelude.{◌≡◌, ◌<◌, None, ◌++◌, ◌∷◌, [], length, slice_get, IfSome, OnOk, Some};
 ghost use Rattle.keep_parts.specs.Fits.{FitsKey};
 ghost use Rattle.keep_parts.specs.Flat as spec;
@@ -11,7 +11,7 @@ use std::alloc::{AllocError, Global};
 
 /// A key part in 8 bytes: where it starts, and how many bytes it has.
 #[derive(Clone, Copy, Debug)]
-pub struct NarrowKeyPart {
+pub struct PackedKeyPart {
     start: u32,
     len: u16,
     leaf: Leaf,
@@ -20,33 +20,33 @@ pub struct NarrowKeyPart {
 /// The key parts of a text, in text order: those before the first whose numbers do not fit into 8 bytes, then the others.
 #[derive(Debug, Drop)]
 pub struct KeyParts {
-    pub(super) narrow: Vec<NarrowKeyPart>,
-    pub(super) wide: Vec<KeyPart>,
+    pub(super) packed: Vec<PackedKeyPart>,
+    pub(super) unpacked: Vec<KeyPart>,
 }
 
 /// The key part in 8 bytes, if its numbers fit.
-fn narrow(part: KeyPart) -> Option<NarrowKeyPart>
-    ensures kept { IfSome result (λ kept. spec.told_key kept ≡ part) }
-    ensures wide { result ≡ None → FitsKey part → ⊥ }
+fn packed(part: KeyPart) -> Option<PackedKeyPart>
+    ensures stored { IfSome result (λ stored. spec.unpacked_key_part stored ≡ part) }
+    ensures unpacked { result ≡ None → FitsKey part → ⊥ }
 {
     let len = part.span.end.checked_sub(part.span.start)?;
-    Some(NarrowKeyPart {
+    Some(PackedKeyPart {
         start: u32::try_from(part.span.start).ok()?,
         len: u16::try_from(len).ok()?,
         leaf: part.leaf,
     })
 }
 
-/// The key part that is kept so.
-fn told(kept: &NarrowKeyPart) -> KeyPart
-    ensures { result ≡ spec.told_key kept.now }
+/// The key part that was packed.
+fn unpacked_key_part(stored: &PackedKeyPart) -> KeyPart
+    ensures { result ≡ spec.unpacked_key_part stored.now }
 {
-    let start = kept.start as usize;
+    let start = stored.start as usize;
     KeyPart {
-        leaf: kept.leaf,
+        leaf: stored.leaf,
         span: Span {
             start,
-            end: start + kept.len as usize,
+            end: start + stored.len as usize,
         },
     }
 }
@@ -57,8 +57,8 @@ impl KeyParts {
         ensures { spec.key_parts_in result ≡ [] }
     {
         KeyParts {
-            narrow: Vec::new(alloc),
-            wide: Vec::new(alloc),
+            packed: Vec::new(alloc),
+            unpacked: Vec::new(alloc),
         }
     }
 
@@ -66,33 +66,33 @@ impl KeyParts {
     pub fn len(&self) -> usize
         ensures { result ≡ length (spec.key_parts_in self.now) }
     {
-        self.narrow.len() + self.wide.len()
+        self.packed.len() + self.unpacked.len()
     }
 
-    /// The key part of this number.
+    /// The key part with this number.
     pub fn get(&self, number: usize) -> KeyPart
         requires { number < length (spec.key_parts_in self.now) }
         ensures { slice_get (spec.key_parts_in self.now) number ≡ Some result }
     {
-        let narrow = self.narrow.len();
-        if number < narrow {
-            told(&self.narrow[number])
+        let packed = self.packed.len();
+        if number < packed {
+            unpacked_key_part(&self.packed[number])
         } else {
-            self.wide[number - narrow]
+            self.unpacked[number - packed]
         }
     }
 
-    /// Keeps one more.
+    /// Adds one more.
     pub fn push(&mut self, part: KeyPart) -> Result<(), AllocError>
         ensures { OnOk result (spec.key_parts_in self.new ≡ spec.key_parts_in self.old ++ part ∷ []) }
     {
-        if self.wide.is_empty() {
-            if let Some(kept) = narrow(part) {
-                self.narrow.push(kept)?;
+        if self.unpacked.is_empty() {
+            if let Some(stored) = packed(part) {
+                self.packed.push(stored)?;
                 return Ok(());
             }
         }
-        self.wide.push(part)?;
+        self.unpacked.push(part)?;
         Ok(())
     }
 }

@@ -17,7 +17,8 @@ pub use parts::exchanging::{
     allocator, can_shift, exchange_parts, is_packed, is_run, replaced_places, reserve, shift_all,
 };
 pub use parts::{
-    Parts, append_marks, mark_at, mark_count, mark_starts, marks_before, push_info, push_key,
-    push_mark, push_statement, push_value, set_comma, set_end, statement_at, statement_count,
+    Parts, append_tokens, push_info, push_key, push_statement, push_token, push_value, set_comma,
+    set_end, statement_at, statement_count, stored_token_count, token_at, token_starts,
+    tokens_before,
 };
 pub use starts::{Places, Starts};

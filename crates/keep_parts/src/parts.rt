@@ -1,4 +1,4 @@
-//! What is kept of a text: its tokens, statements, key parts and values, each in a flat vector in text order.
+//! What is stored of a text: its tokens, statements, key parts and values, each in a flat vector in text order.
 ghost use Rattle.std.specs.Prelude.{◌≡◌, ◌<◌, ◌≤◌, length, map, slice_get, slice_range, OnOk, Some};
 ghost use Rattle.keep_parts.specs.Left.{places_left};
 ghost use Rattle.keep_parts.specs.Lifted.{moved};
@@ -27,7 +27,7 @@ pub struct Parts {
 }
 
 /// A number that may be missing: whether it is there, and which.
-pub fn apart(number: Option<usize>) -> (bool, usize)
+pub fn flag_and_number(number: Option<usize>) -> (bool, usize)
     ensures { spec.if_there result.0 result.1 ≡ number }
 {
     match number {
@@ -36,7 +36,7 @@ pub fn apart(number: Option<usize>) -> (bool, usize)
     }
 }
 
-/// The same put together again.
+/// The number, if it is there.
 pub fn if_there(there: bool, number: usize) -> Option<usize>
     ensures { result ≡ spec.if_there there number }
 {
@@ -57,14 +57,14 @@ impl Parts {
         }
     }
 
-    /// How many key parts are kept.
+    /// How many key parts are stored.
     pub fn key_count(&self) -> usize
         ensures { result ≡ length (spec.flat self.now).keys }
     {
         self.keys.len()
     }
 
-    /// The key part of this number.
+    /// The key part with this number.
     pub fn key_part(&self, number: usize) -> KeyPart
         requires { number < length (spec.flat self.now).keys }
         ensures { slice_get (spec.flat self.now).keys number ≡ Some result }
@@ -72,14 +72,14 @@ impl Parts {
         self.keys.get(number)
     }
 
-    /// How many values are kept.
+    /// How many values are stored.
     pub fn value_count(&self) -> usize
         ensures { result ≡ length (spec.flat self.now).values }
     {
         self.values.len()
     }
 
-    /// The value of this number.
+    /// The value with this number.
     pub fn value(&self, number: usize) -> ValueInfo
         requires { number < length (spec.flat self.now).values }
         ensures { slice_get (spec.flat self.now).values number ≡ Some result }
@@ -88,17 +88,17 @@ impl Parts {
     }
 }
 
-/// Keeps a token that begins at the byte `at`.
+/// Stores a token that begins at the byte `at`.
 #[inline(always)]
-pub fn push_mark(out: &mut Parts, leaf: Leaf, at: usize) -> Result<(), AllocError>
-    ensures ok { OnOk result (spec.flat out.new ≡ spec.with_mark leaf at (spec.flat out.old)) }
+pub fn push_token(out: &mut Parts, leaf: Leaf, at: usize) -> Result<(), AllocError>
+    ensures ok { OnOk result (spec.flat out.new ≡ spec.with_token leaf at (spec.flat out.old)) }
 {
     out.kinds.push(leaf)?;
     out.starts.push(at)?;
     Ok(())
 }
 
-/// Keeps a key part.
+/// Stores a key part.
 pub fn push_key(out: &mut Parts, part: KeyPart) -> Result<(), AllocError>
     ensures ok { OnOk result (spec.flat out.new ≡ spec.with_key part (spec.flat out.old)) }
 {
@@ -106,7 +106,7 @@ pub fn push_key(out: &mut Parts, part: KeyPart) -> Result<(), AllocError>
     Ok(())
 }
 
-/// Keeps a statement.
+/// Stores a statement.
 pub fn push_statement(out: &mut Parts, statement: Statement) -> Result<(), AllocError>
     ensures ok { OnOk result (spec.flat out.new ≡ spec.with_statement statement (spec.flat out.old)) }
 {
@@ -122,7 +122,7 @@ pub fn push_info(out: &mut Parts, value: ValueInfo) -> Result<(), AllocError>
 }
 
 /// Stores the tokens of another list from one count to another, moved to begin at the byte `at`.
-pub fn append_marks(
+pub fn append_tokens(
     out: &mut Parts,
     other: &Parts,
     from: &Counts,
@@ -131,7 +131,7 @@ pub fn append_marks(
 ) -> Result<(), AllocError>
     requires order { from.now.tokens ≤ to.now.tokens }
     requires within { to.now.tokens ≤ length (spec.flat other.now).kinds }
-    ensures { OnOk result (spec.flat out.new ≡ rereading.with_marks (slice_range (spec.flat other.now).kinds from.now.tokens to.now.tokens)
+    ensures { OnOk result (spec.flat out.new ≡ rereading.with_tokens (slice_range (spec.flat other.now).kinds from.now.tokens to.now.tokens)
         (map (moved from.now.at at) (slice_range (spec.flat other.now).starts from.now.tokens to.now.tokens)) (spec.flat out.old)) }
 {
     out.kinds
@@ -142,13 +142,13 @@ pub fn append_marks(
 }
 
 /// How many tokens begin before a place.
-pub fn marks_before(out: &Parts, place: usize) -> usize
+pub fn tokens_before(out: &Parts, place: usize) -> usize
     ensures { result ≡ rereading.places_before place (spec.flat out.now).starts }
 {
     out.starts.count_before(place)
 }
 
-/// Keeps a value that begins at the byte `at`, with so many key parts of its own before it, in entries that begin at
+/// Stores a value that begins at the byte `at`, with so many key parts of its own before it, in entries that begin at
 /// `start`. The bytes `at..end` are known to be its own.
 pub fn push_value(
     out: &mut Parts,
@@ -177,7 +177,7 @@ pub fn push_value(
     })
 }
 
-/// Tells where the comma behind a value stands.
+/// Stores where the comma after a value is.
 pub fn set_comma(out: &mut Parts, number: usize, at: usize)
     requires { number < length (spec.flat out.old).values }
     ensures change { spec.ChangesValue (spec.with_comma at) number (spec.flat out.old) (spec.flat out.new) }
@@ -185,7 +185,7 @@ pub fn set_comma(out: &mut Parts, number: usize, at: usize)
     out.values.set_comma(number, at);
 }
 
-/// Tells where a value ends.
+/// Stores where a value ends.
 pub fn set_end(out: &mut Parts, number: usize, end: usize)
     requires { number < length (spec.flat out.old).values }
     ensures change { spec.ChangesValue (spec.with_end end) number (spec.flat out.old) (spec.flat out.new) }
@@ -193,21 +193,21 @@ pub fn set_end(out: &mut Parts, number: usize, end: usize)
     out.values.set_end(number, end);
 }
 
-/// How many tokens are kept.
-pub fn mark_count(out: &Parts) -> usize
+/// How many tokens are stored.
+pub fn stored_token_count(out: &Parts) -> usize
     ensures { result ≡ length (spec.flat out.now).kinds }
 {
     out.kinds.len()
 }
 
-/// How many statements are kept.
+/// How many statements are stored.
 pub fn statement_count(out: &Parts) -> usize
     ensures { result ≡ length (spec.flat out.now).statements }
 {
     out.statements.len()
 }
 
-/// The statement of this number.
+/// The statement with this number.
 pub fn statement_at(out: &Parts, number: usize) -> Statement
     requires { number < length (spec.flat out.now).statements }
     ensures { slice_get (spec.flat out.now).statements number ≡ Some result }
@@ -215,8 +215,8 @@ pub fn statement_at(out: &Parts, number: usize) -> Statement
     out.statements.get(number)
 }
 
-/// The kind of the token of this number.
-pub fn mark_at(out: &Parts, number: usize) -> Leaf
+/// The kind of the token with this number.
+pub fn token_at(out: &Parts, number: usize) -> Leaf
     requires { number < length (spec.flat out.now).kinds }
     ensures { slice_get (spec.flat out.now).kinds number ≡ Some result }
 {
@@ -224,7 +224,7 @@ pub fn mark_at(out: &Parts, number: usize) -> Leaf
 }
 
 /// Where the tokens begin, one after another.
-pub fn mark_starts(out: &Parts) -> Places<'_>
+pub fn token_starts(out: &Parts) -> Places<'_>
     ensures { places_left result ≡ (spec.flat out.now).starts }
 {
     out.starts.iter()

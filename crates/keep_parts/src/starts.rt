@@ -10,9 +10,9 @@ use std::marker::Model;
 /// The step of a place that a byte cannot tell.
 const FAR: u8 = 255;
 
-/// Places in a text, as byte offsets. Each is kept as its step: how far it stands behind the one before, the first behind 0.
-/// Where that is 255 bytes or more, or back, the step is `FAR`, and the place itself stands in `far`. `last` is the last
-/// place, or 0.
+/// Places in a text, as byte offsets. Each is stored as its step: how far it comes after the one before, the first
+/// after 0. Where that is 255 bytes or more, or back, the step is `FAR`, and the place itself is in `far`. `last` is
+/// the last place, or 0.
 #[derive(Debug, Drop)]
 pub struct Starts {
     steps: Vec<u8>,
@@ -22,16 +22,16 @@ pub struct Starts {
 
 impl Model for Starts {
     ghost use Rattle.std.specs.Prelude.{ℕ, List};
-    ghost use Rattle.keep_parts.specs.Starts.{IsKept, places_at};
+    ghost use Rattle.keep_parts.specs.Starts.{StepsAreStored, places_at};
 
     ghost Value = { List ℕ };
 
     ghost view = { λ s. places_at 0 s.steps.items s.far.items };
 
-    ghost invariant = { λ s. IsKept s.steps.items s.far.items s.last };
+    ghost invariant = { λ s. StepsAreStored s.steps.items s.far.items s.last };
 }
 
-/// Kept places one after another; `at` is the one before them. The result of [`Starts::iter`].
+/// Stored places one after another; `at` is the one before them. The result of [`Starts::iter`].
 #[derive(Clone, Copy, Debug)]
 pub struct Places<'a> {
     at: usize,
@@ -67,7 +67,7 @@ impl Starts {
         }
     }
 
-    /// Keeps one more place. After a refusal those before are kept.
+    /// Stores one more place. After a refusal those before are stored.
     pub fn push(&mut self, at: usize) -> Result<(), AllocError>
         ensures ok { OnOk result (self.new ≡ self.old ++ at ∷ []) }
         ensures err { OnErr result (self.new ≡ self.old) }

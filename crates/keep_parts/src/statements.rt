@@ -1,4 +1,4 @@
-//! The statements of a text as they are kept, in text order.
+//! The statements of a text as they are stored, in text order.
 ghost use Rattle.std.specs.Prelude.{◌≡◌, ◌<◌, None, ◌++◌, ◌∷◌, [], length, slice_get, IfSome, OnOk, Some};
 ghost use Rattle.keep_parts.specs.Fits.{FitsStatement};
 ghost use Rattle.keep_parts.specs.Flat as spec;
@@ -9,10 +9,10 @@ use crate::info::{Span, Statement, StatementKind};
 use crate::parts::if_there;
 use std::alloc::{AllocError, Global};
 
-/// A statement in 24 bytes. Of its line `before` bytes stand before it and `behind` behind it, and `end` is its own end.
-/// The number of its value stands apart from what tells whether it is there.
+/// A statement in 24 bytes. Of its line `before` bytes come before it and `behind` after it, and `end` is its own end.
+/// The number of its value is stored apart from what tells whether it is there.
 #[derive(Clone, Copy, Debug)]
-pub struct NarrowStatement {
+pub struct PackedStatement {
     kind: StatementKind,
     has_value: bool,
     keys: u16,
@@ -27,18 +27,18 @@ pub struct NarrowStatement {
 /// The statements of a text, in text order: those before the first whose numbers do not fit into 24 bytes, then the others.
 #[derive(Debug, Drop)]
 pub struct Statements {
-    pub(super) narrow: Vec<NarrowStatement>,
-    pub(super) wide: Vec<Statement>,
+    pub(super) packed: Vec<PackedStatement>,
+    pub(super) unpacked: Vec<Statement>,
 }
 
 /// The statement in 24 bytes, if its numbers fit.
-fn narrow(statement: Statement) -> Option<NarrowStatement>
-    ensures kept { IfSome result (λ kept. spec.told kept ≡ statement) }
-    ensures wide { result ≡ None → FitsStatement statement → ⊥ }
+fn packed(statement: Statement) -> Option<PackedStatement>
+    ensures stored { IfSome result (λ stored. spec.unpacked_statement stored ≡ statement) }
+    ensures unpacked { result ≡ None → FitsStatement statement → ⊥ }
 {
     let span = statement.span;
     let line = statement.line;
-    Some(NarrowStatement {
+    Some(PackedStatement {
         kind: statement.kind,
         has_value: statement.value.is_some(),
         keys: u16::try_from(statement.keys).ok()?,
@@ -51,25 +51,25 @@ fn narrow(statement: Statement) -> Option<NarrowStatement>
     })
 }
 
-/// The statement that is kept so.
-fn told(kept: &NarrowStatement) -> Statement
-    ensures { result ≡ spec.told kept.now }
+/// The statement that was packed.
+fn unpacked_statement(stored: &PackedStatement) -> Statement
+    ensures { result ≡ spec.unpacked_statement stored.now }
 {
-    let line_start = kept.line_start as usize;
-    let end = kept.end as usize;
+    let line_start = stored.line_start as usize;
+    let end = stored.end as usize;
     Statement {
-        kind: kept.kind,
+        kind: stored.kind,
         span: Span {
-            start: line_start + kept.before as usize,
+            start: line_start + stored.before as usize,
             end,
         },
         line: Span {
             start: line_start,
-            end: end + kept.behind as usize,
+            end: end + stored.behind as usize,
         },
-        first_key: kept.first_key as usize,
-        keys: kept.keys as usize,
-        value: if_there(kept.has_value, kept.value as usize),
+        first_key: stored.first_key as usize,
+        keys: stored.keys as usize,
+        value: if_there(stored.has_value, stored.value as usize),
     }
 }
 
@@ -79,8 +79,8 @@ impl Statements {
         ensures { spec.statements_in result ≡ [] }
     {
         Statements {
-            narrow: Vec::new(alloc),
-            wide: Vec::new(alloc),
+            packed: Vec::new(alloc),
+            unpacked: Vec::new(alloc),
         }
     }
 
@@ -88,33 +88,33 @@ impl Statements {
     pub fn len(&self) -> usize
         ensures { result ≡ length (spec.statements_in self.now) }
     {
-        self.narrow.len() + self.wide.len()
+        self.packed.len() + self.unpacked.len()
     }
 
-    /// The statement of this number.
+    /// The statement with this number.
     pub fn get(&self, number: usize) -> Statement
         requires { number < length (spec.statements_in self.now) }
         ensures { slice_get (spec.statements_in self.now) number ≡ Some result }
     {
-        let narrow = self.narrow.len();
-        if number < narrow {
-            told(&self.narrow[number])
+        let packed = self.packed.len();
+        if number < packed {
+            unpacked_statement(&self.packed[number])
         } else {
-            self.wide[number - narrow]
+            self.unpacked[number - packed]
         }
     }
 
-    /// Keeps one more.
+    /// Adds one more.
     pub fn push(&mut self, statement: Statement) -> Result<(), AllocError>
         ensures { OnOk result (spec.statements_in self.new ≡ spec.statements_in self.old ++ statement ∷ []) }
     {
-        if self.wide.is_empty() {
-            if let Some(kept) = narrow(statement) {
-                self.narrow.push(kept)?;
+        if self.unpacked.is_empty() {
+            if let Some(stored) = packed(statement) {
+                self.packed.push(stored)?;
                 return Ok(());
             }
         }
-        self.wide.push(statement)?;
+        self.unpacked.push(statement)?;
         Ok(())
     }
 }

@@ -1,4 +1,4 @@
-//! The values of a text as they are kept, in text order.
+//! The values of a text as they are stored, in text order.
 ghost use Rattle.std.specs.Prelude.{◌≡◌, ◌<◌, ◌+◌, ◌++◌, ◌∷◌, [], length, slice_get, IfSome, OnOk, None, Some};
 ghost use Rattle.keep_parts.specs.Fits.{FitsValue, IsNear};
 ghost use Rattle.keep_parts.specs.Flat as spec;
@@ -6,11 +6,11 @@ ghost use Rattle.keep_parts.specs.Flat as spec;
 mod shifting;
 
 use crate::info::{Owner, Span, ValueInfo};
-use crate::parts::{apart, if_there};
+use crate::parts::{flag_and_number, if_there};
 use keep_token::Leaf;
 use std::alloc::{AllocError, Global};
 
-/// What a value stands in, its number apart.
+/// What a value is in, without its number.
 #[derive(Clone, Copy, Debug)]
 pub enum Within {
     Line,
@@ -18,12 +18,12 @@ pub enum Within {
     Item,
 }
 
-/// A value in 40 bytes. `anchor` is where the comma before it stands, or where its keyval starts if there is none. The
-/// keyval starts `gap` bytes behind the anchor, and the value `lead` bytes behind that. What is told later has a word of
-/// its own: `end`, which is the end of its keyval too, and `after`. Numbers stand apart from what tells whether they are
-/// there and of what they are, so that all of that shares one word with the number of its keys.
+/// A value in 40 bytes. `anchor` is where the comma before it is, or where its keyval starts if there is none. The
+/// keyval starts `gap` bytes after the anchor, and the value `lead` bytes after that. What becomes known later has a
+/// word of its own: `end`, which is the end of its keyval too, and `after`. Numbers are stored apart from what tells
+/// whether they are there and of what they are, so that all of that shares one word with the number of its keys.
 #[derive(Clone, Copy, Debug)]
-pub struct NarrowValue {
+pub struct PackedValue {
     leaf: Leaf,
     within: Within,
     depth: u16,
@@ -42,12 +42,12 @@ pub struct NarrowValue {
 /// The values of a text, in text order: those before the first that does not fit into 40 bytes, then the others.
 #[derive(Debug, Drop)]
 pub struct Values {
-    pub(super) narrow: Vec<NarrowValue>,
-    pub(super) wide: Vec<ValueInfo>,
+    pub(super) packed: Vec<PackedValue>,
+    pub(super) unpacked: Vec<ValueInfo>,
 }
 
-/// What a value stands in, and the number of that.
-fn owner_apart(owner: Owner) -> (Within, usize)
+/// What a value is in, and the number of that.
+fn owner_parts(owner: Owner) -> (Within, usize)
     ensures { spec.owner_of result.0 result.1 ≡ owner }
 {
     match owner {
@@ -57,7 +57,7 @@ fn owner_apart(owner: Owner) -> (Within, usize)
     }
 }
 
-/// The same put together again.
+/// The owner with this number.
 fn owner_of(within: Within, number: usize) -> Owner
     ensures { result ≡ spec.owner_of within number }
 {
@@ -68,26 +68,26 @@ fn owner_of(within: Within, number: usize) -> Owner
     }
 }
 
-/// How many bytes a place stands behind another, if that fits into 16 bits.
+/// How many bytes a place comes after another, if that fits into 16 bits.
 fn distance(from: usize, to: usize) -> Option<u16>
-    ensures kept { IfSome result (λ gap. from + gap ≡ to) }
-    ensures wide { result ≡ None → IsNear from to → ⊥ }
+    ensures stored { IfSome result (λ gap. from + gap ≡ to) }
+    ensures unpacked { result ≡ None → IsNear from to → ⊥ }
 {
     u16::try_from(to.checked_sub(from)?).ok()
 }
 
 /// The value in 40 bytes, if its numbers fit and it ends with its keyval.
-fn narrowed(value: &ValueInfo) -> Option<NarrowValue>
-    ensures kept { IfSome result (λ narrow. spec.shown narrow ≡ value.now) }
-    ensures wide { result ≡ None → FitsValue value.now → ⊥ }
+fn packed_value(value: &ValueInfo) -> Option<PackedValue>
+    ensures stored { IfSome result (λ packed. spec.unpacked_value packed ≡ value.now) }
+    ensures unpacked { result ≡ None → FitsValue value.now → ⊥ }
 {
     if value.span.end != value.whole.end {
         return None;
     }
-    let (within, owner) = owner_apart(value.owner);
-    let (has_after, after) = apart(value.comma_after);
+    let (within, owner) = owner_parts(value.owner);
+    let (has_after, after) = flag_and_number(value.comma_after);
     let anchor = value.comma_before.unwrap_or(value.whole.start);
-    Some(NarrowValue {
+    Some(PackedValue {
         leaf: value.leaf,
         within,
         depth: value.depth,
@@ -104,9 +104,9 @@ fn narrowed(value: &ValueInfo) -> Option<NarrowValue>
     })
 }
 
-/// The value that is kept so.
-fn shown(value: &NarrowValue) -> ValueInfo
-    ensures { result ≡ spec.shown value.now }
+/// The value that was packed.
+fn unpacked_value(value: &PackedValue) -> ValueInfo
+    ensures { result ≡ spec.unpacked_value value.now }
 {
     let anchor = value.anchor as usize;
     let start = anchor + value.gap as usize;
@@ -135,8 +135,8 @@ impl Values {
         ensures { spec.values_in result ≡ [] }
     {
         Values {
-            narrow: Vec::new(alloc),
-            wide: Vec::new(alloc),
+            packed: Vec::new(alloc),
+            unpacked: Vec::new(alloc),
         }
     }
 
@@ -144,19 +144,19 @@ impl Values {
     pub fn len(&self) -> usize
         ensures { result ≡ length (spec.values_in self.now) }
     {
-        self.narrow.len() + self.wide.len()
+        self.packed.len() + self.unpacked.len()
     }
 
-    /// The value of this number.
+    /// The value with this number.
     pub fn get(&self, number: usize) -> ValueInfo
         requires { number < length (spec.values_in self.now) }
         ensures { slice_get (spec.values_in self.now) number ≡ Some result }
     {
-        let narrow = self.narrow.len();
-        if number < narrow {
-            shown(&self.narrow[number])
+        let packed = self.packed.len();
+        if number < packed {
+            unpacked_value(&self.packed[number])
         } else {
-            self.wide[number - narrow]
+            self.unpacked[number - packed]
         }
     }
 
@@ -164,41 +164,41 @@ impl Values {
     pub fn push(&mut self, value: ValueInfo) -> Result<(), AllocError>
         ensures ok { OnOk result (spec.values_in self.new ≡ spec.values_in self.old ++ value ∷ []) }
     {
-        if self.wide.is_empty() {
-            if let Some(narrow) = narrowed(&value) {
-                self.narrow.push(narrow)?;
+        if self.unpacked.is_empty() {
+            if let Some(packed) = packed_value(&value) {
+                self.packed.push(packed)?;
                 return Ok(());
             }
         }
-        self.wide.push(value)?;
+        self.unpacked.push(value)?;
         Ok(())
     }
 
-    /// Tells where the comma behind a value stands.
+    /// Stores where the comma after a value is.
     pub fn set_comma(&mut self, number: usize, at: usize)
         requires { number < length (spec.values_in self.old) }
         ensures change { spec.Changes (spec.with_comma at) number (spec.values_in self.old) (spec.values_in self.new) }
     {
-        let narrow = self.narrow.len();
-        if number < narrow {
-            let value = &mut self.narrow[number];
+        let packed = self.packed.len();
+        if number < packed {
+            let value = &mut self.packed[number];
             value.has_after = true;
             value.after = at;
         } else {
-            self.wide[number - narrow].comma_after = Some(at);
+            self.unpacked[number - packed].comma_after = Some(at);
         }
     }
 
-    /// Tells where a value ends.
+    /// Stores where a value ends.
     pub fn set_end(&mut self, number: usize, end: usize)
         requires { number < length (spec.values_in self.old) }
         ensures change { spec.Changes (spec.with_end end) number (spec.values_in self.old) (spec.values_in self.new) }
     {
-        let narrow = self.narrow.len();
-        if number < narrow {
-            self.narrow[number].end = end;
+        let packed = self.packed.len();
+        if number < packed {
+            self.packed[number].end = end;
         } else {
-            let value = &mut self.wide[number - narrow];
+            let value = &mut self.unpacked[number - packed];
             value.span.end = end;
             value.whole.end = end;
         }

@@ -14,7 +14,7 @@ use Rattle.keep_path.specs.Path.{Part, key, index}
 use Rattle.keep_path.specs.PathText.{AreKeys, FirstIndex, IsPathText, StepsText}
 use Rattle.keep_path.specs.PathReading.{KeyFound, KeyRead, StepRead}
 use Rattle.keep_path.proofs.IndexLaws.{within_of}
-use Rattle.keep_path.proofs.PathReadLaws.{SoFar, so_far_first, so_far_more, so_far_done, dot_read, dot_stuck, key_first, key_in_front}
+use Rattle.keep_path.proofs.PathReadLaws.{SoFar, so_far_first, so_far_more, so_far_done, dot_read, dot_stuck, key_first, key_at_start}
 
 -- ---- each key part means a key
 
@@ -50,7 +50,7 @@ first_key_passed text n found =
     let (value, (l, at, m)) = key_meant text n found in
     record { path = key value ∷ []; keys = tt; so_far = so_far_first text l n value at m }
 
--- a dot stands there
+-- a dot is there
 within_dot : (text : List ℕ) (at : ℕ) → slice_index text at ≡ 0x2E → at < length text
 within_dot text at dot = within_of text at (omega (arith, dot))
 
@@ -74,16 +74,16 @@ next_key_passed text rest at n dot behind found h =
 pub no_first_key : (text : List ℕ) → key_at Strict text ≡ None → (q : List Part) → IsPathText text q → AreKeys q
 no_first_key text none [] h = tt
 no_first_key text none (key v ∷ parts) (a, b, e, k, more) =
-    let found = key_in_front v parts text a b e k more in
+    let found = key_at_start v parts text a b e k more in
     let never : ◌≡◌ {A = Option (Leaf × ℕ)} None (Some (found.0, length a)) = sym none ∙ found.1 in
     absurd cc
 no_first_key text none (index n ∷ parts) h = absurd h
 
--- behind a dot stands a key part
+-- after a dot is a key part
 pub no_next_key : (text rest : List ℕ) (at : ℕ) → slice_index text at ≡ 0x2E → rest ≡ drop (at + 1) text → key_at Strict rest ≡ None → KeysSoFar text at
     → (q : List Part) → IsPathText text q → ⊥
-no_next_key text rest at dot behind none h q told =
-    let r = h.so_far.all q told in
+no_next_key text rest at dot behind none h q stated =
+    let r = h.so_far.all q stated in
     let P : List ℕ → Type 0 = λ t. StepsText r.0 t in
     let left : r.0 ≡ [] = dot_stuck rest none r.0 (subst P (dot_spelled text at dot ∙ ap (λ (t : List ℕ). 0x2E ∷ t) (sym behind)) r.2) in
     let Q : List Part → Type 0 = λ p. StepsText p (drop at text) in
@@ -96,11 +96,11 @@ index_of rest (key v ∷ parts) some dot h = absurd (dot (ap (λ (t : List ℕ).
 index_of rest (index n ∷ parts) some dot h = (n, parts, h)
 
 pub index_there : (text : List ℕ) (at : ℕ) → at < length text → (slice_index text at ≡ 0x2E → ⊥) → KeysSoFar text at → (path : List Part) × IsPathText text path → FirstIndex text at
-index_there text at some dot h (q, told) =
-    let r = h.so_far.all q told in
-    let front : first (drop at text) ≡ slice_index text at = rw (get_or-drop at text 0 0, add-zero at) refl in
-    let f = index_of (drop at text) r.0 (omega (arith, some, length-drop at text)) (λ e. dot (sym front ∙ e)) r.2 in
-    (h.path, h.keys, h.so_far.told, f.0, f.1, f.2)
+index_there text at some dot h (q, stated) =
+    let r = h.so_far.all q stated in
+    let prefix : first (drop at text) ≡ slice_index text at = rw (get_or-drop at text 0 0, add-zero at) refl in
+    let f = index_of (drop at text) r.0 (omega (arith, some, length-drop at text)) (λ e. dot (sym prefix ∙ e)) r.2 in
+    (h.path, h.keys, h.so_far.stated, f.0, f.1, f.2)
 
 pub all_keys : (text : List ℕ) (at : ℕ) → length text ≤ at → KeysSoFar text at → (q : List Part) → IsPathText text q → AreKeys q
-all_keys text at end h q told = subst AreKeys (sym ((so_far_done text h.path at end h.so_far).1 q told)) h.keys
+all_keys text at end h q stated = subst AreKeys (sym ((so_far_done text h.path at end h.so_far).1 q stated)) h.keys

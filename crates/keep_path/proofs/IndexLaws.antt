@@ -56,7 +56,7 @@ within_of [] k h = absurd (omega (arith, h))
 within_of (c ∷ cs) zero h = omega arith
 within_of (c ∷ cs) (suc k) h = omega (arith, within_of cs k h)
 
--- the text may be cut behind the bracket
+-- the text may be cut after the bracket
 pub bracket_cut : (text : List ℕ) (k : ℕ) → IsUtf8 text → closes text k ≡ true → IsCharBoundary text (k + 1)
 bracket_cut text k utf8 shut =
     let c = closes_parts text k shut in
@@ -69,11 +69,11 @@ index_found {E} text k number r ok e shut parsed =
     let within = within_of text k (omega (arith, c.1)) in
     let digits : AllDigits 10 (take k text) = rw e (run_digits text) in
     let count : length (take k text) ≡ k = omega (arith, length-take k text) in
-    let told = parse_plain numerals {E = E} 64 (take k text) (Ok number) (rw ok at parsed) (no_plus (take k text) digits) in
-    let value : number ≡ digits_value 10 (take k text) = told.1 in
+    let stated = parse_plain numerals {E = E} 64 (take k text) (Ok number) (rw ok at parsed) (no_plus (take k text) digits) in
+    let value : number ≡ digits_value 10 (take k text) = stated.1 in
     let short = digits_value_short numerals (take k text) 9 digits (omega (arith, count, c.0)) in
-    let one : get_or (take k text) 0 0 ≡ 48 → length (take k text) ≡ 1 = λ z. omega (arith, count, told.0.1, c.2 (front_same text k told.0.1 z)) in
-    let spelled : decimal number ≡ take k text = ap decimal value ∙ decimal-digits_value numerals (take k text) digits told.0.1 one told.0.2 in
+    let one : get_or (take k text) 0 0 ≡ 48 → length (take k text) ≡ 1 = λ z. omega (arith, count, stated.0.1, c.2 (prefix_same text k stated.0.1 z)) in
+    let spelled : decimal number ≡ take k text = ap decimal value ∙ decimal-digits_value numerals (take k text) digits stated.0.1 one stated.0.2 in
     let rest : drop k text ≡ 0x5D ∷ drop (k + 1) text = rw (drop-cons text k 0, add-one k, c.1) refl in
     record {
       small = omega (arith, value, short);
@@ -81,17 +81,17 @@ index_found {E} text k number r ok e shut parsed =
       len = rw spelled (omega (arith, length-append (take k text) (0x5D ∷ []), count));
     }
   where
-    front_same : (text : List ℕ) (k : ℕ) → 0 < length (take k text) → get_or (take k text) 0 0 ≡ 48 → get_or text 0 0 ≡ 48
-    front_same text zero some z = absurd (omega arith)
-    front_same [] (suc k) some z = z
-    front_same (c ∷ cs) (suc k) some z = z
+    prefix_same : (text : List ℕ) (k : ℕ) → 0 < length (take k text) → get_or (take k text) 0 0 ≡ 48 → get_or text 0 0 ≡ 48
+    prefix_same text zero some z = absurd (omega arith)
+    prefix_same [] (suc k) some z = z
+    prefix_same (c ∷ cs) (suc k) some z = z
 
 -- ---- each index is read
 
-record IndexFront (text : List ℕ) (n : ℕ) : Type 0 where
+record IndexPrefix (text : List ℕ) (n : ℕ) : Type 0 where
   run : prefix_len is_ascii_digit text ≡ length (decimal n)
   shut : closes text (length (decimal n)) ≡ true
-  front : take (length (decimal n)) text ≡ decimal n
+  prefix : take (length (decimal n)) text ≡ decimal n
 
 one_digit : (n : ℕ) → n < 2 ^ 64 → get_or (decimal n) 0 0 ≡ 48 → length (decimal n) ≤ 1
 one_digit n h z =
@@ -100,8 +100,8 @@ one_digit n h z =
       | inr more ↦ absurd (omega (arith, first_decimal n more h))
     ]
 
-index_front : (n : ℕ) (rest : List ℕ) → n < 1_000_000_000 → IndexFront (decimal n ++ 0x5D ∷ rest) n
-index_front n rest small =
+index_prefix : (n : ℕ) (rest : List ℕ) → n < 1_000_000_000 → IndexPrefix (decimal n ++ 0x5D ∷ rest) n
+index_prefix n rest small =
     let h : n < 2 ^ 64 = omega arith in
     let k = length (decimal n) in
     let some = decimal_nonempty n h in
@@ -110,33 +110,33 @@ index_front n rest small =
       shut = closes_from (decimal n ++ 0x5D ∷ rest) k (length-decimal-le 9 n (omega arith) small h)
           (get_or_at (decimal n) 0x5D rest 0 k refl)
           (λ z. one_digit n h (sym (get_or_append_left (decimal n) (0x5D ∷ rest) 0 0 some) ∙ z));
-      front = take_at (decimal n) (0x5D ∷ rest) k refl;
+      prefix = take_at (decimal n) (0x5D ∷ rest) k refl;
     }
 
 pub not_closed : (text : List ℕ) (k : ℕ) → k ≡ prefix_len is_ascii_digit text → closes text k ≡ false → (n : ℕ) (rest : List ℕ) → n < 1_000_000_000
     → text ≡ decimal n ++ 0x5D ∷ rest → ⊥
 not_closed text k e open_at n rest small is =
-    let f = subst (λ t. IndexFront t n) (sym is) (index_front n rest small) in
+    let f = subst (λ t. IndexPrefix t n) (sym is) (index_prefix n rest small) in
     let same : k ≡ length (decimal n) = e ∙ f.run in
     both_ways (closes text k) open_at (rw same f.shut)
 
 pub not_parsed : {E : Type 0} (text : List ℕ) (k : ℕ) (error : E) → k ≡ prefix_len is_ascii_digit text → ParsesUnsigned 64 10 (take k text) (Err error) → (n : ℕ) (rest : List ℕ) → n < 1_000_000_000
     → text ≡ decimal n ++ 0x5D ∷ rest → ⊥
 not_parsed {E} text k error e parsed n rest small is =
-    let f = subst (λ t. IndexFront t n) (sym is) (index_front n rest small) in
-    let front : take k text ≡ decimal n = rw (e ∙ f.run) f.front in
+    let f = subst (λ t. IndexPrefix t n) (sym is) (index_prefix n rest small) in
+    let prefix : take k text ≡ decimal n = rw (e ∙ f.run) f.prefix in
     let h : n < 2 ^ 64 = omega arith in
     let digits = digits_decimal numerals n h in
-    let told = parse_plain numerals {E = E} 64 (decimal n) (Err error) (rw front at parsed) (no_plus (decimal n) digits) in
-    told (digits, decimal_nonempty n h, rw (digits_value-decimal numerals n h) h)
+    let stated = parse_plain numerals {E = E} 64 (decimal n) (Err error) (rw prefix at parsed) (no_plus (decimal n) digits) in
+    stated (digits, decimal_nonempty n h, rw (digits_value-decimal numerals n h) h)
 
 -- a text begins with one index at most
 pub index_one : (m n : ℕ) (a b : List ℕ) → m < 1_000_000_000 → n < 1_000_000_000 → decimal m ++ 0x5D ∷ a ≡ decimal n ++ 0x5D ∷ b → (m ≡ n) × (a ≡ b)
 index_one m n a b h k e =
-    let f = subst (λ t. IndexFront t m) e (index_front m a h) in
-    let g = index_front n b k in
+    let f = subst (λ t. IndexPrefix t m) e (index_prefix m a h) in
+    let g = index_prefix n b k in
     let count : length (decimal m) ≡ length (decimal n) = sym f.run ∙ g.run in
-    let texts : decimal m ≡ decimal n = sym f.front ∙ rw count g.front in
+    let texts : decimal m ≡ decimal n = sym f.prefix ∙ rw count g.prefix in
     let same : m ≡ n = decimal_injective m n (omega arith) (omega arith) texts in
     let A = sym (drop_at (decimal m ++ 0x5D ∷ []) a (length (decimal m ++ 0x5D ∷ [])) refl) in
     let B = drop_at (decimal n ++ 0x5D ∷ []) b (length (decimal n ++ 0x5D ∷ [])) refl in

@@ -18,16 +18,16 @@ use Rattle.keep_path.specs.PathReading.{KeyRead, StepRead}
 -- ---- what is found is a step
 
 -- one more step
-steps_more : (parts : List Part) (part : Part) (front text : List ℕ) → StepsText parts front → StepText part text → StepsText (parts ++ part ∷ []) (front ++ text)
-steps_more [] part front text h s = (text, [], rw h (sym (append-nil text)), s, refl)
-steps_more (p ∷ parts) part front text (a, b, e, x, more) s =
+steps_more : (parts : List Part) (part : Part) (prefix text : List ℕ) → StepsText parts prefix → StepText part text → StepsText (parts ++ part ∷ []) (prefix ++ text)
+steps_more [] part prefix text h s = (text, [], rw h (sym (append-nil text)), s, refl)
+steps_more (p ∷ parts) part prefix text (a, b, e, x, more) s =
     (a, b ++ text, rw e (append_assoc a b text), x, steps_more parts part b text more s)
 
-pub told_more : (path : List Part) (part : Part) (front text : List ℕ) → IsPathText front path → (path ≡ [] → ⊥) → StepText part text → IsPathText (front ++ text) (path ++ part ∷ [])
-told_more [] part front text h some s = absurd (some refl)
-told_more (key value ∷ parts) part front text (a, b, e, k, more) some s =
+pub stated_more : (path : List Part) (part : Part) (prefix text : List ℕ) → IsPathText prefix path → (path ≡ [] → ⊥) → StepText part text → IsPathText (prefix ++ text) (path ++ part ∷ [])
+stated_more [] part prefix text h some s = absurd (some refl)
+stated_more (key value ∷ parts) part prefix text (a, b, e, k, more) some s =
     (a, b ++ text, rw e (append_assoc a b text), k, steps_more parts part b text more s)
-told_more (index n ∷ parts) part front text h some s = absurd h
+stated_more (index n ∷ parts) part prefix text h some s = absurd h
 
 -- ---- what may follow a key part
 
@@ -47,24 +47,24 @@ strict_means leaf.Basic t value k (pieces, h) m =
 strict_means leaf.Literal t value k h m = m
 strict_means _ t value k h m = absurd cc
 
-pub key_told_of : (l : Leaf) (t value : List ℕ) → is_key_leaf l ≡ true → IsLeaf Strict l t → Means Wide l t value → KeyText value t
-key_told_of l t value k h m = (l, k, h, strict_means l t value k h m)
+pub key_stated_of : (l : Leaf) (t value : List ℕ) → is_key_leaf l ≡ true → IsLeaf Strict l t → Means Wide l t value → KeyText value t
+key_stated_of l t value k h m = (l, k, h, strict_means l t value k h m)
 
--- a key part in front of steps is the one that is found
+-- a key part before steps is the one that is found
 pub record KeyIsFound (value rest : List ℕ) (parts : List Part) (l : Leaf) (n : ℕ) (text : List ℕ) : Type 0 where
   pub means : Means Strict l (take n text) value
   pub behind : StepsText parts (drop n text)
 
-pub key_in_front : (value : List ℕ) (parts : List Part) (text : List ℕ) → (a b : List ℕ) → text ≡ a ++ b → KeyText value a → StepsText parts b
+pub key_at_start : (value : List ℕ) (parts : List Part) (text : List ℕ) → (a b : List ℕ) → text ≡ a ++ b → KeyText value a → StepsText parts b
     → (l : Leaf) × (key_at Strict text ≡ Some (l, length a)) × Means Strict l a value
-key_in_front value parts text a b e (l, k, h, m) more = (l, rw e (key_again Strict l a b k h (steps_stop parts b more)), m)
+key_at_start value parts text a b e (l, k, h, m) more = (l, rw e (key_again Strict l a b k h (steps_stop parts b more)), m)
 
 -- ---- what is read so far
 
--- the first bytes tell the path, and each path that the text tells goes on from there
+-- the first bytes tell the path, and each path that the text tells continues from there
 pub record SoFar (text : List ℕ) (path : List Part) (at : ℕ) : Type 0 where
   pub within : at ≤ length text
-  pub told : IsPathText (take at text) path
+  pub stated : IsPathText (take at text) path
   pub some : path ≡ [] → ⊥
   pub all : (q : List Part) → IsPathText text q → (rest : List Part) × (q ≡ path ++ rest) × StepsText rest (drop at text)
 
@@ -82,7 +82,7 @@ pub so_far_more : (text : List ℕ) (path : List Part) (at n : ℕ) (part : Part
     → SoFar text (path ++ part ∷ []) (at + n)
 so_far_more text path at n part h read = record {
   within = omega (arith, h.within, read.within, length-drop at text);
-  told = rw (take_more at n text) (told_more path part (take at text) (take n (drop at text)) h.told h.some read.step);
+  stated = rw (take_more at n text) (stated_more path part (take at text) (take n (drop at text)) h.stated h.some read.step);
   some = not_empty path part;
   all = λ q k.
       let r = h.all q k in
@@ -90,14 +90,14 @@ so_far_more text path at n part h read = record {
       (s.0, r.1 ∙ ap (λ (t : List Part). path ++ t) s.1 ∙ sym (append_assoc path (part ∷ []) s.0), rw (← drop-drop n at text) s.2);
 }
 
--- ---- what stands in front of the steps that are left
+-- ---- what comes before the steps that are left
 
 steps_none : (rest : List Part) → StepsText rest [] → rest ≡ []
 steps_none [] h = refl
-steps_none (key value ∷ parts) (a, b, e, (x, y, e2, dot, k), more) = let never : ⊥ = no_front a b x y 0x2E [] e e2 dot in absurd never
+steps_none (key value ∷ parts) (a, b, e, (x, y, e2, dot, k), more) = let never : ⊥ = no_prefix a b x y 0x2E [] e e2 dot in absurd never
   where
-    no_front : (a b x y : List ℕ) (c : ℕ) (cs : List ℕ) → [] ≡ a ++ b → a ≡ x ++ y → x ≡ c ∷ cs → ⊥
-    no_front a b x y c cs e e2 is = let f : [] ≡ (c ∷ cs ++ y) ++ b = e ∙ ap (λ (t : List ℕ). t ++ b) (e2 ∙ ap (λ (t : List ℕ). t ++ y) is) in cc
+    no_prefix : (a b x y : List ℕ) (c : ℕ) (cs : List ℕ) → [] ≡ a ++ b → a ≡ x ++ y → x ≡ c ∷ cs → ⊥
+    no_prefix a b x y c cs e e2 is = let f : [] ≡ (c ∷ cs ++ y) ++ b = e ∙ ap (λ (t : List ℕ). t ++ b) (e2 ∙ ap (λ (t : List ℕ). t ++ y) is) in cc
 steps_none (index n ∷ parts) (a, b, e, (small, is), more) = let f : [] ≡ index_text n ++ b = e ∙ ap (λ (t : List ℕ). t ++ b) is in absurd cc
 
 pub record KeyFirst (value : List ℕ) (parts : List Part) (text : List ℕ) : Type 0 where
@@ -127,9 +127,9 @@ so_far_done text path at end h =
     let only : (q : List Part) → IsPathText text q → q ≡ path = λ q k.
     let r = h.all q k in
     r.1 ∙ ap (λ (t : List Part). path ++ t) (steps_none r.0 (rw (drop_all at text end) at r.2)) ∙ append-nil path in
-    (subst P (take_all at text end) h.told, only)
+    (subst P (take_all at text end) h.stated, only)
 
--- ---- a key behind a dot
+-- ---- a key after a dot
 
 same_key : (l k : Leaf) (n : ℕ) (t b value v : List ℕ) → ◌≡◌ {A = Option (Leaf × ℕ)} (Some (k, length t)) (Some (l, n)) → Means Strict k t v → Means Wide l (take n (t ++ b)) value
     → (v ≡ value) × (drop n (t ++ b) ≡ b)
@@ -153,7 +153,7 @@ key_step more l n value at m (index k ∷ parts) h =
 key_step more l n value at m (key v ∷ parts) h =
     let f = key_first v parts (0x2E ∷ more) h in
     let e : more ≡ f.part ++ f.behind = ap (λ (t : List ℕ). drop 1 t) f.spelled in
-    let found = key_in_front v parts more f.part f.behind e f.is_key f.more in
+    let found = key_at_start v parts more f.part f.behind e f.is_key f.more in
     let P : List ℕ → Type 0 = λ t. Means Wide l (take n t) value in
     let same = same_key l found.0 n f.part f.behind value v (sym found.1 ∙ at) found.2 (subst P e m) in
     let Q : List ℕ → Type 0 = λ t. StepsText parts (drop n t) in
@@ -165,11 +165,11 @@ dot_read more n value (l, found, m) =
     record {
       some = omega arith;
       within = omega (arith, f.2);
-      step = (0x2E ∷ [], take n more, refl, refl, key_told_of l (take n more) value f.0 f.3 m);
+      step = (0x2E ∷ [], take n more, refl, refl, key_stated_of l (take n more) value f.0 f.3 m);
       first = λ rest k. key_step more l n value found m rest k;
     }
 
--- no step begins with a dot where no key part stands behind it
+-- no step begins with a dot where no key part comes after it
 pub dot_stuck : (more : List ℕ) → key_at Strict more ≡ None → (rest : List Part) → StepsText rest (0x2E ∷ more) → rest ≡ []
 dot_stuck more none [] h = refl
 dot_stuck more none (index i ∷ parts) h =
@@ -179,7 +179,7 @@ dot_stuck more none (index i ∷ parts) h =
 dot_stuck more none (key v ∷ parts) h =
     let f = key_first v parts (0x2E ∷ more) h in
     let e : more ≡ f.part ++ f.behind = ap (λ (t : List ℕ). drop 1 t) f.spelled in
-    let found = key_in_front v parts more f.part f.behind e f.is_key f.more in
+    let found = key_at_start v parts more f.part f.behind e f.is_key f.more in
     let never : ◌≡◌ {A = Option (Leaf × ℕ)} None (Some (found.0, length f.part)) = sym none ∙ found.1 in
     absurd cc
 
@@ -196,7 +196,7 @@ first_step : (text : List ℕ) (l : Leaf) (n : ℕ) (value : List ℕ) → key_a
 first_step text l n value at m [] h = let f = key_found Strict text l n at in absurd (omega (arith, f.1, f.2, ap (λ (t : List ℕ). length t) h))
 first_step text l n value at m (index i ∷ parts) h = absurd h
 first_step text l n value at m (key v ∷ parts) (a, b, e, k, more) =
-    let found = key_in_front v parts text a b e k more in
+    let found = key_at_start v parts text a b e k more in
     let P : List ℕ → Type 0 = λ t. Means Wide l (take n t) value in
     let same = same_key l found.0 n a b value v (sym found.1 ∙ at) found.2 (subst P e m) in
     let Q : List ℕ → Type 0 = λ t. StepsText parts (drop n t) in
@@ -207,24 +207,24 @@ so_far_first text l n value at m =
     let f = key_found Strict text l n at in
     record {
       within = f.2;
-      told = (take n text, [], sym (append-nil (take n text)), key_told_of l (take n text) value f.0 f.3 m, refl);
+      stated = (take n text, [], sym (append-nil (take n text)), key_stated_of l (take n text) value f.0 f.3 m, refl);
       some = λ e. cc;
       all = λ q k. first_step text l n value at m q k;
     }
 
--- a text that is not empty tells no path where no key part stands in front
+-- a text that is not empty tells no path where no key part comes first
 pub first_stuck : (text : List ℕ) → 0 < length text → key_at Strict text ≡ None → (q : List Part) → IsPathText text q → ⊥
 first_stuck text some none [] h = omega (arith, ap (λ (t : List ℕ). length t) h)
 first_stuck text some none (index i ∷ parts) h = h
 first_stuck text some none (key v ∷ parts) (a, b, e, k, more) =
-    let found = key_in_front v parts text a b e k more in
+    let found = key_at_start v parts text a b e k more in
     let never : ◌≡◌ {A = Option (Leaf × ℕ)} None (Some (found.0, length a)) = sym none ∙ found.1 in
     cc
 
 -- ---- an index in brackets
 
-index_behind : (more : List ℕ) (i : ℕ) (parts : List Part) → StepsText (index i ∷ parts) (0x5B ∷ more) → (behind : List ℕ) × (i < 1_000_000_000) × (more ≡ decimal i ++ 0x5D ∷ behind) × StepsText parts behind
-index_behind more i parts h =
+index_after : (more : List ℕ) (i : ℕ) (parts : List Part) → StepsText (index i ∷ parts) (0x5B ∷ more) → (behind : List ℕ) × (i < 1_000_000_000) × (more ≡ decimal i ++ 0x5D ∷ behind) × StepsText parts behind
+index_after more i parts h =
     let f = index_first i parts (0x5B ∷ more) h in
     (f.behind, f.small, ap (λ (t : List ℕ). drop 1 t) f.spelled ∙ append_assoc (decimal i) (0x5D ∷ []) f.behind, f.more)
 
@@ -236,27 +236,27 @@ index_step more behind n small is (key v ∷ parts) h =
     let never : ◌≡◌ {A = ℕ} 0x5B 0x2E = ap (λ (t : List ℕ). first t) (key_first v parts (0x5B ∷ more) h).spelled in
     absurd (omega (arith, never))
 index_step more behind n small is (index i ∷ parts) h =
-    let f = index_behind more i parts h in
+    let f = index_after more i parts h in
     let same = index_one i n f.0 behind f.1 small (sym f.2 ∙ is) in
     (parts, ap (λ (k : ℕ). index k ∷ parts) same.0, rw (← same.1) f.3)
 
 pub bracket_read : (more : List ℕ) (n k : ℕ) → n < 1_000_000_000 → more ≡ (decimal n ++ 0x5D ∷ []) ++ drop k more → k ≡ length (decimal n ++ 0x5D ∷ [])
     → StepRead (0x5B ∷ more) (index n) (suc k)
 bracket_read more n k small is count =
-    let front : take k more ≡ decimal n ++ 0x5D ∷ [] = ap (λ (t : List ℕ). take k t) is ∙ take_at (decimal n ++ 0x5D ∷ []) (drop k more) k (sym count) in
+    let prefix : take k more ≡ decimal n ++ 0x5D ∷ [] = ap (λ (t : List ℕ). take k t) is ∙ take_at (decimal n ++ 0x5D ∷ []) (drop k more) k (sym count) in
     let fits : k ≤ length more = omega (arith, ap (λ (t : List ℕ). length t) is, length-append (decimal n ++ 0x5D ∷ []) (drop k more), count) in
     record {
       some = omega arith;
       within = omega (arith, fits);
-      step = (small, ap (λ (t : List ℕ). 0x5B ∷ t) front);
+      step = (small, ap (λ (t : List ℕ). 0x5B ∷ t) prefix);
       first = λ rest s. index_step more (drop k more) n small (is ∙ append_assoc (decimal n) (0x5D ∷ []) (drop k more)) rest s;
     }
 
--- no step begins with a bracket where no index stands behind it
+-- no step begins with a bracket where no index comes after it
 pub bracket_stuck : (more : List ℕ) → ((n : ℕ) (rest : List ℕ) → n < 1_000_000_000 → more ≡ decimal n ++ 0x5D ∷ rest → ⊥)
     → (rest : List Part) → StepsText rest (0x5B ∷ more) → rest ≡ []
 bracket_stuck more none [] h = refl
 bracket_stuck more none (key v ∷ parts) h =
     let never : ◌≡◌ {A = ℕ} 0x5B 0x2E = ap (λ (t : List ℕ). first t) (key_first v parts (0x5B ∷ more) h).spelled in
     absurd (omega (arith, never))
-bracket_stuck more none (index i ∷ parts) h = let f = index_behind more i parts h in absurd (none i f.0 f.1 f.2)
+bracket_stuck more none (index i ∷ parts) h = let f = index_after more i parts h in absurd (none i f.0 f.1 f.2)

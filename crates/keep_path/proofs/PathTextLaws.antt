@@ -27,24 +27,24 @@ steps_have_bytes (Index n ∷ steps) = steps_have_bytes steps
 encoded_leaf_is_key : (value : List ℕ) → is_key_leaf (encoded_key_leaf value) ≡ true
 encoded_leaf_is_key value = elim (cases_Bool (is_bare_text value)) [ inl e ↦ rw e refl | inr e ↦ rw e refl ]
 
-key_told : (value : List ℕ) → ((i : ℕ) → Fits w8 (get_or value i 0)) → KeyText value (encoded_key value)
-key_told value h = (encoded_key_leaf value, encoded_leaf_is_key value, key_is_leaf value h, key_means value h)
+key_stated : (value : List ℕ) → ((i : ℕ) → Fits w8 (get_or value i 0)) → KeyText value (encoded_key value)
+key_stated value h = (encoded_key_leaf value, encoded_leaf_is_key value, key_is_leaf value h, key_means value h)
 
-steps_told : (parts : List Part) → HasBytes parts → HasSmallIndexes parts → StepsText parts (flat_map part_text parts)
-steps_told [] h small = refl
-steps_told (key value ∷ parts) h small =
-    (part_text (key value), flat_map part_text parts, refl, (0x2E ∷ [], encoded_key value, refl, refl, key_told value h.0), steps_told parts h.1 small)
-steps_told (index n ∷ parts) h small =
-    (part_text (index n), flat_map part_text parts, refl, (small.0, refl), steps_told parts h small.1)
+steps_stated : (parts : List Part) → HasBytes parts → HasSmallIndexes parts → StepsText parts (flat_map part_text parts)
+steps_stated [] h small = refl
+steps_stated (key value ∷ parts) h small =
+    (part_text (key value), flat_map part_text parts, refl, (0x2E ∷ [], encoded_key value, refl, refl, key_stated value h.0), steps_stated parts h.1 small)
+steps_stated (index n ∷ parts) h small =
+    (part_text (index n), flat_map part_text parts, refl, (small.0, refl), steps_stated parts h small.1)
 
-path_told : (parts : List Part) → IsRooted parts → HasBytes parts → HasSmallIndexes parts → IsPathText (encoded_path parts) parts
-path_told [] r h small = refl
-path_told (key value ∷ parts) r h small = (encoded_key value, flat_map part_text parts, refl, key_told value h.0, steps_told parts h.1 small)
-path_told (index n ∷ parts) r h small = absurd r
+path_stated : (parts : List Part) → IsRooted parts → HasBytes parts → HasSmallIndexes parts → IsPathText (encoded_path parts) parts
+path_stated [] r h small = refl
+path_stated (key value ∷ parts) r h small = (encoded_key value, flat_map part_text parts, refl, key_stated value h.0, steps_stated parts h.1 small)
+path_stated (index n ∷ parts) r h small = absurd r
 
-pub encoded_told : (steps : List Step) → IsRooted (map part_of steps) → HasSmallIndexes (map part_of steps)
+pub encoded_stated : (steps : List Step) → IsRooted (map part_of steps) → HasSmallIndexes (map part_of steps)
     → IsPathText (encoded_path (map part_of steps)) (map part_of steps)
-encoded_told steps r small = path_told (map part_of steps) r (steps_have_bytes steps) small
+encoded_stated steps r small = path_stated (map part_of steps) r (steps_have_bytes steps) small
 
 pub steps_are_utf8 : (steps : List Step) → AreUtf8 (map part_of steps)
 steps_are_utf8 [] = tt

@@ -1,4 +1,4 @@
--- What the readers of key parts and steps find at the front of a text.
+-- What the readers of key parts and steps find at the start of a text.
 use Rattle.std.proofs.Common.{◌≡◌, ℕ, ◌+◌, ◌<◌, ◌≤◌, List, [], ◌∷◌, ◌++◌, length, take, drop, refl, sym, ap, ◌∙◌, subst, arith, add-one}
 use Rattle.std.specs.Prelude.{IsUtf8, IsCharBoundary, slice_index}
 use Rattle.std.proofs.lemmas.Str.{IsCharBoundary-after_ascii}
@@ -16,14 +16,14 @@ use Rattle.keep_path.proofs.PathReadLaws.{SoFar, so_far_first, so_far_more, so_f
 pub wide_key : (text part : List ℕ) (l : Leaf) (n : ℕ) → part ≡ take n text → KeyLeaf Strict text l n → IsLeaf Wide l part
 wide_key text part l n e found = rw e (leaf_wider l (take n text) found.leaf.belongs)
 
--- a byte below 128 stands in front
-pub record Front (text : List ℕ) (byte : ℕ) : Type 0 where
+-- a byte below 128 comes first
+pub record Prefix (text : List ℕ) (byte : ℕ) : Type 0 where
   pub spelled : byte ∷ drop 1 text ≡ text
   pub cut : IsCharBoundary text 1
 
-pub front_is : (text : List ℕ) (byte : ℕ) → IsUtf8 text → slice_index text 0 ≡ byte → 0 < byte → byte < 128 → Front text byte
-front_is [] byte utf8 e some low = absurd (omega (arith, e, some))
-front_is (b ∷ text) byte utf8 e some low = record {
+pub prefix_is : (text : List ℕ) (byte : ℕ) → IsUtf8 text → slice_index text 0 ≡ byte → 0 < byte → byte < 128 → Prefix text byte
+prefix_is [] byte utf8 e some low = absurd (omega (arith, e, some))
+prefix_is (b ∷ text) byte utf8 e some low = record {
   spelled = rw e refl;
   cut = IsCharBoundary-after_ascii (b ∷ text) 0 utf8 (omega arith) (omega (arith, e, low));
 }
@@ -31,28 +31,28 @@ front_is (b ∷ text) byte utf8 e some low = record {
 first_of_bytes : (text bytes : List ℕ) (byte : ℕ) → bytes ≡ text → byte ≡ slice_index bytes 0 → slice_index text 0 ≡ byte
 first_of_bytes text bytes byte same is = ap (λ (t : List ℕ). slice_index t 0) (sym same) ∙ sym is
 
-pub front_of : (text bytes : List ℕ) (read byte : ℕ) → bytes ≡ text → read ≡ slice_index bytes 0 → IsUtf8 text → read ≡ byte → 0 < byte → byte < 128 → Front text byte
-front_of text bytes read byte same is utf8 e some low = front_is text byte utf8 (first_of_bytes text bytes read same is ∙ e) some low
+pub prefix_of : (text bytes : List ℕ) (read byte : ℕ) → bytes ≡ text → read ≡ slice_index bytes 0 → IsUtf8 text → read ≡ byte → 0 < byte → byte < 128 → Prefix text byte
+prefix_of text bytes read byte same is utf8 e some low = prefix_is text byte utf8 (first_of_bytes text bytes read same is ∙ e) some low
 
-pub dot_step : (text behind value : List ℕ) (n : ℕ) → Front text 0x2E → behind ≡ drop 1 text → KeyRead behind value n → StepRead text (key value) (n + 1)
-dot_step text behind value n front e found =
+pub dot_step : (text behind value : List ℕ) (n : ℕ) → Prefix text 0x2E → behind ≡ drop 1 text → KeyRead behind value n → StepRead text (key value) (n + 1)
+dot_step text behind value n prefix e found =
     let P : List ℕ → Type 0 = λ t. StepRead t (key value) (n + 1) in
     let Q : List ℕ → Type 0 = λ t. KeyRead t value n in
-    subst P front.spelled (rw (add-one n) (dot_read (drop 1 text) n value (subst Q e found)))
+    subst P prefix.spelled (rw (add-one n) (dot_read (drop 1 text) n value (subst Q e found)))
 
-pub bracket_step : (text behind : List ℕ) (i n : ℕ) → Front text 0x5B → behind ≡ drop 1 text → i < 1_000_000_000
+pub bracket_step : (text behind : List ℕ) (i n : ℕ) → Prefix text 0x5B → behind ≡ drop 1 text → i < 1_000_000_000
     → behind ≡ (decimal i ++ 0x5D ∷ []) ++ drop n behind → n ≡ length (decimal i ++ 0x5D ∷ []) → StepRead text (index i) (n + 1)
-bracket_step text behind i n front e small is count =
+bracket_step text behind i n prefix e small is count =
     let P : List ℕ → Type 0 = λ t. StepRead t (index i) (n + 1) in
     let Q : List ℕ → Type 0 = λ t. t ≡ (decimal i ++ 0x5D ∷ []) ++ drop n t in
-    subst P front.spelled (rw (add-one n) (bracket_read (drop 1 text) i n small (subst Q e is) count))
+    subst P prefix.spelled (rw (add-one n) (bracket_read (drop 1 text) i n small (subst Q e is) count))
 
--- no steps begin with a byte behind which nothing fits
-pub none_behind : (text behind : List ℕ) (byte : ℕ) → Front text byte → behind ≡ drop 1 text
+-- no steps begin with a byte after which nothing fits
+pub none_after : (text behind : List ℕ) (byte : ℕ) → Prefix text byte → behind ≡ drop 1 text
     → ((parts : List Part) → StepsText parts (byte ∷ behind) → parts ≡ []) → (parts : List Part) → StepsText parts text → parts ≡ []
-none_behind text behind byte front e none parts h =
+none_after text behind byte prefix e none parts h =
     let P : List ℕ → Type 0 = λ t. StepsText parts t in
-    none parts (subst P (sym (ap (λ (t : List ℕ). byte ∷ t) e ∙ front.spelled)) h)
+    none parts (subst P (sym (ap (λ (t : List ℕ). byte ∷ t) e ∙ prefix.spelled)) h)
 
 pub other_step : (text bytes : List ℕ) (read : ℕ) → bytes ≡ text → read ≡ slice_index bytes 0 → (read ≡ 0x2E → ⊥) → (read ≡ 0x5B → ⊥)
     → (parts : List Part) → StepsText parts text → parts ≡ []
@@ -70,4 +70,4 @@ pub so_far_next_read : (text rest : List ℕ) (path more : List Part) (at n : �
 so_far_next_read text rest path more at n part is behind h found = rw is (so_far_more text path at n part h (rw behind at found))
 
 pub one_read : (text : List ℕ) (path : List Part) (at : ℕ) → length text ≤ at → SoFar text path at → (q : List Part) → IsPathText text q → path ≡ q
-one_read text path at end h q told = sym ((so_far_done text path at end h).1 q told)
+one_read text path at end h q stated = sym ((so_far_done text path at end h).1 q stated)

@@ -1,4 +1,4 @@
--- What is found at the front of a path's text. The laws in proofs/ tie it to the texts of paths.
+-- What is found at the start of a path's text. The laws in proofs/ tie it to the texts of paths.
 use Rattle.std.specs.Prelude.{◌≡◌, ℕ, ◌<◌, ◌≤◌, List, ◌∷◌, length, take, drop, Some}
 use Rattle.keep_token.specs.declared.leaf.Leaf.{Leaf}
 use Rattle.keep_token.specs.declared.leaf.Profile.TheVariants.{Strict, Wide}

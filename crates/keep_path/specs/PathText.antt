@@ -18,7 +18,7 @@ abbrev pub first_text : Part → List ℕ
 first_text (key text) = encoded_key text
 first_text (index n) = index_text n
 
--- a step behind others: a dot and a key part, or an index
+-- a step after others: a dot and a key part, or an index
 abbrev pub part_text : Part → List ℕ
 part_text (key text) = 0x2E ∷ encoded_key text
 part_text (index n) = index_text n
@@ -64,6 +64,6 @@ AreKeys [] = Unit {0}
 AreKeys (key value ∷ parts) = AreKeys parts
 AreKeys (index n ∷ parts) = ⊥
 
--- keys stand before this byte, and an index begins there
+-- keys come before this byte, and an index begins there
 abbrev pub FirstIndex : List ℕ → ℕ → Type 0
 FirstIndex text at = (keys : List Part) × AreKeys keys × IsPathText (take at text) keys × (n : ℕ) × (parts : List Part) × StepsText (index n ∷ parts) (drop at text)

@@ -7,7 +7,7 @@ ghost use Rattle.std.specs.Char.{is_ascii_digit};
 /// The most digits that an index in a path text has.
 const MOST_DIGITS: usize = 9;
 
-/// The index that begins the text behind its opening bracket, and how many bytes it has with the closing one. It has
+/// The index that begins the text after its opening bracket, and how many bytes it has with the closing one. It has
 /// one to nine digits, and no zero before another digit.
 pub(crate) fn read_index(text: &str) -> Option<(usize, usize)>
     ensures small { IfSome result (λ found. found.0 < 1_000_000_000) }
@@ -28,7 +28,7 @@ pub(crate) fn read_index(text: &str) -> Option<(usize, usize)>
     }
 }
 
-/// Whether so many digits may be an index: there are not too many, no zero stands before another digit, and the closing
+/// Whether so many digits may be an index: there are not too many, no zero comes before another digit, and the closing
 /// bracket follows.
 fn closes(bytes: &[u8], digits: usize) -> bool
     ensures { result ≡ closes bytes.now digits }
@@ -45,7 +45,7 @@ pub(crate) fn byte_or_zero(bytes: &[u8], at: usize) -> u8
     bytes.get(at).copied().unwrap_or(0)
 }
 
-/// The number of digits in front.
+/// The number of digits at the start.
 fn digits_len(bytes: &[u8]) -> usize
     ensures { result ≡ prefix_len is_ascii_digit bytes.now }
 {

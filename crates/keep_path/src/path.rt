@@ -48,7 +48,7 @@ impl Path {
     /// `BadPath` where the text is no path's: with the start of the first step that cannot be read, its dot or bracket
     /// included, in bytes from the start of the text. `Memory` where memory was refused.
     pub fn read(alloc: Global, text: &str) -> Result<Path, PathFault>
-        ensures told { IfOk result (λ path. IsPathText text.now path) }
+        ensures stated { IfOk result (λ path. IsPathText text.now path) }
         ensures one { (path : List Part) → IsPathText text.now path → IfOk result (λ read. read ≡ path) }
         ensures read { (path : List Part) → IsPathText text.now path → IsOkUnless result Memory }
     {
@@ -70,7 +70,7 @@ impl Path {
         Ok(Path { alloc, steps })
     }
 
-    /// The byte of a path's text at which the bracket of its first index stands; None where it has no index. It takes no
+    /// The byte of a path's text at which the bracket of its first index is; None where it has no index. It takes no
     /// memory.
     pub fn first_index(text: &str) -> Option<usize>
         requires { (path : List Part) × IsPathText text.now path }
@@ -87,7 +87,7 @@ impl Path {
     /// Adds a key, decoded, at the end. If memory runs out, the only error, the path is unchanged.
     pub fn push_key(&mut self, text: &str) -> Result<(), AllocError>
         ensures pushed { OnOk result (self.new ≡ self.old ++ key text.now ∷ []) }
-        ensures kept { OnErr result (self.new ≡ self.old) }
+        ensures preserved { OnErr result (self.new ≡ self.old) }
     {
         let owned = String::from_str(self.alloc, text)?;
         self.steps.push(Step::Key(owned))?;
@@ -98,7 +98,7 @@ impl Path {
     pub fn push_index(&mut self, number: usize) -> Result<(), AllocError>
         requires { self.old ≢ [] }
         ensures pushed { OnOk result (self.new ≡ self.old ++ index number ∷ []) }
-        ensures kept { OnErr result (self.new ≡ self.old) }
+        ensures preserved { OnErr result (self.new ≡ self.old) }
     {
         self.steps.push(Step::Index(number))?;
         Ok(())
@@ -113,7 +113,7 @@ impl Path {
         self.steps.len()
     }
 
-    /// The step of that number, from 0; None from `len()` on.
+    /// The step with that number, from 0; None from `len()` on.
     pub fn step(&self, number: usize) -> Option<&Step>
         ensures { option_map part_of (option_copied result) ≡ slice_get self.now number }
     {

@@ -12,7 +12,7 @@ use crate::step::Step;
 use keep_token::{Profile, decode_string, scan_key};
 use std::alloc::{AllocError, Global};
 
-/// The key part in front, decoded, and its length; None where no key part stands there. The only error is want of
+/// The key part at the start, decoded, and its length; None where no key part is there. The only error is out of
 /// memory.
 pub(crate) fn read_key(alloc: Global, text: &str) -> Result<Option<(String, usize)>, AllocError>
     ensures found { IfOk result (λ read. IfSome read (λ found. KeyRead text.now (string_bytes found.0) found.1)) }
@@ -26,7 +26,7 @@ pub(crate) fn read_key(alloc: Global, text: &str) -> Result<Option<(String, usiz
     Ok(Some((key, len)))
 }
 
-/// The length of the key part in front; None where no key part stands there. It takes no memory.
+/// The length of the key part at the start; None where no key part is there. It takes no memory.
 pub(crate) fn key_len(text: &str) -> Option<usize>
     ensures found { IfSome result (λ len. KeyFound text.now len) }
     ensures ends { IfSome result (λ len. IsCharBoundary text.now len) }
@@ -38,8 +38,8 @@ pub(crate) fn key_len(text: &str) -> Option<usize>
     }
 }
 
-/// The step in front, as it stands behind other steps, and its length: a dot and a key part, or an index in brackets.
-/// None where neither stands there. The only error is out of memory.
+/// The step at the start, as it is written after other steps, and its length: a dot and a key part, or an index in
+/// brackets. None where neither is there. The only error is out of memory.
 pub(crate) fn read_step(alloc: Global, text: &str) -> Result<Option<(Step, usize)>, AllocError>
     ensures found { IfOk result (λ read. IfSome read (λ found. StepRead text.now (part_of found.0) found.1)) }
     ensures ends { IfOk result (λ read. IfSome read (λ found. IsCharBoundary text.now found.1)) }

@@ -52,7 +52,7 @@ impl Step {
         }
     }
 
-    /// Adds the step behind other steps: a key behind a dot, or an index in brackets.
+    /// Adds the step after other steps: a key after a dot, or an index in brackets.
     pub(crate) fn push_further(&self, alloc: Global, out: &mut String) -> Result<(), AllocError>
         ensures { OnOk result (string_bytes out.new ≡ string_bytes out.old ++ part_text (part_of self.now)) }
     {
@@ -72,7 +72,7 @@ impl Step {
         }
     }
 
-    /// The length of the step behind other steps, or `usize::MAX`, whichever is less.
+    /// The length of the step after other steps, or `usize::MAX`, whichever is less.
     pub(crate) fn further_len(&self) -> usize
         ensures { result ≡ min (length (part_text (part_of self.now))) usize.MAX }
     {
@@ -93,7 +93,7 @@ fn push_index(out: &mut String, index: usize) -> Result<(), AllocError>
     out.push_str("]")
 }
 
-/// Adds steps that stand behind others.
+/// Adds steps that come after others.
 pub(crate) fn push_all_further(
     alloc: Global,
     out: &mut String,
@@ -107,7 +107,7 @@ pub(crate) fn push_all_further(
     Ok(())
 }
 
-/// The length of steps that stand behind others, or `usize::MAX`, whichever is less.
+/// The length of steps that come after others, or `usize::MAX`, whichever is less.
 pub(crate) fn all_further_len(steps: &[Step]) -> usize
     ensures { result ≡ min (length (flat_map part_text (map part_of steps.now))) usize.MAX }
 {

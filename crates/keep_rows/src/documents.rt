@@ -9,7 +9,7 @@ use std::fmt::Write;
 /// The first word is the bytes of a document. What is no document of the profile is answered by its fault.
 pub fn answer(alloc: Global, row: &Row, profile: Profile) -> Answer {
     match read(alloc, row.bytes(0), profile) {
-        Ok(document) => told_of(alloc, &document, row),
+        Ok(document) => report_of(alloc, &document, row),
         Err(fault) => fault.to_string(alloc),
     }
 }
@@ -25,12 +25,12 @@ pub fn read(alloc: Global, bytes: &[u8], profile: Profile) -> Result<Document, R
 // Whether a document has all the facts that it has where it is read in Strict.
 fn as_in_strict(alloc: Global, document: &Document) -> Answer {
     match Document::read(alloc, document.text().as_bytes()) {
-        Ok(strict) => shown(alloc, has_facts_of(alloc, document, &strict)),
+        Ok(strict) => seen(alloc, has_facts_of(alloc, document, &strict)),
         Err(fault) => fault.to_string(alloc),
     }
 }
 
-fn shown(alloc: Global, same: Result<bool, AllocError>) -> Answer {
+fn seen(alloc: Global, same: Result<bool, AllocError>) -> Answer {
     let same = same?;
     format!(in alloc; "{same}")
 }
@@ -51,14 +51,14 @@ pub fn has_facts(alloc: Global, document: &Document, facts: &str) -> Result<bool
     Ok(found.as_str() == facts)
 }
 
-fn told_of(alloc: Global, document: &Document, row: &Row) -> Answer {
+fn report_of(alloc: Global, document: &Document, row: &Row) -> Answer {
     match row.question() {
         "text" => String::from_str(alloc, document.text()),
         "counts" => format!(in alloc; "{:?}", document.counts()),
         "list" => list(alloc, document),
         "get by steps" => got_by_steps(alloc, document, row),
         "as in strict" => as_in_strict(alloc, document),
-        question => told_at(alloc, document, question, row.text(1)),
+        question => report_at(alloc, document, question, row.text(1)),
     }
 }
 
@@ -82,7 +82,7 @@ fn got_by_steps(alloc: Global, document: &Document, row: &Row) -> Answer {
 }
 
 // What is asked at the path that a text tells.
-fn told_at(alloc: Global, document: &Document, question: &str, path: &str) -> Answer {
+fn report_at(alloc: Global, document: &Document, question: &str, path: &str) -> Answer {
     let Ok(path) = Path::read(alloc, path) else {
         return String::from_str(alloc, "no path");
     };

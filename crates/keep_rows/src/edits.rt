@@ -34,7 +34,7 @@ fn edit_lines(alloc: Global, row: &Row, document: &mut Document) -> Answer {
     Ok(out)
 }
 
-// The edit of the path that is this word of a row, and the word behind it.
+// The edit of the path that is this word of a row, and the word after it.
 fn edit(alloc: Global, document: &mut Document, row: &Row, word: usize) -> Answer {
     let text = row.text(word.saturating_add(1));
     match Path::read(alloc, row.text(word)) {

@@ -1,4 +1,4 @@
-//! Questions that take no memory: what each asks stands between two marks, which a heap that counts its growths reads.
+//! Questions that take no memory: what each asks is between two marks, which a heap that counts its growths reads.
 use crate::edits::keys_of;
 use crate::row::{Answer, Row};
 use keep_edit::{Document, EditFault, Path, ValueText};
@@ -45,16 +45,16 @@ fn asked_at(
     value: &ValueText,
 ) -> Answer {
     let keys = keys_of(alloc, path)?;
-    // What is told finds room here, so that telling it takes no memory either.
+    // What is reported is written here, so that reporting it takes no memory either.
     let mut out = String::with_capacity(alloc, 4096)?;
     mark(alloc, BEGIN);
-    let told = match question {
+    let stated = match question {
         "text_with_table" => tell_text(&mut out, document.text_with_table(keys.as_slice())),
         "text_with_element" => tell_text(&mut out, document.text_with_element(keys.as_slice())),
         question => tell_edit(&mut out, alloc, document, question, path, value),
     };
     mark(alloc, END);
-    told?;
+    stated?;
     Ok(out)
 }
 
@@ -74,8 +74,8 @@ fn tell_edit(
     }
 }
 
-fn tell_text(out: &mut String, told: Result<String, EditFault>) -> Result<(), AllocError> {
-    match told {
+fn tell_text(out: &mut String, stated: Result<String, EditFault>) -> Result<(), AllocError> {
+    match stated {
         Ok(text) => out.push_str(text.as_str()),
         Err(fault) => write!(out, "{fault}"),
     }

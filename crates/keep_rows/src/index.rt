@@ -31,35 +31,35 @@ fn index_of(alloc: Global, text: &str) -> Result<Index, ReadFault> {
 
 fn document(alloc: Global, row: &Row, index: Result<Index, ReadFault>) -> Answer {
     match index {
-        Ok(index) => told_of(alloc, &index, row),
+        Ok(index) => report_of(alloc, &index, row),
         Err(fault) => fault.to_string(alloc),
     }
 }
 
-fn told_of(alloc: Global, index: &Index, row: &Row) -> Answer {
+fn report_of(alloc: Global, index: &Index, row: &Row) -> Answer {
     match row.question() {
         "count" => format!(in alloc; "{}", index.node_count()),
         "paths" => paths(alloc, index),
         "node" => node(alloc, index, row.text(1)),
         "first" => first(alloc, index, row.text(1), row.number(2)),
-        question => told_of_node(alloc, index, question, row),
+        question => report_of_node(alloc, index, question, row),
     }
 }
 
 // What is asked of the node of the number that the second word tells.
-fn told_of_node(alloc: Global, index: &Index, question: &str, row: &Row) -> Answer {
+fn report_of_node(alloc: Global, index: &Index, question: &str, row: &Row) -> Answer {
     let Some(id) = index.node_at(row.number(1)) else {
         return String::from_str(alloc, "no node");
     };
     match question {
         "children" => format!(in alloc; "{}", index.child_count(id)),
-        "child" => shown(alloc, index.child(id, row.text(2))),
-        "nth child" => shown(alloc, index.child_at(id, row.number(2))),
+        "child" => seen(alloc, index.child(id, row.text(2))),
+        "nth child" => seen(alloc, index.child_at(id, row.number(2))),
         _ => unknown(alloc),
     }
 }
 
-fn shown(alloc: Global, id: Option<NodeId>) -> Answer {
+fn seen(alloc: Global, id: Option<NodeId>) -> Answer {
     match id {
         Some(NodeId(number)) => format!(in alloc; "{number}"),
         None => String::from_str(alloc, "none"),
@@ -90,7 +90,7 @@ fn push_line(out: &mut String, line: Answer) -> Result<(), AllocError> {
     out.push_str("\n")
 }
 
-// What is told of the node at a path.
+// What is known of the node at a path.
 fn node(alloc: Global, index: &Index, path: &str) -> Answer {
     let Ok(path) = Path::read(alloc, path) else {
         return String::from_str(alloc, "no path");
@@ -106,5 +106,5 @@ fn first(alloc: Global, index: &Index, path: &str, count: usize) -> Answer {
     let Ok(path) = Path::read(alloc, path) else {
         return String::from_str(alloc, "no path");
     };
-    shown(alloc, index.find_first(&path, count))
+    seen(alloc, index.find_first(&path, count))
 }

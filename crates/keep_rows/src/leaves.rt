@@ -52,7 +52,7 @@ fn found(alloc: Global, leaf: Result<(Leaf, usize), LeafFault>) -> Answer {
     }
 }
 
-// The text that bytes are, or the length of their longest front that is text.
+// The text that bytes are, or the length of their longest prefix that is text.
 fn text(alloc: Global, bytes: &[u8]) -> Answer {
     format!(in alloc; "{:?}", text_of(bytes))
 }
@@ -74,7 +74,7 @@ fn decoded(alloc: Global, text: &str) -> Answer {
     }
 }
 
-// A key as it is written, behind its length.
+// A key as it is written, after its length.
 fn written_key(alloc: Global, text: &str) -> Answer {
     let key = encode_key(alloc, text)?;
     format!(in alloc; "{} {key}", encoded_key_len(text))

@@ -6,7 +6,7 @@ ghost use Rattle.keep_syntax.specs.WholeLines.{empty_line};
 ghost use Rattle.keep_syntax.specs.Contract as spec;
 
 use crate::row::{Answer, Row};
-use crate::syntax::told_of;
+use crate::syntax::report_of;
 use keep_syntax::{Limits, Span, Syntax};
 use std::alloc::{AllocError, Global};
 
@@ -38,7 +38,7 @@ fn of_span(alloc: Global, row: &Row, text: &str, limits: Limits, syntax: &Syntax
     }
 }
 
-// The syntax of the text with the lines of a span replaced, and what is told of it.
+// The syntax of the text with the lines of a span replaced, and what is known of it.
 fn replaced(
     alloc: Global,
     row: &Row,
@@ -78,15 +78,15 @@ fn reread(
     let found = syntax.reread(alloc, whole, lines, limits);
     if found.is_err() && row.question() == "reread again" {
         let found = syntax.reread(alloc, whole, lines, limits);
-        let told = told_of_reread(alloc, row, found)?;
-        return format!(in alloc; "refused and made again: {told}");
+        let stated = report_of_reread(alloc, row, found)?;
+        return format!(in alloc; "refused and made again: {stated}");
     }
-    told_of_reread(alloc, row, found)
+    report_of_reread(alloc, row, found)
 }
 
-fn told_of_reread(alloc: Global, row: &Row, found: Result<Syntax, AllocError>) -> Answer {
+fn report_of_reread(alloc: Global, row: &Row, found: Result<Syntax, AllocError>) -> Answer {
     let syntax = found?;
-    told_of(alloc, row.text(5), &syntax)
+    report_of(alloc, row.text(5), &syntax)
 }
 
 // Whether a span is in a text, and not in its byte order mark.

@@ -76,19 +76,19 @@ fn again(alloc: Global, row: &Row, profile: Profile, edits: &[Edit]) -> Answer {
 fn listed_again(alloc: Global, document: &mut Document, edits: &[Edit], before: &str) -> Answer {
     match document.apply_all(edits) {
         Err((_, EditFault::Memory)) => made_again(alloc, document, edits, before),
-        done => told(alloc, done, document.text()),
+        done => stated(alloc, done, document.text()),
     }
 }
 
 fn made_again(alloc: Global, document: &mut Document, edits: &[Edit], before: &str) -> Answer {
-    let is_kept = document.text() == before;
+    let is_preserved = document.text() == before;
     let done = document.apply_all(edits);
-    let outcome = told(alloc, done, document.text())?;
-    format!(in alloc; "{}{outcome}", again_of(is_kept))
+    let outcome = stated(alloc, done, document.text())?;
+    format!(in alloc; "{}{outcome}", again_of(is_preserved))
 }
 
-fn again_of(is_kept: bool) -> &'static str {
-    if is_kept {
+fn again_of(is_preserved: bool) -> &'static str {
+    if is_preserved {
         "refused and made again: "
     } else {
         "changed by a refused list: "
@@ -115,7 +115,7 @@ fn folded(alloc: Global, document: &mut Document, edits: &[Edit], before: &str) 
     } else {
         before
     };
-    told(alloc, done, text)
+    stated(alloc, done, text)
 }
 
 // What comes of the list, and a doubt where something else was expected.
@@ -128,7 +128,7 @@ fn at_once(alloc: Global, row: &Row, profile: Profile, edits: &[Edit], expected:
 
 fn listed(alloc: Global, document: &mut Document, edits: &[Edit], expected: &str) -> Answer {
     let done = document.apply_all(edits);
-    let outcome = told(alloc, done, document.text())?;
+    let outcome = stated(alloc, done, document.text())?;
     doubted(alloc, document, outcome.as_str(), expected)
 }
 
@@ -138,7 +138,7 @@ fn doubted(alloc: Global, document: &Document, outcome: &str, expected: &str) ->
     format!(in alloc; "{outcome}{doubt}")
 }
 
-fn told(alloc: Global, done: Result<(), (usize, EditFault)>, text: &str) -> Answer {
+fn stated(alloc: Global, done: Result<(), (usize, EditFault)>, text: &str) -> Answer {
     match done {
         Ok(()) => format!(in alloc; "done\n{text}"),
         Err((number, fault)) => format!(in alloc; "{number} {fault}\n{text}"),
@@ -153,7 +153,7 @@ fn doubt_of(agrees: bool, is_whole: bool) -> &'static str {
     }
 }
 
-// What comes of the edits one by one. The text that each is to give is told before it is made.
+// What comes of the edits one by one. The text that each is to give is asked for before it is made.
 fn fold(document: &mut Document, edits: &[Edit]) -> Result<(), (usize, EditFault)> {
     for number in 0..edits.len() {
         if let Err(fault) = made(document, &edits[number]) {
@@ -163,11 +163,11 @@ fn fold(document: &mut Document, edits: &[Edit]) -> Result<(), (usize, EditFault
     Ok(())
 }
 
-// Makes an edit. Where it does not give the text or the fault that was told before, that is told as out of memory.
+// Makes an edit. Where it does not give the text or the fault that was given before, that is reported as out of memory.
 fn made(document: &mut Document, edit: &Edit) -> Result<(), EditFault> {
-    let told = document.text_applied(edit);
+    let stated = document.text_applied(edit);
     let done = document.apply(edit);
-    if !agrees(&told, &done, document) {
+    if !agrees(&stated, &done, document) {
         return Err(EditFault::Memory);
     }
     done.map(|_| ())
@@ -175,11 +175,11 @@ fn made(document: &mut Document, edit: &Edit) -> Result<(), EditFault> {
 
 // Whether an edit gave the text that it was to give, or the same fault.
 fn agrees(
-    told: &Result<String, EditFault>,
+    stated: &Result<String, EditFault>,
     done: &Result<Splice, EditFault>,
     document: &Document,
 ) -> bool {
-    match (told, done) {
+    match (stated, done) {
         (Ok(text), Ok(_)) => text.as_str() == document.text(),
         (Err(fault), Err(other)) => fault == other,
         _ => false,

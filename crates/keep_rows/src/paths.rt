@@ -18,21 +18,21 @@ pub fn answer(alloc: Global, row: &Row) -> Answer {
 
 fn asked(alloc: Global, row: &Row, path: Result<Path, PathFault>) -> Answer {
     match path {
-        Ok(path) => told(alloc, row, &path),
+        Ok(path) => stated(alloc, row, &path),
         Err(fault) => fault.to_string(alloc),
     }
 }
 
-fn told(alloc: Global, row: &Row, path: &Path) -> Answer {
+fn stated(alloc: Global, row: &Row, path: &Path) -> Answer {
     match row.question() {
-        "read" => told_of(alloc, path),
+        "read" => report_of(alloc, path),
         "is key" => is_key(alloc, path, row.number(1), row.text(2)),
         _ => unknown(alloc),
     }
 }
 
 // The steps of a path, each key in angle brackets, each index in parentheses, then its text and the length of that.
-fn told_of(alloc: Global, path: &Path) -> Answer {
+fn report_of(alloc: Global, path: &Path) -> Answer {
     let mut out = String::new(alloc);
     for number in 0..path.len() {
         push_step(&mut out, path.step(number))?;
@@ -65,26 +65,26 @@ fn first_index(alloc: Global, text: &str) -> Answer {
 
 fn built(alloc: Global, path: Result<Path, AllocError>) -> Answer {
     let path = path?;
-    told_of(alloc, &path)
+    report_of(alloc, &path)
 }
 
-// The same, and each push for which memory was refused is made again. What it answered comes first.
+// Builds the path of a row, and each push for which memory was refused is made again. What it answered comes first.
 fn built_again(alloc: Global, row: &Row) -> Answer {
     let mut out = String::new(alloc);
     let mut path = Path::new(alloc);
     for word in 0..row.word_count() {
         out.push_str(pushed(alloc, &mut path, row.text(word))?)?;
     }
-    out.push_str(told_of(alloc, &path)?.as_str())?;
+    out.push_str(report_of(alloc, &path)?.as_str())?;
     Ok(out)
 }
 
 fn pushed(alloc: Global, path: &mut Path, word: &str) -> Result<&'static str, AllocError> {
-    let before = told_of(alloc, path)?;
+    let before = report_of(alloc, path)?;
     if push_word(path, word).is_ok() {
         return Ok("");
     }
-    let after = told_of(alloc, path)?;
+    let after = report_of(alloc, path)?;
     push_word(path, word)?;
     Ok(if after.as_str() == before.as_str() {
         "refused and made again: "

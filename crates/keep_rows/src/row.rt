@@ -55,12 +55,12 @@ impl Row {
         self.cells.len().saturating_sub(4)
     }
 
-    /// The bytes of the word of this number, from 0; none if there is no such word.
+    /// The bytes of the word with this number, from 0; none if there is no such word.
     pub fn bytes(&self, word: usize) -> &[u8] {
         self.cell(word.saturating_add(4))
     }
 
-    /// The text of the word of this number, from 0; empty if it is not UTF-8 or there is no such word.
+    /// The text of the word with this number, from 0; empty if it is not UTF-8 or there is no such word.
     pub fn text(&self, word: usize) -> &str {
         self.text_in(word.saturating_add(4))
     }
@@ -131,7 +131,7 @@ fn pushed(bytes: &mut Vec<u8>, byte: u8) -> Result<Escape, AllocError> {
     Ok(Escape::None)
 }
 
-// The byte that stands behind a backslash for another.
+// The byte that a letter after a backslash stands for.
 fn escaped(byte: u8) -> u8 {
     match byte {
         b'n' => b'\n',

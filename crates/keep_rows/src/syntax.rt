@@ -40,13 +40,13 @@ pub fn push_tokens(out: &mut String, tokens: Tokens<'_>) -> Result<(), AllocErro
 
 fn document(alloc: Global, question: &str, syntax: Result<Syntax, ReadFault>) -> Answer {
     match syntax {
-        Ok(syntax) => told_of(alloc, question, &syntax),
+        Ok(syntax) => report_of(alloc, question, &syntax),
         Err(fault) => fault.to_string(alloc),
     }
 }
 
-/// What is told of a syntax: `counts`, `statements`, `keys` or `values`.
-pub fn told_of(alloc: Global, question: &str, syntax: &Syntax) -> Answer {
+/// What is known of a syntax: `counts`, `statements`, `keys` or `values`.
+pub fn report_of(alloc: Global, question: &str, syntax: &Syntax) -> Answer {
     match question {
         "counts" => format!(in alloc; "{}", syntax.token_count()),
         "statements" => statements(alloc, syntax),
@@ -80,7 +80,7 @@ fn values(alloc: Global, syntax: &Syntax) -> Answer {
     Ok(out)
 }
 
-// The key parts and the values of a value that stands alone.
+// The key parts and the values of a value that is alone.
 fn alone(alloc: Global, syntax: Result<ValueSyntax, ReadFault>) -> Answer {
     match syntax {
         Ok(syntax) => alone_lines(alloc, &syntax),
@@ -109,7 +109,7 @@ fn push_values(out: &mut String, syntax: &ValueSyntax) -> Result<(), AllocError>
     Ok(())
 }
 
-// How deep arrays and inline tables enclose one another in a value that stands alone.
+// How deep arrays and inline tables enclose one another in a value that is alone.
 fn depth(alloc: Global, syntax: Result<ValueSyntax, ReadFault>) -> Answer {
     match syntax {
         Ok(syntax) => format!(in alloc; "{}", syntax.depth()),

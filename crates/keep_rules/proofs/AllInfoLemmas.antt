@@ -15,9 +15,9 @@ use Rattle.keep_syntax.specs.Numbered as syntax
 use Rattle.keep_meaning.specs.declared.node.NodeInfo.{NodeInfo}
 use Rattle.keep_path.specs.Path.{Part, same_path}
 use Rattle.keep_meaning.specs.Marks.{marks}
-use Rattle.keep_meaning.specs.Meaning.{said_in}
+use Rattle.keep_meaning.specs.Meaning.{mentions_in}
 use Rattle.keep_meaning.specs.Counts.{Numbered, is_value, is_mark, one_if, numbered_in}
-use Rattle.keep_meaning.specs.Nodes.{paths_with, node_paths, node_number, numbered_at, is_numbered_at, mention_of, node_said, Node, node_at, nodes_of, node_info, infos_in}
+use Rattle.keep_meaning.specs.Nodes.{paths_with, node_paths, node_number, numbered_at, is_numbered_at, mention_of, mentioned_node, Node, node_at, nodes_of, node_info, infos_in}
 use Rattle.keep_nodes.specs.Facts.{NodeInfos, joined_info, no_info, root_infos, with_info, with_info_at, with_mentions, mention_info, paths_after, ValuesAreNew}
 use Rattle.keep_path.proofs.Shared.{path_decides}
 use Rattle.keep_meaning.proofs.Shared.{mentions-numbered_in, node_at-elsewhere, one_mark}
@@ -82,7 +82,7 @@ node_paths-distinct ns = distinct_after ([] ∷ []) ns (λ i j d h g. absurd (om
 
 pub record IsMet (paths : List (List Part)) (p : List Part) : Type 0 where
   pub number : ℕ
-  pub inside : number < length paths
+  pub nested : number < length paths
   pub here : get_or paths number [] ≡ p
   pub met : list_any (same_path p) paths ≡ true
   pub is : node_number paths p ≡ Some number
@@ -99,7 +99,7 @@ met_or_unmet paths p =
           let passes : same_path p (get_or paths k []) ≡ true = passes_at_first (same_path p) paths [] below in
           inl (record {
             number = k;
-            inside = below;
+            nested = below;
             here = sym ((path_decides p (get_or paths k [])).0 passes);
             met = list_any_at (same_path p) paths k [] below passes;
             is = ap (λ b. cond b (Some k) None) (lt-ltb k (length paths) below);
@@ -129,27 +129,27 @@ infos_of_mentions values parts ns = record { paths = node_paths (map mention_of 
 same_infos : (a b : NodeInfos) → a.paths ≡ b.paths → a.infos ≡ b.infos → a ≡ b
 same_infos a b p i = let fields : record { paths = a.paths; infos = a.infos } ≡ record { paths = b.paths; infos = b.infos } = cc in fields
 
-fewer_at : (p : List Part) (ns : List Numbered) → (node_at ns p).marks ≤ count_by (λ m. is_mark m.mention.says) ns
+fewer_at : (p : List Part) (ns : List Numbered) → (node_at ns p).marks ≤ count_by (λ m. is_mark m.mention.kind) ns
 fewer_at p [] = omega arith
 fewer_at p (n ∷ ns) =
-    let marked : Numbered → ℕ = λ m. cond (is_mark m.mention.says) 1 0 in
-    let more : (node_at ns p).marks ≤ count_by (λ m. is_mark m.mention.says) ns = fewer_at p ns in
-    elim (is_numbered_at p n) as (λ b. count_by (λ m. is_mark m.mention.says) (cond b (n ∷ numbered_at p ns) (numbered_at p ns)) ≤ count_by (λ m. is_mark m.mention.says) (n ∷ ns)) [
+    let marked : Numbered → ℕ = λ m. cond (is_mark m.mention.kind) 1 0 in
+    let more : (node_at ns p).marks ≤ count_by (λ m. is_mark m.mention.kind) ns = fewer_at p ns in
+    elim (is_numbered_at p n) as (λ b. count_by (λ m. is_mark m.mention.kind) (cond b (n ∷ numbered_at p ns) (numbered_at p ns)) ≤ count_by (λ m. is_mark m.mention.kind) (n ∷ ns)) [
       | true ↦ omega (arith, sum_by-cons marked n (numbered_at p ns), sum_by-cons marked n ns)
       | false ↦ omega (arith, sum_by-cons marked n ns)
     ]
 
 -- what a change at one node does to the list of all
 module _ (old new : List Part → NodeInfo) (paths : List (List Part)) where
-  infos_kept : ((k : ℕ) → k < length paths → new (get_or paths k []) ≡ old (get_or paths k [])) → map old paths ≡ map new paths
-  infos_kept kept = same_lists (map old paths) (map new paths) (length-map paths old ∙ sym (length-map paths new)) (λ k d h.
-      let inside : k < length paths = omega (arith, length-map paths old) in
-      get_or-map old paths k [] d inside ∙ sym (kept k inside) ∙ sym (get_or-map new paths k [] d inside))
+  infos_preserved : ((k : ℕ) → k < length paths → new (get_or paths k []) ≡ old (get_or paths k [])) → map old paths ≡ map new paths
+  infos_preserved preserved = same_lists (map old paths) (map new paths) (length-map paths old ∙ sym (length-map paths new)) (λ k d h.
+      let nested : k < length paths = omega (arith, length-map paths old) in
+      get_or-map old paths k [] d nested ∙ sym (preserved k nested) ∙ sym (get_or-map new paths k [] d nested))
 
   infos_set : (i : ℕ) (x : NodeInfo) → i < length paths → x ≡ new (get_or paths i []) → ((k : ℕ) → k < length paths → (k ≡ i → ⊥) → new (get_or paths k []) ≡ old (get_or paths k []))
       → set (map old paths) i x ≡ map new paths
-  infos_set i x within here kept = same_lists (set (map old paths) i x) (map new paths) (length-set (map old paths) i x ∙ length-map paths old ∙ sym (length-map paths new)) (λ k d h.
-      let inside : k < length paths = omega (arith, length-map paths old, length-set (map old paths) i x) in
+  infos_set i x within here preserved = same_lists (set (map old paths) i x) (map new paths) (length-set (map old paths) i x ∙ length-map paths old ∙ sym (length-map paths new)) (λ k d h.
+      let nested : k < length paths = omega (arith, length-map paths old, length-set (map old paths) i x) in
       elim (cases_eq k i) [
         | inl same ↦
             ap (λ j. get_or (set (map old paths) i x) j d) same
@@ -157,7 +157,7 @@ module _ (old new : List Part → NodeInfo) (paths : List (List Part)) where
             ∙ here
             ∙ sym (get_or-map new paths i [] d within)
             ∙ ap (λ j. get_or (map new paths) j d) (sym same)
-        | inr other ↦ get_or-set_other (map old paths) i k x d other ∙ get_or-map old paths k [] d inside ∙ sym (kept k inside other) ∙ sym (get_or-map new paths k [] d inside)
+        | inr other ↦ get_or-set_other (map old paths) i k x d other ∙ get_or-map old paths k [] d nested ∙ sym (preserved k nested other) ∙ sym (get_or-map new paths k [] d nested)
       ])
 
 infos_of : (f : Node → NodeInfo) (g : List Part → Node) (paths : List (List Part)) → map f (map g paths) ≡ map (λ q. f (g q)) paths
@@ -176,14 +176,14 @@ module _ (values : List ValueInfo) (parts : List KeyPart) (ns : List Numbered) (
   elsewhere q differ = ap (λ x. node_info values parts x) (node_at-elsewhere q ns n (not_same_path n.mention.path q differ))
 
   info_new : numbered_at n.mention.path ns ≡ [] → info_at values parts (ns ++ n ∷ []) n.mention.path ≡ mention_info values parts n
-  info_new none = ap (λ ms. node_info values parts (node_said n.mention.path ms)) (numbered_at-here ns n ∙ ap (λ ms. ms ++ n ∷ []) none)
+  info_new none = ap (λ ms. node_info values parts (mentioned_node n.mention.path ms)) (numbered_at-here ns n ∙ ap (λ ms. ms ++ n ∷ []) none)
 
-  info_joined : is_value n.mention.says ≡ false → (node_at (ns ++ n ∷ []) n.mention.path).marks < 2 ^ 64
+  info_joined : is_value n.mention.kind ≡ false → (node_at (ns ++ n ∷ []) n.mention.path).marks < 2 ^ 64
       → info_at values parts (ns ++ n ∷ []) n.mention.path ≡ joined_info (info_at values parts ns n.mention.path) (mention_info values parts n)
   info_joined given few =
       let here = numbered_at-here ns n in
-      ap (λ ms. node_info values parts (node_said n.mention.path ms)) here
-      ∙ node_joined values parts n.mention.path (numbered_at n.mention.path ns) n given (subst (λ (ms : List Numbered). (node_said n.mention.path ms).marks < 2 ^ 64) here few)
+      ap (λ ms. node_info values parts (mentioned_node n.mention.path ms)) here
+      ∙ node_joined values parts n.mention.path (numbered_at n.mention.path ns) n given (subst (λ (ms : List Numbered). (mentioned_node n.mention.path ms).marks < 2 ^ 64) here few)
 
   paths_more : node_paths (map mention_of (ns ++ n ∷ [])) ≡ paths_with (node_paths (map mention_of ns)) n.mention.path
   paths_more = paths_after-append ([] ∷ []) ns (n ∷ [])
@@ -192,70 +192,70 @@ module _ (values : List ValueInfo) (parts : List KeyPart) (ns : List Numbered) (
   added_new u =
       let t : NodeInfos = infos_of_mentions values parts ns in
       let p : List Part = n.mention.path in
-      let said : NodeInfo = mention_info values parts n in
+      let mentioned : NodeInfo = mention_info values parts n in
       let longer : t.paths ++ p ∷ [] ≡ node_paths (map mention_of (ns ++ n ∷ [])) = ap (λ b. cond b t.paths (t.paths ++ p ∷ [])) (sym u.unmet) ∙ sym paths_more in
       let old : List Part → NodeInfo = info_at values parts ns in
       let new : List Part → NodeInfo = info_at values parts (ns ++ n ∷ []) in
-      let kept : map old t.paths ≡ map new t.paths = infos_kept old new t.paths (λ k h. elsewhere (get_or t.paths k []) (λ e.
+      let preserved : map old t.paths ≡ map new t.paths = infos_preserved old new t.paths (λ k h. elsewhere (get_or t.paths k []) (λ e.
       let met : list_any (same_path p) t.paths ≡ true = list_any_at (same_path p) t.paths k [] h ((path_decides p (get_or t.paths k [])).1 e) in
       let unmet = u.unmet in cc)) in
-      ap (λ o. with_info_at t o p said) u.is
-      ∙ same_infos (with_info_at t None p said) (infos_of_mentions values parts (ns ++ n ∷ [])) longer (
-      ap (λ xs. xs ++ said ∷ []) (infos values parts ns ∙ kept)
+      ap (λ o. with_info_at t o p mentioned) u.is
+      ∙ same_infos (with_info_at t None p mentioned) (infos_of_mentions values parts (ns ++ n ∷ [])) longer (
+      ap (λ xs. xs ++ mentioned ∷ []) (infos values parts ns ∙ preserved)
       ∙ ap (λ x. map new t.paths ++ x ∷ []) (sym (info_new (silent ([] ∷ []) ns p u.unmet)))
       ∙ sym (map-append new t.paths (p ∷ []))
       ∙ ap (map new) longer
       ∙ sym (infos values parts (ns ++ n ∷ [])))
 
-  added_at_existing : IsMet (node_paths (map mention_of ns)) n.mention.path → is_value n.mention.says ≡ false → (node_at (ns ++ n ∷ []) n.mention.path).marks < 2 ^ 64
+  added_at_existing : IsMet (node_paths (map mention_of ns)) n.mention.path → is_value n.mention.kind ≡ false → (node_at (ns ++ n ∷ []) n.mention.path).marks < 2 ^ 64
       → with_info (infos_of_mentions values parts ns) n.mention.path (mention_info values parts n) ≡ infos_of_mentions values parts (ns ++ n ∷ [])
   added_at_existing m given few =
       let t : NodeInfos = infos_of_mentions values parts ns in
       let p : List Part = n.mention.path in
-      let said : NodeInfo = mention_info values parts n in
+      let mentioned : NodeInfo = mention_info values parts n in
       let i : ℕ = m.number in
       let same : t.paths ≡ node_paths (map mention_of (ns ++ n ∷ [])) = ap (λ b. cond b t.paths (t.paths ++ p ∷ [])) (sym m.met) ∙ sym paths_more in
       let old : List Part → NodeInfo = info_at values parts ns in
       let new : List Part → NodeInfo = info_at values parts (ns ++ n ∷ []) in
-      let here : joined_info (get_or (map old t.paths) i no_info) said ≡ new (get_or t.paths i []) =
-      ap (λ x. joined_info x said) (get_or-map old t.paths i [] no_info m.inside ∙ ap old m.here) ∙ sym (info_joined given few) ∙ ap new (sym m.here) in
-      ap (λ o. with_info_at t o p said) m.is
-      ∙ same_infos (with_info_at t (Some i) p said) (infos_of_mentions values parts (ns ++ n ∷ [])) same (
-      ap (λ xs. set xs i (joined_info (get_or xs i no_info) said)) (infos values parts ns)
-      ∙ infos_set old new t.paths i (joined_info (get_or (map old t.paths) i no_info) said) m.inside here (λ k h other.
-      elsewhere (get_or t.paths k []) (λ e. other (one_place t.paths (node_paths-distinct ns) k i h m.inside (sym e ∙ sym m.here))))
+      let here : joined_info (get_or (map old t.paths) i no_info) mentioned ≡ new (get_or t.paths i []) =
+      ap (λ x. joined_info x mentioned) (get_or-map old t.paths i [] no_info m.nested ∙ ap old m.here) ∙ sym (info_joined given few) ∙ ap new (sym m.here) in
+      ap (λ o. with_info_at t o p mentioned) m.is
+      ∙ same_infos (with_info_at t (Some i) p mentioned) (infos_of_mentions values parts (ns ++ n ∷ [])) same (
+      ap (λ xs. set xs i (joined_info (get_or xs i no_info) mentioned)) (infos values parts ns)
+      ∙ infos_set old new t.paths i (joined_info (get_or (map old t.paths) i no_info) mentioned) m.nested here (λ k h other.
+      elsewhere (get_or t.paths k []) (λ e. other (one_place t.paths (node_paths-distinct ns) k i h m.nested (sym e ∙ sym m.here))))
       ∙ ap (map new) same
       ∙ sym (infos values parts (ns ++ n ∷ [])))
 
   -- one mention more
-  pub added_more : (is_value n.mention.says ≡ true → Contains (node_paths (map mention_of ns)) n.mention.path → ⊥) → count_by (λ m. is_mark m.mention.says) (ns ++ n ∷ []) < 2 ^ 64
+  pub added_more : (is_value n.mention.kind ≡ true → Contains (node_paths (map mention_of ns)) n.mention.path → ⊥) → count_by (λ m. is_mark m.mention.kind) (ns ++ n ∷ []) < 2 ^ 64
       → with_info (infos_of_mentions values parts ns) n.mention.path (mention_info values parts n) ≡ infos_of_mentions values parts (ns ++ n ∷ [])
   added_more new few =
       elim (met_or_unmet (node_paths (map mention_of ns)) n.mention.path) [
         | inl m ↦
-            let there : Contains (node_paths (map mention_of ns)) n.mention.path = subst (Contains (node_paths (map mention_of ns))) m.here (Contains-get_or (node_paths (map mention_of ns)) m.number [] m.inside) in
+            let there : Contains (node_paths (map mention_of ns)) n.mention.path = subst (Contains (node_paths (map mention_of ns))) m.here (Contains-get_or (node_paths (map mention_of ns)) m.number [] m.nested) in
             added_at_existing m
-            (elim (cases_Bool (is_value n.mention.says)) [ inl gives ↦ absurd (new gives there) | inr given ↦ given ])
+            (elim (cases_Bool (is_value n.mention.kind)) [ inl gives ↦ absurd (new gives there) | inr given ↦ given ])
             (omega (arith, fewer_at n.mention.path (ns ++ n ∷ [])))
         | inr u ↦ added_new u
       ]
 
 module _ (values : List ValueInfo) (parts : List KeyPart) where
   -- further mentions
-  pub added_further : (ns more : List Numbered) → count_by (λ m. is_mark m.mention.says) (ns ++ more) < 2 ^ 64 → ValuesAreNew (node_paths (map mention_of ns)) more
+  pub added_further : (ns more : List Numbered) → count_by (λ m. is_mark m.mention.kind) (ns ++ more) < 2 ^ 64 → ValuesAreNew (node_paths (map mention_of ns)) more
       → with_mentions values parts (infos_of_mentions values parts ns) more ≡ infos_of_mentions values parts (ns ++ more)
   added_further ns [] few new = ap (infos_of_mentions values parts) (sym (append-nil ns))
   added_further ns (n ∷ more) few new =
-      let marked : Numbered → ℕ = λ m. cond (is_mark m.mention.says) 1 0 in
+      let marked : Numbered → ℕ = λ m. cond (is_mark m.mention.kind) 1 0 in
       let all : (ns ++ n ∷ []) ++ more ≡ ns ++ n ∷ more = append_assoc ns (n ∷ []) more in
-      ap (λ t. with_mentions values parts t more) (added_more values parts ns n new.0 (omega (arith, sum_by-append marked (ns ++ n ∷ []) more, ap (λ ms. count_by (λ m. is_mark m.mention.says) ms) all)))
+      ap (λ t. with_mentions values parts t more) (added_more values parts ns n new.0 (omega (arith, sum_by-append marked (ns ++ n ∷ []) more, ap (λ ms. count_by (λ m. is_mark m.mention.kind) ms) all)))
       ∙ added_further (ns ++ n ∷ []) more
-      (omega (arith, ap (λ ms. count_by (λ m. is_mark m.mention.says) ms) all))
+      (omega (arith, ap (λ ms. count_by (λ m. is_mark m.mention.kind) ms) all))
       (subst (λ (paths : List (List Part)). ValuesAreNew paths more) (sym (paths_more values parts ns n)) new.1)
       ∙ ap (infos_of_mentions values parts) all
 
   -- all mentions
-  pub all_infos : (ns : List Numbered) → count_by (λ m. is_mark m.mention.says) ns < 2 ^ 64 → ValuesAreNew ([] ∷ []) ns
+  pub all_infos : (ns : List Numbered) → count_by (λ m. is_mark m.mention.kind) ns < 2 ^ 64 → ValuesAreNew ([] ∷ []) ns
       → with_mentions values parts root_infos ns ≡ record { paths = node_paths (map mention_of ns); infos = map (λ n. node_info values parts n) (nodes_of ns) }
   all_infos ns few new = added_further [] ns few new
 
@@ -266,14 +266,14 @@ one_if-cond true = refl
 one_if-cond false = refl
 
 -- as many mentions name a node as there are marks
-pub count-marks : (ns : List Numbered) → count_by (λ m. is_mark m.mention.says) ns ≡ length (marks (map mention_of ns))
+pub count-marks : (ns : List Numbered) → count_by (λ m. is_mark m.mention.kind) ns ≡ length (marks (map mention_of ns))
 count-marks [] = refl
 count-marks (n ∷ ns) =
-    omega (arith, sum_by-cons (λ (m : Numbered). cond (is_mark m.mention.says) 1 0) n ns, count-marks ns, one_mark n.mention.says n.mention.path (marks (map mention_of ns)), one_if-cond (is_mark n.mention.says))
+    omega (arith, sum_by-cons (λ (m : Numbered). cond (is_mark m.mention.kind) 1 0) n ns, count-marks ns, one_mark n.mention.kind n.mention.path (marks (map mention_of ns)), one_if-cond (is_mark n.mention.kind))
 
-pub values_new_in : (s : Document) → length (marks (said_in s)) < 2 ^ 64 → ValuesAreNew ([] ∷ []) (numbered_in s)
-    → with_mentions (syntax.values s) (syntax.parts s) root_infos (numbered_in s) ≡ record { paths = node_paths (said_in s); infos = infos_in s }
+pub values_new_in : (s : Document) → length (marks (mentions_in s)) < 2 ^ 64 → ValuesAreNew ([] ∷ []) (numbered_in s)
+    → with_mentions (syntax.values s) (syntax.parts s) root_infos (numbered_in s) ≡ record { paths = node_paths (mentions_in s); infos = infos_in s }
 values_new_in s few new =
-    let said : map mention_of (numbered_in s) ≡ said_in s = mentions-numbered_in s in
-    all_infos (syntax.values s) (syntax.parts s) (numbered_in s) (omega (arith, count-marks (numbered_in s), ap (λ ms. length (marks ms)) said)) new
-    ∙ ap (λ ms. record { paths = node_paths ms; infos = infos_in s }) said
+    let mentioned : map mention_of (numbered_in s) ≡ mentions_in s = mentions-numbered_in s in
+    all_infos (syntax.values s) (syntax.parts s) (numbered_in s) (omega (arith, count-marks (numbered_in s), ap (λ ms. length (marks ms)) mentioned)) new
+    ∙ ap (λ ms. record { paths = node_paths ms; infos = infos_in s }) mentioned

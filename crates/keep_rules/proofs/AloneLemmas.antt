@@ -11,14 +11,14 @@ use Rattle.keep_syntax.specs.Contract.{alone, parts_alone, values_alone}
 use Rattle.keep_parts.specs.Flat.{Flat}
 use Rattle.keep_syntax.specs.Grammar.{IsValue}
 use Rattle.keep_syntax.specs.Tree.{Value, value_text}
-use Rattle.keep_syntax.specs.Numbered.{info, inside_of, entries_values}
+use Rattle.keep_syntax.specs.Numbered.{info, nested_of, entries_values}
 use Rattle.keep_nodes.specs.AllNodes.{Node}
 use Rattle.keep_rules.specs.declared.key_walk.Fault.{Fault}
 use Rattle.keep_meaning.specs.Fact.{Fact}
 use Rattle.keep_meaning.specs.Rules.{ObeysRules, IsFirstFaulty}
 use Rattle.keep_meaning.specs.Marks as marks
 use Rattle.keep_meaning.specs.Marks.{Mention}
-use Rattle.keep_meaning.specs.Meaning.{body_fact, entries_said, value_said}
+use Rattle.keep_meaning.specs.Meaning.{body_fact, entries_mentions, mentions_of_value}
 use Rattle.keep_meaning.specs.Faults.{parts_in}
 use Rattle.keep_rules.specs.NestedValues.{NestedValue, nested_values, holding_of, all_nested_mentions, value_nesting}
 use Rattle.keep_nodes.specs.Trie.{TrieNode, Holding}
@@ -54,48 +54,48 @@ root_nesting t f state holds = record {
 }
   where
     one : (j : ℕ) → j < 1 → IsValueNode (t ∷ []) (get_or (0 ∷ []) j 0) (value_nesting f) j
-    one zero low = record { inside = omega arith; here = refl; held = holds; plain = ap is_tables state; listed = λ is. refl }
+    one zero low = record { nested = omega arith; here = refl; held = holds; plain = ap is_tables state; listed = λ is. refl }
     one (suc j) low = absurd (omega (arith, low))
 
 module _ (bytes : List ℕ) (profile : Profile) (v : Value) (is : IsValue profile v) (spelled : bytes ≡ value_text v) (f : Flat) (keys : f.keys ≡ parts_alone v) (values : f.values ≡ values_alone v)
     (nodes : List Node) (first : ValueInfo) (here : slice_get f.values 0 ≡ Some first) (h : Holding) (holds : h ≡ leaf_holding first.leaf) (root : IsRoot nodes h) where
-  pub alone_next : AreNext bytes f (trie_of nodes) (0 ∷ []) 1 1 0 (value_nesting (body_fact v.body)) (nested_values 0 1 v.inside)
+  pub alone_next : AreNext bytes f (trie_of nodes) (0 ∷ []) 1 1 0 (value_nesting (body_fact v.body)) (nested_values 0 1 v.nested)
   alone_next =
       let matches : MatchAlone bytes (parts_alone v) v (values_alone v) = alone_matches bytes profile v is spelled in
-      let own : ValueInfo = info alone 0 0 v.body v.inside None in
-      let inner : List ValueInfo = entries_values (inside_of alone 0 0 v.body) v.inside in
-      let ts : List NestedValue = nested_values 0 1 v.inside in
+      let own : ValueInfo = info alone 0 0 v.body v.nested None in
+      let inner : List ValueInfo = entries_values (nested_of alone 0 0 v.body) v.nested in
+      let ts : List NestedValue = nested_values 0 1 v.nested in
       let same : own ≡ first = some_info own first (sym (ap (λ vs. slice_get vs 0) values) ∙ here) in
       let is_open : AreFrom f.values 1 inner = λ i other at. ap (λ vs. slice_get vs (1 + i)) values ∙ subst (λ (n : ℕ). slice_get (own ∷ inner) n ≡ Some other) (let e : suc i ≡ 1 + i = omega arith in e) at in
-      let ends : EndsAt f.values (1 + length ts) = past_ends f.values (1 + length ts) (omega (arith, ap length values, length-entries_values (inside_of alone 0 0 v.body) v.inside, nested_count 0 1 v.inside)) in
+      let ends : EndsAt f.values (1 + length ts) = past_ends f.values (1 + length ts) (omega (arith, ap length values, length-entries_values (nested_of alone 0 0 v.body) v.nested, nested_count 0 1 v.nested)) in
       record {
-        inside = subst (λ (t : List TrieNode). AreValueNodes t (0 ∷ []) (value_nesting (body_fact v.body))) (sym root.alone)
+        nested = subst (λ (t : List TrieNode). AreValueNodes t (0 ∷ []) (value_nesting (body_fact v.body))) (sym root.alone)
             (root_nesting root.root (body_fact v.body) root.state (root.holds ∙ holds ∙ ap (λ (i : ValueInfo). leaf_holding i.leaf) (sym same) ∙ sym matches.0.holds));
         suit = value_suits profile v is;
-        matches = match_nested bytes f 1 1 0 ts inner (subst (λ (ks : List KeyPart). AllZip (MatchesNested bytes ks 1) ts inner) (sym keys) matches.1) (first_keys 0 1 (inside_of alone 0 0 v.body) v.inside) is_open ends;
+        matches = match_nested bytes f 1 1 0 ts inner (subst (λ (ks : List KeyPart). AllZip (MatchesNested bytes ks 1) ts inner) (sym keys) matches.1) (first_keys 0 1 (nested_of alone 0 0 v.body) v.nested) is_open ends;
       }
 
-  mentions_inside : all_nested_mentions (value_nesting (body_fact v.body)) (nested_values 0 1 v.inside) ≡ entries_said 0 v.inside
-  mentions_inside = value_nested-mentions v
+  mentions_nested : all_nested_mentions (value_nesting (body_fact v.body)) (nested_values 0 1 v.nested) ≡ entries_mentions 0 v.nested
+  mentions_nested = value_nested-mentions v
 
   pub alone_obeys : (new : List Node) (ids : List ℕ) → NestedValuesRead bytes f 1 1 nodes (0 ∷ []) new ids → ValueObeys v
   alone_obeys new ids was_read =
-      let all = was_read (value_nesting (body_fact v.body)) (nested_values 0 1 v.inside) 0 alone_next in
-      subst (λ (ms : List Mention). ObeysRules (marks.marks ms)) mentions_inside (all.represents [] [] (rooted_represents nodes h root)).index.states_represent.obeys
+      let all = was_read (value_nesting (body_fact v.body)) (nested_values 0 1 v.nested) 0 alone_next in
+      subst (λ (ms : List Mention). ObeysRules (marks.marks ms)) mentions_nested (all.represents [] [] (rooted_represents nodes h root)).index.states_represent.obeys
 
-  alone_breaks : (at : ℕ) (why : Why) → NestedValuesFault bytes f 1 1 nodes (0 ∷ []) at why → IsFirstFaulty (marks.marks (value_said v)) at why
+  alone_breaks : (at : ℕ) (why : Why) → NestedValuesFault bytes f 1 1 nodes (0 ∷ []) at why → IsFirstFaulty (marks.marks (mentions_of_value v)) at why
   alone_breaks at why faults =
-      let one = faults (value_nesting (body_fact v.body)) (nested_values 0 1 v.inside) 0 alone_next [] [] (rooted_represents nodes h root) in
-      let more : List Mention = all_nested_mentions (value_nesting (body_fact v.body)) (nested_values 0 1 v.inside) in
-      subst (λ (ms : List Mention). IsFirstFaulty (marks.marks ms) at why) (append-nil more ∙ mentions_inside)
+      let one = faults (value_nesting (body_fact v.body)) (nested_values 0 1 v.nested) 0 alone_next [] [] (rooted_represents nodes h root) in
+      let more : List Mention = all_nested_mentions (value_nesting (body_fact v.body)) (nested_values 0 1 v.nested) in
+      subst (λ (ms : List Mention). IsFirstFaulty (marks.marks ms) at why) (append-nil more ∙ mentions_nested)
       (subst (λ (n : ℕ). IsFirstFaulty (marks.marks (more ++ [])) n why) (let e : 0 + one.within ≡ at = omega (arith, one.sum) in e) (fault_is_first [] more [] one.within why one.fault))
 
   pub alone_within : (g : Fault) → FaultMeets g (NestedValuesFault bytes f 1 1 nodes (0 ∷ [])) → FaultMeets g (λ n w. n < length f.keys)
   alone_within g meets =
       meets_weaker g (NestedValuesFault bytes f 1 1 nodes (0 ∷ [])) (λ n w. n < length f.keys)
-      (λ n w faults. let low = first_low (marks.marks (value_said v)) n w (alone_breaks n w faults) in omega (arith, low, marked-parts_in v, ap length keys)) meets
+      (λ n w faults. let low = first_low (marks.marks (mentions_of_value v)) n w (alone_breaks n w faults) in omega (arith, low, marked-parts_in v, ap length keys)) meets
 
   pub alone_refused : (g : Fault) (r : ReadFault) → IsFaultAt f.keys g r → FaultMeets g (NestedValuesFault bytes f 1 1 nodes (0 ∷ [])) → IsValueRefusal v r
   alone_refused g r at meets =
-      fault_placed (parts_in v) (marks.marks (value_said v)) (IsValueRefusal v) g r (subst (λ (ks : List KeyPart). IsFaultAt ks g r) keys at)
-      (meets_weaker g (NestedValuesFault bytes f 1 1 nodes (0 ∷ [])) (λ n w. IsFirstFaulty (marks.marks (value_said v)) n w) alone_breaks meets) (λ place why fault. fault) tt
+      fault_placed (parts_in v) (marks.marks (mentions_of_value v)) (IsValueRefusal v) g r (subst (λ (ks : List KeyPart). IsFaultAt ks g r) keys at)
+      (meets_weaker g (NestedValuesFault bytes f 1 1 nodes (0 ∷ [])) (λ n w. IsFirstFaulty (marks.marks (mentions_of_value v)) n w) alone_breaks meets) (λ place why fault. fault) tt

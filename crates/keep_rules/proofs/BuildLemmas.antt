@@ -10,7 +10,7 @@ use Rattle.keep_rules.specs.declared.key_walk.Fault.{Fault}
 use Rattle.keep_rules.specs.declared.key_walk.Fault.TheVariants as fault
 use Rattle.keep_meaning.specs.declared.role.Role.TheVariants.{Define, Element, Value}
 use Rattle.keep_meaning.specs.declared.node.Kind.{Kind}
-use Rattle.keep_meaning.specs.declared.node.Place.TheVariants as place
+use Rattle.keep_meaning.specs.declared.node.Origin.TheVariants as origin
 use Rattle.keep_nodes.specs.AllNodes.{Node}
 use Rattle.keep_meaning.specs.Fact.{Fact}
 use Rattle.keep_path.specs.Path.{Part, key}
@@ -106,13 +106,13 @@ module _ (k : Keys) (are : AreKeys k) (text : List ℕ) (is : text ≡ last_text
 
   pub header_all_added : (old mid new : List Node) (at statement : ℕ) (span : Span) → key_span (parts_of k) (k.first + (k.count - 1)) ≡ Some span → Walks (trie_of old) (trie_of mid) at (leading_texts k)
       → HeaderAdds old mid (parts_of k) k.first statement (λ tables. walk_mentions tables [] (leading_texts k))
-      → KeyAdds mid new span statement (λ tables. record { path = path_at (trie_of mid) at ++ key text ∷ []; says = define } ∷ [])
+      → KeyAdds mid new span statement (λ tables. record { path = path_at (trie_of mid) at ++ key text ∷ []; kind = define } ∷ [])
       → StatementAdds old new (parts_of k) k.first statement (header (key_texts k))
   header_all_added old mid new at statement span named walked leading last =
       subst (λ (ks : List (List ℕ)). StatementAdds old new (parts_of k) k.first statement (header ks)) (texts_split k are)
       (header_added old new (leading_texts k) (last_text k) (parts_of k) k.first statement
-      (header_adds old mid new at (leading_texts k) (last_text k) (parts_of k) k.first statement span (λ tables p. record { path = p; says = define } ∷ []) walked leading (last_named span named)
-      (subst (λ (t : List ℕ). KeyAdds mid new span statement (λ tables. record { path = path_at (trie_of mid) at ++ key t ∷ []; says = define } ∷ [])) is last)))
+      (header_adds old mid new at (leading_texts k) (last_text k) (parts_of k) k.first statement span (λ tables p. record { path = p; kind = define } ∷ []) walked leading (last_named span named)
+      (subst (λ (t : List ℕ). KeyAdds mid new span statement (λ tables. record { path = path_at (trie_of mid) at ++ key t ∷ []; kind = define } ∷ [])) is last)))
 
   pub element_all_added : (old mid new : List Node) (at statement : ℕ) (span : Span) → key_span (parts_of k) (k.first + (k.count - 1)) ≡ Some span → Walks (trie_of old) (trie_of mid) at (leading_texts k)
       → HeaderAdds old mid (parts_of k) k.first statement (λ tables. walk_mentions tables [] (leading_texts k))
@@ -126,9 +126,9 @@ module _ (k : Keys) (are : AreKeys k) (text : List ℕ) (is : text ≡ last_text
 
   pub keyed_all_added : (old mid new : List Node) (from at id number : ℕ) (what : Kind) (span name : Span) (holds : Holding) → key_span (parts_of k) (k.first + (k.count - 1)) ≡ Some name → Dots (trie_of old) (trie_of mid) from at (leading_texts k)
       → DottedAdds old mid (parts_of k) k.first number (dotted_mentions (path_at (trie_of old) from) (leading_texts k)) → IsMarked (trie_of mid) (trie_of new) (path_at (trie_of mid) at ++ key text ∷ []) Value holds id
-      → AddsInfo mid new (path_at (trie_of mid) at ++ key text ∷ []) (named_info what (Some span) name (place.Value number)) → KeyedAdds old new from (parts_of k) k.first (key_texts k) number what span
+      → AddsInfo mid new (path_at (trie_of mid) at ++ key text ∷ []) (named_info what (Some span) name (origin.Value number)) → KeyedAdds old new from (parts_of k) k.first (key_texts k) number what span
   keyed_all_added old mid new from at id number what span name holds named gone leading marked one =
       subst (λ (ks : List (List ℕ)). KeyedAdds old new from (parts_of k) k.first ks number what span) (texts_split k are)
       (keyed_added old mid new from at id (leading_texts k) (last_text k) (parts_of k) k.first number what span name holds gone leading (last_named name named)
       (subst (λ (t : List ℕ). IsMarked (trie_of mid) (trie_of new) (path_at (trie_of mid) at ++ key t ∷ []) Value holds id) is marked)
-      (subst (λ (t : List ℕ). AddsInfo mid new (path_at (trie_of mid) at ++ key t ∷ []) (named_info what (Some span) name (place.Value number))) is one))
+      (subst (λ (t : List ℕ). AddsInfo mid new (path_at (trie_of mid) at ++ key t ∷ []) (named_info what (Some span) name (origin.Value number))) is one))

@@ -24,14 +24,14 @@ same_key a b e = cc
 -- the child by a step
 record IsStepTo (c : ChildList) (p : Part) (id : ℕ) : Type 0 where
   pub place : ℕ
-  pub inside : place < length (child_ids c)
+  pub nested : place < length (child_ids c)
   pub number : get_or (child_ids c) place 0 ≡ id
   pub step : step_at (named c) (holds_of c) place ≡ p
 
 found_by_key : (c : ChildList) (text : List ℕ) (id : ℕ) → holds_of c ≡ by_key → child_named c text ≡ Some id → IsStepTo c (key text) id
 found_by_key c text id keyed h =
     let r = key_found c text id keyed h in
-    record { place = r.place; inside = r.inside; number = r.number; step = keyed_step (named c) (holds_of c) r.place keyed ∙ ap key r.name }
+    record { place = r.place; nested = r.nested; number = r.number; step = keyed_step (named c) (holds_of c) r.place keyed ∙ ap key r.name }
 
 step_found : (c : ChildList) (p : Part) (id : ℕ) → child_by c p ≡ Some id → IsStepTo c p id
 step_found Bare (key text) id h = absurd cc
@@ -39,7 +39,7 @@ step_found Bare (index n) id h = absurd cc
 step_found (Keyed pairs) (key text) id h = found_by_key (Keyed pairs) text id refl h
 step_found (Keyed pairs) (index n) id h = absurd cc
 step_found (Listed ids) (key text) id h = absurd cc
-step_found (Listed ids) (index n) id h = record { place = n; inside = slice_get_within ids n id h; number = get_or_from_slice_get ids n id 0 h; step = refl }
+step_found (Listed ids) (index n) id h = record { place = n; nested = slice_get_within ids n id h; number = get_or_from_slice_get ids n id 0 h; step = refl }
 
 missing_by_key : (c : ChildList) (text : List ℕ) (k : ℕ) → holds_of c ≡ by_key → child_named c text ≡ None → k < length (child_ids c) → step_at (named c) (holds_of c) k ≡ key text → ⊥
 missing_by_key c text k keyed h low same = key_missing c text k keyed h low (same_key _ text (sym (keyed_step (named c) (holds_of c) k keyed) ∙ same))
@@ -98,13 +98,13 @@ stepped nodes stored i d p h =
     (elim (child_by c p) as (λ o. child_by c p ≡ o → o ≡ node_number (paths_of ts) (path_at ts i ++ p ∷ [])) [
       | None ↦ λ is.
           sym (number_none (paths_of ts) (path_at ts i ++ p ∷ []) (no_child ts stored.trie i p u i_low (λ k low same.
-          let inside : k < length (child_ids c) = omega (arith, low, ap length kids) in
-          step_missing c p k is inside (sym ((stored_child nodes stored i k d h inside).part u) ∙ ap (λ ks. (get_or ts (get_or ks k 0) u).part) kids ∙ same))))
+          let nested : k < length (child_ids c) = omega (arith, low, ap length kids) in
+          step_missing c p k is nested (sym ((stored_child nodes stored i k d h nested).part u) ∙ ap (λ ks. (get_or ts (get_or ks k 0) u).part) kids ∙ same))))
       | Some id ↦ λ is.
           let r = step_found c p id is in
-          let own : IsStoredChild nodes i r.place id d = subst (λ (n : ℕ). IsStoredChild nodes i r.place n d) r.number (stored_child nodes stored i r.place d h r.inside) in
+          let own : IsStoredChild nodes i r.place id d = subst (λ (n : ℕ). IsStoredChild nodes i r.place n d) r.number (stored_child nodes stored i r.place d h r.nested) in
           let path : path_at ts id ≡ path_at ts i ++ p ∷ [] = own.path ∙ ap (λ x. path_at ts i ++ x ∷ []) r.step in
-          sym (number_some ts stored.trie id (omega (arith, own.inside, length_trie_of nodes))) ∙ ap (node_number (paths_of ts)) path
+          sym (number_some ts stored.trie id (omega (arith, own.nested, length_trie_of nodes))) ∙ ap (node_number (paths_of ts)) path
     ]) refl
 
 -- the path of a node by its parent's

@@ -23,15 +23,15 @@ ancestors_pushed nodes id (m ∷ ancestors) n is later h = (is.0, is.1, is.2, an
 
 pub record IsLeft (nodes : List Node) (id : ℕ) (ancestors : List ℕ) (n top : ℕ) : Type 0 where
   pub later : 0 < n
-  pub inside : n < length nodes
+  pub nested : n < length nodes
   pub above : parent_at nodes n ≡ top
   pub rest : AreAncestors nodes id ancestors n
 
 ancestors_popped : (nodes : List Node) (id : ℕ) (ancestors : List ℕ) (n top : ℕ) → AreAncestors nodes id (ancestors ++ n ∷ []) top → IsLeft nodes id ancestors n top
-ancestors_popped nodes id [] n top is = record { later = is.1; inside = is.2; above = is.3; rest = is.0 }
+ancestors_popped nodes id [] n top is = record { later = is.1; nested = is.2; above = is.3; rest = is.0 }
 ancestors_popped nodes id (m ∷ ancestors) n top is =
     let r = ancestors_popped nodes (parent_at nodes m) ancestors n top is.3 in
-    record { later = r.later; inside = r.inside; above = r.above; rest = (is.0, is.1, is.2, r.rest) }
+    record { later = r.later; nested = r.nested; above = r.above; rest = (is.0, is.1, is.2, r.rest) }
 
 pub ancestors_left : (nodes : List Node) (id : ℕ) (ancestors rest : List ℕ) (n top : ℕ) → ancestors ≡ rest ++ n ∷ [] → AreAncestors nodes id ancestors top → IsLeft nodes id rest n top
 ancestors_left nodes id ancestors rest n top is h = ancestors_popped nodes id rest n top (subst (λ (w : List ℕ). AreAncestors nodes id w top) is h)
@@ -42,30 +42,30 @@ ancestors_left nodes id ancestors rest n top is h = ancestors_popped nodes id re
 pub record IsRead (nodes : List Node) (id up number : ℕ) : Type 0 where
   pub stored : IsStored nodes
   pub later : 0 < id
-  pub inside : id < length nodes
+  pub nested : id < length nodes
   pub parent : up ≡ (node_at nodes id).parent
   pub place : number ≡ (node_at nodes id).number
 
 pub is_read : (nodes : List Node) → IsStored nodes → (id up number : ℕ) → 0 < id → id < length nodes → up ≡ (node_at nodes id).parent → number ≡ (node_at nodes id).number → IsRead nodes id up number
-is_read nodes stored id up number later inside parent place = record { stored = stored; later = later; inside = inside; parent = parent; place = place }
+is_read nodes stored id up number later nested parent place = record { stored = stored; later = later; nested = nested; parent = parent; place = place }
 
 -- the children there
 abbrev pub kids_at : List Node → ℕ → ChildList
 kids_at nodes up = (node_at nodes up).children
 
 parent_is : (nodes : List Node) (id up number : ℕ) → IsRead nodes id up number → parent_at nodes id ≡ up
-parent_is nodes id up number r = parent_read nodes id no_node r.inside ∙ sym r.parent
+parent_is nodes id up number r = parent_read nodes id no_node r.nested ∙ sym r.parent
 
 pub earlier : (nodes : List Node) (id up number : ℕ) → IsRead nodes id up number → up < id
-earlier nodes id up number r = omega (arith, (node_placed nodes r.stored id no_node r.later r.inside).earlier, r.parent)
+earlier nodes id up number r = omega (arith, (node_placed nodes r.stored id no_node r.later r.nested).earlier, r.parent)
 
 low_number : (nodes : List Node) (id up number : ℕ) → IsRead nodes id up number → number < length (child_ids (kids_at nodes up))
 low_number nodes id up number r =
-    omega (arith, (node_placed nodes r.stored id no_node r.later r.inside).low, r.place, ap (λ u. length (child_ids (kids_at nodes u))) r.parent)
+    omega (arith, (node_placed nodes r.stored id no_node r.later r.nested).low, r.place, ap (λ u. length (child_ids (kids_at nodes u))) r.parent)
 
 last_step : (nodes : List Node) (id up number : ℕ) → IsRead nodes id up number → path_at (trie_of nodes) id ≡ path_at (trie_of nodes) up ++ step_at (named (kids_at nodes up)) (holds_of (kids_at nodes up)) number ∷ []
 last_step nodes id up number r =
-    path_placed nodes r.stored id no_node r.later r.inside
+    path_placed nodes r.stored id no_node r.later r.nested
     ∙ ap (λ u. path_at (trie_of nodes) u ++ step_at (named (kids_at nodes u)) (holds_of (kids_at nodes u)) (node_at nodes id).number ∷ []) (sym r.parent)
     ∙ ap (λ k. path_at (trie_of nodes) up ++ step_at (named (kids_at nodes up)) (holds_of (kids_at nodes up)) k ∷ []) (sym r.place)
 
@@ -87,7 +87,7 @@ index_last nodes id up number path r is at =
 pub index_below : (nodes : List Node) (id up number : ℕ) (path : List Part) → IsRead nodes id up number → None ≡ option_map (λ p. p.0) (slice_get (named (kids_at nodes up)) number)
     → path ≡ path_at (trie_of nodes) (parent_at nodes id) → holds_at (trie_of nodes) 0 ≡ by_key → path ≢ []
 index_below nodes id up number path r is at rooted bare =
-    let below : up < length nodes = omega (arith, earlier nodes id up number r, r.inside) in
+    let below : up < length nodes = omega (arith, earlier nodes id up number r, r.nested) in
     let empty : path_at (trie_of nodes) up ≡ path_at (trie_of nodes) 0 = ap (path_at (trie_of nodes)) (sym (parent_is nodes id up number r)) ∙ sym at ∙ bare ∙ sym (path_at-root (trie_of nodes)) in
     let top : up ≡ 0 = one_node (trie_of nodes) r.stored.trie up 0 (omega (arith, below, length_trie_of nodes)) (omega (arith, below, length_trie_of nodes)) empty in
     (no_key_step (kids_at nodes up) number (low_number nodes id up number r) (sym is)).0 (sym (keyed_node nodes up no_node below) ∙ ap (holds_at (trie_of nodes)) top ∙ rooted)

@@ -18,7 +18,7 @@ use Rattle.keep_path.specs.Path.{Part}
 use Rattle.keep_meaning.specs.Rules.{ObeysRules, IsFirstFaulty}
 use Rattle.keep_meaning.specs.Marks as marks
 use Rattle.keep_meaning.specs.Marks.{Mention, Reading, statement_mentions, next_reading, mentions, mentions_from, reading_after, start}
-use Rattle.keep_meaning.specs.Meaning.{said_in}
+use Rattle.keep_meaning.specs.Meaning.{mentions_in}
 use Rattle.keep_meaning.specs.Counts.{Count, Numbered, numbered_mentions, numbered_from, count_from, no_count, statements_in, numbered_in}
 use Rattle.keep_meaning.specs.Nodes.{node_path, nodes_in, infos_in}
 use Rattle.keep_nodes.specs.Trie.{TrieNode, by_key}
@@ -31,7 +31,7 @@ use Rattle.keep_rules.specs.Stops.{FaultMeets}
 use Rattle.keep_rules.specs.FlatStatements.{MatchesStatement, IsCountBefore}
 use Rattle.keep_rules.specs.ReadStatements.{IsRead, IsReadAsMatched, BreaksAsMatched}
 use Rattle.keep_rules.specs.ReadDocuments.{WasRead, IsIndexOf, IsRefusal, IsFaultAt}
-use Rattle.keep_meaning.proofs.Shared.{nodes_few, said_in-statements, paths-nodes_in, count_from-keys, numbered_from-append, statements-count, marked-parts}
+use Rattle.keep_meaning.proofs.Shared.{nodes_few, mentions_in-statements, paths-nodes_in, count_from-keys, numbered_from-append, statements-count, marked-parts}
 use Rattle.keep_rules.specs.Nested.{AreNested}
 use Rattle.keep_rules.proofs.NestedLemmas.{nested_represents}
 use Rattle.keep_rules.proofs.FlatCountLemmas.{document_counts}
@@ -64,7 +64,7 @@ begin_read d nodes root = record {
   fresh = tt;
 }
 
--- the statement of that number
+-- the statement with that number
 abbrev pub statement_at : Document → ℕ → marks.Statement
 statement_at d number = get_or (statements_in d) number (marks.keyval [])
 
@@ -115,7 +115,7 @@ module _ (bytes : List ℕ) (s : Syntax) (d : Document) (was : WasRead bytes s d
       }
 
   -- a fault in it is the document's first
-  break_first : (old : List Node) (body at : ℕ) (why : Why) → IsReadUpTo d old body number → BreaksAsMatched bytes f st old body at why → IsFirstFaulty (marks.marks (said_in d)) at why
+  break_first : (old : List Node) (body at : ℕ) (why : Why) → IsReadUpTo d old body number → BreaksAsMatched bytes f st old body at why → IsFirstFaulty (marks.marks (mentions_in d)) at why
   break_first old body at why up breaks =
       let next : marks.Statement = statement_at d number in
       let r : Reading = reading_after start (before d number) in
@@ -125,20 +125,20 @@ module _ (bytes : List ℕ) (s : Syntax) (d : Document) (was : WasRead bytes s d
       let one = breaks next mentions_at ms r up.reading in
       let counted : IsCountBefore number st (count_from no_count start (before d number)) = document_counts d number st listed in
       let whole : statements_in d ≡ before d number ++ next ∷ rest = sym (take-append-drop number (statements_in d)) ∙ ap (λ ss. before d number ++ ss) (drop_more (statements_in d) number (marks.keyval []) there) in
-      let said : said_in d ≡ ms ++ (statement_mentions r next ++ later) = said_in-statements d ∙ ap mentions whole ∙ mentions_from-append start (before d number) (next ∷ rest) in
+      let mentioned : mentions_in d ≡ ms ++ (statement_mentions r next ++ later) = mentions_in-statements d ∙ ap mentions whole ∙ mentions_from-append start (before d number) (next ∷ rest) in
       let place : length (marks.marks ms) + one.within ≡ at = omega (arith, one.sum, counted.keys, count_from-keys no_count start (before d number)) in
-      subst (λ (l : List Mention). IsFirstFaulty (marks.marks l) at why) (sym said)
+      subst (λ (l : List Mention). IsFirstFaulty (marks.marks l) at why) (sym mentioned)
       (subst (λ (n : ℕ). IsFirstFaulty (marks.marks (ms ++ (statement_mentions r next ++ later))) n why) place (fault_is_first ms (statement_mentions r next) later one.within why one.fault))
 
   pub break_within : (old : List Node) (body : ℕ) (g : Fault) → IsReadUpTo d old body number → FaultMeets g (BreaksAsMatched bytes f st old body) → FaultMeets g (λ n w. n < length f.keys)
   break_within old body g up meets =
       meets_weaker g (BreaksAsMatched bytes f st old body) (λ n w. n < length f.keys)
-      (λ n w breaks. let low = first_low (marks.marks (said_in d)) n w (break_first old body n w up breaks) in omega (arith, low, marked-parts d, ap length keys)) meets
+      (λ n w breaks. let low = first_low (marks.marks (mentions_in d)) n w (break_first old body n w up breaks) in omega (arith, low, marked-parts d, ap length keys)) meets
 
   pub break_refused : (old : List Node) (body : ℕ) (g : Fault) (r : ReadFault) → IsReadUpTo d old body number → IsFaultAt f.keys g r → FaultMeets g (BreaksAsMatched bytes f st old body) → IsRefusal d r
   break_refused old body g r up at meets =
-      fault_placed (syntax.parts d) (marks.marks (said_in d)) (IsRefusal d) g r (subst (λ (ks : List KeyPart). IsFaultAt ks g r) keys at)
-      (meets_weaker g (BreaksAsMatched bytes f st old body) (λ n w. IsFirstFaulty (marks.marks (said_in d)) n w) (λ n w breaks. break_first old body n w up breaks) meets) (λ place why fault. fault) tt
+      fault_placed (syntax.parts d) (marks.marks (mentions_in d)) (IsRefusal d) g r (subst (λ (ks : List KeyPart). IsFaultAt ks g r) keys at)
+      (meets_weaker g (BreaksAsMatched bytes f st old body) (λ n w. IsFirstFaulty (marks.marks (mentions_in d)) n w) (λ n w breaks. break_first old body n w up breaks) meets) (λ place why fault. fault) tt
 
 -- ---- all statements
 
@@ -146,13 +146,13 @@ pub whole_read : (d : Document) (nodes : List Node) (body number : ℕ) → leng
 whole_read d nodes body number past few up =
     let all : before d number ≡ statements_in d = take_all number (statements_in d) (omega (arith, past, statements-count d)) in
     let fresh : ValuesAreNew ([] ∷ []) (numbered_in d) = subst (λ (ss : List marks.Statement). ValuesAreNew ([] ∷ []) (numbered_from no_count start ss)) all up.fresh in
-    let said : mentions_from start (before d number) ≡ said_in d = ap mentions all ∙ sym (said_in-statements d) in
+    let mentioned : mentions_from start (before d number) ≡ mentions_in d = ap mentions all ∙ sym (mentions_in-statements d) in
     let nested : AreNested (mentions_from start (before d number)) (reading_after start (before d number)).tables =
     nested_represents (trie_of nodes) (mentions_from start (before d number)) (reading_after start (before d number)).tables up.reading.represents (trie_node_in nodes no_node) in
     record {
-      nested = subst (λ (ms : List Mention). AreNested ms (reading_after start (statements_in d)).tables) said
+      nested = subst (λ (ms : List Mention). AreNested ms (reading_after start (statements_in d)).tables) mentioned
           (subst (λ (ss : List marks.Statement). AreNested (mentions_from start (before d number)) (reading_after start ss).tables) all nested);
-      obeys = subst (λ (ms : List Mention). ObeysRules (marks.marks ms)) (ap mentions all ∙ sym (said_in-statements d)) (read_obeys (trie_of nodes) body (before d number) up.reading);
+      obeys = subst (λ (ms : List Mention). ObeysRules (marks.marks ms)) (ap mentions all ∙ sym (mentions_in-statements d)) (read_obeys (trie_of nodes) body (before d number) up.reading);
       facts = up.facts ∙ ap (λ ss. with_mentions (syntax.values d) (syntax.parts d) root_infos (numbered_from no_count start ss)) all ∙ values_new_in d (omega (arith, few, marked-parts d)) fresh
           ∙ ap (λ ps. let t : NodeInfos = record { paths = ps; infos = infos_in d } in t) (sym (paths-nodes_in d));
     }

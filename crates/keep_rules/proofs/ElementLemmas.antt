@@ -19,8 +19,8 @@ pub item_fresh : (nodes : List Node) → IsStored nodes → IsShaped (trie_of no
 item_fresh nodes stored shaped i h listed = next_fresh (trie_of nodes) i stored.trie shaped (omega (arith, h, length-map nodes (trie_node_in nodes))) listed
 
 -- the children of a node, and whether it is an array of tables
-kept_ids : (nodes : List Node) → IsStored nodes → (i : ℕ) → i < length nodes → child_ids (node_at nodes i).children ≡ children_of (trie_of nodes) i
-kept_ids nodes stored i h = stored.kids i no_node h
+stored_ids : (nodes : List Node) → IsStored nodes → (i : ℕ) → i < length nodes → child_ids (node_at nodes i).children ≡ children_of (trie_of nodes) i
+stored_ids nodes stored i h = stored.kids i no_node h
 
 tables_read : (nodes : List Node) (i : ℕ) → i < length nodes → is_tables (state_at (trie_of nodes) i) ≡ is_tables (node_at nodes i).facts.role
 tables_read nodes i h = ap is_tables (role_read nodes i no_node h)
@@ -28,11 +28,11 @@ tables_read nodes i h = ap is_tables (role_read nodes i no_node h)
 pub last_found : (nodes : List Node) → IsStored nodes → (i : ℕ) (path : List Part) (id : ℕ) → i < length nodes → path_at (trie_of nodes) i ≡ path → is_tables (node_at nodes i).facts.role ≡ true
     → (0 < length (child_ids (node_at nodes i).children)) × (id ≡ get_or (child_ids (node_at nodes i).children) (length (child_ids (node_at nodes i).children) - 1) 0) → IsLastElement (trie_of nodes) path i id
 last_found nodes stored i path id h here tables was = record {
-  inside = omega (arith, h, length-map nodes (trie_node_in nodes));
+  nested = omega (arith, h, length-map nodes (trie_node_in nodes));
   here = here;
   tables = tables_read nodes i h ∙ tables;
-  some = omega (arith, was.0, ap length (kept_ids nodes stored i h));
-  last = was.1 ∙ ap (λ ks. get_or ks (length ks - 1) 0) (kept_ids nodes stored i h);
+  some = omega (arith, was.0, ap length (stored_ids nodes stored i h));
+  last = was.1 ∙ ap (λ ks. get_or ks (length ks - 1) 0) (stored_ids nodes stored i h);
 }
 
 pub last_missing : (nodes : List Node) → IsStored nodes → IsShaped (trie_of nodes) → (i : ℕ) (path : List Part) → i < length nodes → path_at (trie_of nodes) i ≡ path → is_tables (node_at nodes i).facts.role ≡ true
@@ -40,7 +40,7 @@ pub last_missing : (nodes : List Node) → IsStored nodes → IsShaped (trie_of 
 last_missing nodes stored shaped i path h here tables empty =
     let h' : i < length (trie_of nodes) = omega (arith, h, length-map nodes (trie_node_in nodes)) in
     let listed : holds_of (node_at nodes i).children ≡ by_index = sym (keyed_node nodes i no_node h) ∙ tables_listed (trie_of nodes) shaped i h' (tables_read nodes i h ∙ tables) in
-    none_empty (trie_of nodes) path i h' here (ap length (sym (kept_ids nodes stored i h)) ∙ empty listed)
+    none_empty (trie_of nodes) path i h' here (ap length (sym (stored_ids nodes stored i h)) ∙ empty listed)
 
 pub no_tables : (nodes : List Node) → (i : ℕ) (path : List Part) → i < length nodes → path_at (trie_of nodes) i ≡ path → is_tables (node_at nodes i).facts.role ≡ false → HasNoElement (trie_of nodes) path
 no_tables nodes i path h here plain = none_plain (trie_of nodes) path i (omega (arith, h, length-map nodes (trie_node_in nodes))) here (tables_read nodes i h ∙ plain)

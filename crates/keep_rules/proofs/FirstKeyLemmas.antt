@@ -7,7 +7,7 @@ use Rattle.keep_parts.specs.declared.info.Start.{Start}
 use Rattle.keep_parts.specs.declared.info.ValueInfo.{ValueInfo}
 use Rattle.keep_parts.specs.Flat.{Flat}
 use Rattle.keep_syntax.specs.Tree.{Name, Entries, none, entry}
-use Rattle.keep_syntax.specs.Numbered.{name_count, value_count, part_count, value_start, inside_of, rest_of, entries_values}
+use Rattle.keep_syntax.specs.Numbered.{name_count, value_count, part_count, value_start, nested_of, rest_of, entries_values}
 use Rattle.keep_meaning.specs.Fact.{Fact}
 use Rattle.keep_meaning.specs.Meaning.{body_fact, further_value}
 use Rattle.keep_rules.specs.NestedValues.{NestedValue, entry_nested, nested_values}
@@ -31,13 +31,13 @@ all_nested_keys-append (x ∷ xs) ys = omega (arith, all_nested_keys-append xs y
 
 nested_keys_are : (o v : ℕ) (es : Entries) → all_nested_keys (nested_values o v es) ≡ part_count es
 nested_keys_are o v none = refl
-nested_keys_are o v (entry name body inside after comma rest) =
-    omega (arith, entry_keys o name (body_fact body), all_nested_keys-append (nested_values v (suc v) inside) (nested_values o (suc v + value_count inside) rest), nested_keys_are v (suc v) inside, nested_keys_are o (suc v + value_count inside) rest)
+nested_keys_are o v (entry name body nested after comma rest) =
+    omega (arith, entry_keys o name (body_fact body), all_nested_keys-append (nested_values v (suc v) nested) (nested_values o (suc v + value_count nested) rest), nested_keys_are v (suc v) nested, nested_keys_are o (suc v + value_count nested) rest)
 
 pub nested_count : (o v : ℕ) (es : Entries) → length (nested_values o v es) ≡ value_count es
 nested_count o v none = refl
-nested_count o v (entry name body inside after comma rest) =
-    omega (arith, length-append (nested_values v (suc v) inside) (nested_values o (suc v + value_count inside) rest), nested_count v (suc v) inside, nested_count o (suc v + value_count inside) rest)
+nested_count o v (entry name body nested after comma rest) =
+    omega (arith, length-append (nested_values v (suc v) nested) (nested_values o (suc v + value_count nested) rest), nested_count v (suc v) nested, nested_count o (suc v + value_count nested) rest)
 
 first_keys-append : (first : ℕ) (xs ys : List NestedValue) (is js : List ValueInfo) → length xs ≡ length is → FirstKeys first xs is → FirstKeys (first + all_nested_keys xs) ys js → FirstKeys first (xs ++ ys) (is ++ js)
 first_keys-append first [] ys [] js same h g = subst (λ (n : ℕ). FirstKeys n ys js) (let e : first + 0 ≡ first = omega arith in e) g
@@ -49,18 +49,18 @@ first_keys-append first (x ∷ xs) ys (i ∷ is) js same h g =
 -- the values of entries that begin after so many key parts
 pub first_keys : (o v : ℕ) (p : Start) (es : Entries) → FirstKeys p.parts (nested_values o v es) (entries_values p es)
 first_keys o v p none = tt
-first_keys o v p (entry name body inside after comma rest) =
-    let i : Start = inside_of p (value_start p.at name) (name_count name) body in
-    let r : Start = rest_of p name body inside after comma in
+first_keys o v p (entry name body nested after comma rest) =
+    let i : Start = nested_of p (value_start p.at name) (name_count name) body in
+    let r : Start = rest_of p name body nested after comma in
     let t : NestedValue = entry_nested o name (body_fact body) in
-    let inner : List NestedValue = nested_values v (suc v) inside in
-    let outer : List NestedValue = nested_values o (suc v + value_count inside) rest in
+    let inner : List NestedValue = nested_values v (suc v) nested in
+    let outer : List NestedValue = nested_values o (suc v + value_count nested) rest in
     let keys : nested_keys t ≡ name_count name = entry_keys o name (body_fact body) in
-    let one : FirstKeys (p.parts + nested_keys t) inner (entries_values i inside) = subst (λ (n : ℕ). FirstKeys (p.parts + n) inner (entries_values i inside)) (sym keys) (first_keys v (suc v) i inside) in
+    let one : FirstKeys (p.parts + nested_keys t) inner (entries_values i nested) = subst (λ (n : ℕ). FirstKeys (p.parts + n) inner (entries_values i nested)) (sym keys) (first_keys v (suc v) i nested) in
     let two : FirstKeys ((p.parts + nested_keys t) + all_nested_keys inner) outer (entries_values r rest) =
-    subst (λ (n : ℕ). FirstKeys n outer (entries_values r rest)) (let e : p.parts + (name_count name + part_count inside) ≡ (p.parts + nested_keys t) + all_nested_keys inner = omega (arith, keys, nested_keys_are v (suc v) inside) in e)
-    (first_keys o (suc v + value_count inside) r rest) in
-    (refl, has_keys o name (body_fact body), first_keys-append (p.parts + nested_keys t) inner outer (entries_values i inside) (entries_values r rest) (nested_count v (suc v) inside ∙ sym (length-entries_values i inside)) one two)
+    subst (λ (n : ℕ). FirstKeys n outer (entries_values r rest)) (let e : p.parts + (name_count name + part_count nested) ≡ (p.parts + nested_keys t) + all_nested_keys inner = omega (arith, keys, nested_keys_are v (suc v) nested) in e)
+    (first_keys o (suc v + value_count nested) r rest) in
+    (refl, has_keys o name (body_fact body), first_keys-append (p.parts + nested_keys t) inner outer (entries_values i nested) (entries_values r rest) (nested_count v (suc v) nested ∙ sym (length-entries_values i nested)) one two)
 
 -- ---- in the list of all values
 
@@ -87,6 +87,6 @@ match_nested bytes f base from first (t ∷ ts) (info ∷ infos) matches keys no
 pub taken_from : (values : List ValueInfo) (from n : ℕ) → AreFrom values from (take n (drop from values))
 taken_from values from n i info at =
     let low : i < length (take n (drop from values)) = slice_get_within (take n (drop from values)) i info at in
-    let inside : from + i < length values = omega (arith, low, length-take n (drop from values), length-drop from values) in
-    slice_get-get_or values (from + i) info inside
+    let nested : from + i < length values = omega (arith, low, length-take n (drop from values), length-drop from values) in
+    slice_get-get_or values (from + i) info nested
     ∙ ap (λ (x : ValueInfo). Some x) (sym (get_or-drop from values i info) ∙ sym (get_or-take n (drop from values) i info (omega (arith, low, length-take n (drop from values)))) ∙ get_or_from_slice_get (take n (drop from values)) i info info at)

@@ -40,10 +40,10 @@ pub record Agrees (c : Count) (k : syntax.Count) : Type 0 where
 statement_counts : (k : syntax.Count) (c : Count) (r : Reading) (st : Statement) (s : marks.Statement) (sts : List Statement) (ss : List marks.Statement) (parts values : ℕ) → Agrees c k
     → st.first_key ≡ k.parts → ((first : ℕ) → st.value ≡ Some first → first ≡ k.values) → length (marks.marks (statement_mentions r s)) ≡ parts → valued (statement_mentions r s) ≡ values
     → ((d : Count) (q : Reading) → d.keys ≡ k.parts + parts → d.values ≡ k.values + values → AllCount d q sts ss) → AllCount c r (st ∷ sts) (s ∷ ss)
-statement_counts k c r st s sts ss parts values agrees keyed facts keys said more =
+statement_counts k c r st s sts ss parts values agrees keyed facts keys mentioned more =
     let ms : List Mention = statement_mentions r s in
     one_counts c r st s sts ss (record { keys = agrees.keys ∙ sym keyed; values = λ first e. agrees.values ∙ sym (facts first e) })
-    (more (next_count c ms) (next_reading r s) (omega (arith, count_after-keys c ms, keys, agrees.keys)) (omega (arith, count_after-values c ms, said, agrees.values)))
+    (more (next_count c ms) (next_reading r s) (omega (arith, count_after-keys c ms, keys, agrees.keys)) (omega (arith, count_after-values c ms, mentioned, agrees.values)))
 
 no_value : (n m : ℕ) → ◌≡◌ {A = Option ℕ} None (Some n) → n ≡ m
 no_value n m e = absurd cc

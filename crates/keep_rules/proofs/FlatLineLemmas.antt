@@ -10,10 +10,10 @@ use Rattle.keep_parts.specs.declared.info.Start.{Start}
 use Rattle.keep_parts.specs.declared.info.Statement.{Statement}
 use Rattle.keep_parts.specs.declared.info.StatementKind.TheVariants.{KeyVal, Header, Element}
 use Rattle.keep_parts.specs.declared.info.ValueInfo.{ValueInfo}
-use Rattle.keep_syntax.specs.Tree.{Written, Key, Name, Value, Content, blank, keyval, header, element, Line, Ended, Document, mark, key_leaves, name_leaves, value_leaves, content_leaves, line_leaves, ended_leaves, text}
+use Rattle.keep_syntax.specs.Tree.{Written, Key, Name, Value, Content, blank, keyval, header, element, Line, Ended, Document, token, key_leaves, name_leaves, value_leaves, content_leaves, line_leaves, ended_leaves, text}
 use Rattle.keep_syntax.specs.Grammar.{IsValue, IsContent, IsLine, IsEnded, IsDocument}
 use Rattle.keep_syntax.specs.Numbered as syntax
-use Rattle.keep_syntax.specs.Numbered.{width, key_parts, key_count, value_count, info, inside_of, inside_start, entries_parts, entries_values, Count, content_start, line_start, content_parts, content_values, content_statements, line_parts, line_values, line_statements, next_line, first_line, over_lines}
+use Rattle.keep_syntax.specs.Numbered.{width, key_parts, key_count, value_count, info, nested_of, nested_start, entries_parts, entries_values, Count, content_start, line_start, content_parts, content_values, content_statements, line_parts, line_values, line_statements, next_line, first_line, over_lines}
 use Rattle.keep_meaning.specs.Counts.{line_statement, statements_in}
 use Rattle.keep_rules.specs.FirstKeys.{FirstKeys}
 use Rattle.keep_rules.specs.FlatStatements.{LineStarts, MatchesKeys, MatchesStatement}
@@ -21,47 +21,47 @@ use Rattle.keep_rules.specs.FlatValues.{MatchesNested, MatchKeyval}
 use Rattle.keep_rules.specs.NestedValues.{nested_values}
 use Rattle.keep_meaning.specs.KeyText.{keys_in}
 use Rattle.keep_meaning.specs.Marks as marks
-use Rattle.keep_meaning.specs.Meaning.{keys_of, keyval_said, statement_of, line_of}
+use Rattle.keep_meaning.specs.Meaning.{keys_of, keyval_mentions, statement_of, line_of}
 use Rattle.keep_rules.proofs.FirstKeyLemmas.{first_keys}
 use Rattle.keep_rules.proofs.FlatValueLemmas.{keyval_matches}
-use Rattle.keep_meaning.proofs.Shared.{IsPart, part_whole, part_left, part_right, part_placed, part_ends, part_taken, Spelled, spelled_left, keys_say, keys_within, head_spelled, content_spelled, LinesSpelled, line_spelled, next_spelled, lines_spelled, length-entries_values}
+use Rattle.keep_meaning.proofs.Shared.{IsPart, part_whole, part_left, part_right, part_placed, part_ends, part_taken, Spelled, spelled_left, keys_mention, keys_within, head_spelled, content_spelled, LinesSpelled, line_spelled, next_spelled, lines_spelled, length-entries_values}
 
 -- ---- by number
 
-get_after : {A : Type 0} (front rest : List A) (n : ℕ) → n ≡ length front → slice_get (front ++ rest) n ≡ slice_get rest 0
+get_after : {A : Type 0} (prefix rest : List A) (n : ℕ) → n ≡ length prefix → slice_get (prefix ++ rest) n ≡ slice_get rest 0
 get_after [] rest n e = ap (slice_get rest) e
-get_after (x ∷ front) rest zero e = absurd (omega arith)
-get_after (x ∷ front) rest (suc n) e = get_after front rest n (omega arith)
+get_after (x ∷ prefix) rest zero e = absurd (omega arith)
+get_after (x ∷ prefix) rest (suc n) e = get_after prefix rest n (omega arith)
 
 -- a part of a list at its place, and what follows it
 record IsRangeBefore {A : Type 0} (xs : List A) (at : ℕ) (ys rest : List A) : Type 0 where
-  front : List A
-  place : length front ≡ at
-  whole : xs ≡ front ++ (ys ++ rest)
+  prefix : List A
+  place : length prefix ≡ at
+  whole : xs ≡ prefix ++ (ys ++ rest)
 
 range_whole : {A : Type 0} (xs : List A) → IsRangeBefore xs 0 xs []
-range_whole xs = record { front = []; place = refl; whole = sym (append-nil xs) }
+range_whole xs = record { prefix = []; place = refl; whole = sym (append-nil xs) }
 
 range_left : {A : Type 0} (xs : List A) (at : ℕ) (a b rest : List A) → IsRangeBefore xs at (a ++ b) rest → IsRangeBefore xs at a (b ++ rest)
-range_left xs at a b rest h = record { front = h.front; place = h.place; whole = h.whole ∙ ap (λ w. h.front ++ w) (append_assoc a b rest) }
+range_left xs at a b rest h = record { prefix = h.prefix; place = h.place; whole = h.whole ∙ ap (λ w. h.prefix ++ w) (append_assoc a b rest) }
 
 range_right : {A : Type 0} (xs : List A) (at : ℕ) (a b rest : List A) → IsRangeBefore xs at (a ++ b) rest → IsRangeBefore xs (at + length a) b rest
 range_right xs at a b rest h = record {
-  front = h.front ++ a;
-  place = length-append h.front a ∙ ap (λ n. n + length a) h.place;
-  whole = h.whole ∙ ap (λ w. h.front ++ w) (append_assoc a b rest) ∙ sym (append_assoc h.front a (b ++ rest));
+  prefix = h.prefix ++ a;
+  place = length-append h.prefix a ∙ ap (λ n. n + length a) h.place;
+  whole = h.whole ∙ ap (λ w. h.prefix ++ w) (append_assoc a b rest) ∙ sym (append_assoc h.prefix a (b ++ rest));
 }
 
 range_part : {A : Type 0} (xs : List A) (at : ℕ) (ys rest : List A) → IsRangeBefore xs at ys rest → IsPart xs at ys
-range_part xs at ys rest h = record { front = h.front; behind = rest; place = h.place; whole = h.whole }
+range_part xs at ys rest h = record { prefix = h.prefix; behind = rest; place = h.place; whole = h.whole }
 
 -- the first element of it, and the first after it
 range_first : {A : Type 0} (xs : List A) (at : ℕ) (y : A) (ys rest : List A) → IsRangeBefore xs at (y ∷ ys) rest → slice_get xs at ≡ Some y
-range_first xs at y ys rest h = ap (λ zs. slice_get zs at) h.whole ∙ get_after h.front (y ∷ (ys ++ rest)) at (sym h.place)
+range_first xs at y ys rest h = ap (λ zs. slice_get zs at) h.whole ∙ get_after h.prefix (y ∷ (ys ++ rest)) at (sym h.place)
 
 range_next : {A : Type 0} (xs : List A) (at : ℕ) (ys rest : List A) (n : ℕ) → IsRangeBefore xs at ys rest → n ≡ at + length ys → slice_get xs n ≡ slice_get rest 0
 range_next xs at ys rest n h e =
-    ap (λ zs. slice_get zs n) (h.whole ∙ sym (append_assoc h.front ys rest)) ∙ get_after (h.front ++ ys) rest n (omega (arith, e, h.place, length-append h.front ys))
+    ap (λ zs. slice_get zs n) (h.whole ∙ sym (append_assoc h.prefix ys rest)) ∙ get_after (h.prefix ++ ys) rest n (omega (arith, e, h.place, length-append h.prefix ys))
 
 zip_at : {A B : Type 0} (R : A → B → Type 0) (xs : List A) (ys : List B) (n : ℕ) (x : A) (y : B) → AllZip R xs ys → slice_get xs n ≡ Some x → slice_get ys n ≡ Some y → R x y
 zip_at R [] ys n x y all e f = absurd cc
@@ -80,7 +80,7 @@ content_starts c l blank rest h = h
 content_starts c l (keyval name v) rest h = λ (i : ValueInfo) e. (c.statements, owned i e)
   where
     own : ValueInfo
-    own = info (line_start c l) (content_start c l + width (name_leaves name)) (key_count name.key) v.body v.inside None
+    own = info (line_start c l) (content_start c l + width (name_leaves name)) (key_count name.key) v.body v.nested None
 
     owned : (i : ValueInfo) → Some own ≡ Some i → i.owner ≡ owner.Line c.statements
     owned i e = let same : own ≡ i = cc in ap (λ (j : ValueInfo). j.owner) (sym same)
@@ -96,12 +96,12 @@ lines_start c (e ∷ es) last rest h =
 -- ---- one line
 
 module _ (bytes : List ℕ) (parts : List KeyPart) (values : List ValueInfo) (profile : Profile) where
-  abbrev Says : Statement → marks.Statement → Type 0
-  Says st s = MatchesStatement bytes parts values st s
+  abbrev Mentions : Statement → marks.Statement → Type 0
+  Mentions st s = MatchesStatement bytes parts values st s
 
   keys_match : (st : Statement) (at : ℕ) (k : Key) → Spelled bytes at (key_leaves k) → IsPart parts st.first_key (key_parts at k) → st.keys ≡ key_count k → MatchesKeys bytes parts st (keys_of k)
   keys_match st at k text among many = record {
-    keys = ap (keys_in bytes parts st.first_key) many ∙ keys_say bytes parts at st.first_key k text among;
+    keys = ap (keys_in bytes parts st.first_key) many ∙ keys_mention bytes parts at st.first_key k text among;
     some = omega (arith, many);
     within = omega (arith, many, keys_within parts at st.first_key k among);
   }
@@ -109,14 +109,14 @@ module _ (bytes : List ℕ) (parts : List KeyPart) (values : List ValueInfo) (pr
   -- a statement is that keyval, whose values begin there
   keyval_match : (p : Start) (name : Name) (v : Value) (st : Statement) → IsValue profile v → Spelled bytes p.at (content_leaves (keyval name v)) → IsPart parts st.first_key (content_parts p.at (keyval name v))
       → st.first_key ≡ p.parts → st.keys ≡ key_count name.key → st.kind ≡ KeyVal → st.value ≡ Some p.values
-      → (rest : List ValueInfo) → IsRangeBefore values p.values (content_values p (keyval name v)) rest → LineStarts rest 0 → Says st (marks.keyval (keyval_said name v))
+      → (rest : List ValueInfo) → IsRangeBefore values p.values (content_values p (keyval name v)) rest → LineStarts rest 0 → Mentions st (marks.keyval (keyval_mentions name v))
   keyval_match p name v st is spelled among first many kind valued rest range ends =
       let at : ℕ = p.at + width (name_leaves name) in
-      let own : ValueInfo = info p at (key_count name.key) v.body v.inside None in
-      let i : Start = inside_of p at (key_count name.key) v.body in
-      let inner : List ValueInfo = entries_values i v.inside in
-      let count : length inner ≡ value_count v.inside = length-entries_values i v.inside in
-      let inside : IsPart values (p.values + 1) inner = range_part values (p.values + 1) inner rest (range_right values p.values (own ∷ []) inner rest range) in
+      let own : ValueInfo = info p at (key_count name.key) v.body v.nested None in
+      let i : Start = nested_of p at (key_count name.key) v.body in
+      let inner : List ValueInfo = entries_values i v.nested in
+      let count : length inner ≡ value_count v.nested = length-entries_values i v.nested in
+      let nested : IsPart values (p.values + 1) inner = range_part values (p.values + 1) inner rest (range_right values p.values (own ∷ []) inner rest range) in
       let matches : MatchKeyval bytes parts p.values name v (own ∷ inner) = keyval_matches bytes parts profile p name v is spelled (part_placed parts st.first_key p.parts (content_parts p.at (keyval name v)) first among) in
       record {
         profile = profile;
@@ -125,8 +125,8 @@ module _ (bytes : List ℕ) (parts : List KeyPart) (values : List ValueInfo) (pr
         is = is;
         mentions = refl;
         kind = kind;
-        keys = keys_match st p.at name.key (spelled_left bytes p.at (key_leaves name.key) (name.before ++ (mark leaf.Equals (0x3D ∷ []) ++ name.behind)) (spelled_left bytes p.at (name_leaves name) (value_leaves v) spelled))
-            (part_left parts st.first_key (key_parts p.at name.key) (entries_parts (inside_start at v.body) v.inside) among) many;
+        keys = keys_match st p.at name.key (spelled_left bytes p.at (key_leaves name.key) (name.before ++ (token leaf.Equals (0x3D ∷ []) ++ name.behind)) (spelled_left bytes p.at (name_leaves name) (value_leaves v) spelled))
+            (part_left parts st.first_key (key_parts p.at name.key) (entries_parts (nested_start at v.body) v.nested) among) many;
         valued = record {
           first = p.values;
           valued = valued;
@@ -134,17 +134,17 @@ module _ (bytes : List ℕ) (parts : List KeyPart) (values : List ValueInfo) (pr
           here = range_first values p.values own inner rest range;
           kind = matches.0.kind;
           holds = matches.0.holds;
-          within = omega (arith, count, part_ends values (p.values + 1) inner inside);
-          inside = subst (λ (vs : List ValueInfo). AllZip (MatchesNested bytes parts p.values) (nested_values 1 2 v.inside) vs) (sym (part_taken values (p.values + 1) (value_count v.inside) inner inside count)) matches.1;
-          firsts = subst (λ (vs : List ValueInfo). FirstKeys (st.first_key + st.keys) (nested_values 1 2 v.inside) vs) (sym (part_taken values (p.values + 1) (value_count v.inside) inner inside count))
-              (subst (λ (n : ℕ). FirstKeys n (nested_values 1 2 v.inside) inner) (let e : p.parts + key_count name.key ≡ st.first_key + st.keys = omega (arith, first, many) in e) (first_keys 1 2 i v.inside));
-          next_line = λ next e. ends next (sym (range_next values p.values (own ∷ inner) rest (p.values + 1 + value_count v.inside) range (omega (arith, count))) ∙ e);
+          within = omega (arith, count, part_ends values (p.values + 1) inner nested);
+          nested = subst (λ (vs : List ValueInfo). AllZip (MatchesNested bytes parts p.values) (nested_values 1 2 v.nested) vs) (sym (part_taken values (p.values + 1) (value_count v.nested) inner nested count)) matches.1;
+          firsts = subst (λ (vs : List ValueInfo). FirstKeys (st.first_key + st.keys) (nested_values 1 2 v.nested) vs) (sym (part_taken values (p.values + 1) (value_count v.nested) inner nested count))
+              (subst (λ (n : ℕ). FirstKeys n (nested_values 1 2 v.nested) inner) (let e : p.parts + key_count name.key ≡ st.first_key + st.keys = omega (arith, first, many) in e) (first_keys 1 2 i v.nested));
+          next_line = λ next e. ends next (sym (range_next values p.values (own ∷ inner) rest (p.values + 1 + value_count v.nested) range (omega (arith, count))) ∙ e);
         };
       }
 
   content_matches : (c : Count) (l : Line) (line_end : ℕ) (x : Content) (sts : List Statement) (ss : List marks.Statement) → IsContent profile x → Spelled bytes (content_start c l) (content_leaves x)
       → IsPart parts c.parts (content_parts (content_start c l) x) → (rest : List ValueInfo) → IsRangeBefore values c.values (content_values (line_start c l) x) rest → LineStarts rest 0
-      → AllZip Says sts ss → AllZip Says (content_statements c l line_end x ++ sts) (cons_option (statement_of x) ss)
+      → AllZip Mentions sts ss → AllZip Mentions (content_statements c l line_end x ++ sts) (cons_option (statement_of x) ss)
   content_matches c l line_end blank sts ss is spelled among rest range ends more = more
   content_matches c l line_end (keyval name v) sts ss is spelled among rest range ends more =
       (keyval_match (line_start c l) name v (syntax.statement c l line_end KeyVal (key_count name.key) (Some c.values)) is.1 spelled among refl refl refl refl rest range ends, more)
@@ -163,9 +163,9 @@ module _ (bytes : List ℕ) (parts : List KeyPart) (values : List ValueInfo) (pr
 
   lines_match : (c : Count) (es : List Ended) (last : Line) → AllByRecursion (IsEnded profile) es → IsLine profile last → LinesSpelled bytes c.at es last
       → IsPart parts c.parts (over_lines (λ c l line_end. line_parts c l) c es last) → (rest : List ValueInfo) → IsRangeBefore values c.values (over_lines (λ c l line_end. line_values c l) c es last) rest → LineStarts rest 0
-      → AllZip Says (over_lines line_statements c es last) (filter_map line_statement (map line_of es ++ last ∷ []))
+      → AllZip Mentions (over_lines line_statements c es last) (filter_map line_statement (map line_of es ++ last ∷ []))
   lines_match c [] last are is spelled among rest range ends =
-      subst (λ (sts : List Statement). AllZip Says sts (filter_map line_statement (last ∷ []))) (append-nil (line_statements c last (c.at + width (line_leaves last))))
+      subst (λ (sts : List Statement). AllZip Mentions sts (filter_map line_statement (last ∷ []))) (append-nil (line_statements c last (c.at + width (line_leaves last))))
       (content_matches c last (c.at + width (line_leaves last)) last.content [] [] is.content (content_spelled bytes c last spelled) among rest range ends tt)
   lines_match c (e ∷ es) last are is spelled among rest range ends =
       let ps : List KeyPart = over_lines (λ c l line_end. line_parts c l) (next_line c e) es last in

@@ -10,16 +10,16 @@ use Rattle.keep_token.specs.Leaves.{is_scalar_leaf}
 use Rattle.keep_parts.specs.declared.info.KeyPart.{KeyPart}
 use Rattle.keep_parts.specs.declared.info.Start.{Start}
 use Rattle.keep_parts.specs.declared.info.ValueInfo.{ValueInfo}
-use Rattle.keep_syntax.specs.Tree.{Written, Name, mark, key_leaves, Body, scalar, array, inline, Entries, none, entry, Value, keyval, name_leaves, named_leaves, opening, closing, comma_leaves, entries_leaves, content_leaves, value_text}
+use Rattle.keep_syntax.specs.Tree.{Written, Name, token, key_leaves, Body, scalar, array, inline, Entries, none, entry, Value, keyval, name_leaves, named_leaves, opening, closing, comma_leaves, entries_leaves, content_leaves, value_text}
 use Rattle.keep_syntax.specs.Grammar.{Place, in_scalar, in_array, in_inline, place_in, IsNamed, IsBody, AreEntries, IsValue}
 use Rattle.keep_syntax.specs.Contract.{alone, parts_alone, values_alone}
-use Rattle.keep_syntax.specs.Numbered.{width, key_parts, named_parts, key_count, name_count, value_start, entries_parts, value_count, leaf_of, info, owner_in, inside_of, rest_of, entries_values, content_parts, content_values}
+use Rattle.keep_syntax.specs.Numbered.{width, key_parts, named_parts, key_count, name_count, value_start, entries_parts, value_count, leaf_of, info, owner_in, nested_of, rest_of, entries_values, content_parts, content_values}
 use Rattle.keep_meaning.specs.Fact.{Fact}
 use Rattle.keep_meaning.specs.Meaning.{scalar_fact, body_fact}
 use Rattle.keep_rules.specs.NestedValues.{nested_fact, entry_nested, nested_values}
-use Rattle.keep_rules.specs.FlatValues.{LeafMatches, MatchesNested, IsOwned, OwnsEntries, IsInside, MatchKeyval, MatchAlone}
+use Rattle.keep_rules.specs.FlatValues.{LeafMatches, MatchesNested, IsOwned, OwnsEntries, IsNested, MatchKeyval, MatchAlone}
 use Rattle.keep_rules.proofs.NestedValueLemmas.{fact_is}
-use Rattle.keep_meaning.proofs.Shared.{length-named, length-entries_parts, IsPart, part_whole, part_left, part_right, part_placed, Spelled, spelled_left, spelled_right, keys_say, keys_within, length-key_parts}
+use Rattle.keep_meaning.proofs.Shared.{length-named, length-entries_parts, IsPart, part_whole, part_left, part_right, part_placed, Spelled, spelled_left, spelled_right, keys_mention, keys_within, length-key_parts}
 
 all_zip-append : {A B : Type 0} (R : A → B → Type 0) (xs zs : List A) (ys ws : List B) → AllZip R xs ys → AllZip R zs ws → AllZip R (xs ++ zs) (ys ++ ws)
 all_zip-append R [] zs [] ws h g = g
@@ -61,20 +61,20 @@ body_owns (array first) base v g e = (g, refl, e)
 body_owns (inline first) base v g e = (g, refl, e)
 
 name_spelled : (bytes : List ℕ) (at : ℕ) (n : Name) → Spelled bytes at (name_leaves n) → Spelled bytes at (key_leaves n.key)
-name_spelled bytes at n h = spelled_left bytes at (key_leaves n.key) (n.before ++ (mark leaf.Equals (0x3D ∷ []) ++ n.behind)) h
+name_spelled bytes at n h = spelled_left bytes at (key_leaves n.key) (n.before ++ (token leaf.Equals (0x3D ∷ []) ++ n.behind)) h
 
 module _ (bytes : List ℕ) (parts : List KeyPart) (base : ℕ) where
   -- an entry is in its value, with its keys
-  entry_owned : (profile : Profile) (place : Place) (o : ℕ) (p : Start) (name : Option Name) (f : Fact) (at : ℕ) (body : Body) (inside : Entries) (comma : Option ℕ)
+  entry_owned : (profile : Profile) (place : Place) (o : ℕ) (p : Start) (name : Option Name) (f : Fact) (at : ℕ) (body : Body) (nested : Entries) (comma : Option ℕ)
       → IsNamed profile place name → OwnsEntries place base o p.owner → Spelled bytes p.at (named_leaves name) → IsPart parts p.parts (named_parts p.at name)
-      → IsOwned bytes parts base (entry_nested o name f) (info p at (name_count name) body inside comma)
-  entry_owned profile in_scalar o p None f at body inside comma is owns text among = absurd is
-  entry_owned profile in_scalar o p (Some n) f at body inside comma is owns text among = absurd is
-  entry_owned profile in_array o p None f at body inside comma is owns text among = owns
-  entry_owned profile in_array o p (Some n) f at body inside comma is owns text among = absurd is
-  entry_owned profile in_inline o p None f at body inside comma is owns text among = absurd is
-  entry_owned profile in_inline o p (Some n) f at body inside comma is owns text among =
-      (owns.0, owns.1, owns.2, keys_say bytes parts p.at p.parts n.key (name_spelled bytes p.at n text) among, keys_within parts p.at p.parts n.key among)
+      → IsOwned bytes parts base (entry_nested o name f) (info p at (name_count name) body nested comma)
+  entry_owned profile in_scalar o p None f at body nested comma is owns text among = absurd is
+  entry_owned profile in_scalar o p (Some n) f at body nested comma is owns text among = absurd is
+  entry_owned profile in_array o p None f at body nested comma is owns text among = owns
+  entry_owned profile in_array o p (Some n) f at body nested comma is owns text among = absurd is
+  entry_owned profile in_inline o p None f at body nested comma is owns text among = absurd is
+  entry_owned profile in_inline o p (Some n) f at body nested comma is owns text among =
+      (owns.0, owns.1, owns.2, keys_mention bytes parts p.at p.parts n.key (name_spelled bytes p.at n text) among, keys_within parts p.at p.parts n.key among)
 
   -- ---- entries
 
@@ -82,31 +82,31 @@ module _ (bytes : List ℕ) (parts : List KeyPart) (base : ℕ) where
   pub entries_match : (profile : Profile) (place : Place) (o v : ℕ) (p : Start) (es : Entries) → AreEntries profile place es → OwnsEntries place base o p.owner → p.values + 1 ≡ base + v
       → Spelled bytes p.at (entries_leaves es) → IsPart parts p.parts (entries_parts p.at es) → AllZip (MatchesNested bytes parts base) (nested_values o v es) (entries_values p es)
   entries_match profile place o v p none are owns number text among = tt
-  entries_match profile place o v p (entry name body inside after comma rest) are owns number text among =
-      let i : Start = inside_of p (value_start p.at name) (name_count name) body in
-      let r : Start = rest_of p name body inside after comma in
+  entries_match profile place o v p (entry name body nested after comma rest) are owns number text among =
+      let i : Start = nested_of p (value_start p.at name) (name_count name) body in
+      let r : Start = rest_of p name body nested after comma in
       let further : List Written = entries_leaves rest in
       let closed : List Written = closing body ++ (after ++ (comma_leaves comma ++ further)) in
-      let opened : List Written = opening body ++ (entries_leaves inside ++ closed) in
+      let opened : List Written = opening body ++ (entries_leaves nested ++ closed) in
       let at_value : Spelled bytes (value_start p.at name) opened = spelled_right bytes p.at (named_leaves name) opened text in
-      let at_inside : Spelled bytes i.at (entries_leaves inside ++ closed) = spelled_right bytes (value_start p.at name) (opening body) (entries_leaves inside ++ closed) at_value in
-      let at_closing : Spelled bytes (i.at + width (entries_leaves inside)) closed = spelled_right bytes i.at (entries_leaves inside) closed at_inside in
-      let at_after = spelled_right bytes (i.at + width (entries_leaves inside)) (closing body) (after ++ (comma_leaves comma ++ further)) at_closing in
-      let at_comma = spelled_right bytes (i.at + width (entries_leaves inside) + width (closing body)) after (comma_leaves comma ++ further) at_after in
-      let at_rest : Spelled bytes r.at further = spelled_right bytes (i.at + width (entries_leaves inside) + width (closing body) + width after) (comma_leaves comma) further at_comma in
-      let inner : List KeyPart = entries_parts i.at inside in
+      let at_nested : Spelled bytes i.at (entries_leaves nested ++ closed) = spelled_right bytes (value_start p.at name) (opening body) (entries_leaves nested ++ closed) at_value in
+      let at_closing : Spelled bytes (i.at + width (entries_leaves nested)) closed = spelled_right bytes i.at (entries_leaves nested) closed at_nested in
+      let at_after = spelled_right bytes (i.at + width (entries_leaves nested)) (closing body) (after ++ (comma_leaves comma ++ further)) at_closing in
+      let at_comma = spelled_right bytes (i.at + width (entries_leaves nested) + width (closing body)) after (comma_leaves comma ++ further) at_after in
+      let at_rest : Spelled bytes r.at further = spelled_right bytes (i.at + width (entries_leaves nested) + width (closing body) + width after) (comma_leaves comma) further at_comma in
+      let inner : List KeyPart = entries_parts i.at nested in
       let outer : List KeyPart = entries_parts r.at rest in
       let after_name : IsPart parts (p.parts + name_count name) (inner ++ outer) = part_placed parts (p.parts + length (named_parts p.at name)) (p.parts + name_count name) (inner ++ outer) (ap (λ (n : ℕ). p.parts + n) (length-named p.at name)) (part_right parts p.parts (named_parts p.at name) (inner ++ outer) among) in
-      let after_inside : IsPart parts r.parts outer = part_placed parts (p.parts + name_count name + length inner) r.parts outer (omega (arith, length-entries_parts i.at inside)) (part_right parts (p.parts + name_count name) inner outer after_name) in
+      let after_nested : IsPart parts r.parts outer = part_placed parts (p.parts + name_count name + length inner) r.parts outer (omega (arith, length-entries_parts i.at nested)) (part_right parts (p.parts + name_count name) inner outer after_name) in
       let joined : LeafMatches (leaf_of body) (nested_fact (entry_nested o name (body_fact body))) = nested_leaf_matches (leaf_of body) o name (body_fact body) (body_matches profile body are.1) in (
         record {
           kind = joined.kind;
           holds = joined.holds;
-          owned = entry_owned profile place o p name (body_fact body) (value_start p.at name) body inside _ are.0 owns (spelled_left bytes p.at (named_leaves name) opened text) (part_left parts p.parts (named_parts p.at name) (inner ++ outer) among);
+          owned = entry_owned profile place o p name (body_fact body) (value_start p.at name) body nested _ are.0 owns (spelled_left bytes p.at (named_leaves name) opened text) (part_left parts p.parts (named_parts p.at name) (inner ++ outer) among);
         },
-        all_zip-append (MatchesNested bytes parts base) (nested_values v (suc v) inside) (nested_values o (suc v + value_count inside) rest) (entries_values i inside) (entries_values r rest)
-            (entries_match profile (place_in body) v (suc v) i inside are.2 (body_owns body base v p.values number) (omega arith) (spelled_left bytes i.at (entries_leaves inside) closed at_inside) (part_left parts i.parts inner outer after_name))
-            (entries_match profile place o (suc v + value_count inside) r rest are.5 owns (omega arith) at_rest after_inside),
+        all_zip-append (MatchesNested bytes parts base) (nested_values v (suc v) nested) (nested_values o (suc v + value_count nested) rest) (entries_values i nested) (entries_values r rest)
+            (entries_match profile (place_in body) v (suc v) i nested are.2 (body_owns body base v p.values number) (omega arith) (spelled_left bytes i.at (entries_leaves nested) closed at_nested) (part_left parts i.parts inner outer after_name))
+            (entries_match profile place o (suc v + value_count nested) r rest are.5 owns (omega arith) at_rest after_nested),
       )
 
 -- ---- a keyval, and a value alone
@@ -116,53 +116,53 @@ pub keyval_matches : (bytes : List ℕ) (parts : List KeyPart) (profile : Profil
     → Spelled bytes p.at (content_leaves (keyval name v)) → IsPart parts p.parts (content_parts p.at (keyval name v)) → MatchKeyval bytes parts p.values name v (content_values p (keyval name v))
 keyval_matches bytes parts profile p name v is text among =
     let at : ℕ = p.at + width (name_leaves name) in
-    let i : Start = inside_of p at (key_count name.key) v.body in
-    let inner : List KeyPart = entries_parts i.at v.inside in
-    let closed : List Written = entries_leaves v.inside ++ closing v.body in
+    let i : Start = nested_of p at (key_count name.key) v.body in
+    let inner : List KeyPart = entries_parts i.at v.nested in
+    let closed : List Written = entries_leaves v.nested ++ closing v.body in
     let at_value : Spelled bytes at (opening v.body ++ closed) = spelled_right bytes p.at (name_leaves name) (opening v.body ++ closed) text in
-    let at_inside : Spelled bytes i.at closed = spelled_right bytes at (opening v.body) closed at_value in
+    let at_nested : Spelled bytes i.at closed = spelled_right bytes at (opening v.body) closed at_value in
     let own : IsPart parts p.parts (key_parts p.at name.key) = part_left parts p.parts (key_parts p.at name.key) inner among in
     let after_name : IsPart parts i.parts inner = part_placed parts (p.parts + length (key_parts p.at name.key)) i.parts inner (ap (λ (n : ℕ). p.parts + n) (length-key_parts p.at name.key)) (part_right parts p.parts (key_parts p.at name.key) inner among) in
     let joined : LeafMatches (leaf_of v.body) (body_fact v.body) = body_matches profile v.body is.body in (
       record {
         kind = joined.kind;
         holds = joined.holds;
-        keys = keys_say bytes parts p.at p.parts name.key (name_spelled bytes p.at name (spelled_left bytes p.at (name_leaves name) (opening v.body ++ closed) text)) own;
+        keys = keys_mention bytes parts p.at p.parts name.key (name_spelled bytes p.at name (spelled_left bytes p.at (name_leaves name) (opening v.body ++ closed) text)) own;
         within = keys_within parts p.at p.parts name.key own;
       },
-      entries_match bytes parts p.values profile (place_in v.body) 1 2 i v.inside is.inside (body_owns v.body p.values 1 p.values refl) (omega arith) (spelled_left bytes i.at (entries_leaves v.inside) (closing v.body) at_inside) after_name,
+      entries_match bytes parts p.values profile (place_in v.body) 1 2 i v.nested is.nested (body_owns v.body p.values 1 p.values refl) (omega arith) (spelled_left bytes i.at (entries_leaves v.nested) (closing v.body) at_nested) after_name,
     )
 
 -- The values of a value alone, whose text this is.
 pub alone_matches : (bytes : List ℕ) (profile : Profile) (v : Value) → IsValue profile v → bytes ≡ value_text v → MatchAlone bytes (parts_alone v) v (values_alone v)
 alone_matches bytes profile v is e =
-    let i : Start = inside_of alone 0 0 v.body in
-    let closed : List Written = entries_leaves v.inside ++ closing v.body in
+    let i : Start = nested_of alone 0 0 v.body in
+    let closed : List Written = entries_leaves v.nested ++ closing v.body in
     let text : Spelled bytes 0 (opening v.body ++ closed) = subst (λ (t : List ℕ). IsPart bytes 0 t) e (part_whole bytes) in
-    let at_inside : Spelled bytes i.at closed = spelled_right bytes 0 (opening v.body) closed text in (
+    let at_nested : Spelled bytes i.at closed = spelled_right bytes 0 (opening v.body) closed text in (
       body_matches profile v.body is.body,
-      entries_match bytes (parts_alone v) 1 profile (place_in v.body) 0 1 i v.inside is.inside (body_owns v.body 1 0 0 refl) refl (spelled_left bytes i.at (entries_leaves v.inside) (closing v.body) at_inside) (part_whole (parts_alone v)),
+      entries_match bytes (parts_alone v) 1 profile (place_in v.body) 0 1 i v.nested is.nested (body_owns v.body 1 0 0 refl) refl (spelled_left bytes i.at (entries_leaves v.nested) (closing v.body) at_nested) (part_whole (parts_alone v)),
     )
 
 -- ---- what is in a value is no line's value
 
-all-append : (xs ys : List ValueInfo) → AllByRecursion (λ (i : ValueInfo). IsInside i.owner) xs → AllByRecursion (λ (i : ValueInfo). IsInside i.owner) ys → AllByRecursion (λ (i : ValueInfo). IsInside i.owner) (xs ++ ys)
+all-append : (xs ys : List ValueInfo) → AllByRecursion (λ (i : ValueInfo). IsNested i.owner) xs → AllByRecursion (λ (i : ValueInfo). IsNested i.owner) ys → AllByRecursion (λ (i : ValueInfo). IsNested i.owner) (xs ++ ys)
 all-append [] ys h g = g
 all-append (x ∷ xs) ys h g = (h.0, all-append xs ys h.1 g)
 
-body_inside : (body : Body) (g : ℕ) → IsInside (owner_in body g)
-body_inside (scalar w) g = tt
-body_inside (array first) g = tt
-body_inside (inline first) g = tt
+body_nested : (body : Body) (g : ℕ) → IsNested (owner_in body g)
+body_nested (scalar w) g = tt
+body_nested (array first) g = tt
+body_nested (inline first) g = tt
 
-pub entries_inside : (p : Start) (es : Entries) → IsInside p.owner → AllByRecursion (λ (i : ValueInfo). IsInside i.owner) (entries_values p es)
-entries_inside p none h = tt
-entries_inside p (entry name body inside after comma rest) h =
-    let i : Start = inside_of p (value_start p.at name) (name_count name) body in
-    let r : Start = rest_of p name body inside after comma in
-    (h, all-append (entries_values i inside) (entries_values r rest) (entries_inside i inside (body_inside body p.values)) (entries_inside r rest h))
+pub entries_nested : (p : Start) (es : Entries) → IsNested p.owner → AllByRecursion (λ (i : ValueInfo). IsNested i.owner) (entries_values p es)
+entries_nested p none h = tt
+entries_nested p (entry name body nested after comma rest) h =
+    let i : Start = nested_of p (value_start p.at name) (name_count name) body in
+    let r : Start = rest_of p name body nested after comma in
+    (h, all-append (entries_values i nested) (entries_values r rest) (entries_nested i nested (body_nested body p.values)) (entries_nested r rest h))
 
 -- The values in a value are in arrays and inline tables.
-pub owned_inside : (p : Start) (at keys : ℕ) (v : Value) → All (λ (i : ValueInfo). IsInside i.owner) (entries_values (inside_of p at keys v.body) v.inside)
-owned_inside p at keys v =
-    All-from_recursion (λ (i : ValueInfo). IsInside i.owner) (entries_values (inside_of p at keys v.body) v.inside) (entries_inside (inside_of p at keys v.body) v.inside (body_inside v.body p.values))
+pub owned_nested : (p : Start) (at keys : ℕ) (v : Value) → All (λ (i : ValueInfo). IsNested i.owner) (entries_values (nested_of p at keys v.body) v.nested)
+owned_nested p at keys v =
+    All-from_recursion (λ (i : ValueInfo). IsNested i.owner) (entries_values (nested_of p at keys v.body) v.nested) (entries_nested (nested_of p at keys v.body) v.nested (body_nested v.body p.values))

@@ -13,7 +13,7 @@ use Rattle.keep_rules.specs.declared.key_walk.Fault.{Fault}
 use Rattle.keep_path.specs.Path.{Part, key, index}
 use Rattle.keep_meaning.specs.Marks as marks
 use Rattle.keep_meaning.specs.Marks.{Mention, Reading, statement_mentions, header_way, header_path, passing_mentions, entered_path, elements_of, define, element, begun}
-use Rattle.keep_meaning.specs.Counts.{Count, is_value, numbered_mentions, count_behind}
+use Rattle.keep_meaning.specs.Counts.{Count, is_value, numbered_mentions, count_with_mention}
 use Rattle.keep_meaning.specs.Nodes.{paths_with}
 use Rattle.keep_rules.specs.Keys.{AreKeysAt, key_texts}
 use Rattle.keep_meaning.specs.KeyText.{keys_in}
@@ -59,11 +59,11 @@ mentions_head bytes f st k (marks.keyval ms) texts none matches =
 -- ---- headers give no values
 
 abbrev IsNoValue : Mention → Type 0
-IsNoValue m = is_value m.says ≡ false
+IsNoValue m = is_value m.kind ≡ false
 
 no_values : (paths : List (List Part)) (c : Count) (ms : List Mention) → AllByRecursion IsNoValue ms → ValuesAreNew paths (numbered_mentions c ms)
 no_values paths c [] none = tt
-no_values paths c (m ∷ ms) none = (λ is met. absurd (let no : true ≡ false = sym is ∙ none.0 in cc), no_values (paths_with paths m.path) (count_behind c m) ms none.1)
+no_values paths c (m ∷ ms) none = (λ is met. absurd (let no : true ≡ false = sym is ∙ none.0 in cc), no_values (paths_with paths m.path) (count_with_mention c m) ms none.1)
 
 none-append : (xs ys : List Mention) → AllByRecursion IsNoValue xs → AllByRecursion IsNoValue ys → AllByRecursion IsNoValue (xs ++ ys)
 none-append [] ys h g = g
@@ -107,11 +107,11 @@ leading_marks tables at [] some = absurd (omega (arith, some))
 leading_marks tables at (k ∷ ks) some = omega (arith, marked-way tables at k ks)
 
 head_marks : (kind : StatementKind) (k : Keys) (r : Reading) → 0 < length (key_texts k) → marked (statement_mentions r (head_of kind k)) ≡ length (key_texts k)
-head_marks KeyVal k r some = omega (arith, marked-append (header_way r.tables [] (key_texts k)) (record { path = header_path r.tables [] (key_texts k); says = define } ∷ []), leading_marks r.tables [] (key_texts k) some)
-head_marks Header k r some = omega (arith, marked-append (header_way r.tables [] (key_texts k)) (record { path = header_path r.tables [] (key_texts k); says = define } ∷ []), leading_marks r.tables [] (key_texts k) some)
+head_marks KeyVal k r some = omega (arith, marked-append (header_way r.tables [] (key_texts k)) (record { path = header_path r.tables [] (key_texts k); kind = define } ∷ []), leading_marks r.tables [] (key_texts k) some)
+head_marks Header k r some = omega (arith, marked-append (header_way r.tables [] (key_texts k)) (record { path = header_path r.tables [] (key_texts k); kind = define } ∷ []), leading_marks r.tables [] (key_texts k) some)
 head_marks Element k r some =
     let path : List Part = header_path r.tables [] (key_texts k) in
-    omega (arith, marked-append (header_way r.tables [] (key_texts k)) (record { path = path; says = element } ∷ record { path = path ++ index (elements_of path r.tables) ∷ []; says = begun } ∷ []), leading_marks r.tables [] (key_texts k) some)
+    omega (arith, marked-append (header_way r.tables [] (key_texts k)) (record { path = path; kind = element } ∷ record { path = path ++ index (elements_of path r.tables) ∷ []; kind = begun } ∷ []), leading_marks r.tables [] (key_texts k) some)
 
 pub head_fault_fits : (bytes : List ℕ) (parts : List KeyPart) (st : Statement) (k : Keys) (old : List Node) (most : ℕ) (f : Fault) → key_texts k ≡ keys_in bytes parts st.first_key st.keys → AreKeysAt bytes parts st.first_key st.keys
     → (body : ℕ) × HasReading (trie_of old) body → length parts ≤ most → FaultMeets f (λ at why. (body : ℕ) → FaultsIn (trie_of old) body (head_of st.kind k) at why) → FaultMeets f (λ at why. st.first_key + at ≤ most)
@@ -127,8 +127,8 @@ pub head_breaks : (bytes : List ℕ) (f : Flat) (st : Statement) (k : Keys) (old
 head_breaks bytes f st k old g h texts none from matches =
     meets_from g st.first_key h (λ at why. (body : ℕ) → BreaksAsMatched bytes f st old body at why) from
     (meets_weaker g (λ at why. (body : ℕ) → FaultsIn (trie_of old) body (head_of st.kind k) at why) (λ at why. (body : ℕ) → BreaksAsMatched bytes f st old body (st.first_key + at) why)
-    (λ at why faults body s said ms r reading. record {
+    (λ at why faults body s mentioned ms r reading. record {
       within = at;
       sum = refl;
-      fault = subst (λ (x : marks.Statement). FaultIn ms (statement_mentions r x) at why) (mentions_head bytes f st k s texts none said) (faults body ms r reading);
+      fault = subst (λ (x : marks.Statement). FaultIn ms (statement_mentions r x) at why) (mentions_head bytes f st k s texts none mentioned) (faults body ms r reading);
     }) matches)

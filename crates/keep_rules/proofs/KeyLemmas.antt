@@ -13,7 +13,7 @@ use Rattle.keep_meaning.specs.KeyText.{part_text}
 use Rattle.keep_rules.specs.Keys.{AreKeys, parts_of, key_texts, key_text_at, leading_texts, last_text}
 use Rattle.keep_meaning.specs.KeyText.{keys_in}
 use Rattle.keep_meaning.specs.declared.node.Kind.TheVariants as kind
-use Rattle.keep_meaning.specs.declared.node.Place.TheVariants as place
+use Rattle.keep_meaning.specs.declared.node.Origin.TheVariants as origin
 use Rattle.keep_nodes.specs.AllNodes.{Node}
 use Rattle.keep_meaning.specs.Marks.{Mention, passing_mentions}
 use Rattle.keep_meaning.specs.Nodes.{key_span}
@@ -32,8 +32,8 @@ use Rattle.keep_rules.proofs.KeyWalkInfoLemmas.{walk_adds, dot_adds}
 
 pub keys_at : (bytes : List ℕ) (parts : List KeyPart) (first count number : ℕ) (p : KeyPart) → number < count → slice_get parts (first + number) ≡ Some p → part_text bytes p ≡ get_or (keys_in bytes parts first count) number []
 keys_at bytes parts first count number p low is =
-    let inside : first + number < length parts = slice_get_within parts (first + number) p is in
-    let many : number < length (take count (drop first parts)) = omega (arith, length-take count (drop first parts), length-drop first parts, inside, low) in
+    let nested : first + number < length parts = slice_get_within parts (first + number) p is in
+    let many : number < length (take count (drop first parts)) = omega (arith, length-take count (drop first parts), length-drop first parts, nested, low) in
     sym (
     get_or-map (part_text bytes) (take count (drop first parts)) number p [] many
     ∙ ap (part_text bytes) (get_or-take count (drop first parts) number p low ∙ get_or-drop first parts number p ∙ get_or_from_slice_get parts (first + number) p p is)
@@ -122,7 +122,7 @@ module _ (old mid new : List Node) (k : Keys) (are : AreKeys k) (i : ℕ) (text 
 
   pub dotted_added : (from at number : ℕ) → i < k.count → text ≡ key_text_at k i → key_span (parts_of k) (k.first + i) ≡ Some span → Dots (trie_of old) (trie_of mid) from at (take i (key_texts k))
       → DottedAdds old mid (parts_of k) k.first number (dotted_mentions (path_at (trie_of old) from) (take i (key_texts k)))
-      → AddsInfo mid new (path_at (trie_of mid) at ++ key text ∷ []) (named_info kind.Table None span (place.Dotted number))
+      → AddsInfo mid new (path_at (trie_of mid) at ++ key text ∷ []) (named_info kind.Table None span (origin.Dotted number))
       → DottedAdds old new (parts_of k) k.first number (dotted_mentions (path_at (trie_of old) from) (take (i + 1) (key_texts k)))
   dotted_added from at number h is named gone facts one =
       subst (λ (ks : List (List ℕ)). DottedAdds old new (parts_of k) k.first number (dotted_mentions (path_at (trie_of old) from) ks)) (sym (leading_more k are i text h is))

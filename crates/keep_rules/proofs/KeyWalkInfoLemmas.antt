@@ -8,14 +8,14 @@ use Rattle.keep_parts.specs.declared.info.KeyPart.{KeyPart}
 use Rattle.keep_parts.specs.declared.info.ValueInfo.{ValueInfo}
 use Rattle.keep_meaning.specs.declared.node.Kind.{Kind}
 use Rattle.keep_meaning.specs.declared.node.Kind.TheVariants as kind
-use Rattle.keep_meaning.specs.declared.node.Place.TheVariants as place
+use Rattle.keep_meaning.specs.declared.node.Origin.TheVariants as origin
 use Rattle.keep_meaning.specs.declared.node.NodeInfo.{NodeInfo}
 use Rattle.keep_nodes.specs.AllNodes.{Node}
 use Rattle.keep_meaning.specs.declared.role.Role.TheVariants.{Element, Value}
 use Rattle.keep_path.specs.Path.{Part, key, index}
 use Rattle.keep_meaning.specs.Marks as marks
 use Rattle.keep_meaning.specs.Marks.{Mention, through, past, passed, define, element, begun, dotted, value, item, elements_of, passing_mentions, entered_path, statement_mentions, header, element_header}
-use Rattle.keep_meaning.specs.Counts.{Count, Numbered, is_value, count_behind, numbered_mentions, count_after}
+use Rattle.keep_meaning.specs.Counts.{Count, Numbered, is_value, count_with_mention, numbered_mentions, count_after}
 use Rattle.keep_meaning.specs.Nodes.{fact_kind, value_span, key_span}
 use Rattle.keep_nodes.specs.Facts.{with_info, with_mentions, named_info, unnamed_info, passed_info, mention_info, paths_after, ValuesAreNew}
 use Rattle.keep_nodes.specs.Trie.{Holding, by_key, by_index, paths_of, path_at, children_of}
@@ -41,71 +41,71 @@ two_added old mid new p q i j one two = two ∙ ap (λ t. with_info t q j) one
 
 -- a header goes past an array of tables
 pub past_added : (old mid new : List Node) (p : List Part) (child to : ℕ) (span : Span) (statement : ℕ) → IsLastElement (trie_of old) p child to
-    → AddsInfo old mid p (named_info kind.Table None span place.Root) → AddsInfo mid new (path_at (trie_of old) to) passed_info → KeyAdds old new span statement (λ tables. passing_mentions tables p)
+    → AddsInfo old mid p (named_info kind.Table None span origin.Root) → AddsInfo mid new (path_at (trie_of old) to) passed_info → KeyAdds old new span statement (λ tables. passing_mentions tables p)
 past_added old mid new p child to span statement last one two parts k named ms tables represents values c keys statements =
     let e : List Part = entered_path tables p in
-    let m : Mention = record { path = p; says = past } in
-    let m' : Mention = record { path = e; says = passed } in
+    let m : Mention = record { path = p; kind = past } in
+    let m' : Mention = record { path = e; kind = passed } in
     let n : Numbered = record { mention = m; before = c } in
-    let n' : Numbered = record { mention = m'; before = count_behind c m } in
+    let n' : Numbered = record { mention = m'; before = count_with_mention c m } in
     let some : 0 < elements_of p tables = omega (arith, last.some, elements_there (trie_of old) p child to last ms tables represents) in
     two_added old mid new p (path_at (trie_of old) to) _ _ one two
-    ∙ ap (λ q. with_info (with_info (node_infos old) p (named_info kind.Table None span place.Root)) q passed_info) (element_place (trie_of old) p child to last ms tables represents)
+    ∙ ap (λ q. with_info (with_info (node_infos old) p (named_info kind.Table None span origin.Root)) q passed_info) (element_place (trie_of old) p child to last ms tables represents)
     ∙ ap (λ i. with_info (with_info (node_infos old) p i) e passed_info) (sym (past_info values parts n span refl (ap (key_span parts) keys ∙ named)))
     ∙ ap (λ i. with_info (with_info (node_infos old) p (mention_info values parts n)) e i) (sym (passed_is_info values parts n' refl))
     ∙ ap (λ w. with_mentions values parts (node_infos old) (numbered_mentions c w)) (sym (passing-some tables p some))
 
 -- a header marks a key that is not its last
-pub through_added : (old new : List Node) (p : List Part) (span : Span) (statement : ℕ) → HasNoElement (trie_of old) p → AddsInfo old new p (named_info kind.Table None span (place.Through statement))
+pub through_added : (old new : List Node) (p : List Part) (span : Span) (statement : ℕ) → HasNoElement (trie_of old) p → AddsInfo old new p (named_info kind.Table None span (origin.Through statement))
     → KeyAdds old new span statement (λ tables. passing_mentions tables p)
 through_added old new p span statement none one parts k named ms tables represents values c keys statements =
-    let n : Numbered = record { mention = record { path = p; says = through }; before = c } in
-    one ∙ ap (λ s. with_info (node_infos old) p (named_info kind.Table None span (place.Through s))) (sym statements)
+    let n : Numbered = record { mention = record { path = p; kind = through }; before = c } in
+    one ∙ ap (λ s. with_info (node_infos old) p (named_info kind.Table None span (origin.Through s))) (sym statements)
     ∙ ap (λ i. with_info (node_infos old) p i) (sym (through_info values parts n span refl (ap (key_span parts) keys ∙ named)))
     ∙ ap (λ w. with_mentions values parts (node_infos old) (numbered_mentions c w)) (sym (passing-none tables p (none tables represents.tables_are represents.begun)))
 
 -- `[..]` defines a table
-pub define_added : (old new : List Node) (p : List Part) (span : Span) (statement : ℕ) → AddsInfo old new p (named_info kind.Table None span (place.Header statement))
-    → KeyAdds old new span statement (λ tables. record { path = p; says = define } ∷ [])
+pub define_added : (old new : List Node) (p : List Part) (span : Span) (statement : ℕ) → AddsInfo old new p (named_info kind.Table None span (origin.Header statement))
+    → KeyAdds old new span statement (λ tables. record { path = p; kind = define } ∷ [])
 define_added old new p span statement one parts k named ms tables represents values c keys statements =
-    let n : Numbered = record { mention = record { path = p; says = define }; before = c } in
-    one ∙ ap (λ s. with_info (node_infos old) p (named_info kind.Table None span (place.Header s))) (sym statements)
+    let n : Numbered = record { mention = record { path = p; kind = define }; before = c } in
+    one ∙ ap (λ s. with_info (node_infos old) p (named_info kind.Table None span (origin.Header s))) (sym statements)
     ∙ ap (λ i. with_info (node_infos old) p i) (sym (define_info values parts n span refl (ap (key_span parts) keys ∙ named)))
 
 -- `[[..]]` begins an element
 pub begin_added : (old mid new : List Node) (p : List Part) (id : ℕ) (span : Span) (statement : ℕ) → IsMarked (trie_of old) (trie_of mid) p Element by_index id
-    → AddsInfo old mid p (named_info kind.Tables None span place.Tables) → Grows (trie_of mid) (trie_of new) id (path_at (trie_of mid) id ++ index (length (children_of (trie_of mid) id)) ∷ []) None by_key
-    → infos_of new ≡ infos_of mid ++ unnamed_info kind.Table None (place.Element statement) ∷ [] → KeyAdds old new span statement (begin_mentions p)
+    → AddsInfo old mid p (named_info kind.Tables None span origin.Tables) → Grows (trie_of mid) (trie_of new) id (path_at (trie_of mid) id ++ index (length (children_of (trie_of mid) id)) ∷ []) None by_key
+    → infos_of new ≡ infos_of mid ++ unnamed_info kind.Table None (origin.Element statement) ∷ [] → KeyAdds old new span statement (begin_mentions p)
 begin_added old mid new p id span statement marked one grows infos parts k named ms tables represents values c keys statements =
     let q : List Part = p ++ index (elements_of p tables) ∷ [] in
-    let m : Mention = record { path = p; says = element } in
-    let m' : Mention = record { path = q; says = begun } in
+    let m : Mention = record { path = p; kind = element } in
+    let m' : Mention = record { path = q; kind = begun } in
     let n : Numbered = record { mention = m; before = c } in
-    let n' : Numbered = record { mention = m'; before = count_behind c m } in
+    let n' : Numbered = record { mention = m'; before = count_with_mention c m } in
     let own : List Part = path_at (trie_of mid) id ++ index (length (children_of (trie_of mid) id)) ∷ [] in
     let counted : elements_of p tables ≡ length (children_of (trie_of mid) id) =
-    ap (λ q. elements_of q tables) (sym marked.here) ∙ (marked.tables tables represents.tables_are).counts id marked.inside ∙ ap (λ t. cond t (length (children_of (trie_of mid) id)) 0) marked.kind in
+    ap (λ q. elements_of q tables) (sym marked.here) ∙ (marked.tables tables represents.tables_are).counts id marked.nested ∙ ap (λ t. cond t (length (children_of (trie_of mid) id)) 0) marked.kind in
     let there : own ≡ q = ap (λ r. r ++ index (length (children_of (trie_of mid) id)) ∷ []) marked.here ∙ ap (λ x. p ++ index x ∷ []) (sym counted) in
-    let begins : NodeInfo = unnamed_info kind.Table None (place.Element statement) in
-    let tables_info : NodeInfo = named_info kind.Tables None span place.Tables in
+    let begins : NodeInfo = unnamed_info kind.Table None (origin.Element statement) in
+    let tables_info : NodeInfo = named_info kind.Tables None span origin.Tables in
     two_added old mid new p own tables_info begins one (added_at_new mid new id own None by_key begins grows infos)
     ∙ ap (λ r. with_info (with_info (node_infos old) p tables_info) r begins) there
     ∙ ap (λ i. with_info (with_info (node_infos old) p i) q begins) (sym (element_info values parts n span refl (ap (key_span parts) keys ∙ named)))
-    ∙ ap (λ s. with_info (with_info (node_infos old) p (mention_info values parts n)) q (unnamed_info kind.Table None (place.Element s))) (sym statements)
+    ∙ ap (λ s. with_info (with_info (node_infos old) p (mention_info values parts n)) q (unnamed_info kind.Table None (origin.Element s))) (sym statements)
     ∙ ap (λ i. with_info (with_info (node_infos old) p (mention_info values parts n)) q i) (sym (begun_info values parts n' refl))
 
 -- an item of an array
 pub item_added : (old new : List Node) (array number : ℕ) (k : Kind) (span : Span) (holds : Holding)
     → Grows (trie_of old) (trie_of new) array (path_at (trie_of old) array ++ index (length (children_of (trie_of old) array)) ∷ []) None holds
-    → infos_of new ≡ infos_of old ++ unnamed_info k (Some span) (place.Value number) ∷ [] → ItemAdds old new array number k span
+    → infos_of new ≡ infos_of old ++ unnamed_info k (Some span) (origin.Value number) ∷ [] → ItemAdds old new array number k span
 item_added old new array number k span holds grows infos s o f here count is values parts c valued number_is =
     let own : List Part = path_at (trie_of old) array ++ index (length (children_of (trie_of old) array)) ∷ [] in
     let q : List Part = path_of_value s o ++ index (entries_of_value s o) ∷ [] in
     let there : own ≡ q = ap (λ r. r ++ index (length (children_of (trie_of old) array)) ∷ []) here ∙ ap (λ x. path_of_value s o ++ index x ∷ []) (sym count) in
-    let n : Numbered = record { mention = record { path = q; says = item f }; before = c } in
+    let n : Numbered = record { mention = record { path = q; kind = item f }; before = c } in
     record {
-      joined = added_at_new old new array own None holds _ grows infos ∙ ap (λ r. with_info (node_infos old) r (unnamed_info k (Some span) (place.Value number))) there
-          ∙ ap (λ x. with_info (node_infos old) q (unnamed_info x (Some span) (place.Value number))) (sym is) ∙ ap (λ v. with_info (node_infos old) q (unnamed_info (fact_kind f) (Some span) (place.Value v))) (sym number_is)
+      joined = added_at_new old new array own None holds _ grows infos ∙ ap (λ r. with_info (node_infos old) r (unnamed_info k (Some span) (origin.Value number))) there
+          ∙ ap (λ x. with_info (node_infos old) q (unnamed_info x (Some span) (origin.Value number))) (sym is) ∙ ap (λ v. with_info (node_infos old) q (unnamed_info (fact_kind f) (Some span) (origin.Value v))) (sym number_is)
           ∙ ap (λ i. with_info (node_infos old) q i) (sym (item_info values parts n f span refl (ap (value_span values) number_is ∙ valued)));
       fresh = (λ t met. grows.fresh (subst (Contains (paths_of (trie_of old))) (sym there) met), tt);
     }
@@ -127,7 +127,7 @@ adds_then values parts old mid new c ms ns one two =
 -- ---- the numbers after the leading keys
 
 count-append : (c : Count) (ms ns : List Mention) → count_after c (ms ++ ns) ≡ count_after (count_after c ms) ns
-count-append c ms ns = fold-append count_behind c ms ns
+count-append c ms ns = fold-append count_with_mention c ms ns
 
 pub record CountsKeys (c : Count) (ms : List Mention) (n : ℕ) : Type 0 where
   pub keys : (count_after c ms).keys ≡ c.keys + n
@@ -136,7 +136,7 @@ pub record CountsKeys (c : Count) (ms : List Mention) (n : ℕ) : Type 0 where
 
 passing_counts : (tables : List (List Part)) (p : List Part) (c : Count) → CountsKeys c (passing_mentions tables p) 1
 passing_counts tables p c =
-    elim (0 == elements_of p tables) as (λ b. CountsKeys c (cond b (record { path = p; says = through } ∷ []) (record { path = p; says = past } ∷ record { path = entered_path tables p; says = passed } ∷ [])) 1) [
+    elim (0 == elements_of p tables) as (λ b. CountsKeys c (cond b (record { path = p; kind = through } ∷ []) (record { path = p; kind = past } ∷ record { path = entered_path tables p; kind = passed } ∷ [])) 1) [
       | true ↦ record { keys = omega arith; statements = refl; values = omega arith }
       | false ↦ record { keys = omega arith; statements = refl; values = omega arith }
     ]
@@ -159,22 +159,22 @@ pub dotted_counts : (at : List Part) (ks : List (List ℕ)) (c : Count) → Coun
 dotted_counts at [] c = record { keys = omega arith; statements = refl; values = refl }
 dotted_counts at (k ∷ ks) c =
     let p : List Part = at ++ key k ∷ [] in
-    let m : Mention = record { path = p; says = dotted } in
-    let more = dotted_counts p ks (count_behind c m) in
+    let m : Mention = record { path = p; kind = dotted } in
+    let more = dotted_counts p ks (count_with_mention c m) in
     record { keys = omega (arith, more.keys); statements = more.statements; values = omega (arith, more.values) }
 
 -- ---- headers
 
 -- one key more, with these mentions at its path
-pub header_adds : (old mid new : List Node) (at : ℕ) (ks : List (List ℕ)) (x : List ℕ) (parts : List KeyPart) (first statement : ℕ) (span : Span) (said : List (List Part) → List Part → List Mention)
+pub header_adds : (old mid new : List Node) (at : ℕ) (ks : List (List ℕ)) (x : List ℕ) (parts : List KeyPart) (first statement : ℕ) (span : Span) (mentioned : List (List Part) → List Part → List Mention)
     → Walks (trie_of old) (trie_of mid) at ks → HeaderAdds old mid parts first statement (λ tables. walk_mentions tables [] ks) → key_span parts (first + length ks) ≡ Some span
-    → KeyAdds mid new span statement (λ tables. said tables (path_at (trie_of mid) at ++ key x ∷ []))
-    → HeaderAdds old new parts first statement (λ tables. walk_mentions tables [] ks ++ said tables (walk_path tables [] ks ++ key x ∷ []))
-header_adds old mid new at ks x parts first statement span said walked leading named last ms tables represents values c keys statements =
+    → KeyAdds mid new span statement (λ tables. mentioned tables (path_at (trie_of mid) at ++ key x ∷ []))
+    → HeaderAdds old new parts first statement (λ tables. walk_mentions tables [] ks ++ mentioned tables (walk_path tables [] ks ++ key x ∷ []))
+header_adds old mid new at ks x parts first statement span mentioned walked leading named last ms tables represents values c keys statements =
     let d : Count = count_after c (walk_mentions tables [] ks) in
     let counts = header_counts tables [] ks c in
-    adds_then values parts old mid new c (walk_mentions tables [] ks) (said tables (walk_path tables [] ks ++ key x ∷ [])) (leading ms tables represents values c keys statements)
-    (subst (λ (q : List Part). AddsMentions values parts mid new d (said tables (q ++ key x ∷ []))) (walked.is_open ms tables represents).here
+    adds_then values parts old mid new c (walk_mentions tables [] ks) (mentioned tables (walk_path tables [] ks ++ key x ∷ [])) (leading ms tables represents values c keys statements)
+    (subst (λ (q : List Part). AddsMentions values parts mid new d (mentioned tables (q ++ key x ∷ []))) (walked.is_open ms tables represents).here
     (last parts (first + length ks) named (ms ++ walk_mentions tables [] ks) tables (walked.represents ms tables represents) values d (counts.keys ∙ ap (λ k. k + length ks) keys) (counts.statements ∙ statements)))
 
 pub walk_adds : (old mid new : List Node) (at : ℕ) (ks : List (List ℕ)) (x : List ℕ) (parts : List KeyPart) (first statement : ℕ) (span : Span)
@@ -188,13 +188,13 @@ walk_adds old mid new at ks x parts first statement span walked leading named la
 
 -- a header with all its keys
 pub header_added : (old new : List Node) (ks : List (List ℕ)) (x : List ℕ) (parts : List KeyPart) (first statement : ℕ)
-    → HeaderAdds old new parts first statement (λ tables. walk_mentions tables [] ks ++ record { path = walk_path tables [] ks ++ key x ∷ []; says = define } ∷ [])
+    → HeaderAdds old new parts first statement (λ tables. walk_mentions tables [] ks ++ record { path = walk_path tables [] ks ++ key x ∷ []; kind = define } ∷ [])
     → StatementAdds old new parts first statement (header (ks ++ x ∷ []))
 header_added old new ks x parts first statement joined ms r body reading values c keys statements =
     let ts : List (List Part) = r.tables in
     subst (λ (w : List Mention). AddsMentions values parts old new c w)
-    (ap (λ w. w ++ record { path = walk_path ts [] ks ++ key x ∷ []; says = define } ∷ []) (sym (header_way-split ts [] ks x))
-    ∙ ap (λ p. marks.header_way ts [] (ks ++ x ∷ []) ++ record { path = p; says = define } ∷ []) (sym (header_path-split ts [] ks x)))
+    (ap (λ w. w ++ record { path = walk_path ts [] ks ++ key x ∷ []; kind = define } ∷ []) (sym (header_way-split ts [] ks x))
+    ∙ ap (λ p. marks.header_way ts [] (ks ++ x ∷ []) ++ record { path = p; kind = define } ∷ []) (sym (header_path-split ts [] ks x)))
     (joined ms ts reading.represents values c keys statements)
 
 pub element_added : (old new : List Node) (ks : List (List ℕ)) (x : List ℕ) (parts : List KeyPart) (first statement : ℕ)
@@ -211,20 +211,20 @@ element_added old new ks x parts first statement joined ms r body reading values
 
 pub dot_adds : (old mid new : List Node) (from at : ℕ) (ks : List (List ℕ)) (x : List ℕ) (parts : List KeyPart) (first number : ℕ) (span : Span)
     → Dots (trie_of old) (trie_of mid) from at ks → DottedAdds old mid parts first number (dotted_mentions (path_at (trie_of old) from) ks) → key_span parts (first + length ks) ≡ Some span
-    → AddsInfo mid new (path_at (trie_of mid) at ++ key x ∷ []) (named_info kind.Table None span (place.Dotted number))
+    → AddsInfo mid new (path_at (trie_of mid) at ++ key x ∷ []) (named_info kind.Table None span (origin.Dotted number))
     → DottedAdds old new parts first number (dotted_mentions (path_at (trie_of old) from) (ks ++ x ∷ []))
 dot_adds old mid new from at ks x parts first number span gone leading named one values c keys number_is =
     let p : List Part = path_at (trie_of old) from in
     let q : List Part = (p ++ map key ks) ++ key x ∷ [] in
     let d : Count = count_after c (dotted_mentions p ks) in
     let counts = dotted_counts p ks c in
-    let n : Numbered = record { mention = record { path = q; says = dotted }; before = d } in
-    let last : AddsMentions values parts mid new d (record { path = q; says = dotted } ∷ []) =
-    one ∙ ap (λ r. with_info (node_infos mid) (r ++ key x ∷ []) (named_info kind.Table None span (place.Dotted number))) gone.is_open.here
-    ∙ ap (λ v. with_info (node_infos mid) q (named_info kind.Table None span (place.Dotted v))) (sym (counts.values ∙ number_is))
+    let n : Numbered = record { mention = record { path = q; kind = dotted }; before = d } in
+    let last : AddsMentions values parts mid new d (record { path = q; kind = dotted } ∷ []) =
+    one ∙ ap (λ r. with_info (node_infos mid) (r ++ key x ∷ []) (named_info kind.Table None span (origin.Dotted number))) gone.is_open.here
+    ∙ ap (λ v. with_info (node_infos mid) q (named_info kind.Table None span (origin.Dotted v))) (sym (counts.values ∙ number_is))
     ∙ ap (λ i. with_info (node_infos mid) q i) (sym (dotted_info values parts n span refl (ap (key_span parts) (counts.keys ∙ ap (λ k. k + length ks) keys) ∙ named))) in
     subst (λ (w : List Mention). AddsMentions values parts old new c w) (sym (dotted_mentions-append p ks (x ∷ [])))
-    (adds_then values parts old mid new c (dotted_mentions p ks) (record { path = q; says = dotted } ∷ []) (leading values c keys number_is) last)
+    (adds_then values parts old mid new c (dotted_mentions p ks) (record { path = q; kind = dotted } ∷ []) (leading values c keys number_is) last)
 
 -- leading keys give no values
 leading_new : (ks : List (List ℕ)) (paths : List (List Part)) (at : List Part) (c : Count) → ValuesAreNew paths (numbered_mentions c (dotted_mentions at ks))
@@ -237,13 +237,13 @@ value_fresh old new p holds id marked root there =
     let j : ℕ = there.0 in
     let low : j < length (trie_of old) = omega (arith, there.1, length-paths_of (trie_of old) root) in
     let is : path_at (trie_of old) j ≡ p = get_or_default (paths_of (trie_of old)) j [] p there.1 ∙ there.2 in
-    let one : j ≡ id = one_node (trie_of new) marked.trie j id (omega (arith, low, marked.keeps.longer)) marked.inside (marked.keeps.paths j low ∙ is ∙ sym marked.here) in
+    let one : j ≡ id = one_node (trie_of new) marked.trie j id (omega (arith, low, marked.keeps.longer)) marked.nested (marked.keeps.paths j low ∙ is ∙ sym marked.here) in
     omega (arith, one, low, (marked.valued refl).2)
 
 pub keyed_added : (old mid new : List Node) (from at id : ℕ) (ks : List (List ℕ)) (x : List ℕ) (parts : List KeyPart) (first number : ℕ) (k : Kind) (span name : Span) (holds : Holding)
     → Dots (trie_of old) (trie_of mid) from at ks → DottedAdds old mid parts first number (dotted_mentions (path_at (trie_of old) from) ks) → key_span parts (first + length ks) ≡ Some name
     → IsMarked (trie_of mid) (trie_of new) (path_at (trie_of mid) at ++ key x ∷ []) Value holds id
-    → AddsInfo mid new (path_at (trie_of mid) at ++ key x ∷ []) (named_info k (Some span) name (place.Value number))
+    → AddsInfo mid new (path_at (trie_of mid) at ++ key x ∷ []) (named_info k (Some span) name (origin.Value number))
     → KeyedAdds old new from parts first (ks ++ x ∷ []) number k span
 keyed_added old mid new from at id ks x parts first number k span name holds gone leading named marked one s o f here is values c valued number_is keys =
     let p : List Part = path_at (trie_of old) from in
@@ -251,18 +251,18 @@ keyed_added old mid new from at id ks x parts first number k span name holds gon
     let d : Count = count_after c (dotted_mentions p ks) in
     let counts = dotted_counts p ks c in
     let full : path_at (trie_of mid) at ++ key x ∷ [] ≡ q = ap (λ r. r ++ key x ∷ []) gone.is_open.here in
-    let m : Mention = record { path = q; says = value f } in
+    let m : Mention = record { path = q; kind = value f } in
     let n : Numbered = record { mention = m; before = d } in
     let numbered : d.values ≡ number = counts.values ∙ number_is in
     let before : AddsMentions values parts old mid c (dotted_mentions p ks) = leading values c keys number_is in
     let last : AddsMentions values parts mid new d (m ∷ []) =
-    one ∙ ap (λ r. with_info (node_infos mid) r (named_info k (Some span) name (place.Value number))) full
-    ∙ ap (λ y. with_info (node_infos mid) q (named_info y (Some span) name (place.Value number))) (sym is)
-    ∙ ap (λ v. with_info (node_infos mid) q (named_info (fact_kind f) (Some span) name (place.Value v))) (sym numbered)
+    one ∙ ap (λ r. with_info (node_infos mid) r (named_info k (Some span) name (origin.Value number))) full
+    ∙ ap (λ y. with_info (node_infos mid) q (named_info y (Some span) name (origin.Value number))) (sym is)
+    ∙ ap (λ v. with_info (node_infos mid) q (named_info (fact_kind f) (Some span) name (origin.Value v))) (sym numbered)
     ∙ ap (λ i. with_info (node_infos mid) q i) (sym (value_info values parts n f span name refl (ap (key_span parts) (counts.keys ∙ ap (λ k. k + length ks) keys) ∙ named) (ap (value_span values) numbered ∙ valued))) in
     let paths : paths_of (trie_of mid) ≡ paths_after (paths_of (trie_of old)) (numbered_mentions c (dotted_mentions p ks)) =
     ap (λ t. t.paths) before ∙ with_mentions-paths values parts (node_infos old) (numbered_mentions c (dotted_mentions p ks)) in
-    let root : 0 < length (trie_of mid) = omega (arith, gone.is_open.inside) in
+    let root : 0 < length (trie_of mid) = omega (arith, gone.is_open.nested) in
     let fresh : Contains (paths_of (trie_of mid)) q → ⊥ = λ there. value_fresh mid new (path_at (trie_of mid) at ++ key x ∷ []) holds id marked root (subst (Contains (paths_of (trie_of mid))) (sym full) there) in
     let all : AddsValue values parts old new c (dotted_mentions p ks ++ m ∷ []) = record {
       joined = adds_then values parts old mid new c (dotted_mentions p ks) (m ∷ []) before last;
@@ -271,13 +271,13 @@ keyed_added old mid new from at id ks x parts first number k span name holds gon
           (λ t there. fresh (subst (λ (ps : List (List Part)). Contains ps q) (sym paths) there), tt));
     } in
     subst (λ (w : List Mention). AddsValue values parts old new c w)
-    (sym (keyed_mentions_are (path_of_value s o) ks x f ∙ ap (λ p. dotted_mentions p ks ++ record { path = (p ++ map key ks) ++ key x ∷ []; says = value f } ∷ []) (sym here))) all
+    (sym (keyed_mentions_are (path_of_value s o) ks x f ∙ ap (λ p. dotted_mentions p ks ++ record { path = (p ++ map key ks) ++ key x ∷ []; kind = value f } ∷ []) (sym here))) all
 
 -- ---- headers give no values
 
 abbrev pub GivesNone : List Mention → Type 0
 GivesNone [] = Unit {0}
-GivesNone (m ∷ ms) = (is_value m.says ≡ false) × GivesNone ms
+GivesNone (m ∷ ms) = (is_value m.kind ≡ false) × GivesNone ms
 
 gives_none-append : (ms ns : List Mention) → GivesNone ms → GivesNone ns → GivesNone (ms ++ ns)
 gives_none-append [] ns f g = g
@@ -285,11 +285,11 @@ gives_none-append (m ∷ ms) ns f g = (f.0, gives_none-append ms ns f.1 g)
 
 none_new : (ms : List Mention) (paths : List (List Part)) (c : Count) → GivesNone ms → ValuesAreNew paths (numbered_mentions c ms)
 none_new [] paths c h = tt
-none_new (m ∷ ms) paths c h = (λ t. absurd (let no : true ≡ false = sym t ∙ h.0 in cc), none_new ms _ (count_behind c m) h.1)
+none_new (m ∷ ms) paths c h = (λ t. absurd (let no : true ≡ false = sym t ∙ h.0 in cc), none_new ms _ (count_with_mention c m) h.1)
 
 passing_gives : (tables : List (List Part)) (p : List Part) → GivesNone (passing_mentions tables p)
 passing_gives tables p =
-    elim (0 == elements_of p tables) as (λ b. GivesNone (cond b (record { path = p; says = through } ∷ []) (record { path = p; says = past } ∷ record { path = entered_path tables p; says = passed } ∷ []))) [
+    elim (0 == elements_of p tables) as (λ b. GivesNone (cond b (record { path = p; kind = through } ∷ []) (record { path = p; kind = past } ∷ record { path = entered_path tables p; kind = passed } ∷ []))) [
       | true ↦ (refl, tt)
       | false ↦ (refl, (refl, tt))
     ]

@@ -31,7 +31,7 @@ header_path-split ts at (w ∷ x ∷ leading) k = header_path-split ts (entered_
 
 marks-passing : (ts : List (List Part)) (p : List Part) → length (marks (passing_mentions ts p)) ≡ 1
 marks-passing ts p =
-    elim (0 == elements_of p ts) as (λ b. length (marks (cond b (record { path = p; says = through } ∷ []) (record { path = p; says = past } ∷ record { path = entered_path ts p; says = passed } ∷ []))) ≡ 1) [ true ↦ refl | false ↦ refl ]
+    elim (0 == elements_of p ts) as (λ b. length (marks (cond b (record { path = p; kind = through } ∷ []) (record { path = p; kind = past } ∷ record { path = entered_path ts p; kind = passed } ∷ []))) ≡ 1) [ true ↦ refl | false ↦ refl ]
 
 pub marks-walk_mentions : (ts : List (List Part)) (at : List Part) (ks : List (List ℕ)) → length (marks (walk_mentions ts at ks)) ≡ length ks
 marks-walk_mentions ts at [] = refl
@@ -50,7 +50,7 @@ marks-walk_mentions ts at (k ∷ ks) =
 pub dotted_mentions-append : (at : List Part) (ks ls : List (List ℕ)) → dotted_mentions at (ks ++ ls) ≡ dotted_mentions at ks ++ dotted_mentions (at ++ map key ks) ls
 dotted_mentions-append at [] ls = ap (λ p. dotted_mentions p ls) (sym (append-nil at))
 dotted_mentions-append at (k ∷ ks) ls =
-    ap (λ w. record { path = at ++ key k ∷ []; says = dotted } ∷ w) (dotted_mentions-append (at ++ key k ∷ []) ks ls
+    ap (λ w. record { path = at ++ key k ∷ []; kind = dotted } ∷ w) (dotted_mentions-append (at ++ key k ∷ []) ks ls
     ∙ ap (λ p. dotted_mentions (at ++ key k ∷ []) ks ++ dotted_mentions p ls) (append_assoc at (key k ∷ []) (map key ks)))
 
 pub marks-dotted_mentions : (at : List Part) (ks : List (List ℕ)) → length (marks (dotted_mentions at ks)) ≡ length ks
@@ -60,14 +60,14 @@ marks-dotted_mentions at (k ∷ ks) = omega (arith, marks-dotted_mentions (at ++
 pub below-below : (p q : List Part) (ms : List Mention) → map (below p) (map (below q) ms) ≡ map (below (p ++ q)) ms
 below-below p q [] = refl
 below-below p q (m ∷ ms) =
-    ap (λ w. record { path = p ++ (q ++ m.path); says = m.says } ∷ w) (below-below p q ms)
-    ∙ ap (λ r. record { path = r; says = m.says } ∷ map (below (p ++ q)) ms) (sym (append_assoc p q m.path))
+    ap (λ w. record { path = p ++ (q ++ m.path); kind = m.kind } ∷ w) (below-below p q ms)
+    ∙ ap (λ r. record { path = r; kind = m.kind } ∷ map (below (p ++ q)) ms) (sym (append_assoc p q m.path))
 
 keyed_more : (at : List Part) (w x : List ℕ) (ks : List (List ℕ)) (ms leading : List Mention)
     → map (below (at ++ key w ∷ [])) (keyed_mentions (x ∷ ks) ms) ≡ leading ++ map (below ((at ++ key w ∷ []) ++ map key (x ∷ ks))) ms
-    → map (below at) (keyed_mentions (w ∷ x ∷ ks) ms) ≡ record { path = at ++ key w ∷ []; says = dotted } ∷ (leading ++ map (below (at ++ map key (w ∷ x ∷ ks))) ms)
+    → map (below at) (keyed_mentions (w ∷ x ∷ ks) ms) ≡ record { path = at ++ key w ∷ []; kind = dotted } ∷ (leading ++ map (below (at ++ map key (w ∷ x ∷ ks))) ms)
 keyed_more at w x ks ms leading more =
-    ap (λ r. record { path = at ++ key w ∷ []; says = dotted } ∷ r)
+    ap (λ r. record { path = at ++ key w ∷ []; kind = dotted } ∷ r)
     (below-below at (key w ∷ []) (keyed_mentions (x ∷ ks) ms) ∙ more ∙ ap (λ p. leading ++ map (below p) ms) (append_assoc at (key w ∷ []) (map key (x ∷ ks))))
 
 -- the mentions of a keyval are those of its leading keys and then those of its value

@@ -20,7 +20,7 @@ use Rattle.keep_path.specs.Path.{Part}
 use Rattle.keep_meaning.specs.Rules.{allows}
 use Rattle.keep_meaning.specs.Marks as marks
 use Rattle.keep_meaning.specs.Marks.{Mention, Reading, statement_mentions, below}
-use Rattle.keep_meaning.specs.Meaning.{keys_of, body_fact, keyval_said}
+use Rattle.keep_meaning.specs.Meaning.{keys_of, body_fact, keyval_mentions}
 use Rattle.keep_meaning.specs.Counts.{Count, numbered_mentions}
 use Rattle.keep_rules.specs.Keys.{AreKeysAt, AreKeys, key_texts, leading_texts, last_text}
 use Rattle.keep_meaning.specs.KeyText.{keys_in}
@@ -44,7 +44,7 @@ use Rattle.keep_rules.proofs.SuitLemmas.{keyval_suits}
 use Rattle.keep_rules.proofs.ReadLemmas.{keyval_reads}
 use Rattle.keep_rules.proofs.StopLemmas.{fault_more, fault_within}
 use Rattle.keep_rules.proofs.PlanLemmas.{meets_weaker, meets_from, fault_low, KeyedFaults}
-use Rattle.keep_rules.proofs.UnderwayLemmas.{line_inside}
+use Rattle.keep_rules.proofs.UnderwayLemmas.{line_nested}
 use Rattle.keep_rules.proofs.FirstKeyLemmas.{nested_count, match_nested, taken_from}
 use Rattle.keep_rules.proofs.KeyLemmas.{texts_split, length-keys_in}
 use Rattle.keep_rules.proofs.NestedReadLemmas.{nested_read_keyed, nested_read_then, nested_marks}
@@ -54,7 +54,7 @@ use Rattle.keep_rules.proofs.NestedReadLemmas.{nested_read_keyed, nested_read_th
 open_plain : (nodes : List TrieNode) (at : ℕ) (path : List Part) (o : Option Role) → IsShaped nodes → IsOpen nodes at path → state_at nodes at ≡ o → is_tables (state_at nodes at) ≡ false
 open_plain nodes at path None shaped open_ e = ap is_tables e
 open_plain nodes at path (Some s) shaped open_ e = elim (cases_Bool (allows s Element)) [
-  | inl lets ↦ absurd (let clash : by_key ≡ by_index = sym open_.open_to ∙ (shaped.fits at s open_.inside e).listed lets in cc)
+  | inl lets ↦ absurd (let clash : by_key ≡ by_index = sym open_.open_to ∙ (shaped.fits at s open_.nested e).listed lets in cc)
   | inr not_so ↦ ap is_tables e ∙ not_so
 ]
 
@@ -70,7 +70,7 @@ open_nesting nodes at path shaped open_ = record {
   where
     one : (j : ℕ) → j < 1 → IsValueNode nodes (get_or (at ∷ []) j 0) (body_nesting path) j
     one zero low = record {
-      inside = open_.inside;
+      nested = open_.nested;
       here = open_.here;
       held = open_.open_to;
       plain = open_plain nodes at path (state_at nodes at) shaped open_ refl;
@@ -85,7 +85,7 @@ some_info : (a b : ValueInfo) → Some a ≡ Some b → a ≡ b
 some_info a b e = cc
 
 -- its mentions in a body
-mentions_in_body : (r : Reading) (path : List Part) (name : Name) (v : Value) → path ≡ r.body → all_nested_mentions (body_nesting path) (keyval_nested name v) ≡ statement_mentions r (marks.keyval (keyval_said name v))
+mentions_in_body : (r : Reading) (path : List Part) (name : Name) (v : Value) → path ≡ r.body → all_nested_mentions (body_nesting path) (keyval_nested name v) ≡ statement_mentions r (marks.keyval (keyval_mentions name v))
 mentions_in_body r path name v e = ap (λ q. all_nested_mentions (body_nesting q) (keyval_nested name v)) e ∙ keyval_nested-mentions r.body name v
 
 module _ (bytes : List ℕ) (f : Flat) (st : Statement) (old mid : List Node) (body top number : ℕ) (k : Keys) (info : ValueInfo) (kind : Kind) (holds : Holding)
@@ -93,9 +93,9 @@ module _ (bytes : List ℕ) (f : Flat) (st : Statement) (old mid : List Node) (b
     (kind_is : kind ≡ leaf_kind info.leaf) (holds_is : holds ≡ leaf_holding info.leaf)
     (gives : Gives (trie_of old) (trie_of mid) body top (leading_texts k) (last_text k) holds) (joined : KeyedAdds old mid body f.keys st.first_key (key_texts k) number kind info.span) where
   -- the keyval's own value was read
-  pub top_read : (said : List Mention) (path : List Part) (matches : MatchesKeyvalOf bytes f.keys f.values st said) → IsShaped (trie_of old) → IsOpen (trie_of old) body path
+  pub top_read : (mentioned : List Mention) (path : List Part) (matches : MatchesKeyvalOf bytes f.keys f.values st mentioned) → IsShaped (trie_of old) → IsOpen (trie_of old) body path
       → NestedRead f.values f.keys (nodes_so_far old (body ∷ [])) (nodes_so_far mid (body ∷ top ∷ [])) number st.first_key (body_nesting path) (nested_keyed 0 (keys_of matches.name.key) (body_fact matches.value.body) ∷ [])
-  top_read said path matches shaped open_ =
+  top_read mentioned path matches shaped open_ =
       let fact : Fact = body_fact matches.value.body in
       let s : NestingState = body_nesting path in
       let same : matches.valued.own ≡ info = some_info matches.valued.own info (sym matches.valued.here ∙ ap (slice_get f.values) (some_value matches.valued.first number (sym matches.valued.valued ∙ valued)) ∙ listed) in
@@ -109,46 +109,46 @@ module _ (bytes : List ℕ) (f : Flat) (st : Statement) (old mid : List Node) (b
       (λ c v first. (facts c v first).fresh))
 
   -- the values in it come next
-  pub inside_next : (said : List Mention) (path : List Part) (matches : MatchesKeyvalOf bytes f.keys f.values st said) → IsShaped (trie_of old) → IsOpen (trie_of old) body path
-      → AreNext bytes f (trie_of mid) (body ∷ top ∷ []) number (number + 1) (st.first_key + st.keys) (next_nesting (body_nesting path) (nested_keyed 0 (keys_of matches.name.key) (body_fact matches.value.body))) (nested_values 1 2 matches.value.inside)
-  inside_next said path matches shaped open_ =
+  pub nested_next : (mentioned : List Mention) (path : List Part) (matches : MatchesKeyvalOf bytes f.keys f.values st mentioned) → IsShaped (trie_of old) → IsOpen (trie_of old) body path
+      → AreNext bytes f (trie_of mid) (body ∷ top ∷ []) number (number + 1) (st.first_key + st.keys) (next_nesting (body_nesting path) (nested_keyed 0 (keys_of matches.name.key) (body_fact matches.value.body))) (nested_values 1 2 matches.value.nested)
+  nested_next mentioned path matches shaped open_ =
       let at : matches.valued.first ≡ number = some_value matches.valued.first number (sym matches.valued.valued ∙ valued) in
-      let n : ℕ = value_count matches.value.inside in
-      let ts : List NestedValue = nested_values 1 2 matches.value.inside in
-      let ends : EndsAt f.values ((matches.valued.first + 1) + length ts) = λ other here inside.
-      let line = matches.valued.next_line other (ap (slice_get f.values) (let e : (matches.valued.first + 1) + n ≡ (matches.valued.first + 1) + length ts = omega (arith, nested_count 1 2 matches.value.inside) in e) ∙ here) in
-      line_inside line.0 other.owner line.1 inside in
+      let n : ℕ = value_count matches.value.nested in
+      let ts : List NestedValue = nested_values 1 2 matches.value.nested in
+      let ends : EndsAt f.values ((matches.valued.first + 1) + length ts) = λ other here nested.
+      let line = matches.valued.next_line other (ap (slice_get f.values) (let e : (matches.valued.first + 1) + n ≡ (matches.valued.first + 1) + length ts = omega (arith, nested_count 1 2 matches.value.nested) in e) ∙ here) in
+      line_nested line.0 other.owner line.1 nested in
       record {
-        inside = (top_read said path matches shaped open_).inside;
+        nested = (top_read mentioned path matches shaped open_).nested;
         suit = (keyval_suits matches.profile path matches.name matches.value matches.is).1;
         matches = subst (λ (b : ℕ). MatchNested bytes f b (b + 1) (st.first_key + st.keys) ts) at
-            (match_nested bytes f matches.valued.first (matches.valued.first + 1) (st.first_key + st.keys) ts (take n (drop (matches.valued.first + 1) f.values)) matches.valued.inside matches.valued.firsts (taken_from f.values (matches.valued.first + 1) n) ends);
+            (match_nested bytes f matches.valued.first (matches.valued.first + 1) (st.first_key + st.keys) ts (take n (drop (matches.valued.first + 1) f.values)) matches.valued.nested matches.valued.firsts (taken_from f.values (matches.valued.first + 1) n) ends);
       }
 
-  own_keys : (said : List Mention) (matches : MatchesKeyvalOf bytes f.keys f.values st said) → length (keys_of matches.name.key) ≡ st.keys
-  own_keys said matches = ap length (sym matches.keys.keys) ∙ length-keys_in bytes f.keys st.first_key st.keys matches.keys.within
+  own_keys : (mentioned : List Mention) (matches : MatchesKeyvalOf bytes f.keys f.values st mentioned) → length (keys_of matches.name.key) ≡ st.keys
+  own_keys mentioned matches = ap length (sym matches.keys.keys) ∙ length-keys_in bytes f.keys st.first_key st.keys matches.keys.within
 
-  own_marks : (said : List Mention) (path : List Part) (matches : MatchesKeyvalOf bytes f.keys f.values st said) → length (marks.marks (all_nested_mentions (body_nesting path) (nested_keyed 0 (keys_of matches.name.key) (body_fact matches.value.body) ∷ []))) ≡ st.keys
-  own_marks said path matches =
+  own_marks : (mentioned : List Mention) (path : List Part) (matches : MatchesKeyvalOf bytes f.keys f.values st mentioned) → length (marks.marks (all_nested_mentions (body_nesting path) (nested_keyed 0 (keys_of matches.name.key) (body_fact matches.value.body) ∷ []))) ≡ st.keys
+  own_marks mentioned path matches =
       let t : NestedValue = nested_keyed 0 (keys_of matches.name.key) (body_fact matches.value.body) in
-      ap (λ w. length (marks.marks w)) (append-nil (nested_mentions (body_nesting path) t)) ∙ nested_marks (body_nesting path) t (omega (arith, own_keys said matches, matches.keys.some)) ∙ own_keys said matches
+      ap (λ w. length (marks.marks w)) (append-nil (nested_mentions (body_nesting path) t)) ∙ nested_marks (body_nesting path) t (omega (arith, own_keys mentioned matches, matches.keys.some)) ∙ own_keys mentioned matches
 
   -- all its values were read
-  pub keyval_all_read : (new : List Node) (ids : List ℕ) → NestedValuesRead bytes f number (number + 1) mid (body ∷ top ∷ []) new ids → (said : List Mention) (path : List Part) (matches : MatchesKeyvalOf bytes f.keys f.values st said) → IsShaped (trie_of old) → IsOpen (trie_of old) body path
+  pub keyval_all_read : (new : List Node) (ids : List ℕ) → NestedValuesRead bytes f number (number + 1) mid (body ∷ top ∷ []) new ids → (mentioned : List Mention) (path : List Part) (matches : MatchesKeyvalOf bytes f.keys f.values st mentioned) → IsShaped (trie_of old) → IsOpen (trie_of old) body path
       → NestedRead f.values f.keys (nodes_so_far old (body ∷ [])) (nodes_so_far new ids) number st.first_key (body_nesting path) (keyval_nested matches.name matches.value)
-  keyval_all_read new ids was_read said path matches shaped open_ =
+  keyval_all_read new ids was_read mentioned path matches shaped open_ =
       let t : NestedValue = nested_keyed 0 (keys_of matches.name.key) (body_fact matches.value.body) in
       let s : NestingState = body_nesting path in
-      let rest : NestedRead f.values f.keys (nodes_so_far mid (body ∷ top ∷ [])) (nodes_so_far new ids) (number + 1) (st.first_key + st.keys) (next_nesting s t) (nested_values 1 2 matches.value.inside) = was_read (next_nesting s t) (nested_values 1 2 matches.value.inside) (st.first_key + st.keys) (inside_next said path matches shaped open_) in
-      nested_read_then f.values f.keys (nodes_so_far old (body ∷ [])) (nodes_so_far mid (body ∷ top ∷ [])) (nodes_so_far new ids) number st.first_key s (t ∷ []) (nested_values 1 2 matches.value.inside) (top_read said path matches shaped open_)
-      (subst (λ (n : ℕ). NestedRead f.values f.keys (nodes_so_far mid (body ∷ top ∷ [])) (nodes_so_far new ids) (number + 1) (st.first_key + n) (next_nesting s t) (nested_values 1 2 matches.value.inside)) (sym (own_marks said path matches)) rest)
+      let rest : NestedRead f.values f.keys (nodes_so_far mid (body ∷ top ∷ [])) (nodes_so_far new ids) (number + 1) (st.first_key + st.keys) (next_nesting s t) (nested_values 1 2 matches.value.nested) = was_read (next_nesting s t) (nested_values 1 2 matches.value.nested) (st.first_key + st.keys) (nested_next mentioned path matches shaped open_) in
+      nested_read_then f.values f.keys (nodes_so_far old (body ∷ [])) (nodes_so_far mid (body ∷ top ∷ [])) (nodes_so_far new ids) number st.first_key s (t ∷ []) (nested_values 1 2 matches.value.nested) (top_read mentioned path matches shaped open_)
+      (subst (λ (n : ℕ). NestedRead f.values f.keys (nodes_so_far mid (body ∷ top ∷ [])) (nodes_so_far new ids) (number + 1) (st.first_key + n) (next_nesting s t) (nested_values 1 2 matches.value.nested)) (sym (own_marks mentioned path matches)) rest)
 
   -- so the keyval was read
-  keyval_read : (new : List Node) (ids : List ℕ) → NestedValuesRead bytes f number (number + 1) mid (body ∷ top ∷ []) new ids → HasReading (trie_of old) body → (n : ℕ) (said : List Mention) → MatchesKeyvalOf bytes f.keys f.values st said → IsRead f n st old body new body (marks.keyval said)
-  keyval_read new ids was_read reading n said matches =
+  keyval_read : (new : List Node) (ids : List ℕ) → NestedValuesRead bytes f number (number + 1) mid (body ∷ top ∷ []) new ids → HasReading (trie_of old) body → (n : ℕ) (mentioned : List Mention) → MatchesKeyvalOf bytes f.keys f.values st mentioned → IsRead f n st old body new body (marks.keyval mentioned)
+  keyval_read new ids was_read reading n mentioned matches =
       let path : List Part = path_at (trie_of old) body in
-      let open_ : IsOpen (trie_of old) body path = record { inside = reading.2.is_open.inside; here = refl; open_to = reading.2.is_open.open_to } in
-      let all = keyval_all_read new ids was_read said path matches reading.2.represents.shaped open_ in
+      let open_ : IsOpen (trie_of old) body path = record { nested = reading.2.is_open.nested; here = refl; open_to = reading.2.is_open.open_to } in
+      let all = keyval_all_read new ids was_read mentioned path matches reading.2.represents.shaped open_ in
       let ts : List NestedValue = keyval_nested matches.name matches.value in
       subst (λ (l : List Mention). IsRead f n st old body new body (marks.keyval l)) (sym matches.mentions) (record {
         reads = keyval_reads (trie_of old) (trie_of new) body matches.name matches.value all.keeps
@@ -162,20 +162,20 @@ module _ (bytes : List ℕ) (f : Flat) (st : Statement) (old mid : List Node) (b
   pub keyval_is_read : (new : List Node) (ids : List ℕ) → NestedValuesRead bytes f number (number + 1) mid (body ∷ top ∷ []) new ids → HasReading (trie_of old) body → (n : ℕ) → IsReadAsMatched bytes f n st old body new body
   keyval_is_read new ids was_read reading n (marks.header ks) matches = absurd (let no : None ≡ Some number = sym matches.1 ∙ valued in cc)
   keyval_is_read new ids was_read reading n (marks.element_header ks) matches = absurd (let no : None ≡ Some number = sym matches.1 ∙ valued in cc)
-  keyval_is_read new ids was_read reading n (marks.keyval said) matches = keyval_read new ids was_read reading n said matches
+  keyval_is_read new ids was_read reading n (marks.keyval mentioned) matches = keyval_read new ids was_read reading n mentioned matches
 
   -- what may come next, of some statement that it is
-  pub some_inside_next : (s : marks.Statement) × MatchesStatement bytes f.keys f.values st s → HasReading (trie_of old) body → (s : NestingState) × (ts : List NestedValue) × (first : ℕ) × AreNext bytes f (trie_of mid) (body ∷ top ∷ []) number (number + 1) first s ts
-  some_inside_next matches reading = mentions_next matches.0 matches.1 reading
+  pub some_nested_next : (s : marks.Statement) × MatchesStatement bytes f.keys f.values st s → HasReading (trie_of old) body → (s : NestingState) × (ts : List NestedValue) × (first : ℕ) × AreNext bytes f (trie_of mid) (body ∷ top ∷ []) number (number + 1) first s ts
+  some_nested_next matches reading = mentions_next matches.0 matches.1 reading
     where
       mentions_next : (s : marks.Statement) → MatchesStatement bytes f.keys f.values st s → HasReading (trie_of old) body → (s : NestingState) × (ts : List NestedValue) × (first : ℕ) × AreNext bytes f (trie_of mid) (body ∷ top ∷ []) number (number + 1) first s ts
       mentions_next (marks.header ks) matches reading = absurd (let no : None ≡ Some number = sym matches.1 ∙ valued in cc)
       mentions_next (marks.element_header ks) matches reading = absurd (let no : None ≡ Some number = sym matches.1 ∙ valued in cc)
-      mentions_next (marks.keyval said) matches reading = (
+      mentions_next (marks.keyval mentioned) matches reading = (
         next_nesting (body_nesting reading.1.body) (nested_keyed 0 (keys_of matches.name.key) (body_fact matches.value.body)),
-        nested_values 1 2 matches.value.inside,
+        nested_values 1 2 matches.value.nested,
         st.first_key + st.keys,
-        inside_next said reading.1.body matches reading.2.represents.shaped reading.2.is_open,
+        nested_next mentioned reading.1.body matches reading.2.represents.shaped reading.2.is_open,
       )
 
   pub some_top_represents : (s : marks.Statement) × MatchesStatement bytes f.keys f.values st s → HasReading (trie_of old) body → RepresentsSome (trie_of mid)
@@ -184,33 +184,33 @@ module _ (bytes : List ℕ) (f : Flat) (st : Statement) (old mid : List Node) (b
       mentions_represented : (s : marks.Statement) → MatchesStatement bytes f.keys f.values st s → HasReading (trie_of old) body → RepresentsSome (trie_of mid)
       mentions_represented (marks.header ks) matches reading = absurd (let no : None ≡ Some number = sym matches.1 ∙ valued in cc)
       mentions_represented (marks.element_header ks) matches reading = absurd (let no : None ≡ Some number = sym matches.1 ∙ valued in cc)
-      mentions_represented (marks.keyval said) matches reading =
-          (_, reading.1.tables, (top_read said reading.1.body matches reading.2.represents.shaped reading.2.is_open).represents reading.0 reading.1.tables reading.2.represents)
+      mentions_represented (marks.keyval mentioned) matches reading =
+          (_, reading.1.tables, (top_read mentioned reading.1.body matches reading.2.represents.shaped reading.2.is_open).represents reading.0 reading.1.tables reading.2.represents)
 
   -- a fault in the values in it
-  inside_breaks : (at : ℕ) (why : Why) → NestedValuesFault bytes f number (number + 1) mid (body ∷ top ∷ []) at why → (said : List Mention) → MatchesKeyvalOf bytes f.keys f.values st said → Breaks st old body (marks.keyval said) at why
-  inside_breaks at why faults said matches ms r reading =
+  nested_breaks : (at : ℕ) (why : Why) → NestedValuesFault bytes f number (number + 1) mid (body ∷ top ∷ []) at why → (mentioned : List Mention) → MatchesKeyvalOf bytes f.keys f.values st mentioned → Breaks st old body (marks.keyval mentioned) at why
+  nested_breaks at why faults mentioned matches ms r reading =
       let s : NestingState = body_nesting r.body in
       let t : NestedValue = nested_keyed 0 (keys_of matches.name.key) (body_fact matches.value.body) in
-      let ts : List NestedValue = nested_values 1 2 matches.value.inside in
-      let was_read = top_read said r.body matches reading.represents.shaped reading.is_open in
-      let one = faults (next_nesting s t) ts (st.first_key + st.keys) (inside_next said r.body matches reading.represents.shaped reading.is_open) (ms ++ all_nested_mentions s (t ∷ [])) r.tables (was_read.represents ms r.tables reading.represents) in
+      let ts : List NestedValue = nested_values 1 2 matches.value.nested in
+      let was_read = top_read mentioned r.body matches reading.represents.shaped reading.is_open in
+      let one = faults (next_nesting s t) ts (st.first_key + st.keys) (nested_next mentioned r.body matches reading.represents.shaped reading.is_open) (ms ++ all_nested_mentions s (t ∷ [])) r.tables (was_read.represents ms r.tables reading.represents) in
       let more : List Mention = all_nested_mentions (next_nesting s t) ts in
-      let whole : all_nested_mentions s (t ∷ []) ++ (more ++ []) ≡ statement_mentions r (marks.keyval said) =
+      let whole : all_nested_mentions s (t ∷ []) ++ (more ++ []) ≡ statement_mentions r (marks.keyval mentioned) =
       ap (λ w. all_nested_mentions s (t ∷ []) ++ w) (append-nil more) ∙ sym (all_nested_mentions-append s (t ∷ []) ts) ∙ keyval_nested-mentions r.body matches.name matches.value ∙ ap (map (below r.body)) (sym matches.mentions) in
       record {
         within = length (marks.marks (all_nested_mentions s (t ∷ []))) + one.within;
-        sum = omega (arith, one.sum, own_marks said r.body matches);
+        sum = omega (arith, one.sum, own_marks mentioned r.body matches);
         fault = subst (λ (w : List Mention). FaultIn ms w (length (marks.marks (all_nested_mentions s (t ∷ []))) + one.within) why) whole (fault_within ms (all_nested_mentions s (t ∷ [])) more [] one.within why one.fault);
       }
 
-  pub inside_breaks_as_matched : (g : Fault) → FaultMeets g (NestedValuesFault bytes f number (number + 1) mid (body ∷ top ∷ [])) → FaultMeets g (BreaksAsMatched bytes f st old body)
-  inside_breaks_as_matched g faults = meets_weaker g (NestedValuesFault bytes f number (number + 1) mid (body ∷ top ∷ [])) (BreaksAsMatched bytes f st old body) (λ at why fault s matches. mentions_break at why fault s matches) faults
+  pub nested_breaks_as_matched : (g : Fault) → FaultMeets g (NestedValuesFault bytes f number (number + 1) mid (body ∷ top ∷ [])) → FaultMeets g (BreaksAsMatched bytes f st old body)
+  nested_breaks_as_matched g faults = meets_weaker g (NestedValuesFault bytes f number (number + 1) mid (body ∷ top ∷ [])) (BreaksAsMatched bytes f st old body) (λ at why fault s matches. mentions_break at why fault s matches) faults
     where
       mentions_break : (at : ℕ) (why : Why) → NestedValuesFault bytes f number (number + 1) mid (body ∷ top ∷ []) at why → BreaksAsMatched bytes f st old body at why
       mentions_break at why fault (marks.header ks) matches = absurd (let no : None ≡ Some number = sym matches.1 ∙ valued in cc)
       mentions_break at why fault (marks.element_header ks) matches = absurd (let no : None ≡ Some number = sym matches.1 ∙ valued in cc)
-      mentions_break at why fault (marks.keyval said) matches = inside_breaks at why fault said matches
+      mentions_break at why fault (marks.keyval mentioned) matches = nested_breaks at why fault mentioned matches
 
 -- ---- a fault in its own keys
 
@@ -218,16 +218,16 @@ module _ (bytes : List ℕ) (f : Flat) (st : Statement) (old : List Node) (body 
   keys_break : (at : ℕ) (why : Why) → KeyedFaults (trie_of old) body keys at why → BreaksAsMatched bytes f st old body (st.first_key + at) why
   keys_break at why faults (marks.header ks) matches = absurd (let no : None ≡ Some number = sym matches.1 ∙ valued in cc)
   keys_break at why faults (marks.element_header ks) matches = absurd (let no : None ≡ Some number = sym matches.1 ∙ valued in cc)
-  keys_break at why faults (marks.keyval said) matches = λ ms r reading.
+  keys_break at why faults (marks.keyval mentioned) matches = λ ms r reading.
       let s : NestingState = body_nesting r.body in
       let fact : Fact = body_fact matches.value.body in
       let t : NestedValue = nested_keyed 0 (keys_of matches.name.key) fact in
       let one : FaultIn ms (nested_mentions s t) at why = subst (λ (x : List (List ℕ)). FaultIn ms (nested_mentions s (nested_keyed 0 x fact)) at why) (texts ∙ matches.keys.keys) (faults s 0 fact reading.is_open.here ms r.tables reading.represents) in
-      let whole : all_nested_mentions s (keyval_nested matches.name matches.value) ≡ statement_mentions r (marks.keyval said) = keyval_nested-mentions r.body matches.name matches.value ∙ ap (map (below r.body)) (sym matches.mentions) in
+      let whole : all_nested_mentions s (keyval_nested matches.name matches.value) ≡ statement_mentions r (marks.keyval mentioned) = keyval_nested-mentions r.body matches.name matches.value ∙ ap (map (below r.body)) (sym matches.mentions) in
       record {
         within = at;
         sum = refl;
-        fault = subst (λ (w : List Mention). FaultIn ms w at why) whole (fault_more ms (nested_mentions s t) (all_nested_mentions (next_nesting s t) (nested_values 1 2 matches.value.inside)) at why one);
+        fault = subst (λ (w : List Mention). FaultIn ms w at why) whole (fault_more ms (nested_mentions s t) (all_nested_mentions (next_nesting s t) (nested_values 1 2 matches.value.nested)) at why one);
       }
 
   pub keys_break_as_matched : (g h : Fault) → h ≡ fault_from g st.first_key → FaultMeets g (KeyedFaults (trie_of old) body keys) → FaultMeets h (BreaksAsMatched bytes f st old body)

@@ -135,7 +135,7 @@ pub nth_is : (nodes : List TrieNode) → IsTrie nodes → (i n : ℕ) (d : TrieN
     → option_and_then (node_number (paths_of nodes)) (slice_get (children (path_at nodes i) (paths_of nodes)) n) ≡ slice_get (children_of nodes i) n
 nth_is nodes trie i n d h =
     ap (λ ps. option_and_then (node_number (paths_of nodes)) (slice_get ps n)) (children_are nodes trie i d h)
-    ∙ numbered_each nodes (children_of nodes i) n (λ k g. let c = child_at nodes trie i k d h g in number_some nodes trie (get_or (children_of nodes i) k 0) c.inside)
+    ∙ numbered_each nodes (children_of nodes i) n (λ k g. let c = child_at nodes trie i k d h g in number_some nodes trie (get_or (children_of nodes i) k 0) c.nested)
 
 pub count_is : (nodes : List TrieNode) → IsTrie nodes → (i : ℕ) (d : TrieNode) → i < length nodes → length (children (path_at nodes i) (paths_of nodes)) ≡ length (children_of nodes i)
 count_is nodes trie i d h = ap length (children_are nodes trie i d h) ∙ length-map (children_of nodes i) (path_at nodes)

@@ -14,7 +14,7 @@ use Rattle.keep_rules.specs.RoleStates.{mention_roles, StatesRepresent, IsIndexO
 use Rattle.keep_rules.specs.Tables.{is_tables, Fits, IsShaped}
 use Rattle.keep_rules.specs.Represents.{Keeps, KeepsItems, IsMarked, WasRefused}
 use Rattle.keep_nodes.proofs.Shared.{length-paths_of, no_children_past_end, first, longer, path_below, path_last, state_below, state_last, holds_below, holds_last, children_other}
-use Rattle.keep_rules.proofs.TablesLemmas.{Joins, key_plain, shaped_grown, tables_joined, begun_joined, begun_others, state_same, kind_same, holds_same, tables_restated, shaped_restated, begun_existing, kind_kept, kind_made}
+use Rattle.keep_rules.proofs.TablesLemmas.{Joins, key_plain, shaped_grown, tables_joined, begun_joined, begun_others, state_same, kind_same, holds_same, tables_restated, shaped_restated, begun_existing, kind_preserved, kind_made}
 use Rattle.keep_rules.proofs.RoleStateLemmas.{represented_new, represented_existing, refused, obeys_push}
 
 pub represented_along : (ps qs : List (List Part)) (ss ts : List (Option Role)) (ms : List Mention) → ps ≡ qs → ss ≡ ts → StatesRepresent qs ts ms → StatesRepresent ps ss ms
@@ -62,13 +62,13 @@ marked_new old new parent k role holds id g shaped keyed fits last =
       shaped = shaped_grown g (key_joins old parent k role holds shaped g.within keyed fits) shaped;
       keeps = keeps_grown g;
       items = items_grown g keyed;
-      inside = omega (arith, longer g);
+      nested = omega (arith, longer g);
       here = ap (path_at new) last ∙ path_last g;
-      index = λ ms says is known.
+      index = λ ms mention_kind is known.
           record {
             trie = g.trie';
             states_represent = represented_along _ _ _ _ _ g.paths g.states
-                (represented_new (paths_of old) (states_of old) ms (record { path = path; says = says }) (Some role) known.states_represent g.fresh
+                (represented_new (paths_of old) (states_of old) ms (record { path = path; kind = mention_kind }) (Some role) known.states_represent g.fresh
                 (subst (λ (o : Option Role). IsState (Some role) (cons_option o [])) (sym is) (λ r. and_true (allows role r))));
           };
       kind = ap (λ i. is_tables (state_at new i)) last ∙ ap is_tables (state_last g);
@@ -166,16 +166,16 @@ marked_existing old new before k role next holds id g shaped here allowed then =
     let may : allows named.0 role ≡ true = one_allowed (state_at old id) named.0 role named.1 allowed in
     let same = one_then (state_at old id) named.0 next role named.1 then in
     let fits : Fits named.0 (holds_at old id) = shaped.fits id named.0 g.within named.1 in
-    let kept = kind_kept (state_at old id) next role (shaped.marked id before k g.within here) allowed then in
+    let preserved = kind_preserved (state_at old id) next role (shaped.marked id before k g.within here) allowed then in
     record {
       trie = g.trie';
-      shaped = shaped_restated before k here g kept (still_fits named.0 next role (holds_at old id) may same fits) shaped;
-      keeps = keeps_restated g kept;
+      shaped = shaped_restated before k here g preserved (still_fits named.0 next role (holds_at old id) may same fits) shaped;
+      keeps = keeps_restated g preserved;
       items = λ i h listed. g.children i;
-      inside = omega (arith, g.within, g.many);
+      nested = omega (arith, g.within, g.many);
       here = ap (λ ps. get_or ps id []) g.paths ∙ here;
-      index = λ ms says is known.
-          let m : Mention = record { path = path; says = says } in
+      index = λ ms mention_kind is known.
+          let m : Mention = record { path = path; kind = mention_kind } in
           let own : IsState (state_at old id) (mention_roles path ms) = state_represents old ms known id path g.within here in
           record {
             trie = g.trie';
@@ -187,9 +187,9 @@ marked_existing old new before k role next holds id g shaped here allowed then =
       kind = ap is_tables (state_same g) ∙ kind_made (state_at old id) next role allowed then;
       opened = λ t. holds_same g id ∙ fits.opened (opens named.0 role may t);
       valued = λ is. absurd (no_value named.0 (ap (allows named.0) (sym is) ∙ may));
-      tables = λ ts are. tables_restated g kept ts are;
-      begun = λ other begun. begun_existing g kept begun;
-      begun_others = λ begun i h ne t. begun_existing g kept begun i h t;
+      tables = λ ts are. tables_restated g preserved ts are;
+      begun = λ other begun. begun_existing g preserved begun;
+      begun_others = λ begun i h ne t. begun_existing g preserved begun i h t;
     }
 
 pub was_refused : (old : List TrieNode) (path : List Part) (role : Role) (id : ℕ) → id < length old → path_at old id ≡ path

@@ -4,7 +4,7 @@ use Rattle.keep_parts.specs.declared.info.Span.{Span}
 use Rattle.keep_parts.specs.declared.info.KeyPart.{KeyPart}
 use Rattle.keep_parts.specs.declared.info.ValueInfo.{ValueInfo}
 use Rattle.keep_meaning.specs.declared.node.Kind.TheVariants as kind
-use Rattle.keep_meaning.specs.declared.node.Place.TheVariants as place
+use Rattle.keep_meaning.specs.declared.node.Origin.TheVariants as origin
 use Rattle.keep_meaning.specs.Fact.{Fact}
 use Rattle.keep_path.specs.Path.{Part}
 use Rattle.keep_meaning.specs.Marks.{through, past, define, element, dotted, value, begun, passed, item}
@@ -37,30 +37,30 @@ values_new-rest paths (x ∷ xs) ys h = values_new-rest (paths_with paths x.ment
 -- ---- the facts from one mention
 
 module _ (values : List ValueInfo) (parts : List KeyPart) (n : Numbered) where
-  pub through_info : (key : Span) → n.mention.says ≡ through → key_span parts n.before.keys ≡ Some key → mention_info values parts n ≡ named_info kind.Table None key (place.Through n.before.statements)
+  pub through_info : (key : Span) → n.mention.kind ≡ through → key_span parts n.before.keys ≡ Some key → mention_info values parts n ≡ named_info kind.Table None key (origin.Through n.before.statements)
   through_info key is named = rw (is, named)
 
-  pub past_info : (key : Span) → n.mention.says ≡ past → key_span parts n.before.keys ≡ Some key → mention_info values parts n ≡ named_info kind.Table None key place.Root
+  pub past_info : (key : Span) → n.mention.kind ≡ past → key_span parts n.before.keys ≡ Some key → mention_info values parts n ≡ named_info kind.Table None key origin.Root
   past_info key is named = rw (is, named)
 
-  pub define_info : (key : Span) → n.mention.says ≡ define → key_span parts n.before.keys ≡ Some key → mention_info values parts n ≡ named_info kind.Table None key (place.Header n.before.statements)
+  pub define_info : (key : Span) → n.mention.kind ≡ define → key_span parts n.before.keys ≡ Some key → mention_info values parts n ≡ named_info kind.Table None key (origin.Header n.before.statements)
   define_info key is named = rw (is, named)
 
-  pub element_info : (key : Span) → n.mention.says ≡ element → key_span parts n.before.keys ≡ Some key → mention_info values parts n ≡ named_info kind.Tables None key place.Tables
+  pub element_info : (key : Span) → n.mention.kind ≡ element → key_span parts n.before.keys ≡ Some key → mention_info values parts n ≡ named_info kind.Tables None key origin.Tables
   element_info key is named = rw (is, named)
 
-  pub dotted_info : (key : Span) → n.mention.says ≡ dotted → key_span parts n.before.keys ≡ Some key → mention_info values parts n ≡ named_info kind.Table None key (place.Dotted n.before.values)
+  pub dotted_info : (key : Span) → n.mention.kind ≡ dotted → key_span parts n.before.keys ≡ Some key → mention_info values parts n ≡ named_info kind.Table None key (origin.Dotted n.before.values)
   dotted_info key is named = rw (is, named)
 
-  pub value_info : (f : Fact) (span key : Span) → n.mention.says ≡ value f → key_span parts n.before.keys ≡ Some key → value_span values n.before.values ≡ Some span
-      → mention_info values parts n ≡ named_info (fact_kind f) (Some span) key (place.Value n.before.values)
+  pub value_info : (f : Fact) (span key : Span) → n.mention.kind ≡ value f → key_span parts n.before.keys ≡ Some key → value_span values n.before.values ≡ Some span
+      → mention_info values parts n ≡ named_info (fact_kind f) (Some span) key (origin.Value n.before.values)
   value_info f span key is named valued = rw (is, named, valued)
 
-  pub begun_info : n.mention.says ≡ begun → mention_info values parts n ≡ unnamed_info kind.Table None (place.Element n.before.statements)
+  pub begun_info : n.mention.kind ≡ begun → mention_info values parts n ≡ unnamed_info kind.Table None (origin.Element n.before.statements)
   begun_info is = rw is
 
-  pub passed_is_info : n.mention.says ≡ passed → mention_info values parts n ≡ passed_info
+  pub passed_is_info : n.mention.kind ≡ passed → mention_info values parts n ≡ passed_info
   passed_is_info is = rw is
 
-  pub item_info : (f : Fact) (span : Span) → n.mention.says ≡ item f → value_span values n.before.values ≡ Some span → mention_info values parts n ≡ unnamed_info (fact_kind f) (Some span) (place.Value n.before.values)
+  pub item_info : (f : Fact) (span : Span) → n.mention.kind ≡ item f → value_span values n.before.values ≡ Some span → mention_info values parts n ≡ unnamed_info (fact_kind f) (Some span) (origin.Value n.before.values)
   item_info f span is valued = rw (is, valued)

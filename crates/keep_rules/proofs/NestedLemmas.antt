@@ -84,7 +84,7 @@ module _ (nodes : List TrieNode) (ms : List Mention) (tables : List (List Part))
       ∙ nth_is nodes trie i n d r.0 ∙ slice_get-get_or ids n 0 within in
       let whole : option_and_then (node_number (paths_of nodes)) (slice_get (children path (paths_of nodes)) (length (children path (paths_of nodes)) - 1)) ≡ node_number (paths_of nodes) (entered_path tables path) =
       ap (λ (k : ℕ). option_and_then (node_number (paths_of nodes)) (slice_get (children path (paths_of nodes)) (k - 1))) counted
-      ∙ found ∙ sym (number_some nodes trie last child.inside)
+      ∙ found ∙ sym (number_some nodes trie last child.nested)
       ∙ ap (node_number (paths_of nodes)) (here ∙ sym (enters tables path (length ids) many (omega (arith, some, many)))) in
       subst (λ (ps : List (List Part)). option_and_then (node_number ps) (slice_get (children path ps) (length (children path ps) - 1)) ≡ node_number ps (entered_path tables path)) paths whole
 

@@ -40,10 +40,10 @@ with_mentions-paths values parts t (n ∷ ns) =
 
 -- ---- how many values and key parts there are
 
-keyed_valued : (p : List Part) (ks : List (List ℕ)) (f : Fact) → valued (map (below p) (keyed_mentions ks (record { path = []; says = marks.value f } ∷ []))) ≡ 1
+keyed_valued : (p : List Part) (ks : List (List ℕ)) (f : Fact) → valued (map (below p) (keyed_mentions ks (record { path = []; kind = marks.value f } ∷ []))) ≡ 1
 keyed_valued p [] f = refl
 keyed_valued p (k ∷ ks) f =
-    valued-below p (keyed_mentions (k ∷ ks) (record { path = []; says = marks.value f } ∷ [])) ∙ valued-keyed k ks (record { path = []; says = marks.value f } ∷ [])
+    valued-below p (keyed_mentions (k ∷ ks) (record { path = []; kind = marks.value f } ∷ [])) ∙ valued-keyed k ks (record { path = []; kind = marks.value f } ∷ [])
 
 pub nested_valued : (s : NestingState) (t : NestedValue) → valued (nested_mentions s t) ≡ 1
 nested_valued s (nested_item o f) = refl
@@ -57,7 +57,7 @@ pub nested_marks : (s : NestingState) (t : NestedValue) → HasKeys t → length
 nested_marks s (nested_item o f) has = refl
 nested_marks s (nested_keyed o [] f) has = absurd (omega (arith, has))
 nested_marks s (nested_keyed o (k ∷ ks) f) has =
-    marked-below (path_of_value s o) (keyed_mentions (k ∷ ks) (record { path = []; says = marks.value f } ∷ [])) ∙ marked-keyed k ks (record { path = []; says = marks.value f } ∷ []) ∙ omega arith
+    marked-below (path_of_value s o) (keyed_mentions (k ∷ ks) (record { path = []; kind = marks.value f } ∷ [])) ∙ marked-keyed k ks (record { path = []; kind = marks.value f } ∷ []) ∙ omega arith
 
 -- ---- one part after another
 
@@ -65,7 +65,7 @@ pub nested_read_none : (values : List ValueInfo) (parts : List KeyPart) (a : Nod
 nested_read_none values parts a from first s shaped keeps are = record {
   keeps = keeps;
   shaped = shaped;
-  inside = are;
+  nested = are;
   represents = λ ms tables w. subst (λ (l : List Mention). Represents a.trie l tables) (sym (append-nil ms)) w;
   facts = λ c v k. refl;
   fresh = λ c v k. tt;
@@ -82,7 +82,7 @@ pub nested_read_then : (values : List ValueInfo) (parts : List KeyPart) (a b c :
 nested_read_then values parts a b c from first s xs ys one two = record {
   keeps = keeps_then one.keeps two.keeps;
   shaped = two.shaped;
-  inside = subst (AreValueNodes c.trie c.ids) (sym (nesting_after-append s xs ys)) two.inside;
+  nested = subst (AreValueNodes c.trie c.ids) (sym (nesting_after-append s xs ys)) two.nested;
   represents = λ ms tables w.
       subst (λ (l : List Mention). Represents c.trie l tables) (append_assoc ms (all_nested_mentions s xs) (all_nested_mentions (nesting_after s xs) ys) ∙ ap (λ l. ms ++ l) (sym (all_nested_mentions-append s xs ys)))
       (two.represents (ms ++ all_nested_mentions s xs) tables (one.represents ms tables w));
@@ -110,7 +110,7 @@ pub nested_read_item : (values : List ValueInfo) (parts : List KeyPart) (a : Nod
 nested_read_item values parts a new node_infos to from first s o f are low listed added facts fresh = record {
   keeps = added.keeps;
   shaped = added.shaped;
-  inside = item_taken a.trie new a.ids to s o f are low listed added;
+  nested = item_taken a.trie new a.ids to s o f are low listed added;
   represents = λ ms tables w.
       subst (λ (l : List Mention). Represents new (ms ++ l) tables) (sym (append-nil (nested_mentions s (nested_item o f)))) (item_represents a.trie new a.ids to s o f are low listed added ms tables w);
   facts = λ c v k. facts c v k ∙ ap (λ l. with_mentions values parts a.node_infos (numbered_mentions c l)) (sym (append-nil (nested_mentions s (nested_item o f))));
@@ -128,7 +128,7 @@ nested_read_keyed values parts a new node_infos to from first s o leading last f
     record {
       keeps = given.keeps;
       shaped = given.shaped;
-      inside = keyed_taken a.trie new a.ids to s o leading last f are low keyed given;
+      nested = keyed_taken a.trie new a.ids to s o leading last f are low keyed given;
       represents = λ ms tables w. subst (λ (l : List Mention). Represents new (ms ++ l) tables) (sym (append-nil (nested_mentions s t))) (keyed_represents a.trie new a.ids to s o leading last f are low given ms tables w);
       facts = λ c v k. facts c v k ∙ ap (λ l. with_mentions values parts a.node_infos (numbered_mentions c l)) (sym (append-nil (nested_mentions s t)));
       fresh = λ c v k. subst (λ (l : List Mention). ValuesAreNew a.node_infos.paths (numbered_mentions c l)) (sym (append-nil (nested_mentions s t))) (fresh c v k);

@@ -7,7 +7,7 @@ use Rattle.keep_meaning.specs.Fact.{Fact}
 use Rattle.keep_path.specs.Path.{Part, key, index}
 use Rattle.keep_meaning.specs.Marks as marks
 use Rattle.keep_meaning.specs.Marks.{Mention, below}
-use Rattle.keep_meaning.specs.Meaning.{key_value, further_value, keys_of, body_fact, keyed_mentions, entry_mentions, entries_said, keyval_said}
+use Rattle.keep_meaning.specs.Meaning.{key_value, further_value, keys_of, body_fact, keyed_mentions, entry_mentions, entries_mentions, keyval_mentions}
 use Rattle.keep_nodes.specs.Trie.{Holding, nothing, by_key}
 use Rattle.keep_rules.specs.NestedValues.{NestedValue, nested_keyed, holding_of, entry_nested, nested_values, NestingState, path_of_value, entries_of_value, holding_of_value, nested_mentions, nested_path, nested_owner, nested_fact, next_nesting, all_nested_mentions, nesting_after, body_nesting, value_nesting, keyval_nested}
 use Rattle.keep_rules.proofs.KeyWalkLemmas.{below-below}
@@ -94,78 +94,78 @@ fact_is o (Some name) f = refl
 
 pub nested_stay : (s : NestingState) (owner v : ℕ) (es : Entries) → HasValues s v → owner < v → Stays s (nesting_after s (nested_values owner v es)) owner v (value_count es)
 nested_stay s owner v none has low = stays_none s owner v has
-nested_stay s owner v (entry name body inside after comma rest) has low =
+nested_stay s owner v (entry name body nested after comma rest) has low =
     let t : NestedValue = entry_nested owner name (body_fact body) in
     let a : NestingState = next_nesting s t in
-    let b : NestingState = nesting_after a (nested_values v (suc v) inside) in
+    let b : NestingState = nesting_after a (nested_values v (suc v) nested) in
     let first : Stays s a owner v 1 = subst (λ (o : ℕ). Stays s a o v 1) (owner_is owner name (body_fact body)) (next_stays s t v has) in
-    let second = nested_stay a v (suc v) inside (next_values s t v has) (omega arith) in
-    let third = nested_stay b owner (suc v + value_count inside) rest second.has (omega arith) in
-    subst (λ (c : NestingState). Stays s c owner v (suc (value_count inside + value_count rest))) (sym (nesting_after-append a (nested_values v (suc v) inside) (nested_values owner (suc v + value_count inside) rest)))
-    (stays_through s a b _ owner v (value_count inside) (value_count rest) low first second third)
+    let second = nested_stay a v (suc v) nested (next_values s t v has) (omega arith) in
+    let third = nested_stay b owner (suc v + value_count nested) rest second.has (omega arith) in
+    subst (λ (c : NestingState). Stays s c owner v (suc (value_count nested + value_count rest))) (sym (nesting_after-append a (nested_values v (suc v) nested) (nested_values owner (suc v + value_count nested) rest)))
+    (stays_through s a b _ owner v (value_count nested) (value_count rest) low first second third)
 
 -- the mentions of a value with a key: of the key's parts but the last, of the value, and then of what is in it
-keyed_inside : (k : List ℕ) (ks : List (List ℕ)) (f : Fact) (inside : List Mention)
-    → keyed_mentions (k ∷ ks) (record { path = []; says = marks.value f } ∷ inside) ≡ keyed_mentions (k ∷ ks) (record { path = []; says = marks.value f } ∷ []) ++ map (below (map key (k ∷ ks))) inside
-keyed_inside k [] f inside = refl
-keyed_inside k (l ∷ ks) f inside =
-    ap (λ w. record { path = key k ∷ []; says = marks.dotted } ∷ map (below (key k ∷ [])) w) (keyed_inside l ks f inside)
-    ∙ ap (λ w. record { path = key k ∷ []; says = marks.dotted } ∷ w) (map-append (below (key k ∷ [])) (keyed_mentions (l ∷ ks) (record { path = []; says = marks.value f } ∷ [])) (map (below (map key (l ∷ ks))) inside)
-    ∙ ap (λ w. map (below (key k ∷ [])) (keyed_mentions (l ∷ ks) (record { path = []; says = marks.value f } ∷ [])) ++ w) (below-below (key k ∷ []) (map key (l ∷ ks)) inside))
+keyed_nested : (k : List ℕ) (ks : List (List ℕ)) (f : Fact) (nested : List Mention)
+    → keyed_mentions (k ∷ ks) (record { path = []; kind = marks.value f } ∷ nested) ≡ keyed_mentions (k ∷ ks) (record { path = []; kind = marks.value f } ∷ []) ++ map (below (map key (k ∷ ks))) nested
+keyed_nested k [] f nested = refl
+keyed_nested k (l ∷ ks) f nested =
+    ap (λ w. record { path = key k ∷ []; kind = marks.dotted } ∷ map (below (key k ∷ [])) w) (keyed_nested l ks f nested)
+    ∙ ap (λ w. record { path = key k ∷ []; kind = marks.dotted } ∷ w) (map-append (below (key k ∷ [])) (keyed_mentions (l ∷ ks) (record { path = []; kind = marks.value f } ∷ [])) (map (below (map key (l ∷ ks))) nested)
+    ∙ ap (λ w. map (below (key k ∷ [])) (keyed_mentions (l ∷ ks) (record { path = []; kind = marks.value f } ∷ [])) ++ w) (below-below (key k ∷ []) (map key (l ∷ ks)) nested))
 
-entry_split : (s : NestingState) (owner : ℕ) (name : Option Name) (f : Fact) (inside : List Mention)
-    → map (below (path_of_value s owner)) (entry_mentions (entries_of_value s owner) name f inside)
-    ≡ nested_mentions s (entry_nested owner name f) ++ map (below (nested_path s (entry_nested owner name f))) inside
-entry_split s owner None f inside = ap (λ w. record { path = path_of_value s owner ++ index (entries_of_value s owner) ∷ []; says = marks.item f } ∷ w) (below-below (path_of_value s owner) (index (entries_of_value s owner) ∷ []) inside)
-entry_split s owner (Some name) f inside =
+entry_split : (s : NestingState) (owner : ℕ) (name : Option Name) (f : Fact) (nested : List Mention)
+    → map (below (path_of_value s owner)) (entry_mentions (entries_of_value s owner) name f nested)
+    ≡ nested_mentions s (entry_nested owner name f) ++ map (below (nested_path s (entry_nested owner name f))) nested
+entry_split s owner None f nested = ap (λ w. record { path = path_of_value s owner ++ index (entries_of_value s owner) ∷ []; kind = marks.item f } ∷ w) (below-below (path_of_value s owner) (index (entries_of_value s owner) ∷ []) nested)
+entry_split s owner (Some name) f nested =
     let ks : List (List ℕ) = keys_of name.key in
-    let own : List Mention = record { path = []; says = marks.value f } ∷ [] in
-    ap (map (below (path_of_value s owner))) (keyed_inside (key_value name.key.first) (map further_value name.key.more) f inside)
-    ∙ map-append (below (path_of_value s owner)) (keyed_mentions ks own) (map (below (map key ks)) inside)
-    ∙ ap (λ w. map (below (path_of_value s owner)) (keyed_mentions ks own) ++ w) (below-below (path_of_value s owner) (map key ks) inside)
+    let own : List Mention = record { path = []; kind = marks.value f } ∷ [] in
+    ap (map (below (path_of_value s owner))) (keyed_nested (key_value name.key.first) (map further_value name.key.more) f nested)
+    ∙ map-append (below (path_of_value s owner)) (keyed_mentions ks own) (map (below (map key ks)) nested)
+    ∙ ap (λ w. map (below (path_of_value s owner)) (keyed_mentions ks own) ++ w) (below-below (path_of_value s owner) (map key ks) nested)
 
 -- the mentions of entries, seen from the path of their value
-pub nested_mentions_are : (s : NestingState) (owner v : ℕ) (es : Entries) → HasValues s v → owner < v → all_nested_mentions s (nested_values owner v es) ≡ map (below (path_of_value s owner)) (entries_said (entries_of_value s owner) es)
+pub nested_mentions_are : (s : NestingState) (owner v : ℕ) (es : Entries) → HasValues s v → owner < v → all_nested_mentions s (nested_values owner v es) ≡ map (below (path_of_value s owner)) (entries_mentions (entries_of_value s owner) es)
 nested_mentions_are s owner v none has low = refl
-nested_mentions_are s owner v (entry name body inside after comma rest) has low =
+nested_mentions_are s owner v (entry name body nested after comma rest) has low =
     let f : Fact = body_fact body in
     let t : NestedValue = entry_nested owner name f in
     let a : NestingState = next_nesting s t in
-    let ins : List NestedValue = nested_values v (suc v) inside in
+    let ins : List NestedValue = nested_values v (suc v) nested in
     let b : NestingState = nesting_after a ins in
-    let more : List NestedValue = nested_values owner (suc v + value_count inside) rest in
+    let more : List NestedValue = nested_values owner (suc v + value_count nested) rest in
     let p : List Part = path_of_value s owner in
     let n : ℕ = entries_of_value s owner in
     let first : Stays s a owner v 1 = subst (λ (o : ℕ). Stays s a o v 1) (owner_is owner name f) (next_stays s t v has) in
     let has' = next_values s t v has in
-    let second = nested_stay a v (suc v) inside has' (omega arith) in
+    let second = nested_stay a v (suc v) nested has' (omega arith) in
     let at_v : path_of_value a v ≡ nested_path s t = new_path s t v has in
-    let inner : all_nested_mentions a ins ≡ map (below (nested_path s t)) (entries_said 0 inside) =
-    nested_mentions_are a v (suc v) inside has' (omega arith) ∙ ap (λ q. map (below q) (entries_said (entries_of_value a v) inside)) at_v ∙ ap (λ k. map (below (nested_path s t)) (entries_said k inside)) (new_entries s t v has) in
+    let inner : all_nested_mentions a ins ≡ map (below (nested_path s t)) (entries_mentions 0 nested) =
+    nested_mentions_are a v (suc v) nested has' (omega arith) ∙ ap (λ q. map (below q) (entries_mentions (entries_of_value a v) nested)) at_v ∙ ap (λ k. map (below (nested_path s t)) (entries_mentions k nested)) (new_entries s t v has) in
     let count : entries_of_value b owner ≡ n + 1 = second.entries owner (omega arith) (λ e. absurd (omega (arith, e, low))) ∙
     subst (λ (o : ℕ). entries_of_value a o ≡ entries_of_value s o + 1) (owner_is owner name f) (owner_entries s t v has (omega (arith, owner_is owner name f))) in
     let place : path_of_value b owner ≡ p = second.paths owner (omega arith) ∙ first.paths owner low in
-    let outer : all_nested_mentions b more ≡ map (below p) (entries_said (n + 1) rest) =
-    nested_mentions_are b owner (suc v + value_count inside) rest second.has (omega arith) ∙ ap (λ q. map (below q) (entries_said (entries_of_value b owner) rest)) place ∙ ap (λ k. map (below p) (entries_said k rest)) count in
-    ap (λ w. nested_mentions s t ++ w) (all_nested_mentions-append a ins more ∙ ap (λ w. w ++ all_nested_mentions b more) inner ∙ ap (λ w. map (below (nested_path s t)) (entries_said 0 inside) ++ w) outer)
-    ∙ sym (append_assoc (nested_mentions s t) (map (below (nested_path s t)) (entries_said 0 inside)) (map (below p) (entries_said (n + 1) rest)))
-    ∙ ap (λ w. w ++ map (below p) (entries_said (n + 1) rest)) (sym (entry_split s owner name f (entries_said 0 inside)))
-    ∙ sym (map-append (below p) (entry_mentions n name f (entries_said 0 inside)) (entries_said (n + 1) rest))
+    let outer : all_nested_mentions b more ≡ map (below p) (entries_mentions (n + 1) rest) =
+    nested_mentions_are b owner (suc v + value_count nested) rest second.has (omega arith) ∙ ap (λ q. map (below q) (entries_mentions (entries_of_value b owner) rest)) place ∙ ap (λ k. map (below p) (entries_mentions k rest)) count in
+    ap (λ w. nested_mentions s t ++ w) (all_nested_mentions-append a ins more ∙ ap (λ w. w ++ all_nested_mentions b more) inner ∙ ap (λ w. map (below (nested_path s t)) (entries_mentions 0 nested) ++ w) outer)
+    ∙ sym (append_assoc (nested_mentions s t) (map (below (nested_path s t)) (entries_mentions 0 nested)) (map (below p) (entries_mentions (n + 1) rest)))
+    ∙ ap (λ w. w ++ map (below p) (entries_mentions (n + 1) rest)) (sym (entry_split s owner name f (entries_mentions 0 nested)))
+    ∙ sym (map-append (below p) (entry_mentions n name f (entries_mentions 0 nested)) (entries_mentions (n + 1) rest))
 
 one_value : (path : List Part) (h : Holding) → HasValues (record { paths = path ∷ []; holdings = h ∷ []; entries = 0 ∷ [] }) 1
 one_value path h = record { paths = refl; holdings = refl; entries = refl }
 
 -- a keyval in a body
-pub keyval_nested-mentions : (body : List Part) (name : Name) (v : Value) → all_nested_mentions (body_nesting body) (keyval_nested name v) ≡ map (below body) (keyval_said name v)
+pub keyval_nested-mentions : (body : List Part) (name : Name) (v : Value) → all_nested_mentions (body_nesting body) (keyval_nested name v) ≡ map (below body) (keyval_mentions name v)
 keyval_nested-mentions body name v =
-    ap (λ w. all_nested_mentions (body_nesting body) (nested_keyed 0 (keys_of name.key) (body_fact v.body) ∷ w)) (sym (append-nil (nested_values 1 2 v.inside)))
-    ∙ nested_mentions_are (body_nesting body) 0 1 (entry (Some name) v.body v.inside [] None none) (one_value body by_key) (omega arith)
-    ∙ ap (map (below body)) (append-nil (keyval_said name v))
+    ap (λ w. all_nested_mentions (body_nesting body) (nested_keyed 0 (keys_of name.key) (body_fact v.body) ∷ w)) (sym (append-nil (nested_values 1 2 v.nested)))
+    ∙ nested_mentions_are (body_nesting body) 0 1 (entry (Some name) v.body v.nested [] None none) (one_value body by_key) (omega arith)
+    ∙ ap (map (below body)) (append-nil (keyval_mentions name v))
 
 below-none : (ms : List Mention) → map (below []) ms ≡ ms
 below-none [] = refl
 below-none (m ∷ ms) = ap (λ w. m ∷ w) (below-none ms)
 
 -- the values in a value alone
-pub value_nested-mentions : (v : Value) → all_nested_mentions (value_nesting (body_fact v.body)) (nested_values 0 1 v.inside) ≡ entries_said 0 v.inside
-value_nested-mentions v = nested_mentions_are (value_nesting (body_fact v.body)) 0 1 v.inside (one_value [] (holding_of (body_fact v.body))) (omega arith) ∙ below-none (entries_said 0 v.inside)
+pub value_nested-mentions : (v : Value) → all_nested_mentions (value_nesting (body_fact v.body)) (nested_values 0 1 v.nested) ≡ entries_mentions 0 v.nested
+value_nested-mentions v = nested_mentions_are (value_nesting (body_fact v.body)) 0 1 v.nested (one_value [] (holding_of (body_fact v.body))) (omega arith) ∙ below-none (entries_mentions 0 v.nested)

@@ -40,10 +40,10 @@ nested_taken old new ids to s t are keeps low others own made =
         | inl below ↦
             let was = are.each j below in
             let now : IsValueNode new (get_or ids j 0) (next_nesting s t) j = record {
-              inside = omega (arith, was.inside, keeps.longer);
-              here = keeps.paths (get_or ids j 0) was.inside ∙ was.here ∙ sym (stays.paths j below);
-              held = keeps.holdings (get_or ids j 0) was.inside ∙ was.held ∙ sym (stays.holdings j below);
-              plain = keeps.kinds (get_or ids j 0) was.inside ∙ was.plain;
+              nested = omega (arith, was.nested, keeps.longer);
+              here = keeps.paths (get_or ids j 0) was.nested ∙ was.here ∙ sym (stays.paths j below);
+              held = keeps.holdings (get_or ids j 0) was.nested ∙ was.held ∙ sym (stays.holdings j below);
+              plain = keeps.kinds (get_or ids j 0) was.nested ∙ was.plain;
               listed = λ l.
                   let l' : holding_of_value s j ≡ by_index = sym (stays.holdings j below) ∙ l in
                   elim (cases_eq j (nested_owner t)) [
@@ -58,7 +58,7 @@ nested_taken old new ids to s t are keeps low others own made =
         | inr above ↦
             let last : v ≡ j = omega (arith, more) in
             let now : IsValueNode new to (next_nesting s t) v = record {
-              inside = made.inside;
+              nested = made.nested;
               here = made.here ∙ sym (new_path s t v has);
               held = made.held ∙ sym (new_holding s t v has);
               plain = made.plain;
@@ -71,12 +71,12 @@ nested_taken old new ids to s t are keeps low others own made =
           | inl low_j ↦ are.distinct i j low_i low_j (sym (at_old i low_i) ∙ same ∙ at_old j low_j)
           | inr top_j ↦
               let clash : get_or ids i 0 ≡ to = sym (at_old i low_i) ∙ same ∙ at_new j (omega (arith, more)) in
-              absurd (omega (arith, clash, (are.each i low_i).inside, made.later))
+              absurd (omega (arith, clash, (are.each i low_i).nested, made.later))
         ]
         | inr top_i ↦ elim (cases_lt j v) [
           | inl low_j ↦
               let clash : get_or ids j 0 ≡ to = sym (at_old j low_j) ∙ sym same ∙ at_new i (omega (arith, more)) in
-              absurd (omega (arith, clash, (are.each j low_j).inside, made.later))
+              absurd (omega (arith, clash, (are.each j low_j).nested, made.later))
           | inr top_j ↦ omega (arith, more)
         ]
       ];
@@ -88,7 +88,7 @@ pub item_taken : (old new : List TrieNode) (ids : List ℕ) (to : ℕ) (s : Nest
 item_taken old new ids to s o f are low listed added =
     let own = are.each o low in
     nested_taken old new ids to s (nested_item o f) are added.keeps low
-    (λ j h ne l. added.items (get_or ids j 0) (are.each j h).inside (λ e. ne (are.distinct j o h low e)))
+    (λ j h ne l. added.items (get_or ids j 0) (are.each j h).nested (λ e. ne (are.distinct j o h low e)))
     (λ l. ap length added.own ∙ length-append (children_of old (get_or ids o 0)) (length old ∷ []))
     (subst (λ (p : List Part). IsMade old new to p (holding_of f)) (ap (λ p. p ++ index (length (children_of old (get_or ids o 0))) ∷ []) own.here ∙ ap (λ n. path_of_value s o ++ index n ∷ []) (own.listed listed)) added.made)
 
@@ -96,7 +96,7 @@ pub item_represents : (old new : List TrieNode) (ids : List ℕ) (to : ℕ) (s :
     → AddsItem old new (get_or ids o 0) to (holding_of f) → (ms : List Mention) (ts : List (List Part)) → Represents old ms ts → Represents new (ms ++ nested_mentions s (nested_item o f)) ts
 item_represents old new ids to s o f are low listed added ms ts represents =
     let own = are.each o low in
-    subst (λ (p : List Part). Represents new (ms ++ record { path = p; says = marks.item f } ∷ []) ts) (ap (λ p. p ++ index (length (children_of old (get_or ids o 0))) ∷ []) own.here ∙ ap (λ n. path_of_value s o ++ index n ∷ []) (own.listed listed))
+    subst (λ (p : List Part). Represents new (ms ++ record { path = p; kind = marks.item f } ∷ []) ts) (ap (λ p. p ++ index (length (children_of old (get_or ids o 0))) ∷ []) own.here ∙ ap (λ n. path_of_value s o ++ index n ∷ []) (own.listed listed))
     (added.represents f ms ts represents)
 
 -- a value with a key
@@ -111,16 +111,16 @@ pub keyed_taken : (old new : List TrieNode) (ids : List ℕ) (to : ℕ) (s : Nes
 keyed_taken old new ids to s o leading last f are low keyed given =
     let own = are.each o low in
     nested_taken old new ids to s (nested_keyed o (leading ++ last ∷ []) f) are given.keeps low
-    (λ j h ne l. given.items (get_or ids j 0) (are.each j h).inside l)
+    (λ j h ne l. given.items (get_or ids j 0) (are.each j h).nested l)
     (λ l. absurd (distinct_kinds (sym keyed ∙ sym own.held ∙ l)))
     (subst (λ (p : List Part). IsMade old new to p (holding_of f)) (keys_path (path_at old (get_or ids o 0)) leading last ∙ ap (λ p. p ++ map key (leading ++ last ∷ [])) own.here) given.made)
 
 -- the mentions of a value with a key
 pub keyed_mentions_are : (p : List Part) (leading : List (List ℕ)) (last : List ℕ) (f : Fact)
-    → map (below p) (keyed_mentions (leading ++ last ∷ []) (record { path = []; says = marks.value f } ∷ [])) ≡ dotted_mentions p leading ++ record { path = (p ++ map key leading) ++ key last ∷ []; says = marks.value f } ∷ []
+    → map (below p) (keyed_mentions (leading ++ last ∷ []) (record { path = []; kind = marks.value f } ∷ [])) ≡ dotted_mentions p leading ++ record { path = (p ++ map key leading) ++ key last ∷ []; kind = marks.value f } ∷ []
 keyed_mentions_are p leading last f =
-    keyed-split p leading last (record { path = []; says = marks.value f } ∷ [])
-    ∙ ap (λ q. dotted_mentions p leading ++ record { path = q; says = marks.value f } ∷ []) (whole (p ++ map key (leading ++ last ∷ [])) ∙ sym (keys_path p leading last))
+    keyed-split p leading last (record { path = []; kind = marks.value f } ∷ [])
+    ∙ ap (λ q. dotted_mentions p leading ++ record { path = q; kind = marks.value f } ∷ []) (whole (p ++ map key (leading ++ last ∷ [])) ∙ sym (keys_path p leading last))
   where
     whole : (q : List Part) → q ++ [] ≡ q
     whole [] = refl
@@ -130,5 +130,5 @@ pub keyed_represents : (old new : List TrieNode) (ids : List ℕ) (to : ℕ) (s 
     → Gives old new (get_or ids o 0) to leading last (holding_of f) → (ms : List Mention) (ts : List (List Part)) → Represents old ms ts → Represents new (ms ++ nested_mentions s (nested_keyed o (leading ++ last ∷ []) f)) ts
 keyed_represents old new ids to s o leading last f are low given ms ts represents =
     let own = are.each o low in
-    subst (λ (w : List Mention). Represents new (ms ++ w) ts) (ap (λ p. dotted_mentions p leading ++ record { path = (p ++ map key leading) ++ key last ∷ []; says = marks.value f } ∷ []) own.here ∙ sym (keyed_mentions_are (path_of_value s o) leading last f))
+    subst (λ (w : List Mention). Represents new (ms ++ w) ts) (ap (λ p. dotted_mentions p leading ++ record { path = (p ++ map key leading) ++ key last ∷ []; kind = marks.value f } ∷ []) own.here ∙ sym (keyed_mentions_are (path_of_value s o) leading last f))
     (given.represents f ms ts represents)

@@ -14,15 +14,15 @@ use Rattle.keep_parts.specs.declared.info.KeyPart.{KeyPart}
 use Rattle.keep_parts.specs.declared.info.ValueInfo.{ValueInfo}
 use Rattle.keep_meaning.specs.declared.node.Kind.{Kind}
 use Rattle.keep_meaning.specs.declared.node.Kind.TheVariants as kind
-use Rattle.keep_meaning.specs.declared.node.Place.{Place}
-use Rattle.keep_meaning.specs.declared.node.Place.TheVariants as place
+use Rattle.keep_meaning.specs.declared.node.Origin.{Origin}
+use Rattle.keep_meaning.specs.declared.node.Origin.TheVariants as origin
 use Rattle.keep_meaning.specs.declared.node.NodeInfo.{NodeInfo}
 use Rattle.keep_meaning.specs.Fact.{Fact, table}
 use Rattle.keep_path.specs.Path.{Part}
-use Rattle.keep_meaning.specs.Marks.{Saying, through, past, define, element, dotted, value, begun, passed, item, fact_of}
+use Rattle.keep_meaning.specs.Marks.{MentionKind, through, past, define, element, dotted, value, begun, passed, item, fact_of}
 use Rattle.keep_meaning.specs.Counts.{Count, Numbered, is_value, is_mark}
-use Rattle.keep_meaning.specs.Nodes.{first_of, is_through, is_define, is_element, is_dotted, is_begun, is_passed, kind_or_table, kind_said, saying_of, last_number, first_number, statement_number, value_number, key_number, first_that_fits, place_said, node_said, key_span, value_span, node_info}
-use Rattle.keep_nodes.specs.Facts.{rank, later_kind, later_place, later_value, joined_info, mention_info}
+use Rattle.keep_meaning.specs.Nodes.{first_of, is_through, is_define, is_element, is_dotted, is_begun, is_passed, kind_or_table, mentioned_kind, mention_kind_of, last_number, first_number, statement_number, value_number, key_number, first_that_fits, mentioned_origin, mentioned_node, key_span, value_span, node_info}
+use Rattle.keep_nodes.specs.Facts.{rank, later_kind, later_origin, later_value, joined_info, mention_info}
 use Rattle.keep_meaning.proofs.Shared.{marks-more, last_number-more, or_number, first_number-more, passed-more}
 
 -- ---- the kind
@@ -43,8 +43,8 @@ tables_joined : (b : Bool) (facts : List Fact) → kind_of (b || true) (facts ++
 tables_joined true facts = refl
 tables_joined false facts = refl
 
-kind_more : (b : Bool) (facts : List Fact) (s : Saying) → is_value s ≡ false
-    → kind_of (b || list_any is_element (s ∷ [])) (facts ++ filter_map fact_of (s ∷ [])) ≡ later_kind (kind_of b facts) (kind_said (s ∷ []))
+kind_more : (b : Bool) (facts : List Fact) (s : MentionKind) → is_value s ≡ false
+    → kind_of (b || list_any is_element (s ∷ [])) (facts ++ filter_map fact_of (s ∷ [])) ≡ later_kind (kind_of b facts) (mentioned_kind (s ∷ []))
 kind_more b facts through h = no_fact b facts
 kind_more b facts past h = no_fact b facts
 kind_more b facts define h = table_joined b facts
@@ -55,11 +55,11 @@ kind_more b facts passed h = no_fact b facts
 kind_more b facts (value f) h = cc
 kind_more b facts (item f) h = cc
 
-kind_said-more : (says : List Saying) (s : Saying) → is_value s ≡ false → kind_said (says ++ s ∷ []) ≡ later_kind (kind_said says) (kind_said (s ∷ []))
-kind_said-more says s h =
-    ap (λ b. kind_of b (filter_map fact_of (says ++ s ∷ []))) (list_any-append is_element says (s ∷ []))
-    ∙ ap (kind_of (list_any is_element says || list_any is_element (s ∷ []))) (filter_map-append fact_of says (s ∷ []))
-    ∙ kind_more (list_any is_element says) (filter_map fact_of says) s h
+mentioned_kind-more : (mention_kind : List MentionKind) (s : MentionKind) → is_value s ≡ false → mentioned_kind (mention_kind ++ s ∷ []) ≡ later_kind (mentioned_kind mention_kind) (mentioned_kind (s ∷ []))
+mentioned_kind-more mention_kind s h =
+    ap (λ b. kind_of b (filter_map fact_of (mention_kind ++ s ∷ []))) (list_any-append is_element mention_kind (s ∷ []))
+    ∙ ap (kind_of (list_any is_element mention_kind || list_any is_element (s ∷ []))) (filter_map-append fact_of mention_kind (s ∷ []))
+    ∙ kind_more (list_any is_element mention_kind) (filter_map fact_of mention_kind) s h
 
 -- ---- the first key part that names it
 
@@ -73,13 +73,13 @@ some_marks k = grind (arith, nat_tests)
 no_more : (k : ℕ) → 0 + k ≡ k
 no_more k = omega arith
 
-unmarked : (ns : List Numbered) → (count_by (λ n. is_mark n.mention.says) ns == 0) ≡ is_missing (first_number is_mark key_number ns)
+unmarked : (ns : List Numbered) → (count_by (λ n. is_mark n.mention.kind) ns == 0) ≡ is_missing (first_number is_mark key_number ns)
 unmarked [] = refl
 unmarked (n ∷ ns) =
-    ap (λ k. k == 0) (sum_by-cons (λ (m : Numbered). cond (is_mark m.mention.says) 1 0) n ns)
-    ∙ elim (is_mark n.mention.says) as (λ b. (cond b 1 0 + count_by (λ n. is_mark n.mention.says) ns == 0) ≡ is_missing (cond b (Some (key_number n.before)) (first_number is_mark key_number ns))) [
-      | true ↦ some_marks (count_by (λ n. is_mark n.mention.says) ns)
-      | false ↦ ap (λ k. k == 0) (no_more (count_by (λ n. is_mark n.mention.says) ns)) ∙ unmarked ns
+    ap (λ k. k == 0) (sum_by-cons (λ (m : Numbered). cond (is_mark m.mention.kind) 1 0) n ns)
+    ∙ elim (is_mark n.mention.kind) as (λ b. (cond b 1 0 + count_by (λ n. is_mark n.mention.kind) ns == 0) ≡ is_missing (cond b (Some (key_number n.before)) (first_number is_mark key_number ns))) [
+      | true ↦ some_marks (count_by (λ n. is_mark n.mention.kind) ns)
+      | false ↦ ap (λ k. k == 0) (no_more (count_by (λ n. is_mark n.mention.kind) ns)) ∙ unmarked ns
     ]
 
 first_span : (parts : List KeyPart) (a b : Option ℕ) (t : Bool) → t ≡ is_missing a → option_and_then (key_span parts) (or_number a b) ≡ cond t (option_and_then (key_span parts) b) (option_and_then (key_span parts) a)
@@ -88,17 +88,17 @@ first_span parts (Some k) b t is = rw is
 
 -- ---- the place
 
-abbrev placed : Option ℕ → Option ℕ → Option ℕ → Option ℕ → Option ℕ → Option ℕ → Place
+abbrev placed : Option ℕ → Option ℕ → Option ℕ → Option ℕ → Option ℕ → Option ℕ → Origin
 placed a b c d e f = first_that_fits (
-    option_map place.Value a
-    ∷ option_map (λ i. place.Tables) b
-    ∷ option_map place.Element c
-    ∷ option_map place.Header d
-    ∷ option_map place.Dotted e
-    ∷ option_map place.Through f
+    option_map origin.Value a
+    ∷ option_map (λ i. origin.Tables) b
+    ∷ option_map origin.Element c
+    ∷ option_map origin.Header d
+    ∷ option_map origin.Dotted e
+    ∷ option_map origin.Through f
     ∷ [])
 
-later_element : (a b c d e f : Option ℕ) (i : ℕ) → placed a (Some i) c d e f ≡ later_place (placed a b c d e f) place.Tables
+later_element : (a b c d e f : Option ℕ) (i : ℕ) → placed a (Some i) c d e f ≡ later_origin (placed a b c d e f) origin.Tables
 later_element (Some j) b c d e f i = refl
 later_element None (Some j) c d e f i = refl
 later_element None None (Some j) d e f i = refl
@@ -107,7 +107,7 @@ later_element None None None None (Some j) f i = refl
 later_element None None None None None (Some j) i = refl
 later_element None None None None None None i = refl
 
-later_begun : (a b c d e f : Option ℕ) (i : ℕ) → placed a b (Some i) d e f ≡ later_place (placed a b c d e f) (place.Element i)
+later_begun : (a b c d e f : Option ℕ) (i : ℕ) → placed a b (Some i) d e f ≡ later_origin (placed a b c d e f) (origin.Element i)
 later_begun (Some j) b c d e f i = refl
 later_begun None (Some j) c d e f i = refl
 later_begun None None (Some j) d e f i = refl
@@ -116,7 +116,7 @@ later_begun None None None None (Some j) f i = refl
 later_begun None None None None None (Some j) i = refl
 later_begun None None None None None None i = refl
 
-later_define : (a b c d e f : Option ℕ) (i : ℕ) → placed a b c (Some i) e f ≡ later_place (placed a b c d e f) (place.Header i)
+later_define : (a b c d e f : Option ℕ) (i : ℕ) → placed a b c (Some i) e f ≡ later_origin (placed a b c d e f) (origin.Header i)
 later_define (Some j) b c d e f i = refl
 later_define None (Some j) c d e f i = refl
 later_define None None (Some j) d e f i = refl
@@ -125,7 +125,7 @@ later_define None None None None (Some j) f i = refl
 later_define None None None None None (Some j) i = refl
 later_define None None None None None None i = refl
 
-later_dotted : (a b c d e f : Option ℕ) (i : ℕ) → placed a b c d (Some i) f ≡ later_place (placed a b c d e f) (place.Dotted i)
+later_dotted : (a b c d e f : Option ℕ) (i : ℕ) → placed a b c d (Some i) f ≡ later_origin (placed a b c d e f) (origin.Dotted i)
 later_dotted (Some j) b c d e f i = refl
 later_dotted None (Some j) c d e f i = refl
 later_dotted None None (Some j) d e f i = refl
@@ -134,7 +134,7 @@ later_dotted None None None None (Some j) f i = refl
 later_dotted None None None None None (Some j) i = refl
 later_dotted None None None None None None i = refl
 
-later_through : (a b c d e f : Option ℕ) (i : ℕ) → placed a b c d e (Some i) ≡ later_place (placed a b c d e f) (place.Through i)
+later_through : (a b c d e f : Option ℕ) (i : ℕ) → placed a b c d e (Some i) ≡ later_origin (placed a b c d e f) (origin.Through i)
 later_through (Some j) b c d e f i = refl
 later_through None (Some j) c d e f i = refl
 later_through None None (Some j) d e f i = refl
@@ -143,21 +143,21 @@ later_through None None None None (Some j) f i = refl
 later_through None None None None None (Some j) i = refl
 later_through None None None None None None i = refl
 
-later_root : (p : Place) → p ≡ later_place p place.Root
-later_root place.Root = refl
-later_root (place.Through i) = refl
-later_root (place.Dotted v) = refl
-later_root (place.Header i) = refl
-later_root (place.Element i) = refl
-later_root place.Tables = refl
-later_root (place.Value v) = refl
+later_root : (p : Origin) → p ≡ later_origin p origin.Root
+later_root origin.Root = refl
+later_root (origin.Through i) = refl
+later_root (origin.Dotted v) = refl
+later_root (origin.Header i) = refl
+later_root (origin.Element i) = refl
+later_root origin.Tables = refl
+later_root (origin.Value v) = refl
 
 abbrev number_if : Bool → ℕ → Option ℕ → Option ℕ
 number_if b i known = cond b (Some i) known
 
-place_more : (k : Count) (a b c d e f : Option ℕ) (s : Saying) → is_value s ≡ false
+place_more : (k : Count) (a b c d e f : Option ℕ) (s : MentionKind) → is_value s ≡ false
     → placed (number_if (is_value s) k.values a) (number_if (is_element s) k.statements b) (number_if (is_begun s) k.statements c) (number_if (is_define s) k.statements d) (number_if (is_dotted s) k.values e) (number_if (is_through s) k.statements f)
-    ≡ later_place (placed a b c d e f)
+    ≡ later_origin (placed a b c d e f)
     (placed (number_if (is_value s) k.values None) (number_if (is_element s) k.statements None) (number_if (is_begun s) k.statements None) (number_if (is_define s) k.statements None) (number_if (is_dotted s) k.values None) (number_if (is_through s) k.statements None))
 place_more k a b c d e f through h = later_through a b c d e f k.statements
 place_more k a b c d e f past h = later_root (placed a b c d e f)
@@ -169,19 +169,19 @@ place_more k a b c d e f passed h = later_root (placed a b c d e f)
 place_more k a b c d e f (value x) h = cc
 place_more k a b c d e f (item x) h = cc
 
-place_said-more : (ns : List Numbered) (n : Numbered) → is_value n.mention.says ≡ false → place_said (ns ++ n ∷ []) ≡ later_place (place_said ns) (place_said (n ∷ []))
-place_said-more ns n h = rw (
+mentioned_origin-more : (ns : List Numbered) (n : Numbered) → is_value n.mention.kind ≡ false → mentioned_origin (ns ++ n ∷ []) ≡ later_origin (mentioned_origin ns) (mentioned_origin (n ∷ []))
+mentioned_origin-more ns n h = rw (
   last_number-more is_value value_number ns n,
   last_number-more is_element statement_number ns n,
   last_number-more is_begun statement_number ns n,
   last_number-more is_define statement_number ns n,
   last_number-more is_dotted value_number ns n,
   last_number-more is_through statement_number ns n,
-) (place_more n.before (last_number is_value value_number ns) (last_number is_element statement_number ns) (last_number is_begun statement_number ns) (last_number is_define statement_number ns) (last_number is_dotted value_number ns) (last_number is_through statement_number ns) n.mention.says h)
+) (place_more n.before (last_number is_value value_number ns) (last_number is_element statement_number ns) (last_number is_begun statement_number ns) (last_number is_define statement_number ns) (last_number is_dotted value_number ns) (last_number is_through statement_number ns) n.mention.kind h)
 
 -- ---- the text of the value, which goes with the place
 
-under_value : (v : ℕ) (b c d e f : Option ℕ) → nat_le (rank (place.Value v)) (rank (placed None b c d e f)) ≡ false
+under_value : (v : ℕ) (b c d e f : Option ℕ) → nat_le (rank (origin.Value v)) (rank (placed None b c d e f)) ≡ false
 under_value v (Some j) c d e f = refl
 under_value v None (Some j) d e f = refl
 under_value v None None (Some j) e f = refl
@@ -200,14 +200,14 @@ span_more spans (Some v) b c d e f x y z u w = ap (λ t. cond t None (spans v)) 
 
 -- ---- all of it
 
-same_info : (a b : NodeInfo) → a.kind ≡ b.kind → a.value_span ≡ b.value_span → a.key_span ≡ b.key_span → a.marks ≡ b.marks → a.passed ≡ b.passed → a.place ≡ b.place → a ≡ b
+same_info : (a b : NodeInfo) → a.kind ≡ b.kind → a.value_span ≡ b.value_span → a.key_span ≡ b.key_span → a.marks ≡ b.marks → a.passed ≡ b.passed → a.origin ≡ b.origin → a ≡ b
 same_info a b k v s m p q =
-    let fields : record { kind = a.kind; value_span = a.value_span; key_span = a.key_span; marks = a.marks; passed = a.passed; place = a.place }
-    ≡ record { kind = b.kind; value_span = b.value_span; key_span = b.key_span; marks = b.marks; passed = b.passed; place = b.place } = cc in
+    let fields : record { kind = a.kind; value_span = a.value_span; key_span = a.key_span; marks = a.marks; passed = a.passed; origin = a.origin }
+    ≡ record { kind = b.kind; value_span = b.value_span; key_span = b.key_span; marks = b.marks; passed = b.passed; origin = b.origin } = cc in
     fields
 
-module _ (values : List ValueInfo) (parts : List KeyPart) (p : List Part) (ns : List Numbered) (n : Numbered) (given : is_value n.mention.says ≡ false) where
-  value_joined : (node_info values parts (node_said p (ns ++ n ∷ []))).value_span ≡ later_value (node_info values parts (node_said p ns)) (mention_info values parts n)
+module _ (values : List ValueInfo) (parts : List KeyPart) (p : List Part) (ns : List Numbered) (n : Numbered) (given : is_value n.mention.kind ≡ false) where
+  value_joined : (node_info values parts (mentioned_node p (ns ++ n ∷ []))).value_span ≡ later_value (node_info values parts (mentioned_node p ns)) (mention_info values parts n)
   value_joined =
       let known : Option ℕ = last_number is_value value_number ns in
       let one : List Numbered = n ∷ [] in
@@ -216,27 +216,27 @@ module _ (values : List ValueInfo) (parts : List KeyPart) (p : List Part) (ns : 
       (last_number is_element statement_number ns) (last_number is_begun statement_number ns) (last_number is_define statement_number ns) (last_number is_dotted value_number ns) (last_number is_through statement_number ns)
       (last_number is_element statement_number one) (last_number is_begun statement_number one) (last_number is_define statement_number one) (last_number is_dotted value_number one) (last_number is_through statement_number one)
       ∙ ap (λ b.
-      let said : Option ℕ = cond b (Some (value_number n.before)) None in
-      let more : Place = placed said (last_number is_element statement_number one) (last_number is_begun statement_number one) (last_number is_define statement_number one) (last_number is_dotted value_number one) (last_number is_through statement_number one) in
-      cond (nat_le (rank (place_said ns)) (rank more)) (option_and_then (value_span values) said) (option_and_then (value_span values) known)) (sym given)
+      let mentioned : Option ℕ = cond b (Some (value_number n.before)) None in
+      let more : Origin = placed mentioned (last_number is_element statement_number one) (last_number is_begun statement_number one) (last_number is_define statement_number one) (last_number is_dotted value_number one) (last_number is_through statement_number one) in
+      cond (nat_le (rank (mentioned_origin ns)) (rank more)) (option_and_then (value_span values) mentioned) (option_and_then (value_span values) known)) (sym given)
 
-  key_joined : (node_info values parts (node_said p (ns ++ n ∷ []))).key_span ≡ (joined_info (node_info values parts (node_said p ns)) (mention_info values parts n)).key_span
+  key_joined : (node_info values parts (mentioned_node p (ns ++ n ∷ []))).key_span ≡ (joined_info (node_info values parts (mentioned_node p ns)) (mention_info values parts n)).key_span
   key_joined =
       ap (option_and_then (key_span parts)) (first_number-more is_mark key_number ns n)
-      ∙ first_span parts (first_number is_mark key_number ns) (first_number is_mark key_number (n ∷ [])) (count_by (λ n. is_mark n.mention.says) ns == 0) (unmarked ns)
+      ∙ first_span parts (first_number is_mark key_number ns) (first_number is_mark key_number (n ∷ [])) (count_by (λ n. is_mark n.mention.kind) ns == 0) (unmarked ns)
 
-  marks_joined : (node_said p (ns ++ n ∷ [])).marks < 2 ^ 64 → (node_said p (ns ++ n ∷ [])).marks ≡ min ((node_said p ns).marks + (mention_info values parts n).marks) (2 ^ 64 - 1)
+  marks_joined : (mentioned_node p (ns ++ n ∷ [])).marks < 2 ^ 64 → (mentioned_node p (ns ++ n ∷ [])).marks ≡ min ((mentioned_node p ns).marks + (mention_info values parts n).marks) (2 ^ 64 - 1)
   marks_joined h = omega (arith, marks-more p ns n)
 
-  passed_joined : (node_said p (ns ++ n ∷ [])).passed ≡ ((node_said p ns).passed || (mention_info values parts n).passed)
-  passed_joined = passed-more p ns n ∙ ap (λ b. (node_said p ns).passed || b) (sym (or-false (is_passed n.mention.says)))
+  passed_joined : (mentioned_node p (ns ++ n ∷ [])).passed ≡ ((mentioned_node p ns).passed || (mention_info values parts n).passed)
+  passed_joined = passed-more p ns n ∙ ap (λ b. (mentioned_node p ns).passed || b) (sym (or-false (is_passed n.mention.kind)))
 
-  pub node_joined : (node_said p (ns ++ n ∷ [])).marks < 2 ^ 64 → node_info values parts (node_said p (ns ++ n ∷ [])) ≡ joined_info (node_info values parts (node_said p ns)) (mention_info values parts n)
+  pub node_joined : (mentioned_node p (ns ++ n ∷ [])).marks < 2 ^ 64 → node_info values parts (mentioned_node p (ns ++ n ∷ [])) ≡ joined_info (node_info values parts (mentioned_node p ns)) (mention_info values parts n)
   node_joined h =
       same_info _ _
-      (ap kind_said (map-append saying_of ns (n ∷ [])) ∙ kind_said-more (map saying_of ns) n.mention.says given)
+      (ap mentioned_kind (map-append mention_kind_of ns (n ∷ [])) ∙ mentioned_kind-more (map mention_kind_of ns) n.mention.kind given)
       value_joined
       key_joined
       (marks_joined h)
       passed_joined
-      (place_said-more ns n given)
+      (mentioned_origin-more ns n given)

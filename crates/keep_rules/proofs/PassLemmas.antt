@@ -22,8 +22,8 @@ use Rattle.keep_rules.proofs.TablesLemmas.{tables_listed}
 use Rattle.keep_rules.proofs.MarkLemmas.{state_represents}
 
 -- the mentions of a header that passes a path without elements, and one with some
-pub passing-none : (tables : List (List Part)) (path : List Part) → elements_of path tables ≡ 0 → passing_mentions tables path ≡ record { path = path; says = through } ∷ []
-passing-none tables path none = ap (λ c. cond (0 == c) (record { path = path; says = through } ∷ []) (record { path = path; says = past } ∷ record { path = entered_path tables path; says = passed } ∷ [])) none
+pub passing-none : (tables : List (List Part)) (path : List Part) → elements_of path tables ≡ 0 → passing_mentions tables path ≡ record { path = path; kind = through } ∷ []
+passing-none tables path none = ap (λ c. cond (0 == c) (record { path = path; kind = through } ∷ []) (record { path = path; kind = past } ∷ record { path = entered_path tables path; kind = passed } ∷ [])) none
 
 entered-none : (tables : List (List Part)) (path : List Part) → elements_of path tables ≡ 0 → entered_path tables path ≡ path
 entered-none tables path none = ap (λ c. cond (0 == c) path (path ++ index (c - 1) ∷ [])) none
@@ -31,8 +31,8 @@ entered-none tables path none = ap (λ c. cond (0 == c) path (path ++ index (c -
 not_zero : (c : ℕ) → 0 < c → (0 == c) ≡ false
 not_zero c h = false_ne (0 == c) (λ t. absurd (omega (arith, (Decides-eqb 0 c).0 t, h)))
 
-pub passing-some : (tables : List (List Part)) (path : List Part) → 0 < elements_of path tables → passing_mentions tables path ≡ record { path = path; says = past } ∷ record { path = entered_path tables path; says = passed } ∷ []
-passing-some tables path some = ap (λ b. cond b (record { path = path; says = through } ∷ []) (record { path = path; says = past } ∷ record { path = entered_path tables path; says = passed } ∷ [])) (not_zero _ some)
+pub passing-some : (tables : List (List Part)) (path : List Part) → 0 < elements_of path tables → passing_mentions tables path ≡ record { path = path; kind = past } ∷ record { path = entered_path tables path; kind = passed } ∷ []
+passing-some tables path some = ap (λ b. cond b (record { path = path; kind = through } ∷ []) (record { path = path; kind = past } ∷ record { path = entered_path tables path; kind = passed } ∷ [])) (not_zero _ some)
 
 pub entered-some : (tables : List (List Part)) (path : List Part) → 0 < elements_of path tables → entered_path tables path ≡ path ++ index (elements_of path tables - 1) ∷ []
 entered-some tables path some = ap (λ b. cond b path (path ++ index (elements_of path tables - 1) ∷ [])) (not_zero _ some)
@@ -55,13 +55,13 @@ passes_marked old new parent id k marked none =
       keeps = marked.keeps;
       represents = λ ms tables represents.
           let zero : elements_of p tables ≡ 0 = none tables represents.tables_are represents.begun in
-          let grown : IsIndexOf new (ms ++ record { path = p; says = through } ∷ []) = marked.index ms through refl represents.index in
+          let grown : IsIndexOf new (ms ++ record { path = p; kind = through } ∷ []) = marked.index ms through refl represents.index in
           represents_marked marked refl ms (passing_mentions tables p) tables
           (subst (λ (w : List Mention). IsIndexOf new (ms ++ w)) (sym (passing-none tables p zero)) grown) represents;
       is_open = λ ms tables represents.
           let zero : elements_of p tables ≡ 0 = none tables represents.tables_are represents.begun in
           record {
-            inside = marked.inside;
+            nested = marked.nested;
             here = marked.here ∙ sym (entered-none tables p zero);
             open_to = marked.opened refl;
           };
@@ -113,14 +113,14 @@ keeps_same nodes = record { longer = omega arith; paths = λ i h. refl; holdings
 -- the elements of an array of tables, and the node of the last of them
 pub elements_there : (nodes : List TrieNode) (p : List Part) (child to : ℕ) → IsLastElement nodes p child to → (ms : List Mention) (tables : List (List Part)) → Represents nodes ms tables → elements_of p tables ≡ length (children_of nodes child)
 elements_there nodes p child to last ms tables represents =
-    ap (λ q. elements_of q tables) (sym last.here) ∙ represents.tables_are.counts child last.inside ∙ ap (λ t. cond t (length (children_of nodes child)) 0) last.tables
+    ap (λ q. elements_of q tables) (sym last.here) ∙ represents.tables_are.counts child last.nested ∙ ap (λ t. cond t (length (children_of nodes child)) 0) last.tables
 
 pub element_place : (nodes : List TrieNode) (p : List Part) (child to : ℕ) → IsLastElement nodes p child to → (ms : List Mention) (tables : List (List Part)) → Represents nodes ms tables → path_at nodes to ≡ entered_path tables p
 element_place nodes p child to last ms tables represents =
     let kids : ℕ = length (children_of nodes child) in
     let low : kids - 1 < kids = omega (arith, last.some) in
     let counted : elements_of p tables ≡ kids = elements_there nodes p child to last ms tables represents in
-    ap (path_at nodes) last.last ∙ represents.shaped.elements child (kids - 1) last.inside (tables_listed nodes represents.shaped child last.inside last.tables) low
+    ap (path_at nodes) last.last ∙ represents.shaped.elements child (kids - 1) last.nested (tables_listed nodes represents.shaped child last.nested last.tables) low
     ∙ ap (λ q. q ++ index (kids - 1) ∷ []) last.here ∙ ap (λ c. p ++ index (c - 1) ∷ []) (sym counted) ∙ sym (entered-some tables p (omega (arith, last.some, counted)))
 
 -- past an array of tables to its last element
@@ -132,19 +132,19 @@ passes_element nodes parent child to k last =
     let counted : (tables : List (List Part)) (ms : List Mention) → Represents nodes ms tables → elements_of p tables ≡ kids = λ tables ms represents. elements_there nodes p child to last ms tables represents in
     let placed : (tables : List (List Part)) (ms : List Mention) → Represents nodes ms tables → path_at nodes to ≡ entered_path tables p = λ tables ms represents. element_place nodes p child to last ms tables represents in
     let in_place : (trie : IsTrie nodes) → to < length nodes = λ trie.
-    subst (λ (x : ℕ). x < length nodes) (sym last.last) (child_at nodes trie child (kids - 1) (first nodes trie) last.inside low).inside in
+    subst (λ (x : ℕ). x < length nodes) (sym last.last) (child_at nodes trie child (kids - 1) (first nodes trie) last.nested low).nested in
     record {
       keeps = keeps_same nodes;
       represents = λ ms tables represents.
           let trie : IsTrie nodes = represents.index.trie in
           let some : 0 < elements_of p tables = omega (arith, last.some, counted tables ms represents) in
           let goal_path = placed tables ms represents in
-          let m1 : Mention = record { path = p; says = past } in
-          let m2 : Mention = record { path = entered_path tables p; says = passed } in
-          let own : IsState (state_at nodes child) (mention_roles p ms) = state_represents nodes ms represents.index child p last.inside last.here in
+          let m1 : Mention = record { path = p; kind = past } in
+          let m2 : Mention = record { path = entered_path tables p; kind = passed } in
+          let own : IsState (state_at nodes child) (mention_roles p ms) = state_represents nodes ms represents.index child p last.nested last.here in
           let size : length (paths_of nodes) ≡ length nodes = length-paths_of nodes trie.root in
           let one : StatesRepresent (paths_of nodes) (states_of nodes) (ms ++ m1 ∷ []) =
-          represented_same (paths_of nodes) (states_of nodes) ms m1 child represents.index.states_represent trie.distinct (omega (arith, last.inside)) (sym last.here)
+          represented_same (paths_of nodes) (states_of nodes) ms m1 child represents.index.states_represent trie.distinct (omega (arith, last.nested)) (sym last.here)
           (state_past (state_at nodes child) (mention_roles p ms) last.tables own)
           (obeys_push ms m1 Past refl (all_past (state_at nodes child) (mention_roles p ms) last.tables own) represents.index.states_represent.obeys) in
           let rest : IsState (state_at nodes to) (mention_roles (entered_path tables p) (ms ++ m1 ∷ [])) =
@@ -161,9 +161,9 @@ passes_element nodes parent child to k last =
             begun = represents.begun;
           };
       is_open = λ ms tables represents.
-          let bare = represents.shaped.plain child (kids - 1) last.inside last.tables low in
+          let bare = represents.shaped.plain child (kids - 1) last.nested last.tables low in
           record {
-            inside = in_place represents.index.trie;
+            nested = in_place represents.index.trie;
             here = placed tables ms represents;
             open_to = ap (holds_at nodes) last.last ∙ bare.1;
           };
@@ -200,12 +200,12 @@ pub fits_value : (h : Holding) → Fits Value h
 fits_value h = record { listed = λ t. absurd cc; opened = λ t. absurd cc }
 
 -- the element is a table
-pub element_inside : (nodes : List TrieNode) (path : List Part) (child to : ℕ) → IsTrie nodes → IsLastElement nodes path child to → to < length nodes
-element_inside nodes path child to trie last =
+pub element_nested : (nodes : List TrieNode) (path : List Part) (child to : ℕ) → IsTrie nodes → IsLastElement nodes path child to → to < length nodes
+element_nested nodes path child to trie last =
     let low : length (children_of nodes child) - 1 < length (children_of nodes child) = omega (arith, last.some) in
-    subst (λ (x : ℕ). x < length nodes) (sym last.last) (child_at nodes trie child (length (children_of nodes child) - 1) (first nodes trie) last.inside low).inside
+    subst (λ (x : ℕ). x < length nodes) (sym last.last) (child_at nodes trie child (length (children_of nodes child) - 1) (first nodes trie) last.nested low).nested
 
 pub element_keyed : (nodes : List TrieNode) (path : List Part) (child to : ℕ) → IsShaped nodes → IsLastElement nodes path child to → holds_at nodes to ≡ by_key
 element_keyed nodes path child to shaped last =
     let low : length (children_of nodes child) - 1 < length (children_of nodes child) = omega (arith, last.some) in
-    ap (holds_at nodes) last.last ∙ (shaped.plain child (length (children_of nodes child) - 1) last.inside last.tables low).1
+    ap (holds_at nodes) last.last ∙ (shaped.plain child (length (children_of nodes child) - 1) last.nested last.tables low).1

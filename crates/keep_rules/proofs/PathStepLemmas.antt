@@ -38,26 +38,26 @@ encoded_more (p ∷ ps) part =
 -- a step is added to a text that ends in the path before it
 added : (before old new : List ℕ) (path longer : List Part) (part : Part) (text : List ℕ) → path ++ part ∷ [] ≡ longer → step_text path part ≡ text
     → old ≡ before ++ encoded_path path → new ≡ old ++ text → new ≡ before ++ encoded_path longer
-added before old new path longer part text is shown o n =
+added before old new path longer part text is seen o n =
     n ∙ ap (λ t. t ++ text) o
     ∙ append_assoc before (encoded_path path) text
-    ∙ ap (λ t. before ++ (encoded_path path ++ t)) (sym shown)
+    ∙ ap (λ t. before ++ (encoded_path path ++ t)) (sym seen)
     ∙ ap (λ t. before ++ t) (sym (encoded_more path part))
     ∙ ap (λ p. before ++ encoded_path p) is
 
 parent_path : (nodes : List Node) (id up number : ℕ) → IsRead nodes id up number → path_at (trie_of nodes) (parent_at nodes id) ≡ path_at (trie_of nodes) up
-parent_path nodes id up number r = ap (path_at (trie_of nodes)) (parent_read nodes id no_node r.inside ∙ sym r.parent)
+parent_path nodes id up number r = ap (path_at (trie_of nodes)) (parent_read nodes id no_node r.nested ∙ sym r.parent)
 
 -- the root's path alone is empty
 no_empty : (nodes : List Node) (id up number : ℕ) → IsRead nodes id up number → up ≢ 0 → path_at (trie_of nodes) (parent_at nodes id) ≢ []
 no_empty nodes id up number r other empty =
-    let below : up < length nodes = omega (arith, earlier nodes id up number r, r.inside) in
+    let below : up < length nodes = omega (arith, earlier nodes id up number r, r.nested) in
     let same : path_at (trie_of nodes) up ≡ path_at (trie_of nodes) 0 = sym (parent_path nodes id up number r) ∙ empty ∙ sym (path_at-root (trie_of nodes)) in
     other (one_node (trie_of nodes) r.stored.trie up 0 (omega (arith, below, length_trie_of nodes)) (omega (arith, below, length_trie_of nodes)) same)
 
-key_shown : (nodes : List Node) (id up number : ℕ) (text : List ℕ) → IsRead nodes id up number
+key_seen : (nodes : List Node) (id up number : ℕ) (text : List ℕ) → IsRead nodes id up number
     → step_text (path_at (trie_of nodes) (parent_at nodes id)) (key text) ≡ (if up == 0 then encoded_key text else 0x2E ∷ encoded_key text)
-key_shown nodes id up number text r = elim (eqb_tells up 0) [
+key_seen nodes id up number text r = elim (eqb_tells up 0) [
   | inl same ↦
       let empty : path_at (trie_of nodes) (parent_at nodes id) ≡ [] = parent_path nodes id up number r ∙ ap (path_at (trie_of nodes)) same.1 ∙ path_at-root (trie_of nodes) in
       ap (λ (p : List Part). step_text p (key text)) empty ∙ ap (λ b. if b then encoded_key text else 0x2E ∷ encoded_key text) (sym same.0)
@@ -72,7 +72,7 @@ pub key_added : (nodes : List Node) (id up number : ℕ) (text before old new : 
     → new ≡ before ++ encoded_path (path_at (trie_of nodes) id)
 key_added nodes id up number text before old new r is o n =
     added before old new (path_at (trie_of nodes) (parent_at nodes id)) (path_at (trie_of nodes) id) (key text) _
-    (key_last nodes id up number text (path_at (trie_of nodes) (parent_at nodes id)) r is refl) (key_shown nodes id up number text r) o n
+    (key_last nodes id up number text (path_at (trie_of nodes) (parent_at nodes id)) r is refl) (key_seen nodes id up number text r) o n
 
 -- the step is an index
 pub index_added : (nodes : List Node) (id up number : ℕ) (before old new : List ℕ) → IsRead nodes id up number → None ≡ option_map (λ p. p.0) (slice_get (named (kids_at nodes up)) number)

@@ -85,13 +85,13 @@ item_read bytes f base info old new ids number array at to kind holds s (nested_
     let no : owner.Item array ≡ owner.Inline next.matches.owned.0 = sym is ∙ next.matches.owned.1 in
     absurd (cc)
 item_read bytes f base info old new ids number array at to kind holds s (nested_item o fact) is here k h listed adds joined next =
-    let own = owner_of (trie_of old) ids base array next.matches.owned.0 s o next.inside next.suits.0 (item_number next.matches.owned.0 array (sym next.matches.owned.1 ∙ is)) next.matches.owned.2 in
+    let own = owner_of (trie_of old) ids base array next.matches.owned.0 s o next.nested next.suits.0 (item_number next.matches.owned.0 array (sym next.matches.owned.1 ∙ is)) next.matches.owned.2 in
     let there : at ≡ get_or ids o 0 = here ∙ ap (λ i. get_or ids i 0) own.place in
     let facts : (c : Count) → c.values ≡ number → AddsValue f.values f.keys old new c (nested_mentions s (nested_item o fact)) = λ c v.
     joined s o fact (ap (path_at (trie_of old)) there ∙ own.node.here)
     (sym (ap (λ i. length (children_of (trie_of old) i)) there ∙ own.node.listed next.suits.1)) (next.matches.kind ∙ sym k)
     f.values f.keys c (ap (option_map (λ (i : ValueInfo). i.span)) listed) v in
-    nested_read_item f.values f.keys (nodes_so_far old ids) (trie_of new) (node_infos new) to number info.first_key s o fact next.inside own.low next.suits.1
+    nested_read_item f.values f.keys (nodes_so_far old ids) (trie_of new) (node_infos new) to number info.first_key s o fact next.nested own.low next.suits.1
     (subst (λ (x : Holding). AddsItem (trie_of old) (trie_of new) (get_or ids o 0) to x) (h ∙ sym next.matches.holds) (subst (λ (x : ℕ). AddsItem (trie_of old) (trie_of new) x to holds) there adds))
     (λ c v first. (facts c v).joined)
     (λ c v first. (facts c v).fresh)
@@ -131,7 +131,7 @@ keyed_read bytes f base info old new ids k number table at to kind holds s (nest
     let no : owner.Inline table ≡ owner.Item next.matches.owned.0 = sym is ∙ next.matches.owned.1 in
     absurd (cc)
 keyed_read bytes f base info old new ids k number table at to kind holds s (nested_keyed o ks fact) is here kd h listed are texts gives joined next =
-    let own = owner_of (trie_of old) ids base table next.matches.owned.0 s o next.inside next.suits.0 (inline_number next.matches.owned.0 table (sym next.matches.owned.1 ∙ is)) next.matches.owned.2 in
+    let own = owner_of (trie_of old) ids base table next.matches.owned.0 s o next.nested next.suits.0 (inline_number next.matches.owned.0 table (sym next.matches.owned.1 ∙ is)) next.matches.owned.2 in
     let there : at ≡ get_or ids o 0 = here ∙ ap (λ i. get_or ids i 0) own.place in
     let whole : leading_texts k ++ last_text k ∷ [] ≡ ks = texts_split k are ∙ texts ∙ next.matches.owned.3 in
     let split : key_texts k ≡ leading_texts k ++ last_text k ∷ [] = sym (texts_split k are) in
@@ -139,7 +139,7 @@ keyed_read bytes f base info old new ids k number table at to kind holds s (nest
     subst (λ (x : List (List ℕ)). AddsValue f.values f.keys old new c (nested_mentions s (nested_keyed o x fact))) split
     (joined s o fact (ap (path_at (trie_of old)) there ∙ own.node.here) (next.matches.kind ∙ sym kd) f.values c (ap (option_map (λ (i : ValueInfo). i.span)) listed) v first) in
     subst (λ (x : List (List ℕ)). NestedRead f.values f.keys (nodes_so_far old ids) (nodes_so_far new (ids ++ to ∷ [])) number info.first_key s (nested_keyed o x fact ∷ [])) whole
-    (nested_read_keyed f.values f.keys (nodes_so_far old ids) (trie_of new) (node_infos new) to number info.first_key s o (leading_texts k) (last_text k) fact next.inside own.low next.suits.1
+    (nested_read_keyed f.values f.keys (nodes_so_far old ids) (trie_of new) (node_infos new) to number info.first_key s o (leading_texts k) (last_text k) fact next.nested own.low next.suits.1
     (subst (λ (x : Holding). Gives (trie_of old) (trie_of new) (get_or ids o 0) to (leading_texts k) (last_text k) x) (h ∙ sym next.matches.holds)
     (subst (λ (x : ℕ). Gives (trie_of old) (trie_of new) x to (leading_texts k) (last_text k) holds) there gives))
     (λ c v first. (facts c v first).joined)
@@ -168,7 +168,7 @@ keyed_fault_low bytes parts nodes ids base info keys table at number why s (nest
     let no : owner.Inline table ≡ owner.Item next.matches.owned.0 = sym is ∙ next.matches.owned.1 in
     absurd (cc)
 keyed_fault_low bytes parts nodes ids base info keys table at number why s (nested_keyed o ks fact) is here texts next represents faults =
-    let own = owner_of nodes ids base table next.matches.owned.0 s o next.inside next.suits.0 (inline_number next.matches.owned.0 table (sym next.matches.owned.1 ∙ is)) next.matches.owned.2 in
+    let own = owner_of nodes ids base table next.matches.owned.0 s o next.nested next.suits.0 (inline_number next.matches.owned.0 table (sym next.matches.owned.1 ∙ is)) next.matches.owned.2 in
     let there : at ≡ get_or ids o 0 = here ∙ ap (λ i. get_or ids i 0) own.place in
     let low = fault_low (faults s o fact (ap (path_at nodes) there ∙ own.node.here) represents.0 represents.1 represents.2) in
     let many : length keys ≡ info.keys = ap length texts ∙ length-keys_in bytes parts info.first_key info.keys next.matches.owned.4 in
@@ -191,7 +191,7 @@ keyed_fault bytes f base info old ids keys table at number why s (nested_item o 
     let no : owner.Inline table ≡ owner.Item next.matches.owned.0 = sym is ∙ next.matches.owned.1 in
     absurd (cc)
 keyed_fault bytes f base info old ids keys table at number why s (nested_keyed o ks fact) is here texts faults next ms tables represents =
-    let own = owner_of (trie_of old) ids base table next.matches.owned.0 s o next.inside next.suits.0 (inline_number next.matches.owned.0 table (sym next.matches.owned.1 ∙ is)) next.matches.owned.2 in
+    let own = owner_of (trie_of old) ids base table next.matches.owned.0 s o next.nested next.suits.0 (inline_number next.matches.owned.0 table (sym next.matches.owned.1 ∙ is)) next.matches.owned.2 in
     let there : at ≡ get_or ids o 0 = here ∙ ap (λ i. get_or ids i 0) own.place in
     record {
       within = number;

@@ -22,13 +22,13 @@ use Rattle.keep_rules.proofs.ChildLemmas.{child_by, stepped, index_is_place}
 pub record IsNode (nodes : List Node) (t : NodeInfos) (i : ℕ) : Type 0 where
   pub stored : IsStored nodes
   pub view : node_infos nodes ≡ t
-  pub inside : i < length t.paths
+  pub nested : i < length t.paths
 
 pub count_paths : (nodes : List Node) (t : NodeInfos) → IsStored nodes → node_infos nodes ≡ t → length t.paths ≡ length nodes
 count_paths nodes t stored view = ap (λ (x : NodeInfos). length x.paths) (sym view) ∙ length-paths_of (trie_of nodes) stored.trie.root ∙ length_trie_of nodes
 
 pub low_node : (nodes : List Node) (t : NodeInfos) (i : ℕ) → IsNode nodes t i → i < length nodes
-low_node nodes t i r = omega (arith, r.inside, count_paths nodes t r.stored r.view)
+low_node nodes t i r = omega (arith, r.nested, count_paths nodes t r.stored r.view)
 
 pub child_answer : (nodes : List Node) (t : NodeInfos) (i : ℕ) (p : Part) → IsNode nodes t i → child_by (node_at nodes i).children p ≡ node_number t.paths (path_numbered t i ++ p ∷ [])
 child_answer nodes t i p r = stepped nodes r.stored i no_node p (low_node nodes t i r) ∙ ap (λ (x : NodeInfos). node_number x.paths (path_numbered x i ++ p ∷ [])) r.view
@@ -97,11 +97,11 @@ seen_longer nodes t s path more is =
 
 -- after some steps: the node to which they lead
 pub record IsAt (t : NodeInfos) (path : List Part) (done id : ℕ) : Type 0 where
-  pub inside : id < length t.paths
+  pub nested : id < length t.paths
   pub led : path_numbered t id ≡ take done path
 
 pub at_root : (nodes : List Node) (t : NodeInfos) → IsSeen nodes t → (path : List Part) → IsAt t path 0 0
-at_root nodes t s path = record { inside = (seen_root nodes t s).0; led = (seen_root nodes t s).1 }
+at_root nodes t s path = record { nested = (seen_root nodes t s).0; led = (seen_root nodes t s).1 }
 
 step_taken : (path : List Part) (done : ℕ) (p : Part) → slice_get path done ≡ Some p → take (done + 1) path ≡ take done path ++ p ∷ []
 step_taken path done p is =
@@ -112,15 +112,15 @@ pub at_next : (t : NodeInfos) (path : List Part) (done id next : ℕ) (p : Part)
     → Some next ≡ node_number t.paths (path_numbered t id ++ p ∷ []) → IsAt t path (done + 1) next
 at_next t path done id next p at step is =
     let r = number_is t.paths (path_numbered t id ++ p ∷ []) next (sym is) in
-    record { inside = r.0; led = r.1 ∙ ap (λ q. q ++ p ∷ []) at.led ∙ sym (step_taken path done p step) }
+    record { nested = r.0; led = r.1 ∙ ap (λ q. q ++ p ∷ []) at.led ∙ sym (step_taken path done p step) }
 
 -- or to no node, and so do all steps
 pub at_none : (nodes : List Node) (t : NodeInfos) → IsSeen nodes t → (path : List Part) (done id n : ℕ) (p : Part) → IsAt t path done id → slice_get path done ≡ Some p → done < n
     → None ≡ node_number t.paths (path_numbered t id ++ p ∷ []) → None ≡ node_number t.paths (take n path)
 at_none nodes t s path done id n p at step more is =
-    let front : take n path ≡ (path_numbered t id ++ p ∷ []) ++ drop (done + 1) (take n path) =
+    let prefix : take n path ≡ (path_numbered t id ++ p ∷ []) ++ drop (done + 1) (take n path) =
     sym (take-append-drop (done + 1) (take n path)) ∙ ap (λ q. q ++ drop (done + 1) (take n path)) (take-take (done + 1) n path (omega arith) ∙ step_taken path done p step ∙ ap (λ q. q ++ p ∷ []) (sym at.led)) in
-    sym (ap (node_number t.paths) front ∙ seen_longer nodes t s (path_numbered t id ++ p ∷ []) (drop (done + 1) (take n path)) (sym is))
+    sym (ap (node_number t.paths) prefix ∙ seen_longer nodes t s (path_numbered t id ++ p ∷ []) (drop (done + 1) (take n path)) (sym is))
 
 -- no step is missing
 pub step_there : (path : List Part) (done : ℕ) → done < length path → slice_get path done ≡ None → ⊥
@@ -129,4 +129,4 @@ step_there path done h is = let there = slice_get-get_or path done (index 0) h i
 -- all steps are done
 pub at_end : (nodes : List Node) (t : NodeInfos) → IsSeen nodes t → (path : List Part) (done n id : ℕ) → IsAt t path done id → done ≡ min n (length path) → Some id ≡ node_number t.paths (take n path)
 at_end nodes t s path done n id at is =
-    sym (seen_number nodes t s id at.inside) ∙ ap (node_number t.paths) (at.led ∙ ap (λ k. take k path) is ∙ take_min n path)
+    sym (seen_number nodes t s id at.nested) ∙ ap (node_number t.paths) (at.led ∙ ap (λ k. take k path) is ∙ take_min n path)

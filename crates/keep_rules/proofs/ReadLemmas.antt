@@ -9,7 +9,7 @@ use Rattle.keep_path.specs.Path.{Part, key, index}
 use Rattle.keep_meaning.specs.Rules.{IsFirstFaulty, ObeysRules}
 use Rattle.keep_meaning.specs.Marks as marks
 use Rattle.keep_meaning.specs.Marks.{Mention, Statement, Reading, statement_mentions, next_reading, mentions_from, reading_after, mentions, start, elements_of, header, element_header, keyval, define}
-use Rattle.keep_meaning.specs.Meaning.{keyval_said}
+use Rattle.keep_meaning.specs.Meaning.{keyval_mentions}
 use Rattle.keep_meaning.specs.Nodes.{node_paths}
 use Rattle.keep_nodes.specs.Trie.{TrieNode, by_key, paths_of, path_at, state_at, children_of}
 use Rattle.keep_meaning.specs.State.{IsState}
@@ -35,17 +35,17 @@ header_reads old mid new at to leading last walked marked body ms r reading =
     let before = walked.represents ms ts reading.represents in
     let full : path_at mid at ++ key last ∷ [] ≡ p = ap (λ q. q ++ key last ∷ []) (walked.is_open ms ts reading.represents).here in
     let full' : p ≡ marks.header_path ts [] (leading ++ last ∷ []) = sym (header_path-split ts [] leading last) in
-    let step : IsIndexOf new ((ms ++ walk_mentions ts [] leading) ++ record { path = p; says = define } ∷ []) =
-    subst (λ (q : List Part). IsIndexOf new ((ms ++ walk_mentions ts [] leading) ++ record { path = q; says = define } ∷ [])) full (marked.index (ms ++ walk_mentions ts [] leading) define refl before.index) in
-    let whole : (ms ++ walk_mentions ts [] leading) ++ record { path = p; says = define } ∷ [] ≡ ms ++ statement_mentions r (header (leading ++ last ∷ [])) =
-    append_assoc ms (walk_mentions ts [] leading) (record { path = p; says = define } ∷ [])
-    ∙ ap (λ w. ms ++ (w ++ record { path = p; says = define } ∷ [])) (sym (header_way-split ts [] leading last))
-    ∙ ap (λ q. ms ++ (marks.header_way ts [] (leading ++ last ∷ []) ++ record { path = q; says = define } ∷ [])) full' in
+    let step : IsIndexOf new ((ms ++ walk_mentions ts [] leading) ++ record { path = p; kind = define } ∷ []) =
+    subst (λ (q : List Part). IsIndexOf new ((ms ++ walk_mentions ts [] leading) ++ record { path = q; kind = define } ∷ [])) full (marked.index (ms ++ walk_mentions ts [] leading) define refl before.index) in
+    let whole : (ms ++ walk_mentions ts [] leading) ++ record { path = p; kind = define } ∷ [] ≡ ms ++ statement_mentions r (header (leading ++ last ∷ [])) =
+    append_assoc ms (walk_mentions ts [] leading) (record { path = p; kind = define } ∷ [])
+    ∙ ap (λ w. ms ++ (w ++ record { path = p; kind = define } ∷ [])) (sym (header_way-split ts [] leading last))
+    ∙ ap (λ q. ms ++ (marks.header_way ts [] (leading ++ last ∷ []) ++ record { path = q; kind = define } ∷ [])) full' in
     record {
-      represents = subst (λ (w : List Mention). Represents new w ts) whole (represents_marked marked refl (ms ++ walk_mentions ts [] leading) (record { path = p; says = define } ∷ []) ts step before);
+      represents = subst (λ (w : List Mention). Represents new w ts) whole (represents_marked marked refl (ms ++ walk_mentions ts [] leading) (record { path = p; kind = define } ∷ []) ts step before);
       rooted = (keeps_then walked.keeps marked.keeps).holdings 0 reading.represents.index.trie.root ∙ reading.rooted;
       is_open = record {
-        inside = marked.inside;
+        nested = marked.nested;
         here = marked.here ∙ full ∙ full';
         open_to = marked.opened refl;
       };
@@ -60,7 +60,7 @@ element_reads old mid new at to leading last walked begun body ms r reading =
     let hp : List Part = marks.header_path ts [] (leading ++ last ∷ []) in
     let before = walked.represents ms ts reading.represents in
     let full : path_at mid at ++ key last ∷ [] ≡ hp = ap (λ q. q ++ key last ∷ []) (walked.is_open ms ts reading.represents).here ∙ sym (header_path-split ts [] leading last) in
-    let two : List Part → List Mention = λ q. record { path = q; says = marks.element } ∷ record { path = q ++ index (elements_of q ts) ∷ []; says = marks.begun } ∷ [] in
+    let two : List Part → List Mention = λ q. record { path = q; kind = marks.element } ∷ record { path = q ++ index (elements_of q ts) ∷ []; kind = marks.begun } ∷ [] in
     let step : Represents new ((ms ++ walk_mentions ts [] leading) ++ two hp) (ts ++ hp ∷ []) =
     subst (λ (q : List Part). Represents new ((ms ++ walk_mentions ts [] leading) ++ two q) (ts ++ q ∷ [])) full (begun.represents (ms ++ walk_mentions ts [] leading) ts before) in
     let whole : (ms ++ walk_mentions ts [] leading) ++ two hp ≡ ms ++ statement_mentions r (element_header (leading ++ last ∷ [])) =
@@ -74,7 +74,7 @@ element_reads old mid new at to leading last walked begun body ms r reading =
 -- a keyval, whose values were all read
 pub keyval_reads : (old new : List TrieNode) (body : ℕ) (name : Name) (v : Value) → Keeps old new
     → ((ms : List Mention) (r : Reading) → IsReading old body ms r → Represents new (ms ++ all_nested_mentions (body_nesting r.body) (keyval_nested name v)) r.tables)
-    → Reads old body new body (keyval (keyval_said name v))
+    → Reads old body new body (keyval (keyval_mentions name v))
 keyval_reads old new body name v keeps represents ms r reading = record {
   represents = subst (λ (w : List Mention). Represents new (ms ++ w) r.tables) (keyval_nested-mentions r.body name v) (represents ms r reading);
   rooted = keeps.holdings 0 reading.represents.index.trie.root ∙ reading.rooted;
@@ -88,8 +88,8 @@ nested_faults s ts i t ms n why h is f =
     let before : List NestedValue = take i ts in
     let rest : List NestedValue = drop (i + 1) ts in
     let split : ts ≡ before ++ t ∷ rest = sym (take-append-drop i ts) ∙ ap (λ r. before ++ r) (drop_more ts i t h) ∙ ap (λ x. before ++ x ∷ rest) (sym is) in
-    let said : all_nested_mentions s ts ≡ all_nested_mentions s before ++ (nested_mentions (nesting_after s before) t ++ all_nested_mentions (next_nesting (nesting_after s before) t) rest) = ap (all_nested_mentions s) split ∙ all_nested_mentions-append s before (t ∷ rest) in
-    subst (λ (w : List Mention). FaultIn ms w (length (marks.marks (all_nested_mentions s before)) + n) why) (sym said)
+    let mentioned : all_nested_mentions s ts ≡ all_nested_mentions s before ++ (nested_mentions (nesting_after s before) t ++ all_nested_mentions (next_nesting (nesting_after s before) t) rest) = ap (all_nested_mentions s) split ∙ all_nested_mentions-append s before (t ∷ rest) in
+    subst (λ (w : List Mention). FaultIn ms w (length (marks.marks (all_nested_mentions s before)) + n) why) (sym mentioned)
     (fault_within ms (all_nested_mentions s before) (nested_mentions (nesting_after s before) t) (all_nested_mentions (next_nesting (nesting_after s before) t) rest) n why f)
 
 -- ---- statement after statement
@@ -109,9 +109,9 @@ pub read_more : (old new : List TrieNode) (body to : ℕ) (ss : List Statement) 
 read_more old new body to ss s before reads =
     let r : Reading = reading_after start ss in
     let step : IsReading new to (mentions_from start ss ++ statement_mentions r s) (next_reading r s) = reads (mentions_from start ss) r before in
-    let said : mentions_from start ss ++ statement_mentions r s ≡ mentions_from start (ss ++ s ∷ []) =
+    let mentioned : mentions_from start ss ++ statement_mentions r s ≡ mentions_from start (ss ++ s ∷ []) =
     ap (λ w. mentions_from start ss ++ w) (sym (append-nil (statement_mentions r s))) ∙ sym (mentions_from-append start ss (s ∷ [])) in
-    let one : IsReading new to (mentions_from start (ss ++ s ∷ [])) (next_reading r s) = subst (λ (w : List Mention). IsReading new to w (next_reading r s)) said step in
+    let one : IsReading new to (mentions_from start (ss ++ s ∷ [])) (next_reading r s) = subst (λ (w : List Mention). IsReading new to w (next_reading r s)) mentioned step in
     subst (λ (x : Reading). IsReading new to (mentions_from start (ss ++ s ∷ [])) x) (sym (reading_after-push start ss s)) one
 
 -- the nodes are those of the document, and its marks obey the rules
@@ -179,5 +179,5 @@ pub root_reads : (t : TrieNode) → t.state ≡ None → t.holds ≡ by_key → 
 root_reads t none keyed = record {
   represents = root_represents t none;
   rooted = keyed;
-  is_open = record { inside = omega arith; here = refl; open_to = keyed };
+  is_open = record { nested = omega arith; here = refl; open_to = keyed };
 }

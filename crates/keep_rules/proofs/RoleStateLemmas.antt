@@ -13,7 +13,7 @@ use Rattle.keep_meaning.specs.declared.role.Role.{Role}
 use Rattle.keep_path.specs.Path.{Part, same_path}
 use Rattle.keep_meaning.specs.Rules.{Mark, allows, Allows, ObeysRules, IsRefused}
 use Rattle.keep_meaning.specs.Marks.{Mention, marks, mark_of, with_path, role_of}
-use Rattle.keep_meaning.specs.Nodes.{paths_with, node_paths, says_at}
+use Rattle.keep_meaning.specs.Nodes.{paths_with, node_paths, kinds_at}
 use Rattle.keep_rules.specs.RoleStates.{mention_roles, StatesRepresent}
 use Rattle.keep_meaning.specs.State.{IsState}
 use Rattle.keep_path.proofs.Shared.{path_decides}
@@ -30,15 +30,15 @@ false_ne true h = absurd (h refl)
 false_ne false h = refl
 
 -- one more mention
-says_at-push : (p : List Part) (ms : List Mention) (m : Mention) → says_at p (ms ++ m ∷ []) ≡ says_at p ms ++ map (λ m. m.says) (cond (same_path m.path p) (m ∷ []) [])
-says_at-push p ms m = ap (map (λ m. m.says)) (filter-append (λ m. same_path m.path p) ms (m ∷ [])) ∙ map-append (λ m. m.says) (filter (λ m. same_path m.path p) ms) (cond (same_path m.path p) (m ∷ []) [])
+kinds_at-push : (p : List Part) (ms : List Mention) (m : Mention) → kinds_at p (ms ++ m ∷ []) ≡ kinds_at p ms ++ map (λ m. m.kind) (cond (same_path m.path p) (m ∷ []) [])
+kinds_at-push p ms m = ap (map (λ m. m.kind)) (filter-append (λ m. same_path m.path p) ms (m ∷ [])) ∙ map-append (λ m. m.kind) (filter (λ m. same_path m.path p) ms) (cond (same_path m.path p) (m ∷ []) [])
 
-pub says_at-here : (p : List Part) (ms : List Mention) (m : Mention) → m.path ≡ p → says_at p (ms ++ m ∷ []) ≡ says_at p ms ++ m.says ∷ []
-says_at-here p ms m h = says_at-push p ms m ∙ ap (λ b. says_at p ms ++ map (λ m. m.says) (cond b (m ∷ []) [])) ((path_decides m.path p).1 h)
+pub kinds_at-here : (p : List Part) (ms : List Mention) (m : Mention) → m.path ≡ p → kinds_at p (ms ++ m ∷ []) ≡ kinds_at p ms ++ m.kind ∷ []
+kinds_at-here p ms m h = kinds_at-push p ms m ∙ ap (λ b. kinds_at p ms ++ map (λ m. m.kind) (cond b (m ∷ []) [])) ((path_decides m.path p).1 h)
 
-pub says_at-other : (p : List Part) (ms : List Mention) (m : Mention) → (m.path ≡ p → ⊥) → says_at p (ms ++ m ∷ []) ≡ says_at p ms
-says_at-other p ms m h =
-    says_at-push p ms m ∙ ap (λ b. says_at p ms ++ map (λ m. m.says) (cond b (m ∷ []) [])) (false_ne _ (λ t. h ((path_decides m.path p).0 t))) ∙ append-nil (says_at p ms)
+pub kinds_at-other : (p : List Part) (ms : List Mention) (m : Mention) → (m.path ≡ p → ⊥) → kinds_at p (ms ++ m ∷ []) ≡ kinds_at p ms
+kinds_at-other p ms m h =
+    kinds_at-push p ms m ∙ ap (λ b. kinds_at p ms ++ map (λ m. m.kind) (cond b (m ∷ []) [])) (false_ne _ (λ t. h ((path_decides m.path p).0 t))) ∙ append-nil (kinds_at p ms)
 
 node_paths-push : (ms : List Mention) (m : Mention) → node_paths (ms ++ m ∷ []) ≡ paths_with (node_paths ms) m.path
 node_paths-push ms m = ap (fold paths_with ([] ∷ [])) (map-append (λ m. m.path) ms (m ∷ [])) ∙ fold-append paths_with ([] ∷ []) (map (λ m. m.path) ms) (m.path ∷ [])
@@ -61,7 +61,7 @@ lets_more : (path : List Part) (r : Role) (m : Mention) (ms : List Mention) → 
     → list_all (lets path r) (marks (m ∷ ms)) ≡ list_all (λ e. allows e r) (mention_roles path (m ∷ ms))
 unfolding lets
 lets_more path r m ms more =
-    (elim (role_of m.says) as (λ o. (t : Bool) → same_path m.path path ≡ t → list_all (lets path r) (cons_option (with_path m.path o) (marks ms))
+    (elim (role_of m.kind) as (λ o. (t : Bool) → same_path m.path path ≡ t → list_all (lets path r) (cons_option (with_path m.path o) (marks ms))
     ≡ list_all (λ e. allows e r) (cond t (cons_option o (mention_roles path ms)) (mention_roles path ms))) [
       | None ↦ λ t is. elim t as (λ t. list_all (lets path r) (marks ms) ≡ list_all (λ e. allows e r) (cond t (mention_roles path ms) (mention_roles path ms))) [ true ↦ more | false ↦ more ]
       | Some s ↦ λ t is. rw is (elim t as (λ t. ((not t || allows s r) && list_all (lets path r) (marks ms)) ≡ list_all (λ e. allows e r) (cond t (s ∷ mention_roles path ms) (mention_roles path ms))) [
@@ -69,8 +69,8 @@ lets_more path r m ms more =
         | false ↦ more
       ])
     ]) (same_path m.path path) refl
-    ∙ elim (same_path m.path path) as (λ t. list_all (λ e. allows e r) (cond t (cons_option (role_of m.says) (mention_roles path ms)) (mention_roles path ms))
-    ≡ list_all (λ e. allows e r) (filter_map role_of (map (λ (x : Mention). x.says) (cond t (m ∷ filter (λ x. same_path x.path path) ms) (filter (λ x. same_path x.path path) ms))))) [
+    ∙ elim (same_path m.path path) as (λ t. list_all (λ e. allows e r) (cond t (cons_option (role_of m.kind) (mention_roles path ms)) (mention_roles path ms))
+    ≡ list_all (λ e. allows e r) (filter_map role_of (map (λ (x : Mention). x.kind) (cond t (m ∷ filter (λ x. same_path x.path path) ms) (filter (λ x. same_path x.path path) ms))))) [
       | true ↦ refl
       | false ↦ refl
     ]
@@ -83,18 +83,18 @@ lets_all path r (m ∷ ms) = lets_more path r m ms (lets_all path r ms)
 marks-push : (ms : List Mention) (m : Mention) → marks (ms ++ m ∷ []) ≡ marks ms ++ cons_option (mark_of m) []
 marks-push ms m = filter_map-append mark_of ms (m ∷ [])
 
-roles-here : (p : List Part) (ms : List Mention) (m : Mention) → m.path ≡ p → mention_roles p (ms ++ m ∷ []) ≡ mention_roles p ms ++ cons_option (role_of m.says) []
-roles-here p ms m h = ap (filter_map role_of) (says_at-here p ms m h) ∙ filter_map-append role_of (says_at p ms) (m.says ∷ [])
+roles-here : (p : List Part) (ms : List Mention) (m : Mention) → m.path ≡ p → mention_roles p (ms ++ m ∷ []) ≡ mention_roles p ms ++ cons_option (role_of m.kind) []
+roles-here p ms m h = ap (filter_map role_of) (kinds_at-here p ms m h) ∙ filter_map-append role_of (kinds_at p ms) (m.kind ∷ [])
 
 roles-other : (p : List Part) (ms : List Mention) (m : Mention) → (m.path ≡ p → ⊥) → mention_roles p (ms ++ m ∷ []) ≡ mention_roles p ms
-roles-other p ms m h = ap (filter_map role_of) (says_at-other p ms m h)
+roles-other p ms m h = ap (filter_map role_of) (kinds_at-other p ms m h)
 
 -- a role that all at its path allow obeys the rules
 or_true : (a b : Bool) → (not a || b) ≡ true → a ≡ true → b ≡ true
 or_true true b h t = h
 or_true false b h t = cc
 
-pub obeys_push : (ms : List Mention) (m : Mention) (r : Role) → role_of m.says ≡ Some r → list_all (λ e. allows e r) (mention_roles m.path ms) ≡ true → ObeysRules (marks ms) → ObeysRules (marks (ms ++ m ∷ []))
+pub obeys_push : (ms : List Mention) (m : Mention) (r : Role) → role_of m.kind ≡ Some r → list_all (λ e. allows e r) (mention_roles m.path ms) ≡ true → ObeysRules (marks ms) → ObeysRules (marks (ms ++ m ∷ []))
 unfolding lets
 obeys_push ms m r is pass obeys =
     let new : Mark = record { role = r; path = m.path } in
@@ -108,7 +108,7 @@ obeys_push ms m r is pass obeys =
     ] in
     or_true (same_path (get_or (marks ms) k d).path m.path) _ test ((path_decides _ _).1 same)))
 
-pub obeys_bare : (ms : List Mention) (m : Mention) → role_of m.says ≡ None → ObeysRules (marks ms) → ObeysRules (marks (ms ++ m ∷ []))
+pub obeys_bare : (ms : List Mention) (m : Mention) → role_of m.kind ≡ None → ObeysRules (marks ms) → ObeysRules (marks (ms ++ m ∷ []))
 obeys_bare ms m is obeys =
     let all : marks (ms ++ m ∷ []) ≡ marks ms = marks-push ms m ∙ ap (λ o. marks ms ++ cons_option (with_path m.path o) []) is ∙ append-nil (marks ms) in
     rw all obeys
@@ -137,13 +137,13 @@ refused ms path r fails =
 state_along : (s t : Option Role) (rs qs : List Role) → s ≡ t → rs ≡ qs → IsState t qs → IsState s rs
 state_along s t rs qs e f h = subst (λ (x : Option Role). IsState x rs) (sym e) (subst (λ (x : List Role). IsState t x) (sym f) h)
 
-obeys_new : (ms : List Mention) (m : Mention) (o : Option Role) → role_of m.says ≡ o → says_at m.path ms ≡ [] → ObeysRules (marks ms) → ObeysRules (marks (ms ++ m ∷ []))
+obeys_new : (ms : List Mention) (m : Mention) (o : Option Role) → role_of m.kind ≡ o → kinds_at m.path ms ≡ [] → ObeysRules (marks ms) → ObeysRules (marks (ms ++ m ∷ []))
 obeys_new ms m None is nothing obeys = obeys_bare ms m is obeys
 obeys_new ms m (Some r) is nothing obeys = obeys_push ms m r is (ap (λ ws. list_all (λ e. allows e r) (filter_map role_of ws)) nothing) obeys
 
 -- a mention at a new path
 pub represented_new : (paths : List (List Part)) (states : List (Option Role)) (ms : List Mention) (m : Mention) (state : Option Role) → StatesRepresent paths states ms
-    → (Contains paths m.path → ⊥) → IsState state (cons_option (role_of m.says) []) → StatesRepresent (paths ++ m.path ∷ []) (states ++ state ∷ []) (ms ++ m ∷ [])
+    → (Contains paths m.path → ⊥) → IsState state (cons_option (role_of m.kind) []) → StatesRepresent (paths ++ m.path ∷ []) (states ++ state ∷ []) (ms ++ m ∷ [])
 represented_new paths states ms m state states_represent new is = record {
   paths_are =
       ap (λ b. cond b paths (paths ++ m.path ∷ [])) (sym (unfound m.path paths new)) ∙ ap (λ ps. paths_with ps m.path) states_represent.paths_are ∙ sym (node_paths-push ms m);
@@ -158,16 +158,16 @@ represented_new paths states ms m state states_represent new is = record {
             let last : length paths ≡ i = omega (arith, length-append paths (m.path ∷ [])) in
             let own : get_or (paths ++ m.path ∷ []) i [] ≡ m.path = get_or_push paths m.path [] i last in
             state_along _ _ _ _ (get_or_push states state None i (states_represent.many ∙ last))
-            (roles-here _ ms m (sym own) ∙ ap (λ ws. filter_map role_of ws ++ cons_option (role_of m.says) []) (ap (λ q. says_at q ms) own ∙ states_represent.silent m.path new)) is
+            (roles-here _ ms m (sym own) ∙ ap (λ ws. filter_map role_of ws ++ cons_option (role_of m.kind) []) (ap (λ q. kinds_at q ms) own ∙ states_represent.silent m.path new)) is
       ];
   silent = λ q none.
-      says_at-other q ms m (λ e. none (subst (Contains (paths ++ m.path ∷ [])) e (Contains-push paths m.path))) ∙ states_represent.silent q (λ there. none (Contains-append_left paths (m.path ∷ []) q there));
-  obeys = obeys_new ms m (role_of m.says) refl (states_represent.silent m.path new) states_represent.obeys;
+      kinds_at-other q ms m (λ e. none (subst (Contains (paths ++ m.path ∷ [])) e (Contains-push paths m.path))) ∙ states_represent.silent q (λ there. none (Contains-append_left paths (m.path ∷ []) q there));
+  obeys = obeys_new ms m (role_of m.kind) refl (states_represent.silent m.path new) states_represent.obeys;
 }
 
 -- a mention at a path that was met before
 pub represented_existing : (paths : List (List Part)) (states : List (Option Role)) (ms : List Mention) (m : Mention) (i : ℕ) (state : Option Role) → StatesRepresent paths states ms → AllPairs (λ p q. p ≢ q) paths
-    → i < length paths → m.path ≡ get_or paths i [] → IsState state (mention_roles m.path ms ++ cons_option (role_of m.says) []) → ObeysRules (marks (ms ++ m ∷ []))
+    → i < length paths → m.path ≡ get_or paths i [] → IsState state (mention_roles m.path ms ++ cons_option (role_of m.kind) []) → ObeysRules (marks (ms ++ m ∷ []))
     → StatesRepresent paths (set states i state) (ms ++ m ∷ [])
 represented_existing paths states ms m i state states_represent distinct h is new obeys = record {
   paths_are =
@@ -178,19 +178,19 @@ represented_existing paths states ms m i state states_represent distinct h is ne
         | inl here ↦
             let own : m.path ≡ get_or paths j [] = is ∙ ap (λ k. get_or paths k []) (sym here) in
             state_along _ _ _ _ (ap (λ k. get_or (set states i state) k None) here ∙ get_or-set_same states i state None (omega (arith, states_represent.many)))
-            (roles-here _ ms m own ∙ ap (λ q. mention_roles q ms ++ cons_option (role_of m.says) []) (sym own)) new
+            (roles-here _ ms m own ∙ ap (λ q. mention_roles q ms ++ cons_option (role_of m.kind) []) (sym own)) new
         | inr other ↦
             let differ : m.path ≡ get_or paths j [] → ⊥ = λ e. other (one_place paths distinct j i g h (sym e ∙ is)) in
             state_along _ _ _ _ (get_or-set_other states i j state None other) (roles-other _ ms m differ) (states_represent.states_are j g)
       ];
   silent = λ q none.
-      says_at-other q ms m (λ e. none (subst (Contains paths) (sym is ∙ e) (Contains-get_or paths i [] h))) ∙ states_represent.silent q none;
+      kinds_at-other q ms m (λ e. none (subst (Contains paths) (sym is ∙ e) (Contains-get_or paths i [] h))) ∙ states_represent.silent q none;
   obeys = obeys;
 }
 
 -- a mention that leaves the state as it is
 pub represented_same : (paths : List (List Part)) (states : List (Option Role)) (ms : List Mention) (m : Mention) (i : ℕ) → StatesRepresent paths states ms → AllPairs (λ p q. p ≢ q) paths
-    → i < length paths → m.path ≡ get_or paths i [] → IsState (get_or states i None) (mention_roles m.path ms ++ cons_option (role_of m.says) []) → ObeysRules (marks (ms ++ m ∷ []))
+    → i < length paths → m.path ≡ get_or paths i [] → IsState (get_or states i None) (mention_roles m.path ms ++ cons_option (role_of m.kind) []) → ObeysRules (marks (ms ++ m ∷ []))
     → StatesRepresent paths states (ms ++ m ∷ [])
 represented_same paths states ms m i states_represent distinct h is new obeys =
     subst (λ (x : List (Option Role)). StatesRepresent paths x (ms ++ m ∷ [])) (set-get_or states i None) (represented_existing paths states ms m i (get_or states i None) states_represent distinct h is new obeys)

@@ -29,9 +29,9 @@ root_numbers n bare zero d low = λ k e h. absurd (omega (arith, h, ap length ba
 root_numbers n bare (suc i) d low = absurd (omega (arith, low))
 
 -- such a node alone is a root
-pub is_root : (front nodes : List Node) (children : ChildList) (facts : NodeFacts) (h : Holding) → front ≡ [] → nodes ≡ front ++ record { parent = 0; number = 0; children = children; facts = facts } ∷ []
+pub is_root : (prefix nodes : List Node) (children : ChildList) (facts : NodeFacts) (h : Holding) → prefix ≡ [] → nodes ≡ prefix ++ record { parent = 0; number = 0; children = children; facts = facts } ∷ []
     → facts.role ≡ None → holds_of children ≡ h → child_ids children ≡ [] → info_of facts ≡ no_info → IsRoot nodes h
-is_root front nodes children facts h none is unmarked holds bare joined =
+is_root prefix nodes children facts h none is unmarked holds bare joined =
     let n : Node = record { parent = 0; number = 0; children = children; facts = facts } in
     let t : TrieNode = trie_node_in (n ∷ []) n in
     subst (λ (ns : List Node). IsRoot ns h) (sym (is ∙ ap (λ ns. ns ++ n ∷ []) none)) (record {
@@ -51,9 +51,9 @@ rooted_represents nodes h r = subst (λ (ts : List TrieNode). Represents ts [] [
 pub first_low : (ms : List Mark) (n : ℕ) (why : Why) → IsFirstFaulty ms n why → n < length ms
 first_low ms n why first = omega (arith, ap length first.here, length-append first.before (first.mark ∷ first.after), first.number)
 
--- the fault of that number is at the place of its key part
+-- the fault with that number is at the place of its key part
 pub fault_placed : (parts : List KeyPart) (ms : List Mark) (P : ReadFault → Type 0) (g : Fault) (r : ReadFault) → IsFaultAt parts g r → FaultMeets g (λ n w. IsFirstFaulty ms n w)
     → ((at : ℕ) (why : Why) → IsFirstFaultAt ms parts at why → P (faults.Define at why)) → P faults.Memory → P r
 fault_placed parts ms P (fault.Define n why) r at first define memory =
-    subst P (sym at.2) (define at.0.span.start why (record { number = n; part = at.0; first = first; stands = at.1; here = refl }))
+    subst P (sym at.2) (define at.0.span.start why (record { number = n; part = at.0; first = first; occurs = at.1; here = refl }))
 fault_placed parts ms P fault.Memory r at first define memory = subst P (sym at) memory

@@ -34,9 +34,9 @@ items_then a b c k f g i h listed = g i (omega (arith, k.longer)) (k.holdings i 
 
 pub stays_open : {old new : List TrieNode} {at : ℕ} {path : List Part} → Keeps old new → IsOpen old at path → IsOpen new at path
 stays_open {at = at} k o = record {
-  inside = omega (arith, k.longer, o.inside);
-  here = k.paths at o.inside ∙ o.here;
-  open_to = k.holdings at o.inside ∙ o.open_to;
+  nested = omega (arith, k.longer, o.nested);
+  here = k.paths at o.nested ∙ o.here;
+  open_to = k.holdings at o.nested ∙ o.open_to;
 }
 
 -- ---- a `[[..]]` begins an element
@@ -47,7 +47,7 @@ begins old mid new parent id to k marked g last =
     let p : List Part = path_at old parent ++ key k ∷ [] in
     let c : ℕ = length (children_of mid id) in
     let counted : (ms : List Mention) (ts : List (List Part)) → Represents old ms ts → elements_of p ts ≡ c = λ ms ts represents.
-    ap (λ q. elements_of q ts) (sym marked.here) ∙ (marked.tables ts represents.tables_are).counts id marked.inside ∙ ap (λ t. cond t c 0) marked.kind in
+    ap (λ q. elements_of q ts) (sym marked.here) ∙ (marked.tables ts represents.tables_are).counts id marked.nested ∙ ap (λ t. cond t c 0) marked.kind in
     let grows : Grows mid new id (p ++ index c ∷ []) None by_key = subst (λ (q : List Part). Grows mid new id (q ++ index c ∷ []) None by_key) marked.here g in
     record {
       keeps = keeps_then marked.keeps (keeps_grown g);
@@ -56,8 +56,8 @@ begins old mid new parent id to k marked g last =
           let are : AreTables mid ts = marked.tables ts represents.tables_are in
           let np : List Part = p ++ index (elements_of p ts) ∷ [] in
           let np_is : p ++ index c ∷ [] ≡ np = ap (λ x. p ++ index x ∷ []) (sym (counted ms ts represents)) in
-          let m1 : Mention = record { path = p; says = element } in
-          let m2 : Mention = record { path = np; says = begun } in
+          let m1 : Mention = record { path = p; kind = element } in
+          let m2 : Mention = record { path = np; kind = begun } in
           let one : IsIndexOf mid (ms ++ m1 ∷ []) = marked.index ms element refl represents.index in
           let two : StatesRepresent (paths_of mid ++ np ∷ []) (states_of mid ++ None ∷ []) ((ms ++ m1 ∷ []) ++ m2 ∷ []) =
           represented_new (paths_of mid) (states_of mid) (ms ++ m1 ∷ []) m2 None one.states_represent (λ there. grows.fresh (subst (Contains (paths_of mid)) (sym np_is) there)) refl in
@@ -70,7 +70,7 @@ begins old mid new parent id to k marked g last =
             begun = begun_begun mid new id (p ++ index c ∷ []) grows (marked.begun_others represents.begun);
           };
       is_open = λ ms ts represents. record {
-        inside = omega (arith, longer g);
+        nested = omega (arith, longer g);
         here = ap (path_at new) last ∙ path_last grows ∙ ap (λ x. p ++ index x ∷ []) (sym (counted ms ts represents));
         open_to = ap (holds_at new) last ∙ holds_last g;
       };
@@ -96,7 +96,7 @@ adds_item old new at to holds g shaped plain last =
       items = λ i h ne. children_other g i ne;
       own = children_here g at refl;
       represents = λ f ms ts represents.
-          let m : Mention = record { path = p; says = item f } in
+          let m : Mention = record { path = p; kind = item f } in
           record {
             index = record {
               trie = g.trie';
@@ -109,7 +109,7 @@ adds_item old new at to holds g shaped plain last =
       made = record {
         later = omega arith;
         plain = ap (λ i. is_tables (state_at new i)) last ∙ ap is_tables (state_last g);
-        inside = omega (arith, longer g);
+        nested = omega (arith, longer g);
         here = ap (path_at new) last ∙ path_last g;
         held = ap (holds_at new) last ∙ holds_last g;
         bare = ap (children_of new) last ∙ children_other g (length old) (λ e. absurd (omega (arith, g.within, e))) ∙ no_children_past_end old g.trie (first old g.trie) (length old) (omega arith);
@@ -122,7 +122,7 @@ pub walks_none : (nodes : List TrieNode) → 0 < length nodes → holds_at nodes
 walks_none nodes root keyed = record {
   keeps = keeps_same nodes;
   represents = λ ms ts represents. subst (λ (w : List Mention). Represents nodes w ts) (sym (append-nil ms)) represents;
-  is_open = λ ms ts represents. record { inside = root; here = path_at-root nodes; open_to = keyed };
+  is_open = λ ms ts represents. record { nested = root; here = path_at-root nodes; open_to = keyed };
 }
 
 pub walks_more : (old mid new : List TrieNode) (at to : ℕ) (ks : List (List ℕ)) (k : List ℕ) → Walks old mid at ks → Passes mid new at to k → Walks old new to (ks ++ k ∷ [])
@@ -150,7 +150,7 @@ dots_none nodes at h keyed = record {
   keeps = keeps_same nodes;
   items = λ i h listed. refl;
   represents = λ ms ts represents. subst (λ (w : List Mention). Represents nodes w ts) (sym (append-nil ms)) represents;
-  is_open = record { inside = h; here = sym (append-nil (path_at nodes at)); open_to = keyed };
+  is_open = record { nested = h; here = sym (append-nil (path_at nodes at)); open_to = keyed };
 }
 
 pub dots_more : (old mid new : List TrieNode) (at by to : ℕ) (ks : List (List ℕ)) (k : List ℕ) → Dots old mid at by ks → IsMarked mid new (path_at mid by ++ key k ∷ []) Dotted by_key to → Dots old new at to (ks ++ k ∷ [])
@@ -163,13 +163,13 @@ dots_more old mid new at by to ks k dots marked =
       items = items_then old mid new dots.keeps dots.items marked.items;
       represents = λ ms ts represents.
           let before = dots.represents ms ts represents in
-          let m : Mention = record { path = q; says = dotted } in
+          let m : Mention = record { path = q; kind = dotted } in
           let step : IsIndexOf new ((ms ++ dotted_mentions p ks) ++ m ∷ []) =
-          subst (λ (r : List Part). IsIndexOf new ((ms ++ dotted_mentions p ks) ++ record { path = r; says = dotted } ∷ [])) full (marked.index (ms ++ dotted_mentions p ks) dotted refl before.index) in
+          subst (λ (r : List Part). IsIndexOf new ((ms ++ dotted_mentions p ks) ++ record { path = r; kind = dotted } ∷ [])) full (marked.index (ms ++ dotted_mentions p ks) dotted refl before.index) in
           subst (λ (w : List Mention). Represents new w ts) (append_assoc ms (dotted_mentions p ks) (m ∷ []) ∙ ap (λ w. ms ++ w) (sym (dotted_mentions-append p ks (k ∷ []))))
           (represents_marked marked refl (ms ++ dotted_mentions p ks) (m ∷ []) ts step before);
       is_open = record {
-        inside = marked.inside;
+        nested = marked.nested;
         here = marked.here ∙ full ∙ append_assoc p (map key ks) (key k ∷ []) ∙ ap (λ r. p ++ r) (sym (map-append key ks (k ∷ [])));
         open_to = marked.opened refl;
       };
@@ -186,15 +186,15 @@ gives old mid new at by to leading last holds dots marked =
       items = items_then old mid new dots.keeps dots.items marked.items;
       represents = λ f ms ts represents.
           let before = dots.represents ms ts represents in
-          let m : Mention = record { path = q; says = value f } in
+          let m : Mention = record { path = q; kind = value f } in
           let step : IsIndexOf new ((ms ++ dotted_mentions p leading) ++ m ∷ []) =
-          subst (λ (r : List Part). IsIndexOf new ((ms ++ dotted_mentions p leading) ++ record { path = r; says = value f } ∷ [])) full (marked.index (ms ++ dotted_mentions p leading) (value f) refl before.index) in
+          subst (λ (r : List Part). IsIndexOf new ((ms ++ dotted_mentions p leading) ++ record { path = r; kind = value f } ∷ [])) full (marked.index (ms ++ dotted_mentions p leading) (value f) refl before.index) in
           subst (λ (w : List Mention). Represents new w ts) (append_assoc ms (dotted_mentions p leading) (m ∷ []))
           (represents_marked marked refl (ms ++ dotted_mentions p leading) (m ∷ []) ts step before);
       made = record {
         later = omega (arith, (marked.valued refl).2, dots.keeps.longer);
         plain = marked.kind;
-        inside = marked.inside;
+        nested = marked.nested;
         here = marked.here ∙ full;
         held = (marked.valued refl).0;
         bare = (marked.valued refl).1;

@@ -11,7 +11,7 @@ use Rattle.keep_meaning.specs.Fact.{Fact}
 use Rattle.keep_path.specs.Path.{Part, key, index}
 use Rattle.keep_meaning.specs.Rules.{Mark, ObeysRules, IsRefused, IsFirstFaulty, why_of}
 use Rattle.keep_meaning.specs.Marks as marks
-use Rattle.keep_meaning.specs.Marks.{Mention, Saying, role_of, with_path, mark_of, elements_of, entered_path, passing_mentions, header, element_header}
+use Rattle.keep_meaning.specs.Marks.{Mention, MentionKind, role_of, with_path, mark_of, elements_of, entered_path, passing_mentions, header, element_header}
 use Rattle.keep_nodes.specs.Trie.{TrieNode, path_at}
 use Rattle.keep_rules.specs.Represents.{Represents, WasRefused, HasNoElement, FaultIn}
 use Rattle.keep_rules.specs.KeyWalks.{walk_path, walk_mentions, dotted_mentions}
@@ -23,12 +23,12 @@ use Rattle.keep_rules.proofs.KeyWalkLemmas.{walk_mentions-append, header_way-spl
 use Rattle.keep_rules.proofs.NextValueLemmas.{keyed_mentions_are}
 
 -- a refused mark, after others in order
-pub one_fault : (nodes : List TrieNode) (path : List Part) (role : Role) (says : Saying) (ms leading rest : List Mention) (ts : List (List Part)) (n : ℕ)
-    → Represents nodes (ms ++ leading) ts → WasRefused nodes path role → role_of says ≡ Some role → length (marks.marks leading) ≡ n
-    → FaultIn ms (leading ++ record { path = path; says = says } ∷ rest) n (why_of role)
-one_fault nodes path role says ms leading rest ts n represents was is counted = record {
+pub one_fault : (nodes : List TrieNode) (path : List Part) (role : Role) (mention_kind : MentionKind) (ms leading rest : List Mention) (ts : List (List Part)) (n : ℕ)
+    → Represents nodes (ms ++ leading) ts → WasRefused nodes path role → role_of mention_kind ≡ Some role → length (marks.marks leading) ≡ n
+    → FaultIn ms (leading ++ record { path = path; kind = mention_kind } ∷ rest) n (why_of role)
+one_fault nodes path role mention_kind ms leading rest ts n represents was is counted = record {
   done = leading;
-  faulty = record { path = path; says = says };
+  faulty = record { path = path; kind = mention_kind };
   rest = rest;
   here = refl;
   role = role;
@@ -90,22 +90,22 @@ walk_fault old mid at ks k rest walked was plain ms ts represents =
     let full : path_at mid at ++ key k ∷ [] ≡ p = ap (λ q. q ++ key k ∷ []) (walked.is_open ms ts represents).here in
     let there = walked.represents ms ts represents in
     let zero : elements_of p ts ≡ 0 = ap (λ q. elements_of q ts) (sym full) ∙ plain ts there.tables_are there.begun in
-    let whole : walk_mentions ts [] (ks ++ k ∷ rest) ≡ walk_mentions ts [] ks ++ record { path = p; says = marks.through } ∷ walk_mentions ts (entered_path ts p) rest =
+    let whole : walk_mentions ts [] (ks ++ k ∷ rest) ≡ walk_mentions ts [] ks ++ record { path = p; kind = marks.through } ∷ walk_mentions ts (entered_path ts p) rest =
     walk_mentions-append ts [] ks (k ∷ rest) ∙ ap (λ w. walk_mentions ts [] ks ++ (w ++ walk_mentions ts (entered_path ts p) rest)) (passing-none ts p zero) in
     subst (λ (w : List Mention). FaultIn ms w (length ks) NotATable) (sym whole)
     (one_fault mid p Through marks.through ms (walk_mentions ts [] ks) (walk_mentions ts (entered_path ts p) rest) ts (length ks) there (subst (λ (q : List Part). WasRefused mid q Through) full was) refl (marks-walk_mentions ts [] ks))
 
 -- where a leading key is at fault, the header is
-header_whole : (ts : List (List Part)) (leading : List (List ℕ)) (last : List ℕ) → marks.header_way ts [] (leading ++ last ∷ []) ++ record { path = marks.header_path ts [] (leading ++ last ∷ []); says = marks.define } ∷ []
-    ≡ walk_mentions ts [] leading ++ record { path = walk_path ts [] leading ++ key last ∷ []; says = marks.define } ∷ []
-header_whole ts leading last = ap (λ w. w ++ record { path = marks.header_path ts [] (leading ++ last ∷ []); says = marks.define } ∷ []) (header_way-split ts [] leading last)
-    ∙ ap (λ p. walk_mentions ts [] leading ++ record { path = p; says = marks.define } ∷ []) (header_path-split ts [] leading last)
+header_whole : (ts : List (List Part)) (leading : List (List ℕ)) (last : List ℕ) → marks.header_way ts [] (leading ++ last ∷ []) ++ record { path = marks.header_path ts [] (leading ++ last ∷ []); kind = marks.define } ∷ []
+    ≡ walk_mentions ts [] leading ++ record { path = walk_path ts [] leading ++ key last ∷ []; kind = marks.define } ∷ []
+header_whole ts leading last = ap (λ w. w ++ record { path = marks.header_path ts [] (leading ++ last ∷ []); kind = marks.define } ∷ []) (header_way-split ts [] leading last)
+    ∙ ap (λ p. walk_mentions ts [] leading ++ record { path = p; kind = marks.define } ∷ []) (header_path-split ts [] leading last)
 
 element_whole : (ts : List (List Part)) (leading : List (List ℕ)) (last : List ℕ) → marks.statement_mentions (record { tables = ts; body = [] }) (element_header (leading ++ last ∷ []))
-    ≡ walk_mentions ts [] leading ++ record { path = walk_path ts [] leading ++ key last ∷ []; says = marks.element } ∷ record { path = (walk_path ts [] leading ++ key last ∷ []) ++ index (elements_of (walk_path ts [] leading ++ key last ∷ []) ts) ∷ []; says = marks.begun } ∷ []
+    ≡ walk_mentions ts [] leading ++ record { path = walk_path ts [] leading ++ key last ∷ []; kind = marks.element } ∷ record { path = (walk_path ts [] leading ++ key last ∷ []) ++ index (elements_of (walk_path ts [] leading ++ key last ∷ []) ts) ∷ []; kind = marks.begun } ∷ []
 element_whole ts leading last =
-    ap (λ w. w ++ record { path = marks.header_path ts [] (leading ++ last ∷ []); says = marks.element } ∷ record { path = marks.header_path ts [] (leading ++ last ∷ []) ++ index (elements_of (marks.header_path ts [] (leading ++ last ∷ [])) ts) ∷ []; says = marks.begun } ∷ []) (header_way-split ts [] leading last)
-    ∙ ap (λ p. walk_mentions ts [] leading ++ record { path = p; says = marks.element } ∷ record { path = p ++ index (elements_of p ts) ∷ []; says = marks.begun } ∷ []) (header_path-split ts [] leading last)
+    ap (λ w. w ++ record { path = marks.header_path ts [] (leading ++ last ∷ []); kind = marks.element } ∷ record { path = marks.header_path ts [] (leading ++ last ∷ []) ++ index (elements_of (marks.header_path ts [] (leading ++ last ∷ [])) ts) ∷ []; kind = marks.begun } ∷ []) (header_way-split ts [] leading last)
+    ∙ ap (λ p. walk_mentions ts [] leading ++ record { path = p; kind = marks.element } ∷ record { path = p ++ index (elements_of p ts) ∷ []; kind = marks.begun } ∷ []) (header_path-split ts [] leading last)
 
 pub header_walk_faults : (old : List TrieNode) (leading : List (List ℕ)) (last : List ℕ) (n : ℕ) (why : Why)
     → ((ms : List Mention) (ts : List (List Part)) → Represents old ms ts → FaultIn ms (walk_mentions ts [] leading) n why) → (body : ℕ) → FaultsIn old body (header (leading ++ last ∷ [])) n why
@@ -148,9 +148,9 @@ pub keyed_walk_fault : (old : List TrieNode) (ids : List ℕ) (s : NestingState)
     → ((ms : List Mention) (ts : List (List Part)) → Represents old ms ts → FaultIn ms (dotted_mentions (path_at old at) leading) n why)
     → (ms : List Mention) (ts : List (List Part)) → Represents old ms ts → FaultIn ms (nested_mentions s (nested_keyed o (leading ++ last ∷ []) f)) n why
 keyed_walk_fault old ids s o at leading last f n why here faults ms ts represents =
-    let said : nested_mentions s (nested_keyed o (leading ++ last ∷ []) f) ≡ dotted_mentions (path_at old at) leading ++ record { path = (path_at old at ++ map key leading) ++ key last ∷ []; says = marks.value f } ∷ [] =
-    keyed_mentions_are (path_of_value s o) leading last f ∙ ap (λ p. dotted_mentions p leading ++ record { path = (p ++ map key leading) ++ key last ∷ []; says = marks.value f } ∷ []) (sym here) in
-    subst (λ (w : List Mention). FaultIn ms w n why) (sym said) (fault_more ms (dotted_mentions (path_at old at) leading) _ n why (faults ms ts represents))
+    let mentioned : nested_mentions s (nested_keyed o (leading ++ last ∷ []) f) ≡ dotted_mentions (path_at old at) leading ++ record { path = (path_at old at ++ map key leading) ++ key last ∷ []; kind = marks.value f } ∷ [] =
+    keyed_mentions_are (path_of_value s o) leading last f ∙ ap (λ p. dotted_mentions p leading ++ record { path = (p ++ map key leading) ++ key last ∷ []; kind = marks.value f } ∷ []) (sym here) in
+    subst (λ (w : List Mention). FaultIn ms w n why) (sym mentioned) (fault_more ms (dotted_mentions (path_at old at) leading) _ n why (faults ms ts represents))
 
 pub keyed_fault : (old mid : List TrieNode) (s : NestingState) (o at by : ℕ) (leading : List (List ℕ)) (last : List ℕ) (f : Fact) → path_at old at ≡ path_of_value s o → Dots old mid at by leading → WasRefused mid (path_at mid by ++ key last ∷ []) Value
     → (ms : List Mention) (ts : List (List Part)) → Represents old ms ts → FaultIn ms (nested_mentions s (nested_keyed o (leading ++ last ∷ []) f)) (length leading) DuplicateKey
@@ -158,7 +158,7 @@ keyed_fault old mid s o at by leading last f here dots was ms ts represents =
     let p : List Part = path_at old at in
     let q : List Part = (p ++ map key leading) ++ key last ∷ [] in
     let full : path_at mid by ++ key last ∷ [] ≡ q = ap (λ r. r ++ key last ∷ []) dots.is_open.here in
-    let said : nested_mentions s (nested_keyed o (leading ++ last ∷ []) f) ≡ dotted_mentions p leading ++ record { path = q; says = marks.value f } ∷ [] =
-    keyed_mentions_are (path_of_value s o) leading last f ∙ ap (λ p. dotted_mentions p leading ++ record { path = (p ++ map key leading) ++ key last ∷ []; says = marks.value f } ∷ []) (sym here) in
-    subst (λ (w : List Mention). FaultIn ms w (length leading) DuplicateKey) (sym said)
+    let mentioned : nested_mentions s (nested_keyed o (leading ++ last ∷ []) f) ≡ dotted_mentions p leading ++ record { path = q; kind = marks.value f } ∷ [] =
+    keyed_mentions_are (path_of_value s o) leading last f ∙ ap (λ p. dotted_mentions p leading ++ record { path = (p ++ map key leading) ++ key last ∷ []; kind = marks.value f } ∷ []) (sym here) in
+    subst (λ (w : List Mention). FaultIn ms w (length leading) DuplicateKey) (sym mentioned)
     (one_fault mid q Value (marks.value f) ms (dotted_mentions p leading) [] ts (length leading) (dots.represents ms ts represents) (subst (λ (r : List Part). WasRefused mid r Value) full was) refl (marks-dotted_mentions p leading))

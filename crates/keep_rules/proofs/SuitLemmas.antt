@@ -27,21 +27,21 @@ suits_entry s owner (Some name) f nothing is suits low = absurd suits
 -- entries that fit their value give values that fit theirs
 pub nested_suit : (s : NestingState) (owner v : ℕ) (es : Entries) → HasValues s v → owner < v → EntriesSuit (holding_of_value s owner) es → AllSuit s (nested_values owner v es)
 nested_suit s owner v none has low suits = tt
-nested_suit s owner v (entry name body inside after comma rest) has low suits =
+nested_suit s owner v (entry name body nested after comma rest) has low suits =
     let f : Fact = body_fact body in
     let t : NestedValue = entry_nested owner name f in
     let a : NestingState = next_nesting s t in
-    let ins : List NestedValue = nested_values v (suc v) inside in
+    let ins : List NestedValue = nested_values v (suc v) nested in
     let b : NestingState = nesting_after a ins in
     let has' = next_values s t v has in
     let first : Stays s a owner v 1 = subst (λ (o : ℕ). Stays s a o v 1) (owner_is owner name f) (next_stays s t v has) in
-    let second = nested_stay a v (suc v) inside has' (omega arith) in
+    let second = nested_stay a v (suc v) nested has' (omega arith) in
     let own : holding_of_value a v ≡ holding_of f = new_holding s t v has ∙ ap holding_of (fact_is owner name f) in
     let same : holding_of_value b owner ≡ holding_of_value s owner = second.holdings owner (omega arith) ∙ first.holdings owner low in (
       suits_entry s owner name f (holding_of_value s owner) refl suits.0 (omega (arith, has.paths)),
-      all_suit-append a ins (nested_values owner (suc v + value_count inside) rest)
-          (nested_suit a v (suc v) inside has' (omega arith) (subst (λ (h : Holding). EntriesSuit h inside) (sym own) suits.1))
-          (nested_suit b owner (suc v + value_count inside) rest second.has (omega arith) (subst (λ (h : Holding). EntriesSuit h rest) (sym same) suits.2)),
+      all_suit-append a ins (nested_values owner (suc v + value_count nested) rest)
+          (nested_suit a v (suc v) nested has' (omega arith) (subst (λ (h : Holding). EntriesSuit h nested) (sym own) suits.1))
+          (nested_suit b owner (suc v + value_count nested) rest second.has (omega arith) (subst (λ (h : Holding). EntriesSuit h rest) (sym same) suits.2)),
     )
 
 -- ---- by the grammar
@@ -67,19 +67,19 @@ body_holds (inline first) = refl
 
 pub entries_suit : (profile : Profile) (place : Place) (h : Holding) (es : Entries) → PlaceHolds place h → AreEntries profile place es → EntriesSuit h es
 entries_suit profile place h none fits are = tt
-entries_suit profile place h (entry name body inside after comma rest) fits are =
-    (name_suits profile place h name fits are.0, entries_suit profile (place_in body) (holding_of (body_fact body)) inside (body_holds body) are.2, entries_suit profile place h rest fits are.5)
+entries_suit profile place h (entry name body nested after comma rest) fits are =
+    (name_suits profile place h name fits are.0, entries_suit profile (place_in body) (holding_of (body_fact body)) nested (body_holds body) are.2, entries_suit profile place h rest fits are.5)
 
 -- a keyval in a body
 pub keyval_suits : (profile : Profile) (path : List Part) (name : Name) (v : Value) → IsValue profile v → AllSuit (body_nesting path) (keyval_nested name v)
 keyval_suits profile path name v is =
-    let e : Entries = entry (Some name) v.body v.inside [] None none in
-    subst (λ (ts : List NestedValue). AllSuit (body_nesting path) (entry_nested 0 (Some name) (body_fact v.body) ∷ ts)) (append-nil (nested_values 1 2 v.inside))
+    let e : Entries = entry (Some name) v.body v.nested [] None none in
+    subst (λ (ts : List NestedValue). AllSuit (body_nesting path) (entry_nested 0 (Some name) (body_fact v.body) ∷ ts)) (append-nil (nested_values 1 2 v.nested))
     (nested_suit (body_nesting path) 0 1 e record { paths = refl; holdings = refl; entries = refl } (omega arith)
-    (tt, entries_suit profile (place_in v.body) (holding_of (body_fact v.body)) v.inside (body_holds v.body) is.inside, tt))
+    (tt, entries_suit profile (place_in v.body) (holding_of (body_fact v.body)) v.nested (body_holds v.body) is.nested, tt))
 
 -- the values in a value alone
-pub value_suits : (profile : Profile) (v : Value) → IsValue profile v → AllSuit (value_nesting (body_fact v.body)) (nested_values 0 1 v.inside)
+pub value_suits : (profile : Profile) (v : Value) → IsValue profile v → AllSuit (value_nesting (body_fact v.body)) (nested_values 0 1 v.nested)
 value_suits profile v is =
-    nested_suit (value_nesting (body_fact v.body)) 0 1 v.inside record { paths = refl; holdings = refl; entries = refl } (omega arith)
-    (entries_suit profile (place_in v.body) (holding_of (body_fact v.body)) v.inside (body_holds v.body) is.inside)
+    nested_suit (value_nesting (body_fact v.body)) 0 1 v.nested record { paths = refl; holdings = refl; entries = refl } (omega arith)
+    (entries_suit profile (place_in v.body) (holding_of (body_fact v.body)) v.nested (body_holds v.body) is.nested)

@@ -56,7 +56,7 @@ elements_grown {old = old} {new = new} {parent = parent} {path = path} g joins a
               | inl less ↦
                   let child = child_at old g.trie i k (first old g.trie) below less in
                   let same : get_or (children_of new i) k 0 ≡ get_or (children_of old i) k 0 = ap (λ ks. get_or ks k 0) own ∙ get_or_append_left (children_of old i) (length old ∷ []) 0 k less in
-                  ap (path_at new) same ∙ path_below g _ child.inside ∙ are.elements i k below t' less ∙ ap (λ p. p ++ index k ∷ []) (sym (path_below g i below))
+                  ap (path_at new) same ∙ path_below g _ child.nested ∙ are.elements i k below t' less ∙ ap (λ p. p ++ index k ∷ []) (sym (path_below g i below))
               | inr top ↦
                   let k_is : n ≡ k = omega (arith, ap length own, length-append (children_of old i) (length old ∷ [])) in
                   let same : get_or (children_of new i) k 0 ≡ length old = ap (λ ks. get_or ks k 0) own ∙ get_or_push (children_of old i) (length old) 0 k k_is in
@@ -66,7 +66,7 @@ elements_grown {old = old} {new = new} {parent = parent} {path = path} g joins a
         | inr other ↦
             let low' : k < length (children_of old i) = omega (arith, ap length (children_other g i other)) in
             let child = child_at old g.trie i k (first old g.trie) below low' in
-            ap (λ ks. path_at new (get_or ks k 0)) (children_other g i other) ∙ path_below g _ child.inside ∙ are.elements i k below t' low' ∙ ap (λ p. p ++ index k ∷ []) (sym (path_below g i below))
+            ap (λ ks. path_at new (get_or ks k 0)) (children_other g i other) ∙ path_below g _ child.nested ∙ are.elements i k below t' low' ∙ ap (λ p. p ++ index k ∷ []) (sym (path_below g i below))
       ]
   | inr above ↦
       let last : i ≡ length old = omega (arith, longer g) in
@@ -87,7 +87,7 @@ plain_grown {old = old} {new = new} {parent = parent} g joins are i k h t low = 
                   let child = child_at old g.trie i k (first old g.trie) below less in
                   let same : get_or (children_of new i) k 0 ≡ get_or (children_of old i) k 0 = ap (λ ks. get_or ks k 0) own ∙ get_or_append_left (children_of old i) (length old ∷ []) 0 k less in
                   let was = are.plain i k below t' less in
-                  (ap (state_at new) same ∙ state_below g _ child.inside ∙ was.0, ap (holds_at new) same ∙ holds_below g _ child.inside ∙ was.1)
+                  (ap (state_at new) same ∙ state_below g _ child.nested ∙ was.0, ap (holds_at new) same ∙ holds_below g _ child.nested ∙ was.1)
               | inr top ↦
                   let k_is : n ≡ k = omega (arith, ap length own, length-append (children_of old i) (length old ∷ [])) in
                   let same : get_or (children_of new i) k 0 ≡ length old = ap (λ ks. get_or ks k 0) own ∙ get_or_push (children_of old i) (length old) 0 k k_is in
@@ -98,8 +98,8 @@ plain_grown {old = old} {new = new} {parent = parent} g joins are i k h t low = 
             let low' : k < length (children_of old i) = omega (arith, ap length (children_other g i other)) in
             let child = child_at old g.trie i k (first old g.trie) below low' in
             let was = are.plain i k below t' low' in (
-              ap (λ ks. state_at new (get_or ks k 0)) (children_other g i other) ∙ state_below g _ child.inside ∙ was.0,
-              ap (λ ks. holds_at new (get_or ks k 0)) (children_other g i other) ∙ holds_below g _ child.inside ∙ was.1,
+              ap (λ ks. state_at new (get_or ks k 0)) (children_other g i other) ∙ state_below g _ child.nested ∙ was.0,
+              ap (λ ks. holds_at new (get_or ks k 0)) (children_other g i other) ∙ holds_below g _ child.nested ∙ was.1,
             )
       ]
   | inr above ↦
@@ -369,10 +369,10 @@ state_then : (s next role : Role) → ((roles : List Role) → IsState (Some s) 
 state_then s next role then =
     then (s ∷ []) (λ r. and_true (allows s r)) Element ∙ ap (λ b. allows s Element && b) (sym (and_true (allows role Element)))
 
-pub kind_kept : (o : Option Role) (next role : Role) → IsSome o → ((roles : List Role) → IsState o roles → list_all (λ e. allows e role) roles ≡ true) → ((roles : List Role) → IsState o roles → IsState (Some next) (roles ++ role ∷ []))
+pub kind_preserved : (o : Option Role) (next role : Role) → IsSome o → ((roles : List Role) → IsState o roles → list_all (λ e. allows e role) roles ≡ true) → ((roles : List Role) → IsState o roles → IsState (Some next) (roles ++ role ∷ []))
     → allows next Element ≡ is_tables o
-kind_kept None next role some allowed then = cc
-kind_kept (Some s) next role some allowed then = state_then s next role then ∙ both s role (one_state s role allowed)
+kind_preserved None next role some allowed then = cc
+kind_preserved (Some s) next role some allowed then = state_then s next role then ∙ both s role (one_state s role allowed)
 
 pub kind_made : (o : Option Role) (next role : Role) → ((roles : List Role) → IsState o roles → list_all (λ e. allows e role) roles ≡ true) → ((roles : List Role) → IsState o roles → IsState (Some next) (roles ++ role ∷ []))
     → allows next Element ≡ allows role Element

@@ -20,7 +20,7 @@ use Rattle.keep_rules.specs.Represents.{FaultIn}
 use Rattle.keep_rules.specs.Reads.{AreValueNodes}
 use Rattle.keep_rules.specs.Stops.{FaultMeets}
 use Rattle.keep_rules.specs.NestedReads.{nested_keys, all_nested_keys, HasKeys, NestedRead}
-use Rattle.keep_rules.specs.FlatValues.{MatchesNested, IsInside}
+use Rattle.keep_rules.specs.FlatValues.{MatchesNested, IsNested}
 use Rattle.keep_rules.specs.Plans.{nodes_so_far, EndsAt, MatchNested, IsNext, AreNext, RepresentsSome, NestedValueRead, NestedValueFaults, NestedValuesRead, NestedValuesFault}
 use Rattle.keep_rules.proofs.NestedValueLemmas.{all_nested_mentions-append, nesting_after-append}
 use Rattle.keep_rules.proofs.PassLemmas.{keeps_same}
@@ -50,7 +50,7 @@ begin_underway bytes f base from old ids shaped s ts first next = record {
   left = ts;
   whole = refl;
   here = omega arith;
-  was_read = nested_read_none f.values f.keys (nodes_so_far old ids) from first s shaped (keeps_same (trie_of old)) next.inside;
+  was_read = nested_read_none f.values f.keys (nodes_so_far old ids) from first s shaped (keeps_same (trie_of old)) next.nested;
   keys = refl;
   suit = next.suit;
   matches = subst (λ (n : ℕ). MatchNested bytes f base from n ts) (let e : first ≡ first + 0 = omega arith in e) next.matches;
@@ -61,7 +61,7 @@ begin_underway bytes f base from old ids shaped s ts first next = record {
 -- a value inside a value is there
 pub record IsThere (values : List ValueInfo) (number : ℕ) (info : ValueInfo) : Type 0 where
   pub listed : slice_get values number ≡ Some info
-  pub inside : IsInside info.owner
+  pub nested : IsNested info.owner
 
 -- the next nested value, with those after it
 pub record HasNext (bytes : List ℕ) (f : Flat) (base first : ℕ) (now : List Node) (ids' : List ℕ) (number : ℕ) (info : ValueInfo) (s : NestingState) (left : List NestedValue) : Type 0 where
@@ -78,14 +78,14 @@ same_info a b e = cc
 
 has_next : (bytes : List ℕ) (f : Flat) (base first : ℕ) (now : List Node) (ids' : List ℕ) (number : ℕ) (info : ValueInfo) (s : NestingState) (left : List NestedValue)
     → IsThere f.values number info → AreValueNodes (trie_of now) ids' s → AllSuit s left → MatchNested bytes f base number first left → HasNext bytes f base first now ids' number info s left
-has_next bytes f base first now ids' number info s [] there are suit matches = absurd (matches info there.listed there.inside)
+has_next bytes f base first now ids' number info s [] there are suit matches = absurd (matches info there.listed there.nested)
 has_next bytes f base first now ids' number info s (t ∷ ts) there are suit matches =
     let same : matches.0 ≡ info = same_info matches.0 info (sym matches.1 ∙ there.listed) in
     record {
       nested = t;
       rest = ts;
       split = refl;
-      next = record { inside = are; suits = suit.0; matches = subst (λ (i : ValueInfo). MatchesNested bytes f.keys base t i) same matches.2; keys = matches.3 };
+      next = record { nested = are; suits = suit.0; matches = subst (λ (i : ValueInfo). MatchesNested bytes f.keys base t i) same matches.2; keys = matches.3 };
       first_is = ap (λ (i : ValueInfo). i.first_key) (sym same) ∙ matches.4;
       suit = suit.1;
       matches = matches.5;
@@ -94,7 +94,7 @@ has_next bytes f base first now ids' number info s (t ∷ ts) there are suit mat
 underway_next : (bytes : List ℕ) (f : Flat) (base from first : ℕ) (old : List Node) (ids : List ℕ) (now : List Node) (ids' : List ℕ) (number : ℕ) (info : ValueInfo) (s : NestingState) (ts : List NestedValue)
     → IsThere f.values number info → (u : Underway bytes f base from first old ids now ids' number s ts) → HasNext bytes f base (first + all_nested_keys u.done) now ids' number info (nesting_after s u.done) u.left
 underway_next bytes f base from first old ids now ids' number info s ts there u =
-    has_next bytes f base (first + all_nested_keys u.done) now ids' number info (nesting_after s u.done) u.left there u.was_read.inside u.suit u.matches
+    has_next bytes f base (first + all_nested_keys u.done) now ids' number info (nesting_after s u.done) u.left there u.was_read.nested u.suit u.matches
 
 pub some_next : (bytes : List ℕ) (f : Flat) (base from : ℕ) (old : List Node) (ids : List ℕ) (now : List Node) (ids' : List ℕ) (number : ℕ) (info : ValueInfo)
     → IsThere f.values number info → AreUnderway bytes f base from old ids now ids' number → (s : NestingState) × (ts : List NestedValue) × (first : ℕ) × AreNext bytes f (trie_of old) ids base from first s ts
@@ -122,8 +122,8 @@ all_nested_keys-push (x ∷ ts) t = omega (arith, all_nested_keys-push ts t)
 
 marks-push : (s : NestingState) (ts : List NestedValue) (t : NestedValue) → HasKeys t → length (marks.marks (all_nested_mentions s ts)) ≡ all_nested_keys ts → length (marks.marks (all_nested_mentions s (ts ++ t ∷ []))) ≡ all_nested_keys (ts ++ t ∷ [])
 marks-push s ts t has e =
-    let said : all_nested_mentions s (ts ++ t ∷ []) ≡ all_nested_mentions s ts ++ nested_mentions (nesting_after s ts) t = all_nested_mentions-append s ts (t ∷ []) ∙ ap (λ w. all_nested_mentions s ts ++ w) (append-nil (nested_mentions (nesting_after s ts) t)) in
-    ap (λ w. length (marks.marks w)) said ∙ ap length (filter_map-append mark_of (all_nested_mentions s ts) (nested_mentions (nesting_after s ts) t))
+    let mentioned : all_nested_mentions s (ts ++ t ∷ []) ≡ all_nested_mentions s ts ++ nested_mentions (nesting_after s ts) t = all_nested_mentions-append s ts (t ∷ []) ∙ ap (λ w. all_nested_mentions s ts ++ w) (append-nil (nested_mentions (nesting_after s ts) t)) in
+    ap (λ w. length (marks.marks w)) mentioned ∙ ap length (filter_map-append mark_of (all_nested_mentions s ts) (nested_mentions (nesting_after s ts) t))
     ∙ length-append (marks.marks (all_nested_mentions s ts)) (marks.marks (nested_mentions (nesting_after s ts) t)) ∙ omega (arith, e, nested_marks (nesting_after s ts) t has, all_nested_keys-push ts t)
 
 pub underway_more : (bytes : List ℕ) (f : Flat) (base from : ℕ) (old : List Node) (ids : List ℕ) (now : List Node) (ids' : List ℕ) (new : List Node) (ids'' : List ℕ) (number : ℕ) (info : ValueInfo)
@@ -148,14 +148,14 @@ underway_more bytes f base from old ids now ids' new ids'' number info there und
 
 -- ---- the end
 
-not_inside : (bytes : List ℕ) (f : Flat) (base : ℕ) (t : NestedValue) (info : ValueInfo) → MatchesNested bytes f.keys base t info → IsInside info.owner
-not_inside bytes f base (nested_item o fact) info matches = subst IsInside (sym matches.owned.1) tt
-not_inside bytes f base (nested_keyed o ks fact) info matches = subst IsInside (sym matches.owned.1) tt
+not_nested : (bytes : List ℕ) (f : Flat) (base : ℕ) (t : NestedValue) (info : ValueInfo) → MatchesNested bytes f.keys base t info → IsNested info.owner
+not_nested bytes f base (nested_item o fact) info matches = subst IsNested (sym matches.owned.1) tt
+not_nested bytes f base (nested_keyed o ks fact) info matches = subst IsNested (sym matches.owned.1) tt
 
 -- no value is left where the next one is in no value
 none_left : (bytes : List ℕ) (f : Flat) (base first number : ℕ) (left : List NestedValue) → EndsAt f.values number → MatchNested bytes f base number first left → left ≡ []
 none_left bytes f base first number [] ends matches = refl
-none_left bytes f base first number (t ∷ ts) ends matches = absurd (ends matches.0 matches.1 (not_inside bytes f base t matches.0 matches.2))
+none_left bytes f base first number (t ∷ ts) ends matches = absurd (ends matches.0 matches.1 (not_nested bytes f base t matches.0 matches.2))
 
 pub underway_ends : (bytes : List ℕ) (f : Flat) (base from : ℕ) (old : List Node) (ids : List ℕ) (now : List Node) (ids' : List ℕ) (number : ℕ)
     → EndsAt f.values number → AreUnderway bytes f base from old ids now ids' number → NestedValuesRead bytes f base from old ids now ids'
@@ -166,20 +166,20 @@ underway_ends bytes f base from old ids now ids' number ends under s ts first ne
 
 -- after the last value
 pub past_ends : (values : List ValueInfo) (number : ℕ) → length values ≤ number → EndsAt values number
-past_ends values number h info listed inside = absurd (omega (arith, h, slice_get_within values number info listed))
+past_ends values number h info listed nested = absurd (omega (arith, h, slice_get_within values number info listed))
 
-pub line_inside : (n : ℕ) (w : Owner) → w ≡ owner.Line n → IsInside w → ⊥
-line_inside n w is inside = subst IsInside is inside
+pub line_nested : (n : ℕ) (w : Owner) → w ≡ owner.Line n → IsNested w → ⊥
+line_nested n w is nested = subst IsNested is nested
 
 -- at a line's value
 pub line_ends : (values : List ValueInfo) (number : ℕ) (info : ValueInfo) (n : ℕ) → slice_get values number ≡ Some info → info.owner ≡ owner.Line n → EndsAt values number
-line_ends values number info n listed is other at inside = line_inside n other.owner (ap (λ (i : ValueInfo). i.owner) (same_info other info (sym at ∙ listed)) ∙ is) inside
+line_ends values number info n listed is other at nested = line_nested n other.owner (ap (λ (i : ValueInfo). i.owner) (same_info other info (sym at ∙ listed)) ∙ is) nested
 
 -- every other owner is a value
-pub other_inside : (w : Owner) → ((n : ℕ) → w ≡ owner.Line n → ⊥) → IsInside w
-other_inside (owner.Line n) other = absurd (other n refl)
-other_inside (owner.Inline g) other = tt
-other_inside (owner.Item g) other = tt
+pub other_nested : (w : Owner) → ((n : ℕ) → w ≡ owner.Line n → ⊥) → IsNested w
+other_nested (owner.Line n) other = absurd (other n refl)
+other_nested (owner.Inline g) other = tt
+other_nested (owner.Item g) other = tt
 
 -- ---- a fault
 
@@ -190,12 +190,12 @@ underway_fault bytes f base from old ids now ids' number info at why there under
     let n = underway_next bytes f base from first old ids now ids' number info s ts there u in
     let one = faults (nesting_after s u.done) n.nested n.next (ms ++ all_nested_mentions s u.done) tables (u.was_read.represents ms tables represents) in
     let rest : List Mention = all_nested_mentions (next_nesting (nesting_after s u.done) n.nested) n.rest in
-    let said : all_nested_mentions s ts ≡ all_nested_mentions s u.done ++ (nested_mentions (nesting_after s u.done) n.nested ++ rest) =
+    let mentioned : all_nested_mentions s ts ≡ all_nested_mentions s u.done ++ (nested_mentions (nesting_after s u.done) n.nested ++ rest) =
     ap (all_nested_mentions s) (u.whole ∙ ap (λ l. u.done ++ l) n.split) ∙ all_nested_mentions-append s u.done (n.nested ∷ n.rest) in
     record {
       within = length (marks.marks (all_nested_mentions s u.done)) + one.within;
       sum = omega (arith, one.sum, n.first_is, u.keys);
-      fault = subst (λ (w : List Mention). FaultIn ms w (length (marks.marks (all_nested_mentions s u.done)) + one.within) why) (sym said)
+      fault = subst (λ (w : List Mention). FaultIn ms w (length (marks.marks (all_nested_mentions s u.done)) + one.within) why) (sym mentioned)
           (fault_within ms (all_nested_mentions s u.done) (nested_mentions (nesting_after s u.done) n.nested) rest one.within why one.fault);
     }
 

@@ -28,17 +28,17 @@ AddsMentions values parts old new c ms = node_infos new ≡ with_mentions values
 
 -- the facts from these mentions of a header were added, from the key part number k on
 abbrev pub HeaderAdds : List Node → List Node → List KeyPart → ℕ → ℕ → (List (List Part) → List Mention) → Type 0
-HeaderAdds old new parts k statement said =
+HeaderAdds old new parts k statement mentioned =
     (ms : List Mention) (tables : List (List Part)) → Represents (trie_of old) ms tables
-    → (values : List ValueInfo) (c : Count) → c.keys ≡ k → c.statements ≡ statement → AddsMentions values parts old new c (said tables)
+    → (values : List ValueInfo) (c : Count) → c.keys ≡ k → c.statements ≡ statement → AddsMentions values parts old new c (mentioned tables)
 
 -- the facts from the mentions of a header's one key part were added
 abbrev pub KeyAdds : List Node → List Node → Span → ℕ → (List (List Part) → List Mention) → Type 0
-KeyAdds old new span statement said = (parts : List KeyPart) (k : ℕ) → key_span parts k ≡ Some span → HeaderAdds old new parts k statement said
+KeyAdds old new span statement mentioned = (parts : List KeyPart) (k : ℕ) → key_span parts k ≡ Some span → HeaderAdds old new parts k statement mentioned
 
 -- a `[[..]]` with this full path begins an element
 abbrev pub begin_mentions : List Part → List (List Part) → List Mention
-begin_mentions path tables = record { path = path; says = element } ∷ record { path = path ++ index (elements_of path tables) ∷ []; says = begun } ∷ []
+begin_mentions path tables = record { path = path; kind = element } ∷ record { path = path ++ index (elements_of path tables) ∷ []; kind = begun } ∷ []
 
 -- the facts from a statement were added
 abbrev pub StatementAdds : List Node → List Node → List KeyPart → ℕ → ℕ → Statement → Type 0
@@ -48,12 +48,12 @@ StatementAdds old new parts k statement s =
 
 -- the facts from a keyval's keys but the last were added, from the key part number k on
 abbrev pub DottedAdds : List Node → List Node → List KeyPart → ℕ → ℕ → List Mention → Type 0
-DottedAdds old new parts k value said = (values : List ValueInfo) (c : Count) → c.keys ≡ k → c.values ≡ value → AddsMentions values parts old new c said
+DottedAdds old new parts k value mentioned = (values : List ValueInfo) (c : Count) → c.keys ≡ k → c.values ≡ value → AddsMentions values parts old new c mentioned
 
 -- The facts about the node of a value and those that its keys pass were added; no path is given two values.
-pub record AddsValue (values : List ValueInfo) (parts : List KeyPart) (old new : List Node) (c : Count) (said : List Mention) : Type 0 where
-  pub joined : AddsMentions values parts old new c said
-  pub fresh : ValuesAreNew (paths_of (trie_of old)) (numbered_mentions c said)
+pub record AddsValue (values : List ValueInfo) (parts : List KeyPart) (old new : List Node) (c : Count) (mentioned : List Mention) : Type 0 where
+  pub joined : AddsMentions values parts old new c mentioned
+  pub fresh : ValuesAreNew (paths_of (trie_of old)) (numbered_mentions c mentioned)
 
 -- a value with a key, in the value at a node
 abbrev pub KeyedAdds : List Node → List Node → ℕ → List KeyPart → ℕ → List (List ℕ) → ℕ → Kind → Span → Type 0

@@ -17,10 +17,10 @@ use Rattle.keep_rules.specs.NestedValues.{holding_of, nested_values}
 use Rattle.keep_meaning.specs.KeyText.{keys_in}
 use Rattle.keep_meaning.specs.Marks as marks
 use Rattle.keep_meaning.specs.Marks.{Mention}
-use Rattle.keep_meaning.specs.Meaning.{keys_of, body_fact, keyval_said}
+use Rattle.keep_meaning.specs.Meaning.{keys_of, body_fact, keyval_mentions}
 use Rattle.keep_meaning.specs.Nodes.{fact_kind}
 
--- the value of that number, if there is one, is that of a line's keyval
+-- the value with that number, if there is one, is that of a line's keyval
 abbrev pub LineStarts : List ValueInfo → ℕ → Type 0
 LineStarts values n = (info : ValueInfo) → slice_get values n ≡ Some info → (i : ℕ) × (info.owner ≡ owner.Line i)
 
@@ -38,18 +38,18 @@ pub record MatchesValues (bytes : List ℕ) (parts : List KeyPart) (values : Lis
   pub here : slice_get values first ≡ Some own
   pub kind : fact_kind (body_fact v.body) ≡ leaf_kind own.leaf
   pub holds : holding_of (body_fact v.body) ≡ leaf_holding own.leaf
-  pub within : first + 1 + value_count v.inside ≤ length values
-  pub inside : AllZip (MatchesNested bytes parts first) (nested_values 1 2 v.inside) (take (value_count v.inside) (drop (first + 1) values))
-  pub firsts : FirstKeys (st.first_key + st.keys) (nested_values 1 2 v.inside) (take (value_count v.inside) (drop (first + 1) values))
-  pub next_line : LineStarts values (first + 1 + value_count v.inside)
+  pub within : first + 1 + value_count v.nested ≤ length values
+  pub nested : AllZip (MatchesNested bytes parts first) (nested_values 1 2 v.nested) (take (value_count v.nested) (drop (first + 1) values))
+  pub firsts : FirstKeys (st.first_key + st.keys) (nested_values 1 2 v.nested) (take (value_count v.nested) (drop (first + 1) values))
+  pub next_line : LineStarts values (first + 1 + value_count v.nested)
 
 -- a statement of the flat list is a keyval with these mentions
-pub record MatchesKeyvalOf (bytes : List ℕ) (parts : List KeyPart) (values : List ValueInfo) (st : Statement) (said : List Mention) : Type 0 where
+pub record MatchesKeyvalOf (bytes : List ℕ) (parts : List KeyPart) (values : List ValueInfo) (st : Statement) (mentioned : List Mention) : Type 0 where
   pub profile : Profile
   pub name : Name
   pub value : Value
   pub is : IsValue profile value
-  pub mentions : said ≡ keyval_said name value
+  pub mentions : mentioned ≡ keyval_mentions name value
   pub kind : st.kind ≡ KeyVal
   pub keys : MatchesKeys bytes parts st (keys_of name.key)
   pub valued : MatchesValues bytes parts values value st
@@ -60,7 +60,7 @@ MatchesStatement bytes parts values st (marks.header ks) = (st.kind ≡ Header) 
 MatchesStatement bytes parts values st (marks.element_header ks) = (st.kind ≡ Element) × (st.value ≡ None) × MatchesKeys bytes parts st ks
 MatchesStatement bytes parts values st (marks.keyval ms) = MatchesKeyvalOf bytes parts values st ms
 
--- so many statements, values and key parts are before the statement of that number
+-- so many statements, values and key parts are before the statement with that number
 pub record IsCountBefore (number : ℕ) (st : Statement) (c : Count) : Type 0 where
   pub statements : c.statements ≡ number
   pub keys : c.keys ≡ st.first_key

@@ -73,13 +73,13 @@ pub record MatchesKeyval (bytes : List ℕ) (parts : List KeyPart) (ks : List (L
 -- these values of the flat list are those of a keyval: its own, which has this number, and those inside
 abbrev pub MatchKeyval : List ℕ → List KeyPart → ℕ → Name → Value → List ValueInfo → Type 0
 MatchKeyval bytes parts base name v [] = ⊥
-MatchKeyval bytes parts base name v (first ∷ inside) =
-    MatchesKeyval bytes parts (keys_of name.key) (body_fact v.body) first × AllZip (MatchesNested bytes parts base) (nested_values 1 2 v.inside) inside
+MatchKeyval bytes parts base name v (first ∷ nested) =
+    MatchesKeyval bytes parts (keys_of name.key) (body_fact v.body) first × AllZip (MatchesNested bytes parts base) (nested_values 1 2 v.nested) nested
 
 -- these values of the flat list are those of a value alone
 abbrev pub MatchAlone : List ℕ → List KeyPart → Value → List ValueInfo → Type 0
 MatchAlone bytes parts v [] = ⊥
-MatchAlone bytes parts v (first ∷ inside) = LeafMatches first.leaf (body_fact v.body) × AllZip (MatchesNested bytes parts 1) (nested_values 0 1 v.inside) inside
+MatchAlone bytes parts v (first ∷ nested) = LeafMatches first.leaf (body_fact v.body) × AllZip (MatchesNested bytes parts 1) (nested_values 0 1 v.nested) nested
 
 -- the entries of this owner are in the value of the number o
 abbrev pub OwnsEntries : Place → ℕ → ℕ → Owner → Type 0
@@ -88,7 +88,7 @@ OwnsEntries in_array base o w = (g : ℕ) × (w ≡ owner.Item g) × (g + 1 ≡ 
 OwnsEntries in_inline base o w = (g : ℕ) × (w ≡ owner.Inline g) × (g + 1 ≡ base + o)
 
 -- in another value, and not in a line
-abbrev pub IsInside : Owner → Type 0
-IsInside (owner.Line s) = ⊥
-IsInside (owner.Inline g) = ⊤
-IsInside (owner.Item g) = ⊤
+abbrev pub IsNested : Owner → Type 0
+IsNested (owner.Line s) = ⊥
+IsNested (owner.Inline g) = ⊤
+IsNested (owner.Item g) = ⊤

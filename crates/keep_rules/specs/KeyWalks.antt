@@ -16,4 +16,4 @@ walk_mentions tables at (k ∷ ks) = passing_mentions tables (at ++ key k ∷ []
 -- the mentions of a keyval's keys but the last
 abbrev pub dotted_mentions : List Part → List (List ℕ) → List Mention
 dotted_mentions at [] = []
-dotted_mentions at (k ∷ ks) = record { path = at ++ key k ∷ []; says = dotted } ∷ dotted_mentions (at ++ key k ∷ []) ks
+dotted_mentions at (k ∷ ks) = record { path = at ++ key k ∷ []; kind = dotted } ∷ dotted_mentions (at ++ key k ∷ []) ks

@@ -11,7 +11,7 @@ use Rattle.keep_nodes.specs.Facts.{NodeInfos}
 abbrev pub number_of : Option NodeId → Option ℕ
 number_of found = option_map (λ id. id.0) found
 
--- the path of the node of that number
+-- the path of the node with that number
 abbrev pub path_numbered : NodeInfos → ℕ → List Part
 path_numbered t i = slice_index_or t.paths i []
 

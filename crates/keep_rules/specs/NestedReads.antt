@@ -36,7 +36,7 @@ pub record NodesSoFar : Type 0 where
 pub record NestedRead (values : List ValueInfo) (parts : List KeyPart) (old new : NodesSoFar) (from first : ℕ) (s : NestingState) (ts : List NestedValue) : Type 0 where
   pub keeps : Keeps old.trie new.trie
   pub shaped : IsShaped new.trie
-  pub inside : AreValueNodes new.trie new.ids (nesting_after s ts)
+  pub nested : AreValueNodes new.trie new.ids (nesting_after s ts)
   pub represents : (ms : List Mention) (tables : List (List Part)) → Represents old.trie ms tables → Represents new.trie (ms ++ all_nested_mentions s ts) tables
   pub facts : (c : Count) → c.values ≡ from → c.keys ≡ first → new.node_infos ≡ with_mentions values parts old.node_infos (numbered_mentions c (all_nested_mentions s ts))
   pub fresh : (c : Count) → c.values ≡ from → c.keys ≡ first → ValuesAreNew old.node_infos.paths (numbered_mentions c (all_nested_mentions s ts))

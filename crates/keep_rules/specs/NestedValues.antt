@@ -10,7 +10,7 @@ use Rattle.keep_meaning.specs.Marks.{Mention, below}
 use Rattle.keep_meaning.specs.Meaning.{keys_of, body_fact, keyed_mentions}
 use Rattle.keep_nodes.specs.Trie.{Holding, nothing, by_key, by_index}
 
--- one nested value: an item, or one with a key, in the value of that number
+-- one nested value: an item, or one with a key, in the value with that number
 pub data NestedValue : Type 0 where
   nested_item : (owner : ℕ) → Fact → NestedValue
   nested_keyed : (owner : ℕ) → List (List ℕ) → Fact → NestedValue
@@ -29,8 +29,8 @@ entry_nested owner (Some name) f = nested_keyed owner (keys_of name.key) f
 -- the nested values of the entries of the value `owner`; v is the number of the first
 abbrev pub nested_values : ℕ → ℕ → Entries → List NestedValue
 nested_values owner v none = []
-nested_values owner v (entry name body inside after comma rest) =
-    entry_nested owner name (body_fact body) ∷ (nested_values v (suc v) inside ++ nested_values owner (suc v + value_count inside) rest)
+nested_values owner v (entry name body nested after comma rest) =
+    entry_nested owner name (body_fact body) ∷ (nested_values v (suc v) nested ++ nested_values owner (suc v + value_count nested) rest)
 
 -- The nesting state: of each value so far its path, what children it may have, and how many entries it has so far.
 pub record NestingState : Type 0 where
@@ -49,8 +49,8 @@ holding_of_value s o = slice_index_or s.holdings o nothing
 
 -- the mentions of one nested value
 abbrev pub nested_mentions : NestingState → NestedValue → List Mention
-nested_mentions s (nested_item o f) = record { path = path_of_value s o ++ index (entries_of_value s o) ∷ []; says = marks.item f } ∷ []
-nested_mentions s (nested_keyed o ks f) = map (below (path_of_value s o)) (keyed_mentions ks (record { path = []; says = marks.value f } ∷ []))
+nested_mentions s (nested_item o f) = record { path = path_of_value s o ++ index (entries_of_value s o) ∷ []; kind = marks.item f } ∷ []
+nested_mentions s (nested_keyed o ks f) = map (below (path_of_value s o)) (keyed_mentions ks (record { path = []; kind = marks.value f } ∷ []))
 
 abbrev pub nested_path : NestingState → NestedValue → List Part
 nested_path s (nested_item o f) = path_of_value s o ++ index (entries_of_value s o) ∷ []
@@ -97,7 +97,7 @@ NameSuits _ _ = ⊥
 
 abbrev pub EntriesSuit : Holding → Entries → Type 0
 EntriesSuit h none = Unit {0}
-EntriesSuit h (entry name body inside after comma rest) = NameSuits h name × EntriesSuit (holding_of (body_fact body)) inside × EntriesSuit h rest
+EntriesSuit h (entry name body nested after comma rest) = NameSuits h name × EntriesSuit (holding_of (body_fact body)) nested × EntriesSuit h rest
 
 -- the state in a table of this path, with nothing in it yet
 abbrev pub body_nesting : List Part → NestingState
@@ -109,4 +109,4 @@ value_nesting f = record { paths = [] ∷ []; holdings = holding_of f ∷ []; en
 
 -- the values of a keyval in a body
 abbrev pub keyval_nested : Name → Value → List NestedValue
-keyval_nested name v = nested_keyed 0 (keys_of name.key) (body_fact v.body) ∷ nested_values 1 2 v.inside
+keyval_nested name v = nested_keyed 0 (keys_of name.key) (body_fact v.body) ∷ nested_values 1 2 v.nested

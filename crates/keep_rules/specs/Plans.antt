@@ -16,7 +16,7 @@ use Rattle.keep_nodes.specs.Stored.{trie_of, node_infos}
 use Rattle.keep_rules.specs.Represents.{Represents, FaultIn}
 use Rattle.keep_rules.specs.Reads.{AreValueNodes}
 use Rattle.keep_rules.specs.NestedReads.{nested_keys, HasKeys, NodesSoFar, NestedRead}
-use Rattle.keep_rules.specs.FlatValues.{MatchesNested, IsInside}
+use Rattle.keep_rules.specs.FlatValues.{MatchesNested, IsNested}
 
 -- each key part can be read in the text
 abbrev pub AreReadable : List ℕ → List KeyPart → Type 0
@@ -26,9 +26,9 @@ AreReadable bytes parts = (n : ℕ) (p : KeyPart) → slice_get parts n ≡ Some
 abbrev pub nodes_so_far : List Node → List ℕ → NodesSoFar
 nodes_so_far nodes ids = record { trie = trie_of nodes; node_infos = node_infos nodes; ids = ids }
 
--- the value of that number is in no value
+-- the value with that number is in no value
 abbrev pub EndsAt : List ValueInfo → ℕ → Type 0
-EndsAt values number = (info : ValueInfo) → slice_get values number ≡ Some info → IsInside info.owner → ⊥
+EndsAt values number = (info : ValueInfo) → slice_get values number ≡ Some info → IsNested info.owner → ⊥
 
 -- Those from a number on, with the key parts from `first` on, are these nested values; what follows is in no value.
 abbrev pub MatchNested : List ℕ → Flat → ℕ → ℕ → ℕ → List NestedValue → Type 0
@@ -38,14 +38,14 @@ MatchNested bytes f base from first (t ∷ ts) =
 
 -- this value of the flat list is that nested value, which may come next in the values so far
 pub record IsNext (bytes : List ℕ) (parts : List KeyPart) (nodes : List TrieNode) (ids : List ℕ) (base : ℕ) (info : ValueInfo) (s : NestingState) (t : NestedValue) : Type 0 where
-  pub inside : AreValueNodes nodes ids s
+  pub nested : AreValueNodes nodes ids s
   pub suits : Suits s t
   pub matches : MatchesNested bytes parts base t info
   pub keys : HasKeys t
 
 -- the values from a number on are nested values that may come next
 pub record AreNext (bytes : List ℕ) (f : Flat) (nodes : List TrieNode) (ids : List ℕ) (base from first : ℕ) (s : NestingState) (ts : List NestedValue) : Type 0 where
-  pub inside : AreValueNodes nodes ids s
+  pub nested : AreValueNodes nodes ids s
   pub suit : AllSuit s ts
   pub matches : MatchNested bytes f base from first ts
 
@@ -53,7 +53,7 @@ pub record AreNext (bytes : List ℕ) (f : Flat) (nodes : List TrieNode) (ids : 
 abbrev pub RepresentsSome : List TrieNode → Type 0
 RepresentsSome nodes = (ms : List Mention) × (tables : List (List Part)) × Represents nodes ms tables
 
--- Among these mentions, which have the key parts from `first` on, the key part of that number makes the first faulty
+-- Among these mentions, which have the key parts from `first` on, the key part with that number makes the first faulty
 -- mark.
 pub record FaultFrom (ms more : List Mention) (first number : ℕ) (why : Why) : Type 0 where
   pub within : ℕ

@@ -14,7 +14,7 @@ use Rattle.keep_rules.specs.declared.key_walk.Fault.TheVariants.{Define, Memory}
 use Rattle.keep_meaning.specs.Faults.{IsFaultIn, IsFaultInValue}
 use Rattle.keep_meaning.specs.Counts.{statements_in}
 use Rattle.keep_meaning.specs.Marks.{marks, start, reading_after}
-use Rattle.keep_meaning.specs.Meaning.{said_in, value_said}
+use Rattle.keep_meaning.specs.Meaning.{mentions_in, mentions_of_value}
 use Rattle.keep_meaning.specs.Nodes.{node_path, nodes_in, infos_in}
 use Rattle.keep_meaning.specs.Rules.{ObeysRules}
 use Rattle.keep_nodes.specs.Facts.{NodeInfos}
@@ -36,12 +36,12 @@ pub record WasReadAlone (bytes : List ℕ) (s : ValueSyntax) (v : Value) : Type 
 
 -- The document obeys the rules, and these are its nodes with their facts, nested as its headers say.
 pub record IsIndexOf (d : Document) (t : NodeInfos) : Type 0 where
-  pub obeys : ObeysRules (marks (said_in d))
-  pub nested : AreNested (said_in d) (reading_after start (statements_in d)).tables
+  pub obeys : ObeysRules (marks (mentions_in d))
+  pub nested : AreNested (mentions_in d) (reading_after start (statements_in d)).tables
   pub facts : t ≡ record { paths = map node_path (nodes_in d); infos = infos_in d }
 
 abbrev pub ValueObeys : Value → Type 0
-ValueObeys v = ObeysRules (marks (value_said v))
+ValueObeys v = ObeysRules (marks (mentions_of_value v))
 
 -- A document is refused at its first faulty mark alone, or where memory runs out.
 abbrev pub IsRefusal : Document → ReadFault → Type 0

@@ -23,7 +23,7 @@ FaultsIn old body s number why = (ms : List Mention) (r : Reading) → IsReading
 
 -- the node of the value number j
 pub record IsValueNode (nodes : List TrieNode) (id : ℕ) (s : NestingState) (j : ℕ) : Type 0 where
-  pub inside : id < length nodes
+  pub nested : id < length nodes
   pub here : path_at nodes id ≡ path_of_value s j
   pub held : holds_at nodes id ≡ holding_of_value s j
   pub plain : is_tables (state_at nodes id) ≡ false

@@ -5,7 +5,7 @@ use Rattle.keep_meaning.specs.declared.role.Role.{Role}
 use Rattle.keep_meaning.specs.declared.role.Role.TheVariants.{Element, Through, Value}
 use Rattle.keep_path.specs.Path.{Part, key, index}
 use Rattle.keep_meaning.specs.Rules.{allows, ObeysRules, IsRefused, why_of}
-use Rattle.keep_meaning.specs.Marks.{Saying, Mention, marks, role_of, passing_mentions, entered_path, elements_of, element, begun}
+use Rattle.keep_meaning.specs.Marks.{MentionKind, Mention, marks, role_of, passing_mentions, entered_path, elements_of, element, begun}
 use Rattle.keep_nodes.specs.Trie.{TrieNode, Holding, by_key, by_index, IsTrie, path_at, state_at, holds_at, children_of}
 use Rattle.keep_rules.specs.Tables.{is_tables, IsShaped, AreTables, AllBegun}
 use Rattle.keep_rules.specs.RoleStates.{IsIndexOf}
@@ -27,9 +27,9 @@ pub record IsMarked (old new : List TrieNode) (path : List Part) (role : Role) (
   pub shaped : IsShaped new
   pub keeps : Keeps old new
   pub items : KeepsItems old new
-  pub inside : id < length new
+  pub nested : id < length new
   pub here : path_at new id ≡ path
-  pub index : (ms : List Mention) (says : Saying) → role_of says ≡ Some role → IsIndexOf old ms → IsIndexOf new (ms ++ record { path = path; says = says } ∷ [])
+  pub index : (ms : List Mention) (mention_kind : MentionKind) → role_of mention_kind ≡ Some role → IsIndexOf old ms → IsIndexOf new (ms ++ record { path = path; kind = mention_kind } ∷ [])
   pub kind : is_tables (state_at new id) ≡ allows role Element
   pub opened : allows role Through ≡ true → holds_at new id ≡ by_key
   pub valued : role ≡ Value → (holds_at new id ≡ holds) × (children_of new id ≡ []) × (length old ≤ id)
@@ -50,7 +50,7 @@ pub record Represents (nodes : List TrieNode) (ms : List Mention) (tables : List
 
 -- the node `at` has this path, and may have children by keys
 pub record IsOpen (nodes : List TrieNode) (at : ℕ) (path : List Part) : Type 0 where
-  pub inside : at < length nodes
+  pub nested : at < length nodes
   pub here : path_at nodes at ≡ path
   pub open_to : holds_at nodes at ≡ by_key
 
@@ -60,7 +60,7 @@ HasNoElement nodes path = (tables : List (List Part)) → AreTables nodes tables
 
 -- the array of tables at a path, and its last element
 pub record IsLastElement (nodes : List TrieNode) (path : List Part) (child to : ℕ) : Type 0 where
-  pub inside : child < length nodes
+  pub nested : child < length nodes
   pub here : path_at nodes child ≡ path
   pub tables : is_tables (state_at nodes child) ≡ true
   pub some : 0 < length (children_of nodes child)
@@ -77,7 +77,7 @@ pub record Begins (old new : List TrieNode) (at to : ℕ) (k : List ℕ) : Type 
   pub keeps : Keeps old new
   pub shaped : IsShaped new
   pub represents : (ms : List Mention) (tables : List (List Part)) → Represents old ms tables
-      → Represents new (ms ++ record { path = path_at old at ++ key k ∷ []; says = element } ∷ record { path = (path_at old at ++ key k ∷ []) ++ index (elements_of (path_at old at ++ key k ∷ []) tables) ∷ []; says = begun } ∷ [])
+      → Represents new (ms ++ record { path = path_at old at ++ key k ∷ []; kind = element } ∷ record { path = (path_at old at ++ key k ∷ []) ++ index (elements_of (path_at old at ++ key k ∷ []) tables) ∷ []; kind = begun } ∷ [])
       (tables ++ (path_at old at ++ key k ∷ []) ∷ [])
   pub is_open : (ms : List Mention) (tables : List (List Part)) → Represents old ms tables → IsOpen new to ((path_at old at ++ key k ∷ []) ++ index (elements_of (path_at old at ++ key k ∷ []) tables) ∷ [])
 
@@ -88,7 +88,7 @@ pub record FaultIn (ms more : List Mention) (number : ℕ) (why : Why) : Type 0 
   pub rest : List Mention
   pub here : more ≡ done ++ faulty ∷ rest
   pub role : Role
-  pub is : role_of faulty.says ≡ Some role
+  pub is : role_of faulty.kind ≡ Some role
   pub count : length (marks done) ≡ number
   pub obeys : ObeysRules (marks (ms ++ done))
   pub refused : IsRefused (marks (ms ++ done)) (record { role = role; path = faulty.path })

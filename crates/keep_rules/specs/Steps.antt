@@ -25,7 +25,7 @@ pub record Dots (old new : List TrieNode) (at to : ℕ) (ks : List (List ℕ)) :
 pub record IsMade (old new : List TrieNode) (to : ℕ) (path : List Part) (holds : Holding) : Type 0 where
   pub later : length old ≤ to
   pub plain : is_tables (state_at new to) ≡ false
-  pub inside : to < length new
+  pub nested : to < length new
   pub here : path_at new to ≡ path
   pub held : holds_at new to ≡ holds
   pub bare : children_of new to ≡ []
@@ -36,7 +36,7 @@ pub record Gives (old new : List TrieNode) (at to : ℕ) (leading : List (List �
   pub shaped : IsShaped new
   pub items : KeepsItems old new
   pub represents : (f : Fact) (ms : List Mention) (tables : List (List Part)) → Represents old ms tables
-      → Represents new (ms ++ (dotted_mentions (path_at old at) leading ++ record { path = (path_at old at ++ map key leading) ++ key last ∷ []; says = value f } ∷ [])) tables
+      → Represents new (ms ++ (dotted_mentions (path_at old at) leading ++ record { path = (path_at old at ++ map key leading) ++ key last ∷ []; kind = value f } ∷ [])) tables
   pub made : IsMade old new to ((path_at old at ++ map key leading) ++ key last ∷ []) holds
 
 -- an array at a node got one more item, the node `to`, which may have these children
@@ -46,5 +46,5 @@ pub record AddsItem (old new : List TrieNode) (at to : ℕ) (holds : Holding) : 
   pub items : (i : ℕ) → i < length old → (i ≡ at → ⊥) → children_of new i ≡ children_of old i
   pub own : children_of new at ≡ children_of old at ++ length old ∷ []
   pub represents : (f : Fact) (ms : List Mention) (tables : List (List Part)) → Represents old ms tables
-      → Represents new (ms ++ record { path = path_at old at ++ index (length (children_of old at)) ∷ []; says = item f } ∷ []) tables
+      → Represents new (ms ++ record { path = path_at old at ++ index (length (children_of old at)) ∷ []; kind = item f } ∷ []) tables
   pub made : IsMade old new to (path_at old at ++ index (length (children_of old at)) ∷ []) holds

@@ -11,7 +11,7 @@ abbrev pub FaultMeets : Fault → (ℕ → Why → Type 0) → Type 0
 FaultMeets (Define number why) P = P number why
 FaultMeets Memory P = Unit {0}
 
--- the fault where the key of that number stops
+-- the fault where the key with that number stops
 abbrev pub fault_of_key : Stop → ℕ → Why → Fault
 fault_of_key stop.Refused number why = Define number why
 fault_of_key stop.Memory number why = Memory

@@ -19,11 +19,11 @@ ghost use Rattle.keep_nodes.specs.Trie.{by_key, holds_at, path_at};
 use crate::key_walk::{Fault, walk_dotted, walk_header};
 use crate::keys::Keys;
 use crate::mark::{Stop, begin, mark};
-use keep_meaning::{Kind, Place, Role};
+use keep_meaning::{Kind, Origin, Role};
 use keep_nodes::{Holds, NodeFacts, Nodes};
 use keep_syntax::{Span, Why};
 
-/// The fault of the key of that number.
+/// The fault of the key with that number.
 fn fault_of(stop: Stop, number: usize, why: Why) -> Fault
     ensures { result ≡ fault_of_key stop number why }
 {
@@ -47,7 +47,7 @@ pub fn header(nodes: &mut Nodes, keys: Keys<'_>, statement: usize) -> Result<usi
     let parent = walk_header(nodes, keys, statement)?;
     let number = keys.count - 1;
     let name = keys.name(nodes.allocator(), number)?;
-    let facts = NodeFacts::named(Kind::Table, None, name.span, Place::Header(statement));
+    let facts = NodeFacts::named(Kind::Table, None, name.span, Origin::Header(statement));
     match mark(
         nodes,
         parent,
@@ -81,7 +81,7 @@ pub fn element(nodes: &mut Nodes, keys: Keys<'_>, statement: usize) -> Result<us
     }
 }
 
-/// Gives a value with a key to the table at a node: the value of that number, kind and place, which may have these
+/// Gives a value with a key to the table at a node: the value with that number, kind and origin, which may have these
 /// children.
 pub fn give_value(
     nodes: &mut Nodes,
@@ -105,7 +105,7 @@ pub fn give_value(
     let parent = walk_dotted(nodes, from, keys, value)?;
     let number = keys.count - 1;
     let name = keys.name(nodes.allocator(), number)?;
-    let facts = NodeFacts::named(kind, Some(span), name.span, Place::Value(value));
+    let facts = NodeFacts::named(kind, Some(span), name.span, Origin::Value(value));
     match mark(nodes, parent, name.text.as_str(), Role::Value, facts, holds) {
         Ok(to) => Ok(to),
         Err(stop) => Err(fault_of(stop, number, Role::Value.why())),

@@ -13,7 +13,7 @@ use crate::key_walk::Fault;
 use crate::kinds::holds_of_leaf;
 use crate::nested_values::{push_id, read_nested};
 use crate::statement::read_statement;
-use keep_meaning::{Kind, Place};
+use keep_meaning::{Kind, Origin};
 use keep_nodes::{Holds, NodeFacts, Nodes};
 use keep_syntax::{Parts, ReadFault, Syntax, ValueSyntax};
 use std::alloc::{AllocError, Global};
@@ -22,7 +22,7 @@ use std::alloc::{AllocError, Global};
 fn root(alloc: Global, text: &str, holds: Holds) -> Result<Nodes, AllocError>
     ensures { IfOk result (λ nodes. IsRoot nodes.items (holding holds)) }
 {
-    let facts = NodeFacts::unnamed(Kind::Table, None, Place::Root);
+    let facts = NodeFacts::unnamed(Kind::Table, None, Origin::Root);
     let mut nodes = Nodes::new(alloc, text);
     nodes.push(0, 0, facts, holds)?;
     Ok(nodes)

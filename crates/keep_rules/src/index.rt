@@ -5,7 +5,7 @@ ghost use Rattle.keep_syntax.specs.Tree.{Document, Value};
 ghost use Rattle.keep_syntax.specs.declared.fault.ReadFault.TheVariants.{Memory};
 ghost use Rattle.keep_rules.specs.Lookup.{number_of, path_numbered, children_numbered, nth_child};
 ghost use Rattle.keep_meaning.specs.Marks.{marks};
-ghost use Rattle.keep_meaning.specs.Meaning.{said_in};
+ghost use Rattle.keep_meaning.specs.Meaning.{mentions_in};
 ghost use Rattle.keep_meaning.specs.Nodes.{node_number};
 ghost use Rattle.keep_path.specs.Path.{Part, key, index};
 ghost use Rattle.keep_path.specs.Step.{part_of};
@@ -61,7 +61,7 @@ impl Index {
     pub fn build(alloc: Global, text: &str, syntax: &Syntax) -> Result<Index, ReadFault>
         requires { (d : Document) × WasRead text.now syntax.now d }
         ensures ok { (d : Document) → WasRead text.now syntax.now d → IfOk result (IsIndexOf d) }
-        ensures read { (d : Document) → WasRead text.now syntax.now d → ObeysRules (marks (said_in d)) → IsOkUnless result Memory }
+        ensures read { (d : Document) → WasRead text.now syntax.now d → ObeysRules (marks (mentions_in d)) → IsOkUnless result Memory }
         ensures faults { (d : Document) → WasRead text.now syntax.now d → IfErr result (IsRefusal d) }
         ensures few { IfOk result (λ index. length index.paths ≤ length text.now + 1) }
     {
@@ -94,7 +94,7 @@ impl Index {
         self.nodes.len()
     }
 
-    /// The node of that number; None from `node_count()` on.
+    /// The node with that number; None from `node_count()` on.
     pub fn node_at(&self, number: usize) -> Option<NodeId>
         ensures numbered { number_of result ≡ (if nat_lt number (length self.now.paths) then Some number else None) }
         ensures within { IfSome result (λ id. id.0 < length self.now.paths) }

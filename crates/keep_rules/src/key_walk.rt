@@ -14,7 +14,7 @@ ghost use Rattle.keep_rules.specs.KeyWalks.{walk_mentions, dotted_mentions};
 
 use crate::keys::Keys;
 use crate::mark::{Stop, mark, pass};
-use keep_meaning::{Kind, Place, Role};
+use keep_meaning::{Kind, Origin, Role};
 use keep_nodes::{Holds, NodeFacts, Nodes};
 use keep_syntax::Why;
 use std::alloc::AllocError;
@@ -22,7 +22,7 @@ use std::alloc::AllocError;
 /// Why a walk along keys ended early.
 #[derive(Clone, Copy, Debug, PartialEq, Eq)]
 pub enum Fault {
-    /// The key of that number, from 0, is not allowed.
+    /// The key with that number, from 0, is not allowed.
     Define { number: usize, why: Why },
     /// Memory was refused.
     Memory,
@@ -48,7 +48,7 @@ pub fn walk_header(nodes: &mut Nodes, keys: Keys<'_>, statement: usize) -> Resul
     requires keys { AreKeys keys }
     ensures stored { OnOk result (IsStored nodes.new.items) }
     ensures shaped { OnOk result (IsShaped (trie_of nodes.new.items)) }
-    ensures inside { IfOk result (λ to. to < length nodes.new.items) }
+    ensures nested { IfOk result (λ to. to < length nodes.new.items) }
     ensures keyed { IfOk result (λ to. holds_at (trie_of nodes.new.items) to ≡ by_key) }
     ensures ok { IfOk result (λ to. Walks (trie_of nodes.old.items) (trie_of nodes.new.items) to (leading_texts keys.entry)) }
     ensures facts { IfOk result (λ to. HeaderAdds nodes.old.items nodes.new.items (parts_of keys.entry) keys.entry.first statement (λ tables. walk_mentions tables [] (leading_texts keys.entry))) }
@@ -71,7 +71,7 @@ pub fn walk_header(nodes: &mut Nodes, keys: Keys<'_>, statement: usize) -> Resul
     Ok(at)
 }
 
-/// Goes along the keys but the last of the value of that number, from the table that it is in.
+/// Goes along the keys but the last of the value with that number, from the table that it is in.
 pub fn walk_dotted(
     nodes: &mut Nodes,
     from: usize,
@@ -85,7 +85,7 @@ pub fn walk_dotted(
     requires keys { AreKeys keys }
     ensures stored { OnOk result (IsStored nodes.new.items) }
     ensures shaped { OnOk result (IsShaped (trie_of nodes.new.items)) }
-    ensures inside { IfOk result (λ to. to < length nodes.new.items) }
+    ensures nested { IfOk result (λ to. to < length nodes.new.items) }
     ensures ok { IfOk result (λ to. Dots (trie_of nodes.old.items) (trie_of nodes.new.items) from to (leading_texts keys.entry)) }
     ensures facts { IfOk result (λ to. DottedAdds nodes.old.items nodes.new.items (parts_of keys.entry) keys.entry.first value (dotted_mentions (path_at (trie_of nodes.old.items) from) (leading_texts keys.entry))) }
     ensures define { IfErr result (λ fault. FaultMeets fault (λ number why. (ms : List Mention) (tables : List (List Part)) → Represents (trie_of nodes.old.items) ms tables → FaultIn ms (dotted_mentions (path_at (trie_of nodes.old.items) from) (leading_texts keys.entry)) number why)) }
@@ -93,7 +93,7 @@ pub fn walk_dotted(
     let mut at = from;
     for number in 0..keys.count - 1 {
         let name = keys.name(nodes.allocator(), number)?;
-        let dotted = NodeFacts::named(Kind::Table, None, name.span, Place::Dotted(value));
+        let dotted = NodeFacts::named(Kind::Table, None, name.span, Origin::Dotted(value));
         at = match mark(
             nodes,
             at,

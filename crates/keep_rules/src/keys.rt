@@ -25,7 +25,7 @@ pub struct Name<'a> {
 }
 
 impl<'a> Keys<'a> {
-    /// The key part of that number within the key, from 0.
+    /// The key part with that number within the key, from 0.
     fn part(&self, number: usize) -> KeyPart
         requires keys { AreKeys self.now }
         requires within { number < self.now.count }
@@ -34,7 +34,7 @@ impl<'a> Keys<'a> {
         self.parts.key_part(self.first + number)
     }
 
-    /// The key part of that number within the key, decoded. The only error is out of memory.
+    /// The key part with that number within the key, decoded. The only error is out of memory.
     #[inline(always)]
     pub fn name(&self, alloc: Global, number: usize) -> Result<Name<'a>, AllocError>
         requires keys { AreKeys self.now }

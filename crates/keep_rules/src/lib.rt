@@ -15,6 +15,6 @@ mod queries;
 mod statement;
 
 pub use index::{Index, NodeId};
-pub use keep_meaning::{Kind, NodeInfo, Place, Role};
+pub use keep_meaning::{Kind, NodeInfo, Origin, Role};
 pub use keep_path::{Path, PathFault, Step};
 pub use keep_syntax::Why;

@@ -11,7 +11,7 @@ ghost use Rattle.keep_rules.specs.AddedInfos.{AddsInfo, KeyAdds, ItemAdds, begin
 ghost use Rattle.keep_nodes.specs.Facts.{info_of};
 ghost use Rattle.keep_nodes.specs.Trie.{Holding, by_key, by_index, holds_at, path_at, state_at};
 
-use keep_meaning::{Kind, Place, Role, state_after};
+use keep_meaning::{Kind, Origin, Role, state_after};
 use keep_nodes::{Holds, NodeFacts, Nodes, add_facts, add_item, add_key, child_of, set_role};
 use keep_syntax::Span;
 use std::alloc::AllocError;
@@ -111,14 +111,14 @@ pub fn pass(
     requires keyed { holds_at (trie_of nodes.old.items) parent ≡ by_key }
     ensures stored { OnOk result (IsStored nodes.new.items) }
     ensures shaped { OnOk result (IsShaped (trie_of nodes.new.items)) }
-    ensures inside { IfOk result (λ to. to < length nodes.new.items) }
+    ensures nested { IfOk result (λ to. to < length nodes.new.items) }
     ensures keyed { IfOk result (λ to. holds_at (trie_of nodes.new.items) to ≡ by_key) }
     ensures ok { IfOk result (λ to. Passes (trie_of nodes.old.items) (trie_of nodes.new.items) parent to text.now) }
     ensures facts { IfOk result (λ to. KeyAdds nodes.old.items nodes.new.items span statement (λ tables. passing_mentions tables (path_at (trie_of nodes.old.items) parent ++ key text.now ∷ []))) }
     ensures refused { result ≡ Err Stop.Refused → WasRefused (trie_of nodes.old.items) (path_at (trie_of nodes.old.items) parent ++ key text.now ∷ []) Role.Through }
     ensures plain { result ≡ Err Stop.Refused → HasNoElement (trie_of nodes.old.items) (path_at (trie_of nodes.old.items) parent ++ key text.now ∷ []) }
 {
-    let through = NodeFacts::named(Kind::Table, None, span, Place::Through(statement));
+    let through = NodeFacts::named(Kind::Table, None, span, Origin::Through(statement));
     let Some(child) = child_of(nodes, parent, text) else {
         return mark(nodes, parent, text, Role::Through, through, Holds::Keys);
     };
@@ -126,7 +126,7 @@ pub fn pass(
         mark_existing(nodes, child, Role::Through, through)?;
         return Ok(child);
     };
-    let past = NodeFacts::named(Kind::Table, None, span, Place::Root);
+    let past = NodeFacts::named(Kind::Table, None, span, Origin::Root);
     add_facts(nodes, child, past)?;
     add_facts(nodes, last, NodeFacts::passed())?;
     Ok(last)
@@ -149,13 +149,13 @@ pub fn begin(
     ensures facts { IfOk result (λ to. KeyAdds nodes.old.items nodes.new.items span statement (begin_mentions (path_at (trie_of nodes.old.items) parent ++ key text.now ∷ []))) }
     ensures refused { result ≡ Err Stop.Refused → WasRefused (trie_of nodes.old.items) (path_at (trie_of nodes.old.items) parent ++ key text.now ∷ []) Role.Element }
 {
-    let tables = NodeFacts::named(Kind::Tables, None, span, Place::Tables);
+    let tables = NodeFacts::named(Kind::Tables, None, span, Origin::Tables);
     let id = mark(nodes, parent, text, Role::Element, tables, Holds::Items)?;
-    let element = NodeFacts::unnamed(Kind::Table, None, Place::Element(statement));
+    let element = NodeFacts::unnamed(Kind::Table, None, Origin::Element(statement));
     Ok(add_item(nodes, id, element, Holds::Keys)?)
 }
 
-/// Adds an item to an array: the value of that number, kind and place, which may have these children.
+/// Adds an item to an array: the value with that number, kind and origin, which may have these children.
 pub fn give_item(
     nodes: &mut Nodes,
     array: usize,
@@ -173,7 +173,7 @@ pub fn give_item(
     ensures stored { OnOk result (IsStored nodes.new.items) }
     ensures facts { IfOk result (λ to. ItemAdds nodes.old.items nodes.new.items array value kind span) }
 {
-    let facts = NodeFacts::unnamed(kind, Some(span), Place::Value(value));
+    let facts = NodeFacts::unnamed(kind, Some(span), Origin::Value(value));
     add_item(nodes, array, facts, holds)
 }
 

@@ -38,7 +38,7 @@ pub fn push_id(ids: &mut Vec<usize>, id: usize) -> Result<(), AllocError>
     Ok(())
 }
 
-/// Reads the value of that number, which is in an array or an inline table, and gives its node. `ids` are the nodes
+/// Reads the value with that number, which is in an array or an inline table, and gives its node. `ids` are the nodes
 /// of the values so far; the second is that of the value number `base`.
 fn read_value(
     nodes: &mut Nodes,

@@ -21,7 +21,7 @@ use crate::nested_values::{fault_from, push_id, read_nested};
 use keep_nodes::Nodes;
 use keep_syntax::{Parts, Statement, StatementKind};
 
-/// Reads a header of this kind, the statement of that number, and gives the node that it defines or begins.
+/// Reads a header of this kind, the statement with that number, and gives the node that it defines or begins.
 fn read_head(
     nodes: &mut Nodes,
     keys: Keys<'_>,
@@ -43,7 +43,7 @@ fn read_head(
     }
 }
 
-/// Reads the header of that number, and gives the node that it defines or begins.
+/// Reads the header with that number, and gives the node that it defines or begins.
 fn read_header(
     nodes: &mut Nodes,
     text: &str,
@@ -111,7 +111,7 @@ fn read_keyval(
     read_nested(nodes, ids, text, parts, number, number + 1)
 }
 
-/// Reads the statement of that number in the body at that node, and gives the node of the body after it. `ids` is a
+/// Reads the statement with that number in the body at that node, and gives the node of the body after it. `ids` is a
 /// buffer for the nodes of the values in one statement.
 pub fn read_statement(
     nodes: &mut Nodes,

@@ -15,7 +15,7 @@ use Rattle.keep_syntax.specs.declared.fault.ReadFault.{ReadFault}
 use Rattle.keep_syntax.specs.declared.fault.ReadFault.TheVariants as read
 use Rattle.keep_syntax.specs.Tree.{Document}
 use Rattle.keep_meaning.specs.Marks.{Mention, fact_of}
-use Rattle.keep_meaning.specs.Meaning.{said_in}
+use Rattle.keep_meaning.specs.Meaning.{mentions_in}
 use Rattle.keep_meaning.specs.Nodes.{is_at, is_node, fact_at, first_of, kind_at}
 use Rattle.keep_path.specs.Path.{Part}
 use Rattle.keep_meaning.specs.declared.node.Kind.{Kind}
@@ -53,21 +53,21 @@ unfolding IsText
 get_text d path value out (s, h) k e = (s, h, (value, k s h, e))
 
 -- out of memory alone is no refusal
-pub told_edit : (number : ℕ) (f : EditFault) → (f ≡ fault.Memory) ⊎ (of_edit number f ≡ run.Edit number f)
-told_edit number fault.NotFound = inr refl
-told_edit number fault.Exists = inr refl
-told_edit number fault.NotValue = inr refl
-told_edit number fault.NotTable = inr refl
-told_edit number fault.NotKey = inr refl
-told_edit number fault.Scattered = inr refl
-told_edit number (fault.Conflict why) = inr refl
-told_edit number fault.TooDeep = inr refl
-told_edit number fault.Memory = inl refl
-told_edit number fault.Profile = inr refl
+pub stated_edit : (number : ℕ) (f : EditFault) → (f ≡ fault.Memory) ⊎ (of_edit number f ≡ run.Edit number f)
+stated_edit number fault.NotFound = inr refl
+stated_edit number fault.Exists = inr refl
+stated_edit number fault.NotValue = inr refl
+stated_edit number fault.NotTable = inr refl
+stated_edit number fault.NotKey = inr refl
+stated_edit number fault.Scattered = inr refl
+stated_edit number (fault.Conflict why) = inr refl
+stated_edit number fault.TooDeep = inr refl
+stated_edit number fault.Memory = inl refl
+stated_edit number fault.Profile = inr refl
 
 pub get_refusal : (d : ProfiledText) (path : List Part) (f : EditFault) → IsAccepted d → ((s : Document) → IsTextOfTree d s → get path s ≡ Err f) → (of_edit 0 f ≡ run.Memory) ⊎ IsRefusal (Get path) d (of_edit 0 f)
 unfolding IsEditRefusal
-get_refusal d path f (s, h) k = elim (told_edit 0 f) [
+get_refusal d path f (s, h) k = elim (stated_edit 0 f) [
   | inl m ↦ inl (ap (of_edit 0) m)
   | inr e ↦ inr (subst (λ (x : RunFault). IsRefusal (Get path) d x) (sym e) (refl, (s, h, k s h)))
 ]
@@ -83,9 +83,9 @@ read_refusal command input (read.Define at why) (inr h) = inr h
 -- ---- text
 
 -- nothing is said of a path that names no node
-none_said : (path : List Part) (ms : List Mention) → list_any (is_at path) ms ≡ false → filter (is_at path) ms ≡ []
-none_said path [] h = refl
-none_said path (m ∷ ms) h = by (is_at path m) refl (none_said path ms)
+none_mentioned : (path : List Part) (ms : List Mention) → list_any (is_at path) ms ≡ false → filter (is_at path) ms ≡ []
+none_mentioned path [] h = refl
+none_mentioned path (m ∷ ms) h = by (is_at path m) refl (none_mentioned path ms)
   where
     by : (b : Bool) → is_at path m ≡ b → (list_any (is_at path) ms ≡ false → filter (is_at path) ms ≡ []) → filter (is_at path) (m ∷ ms) ≡ []
     by true e more = absurd (let no : true ≡ false = rw e at h in cc)
@@ -98,7 +98,7 @@ a_node (p ∷ ps) ms v h = by (list_any (is_at (p ∷ ps)) ms) refl
     by : (b : Bool) → list_any (is_at (p ∷ ps)) ms ≡ b → is_node (p ∷ ps) ms ≡ true
     by true e = e
     by false e =
-        let none : string_of (fact_at (p ∷ ps) ms) ≡ None = ap (λ (x : List Mention). string_of (first_of (filter_map fact_of (map (λ (m : Mention). m.says) x)))) (none_said (p ∷ ps) ms e) in
+        let none : string_of (fact_at (p ∷ ps) ms) ≡ None = ap (λ (x : List Mention). string_of (first_of (filter_map fact_of (map (λ (m : Mention). m.kind) x)))) (none_mentioned (p ∷ ps) ms e) in
         let no : None ≡ Some v = sym none ∙ h in
         absurd cc
 
@@ -106,28 +106,28 @@ pub meant_text : (d : ProfiledText) (path : List Part) (found : Option (String G
     → IsText (Text path) d (string_bytes text)
 unfolding IsText
 meant_text d path found text some (s, h) k =
-    let is : string_of (fact_at path (said_in s)) ≡ Some (string_bytes text) = sym (k s h) ∙ ap (option_map string_bytes) some in
-    (s, h, rw (a_node path (said_in s) (string_bytes text) is, at_node) (rw is refl))
+    let is : string_of (fact_at path (mentions_in s)) ≡ Some (string_bytes text) = sym (k s h) ∙ ap (option_map string_bytes) some in
+    (s, h, rw (a_node path (mentions_in s) (string_bytes text) is, at_node) (rw is refl))
 
--- where no node stands
+-- where no node is
 pub no_node : (d : ProfiledText) (path : List Part) (found : Option Kind) → is_some found ≡ false → IsAccepted d → ((s : Document) → IsTextOfTree d s → found ≡ kind_of path s) → IsRefusal (Text path) d (run.Edit 0 fault.NotFound)
 unfolding IsEditRefusal
-no_node d path found none (s, h) k = by (is_node path (said_in s)) refl
+no_node d path found none (s, h) k = by (is_node path (mentions_in s)) refl
   where
-    by : (b : Bool) → is_node path (said_in s) ≡ b → IsRefusal (Text path) d (run.Edit 0 fault.NotFound)
-    by true e = absurd (let kind : found ≡ Some (kind_at path (said_in s)) = rw e at (k s h) in let no : true ≡ false = rw kind at none in cc)
+    by : (b : Bool) → is_node path (mentions_in s) ≡ b → IsRefusal (Text path) d (run.Edit 0 fault.NotFound)
+    by true e = absurd (let kind : found ≡ Some (kind_at path (mentions_in s)) = rw e at (k s h) in let no : true ≡ false = rw kind at none in cc)
     by false e = (refl, (s, h, rw (e, at_node) refl))
 
--- where something else stands
+-- where something else is
 pub no_string : (d : ProfiledText) (path : List Part) (found : Option Kind) (text : Option (String Global)) → is_some found ≡ true → text ≡ None → IsAccepted d → ((s : Document) → IsTextOfTree d s → found ≡ kind_of path s)
     → ((s : Document) → IsTextOfTree d s → option_map string_bytes text ≡ str_value_of path s)
     → IsRefusal (Text path) d (run.Edit 0 fault.NotValue)
 unfolding IsEditRefusal
-no_string d path found text some none (s, h) k n = by (is_node path (said_in s)) refl
+no_string d path found text some none (s, h) k n = by (is_node path (mentions_in s)) refl
   where
-    by : (b : Bool) → is_node path (said_in s) ≡ b → IsRefusal (Text path) d (run.Edit 0 fault.NotValue)
+    by : (b : Bool) → is_node path (mentions_in s) ≡ b → IsRefusal (Text path) d (run.Edit 0 fault.NotValue)
     by false e = absurd (let kind : found ≡ None = rw e at (k s h) in let no : false ≡ true = rw kind at some in cc)
-    by true e = let is : string_of (fact_at path (said_in s)) ≡ None = sym (n s h) ∙ ap (option_map string_bytes) none in (refl, (s, h, rw (e, at_node) (rw is refl)))
+    by true e = let is : string_of (fact_at path (mentions_in s)) ≡ None = sym (n s h) ∙ ap (option_map string_bytes) none in (refl, (s, h, rw (e, at_node) (rw is refl)))
 
 -- ---- edits
 
@@ -198,7 +198,7 @@ module _ {T : Type 0} (good : Document → law.Edit → T → Type 0) (profile :
 
   -- an edit is done, and its text is this
   pub after_edit : (x : T) → ((u : Document) → (e : law.Edit) → good u e x → IsTextAfter u e new old) → Answers good edit old (Ok x) → IsAfter profile (take (suc i) edits) s new
-  after_edit x told k = by (refusal profile limit h.tree given.0) refl (in_its_profile (Ok x) k)
+  after_edit x stated k = by (refusal profile limit h.tree given.0) refl (in_its_profile (Ok x) k)
     where
       by : (o : Option EditFault) → refusal profile limit h.tree given.0 ≡ o → IsDone (good h.tree given.0) o (Ok x) → IsAfter profile (take (suc i) edits) s new
       by (Some f) e done = absurd (let no : Ok x ≡ Err f = done in cc)
@@ -206,8 +206,8 @@ module _ {T : Type 0} (good : Document → law.Edit → T → Type 0) (profile :
         es = h.es ++ given.0 ∷ [];
         are = zip_more edits i d edit h.es given.0 lt is h.are given.1;
         tree = edited_document h.tree given.0;
-        read = (told h.tree given.0 done).tree;
-        in_profile = (told h.tree given.0 done).profile ∙ h.in_profile;
+        read = (stated h.tree given.0 done).tree;
+        in_profile = (stated h.tree given.0 done).profile ∙ h.in_profile;
         done = applied_more profile 0 h.es given.0 s h.tree h.done e;
       }
 
@@ -222,9 +222,9 @@ module _ {T : Type 0} (good : Document → law.Edit → T → Type 0) (profile :
       of_memory m = rw m tt
 
       of_refusal : refusal profile limit h.tree given.0 ≡ Some f → Refused profile edits s (of_edit i f)
-      of_refusal e = elim (told_edit i f) [
+      of_refusal e = elim (stated_edit i f) [
         | inl m ↦ of_memory m
-        | inr told ↦ subst (λ (x : RunFault). Refused profile edits s x) (sym told) (
+        | inr stated ↦ subst (λ (x : RunFault). Refused profile edits s x) (sym stated) (
           h.es ++ given.0 ∷ [],
           zip_more edits i d edit h.es given.0 lt is h.are given.1,
           subst (λ (n : ℕ). applied_from profile limit 0 (h.es ++ given.0 ∷ []) s ≡ Err (refused_as n f)) many (applied_until profile 0 h.es given.0 s h.tree f h.done e),
@@ -239,8 +239,8 @@ module _ {T : Type 0} (good : Document → law.Edit → T → Type 0) (profile :
 abbrev pub apply_done : ProfiledText → ProfiledText → Document → law.Edit → Splice → Type 0
 apply_done old new u e splice = IsEdited u e new old splice
 
-abbrev pub text_told : ProfiledText → Document → law.Edit → String Global → Type 0
-text_told old u e text = IsTextAfter u e (text_in old.profile (string_bytes text)) old
+abbrev pub text_stated : ProfiledText → Document → law.Edit → String Global → Type 0
+text_stated old u e text = IsTextAfter u e (text_in old.profile (string_bytes text)) old
 
 pub all_applied : (profile : Profile) (edits : List Edit) (n : ℕ) (s : Document) (d : ProfiledText) (new : List ℕ) → length edits ≤ n → new ≡ d.text → IsAfter profile (take n edits) s d → AppliesTo profile edits s new
 all_applied profile edits n s d new le same h =

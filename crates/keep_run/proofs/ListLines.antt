@@ -5,7 +5,7 @@ use Rattle.std.proofs.lemmas.List.{length-map, flat_map_more, take_all, take_mor
 use Rattle.std.proofs.lemmas.Option.{slice_get_cases}
 use Rattle.keep_syntax.specs.Tree.{Document}
 use Rattle.keep_meaning.specs.declared.node.Kind.{Kind}
-use Rattle.keep_meaning.specs.Meaning.{said_in}
+use Rattle.keep_meaning.specs.Meaning.{mentions_in}
 use Rattle.keep_meaning.specs.Nodes.{node_path, node_paths, nodes_in}
 use Rattle.keep_path.specs.Path.{Part}
 use Rattle.keep_path.specs.PathText.{encoded_path}
@@ -14,7 +14,7 @@ use Rattle.keep_edit.specs.Answers.{AddsEntryPath, counts_of, entries_of, entry_
 use Rattle.keep_edit.specs.declared.document.Entry.{Entry}
 use Rattle.keep_run.specs.Answer.{entry_line, kind_word, lines_of}
 
--- the path of an entry, and what stands behind it, are its line
+-- the path of an entry, and what comes after it, are its line
 pub line_more : (entries : List Entry) (n : ℕ) (kind : Kind) (old mid new : List ℕ) → old ≡ lines_of (take n entries) → AddsEntryPath (slice_get entries n) (Some kind) old mid
     → new ≡ mid ++ (codes "\t" ++ (kind_word kind ++ codes "\n")) → new ≡ lines_of (take (n + 1) entries)
 line_more entries n kind old mid new o h e = elim (slice_get_cases entries n).1 [
@@ -35,7 +35,7 @@ line_more entries n kind old mid new o h e = elim (slice_get_cases entries n).1 
       cc)
 ]
 
--- where no kind is told all lines are there
+-- where no kind is reported all lines are there
 pub lines_end : (entries : List Entry) (n : ℕ) (kind : Option Kind) (old new : List ℕ) → old ≡ lines_of (take n entries) → AddsEntryPath (slice_get entries n) kind old new → ((k : Kind) → kind ≡ Some k → ⊥)
     → new ≡ lines_of entries
 lines_end entries n kind old new o h none = elim (slice_get_cases entries n).1 [
@@ -51,5 +51,5 @@ lines_end entries n kind old new o h none = elim (slice_get_cases entries n).1 [
 -- there are fewer entries than nodes
 pub all_entries : (s : Document) (n : ℕ) → (counts_of s).nodes ≤ n → take n (entries_of s) ≡ entries_of s
 all_entries s n h =
-    let many : length (nodes_in s) ≡ length (node_paths (said_in s)) = sym (length-map (nodes_in s) node_path) ∙ ap (λ (ps : List (List Part)). length ps) (paths-nodes_in s) in
-    take_all n (entries_of s) (omega (arith, many, h, length-map (drop 1 (node_paths (said_in s))) (entry_at (said_in s)), length-drop 1 (node_paths (said_in s))))
+    let many : length (nodes_in s) ≡ length (node_paths (mentions_in s)) = sym (length-map (nodes_in s) node_path) ∙ ap (λ (ps : List (List Part)). length ps) (paths-nodes_in s) in
+    take_all n (entries_of s) (omega (arith, many, h, length-map (drop 1 (node_paths (mentions_in s))) (entry_at (mentions_in s)), length-drop 1 (node_paths (mentions_in s))))

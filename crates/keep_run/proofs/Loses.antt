@@ -3,11 +3,11 @@ use Rattle.std.proofs.Common.{◌≡◌, ◌∙◌, ◌+◌, ◌≤◌, ℕ, Lis
 use Rattle.std.specs.Io.KnownBytes.{Consumes, Keeps}
 use Rattle.keep_run.specs.Run.{LosesAtMost}
 
-pub loses_kept : (most : ℕ) (old mid new : Option (List ℕ)) (a : List ℕ) → Consumes old mid a → Keeps mid new → length a ≤ most → LosesAtMost most old new
-loses_kept most None mid new a h k l = tt
-loses_kept most (Some xs) None new a h k l = absurd h
-loses_kept most (Some xs) (Some ys) None a h k l = absurd k
-loses_kept most (Some xs) (Some ys) (Some zs) a h k l =
+pub loses_preserved : (most : ℕ) (old mid new : Option (List ℕ)) (a : List ℕ) → Consumes old mid a → Keeps mid new → length a ≤ most → LosesAtMost most old new
+loses_preserved most None mid new a h k l = tt
+loses_preserved most (Some xs) None new a h k l = absurd h
+loses_preserved most (Some xs) (Some ys) None a h k l = absurd k
+loses_preserved most (Some xs) (Some ys) (Some zs) a h k l =
     let e : length xs ≡ length a + length ys = ap length h ∙ length-append a ys in
     let f : length zs ≡ length ys = ap length k in
     omega arith

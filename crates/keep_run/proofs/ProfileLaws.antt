@@ -5,7 +5,7 @@ use Rattle.std.specs.List.{AllZip, list_any}
 use Rattle.keep_token.specs.declared.leaf.Profile.{Profile}
 use Rattle.keep_token.specs.declared.leaf.Profile.TheVariants.{Strict, Wide}
 use Rattle.keep_syntax.specs.Tree.{Document, Value}
-use Rattle.keep_meaning.specs.Meaning.{said_in}
+use Rattle.keep_meaning.specs.Meaning.{mentions_in}
 use Rattle.keep_meaning.specs.Marks.{Mention, Statement, element_header, header, marks, statement_mentions}
 use Rattle.keep_syntax.specs.declared.fault.Why.{Why}
 use Rattle.keep_meaning.specs.Nodes.{fact_at, is_node, is_root, mark_count}
@@ -98,14 +98,14 @@ IsAllowed profile _ = Unit {0}
 
 never_refused : (profile : Profile) (e : law.Edit) (s : Document) → IsAllowed profile e → refusal profile limit s e ≡ Some fault.Profile → ⊥
 never_refused profile (law.set path v) s allowed h =
-    never_four (not (is_node path (said_in s))) (not (has_value path (said_in s))) (is_too_deep limit path v (said_in s)) (is_foreign profile v) fault.NotFound fault.NotValue fault.TooDeep fault.Profile not_found not_value too_deep_not (λ is. ap not allowed) h
-never_refused profile (law.insert path v) s allowed h = never_inserted profile path v (said_in s) allowed h
+    never_four (not (is_node path (mentions_in s))) (not (has_value path (mentions_in s))) (is_too_deep limit path v (mentions_in s)) (is_foreign profile v) fault.NotFound fault.NotValue fault.TooDeep fault.Profile not_found not_value too_deep_not (λ is. ap not allowed) h
+never_refused profile (law.insert path v) s allowed h = never_inserted profile path v (mentions_in s) allowed h
 never_refused profile (law.rename path name) s allowed h =
-    never_four (not (is_node path (said_in s))) ((not (is_root path) && not (ends_in_index path)) && is_node (beside path name) (said_in s)) (is_root path || ends_in_index path) (not (mark_count path (said_in s) == 1)) fault.NotFound fault.Exists fault.NotKey fault.Scattered not_found exists_not not_key (λ is. absurd (scattered_not is)) h
+    never_four (not (is_node path (mentions_in s))) ((not (is_root path) && not (ends_in_index path)) && is_node (beside path name) (mentions_in s)) (is_root path || ends_in_index path) (not (mark_count path (mentions_in s) == 1)) fault.NotFound fault.Exists fault.NotKey fault.Scattered not_found exists_not not_key (λ is. absurd (scattered_not is)) h
 never_refused profile (law.remove path) s allowed h =
-    never_three (not (is_node path (said_in s))) (is_root path) (not (is_one_piece path (said_in s))) fault.NotFound fault.NotKey fault.Scattered not_found not_key (λ is. absurd (scattered_not is)) h
-never_refused profile (law.append_table keys) s allowed h = never_appended keys (header keys) (said_in s) h
-never_refused profile (law.append_element keys) s allowed h = never_appended keys (element_header keys) (said_in s) h
+    never_three (not (is_node path (mentions_in s))) (is_root path) (not (is_one_piece path (mentions_in s))) fault.NotFound fault.NotKey fault.Scattered not_found not_key (λ is. absurd (scattered_not is)) h
+never_refused profile (law.append_table keys) s allowed h = never_appended keys (header keys) (mentions_in s) h
+never_refused profile (law.append_element keys) s allowed h = never_appended keys (element_header keys) (mentions_in s) h
 
 -- ---- whose values are allowed
 
@@ -152,24 +152,24 @@ never_applied profile (e ∷ es) n k s allowed h = by (refusal profile limit s e
     by : (o : Option EditFault) → refusal profile limit s e ≡ o → (applied_from profile limit (suc n) es (edited_document s e) ≡ Err (refused_as k fault.Profile) → ⊥) → ⊥
     by None is more = more (rw (is, applied_from) at h)
     by (Some f) is more =
-        let told : Err (refused_as n f) ≡ Err (refused_as k fault.Profile) = rw (is, applied_from) at h in
-        let same : f ≡ fault.Profile = ap (λ (r : answers.Refused). r.fault) (err_same (refused_as n f) (refused_as k fault.Profile) told) in
+        let stated : Err (refused_as n f) ≡ Err (refused_as k fault.Profile) = rw (is, applied_from) at h in
+        let same : f ≡ fault.Profile = ap (λ (r : answers.Refused). r.fault) (err_same (refused_as n f) (refused_as k fault.Profile) stated) in
         never_refused profile e s allowed.0 (is ∙ ap (λ (g : EditFault). Some g) same)
 
-strict_front : (n : ℕ) (edits : List Edit) → AreStrict edits → AreStrict (take n edits)
-strict_front zero edits h = tt
-strict_front (suc n) [] h = tt
-strict_front (suc n) (e ∷ es) h = (h.0, strict_front n es h.1)
+strict_prefix : (n : ℕ) (edits : List Edit) → AreStrict edits → AreStrict (take n edits)
+strict_prefix zero edits h = tt
+strict_prefix (suc n) [] h = tt
+strict_prefix (suc n) (e ∷ es) h = (h.0, strict_prefix n es h.1)
 
-not_told : {A : Type 0} (found : Option A) → or_not_value found ≡ Err fault.Profile → ⊥
-not_told {A} None h = let no : ◌≡◌ {A = Result A EditFault} (Err fault.NotValue) (Err fault.Profile) = h in cc
-not_told (Some a) h = let no : Ok a ≡ Err fault.Profile = h in cc
+not_stated : {A : Type 0} (found : Option A) → or_not_value found ≡ Err fault.Profile → ⊥
+not_stated {A} None h = let no : ◌≡◌ {A = Result A EditFault} (Err fault.NotValue) (Err fault.Profile) = h in cc
+not_stated (Some a) h = let no : Ok a ≡ Err fault.Profile = h in cc
 
 never_at : {A : Type 0} (path : List Part) (s : Document) (found : Option A) → at_node path s found ≡ Err fault.Profile → ⊥
-never_at {A} path s found h = by (is_node path (said_in s)) refl
+never_at {A} path s found h = by (is_node path (mentions_in s)) refl
   where
-    by : (b : Bool) → is_node path (said_in s) ≡ b → ⊥
-    by true e = not_told found (rw (e, at_node) at h)
+    by : (b : Bool) → is_node path (mentions_in s) ≡ b → ⊥
+    by true e = not_stated found (rw (e, at_node) at h)
     by false e = let no : ◌≡◌ {A = Result A EditFault} (Err fault.NotFound) (Err fault.Profile) = rw (e, at_node) at h in cc
 
 never_edit : (c : Command) (bytes : List ℕ) (n : ℕ) → HasOwnValues c → IsEditRefusal c (text_in (profile_of c) bytes) n fault.Profile → ⊥
@@ -178,17 +178,17 @@ never_edit command.Check bytes n own h = absurd h
 never_edit command.CheckWide bytes n own h = absurd h
 never_edit command.List bytes n own h = absurd h
 never_edit (command.Get path) bytes n own (first, (s, read, got)) = never_at path s (value_at path s) got
-never_edit (command.Text path) bytes n own (first, (s, read, got)) = never_at path s (string_of (fact_at path (said_in s))) got
-never_edit (command.Apply edits) bytes n own (s, read, (es, are, refused)) = never_applied Strict es 0 n s (all_strict (take (suc n) edits.items) es (strict_front (suc n) edits.items own) are) refused
+never_edit (command.Text path) bytes n own (first, (s, read, got)) = never_at path s (string_of (fact_at path (mentions_in s))) got
+never_edit (command.Apply edits) bytes n own (s, read, (es, are, refused)) = never_applied Strict es 0 n s (all_strict (take (suc n) edits.items) es (strict_prefix (suc n) edits.items own) are) refused
 never_edit (command.ApplyWide edits) bytes n own (s, read, (es, are, refused)) = never_applied Wide es 0 n s (all_wide es) refused
 
 -- no command is refused so
 pub never_profile : (c : Command) (bytes : List ℕ) (f : RunFault) → HasOwnValues c → (f ≡ run.Memory) ⊎ IsRefusal c (text_in (profile_of c) bytes) f → IsProfileFault f → ⊥
 never_profile c bytes (run.Edit n fault.Profile) own (inl memory) is = let no : run.Edit n fault.Profile ≡ run.Memory = memory in cc
 never_profile c bytes (run.Edit n fault.Profile) own (inr refusal) is = never_edit c bytes n own refusal
-never_profile c bytes f own told is = absurd is
+never_profile c bytes f own stated is = absurd is
 
 -- what `?` passes up
 pub passed_up : {T : Type 0} (r : Result T RunFault) (f : RunFault) → IsErrAnd r (λ e. e ≡ f) → (IsProfileFault f → ⊥) → IfErr r (λ e. IsProfileFault e → ⊥)
 passed_up (Ok x) f is never = absurd is
-passed_up (Err e) f is never = λ told. never (subst IsProfileFault is told)
+passed_up (Err e) f is never = λ stated. never (subst IsProfileFault is stated)

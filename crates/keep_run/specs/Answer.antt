@@ -58,7 +58,7 @@ lines_of entries = flat_map entry_line entries
 abbrev pub AppliesTo : Profile → List Edit → Document → List ℕ → Type 0
 AppliesTo profile edits s new = (es : List law.Edit) × AllZip IsEdit edits es × ((u : Document) × (applied_edits profile limit es s ≡ Ok u) × (new ≡ text u))
 
--- The edit of this number is the first that is refused, and this is why. (The edits behind it are not looked at.)
+-- The edit with this number is the first that is refused, and this is why. (The edits after it are not looked at.)
 abbrev pub RefusesAt : Profile → List Edit → Document → ℕ → EditFault → Type 0
 RefusesAt profile edits s number f = (es : List law.Edit) × AllZip IsEdit (take (suc number) edits) es × (applied_edits profile limit es s ≡ Err (record { number = number; fault = f }))
 
@@ -80,7 +80,7 @@ IsText (command.Text path) input output = (s : Document) × IsTextOfTree input s
 IsText (command.Apply edits) input output = (s : Document) × IsTextOfTree input s × AppliesTo input.profile edits.items s output
 IsText (command.ApplyWide edits) input output = (s : Document) × IsTextOfTree input s × AppliesTo input.profile edits.items s output
 
--- the bytes are a document, and the edit of this number is the first that is refused, by this fault
+-- the bytes are a document, and the edit with this number is the first that is refused, by this fault
 unfoldable pub IsEditRefusal : Command → ProfiledText → ℕ → EditFault → Type 0
 IsEditRefusal command.Check input number f = ⊥
 IsEditRefusal command.CheckWide input number f = ⊥
@@ -96,7 +96,7 @@ IsRefusal c input (run.Document f) = IsReadFault input.profile limit input.text 
 IsRefusal c input (run.Edit number f) = IsEditRefusal c input number f
 IsRefusal c input _ = ⊥
 
--- ---- how faults are told
+-- ---- how faults are reported
 
 -- the fault of the run that a fault of reading, or of the edit of a number, is
 abbrev pub of_read : ReadFault → RunFault

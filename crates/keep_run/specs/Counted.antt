@@ -11,8 +11,8 @@ abbrev pub is_refused : {E : Type 0} → Result ℕ E → List ℕ → Bool
 is_refused (Ok n) bytes = nat_lt 0 (length bytes) && (n == 0)
 is_refused (Err e) bytes = true
 
-abbrev pub next_turn : ℕ → ℕ
-next_turn turns = min (turns + 1) (2 ^ 64 - 1)
+abbrev pub next_call : ℕ → ℕ
+next_call calls = min (calls + 1) (2 ^ 64 - 1)
 
 module _ {T : Type 0} where
   -- the reader or the writer
@@ -20,8 +20,8 @@ module _ {T : Type 0} where
   inner_of c = c.inner
 
   -- the calls so far
-  abbrev pub turns_of : Counted T → ℕ
-  turns_of c = c.turns
+  abbrev pub calls_of : Counted T → ℕ
+  calls_of c = c.calls
 
   -- a call failed
   abbrev pub has_failed : Counted T → Bool
@@ -29,5 +29,5 @@ module _ {T : Type 0} where
 
   -- no call was made
   pub record IsFresh (c : Counted T) : Type 0 where
-    pub turns : turns_of c ≡ 0
+    pub calls : calls_of c ≡ 0
     pub failed : has_failed c ≡ false

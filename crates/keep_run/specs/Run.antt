@@ -50,20 +50,20 @@ WritesAnswer command bytes old new written =
     (text : List ℕ) × IsText command (text_in (profile_of command) bytes) text × (written ≡ length text) × Appends old new text
 
 -- the first bytes of an answer are written, and not all
-abbrev pub WritesFront : Command → List ℕ → Option (List ℕ) → Option (List ℕ) → ℕ → Type 0
-WritesFront command bytes old new written =
+abbrev pub WritesPrefix : Command → List ℕ → Option (List ℕ) → Option (List ℕ) → ℕ → Type 0
+WritesPrefix command bytes old new written =
     (text : List ℕ) × IsText command (text_in (profile_of command) bytes) text × (written < length text) × Appends old new (take written text)
 
 -- the input is within the limit, and the answer to the command and its bytes is written
 abbrev pub HasWritten : Command → Option (List ℕ) → Option (List ℕ) → Option (List ℕ) → ℕ → Type 0
 HasWritten command input old new written = IfSome input (λ bytes. IsWithinLimit bytes × WritesAnswer command bytes old new written)
 
--- Nothing is written but by a fault of writing, which leaves the first bytes of the answer. Faults of the document, of an edit
--- and of writing are about an input within the limit: too long an input is told before it is looked at.
+-- Nothing is written but by a fault of writing, which leaves the first bytes of the answer. Faults of the document, of
+-- an edit and of writing are about an input within the limit: too long an input is reported before it is looked at.
 abbrev pub StopsRun : Command → Option (List ℕ) → Option (List ℕ) → Option (List ℕ) → RunFault → Type 0
 StopsRun command input old new Read = Keeps old new
 StopsRun command input old new TooLong = Keeps old new × IfSome input IsTooLong
-StopsRun command input old new (Write written) = IfSome input (λ bytes. IsWithinLimit bytes × WritesFront command bytes old new written)
+StopsRun command input old new (Write written) = IfSome input (λ bytes. IsWithinLimit bytes × WritesPrefix command bytes old new written)
 StopsRun command input old new Memory = Keeps old new
 StopsRun command input old new fault = Keeps old new × IfSome input (λ bytes. IsWithinLimit bytes × IsRefusal command (text_in (profile_of command) bytes) fault)
 

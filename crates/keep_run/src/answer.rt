@@ -63,7 +63,7 @@ fn list_text(alloc: Global, document: &Document) -> Result<String, AllocError>
     Ok(text)
 }
 
-// What stands behind the path in a node's line.
+// What comes after the path in a node's line.
 fn push_kind(text: &mut String, kind: Kind) -> Result<(), AllocError>
     ensures { OnOk result (string_bytes text.new ≡ string_bytes text.old ++ (codes "\t" ++ (kind_word kind ++ codes "\n"))) }
 {
@@ -90,20 +90,20 @@ fn of_edit(index: usize, fault: EditFault) -> RunFault
     }
 }
 
-fn checked(alloc: Global, document: &Document) -> Result<String, RunFault>
+fn check_line(alloc: Global, document: &Document) -> Result<String, RunFault>
     ensures check { MatchResult result (λ text. IsText Command.Check document.now (string_bytes text)) (λ fault. fault ≡ RunFault.Memory) }
     ensures wide { IfOk result (λ text. IsText Command.CheckWide document.now (string_bytes text)) }
 {
     Ok(counts_text(alloc, document.counts())?)
 }
 
-fn listed(alloc: Global, document: &Document) -> Result<String, RunFault>
+fn list_lines(alloc: Global, document: &Document) -> Result<String, RunFault>
     ensures { MatchResult result (λ text. IsText Command.List document.now (string_bytes text)) (λ fault. fault ≡ RunFault.Memory) }
 {
     Ok(list_text(alloc, document)?)
 }
 
-fn got(alloc: Global, document: &Document, path: &Path) -> Result<String, RunFault>
+fn value_line(alloc: Global, document: &Document, path: &Path) -> Result<String, RunFault>
     ensures { MatchResult result (λ text. IsText (Command.Get path.now) document.now (string_bytes text))
         (λ fault. (fault ≡ RunFault.Memory) ⊎ IsRefusal (Command.Get path.now) document.now fault) }
 {
@@ -113,7 +113,7 @@ fn got(alloc: Global, document: &Document, path: &Path) -> Result<String, RunFau
     }
 }
 
-fn meant(alloc: Global, document: &Document, path: &Path) -> Result<String, RunFault>
+fn string_text(alloc: Global, document: &Document, path: &Path) -> Result<String, RunFault>
     ensures { MatchResult result (λ text. IsText (Command.Text path.now) document.now (string_bytes text))
         (λ fault. (fault ≡ RunFault.Memory) ⊎ IsRefusal (Command.Text path.now) document.now fault) }
 {
@@ -124,9 +124,9 @@ fn meant(alloc: Global, document: &Document, path: &Path) -> Result<String, RunF
     }
 }
 
-// The text after the edits in order, or the first refusal. Nothing is asked of the document behind the last of them, so that
-// one gives its text alone, and the text is not read once more.
-fn applied(document: Document, edits: &[Edit]) -> Result<String, RunFault>
+// The text after the edits in order, or the first refusal. Nothing is asked of the document after the last of them, so
+// that one gives its text alone, and the text is not read once more.
+fn text_after_edits(document: Document, edits: &[Edit]) -> Result<String, RunFault>
     ensures { (s : tree.Document) → IsTextOfTree document s
         → MatchResult result (λ text. AppliesTo document.profile edits.now s (string_bytes text)) (spec.Refused document.profile edits.now s) }
 {
@@ -170,12 +170,12 @@ pub fn answer(alloc: Global, command: &Command, bytes: Vec<u8>) -> Result<String
         Err(fault) => return Err(of_read(fault)),
     };
     let answer = match command {
-        Command::Check | Command::CheckWide => checked(alloc, &document),
-        Command::List => listed(alloc, &document),
-        Command::Get(path) => got(alloc, &document, path),
-        Command::Text(path) => meant(alloc, &document, path),
-        Command::Apply(edits) => return applied(document, edits.as_slice()),
-        Command::ApplyWide(edits) => return applied(document, edits.as_slice()),
+        Command::Check | Command::CheckWide => check_line(alloc, &document),
+        Command::List => list_lines(alloc, &document),
+        Command::Get(path) => value_line(alloc, &document, path),
+        Command::Text(path) => string_text(alloc, &document, path),
+        Command::Apply(edits) => return text_after_edits(document, edits.as_slice()),
+        Command::ApplyWide(edits) => return text_after_edits(document, edits.as_slice()),
     };
     // The program ends with its answer: to take the document apart piece by piece would only cost time.
     mem::forget(document);

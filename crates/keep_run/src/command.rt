@@ -6,7 +6,7 @@ use keep_edit::{Edit, Path};
 pub enum Command {
     /// Whether the input is a document, and how large.
     Check,
-    /// The same in the profile Wide.
+    /// What the command before it does, in the profile Wide.
     CheckWide,
     /// All nodes but the root, with their kinds.
     List,
@@ -16,6 +16,6 @@ pub enum Command {
     Text(Path),
     /// The document after these edits, in order.
     Apply(Vec<Edit>),
-    /// The same in the profile Wide.
+    /// What the command before it does, in the profile Wide.
     ApplyWide(Vec<Edit>),
 }

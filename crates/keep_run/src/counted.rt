@@ -13,22 +13,22 @@ use std::io::{Read, Write};
 #[derive(Drop)]
 pub struct Counted<T> {
     inner: T,
-    turns: u64,
+    calls: u64,
     failed: bool,
 }
 
 impl<T> Counted<T> {
-    ghost use Rattle.keep_run.specs.Counted.{has_failed, inner_of, is_err, is_refused, next_turn, turns_of};
+    ghost use Rattle.keep_run.specs.Counted.{has_failed, inner_of, is_err, is_refused, next_call, calls_of};
 
     /// No call so far.
     pub fn new(inner: T) -> Counted<T>
         ensures inner { inner_of result ≡ inner }
-        ensures turns { turns_of result ≡ 0 }
+        ensures calls { calls_of result ≡ 0 }
         ensures failed { has_failed result ≡ false }
     {
         Counted {
             inner,
-            turns: 0,
+            calls: 0,
             failed: false,
         }
     }
@@ -42,11 +42,11 @@ impl<T> Counted<T> {
     }
 
     /// The calls so far, which stop at the largest number.
-    pub fn turns(&self) -> u64
-        ensures { result ≡ turns_of self.now }
+    pub fn calls(&self) -> u64
+        ensures { result ≡ calls_of self.now }
     {
-        let Counted { turns, .. } = self;
-        *turns
+        let Counted { calls, .. } = self;
+        *calls
     }
 
     /// Whether a call answered an error, or a write of something took nothing.
@@ -64,11 +64,11 @@ impl<T> Counted<T> {
         T: Read,
         ensures bound { ReadsAtMost result buf.new }
         ensures bytes { ReadConsumes (T.remaining (inner_of self.old)) (T.remaining (inner_of self.new)) result buf.new }
-        ensures turns { turns_of self.new ≡ next_turn (turns_of self.old) }
+        ensures calls { calls_of self.new ≡ next_call (calls_of self.old) }
         ensures failed { has_failed self.new ≡ (has_failed self.old || is_err result) }
     {
         let result = self.inner.read(buf);
-        self.turns = self.turns.saturating_add(1);
+        self.calls = self.calls.saturating_add(1);
         if result.is_err() {
             self.failed = true;
         }
@@ -83,11 +83,11 @@ impl<T> Counted<T> {
         T: Write,
         ensures bound { WritesAtMost result buf.now }
         ensures bytes { WriteAppends (T.contents (inner_of self.old)) (T.contents (inner_of self.new)) result buf.now }
-        ensures turns { turns_of self.new ≡ next_turn (turns_of self.old) }
+        ensures calls { calls_of self.new ≡ next_call (calls_of self.old) }
         ensures failed { has_failed self.new ≡ (has_failed self.old || is_refused result buf.now) }
     {
         let result = self.inner.write(buf);
-        self.turns = self.turns.saturating_add(1);
+        self.calls = self.calls.saturating_add(1);
         if !buf.is_empty() && matches!(&result, Ok(0)) {
             self.failed = true;
         }

@@ -20,7 +20,7 @@ pub enum RunFault {
     /// The input is no document. This is never `ReadFault::Memory`.
     #[error(transparent)]
     Document(ReadFault),
-    /// The edit of this number, from 0, is refused. This is never `EditFault::Memory`.
+    /// The edit with this number, from 0, is refused. This is never `EditFault::Memory`.
     #[error("edit {index}: {fault}")]
     Edit { index: usize, fault: EditFault },
     /// The output failed, and took so many bytes before.

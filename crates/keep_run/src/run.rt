@@ -1,6 +1,6 @@
 //! Reads the input to its end, and writes the answer.
 ghost use Rattle.std.specs.Prelude.{◌≡◌, ◌+◌, ◌≤◌, ◌⊎◌, ◌↔◌, true, IfErr, IfOk, MatchResult, IsErrAnd, IsErrOf};
-ghost use Rattle.keep_run.specs.Counted.{IsFresh, has_failed, inner_of, turns_of};
+ghost use Rattle.keep_run.specs.Counted.{IsFresh, has_failed, inner_of, calls_of};
 ghost use Rattle.keep_run.specs.Answer.{IsProfileFault};
 ghost use Rattle.keep_run.specs.OwnValues.{HasOwnValues};
 ghost use Rattle.keep_run.specs.Run.{HasWritten, LosesAtMost, ReadsAll, StopsRun, WritesAll, is_write};
@@ -12,7 +12,7 @@ use crate::fault::RunFault;
 use std::alloc::Global;
 use std::io::{Read, Write};
 
-// The most bytes that one turn asks for.
+// The most bytes that one call asks for.
 const BLOCK: usize = 65_536;
 
 /// The length in bytes of the longest input that is accepted. The definitions cite it too.
@@ -27,17 +27,17 @@ pub struct Done {
 
 /// Reads all of the input, decides, and then writes the answer to the command.
 ///
-/// At most `LONGEST_INPUT` and one bytes and turns are asked of the input. A reader that answers more than it was given room for, or a
-/// writer that takes more than it was given, can't be: the traits' own contracts refuse it. An answer of no bytes makes
-/// no write.
+/// The input is asked for at most `LONGEST_INPUT` and one bytes, in at most so many calls. A reader that answers more
+/// than it was given room for, or a writer that takes more than it was given, can't be: the traits' own contracts
+/// refuse it. An answer of no bytes makes no write.
 ///
 /// # Errors
 ///
 /// `Read` exactly where the input failed, with an error of any kind; `TooLong` where it is longer than `LONGEST_INPUT`:
-/// all below, and `Ok`, is about an input that is no longer. `Document` and `Edit` where that is the answer; `Write` exactly
-/// where the output failed or took nothing, with the bytes that it took before. `Memory` where a growth was refused, whatever
-/// the input. Only `Write` comes after a byte was written. The fault of an edit is never `Profile` where the edits' values are of
-/// the profile that the command reads in, as those of `command_of` are.
+/// all below, and `Ok`, is about an input that is no longer. `Document` and `Edit` where that is the answer; `Write`
+/// exactly where the output failed or took nothing, with the bytes that it took before. `Memory` where a growth was
+/// refused, whatever the input. Only `Write` comes after a byte was written. The fault of an edit is never `Profile`
+/// where the edits' values are of the profile that the command reads in, as those of `command_of` are.
 pub fn run<R: Read, W: Write>(
     alloc: Global,
     command: &Command,
@@ -46,13 +46,13 @@ pub fn run<R: Read, W: Write>(
 ) -> Result<Done, RunFault>
     requires input { IsFresh input.old }
     requires output { IsFresh output.old }
-    ensures turns { turns_of input.new ≤ LONGEST_INPUT + 1 }
+    ensures calls { calls_of input.new ≤ LONGEST_INPUT + 1 }
     ensures taken { LosesAtMost (LONGEST_INPUT + 1) (R.remaining (inner_of input.old)) (R.remaining (inner_of input.new)) }
     ensures answers { MatchResult result
         (λ done. HasWritten command.now (R.remaining (inner_of input.old)) (W.contents (inner_of output.old)) (W.contents (inner_of output.new)) done.written)
         (StopsRun command.now (R.remaining (inner_of input.old)) (W.contents (inner_of output.old)) (W.contents (inner_of output.new))) }
-    ensures decided { IfErr result (λ fault. is_write fault ⊎ (turns_of output.new ≡ 0)) }
-    ensures silent { IfOk result (λ done. done.written ≡ 0 → turns_of output.new ≡ 0) }
+    ensures decided { IfErr result (λ fault. is_write fault ⊎ (calls_of output.new ≡ 0)) }
+    ensures silent { IfOk result (λ done. done.written ≡ 0 → calls_of output.new ≡ 0) }
     ensures profile { HasOwnValues command.now → IfErr result (λ fault. IsProfileFault fault → ⊥) }
     ensures input_failed { IsErrOf result RunFault.Read ↔ (has_failed input.new ≡ true) }
     ensures output_failed { IsErrAnd result is_write ↔ (has_failed output.new ≡ true) }
@@ -66,7 +66,7 @@ pub fn run<R: Read, W: Write>(
 fn read_all<R: Read>(alloc: Global, input: &mut Counted<R>) -> Result<Vec<u8>, RunFault>
     requires { IsFresh input.old }
     ensures reads { ReadsAll (R.remaining (inner_of input.old)) result (has_failed input.new) }
-    ensures turns { turns_of input.new ≤ LONGEST_INPUT + 1 }
+    ensures calls { calls_of input.new ≤ LONGEST_INPUT + 1 }
     ensures taken { LosesAtMost (LONGEST_INPUT + 1) (R.remaining (inner_of input.old)) (R.remaining (inner_of input.new)) }
 {
     let mut bytes = Vec::new(alloc);
@@ -89,11 +89,11 @@ fn read_all<R: Read>(alloc: Global, input: &mut Counted<R>) -> Result<Vec<u8>, R
     Err(RunFault::TooLong)
 }
 
-// Writes all of the bytes, or a front of them.
+// Writes all of the bytes, or a prefix of them.
 fn write_all<W: Write>(output: &mut Counted<W>, bytes: &[u8]) -> Result<Done, RunFault>
     requires { IsFresh output.old }
     ensures writes { WritesAll (W.contents (inner_of output.old)) (W.contents (inner_of output.new)) bytes.now result (has_failed output.new) }
-    ensures silent { IfOk result (λ done. done.written ≡ 0 → turns_of output.new ≡ 0) }
+    ensures silent { IfOk result (λ done. done.written ≡ 0 → calls_of output.new ≡ 0) }
 {
     let mut at = 0;
     while at < bytes.len() {

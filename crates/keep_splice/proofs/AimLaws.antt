@@ -9,14 +9,14 @@ use Rattle.keep_syntax.specs.Tree.{Document}
 use Rattle.keep_syntax.specs.declared.syntax.Syntax.{Syntax}
 use Rattle.keep_meaning.specs.declared.node.Kind.TheVariants as kind
 use Rattle.keep_meaning.specs.declared.node.NodeInfo.{NodeInfo}
-use Rattle.keep_meaning.specs.declared.node.Place.TheVariants as origin
+use Rattle.keep_meaning.specs.declared.node.Origin.TheVariants as origin
 use Rattle.keep_meaning.specs.Counts.{numbered_in}
 use Rattle.keep_meaning.specs.Fact as fact
 use Rattle.keep_meaning.specs.Fact.{Fact}
 use Rattle.keep_path.specs.Path.{Part, key, index}
 use Rattle.keep_meaning.specs.Rules.{ObeysRules}
 use Rattle.keep_meaning.specs.Marks.{Mention, marks}
-use Rattle.keep_meaning.specs.Meaning.{said_in}
+use Rattle.keep_meaning.specs.Meaning.{mentions_in}
 use Rattle.keep_meaning.specs.Nodes.{is_node, has, is_element, fact_at, kind_at, kind_or_table, moment_kind, node_number, node_paths, numbered_at}
 use Rattle.keep_meaning.proofs.Shared.{paths-nodes_in}
 use Rattle.keep_nodes.specs.Facts.{NodeInfos}
@@ -33,9 +33,9 @@ use Rattle.keep_splice.specs.Aiming.{IsItemOf, IsItemAimed}
 use Rattle.keep_splice.specs.Holding.{IsHolder}
 use Rattle.keep_splice.specs.declared.holder.Holder.{Holder}
 use Rattle.keep_splice.specs.declared.insert.Spot.TheVariants as spot
-use Rattle.keep_splice.proofs.AnswerLaws.{told_is}
-use Rattle.keep_splice.proofs.FoundLaws.{IsTold, one_found, fact_node, none_unless, value_of_place}
-use Rattle.keep_splice.proofs.NodeLaws.{no_node, kind_told}
+use Rattle.keep_splice.proofs.AnswerLaws.{stated_is}
+use Rattle.keep_splice.proofs.FoundLaws.{IsStated, one_found, fact_node, none_unless, value_of_origin}
+use Rattle.keep_splice.proofs.NodeLaws.{no_node, kind_stated}
 
 -- ---- the end of a path
 
@@ -44,10 +44,10 @@ end_of_path [] n p e h = absurd cc
 end_of_path (x ∷ []) zero p e h = (e, refl)
 end_of_path (x ∷ []) (suc n) p e h = absurd (omega (arith, h))
 end_of_path (x ∷ y ∷ ps) zero p e h = absurd (omega (arith, h))
-end_of_path (x ∷ y ∷ ps) (suc n) p e h = let (last, front) = end_of_path (y ∷ ps) n p e (omega (arith, h)) in (last, ap (λ (q : List Part). x ∷ q) front)
+end_of_path (x ∷ y ∷ ps) (suc n) p e h = let (last, prefix) = end_of_path (y ∷ ps) n p e (omega (arith, h)) in (last, ap (λ (q : List Part). x ∷ q) prefix)
 
-pub step_inside : (path : List Part) (n : ℕ) (p : Part) → slice_get path n ≡ Some p → n < length path
-step_inside path n p e = slice_get_within path n p e
+pub step_nested : (path : List Part) (n : ℕ) (p : Part) → slice_get path n ≡ Some p → n < length path
+step_nested path n p e = slice_get_within path n p e
 
 without_last-take : (p : Part) (ps : List Part) → without_last (p ∷ ps) ≡ take (length ps) (p ∷ ps)
 without_last-take p [] = refl
@@ -104,14 +104,14 @@ is_array path ms e = by (has is_element path ms) e
     by true e = absurd cc
     by false e = array_by_kind (fact_at path ms) e
 
-no_array : (path : List Part) (s : Document) → ObeysRules (marks (said_in s)) → (kind_at path (said_in s) ≡ kind.Array → ⊥) → is_array_at path (said_in s) ≡ false
-no_array path s obeys other = by (is_array_at path (said_in s)) refl (has is_element path (said_in s)) refl other
+no_array : (path : List Part) (s : Document) → ObeysRules (marks (mentions_in s)) → (kind_at path (mentions_in s) ≡ kind.Array → ⊥) → is_array_at path (mentions_in s) ≡ false
+no_array path s obeys other = by (is_array_at path (mentions_in s)) refl (has is_element path (mentions_in s)) refl other
   where
-    by : (b : Bool) → is_array_at path (said_in s) ≡ b → (c : Bool) → has is_element path (said_in s) ≡ c
-        → ((if c then kind.Tables else kind_or_table (fact_at path (said_in s))) ≡ kind.Array → ⊥) → is_array_at path (said_in s) ≡ false
+    by : (b : Bool) → is_array_at path (mentions_in s) ≡ b → (c : Bool) → has is_element path (mentions_in s) ≡ c
+        → ((if c then kind.Tables else kind_or_table (fact_at path (mentions_in s))) ≡ kind.Array → ⊥) → is_array_at path (mentions_in s) ≡ false
     by false e c k differs = e
-    by true e true k differs = absurd (no_bracket_element path (said_in s) (rules_of_document s obeys) k (kind_of_array (fact_at path (said_in s)) e).1)
-    by true e false k differs = absurd (differs (kind_of_array (fact_at path (said_in s)) e).0)
+    by true e true k differs = absurd (no_bracket_element path (mentions_in s) (rules_of_document s obeys) k (kind_of_array (fact_at path (mentions_in s)) e).1)
+    by true e false k differs = absurd (differs (kind_of_array (fact_at path (mentions_in s)) e).0)
 
 -- ---- the number of an item
 
@@ -134,16 +134,16 @@ key_last path ms k e = ap (λ (o : Option Part). item_by o (is_array_at (without
 
 module _ (path : List Part) (s : Document) (h : Holder) (held : IsHolder path s h) where
   -- more than one step is new
-  pub far_item : suc h.len < length path → item_number path (said_in s) ≡ None
+  pub far_item : suc h.len < length path → item_number path (mentions_in s) ≡ None
   far_item far =
-      no_item path (said_in s)
-      (ap (λ (q : List Part). is_array_at q (said_in s)) (without_last-is path (omega (arith, far)))
-      ∙ array_unless (take (length path - 1) path) (said_in s) (held.beyond far (length path - 1) (omega (arith, far)) (omega arith)))
+      no_item path (mentions_in s)
+      (ap (λ (q : List Part). is_array_at q (mentions_in s)) (without_last-is path (omega (arith, far)))
+      ∙ array_unless (take (length path - 1) path) (mentions_in s) (held.beyond far (length path - 1) (omega (arith, far)) (omega arith)))
 
   -- the root has no last step
-  pub root_item : slice_get path h.len ≡ None → item_number path (said_in s) ≡ None
+  pub root_item : slice_get path h.len ≡ None → item_number path (mentions_in s) ≡ None
   root_item none = elim held.proper [
-    | inl e ↦ (subst (λ (q : List Part). item_number q (said_in s) ≡ None) (sym e) refl)
+    | inl e ↦ (subst (λ (q : List Part). item_number q (mentions_in s) ≡ None) (sym e) refl)
     | inr more ↦ absurd (there path h.len more none)
   ]
     where
@@ -152,73 +152,73 @@ module _ (path : List Part) (s : Document) (h : Holder) (held : IsHolder path s 
       there (x ∷ l) zero low e = cc
       there (x ∷ l) (suc n) low e = there l n (omega (arith, low)) e
 
-  pub key_item : (k : List ℕ) → slice_get path h.len ≡ Some (key k) → item_number path (said_in s) ≡ None
+  pub key_item : (k : List ℕ) → slice_get path h.len ≡ Some (key k) → item_number path (mentions_in s) ≡ None
   key_item k is = elim (cases_lt (suc h.len) (length path)) [
     | inl far ↦ far_item far
-    | inr near ↦ key_last path (said_in s) k (end_of_path path h.len (key k) is (one_more near)).0
+    | inr near ↦ key_last path (mentions_in s) k (end_of_path path h.len (key k) is (one_more near)).0
   ]
     where
       one_more : length path ≤ suc h.len → length path ≡ suc h.len
-      one_more near = omega (arith, near, step_inside path h.len (key k) is)
+      one_more near = omega (arith, near, step_nested path h.len (key k) is)
 
-  module _ (n : ℕ) (is : slice_get path h.len ≡ Some (index n)) (one : length path ≡ suc h.len) (info : NodeInfo) (told : IsTold (take h.len path) s info) (obeys : ObeysRules (marks (said_in s))) where
-    front : without_last path ≡ take h.len path
-    front = (end_of_path path h.len (index n) is one).1
+  module _ (n : ℕ) (is : slice_get path h.len ≡ Some (index n)) (one : length path ≡ suc h.len) (info : NodeInfo) (stated : IsStated (take h.len path) s info) (obeys : ObeysRules (marks (mentions_in s))) where
+    prefix : without_last path ≡ take h.len path
+    prefix = (end_of_path path h.len (index n) is one).1
 
-    kind_is : info.kind ≡ kind_at (take h.len path) (said_in s)
-    kind_is = ap (λ (i : NodeInfo). i.kind) told.is ∙ kind_told (take h.len path) s
+    kind_is : info.kind ≡ kind_at (take h.len path) (mentions_in s)
+    kind_is = ap (λ (i : NodeInfo). i.kind) stated.is ∙ kind_stated (take h.len path) s
 
-    pub array_item : info.kind ≡ kind.Array → item_number path (said_in s) ≡ Some n
-    array_item e = an_item path (said_in s) n (end_of_path path h.len (index n) is one).0
-        (ap (λ (q : List Part). is_array_at q (said_in s)) front ∙ is_array (take h.len path) (said_in s) (sym kind_is ∙ e))
+    pub array_item : info.kind ≡ kind.Array → item_number path (mentions_in s) ≡ Some n
+    array_item e = an_item path (mentions_in s) n (end_of_path path h.len (index n) is one).0
+        (ap (λ (q : List Part). is_array_at q (mentions_in s)) prefix ∙ is_array (take h.len path) (mentions_in s) (sym kind_is ∙ e))
 
-    pub other_item : (info.kind ≡ kind.Array → ⊥) → item_number path (said_in s) ≡ None
-    other_item other = no_item path (said_in s)
-        (ap (λ (q : List Part). is_array_at q (said_in s)) front ∙ no_array (take h.len path) s obeys (λ e. other (kind_is ∙ e)))
+    pub other_item : (info.kind ≡ kind.Array → ⊥) → item_number path (mentions_in s) ≡ None
+    other_item other = no_item path (mentions_in s)
+        (ap (λ (q : List Part). is_array_at q (mentions_in s)) prefix ∙ no_array (take h.len path) s obeys (λ e. other (kind_is ∙ e)))
 
 -- ---- a node of a number
 
 module _ (d : ProfiledText) (syntax : Syntax) (index_of : NodeInfos) (a : List Part) (s : Document) (holds : Holds d syntax index_of) (read : IsTextOfTree d s) (id : NodeId)
-    (node : node_number (node_paths (said_in s)) a ≡ Some id.0) where
-  paths_are : index_of.paths ≡ node_paths (said_in s)
-  paths_are = ap (λ (t : NodeInfos). t.paths) (told_is d syntax index_of s holds read) ∙ paths-nodes_in s
+    (node : node_number (node_paths (mentions_in s)) a ≡ Some id.0) where
+  paths_are : index_of.paths ≡ node_paths (mentions_in s)
+  paths_are = ap (λ (t : NodeInfos). t.paths) (stated_is d syntax index_of s holds read) ∙ paths-nodes_in s
 
   number : node_number index_of.paths a ≡ Some id.0
   number = ap (λ (ps : List (List Part)). node_number ps a) paths_are ∙ node
 
-  pub number_inside : id.0 < length index_of.paths
-  number_inside = (number_is index_of.paths a id.0 number).0
+  pub number_nested : id.0 < length index_of.paths
+  number_nested = (number_is index_of.paths a id.0 number).0
 
   path_is : path_numbered index_of id.0 ≡ a
   path_is = (number_is index_of.paths a id.0 number).1
 
-  pub told_here : (info : NodeInfo) → slice_get index_of.infos id.0 ≡ Some info → IsTold a s info
-  told_here info there = one_found d syntax index_of a s holds read id info (Some id) refl (sym number) there
+  pub stated_here : (info : NodeInfo) → slice_get index_of.infos id.0 ≡ Some info → IsStated a s info
+  stated_here info there = one_found d syntax index_of a s holds read id info (Some id) refl (sym number) there
 
   -- no node is one step below
   pub none_below : (p : Part) → node_number index_of.paths (path_numbered index_of id.0 ++ p ∷ []) ≡ None → value_number_of (a ++ p ∷ []) s ≡ None
   none_below p none = by (value_number_of (a ++ p ∷ []) s) refl
     where
-      unnamed : is_node (a ++ p ∷ []) (said_in s) ≡ false
-      unnamed = no_node (a ++ p ∷ []) (said_in s)
+      unnamed : is_node (a ++ p ∷ []) (mentions_in s) ≡ false
+      unnamed = no_node (a ++ p ∷ []) (mentions_in s)
           (ap (λ (ps : List (List Part)). node_number ps (a ++ p ∷ [])) (sym paths_are) ∙ ap (λ (q : List Part). node_number index_of.paths (q ++ p ∷ [])) (sym path_is) ∙ none)
 
       by : (o : Option ℕ) → value_number_of (a ++ p ∷ []) s ≡ o → o ≡ None
       by None e = refl
-      by (Some v) e = absurd (no_fact (fact_at (a ++ p ∷ []) (said_in s)) refl (has_of_number (a ++ p ∷ []) s v read.obeys e))
+      by (Some v) e = absurd (no_fact (fact_at (a ++ p ∷ []) (mentions_in s)) refl (has_of_number (a ++ p ∷ []) s v read.obeys e))
         where
-          no_fact : (o : Option Fact) → fact_at (a ++ p ∷ []) (said_in s) ≡ o → elim o [ None ↦ false | Some f ↦ fact.is_value_fact f ] ≡ true → ⊥
+          no_fact : (o : Option Fact) → fact_at (a ++ p ∷ []) (mentions_in s) ≡ o → elim o [ None ↦ false | Some f ↦ fact.is_value_fact f ] ≡ true → ⊥
           no_fact None k h = cc
-          no_fact (Some f) k h = let t : true ≡ false = sym (fact_node (a ++ p ∷ []) (said_in s) f k) ∙ unnamed in cc
+          no_fact (Some f) k h = let t : true ≡ false = sym (fact_node (a ++ p ∷ []) (mentions_in s) f k) ∙ unnamed in cc
 
   module _ (p : Part) (o : Option NodeId) (next : NodeId) (one : o ≡ Some next) (found : number_of o ≡ node_number index_of.paths (path_numbered index_of id.0 ++ p ∷ []))
       (info : NodeInfo) (there : slice_get index_of.infos next.0 ≡ Some info) where
-    pub told_below : IsTold (a ++ p ∷ []) s info
-    told_below = one_found d syntax index_of (a ++ p ∷ []) s holds read next info o one (found ∙ ap (λ (q : List Part). node_number index_of.paths (q ++ p ∷ [])) path_is) there
+    pub stated_below : IsStated (a ++ p ∷ []) s info
+    stated_below = one_found d syntax index_of (a ++ p ∷ []) s holds read next info o one (found ∙ ap (λ (q : List Part). node_number index_of.paths (q ++ p ∷ [])) path_is) there
 
-pub other_value : (path : List Part) (s : Document) (info : NodeInfo) → IsTold path s info → ((n : ℕ) → info.place ≡ origin.Value n → ⊥) → value_number_of path s ≡ None
-other_value path s info told other =
-    none_unless (value_number_of path s) (λ n e. other n (ap (λ (i : NodeInfo). i.place) told.is ∙ value_of_place (numbered_at path (numbered_in s)) n e))
+pub other_value : (path : List Part) (s : Document) (info : NodeInfo) → IsStated path s info → ((n : ℕ) → info.origin ≡ origin.Value n → ⊥) → value_number_of path s ≡ None
+other_value path s info stated other =
+    none_unless (value_number_of path s) (λ n e. other n (ap (λ (i : NodeInfo). i.origin) stated.is ∙ value_of_origin (numbered_at path (numbered_in s)) n e))
 
 -- ---- where an item goes
 
@@ -229,14 +229,14 @@ module _ (d : ProfiledText) (path : List Part) (n : ℕ) (s : Document) (array :
   items : AreNumbered a s
   items = items_numbered d.profile s a read.reads.valid read.obeys here.static
 
-  below_of_some : (m v : ℕ) → value_number_of (a ++ index m ∷ []) s ≡ Some v → m < item_count a (said_in s)
-  below_of_some m v e = elim (cases_lt m (item_count a (said_in s))) [
+  below_of_some : (m v : ℕ) → value_number_of (a ++ index m ∷ []) s ≡ Some v → m < item_count a (mentions_in s)
+  below_of_some m v e = elim (cases_lt m (item_count a (mentions_in s))) [
     | inl low ↦ low
     | inr high ↦ (let t : true ≡ false = sym (has_of_number (a ++ index m ∷ []) s v read.obeys e) ∙ items.from_count m high in absurd cc)
   ]
 
-  above_of_none : (m : ℕ) → value_number_of (a ++ index m ∷ []) s ≡ None → item_count a (said_in s) ≤ m
-  above_of_none m e = elim (cases_lt m (item_count a (said_in s))) [
+  above_of_none : (m : ℕ) → value_number_of (a ++ index m ∷ []) s ≡ None → item_count a (mentions_in s) ≤ m
+  above_of_none m e = elim (cases_lt m (item_count a (mentions_in s))) [
     | inl low ↦ (let t : true ≡ false = sym (items.below_count m low) ∙ none_of_number (a ++ index m ∷ []) s read.obeys e in absurd cc)
     | inr high ↦ high
   ]
@@ -245,9 +245,9 @@ module _ (d : ProfiledText) (path : List Part) (n : ℕ) (s : Document) (array :
   before_item v e =
       (omega (arith, below_of_some n v (sym e)), ap (λ (q : List Part). value_number_of q s) here.whole ∙ sym e)
 
-  pub behind_item : (m v : ℕ) → n ≡ suc m → None ≡ value_number_of (a ++ index n ∷ []) s → Some v ≡ value_number_of (a ++ index m ∷ []) s → IsItemAimed path n s (Ok (spot.BehindEntry v))
-  behind_item m v next none e =
-      let count : item_count a (said_in s) ≡ n = omega (arith, above_of_none n (sym none), below_of_some m v (sym e), next) in
+  pub after_item : (m v : ℕ) → n ≡ suc m → None ≡ value_number_of (a ++ index n ∷ []) s → Some v ≡ value_number_of (a ++ index m ∷ []) s → IsItemAimed path n s (Ok (spot.AfterEntry v))
+  after_item m v next none e =
+      let count : item_count a (mentions_in s) ≡ n = omega (arith, above_of_none n (sym none), below_of_some m v (sym e), next) in
       (omega (arith, count), (m, next, count, sym e))
 
   pub no_item_there : (m : ℕ) → n ≡ suc m → None ≡ value_number_of (a ++ index m ∷ []) s → IsItemAimed path n s (Err fault.NotFound)
@@ -255,11 +255,11 @@ module _ (d : ProfiledText) (path : List Part) (n : ℕ) (s : Document) (array :
 
   pub in_empty_array : (v : ℕ) → n ≤ 0 → None ≡ value_number_of (a ++ index n ∷ []) s → value_number_of a s ≡ Some v → IsItemAimed path n s (Ok (spot.InEmpty v))
   in_empty_array v low none e =
-      let count : item_count a (said_in s) ≡ 0 = omega (arith, above_of_none n (sym none), low) in
+      let count : item_count a (mentions_in s) ≡ 0 = omega (arith, above_of_none n (sym none), low) in
       (omega (arith, low), (omega (arith, low), count, e))
 
   pub array_has_value : value_number_of a s ≡ None → ⊥
   array_has_value none =
-      let yes : has_value a (said_in s) ≡ true = ap (λ (o : Option Fact). elim o [ None ↦ false | Some f ↦ fact.is_value_fact f ]) here.static in
+      let yes : has_value a (mentions_in s) ≡ true = ap (λ (o : Option Fact). elim o [ None ↦ false | Some f ↦ fact.is_value_fact f ]) here.static in
       let t : true ≡ false = sym yes ∙ none_of_number a s read.obeys none in
       absurd cc

@@ -1,4 +1,4 @@
--- What a document answers is told of its one tree.
+-- What a document answers is known of its one tree.
 use Rattle.std.proofs.Common.{◌≡◌, ℕ, List, ◌∙◌, ap, subst}
 use Rattle.keep_token.specs.declared.leaf.Profile.{Profile}
 use Rattle.keep_syntax.specs.declared.syntax.Syntax.{Syntax}
@@ -24,5 +24,5 @@ tree_is t syntax index s h read = one_tree t h.tree s h.read read
 pub tokens_are : (t : ProfiledText) (syntax : Syntax) (index : NodeInfos) (s : Document) → Holds t syntax index → IsTextOfTree t s → tokens_of syntax t.text ≡ tokens s
 tokens_are t syntax index s h read = ap (tokens_of syntax) h.read.reads.spelled ∙ h.is.tokens ∙ ap tokens (tree_is t syntax index s h read)
 
-pub told_is : (t : ProfiledText) (syntax : Syntax) (index : NodeInfos) (s : Document) → Holds t syntax index → IsTextOfTree t s → index ≡ telling_in s
-told_is t syntax index s h read = h.told ∙ ap telling_in (tree_is t syntax index s h read)
+pub stated_is : (t : ProfiledText) (syntax : Syntax) (index : NodeInfos) (s : Document) → Holds t syntax index → IsTextOfTree t s → index ≡ telling_in s
+stated_is t syntax index s h read = h.stated ∙ ap telling_in (tree_is t syntax index s h read)

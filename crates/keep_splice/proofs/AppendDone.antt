@@ -14,10 +14,10 @@ use Rattle.keep_syntax.specs.declared.syntax.Syntax.{Syntax}
 use Rattle.keep_parts.specs.declared.info.Span.{Span}
 use Rattle.keep_syntax.specs.Numbered.{span}
 use Rattle.keep_syntax.specs.Tree as tree
-use Rattle.keep_syntax.specs.Tree.{Written, Document, Content, mark, key_leaves, further_leaves, text_of, text}
+use Rattle.keep_syntax.specs.Tree.{Written, Document, Content, token, key_leaves, further_leaves, text_of, text}
 use Rattle.keep_meaning.specs.Counts.{statements_in}
 use Rattle.keep_meaning.specs.Marks.{start, reading_after}
-use Rattle.keep_meaning.specs.Meaning.{said_in}
+use Rattle.keep_meaning.specs.Meaning.{mentions_in}
 use Rattle.keep_nodes.specs.Facts.{NodeInfos}
 use Rattle.keep_rules.specs.Nested.{AreNested}
 use Rattle.keep_rules.specs.ReadDocuments.{IsIndexOf}
@@ -33,17 +33,17 @@ use Rattle.keep_splice.specs.declared.header.Header.{Header}
 use Rattle.keep_splice.specs.declared.header.Header.TheVariants.{Table, Element}
 use Rattle.keep_splice.specs.Places.{place_at, IsDoneAt, IsPatchAt}
 use Rattle.keep_splice.specs.Reading.{limit, ProfiledText, Holds, IsTextOfTree}
-use Rattle.keep_splice.proofs.AnswerLaws.{tree_is, told_is}
+use Rattle.keep_splice.proofs.AnswerLaws.{tree_is, stated_is}
 use Rattle.keep_splice.proofs.AppendLaws.{further_key}
-use Rattle.keep_splice.proofs.EditedLaws.{standing}
+use Rattle.keep_splice.proofs.EditedLaws.{editable}
 
 -- ---- the index is the document's
 
 pub index_of : (d : ProfiledText) (syntax : Syntax) (index : NodeInfos) (s : Document) → Holds d syntax index → IsTextOfTree d s → IsIndexOf s index
 index_of d syntax index s holds read = record {
   obeys = read.obeys;
-  nested = subst (λ (u : Document). AreNested (said_in u) (reading_after start (statements_in u)).tables) (tree_is d syntax index s holds read) holds.nested;
-  facts = told_is d syntax index s holds read;
+  nested = subst (λ (u : Document). AreNested (mentions_in u) (reading_after start (statements_in u)).tables) (tree_is d syntax index s holds read) holds.nested;
+  facts = stated_is d syntax index s holds read;
 }
 
 -- ---- the refusal
@@ -54,8 +54,8 @@ no_key profile s Element = refl
 
 met : (profile : Profile) (s : Document) (header : Header) (d : ProfiledText) (k : List ℕ) (ks : List (List ℕ)) → IsTextOfTree d s
     → refusal profile limit s (edit_of header (k ∷ ks)) ≡ option_map fault.Conflict (conflict_from s [] (k ∷ ks) (role_of header))
-met profile s Table d k ks read = ap (option_map fault.Conflict) (table_met (said_in s) (lets_pass (said_in s) read.obeys) k ks)
-met profile s Element d k ks read = ap (option_map fault.Conflict) (element_met (said_in s) (lets_pass (said_in s) read.obeys) k ks)
+met profile s Table d k ks read = ap (option_map fault.Conflict) (table_met (mentions_in s) (lets_pass (mentions_in s) read.obeys) k ks)
+met profile s Element d k ks read = ap (option_map fault.Conflict) (element_met (mentions_in s) (lets_pass (mentions_in s) read.obeys) k ks)
 
 -- without keys
 pub empty_refused : (profile : Profile) (s : Document) (header : Header) (keys : List (String Global)) → keys ≡ [] → refusal profile limit s (edit_of header (key_texts keys)) ≡ Some fault.NotKey
@@ -89,10 +89,10 @@ around_keys opens closes keys =
 
 header_written : (header : Header) (k : List ℕ) (ks : List (List ℕ)) → content_text (content_of header (k ∷ ks)) ≡ header_text header (k ∷ ks)
 header_written Table k ks =
-    around_keys (mark leaf.HeadOpen (0x5B ∷ [])) (mark leaf.HeadClose (0x5D ∷ [])) (key_leaves (key_with (k ∷ ks)))
+    around_keys (token leaf.HeadOpen (0x5B ∷ [])) (token leaf.HeadClose (0x5D ∷ [])) (key_leaves (key_with (k ∷ ks)))
     ∙ ap (λ (t : List ℕ). codes "[" ++ (t ++ codes "]")) (keys_written k ks)
 header_written Element k ks =
-    around_keys (mark leaf.ElemOpen (0x5B ∷ 0x5B ∷ [])) (mark leaf.ElemClose (0x5D ∷ 0x5D ∷ [])) (key_leaves (key_with (k ∷ ks)))
+    around_keys (token leaf.ElemOpen (0x5B ∷ 0x5B ∷ [])) (token leaf.ElemClose (0x5D ∷ 0x5D ∷ [])) (key_leaves (key_with (k ∷ ks)))
     ∙ ap (λ (t : List ℕ). codes "[[" ++ (t ++ codes "]]")) (keys_written k ks)
 
 -- ---- where it is written
@@ -127,8 +127,8 @@ keys_utf8 (k ∷ ks) = (IsUtf8-string_bytes k, keys_utf8 ks)
 -- the law of an append that is not refused
 pub law_of : (d : ProfiledText) (s : Document) (header : Header) (keys : List (String Global)) → IsTextOfTree d s → refusal d.profile limit s (edit_of header (key_texts keys)) ≡ None
     → IsLawfulEdit d.profile limit s (edit_of header (key_texts keys))
-law_of d s Table keys read allowed = append_table_lawful d.profile limit s (key_texts keys) (standing d s read) (keys_utf8 keys) allowed
-law_of d s Element keys read allowed = append_element_lawful d.profile limit s (key_texts keys) (standing d s read) (keys_utf8 keys) allowed
+law_of d s Table keys read allowed = append_table_lawful d.profile limit s (key_texts keys) (editable d s read) (keys_utf8 keys) allowed
+law_of d s Element keys read allowed = append_element_lawful d.profile limit s (key_texts keys) (editable d s read) (keys_utf8 keys) allowed
 
 -- ---- as the code has it
 

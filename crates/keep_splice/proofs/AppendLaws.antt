@@ -1,4 +1,4 @@
--- Appending headers: what is written, and the law that stands behind it.
+-- Appending headers: what is written, and the law that comes after it.
 use Rattle.std.proofs.Common.{◌≡◌, ℕ, suc, Bool, ◌+◌, ◌-◌, ◌<◌, ◌≤◌, false, ◌==◌, List, [], ◌∷◌, ◌++◌, length, take, slice_get, refl, sym, ap, ◌∙◌, append_assoc, arith, Option, Some, None}
 use Rattle.std.specs.Prelude.{String, string_bytes, codes, slice_index_or}
 use Rattle.std.specs.Global.{Global}
@@ -27,7 +27,7 @@ by_last t o e = ap is_line_feed e ∙ last_byte t
 
 -- ---- keys
 
--- a key behind others
+-- a key after others
 abbrev pub further_key : List ℕ → List ℕ
 further_key k = codes "." ++ encoded_key k
 

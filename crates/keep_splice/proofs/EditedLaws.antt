@@ -9,15 +9,15 @@ use Rattle.keep_law.specs.declared.fault.EditFault.{EditFault}
 use Rattle.keep_law.specs.declared.fault.EditFault.TheVariants as fault
 use Rattle.keep_law.specs.Changed.{Changed, Place, place_of, put}
 use Rattle.keep_law.specs.Edits.{Edit, changed_or_same, place, edited_document}
-use Rattle.keep_law.specs.Laws.{IsStanding, IsLawfulEdit}
+use Rattle.keep_law.specs.Laws.{IsEditable, IsLawfulEdit}
 use Rattle.keep_splice.specs.Reading.{limit, ProfiledText, text_in, IsTextOfTree}
 use Rattle.keep_splice.specs.Answers.{IsMade, IsMadeAt, IsSpanOf, IsTextAfter, IsDone, EditMade, text_after}
 use Rattle.keep_splice.specs.Places.{place_at, IsDoneAt, IsOfEdit, IsPatchAt}
 use Rattle.keep_splice.specs.declared.edited.Edited.{Edited}
 
 -- a document that was read is one of which the laws speak
-pub standing : (d : ProfiledText) (s : Document) → IsTextOfTree d s → IsStanding d.profile limit s
-standing d s read = record { valid = read.reads.valid; shallow = read.reads.shallow; obeys = read.obeys }
+pub editable : (d : ProfiledText) (s : Document) → IsTextOfTree d s → IsEditable d.profile limit s
+editable d s read = record { valid = read.reads.valid; shallow = read.reads.shallow; obeys = read.obeys }
 
 -- what an edit answers that is refused
 pub refused_made : (s : Document) (e : Edit) (old : ProfiledText) (given : List ℕ) (f : EditFault) → IsDoneAt s e old given (Err f) → EditMade s e old (Err f)
@@ -48,12 +48,12 @@ module _ (d : ProfiledText) (s : Document) (e : Edit) (span : Span) (given : Lis
   pub full_made : EditMade s e d (Err fault.Memory)
   full_made = subst (λ (r : Option EditFault). IsDone (IsMade s e d) r (Err fault.Memory)) (sym at.0) refl
 
-  inside_of : (made : Edited) → IsMadeAt (place_at span given) made → IsSpanOf d.text made.place
-  inside_of made there = subst (λ (x : Span). IsSpanOf d.text x) (sym there.0) at.2
+  nested_of : (made : Edited) → IsMadeAt (place_at span given) made → IsSpanOf d.text made.place
+  nested_of made there = subst (λ (x : Span). IsSpanOf d.text x) (sym there.0) at.2
 
   after : (made : Edited) → IsMadeAt (place_at span given) made → IsTextAfter s e (text_in d.profile (text_after d.text made)) d
   after made there =
-      edited (text_after d.text made) (put_utf8 d.text made.place (string_bytes made.new) read.utf8 (inside_of made there) (IsUtf8-string_bytes made.new))
+      edited (text_after d.text made) (put_utf8 d.text made.place (string_bytes made.new) read.utf8 (nested_of made there) (IsUtf8-string_bytes made.new))
       (ap₂ (λ (x : Span) (g : List ℕ). put d.text (place_at x g)) there.0 there.1)
 
   pub patch_made : (result : Result Edited EditFault) → IsPatchAt span given result → EditMade s e d result
@@ -71,7 +71,7 @@ module _ (d : ProfiledText) (s : Document) (e : Edit) (span : Span) (given : Lis
     is = law.is;
     new = subst (λ (c : Option (Changed Document)). IsTextOfTree (text_in d.profile (text_after d.text made)) (changed_or_same s c).to) law.is (after made there).tree;
     at = subst (λ (c : Option (Changed Document)). IsMadeAt (place_of (changed_or_same s c)) made) law.is (subst (λ (p : Place). IsMadeAt p made) (sym at.1) there);
-    inside = inside_of made there;
+    nested = nested_of made there;
   }
 
   pub patch_of_edit : (result : Result Edited EditFault) → IsPatchAt span given result → IfOk result (IsOfEdit d)

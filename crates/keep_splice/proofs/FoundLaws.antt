@@ -1,4 +1,4 @@
--- What is found at a path: the number of its value, and where the value stands.
+-- What is found at a path: the number of its value, and where the value is.
 use Rattle.std.proofs.Common.{◌≡◌, ℕ, ◌<◌, Bool, true, false, ◌||◌, List, [], ◌∷◌, length, slice_get, refl, sym, ap, subst, ◌∙◌, arith, Option, Some, None, Result, Ok, Err}
 use Rattle.std.specs.Prelude.{IsCharBoundary}
 use Rattle.std.specs.List.{list_any}
@@ -12,14 +12,14 @@ use Rattle.keep_syntax.specs.Contract.{values_of}
 use Rattle.keep_syntax.specs.Numbered as numbered
 use Rattle.keep_rules.specs.declared.index.NodeId.{NodeId}
 use Rattle.keep_meaning.specs.declared.node.NodeInfo.{NodeInfo}
-use Rattle.keep_meaning.specs.declared.node.Place.TheVariants as place
+use Rattle.keep_meaning.specs.declared.node.Origin.TheVariants as origin
 use Rattle.keep_meaning.specs.Counts.{Numbered, is_value, numbered_in}
 use Rattle.keep_meaning.specs.Fact.{Fact}
 use Rattle.keep_meaning.specs.KeyText.{text_at}
 use Rattle.keep_rules.specs.Lookup.{number_of}
 use Rattle.keep_meaning.specs.Marks.{Mention, marks}
-use Rattle.keep_meaning.specs.Meaning.{body_fact, said_in}
-use Rattle.keep_meaning.specs.Nodes.{is_at, is_root, is_node, fact_at, node_number, node_paths, is_element, is_begun, is_define, is_dotted, is_through, numbered_at, last_number, value_number, statement_number, first_that_fits, place_said}
+use Rattle.keep_meaning.specs.Meaning.{body_fact, mentions_in}
+use Rattle.keep_meaning.specs.Nodes.{is_at, is_root, is_node, fact_at, node_number, node_paths, is_element, is_begun, is_define, is_dotted, is_through, numbered_at, last_number, value_number, statement_number, first_that_fits, mentioned_origin}
 use Rattle.keep_path.specs.Path.{Part}
 use Rattle.keep_meaning.specs.Rules.{ObeysRules}
 use Rattle.keep_nodes.specs.Facts.{NodeInfos}
@@ -32,35 +32,35 @@ use Rattle.keep_law.specs.Refusals.{has_value}
 use Rattle.keep_law.proofs.Shared.{get_is_right, IsValueOf, value_of_number, none_of_number, fact_past}
 use Rattle.keep_splice.specs.Reading.{ProfiledText, IsTextOfTree, Holds}
 use Rattle.keep_splice.specs.Answers.{value_number_of, HasNoValue, IsSpanOf}
-use Rattle.keep_splice.proofs.AnswerLaws.{tree_is, told_is}
-use Rattle.keep_splice.proofs.NodeLaws.{info_at, info_of_number, no_node, a_node, kind_told}
+use Rattle.keep_splice.proofs.AnswerLaws.{tree_is, stated_is}
+use Rattle.keep_splice.proofs.NodeLaws.{info_at, info_of_number, no_node, a_node, kind_stated}
 use Rattle.keep_splice.proofs.ValueEnds.{value_ends, starts_between, ends_between}
 
 -- ---- the node
 
--- what is told of the node of a path
-pub record IsTold (path : List Part) (s : Document) (info : NodeInfo) : Type 0 where
-  pub node : is_node path (said_in s) ≡ true
+-- what is known of the node of a path
+pub record IsStated (path : List Part) (s : Document) (info : NodeInfo) : Type 0 where
+  pub node : is_node path (mentions_in s) ≡ true
   pub is : info ≡ info_at path s
 
 module _ (d : ProfiledText) (syntax : Syntax) (index : NodeInfos) (path : List Part) (s : Document) (holds : Holds d syntax index) (read : IsTextOfTree d s) where
-  paths_are : index.paths ≡ node_paths (said_in s)
-  paths_are = ap (λ (t : NodeInfos). t.paths) (told_is d syntax index s holds read) ∙ paths-nodes_in s
+  paths_are : index.paths ≡ node_paths (mentions_in s)
+  paths_are = ap (λ (t : NodeInfos). t.paths) (stated_is d syntax index s holds read) ∙ paths-nodes_in s
 
-  pub none_found : (o : Option NodeId) → o ≡ None → number_of o ≡ node_number index.paths path → is_node path (said_in s) ≡ false
-  none_found o none found = no_node path (said_in s) (ap (λ (ps : List (List Part)). node_number ps path) (sym paths_are) ∙ sym found ∙ ap number_of none)
+  pub none_found : (o : Option NodeId) → o ≡ None → number_of o ≡ node_number index.paths path → is_node path (mentions_in s) ≡ false
+  none_found o none found = no_node path (mentions_in s) (ap (λ (ps : List (List Part)). node_number ps path) (sym paths_are) ∙ sym found ∙ ap number_of none)
 
-  pub one_found : (id : NodeId) (info : NodeInfo) (o : Option NodeId) → o ≡ Some id → number_of o ≡ node_number index.paths path → slice_get index.infos id.0 ≡ Some info → IsTold path s info
+  pub one_found : (id : NodeId) (info : NodeInfo) (o : Option NodeId) → o ≡ Some id → number_of o ≡ node_number index.paths path → slice_get index.infos id.0 ≡ Some info → IsStated path s info
   one_found id info o one found there =
-      let number : node_number (node_paths (said_in s)) path ≡ Some id.0 = ap (λ (ps : List (List Part)). node_number ps path) (sym paths_are) ∙ sym found ∙ ap number_of one in
+      let number : node_number (node_paths (mentions_in s)) path ≡ Some id.0 = ap (λ (ps : List (List Part)). node_number ps path) (sym paths_are) ∙ sym found ∙ ap number_of one in
       let same : Some info ≡ Some (info_at path s) =
-      sym there ∙ ap (λ (t : NodeInfos). slice_get t.infos id.0) (told_is d syntax index s holds read) ∙ info_of_number path s id.0 number in
-      record { node = a_node path (said_in s) id.0 number; is = cc }
+      sym there ∙ ap (λ (t : NodeInfos). slice_get t.infos id.0) (stated_is d syntax index s holds read) ∙ info_of_number path s id.0 number in
+      record { node = a_node path (mentions_in s) id.0 number; is = cc }
 
 -- ---- its value
 
 no_value_later : (b c d e f : Option ℕ) (n : ℕ)
-    → first_that_fits (option_map (λ i. place.Tables) b ∷ option_map place.Element c ∷ option_map place.Header d ∷ option_map place.Dotted e ∷ option_map place.Through f ∷ []) ≡ place.Value n → ⊥
+    → first_that_fits (option_map (λ i. origin.Tables) b ∷ option_map origin.Element c ∷ option_map origin.Header d ∷ option_map origin.Dotted e ∷ option_map origin.Through f ∷ []) ≡ origin.Value n → ⊥
 no_value_later (Some i) c d e f n h = absurd cc
 no_value_later None (Some i) d e f n h = absurd cc
 no_value_later None None (Some i) e f n h = absurd cc
@@ -69,35 +69,35 @@ no_value_later None None None None (Some i) n h = absurd cc
 no_value_later None None None None None n h = absurd cc
 
 first_value : (a b c d e f : Option ℕ) (n : ℕ)
-    → first_that_fits (option_map place.Value a ∷ option_map (λ i. place.Tables) b ∷ option_map place.Element c ∷ option_map place.Header d ∷ option_map place.Dotted e ∷ option_map place.Through f ∷ []) ≡ place.Value n
+    → first_that_fits (option_map origin.Value a ∷ option_map (λ i. origin.Tables) b ∷ option_map origin.Element c ∷ option_map origin.Header d ∷ option_map origin.Dotted e ∷ option_map origin.Through f ∷ []) ≡ origin.Value n
     → a ≡ Some n
 first_value None b c d e f n h = absurd (no_value_later b c d e f n h)
 first_value (Some v) b c d e f n h = let same : v ≡ n = cc in ap Some same
 
-pub place_of_value : (ns : List Numbered) (n : ℕ) → place_said ns ≡ place.Value n → last_number is_value value_number ns ≡ Some n
-place_of_value ns n h =
+pub origin_of_value : (ns : List Numbered) (n : ℕ) → mentioned_origin ns ≡ origin.Value n → last_number is_value value_number ns ≡ Some n
+origin_of_value ns n h =
     first_value (last_number is_value value_number ns) (last_number is_element statement_number ns) (last_number is_begun statement_number ns)
     (last_number is_define statement_number ns) (last_number is_dotted value_number ns) (last_number is_through statement_number ns) n h
 
-pub value_of_place : (ns : List Numbered) (n : ℕ) → last_number is_value value_number ns ≡ Some n → place_said ns ≡ place.Value n
-value_of_place ns n h = rw h refl
+pub value_of_origin : (ns : List Numbered) (n : ℕ) → last_number is_value value_number ns ≡ Some n → mentioned_origin ns ≡ origin.Value n
+value_of_origin ns n h = rw h refl
 
 pub none_unless : (o : Option ℕ) → ((n : ℕ) → o ≡ Some n → ⊥) → o ≡ None
 none_unless None h = refl
 none_unless (Some n) h = absurd (h n refl)
 
-pub number_found : (path : List Part) (s : Document) (info : NodeInfo) (n : ℕ) → IsTold path s info → info.place ≡ place.Value n → value_number_of path s ≡ Some n
-number_found path s info n told e = place_of_value (numbered_at path (numbered_in s)) n (sym (ap (λ (i : NodeInfo). i.place) told.is) ∙ e)
+pub number_found : (path : List Part) (s : Document) (info : NodeInfo) (n : ℕ) → IsStated path s info → info.origin ≡ origin.Value n → value_number_of path s ≡ Some n
+number_found path s info n stated e = origin_of_value (numbered_at path (numbered_in s)) n (sym (ap (λ (i : NodeInfo). i.origin) stated.is) ∙ e)
 
-pub no_number_found : (d : ProfiledText) (path : List Part) (s : Document) (info : NodeInfo) → IsTextOfTree d s → IsTold path s info → ((n : ℕ) → info.place ≡ place.Value n → ⊥) → HasNoValue path s fault.NotValue
-no_number_found d path s info read told other =
+pub no_number_found : (d : ProfiledText) (path : List Part) (s : Document) (info : NodeInfo) → IsTextOfTree d s → IsStated path s info → ((n : ℕ) → info.origin ≡ origin.Value n → ⊥) → HasNoValue path s fault.NotValue
+no_number_found d path s info read stated other =
     let none : value_number_of path s ≡ None =
-    none_unless (value_number_of path s) (λ n e. other n (ap (λ (i : NodeInfo). i.place) told.is ∙ value_of_place (numbered_at path (numbered_in s)) n e)) in
-    (told.node, none_of_number path s read.obeys none)
+    none_unless (value_number_of path s) (λ n e. other n (ap (λ (i : NodeInfo). i.origin) stated.is ∙ value_of_origin (numbered_at path (numbered_in s)) n e)) in
+    (stated.node, none_of_number path s read.obeys none)
 
--- ---- where the value stands
+-- ---- where the value is
 
--- the value of that number is the path's, and stands there in the text
+-- the value with that number is the path's, and is there in the text
 pub record IsValueThere (d : ProfiledText) (path : List Part) (s : Document) (number : ℕ) (info : ValueInfo) : Type 0 where
   pub of : IsValueOf d.profile path s number info
   pub span : IsSpanOf d.text info.span
@@ -120,8 +120,8 @@ module _ (d : ProfiledText) (syntax : Syntax) (index : NodeInfos) (path : List P
   pub values_are : values_of syntax ≡ numbered.values s
   values_are = holds.is.values ∙ ap numbered.values (tree_is d syntax index s holds read)
 
-  pub value_inside : number < length (values_of syntax)
-  value_inside =
+  pub value_nested : number < length (values_of syntax)
+  value_nested =
       let (info, of) = value_of_number d.profile path s number read.reads.valid read.obeys found in
       slice_get_within (values_of syntax) number info (ap (λ vs. slice_get vs number) values_are ∙ of.info)
 
@@ -138,7 +138,7 @@ or_true : (b : Bool) → (b || true) ≡ true
 or_true true = refl
 or_true false = refl
 
--- what a fact is told of is mentioned
+-- what a fact is stated of is mentioned
 fact_names : (path : List Part) (ms : List Mention) (f : Fact) → fact_at path ms ≡ Some f → list_any (is_at path) ms ≡ true
 fact_names path [] f e = absurd cc
 fact_names path (m ∷ ms) f e = by (is_at path m) refl (λ k. fact_names path ms f k)

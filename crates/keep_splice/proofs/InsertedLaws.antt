@@ -11,18 +11,18 @@ use Rattle.keep_syntax.specs.Tree.{Value, Document, text}
 use Rattle.keep_syntax.specs.Contract.{values_of}
 use Rattle.keep_syntax.specs.Numbered as syntax_of
 use Rattle.keep_path.specs.Path.{Part, AreUtf8}
-use Rattle.keep_meaning.specs.Meaning.{said_in}
+use Rattle.keep_meaning.specs.Meaning.{mentions_in}
 use Rattle.keep_nodes.specs.Facts.{NodeInfos}
 use Rattle.keep_law.specs.declared.fault.EditFault.{EditFault}
 use Rattle.keep_law.specs.declared.fault.EditFault.TheVariants as fault
 use Rattle.keep_law.specs.Changed as changed
 use Rattle.keep_law.specs.Edits.{insert}
-use Rattle.keep_law.specs.Insertion.{before_item, behind_entry, in_empty, put_in, keyed_text}
+use Rattle.keep_law.specs.Insertion.{before_item, after_entry, in_empty, put_in, keyed_text}
 use Rattle.keep_law.specs.Laws.{IsGivenValue, IsLawfulEdit}
 use Rattle.keep_law.specs.Look.{holder, is_index, item_number, keys_in}
 use Rattle.keep_law.specs.Values.{text_of_value}
 use Rattle.keep_law.specs.Refusals.{refusal}
-use Rattle.keep_law.proofs.Shared.{IsLowPlace, insert_lawful, plain_rest, holder_front}
+use Rattle.keep_law.proofs.Shared.{IsLowPlace, insert_lawful, plain_rest, holder_prefix}
 use Rattle.keep_splice.specs.Reading.{limit, ProfiledText, IsTextOfTree, IsTextOfValue, Holds}
 use Rattle.keep_splice.specs.Answers.{IsDone, IsMade, IsSpanOf, EditMade}
 use Rattle.keep_splice.specs.Places.{IsDoneAt}
@@ -33,7 +33,7 @@ use Rattle.keep_splice.specs.declared.insert.Spot.{Spot}
 use Rattle.keep_splice.specs.declared.insert.Spot.TheVariants as spot
 use Rattle.keep_splice.proofs.AnswerLaws.{tree_is}
 use Rattle.keep_splice.proofs.BracketPlaces.{IsInBrackets, IsLowSpot, item_placed, braces_placed}
-use Rattle.keep_splice.proofs.EditedLaws.{standing}
+use Rattle.keep_splice.proofs.EditedLaws.{editable}
 use Rattle.keep_splice.proofs.KeysLaws.{base_keys, keys_utf8}
 use Rattle.keep_splice.proofs.KeyvalSteps.{no_index_left}
 use Rattle.keep_splice.proofs.LineSpots.{IsPutAt, IsBodyReady, IsLineReady, IsSectionReady, body_ready, line_ready, section_ready}
@@ -53,43 +53,43 @@ module _ (d : ProfiledText) (syntax : Syntax) (index_of : NodeInfos) (path : Lis
   allowed = there.0
 
   pub insert_law : IsLawfulEdit d.profile limit s (insert path v)
-  insert_law = insert_lawful d.profile limit s path v (standing d s read) given (keys_utf8 path utf8) allowed
+  insert_law = insert_lawful d.profile limit s path v (editable d s read) given (keys_utf8 path utf8) allowed
 
   abbrev SpotBy : Option ℕ → Type 0
   SpotBy o = elim o [
     | Some n ↦ (i.from ≡ length path) × IsItemSpot path n s i.spot
-    | None ↦ IsKeyvalSpot (holder path (said_in s)) s i.from i.spot
+    | None ↦ IsKeyvalSpot (holder path (mentions_in s)) s i.from i.spot
   ]
 
   -- ---- in brackets
 
   low_spot : IsInBrackets i.spot → IsLowSpot path s v i
-  low_spot in_brackets = by (item_number path (said_in s)) refl there.1
+  low_spot in_brackets = by (item_number path (mentions_in s)) refl there.1
     where
-      by : (o : Option ℕ) → item_number path (said_in s) ≡ o → SpotBy o → IsLowSpot path s v i
+      by : (o : Option ℕ) → item_number path (mentions_in s) ≡ o → SpotBy o → IsLowSpot path s v i
       by (Some n) at (from, here) = item_placed d path s v read given allowed n at i.from from i.spot here
       by None at here = braces_placed d path s v read given allowed (keys_utf8 path utf8) at i.from i.spot in_brackets here
 
-  rest_keys : item_number path (said_in s) ≡ None → list_any is_index (drop (length (holder path (said_in s))) path) ≡ false
+  rest_keys : item_number path (mentions_in s) ≡ None → list_any is_index (drop (length (holder path (mentions_in s))) path) ≡ false
   rest_keys none = plain_rest d.profile limit s path v read.reads.valid none allowed
 
-  at_holder : (from : ℕ) → from ≡ length (holder path (said_in s)) → item_number path (said_in s) ≡ None → list_any is_index (drop from path) ≡ false
+  at_holder : (from : ℕ) → from ≡ length (holder path (mentions_in s)) → item_number path (mentions_in s) ≡ None → list_any is_index (drop from path) ≡ false
   at_holder from e none = ap (λ (n : ℕ). list_any is_index (drop n path)) e ∙ rest_keys none
 
-  keyval_keys : item_number path (said_in s) ≡ None → (from : ℕ) (at : Spot) → IsInBrackets at → IsKeyvalSpot (holder path (said_in s)) s from at → list_any is_index (drop from path) ≡ false
+  keyval_keys : item_number path (mentions_in s) ≡ None → (from : ℕ) (at : Spot) → IsInBrackets at → IsKeyvalSpot (holder path (mentions_in s)) s from at → list_any is_index (drop from path) ≡ false
   keyval_keys none from (spot.InEmpty b) in_brackets (of_value, base, e) = at_holder from base none
-  keyval_keys none from (spot.BehindEntry w) in_brackets (inl (b, of_value, base, e)) = at_holder from base none
-  keyval_keys none from (spot.BehindEntry w) in_brackets (inr (b, dotted, base, of_value)) =
-      base_keys path (holder path (said_in s)) s from (holder_front d.profile limit s path v read.reads.valid none allowed) base (rest_keys none)
+  keyval_keys none from (spot.AfterEntry w) in_brackets (inl (b, of_value, base, e)) = at_holder from base none
+  keyval_keys none from (spot.AfterEntry w) in_brackets (inr (b, dotted, base, of_value)) =
+      base_keys path (holder path (mentions_in s)) s from (holder_prefix d.profile limit s path v read.reads.valid none allowed) base (rest_keys none)
   keyval_keys none from (spot.BeforeItem w) in_brackets h = absurd h
-  keyval_keys none from (spot.BehindBody o) in_brackets h = absurd in_brackets
-  keyval_keys none from (spot.BehindLine w) in_brackets h = absurd in_brackets
+  keyval_keys none from (spot.AfterBody o) in_brackets h = absurd in_brackets
+  keyval_keys none from (spot.AfterLine w) in_brackets h = absurd in_brackets
   keyval_keys none from (spot.NewSection w) in_brackets h = absurd in_brackets
 
   pub entry_keys : IsInBrackets i.spot → list_any is_index (drop i.from path) ≡ false
-  entry_keys in_brackets = by (item_number path (said_in s)) refl there.1
+  entry_keys in_brackets = by (item_number path (mentions_in s)) refl there.1
     where
-      by : (o : Option ℕ) → item_number path (said_in s) ≡ o → SpotBy o → list_any is_index (drop i.from path) ≡ false
+      by : (o : Option ℕ) → item_number path (mentions_in s) ≡ o → SpotBy o → list_any is_index (drop i.from path) ≡ false
       by (Some n) at (from, here) = no_index_left path i.from (omega (arith, from))
       by None at here = keyval_keys at i.from i.spot in_brackets here
 
@@ -118,8 +118,8 @@ module _ (d : ProfiledText) (syntax : Syntax) (index_of : NodeInfos) (path : Lis
 
   span_at : (at : ℕ) → at ≤ length (text s) → IsCharBoundary (text s) at → IsSpanOf d.text (syntax_of.span at at)
   span_at at within boundary =
-      let inside : IsCharBoundary d.text at = subst (λ (t : List ℕ). IsCharBoundary t at) (sym read.reads.spelled) boundary in
-      record { ordered = omega arith; within = omega (arith, within, ap (λ (t : List ℕ). length t) read.reads.spelled); starts = inside; ends = inside }
+      let nested : IsCharBoundary d.text at = subst (λ (t : List ℕ). IsCharBoundary t at) (sym read.reads.spelled) boundary in
+      record { ordered = omega arith; within = omega (arith, within, ap (λ (t : List ℕ). length t) read.reads.spelled); starts = nested; ends = nested }
 
   put_low : (at : ℕ) (fresh old new : List ℕ) → IsLowPlace s (insert path v) (put_in at fresh) → new ≡ old ++ fresh → IsPutIn path v s d.text at old new
   put_low at fresh old new h e = (fresh, e, h.placed, span_at at h.within (low_boundary (text s) at h.within h.low))
@@ -144,25 +144,25 @@ module _ (d : ProfiledText) (syntax : Syntax) (index_of : NodeInfos) (path : Lis
       put_low info.whole.start (text_of_value v ++ codes ", ") old new (one_info (λ (x : ValueInfo). before_item x v) w info (before_there w e) is)
       (h2 ∙ ap (λ (t : List ℕ). t ++ codes ", ") (h1 ∙ ap (λ (t : List ℕ). old ++ t) spelled) ∙ append_assoc old (text_of_value v) (codes ", "))
 
-  -- ---- behind an entry
+  -- ---- after an entry
 
   abbrev keys : List (List ℕ)
   keys = keys_in (drop i.from path)
 
-  behind_there : (w : ℕ) → i.spot ≡ spot.BehindEntry w → IsThere (λ (x : ValueInfo). behind_entry x (keys_in (drop i.from path)) v) w
-  behind_there w e = find (λ (x : ValueInfo). behind_entry x (keys_in (drop i.from path)) v) w (subst IsInBrackets (sym e) tt)
+  after_there : (w : ℕ) → i.spot ≡ spot.AfterEntry w → IsThere (λ (x : ValueInfo). after_entry x (keys_in (drop i.from path)) v) w
+  after_there w e = find (λ (x : ValueInfo). after_entry x (keys_in (drop i.from path)) v) w (subst IsInBrackets (sym e) tt)
       (ap (λ (x : Spot). spot_place s path v (record { spot = x; from = i.from })) e)
 
-  pub behind_within : (w : ℕ) → i.spot ≡ spot.BehindEntry w → w < length (values_of syntax)
-  behind_within w e = within_values (λ (x : ValueInfo). behind_entry x (keys_in (drop i.from path)) v) w (behind_there w e)
+  pub after_within : (w : ℕ) → i.spot ≡ spot.AfterEntry w → w < length (values_of syntax)
+  after_within w e = within_values (λ (x : ValueInfo). after_entry x (keys_in (drop i.from path)) v) w (after_there w e)
 
-  pub behind_keys : (w : ℕ) → i.spot ≡ spot.BehindEntry w → list_any is_index (drop i.from path) ≡ false
-  behind_keys w e = entry_keys (subst IsInBrackets (sym e) tt)
+  pub after_keys : (w : ℕ) → i.spot ≡ spot.AfterEntry w → list_any is_index (drop i.from path) ≡ false
+  after_keys w e = entry_keys (subst IsInBrackets (sym e) tt)
 
-  pub behind_put : (w : ℕ) (info : ValueInfo) (old one new : List ℕ) → i.spot ≡ spot.BehindEntry w → slice_get (values_of syntax) w ≡ Some info → one ≡ old ++ codes ", " → new ≡ one ++ keyed_text (keys_in (drop i.from path)) v
+  pub after_put : (w : ℕ) (info : ValueInfo) (old one new : List ℕ) → i.spot ≡ spot.AfterEntry w → slice_get (values_of syntax) w ≡ Some info → one ≡ old ++ codes ", " → new ≡ one ++ keyed_text (keys_in (drop i.from path)) v
       → IsPutIn path v s d.text info.span.end old new
-  behind_put w info old one new e is h1 h2 =
-      put_low info.span.end (codes ", " ++ keyed_text (keys_in (drop i.from path)) v) old new (one_info (λ (x : ValueInfo). behind_entry x (keys_in (drop i.from path)) v) w info (behind_there w e) is)
+  after_put w info old one new e is h1 h2 =
+      put_low info.span.end (codes ", " ++ keyed_text (keys_in (drop i.from path)) v) old new (one_info (λ (x : ValueInfo). after_entry x (keys_in (drop i.from path)) v) w info (after_there w e) is)
       (h2 ∙ ap (λ (t : List ℕ). t ++ keyed_text (keys_in (drop i.from path)) v) h1 ∙ append_assoc old (codes ", ") (keyed_text (keys_in (drop i.from path)) v))
 
   -- ---- in empty brackets
@@ -180,9 +180,9 @@ module _ (d : ProfiledText) (syntax : Syntax) (index_of : NodeInfos) (path : Lis
   empty_low : (w : ℕ) (info : ValueInfo) → i.spot ≡ spot.InEmpty w → slice_get (values_of syntax) w ≡ Some info → IsLowPlace s (insert path v) (in_empty info (keys_in (drop i.from path)) v)
   empty_low w info e is = one_info (λ (x : ValueInfo). in_empty x (keys_in (drop i.from path)) v) w info (empty_there w e) is
 
-  -- the byte behind the bracket is one of the text's
-  pub empty_inside : (w : ℕ) (info : ValueInfo) → i.spot ≡ spot.InEmpty w → slice_get (values_of syntax) w ≡ Some info → suc info.span.start ≤ length d.text
-  empty_inside w info e is = omega (arith, (empty_low w info e is).within, ap (λ (t : List ℕ). length t) read.reads.spelled)
+  -- the byte after the bracket is one of the text's
+  pub empty_nested : (w : ℕ) (info : ValueInfo) → i.spot ≡ spot.InEmpty w → slice_get (values_of syntax) w ≡ Some info → suc info.span.start ≤ length d.text
+  empty_nested w info e is = omega (arith, (empty_low w info e is).within, ap (λ (t : List ℕ). length t) read.reads.spelled)
 
   pub empty_put : (w : ℕ) (info : ValueInfo) (at : ℕ) (old new : List ℕ) → i.spot ≡ spot.InEmpty w → slice_get (values_of syntax) w ≡ Some info → at ≡ suc info.span.start → new ≡ old ++ keyed_text (keys_in (drop i.from path)) v
       → IsPutIn path v s d.text at old new
@@ -191,21 +191,21 @@ module _ (d : ProfiledText) (syntax : Syntax) (index_of : NodeInfos) (path : Lis
 
   -- ---- lines
 
-  keyval_only : (at : Spot) → i.spot ≡ at → ((n : ℕ) → IsItemSpot path n s at → ⊥) → (item_number path (said_in s) ≡ None) × IsKeyvalSpot (holder path (said_in s)) s i.from at
-  keyval_only at e never = by (item_number path (said_in s)) refl there.1
+  keyval_only : (at : Spot) → i.spot ≡ at → ((n : ℕ) → IsItemSpot path n s at → ⊥) → (item_number path (mentions_in s) ≡ None) × IsKeyvalSpot (holder path (mentions_in s)) s i.from at
+  keyval_only at e never = by (item_number path (mentions_in s)) refl there.1
     where
-      by : (o : Option ℕ) → item_number path (said_in s) ≡ o → SpotBy o → (item_number path (said_in s) ≡ None) × IsKeyvalSpot (holder path (said_in s)) s i.from at
+      by : (o : Option ℕ) → item_number path (mentions_in s) ≡ o → SpotBy o → (item_number path (mentions_in s) ≡ None) × IsKeyvalSpot (holder path (mentions_in s)) s i.from at
       by (Some n) k (from, here) = absurd (never n (subst (IsItemSpot path n s) e here))
-      by None k here = (k, subst (IsKeyvalSpot (holder path (said_in s)) s i.from) e here)
+      by None k here = (k, subst (IsKeyvalSpot (holder path (mentions_in s)) s i.from) e here)
 
   put_line : (from at : ℕ) (p : changed.Place) (fresh old new : List ℕ) → IsPutAt path v s from at p → p ≡ put_in at fresh → new ≡ old ++ fresh → IsPutIn path v s d.text at old new
   put_line from at p fresh old new h e k = (fresh, k, h.placed ∙ e, span_at at h.within h.boundary)
 
-  pub body_there : (header : Option ℕ) → i.spot ≡ spot.BehindBody header → IsBodyReady path v s i.from header
-  body_there header e = let (none, here) = keyval_only (spot.BehindBody header) e (λ n h. absurd h) in body_ready d path v s read allowed none i.from header here
+  pub body_there : (header : Option ℕ) → i.spot ≡ spot.AfterBody header → IsBodyReady path v s i.from header
+  body_there header e = let (none, here) = keyval_only (spot.AfterBody header) e (λ n h. absurd h) in body_ready d path v s read allowed none i.from header here
 
-  pub line_there : (w : ℕ) → i.spot ≡ spot.BehindLine w → IsLineReady path v s i.from w
-  line_there w e = let (none, here) = keyval_only (spot.BehindLine w) e (λ n h. absurd h) in line_ready d path v s read allowed none i.from w here
+  pub line_there : (w : ℕ) → i.spot ≡ spot.AfterLine w → IsLineReady path v s i.from w
+  line_there w e = let (none, here) = keyval_only (spot.AfterLine w) e (λ n h. absurd h) in line_ready d path v s read allowed none i.from w here
 
   pub section_there : (header : ℕ) → i.spot ≡ spot.NewSection header → IsSectionReady path v s i.from header
   section_there header e = let (none, here) = keyval_only (spot.NewSection header) e (λ n h. absurd h) in section_ready d path v s read allowed none i.from header here
@@ -213,29 +213,29 @@ module _ (d : ProfiledText) (syntax : Syntax) (index_of : NodeInfos) (path : Lis
   within_text : (from at : ℕ) (p : changed.Place) → IsPutAt path v s from at p → at ≤ length d.text
   within_text from at p h = omega (arith, h.within, ap (λ (t : List ℕ). length t) read.reads.spelled)
 
-  -- ---- behind a body
+  -- ---- after a body
 
-  body_at : (header : Option ℕ) (at : ℕ) → i.spot ≡ spot.BehindBody header → at ≡ body_end_of s header → IsPutAt path v s i.from at (new_line_at s at (keys_in (drop i.from path)) v)
+  body_at : (header : Option ℕ) (at : ℕ) → i.spot ≡ spot.AfterBody header → at ≡ body_end_of s header → IsPutAt path v s i.from at (new_line_at s at (keys_in (drop i.from path)) v)
   body_at header at e is = subst (λ (n : ℕ). IsPutAt path v s i.from n (new_line_at s n (keys_in (drop i.from path)) v)) (sym is) (body_there header e).put
 
-  pub body_within : (header : Option ℕ) (at : ℕ) → i.spot ≡ spot.BehindBody header → at ≡ body_end_of s header → at ≤ length d.text
+  pub body_within : (header : Option ℕ) (at : ℕ) → i.spot ≡ spot.AfterBody header → at ≡ body_end_of s header → at ≤ length d.text
   body_within header at e is = within_text i.from at (new_line_at s at (keys_in (drop i.from path)) v) (body_at header at e is)
 
-  pub body_put : (header : Option ℕ) (at : ℕ) (old new : List ℕ) → i.spot ≡ spot.BehindBody header → at ≡ body_end_of s header → new ≡ old ++ (new_line_at s at (keys_in (drop i.from path)) v).new → IsPutIn path v s d.text at old new
+  pub body_put : (header : Option ℕ) (at : ℕ) (old new : List ℕ) → i.spot ≡ spot.AfterBody header → at ≡ body_end_of s header → new ≡ old ++ (new_line_at s at (keys_in (drop i.from path)) v).new → IsPutIn path v s d.text at old new
   body_put header at old new e is k = put_line i.from at (new_line_at s at (keys_in (drop i.from path)) v) (new_line_at s at (keys_in (drop i.from path)) v).new old new (body_at header at e is) refl k
 
-  -- ---- behind a keyval
+  -- ---- after a keyval
 
-  line_at_end : (w at : ℕ) → i.spot ≡ spot.BehindLine w → keyval_end_of s w ≡ Some at → IsPutAt path v s i.from at (new_line_at s at (keys_in (drop i.from path)) v)
+  line_at_end : (w at : ℕ) → i.spot ≡ spot.AfterLine w → keyval_end_of s w ≡ Some at → IsPutAt path v s i.from at (new_line_at s at (keys_in (drop i.from path)) v)
   line_at_end w at e is =
       let l : IsLineReady path v s i.from w = line_there w e in
       let same : Some l.at ≡ Some at = sym l.ends ∙ is in
       subst (λ (n : ℕ). IsPutAt path v s i.from n (new_line_at s n (keys_in (drop i.from path)) v)) (let k : l.at ≡ at = cc in k) l.put
 
-  pub line_within : (w at : ℕ) → i.spot ≡ spot.BehindLine w → keyval_end_of s w ≡ Some at → at ≤ length d.text
+  pub line_within : (w at : ℕ) → i.spot ≡ spot.AfterLine w → keyval_end_of s w ≡ Some at → at ≤ length d.text
   line_within w at e is = within_text i.from at (new_line_at s at (keys_in (drop i.from path)) v) (line_at_end w at e is)
 
-  pub line_put : (w at : ℕ) (old new : List ℕ) → i.spot ≡ spot.BehindLine w → keyval_end_of s w ≡ Some at → new ≡ old ++ (new_line_at s at (keys_in (drop i.from path)) v).new → IsPutIn path v s d.text at old new
+  pub line_put : (w at : ℕ) (old new : List ℕ) → i.spot ≡ spot.AfterLine w → keyval_end_of s w ≡ Some at → new ≡ old ++ (new_line_at s at (keys_in (drop i.from path)) v).new → IsPutIn path v s d.text at old new
   line_put w at old new e is k = put_line i.from at (new_line_at s at (keys_in (drop i.from path)) v) (new_line_at s at (keys_in (drop i.from path)) v).new old new (line_at_end w at e is) refl k
 
   -- ---- in a new section

@@ -12,18 +12,18 @@ use Rattle.keep_parts.specs.declared.info.Statement.{Statement}
 use Rattle.keep_syntax.specs.Tree.{Value, Document, text}
 use Rattle.keep_syntax.specs.Numbered as syntax
 use Rattle.keep_path.specs.Path.{Part}
-use Rattle.keep_meaning.specs.declared.node.Place.{Place}
-use Rattle.keep_meaning.specs.declared.node.Place.TheVariants as origin
-use Rattle.keep_meaning.specs.Meaning.{said_in}
+use Rattle.keep_meaning.specs.declared.node.Origin.{Origin}
+use Rattle.keep_meaning.specs.declared.node.Origin.TheVariants as origin
+use Rattle.keep_meaning.specs.Meaning.{mentions_in}
 use Rattle.keep_law.specs.Changed as changed
 use Rattle.keep_law.specs.Edits.{insert, place}
 use Rattle.keep_law.specs.Look.{holder, is_index, item_number, keys_in}
 use Rattle.keep_law.specs.Refusals.{refusal}
-use Rattle.keep_law.proofs.Shared.{rules_of_document, IsLowPlace, IsBaseAt, IsDottedPlaced, IsThroughHeader, element_placed, header_placed, headed_within, holder_front, plain_rest, root_placed, through_header, through_placed, dotted_placed}
+use Rattle.keep_law.proofs.Shared.{rules_of_document, IsLowPlace, IsBaseAt, IsDottedPlaced, IsThroughHeader, element_placed, header_placed, headed_within, holder_prefix, plain_rest, root_placed, through_header, through_placed, dotted_placed}
 use Rattle.keep_splice.specs.Reading.{limit, ProfiledText, IsTextOfTree}
 use Rattle.keep_splice.specs.Inserting.{IsBase, IsKeyvalSpot, is_dotted_origin, line_end_of, new_line_at, origin_of}
 use Rattle.keep_splice.specs.PutLines.{body_end_of, keyval_end_of, new_section_at}
-use Rattle.keep_splice.specs.declared.insert.Spot.TheVariants.{BehindBody, BehindLine, NewSection}
+use Rattle.keep_splice.specs.declared.insert.Spot.TheVariants.{AfterBody, AfterLine, NewSection}
 use Rattle.keep_splice.proofs.RemoveCut.{low_boundary}
 
 -- ---- what holds where lines are put in
@@ -43,12 +43,12 @@ put_at path v s from at p start h keys = record {
   keys = keys;
 }
 
--- behind the body of the root, or of a header
+-- after the body of the root, or of a header
 pub record IsBodyReady (path : List Part) (v : Value) (s : Document) (from : ℕ) (header : Option ℕ) : Type 0 where
   pub within : (h : ℕ) → header ≡ Some h → h < length (syntax.statements s)
   pub put : IsPutAt path v s from (body_end_of s header) (new_line_at s (body_end_of s header) (keys_in (drop from path)) v)
 
--- behind the line of a keyval
+-- after the line of a keyval
 pub record IsLineReady (path : List Part) (v : Value) (s : Document) (from value : ℕ) : Type 0 where
   pub at : ℕ
   pub ends : keyval_end_of s value ≡ Some at
@@ -62,7 +62,7 @@ pub record IsSectionReady (path : List Part) (v : Value) (s : Document) (from he
   pub table : keys_in (take from path) ≡ first ∷ more
   pub put : IsPutAt path v s from (body_end_of s (Some header)) (new_section_at s (body_end_of s (Some header)) (keys_in (take from path)) (keys_in (drop from path)) v)
 
-dotted_of : (p : Place) → is_dotted_origin p ≡ true → (n : ℕ) × (p ≡ origin.Dotted n)
+dotted_of : (p : Origin) → is_dotted_origin p ≡ true → (n : ℕ) × (p ≡ origin.Dotted n)
 dotted_of (origin.Dotted n) h = (n, refl)
 dotted_of origin.Root h = absurd cc
 dotted_of (origin.Value n) h = absurd cc
@@ -71,7 +71,7 @@ dotted_of (origin.Element n) h = absurd cc
 dotted_of (origin.Through n) h = absurd cc
 dotted_of origin.Tables h = absurd cc
 
-not_dotted : (p : Place) (n : ℕ) → is_dotted_origin p ≡ false → p ≡ origin.Dotted n → ⊥
+not_dotted : (p : Origin) (n : ℕ) → is_dotted_origin p ≡ false → p ≡ origin.Dotted n → ⊥
 not_dotted p n h e = let k : is_dotted_origin p ≡ true = ap is_dotted_origin e in absurd cc
 
 base_at : (a : List Part) (s : Document) (from : ℕ) → IsBase a s from → IsBaseAt s a from
@@ -81,9 +81,9 @@ base_at a s from h = record {
   dots = λ n less more. dotted_of (origin_of (take n a) s) (h.dots n less more);
 }
 
-module _ (d : ProfiledText) (path : List Part) (v : Value) (s : Document) (read : IsTextOfTree d s) (allowed : refusal d.profile limit s (insert path v) ≡ None) (no_item : item_number path (said_in s) ≡ None) where
+module _ (d : ProfiledText) (path : List Part) (v : Value) (s : Document) (read : IsTextOfTree d s) (allowed : refusal d.profile limit s (insert path v) ≡ None) (no_item : item_number path (mentions_in s) ≡ None) where
   abbrev a : List Part
-  a = holder path (said_in s)
+  a = holder path (mentions_in s)
 
   plain_at : (from : ℕ) → from ≡ length a → list_any is_index (drop from path) ≡ false
   plain_at from e = ap (λ (n : ℕ). list_any is_index (drop n path)) e ∙ plain_rest d.profile limit s path v read.reads.valid no_item allowed
@@ -94,7 +94,7 @@ module _ (d : ProfiledText) (path : List Part) (v : Value) (s : Document) (read 
       put_at path v s from at (new_line_at s at (keys_in (drop from path)) v) refl
       (subst (λ (n : ℕ). IsLowPlace s (insert path v) (new_line_at s at (keys_in (drop n path)) v)) (sym e) h) (plain_at from e)
 
-  pub body_ready : (from : ℕ) (header : Option ℕ) → IsKeyvalSpot a s from (BehindBody header) → IsBodyReady path v s from header
+  pub body_ready : (from : ℕ) (header : Option ℕ) → IsKeyvalSpot a s from (AfterBody header) → IsBodyReady path v s from header
   body_ready from None h = record {
     within = λ n e. absurd cc;
     put = line_put from (body_end_of s None) (h.1 ∙ sym (ap (λ (l : List Part). length l) h.0)) (root_placed d.profile limit s path v read.reads.valid no_item allowed h.0);
@@ -107,7 +107,7 @@ module _ (d : ProfiledText) (path : List Part) (v : Value) (s : Document) (read 
     ]);
   }
 
-  pub line_ready : (from value : ℕ) → IsKeyvalSpot a s from (BehindLine value) → IsLineReady path v s from value
+  pub line_ready : (from value : ℕ) → IsKeyvalSpot a s from (AfterLine value) → IsLineReady path v s from value
   line_ready from value h =
       let p : IsDottedPlaced s path v from value = dotted_placed d.profile limit s path v read.reads.valid (rules_of_document s read.obeys) no_item allowed from value h.0 (base_at a s from h.1) h.2 in
       record {
@@ -131,12 +131,12 @@ module _ (d : ProfiledText) (path : List Part) (v : Value) (s : Document) (read 
   section_ready from header h =
       let t : IsThroughHeader a s header = through_header a s header h.0 in
       let at : ℕ = body_end_of s (Some header) in
-      let front : take (length a) path ≡ a = holder_front d.profile limit s path v read.reads.valid no_item allowed in
+      let prefix : take (length a) path ≡ a = holder_prefix d.profile limit s path v read.reads.valid no_item allowed in
       record {
         within = t.within;
         first = t.first;
         more = t.more;
-        table = ap (λ (n : ℕ). keys_in (take n path)) h.1 ∙ ap keys_in front ∙ t.keys;
+        table = ap (λ (n : ℕ). keys_in (take n path)) h.1 ∙ ap keys_in prefix ∙ t.keys;
         put = put_at path v s from at (new_section_at s at (keys_in (take from path)) (keys_in (drop from path)) v) refl
             (subst (λ (n : ℕ). IsLowPlace s (insert path v) (new_section_at s at (keys_in (take n path)) (keys_in (drop n path)) v)) (sym h.1) (through_placed d.profile limit s path v read.reads.valid no_item allowed header h.0))
             (plain_at from h.1);

@@ -1,8 +1,8 @@
--- How lines are written: where the first begins, whether one lacks its newline, where a body or a line ends, and what stands around
--- a keyval. The lemmas follow the functions of `src/insert/lines.rt`.
+-- How lines are written: where the first begins, whether one lacks its newline, where a body or a line ends, and what
+-- is around a keyval. The lemmas follow the functions of `src/insert/lines.rt`.
 --
--- A text begins with a byte order mark exactly if the tree has one, since else its first byte is ASCII. What is pushed piece by
--- piece is one text with the brackets moved (`line_pushed`, `section_pushed`).
+-- A text begins with a byte order mark exactly if the tree has one, since else its first byte is ASCII. What is pushed
+-- piece by piece is one text with the brackets moved (`line_pushed`, `section_pushed`).
 use Rattle.std.proofs.Common.{◌≡◌, ℕ, zero, suc, ◌-◌, ◌<◌, ◌≤◌, ◌==◌, Bool, true, false, cond, not, ◌&&◌, List, [], ◌∷◌, ◌++◌, length, take, drop, slice_get, slice_index_or, refl, sym, ap, ◌∙◌, append_assoc, arith, Option, Some, None}
 use Rattle.std.specs.Prelude.{codes, nat_lt}
 use Rattle.std.specs.List.{flat_map, starts_with}
@@ -20,7 +20,7 @@ use Rattle.keep_parts.specs.declared.info.ValueInfo.{ValueInfo}
 use Rattle.keep_syntax.specs.declared.syntax.Syntax.{Syntax}
 use Rattle.keep_syntax.specs.Contract.{statements_of, values_of}
 use Rattle.keep_syntax.specs.Tree.{Written, Value, Document, key_leaves, bom_leaves, ended_leaves, line_leaves, text_of, text}
-use Rattle.keep_syntax.specs.Tree.{mark as written}
+use Rattle.keep_syntax.specs.Tree.{token as written}
 use Rattle.keep_syntax.specs.Numbered as syntax
 use Rattle.keep_nodes.specs.Facts.{NodeInfos}
 use Rattle.keep_path.specs.Path.{Part}
@@ -93,16 +93,16 @@ open_at zero (suc n) (c ∷ d ∷ bytes) h k = open_at zero n (d ∷ bytes) (ome
 open_at (suc m) zero (c ∷ bytes) h k = absurd (omega (arith, h))
 open_at (suc m) (suc n) (c ∷ bytes) h k = open_at m n bytes (omega (arith, h)) (omega (arith, k))
 
-pub open_behind : (d : ProfiledText) (s : Document) (start at last : ℕ) (bytes : List ℕ) → start ≡ lines_start s → bytes ≡ d.text → start < at → at ≤ length d.text → last ≡ at - 1
+pub open_after : (d : ProfiledText) (s : Document) (start at last : ℕ) (bytes : List ℕ) → start ≡ lines_start s → bytes ≡ d.text → start < at → at ≤ length d.text → last ≡ at - 1
     → not (slice_index_or bytes last 0 == 0x0A) ≡ is_open (drop (lines_start s) (take at d.text))
-open_behind d s start at last bytes e same less within before =
+open_after d s start at last bytes e same less within before =
     let next : suc last ≡ at = omega (arith, before, less) in
     ap (λ (t : List ℕ). not (slice_index_or t last 0 == 0x0A)) same
     ∙ sym (open_at (lines_start s) last d.text (omega (arith, before, less, e)) (omega (arith, before, less, within)))
     ∙ ap (λ (n : ℕ). is_open (drop (lines_start s) (take n d.text))) next
 
-closed_behind : (d : ProfiledText) (s : Document) (start at : ℕ) → start ≡ lines_start s → at ≤ start → false ≡ is_open (drop (lines_start s) (take at d.text))
-closed_behind d s start at e more = ap is_open (sym (none (lines_start s) (take at d.text) (omega (arith, few at d.text, more, e))))
+closed_after : (d : ProfiledText) (s : Document) (start at : ℕ) → start ≡ lines_start s → at ≤ start → false ≡ is_open (drop (lines_start s) (take at d.text))
+closed_after d s start at e more = ap is_open (sym (none (lines_start s) (take at d.text) (omega (arith, few at d.text, more, e))))
   where
     none : (n : ℕ) (l : List ℕ) → length l ≤ n → drop n l ≡ []
     none zero [] h = refl
@@ -119,8 +119,8 @@ closed_behind d s start at e more = ap is_open (sym (none (lines_start s) (take 
 not_less : (a b : ℕ) → b ≤ a → nat_lt a b ≡ false
 not_less a b h = grind (arith, nat_tests)
 
-pub none_behind : (d : ProfiledText) (s : Document) (start at : ℕ) → start ≡ lines_start s → at ≤ start → nat_lt start at ≡ is_open (drop (lines_start s) (take at d.text))
-none_behind d s start at e more = not_less start at more ∙ closed_behind d s start at e more
+pub none_after : (d : ProfiledText) (s : Document) (start at : ℕ) → start ≡ lines_start s → at ≤ start → nat_lt start at ≡ is_open (drop (lines_start s) (take at d.text))
+none_after d s start at e more = not_less start at more ∙ closed_after d s start at e more
 
 -- the newline that it lacks
 missing_by : (b : Bool) (newline : List ℕ) (bytes : List ℕ) (start at : ℕ) → is_open (drop start (take at bytes)) ≡ b → missing_newline bytes newline start at ≡ cond b newline []

@@ -1,4 +1,4 @@
--- The node of a path: its number, what is told of it, and whether there is one.
+-- The node of a path: its number, what is known of it, and whether there is one.
 use Rattle.std.proofs.Common.{◌≡◌, ℕ, Bool, true, false, ◌||◌, List, [], ◌∷◌, ◌++◌, map, slice_get, refl, sym, ap, ◌∙◌, subst, inl, inr, Some, None}
 use Rattle.std.specs.Prelude.{fold, if◌then◌else◌}
 use Rattle.std.specs.List.{list_any}
@@ -11,9 +11,9 @@ use Rattle.keep_syntax.specs.Numbered as syntax
 use Rattle.keep_meaning.specs.declared.node.NodeInfo.{NodeInfo}
 use Rattle.keep_path.specs.Path.{Part, same_path}
 use Rattle.keep_meaning.specs.Marks.{Mention}
-use Rattle.keep_meaning.specs.Meaning.{said_in}
+use Rattle.keep_meaning.specs.Meaning.{mentions_in}
 use Rattle.keep_meaning.specs.Counts.{Numbered, numbered_in}
-use Rattle.keep_meaning.specs.Nodes.{is_at, says_at, is_root, is_node, paths_with, node_paths, node_number, kind_at, kind_said, numbered_at, mention_of, saying_of, node_at, nodes_in, node_info, infos_in}
+use Rattle.keep_meaning.specs.Nodes.{is_at, kinds_at, is_root, is_node, paths_with, node_paths, node_number, kind_at, mentioned_kind, numbered_at, mention_of, mention_kind_of, node_at, nodes_in, node_info, infos_in}
 use Rattle.keep_meaning.proofs.Shared.{mentions-numbered_in}
 use Rattle.keep_rules.proofs.Shared.{number_is, met_or_unmet}
 use Rattle.keep_path.proofs.Shared.{path_decides}
@@ -68,15 +68,15 @@ a_node path ms i e = elim (met_or_unmet (node_paths ms) path) [
   | inr h ↦ let k : None ≡ Some i = sym h.is ∙ e in absurd cc
 ]
 
--- ---- what is told of it
+-- ---- what is known of it
 
 abbrev pub info_at : List Part → Document → NodeInfo
 info_at path s = node_info (syntax.values s) (syntax.parts s) (node_at (numbered_in s) path)
 
-pub info_of_number : (path : List Part) (s : Document) (i : ℕ) → node_number (node_paths (said_in s)) path ≡ Some i → slice_get (infos_in s) i ≡ Some (info_at path s)
+pub info_of_number : (path : List Part) (s : Document) (i : ℕ) → node_number (node_paths (mentions_in s)) path ≡ Some i → slice_get (infos_in s) i ≡ Some (info_at path s)
 info_of_number path s i e =
     let paths : List (List Part) = node_paths (map mention_of (numbered_in s)) in
-    let same : node_paths (said_in s) ≡ paths = ap node_paths (sym (mentions-numbered_in s)) in
+    let same : node_paths (mentions_in s) ≡ paths = ap node_paths (sym (mentions-numbered_in s)) in
     let (within, here) = number_is paths path i (ap (λ (ps : List (List Part)). node_number ps path) (sym same) ∙ e) in
     let there : slice_get paths i ≡ Some path = slice_get-get_or paths i [] within ∙ ap Some here in
     slice_get-map (node_info (syntax.values s) (syntax.parts s)) (nodes_in s) i
@@ -84,13 +84,13 @@ info_of_number path s i e =
 
 -- ---- its kind
 
-pub says_numbered : (path : List Part) (ns : List Numbered) → map saying_of (numbered_at path ns) ≡ says_at path (map mention_of ns)
-says_numbered path [] = refl
-says_numbered path (n ∷ ns) = by (is_at path n.mention) refl (says_numbered path ns)
+pub mentions_numbered : (path : List Part) (ns : List Numbered) → map mention_kind_of (numbered_at path ns) ≡ kinds_at path (map mention_of ns)
+mentions_numbered path [] = refl
+mentions_numbered path (n ∷ ns) = by (is_at path n.mention) refl (mentions_numbered path ns)
   where
-    by : (b : Bool) → is_at path n.mention ≡ b → map saying_of (numbered_at path ns) ≡ says_at path (map mention_of ns) → map saying_of (numbered_at path (n ∷ ns)) ≡ says_at path (map mention_of (n ∷ ns))
-    by true e more = rw e (ap (λ l. n.mention.says ∷ l) more)
+    by : (b : Bool) → is_at path n.mention ≡ b → map mention_kind_of (numbered_at path ns) ≡ kinds_at path (map mention_of ns) → map mention_kind_of (numbered_at path (n ∷ ns)) ≡ kinds_at path (map mention_of (n ∷ ns))
+    by true e more = rw e (ap (λ l. n.mention.kind ∷ l) more)
     by false e more = rw e more
 
-pub kind_told : (path : List Part) (s : Document) → (info_at path s).kind ≡ kind_at path (said_in s)
-kind_told path s = ap kind_said (says_numbered path (numbered_in s) ∙ ap (says_at path) (mentions-numbered_in s))
+pub kind_stated : (path : List Part) (s : Document) → (info_at path s).kind ≡ kind_at path (mentions_in s)
+kind_stated path s = ap mentioned_kind (mentions_numbered path (numbered_in s) ∙ ap (kinds_at path) (mentions-numbered_in s))

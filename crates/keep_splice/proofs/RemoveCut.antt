@@ -21,15 +21,15 @@ use Rattle.keep_syntax.specs.Numbered.{span}
 use Rattle.keep_syntax.proofs.Shared.{first-drop, is_solid}
 use Rattle.keep_meaning.specs.KeyText.{text_at}
 use Rattle.keep_path.specs.Path.{Part}
-use Rattle.keep_meaning.specs.Meaning.{said_in}
+use Rattle.keep_meaning.specs.Meaning.{mentions_in}
 use Rattle.keep_meaning.specs.Nodes.{is_define, is_begun, statement_number}
 use Rattle.keep_nodes.specs.Facts.{NodeInfos}
 use Rattle.keep_law.specs.Changed.{Changed, Place, IsChangeOf, place_of}
 use Rattle.keep_law.specs.Edits.{remove, place, changed_or_same}
 use Rattle.keep_law.specs.Laws.{IsLawfulEdit}
 use Rattle.keep_law.specs.Refusals.{refusal}
-use Rattle.keep_law.specs.Removal.{past_space, kept_text, entry_place, line_place, section_place}
-use Rattle.keep_law.proofs.Shared.{Rules, SomeOf, IsAloneAt, rules_of_document, has_some, remove_lawful, alone_of_has, has_of_number, begun_alone, no_both, shared_define, IsValueAt, IsInside, IsEdged, IsComma, is_high, IsLow, IsSectionPlaced, IsPlaced, IsRemoved, removed}
+use Rattle.keep_law.specs.Removal.{past_space, preserved_text, entry_place, line_place, section_place}
+use Rattle.keep_law.proofs.Shared.{Rules, SomeOf, IsAloneAt, rules_of_document, has_some, remove_lawful, alone_of_has, has_of_number, begun_alone, no_both, shared_define, IsValueAt, IsNested, IsEdged, IsComma, is_high, IsLow, IsSectionPlaced, IsPlaced, IsRemoved, removed}
 use Rattle.keep_splice.specs.Reading.{limit, ProfiledText, IsTextOfTree, Holds}
 use Rattle.keep_splice.specs.Answers.{value_number_of, IsSpanOf}
 use Rattle.keep_splice.specs.Removing.{IsHeaded, IsRemovalOf, cut_place, KeepsNothing, KeepsGap, IsEntryIn, IsCutAt}
@@ -37,7 +37,7 @@ use Rattle.keep_splice.specs.Places.{IsDoneAt}
 use Rattle.keep_splice.specs.declared.remove.Cut.{Cut}
 use Rattle.keep_splice.specs.declared.remove.Piece.{Piece}
 use Rattle.keep_splice.proofs.AnswerLaws.{tree_is}
-use Rattle.keep_splice.proofs.EditedLaws.{standing}
+use Rattle.keep_splice.proofs.EditedLaws.{editable}
 use Rattle.keep_splice.proofs.FoundLaws.{value_there}
 use Rattle.keep_splice.proofs.RemoveNode.{has_of}
 
@@ -83,8 +83,8 @@ module _ (bytes : List ℕ) (path : List Part) (s : Document) (spelled : bytes �
   long : length bytes ≡ length c.before + (length c.old + length c.behind)
   long = ap (λ (t : List ℕ). length t) whole ∙ length-append c.before (c.old ++ c.behind) ∙ ap (λ n. length c.before + n) (length-append c.old c.behind)
 
-  front_drop : drop (length c.before) bytes ≡ c.old ++ c.behind
-  front_drop = ap (drop (length c.before)) whole ∙ drop_at c.before (c.old ++ c.behind) (length c.before) refl
+  prefix_drop : drop (length c.before) bytes ≡ c.old ++ c.behind
+  prefix_drop = ap (drop (length c.before)) whole ∙ drop_at c.before (c.old ++ c.behind) (length c.before) refl
 
   back_drop : drop (length c.before + length c.old) bytes ≡ c.behind
   back_drop = ap (drop (length c.before + length c.old)) (whole ∙ sym (append_assoc c.before c.old c.behind)) ∙ drop_at (c.before ++ c.old) c.behind (length c.before + length c.old) (length-append c.before c.old)
@@ -94,7 +94,7 @@ module _ (bytes : List ℕ) (path : List Part) (s : Document) (spelled : bytes �
       let start : cut.span.start ≡ length c.before = ap (λ (p : Place). p.start) at in
       let end : cut.span.end ≡ length c.before + length c.old = ap (λ (p : Place). p.end) at in
       let first_here : IsCharBoundary bytes cut.span.start =
-      low_boundary bytes cut.span.start (omega (arith, start, long)) (ap (λ n. is_high (first (drop n bytes))) start ∙ ap (λ (t : List ℕ). is_high (first t)) front_drop ∙ low.opens) in
+      low_boundary bytes cut.span.start (omega (arith, start, long)) (ap (λ n. is_high (first (drop n bytes))) start ∙ ap (λ (t : List ℕ). is_high (first t)) prefix_drop ∙ low.opens) in
       let last_here : IsCharBoundary bytes cut.span.end =
       low_boundary bytes cut.span.end (omega (arith, end, long)) (ap (λ n. is_high (first (drop n bytes))) end ∙ ap (λ (t : List ℕ). is_high (first t)) back_drop ∙ low.closes) in (
         is ∙ sym at,
@@ -133,31 +133,31 @@ module _ (bytes : List ℕ) (utf8 : IsUtf8 bytes) (v : ValueInfo) (edged : IsEdg
 
   span_by : (a b : Option ℕ) → v.comma_after ≡ a → v.comma_before ≡ b
       → cut_place bytes cut ≡ elim a [
-        | Some comma ↦ record { start = v.whole.start; end = past_space bytes (suc comma); new = kept_text (text_at bytes (span v.span.end comma)) }
+        | Some comma ↦ record { start = v.whole.start; end = past_space bytes (suc comma); new = preserved_text (text_at bytes (span v.span.end comma)) }
         | None ↦ elim b [
-          | Some comma ↦ record { start = comma; end = v.span.end; new = kept_text (text_at bytes (span (suc comma) v.whole.start)) }
+          | Some comma ↦ record { start = comma; end = v.span.end; new = preserved_text (text_at bytes (span (suc comma) v.whole.start)) }
           | None ↦ record { start = v.whole.start; end = v.span.end; new = [] }
         ]
       ] → IsSpanOf bytes cut.span
   span_by (Some comma) b e f h =
       let start : cut.span.start ≡ v.whole.start = ap (λ (p : Place). p.start) h in
       let end : cut.span.end ≡ past_space bytes (suc comma) = ap (λ (p : Place). p.end) h in
-      let (stands, behind) = edged.after comma e in
-      let within : suc comma ≤ length bytes = omega (arith, stands.within) in
+      let (occurs, behind) = edged.after comma e in
+      let within : suc comma ≤ length bytes = omega (arith, occurs.within) in
       record {
         ordered = omega (arith, start, end, edged.ordered, behind);
         within = omega (arith, end, space_within bytes (suc comma) within);
         starts = subst (IsCharBoundary bytes) (sym start) opens_here;
-        ends = subst (IsCharBoundary bytes) (sym end) (space_boundary bytes (suc comma) utf8 within (comma_past bytes comma utf8 stands));
+        ends = subst (IsCharBoundary bytes) (sym end) (space_boundary bytes (suc comma) utf8 within (comma_past bytes comma utf8 occurs));
       }
   span_by None (Some comma) e f h =
       let start : cut.span.start ≡ comma = ap (λ (p : Place). p.start) h in
       let end : cut.span.end ≡ v.span.end = ap (λ (p : Place). p.end) h in
-      let (stands, before) = edged.before comma e f in
+      let (occurs, before) = edged.before comma e f in
       record {
         ordered = omega (arith, start, end, edged.ordered, before);
         within = omega (arith, end, at.within);
-        starts = subst (IsCharBoundary bytes) (sym start) (comma_here bytes comma stands);
+        starts = subst (IsCharBoundary bytes) (sym start) (comma_here bytes comma occurs);
         ends = subst (IsCharBoundary bytes) (sym end) at.ends;
       }
   span_by None None e f h =
@@ -170,34 +170,34 @@ module _ (bytes : List ℕ) (utf8 : IsUtf8 bytes) (v : ValueInfo) (edged : IsEdg
         ends = subst (IsCharBoundary bytes) (sym end) at.ends;
       }
 
-  kept_by : IsSpanOf bytes cut.span → KeepsGap v cut → IsSpanOf bytes cut.kept
-  kept_by h (inl keeps) = record {
+  preserved_by : IsSpanOf bytes cut.span → KeepsGap v cut → IsSpanOf bytes cut.preserved
+  preserved_by h (inl keeps) = record {
     ordered = omega (arith, keeps.0, keeps.1);
     within = omega (arith, keeps.1, h.ordered, h.within);
     starts = subst (IsCharBoundary bytes) (sym keeps.0) h.starts;
     ends = subst (IsCharBoundary bytes) (sym keeps.1) h.starts;
   }
-  kept_by h (inr (inl (start, comma))) =
-      let (stands, behind) = edged.after cut.kept.end comma in
+  preserved_by h (inr (inl (start, comma))) =
+      let (occurs, behind) = edged.after cut.preserved.end comma in
       record {
         ordered = omega (arith, start, behind);
-        within = omega (arith, stands.within);
+        within = omega (arith, occurs.within);
         starts = subst (IsCharBoundary bytes) (sym start) at.ends;
-        ends = comma_here bytes cut.kept.end stands;
+        ends = comma_here bytes cut.preserved.end occurs;
       }
-  kept_by h (inr (inr (none, comma, start, end))) =
-      let (stands, before) = edged.before cut.span.start none comma in
+  preserved_by h (inr (inr (none, comma, start, end))) =
+      let (occurs, before) = edged.before cut.span.start none comma in
       record {
         ordered = omega (arith, start, end, before);
         within = omega (arith, end, edged.ordered, at.within);
-        starts = subst (IsCharBoundary bytes) (sym start) (comma_past bytes cut.span.start utf8 stands);
+        starts = subst (IsCharBoundary bytes) (sym start) (comma_past bytes cut.span.start utf8 occurs);
         ends = subst (IsCharBoundary bytes) (sym end) opens_here;
       }
 
   pub entry_cut_at : (path : List Part) (s : Document) → place s (remove path) ≡ entry_place bytes v → cut_place bytes cut ≡ entry_place bytes v → KeepsGap v cut → IsCutAt path s bytes cut
   entry_cut_at path s is h keeps =
       let here : IsSpanOf bytes cut.span = span_by v.comma_after v.comma_before refl refl h in
-      (is ∙ sym h, here, kept_by here keeps)
+      (is ∙ sym h, here, preserved_by here keeps)
 
 -- ---- what the code finds
 
@@ -210,10 +210,10 @@ one_info o a b e f = let k : Some a ≡ Some b = sym e ∙ f in cc
 one_line : (a b : ℕ) → owner.Line a ≡ owner.Line b → a ≡ b
 one_line a b e = cc
 
-not_inside : (o : Owner) (i : ℕ) → IsInside o → o ≡ owner.Line i → ⊥
-not_inside (owner.Line j) i h e = h
-not_inside (owner.Inline j) i h e = absurd cc
-not_inside (owner.Item j) i h e = absurd cc
+not_nested : (o : Owner) (i : ℕ) → IsNested o → o ≡ owner.Line i → ⊥
+not_nested (owner.Line j) i h e = h
+not_nested (owner.Inline j) i h e = absurd cc
+not_nested (owner.Item j) i h e = absurd cc
 
 -- what holds of the change
 record IsChanged (path : List Part) (s : Document) (c : Changed Document) : Type 0 where
@@ -223,17 +223,17 @@ record IsChanged (path : List Part) (s : Document) (c : Changed Document) : Type
 
 the_change : (d : ProfiledText) (path : List Part) (s : Document) → IsTextOfTree d s → refusal d.profile limit s (remove path) ≡ None → (c : Changed Document) × IsChanged path s c
 the_change d path s read allowed =
-    let r : IsRemoved d.profile limit path s = removed d.profile limit path s (standing d s read) allowed in
+    let r : IsRemoved d.profile limit path s = removed d.profile limit path s (editable d s read) allowed in
     (r.lawful.changed, record { place = ap (λ (o : Option (Changed Document)). place_of (changed_or_same s o)) r.lawful.is; cut = r.cut; placed = r.placed })
 
 -- a value and a header are not at one path
 no_header : (d : ProfiledText) (path : List Part) (s : Document) (n : ℕ) (c : Changed Document) → IsTextOfTree d s → value_number_of path s ≡ Some n → IsSectionPlaced path s c → ⊥
 no_header d path s n c read found h =
-    let rules : Rules (said_in s) = rules_of_document s read.obeys in
-    let alone : SomeOf (IsAloneAt path) (said_in s) = alone_of_has path (said_in s) (has_of_number path s n read.obeys found) in
+    let rules : Rules (mentions_in s) = rules_of_document s read.obeys in
+    let alone : SomeOf (IsAloneAt path) (mentions_in s) = alone_of_has path (mentions_in s) (has_of_number path s n read.obeys found) in
     elim h.headed [
-      | inl d ↦ no_both is_define shared_define path (said_in s) (has_some is_define path (said_in s) (has_of path s read.obeys is_define statement_number h.number d)) alone rules
-      | inr b ↦ begun_alone s path rules (has_some is_begun path (said_in s) (has_of path s read.obeys is_begun statement_number h.number b)) alone
+      | inl d ↦ no_both is_define shared_define path (mentions_in s) (has_some is_define path (mentions_in s) (has_of path s read.obeys is_define statement_number h.number d)) alone rules
+      | inr b ↦ begun_alone s path rules (has_some is_begun path (mentions_in s) (has_of path s read.obeys is_begun statement_number h.number b)) alone
     ]
 
 module _ (d : ProfiledText) (syntax : Syntax) (index : NodeInfos) (path : List Part) (s : Document) (holds : Holds d syntax index) (read : IsTextOfTree d s) (allowed : refusal d.profile limit s (remove path) ≡ None) where
@@ -262,16 +262,16 @@ module _ (d : ProfiledText) (syntax : Syntax) (index : NodeInfos) (path : List P
         | inl p ↦
             (let same : p.own ≡ info = own_is number info p.own found here p.value in
             let line_is : p.number ≡ line = one_line p.number line (sym p.line ∙ ap (λ (i : ValueInfo). i.owner) same ∙ owned) in
-            let stands : slice_get (statements_of syntax) line ≡ Some p.statement = ap (λ (l : List Statement). slice_get l line) statements_are ∙ ap (slice_get (numbered.statements s)) (sym line_is) ∙ p.here in
+            let occurs : slice_get (statements_of syntax) line ≡ Some p.statement = ap (λ (l : List Statement). slice_get l line) statements_are ∙ ap (slice_get (numbered.statements s)) (sym line_is) ∙ p.here in
             record {
-              within = slice_get_within (statements_of syntax) line p.statement stands;
+              within = slice_get_within (statements_of syntax) line p.statement occurs;
               ends = there.span.within;
               cut = λ st cut is at keeps.
-                  (let one : st ≡ p.statement = one_statement (slice_get (statements_of syntax) line) st p.statement is stands in
+                  (let one : st ≡ p.statement = one_statement (slice_get (statements_of syntax) line) st p.statement is occurs in
                   low_cut d.text path s read.reads.spelled c h.place h.cut cut
                   (at ∙ ap (λ (t : Statement). line_place d.text t info) one ∙ ap (line_place d.text p.statement) (sym same) ∙ ap (λ (b : List ℕ). line_place b p.statement p.own) read.reads.spelled ∙ p.place) keeps p.low);
             })
-        | inr (inl p) ↦ absurd (not_inside p.own.owner line p.inside (ap (λ (i : ValueInfo). i.owner) (own_is number info p.own found here p.value) ∙ owned))
+        | inr (inl p) ↦ absurd (not_nested p.own.owner line p.nested (ap (λ (i : ValueInfo). i.owner) (own_is number info p.own found here p.value) ∙ owned))
         | inr (inr p) ↦ absurd (no_header d path s number c read found p)
       ]
     where
@@ -280,7 +280,7 @@ module _ (d : ProfiledText) (syntax : Syntax) (index : NodeInfos) (path : List P
 
   -- an entry of brackets
   pub record IsEntryArm (info : ValueInfo) : Type 0 where
-    pub inside : IsEntryIn d.text info
+    pub nested : IsEntryIn d.text info
     pub cut : (cut : Cut) → cut_place d.text cut ≡ entry_place d.text info → KeepsGap info cut → IsCutAt path s d.text cut
 
   pub entry_arm : (number : ℕ) (info : ValueInfo) → value_number_of path s ≡ Some number → slice_get (values_of syntax) number ≡ Some info → ((i : ℕ) → info.owner ≡ owner.Line i → ⊥) → IsEntryArm info
@@ -295,7 +295,7 @@ module _ (d : ProfiledText) (syntax : Syntax) (index : NodeInfos) (path : List P
             let is : place s (remove path) ≡ entry_place d.text info =
             h.place ∙ sym p.place ∙ ap (λ (b : List ℕ). entry_place b p.own) (sym read.reads.spelled) ∙ ap (entry_place d.text) same in
             record {
-              inside = entry_in d.text info edged there.span;
+              nested = entry_in d.text info edged there.span;
               cut = λ cut at keeps. entry_cut_at d.text read.utf8 info edged there.span cut path s is at keeps;
             })
         | inr (inr p) ↦ absurd (no_header d path s number c read found p)
@@ -337,7 +337,7 @@ module _ (d : ProfiledText) (syntax : Syntax) (index : NodeInfos) (path : List P
 -- ---- the edit
 
 pub removal_law : (d : ProfiledText) (path : List Part) (s : Document) → IsTextOfTree d s → refusal d.profile limit s (remove path) ≡ None → IsLawfulEdit d.profile limit s (remove path)
-removal_law d path s read allowed = remove_lawful d.profile limit s path (standing d s read) allowed
+removal_law d path s read allowed = remove_lawful d.profile limit s path (editable d s read) allowed
 
-pub removal_done : (d : ProfiledText) (path : List Part) (s : Document) (piece : Piece) (cut : Cut) → IsRemovalOf d.profile path s (Ok piece) → IsCutAt path s d.text cut → IsDoneAt s (remove path) d (text_at d.text cut.kept) (Ok cut.span)
+pub removal_done : (d : ProfiledText) (path : List Part) (s : Document) (piece : Piece) (cut : Cut) → IsRemovalOf d.profile path s (Ok piece) → IsCutAt path s d.text cut → IsDoneAt s (remove path) d (text_at d.text cut.preserved) (Ok cut.span)
 removal_done d path s piece cut h at = (h.0, at.0, at.1)

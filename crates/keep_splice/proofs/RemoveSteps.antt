@@ -1,4 +1,4 @@
--- A body goes on over a keyval, and ends before a header and behind the last statement.
+-- A body continues over a keyval, and ends before a header and after the last statement.
 use Rattle.std.proofs.Common.{◌≡◌, ℕ, zero, suc, ◌-◌, ◌≤◌, List, [], ◌∷◌, length, take, drop, slice_get, refl, sym, ap, ◌∙◌, arith, Some}
 use Rattle.keep_parts.specs.declared.info.Statement.{Statement}
 use Rattle.keep_parts.specs.declared.info.StatementKind.{StatementKind}

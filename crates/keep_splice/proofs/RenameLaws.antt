@@ -1,4 +1,4 @@
--- Renaming a key: when it is refused, and where the key stands.
+-- Renaming a key: when it is refused, and where the key is.
 use Rattle.std.proofs.Common.{◌≡◌, ℕ, suc, ◌-◌, Bool, true, false, List, [], ◌∷◌, ◌++◌, length, take, slice_get, refl, sym, ap, subst, ◌∙◌, arith, Option, Some, None, Ok}
 use Rattle.std.specs.Prelude.{not, ◌&&◌, ◌||◌, ◌==◌, ◌++◌, IsUtf8, is_some}
 use Rattle.std.proofs.lemmas.Bool.{eqb-true}
@@ -8,7 +8,7 @@ use Rattle.keep_token.specs.Encoded.{encoded_key}
 use Rattle.keep_parts.specs.declared.info.Span.{Span}
 use Rattle.keep_syntax.specs.Tree.{Document}
 use Rattle.keep_meaning.specs.declared.node.NodeInfo.{NodeInfo}
-use Rattle.keep_meaning.specs.Meaning.{said_in}
+use Rattle.keep_meaning.specs.Meaning.{mentions_in}
 use Rattle.keep_rules.specs.declared.index.NodeId.{NodeId}
 use Rattle.keep_rules.specs.Lookup.{number_of}
 use Rattle.keep_meaning.specs.Nodes.{is_root, is_node, mark_count, node_number, node_paths}
@@ -21,13 +21,13 @@ use Rattle.keep_law.specs.Edits.{rename}
 use Rattle.keep_law.specs.Laws.{IsLawfulEdit}
 use Rattle.keep_law.specs.Look.{last_part, without_last, is_index}
 use Rattle.keep_law.specs.Refusals.{refusal, first_that_holds, ends_in_index, beside}
-use Rattle.keep_law.proofs.Shared.{rename_lawful, false_unless, IsKeyRenamed, marks_told, rename_placed, rename_place_is}
+use Rattle.keep_law.proofs.Shared.{rename_lawful, false_unless, IsKeyRenamed, marks_stated, rename_placed, rename_place_is}
 use Rattle.keep_splice.specs.Reading.{limit, ProfiledText, Holds, IsTextOfTree}
 use Rattle.keep_splice.specs.Places.{IsDoneAt}
-use Rattle.keep_splice.proofs.AnswerLaws.{told_is}
+use Rattle.keep_splice.proofs.AnswerLaws.{stated_is}
 use Rattle.keep_splice.proofs.NodeLaws.{a_node}
-use Rattle.keep_splice.proofs.FoundLaws.{IsTold, none_found}
-use Rattle.keep_splice.proofs.EditedLaws.{standing}
+use Rattle.keep_splice.proofs.FoundLaws.{IsStated, none_found}
+use Rattle.keep_splice.proofs.EditedLaws.{editable}
 
 -- ---- the refusal
 
@@ -64,31 +64,31 @@ abbrev pub ends_in_key : List Part → Bool
 ends_in_key path = not (is_root path) && not (ends_in_index path)
 
 module _ (profile : Profile) (s : Document) (path : List Part) (t : List ℕ) where
-  pub not_found : is_node path (said_in s) ≡ false → refusal profile limit s (rename path t) ≡ Some fault.NotFound
-  not_found e = no_node_by (is_node path (said_in s)) (is_root path) (ends_in_index path) (is_node (beside path t) (said_in s)) (mark_count path (said_in s) == 1) e
+  pub not_found : is_node path (mentions_in s) ≡ false → refusal profile limit s (rename path t) ≡ Some fault.NotFound
+  not_found e = no_node_by (is_node path (mentions_in s)) (is_root path) (ends_in_index path) (is_node (beside path t) (mentions_in s)) (mark_count path (mentions_in s) == 1) e
 
-  pub not_key : is_node path (said_in s) ≡ true → ends_in_key path ≡ false → refusal profile limit s (rename path t) ≡ Some fault.NotKey
-  not_key e f = no_key_by (is_node path (said_in s)) (is_root path) (ends_in_index path) (is_node (beside path t) (said_in s)) (mark_count path (said_in s) == 1) e f
+  pub not_key : is_node path (mentions_in s) ≡ true → ends_in_key path ≡ false → refusal profile limit s (rename path t) ≡ Some fault.NotKey
+  not_key e f = no_key_by (is_node path (mentions_in s)) (is_root path) (ends_in_index path) (is_node (beside path t) (mentions_in s)) (mark_count path (mentions_in s) == 1) e f
 
-  pub exists_there : is_node path (said_in s) ≡ true → ends_in_key path ≡ true → is_node (beside path t) (said_in s) ≡ true → refusal profile limit s (rename path t) ≡ Some fault.Exists
-  exists_there e f g = exists_by (is_node path (said_in s)) (is_root path) (ends_in_index path) (is_node (beside path t) (said_in s)) (mark_count path (said_in s) == 1) e f g
+  pub exists_there : is_node path (mentions_in s) ≡ true → ends_in_key path ≡ true → is_node (beside path t) (mentions_in s) ≡ true → refusal profile limit s (rename path t) ≡ Some fault.Exists
+  exists_there e f g = exists_by (is_node path (mentions_in s)) (is_root path) (ends_in_index path) (is_node (beside path t) (mentions_in s)) (mark_count path (mentions_in s) == 1) e f g
 
-  marked : is_node path (said_in s) ≡ true → ends_in_key path ≡ true → is_node (beside path t) (said_in s) ≡ false
-      → refusal profile limit s (rename path t) ≡ first_that_holds ((not (mark_count path (said_in s) == 1), fault.Scattered) ∷ [])
-  marked e f g = marked_by (is_node path (said_in s)) (is_root path) (ends_in_index path) (is_node (beside path t) (said_in s)) (mark_count path (said_in s) == 1) e f g
+  marked : is_node path (mentions_in s) ≡ true → ends_in_key path ≡ true → is_node (beside path t) (mentions_in s) ≡ false
+      → refusal profile limit s (rename path t) ≡ first_that_holds ((not (mark_count path (mentions_in s) == 1), fault.Scattered) ∷ [])
+  marked e f g = marked_by (is_node path (mentions_in s)) (is_root path) (ends_in_index path) (is_node (beside path t) (mentions_in s)) (mark_count path (mentions_in s) == 1) e f g
 
 -- ---- the path
 
 -- without its last part
-pub front_is : (path : List Part) → take (length path - 1) path ≡ without_last path
-front_is [] = refl
-front_is (p ∷ []) = refl
-front_is (p ∷ q ∷ ps) =
+pub prefix_is : (path : List Part) → take (length path - 1) path ≡ without_last path
+prefix_is [] = refl
+prefix_is (p ∷ []) = refl
+prefix_is (p ∷ q ∷ ps) =
     let n : length (p ∷ q ∷ ps) - 1 ≡ suc (length (q ∷ ps) - 1) = omega arith in
-    ap (λ k. take k (p ∷ q ∷ ps)) n ∙ ap (λ l. p ∷ l) (front_is (q ∷ ps))
+    ap (λ k. take k (p ∷ q ∷ ps)) n ∙ ap (λ l. p ∷ l) (prefix_is (q ∷ ps))
 
 pub beside_is : (path : List Part) (t : List ℕ) → take (length path - 1) path ++ key t ∷ [] ≡ beside path t
-beside_is path t = ap (λ l. l ++ key t ∷ []) (front_is path)
+beside_is path t = ap (λ l. l ++ key t ∷ []) (prefix_is path)
 
 -- its last part
 pub last_is : (path : List Part) → slice_get path (length path - 1) ≡ last_part path
@@ -118,33 +118,33 @@ by_nothing (p ∷ q ∷ ps) e = absurd (none_last q ps e)
 
 -- a node that was looked for is there exactly if it was found
 pub node_test : (d : ProfiledText) (syntax : Syntax) (index : NodeInfos) (path : List Part) (s : Document) → Holds d syntax index → IsTextOfTree d s
-    → (o : Option NodeId) → number_of o ≡ node_number index.paths path → is_node path (said_in s) ≡ is_some o
+    → (o : Option NodeId) → number_of o ≡ node_number index.paths path → is_node path (mentions_in s) ≡ is_some o
 node_test d syntax index path s holds read None found = none_found d syntax index path s holds read None refl found
 node_test d syntax index path s holds read (Some id) found =
-    let paths : index.paths ≡ node_paths (said_in s) = ap (λ (t : NodeInfos). t.paths) (told_is d syntax index s holds read) ∙ paths-nodes_in s in
-    a_node path (said_in s) id.0 (ap (λ (ps : List (List Part)). node_number ps path) (sym paths) ∙ sym found)
+    let paths : index.paths ≡ node_paths (mentions_in s) = ap (λ (t : NodeInfos). t.paths) (stated_is d syntax index s holds read) ∙ paths-nodes_in s in
+    a_node path (mentions_in s) id.0 (ap (λ (ps : List (List Part)). node_number ps path) (sym paths) ∙ sym found)
 
 pub beside_test : (d : ProfiledText) (syntax : Syntax) (index : NodeInfos) (path : List Part) (t : List ℕ) (s : Document) → Holds d syntax index → IsTextOfTree d s
-    → (o : Option NodeId) → number_of o ≡ node_number index.paths (take (length path - 1) path ++ key t ∷ []) → is_node (beside path t) (said_in s) ≡ is_some o
+    → (o : Option NodeId) → number_of o ≡ node_number index.paths (take (length path - 1) path ++ key t ∷ []) → is_node (beside path t) (mentions_in s) ≡ is_some o
 beside_test d syntax index path t s holds read o found =
-    ap (λ q. is_node q (said_in s)) (sym (beside_is path t)) ∙ node_test d syntax index (take (length path - 1) path ++ key t ∷ []) s holds read o found
+    ap (λ q. is_node q (mentions_in s)) (sym (beside_is path t)) ∙ node_test d syntax index (take (length path - 1) path ++ key t ∷ []) s holds read o found
 
--- ---- where the key stands
+-- ---- where the key is
 
 -- what was looked up of the path's node, where it ends in a key and the new key is free
 pub record IsOneKey (d : ProfiledText) (t : List ℕ) (path : List Part) (s : Document) (info : NodeInfo) : Type 0 where
   pub read : IsTextOfTree d s
   pub utf8 : IsUtf8 t
-  pub told : IsTold path s info
+  pub stated : IsStated path s info
   pub by_key : ends_in_key path ≡ true
-  pub fresh : is_node (beside path t) (said_in s) ≡ false
+  pub fresh : is_node (beside path t) (mentions_in s) ≡ false
 
 module _ (d : ProfiledText) (t : List ℕ) (path : List Part) (s : Document) (info : NodeInfo) (at : IsOneKey d t path s info) where
-  marks_are : info.marks ≡ mark_count path (said_in s)
-  marks_are = ap (λ (i : NodeInfo). i.marks) at.told.is ∙ marks_told path s
+  marks_are : info.marks ≡ mark_count path (mentions_in s)
+  marks_are = ap (λ (i : NodeInfo). i.marks) at.stated.is ∙ marks_stated path s
 
   refusal_is : (b : Bool) → (info.marks == 1) ≡ b → refusal d.profile limit s (rename path t) ≡ first_that_holds ((not b, fault.Scattered) ∷ [])
-  refusal_is b e = marked d.profile s path t at.told.node at.by_key at.fresh ∙ ap (λ c. first_that_holds ((not c, fault.Scattered) ∷ [])) (ap (λ n. n == 1) (sym marks_are) ∙ e)
+  refusal_is b e = marked d.profile s path t at.stated.node at.by_key at.fresh ∙ ap (λ c. first_that_holds ((not c, fault.Scattered) ∷ [])) (ap (λ n. n == 1) (sym marks_are) ∙ e)
 
   pub scattered : (info.marks ≡ 1 → ⊥) → refusal d.profile limit s (rename path t) ≡ Some fault.Scattered
   scattered other = refusal_is false (false_unless (info.marks == 1) (λ e. other (eqb-true info.marks 1 e)))
@@ -156,20 +156,20 @@ module _ (d : ProfiledText) (t : List ℕ) (path : List Part) (s : Document) (in
   renamed e law = rename_placed path t s law.changed (sym marks_are ∙ e) law.is
 
   lawful : info.marks ≡ 1 → IsLawfulEdit d.profile limit s (rename path t)
-  lawful e = rename_lawful d.profile limit s path t (standing d s at.read) at.utf8 (allowed e)
+  lawful e = rename_lawful d.profile limit s path t (editable d s at.read) at.utf8 (allowed e)
 
   -- one key part has a place
   pub has_span : info.marks ≡ 1 → info.key_span ≡ None → ⊥
   has_span e none =
       let h = renamed e (lawful e) in
-      let k : None ≡ Some h.own.span = sym none ∙ ap (λ (i : NodeInfo). i.key_span) at.told.is ∙ h.span in
+      let k : None ≡ Some h.own.span = sym none ∙ ap (λ (i : NodeInfo). i.key_span) at.stated.is ∙ h.span in
       absurd cc
 
   pub renamed_there : (span : Span) → info.marks ≡ 1 → info.key_span ≡ Some span → IsDoneAt s (rename path t) d (encoded_key t) (Ok span)
   renamed_there span e here =
       let law = lawful e in
       let h = renamed e law in
-      let same : Some h.own.span ≡ Some span = sym h.span ∙ ap (λ (i : NodeInfo). i.key_span) (sym at.told.is) ∙ here in
+      let same : Some h.own.span ≡ Some span = sym h.span ∙ ap (λ (i : NodeInfo). i.key_span) (sym at.stated.is) ∙ here in
       let own : h.own.span ≡ span = (let k : h.own.span ≡ span = cc in k) in
       let part = parts_readable d.text d.profile s at.read.utf8 at.read.reads.valid at.read.reads.spelled h.number h.own h.here in
       subst (λ (x : Span). IsDoneAt s (rename path t) d (encoded_key t) (Ok x)) own (
@@ -180,4 +180,4 @@ module _ (d : ProfiledText) (t : List ℕ) (path : List Part) (s : Document) (in
 
 -- the law of a rename that is not refused
 pub law_of : (d : ProfiledText) (s : Document) (path : List Part) (t : List ℕ) → IsTextOfTree d s → IsUtf8 t → refusal d.profile limit s (rename path t) ≡ None → IsLawfulEdit d.profile limit s (rename path t)
-law_of d s path t read utf8 allowed = rename_lawful d.profile limit s path t (standing d s read) utf8 allowed
+law_of d s path t read utf8 allowed = rename_lawful d.profile limit s path t (editable d s read) utf8 allowed

@@ -3,8 +3,8 @@ use Rattle.std.proofs.Common.{◌≡◌, ℕ, ◌-◌, ◌==◌, Bool, true, fal
 use Rattle.keep_syntax.specs.Tree.{Content, blank, keyval, header, element, Line, Document}
 use Rattle.keep_path.specs.Path.{Part, key, index}
 use Rattle.keep_meaning.specs.Marks as marks
-use Rattle.keep_meaning.specs.Marks.{Saying, Mention, Reading, start, below, elements_of, entered_path, passing_mentions, header_path, header_way}
-use Rattle.keep_meaning.specs.Meaning.{key_value, further_value, keys_of, keyed_mentions, statement_of, line_said, behind_line, lines_said, lines}
+use Rattle.keep_meaning.specs.Marks.{MentionKind, Mention, Reading, start, below, elements_of, entered_path, passing_mentions, header_path, header_way}
+use Rattle.keep_meaning.specs.Meaning.{key_value, further_value, keys_of, keyed_mentions, statement_of, line_mentions, after_line, lines_mentions, lines}
 use Rattle.keep_meaning.specs.Counts.{Numbered, numbered_in}
 use Rattle.keep_meaning.specs.Nodes.{mention_of, numbered_at}
 use Rattle.keep_meaning.proofs.Shared.{mentions-numbered_in}
@@ -33,7 +33,7 @@ entered_named tables q some = by (0 == elements_of q tables)
 pass_named : (tables : List (List Part)) (q : List Part) → (q ≡ [] → ⊥) → AllOf Named (passing_mentions tables q)
 pass_named tables q some = by (0 == elements_of q tables)
   where
-    by : (b : Bool) → AllOf Named (cond b (record { path = q; says = marks.through } ∷ []) (record { path = q; says = marks.past } ∷ record { path = entered_path tables q; says = marks.passed } ∷ []))
+    by : (b : Bool) → AllOf Named (cond b (record { path = q; kind = marks.through } ∷ []) (record { path = q; kind = marks.past } ∷ record { path = entered_path tables q; kind = marks.passed } ∷ []))
     by true = (some, tt)
     by false = (some, (entered_named tables q some, tt))
 
@@ -52,7 +52,7 @@ path_named tables at k (l ∷ ks) e = path_named tables (entered_path tables (at
 
 keyed_named : (k : List ℕ) (ks : List (List ℕ)) (ms : List Mention) → AllOf Named (keyed_mentions (k ∷ ks) ms)
 keyed_named k [] ms = named_below (key k) [] ms
-keyed_named k (l ∷ ks) ms = named_below (key k) [] (record { path = []; says = marks.dotted } ∷ keyed_mentions (l ∷ ks) ms)
+keyed_named k (l ∷ ks) ms = named_below (key k) [] (record { path = []; kind = marks.dotted } ∷ keyed_mentions (l ∷ ks) ms)
 
 body_named : (body : List Part) (ms : List Mention) → AllOf Named ms → AllOf Named (map (below body) ms)
 body_named body [] h = tt
@@ -68,16 +68,16 @@ content_named : (r : Reading) (c : Content) → AllOf Named (elim (statement_of 
 content_named r blank = tt
 content_named r (keyval name v) = body_named r.body _ (keyed_named (key_value name.key.first) (map further_value name.key.more) _)
 content_named r (header b k a) =
-    all_join Named (header_way r.tables [] (keys_of k)) (record { path = header_path r.tables [] (keys_of k); says = marks.define } ∷ []) (way_named r.tables [] (keys_of k))
+    all_join Named (header_way r.tables [] (keys_of k)) (record { path = header_path r.tables [] (keys_of k); kind = marks.define } ∷ []) (way_named r.tables [] (keys_of k))
     (path_named r.tables [] (key_value k.first) (map further_value k.more), tt)
 content_named r (element b k a) =
     let path : List Part = header_path r.tables [] (keys_of k) in
-    all_join Named (header_way r.tables [] (keys_of k)) (record { path = path; says = marks.element } ∷ record { path = path ++ index (elements_of path r.tables) ∷ []; says = marks.begun } ∷ []) (way_named r.tables [] (keys_of k))
+    all_join Named (header_way r.tables [] (keys_of k)) (record { path = path; kind = marks.element } ∷ record { path = path ++ index (elements_of path r.tables) ∷ []; kind = marks.begun } ∷ []) (way_named r.tables [] (keys_of k))
     (path_named r.tables [] (key_value k.first) (map further_value k.more), (some_path path _, tt))
 
-lines_named : (r : Reading) (ls : List Line) → AllOf Named (lines_said r ls)
+lines_named : (r : Reading) (ls : List Line) → AllOf Named (lines_mentions r ls)
 lines_named r [] = tt
-lines_named r (l ∷ ls) = all_join Named (line_said r l) (lines_said (behind_line r l) ls) (content_named r l.content) (lines_named (behind_line r l) ls)
+lines_named r (l ∷ ls) = all_join Named (line_mentions r l) (lines_mentions (after_line r l) ls) (content_named r l.content) (lines_named (after_line r l) ls)
 
 none_at : (ns : List Numbered) → AllOf Named (map mention_of ns) → numbered_at [] ns ≡ []
 none_at [] h = refl

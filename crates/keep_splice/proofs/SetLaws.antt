@@ -15,7 +15,7 @@ use Rattle.keep_syntax.specs.Numbered as numbered
 use Rattle.keep_syntax.proofs.Shared.{values_within, all_at}
 use Rattle.keep_meaning.specs.Fact.{is_value_fact}
 use Rattle.keep_meaning.specs.Marks.{Mention, fact_of}
-use Rattle.keep_meaning.specs.Meaning.{said_in}
+use Rattle.keep_meaning.specs.Meaning.{mentions_in}
 use Rattle.keep_meaning.specs.Nodes.{is_at, is_root, is_node, first_of}
 use Rattle.keep_path.specs.Path.{Part}
 use Rattle.keep_nodes.specs.Facts.{NodeInfos}
@@ -48,14 +48,14 @@ node_of_value path ms has = by (list_any (is_at path) ms) (is_root path) refl
     by true false e = refl
     by false r e =
         let none : has_value path ms ≡ false =
-        ap (λ (at : List Mention). elim (first_of (filter_map fact_of (map (λ (m : Mention). m.says) at))) [ None ↦ false | Some f ↦ is_value_fact f ]) (nowhere path ms e) in
+        ap (λ (at : List Mention). elim (first_of (filter_map fact_of (map (λ (m : Mention). m.kind) at))) [ None ↦ false | Some f ↦ is_value_fact f ]) (nowhere path ms e) in
         let k : true ≡ false = sym has ∙ none in absurd cc
 
 -- ---- where a value is set
 
 -- whether the document's grammar has the value, by its profile as it is seen
 pub allowed_by : {profile : Profile} {bytes : List ℕ} {d : ProfiledText} (v : Value) {r b : Bool} → text_in profile bytes ≡ d → r ≡ is_allowed_in profile v → r ≡ b → is_allowed_in d.profile v ≡ b
-allowed_by v e is said = ap (λ (t : ProfiledText). is_allowed_in t.profile v) (sym e) ∙ sym is ∙ said
+allowed_by v e is mentioned = ap (λ (t : ProfiledText). is_allowed_in t.profile v) (sym e) ∙ sym is ∙ mentioned
 
 -- the value that is found, and the one that is given
 pub record IsSetting (d : ProfiledText) (given : List ℕ) (path : List Part) (s : Document) (v : Value) (info : ValueInfo) (deep : ℕ) : Type 0 where
@@ -91,17 +91,17 @@ module _ (d : ProfiledText) (given : List ℕ) (path : List Part) (s : Document)
   pub depth_low : info.depth + deep ≤ limit + limit
   depth_low = omega (arith, at.low, at.deep_is, at.value.reads.shallow)
 
-  valued : has_value path (said_in s) ≡ true
+  valued : has_value path (mentions_in s) ≡ true
   valued = has_of_number path s at.number at.read.obeys at.found
 
   -- the refusal, by those depths and the value's grammar
   refusal_is : (b w : Bool) → nat_lt limit (info.depth + deep) ≡ b → is_allowed_in d.profile v ≡ w
       → refusal_in d s (set path v) ≡ first_that_holds ((b, fault.TooDeep) ∷ (not w, fault.Profile) ∷ [])
   refusal_is b w e allowed =
-      let too_deep : is_too_deep limit path v (said_in s) ≡ b =
+      let too_deep : is_too_deep limit path v (mentions_in s) ≡ b =
       too_deep_at d.profile limit path v s at.number info at.read.reads.valid at.read.obeys at.found at.there.of.info
       ∙ ap (λ (n : ℕ). nat_lt limit (info.depth + n)) (sym at.deep_is) ∙ e in
-      by (is_node path (said_in s)) (has_value path (said_in s)) (is_too_deep limit path v (said_in s)) (is_allowed_in d.profile v) (node_of_value path (said_in s) valued) valued too_deep allowed
+      by (is_node path (mentions_in s)) (has_value path (mentions_in s)) (is_too_deep limit path v (mentions_in s)) (is_allowed_in d.profile v) (node_of_value path (mentions_in s) valued) valued too_deep allowed
     where
       by : (x y z u : Bool) → x ≡ true → y ≡ true → z ≡ b → u ≡ w
           → first_that_holds ((not x, fault.NotFound) ∷ (not y, fault.NotValue) ∷ (z, fault.TooDeep) ∷ (not u, fault.Profile) ∷ []) ≡ first_that_holds ((b, fault.TooDeep) ∷ (not w, fault.Profile) ∷ [])

@@ -1,4 +1,4 @@
--- The text of a value begins and ends in ASCII, so that a document may be cut before and behind it.
+-- The text of a value begins and ends in ASCII, so that a document may be cut before and after it.
 use Rattle.std.proofs.Common.{◌≡◌, ℕ, zero, suc, ◌+◌, ◌-◌, ◌<◌, true, false, ◌&&◌, ◌==◌, List, [], ◌∷◌, ◌++◌, length, get_or, take, drop, Some, None, refl, sym, ap, ◌∙◌, subst, inl, inr, arith, add-zero, get_or-drop, append_assoc}
 use Rattle.std.specs.Prelude.{IsTrue, IsUtf8, IsCharBoundary}
 use Rattle.std.specs.List.{prefix_len}
@@ -18,24 +18,24 @@ use Rattle.keep_token.specs.Leaves.{IsLeaf, is_scalar_leaf, word_len, has_date_s
 use Rattle.keep_token.specs.Pieces.{first}
 use Rattle.keep_token.specs.Strings as strings
 use Rattle.keep_token.proofs.Shared.{tested, prefix_len-positive, word_len_again, word_first, scalar_kind, a_word, a_basic, a_literal, a_ml_basic, a_ml_literal}
-use Rattle.keep_syntax.specs.Tree.{Written, Body, scalar, array, inline, none, entry, Entries, Value, mark, entries_leaves, text_of, value_text}
+use Rattle.keep_syntax.specs.Tree.{Written, Body, scalar, array, inline, none, entry, Entries, Value, token, entries_leaves, text_of, value_text}
 use Rattle.keep_syntax.specs.Grammar.{IsValue, IsBody, AreEntries, in_scalar, place_in}
 use Rattle.keep_meaning.proofs.Shared.{IsPart, part_ends, HasAsciiEnds}
 
 -- ---- between marks
 
-behind_front : (front : List ℕ) (c n : ℕ) → n ≡ length front → get_or (front ++ (c ∷ [])) n 0 ≡ c
-behind_front front c n e = ap (λ i. get_or (front ++ (c ∷ [])) i 0) e ∙ get_or-append_seam front c [] 0
+after_prefix : (prefix : List ℕ) (c n : ℕ) → n ≡ length prefix → get_or (prefix ++ (c ∷ [])) n 0 ≡ c
+after_prefix prefix c n e = ap (λ i. get_or (prefix ++ (c ∷ [])) i 0) e ∙ get_or-append_seam prefix c [] 0
 
 between_marks : (a b : ℕ) (body text : List ℕ) → a < 128 → b < 128 → text ≡ a ∷ body ++ (b ∷ []) → HasAsciiEnds text
 between_marks a b body text low_a low_b e =
     let many : length text ≡ length body + 2 = omega (arith, ap length e, length-append body (b ∷ [])) in
-    let last : get_or text (length text - 1) 0 ≡ b = ap (λ t. get_or t (length text - 1) 0) e ∙ behind_front (a ∷ body) b (length text - 1) (omega (arith, many)) in
+    let last : get_or text (length text - 1) 0 ≡ b = ap (λ t. get_or t (length text - 1) 0) e ∙ after_prefix (a ∷ body) b (length text - 1) (omega (arith, many)) in
     record { some = omega (arith, many); first = subst (λ t. get_or t 0 0 < 128) (sym e) low_a; last = omega (arith, last) }
 
--- three marks behind a body: the last of them
-behind_three : (mark : ℕ) (body : List ℕ) → mark ∷ mark ∷ mark ∷ body ++ (mark ∷ mark ∷ mark ∷ []) ≡ mark ∷ (mark ∷ mark ∷ body ++ (mark ∷ mark ∷ [])) ++ (mark ∷ [])
-behind_three mark body = ap (λ t. mark ∷ mark ∷ mark ∷ t) (sym (append_assoc body (mark ∷ mark ∷ []) (mark ∷ [])))
+-- three marks after a body: the last of them
+after_three : (mark : ℕ) (body : List ℕ) → mark ∷ mark ∷ mark ∷ body ++ (mark ∷ mark ∷ mark ∷ []) ≡ mark ∷ (mark ∷ mark ∷ body ++ (mark ∷ mark ∷ [])) ++ (mark ∷ [])
+after_three mark body = ap (λ t. mark ∷ mark ∷ mark ∷ t) (sym (append_assoc body (mark ∷ mark ∷ []) (mark ∷ [])))
 
 -- ---- words
 
@@ -92,41 +92,41 @@ scalar_ends profile l t kind h =
       | a_word e ↦ word_ends t (word_first profile l t h e).0 (ap word_len (sym (append-nil t)) ∙ word_len_again profile l t [] e h refl)
       | a_basic e ↦ let b = rw e at h in between_marks 0x22 0x22 (strings.text_of b.0) t (omega arith) (omega arith) b.1.spelled
       | a_literal e ↦ let b = rw e at h in between_marks 0x27 0x27 (strings.text_of b.0) t (omega arith) (omega arith) b.1.spelled
-      | a_ml_basic e ↦ let b = rw e at h in between_marks 0x22 0x22 (0x22 ∷ 0x22 ∷ strings.text_of b.0 ++ (0x22 ∷ 0x22 ∷ [])) t (omega arith) (omega arith) (b.1.spelled ∙ behind_three 0x22 (strings.text_of b.0))
-      | a_ml_literal e ↦ let b = rw e at h in between_marks 0x27 0x27 (0x27 ∷ 0x27 ∷ strings.text_of b.0 ++ (0x27 ∷ 0x27 ∷ [])) t (omega arith) (omega arith) (b.1.spelled ∙ behind_three 0x27 (strings.text_of b.0))
+      | a_ml_basic e ↦ let b = rw e at h in between_marks 0x22 0x22 (0x22 ∷ 0x22 ∷ strings.text_of b.0 ++ (0x22 ∷ 0x22 ∷ [])) t (omega arith) (omega arith) (b.1.spelled ∙ after_three 0x22 (strings.text_of b.0))
+      | a_ml_literal e ↦ let b = rw e at h in between_marks 0x27 0x27 (0x27 ∷ 0x27 ∷ strings.text_of b.0 ++ (0x27 ∷ 0x27 ∷ [])) t (omega arith) (omega arith) (b.1.spelled ∙ after_three 0x27 (strings.text_of b.0))
     ]
 
 -- ---- values
 
-nothing_inside : (profile : Profile) (inside : Entries) → AreEntries profile in_scalar inside → text_of (entries_leaves inside) ≡ []
-nothing_inside profile none h = refl
-nothing_inside profile (entry None body inside after comma rest) h = absurd h.0
-nothing_inside profile (entry (Some n) body inside after comma rest) h = absurd h.0
+nothing_nested : (profile : Profile) (nested : Entries) → AreEntries profile in_scalar nested → text_of (entries_leaves nested) ≡ []
+nothing_nested profile none h = refl
+nothing_nested profile (entry None body nested after comma rest) h = absurd h.0
+nothing_nested profile (entry (Some n) body nested after comma rest) h = absurd h.0
 
-in_brackets : (a b : ℕ) (l : Leaf) (gap inside : List Written) → a < 128 → b < 128 → HasAsciiEnds (a ∷ text_of (gap ++ (inside ++ mark l (b ∷ []))))
-in_brackets a b l gap inside low_a low_b =
-    let spelled : text_of (gap ++ (inside ++ mark l (b ∷ []))) ≡ text_of (gap ++ inside) ++ (b ∷ []) =
-    ap text_of (sym (append_assoc gap inside (mark l (b ∷ [])))) ∙ flat_map-append (λ (w : Written). w.text) (gap ++ inside) (mark l (b ∷ [])) in
-    between_marks a b (text_of (gap ++ inside)) (a ∷ text_of (gap ++ (inside ++ mark l (b ∷ [])))) low_a low_b (ap (λ t. a ∷ t) spelled)
+in_brackets : (a b : ℕ) (l : Leaf) (gap nested : List Written) → a < 128 → b < 128 → HasAsciiEnds (a ∷ text_of (gap ++ (nested ++ token l (b ∷ []))))
+in_brackets a b l gap nested low_a low_b =
+    let spelled : text_of (gap ++ (nested ++ token l (b ∷ []))) ≡ text_of (gap ++ nested) ++ (b ∷ []) =
+    ap text_of (sym (append_assoc gap nested (token l (b ∷ [])))) ∙ flat_map-append (λ (w : Written). w.text) (gap ++ nested) (token l (b ∷ [])) in
+    between_marks a b (text_of (gap ++ nested)) (a ∷ text_of (gap ++ (nested ++ token l (b ∷ [])))) low_a low_b (ap (λ t. a ∷ t) spelled)
 
 pub value_ends : (profile : Profile) (v : Value) → IsValue profile v → HasAsciiEnds (value_text v)
-value_ends profile v h = by v.body v.inside h.body h.inside
+value_ends profile v h = by v.body v.nested h.body h.nested
   where
-    by : (b : Body) (inside : Entries) → IsBody profile b → AreEntries profile (place_in b) inside → HasAsciiEnds (value_text (record { body = b; inside = inside }))
-    by (scalar w) inside is in_it =
-        let spelled : w.text ≡ value_text (record { body = scalar w; inside = inside }) =
-        sym (append-nil w.text) ∙ ap (λ t. w.text ++ t) (sym (nothing_inside profile inside in_it)) ∙ ap (λ ws. w.text ++ text_of ws) (sym (append-nil (entries_leaves inside))) in
+    by : (b : Body) (nested : Entries) → IsBody profile b → AreEntries profile (place_in b) nested → HasAsciiEnds (value_text (record { body = b; nested = nested }))
+    by (scalar w) nested is in_it =
+        let spelled : w.text ≡ value_text (record { body = scalar w; nested = nested }) =
+        sym (append-nil w.text) ∙ ap (λ t. w.text ++ t) (sym (nothing_nested profile nested in_it)) ∙ ap (λ ws. w.text ++ text_of ws) (sym (append-nil (entries_leaves nested))) in
         subst HasAsciiEnds spelled (scalar_ends profile w.leaf w.text is.0 is.1)
-    by (array gap) inside is in_it = in_brackets 0x5B 0x5D leaf.ArrayClose gap (entries_leaves inside) (omega arith) (omega arith)
-    by (inline gap) inside is in_it = in_brackets 0x7B 0x7D leaf.InlineClose gap (entries_leaves inside) (omega arith) (omega arith)
+    by (array gap) nested is in_it = in_brackets 0x5B 0x5D leaf.ArrayClose gap (entries_leaves nested) (omega arith) (omega arith)
+    by (inline gap) nested is in_it = in_brackets 0x7B 0x7D leaf.InlineClose gap (entries_leaves nested) (omega arith) (omega arith)
 
--- ---- where it stands
+-- ---- where it is
 
 -- a byte of a part of a text
 part_byte : (bytes : List ℕ) (at : ℕ) (t : List ℕ) (i : ℕ) → IsPart bytes at t → i < length t → get_or bytes (at + i) 0 ≡ get_or t i 0
 part_byte bytes at t i h lt =
-    let from : at + i ≡ length h.front + i = ap (λ n. n + i) (sym h.place) in
-    ap (λ n. get_or bytes n 0) from ∙ ap (λ b. get_or b (length h.front + i) 0) h.whole ∙ get_or-append-add h.front (t ++ h.behind) i 0 ∙ get_or_append_left t h.behind 0 i lt
+    let from : at + i ≡ length h.prefix + i = ap (λ n. n + i) (sym h.place) in
+    ap (λ n. get_or bytes n 0) from ∙ ap (λ b. get_or b (length h.prefix + i) 0) h.whole ∙ get_or-append-add h.prefix (t ++ h.behind) i 0 ∙ get_or_append_left t h.behind 0 i lt
 
 pub starts_between : (bytes : List ℕ) (at : ℕ) (t : List ℕ) → IsPart bytes at t → HasAsciiEnds t → IsCharBoundary bytes at
 starts_between bytes at t there ends =

@@ -48,16 +48,16 @@ beyond (suc n) zero (x ∷ path) e = refl
 beyond (suc n) (suc to) (x ∷ path) e = beyond n to path e
 
 -- where a step is written, the rest is what was left
-pub step_kept : (dot further : Bool) (p : Part) (n m to : ℕ) (path : List Part) (old new whole : List ℕ) → n < to → m ≡ suc n → slice_get path n ≡ Some p → AddsStep dot further p old new
+pub step_preserved : (dot further : Bool) (p : Part) (n m to : ℕ) (path : List Part) (old new whole : List ℕ) → n < to → m ≡ suc n → slice_get path n ≡ Some p → AddsStep dot further p old new
     → old ++ keys_text dot (keys_between n to path) ≡ whole → new ++ keys_text further (keys_between m to path) ≡ whole
-step_kept dot further (key k) n m to path old new whole less next e h was =
+step_preserved dot further (key k) n m to path old new whole less next e h was =
     let left : keys_between n to path ≡ k ∷ keys_between m to path = ap keys_in (here n to path (key k) less e) ∙ ap (λ (x : ℕ). k ∷ keys_between x to path) (sym next) in
     ap (λ (b : Bool). new ++ keys_text b (keys_between m to path)) h.0
     ∙ ap (λ (t : List ℕ). t ++ keys_text true (keys_between m to path)) h.1
     ∙ append_assoc old (written_key dot k) (keys_text true (keys_between m to path))
     ∙ ap (λ (l : List (List ℕ)). old ++ keys_text dot l) (sym left)
     ∙ was
-step_kept dot further (index i) n m to path old new whole less next e h was =
+step_preserved dot further (index i) n m to path old new whole less next e h was =
     let left : keys_between m to path ≡ keys_between n to path = ap (λ (x : ℕ). keys_between x to path) next ∙ sym (ap keys_in (here n to path (index i) less e)) in
     ap (λ (b : Bool). new ++ keys_text b (keys_between m to path)) h.0
     ∙ ap (λ (t : List ℕ). t ++ keys_text dot (keys_between m to path)) h.1
@@ -110,7 +110,7 @@ drop_length (suc n) (x ∷ l) h = drop_length n l (omega (arith, h))
 name_text : (k : List ℕ) (ks : List (List ℕ)) → text_of (named_leaves (name_of (k ∷ ks))) ≡ keys_text false (k ∷ ks) ++ equals
 name_text k ks = text_of-append (key_leaves (key_with (k ∷ ks))) _ ∙ ap (λ (t : List ℕ). t ++ equals) (keys_as_written k ks)
 
--- the value behind its keys
+-- the value after its keys
 pub keyed_written : (from to : ℕ) (path : List Part) (v : Value) (old one two new value : List ℕ) → from < to → to ≡ length path → list_any is_index (drop from path) ≡ false
     → one ≡ old ++ keys_text false (keys_between from to path) → two ≡ one ++ equals → value ≡ text_of_value v → new ≡ two ++ value → new ≡ old ++ keyed_text (keys_in (drop from path)) v
 keyed_written from to path v old one two new value less size keys h1 h2 h3 h4 =

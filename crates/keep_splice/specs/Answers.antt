@@ -4,7 +4,7 @@ use Rattle.keep_syntax.specs.Tree.{Document}
 use Rattle.keep_parts.specs.declared.info.Span.{Span}
 use Rattle.keep_syntax.specs.Numbered.{span}
 use Rattle.keep_meaning.specs.Counts.{numbered_in, is_value}
-use Rattle.keep_meaning.specs.Meaning.{said_in}
+use Rattle.keep_meaning.specs.Meaning.{mentions_in}
 use Rattle.keep_meaning.specs.Nodes.{is_node, numbered_at, last_number, value_number}
 use Rattle.keep_path.specs.Path.{Part}
 use Rattle.keep_law.specs.declared.fault.EditFault.{EditFault}
@@ -27,8 +27,8 @@ value_number_of path s = last_number is_value value_number (numbered_at path (nu
 
 -- no node, or one without a value
 abbrev pub HasNoValue : List Part → Document → EditFault → Type 0
-HasNoValue path s NotFound = is_node path (said_in s) ≡ false
-HasNoValue path s NotValue = (is_node path (said_in s) ≡ true) × (has_value path (said_in s) ≡ false)
+HasNoValue path s NotFound = is_node path (mentions_in s) ≡ false
+HasNoValue path s NotValue = (is_node path (mentions_in s) ≡ true) × (has_value path (mentions_in s) ≡ false)
 HasNoValue path s _ = ⊥
 
 -- the number of the value at a path, or why there is none
@@ -56,14 +56,15 @@ pub record IsTextAfter (s : Document) (e : Edit) (new : ProfiledText) (old : Pro
   pub profile : new.profile ≡ old.profile
   pub text : new.text ≡ put old.text (place s e)
   pub tree : IsTextOfTree new (edited_document s e)
-  pub changed : IsTreeOf (said_in s) e (said_in (edited_document s e))
+  pub changed : IsTreeOf (mentions_in s) e (mentions_in (edited_document s e))
   pub growth : length new.text ≤ length old.text + given_size e + 12
 
 -- The splice is the edit's, and the text is what it is after the edit.
 abbrev pub IsEdited : Document → Edit → ProfiledText → ProfiledText → Splice → Type 0
 IsEdited s e new old splice = (splice ≡ splice_of s (place s e)) × IsTextAfter s e new old
 
--- what an edit answers, by its refusal: out of memory can stand in place of what an edit does alone
+-- what an edit answers, by its refusal: out of memory can be the answer in place of what an edit does, and of nothing
+-- else
 abbrev pub IsDone : {T : Type 0} → (T → Type 0) → Option EditFault → Result T EditFault → Type 0
 IsDone good (Some f) result = result ≡ Err f
 IsDone good None result = MatchResult result good (λ f. f ≡ Memory)

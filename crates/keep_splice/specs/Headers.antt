@@ -5,12 +5,12 @@ use Rattle.std.specs.List.{flat_map}
 use Rattle.keep_token.specs.Encoded.{encoded_key}
 use Rattle.keep_syntax.specs.Tree.{Document}
 use Rattle.keep_syntax.specs.declared.fault.Why.{Why}
-use Rattle.keep_meaning.specs.declared.node.Place.{Place}
-use Rattle.keep_meaning.specs.declared.node.Place.TheVariants as place
+use Rattle.keep_meaning.specs.declared.node.Origin.{Origin}
+use Rattle.keep_meaning.specs.declared.node.Origin.TheVariants as origin
 use Rattle.keep_meaning.specs.declared.role.Role.{Role}
 use Rattle.keep_meaning.specs.declared.role.Role.TheVariants as role
 use Rattle.keep_meaning.specs.Marks.{marks, elements_of, entered_path}
-use Rattle.keep_meaning.specs.Meaning.{said_in}
+use Rattle.keep_meaning.specs.Meaning.{mentions_in}
 use Rattle.keep_meaning.specs.Nodes.{node_number}
 use Rattle.keep_meaning.specs.Rules.{why_of}
 use Rattle.keep_nodes.specs.Facts.{NodeInfos}
@@ -29,9 +29,9 @@ role_of Table = role.Define
 role_of Element = role.Element
 
 -- Where a node comes from whose marks all let its last key follow: headers that go through it, or the headers of elements.
-abbrev pub may_follow : Header → Place → Bool
-may_follow Table (place.Through n) = true
-may_follow Element place.Tables = true
+abbrev pub may_follow : Header → Origin → Bool
+may_follow Table (origin.Through n) = true
+may_follow Element origin.Tables = true
 may_follow _ _ = false
 
 -- the edit that appends it
@@ -44,21 +44,21 @@ key_texts keys = map string_bytes keys
 
 -- the reason for refusing the first key of those to go, from a path on
 abbrev pub conflict_from : Document → List Part → List (List ℕ) → Role → Option Why
-conflict_from s at keys role = header_conflict (marks (said_in s)) (tables_in (said_in s)) at keys role
+conflict_from s at keys role = header_conflict (marks (mentions_in s)) (tables_in (mentions_in s)) at keys role
 
 -- no key is refused, or the first for this reason
 abbrev pub ConflictIs : Option Why → Result (Unit {0}) Why → Type 0
 ConflictIs found result = MatchResult result (λ done. found ≡ None) (λ why. found ≡ Some why)
 
--- a header that is to go on from this path is refused there
+-- a header that is to continue from this path is refused there
 abbrev pub is_stopped : Document → List Part → Bool
-is_stopped s path = 0 == elements_of path (tables_in (said_in s)) && is_refused (marks (said_in s)) role.Through path
+is_stopped s path = 0 == elements_of path (tables_in (mentions_in s)) && is_refused (marks (mentions_in s)) role.Through path
 
--- where it goes on
+-- where it continues
 abbrev pub entered_in : Document → List Part → List Part
-entered_in s path = entered_path (tables_in (said_in s)) path
+entered_in s path = entered_path (tables_in (mentions_in s)) path
 
--- a header goes on from this path at this node, or at none, or is refused
+-- a header continues from this path at this node, or at none, or is refused
 abbrev pub EntersAt : Document → NodeInfos → List Part → Result (Option NodeId) Why → Type 0
 EntersAt s t path (Ok (Some id)) = (is_stopped s path ≡ false) × (id.0 < length t.paths) × (path_numbered t id.0 ≡ entered_in s path)
 EntersAt s t path (Ok None) = (is_stopped s path ≡ false) × ((more : List Part) → node_number t.paths (entered_in s path ++ more) ≡ None)

@@ -4,10 +4,10 @@ use Rattle.keep_syntax.specs.Tree.{Document}
 use Rattle.keep_path.specs.Path.{Part}
 use Rattle.keep_meaning.specs.declared.node.Kind.{Kind}
 use Rattle.keep_meaning.specs.declared.node.Kind.TheVariants as kind
-use Rattle.keep_meaning.specs.declared.node.Place.{Place}
-use Rattle.keep_meaning.specs.declared.node.Place.TheVariants as origin
+use Rattle.keep_meaning.specs.declared.node.Origin.{Origin}
+use Rattle.keep_meaning.specs.declared.node.Origin.TheVariants as origin
 use Rattle.keep_meaning.specs.Counts.{one_if}
-use Rattle.keep_meaning.specs.Meaning.{said_in}
+use Rattle.keep_meaning.specs.Meaning.{mentions_in}
 use Rattle.keep_meaning.specs.Nodes.{is_node, node_number, node_paths}
 use Rattle.keep_law.specs.Look.{holder, enclosing, is_bracket_at}
 use Rattle.keep_splice.specs.Inserting.{is_dotted_origin, origin_of}
@@ -19,7 +19,7 @@ brackets_of kind.Array = 1
 brackets_of kind.Inline = 1
 brackets_of _ = 0
 
-abbrev pub is_value_origin : Place → Bool
+abbrev pub is_value_origin : Origin → Bool
 is_value_origin (origin.Value v) = true
 is_value_origin _ = false
 
@@ -27,23 +27,23 @@ is_value_origin _ = false
 -- and is a value or not. So many arrays and inline tables are on the way, the last node counted.
 pub record IsOnWay (path : List Part) (s : Document) (h : Holder) : Type 0 where
   pub within : h.len ≤ length path
-  pub node : node_number (node_paths (said_in s)) (take h.len path) ≡ Some h.id.0
+  pub node : node_number (node_paths (mentions_in s)) (take h.len path) ≡ Some h.id.0
   pub based : h.base ≤ h.len
   pub base : is_dotted_origin (origin_of (take h.base path) s) ≡ false
   pub dots : (n : ℕ) → h.base < n → n ≤ h.len → is_dotted_origin (origin_of (take n path) s) ≡ true
   pub braced : h.braced ≡ is_value_origin (origin_of (take h.base path) s)
   pub low : h.depth ≤ h.len
-  pub depth : h.depth ≡ enclosing (take h.len path) (said_in s) + one_if (is_bracket_at (said_in s) (take h.len path))
+  pub depth : h.depth ≡ enclosing (take h.len path) (mentions_in s) + one_if (is_bracket_at (mentions_in s) (take h.len path))
 
 -- The way is one step longer, or no more steps lead to a node.
 abbrev pub IsFurther : List Part → Document → Holder → Option Holder → Type 0
 IsFurther path s h (Some next) = IsOnWay path s next × (next.len ≡ suc h.len)
-IsFurther path s h None = (n : ℕ) → h.len < n → n ≤ length path → is_node (take n path) (said_in s) ≡ false
+IsFurther path s h None = (n : ℕ) → h.len < n → n ≤ length path → is_node (take n path) (mentions_in s) ≡ false
 
--- The way leads to the longest front of the path, itself left out, that names a node.
+-- The way leads to the longest prefix of the path, itself left out, that names a node.
 pub record IsHolder (path : List Part) (s : Document) (h : Holder) : Type 0 where
   pub way : IsOnWay path s h
-  pub front : holder path (said_in s) ≡ take h.len path
+  pub prefix : holder path (mentions_in s) ≡ take h.len path
   pub proper : (path ≡ []) ⊎ (h.len < length path)
-  pub depth : h.depth ≡ enclosing path (said_in s)
-  pub beyond : suc h.len < length path → (n : ℕ) → h.len < n → n ≤ length path → is_node (take n path) (said_in s) ≡ false
+  pub depth : h.depth ≡ enclosing path (mentions_in s)
+  pub beyond : suc h.len < length path → (n : ℕ) → h.len < n → n ≤ length path → is_node (take n path) (mentions_in s) ≡ false

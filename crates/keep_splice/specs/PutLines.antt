@@ -1,4 +1,4 @@
--- Where `insert` writes lines: behind which line, and what.
+-- Where `insert` writes lines: after which line, and what.
 use Rattle.std.specs.Prelude.{ℕ, List, Option, Some, None, drop, slice_get}
 use Rattle.std.specs.Option.{option_and_then}
 use Rattle.keep_syntax.specs.Tree.{Value, Document, text}

@@ -6,7 +6,7 @@ use Rattle.keep_syntax.specs.Tree.{Document}
 use Rattle.keep_syntax.specs.Contract.{IsSyntaxOf, IsTextOf}
 use Rattle.keep_meaning.specs.Counts.{statements_in}
 use Rattle.keep_meaning.specs.Marks.{start, reading_after}
-use Rattle.keep_meaning.specs.Meaning.{said_in}
+use Rattle.keep_meaning.specs.Meaning.{mentions_in}
 use Rattle.keep_meaning.specs.Nodes.{node_path, nodes_in, infos_in}
 use Rattle.keep_meaning.specs.ReadText.{IsRead}
 use Rattle.keep_nodes.specs.Facts.{NodeInfos}
@@ -41,5 +41,5 @@ pub record Holds (t : ProfiledText) (syntax : Syntax) (index : NodeInfos) : Type
   pub read : IsTextOfTree t tree
   pub is : IsSyntaxOf syntax tree
   pub of_text : IsTextOf syntax t.text
-  pub told : index ≡ telling_in tree
-  pub nested : AreNested (said_in tree) (reading_after start (statements_in tree)).tables
+  pub stated : index ≡ telling_in tree
+  pub nested : AreNested (mentions_in tree) (reading_after start (statements_in tree)).tables

@@ -44,25 +44,25 @@ IsRemovalOf profile path s (Err f) = refusal profile limit s (remove path) ≡ S
 
 -- what a cut does to the bytes
 abbrev pub cut_place : List ℕ → Cut → Place
-cut_place bytes cut = record { start = cut.span.start; end = cut.span.end; new = text_at bytes cut.kept }
+cut_place bytes cut = record { start = cut.span.start; end = cut.span.end; new = text_at bytes cut.preserved }
 
 -- nothing is kept
 abbrev pub KeepsNothing : Cut → Type 0
-KeepsNothing cut = (cut.kept.start ≡ cut.span.start) × (cut.kept.end ≡ cut.span.start)
+KeepsNothing cut = (cut.preserved.start ≡ cut.span.start) × (cut.preserved.end ≡ cut.span.start)
 
--- The value is in brackets in these bytes: it ends before the comma behind it, or begins behind the one before it.
+-- The value is in brackets in these bytes: it ends before the comma after it, or begins after the one before it.
 pub record IsEntryIn (bytes : List ℕ) (v : ValueInfo) : Type 0 where
   pub within : v.span.end ≤ length bytes
   pub after : (comma : ℕ) → v.comma_after ≡ Some comma → (v.span.end ≤ comma) × (comma < length bytes)
   pub before : (comma : ℕ) → v.comma_after ≡ None → v.comma_before ≡ Some comma → (suc comma ≤ v.whole.start) × (v.whole.start ≤ length bytes)
 
--- what a cut of a value in brackets keeps: nothing, or the gap before its comma, or the one behind it
+-- what a cut of a value in brackets keeps: nothing, or the gap before its comma, or the one after it
 abbrev pub KeepsGap : ValueInfo → Cut → Type 0
 KeepsGap v cut =
     KeepsNothing cut
-    ⊎ (((cut.kept.start ≡ v.span.end) × (v.comma_after ≡ Some cut.kept.end))
-    ⊎ ((v.comma_after ≡ None) × (v.comma_before ≡ Some cut.span.start) × (cut.kept.start ≡ suc cut.span.start) × (cut.kept.end ≡ v.whole.start)))
+    ⊎ (((cut.preserved.start ≡ v.span.end) × (v.comma_after ≡ Some cut.preserved.end))
+    ⊎ ((v.comma_after ≡ None) × (v.comma_before ≡ Some cut.span.start) × (cut.preserved.start ≡ suc cut.span.start) × (cut.preserved.end ≡ v.whole.start)))
 
 -- The text is cut where the edit's place is, between characters.
 abbrev pub IsCutAt : List Part → Document → List ℕ → Cut → Type 0
-IsCutAt path s bytes cut = (place s (remove path) ≡ cut_place bytes cut) × IsSpanOf bytes cut.span × IsSpanOf bytes cut.kept
+IsCutAt path s bytes cut = (place s (remove path) ≡ cut_place bytes cut) × IsSpanOf bytes cut.span × IsSpanOf bytes cut.preserved

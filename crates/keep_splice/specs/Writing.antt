@@ -4,7 +4,7 @@ use Rattle.keep_token.specs.Encoded.{encoded_key}
 use Rattle.keep_path.specs.Path.{Part, key, index}
 use Rattle.keep_law.specs.Look.{keys_in}
 
--- a key, behind a dot if it is a further one
+-- a key, after a dot if it is a further one
 abbrev pub key_text : Bool → List ℕ → List ℕ
 key_text dot k = (if dot then 0x2E ∷ [] else []) ++ encoded_key k
 

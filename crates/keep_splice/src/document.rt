@@ -5,7 +5,7 @@ ghost use Rattle.keep_splice.specs.Answers.{IsFound};
 ghost use Rattle.keep_splice.specs.Reading.{Holds, IsTextOfTree, text_in};
 
 use keep_law::EditFault;
-use keep_rules::{Index, Path, Place};
+use keep_rules::{Index, Origin, Path};
 use keep_syntax::Syntax;
 use keep_token::Profile;
 use std::marker::Model;
@@ -53,14 +53,14 @@ impl<'a> DocumentRef<'a> {
     /// # Errors
     ///
     /// `NotFound` if the path names no node; `NotValue` if the node has no value with a text of its own.
-    pub fn found(&self, path: &Path) -> Result<usize, EditFault>
+    pub fn value_number(&self, path: &Path) -> Result<usize, EditFault>
         ensures { (s : tree.Document) → IsTextOfTree self.now s → IsFound path.now s result }
     {
         let Some(id) = self.index.find(path) else {
             return Err(EditFault::NotFound);
         };
-        match self.index.node(id).place {
-            Place::Value(number) => Ok(number),
+        match self.index.node(id).origin {
+            Origin::Value(number) => Ok(number),
             _ => Err(EditFault::NotValue),
         }
     }

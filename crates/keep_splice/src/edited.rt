@@ -36,7 +36,7 @@ impl Edited {
     }
 }
 
-/// The part of a text that stands at a span.
+/// The part of a text that is at a span.
 pub fn part_at(text: &str, span: Span) -> &str
     requires { IsSpanOf text.now span }
     ensures { result.now ≡ text_at text.now span }

@@ -1,4 +1,4 @@
-//! Headers at the end of a document: whether the definition rules let them stand there.
+//! Headers at the end of a document: whether the definition rules let them be there.
 ghost use Rattle.std.specs.Prelude.{◌≡◌, ◌<◌, ◌∷◌, ◌++◌, [], length, MatchResult};
 ghost use Rattle.keep_syntax.specs.Tree as tree;
 ghost use Rattle.keep_rules.specs.Lookup.{path_numbered};
@@ -7,7 +7,7 @@ ghost use Rattle.keep_path.specs.Path.{key};
 ghost use Rattle.keep_splice.specs.Headers.{role_of, may_follow, opening, closing, key_texts, conflict_from, ConflictIs, EntersAt};
 
 use keep_meaning::Role;
-use keep_rules::{Index, NodeId, Place, Why};
+use keep_rules::{Index, NodeId, Origin, Why};
 
 /// The header of a table, or of an element of an array of tables.
 #[derive(Clone, Copy)]
@@ -17,7 +17,7 @@ pub enum Header {
 }
 
 impl Header {
-    /// What stands before its keys.
+    /// What comes before its keys.
     pub(crate) fn opening(self) -> &'static str
         ensures { result.now ≡ opening self }
     {
@@ -27,7 +27,7 @@ impl Header {
         }
     }
 
-    /// What stands behind its keys.
+    /// What comes after its keys.
     pub(crate) fn closing(self) -> &'static str
         ensures { result.now ≡ closing self }
     {
@@ -47,18 +47,20 @@ impl Header {
         }
     }
 
-    /// Whether its last key can stand where a node comes from: behind headers that only go through it, or behind other elements.
-    fn may_follow(self, origin: Place) -> bool
+    /// Whether its last key can follow the origin of a node: after headers that only go through it, or after other
+    /// elements.
+    fn may_follow(self, origin: Origin) -> bool
         ensures { result ≡ may_follow self origin }
     {
         match self {
-            Header::Table => matches!(origin, Place::Through(_)),
-            Header::Element => matches!(origin, Place::Tables),
+            Header::Table => matches!(origin, Origin::Through(_)),
+            Header::Element => matches!(origin, Origin::Tables),
         }
     }
 }
 
-/// Whether a header with these keys can stand behind the document of this index. It takes no memory, and looks up one node a key.
+/// Whether a header with these keys can come after the document of this index. It takes no memory, and looks up one
+/// node a key.
 ///
 /// # Errors
 ///
@@ -67,11 +69,11 @@ pub(crate) fn check_header(index: &Index, keys: &[String], header: Header) -> Re
     requires { (s : tree.Document) × IsIndexOf s index.now }
     ensures { (s : tree.Document) → IsIndexOf s index.now → ConflictIs (conflict_from s [] (key_texts keys.now) (role_of header)) result }
 {
-    let Some((last, front)) = keys.split_last() else {
+    let Some((last, prefix)) = keys.split_last() else {
         return Ok(());
     };
     let mut at = NodeId(0);
-    for name in front {
+    for name in prefix {
         let Some(next) = enter(index, at, name.as_str())? else {
             return Ok(());
         };
@@ -80,8 +82,8 @@ pub(crate) fn check_header(index: &Index, keys: &[String], header: Header) -> Re
     check_last(index, at, last.as_str(), header)
 }
 
-/// The node where a header goes on from a key of a node: the last element of an array of tables, else the key's own node. None
-/// if there is none, so that no key part stands there or below.
+/// The node where a header continues from a key of a node: the last element of an array of tables, else the key's own
+/// node. None if there is none, so that no key part is there or below.
 fn enter(index: &Index, at: NodeId, name: &str) -> Result<Option<NodeId>, Why>
     requires { at.0 < length index.now.paths }
     ensures { (s : tree.Document) → IsIndexOf s index.now → EntersAt s index.now (path_numbered index.now at.0 ++ key name.now ∷ []) result }
@@ -89,9 +91,9 @@ fn enter(index: &Index, at: NodeId, name: &str) -> Result<Option<NodeId>, Why>
     let Some(id) = index.child(at, name) else {
         return Ok(None);
     };
-    match index.node(id).place {
-        Place::Value(_) => Err(Role::Through.why()),
-        Place::Tables => {
+    match index.node(id).origin {
+        Origin::Value(_) => Err(Role::Through.why()),
+        Origin::Tables => {
             let count = index.child_count(id);
             Ok(index.child_at(id, count.saturating_sub(1)))
         }
@@ -99,7 +101,7 @@ fn enter(index: &Index, at: NodeId, name: &str) -> Result<Option<NodeId>, Why>
     }
 }
 
-/// Whether a header's last key can stand at a node.
+/// Whether a header's last key can be at a node.
 fn check_last(index: &Index, at: NodeId, name: &str, header: Header) -> Result<(), Why>
     requires { at.0 < length index.now.paths }
     ensures { (s : tree.Document) → IsIndexOf s index.now → ConflictIs (conflict_from s (path_numbered index.now at.0) (name.now ∷ []) (role_of header)) result }
@@ -107,7 +109,7 @@ fn check_last(index: &Index, at: NodeId, name: &str, header: Header) -> Result<(
     let Some(id) = index.child(at, name) else {
         return Ok(());
     };
-    if header.may_follow(index.node(id).place) {
+    if header.may_follow(index.node(id).origin) {
         Ok(())
     } else {
         Err(header.role().why())

@@ -6,7 +6,7 @@ ghost use Rattle.keep_splice.specs.Reading.{IsAccepted, IsTextOfTree};
 ghost use Rattle.keep_splice.specs.Holding.{brackets_of, is_value_origin, IsFurther, IsHolder, IsOnWay};
 
 use crate::document::DocumentRef;
-use keep_rules::{Kind, NodeId, Path, Place};
+use keep_rules::{Kind, NodeId, Origin, Path};
 
 /// The node of a prefix of a path, and what the steps to it pass.
 #[derive(Clone, Copy)]
@@ -55,18 +55,18 @@ impl<'a> DocumentRef<'a> {
         let id = self.index.step(holder.id, path.step(holder.len)?)?;
         let node = self.index.node(id);
         let depth = holder.depth + brackets(node.kind);
-        match node.place {
-            Place::Dotted(_) => Some(Holder {
+        match node.origin {
+            Origin::Dotted(_) => Some(Holder {
                 id,
                 len,
                 depth,
                 ..holder
             }),
-            place => Some(Holder {
+            origin => Some(Holder {
                 id,
                 len,
                 base: len,
-                braced: is_value(place),
+                braced: is_value(origin),
                 depth,
             }),
         }
@@ -85,8 +85,8 @@ fn brackets(kind: Kind) -> usize
 }
 
 /// Whether a node is written as a value.
-fn is_value(place: Place) -> bool
-    ensures { result ≡ is_value_origin place }
+fn is_value(origin: Origin) -> bool
+    ensures { result ≡ is_value_origin origin }
 {
-    matches!(place, Place::Value(_))
+    matches!(origin, Origin::Value(_))
 }

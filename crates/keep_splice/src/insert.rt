@@ -6,14 +6,14 @@ ghost use Rattle.keep_syntax.specs.Contract.{values_of};
 ghost use Rattle.keep_syntax.specs.Tree as tree;
 ghost use Rattle.keep_path.specs.Path.{Part, index, AreUtf8};
 ghost use Rattle.keep_path.specs.Step.{part_of};
-ghost use Rattle.keep_meaning.specs.Meaning.{said_in};
+ghost use Rattle.keep_meaning.specs.Meaning.{mentions_in};
 ghost use Rattle.keep_meaning.specs.Nodes.{node_number, node_paths};
 ghost use Rattle.keep_law.specs.Edits.{insert};
 ghost use Rattle.keep_law.specs.Look.{is_index, item_number};
 ghost use Rattle.keep_splice.specs.Places.{IsOfEdit};
 ghost use Rattle.keep_splice.specs.Reading.{IsAccepted, IsAcceptedValue, IsTextOfTree, IsTextOfValue};
 ghost use Rattle.keep_splice.specs.Answers.{EditMade, value_number_of};
-ghost use Rattle.keep_splice.specs.Aiming.{IsAimed, IsItemAimed, IsItemOf, IsKeyvalAimed, longest_front, spot_in_braces};
+ghost use Rattle.keep_splice.specs.Aiming.{IsAimed, IsItemAimed, IsItemOf, IsKeyvalAimed, longest_prefix, spot_in_braces};
 ghost use Rattle.keep_splice.specs.Holding.{IsHolder};
 ghost use Rattle.keep_splice.specs.Inserting.{IsInsertionOf, IsPutIn, last_keyval_among};
 
@@ -25,7 +25,7 @@ use crate::edited::Edited;
 use crate::holder::Holder;
 use crate::insert::keys::push_keyed;
 use keep_law::EditFault;
-use keep_rules::{Kind, NodeId, Path, Place, Step};
+use keep_rules::{Kind, NodeId, Origin, Path, Step};
 use keep_syntax::{STANDARD_DEPTH, Span, Syntax};
 use keep_value::ValueText;
 use std::alloc::{AllocError, Global};
@@ -35,15 +35,15 @@ use std::alloc::{AllocError, Global};
 pub(crate) enum Spot {
     /// Before the item with this value number.
     BeforeItem(usize),
-    /// Behind the entry with this value number, in brackets.
-    BehindEntry(usize),
+    /// After the entry with this value number, in brackets.
+    AfterEntry(usize),
     /// In the empty brackets with this value number.
     InEmpty(usize),
-    /// On a line behind the body of the header with this statement number, or of the root.
-    BehindBody(Option<usize>),
-    /// On a line behind that of the keyval with this value number.
-    BehindLine(usize),
-    /// On a line below a new header, behind the body of the header with this statement number.
+    /// On a line after the body of the header with this statement number, or of the root.
+    AfterBody(Option<usize>),
+    /// On a line after that of the keyval with this value number.
+    AfterLine(usize),
+    /// On a line below a new header, after the body of the header with this statement number.
     NewSection(usize),
 }
 
@@ -108,21 +108,21 @@ impl<'a> DocumentRef<'a> {
                 out.push_str(", ")?;
                 Ok(self.syntax.value(item).whole.start)
             }
-            Spot::BehindEntry(entry) => {
+            Spot::AfterEntry(entry) => {
                 out.push_str(", ")?;
                 push_keyed(alloc, out, path, from, value)?;
                 Ok(self.syntax.value(entry).span.end)
             }
             Spot::InEmpty(brackets) => {
                 push_keyed(alloc, out, path, from, value)?;
-                Ok(behind_bracket(self.text, self.syntax.value(brackets).span.start))
+                Ok(after_bracket(self.text, self.syntax.value(brackets).span.start))
             }
-            Spot::BehindBody(header) => {
+            Spot::AfterBody(header) => {
                 let at = self.body_end(header);
                 self.push_line(alloc, out, at, path, from, value)?;
                 Ok(at)
             }
-            Spot::BehindLine(keyval) => {
+            Spot::AfterLine(keyval) => {
                 let at = self.keyval_end(keyval);
                 self.push_line(alloc, out, at, path, from, value)?;
                 Ok(at)
@@ -177,10 +177,10 @@ impl<'a> DocumentRef<'a> {
         })
     }
 
-    /// The number of the item that the path names in a static array, also one behind the last; None if it names none.
+    /// The number of the item that the path names in a static array, also one after the last; None if it names none.
     fn item_number(&self, path: &Path, holder: Holder) -> Option<usize>
         requires { (s : tree.Document) × IsTextOfTree self.now s × IsHolder path.now s holder }
-        ensures { (s : tree.Document) → IsTextOfTree self.now s → IsHolder path.now s holder → result ≡ item_number path.now (said_in s) }
+        ensures { (s : tree.Document) → IsTextOfTree self.now s → IsHolder path.now s holder → result ≡ item_number path.now (mentions_in s) }
     {
         let number = match path.step(holder.len)? {
             Step::Key(_) => return None,
@@ -205,24 +205,24 @@ impl<'a> DocumentRef<'a> {
         }
         if number > 0 {
             return match self.item_value(array, number - 1) {
-                Some(value) => Ok(Spot::BehindEntry(value)),
+                Some(value) => Ok(Spot::AfterEntry(value)),
                 None => Err(EditFault::NotFound),
             };
         }
-        match self.index.node(array).place {
-            Place::Value(value) => Ok(Spot::InEmpty(value)),
+        match self.index.node(array).origin {
+            Origin::Value(value) => Ok(Spot::InEmpty(value)),
             _ => unreachable!(),
         }
     }
 
     /// The value number of an array's item; None if there is no such item.
     fn item_value(&self, array: NodeId, number: usize) -> Option<usize>
-        requires { (a : List Part) × (s : tree.Document) × IsTextOfTree self.now s × (node_number (node_paths (said_in s)) a ≡ Some array.0) }
-        ensures { (a : List Part) (s : tree.Document) → IsTextOfTree self.now s → node_number (node_paths (said_in s)) a ≡ Some array.0 → result ≡ value_number_of (a ++ index number ∷ []) s }
+        requires { (a : List Part) × (s : tree.Document) × IsTextOfTree self.now s × (node_number (node_paths (mentions_in s)) a ≡ Some array.0) }
+        ensures { (a : List Part) (s : tree.Document) → IsTextOfTree self.now s → node_number (node_paths (mentions_in s)) a ≡ Some array.0 → result ≡ value_number_of (a ++ index number ∷ []) s }
     {
         let id = self.index.step(array, &Step::Index(number))?;
-        match self.index.node(id).place {
-            Place::Value(value) => Some(value),
+        match self.index.node(id).origin {
+            Origin::Value(value) => Some(value),
             _ => None,
         }
     }
@@ -230,45 +230,45 @@ impl<'a> DocumentRef<'a> {
     /// Where a keyval goes below a node, with the keys from the node's base on.
     fn keyval_spot(&self, holder: Holder) -> Result<Spot, EditFault>
         requires { (path : List Part) × (s : tree.Document) × IsTextOfTree self.now s × IsHolder path s holder }
-        ensures { (path : List Part) (s : tree.Document) → IsTextOfTree self.now s → IsHolder path s holder → IsKeyvalAimed (longest_front path s) s holder.base result }
+        ensures { (path : List Part) (s : tree.Document) → IsTextOfTree self.now s → IsHolder path s holder → IsKeyvalAimed (longest_prefix path s) s holder.base result }
     {
         let node = self.index.node(holder.id);
-        match node.place {
-            Place::Root => Ok(Spot::BehindBody(None)),
-            Place::Header(header) => Ok(Spot::BehindBody(Some(header))),
-            Place::Element(header) => Ok(Spot::BehindBody(Some(header))),
-            Place::Through(header) => Ok(Spot::NewSection(header)),
-            Place::Dotted(value) => {
+        match node.origin {
+            Origin::Root => Ok(Spot::AfterBody(None)),
+            Origin::Header(header) => Ok(Spot::AfterBody(Some(header))),
+            Origin::Element(header) => Ok(Spot::AfterBody(Some(header))),
+            Origin::Through(header) => Ok(Spot::NewSection(header)),
+            Origin::Dotted(value) => {
                 if holder.braced {
-                    Ok(Spot::BehindEntry(value))
+                    Ok(Spot::AfterEntry(value))
                 } else {
-                    Ok(Spot::BehindLine(value))
+                    Ok(Spot::AfterLine(value))
                 }
             }
-            Place::Value(value) => match node.kind {
+            Origin::Value(value) => match node.kind {
                 Kind::Inline => Ok(braces_spot(self.syntax, value)),
                 _ => Err(EditFault::NotTable),
             },
-            Place::Tables => Err(EditFault::NotTable),
+            Origin::Tables => Err(EditFault::NotTable),
         }
     }
 }
 
-/// The byte offset behind a bracket of the text.
-fn behind_bracket(text: &str, at: usize) -> usize
+/// The byte offset after a bracket of the text.
+fn after_bracket(text: &str, at: usize) -> usize
     requires { at < length text.now }
     ensures { result ≡ suc at }
 {
     at + 1
 }
 
-/// Where a keyval goes in braces: behind the last that is there.
+/// Where a keyval goes in braces: after the last that is there.
 fn braces_spot(syntax: &Syntax, braces: usize) -> Spot
     requires { braces < length (values_of syntax.now) }
     ensures { result ≡ spot_in_braces braces (last_keyval_among braces (values_of syntax.now)) }
 {
     match last_keyval(syntax, braces) {
-        Some(keyval) => Spot::BehindEntry(keyval),
+        Some(keyval) => Spot::AfterEntry(keyval),
         None => Spot::InEmpty(braces),
     }
 }

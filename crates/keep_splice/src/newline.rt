@@ -8,8 +8,8 @@ use crate::document::DocumentRef;
 use keep_token::Leaf;
 
 impl<'a> DocumentRef<'a> {
-    /// The text of the document's first newline, which edits write too: a line feed, alone or behind a carriage return. It is
-    /// a line feed if the document has none. No token behind the first newline is looked at.
+    /// The text of the document's first newline, which edits write too: a line feed, alone or after a carriage return.
+    /// It is a line feed if the document has none. No token after the first newline is looked at.
     pub(crate) fn newline(&self) -> &str
         ensures { (s : tree.Document) → IsTextOfTree self.now s → result.now ≡ (newline_of s).text }
     {

@@ -18,16 +18,16 @@ ghost use Rattle.keep_splice.specs.Removing.{cut_place, KeepsNothing, KeepsGap, 
 use crate::document::DocumentRef;
 use crate::edited::{Edited, edited_at, part_at};
 use keep_law::EditFault;
-use keep_rules::{Path, Place};
+use keep_rules::{Origin, Path};
 use keep_syntax::{Owner, Span, Statement, StatementKind, Syntax, ValueInfo};
 use std::alloc::Global;
 
 /// What goes with a node.
 #[derive(Clone, Copy)]
 pub(crate) enum Piece {
-    /// The value of this number, with its key.
+    /// The value with this number, with its key.
     Value(usize),
-    /// The header of this number among the statements, with its body.
+    /// The header with this number among the statements, with its body.
     Section(usize),
 }
 
@@ -35,7 +35,7 @@ pub(crate) enum Piece {
 #[derive(Clone, Copy)]
 pub(crate) struct Cut {
     pub(crate) span: Span,
-    pub(crate) kept: Span,
+    pub(crate) preserved: Span,
 }
 
 impl<'a> DocumentRef<'a> {
@@ -52,7 +52,7 @@ impl<'a> DocumentRef<'a> {
         let text = self.text;
         let piece = self.piece(path)?;
         let cut = self.cut(piece);
-        edited_at(alloc, cut.span, part_at(text, cut.kept))
+        edited_at(alloc, cut.span, part_at(text, cut.preserved))
     }
 
     /// What goes with the node of a path, or why it can't be removed. It takes no memory.
@@ -66,16 +66,16 @@ impl<'a> DocumentRef<'a> {
             return Err(EditFault::NotFound);
         };
         let node = self.index.node(id);
-        match node.place {
-            Place::Value(number) => Ok(Piece::Value(number)),
-            Place::Header(number) => {
+        match node.origin {
+            Origin::Value(number) => Ok(Piece::Value(number)),
+            Origin::Header(number) => {
                 if node.marks == 1 {
                     Ok(Piece::Section(number))
                 } else {
                     Err(EditFault::Scattered)
                 }
             }
-            Place::Element(number) => {
+            Origin::Element(number) => {
                 if node.passed {
                     Err(EditFault::Scattered)
                 } else {
@@ -105,34 +105,34 @@ impl<'a> DocumentRef<'a> {
     }
 }
 
-/// The cut of a keyval's line: up to a comment behind the value, else with its newline.
+/// The cut of a keyval's line: up to a comment after the value, else with its newline.
 fn line_cut(bytes: &[u8], statement: Statement, value: ValueInfo) -> Cut
     requires { value.span.end ≤ length bytes.now }
     ensures place { cut_place bytes.now result ≡ removal.line_place bytes.now statement value }
-    ensures kept { KeepsNothing result }
+    ensures preserved { KeepsNothing result }
 {
     let end = past_space(bytes, value.span.end);
     if end < bytes.len() && bytes[end] == b'#' {
         let start = statement.span.start;
         Cut {
             span: Span { start, end },
-            kept: Span { start, end: start },
+            preserved: Span { start, end: start },
         }
     } else {
         let Span { start, end } = statement.line;
         Cut {
             span: Span { start, end },
-            kept: Span { start, end: start },
+            preserved: Span { start, end: start },
         }
     }
 }
 
-/// The cut of an item of an array, or of a keyval in braces: with the comma behind it and the white space that follows, else
-/// with the comma before it, else alone. The gap before the comma, or behind it, stays if it holds a comment.
+/// The cut of an item of an array, or of a keyval in braces: with the comma after it and the white space that follows,
+/// else with the comma before it, else alone. The gap before the comma, or after it, stays if it holds a comment.
 fn entry_cut(bytes: &[u8], value: ValueInfo) -> Cut
     requires { IsEntryIn bytes.now value }
     ensures place { cut_place bytes.now result ≡ removal.entry_place bytes.now value }
-    ensures kept { KeepsGap value result }
+    ensures preserved { KeepsGap value result }
 {
     let whole = value.whole.start;
     let end = value.span.end;
@@ -146,7 +146,7 @@ fn entry_cut(bytes: &[u8], value: ValueInfo) -> Cut
                 start: whole,
                 end: past_space(bytes, comma + 1),
             },
-            kept: kept_gap(bytes, gap, whole),
+            preserved: preserved_gap(bytes, gap, whole),
         }
     } else if let Some(comma) = value.comma_before {
         let gap = Span {
@@ -155,12 +155,12 @@ fn entry_cut(bytes: &[u8], value: ValueInfo) -> Cut
         };
         Cut {
             span: Span { start: comma, end },
-            kept: kept_gap(bytes, gap, comma),
+            preserved: preserved_gap(bytes, gap, comma),
         }
     } else {
         Cut {
             span: Span { start: whole, end },
-            kept: Span {
+            preserved: Span {
                 start: whole,
                 end: whole,
             },
@@ -169,10 +169,10 @@ fn entry_cut(bytes: &[u8], value: ValueInfo) -> Cut
 }
 
 /// A gap, if it holds a comment; else nothing, at the byte `at`.
-fn kept_gap(bytes: &[u8], gap: Span, at: usize) -> Span
+fn preserved_gap(bytes: &[u8], gap: Span, at: usize) -> Span
     requires ordered { gap.start ≤ gap.end }
-    requires inside { gap.end ≤ length bytes.now }
-    ensures text { text_at bytes.now result ≡ removal.kept_text (text_at bytes.now gap) }
+    requires nested { gap.end ≤ length bytes.now }
+    ensures text { text_at bytes.now result ≡ removal.preserved_text (text_at bytes.now gap) }
     ensures is { (result ≡ gap) ⊎ (result ≡ span at at) }
 {
     if bytes[gap.start..gap.end].contains(&b'#') {
@@ -186,7 +186,7 @@ fn kept_gap(bytes: &[u8], gap: Span, at: usize) -> Span
 fn section_cut(syntax: &Syntax, number: usize) -> Cut
     requires { number < length (statements_of syntax.now) }
     ensures place { (bytes : List ℕ) → cut_place bytes result ≡ removal.section_place (drop number (statements_of syntax.now)) }
-    ensures kept { KeepsNothing result }
+    ensures preserved { KeepsNothing result }
 {
     let start = syntax.statement(number).line.start;
     Cut {
@@ -194,7 +194,7 @@ fn section_cut(syntax: &Syntax, number: usize) -> Cut
             start,
             end: section_end(syntax, number),
         },
-        kept: Span { start, end: start },
+        preserved: Span { start, end: start },
     }
 }
 
@@ -232,7 +232,7 @@ fn past_space(bytes: &[u8], at: usize) -> usize
     at + space_run(&bytes[at..])
 }
 
-/// How many bytes of white space stand in front.
+/// How many bytes of white space come first.
 fn space_run(bytes: &[u8]) -> usize
     ensures len { result ≡ prefix_len abnf.is_ws bytes.now }
     ensures within { result ≤ length bytes.now }

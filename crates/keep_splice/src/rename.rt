@@ -37,7 +37,7 @@ impl<'a> DocumentRef<'a> {
         Ok(Edited { place: span, new })
     }
 
-    /// Where the key stands that a new one replaces. It takes no memory.
+    /// Where the key is that a new one replaces. It takes no memory.
     fn key_to_rename(&self, path: &Path, key: &str) -> Result<Span, EditFault>
         ensures { (s : tree.Document) → IsTextOfTree self.now s → IsDoneAt s (rename path.now key.now) self.now (encoded_key key.now) result }
     {

@@ -30,7 +30,7 @@ impl<'a> DocumentRef<'a> {
         // The invariant of a document is known to the proof from where a field of it is looked at.
         let _text = self.text;
         let new = value.as_str();
-        let number = self.found(path)?;
+        let number = self.value_number(path)?;
         let found = self.syntax.value(number);
         if found.depth + value.depth() > STANDARD_DEPTH {
             return Err(EditFault::TooDeep);

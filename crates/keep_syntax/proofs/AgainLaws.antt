@@ -10,7 +10,7 @@ use Rattle.keep_syntax.specs.declared.info.Brackets.{Brackets}
 use Rattle.keep_syntax.specs.declared.info.Brackets.TheVariants as brackets
 use Rattle.keep_syntax.specs.Tree.{Written, Gap, Name, Body, scalar, array, inline, Entries, none, entry, Value, text_of, named_leaves, comma_leaves, entries_leaves, value_text, around, entries_depth, value_depth}
 use Rattle.keep_syntax.specs.Grammar.{place_in, IsGap, IsNamed, IsBody, MayEndInComma, IsComma, AreEntries, IsValue}
-use Rattle.keep_syntax.specs.Reading.{Deep, Read, ready, open_byte, close_byte, body_in, is_free, gap_in, join, Item, entry_of, named_in, after_by, item_by, turn_of, entry_by, entries_by, bracket_by, value_by, value_of}
+use Rattle.keep_syntax.specs.Reading.{Deep, Read, ready, open_byte, close_byte, body_in, is_free, gap_in, join, Item, entry_of, named_in, after_by, item_by, iteration_of, entry_by, entries_by, bracket_by, value_by, value_of}
 use Rattle.keep_token.proofs.Shared.{scalar_found, scalar_again}
 use Rattle.keep_syntax.proofs.LoopLaws.{loop_on, loop_ready}
 use Rattle.keep_syntax.proofs.SpaceLaws.{is_solid, solid_no_ws, place_of, gap_again, gap_blank, is_stop, may_follow}
@@ -31,13 +31,13 @@ scalar_begins profile w rest h =
     by (c ∷ cs) some k = k
 
 pub value_begins : (profile : Profile) (v : Value) (rest : List ℕ) → IsValue profile v → is_value_first (first (value_text v ++ rest)) ≡ true
-value_begins profile v rest h = by v.body v.inside h.body h.inside
+value_begins profile v rest h = by v.body v.nested h.body h.nested
   where
-    by : (body : Body) (inside : Entries) → IsBody profile body → AreEntries profile (place_in body) inside → is_value_first (first (value_text (record { body = body; inside = inside }) ++ rest)) ≡ true
+    by : (body : Body) (nested : Entries) → IsBody profile body → AreEntries profile (place_in body) nested → is_value_first (first (value_text (record { body = body; nested = nested }) ++ rest)) ≡ true
     by (scalar w) none b i = rw (append-nil w.text, (scalar_begins profile w rest b).1) refl
-    by (scalar w) (entry name body inside after comma more) b i = absurd i.0
-    by (array g) inside b i = refl
-    by (inline g) inside b i = refl
+    by (scalar w) (entry name body nested after comma more) b i = absurd i.0
+    by (array g) nested b i = refl
+    by (inline g) nested b i = refl
 
 -- a byte that begins an entry
 abbrev pub EntryFirst : Brackets → ℕ → Type 0
@@ -68,9 +68,9 @@ item_begins profile b i x named h =
 
 pub entries_begin : (profile : Profile) (b : Brackets) (es : Entries) (rest : List ℕ) → AreEntries profile (place_of b) es → (first rest == close_byte b) ≡ true → is_solid (first (text_of (entries_leaves es) ++ rest)) ≡ true
 entries_begin profile b none rest h closed = close_solid b rest closed
-entries_begin profile b (entry name body inside after comma more) rest h closed =
-    let i : Item = record { name = name; value = record { body = body; inside = inside }; after = after; comma = comma } in
-    subst (λ (t : List ℕ). is_solid (first t) ≡ true) (sym (entry_text i more rest)) (item_begins profile b i (text_of (entries_leaves more) ++ rest) h.0 (record { body = h.1; inside = h.2 })).0
+entries_begin profile b (entry name body nested after comma more) rest h closed =
+    let i : Item = record { name = name; value = record { body = body; nested = nested }; after = after; comma = comma } in
+    subst (λ (t : List ℕ). is_solid (first t) ≡ true) (sym (entry_text i more rest)) (item_begins profile b i (text_of (entries_leaves more) ++ rest) h.0 (record { body = h.1; nested = h.2 })).0
 
 -- ---- one entry
 
@@ -129,7 +129,7 @@ item_again profile b room value again i x h follows =
 comma_follows : (profile : Profile) (b : Brackets) (room : ℕ) (comma : Option Gap) (more : Entries) (rest : List ℕ) → IsComma profile (place_of b) comma more → AreEntries profile (place_of b) more → (first rest == close_byte b) ≡ true
     → Follows profile b comma (text_of (entries_leaves more) ++ rest)
 comma_follows profile b room None none rest c h closed = closed
-comma_follows profile b room None (entry name body inside after comma more) rest c h closed = absurd c
+comma_follows profile b room None (entry name body nested after comma more) rest c h closed = absurd c
 comma_follows profile b room (Some g) none rest c h closed = (c.0, close_solid b rest closed, free profile b c.1)
   where
     free : (profile : Profile) (b : Brackets) → MayEndInComma profile (place_of b) → (not (is_free profile b) && first rest == close_byte b) ≡ false
@@ -137,56 +137,56 @@ comma_follows profile b room (Some g) none rest c h closed = (c.0, close_solid b
     free Wide brackets.Array k = refl
     free Strict brackets.Inline k = absurd k
     free Wide brackets.Inline k = refl
-comma_follows profile b room (Some g) (entry name body inside after comma more) rest c h closed =
-    let i : Item = record { name = name; value = record { body = body; inside = inside }; after = after; comma = comma } in
+comma_follows profile b room (Some g) (entry name body nested after comma more) rest c h closed =
+    let i : Item = record { name = name; value = record { body = body; nested = nested }; after = after; comma = comma } in
     let f : EntryFirst b (first (text_of (entries_leaves (entry_of i more)) ++ rest)) =
-    subst (λ (t : List ℕ). EntryFirst b (first t)) (sym (entry_text i more rest)) (item_begins profile b i (text_of (entries_leaves more) ++ rest) h.0 (record { body = h.1; inside = h.2 })) in
+    subst (λ (t : List ℕ). EntryFirst b (first t)) (sym (entry_text i more rest)) (item_begins profile b i (text_of (entries_leaves more) ++ rest) h.0 (record { body = h.1; nested = h.2 })) in
     (c, f.0, rw f.1 (never (not (is_free profile b))))
   where
     never : (x : Bool) → (x && false) ≡ false
     never true = refl
     never false = refl
 
-turn_again : (profile : Profile) (b : Brackets) (room : ℕ) (value : List ℕ → Read Value) → ReadsAgain profile room value → (front : Entries) (i : Item) (x : List ℕ) → AnItem profile b room i → Follows profile b i.comma x
-    → entry_by profile b value front (text_of (item_leaves i) ++ x) ≡ Ok (turn_of front i i.comma, x)
+iteration_again : (profile : Profile) (b : Brackets) (room : ℕ) (value : List ℕ → Read Value) → ReadsAgain profile room value → (prefix : Entries) (i : Item) (x : List ℕ) → AnItem profile b room i → Follows profile b i.comma x
+    → entry_by profile b value prefix (text_of (item_leaves i) ++ x) ≡ Ok (iteration_of prefix i i.comma, x)
 unfolding entry_by
-turn_again profile b room value again front i x h follows =
+iteration_again profile b room value again prefix i x h follows =
     let f = item_begins profile b i x h.named h.valid in
     rw (f.1, item_again profile b room value again i x h follows) refl
 
-pub entries_again : (profile : Profile) (b : Brackets) (room : ℕ) (value : List ℕ → Read Value) → ReadsValues profile room value → ReadsAgain profile room value → (es front : Entries) (rest : List ℕ)
-    → AreEntries profile (place_of b) es → entries_depth es ≤ room → (first rest == close_byte b) ≡ true → entries_by profile b value front (text_of (entries_leaves es) ++ rest) ≡ Ok (join front es, rest)
+pub entries_again : (profile : Profile) (b : Brackets) (room : ℕ) (value : List ℕ → Read Value) → ReadsValues profile room value → ReadsAgain profile room value → (es prefix : Entries) (rest : List ℕ)
+    → AreEntries profile (place_of b) es → entries_depth es ≤ room → (first rest == close_byte b) ≡ true → entries_by profile b value prefix (text_of (entries_leaves es) ++ rest) ≡ Ok (join prefix es, rest)
 unfolding entry_by
-entries_again profile b room value sound again none front rest h le closed =
-    let turn : entry_by profile b value front rest ≡ Ok (ready front, rest) = rw closed refl in
-    loop_ready (entry_by profile b value) front rest (join front none) rest (turn ∙ ap (λ (x : Entries). Ok (ready x, rest)) (sym (join-none front)))
-entries_again profile b room value sound again (entry name body inside after comma more) front rest h le closed =
-    let i : Item = record { name = name; value = record { body = body; inside = inside }; after = after; comma = comma } in
+entries_again profile b room value sound again none prefix rest h le closed =
+    let iteration : entry_by profile b value prefix rest ≡ Ok (ready prefix, rest) = rw closed refl in
+    loop_ready (entry_by profile b value) prefix rest (join prefix none) rest (iteration ∙ ap (λ (x : Entries). Ok (ready x, rest)) (sym (join-none prefix)))
+entries_again profile b room value sound again (entry name body nested after comma more) prefix rest h le closed =
+    let i : Item = record { name = name; value = record { body = body; nested = nested }; after = after; comma = comma } in
     let x = text_of (entries_leaves more) ++ rest in
-    let an : AnItem profile b room i = record { named = h.0; valid = record { body = h.1; inside = h.2 }; shallow = omega arith; gap = h.3 } in
-    let turn : entry_by profile b value front (text_of (item_leaves i) ++ x) ≡ Ok (turn_of front i comma, x) = turn_again profile b room value again front i x an (comma_follows profile b room comma more rest h.4 h.5 closed) in
-    ap (entries_by profile b value front) (entry_text i more rest) ∙ by i comma more turn h.4 (λ front'. entries_again profile b room value sound again more front' rest h.5 (omega arith) closed)
+    let an : AnItem profile b room i = record { named = h.0; valid = record { body = h.1; nested = h.2 }; shallow = omega arith; gap = h.3 } in
+    let iteration : entry_by profile b value prefix (text_of (item_leaves i) ++ x) ≡ Ok (iteration_of prefix i comma, x) = iteration_again profile b room value again prefix i x an (comma_follows profile b room comma more rest h.4 h.5 closed) in
+    ap (entries_by profile b value prefix) (entry_text i more rest) ∙ by i comma more iteration h.4 (λ prefix'. entries_again profile b room value sound again more prefix' rest h.5 (omega arith) closed)
   where
-    by : (i : Item) (c : Option Gap) (more : Entries) → entry_by profile b value front (text_of (item_leaves i) ++ (text_of (entries_leaves more) ++ rest)) ≡ Ok (turn_of front i c, text_of (entries_leaves more) ++ rest) → IsComma profile (place_of b) c more
-        → ((front' : Entries) → entries_by profile b value front' (text_of (entries_leaves more) ++ rest) ≡ Ok (join front' more, rest)) → entries_by profile b value front (text_of (item_leaves i) ++ (text_of (entries_leaves more) ++ rest)) ≡ Ok (join front (entry_of i more), rest)
-    by i None none turn c ih = loop_ready (entry_by profile b value) front (text_of (item_leaves i) ++ rest) (join front (entry_of i none)) rest turn
-    by i None (entry name body inside after comma more) turn c ih = absurd c
-    by i (Some g) more turn c ih =
+    by : (i : Item) (c : Option Gap) (more : Entries) → entry_by profile b value prefix (text_of (item_leaves i) ++ (text_of (entries_leaves more) ++ rest)) ≡ Ok (iteration_of prefix i c, text_of (entries_leaves more) ++ rest) → IsComma profile (place_of b) c more
+        → ((prefix' : Entries) → entries_by profile b value prefix' (text_of (entries_leaves more) ++ rest) ≡ Ok (join prefix' more, rest)) → entries_by profile b value prefix (text_of (item_leaves i) ++ (text_of (entries_leaves more) ++ rest)) ≡ Ok (join prefix (entry_of i more), rest)
+    by i None none iteration c ih = loop_ready (entry_by profile b value) prefix (text_of (item_leaves i) ++ rest) (join prefix (entry_of i none)) rest iteration
+    by i None (entry name body nested after comma more) iteration c ih = absurd c
+    by i (Some g) more iteration c ih =
         let x = text_of (entries_leaves more) ++ rest in
-        loop_on (entry_by profile b value) (entry_shortens profile b room value sound) front (text_of (item_leaves i) ++ x) (join front (entry_of i none)) x turn
-        ∙ ih (join front (entry_of i none)) ∙ ap (λ (es : Entries). Ok (es, rest)) (join-assoc front (entry_of i none) more)
+        loop_on (entry_by profile b value) (entry_shortens profile b room value sound) prefix (text_of (item_leaves i) ++ x) (join prefix (entry_of i none)) x iteration
+        ∙ ih (join prefix (entry_of i none)) ∙ ap (λ (es : Entries). Ok (es, rest)) (join-assoc prefix (entry_of i none) more)
 
 -- ---- values
 
-bracket_again : (profile : Profile) (room : ℕ) (value : List ℕ → Read Value) → ReadsValues profile room value → ReadsAgain profile room value → (b : Brackets) (g : Gap) (inside : Entries) (rest : List ℕ)
-    → IsGap profile (place_of b) g → AreEntries profile (place_of b) inside → entries_depth inside ≤ room
-    → bracket_by profile value b (open_byte b ∷ (text_of g ++ (text_of (entries_leaves inside) ++ (close_byte b ∷ rest)))) ≡ Ok (record { body = body_in b g; inside = inside }, rest)
-bracket_again profile room value sound again b g inside rest gap i le =
+bracket_again : (profile : Profile) (room : ℕ) (value : List ℕ → Read Value) → ReadsValues profile room value → ReadsAgain profile room value → (b : Brackets) (g : Gap) (nested : Entries) (rest : List ℕ)
+    → IsGap profile (place_of b) g → AreEntries profile (place_of b) nested → entries_depth nested ≤ room
+    → bracket_by profile value b (open_byte b ∷ (text_of g ++ (text_of (entries_leaves nested) ++ (close_byte b ∷ rest)))) ≡ Ok (record { body = body_in b g; nested = nested }, rest)
+bracket_again profile room value sound again b g nested rest gap i le =
     let z = close_byte b ∷ rest in
-    let x = text_of (entries_leaves inside) ++ z in
+    let x = text_of (entries_leaves nested) ++ z in
     let closed : (first z == close_byte b) ≡ true = closes b in
-    let one : gap_in profile b (text_of g ++ x) ≡ (g, x) = gap_again profile b g x gap (entries_begin profile b inside z i closed) in
-    let two : entries_by profile b value none x ≡ Ok (inside, z) = entries_again profile b room value sound again inside none z i le closed in
+    let one : gap_in profile b (text_of g ++ x) ≡ (g, x) = gap_again profile b g x gap (entries_begin profile b nested z i closed) in
+    let two : entries_by profile b value none x ≡ Ok (nested, z) = entries_again profile b room value sound again nested none z i le closed in
     rw (one, two) refl
   where
     closes : (b : Brackets) → (close_byte b == close_byte b) ≡ true
@@ -196,28 +196,28 @@ bracket_again profile room value sound again b g inside rest gap i le =
 scalar_facts : (c : ℕ) → is_scalar_first c ≡ true → ((c == 0x5B) ≡ false) × ((c == 0x7B) ≡ false)
 scalar_facts c h = (grind (arith, nat_tests), grind (arith, nat_tests))
 
-scalar_reads : (profile : Profile) (bracket : Brackets → List ℕ → Read Value) (w : Written) (rest : List ℕ) → IsBody profile (scalar w) → may_follow_scalar rest ≡ true → value_by profile bracket ((w.text ++ []) ++ rest) ≡ Ok (record { body = scalar w; inside = none }, rest)
+scalar_reads : (profile : Profile) (bracket : Brackets → List ℕ → Read Value) (w : Written) (rest : List ℕ) → IsBody profile (scalar w) → may_follow_scalar rest ≡ true → value_by profile bracket ((w.text ++ []) ++ rest) ≡ Ok (record { body = scalar w; nested = none }, rest)
 scalar_reads profile bracket w rest h stop =
     let f = scalar_facts (first (w.text ++ rest)) (scalar_begins profile w rest h).1 in
     rw (append-nil w.text, f.0, f.1, scalar_again profile w.leaf w.text rest h.0 h.1 stop, take_at w.text rest (length w.text) refl, drop_at w.text rest (length w.text) refl) refl
 
--- What is a value within the limit is read, in front of what does not go on with it.
+-- What is a value within the limit is read, before what does not continue with it.
 pub value_again : (profile : Profile) (room : ℕ) → ReadsAgain profile room (value_of profile room)
 unfolding value_of
-value_again profile zero v rest h le stop = by v.body v.inside h.body h.inside le
+value_again profile zero v rest h le stop = by v.body v.nested h.body h.nested le
   where
-    by : (body : Body) (inside : Entries) → IsBody profile body → AreEntries profile (place_in body) inside → around body (entries_depth inside) ≤ 0 → value_of profile 0 (value_text (record { body = body; inside = inside }) ++ rest) ≡ Ok (record { body = body; inside = inside }, rest)
+    by : (body : Body) (nested : Entries) → IsBody profile body → AreEntries profile (place_in body) nested → around body (entries_depth nested) ≤ 0 → value_of profile 0 (value_text (record { body = body; nested = nested }) ++ rest) ≡ Ok (record { body = body; nested = nested }, rest)
     by (scalar w) none b i le = scalar_reads profile (λ b t. Err (Deep t)) w rest b stop
-    by (scalar w) (entry name body inside after comma more) b i le = absurd i.0
-    by (array g) inside b i le = absurd (omega arith)
-    by (inline g) inside b i le = absurd (omega arith)
-value_again profile (suc room) v rest h le stop = by v.body v.inside h.body h.inside le (bracket_again profile room (value_of profile room) (value_takes profile room) (value_again profile room))
+    by (scalar w) (entry name body nested after comma more) b i le = absurd i.0
+    by (array g) nested b i le = absurd (omega arith)
+    by (inline g) nested b i le = absurd (omega arith)
+value_again profile (suc room) v rest h le stop = by v.body v.nested h.body h.nested le (bracket_again profile room (value_of profile room) (value_takes profile room) (value_again profile room))
   where
-    by : (body : Body) (inside : Entries) → IsBody profile body → AreEntries profile (place_in body) inside → around body (entries_depth inside) ≤ suc room
-        → ((b : Brackets) (g : Gap) (inside : Entries) (rest : List ℕ) → IsGap profile (place_of b) g → AreEntries profile (place_of b) inside → entries_depth inside ≤ room
-        → bracket_by profile (value_of profile room) b (open_byte b ∷ (text_of g ++ (text_of (entries_leaves inside) ++ (close_byte b ∷ rest)))) ≡ Ok (record { body = body_in b g; inside = inside }, rest))
-        → value_of profile (suc room) (value_text (record { body = body; inside = inside }) ++ rest) ≡ Ok (record { body = body; inside = inside }, rest)
+    by : (body : Body) (nested : Entries) → IsBody profile body → AreEntries profile (place_in body) nested → around body (entries_depth nested) ≤ suc room
+        → ((b : Brackets) (g : Gap) (nested : Entries) (rest : List ℕ) → IsGap profile (place_of b) g → AreEntries profile (place_of b) nested → entries_depth nested ≤ room
+        → bracket_by profile (value_of profile room) b (open_byte b ∷ (text_of g ++ (text_of (entries_leaves nested) ++ (close_byte b ∷ rest)))) ≡ Ok (record { body = body_in b g; nested = nested }, rest))
+        → value_of profile (suc room) (value_text (record { body = body; nested = nested }) ++ rest) ≡ Ok (record { body = body; nested = nested }, rest)
     by (scalar w) none b i le ih = scalar_reads profile (bracket_by profile (value_of profile room)) w rest b stop
-    by (scalar w) (entry name body inside after comma more) b i le ih = absurd i.0
-    by (array g) inside b i le ih = ap (value_of profile (suc room)) (bracket_text brackets.Array g inside rest) ∙ ih brackets.Array g inside rest b i (omega arith)
-    by (inline g) inside b i le ih = ap (value_of profile (suc room)) (bracket_text brackets.Inline g inside rest) ∙ ih brackets.Inline g inside rest b i (omega arith)
+    by (scalar w) (entry name body nested after comma more) b i le ih = absurd i.0
+    by (array g) nested b i le ih = ap (value_of profile (suc room)) (bracket_text brackets.Array g nested rest) ∙ ih brackets.Array g nested rest b i (omega arith)
+    by (inline g) nested b i le ih = ap (value_of profile (suc room)) (bracket_text brackets.Inline g nested rest) ∙ ih brackets.Inline g nested rest b i (omega arith)

@@ -14,9 +14,9 @@ use Rattle.keep_token.specs.Leaves.{IsLeaf, is_gap_leaf}
 use Rattle.keep_token.specs.Scanning.{first}
 use Rattle.keep_syntax.specs.declared.info.Brackets.{Brackets}
 use Rattle.keep_syntax.specs.declared.info.Brackets.TheVariants as brackets
-use Rattle.keep_syntax.specs.Tree.{Written, Gap, Further, Key, Name, Body, scalar, array, inline, Entries, none, entry, Value, Content, blank, keyval, header, element, Line, Ended, Document, text_of, mark, further_leaves, key_leaves, name_leaves, named_leaves, opening, closing, comma_leaves, entries_leaves, value_leaves, content_leaves, comment_leaves, line_leaves, ended_leaves, bom_leaves, leaves}
+use Rattle.keep_syntax.specs.Tree.{Written, Gap, Further, Key, Name, Body, scalar, array, inline, Entries, none, entry, Value, Content, blank, keyval, header, element, Line, Ended, Document, text_of, token, further_leaves, key_leaves, name_leaves, named_leaves, opening, closing, comma_leaves, entries_leaves, value_leaves, content_leaves, comment_leaves, line_leaves, ended_leaves, bom_leaves, leaves}
 use Rattle.keep_syntax.specs.Grammar.{IsSpace, IsBlank, IsKeyPart, IsFurther, IsKey, IsName, place_in, IsNamed, IsBody, AreEntries, IsValue, IsContent, IsAfter, IsComment, IsLine, IsEnded, IsDocument, Reads, ReadsValue}
-use Rattle.keep_syntax.specs.Numbered.{width, marks}
+use Rattle.keep_syntax.specs.Numbered.{width, token_places}
 use Rattle.keep_syntax.specs.Reading.{Item}
 use Rattle.keep_syntax.proofs.SpaceLaws.{text_of-append, place_of, gap_blank, space_blank}
 use Rattle.keep_syntax.proofs.KeyLaws.{is_key_first, part_begins}
@@ -40,7 +40,7 @@ some-append (w ∷ ws) b h g = (h.0, some-append ws b h.1 g)
 low_some : (w : Written) (c : ℕ) (cs : List ℕ) → w.text ≡ c ∷ cs → c < 128 → BeginsChar w
 low_some w c cs e h = (omega (arith, ap length e), λ k. absurd (omega (arith, k, h, ap first e)))
 
-sign_some : (l : Leaf) (c : ℕ) (cs : List ℕ) → c < 128 → AreSome (mark l (c ∷ cs))
+sign_some : (l : Leaf) (c : ℕ) (cs : List ℕ) → c < 128 → AreSome (token l (c ∷ cs))
 sign_some l c cs h = (low_some (record { leaf = l; text = c ∷ cs }) c cs refl h, tt)
 
 -- the first byte of a text that is not empty is one of these
@@ -93,7 +93,7 @@ part_some profile w h = let begins = part_begins profile w [] h in (tested_some 
 
 further_some : (profile : Profile) (f : Further) → IsFurther profile f → AreSome (further_leaves f)
 further_some profile f h =
-    let dot = mark leaf.Dot (0x2E ∷ []) in
+    let dot = token leaf.Dot (0x2E ∷ []) in
     some-append f.before (dot ++ (f.behind ++ (f.part ∷ []))) (space_some f.before h.before)
     (some-append dot (f.behind ++ (f.part ∷ [])) (sign_some leaf.Dot 0x2E [] (omega arith)) (some-append f.behind (f.part ∷ []) (space_some f.behind h.behind) (part_some profile f.part h.part)))
 
@@ -106,7 +106,7 @@ key_some profile k h = some-append (k.first ∷ []) (flat_map further_leaves k.m
 
 name_some : (profile : Profile) (n : Name) → IsName profile n → AreSome (name_leaves n)
 name_some profile n h =
-    let equals = mark leaf.Equals (0x3D ∷ []) in
+    let equals = token leaf.Equals (0x3D ∷ []) in
     some-append (key_leaves n.key) (n.before ++ (equals ++ n.behind)) (key_some profile n.key h.key)
     (some-append n.before (equals ++ n.behind) (space_some n.before h.before) (some-append equals n.behind (sign_some leaf.Equals 0x3D [] (omega arith)) (space_some n.behind h.behind)))
 
@@ -117,37 +117,37 @@ named_some profile brackets.Inline (Some n) h = name_some profile n h
 
 comma_some : (comma : Option Gap) → ((g : Gap) → comma ≡ Some g → IsBlank g) → AreSome (comma_leaves comma)
 comma_some None h = tt
-comma_some (Some g) h = some-append (mark leaf.Comma (0x2C ∷ [])) g (sign_some leaf.Comma 0x2C [] (omega arith)) (blank_some g (h g refl))
+comma_some (Some g) h = some-append (token leaf.Comma (0x2C ∷ [])) g (sign_some leaf.Comma 0x2C [] (omega arith)) (blank_some g (h g refl))
 
-body_some : (profile : Profile) (body : Body) (inside : Entries) → IsBody profile body → AreEntries profile (place_in body) inside → ((b : Brackets) → AreEntries profile (place_of b) inside → AreSome (entries_leaves inside)) → AreSome (value_leaves (record { body = body; inside = inside }))
+body_some : (profile : Profile) (body : Body) (nested : Entries) → IsBody profile body → AreEntries profile (place_in body) nested → ((b : Brackets) → AreEntries profile (place_of b) nested → AreSome (entries_leaves nested)) → AreSome (value_leaves (record { body = body; nested = nested }))
 body_some profile (scalar w) none h i ih = let begins = scalar_begins profile w [] h in (tested_some is_scalar_first scalar_low w begins.0 begins.1, tt)
-body_some profile (scalar w) (entry name body inside after comma rest) h i ih = absurd i.0
-body_some profile (array g) inside h i ih =
-    some-append (opening (array g)) (entries_leaves inside ++ closing (array g)) ((sign_some leaf.ArrayOpen 0x5B [] (omega arith)).0, blank_some g (gap_blank profile brackets.Array g h)) (some-append (entries_leaves inside) (closing (array g)) (ih brackets.Array i) (sign_some leaf.ArrayClose 0x5D [] (omega arith)))
-body_some profile (inline g) inside h i ih =
-    some-append (opening (inline g)) (entries_leaves inside ++ closing (inline g)) ((sign_some leaf.InlineOpen 0x7B [] (omega arith)).0, blank_some g (gap_blank profile brackets.Inline g h)) (some-append (entries_leaves inside) (closing (inline g)) (ih brackets.Inline i) (sign_some leaf.InlineClose 0x7D [] (omega arith)))
+body_some profile (scalar w) (entry name body nested after comma rest) h i ih = absurd i.0
+body_some profile (array g) nested h i ih =
+    some-append (opening (array g)) (entries_leaves nested ++ closing (array g)) ((sign_some leaf.ArrayOpen 0x5B [] (omega arith)).0, blank_some g (gap_blank profile brackets.Array g h)) (some-append (entries_leaves nested) (closing (array g)) (ih brackets.Array i) (sign_some leaf.ArrayClose 0x5D [] (omega arith)))
+body_some profile (inline g) nested h i ih =
+    some-append (opening (inline g)) (entries_leaves nested ++ closing (inline g)) ((sign_some leaf.InlineOpen 0x7B [] (omega arith)).0, blank_some g (gap_blank profile brackets.Inline g h)) (some-append (entries_leaves nested) (closing (inline g)) (ih brackets.Inline i) (sign_some leaf.InlineClose 0x7D [] (omega arith)))
 
 entries_some : (profile : Profile) (es : Entries) (b : Brackets) → AreEntries profile (place_of b) es → AreSome (entries_leaves es)
 entries_some profile none b h = tt
-entries_some profile (entry name body inside after comma rest) b h =
-    let i : Item = record { name = name; value = record { body = body; inside = inside }; after = after; comma = comma } in
+entries_some profile (entry name body nested after comma rest) b h =
+    let i : Item = record { name = name; value = record { body = body; nested = nested }; after = after; comma = comma } in
     let v = value_leaves i.value in
     subst (λ (ws : List Written). AreSome ws) (sym (entry_leaves i rest))
     (some-append (item_leaves i) (entries_leaves rest)
     (some-append (named_leaves name) (v ++ (after ++ comma_leaves comma)) (named_some profile b name h.0)
-    (some-append v (after ++ comma_leaves comma) (body_some profile body inside h.1 h.2 (λ c k. entries_some profile inside c k))
+    (some-append v (after ++ comma_leaves comma) (body_some profile body nested h.1 h.2 (λ c k. entries_some profile nested c k))
     (some-append after (comma_leaves comma) (blank_some after (gap_blank profile b after h.3)) (comma_some comma (comma_blank profile b comma rest h.4)))))
     (entries_some profile rest b h.5))
 
 pub value_some : (profile : Profile) (v : Value) → IsValue profile v → AreSome (value_leaves v)
-value_some profile v h = body_some profile v.body v.inside h.body h.inside (λ b k. entries_some profile v.inside b k)
+value_some profile v h = body_some profile v.body v.nested h.body h.nested (λ b k. entries_some profile v.nested b k)
 
-header_some : (profile : Profile) (l m : Leaf) (s t : List ℕ) (before : Gap) (k : Key) (behind : Gap) → AreSome (mark l s) → AreSome (mark m t) → IsContent profile (header before k behind) → AreSome (mark l s ++ (before ++ (key_leaves k ++ (behind ++ mark m t))))
+header_some : (profile : Profile) (l m : Leaf) (s t : List ℕ) (before : Gap) (k : Key) (behind : Gap) → AreSome (token l s) → AreSome (token m t) → IsContent profile (header before k behind) → AreSome (token l s ++ (before ++ (key_leaves k ++ (behind ++ token m t))))
 header_some profile l m s t before k behind e f h =
-    some-append (mark l s) (before ++ (key_leaves k ++ (behind ++ mark m t))) e
-    (some-append before (key_leaves k ++ (behind ++ mark m t)) (space_some before h.0)
-    (some-append (key_leaves k) (behind ++ mark m t) (key_some profile k h.1)
-    (some-append behind (mark m t) (space_some behind h.2) f)))
+    some-append (token l s) (before ++ (key_leaves k ++ (behind ++ token m t))) e
+    (some-append before (key_leaves k ++ (behind ++ token m t)) (space_some before h.0)
+    (some-append (key_leaves k) (behind ++ token m t) (key_some profile k h.1)
+    (some-append behind (token m t) (space_some behind h.2) f)))
 
 content_some : (profile : Profile) (c : Content) → IsContent profile c → AreSome (content_leaves c)
 content_some profile blank h = tt
@@ -187,7 +187,7 @@ bom_some s = by s.bom
 abbrev pub inner_leaves : Document → List Written
 inner_leaves s = bom_leaves s.bom ++ lines_leaves s.ended s.last
 
-pub leaves_end : (s : Document) → leaves s ≡ inner_leaves s ++ mark leaf.End []
+pub leaves_end : (s : Document) → leaves s ≡ inner_leaves s ++ token leaf.End []
 leaves_end s = simp append_assoc
 
 -- No leaf of a document but End is empty, and each begins a character.
@@ -197,7 +197,7 @@ document_some profile s h = some-append (bom_leaves s.bom) (lines_leaves s.ended
 -- There are at most as many leaves as bytes, and End.
 pub leaves_count : (profile : Profile) (limit : ℕ) (bytes : List ℕ) (s : Document) → Reads profile limit bytes s → length (leaves s) ≤ length bytes + 1
 leaves_count profile limit bytes s h =
-    let end = mark leaf.End [] in
+    let end = token leaf.End [] in
     omega (
       arith,
       some_count (inner_leaves s) (document_some profile s h.valid),
@@ -213,6 +213,6 @@ pub value_leaves_count : (profile : Profile) (limit : ℕ) (bytes : List ℕ) (v
 value_leaves_count profile limit bytes v h = omega (arith, some_count (value_leaves v) (value_some profile v h.valid), ap length h.spelled)
 
 -- as many tokens as leaves
-pub marks_count : (at : ℕ) (ws : List Written) → length (marks at ws) ≡ length ws
-marks_count at [] = refl
-marks_count at (w ∷ ws) = omega (arith, marks_count (at + length w.text) ws)
+pub tokens_count : (at : ℕ) (ws : List Written) → length (token_places at ws) ≡ length ws
+tokens_count at [] = refl
+tokens_count at (w ∷ ws) = omega (arith, tokens_count (at + length w.text) ws)

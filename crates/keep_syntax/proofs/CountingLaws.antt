@@ -12,7 +12,7 @@ use Rattle.keep_parts.specs.declared.info.ValueInfo.{ValueInfo}
 use Rattle.keep_parts.specs.declared.moves.Counts.{Counts}
 use Rattle.keep_syntax.specs.Tree.{Written, Content, blank, keyval, header, element, Line, Ended, Document, text_of, line_leaves, ended_leaves, bom_leaves}
 use Rattle.keep_syntax.specs.Grammar.{IsEnded, IsDocument}
-use Rattle.keep_syntax.specs.Numbered.{width, Count, first_line, line_statements, content_statements, next_line, behind_lines}
+use Rattle.keep_syntax.specs.Numbered.{width, Count, first_line, line_statements, content_statements, next_line, after_lines}
 use Rattle.keep_parts.specs.Flat.{Flat}
 use Rattle.keep_syntax.specs.Growth.{kinds, starts}
 use Rattle.keep_parts.specs.Rereading.{count_at, counts_at, places_before, statements_before, first_key, value_or, first_value, counts_before, nothing, part_of, joined}
@@ -21,11 +21,11 @@ use Rattle.keep_syntax.proofs.CountLaws.{BeginsChar, AreSome, document_some}
 use Rattle.keep_syntax.proofs.NumberingLaws.{width-append}
 use Rattle.keep_parts.proofs.Shared.{same_flat, if_true, if_false}
 use Rattle.keep_syntax.proofs.LineLoopLaws.{same_count}
-use Rattle.keep_syntax.proofs.LineNumberingLaws.{over_ended, behind_lines-at, behind_lines-statements, behind_lines-parts, behind_lines-values}
+use Rattle.keep_syntax.proofs.LineNumberingLaws.{over_ended, after_lines-at, after_lines-statements, after_lines-parts, after_lines-values}
 use Rattle.keep_syntax.proofs.LineStartLaws.{HaveBytes}
 use Rattle.keep_syntax.proofs.SplitLaws.{have_bytes}
 use Rattle.keep_syntax.proofs.HeadLaws.{HeadIs, ByValue, ValuesFrom, head_is, values_from}
-use Rattle.keep_syntax.proofs.PieceLaws.{bom_piece, ended_piece, lines_piece, flat_pieces, lines_front, joined_assoc}
+use Rattle.keep_syntax.proofs.PieceLaws.{bom_piece, ended_piece, lines_piece, flat_pieces, lines_prefix, joined_assoc}
 
 -- ---- lists that all are so
 
@@ -33,9 +33,9 @@ pub all_append : {A : Type 0} (P : A → Type 0) (xs ys : List A) → AllByRecur
 all_append P [] ys h k = k
 all_append P (x ∷ xs) ys h k = (h.0, all_append P xs ys h.1 k)
 
-pub all_front : {A : Type 0} (P : A → Type 0) (xs ys : List A) → AllByRecursion P (xs ++ ys) → AllByRecursion P xs
-all_front P [] ys h = tt
-all_front P (x ∷ xs) ys h = (h.0, all_front P xs ys h.1)
+pub all_prefix : {A : Type 0} (P : A → Type 0) (xs ys : List A) → AllByRecursion P (xs ++ ys) → AllByRecursion P xs
+all_prefix P [] ys h = tt
+all_prefix P (x ∷ xs) ys h = (h.0, all_prefix P xs ys h.1)
 
 pub all_back : {A : Type 0} (P : A → Type 0) (xs ys : List A) → AllByRecursion P (xs ++ ys) → AllByRecursion P ys
 all_back P [] ys h = h
@@ -127,26 +127,26 @@ joined_even f g h k = omega (arith, h, k, length-append f.starts g.starts, lengt
 
 -- what is stored of a document's lines before others
 abbrev pub before_piece : Document → List Ended → Flat
-before_piece d front = joined (bom_piece d) (ended_piece (first_line d) front)
+before_piece d prefix = joined (bom_piece d) (ended_piece (first_line d) prefix)
 
-pub before_even : (d : Document) (front : List Ended) → IsEven (before_piece d front)
-before_even d front = joined_even (bom_piece d) (ended_piece (first_line d) front) (starts_even 0 (bom_leaves d.bom)) (starts_even (first_line d).at (flat_map ended_leaves front))
+pub before_even : (d : Document) (prefix : List Ended) → IsEven (before_piece d prefix)
+before_even d prefix = joined_even (bom_piece d) (ended_piece (first_line d) prefix) (starts_even 0 (bom_leaves d.bom)) (starts_even (first_line d).at (flat_map ended_leaves prefix))
 
 pub lines_even : (c : Count) (es : List Ended) (l : Line) → IsEven (lines_piece c es l)
 lines_even c es l = starts_even c.at (flat_map ended_leaves es ++ line_leaves l)
 
-pub before_count : (d : Document) (front : List Ended) (place : ℕ) → place ≡ (behind_lines (first_line d) front).at → count_at place (before_piece d front) ≡ behind_lines (first_line d) front
-before_count d front place e =
+pub before_count : (d : Document) (prefix : List Ended) (place : ℕ) → place ≡ (after_lines (first_line d) prefix).at → count_at place (before_piece d prefix) ≡ after_lines (first_line d) prefix
+before_count d prefix place e =
     let c0 = first_line d in
-    same_count (count_at place (before_piece d front)) (behind_lines c0 front) e (omega (arith, behind_lines-statements c0 front)) (omega (arith, behind_lines-parts c0 front)) (omega (arith, behind_lines-values c0 front))
+    same_count (count_at place (before_piece d prefix)) (after_lines c0 prefix) e (omega (arith, after_lines-statements c0 prefix)) (omega (arith, after_lines-parts c0 prefix)) (omega (arith, after_lines-values c0 prefix))
 
 -- a document is its lines before others, and these
-pub flat_before : (d : Document) (front rest : List Ended) → d.ended ≡ front ++ rest → flat_of d ≡ joined (before_piece d front) (lines_piece (behind_lines (first_line d) front) rest d.last)
-flat_before d front rest e =
+pub flat_before : (d : Document) (prefix rest : List Ended) → d.ended ≡ prefix ++ rest → flat_of d ≡ joined (before_piece d prefix) (lines_piece (after_lines (first_line d) prefix) rest d.last)
+flat_before d prefix rest e =
     let c0 = first_line d in
-    let y = lines_piece (behind_lines c0 front) rest d.last in
-    flat_pieces d ∙ ap (λ (es : List Ended). joined (bom_piece d) (lines_piece c0 es d.last)) e ∙ ap (λ (f : Flat). joined (bom_piece d) f) (lines_front c0 front rest d.last)
-    ∙ sym (joined_assoc (bom_piece d) (ended_piece c0 front) y)
+    let y = lines_piece (after_lines c0 prefix) rest d.last in
+    flat_pieces d ∙ ap (λ (es : List Ended). joined (bom_piece d) (lines_piece c0 es d.last)) e ∙ ap (λ (f : Flat). joined (bom_piece d) f) (lines_prefix c0 prefix rest d.last)
+    ∙ sym (joined_assoc (bom_piece d) (ended_piece c0 prefix) y)
 
 abbrev counts_with : ℕ → ℕ → ℕ → ℕ → ℕ → Counts
 counts_with at tokens statements keys values = record { at = at; tokens = tokens; statements = statements; keys = keys; values = values }
@@ -164,39 +164,39 @@ counts_join c x y place even low high begin after head values ek ev =
     (ap (first_key (length (x.keys ++ y.keys))) left ∙ key_count c y.statements x.keys y.keys head ek)
     (ap (first_value (length (x.values ++ y.values))) left ∙ value_count c y.statements x.values y.values values ev)
 
-some_front : (profile : Profile) (d : Document) (front rest : List Ended) → IsDocument profile d → d.ended ≡ front ++ rest → AreSome (flat_map ended_leaves front)
-some_front profile d front rest valid e =
+some_prefix : (profile : Profile) (d : Document) (prefix rest : List Ended) → IsDocument profile d → d.ended ≡ prefix ++ rest → AreSome (flat_map ended_leaves prefix)
+some_prefix profile d prefix rest valid e =
     let some = document_some profile d valid in
-    let here = all_front BeginsChar (flat_map ended_leaves d.ended) (line_leaves d.last) (all_back BeginsChar (bom_leaves d.bom) (flat_map ended_leaves d.ended ++ line_leaves d.last) some) in
-    all_front BeginsChar (flat_map ended_leaves front) (flat_map ended_leaves rest)
-    (subst (λ (ws : List Written). AreSome ws) (ap (flat_map ended_leaves) e ∙ flat_map-append ended_leaves front rest) here)
+    let here = all_prefix BeginsChar (flat_map ended_leaves d.ended) (line_leaves d.last) (all_back BeginsChar (bom_leaves d.bom) (flat_map ended_leaves d.ended ++ line_leaves d.last) some) in
+    all_prefix BeginsChar (flat_map ended_leaves prefix) (flat_map ended_leaves rest)
+    (subst (λ (ws : List Written). AreSome ws) (ap (flat_map ended_leaves) e ∙ flat_map-append ended_leaves prefix rest) here)
 
 -- How much comes before a line: all that is stored of the lines before it.
-pub counts_found : (profile : Profile) (d : Document) (front rest : List Ended) (place : ℕ) → IsDocument profile d → d.ended ≡ front ++ rest → place ≡ (behind_lines (first_line d) front).at
-    → counts_before (flat_of d) place ≡ counts_at place (before_piece d front)
-counts_found profile d front rest place valid e here =
+pub counts_found : (profile : Profile) (d : Document) (prefix rest : List Ended) (place : ℕ) → IsDocument profile d → d.ended ≡ prefix ++ rest → place ≡ (after_lines (first_line d) prefix).at
+    → counts_before (flat_of d) place ≡ counts_at place (before_piece d prefix)
+counts_found profile d prefix rest place valid e here =
     let c0 = first_line d in
-    let c = behind_lines c0 front in
-    let x = before_piece d front in
+    let c = after_lines c0 prefix in
+    let x = before_piece d prefix in
     let y = lines_piece c rest d.last in
     let bom : List Written = bom_leaves d.bom in
-    let lines : List Written = flat_map ended_leaves front in
-    let size : c.at ≡ c0.at + width lines = behind_lines-at c0 front in
+    let lines : List Written = flat_map ended_leaves prefix in
+    let size : c.at ≡ c0.at + width lines = after_lines-at c0 prefix in
     let low : Before place x.starts =
     all_append (λ (n : ℕ). n < place) (starts 0 bom) (starts c0.at lines)
-    (starts_before 0 place bom (all_front BeginsChar bom (flat_map ended_leaves d.ended ++ line_leaves d.last) (document_some profile d valid)) (omega (arith, here, size)))
-    (starts_before c0.at place lines (some_front profile d front rest valid e) (omega (arith, here, size))) in
+    (starts_before 0 place bom (all_prefix BeginsChar bom (flat_map ended_leaves d.ended ++ line_leaves d.last) (document_some profile d valid)) (omega (arith, here, size)))
+    (starts_before c0.at place lines (some_prefix profile d prefix rest valid e) (omega (arith, here, size))) in
     let head = head_is c rest d.last in
-    let bytes = have_bytes profile front (all_front (IsEnded profile) front rest (subst (λ (es : List Ended). AllByRecursion (IsEnded profile) es) e valid.ended)) in
-    ap (λ (f : Flat). counts_before f place) (flat_before d front rest e)
-    ∙ counts_join c x y place (before_even d front) low (starts_from place c.at (flat_map ended_leaves rest ++ line_leaves d.last) (omega (arith, here)))
-    (lines_begin c0 front place bytes (omega (arith, here, size))) (subst (λ (n : ℕ). BeginFrom n y.statements) (sym here) (head_begins c y.statements y.keys head))
-    head (values_from c rest d.last) (omega (arith, behind_lines-parts c0 front)) (omega (arith, behind_lines-values c0 front))
+    let bytes = have_bytes profile prefix (all_prefix (IsEnded profile) prefix rest (subst (λ (es : List Ended). AllByRecursion (IsEnded profile) es) e valid.ended)) in
+    ap (λ (f : Flat). counts_before f place) (flat_before d prefix rest e)
+    ∙ counts_join c x y place (before_even d prefix) low (starts_from place c.at (flat_map ended_leaves rest ++ line_leaves d.last) (omega (arith, here)))
+    (lines_begin c0 prefix place bytes (omega (arith, here, size))) (subst (λ (n : ℕ). BeginFrom n y.statements) (sym here) (head_begins c y.statements y.keys head))
+    head (values_from c rest d.last) (omega (arith, after_lines-parts c0 prefix)) (omega (arith, after_lines-values c0 prefix))
 
 -- ---- parts of what is stored
 
-pub range_front : {A : Type 0} (xs ys : List A) (n : ℕ) → n ≡ length xs → slice_range (xs ++ ys) 0 n ≡ xs
-range_front xs ys n e = ap (λ k. take k (xs ++ ys)) (let k : n - 0 ≡ length xs = omega (arith, e) in k) ∙ take-append_seam xs ys
+pub range_prefix : {A : Type 0} (xs ys : List A) (n : ℕ) → n ≡ length xs → slice_range (xs ++ ys) 0 n ≡ xs
+range_prefix xs ys n e = ap (λ k. take k (xs ++ ys)) (let k : n - 0 ≡ length xs = omega (arith, e) in k) ∙ take-append_seam xs ys
 
 pub range_back : {A : Type 0} (xs ys : List A) (n m : ℕ) → n ≡ length xs → m ≡ length (xs ++ ys) → slice_range (xs ++ ys) n m ≡ ys
 range_back xs ys n m e k =
@@ -206,10 +206,10 @@ range_back xs ys n m e k =
 pub range_all : {A : Type 0} (xs : List A) (n : ℕ) → n ≡ length xs → slice_range xs 0 n ≡ xs
 range_all xs n e = ap (λ k. take k xs) (let k : n - 0 ≡ length xs = omega (arith, e) in k) ∙ take-length xs
 
-pub part_front : (x y : Flat) (place : ℕ) → IsEven x → part_of nothing (counts_at place x) (joined x y) ≡ x
-part_front x y place even =
+pub part_prefix : (x y : Flat) (place : ℕ) → IsEven x → part_of nothing (counts_at place x) (joined x y) ≡ x
+part_prefix x y place even =
     same_flat (part_of nothing (counts_at place x) (joined x y)) x
-    (range_front x.kinds y.kinds _ refl) (range_front x.starts y.starts _ (sym even)) (range_front x.statements y.statements _ refl) (range_front x.keys y.keys _ refl) (range_front x.values y.values _ refl)
+    (range_prefix x.kinds y.kinds _ refl) (range_prefix x.starts y.starts _ (sym even)) (range_prefix x.statements y.statements _ refl) (range_prefix x.keys y.keys _ refl) (range_prefix x.values y.values _ refl)
 
 pub part_back : (x y : Flat) (a b : ℕ) → IsEven x → IsEven y → part_of (counts_at a x) (counts_at b (joined x y)) (joined x y) ≡ y
 part_back x y a b even also =

@@ -1,4 +1,4 @@
--- Where a bracket is one too many, some value goes on behind it.
+-- Where a bracket is one too many, some value continues after it.
 use Rattle.std.proofs.Common.{◌≡◌, ℕ, zero, suc, ◌+◌, ◌≤◌, Bool, true, false, cond, not, ◌&&◌, ◌==◌, List, [], ◌∷◌, ◌++◌, length, drop, Option, Some, None, Ok, Err, refl, sym, ap, ◌∙◌, subst, inl, inr, arith, append_assoc}
 use Rattle.std.specs.Prelude.{IsTrue}
 use Rattle.std.specs.List.{flat_map, AllByRecursion}
@@ -12,28 +12,28 @@ use Rattle.keep_token.specs.Scanning.{first, scalar_at}
 use Rattle.keep_token.proofs.Shared.{tested}
 use Rattle.keep_syntax.specs.declared.info.Brackets.{Brackets}
 use Rattle.keep_syntax.specs.declared.info.Brackets.TheVariants as brackets
-use Rattle.keep_syntax.specs.Tree.{Written, Gap, Further, Key, Name, Body, scalar, array, inline, Entries, none, entry, Value, text_of, mark, further_leaves, key_leaves, name_leaves, named_leaves, opening, closing, comma_leaves, entries_leaves, value_leaves}
+use Rattle.keep_syntax.specs.Tree.{Written, Gap, Further, Key, Name, Body, scalar, array, inline, Entries, none, entry, Value, text_of, token, further_leaves, key_leaves, name_leaves, named_leaves, opening, closing, comma_leaves, entries_leaves, value_leaves}
 use Rattle.keep_syntax.specs.Grammar.{IsSpace, IsBlank, IsKeyPart, IsFurther, IsKey, IsName, place_in, IsGap, IsNamed, IsBody, IsComma, AreEntries, IsValue, ReadsValue}
-use Rattle.keep_syntax.specs.Deep.{is_opening, open_by, open_behind, IsDeepIn, IsValueTooDeep}
-use Rattle.keep_syntax.specs.Reading.{Bad, Deep, Read, ◌>>=◌, Turn, goes_on, ready, open_byte, close_byte, body_in, is_free, gap_in, name_of, join, Item, entry_of, named_in, after_by, item_by, turn_of, entry_by, entries_by, bracket_by, scalar_of, value_by, value_of, read_one_value}
+use Rattle.keep_syntax.specs.Deep.{is_opening, open_by, open_after, IsDeepIn, IsValueTooDeep}
+use Rattle.keep_syntax.specs.Reading.{Bad, Deep, Read, ◌>>=◌, Iteration, continues, ready, open_byte, close_byte, body_in, is_free, gap_in, name_of, join, Item, entry_of, named_in, after_by, item_by, iteration_of, entry_by, entries_by, bracket_by, scalar_of, value_by, value_of, read_one_value}
 use Rattle.keep_syntax.proofs.LoopLaws.{bind_err, repeat_deep}
 use Rattle.keep_syntax.proofs.WholeLaws.{value_read}
 use Rattle.keep_syntax.proofs.SpaceLaws.{text_of-append, is_solid, place_of, gap_takes, gap_blank, space_blank}
 use Rattle.keep_syntax.proofs.KeyLaws.{first_is, name_not_deep}
-use Rattle.keep_syntax.proofs.ValueLaws.{item_leaves, entry_leaves, is_value_first, value_first_solid, Behind, ReadsValues, TookItem, named_takes, at_close, at_last, at_comma, entry_cases, bracket_valid, open_some, open_begins, value_takes}
+use Rattle.keep_syntax.proofs.ValueLaws.{item_leaves, entry_leaves, is_value_first, value_first_solid, After, ReadsValues, TookItem, named_takes, at_close, at_last, at_comma, entry_cases, bracket_valid, open_some, open_begins, value_takes}
 
 -- ---- how many brackets leaves open
 
 -- these leaves open so many more brackets than they close
 abbrev pub Opens : ℕ → List Written → Type 0
-Opens k ws = (n : ℕ) → open_behind n ws ≡ n + k
+Opens k ws = (n : ℕ) → open_after n ws ≡ n + k
 
-open_behind-append : (n : ℕ) (a b : List Written) → open_behind n (a ++ b) ≡ open_behind (open_behind n a) b
-open_behind-append n [] b = refl
-open_behind-append n (w ∷ ws) b = open_behind-append (open_by w.leaf n) ws b
+open_after-append : (n : ℕ) (a b : List Written) → open_after n (a ++ b) ≡ open_after (open_after n a) b
+open_after-append n [] b = refl
+open_after-append n (w ∷ ws) b = open_after-append (open_by w.leaf n) ws b
 
 pub opens-append : (j k m : ℕ) (a b : List Written) → m ≡ j + k → Opens j a → Opens k b → Opens m (a ++ b)
-opens-append j k m a b e h g n = open_behind-append n a b ∙ ap (λ (i : ℕ). open_behind i b) (h n) ∙ g (n + j) ∙ omega arith
+opens-append j k m a b e h g n = open_after-append n a b ∙ ap (λ (i : ℕ). open_after i b) (h n) ∙ g (n + j) ∙ omega arith
 
 -- none
 pub none-append : (a b : List Written) → Opens 0 a → Opens 0 b → Opens 0 (a ++ b)
@@ -42,7 +42,7 @@ none-append a b h g = opens-append 0 0 0 a b refl h g
 pub opens-none : Opens 0 []
 opens-none n = omega arith
 
-opens-one : (l : Leaf) (text : List ℕ) → ((n : ℕ) → open_by l n ≡ n) → Opens 0 (mark l text)
+opens-one : (l : Leaf) (text : List ℕ) → ((n : ℕ) → open_by l n ≡ n) → Opens 0 (token l text)
 opens-one l text h n = h n ∙ omega arith
 
 gap_opens : (l : Leaf) → IsTrue (is_gap_leaf l) → (n : ℕ) → open_by l n ≡ n
@@ -76,8 +76,8 @@ part_opens profile w h = opens-one w.leaf w.text (key_opens w.leaf h.0)
 
 further_opens : (profile : Profile) (f : Further) → IsFurther profile f → Opens 0 (further_leaves f)
 further_opens profile f h =
-    none-append f.before (mark leaf.Dot (0x2E ∷ []) ++ (f.behind ++ (f.part ∷ []))) (space_opens f.before h.before)
-    (none-append (mark leaf.Dot (0x2E ∷ [])) (f.behind ++ (f.part ∷ [])) (opens-one leaf.Dot (0x2E ∷ []) (λ n. refl)) (none-append f.behind (f.part ∷ []) (space_opens f.behind h.behind) (part_opens profile f.part h.part)))
+    none-append f.before (token leaf.Dot (0x2E ∷ []) ++ (f.behind ++ (f.part ∷ []))) (space_opens f.before h.before)
+    (none-append (token leaf.Dot (0x2E ∷ [])) (f.behind ++ (f.part ∷ [])) (opens-one leaf.Dot (0x2E ∷ []) (λ n. refl)) (none-append f.behind (f.part ∷ []) (space_opens f.behind h.behind) (part_opens profile f.part h.part)))
 
 more_opens : (profile : Profile) (fs : List Further) → AllByRecursion (IsFurther profile) fs → Opens 0 (flat_map further_leaves fs)
 more_opens profile [] h = opens-none
@@ -88,8 +88,8 @@ keys_open profile k h = none-append (k.first ∷ []) (flat_map further_leaves k.
 
 pub name_opens : (profile : Profile) (n : Name) → IsName profile n → Opens 0 (name_leaves n)
 name_opens profile n h =
-    none-append (key_leaves n.key) (n.before ++ (mark leaf.Equals (0x3D ∷ []) ++ n.behind)) (keys_open profile n.key h.key)
-    (none-append n.before (mark leaf.Equals (0x3D ∷ []) ++ n.behind) (space_opens n.before h.before) (none-append (mark leaf.Equals (0x3D ∷ [])) n.behind (opens-one leaf.Equals (0x3D ∷ []) (λ n. refl)) (space_opens n.behind h.behind)))
+    none-append (key_leaves n.key) (n.before ++ (token leaf.Equals (0x3D ∷ []) ++ n.behind)) (keys_open profile n.key h.key)
+    (none-append n.before (token leaf.Equals (0x3D ∷ []) ++ n.behind) (space_opens n.before h.before) (none-append (token leaf.Equals (0x3D ∷ [])) n.behind (opens-one leaf.Equals (0x3D ∷ []) (λ n. refl)) (space_opens n.behind h.behind)))
 
 named_opens : (profile : Profile) (b : Brackets) (n : Option Name) → IsNamed profile (place_of b) n → Opens 0 (named_leaves n)
 named_opens profile b None h = opens-none
@@ -98,41 +98,41 @@ named_opens profile brackets.Inline (Some n) h = name_opens profile n h
 
 comma_opens : (profile : Profile) (b : Brackets) (comma : Option Gap) → ((g : Gap) → comma ≡ Some g → IsBlank g) → Opens 0 (comma_leaves comma)
 comma_opens profile b None h = opens-none
-comma_opens profile b (Some g) h = none-append (mark leaf.Comma (0x2C ∷ [])) g (opens-one leaf.Comma (0x2C ∷ []) (λ n. refl)) (blank_opens g (h g refl))
+comma_opens profile b (Some g) h = none-append (token leaf.Comma (0x2C ∷ [])) g (opens-one leaf.Comma (0x2C ∷ []) (λ n. refl)) (blank_opens g (h g refl))
 
 -- a bracket with its gap opens one
 opening_opens : (b : Brackets) (g : Gap) → IsBlank g → Opens 1 (opening (body_in b g))
 opening_opens b g h = by b
   where
-    one : (l : Leaf) (c : ℕ) → ((n : ℕ) → open_by l n ≡ suc n) → Opens 1 (mark l (c ∷ []) ++ g)
-    one l c k = opens-append 1 0 1 (mark l (c ∷ [])) g refl (λ n. k n ∙ omega arith) (blank_opens g h)
+    one : (l : Leaf) (c : ℕ) → ((n : ℕ) → open_by l n ≡ suc n) → Opens 1 (token l (c ∷ []) ++ g)
+    one l c k = opens-append 1 0 1 (token l (c ∷ [])) g refl (λ n. k n ∙ omega arith) (blank_opens g h)
 
     by : (b : Brackets) → Opens 1 (opening (body_in b g))
     by brackets.Array = one leaf.ArrayOpen 0x5B (λ n. refl)
     by brackets.Inline = one leaf.InlineOpen 0x7B (λ n. refl)
 
 -- a value closes what it opens
-bracket_closes : (b : Brackets) (g : Gap) (inside : Entries) → IsBlank g → Opens 0 (entries_leaves inside) → Opens 0 (value_leaves (record { body = body_in b g; inside = inside }))
-bracket_closes b g inside h k n =
-    open_behind-append n (opening (body_in b g)) (entries_leaves inside ++ closing (body_in b g))
-    ∙ ap (λ (i : ℕ). open_behind i (entries_leaves inside ++ closing (body_in b g))) (opening_opens b g h n)
-    ∙ open_behind-append (n + 1) (entries_leaves inside) (closing (body_in b g))
-    ∙ ap (λ (i : ℕ). open_behind i (closing (body_in b g))) (k (n + 1)) ∙ by b
+bracket_closes : (b : Brackets) (g : Gap) (nested : Entries) → IsBlank g → Opens 0 (entries_leaves nested) → Opens 0 (value_leaves (record { body = body_in b g; nested = nested }))
+bracket_closes b g nested h k n =
+    open_after-append n (opening (body_in b g)) (entries_leaves nested ++ closing (body_in b g))
+    ∙ ap (λ (i : ℕ). open_after i (entries_leaves nested ++ closing (body_in b g))) (opening_opens b g h n)
+    ∙ open_after-append (n + 1) (entries_leaves nested) (closing (body_in b g))
+    ∙ ap (λ (i : ℕ). open_after i (closing (body_in b g))) (k (n + 1)) ∙ by b
   where
-    by : (b : Brackets) → open_behind ((n + 1) + 0) (closing (body_in b g)) ≡ n + 0
+    by : (b : Brackets) → open_after ((n + 1) + 0) (closing (body_in b g)) ≡ n + 0
     by brackets.Array = omega arith
     by brackets.Inline = omega arith
 
-value_closes : (profile : Profile) (body : Body) (inside : Entries) → IsBody profile body → AreEntries profile (place_in body) inside → ((b : Brackets) → AreEntries profile (place_of b) inside → Opens 0 (entries_leaves inside)) → Opens 0 (value_leaves (record { body = body; inside = inside }))
+value_closes : (profile : Profile) (body : Body) (nested : Entries) → IsBody profile body → AreEntries profile (place_in body) nested → ((b : Brackets) → AreEntries profile (place_of b) nested → Opens 0 (entries_leaves nested)) → Opens 0 (value_leaves (record { body = body; nested = nested }))
 value_closes profile (scalar w) none h i ih = opens-one w.leaf w.text (scalar_opens w.leaf h.0)
-value_closes profile (scalar w) (entry name body inside after comma rest) h i ih = absurd i.0
-value_closes profile (array g) inside h i ih = bracket_closes brackets.Array g inside (gap_blank profile brackets.Array g h) (ih brackets.Array i)
-value_closes profile (inline g) inside h i ih = bracket_closes brackets.Inline g inside (gap_blank profile brackets.Inline g h) (ih brackets.Inline i)
+value_closes profile (scalar w) (entry name body nested after comma rest) h i ih = absurd i.0
+value_closes profile (array g) nested h i ih = bracket_closes brackets.Array g nested (gap_blank profile brackets.Array g h) (ih brackets.Array i)
+value_closes profile (inline g) nested h i ih = bracket_closes brackets.Inline g nested (gap_blank profile brackets.Inline g h) (ih brackets.Inline i)
 
 pub comma_blank : (profile : Profile) (b : Brackets) (comma : Option Gap) (rest : Entries) → IsComma profile (place_of b) comma rest → (g : Gap) → comma ≡ Some g → IsBlank g
 comma_blank profile b None rest h g e = absurd cc
 comma_blank profile b (Some k) none h g e = let same : k ≡ g = cc in gap_blank profile b g (subst (λ (x : Gap). IsGap profile (place_of b) x) same h.0)
-comma_blank profile b (Some k) (entry name body inside after comma rest) h g e = let same : k ≡ g = cc in gap_blank profile b g (subst (λ (x : Gap). IsGap profile (place_of b) x) same h)
+comma_blank profile b (Some k) (entry name body nested after comma rest) h g e = let same : k ≡ g = cc in gap_blank profile b g (subst (λ (x : Gap). IsGap profile (place_of b) x) same h)
 
 item_closes : (profile : Profile) (b : Brackets) (i : Item) → IsNamed profile (place_of b) i.name → Opens 0 (value_leaves i.value) → IsGap profile (place_of b) i.after → ((g : Gap) → i.comma ≡ Some g → IsBlank g) → Opens 0 (item_leaves i)
 item_closes profile b i named value gap comma =
@@ -141,19 +141,19 @@ item_closes profile b i named value gap comma =
 
 entries_close : (profile : Profile) (es : Entries) (b : Brackets) → AreEntries profile (place_of b) es → Opens 0 (entries_leaves es)
 entries_close profile none b h = opens-none
-entries_close profile (entry name body inside after comma rest) b h =
-    let i : Item = record { name = name; value = record { body = body; inside = inside }; after = after; comma = comma } in
+entries_close profile (entry name body nested after comma rest) b h =
+    let i : Item = record { name = name; value = record { body = body; nested = nested }; after = after; comma = comma } in
     subst (λ (ws : List Written). Opens 0 ws) (sym (entry_leaves i rest))
-    (none-append (item_leaves i) (entries_leaves rest) (item_closes profile b i h.0 (value_closes profile body inside h.1 h.2 (λ c k. entries_close profile inside c k)) h.3 (comma_blank profile b comma rest h.4)) (entries_close profile rest b h.5))
+    (none-append (item_leaves i) (entries_leaves rest) (item_closes profile b i h.0 (value_closes profile body nested h.1 h.2 (λ c k. entries_close profile nested c k)) h.3 (comma_blank profile b comma rest h.4)) (entries_close profile rest b h.5))
 
 -- What a value opens it closes.
 pub value_opens : (profile : Profile) (v : Value) → IsValue profile v → Opens 0 (value_leaves v)
-value_opens profile v h = value_closes profile v.body v.inside h.body h.inside (λ b k. entries_close profile v.inside b k)
+value_opens profile v h = value_closes profile v.body v.nested h.body h.nested (λ b k. entries_close profile v.nested b k)
 
 -- ---- where reading stops at a bracket too many
 
--- leaves go on from a text's front with a bracket, where so many more are open
-pub record Goes (room : ℕ) (text rest : List ℕ) (all : List Written) : Type 0 where
+-- leaves continue from a prefix of a text with a bracket, where so many more are open
+pub record Leads (room : ℕ) (text rest : List ℕ) (all : List Written) : Type 0 where
   pub before : List Written
   pub bracket : Written
   pub after : List Written
@@ -161,33 +161,33 @@ pub record Goes (room : ℕ) (text rest : List ℕ) (all : List Written) : Type 
   pub opens : IsTrue (is_opening bracket.leaf)
   pub here : all ≡ before ++ (bracket ∷ after)
   pub spelled : text ≡ text_of before ++ rest
-  pub stands : rest ≡ bracket.text ++ tail
+  pub occurs : rest ≡ bracket.text ++ tail
   pub deep : Opens room before
 
--- leaves in front and behind
-pub goes_in : (k room room' : ℕ) (text t rest : List ℕ) (front all back whole : List Written) → room' ≡ k + room → Opens k front → text ≡ text_of front ++ t → whole ≡ front ++ (all ++ back) → Goes room t rest all → Goes room' text rest whole
-goes_in k room room' text t rest front all back whole e opens spelled is g = record {
-  before = front ++ g.before;
+-- leaves before and after
+pub leads_in : (k room room' : ℕ) (text t rest : List ℕ) (prefix all back whole : List Written) → room' ≡ k + room → Opens k prefix → text ≡ text_of prefix ++ t → whole ≡ prefix ++ (all ++ back) → Leads room t rest all → Leads room' text rest whole
+leads_in k room room' text t rest prefix all back whole e opens spelled is g = record {
+  before = prefix ++ g.before;
   bracket = g.bracket;
   after = g.after ++ back;
   tail = g.tail;
   opens = g.opens;
-  here = is ∙ ap (λ (ws : List Written). front ++ (ws ++ back)) g.here ∙ simp append_assoc;
-  spelled = spelled ∙ ap (λ (x : List ℕ). text_of front ++ x) g.spelled ∙ sym (append_assoc (text_of front) (text_of g.before) rest) ∙ ap (λ (x : List ℕ). x ++ rest) (sym (text_of-append front g.before));
-  stands = g.stands;
-  deep = opens-append k room room' front g.before e opens g.deep;
+  here = is ∙ ap (λ (ws : List Written). prefix ++ (ws ++ back)) g.here ∙ simp append_assoc;
+  spelled = spelled ∙ ap (λ (x : List ℕ). text_of prefix ++ x) g.spelled ∙ sym (append_assoc (text_of prefix) (text_of g.before) rest) ∙ ap (λ (x : List ℕ). x ++ rest) (sym (text_of-append prefix g.before));
+  occurs = g.occurs;
+  deep = opens-append k room room' prefix g.before e opens g.deep;
 }
 
 pub record DeepValue (profile : Profile) (room : ℕ) (text rest : List ℕ) : Type 0 where
   pub value : Value
   pub valid : IsValue profile value
-  pub goes : Goes room text rest (value_leaves value)
+  pub goes : Leads room text rest (value_leaves value)
   pub begins : is_value_first (first text) ≡ true
 
 record DeepEntries (profile : Profile) (b : Brackets) (room : ℕ) (text rest : List ℕ) : Type 0 where
   entries : Entries
   valid : AreEntries profile (place_of b) entries
-  goes : Goes room text rest (entries_leaves entries)
+  goes : Leads room text rest (entries_leaves entries)
   begins : is_solid (first text) ≡ true
 
 abbrev pub DeepValues : Profile → ℕ → (List ℕ → Read Value) → Type 0
@@ -233,55 +233,55 @@ item_deep profile b room value deep text rest h =
                 let i : Item = record { name = n.0; value = d.value; after = []; comma = None } in
                 record {
                   entries = entry_of i none;
-                  valid = (tn.valid, d.valid.body, d.valid.inside, empty_gap profile b, tt, tt);
-                  goes = goes_in 0 room room text n.1 rest (named_leaves n.0) (value_leaves d.value) [] (entries_leaves (entry_of i none)) (omega arith) (named_opens profile b n.0 tn.valid) tn.spelled (entry_leaves i none ∙ append-nil (item_leaves i)) d.goes;
+                  valid = (tn.valid, d.valid.body, d.valid.nested, empty_gap profile b, tt, tt);
+                  goes = leads_in 0 room room text n.1 rest (named_leaves n.0) (value_leaves d.value) [] (entries_leaves (entry_of i none)) (omega arith) (named_opens profile b n.0 tn.valid) tn.spelled (entry_leaves i none ∙ append-nil (item_leaves i)) d.goes;
                   begins = tn.begins (value_first_solid (first n.1) d.begins);
                 }
           ]
     ]
 
-turn_deep : (profile : Profile) (b : Brackets) (room : ℕ) (value : List ℕ → Read Value) → DeepValues profile room value → (front : Entries) (text rest : List ℕ) → entry_by profile b value front text ≡ Err (Deep rest) → DeepEntries profile b room text rest
+iteration_deep : (profile : Profile) (b : Brackets) (room : ℕ) (value : List ℕ → Read Value) → DeepValues profile room value → (prefix : Entries) (text rest : List ℕ) → entry_by profile b value prefix text ≡ Err (Deep rest) → DeepEntries profile b room text rest
 unfolding entry_by
-turn_deep profile b room value deep front text rest h =
+iteration_deep profile b room value deep prefix text rest h =
     elim (tested (first text == close_byte b)) [
       | inl e ↦ absurd (let k = rw e at h in cc)
-      | inr e ↦ elim (bind_err (item_by profile b value text) (λ i. Ok (turn_of front i.0 i.0.comma, i.1)) (Deep rest) (rw e at h)) [ inl k ↦ item_deep profile b room value deep text rest k | inr x ↦ absurd (let bad = x.2 in cc) ]
+      | inr e ↦ elim (bind_err (item_by profile b value text) (λ i. Ok (iteration_of prefix i.0 i.0.comma, i.1)) (Deep rest) (rw e at h)) [ inl k ↦ item_deep profile b room value deep text rest k | inr x ↦ absurd (let bad = x.2 in cc) ]
     ]
 
 -- entries with a bracket in them are some
-comma_deep : (profile : Profile) (b : Brackets) (g : Gap) (es : Entries) (room : ℕ) (text rest : List ℕ) → IsGap profile (place_of b) g → Goes room text rest (entries_leaves es) → IsComma profile (place_of b) (Some g) es
+comma_deep : (profile : Profile) (b : Brackets) (g : Gap) (es : Entries) (room : ℕ) (text rest : List ℕ) → IsGap profile (place_of b) g → Leads room text rest (entries_leaves es) → IsComma profile (place_of b) (Some g) es
 comma_deep profile b g none room text rest h goes = absurd (omega (arith, ap length goes.here, length-append goes.before (goes.bracket ∷ goes.after)))
-comma_deep profile b g (entry name body inside after comma more) room text rest h goes = h
+comma_deep profile b g (entry name body nested after comma more) room text rest h goes = h
 
-abbrev turn_on : Entries → Turn Entries Entries
-turn_on s = goes_on s
+abbrev iteration_on : Entries → Iteration Entries Entries
+iteration_on s = continues s
 
-abbrev turn_ready : Entries → Turn Entries Entries
-turn_ready s = ready s
+abbrev iteration_ready : Entries → Iteration Entries Entries
+iteration_ready s = ready s
 
-entries_deep : (profile : Profile) (b : Brackets) (room : ℕ) (value : List ℕ → Read Value) → ReadsValues profile room value → DeepValues profile room value → (front : Entries) (text rest : List ℕ) → entries_by profile b value front text ≡ Err (Deep rest) → DeepEntries profile b room text rest
-entries_deep profile b room value sound deep front text rest h =
-    repeat_deep (entry_by profile b value) (λ s t r. DeepEntries profile b room t r) (turn_deep profile b room value deep) on (suc (length text)) front text rest h
+entries_deep : (profile : Profile) (b : Brackets) (room : ℕ) (value : List ℕ → Read Value) → ReadsValues profile room value → DeepValues profile room value → (prefix : Entries) (text rest : List ℕ) → entries_by profile b value prefix text ≡ Err (Deep rest) → DeepEntries profile b room text rest
+entries_deep profile b room value sound deep prefix text rest h =
+    repeat_deep (entry_by profile b value) (λ s t r. DeepEntries profile b room t r) (iteration_deep profile b room value deep) on (suc (length text)) prefix text rest h
   where
-    clash : (x y : Entries) → turn_on x ≡ turn_ready y → ⊥
+    clash : (x y : Entries) → iteration_on x ≡ iteration_ready y → ⊥
     clash x y k = absurd cc
 
     behind : (s : Entries) (text text' rest : List ℕ) (i : Item) (g : Gap) → i.comma ≡ Some g → TookItem profile b room text i text' → DeepEntries profile b room text' rest → DeepEntries profile b room text rest
     behind s text text' rest i g is ti d =
-        let followed : Behind profile b (Some g) text' = subst (λ (c : Option Gap). Behind profile b c text') is ti.behind in
+        let followed : After profile b (Some g) text' = subst (λ (c : Option Gap). After profile b c text') is ti.behind in
         let gap : IsGap profile (place_of b) g = followed.0 d.begins in
         let blank : (k : Gap) → i.comma ≡ Some k → IsBlank k = λ k e. comma_blank profile b (Some g) d.entries (comma_deep profile b g d.entries room text' rest gap d.goes) k (sym is ∙ e) in
         record {
           entries = entry_of i d.entries;
-          valid = (ti.named, ti.valid.body, ti.valid.inside, ti.gap, subst (λ (c : Option Gap). IsComma profile (place_of b) c d.entries) (sym is) (comma_deep profile b g d.entries room text' rest gap d.goes), d.valid);
-          goes = goes_in 0 room room text text' rest (item_leaves i) (entries_leaves d.entries) [] (entries_leaves (entry_of i d.entries)) (omega arith) (item_closes profile b i ti.named (value_opens profile i.value ti.valid) ti.gap blank) ti.spelled
+          valid = (ti.named, ti.valid.body, ti.valid.nested, ti.gap, subst (λ (c : Option Gap). IsComma profile (place_of b) c d.entries) (sym is) (comma_deep profile b g d.entries room text' rest gap d.goes), d.valid);
+          goes = leads_in 0 room room text text' rest (item_leaves i) (entries_leaves d.entries) [] (entries_leaves (entry_of i d.entries)) (omega arith) (item_closes profile b i ti.named (value_opens profile i.value ti.valid) ti.gap blank) ti.spelled
               (entry_leaves i d.entries ∙ ap (λ (ws : List Written). item_leaves i ++ ws) (sym (append-nil (entries_leaves d.entries)))) d.goes;
           begins = ti.begins;
         }
 
-    on : (s : Entries) (text : List ℕ) (s' : Entries) (text' : List ℕ) (rest : List ℕ) → entry_by profile b value s text ≡ Ok (goes_on s', text') → DeepEntries profile b room text' rest → DeepEntries profile b room text rest
+    on : (s : Entries) (text : List ℕ) (s' : Entries) (text' : List ℕ) (rest : List ℕ) → entry_by profile b value s text ≡ Ok (continues s', text') → DeepEntries profile b room text' rest → DeepEntries profile b room text rest
     on s text s' text' rest e d =
-        elim (entry_cases profile b room value sound s text (goes_on s') text' e) [
+        elim (entry_cases profile b room value sound s text (continues s') text' e) [
           | at_close c k r ↦ absurd (clash s' s k)
           | at_last i is k ti ↦ absurd (clash s' (join s (entry_of i none)) k)
           | at_comma i g is k ti ↦ behind s text text' rest i g is ti d
@@ -295,17 +295,17 @@ bracket_deep : (profile : Profile) (room : ℕ) (value : List ℕ → Read Value
 bracket_deep profile room value sound deep b text rest opens h =
     let g = gap_in profile b (drop 1 text) in
     let gg = gap_takes profile b (drop 1 text) in
-    elim (bind_err (entries_by profile b value none g.1) (λ es. Ok (record { body = body_in b g.0; inside = es.0 }, drop 1 es.1)) (Deep rest) h) [
+    elim (bind_err (entries_by profile b value none g.1) (λ es. Ok (record { body = body_in b g.0; nested = es.0 }, drop 1 es.1)) (Deep rest) h) [
       | inr x ↦ absurd (let bad = x.2 in cc)
       | inl k ↦
           let d = entries_deep profile b room value sound deep none g.1 rest k in
           let gap : IsGap profile (place_of b) g.0 = gg.valid d.begins in
-          let v : Value = record { body = body_in b g.0; inside = d.entries } in
+          let v : Value = record { body = body_in b g.0; nested = d.entries } in
           let opened : text ≡ open_byte b ∷ drop 1 text = first_is (open_byte b) text (open_some b) opens in
           record {
             value = v;
             valid = bracket_valid profile b g.0 d.entries gap d.valid;
-            goes = goes_in 1 room (suc room) text g.1 rest (opening (body_in b g.0)) (entries_leaves d.entries) (closing (body_in b g.0)) (value_leaves v) (omega arith) (opening_opens b g.0 (gap_blank profile b g.0 gap))
+            goes = leads_in 1 room (suc room) text g.1 rest (opening (body_in b g.0)) (entries_leaves d.entries) (closing (body_in b g.0)) (value_leaves v) (omega arith) (opening_opens b g.0 (gap_blank profile b g.0 gap))
                 (opened ∙ ap (λ (x : List ℕ). open_byte b ∷ x) gg.spelled ∙ opening_text b g.0 g.1) refl d.goes;
             begins = open_begins b text opens;
           }
@@ -317,15 +317,15 @@ bracket_none profile b text rest opens is = by b opens
   where
     by : (b : Brackets) → (first text == open_byte b) ≡ true → DeepValue profile 0 text rest
     by brackets.Array e = record {
-      value = record { body = array []; inside = none };
-      valid = record { body = empty_gap profile brackets.Array; inside = tt };
-      goes = record { before = []; bracket = record { leaf = leaf.ArrayOpen; text = 0x5B ∷ [] }; after = mark leaf.ArrayClose (0x5D ∷ []); tail = drop 1 text; opens = refl; here = refl; spelled = is; stands = sym is ∙ first_is 0x5B text (omega arith) e; deep = opens-none };
+      value = record { body = array []; nested = none };
+      valid = record { body = empty_gap profile brackets.Array; nested = tt };
+      goes = record { before = []; bracket = record { leaf = leaf.ArrayOpen; text = 0x5B ∷ [] }; after = token leaf.ArrayClose (0x5D ∷ []); tail = drop 1 text; opens = refl; here = refl; spelled = is; occurs = sym is ∙ first_is 0x5B text (omega arith) e; deep = opens-none };
       begins = open_begins brackets.Array text e;
     }
     by brackets.Inline e = record {
-      value = record { body = inline []; inside = none };
-      valid = record { body = empty_gap profile brackets.Inline; inside = tt };
-      goes = record { before = []; bracket = record { leaf = leaf.InlineOpen; text = 0x7B ∷ [] }; after = mark leaf.InlineClose (0x7D ∷ []); tail = drop 1 text; opens = refl; here = refl; spelled = is; stands = sym is ∙ first_is 0x7B text (omega arith) e; deep = opens-none };
+      value = record { body = inline []; nested = none };
+      valid = record { body = empty_gap profile brackets.Inline; nested = tt };
+      goes = record { before = []; bracket = record { leaf = leaf.InlineOpen; text = 0x7B ∷ [] }; after = token leaf.InlineClose (0x7D ∷ []); tail = drop 1 text; opens = refl; here = refl; spelled = is; occurs = sym is ∙ first_is 0x7B text (omega arith) e; deep = opens-none };
       begins = open_begins brackets.Inline text e;
     }
 
@@ -349,20 +349,20 @@ value_deep_at profile (suc room) text rest h =
 -- ---- whole values
 
 -- the place of what is left
-pub goes_at : (limit : ℕ) (text : List ℕ) (at : ℕ) (all : List Written) → at ≤ length text → Goes limit text (drop at text) all → IsDeepIn limit text at all
-goes_at limit text at all le g = record {
+pub leads_at : (limit : ℕ) (text : List ℕ) (at : ℕ) (all : List Written) → at ≤ length text → Leads limit text (drop at text) all → IsDeepIn limit text at all
+leads_at limit text at all le g = record {
   before = g.before;
   bracket = g.bracket;
   after = g.after;
   rest = g.tail;
   opens = g.opens;
   here = g.here;
-  spelled = g.spelled ∙ ap (λ (x : List ℕ). text_of g.before ++ x) g.stands;
+  spelled = g.spelled ∙ ap (λ (x : List ℕ). text_of g.before ++ x) g.occurs;
   at_is = omega (arith, ap length g.spelled, length-append (text_of g.before) (drop at text), length-drop at text);
   deep = g.deep 0 ∙ omega arith;
 }
 
--- Where a value is told to be too deep, some value goes on so, and none within the limit has the text.
+-- Where a value is reported as too deep, some value continues so, and none within the limit has the text.
 pub value_deep : (profile : Profile) (limit : ℕ) (text : List ℕ) (at : ℕ) → at ≤ length text → read_one_value profile limit text ≡ Err (Deep (drop at text)) → IsValueTooDeep profile limit text at
 unfolding read_one_value
 value_deep profile limit text at le h =
@@ -371,7 +371,7 @@ value_deep profile limit text at le h =
       | inl k ↦ let d = value_deep_at profile limit text (drop at text) k in record {
         value = d.value;
         valid = d.valid;
-        deep = goes_at limit text at (value_leaves d.value) le d.goes;
+        deep = leads_at limit text at (value_leaves d.value) le d.goes;
         none_within = not_read;
       }
     ]

@@ -1,4 +1,4 @@
--- Where a bracket is one too many, some document goes on behind it.
+-- Where a bracket is one too many, some document continues after it.
 use Rattle.std.proofs.Common.{◌≡◌, ℕ, suc, ◌≤◌, Bool, true, false, cond, ◌&&◌, ◌==◌, List, [], ◌∷◌, ◌++◌, length, slice_index, drop, Option, Some, None, Ok, Err, refl, sym, ap, ◌∙◌, subst, inl, inr, arith, append_assoc}
 use Rattle.std.specs.List.{flat_map, AllByRecursion}
 use Rattle.std.proofs.lemmas.List.{append-nil}
@@ -7,27 +7,27 @@ use Rattle.keep_token.specs.declared.leaf.Leaf.{Leaf}
 use Rattle.keep_token.specs.declared.leaf.Leaf.TheVariants as leaf
 use Rattle.keep_token.specs.Scanning.{first, gap_at}
 use Rattle.keep_token.proofs.Shared.{tested, white, line, comment, nothing, gap_cases}
-use Rattle.keep_syntax.specs.Tree.{Written, Gap, Key, Content, blank, keyval, header, element, Line, Ended, Document, mark, key_leaves, name_leaves, value_leaves, content_leaves, comment_leaves, line_leaves, ended_leaves, bom_leaves, leaves, text}
+use Rattle.keep_syntax.specs.Tree.{Written, Gap, Key, Content, blank, keyval, header, element, Line, Ended, Document, token, key_leaves, name_leaves, value_leaves, content_leaves, comment_leaves, line_leaves, ended_leaves, bom_leaves, leaves, text}
 use Rattle.keep_syntax.specs.Grammar.{IsContent, IsAfter, IsComment, IsLine, IsEnded, IsDocument, Reads}
 use Rattle.keep_syntax.specs.Deep.{open_by, IsTooDeep}
-use Rattle.keep_syntax.specs.Reading.{Bad, Deep, ◌>>=◌, Turn, goes_on, ready, space_at, key_of, name_of, value_of, is_line_end, keyval_of, header_by, element_by, content_at, after_of, line_by, line_at, Lines, newline_of, behind_line, ended_at, lines_of, has_bom, behind_bom, read_document}
+use Rattle.keep_syntax.specs.Reading.{Bad, Deep, ◌>>=◌, Iteration, continues, ready, space_at, key_of, name_of, value_of, is_line_end, keyval_of, header_by, element_by, content_at, after_of, line_by, line_at, Lines, newline_of, after_line, ended_at, lines_of, has_bom, after_bom, read_document}
 use Rattle.keep_syntax.proofs.LoopLaws.{bind_err, repeat_deep}
 use Rattle.keep_syntax.proofs.SpaceLaws.{space_takes}
 use Rattle.keep_syntax.proofs.KeyLaws.{key_not_deep, name_takes, name_not_deep}
-use Rattle.keep_syntax.proofs.DeepLaws.{Opens, none-append, opens-none, space_opens, keys_open, name_opens, value_opens, Goes, goes_in, value_deep_at, goes_at}
+use Rattle.keep_syntax.proofs.DeepLaws.{Opens, none-append, opens-none, space_opens, keys_open, name_opens, value_opens, Leads, leads_in, value_deep_at, leads_at}
 use Rattle.keep_syntax.proofs.DocumentLaws.{lines_leaves, bom_parts, at_last, at_line, line_cases, document_read}
 
 -- ---- lines close what they open
 
-plain : (l : Leaf) (t : List ℕ) → ((n : ℕ) → open_by l n ≡ n) → Opens 0 (mark l t)
+plain : (l : Leaf) (t : List ℕ) → ((n : ℕ) → open_by l n ≡ n) → Opens 0 (token l t)
 plain l t h n = h n ∙ omega arith
 
-header_opens : (profile : Profile) (l m : Leaf) (s t : List ℕ) (before : Gap) (k : Key) (behind : Gap) → ((n : ℕ) → open_by l n ≡ n) → ((n : ℕ) → open_by m n ≡ n) → IsContent profile (header before k behind) → Opens 0 (mark l s ++ (before ++ (key_leaves k ++ (behind ++ mark m t))))
+header_opens : (profile : Profile) (l m : Leaf) (s t : List ℕ) (before : Gap) (k : Key) (behind : Gap) → ((n : ℕ) → open_by l n ≡ n) → ((n : ℕ) → open_by m n ≡ n) → IsContent profile (header before k behind) → Opens 0 (token l s ++ (before ++ (key_leaves k ++ (behind ++ token m t))))
 header_opens profile l m s t before k behind e f h =
-    none-append (mark l s) (before ++ (key_leaves k ++ (behind ++ mark m t))) (plain l s e)
-    (none-append before (key_leaves k ++ (behind ++ mark m t)) (space_opens before h.0)
-    (none-append (key_leaves k) (behind ++ mark m t) (keys_open profile k h.1)
-    (none-append behind (mark m t) (space_opens behind h.2) (plain m t f))))
+    none-append (token l s) (before ++ (key_leaves k ++ (behind ++ token m t))) (plain l s e)
+    (none-append before (key_leaves k ++ (behind ++ token m t)) (space_opens before h.0)
+    (none-append (key_leaves k) (behind ++ token m t) (keys_open profile k h.1)
+    (none-append behind (token m t) (space_opens behind h.2) (plain m t f))))
 
 content_opens : (profile : Profile) (c : Content) → IsContent profile c → Opens 0 (content_leaves c)
 content_opens profile blank h = opens-none
@@ -63,13 +63,13 @@ bom_opens false = opens-none
 record DeepLine (profile : Profile) (room : ℕ) (text rest : List ℕ) : Type 0 where
   line : Line
   valid : IsLine profile line
-  goes : Goes room text rest (line_leaves line)
+  goes : Leads room text rest (line_leaves line)
 
 record DeepContent (profile : Profile) (room : ℕ) (text rest : List ℕ) : Type 0 where
   content : Content
   valid : IsContent profile content
   after : IsAfter content []
-  goes : Goes room text rest (content_leaves content)
+  goes : Leads room text rest (content_leaves content)
 
 guard_not_deep : {A : Type 0} (b : Bool) (x : A) (rest : List ℕ) → cond b (Ok x) (Err Bad) ≡ Err (Deep rest) → ⊥
 guard_not_deep true x rest e = absurd cc
@@ -103,7 +103,7 @@ keyval_deep profile room text rest h =
               content = keyval n.0 d.value;
               valid = (tn.valid, d.valid);
               after = tt;
-              goes = goes_in 0 room room text n.1 rest (name_leaves n.0) (value_leaves d.value) [] (content_leaves (keyval n.0 d.value)) (omega arith) (name_opens profile n.0 tn.valid) tn.spelled (ap (λ (ws : List Written). name_leaves n.0 ++ ws) (sym (append-nil (value_leaves d.value)))) d.goes;
+              goes = leads_in 0 room room text n.1 rest (name_leaves n.0) (value_leaves d.value) [] (content_leaves (keyval n.0 d.value)) (omega arith) (name_opens profile n.0 tn.valid) tn.spelled (ap (λ (ws : List Written). name_leaves n.0 ++ ws) (sym (append-nil (value_leaves d.value)))) d.goes;
             }
       ]
     ]
@@ -135,7 +135,7 @@ line_deep profile room text rest h =
           record {
             line = l;
             valid = record { before = s.valid; content = d.valid; after = d.after; comment = tt };
-            goes = goes_in 0 room room text g.1 rest g.0 (content_leaves d.content) [] (line_leaves l) (omega arith) (space_opens g.0 s.valid) s.spelled refl d.goes;
+            goes = leads_in 0 room room text g.1 rest g.0 (content_leaves d.content) [] (line_leaves l) (omega arith) (space_opens g.0 s.valid) s.spelled refl d.goes;
           }
     ]
 
@@ -144,10 +144,10 @@ record DeepLines (profile : Profile) (room : ℕ) (text rest : List ℕ) : Type 
   last : Line
   valid : AllByRecursion (IsEnded profile) ended
   valid_last : IsLine profile last
-  goes : Goes room text rest (lines_leaves ended last)
+  goes : Leads room text rest (lines_leaves ended last)
 
-newline_not_deep : (front : List Ended) (l : Line) (text rest : List ℕ) → newline_of front l text (gap_at text) ≡ Err (Deep rest) → ⊥
-newline_not_deep front l text rest h =
+newline_not_deep : (prefix : List Ended) (l : Line) (text rest : List ℕ) → newline_of prefix l text (gap_at text) ≡ Err (Deep rest) → ⊥
+newline_not_deep prefix l text rest h =
     elim (gap_cases text) [
       | white r f ↦ absurd (let k = rw r at h in cc)
       | line n r f found ↦ absurd (let k = rw r at h in cc)
@@ -155,40 +155,40 @@ newline_not_deep front l text rest h =
       | nothing r f ↦ absurd (let k = rw r at h in cc)
     ]
 
-turn_deep : (profile : Profile) (room : ℕ) (front : List Ended) (text rest : List ℕ) → ended_at profile room front text ≡ Err (Deep rest) → DeepLines profile room text rest
+iteration_deep : (profile : Profile) (room : ℕ) (prefix : List Ended) (text rest : List ℕ) → ended_at profile room prefix text ≡ Err (Deep rest) → DeepLines profile room text rest
 unfolding ended_at
-turn_deep profile room front text rest h =
-    elim (bind_err (line_at profile room text) (λ l. behind_line front l.0 l.1) (Deep rest) h) [
+iteration_deep profile room prefix text rest h =
+    elim (bind_err (line_at profile room text) (λ l. after_line prefix l.0 l.1) (Deep rest) h) [
       | inr x ↦ absurd (by x.0.0 x.0.1 x.2)
       | inl k ↦ let d = line_deep profile room text rest k in record { ended = []; last = d.line; valid = tt; valid_last = d.valid; goes = d.goes }
     ]
   where
-    by : (l : Line) (more : List ℕ) → behind_line front l more ≡ Err (Deep rest) → ⊥
+    by : (l : Line) (more : List ℕ) → after_line prefix l more ≡ Err (Deep rest) → ⊥
     by l [] e = absurd cc
-    by l (c ∷ cs) e = newline_not_deep front l (c ∷ cs) rest e
+    by l (c ∷ cs) e = newline_not_deep prefix l (c ∷ cs) rest e
 
-abbrev turn_on : List Ended → Turn (List Ended) Lines
-turn_on s = goes_on s
+abbrev iteration_on : List Ended → Iteration (List Ended) Lines
+iteration_on s = continues s
 
-abbrev turn_ready : Lines → Turn (List Ended) Lines
-turn_ready a = ready a
+abbrev iteration_ready : Lines → Iteration (List Ended) Lines
+iteration_ready a = ready a
 
-lines_deep : (profile : Profile) (room : ℕ) (front : List Ended) (text rest : List ℕ) → lines_of profile room front text ≡ Err (Deep rest) → DeepLines profile room text rest
-lines_deep profile room front text rest h = repeat_deep (ended_at profile room) (λ s t r. DeepLines profile room t r) (turn_deep profile room) on (suc (length text)) front text rest h
+lines_deep : (profile : Profile) (room : ℕ) (prefix : List Ended) (text rest : List ℕ) → lines_of profile room prefix text ≡ Err (Deep rest) → DeepLines profile room text rest
+lines_deep profile room prefix text rest h = repeat_deep (ended_at profile room) (λ s t r. DeepLines profile room t r) (iteration_deep profile room) on (suc (length text)) prefix text rest h
   where
-    clash : (x : List Ended) (y : Lines) → turn_on x ≡ turn_ready y → ⊥
+    clash : (x : List Ended) (y : Lines) → iteration_on x ≡ iteration_ready y → ⊥
     clash x y k = absurd cc
 
-    on : (s : List Ended) (text : List ℕ) (s' : List Ended) (text' : List ℕ) (rest : List ℕ) → ended_at profile room s text ≡ Ok (goes_on s', text') → DeepLines profile room text' rest → DeepLines profile room text rest
+    on : (s : List Ended) (text : List ℕ) (s' : List Ended) (text' : List ℕ) (rest : List ℕ) → ended_at profile room s text ≡ Ok (continues s', text') → DeepLines profile room text' rest → DeepLines profile room text rest
     on s text s' text' rest e d =
-        elim (line_cases profile room s text (goes_on s') text' e) [
+        elim (line_cases profile room s text (continues s') text' e) [
           | at_last l k r tl ↦ absurd (clash s' (s, l) k)
           | at_line w k valid le spelled lt ↦ record {
             ended = w ∷ d.ended;
             last = d.last;
             valid = (valid, d.valid);
             valid_last = d.valid_last;
-            goes = goes_in 0 room room text text' rest (ended_leaves w) (lines_leaves d.ended d.last) [] (lines_leaves (w ∷ d.ended) d.last) (omega arith) (ended_opens profile w valid) spelled
+            goes = leads_in 0 room room text text' rest (ended_leaves w) (lines_leaves d.ended d.last) [] (lines_leaves (w ∷ d.ended) d.last) (omega arith) (ended_opens profile w valid) spelled
                 (append_assoc (ended_leaves w) (flat_map ended_leaves d.ended) (line_leaves d.last) ∙ ap (λ (ws : List Written). ended_leaves w ++ ws) (sym (append-nil (lines_leaves d.ended d.last)))) d.goes;
           }
         ]
@@ -198,35 +198,35 @@ lines_deep profile room front text rest h = repeat_deep (ended_at profile room) 
 pub record DeepDocument (profile : Profile) (limit : ℕ) (bytes rest : List ℕ) : Type 0 where
   pub document : Document
   pub valid : IsDocument profile document
-  pub goes : Goes limit bytes rest (leaves document)
+  pub goes : Leads limit bytes rest (leaves document)
 
 pub document_deep_at : (profile : Profile) (limit : ℕ) (bytes rest : List ℕ) → read_document profile limit bytes ≡ Err (Deep rest) → DeepDocument profile limit bytes rest
 unfolding read_document
 document_deep_at profile limit bytes rest h =
     let b = has_bom bytes in
-    let t = behind_bom b bytes in
+    let t = after_bom b bytes in
     elim (bind_err (lines_of profile limit [] t) (λ l. Ok (record { bom = b; ended = l.0.0; last = l.0.1 })) (Deep rest) h) [
       | inr x ↦ absurd (let bad = x.2 in cc)
       | inl k ↦
           let d = lines_deep profile limit [] t rest k in
           let s : Document = record { bom = b; ended = d.ended; last = d.last } in
-          let end = mark leaf.End [] in
+          let end = token leaf.End [] in
           record {
             document = s;
             valid = record { ended = d.valid; last = d.valid_last };
-            goes = goes_in 0 limit limit bytes t rest (bom_leaves b) (lines_leaves d.ended d.last) end (leaves s) (omega arith) (bom_opens b) (bom_parts bytes)
+            goes = leads_in 0 limit limit bytes t rest (bom_leaves b) (lines_leaves d.ended d.last) end (leaves s) (omega arith) (bom_opens b) (bom_parts bytes)
                 (ap (λ (ws : List Written). bom_leaves b ++ ws) (sym (append_assoc (flat_map ended_leaves d.ended) (line_leaves d.last) end))) d.goes;
           }
     ]
 
--- Where a document is told to be too deep, some document goes on so, and none within the limit has the text.
+-- Where a document is reported as too deep, some document continues so, and none within the limit has the text.
 pub document_deep : (profile : Profile) (limit : ℕ) (bytes : List ℕ) (at : ℕ) → at ≤ length bytes → read_document profile limit bytes ≡ Err (Deep (drop at bytes)) → IsTooDeep profile limit bytes at
 document_deep profile limit bytes at le h =
     let d = document_deep_at profile limit bytes (drop at bytes) h in
     record {
       document = d.document;
       valid = d.valid;
-      deep = goes_at limit bytes at (leaves d.document) le d.goes;
+      deep = leads_at limit bytes at (leaves d.document) le d.goes;
       none_within = λ s r. not_read s r;
     }
   where

@@ -11,7 +11,7 @@ use Rattle.keep_parts.specs.declared.info.Owner.TheVariants as owner
 use Rattle.keep_syntax.specs.Tree.{Body, scalar, array, inline, Entries, none, entry, Value, around, entries_depth, value_depth}
 use Rattle.keep_syntax.specs.Grammar.{Place, place_in, IsBody, AreEntries, IsValue}
 use Rattle.keep_syntax.specs.Deep.{is_opening}
-use Rattle.keep_syntax.specs.Numbered.{leaf_of, value_start, name_count, inside_of, rest_of, entries_values}
+use Rattle.keep_syntax.specs.Numbered.{leaf_of, value_start, name_count, nested_of, rest_of, entries_values}
 use Rattle.keep_syntax.specs.Nesting.{open_in, deepest}
 use Rattle.keep_syntax.specs.Contract.{values_alone}
 
@@ -27,8 +27,8 @@ deepest_next [] n v e = absurd cc
 deepest_next (w ∷ vs) zero v e = let is : w ≡ v = cc in ap (λ (x : ValueInfo). max (open_in x) 0) is ∙ omega arith
 deepest_next (w ∷ vs) (suc n) v e = omega (arith, deepest_next vs n v e)
 
-pub deepest_turn : (vs : List ValueInfo) (n : ℕ) (v : ValueInfo) → slice_get vs n ≡ Some v → deepest (take (n + 1) vs) ≡ max (deepest (take n vs)) (open_in v)
-deepest_turn vs n v e = ap (λ (m : ℕ). deepest (take m vs)) (add-one n) ∙ deepest_next vs n v e
+pub deepest_iteration : (vs : List ValueInfo) (n : ℕ) (v : ValueInfo) → slice_get vs n ≡ Some v → deepest (take (n + 1) vs) ≡ max (deepest (take n vs)) (open_in v)
+deepest_iteration vs n v e = ap (λ (m : ℕ). deepest (take m vs)) (add-one n) ∙ deepest_next vs n v e
 
 pub all_at : (p : ValueInfo → Type 0) (vs : List ValueInfo) (n : ℕ) (v : ValueInfo) → AllByRecursion p vs → slice_get vs n ≡ Some v → p v
 all_at p [] n v h e = absurd cc
@@ -50,27 +50,27 @@ none_values : (p : Start) (es : Entries) → es ≡ none → entries_values p es
 none_values p es e = ap (entries_values p) e
 
 -- a value and those inside it
-body_deepest : (profile : Profile) (d : ℕ) (body : Body) (inside : Entries) → IsBody profile body → AreEntries profile (place_in body) inside → (vs : List ValueInfo) → (inside ≡ none → vs ≡ []) → max (suc d) (deepest vs) ≡ suc d + entries_depth inside
-    → max (open_of (leaf_of body) d) (deepest vs) ≡ d + around body (entries_depth inside)
+body_deepest : (profile : Profile) (d : ℕ) (body : Body) (nested : Entries) → IsBody profile body → AreEntries profile (place_in body) nested → (vs : List ValueInfo) → (nested ≡ none → vs ≡ []) → max (suc d) (deepest vs) ≡ suc d + entries_depth nested
+    → max (open_of (leaf_of body) d) (deepest vs) ≡ d + around body (entries_depth nested)
 body_deepest profile d (scalar w) none h i vs empty ih =
     let e : open_of w.leaf d ≡ d = ap (λ (b : Bool). cond b (suc d) d) (closed w.leaf h.0) in
     let k : deepest vs ≡ 0 = ap deepest (empty refl) in
     omega (arith, e, k)
-body_deepest profile d (scalar w) (entry name body inside after comma rest) h i vs empty ih = absurd i.0
-body_deepest profile d (array g) inside h i vs empty ih = omega (arith, ih)
-body_deepest profile d (inline g) inside h i vs empty ih = omega (arith, ih)
+body_deepest profile d (scalar w) (entry name body nested after comma rest) h i vs empty ih = absurd i.0
+body_deepest profile d (array g) nested h i vs empty ih = omega (arith, ih)
+body_deepest profile d (inline g) nested h i vs empty ih = omega (arith, ih)
 
 entries_deepest : (profile : Profile) (es : Entries) (place : Place) (p : Start) → AreEntries profile place es → max p.depth (deepest (entries_values p es)) ≡ p.depth + entries_depth es
 entries_deepest profile none place p h = omega arith
-entries_deepest profile (entry name body inside after comma rest) place p h =
-    let q = inside_of p (value_start p.at name) (name_count name) body in
-    let r = rest_of p name body inside after comma in
-    let own = body_deepest profile p.depth body inside h.1 h.2 (entries_values q inside) (none_values q inside) (entries_deepest profile inside (place_in body) q h.2) in
-    omega (arith, own, entries_deepest profile rest place r h.5, deepest-append (entries_values q inside) (entries_values r rest))
+entries_deepest profile (entry name body nested after comma rest) place p h =
+    let q = nested_of p (value_start p.at name) (name_count name) body in
+    let r = rest_of p name body nested after comma in
+    let own = body_deepest profile p.depth body nested h.1 h.2 (entries_values q nested) (none_values q nested) (entries_deepest profile nested (place_in body) q h.2) in
+    omega (arith, own, entries_deepest profile rest place r h.5, deepest-append (entries_values q nested) (entries_values r rest))
 
 -- Of a value alone.
 pub deepest_alone : (profile : Profile) (v : Value) → IsValue profile v → deepest (values_alone v) ≡ value_depth v
 deepest_alone profile v h =
     let p : Start = record { at = 0; values = 0; parts = 0; owner = owner.Line 0; depth = 0; comma = None } in
-    let q = inside_of p 0 0 v.body in
-    omega (arith, body_deepest profile 0 v.body v.inside h.body h.inside (entries_values q v.inside) (none_values q v.inside) (entries_deepest profile v.inside (place_in v.body) q h.inside))
+    let q = nested_of p 0 0 v.body in
+    omega (arith, body_deepest profile 0 v.body v.nested h.body h.nested (entries_values q v.nested) (none_values q v.nested) (entries_deepest profile v.nested (place_in v.body) q h.nested))

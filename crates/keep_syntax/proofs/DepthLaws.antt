@@ -7,7 +7,7 @@ use Rattle.keep_parts.specs.declared.info.Start.{Start}
 use Rattle.keep_parts.specs.declared.info.Owner.TheVariants as owner
 use Rattle.keep_syntax.specs.Tree.{Body, scalar, array, inline, Entries, none, entry, Value, Content, blank, keyval, header, element, Line, Ended, Document, name_leaves, around, entries_depth, value_depth, content_depth, lines_depth}
 use Rattle.keep_syntax.specs.Grammar.{Place, place_in, IsBody, AreEntries, IsValue, IsContent, IsLine, IsEnded, Reads, ReadsValue}
-use Rattle.keep_syntax.specs.Numbered.{width, leaf_of, value_start, name_count, key_count, inside_of, rest_of, entries_values, value_values, content_values, Count, line_start, line_values, next_line, first_line, over_lines, values}
+use Rattle.keep_syntax.specs.Numbered.{width, leaf_of, value_start, name_count, key_count, nested_of, rest_of, entries_values, value_values, content_values, Count, line_start, line_values, next_line, first_line, over_lines, values}
 use Rattle.keep_syntax.specs.Nesting.{IsWithin}
 use Rattle.keep_syntax.proofs.DeepestLaws.{open_of, closed}
 
@@ -19,38 +19,38 @@ within-append limit [] b h g = g
 within-append limit (v ∷ vs) b h g = (h.0, within-append limit vs b h.1 g)
 
 -- the value itself
-body_within : (profile : Profile) (limit d : ℕ) (body : Body) (inside : Entries) → IsBody profile body → d + around body (entries_depth inside) ≤ limit → open_of (leaf_of body) d ≤ limit
-body_within profile limit d (scalar w) inside h le =
+body_within : (profile : Profile) (limit d : ℕ) (body : Body) (nested : Entries) → IsBody profile body → d + around body (entries_depth nested) ≤ limit → open_of (leaf_of body) d ≤ limit
+body_within profile limit d (scalar w) nested h le =
     let e : open_of w.leaf d ≡ d = ap (λ (b : Bool). cond b (suc d) d) (closed w.leaf h.0) in
     omega (arith, e)
-body_within profile limit d (array g) inside h le = omega arith
-body_within profile limit d (inline g) inside h le = omega arith
+body_within profile limit d (array g) nested h le = omega arith
+body_within profile limit d (inline g) nested h le = omega arith
 
 -- what is inside a value is one deeper
-inside_within : (profile : Profile) (limit d : ℕ) (body : Body) (inside : Entries) → AreEntries profile (place_in body) inside → d + around body (entries_depth inside) ≤ limit → (vs : List ValueInfo) → (inside ≡ none → vs ≡ []) → (suc d + entries_depth inside ≤ limit → AreWithin limit vs) → AreWithin limit vs
-inside_within profile limit d (scalar w) none i le vs empty ih = subst (λ (x : List ValueInfo). AreWithin limit x) (sym (empty refl)) tt
-inside_within profile limit d (scalar w) (entry name body inside after comma rest) i le vs empty ih = absurd i.0
-inside_within profile limit d (array g) inside i le vs empty ih = ih (omega arith)
-inside_within profile limit d (inline g) inside i le vs empty ih = ih (omega arith)
+nested_within : (profile : Profile) (limit d : ℕ) (body : Body) (nested : Entries) → AreEntries profile (place_in body) nested → d + around body (entries_depth nested) ≤ limit → (vs : List ValueInfo) → (nested ≡ none → vs ≡ []) → (suc d + entries_depth nested ≤ limit → AreWithin limit vs) → AreWithin limit vs
+nested_within profile limit d (scalar w) none i le vs empty ih = subst (λ (x : List ValueInfo). AreWithin limit x) (sym (empty refl)) tt
+nested_within profile limit d (scalar w) (entry name body nested after comma rest) i le vs empty ih = absurd i.0
+nested_within profile limit d (array g) nested i le vs empty ih = ih (omega arith)
+nested_within profile limit d (inline g) nested i le vs empty ih = ih (omega arith)
 
 none_values : (p : Start) (es : Entries) → es ≡ none → entries_values p es ≡ []
 none_values p es e = ap (entries_values p) e
 
 entries_within : (profile : Profile) (limit : ℕ) (es : Entries) (place : Place) (p : Start) → AreEntries profile place es → p.depth + entries_depth es ≤ limit → AreWithin limit (entries_values p es)
 entries_within profile limit none place p h le = tt
-entries_within profile limit (entry name body inside after comma rest) place p h le =
+entries_within profile limit (entry name body nested after comma rest) place p h le =
     let at = value_start p.at name in
-    let q = inside_of p at (name_count name) body in (
-      body_within profile limit p.depth body inside h.1 (omega arith),
-      within-append limit (entries_values q inside) (entries_values (rest_of p name body inside after comma) rest)
-          (inside_within profile limit p.depth body inside h.2 (omega arith) (entries_values q inside) (none_values q inside) (λ k. entries_within profile limit inside (place_in body) q h.2 k))
-          (entries_within profile limit rest place (rest_of p name body inside after comma) h.5 (omega arith)),
+    let q = nested_of p at (name_count name) body in (
+      body_within profile limit p.depth body nested h.1 (omega arith),
+      within-append limit (entries_values q nested) (entries_values (rest_of p name body nested after comma) rest)
+          (nested_within profile limit p.depth body nested h.2 (omega arith) (entries_values q nested) (none_values q nested) (λ k. entries_within profile limit nested (place_in body) q h.2 k))
+          (entries_within profile limit rest place (rest_of p name body nested after comma) h.5 (omega arith)),
     )
 
 value_within : (profile : Profile) (limit : ℕ) (p : Start) (at keys : ℕ) (v : Value) → IsValue profile v → p.depth + value_depth v ≤ limit → AreWithin limit (value_values p at keys v)
 value_within profile limit p at keys v h le =
-    let q = inside_of p at keys v.body in
-    (body_within profile limit p.depth v.body v.inside h.body le, inside_within profile limit p.depth v.body v.inside h.inside le (entries_values q v.inside) (none_values q v.inside) (λ k. entries_within profile limit v.inside (place_in v.body) q h.inside k))
+    let q = nested_of p at keys v.body in
+    (body_within profile limit p.depth v.body v.nested h.body le, nested_within profile limit p.depth v.body v.nested h.nested le (entries_values q v.nested) (none_values q v.nested) (λ k. entries_within profile limit v.nested (place_in v.body) q h.nested k))
 
 content_within : (profile : Profile) (limit : ℕ) (p : Start) (c : Content) → p.depth ≡ 0 → IsContent profile c → content_depth c ≤ limit → AreWithin limit (content_values p c)
 content_within profile limit p blank e h le = tt

@@ -11,9 +11,9 @@ use Rattle.keep_token.specs.Abnf.{is_ws, is_bare}
 use Rattle.keep_token.specs.Leaves.{IsLeaf}
 use Rattle.keep_token.specs.Scanning.{first, gap_at, key_at}
 use Rattle.keep_token.proofs.Shared.{tested, newline_again, white, line, comment, nothing, gap_cases}
-use Rattle.keep_syntax.specs.Tree.{Written, Line, Ended, Document, mark, text_of, line_leaves, ended_leaves, bom_leaves, text, content_depth, lines_depth, depth}
+use Rattle.keep_syntax.specs.Tree.{Written, Line, Ended, Document, token, text_of, line_leaves, ended_leaves, bom_leaves, text, content_depth, lines_depth, depth}
 use Rattle.keep_syntax.specs.Grammar.{IsLine, IsEnded, IsDocument, Reads}
-use Rattle.keep_syntax.specs.Reading.{Fault, Bad, ◌>>=◌, Turn, goes_on, ready, written, space_at, part_at, key_of, name_of, value_of, header_by, element_by, is_line_end, content_at, after_of, line_by, line_at, Lines, newline_of, behind_line, ended_at, lines_of, has_bom, behind_bom, read_document}
+use Rattle.keep_syntax.specs.Reading.{Fault, Bad, ◌>>=◌, Iteration, continues, ready, written, space_at, part_at, key_of, name_of, value_of, header_by, element_by, is_line_end, content_at, after_of, line_by, line_at, Lines, newline_of, after_line, ended_at, lines_of, has_bom, after_bom, read_document}
 use Rattle.keep_syntax.proofs.LoopLaws.{bind_ok, ok_is, Shortens, loop_on, loop_ready, loop_err, repeat_holds, Same, same_refl, same_bind, same_cond, same_repeat}
 use Rattle.keep_syntax.proofs.SpaceLaws.{text_of-append, space_none}
 use Rattle.keep_syntax.proofs.WholeLaws.{value_room, bad_stays}
@@ -38,79 +38,79 @@ bom_text b = text_of (bom_leaves b)
 
 pub document_text : (s : Document) → text s ≡ bom_text s.bom ++ lines_text s.ended s.last
 document_text s =
-    let end = mark leaf.End [] in
+    let end = token leaf.End [] in
     text_of-append (bom_leaves s.bom) (flat_map ended_leaves s.ended ++ (line_leaves s.last ++ end))
     ∙ ap (λ (t : List ℕ). bom_text s.bom ++ t) (ap text_of (sym (append_assoc (flat_map ended_leaves s.ended) (line_leaves s.last) end)) ∙ text_of-append (lines_leaves s.ended s.last) end ∙ append-nil (lines_text s.ended s.last))
 
--- ---- turns
+-- ---- iterations
 
--- what a turn does: the last line, or a line with its newline
-pub data LineTurn (profile : Profile) (room : ℕ) (front : List Ended) (text : List ℕ) (t : Turn (List Ended) Lines) (rest : List ℕ) : Type 0 where
-  at_last : (l : Line) → t ≡ ready (front, l) → rest ≡ [] → TookLine profile room text l [] → LineTurn profile room front text t rest
-  at_line : (e : Ended) → t ≡ goes_on (front ++ (e ∷ [])) → IsEnded profile e → content_depth e.line.content ≤ room → text ≡ text_of (ended_leaves e) ++ rest → length rest < length text → LineTurn profile room front text t rest
+-- what an iteration does: the last line, or a line with its newline
+pub data LineIteration (profile : Profile) (room : ℕ) (prefix : List Ended) (text : List ℕ) (t : Iteration (List Ended) Lines) (rest : List ℕ) : Type 0 where
+  at_last : (l : Line) → t ≡ ready (prefix, l) → rest ≡ [] → TookLine profile room text l [] → LineIteration profile room prefix text t rest
+  at_line : (e : Ended) → t ≡ continues (prefix ++ (e ∷ [])) → IsEnded profile e → content_depth e.line.content ≤ room → text ≡ text_of (ended_leaves e) ++ rest → length rest < length text → LineIteration profile room prefix text t rest
 
-abbrev LinesTurn : Type 0
-LinesTurn = Turn (List Ended) Lines
+abbrev LinesIteration : Type 0
+LinesIteration = Iteration (List Ended) Lines
 
-newline_takes : (profile : Profile) (room : ℕ) (front : List Ended) (whole : List ℕ) (l : Line) (text : List ℕ) (t : LinesTurn) (rest : List ℕ) → TookLine profile room whole l text → newline_of front l text (gap_at text) ≡ Ok (t, rest) → LineTurn profile room front whole t rest
-newline_takes profile room front whole l text t rest tl h =
+newline_takes : (profile : Profile) (room : ℕ) (prefix : List Ended) (whole : List ℕ) (l : Line) (text : List ℕ) (t : LinesIteration) (rest : List ℕ) → TookLine profile room whole l text → newline_of prefix l text (gap_at text) ≡ Ok (t, rest) → LineIteration profile room prefix whole t rest
+newline_takes profile room prefix whole l text t rest tl h =
     elim (gap_cases text) [
       | white r f ↦ absurd (let k = rw r at h in cc)
       | line n r f found ↦
           let e : Ended = record { line = l; newline = written leaf.Newline n text } in
-          let same = ok_is (goes_on (front ++ (e ∷ [])), drop n text) (t, rest) (rw r at h) in
-          let is : drop n text ≡ rest = ap (λ (x : LinesTurn × List ℕ). x.1) same in
+          let same = ok_is (continues (prefix ++ (e ∷ [])), drop n text) (t, rest) (rw r at h) in
+          let is : drop n text ≡ rest = ap (λ (x : LinesIteration × List ℕ). x.1) same in
           let spelled : whole ≡ text_of (ended_leaves e) ++ rest =
           tl.spelled ∙ ap (λ (x : List ℕ). text_of (line_leaves l) ++ x) (sym (take-append-drop n text) ∙ ap (λ (x : List ℕ). take n text ++ x) is) ∙ sym (ended_text e rest) in
-          at_line e (sym (ap (λ (x : LinesTurn × List ℕ). x.0) same)) (record { line = tl.valid; kind = refl; newline = found.leaf }) tl.shallow spelled
+          at_line e (sym (ap (λ (x : LinesIteration × List ℕ). x.0) same)) (record { line = tl.valid; kind = refl; newline = found.leaf }) tl.shallow spelled
           (omega (arith, ap length is, length-drop n text, found.some, found.within, ap length tl.spelled, length-append (text_of (line_leaves l)) text))
       | comment n r f found stop ↦ absurd (let k = rw r at h in cc)
       | nothing r f ↦ absurd (let k = rw r at h in cc)
     ]
 
-pub line_cases : (profile : Profile) (room : ℕ) (front : List Ended) (text : List ℕ) (t : Turn (List Ended) Lines) (rest : List ℕ) → ended_at profile room front text ≡ Ok (t, rest) → LineTurn profile room front text t rest
+pub line_cases : (profile : Profile) (room : ℕ) (prefix : List Ended) (text : List ℕ) (t : Iteration (List Ended) Lines) (rest : List ℕ) → ended_at profile room prefix text ≡ Ok (t, rest) → LineIteration profile room prefix text t rest
 unfolding ended_at
-line_cases profile room front text t rest h =
-    let (l, e1, e2) = bind_ok (line_at profile room text) (λ l. behind_line front l.0 l.1) (t, rest) h in
+line_cases profile room prefix text t rest h =
+    let (l, e1, e2) = bind_ok (line_at profile room text) (λ l. after_line prefix l.0 l.1) (t, rest) h in
     by l.0 l.1 (line_takes profile room text l.0 l.1 e1) e2
   where
-    by : (l : Line) (more : List ℕ) → TookLine profile room text l more → behind_line front l more ≡ Ok (t, rest) → LineTurn profile room front text t rest
+    by : (l : Line) (more : List ℕ) → TookLine profile room text l more → after_line prefix l more ≡ Ok (t, rest) → LineIteration profile room prefix text t rest
     by l [] tl e =
-        let same = ok_is (ready (front, l), []) (t, rest) e in
-        at_last l (sym (ap (λ (x : LinesTurn × List ℕ). x.0) same)) (sym (ap (λ (x : LinesTurn × List ℕ). x.1) same)) tl
-    by l (c ∷ cs) tl e = newline_takes profile room front text l (c ∷ cs) t rest tl e
+        let same = ok_is (ready (prefix, l), []) (t, rest) e in
+        at_last l (sym (ap (λ (x : LinesIteration × List ℕ). x.0) same)) (sym (ap (λ (x : LinesIteration × List ℕ). x.1) same)) tl
+    by l (c ∷ cs) tl e = newline_takes profile room prefix text l (c ∷ cs) t rest tl e
 
-abbrev turn_on : List Ended → LinesTurn
-turn_on s = goes_on s
+abbrev iteration_on : List Ended → LinesIteration
+iteration_on s = continues s
 
-abbrev turn_ready : Lines → LinesTurn
-turn_ready a = ready a
+abbrev iteration_ready : Lines → LinesIteration
+iteration_ready a = ready a
 
 pub lines_shorten : (profile : Profile) (room : ℕ) → Shortens (ended_at profile room)
 lines_shorten profile room s text s' rest h =
-    elim (line_cases profile room s text (goes_on s') rest h) [
-      | at_last l e r tl ↦ absurd (let k : turn_on s' ≡ turn_ready (s, l) = e in cc)
+    elim (line_cases profile room s text (continues s') rest h) [
+      | at_last l e r tl ↦ absurd (let k : iteration_on s' ≡ iteration_ready (s, l) = e in cc)
       | at_line e k valid le spelled lt ↦ lt
     ]
 
 -- ---- what is read as lines is spelled so
 
-pub record TookLines (profile : Profile) (room : ℕ) (front : List Ended) (text : List ℕ) (ls : Lines) (rest : List ℕ) : Type 0 where
+pub record TookLines (profile : Profile) (room : ℕ) (prefix : List Ended) (text : List ℕ) (ls : Lines) (rest : List ℕ) : Type 0 where
   pub back : List Ended
-  pub grown : ls.0 ≡ front ++ back
+  pub grown : ls.0 ≡ prefix ++ back
   pub valid : AllByRecursion (IsEnded profile) back
   pub valid_last : IsLine profile ls.1
   pub shallow : lines_depth back ≤ room
   pub shallow_last : content_depth ls.1.content ≤ room
   pub spelled : text ≡ lines_text back ls.1
 
-pub lines_take : (profile : Profile) (room : ℕ) (front : List Ended) (text : List ℕ) (ls : Lines) (rest : List ℕ) → lines_of profile room front text ≡ Ok (ls, rest) → TookLines profile room front text ls rest
-lines_take profile room front text ls rest h = repeat_holds (ended_at profile room) (TookLines profile room) last on (suc (length text)) front text ls rest h
+pub lines_take : (profile : Profile) (room : ℕ) (prefix : List Ended) (text : List ℕ) (ls : Lines) (rest : List ℕ) → lines_of profile room prefix text ≡ Ok (ls, rest) → TookLines profile room prefix text ls rest
+lines_take profile room prefix text ls rest h = repeat_holds (ended_at profile room) (TookLines profile room) last on (suc (length text)) prefix text ls rest h
   where
-    ready_is : (x y : Lines) → turn_ready x ≡ turn_ready y → x ≡ y
+    ready_is : (x y : Lines) → iteration_ready x ≡ iteration_ready y → x ≡ y
     ready_is x y e = cc
 
-    on_is : (x y : List Ended) → turn_on x ≡ turn_on y → x ≡ y
+    on_is : (x y : List Ended) → iteration_on x ≡ iteration_on y → x ≡ y
     on_is x y e = cc
 
     last : (s : List Ended) (text : List ℕ) (ls : Lines) (rest : List ℕ) → ended_at profile room s text ≡ Ok (ready ls, rest) → TookLines profile room s text ls rest
@@ -119,13 +119,13 @@ lines_take profile room front text ls rest h = repeat_holds (ended_at profile ro
           | at_last l k r tl ↦
               subst (λ (x : Lines). TookLines profile room s text x rest) (sym (ready_is ls (s, l) k))
               (record { back = []; grown = sym (append-nil s); valid = tt; valid_last = tl.valid; shallow = omega arith; shallow_last = tl.shallow; spelled = tl.spelled ∙ append-nil (text_of (line_leaves l)) })
-          | at_line e k valid le spelled lt ↦ absurd (let f : turn_ready ls ≡ turn_on (s ++ (e ∷ [])) = k in cc)
+          | at_line e k valid le spelled lt ↦ absurd (let f : iteration_ready ls ≡ iteration_on (s ++ (e ∷ [])) = k in cc)
         ]
 
-    on : (s : List Ended) (text : List ℕ) (s' : List Ended) (text' : List ℕ) (ls : Lines) (rest : List ℕ) → ended_at profile room s text ≡ Ok (goes_on s', text') → TookLines profile room s' text' ls rest → TookLines profile room s text ls rest
+    on : (s : List Ended) (text : List ℕ) (s' : List Ended) (text' : List ℕ) (ls : Lines) (rest : List ℕ) → ended_at profile room s text ≡ Ok (continues s', text') → TookLines profile room s' text' ls rest → TookLines profile room s text ls rest
     on s text s' text' ls rest e t =
-        elim (line_cases profile room s text (goes_on s') text' e) [
-          | at_last l k r tl ↦ absurd (let f : turn_on s' ≡ turn_ready (s, l) = k in cc)
+        elim (line_cases profile room s text (continues s') text' e) [
+          | at_last l k r tl ↦ absurd (let f : iteration_on s' ≡ iteration_ready (s, l) = k in cc)
           | at_line e k valid le spelled lt ↦ record {
             back = e ∷ t.back;
             grown = t.grown ∙ ap (λ (x : List Ended). x ++ t.back) (on_is s' (s ++ (e ∷ [])) k) ∙ append_assoc s (e ∷ []) t.back;
@@ -139,44 +139,44 @@ lines_take profile room front text ls rest h = repeat_holds (ended_at profile ro
 
 -- ---- what is spelled so is read
 
-behind_again : (front : List Ended) (l : Line) (w : Written) (more : List ℕ) → w.leaf ≡ leaf.Newline → IsLeaf Strict leaf.Newline w.text → behind_line front l (w.text ++ more) ≡ Ok (goes_on (front ++ (record { line = l; newline = w } ∷ [])), more)
-behind_again front l w more kind h = by w.text h refl
+after_again : (prefix : List Ended) (l : Line) (w : Written) (more : List ℕ) → w.leaf ≡ leaf.Newline → IsLeaf Strict leaf.Newline w.text → after_line prefix l (w.text ++ more) ≡ Ok (continues (prefix ++ (record { line = l; newline = w } ∷ [])), more)
+after_again prefix l w more kind h = by w.text h refl
   where
     is_w : (t : List ℕ) → t ≡ w.text → record { leaf = leaf.Newline; text = t } ≡ w
     is_w t e = ap (λ (x : List ℕ). record { leaf = leaf.Newline; text = x }) e ∙ ap (λ (k : Leaf). record { leaf = k; text = w.text }) (sym kind)
 
-    here : (c : ℕ) (cs : List ℕ) → (c ∷ cs) ≡ w.text → gap_at ((c ∷ cs) ++ more) ≡ Some (leaf.Newline, length (c ∷ cs)) → behind_line front l ((c ∷ cs) ++ more) ≡ Ok (goes_on (front ++ (record { line = l; newline = w } ∷ [])), more)
+    here : (c : ℕ) (cs : List ℕ) → (c ∷ cs) ≡ w.text → gap_at ((c ∷ cs) ++ more) ≡ Some (leaf.Newline, length (c ∷ cs)) → after_line prefix l ((c ∷ cs) ++ more) ≡ Ok (continues (prefix ++ (record { line = l; newline = w } ∷ [])), more)
     here c cs e g = rw (g, take_at (c ∷ cs) more (length (c ∷ cs)) refl, drop_at (c ∷ cs) more (length (c ∷ cs)) refl, is_w (c ∷ cs) e) refl
 
-    by : (t : List ℕ) → IsLeaf Strict leaf.Newline t → t ≡ w.text → behind_line front l (w.text ++ more) ≡ Ok (goes_on (front ++ (record { line = l; newline = w } ∷ [])), more)
+    by : (t : List ℕ) → IsLeaf Strict leaf.Newline t → t ≡ w.text → after_line prefix l (w.text ++ more) ≡ Ok (continues (prefix ++ (record { line = l; newline = w } ∷ [])), more)
     by [] (inl k) e = absurd cc
     by [] (inr k) e = absurd cc
-    by (c ∷ cs) k e = subst (λ (x : List ℕ). behind_line front l (x ++ more) ≡ Ok (goes_on (front ++ (record { line = l; newline = w } ∷ [])), more)) e (here c cs e (newline_again (c ∷ cs) more k))
+    by (c ∷ cs) k e = subst (λ (x : List ℕ). after_line prefix l (x ++ more) ≡ Ok (continues (prefix ++ (record { line = l; newline = w } ∷ [])), more)) e (here c cs e (newline_again (c ∷ cs) more k))
 
-pub lines_again : (profile : Profile) (room : ℕ) (ended : List Ended) (last : Line) (front : List Ended) → AllByRecursion (IsEnded profile) ended → IsLine profile last → lines_depth ended ≤ room → content_depth last.content ≤ room
-    → lines_of profile room front (lines_text ended last) ≡ Ok ((front ++ ended, last), [])
+pub lines_again : (profile : Profile) (room : ℕ) (ended : List Ended) (last : Line) (prefix : List Ended) → AllByRecursion (IsEnded profile) ended → IsLine profile last → lines_depth ended ≤ room → content_depth last.content ≤ room
+    → lines_of profile room prefix (lines_text ended last) ≡ Ok ((prefix ++ ended, last), [])
 unfolding ended_at
-lines_again profile room [] last front h k le le' =
+lines_again profile room [] last prefix h k le le' =
     let e : line_at profile room (lines_text [] last) ≡ Ok (last, []) = ap (line_at profile room) (sym (append-nil (text_of (line_leaves last)))) ∙ line_again profile room last [] k le' (at_end refl) in
-    let turn : ended_at profile room front (lines_text [] last) ≡ Ok (ready (front, last), []) = rw e refl in
-    loop_ready (ended_at profile room) front (lines_text [] last) (front ++ [], last) [] (turn ∙ ap (λ (x : List Ended). Ok (ready (x, last), [])) (sym (append-nil front)))
-lines_again profile room (e ∷ es) last front h k le le' =
+    let iteration : ended_at profile room prefix (lines_text [] last) ≡ Ok (ready (prefix, last), []) = rw e refl in
+    loop_ready (ended_at profile room) prefix (lines_text [] last) (prefix ++ [], last) [] (iteration ∙ ap (λ (x : List Ended). Ok (ready (x, last), [])) (sym (append-nil prefix)))
+lines_again profile room (e ∷ es) last prefix h k le le' =
     let more = lines_text es last in
     let read : line_at profile room (text_of (line_leaves e.line) ++ (e.newline.text ++ more)) ≡ Ok (e.line, e.newline.text ++ more) =
     line_again profile room e.line (e.newline.text ++ more) h.0.line (omega arith) (at_newline e.newline.text more h.0.newline refl) in
-    let turn : ended_at profile room front (text_of (ended_leaves e) ++ more) ≡ Ok (goes_on (front ++ (e ∷ [])), more) =
-    ap (λ (x : List ℕ). line_at profile room x >>= λ l. behind_line front l.0 l.1) (ended_text e more) ∙ rw read (behind_again front e.line e.newline more h.0.kind h.0.newline) in
-    ap (lines_of profile room front) (lines-cons e es last)
-    ∙ loop_on (ended_at profile room) (lines_shorten profile room) front (text_of (ended_leaves e) ++ more) (front ++ (e ∷ [])) more turn
-    ∙ lines_again profile room es last (front ++ (e ∷ [])) h.1 k (omega arith) le'
-    ∙ ap (λ (x : List Ended). Ok ((x, last), [])) (append_assoc front (e ∷ []) es)
+    let iteration : ended_at profile room prefix (text_of (ended_leaves e) ++ more) ≡ Ok (continues (prefix ++ (e ∷ [])), more) =
+    ap (λ (x : List ℕ). line_at profile room x >>= λ l. after_line prefix l.0 l.1) (ended_text e more) ∙ rw read (after_again prefix e.line e.newline more h.0.kind h.0.newline) in
+    ap (lines_of profile room prefix) (lines-cons e es last)
+    ∙ loop_on (ended_at profile room) (lines_shorten profile room) prefix (text_of (ended_leaves e) ++ more) (prefix ++ (e ∷ [])) more iteration
+    ∙ lines_again profile room es last (prefix ++ (e ∷ [])) h.1 k (omega arith) le'
+    ∙ ap (λ (x : List Ended). Ok ((x, last), [])) (append_assoc prefix (e ∷ []) es)
 
 -- ---- the byte order mark
 
 bom_is : (text : List ℕ) → has_bom text ≡ true → text ≡ 0xEF ∷ 0xBB ∷ 0xBF ∷ drop 3 text
 bom_is text h =
-    let (front, three) = and_parts (first text == 0xEF && slice_index text 1 == 0xBB) (slice_index text 2 == 0xBF) h in
-    let (one, two) = and_parts (first text == 0xEF) (slice_index text 1 == 0xBB) front in
+    let (prefix, three) = and_parts (first text == 0xEF && slice_index text 1 == 0xBB) (slice_index text 2 == 0xBF) h in
+    let (one, two) = and_parts (first text == 0xEF) (slice_index text 1 == 0xBB) prefix in
     by text one two three
   where
     by : (text : List ℕ) → (first text == 0xEF) ≡ true → (slice_index text 1 == 0xBB) ≡ true → (slice_index text 2 == 0xBF) ≡ true → text ≡ 0xEF ∷ 0xBB ∷ 0xBF ∷ drop 3 text
@@ -186,10 +186,10 @@ bom_is text h =
     by (a ∷ b ∷ c ∷ cs) one two three =
         ap (λ (x : ℕ). x ∷ b ∷ c ∷ cs) (eqb-true a 0xEF one) ∙ ap (λ (x : ℕ). 0xEF ∷ x ∷ c ∷ cs) (eqb-true b 0xBB two) ∙ ap (λ (x : ℕ). 0xEF ∷ 0xBB ∷ x ∷ cs) (eqb-true c 0xBF three)
 
-pub bom_parts : (text : List ℕ) → text ≡ bom_text (has_bom text) ++ behind_bom (has_bom text) text
+pub bom_parts : (text : List ℕ) → text ≡ bom_text (has_bom text) ++ after_bom (has_bom text) text
 bom_parts text = by (has_bom text) refl
   where
-    by : (b : Bool) → has_bom text ≡ b → text ≡ bom_text b ++ behind_bom b text
+    by : (b : Bool) → has_bom text ≡ b → text ≡ bom_text b ++ after_bom b text
     by true e = bom_is text e
     by false e = refl
 
@@ -212,7 +212,7 @@ bom_no_line profile room text e =
 
 bom_no_lines : (profile : Profile) (room : ℕ) (text : List ℕ) → first text ≡ 0xEF → lines_of profile room [] text ≡ Err Bad
 unfolding ended_at
-bom_no_lines profile room text e = let turn : ended_at profile room [] text ≡ Err Bad = rw (bom_no_line profile room text e) refl in loop_err (ended_at profile room) [] text Bad turn
+bom_no_lines profile room text e = let iteration : ended_at profile room [] text ≡ Err Bad = rw (bom_no_line profile room text e) refl in loop_err (ended_at profile room) [] text Bad iteration
 
 lines_no_bom : (profile : Profile) (room : ℕ) (text : List ℕ) (x : Lines × List ℕ) → lines_of profile room [] text ≡ Ok x → has_bom text ≡ false
 lines_no_bom profile room text x h = by (tested (has_bom text))
@@ -231,8 +231,8 @@ pub document_found : (profile : Profile) (limit : ℕ) (bytes : List ℕ) (s : D
 unfolding read_document
 document_found profile limit bytes s h =
     let b = has_bom bytes in
-    let (l, e1, e2) = bind_ok (lines_of profile limit [] (behind_bom b bytes)) (λ l. Ok (record { bom = b; ended = l.0.0; last = l.0.1 })) s h in
-    let t = lines_take profile limit [] (behind_bom b bytes) l.0 l.1 e1 in
+    let (l, e1, e2) = bind_ok (lines_of profile limit [] (after_bom b bytes)) (λ l. Ok (record { bom = b; ended = l.0.0; last = l.0.1 })) s h in
+    let t = lines_take profile limit [] (after_bom b bytes) l.0 l.1 e1 in
     let made : Document = record { bom = b; ended = l.0.0; last = l.0.1 } in
     let is : t.back ≡ l.0.0 = sym t.grown in
     subst (λ (x : Document). Reads profile limit bytes x) (ok_is made s e2) (record {
@@ -246,7 +246,7 @@ unfolding read_document
 of_text profile limit s h le = ap read (document_text s) ∙ by s.bom
   where
     read : List ℕ → Result Document Fault
-    read t = lines_of profile limit [] (behind_bom (has_bom t) t) >>= λ l. Ok (record { bom = has_bom t; ended = l.0.0; last = l.0.1 })
+    read t = lines_of profile limit [] (after_bom (has_bom t) t) >>= λ l. Ok (record { bom = has_bom t; ended = l.0.0; last = l.0.1 })
 
     again : lines_of profile limit [] (lines_text s.ended s.last) ≡ Ok ((s.ended, s.last), [])
     again = lines_again profile limit s.ended s.last [] h.ended h.last (omega arith) (omega arith)
@@ -280,16 +280,16 @@ unfolding line_at
 same_line profile a b text le =
     same_bind (content_at profile a (space_at text).1) (content_at profile b (space_at text).1) _ _ (same_content profile a b (space_at text).1 le) (λ c. same_refl (line_by (space_at text).0 c.0 (after_of c.0 c.1)))
 
-same_turn : (profile : Profile) (a b : ℕ) → a ≤ b → (front : List Ended) (text : List ℕ) → Same (ended_at profile a front text) (ended_at profile b front text)
+same_iteration : (profile : Profile) (a b : ℕ) → a ≤ b → (prefix : List Ended) (text : List ℕ) → Same (ended_at profile a prefix text) (ended_at profile b prefix text)
 unfolding ended_at
-same_turn profile a b le front text = same_bind (line_at profile a text) (line_at profile b text) _ _ (same_line profile a b text le) (λ l. same_refl (behind_line front l.0 l.1))
+same_iteration profile a b le prefix text = same_bind (line_at profile a text) (line_at profile b text) _ _ (same_line profile a b text le) (λ l. same_refl (after_line prefix l.0 l.1))
 
 -- A larger limit reads the same, unless the smaller was passed.
 pub document_room : (profile : Profile) (a b : ℕ) (bytes : List ℕ) → a ≤ b → Same (read_document profile a bytes) (read_document profile b bytes)
 unfolding read_document
 document_room profile a b bytes le =
-    let t = behind_bom (has_bom bytes) bytes in
-    same_bind (lines_of profile a [] t) (lines_of profile b [] t) _ _ (same_repeat (suc (length t)) (ended_at profile a) (ended_at profile b) (same_turn profile a b le) [] t) (λ l. refl)
+    let t = after_bom (has_bom bytes) bytes in
+    same_bind (lines_of profile a [] t) (lines_of profile b [] t) _ _ (same_repeat (suc (length t)) (ended_at profile a) (ended_at profile b) (same_iteration profile a b le) [] t) (λ l. refl)
 
 -- Where nothing fits, nothing fits at any depth.
 pub document_bad : (profile : Profile) (limit : ℕ) (bytes : List ℕ) → read_document profile limit bytes ≡ Err Bad → (s : Document) → IsDocument profile s → bytes ≡ text s → ⊥

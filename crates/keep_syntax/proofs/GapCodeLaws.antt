@@ -1,4 +1,4 @@
--- What the code keeps of gaps, and how a fault goes through.
+-- What the code stores of gaps, and how a fault goes through.
 use Rattle.std.proofs.Common.{◌≡◌, ℕ, ◌+◌, ◌<◌, ◌≤◌, true, false, List, [], ◌∷◌, ◌++◌, length, get_or, take, drop, Option, Some, None, Result, Ok, Err, refl, sym, ap, ◌∙◌, arith, add-zero, append_assoc, IsCharBoundary}
 use Rattle.std.proofs.lemmas.List.{append-nil, drop-drop, get_or-drop, length-drop, length-take}
 use Rattle.keep_token.specs.declared.leaf.Leaf.{Leaf}
@@ -11,13 +11,13 @@ use Rattle.keep_token.specs.Abnf.{is_ws}
 use Rattle.keep_syntax.specs.declared.fault.ReadFault.{ReadFault}
 use Rattle.keep_syntax.specs.declared.fault.ReadFault.TheVariants as faults
 use Rattle.keep_syntax.specs.declared.info.Brackets.{Brackets}
-use Rattle.keep_syntax.specs.Tree.{Gap, mark}
-use Rattle.keep_syntax.specs.Reading.{Fault, Bad, Deep, written, space_at, blank_at, in_front, is_free, gap_in}
-use Rattle.keep_parts.specs.Flat.{Flat, with_mark}
-use Rattle.keep_syntax.specs.Growth.{only, Grows, PartRead, Fails, SignIs, SpaceRead, BlankRead, IsSyntax}
+use Rattle.keep_syntax.specs.Tree.{Gap, token}
+use Rattle.keep_syntax.specs.Reading.{Fault, Bad, Deep, written, space_at, blank_at, prepended, is_free, gap_in}
+use Rattle.keep_parts.specs.Flat.{Flat, with_token}
+use Rattle.keep_syntax.specs.Growth.{only, Grows, PartRead, Fails, PunctuationIs, SpaceRead, BlankRead, IsSyntax}
 use Rattle.keep_syntax.proofs.LoopLaws.{done}
 use Rattle.keep_syntax.proofs.SpaceLaws.{blank_step, blank_stop}
-use Rattle.keep_syntax.proofs.GrowthLaws.{grows_nothing, grows_then, grows_mark}
+use Rattle.keep_syntax.proofs.GrowthLaws.{grows_nothing, grows_then, grows_token}
 
 -- ---- places
 
@@ -35,22 +35,22 @@ moved_none at (Some p) e = absurd cc
 pub first-drop : (text : List ℕ) (at : ℕ) → first (drop at text) ≡ get_or text at 0
 first-drop text at = rw (get_or-drop at text 0 0, add-zero) refl
 
--- the text behind a leaf of n bytes, and its length
-pub behind_leaf : (text : List ℕ) (at n end : ℕ) → at + n ≡ end → drop n (drop at text) ≡ drop end text
-behind_leaf text at n end e = drop-drop n at text ∙ ap (λ (m : ℕ). drop m text) e
+-- the text after a leaf of n bytes, and its length
+pub after_leaf : (text : List ℕ) (at n end : ℕ) → at + n ≡ end → drop n (drop at text) ≡ drop end text
+after_leaf text at n end e = drop-drop n at text ∙ ap (λ (m : ℕ). drop m text) e
 
 pub leaf_end : (text : List ℕ) (at n end : ℕ) → at + n ≡ end → end ≤ length text → end ≡ at + length (take n (drop at text))
 leaf_end text at n end e within = omega (arith, length-take n (drop at text), length-drop at text)
 
-pub leaf_grows : (text : List ℕ) (at n end : ℕ) (l : Leaf) (old new : Flat) → at + n ≡ end → end ≤ length text → IsCharBoundary text at → new ≡ with_mark l at old → Grows text old new at end (only (mark l (take n (drop at text))))
-leaf_grows text at n end l old new e within bound is = grows_mark text (take n (drop at text)) l old new at end (leaf_end text at n end e within) bound is
+pub leaf_grows : (text : List ℕ) (at n end : ℕ) (l : Leaf) (old new : Flat) → at + n ≡ end → end ≤ length text → IsCharBoundary text at → new ≡ with_token l at old → Grows text old new at end (only (token l (take n (drop at text))))
+leaf_grows text at n end l old new e within bound is = grows_token text (take n (drop at text)) l old new at end (leaf_end text at n end e within) bound is
 
-pub sign_grows : (text t : List ℕ) (at len : ℕ) (l : Leaf) (old new : Flat) (end : ℕ) → length t ≡ len → SignIs text at len l old new end → Grows text old new at end (only (mark l t))
-sign_grows text t at len l old new end e s = grows_mark text t l old new at end (omega (arith, s.end_is)) s.start s.kept
+pub sign_grows : (text t : List ℕ) (at len : ℕ) (l : Leaf) (old new : Flat) (end : ℕ) → length t ≡ len → PunctuationIs text at len l old new end → Grows text old new at end (only (token l t))
+sign_grows text t at len l old new end e s = grows_token text t l old new at end (omega (arith, s.end_is)) s.start s.stored
 
--- the text behind a sign of one byte
-pub behind_sign : (text : List ℕ) (at end : ℕ) → end ≡ at + 1 → drop 1 (drop at text) ≡ drop end text
-behind_sign text at end e = behind_leaf text at 1 end (sym e)
+-- the text after a sign of one byte
+pub after_sign : (text : List ℕ) (at end : ℕ) → end ≡ at + 1 → drop 1 (drop at text) ≡ drop end text
+after_sign text at end e = after_leaf text at 1 end (sym e)
 
 -- ---- faults
 
@@ -78,7 +78,7 @@ fails_only {A} text e x s k = fails_through text e (done x) s (λ f h. let never
 
 -- ---- white space
 
-space_ws : (text : List ℕ) (n : ℕ) → gap_at text ≡ Some (leaf.Ws, n) → space_at text ≡ (mark leaf.Ws (take n text), drop n text)
+space_ws : (text : List ℕ) (n : ℕ) → gap_at text ≡ Some (leaf.Ws, n) → space_at text ≡ (token leaf.Ws (take n text), drop n text)
 unfolding space_at
 space_ws text n e = rw e refl
 
@@ -107,15 +107,15 @@ other_leaf text at f l end bound e other =
 pub no_leaf : (text : List ℕ) (at : ℕ) (f : Flat) → IsCharBoundary text at → None ≡ moved at (gap_at (drop at text)) → SpaceRead text at f f (Ok at)
 no_leaf text at f bound e = no_space text at f bound (space_nothing (drop at text) (moved_none at (gap_at (drop at text)) e))
 
-pub white_leaf : (text : List ℕ) (at : ℕ) (old new : Flat) (end : ℕ) → IsCharBoundary text at → IsCharBoundary text end → Some (leaf.Ws, end) ≡ moved at (gap_at (drop at text)) → new ≡ with_mark leaf.Ws at old → SpaceRead text at old new (Ok end)
+pub white_leaf : (text : List ℕ) (at : ℕ) (old new : Flat) (end : ℕ) → IsCharBoundary text at → IsCharBoundary text end → Some (leaf.Ws, end) ≡ moved at (gap_at (drop at text)) → new ≡ with_token leaf.Ws at old → SpaceRead text at old new (Ok end)
 white_leaf text at old new end bound bound' e is =
     let m = moved_some at (gap_at (drop at text)) leaf.Ws end e in
     let n = m.0 in
     record {
-      part = mark leaf.Ws (take n (drop at text));
+      part = token leaf.Ws (take n (drop at text));
       bound = bound';
       forward = omega (arith, m.2);
-      is_read = ap done (space_ws (drop at text) n m.1 ∙ ap (λ (t : List ℕ). (mark leaf.Ws (take n (drop at text)), t)) (behind_leaf text at n end m.2));
+      is_read = ap done (space_ws (drop at text) n m.1 ∙ ap (λ (t : List ℕ). (token leaf.Ws (take n (drop at text)), t)) (after_leaf text at n end m.2));
       grows = leaf_grows text at n end leaf.Ws old new m.2 bound'.0 bound is;
     }
 
@@ -123,25 +123,25 @@ white_leaf text at old new end bound bound' e is =
 
 -- the leaves so far
 pub record BlankSoFar (text : List ℕ) (at here : ℕ) (old now : Flat) : Type 0 where
-  pub front : Gap
+  pub prefix : Gap
   pub bound : IsCharBoundary text here
-  pub read : blank_at (drop at text) ≡ (front ++ (blank_at (drop here text)).0, (blank_at (drop here text)).1)
-  pub grows : Grows text old now at here (only front)
+  pub read : blank_at (drop at text) ≡ (prefix ++ (blank_at (drop here text)).0, (blank_at (drop here text)).1)
+  pub grows : Grows text old now at here (only prefix)
 
 pub blank_none : (text : List ℕ) (at : ℕ) (old : Flat) → IsCharBoundary text at → BlankSoFar text at at old old
-blank_none text at old bound = record { front = []; bound = bound; read = refl; grows = grows_nothing text old at }
+blank_none text at old bound = record { prefix = []; bound = bound; read = refl; grows = grows_nothing text old at }
 
-pub blank_more : (text : List ℕ) (at here : ℕ) (old now new : Flat) (l : Leaf) (end : ℕ) → BlankSoFar text at here old now → Some (l, end) ≡ moved here (gap_at (drop here text)) → here < end → IsCharBoundary text end → new ≡ with_mark l here now → BlankSoFar text at end old new
+pub blank_more : (text : List ℕ) (at here : ℕ) (old now new : Flat) (l : Leaf) (end : ℕ) → BlankSoFar text at here old now → Some (l, end) ≡ moved here (gap_at (drop here text)) → here < end → IsCharBoundary text end → new ≡ with_token l here now → BlankSoFar text at end old new
 blank_more text at here old now new l end s e lt bound is =
     let m = moved_some here (gap_at (drop here text)) l end e in
     let n = m.0 in
     let w = written l n (drop here text) in
-    let step : blank_at (drop here text) ≡ in_front w (blank_at (drop n (drop here text))) = blank_step (drop here text) l n (omega (arith, m.2)) (omega (arith, m.2, length-drop here text, bound.0)) m.1 in
-    let step' : blank_at (drop here text) ≡ in_front w (blank_at (drop end text)) = step ∙ ap (λ (t : List ℕ). in_front w (blank_at t)) (behind_leaf text here n end m.2) in
+    let step : blank_at (drop here text) ≡ prepended w (blank_at (drop n (drop here text))) = blank_step (drop here text) l n (omega (arith, m.2)) (omega (arith, m.2, length-drop here text, bound.0)) m.1 in
+    let step' : blank_at (drop here text) ≡ prepended w (blank_at (drop end text)) = step ∙ ap (λ (t : List ℕ). prepended w (blank_at t)) (after_leaf text here n end m.2) in
     record {
-      front = s.front ++ (w ∷ []);
+      prefix = s.prefix ++ (w ∷ []);
       bound = bound;
-      read = s.read ∙ ap (λ (x : Gap × List ℕ). (s.front ++ x.0, x.1)) step' ∙ ap (λ (g : Gap). (g, (blank_at (drop end text)).1)) (sym (append_assoc s.front (w ∷ []) (blank_at (drop end text)).0));
+      read = s.read ∙ ap (λ (x : Gap × List ℕ). (s.prefix ++ x.0, x.1)) step' ∙ ap (λ (g : Gap). (g, (blank_at (drop end text)).1)) (sym (append_assoc s.prefix (w ∷ []) (blank_at (drop end text)).0));
       grows = grows_then s.grows (leaf_grows text here n end l now new m.2 bound.0 s.bound is);
     }
 
@@ -149,10 +149,10 @@ pub blank_done : (text : List ℕ) (at here : ℕ) (old now : Flat) → BlankSoF
 blank_done text at here old now s e =
     let stop : blank_at (drop here text) ≡ ([], drop here text) = blank_stop (drop here text) (moved_none here (gap_at (drop here text)) e) in
     record {
-      part = s.front;
+      part = s.prefix;
       bound = s.bound;
       forward = omega (arith, s.grows.place);
-      is_read = ap done (s.read ∙ ap (λ (x : Gap × List ℕ). (s.front ++ x.0, x.1)) stop ∙ ap (λ (g : Gap). (g, drop here text)) (append-nil s.front));
+      is_read = ap done (s.read ∙ ap (λ (x : Gap × List ℕ). (s.prefix ++ x.0, x.1)) stop ∙ ap (λ (g : Gap). (g, drop here text)) (append-nil s.prefix));
       grows = s.grows;
     }
 

@@ -1,4 +1,4 @@
--- What parts add to what is kept: one behind the other, and a change of what was kept.
+-- What parts add to what is stored: one after the other, and a change of what was stored.
 use Rattle.std.proofs.Common.{◌≡◌, ℕ, ◌+◌, List, [], ◌∷◌, ◌++◌, length, refl, sym, ap, ◌∙◌, subst, append_assoc, arith, IsCharBoundary}
 use Rattle.std.specs.List.{AllByRecursion}
 use Rattle.std.proofs.lemmas.List.{append-nil, length-append}
@@ -6,9 +6,9 @@ use Rattle.keep_token.specs.declared.leaf.Leaf.{Leaf}
 use Rattle.keep_parts.specs.declared.info.Statement.{Statement}
 use Rattle.keep_parts.specs.declared.info.KeyPart.{KeyPart}
 use Rattle.keep_parts.specs.declared.info.ValueInfo.{ValueInfo}
-use Rattle.keep_syntax.specs.Tree.{Written, mark, text_of}
+use Rattle.keep_syntax.specs.Tree.{Written, token, text_of}
 use Rattle.keep_syntax.specs.Numbered.{width}
-use Rattle.keep_parts.specs.Flat.{Flat, with_mark, with_statement, with_key, with_value, ChangesValue}
+use Rattle.keep_parts.specs.Flat.{Flat, with_token, with_statement, with_key, with_value, ChangesValue}
 use Rattle.keep_syntax.specs.Growth.{Taken, only, both, kinds, starts, add_at, Grows}
 use Rattle.keep_parts.proofs.Shared.{same_flat}
 use Rattle.keep_syntax.proofs.SpaceLaws.{text_of-append}
@@ -52,13 +52,13 @@ add_add f at b s t e =
     (append_assoc f.statements s.statements t.statements) (append_assoc f.keys s.keys t.keys) (append_assoc f.values s.values t.values)
 
 pub grows_nothing : (text : List ℕ) (f : Flat) (at : ℕ) → Grows text f f at at (only [])
-grows_nothing text f at = record { place = omega arith; kept = sym (add_nothing f at); bounds = tt }
+grows_nothing text f at = record { place = omega arith; stored = sym (add_nothing f at); bounds = tt }
 
--- one part behind the other
+-- one part after the other
 pub grows_then : {text : List ℕ} {old mid new : Flat} {at b end : ℕ} {s t : Taken} → Grows text old mid at b s → Grows text mid new b end t → Grows text old new at end (both s t)
 grows_then {text} {old} {mid} {new} {at} {b} {end} {s} {t} g h = record {
   place = omega (arith, g.place, h.place, width-append s.leaves t.leaves);
-  kept = h.kept ∙ ap (λ (f : Flat). add_at f b t) g.kept ∙ add_add old at b s t g.place;
+  stored = h.stored ∙ ap (λ (f : Flat). add_at f b t) g.stored ∙ add_add old at b s t g.place;
   bounds =
       let k : starts at s.leaves ++ starts b t.leaves ≡ starts at (s.leaves ++ t.leaves) = ap (λ (n : ℕ). starts at s.leaves ++ starts n t.leaves) g.place ∙ sym (starts-append at s.leaves t.leaves) in
       subst (AllByRecursion (IsCharBoundary text)) k (all-append (IsCharBoundary text) (starts at s.leaves) (starts b t.leaves) g.bounds h.bounds);
@@ -67,11 +67,11 @@ grows_then {text} {old} {mid} {new} {at} {b} {end} {s} {t} g h = record {
 pub grows_as : {text : List ℕ} {old new : Flat} {at end : ℕ} {s : Taken} (t : Taken) → s ≡ t → Grows text old new at end s → Grows text old new at end t
 grows_as {text} {old} {new} {at} {end} t e g = subst (λ (x : Taken). Grows text old new at end x) e g
 
-pub grows_mark : (text t : List ℕ) (leaf : Leaf) (old new : Flat) (at end : ℕ) → end ≡ at + length t → IsCharBoundary text at → new ≡ with_mark leaf at old → Grows text old new at end (only (mark leaf t))
+pub grows_token : (text t : List ℕ) (leaf : Leaf) (old new : Flat) (at end : ℕ) → end ≡ at + length t → IsCharBoundary text at → new ≡ with_token leaf at old → Grows text old new at end (only (token leaf t))
 unfolding add_at
-grows_mark text t leaf old new at end place bound e = record {
+grows_token text t leaf old new at end place bound e = record {
   place = omega (arith, append-nil t, ap length (append-nil t));
-  kept = e ∙ same_flat (with_mark leaf at old) (add_at old at (only (mark leaf t))) refl refl (sym (append-nil old.statements)) (sym (append-nil old.keys)) (sym (append-nil old.values));
+  stored = e ∙ same_flat (with_token leaf at old) (add_at old at (only (token leaf t))) refl refl (sym (append-nil old.statements)) (sym (append-nil old.keys)) (sym (append-nil old.values));
   bounds = (bound, tt);
 }
 
@@ -88,7 +88,7 @@ pub grows_key : (text : List ℕ) (k : KeyPart) (old new : Flat) (at : ℕ) → 
 unfolding add_at
 grows_key text k old new at e = record {
   place = omega arith;
-  kept = e ∙ same_flat (with_key k old) (add_at old at (one_key k)) (sym (append-nil old.kinds)) (sym (append-nil old.starts)) (sym (append-nil old.statements)) refl (sym (append-nil old.values));
+  stored = e ∙ same_flat (with_key k old) (add_at old at (one_key k)) (sym (append-nil old.kinds)) (sym (append-nil old.starts)) (sym (append-nil old.statements)) refl (sym (append-nil old.values));
   bounds = tt;
 }
 
@@ -96,7 +96,7 @@ pub grows_value : (text : List ℕ) (v : ValueInfo) (old new : Flat) (at : ℕ) 
 unfolding add_at
 grows_value text v old new at e = record {
   place = omega arith;
-  kept = e ∙ same_flat (with_value v old) (add_at old at (one_value v)) (sym (append-nil old.kinds)) (sym (append-nil old.starts)) (sym (append-nil old.statements)) (sym (append-nil old.keys)) refl;
+  stored = e ∙ same_flat (with_value v old) (add_at old at (one_value v)) (sym (append-nil old.kinds)) (sym (append-nil old.starts)) (sym (append-nil old.statements)) (sym (append-nil old.keys)) refl;
   bounds = tt;
 }
 
@@ -104,7 +104,7 @@ pub grows_statement : (text : List ℕ) (s : Statement) (old new : Flat) (at : �
 unfolding add_at
 grows_statement text s old new at e = record {
   place = omega arith;
-  kept = e ∙ same_flat (with_statement s old) (add_at old at (one_statement s)) (sym (append-nil old.kinds)) (sym (append-nil old.starts)) refl (sym (append-nil old.keys)) (sym (append-nil old.values));
+  stored = e ∙ same_flat (with_statement s old) (add_at old at (one_statement s)) (sym (append-nil old.kinds)) (sym (append-nil old.starts)) refl (sym (append-nil old.keys)) (sym (append-nil old.values));
   bounds = tt;
 }
 
@@ -113,22 +113,22 @@ pub grows_changed : {text : List ℕ} {old mid new : Flat} {at end : ℕ} (chang
     → s.values ≡ v ∷ vs → number ≡ length old.values → Grows text old mid at end s → ChangesValue change number mid new → Grows text old new at end (record s { values = change v ∷ vs })
 unfolding add_at
 grows_changed {text} {old} {mid} {new} {at} {end} change number s v vs is n g h =
-    let held : mid.values ≡ old.values ++ (v ∷ vs) = ap (λ (f : Flat). f.values) g.kept ∙ ap (λ (x : List ValueInfo). old.values ++ x) is in
+    let held : mid.values ≡ old.values ++ (v ∷ vs) = ap (λ (f : Flat). f.values) g.stored ∙ ap (λ (x : List ValueInfo). old.values ++ x) is in
     record {
       place = g.place;
-      kept = h old.values v vs (sym n) held ∙ ap (λ (f : Flat). record f { values = old.values ++ (change v ∷ vs) }) g.kept;
+      stored = h old.values v vs (sym n) held ∙ ap (λ (f : Flat). record f { values = old.values ++ (change v ∷ vs) }) g.stored;
       bounds = g.bounds;
     }
 
 -- how many there are then
 pub grown_values : {text : List ℕ} {old new : Flat} {at end : ℕ} (s : Taken) → Grows text old new at end s → length new.values ≡ length old.values + length s.values
 unfolding add_at
-grown_values {text} {old} {new} s g = ap (λ (f : Flat). length f.values) g.kept ∙ length-append old.values s.values
+grown_values {text} {old} {new} s g = ap (λ (f : Flat). length f.values) g.stored ∙ length-append old.values s.values
 
 pub grown_keys : {text : List ℕ} {old new : Flat} {at end : ℕ} (s : Taken) → Grows text old new at end s → length new.keys ≡ length old.keys + length s.keys
 unfolding add_at
-grown_keys {text} {old} {new} s g = ap (λ (f : Flat). length f.keys) g.kept ∙ length-append old.keys s.keys
+grown_keys {text} {old} {new} s g = ap (λ (f : Flat). length f.keys) g.stored ∙ length-append old.keys s.keys
 
 pub grown_statements : {text : List ℕ} {old new : Flat} {at end : ℕ} (s : Taken) → Grows text old new at end s → length new.statements ≡ length old.statements + length s.statements
 unfolding add_at
-grown_statements {text} {old} {new} s g = ap (λ (f : Flat). length f.statements) g.kept ∙ length-append old.statements s.statements
+grown_statements {text} {old} {new} s g = ap (λ (f : Flat). length f.statements) g.stored ∙ length-append old.statements s.statements

@@ -9,9 +9,9 @@ use Rattle.keep_token.specs.declared.leaf.Leaf.TheVariants as leaf
 use Rattle.keep_token.specs.Abnf.{is_ws, is_bare}
 use Rattle.keep_token.specs.Scanning.{first, key_at}
 use Rattle.keep_token.proofs.Shared.{tested, key_found, key_again}
-use Rattle.keep_syntax.specs.Tree.{Written, Gap, Further, Key, Name, text_of, mark, further_leaves, key_leaves, name_leaves}
+use Rattle.keep_syntax.specs.Tree.{Written, Gap, Further, Key, Name, text_of, token, further_leaves, key_leaves, name_leaves}
 use Rattle.keep_syntax.specs.Grammar.{IsSpace, IsKeyPart, IsFurther, IsKey, IsName}
-use Rattle.keep_syntax.specs.Reading.{Deep, Read, ◌>>=◌, Turn, goes_on, ready, written, space_at, part_of, part_at, further_at, more_of, key_of, equals_by, name_of}
+use Rattle.keep_syntax.specs.Reading.{Deep, Read, ◌>>=◌, Iteration, continues, ready, written, space_at, part_of, part_at, further_at, more_of, key_of, equals_by, name_of}
 use Rattle.keep_syntax.proofs.LoopLaws.{bind_ok, bind_err, ok_is, Shortens, loop_on, loop_ready, repeat_holds, repeat_deep}
 use Rattle.keep_syntax.proofs.SpaceLaws.{text_of-append, is_solid, solid_no_ws, space_takes, space_shortens, space_again, space_class}
 
@@ -43,7 +43,7 @@ key_first_at profile text l n e =
       ]
     ]
 
--- a key part in front of the text
+-- a key part before the text
 pub record TookPart (profile : Profile) (text : List ℕ) (w : Written) (rest : List ℕ) : Type 0 where
   pub valid : IsKeyPart profile w
   pub spelled : text ≡ w.text ++ rest
@@ -91,7 +91,7 @@ part_not_deep profile text rest h = by (key_at profile text) h
 
 pub further_text : (f : Further) (rest : List ℕ) → text_of (further_leaves f) ++ rest ≡ text_of f.before ++ (0x2E ∷ (text_of f.behind ++ (f.part.text ++ rest)))
 further_text f rest =
-    let dot = mark leaf.Dot (0x2E ∷ []) in
+    let dot = token leaf.Dot (0x2E ∷ []) in
     let p = f.part ∷ [] in
     ap (λ (t : List ℕ). t ++ rest) (text_of-append f.before (dot ++ (f.behind ++ p)) ∙ ap (λ (t : List ℕ). text_of f.before ++ (0x2E ∷ t)) (text_of-append f.behind p)) ∙ simp (append_assoc, append-nil)
 
@@ -100,7 +100,7 @@ key_text k rest = append_assoc k.first.text (text_of (flat_map further_leaves k.
 
 pub name_text : (n : Name) (rest : List ℕ) → text_of (name_leaves n) ++ rest ≡ text_of (key_leaves n.key) ++ (text_of n.before ++ (0x3D ∷ (text_of n.behind ++ rest)))
 name_text n rest =
-    let equals = mark leaf.Equals (0x3D ∷ []) in
+    let equals = token leaf.Equals (0x3D ∷ []) in
     let k = key_leaves n.key in
     ap (λ (t : List ℕ). t ++ rest) (text_of-append k (n.before ++ (equals ++ n.behind)) ∙ ap (λ (t : List ℕ). text_of k ++ t) (text_of-append n.before (equals ++ n.behind))) ∙ simp append_assoc
 
@@ -109,20 +109,20 @@ more_text f fs x = ap (λ (t : List ℕ). t ++ x) (text_of-append (further_leave
 
 -- ---- further parts
 
-pub record TookFurther (profile : Profile) (front : List Further) (text : List ℕ) (front' : List Further) (rest : List ℕ) : Type 0 where
+pub record TookFurther (profile : Profile) (prefix : List Further) (text : List ℕ) (prefix' : List Further) (rest : List ℕ) : Type 0 where
   pub part : Further
   pub valid : IsFurther profile part
-  pub grown : front' ≡ front ++ (part ∷ [])
+  pub grown : prefix' ≡ prefix ++ (part ∷ [])
   pub spelled : text ≡ text_of (further_leaves part) ++ rest
   pub shorter : length rest < length text
 
-abbrev FurtherTurn : Type 0
-FurtherTurn = Turn (List Further) (List Further × Gap)
+abbrev FurtherIteration : Type 0
+FurtherIteration = Iteration (List Further) (List Further × Gap)
 
-further_cases : (profile : Profile) (front : List Further) (text : List ℕ) (t : FurtherTurn) (rest : List ℕ) → further_at profile front text ≡ Ok (t, rest)
-    → ((front' : List Further) × (t ≡ goes_on front') × TookFurther profile front text front' rest) ⊎ ((t ≡ ready (front, (space_at text).0)) × (rest ≡ (space_at text).1))
+further_cases : (profile : Profile) (prefix : List Further) (text : List ℕ) (t : FurtherIteration) (rest : List ℕ) → further_at profile prefix text ≡ Ok (t, rest)
+    → ((prefix' : List Further) × (t ≡ continues prefix') × TookFurther profile prefix text prefix' rest) ⊎ ((t ≡ ready (prefix, (space_at text).0)) × (rest ≡ (space_at text).1))
 unfolding further_at
-further_cases profile front text t rest h =
+further_cases profile prefix text t rest h =
     let b = space_at text in
     let sb = space_takes text in
     elim (tested (first b.1 == 0x2E)) [
@@ -131,14 +131,14 @@ further_cases profile front text t rest h =
           let sc = space_takes (drop 1 b.1) in
           let dot : b.1 ≡ 0x2E ∷ drop 1 b.1 = first_is 0x2E b.1 (omega arith) e in
           let made : Written → Further = λ p. record { before = b.0; behind = c.0; part = p } in
-          let go : Written × List ℕ → Read FurtherTurn = λ p. Ok (goes_on (front ++ (made p.0 ∷ [])), p.1) in
+          let go : Written × List ℕ → Read FurtherIteration = λ p. Ok (continues (prefix ++ (made p.0 ∷ [])), p.1) in
           let (p, e1, e2) = bind_ok (part_at profile c.1) go (t, rest) (rw e at h) in
           let tp = part_takes profile c.1 p.0 p.1 e1 in
-          let same = ok_is (goes_on (front ++ (made p.0 ∷ [])), p.1) (t, rest) e2 in
-          let r : p.1 ≡ rest = ap (λ (x : FurtherTurn × List ℕ). x.1) same in
+          let same = ok_is (continues (prefix ++ (made p.0 ∷ [])), p.1) (t, rest) e2 in
+          let r : p.1 ≡ rest = ap (λ (x : FurtherIteration × List ℕ). x.1) same in
           inl (
-            front ++ (made p.0 ∷ []),
-            sym (ap (λ (x : FurtherTurn × List ℕ). x.0) same),
+            prefix ++ (made p.0 ∷ []),
+            sym (ap (λ (x : FurtherIteration × List ℕ). x.0) same),
             record {
               part = made p.0;
               valid = record { before = sb.valid; behind = sc.valid; part = tp.valid };
@@ -148,44 +148,44 @@ further_cases profile front text t rest h =
             },
           )
       | inr e ↦
-          let same = ok_is (ready (front, b.0), b.1) (t, rest) (rw e at h) in
-          inr (sym (ap (λ (x : FurtherTurn × List ℕ). x.0) same), sym (ap (λ (x : FurtherTurn × List ℕ). x.1) same))
+          let same = ok_is (ready (prefix, b.0), b.1) (t, rest) (rw e at h) in
+          inr (sym (ap (λ (x : FurtherIteration × List ℕ). x.0) same), sym (ap (λ (x : FurtherIteration × List ℕ). x.1) same))
     ]
 
-abbrev turn_on : List Further → FurtherTurn
-turn_on s = goes_on s
+abbrev iteration_on : List Further → FurtherIteration
+iteration_on s = continues s
 
-abbrev turn_ready : List Further × Gap → FurtherTurn
-turn_ready a = ready a
+abbrev iteration_ready : List Further × Gap → FurtherIteration
+iteration_ready a = ready a
 
-pub further_on : (profile : Profile) (front : List Further) (text : List ℕ) (front' : List Further) (rest : List ℕ) → further_at profile front text ≡ Ok (goes_on front', rest) → TookFurther profile front text front' rest
-further_on profile front text front' rest h =
-    elim (further_cases profile front text (goes_on front') rest h) [
-      | inl x ↦ let e : turn_on front' ≡ turn_on x.0 = x.1 in let same : front' ≡ x.0 = cc in subst (λ (s : List Further). TookFurther profile front text s rest) (sym same) x.2
-      | inr x ↦ absurd (let e : turn_on front' ≡ turn_ready (front, (space_at text).0) = x.0 in cc)
+pub further_on : (profile : Profile) (prefix : List Further) (text : List ℕ) (prefix' : List Further) (rest : List ℕ) → further_at profile prefix text ≡ Ok (continues prefix', rest) → TookFurther profile prefix text prefix' rest
+further_on profile prefix text prefix' rest h =
+    elim (further_cases profile prefix text (continues prefix') rest h) [
+      | inl x ↦ let e : iteration_on prefix' ≡ iteration_on x.0 = x.1 in let same : prefix' ≡ x.0 = cc in subst (λ (s : List Further). TookFurther profile prefix text s rest) (sym same) x.2
+      | inr x ↦ absurd (let e : iteration_on prefix' ≡ iteration_ready (prefix, (space_at text).0) = x.0 in cc)
     ]
 
-pub further_ready : (profile : Profile) (front : List Further) (text : List ℕ) (a : List Further × Gap) (rest : List ℕ) → further_at profile front text ≡ Ok (ready a, rest) → (a ≡ (front, (space_at text).0)) × (rest ≡ (space_at text).1)
-further_ready profile front text a rest h =
-    elim (further_cases profile front text (ready a) rest h) [
-      | inl x ↦ absurd (let e : turn_ready a ≡ turn_on x.0 = x.1 in cc)
-      | inr x ↦ let e : turn_ready a ≡ turn_ready (front, (space_at text).0) = x.0 in let same : a ≡ (front, (space_at text).0) = cc in (same, x.1)
+pub further_ready : (profile : Profile) (prefix : List Further) (text : List ℕ) (a : List Further × Gap) (rest : List ℕ) → further_at profile prefix text ≡ Ok (ready a, rest) → (a ≡ (prefix, (space_at text).0)) × (rest ≡ (space_at text).1)
+further_ready profile prefix text a rest h =
+    elim (further_cases profile prefix text (ready a) rest h) [
+      | inl x ↦ absurd (let e : iteration_ready a ≡ iteration_on x.0 = x.1 in cc)
+      | inr x ↦ let e : iteration_ready a ≡ iteration_ready (prefix, (space_at text).0) = x.0 in let same : a ≡ (prefix, (space_at text).0) = cc in (same, x.1)
     ]
 
 pub further_shortens : (profile : Profile) → Shortens (further_at profile)
 further_shortens profile s text s' rest h = (further_on profile s text s' rest h).shorter
 
--- the further parts and the gap behind the key
-pub record TookMore (profile : Profile) (front : List Further) (text : List ℕ) (a : List Further × Gap) (rest : List ℕ) : Type 0 where
+-- the further parts and the gap after the key
+pub record TookMore (profile : Profile) (prefix : List Further) (text : List ℕ) (a : List Further × Gap) (rest : List ℕ) : Type 0 where
   pub more : List Further
   pub valid : AllByRecursion (IsFurther profile) more
-  pub grown : a.0 ≡ front ++ more
+  pub grown : a.0 ≡ prefix ++ more
   pub gap : IsSpace a.1
   pub spelled : text ≡ text_of (flat_map further_leaves more) ++ (text_of a.1 ++ rest)
   pub shorter : length rest ≤ length text
 
-pub more_takes : (profile : Profile) (front : List Further) (text : List ℕ) (a : List Further × Gap) (rest : List ℕ) → more_of profile front text ≡ Ok (a, rest) → TookMore profile front text a rest
-more_takes profile front text a rest h = repeat_holds (further_at profile) (TookMore profile) last on (suc (length text)) front text a rest h
+pub more_takes : (profile : Profile) (prefix : List Further) (text : List ℕ) (a : List Further × Gap) (rest : List ℕ) → more_of profile prefix text ≡ Ok (a, rest) → TookMore profile prefix text a rest
+more_takes profile prefix text a rest h = repeat_holds (further_at profile) (TookMore profile) last on (suc (length text)) prefix text a rest h
   where
     last : (s : List Further) (text : List ℕ) (a : List Further × Gap) (rest : List ℕ) → further_at profile s text ≡ Ok (ready a, rest) → TookMore profile s text a rest
     last s text a rest e =
@@ -194,7 +194,7 @@ more_takes profile front text a rest h = repeat_holds (further_at profile) (Took
         subst (λ (x : (List Further × Gap) × List ℕ). TookMore profile s text x.0 x.1) (ap (λ (x : List Further × Gap). (x, (space_at text).1)) (sym f.0) ∙ ap (λ (x : List ℕ). (a, x)) (sym f.1))
         (record { more = []; valid = tt; grown = sym (append-nil s); gap = sp.valid; spelled = sp.spelled; shorter = space_shortens text })
 
-    on : (s : List Further) (text : List ℕ) (s' : List Further) (text' : List ℕ) (a : List Further × Gap) (rest : List ℕ) → further_at profile s text ≡ Ok (goes_on s', text') → TookMore profile s' text' a rest → TookMore profile s text a rest
+    on : (s : List Further) (text : List ℕ) (s' : List Further) (text' : List ℕ) (a : List Further × Gap) (rest : List ℕ) → further_at profile s text ≡ Ok (continues s', text') → TookMore profile s' text' a rest → TookMore profile s text a rest
     on s text s' text' a rest e t =
         let f = further_on profile s text s' text' e in
         record {
@@ -206,7 +206,7 @@ more_takes profile front text a rest h = repeat_holds (further_at profile) (Took
           shorter = omega (arith, f.shorter, t.shorter);
         }
 
--- a byte behind a key and its gap
+-- a byte after a key and its gap
 abbrev pub is_key_end : ℕ → Bool
 is_key_end c = not ((is_ws c || c == 0x2E) || is_bare c)
 
@@ -217,9 +217,9 @@ more_class p profile (f ∷ fs) g rest ws dot h space stop =
     let x = text_of (flat_map further_leaves fs) ++ (text_of g ++ rest) in
     rw (more_text f fs (text_of g ++ rest), further_text f x) (space_class p f.before (0x2E ∷ (text_of f.behind ++ (f.part.text ++ x))) h.0.before ws dot)
 
-pub further_again : (profile : Profile) (front : List Further) (f : Further) (rest : List ℕ) → IsFurther profile f → is_bare (first rest) ≡ false → further_at profile front (text_of (further_leaves f) ++ rest) ≡ Ok (goes_on (front ++ (f ∷ [])), rest)
+pub further_again : (profile : Profile) (prefix : List Further) (f : Further) (rest : List ℕ) → IsFurther profile f → is_bare (first rest) ≡ false → further_at profile prefix (text_of (further_leaves f) ++ rest) ≡ Ok (continues (prefix ++ (f ∷ [])), rest)
 unfolding further_at
-further_again profile front f rest h stop =
+further_again profile prefix f rest h stop =
     let x = f.part.text ++ rest in
     let no_ws : is_ws (first x) ≡ false = solid_no_ws (first x) (key_first_solid (first x) (part_begins profile f.part rest h.part).1) in
     let one : space_at (text_of f.before ++ (0x2E ∷ (text_of f.behind ++ x))) ≡ (f.before, 0x2E ∷ (text_of f.behind ++ x)) = space_again f.before (0x2E ∷ (text_of f.behind ++ x)) h.before refl in
@@ -233,31 +233,31 @@ ws_no_bare c h = grind (arith, nat_tests)
 key_end_facts : (c : ℕ) → is_key_end c ≡ true → (is_ws c ≡ false) × ((c == 0x2E) ≡ false) × (is_bare c ≡ false)
 key_end_facts c h = (grind (arith, nat_tests), grind (arith, nat_tests), grind (arith, nat_tests))
 
-pub more_again : (profile : Profile) (fs front : List Further) (g : Gap) (rest : List ℕ) → AllByRecursion (IsFurther profile) fs → IsSpace g → is_key_end (first rest) ≡ true
-    → more_of profile front (text_of (flat_map further_leaves fs) ++ (text_of g ++ rest)) ≡ Ok ((front ++ fs, g), rest)
+pub more_again : (profile : Profile) (fs prefix : List Further) (g : Gap) (rest : List ℕ) → AllByRecursion (IsFurther profile) fs → IsSpace g → is_key_end (first rest) ≡ true
+    → more_of profile prefix (text_of (flat_map further_leaves fs) ++ (text_of g ++ rest)) ≡ Ok ((prefix ++ fs, g), rest)
 unfolding further_at
-more_again profile [] front g rest h space stop =
-    loop_ready (further_at profile) front (text_of g ++ rest) (front ++ [], g) rest (turn ∙ ap (λ (x : List Further). Ok (ready (x, g), rest)) (sym (append-nil front)))
+more_again profile [] prefix g rest h space stop =
+    loop_ready (further_at profile) prefix (text_of g ++ rest) (prefix ++ [], g) rest (iteration ∙ ap (λ (x : List Further). Ok (ready (x, g), rest)) (sym (append-nil prefix)))
   where
-    turn : further_at profile front (text_of g ++ rest) ≡ Ok (ready (front, g), rest)
-    turn = let (a, b, c) = key_end_facts (first rest) stop in rw (space_again g rest space a, b) refl
-more_again profile (f ∷ fs) front g rest h space stop =
+    iteration : further_at profile prefix (text_of g ++ rest) ≡ Ok (ready (prefix, g), rest)
+    iteration = let (a, b, c) = key_end_facts (first rest) stop in rw (space_again g rest space a, b) refl
+more_again profile (f ∷ fs) prefix g rest h space stop =
     let x = text_of (flat_map further_leaves fs) ++ (text_of g ++ rest) in
     let no_bare : is_bare (first x) ≡ false = more_class is_bare profile fs g rest ws_no_bare refl h.1 space (key_end_facts (first rest) stop).2 in
-    ap (more_of profile front) (more_text f fs (text_of g ++ rest))
-    ∙ loop_on (further_at profile) (further_shortens profile) front (text_of (further_leaves f) ++ x) (front ++ (f ∷ [])) x (further_again profile front f x h.0 no_bare)
-    ∙ more_again profile fs (front ++ (f ∷ [])) g rest h.1 space stop
-    ∙ ap (λ (y : List Further). Ok ((y, g), rest)) (append_assoc front (f ∷ []) fs)
+    ap (more_of profile prefix) (more_text f fs (text_of g ++ rest))
+    ∙ loop_on (further_at profile) (further_shortens profile) prefix (text_of (further_leaves f) ++ x) (prefix ++ (f ∷ [])) x (further_again profile prefix f x h.0 no_bare)
+    ∙ more_again profile fs (prefix ++ (f ∷ [])) g rest h.1 space stop
+    ∙ ap (λ (y : List Further). Ok ((y, g), rest)) (append_assoc prefix (f ∷ []) fs)
 
-more_not_deep : (profile : Profile) (front : List Further) (text rest : List ℕ) → more_of profile front text ≡ Err (Deep rest) → ⊥
+more_not_deep : (profile : Profile) (prefix : List Further) (text rest : List ℕ) → more_of profile prefix text ≡ Err (Deep rest) → ⊥
 unfolding further_at
-more_not_deep profile front text rest h = repeat_deep (further_at profile) (λ s t r. ⊥) turn (λ s t s' t' r e f. f) (suc (length text)) front text rest h
+more_not_deep profile prefix text rest h = repeat_deep (further_at profile) (λ s t r. ⊥) iteration (λ s t s' t' r e f. f) (suc (length text)) prefix text rest h
   where
-    turn : (s : List Further) (text rest : List ℕ) → further_at profile s text ≡ Err (Deep rest) → ⊥
-    turn s text rest e =
+    iteration : (s : List Further) (text rest : List ℕ) → further_at profile s text ≡ Err (Deep rest) → ⊥
+    iteration s text rest e =
         let b = space_at text in
         let c = space_at (drop 1 b.1) in
-        let go : Written × List ℕ → Read FurtherTurn = λ p. Ok (goes_on (s ++ (record { before = b.0; behind = c.0; part = p.0 } ∷ [])), p.1) in
+        let go : Written × List ℕ → Read FurtherIteration = λ p. Ok (continues (s ++ (record { before = b.0; behind = c.0; part = p.0 } ∷ [])), p.1) in
         elim (tested (first b.1 == 0x2E)) [
           | inl f ↦ elim (bind_err (part_at profile c.1) go (Deep rest) (rw f at e)) [ inl k ↦ part_not_deep profile c.1 rest k | inr k ↦ absurd (let bad = k.2 in cc) ]
           | inr f ↦ absurd (let k = rw f at e in cc)

@@ -4,35 +4,35 @@ use Rattle.std.specs.List.{AllByRecursion}
 use Rattle.std.proofs.lemmas.List.{length-append, append-nil}
 use Rattle.keep_token.specs.declared.leaf.Profile.TheVariants.{Strict}
 use Rattle.keep_token.specs.declared.leaf.Leaf.TheVariants as leaf
-use Rattle.keep_syntax.specs.Tree.{Written, Document, Ended, blank, text_of, mark, leaves, text}
+use Rattle.keep_syntax.specs.Tree.{Written, Document, Ended, blank, text_of, token, leaves, text}
 use Rattle.keep_syntax.specs.Grammar.{IsEnded}
 use Rattle.keep_syntax.specs.Numbered.{Placed, placed, tokens}
 use Rattle.keep_syntax.specs.Laws.{ArePartition, TokensPartition, TokensAreFew, TokensReachBound}
 use Rattle.keep_syntax.proofs.SpaceLaws.{text_of-append}
-use Rattle.keep_syntax.proofs.CountLaws.{AreSome, inner_leaves, leaves_end, document_some, leaves_count, marks_count}
-use Rattle.keep_syntax.proofs.PlaceLaws.{marks_placed}
+use Rattle.keep_syntax.proofs.CountLaws.{AreSome, inner_leaves, leaves_end, document_some, leaves_count, tokens_count}
+use Rattle.keep_syntax.proofs.PlaceLaws.{tokens_placed}
 use Rattle.keep_syntax.proofs.CutLaws.{slice_is}
 
--- leaves behind a part of the text, each of a byte at least, and End
-parted : (bytes front : List ℕ) (ws : List Written) (at : ℕ) → at ≡ length front → bytes ≡ front ++ text_of ws → AreSome ws → ArePartition bytes at (placed at (ws ++ mark leaf.End []))
-parted bytes front [] at p e h = (refl, refl, refl, p ∙ sym (ap length (e ∙ append-nil front)))
-parted bytes front (w ∷ []) at p e h =
+-- leaves after a part of the text, each of a byte at least, and End
+parted : (bytes prefix : List ℕ) (ws : List Written) (at : ℕ) → at ≡ length prefix → bytes ≡ prefix ++ text_of ws → AreSome ws → ArePartition bytes at (placed at (ws ++ token leaf.End []))
+parted bytes prefix [] at p e h = (refl, refl, refl, p ∙ sym (ap length (e ∙ append-nil prefix)))
+parted bytes prefix (w ∷ []) at p e h =
     let next = at + length w.text in
-    let end : next ≡ length bytes = omega (arith, p, ap length e, length-append front (w.text ++ []), ap length (append-nil w.text)) in
-    (refl, h.0.0, sym (slice_is bytes front w.text [] at next p refl e), (refl, refl, refl, end))
-parted bytes front (w ∷ v ∷ ws) at p e h =
+    let end : next ≡ length bytes = omega (arith, p, ap length e, length-append prefix (w.text ++ []), ap length (append-nil w.text)) in
+    (refl, h.0.0, sym (slice_is bytes prefix w.text [] at next p refl e), (refl, refl, refl, end))
+parted bytes prefix (w ∷ v ∷ ws) at p e h =
     let next = at + length w.text in
-    let rest = parted bytes (front ++ w.text) (v ∷ ws) next (omega (arith, p, length-append front w.text)) (e ∙ sym (append_assoc front w.text (text_of (v ∷ ws)))) h.1 in
-    (refl, h.0.0, sym (slice_is bytes front w.text (text_of (v ∷ ws)) at next p refl e), rest)
+    let rest = parted bytes (prefix ++ w.text) (v ∷ ws) next (omega (arith, p, length-append prefix w.text)) (e ∙ sym (append_assoc prefix w.text (text_of (v ∷ ws)))) h.1 in
+    (refl, h.0.0, sym (slice_is bytes prefix w.text (text_of (v ∷ ws)) at next p refl e), rest)
 
 pub tokens_part : TokensPartition
 tokens_part profile d h =
     let inner = inner_leaves d in
-    let inner_text : text d ≡ text_of inner = ap text_of (leaves_end d) ∙ text_of-append inner (mark leaf.End []) ∙ append-nil (text_of inner) in
+    let inner_text : text d ≡ text_of inner = ap text_of (leaves_end d) ∙ text_of-append inner (token leaf.End []) ∙ append-nil (text_of inner) in
     subst (λ (ts : List Placed). ArePartition (text d) 0 ts) (ap (placed 0) (sym (leaves_end d))) (parted (text d) [] inner 0 refl inner_text (document_some profile d h))
 
 token_count : (d : Document) → length (tokens d) ≡ length (leaves d)
-token_count d = sym (marks_placed 0 (leaves d)) ∙ marks_count 0 (leaves d)
+token_count d = sym (tokens_placed 0 (leaves d)) ∙ tokens_count 0 (leaves d)
 
 pub tokens_few : TokensAreFew
 tokens_few profile limit bytes d r = omega (arith, token_count d, leaves_count profile limit bytes d r)

@@ -8,7 +8,7 @@ use Rattle.keep_parts.specs.declared.info.StatementKind.{StatementKind}
 use Rattle.keep_parts.specs.declared.info.StatementKind.TheVariants.{KeyVal, Header, Element}
 use Rattle.keep_parts.specs.declared.info.ValueInfo.{ValueInfo}
 use Rattle.keep_syntax.specs.Tree.{Written, Gap, Further, Key, Name, Body, scalar, array, inline, Entries, none, entry, Value, Content, blank, keyval, header, element, Line, Ended, line_leaves, ended_leaves, name_leaves, content_leaves}
-use Rattle.keep_syntax.specs.Numbered.{span, width, part_at, further_parts, key_parts, named_parts, name_count, key_count, value_start, inside_start, value_end, comma_start, entry_end, entries_parts, comma_place, info, owner_in, inside_of, rest_of, entries_values, value_values, content_start, line_start, content_parts, content_values, content_statements, Count, statement, line_statements, line_parts, line_values, next_line, over_lines}
+use Rattle.keep_syntax.specs.Numbered.{span, width, part_at, further_parts, key_parts, named_parts, name_count, key_count, value_start, nested_start, value_end, comma_start, entry_end, entries_parts, comma_place, info, owner_in, nested_of, rest_of, entries_values, value_values, content_start, line_start, content_parts, content_values, content_statements, Count, statement, line_statements, line_parts, line_values, next_line, over_lines}
 use Rattle.keep_syntax.proofs.LineNumberingLaws.{length-statements}
 use Rattle.keep_parts.specs.Lifted.{origin, plus, lift_there, lift_owner, lift_start, lift_key, lift_statement, lift_value}
 
@@ -46,17 +46,17 @@ lifted_named c at (Some n) = lifted_key c at n.key
 lifted_value_start : (b at : ℕ) (name : Option Name) → value_start (b + at) name ≡ b + value_start at name
 lifted_value_start b at name = omega arith
 
-lifted_inside : (b at : ℕ) (body : Body) → inside_start (b + at) body ≡ b + inside_start at body
-lifted_inside b at body = omega arith
+lifted_nested : (b at : ℕ) (body : Body) → nested_start (b + at) body ≡ b + nested_start at body
+lifted_nested b at body = omega arith
 
-lifted_end : (b at : ℕ) (body : Body) (inside : Entries) → value_end (b + at) body inside ≡ b + value_end at body inside
-lifted_end b at body inside = omega arith
+lifted_end : (b at : ℕ) (body : Body) (nested : Entries) → value_end (b + at) body nested ≡ b + value_end at body nested
+lifted_end b at body nested = omega arith
 
-lifted_comma : (b at : ℕ) (name : Option Name) (body : Body) (inside : Entries) (after : Gap) → comma_start (b + at) name body inside after ≡ b + comma_start at name body inside after
-lifted_comma b at name body inside after = omega arith
+lifted_comma : (b at : ℕ) (name : Option Name) (body : Body) (nested : Entries) (after : Gap) → comma_start (b + at) name body nested after ≡ b + comma_start at name body nested after
+lifted_comma b at name body nested after = omega arith
 
-lifted_entry_end : (b at : ℕ) (name : Option Name) (body : Body) (inside : Entries) (after : Gap) (comma : Option Gap) → entry_end (b + at) name body inside after comma ≡ b + entry_end at name body inside after comma
-lifted_entry_end b at name body inside after comma = omega arith
+lifted_entry_end : (b at : ℕ) (name : Option Name) (body : Body) (nested : Entries) (after : Gap) (comma : Option Gap) → entry_end (b + at) name body nested after comma ≡ b + entry_end at name body nested after comma
+lifted_entry_end b at name body nested after comma = omega arith
 
 lifted_place : (b at : ℕ) (o : Option Gap) → comma_place (b + at) o ≡ lift_there b (comma_place at o)
 lifted_place b at None = refl
@@ -66,24 +66,24 @@ lifted_place b at (Some g) = refl
 
 lifted_entries : (c : Count) (at : ℕ) (es : Entries) → entries_parts (c.at + at) es ≡ map (lift_key c) (entries_parts at es)
 lifted_entries c at none = refl
-lifted_entries c at (entry name body inside after comma rest) =
+lifted_entries c at (entry name body nested after comma rest) =
     let v : ℕ = value_start at name in
-    let i : ℕ = inside_start v body in
-    let r : ℕ = entry_end at name body inside after comma in
-    let ei : inside_start (value_start (c.at + at) name) body ≡ c.at + i = omega arith in
-    let er : entry_end (c.at + at) name body inside after comma ≡ c.at + r = omega arith in
-    ap (λ n. named_parts (c.at + at) name ++ (entries_parts n inside ++ entries_parts (entry_end (c.at + at) name body inside after comma) rest)) ei
-    ∙ ap (λ n. named_parts (c.at + at) name ++ (entries_parts (c.at + i) inside ++ entries_parts n rest)) er
-    ∙ ap (λ ks. ks ++ (entries_parts (c.at + i) inside ++ entries_parts (c.at + r) rest)) (lifted_named c at name)
-    ∙ ap (λ ks. map (lift_key c) (named_parts at name) ++ (ks ++ entries_parts (c.at + r) rest)) (lifted_entries c i inside)
-    ∙ ap (λ ks. map (lift_key c) (named_parts at name) ++ (map (lift_key c) (entries_parts i inside) ++ ks)) (lifted_entries c r rest)
-    ∙ ap (λ ks. map (lift_key c) (named_parts at name) ++ ks) (sym (map-append (lift_key c) (entries_parts i inside) (entries_parts r rest)))
-    ∙ sym (map-append (lift_key c) (named_parts at name) (entries_parts i inside ++ entries_parts r rest))
+    let i : ℕ = nested_start v body in
+    let r : ℕ = entry_end at name body nested after comma in
+    let ei : nested_start (value_start (c.at + at) name) body ≡ c.at + i = omega arith in
+    let er : entry_end (c.at + at) name body nested after comma ≡ c.at + r = omega arith in
+    ap (λ n. named_parts (c.at + at) name ++ (entries_parts n nested ++ entries_parts (entry_end (c.at + at) name body nested after comma) rest)) ei
+    ∙ ap (λ n. named_parts (c.at + at) name ++ (entries_parts (c.at + i) nested ++ entries_parts n rest)) er
+    ∙ ap (λ ks. ks ++ (entries_parts (c.at + i) nested ++ entries_parts (c.at + r) rest)) (lifted_named c at name)
+    ∙ ap (λ ks. map (lift_key c) (named_parts at name) ++ (ks ++ entries_parts (c.at + r) rest)) (lifted_entries c i nested)
+    ∙ ap (λ ks. map (lift_key c) (named_parts at name) ++ (map (lift_key c) (entries_parts i nested) ++ ks)) (lifted_entries c r rest)
+    ∙ ap (λ ks. map (lift_key c) (named_parts at name) ++ ks) (sym (map-append (lift_key c) (entries_parts i nested) (entries_parts r rest)))
+    ∙ sym (map-append (lift_key c) (named_parts at name) (entries_parts i nested ++ entries_parts r rest))
 
-lifted_info : (c : Count) (p : Start) (at keys : ℕ) (body : Body) (inside : Entries) (o : Option ℕ) → info (lift_start c p) (c.at + at) keys body inside (lift_there c.at o) ≡ lift_value c (info p at keys body inside o)
-lifted_info c p at keys body inside o =
-    let i : ValueInfo = info (lift_start c p) (c.at + at) keys body inside (lift_there c.at o) in
-    ap (λ (n : ℕ). record i { span = span (c.at + at) n; whole = span (c.at + p.at) n }) (lifted_end c.at at body inside)
+lifted_info : (c : Count) (p : Start) (at keys : ℕ) (body : Body) (nested : Entries) (o : Option ℕ) → info (lift_start c p) (c.at + at) keys body nested (lift_there c.at o) ≡ lift_value c (info p at keys body nested o)
+lifted_info c p at keys body nested o =
+    let i : ValueInfo = info (lift_start c p) (c.at + at) keys body nested (lift_there c.at o) in
+    ap (λ (n : ℕ). record i { span = span (c.at + at) n; whole = span (c.at + p.at) n }) (lifted_end c.at at body nested)
 
 lifted_owner_in : (c : Count) (body : Body) (v : ℕ) → owner_in body (c.values + v) ≡ lift_owner c (owner_in body v)
 lifted_owner_in c (scalar w) v = refl
@@ -97,42 +97,42 @@ start_is : {at at' values values' parts parts' depth depth' : ℕ} {o o' : Owner
     → start_with at values parts o depth k ≡ start_with at' values' parts' o' depth' k'
 start_is a v p o d k = cc
 
-lifted_inside_of : (c : Count) (p : Start) (at keys : ℕ) (body : Body) → inside_of (lift_start c p) (c.at + at) keys body ≡ lift_start c (inside_of p at keys body)
-lifted_inside_of c p at keys body =
-    start_is (lifted_inside c.at at body) (let e : suc (c.values + p.values) ≡ c.values + suc p.values = omega arith in e) (assoc c.parts p.parts keys) (lifted_owner_in c body p.values) refl refl
+lifted_nested_of : (c : Count) (p : Start) (at keys : ℕ) (body : Body) → nested_of (lift_start c p) (c.at + at) keys body ≡ lift_start c (nested_of p at keys body)
+lifted_nested_of c p at keys body =
+    start_is (lifted_nested c.at at body) (let e : suc (c.values + p.values) ≡ c.values + suc p.values = omega arith in e) (assoc c.parts p.parts keys) (lifted_owner_in c body p.values) refl refl
 
-lifted_rest_of : (c : Count) (p : Start) (name : Option Name) (body : Body) (inside : Entries) (after : Gap) (comma : Option Gap)
-    → rest_of (lift_start c p) name body inside after comma ≡ lift_start c (rest_of p name body inside after comma)
-lifted_rest_of c p name body inside after comma =
-    start_is (lifted_entry_end c.at p.at name body inside after comma) (omega arith) (omega arith) refl refl
-    (ap (λ n. comma_place n comma) (lifted_comma c.at p.at name body inside after) ∙ lifted_place c.at (comma_start p.at name body inside after) comma)
+lifted_rest_of : (c : Count) (p : Start) (name : Option Name) (body : Body) (nested : Entries) (after : Gap) (comma : Option Gap)
+    → rest_of (lift_start c p) name body nested after comma ≡ lift_start c (rest_of p name body nested after comma)
+lifted_rest_of c p name body nested after comma =
+    start_is (lifted_entry_end c.at p.at name body nested after comma) (omega arith) (omega arith) refl refl
+    (ap (λ n. comma_place n comma) (lifted_comma c.at p.at name body nested after) ∙ lifted_place c.at (comma_start p.at name body nested after) comma)
 
 pub lifted_values : (c : Count) (p : Start) (es : Entries) → entries_values (lift_start c p) es ≡ map (lift_value c) (entries_values p es)
 lifted_values c p none = refl
-lifted_values c p (entry name body inside after comma rest) =
+lifted_values c p (entry name body nested after comma rest) =
     let q : Start = lift_start c p in
     let v : ℕ = value_start p.at name in
     let keys : ℕ = name_count name in
-    let k : ℕ = comma_start p.at name body inside after in
-    let i : Start = inside_of p v keys body in
-    let r : Start = rest_of p name body inside after comma in
-    let head : ValueInfo = info p v keys body inside (comma_place k comma) in
-    let tail : List ValueInfo = entries_values (rest_of q name body inside after comma) rest in
-    ap (λ n. info q n keys body inside (comma_place (comma_start q.at name body inside after) comma) ∷ (entries_values (inside_of q n keys body) inside ++ tail)) (lifted_value_start c.at p.at name)
-    ∙ ap (λ n. info q (c.at + v) keys body inside (comma_place n comma) ∷ (entries_values (inside_of q (c.at + v) keys body) inside ++ tail)) (lifted_comma c.at p.at name body inside after)
-    ∙ ap (λ o. info q (c.at + v) keys body inside o ∷ (entries_values (inside_of q (c.at + v) keys body) inside ++ tail)) (lifted_place c.at k comma)
-    ∙ ap (λ h. h ∷ (entries_values (inside_of q (c.at + v) keys body) inside ++ tail)) (lifted_info c p v keys body inside (comma_place k comma))
-    ∙ ap (λ s. lift_value c head ∷ (entries_values s inside ++ tail)) (lifted_inside_of c p v keys body)
-    ∙ ap (λ s. lift_value c head ∷ (entries_values (lift_start c i) inside ++ entries_values s rest)) (lifted_rest_of c p name body inside after comma)
-    ∙ ap (λ vs. lift_value c head ∷ (vs ++ entries_values (lift_start c r) rest)) (lifted_values c i inside)
-    ∙ ap (λ vs. lift_value c head ∷ (map (lift_value c) (entries_values i inside) ++ vs)) (lifted_values c r rest)
-    ∙ ap (λ vs. lift_value c head ∷ vs) (sym (map-append (lift_value c) (entries_values i inside) (entries_values r rest)))
+    let k : ℕ = comma_start p.at name body nested after in
+    let i : Start = nested_of p v keys body in
+    let r : Start = rest_of p name body nested after comma in
+    let head : ValueInfo = info p v keys body nested (comma_place k comma) in
+    let tail : List ValueInfo = entries_values (rest_of q name body nested after comma) rest in
+    ap (λ n. info q n keys body nested (comma_place (comma_start q.at name body nested after) comma) ∷ (entries_values (nested_of q n keys body) nested ++ tail)) (lifted_value_start c.at p.at name)
+    ∙ ap (λ n. info q (c.at + v) keys body nested (comma_place n comma) ∷ (entries_values (nested_of q (c.at + v) keys body) nested ++ tail)) (lifted_comma c.at p.at name body nested after)
+    ∙ ap (λ o. info q (c.at + v) keys body nested o ∷ (entries_values (nested_of q (c.at + v) keys body) nested ++ tail)) (lifted_place c.at k comma)
+    ∙ ap (λ h. h ∷ (entries_values (nested_of q (c.at + v) keys body) nested ++ tail)) (lifted_info c p v keys body nested (comma_place k comma))
+    ∙ ap (λ s. lift_value c head ∷ (entries_values s nested ++ tail)) (lifted_nested_of c p v keys body)
+    ∙ ap (λ s. lift_value c head ∷ (entries_values (lift_start c i) nested ++ entries_values s rest)) (lifted_rest_of c p name body nested after comma)
+    ∙ ap (λ vs. lift_value c head ∷ (vs ++ entries_values (lift_start c r) rest)) (lifted_values c i nested)
+    ∙ ap (λ vs. lift_value c head ∷ (map (lift_value c) (entries_values i nested) ++ vs)) (lifted_values c r rest)
+    ∙ ap (λ vs. lift_value c head ∷ vs) (sym (map-append (lift_value c) (entries_values i nested) (entries_values r rest)))
 
 lifted_value_values : (c : Count) (p : Start) (at keys : ℕ) (v : Value) → value_values (lift_start c p) (c.at + at) keys v ≡ map (lift_value c) (value_values p at keys v)
 lifted_value_values c p at keys v =
-    ap (λ h. h ∷ entries_values (inside_of (lift_start c p) (c.at + at) keys v.body) v.inside) (lifted_info c p at keys v.body v.inside None)
-    ∙ ap (λ s. lift_value c (info p at keys v.body v.inside None) ∷ entries_values s v.inside) (lifted_inside_of c p at keys v.body)
-    ∙ ap (λ vs. lift_value c (info p at keys v.body v.inside None) ∷ vs) (lifted_values c (inside_of p at keys v.body) v.inside)
+    ap (λ h. h ∷ entries_values (nested_of (lift_start c p) (c.at + at) keys v.body) v.nested) (lifted_info c p at keys v.body v.nested None)
+    ∙ ap (λ s. lift_value c (info p at keys v.body v.nested None) ∷ entries_values s v.nested) (lifted_nested_of c p at keys v.body)
+    ∙ ap (λ vs. lift_value c (info p at keys v.body v.nested None) ∷ vs) (lifted_values c (nested_of p at keys v.body) v.nested)
 
 -- ---- lines
 
@@ -145,12 +145,12 @@ lifted_line_start c d l = start_is (lifted_content_start c d l) refl refl refl r
 lifted_content_parts : (c : Count) (at : ℕ) (k : Content) → content_parts (c.at + at) k ≡ map (lift_key c) (content_parts at k)
 lifted_content_parts c at blank = refl
 lifted_content_parts c at (keyval name value) =
-    let i : ℕ = inside_start (at + width (name_leaves name)) value.body in
-    let e : inside_start (c.at + at + width (name_leaves name)) value.body ≡ c.at + i = omega arith in
-    ap (λ n. key_parts (c.at + at) name.key ++ entries_parts n value.inside) e
-    ∙ ap (λ ks. ks ++ entries_parts (c.at + i) value.inside) (lifted_key c at name.key)
-    ∙ ap (λ ks. map (lift_key c) (key_parts at name.key) ++ ks) (lifted_entries c i value.inside)
-    ∙ sym (map-append (lift_key c) (key_parts at name.key) (entries_parts i value.inside))
+    let i : ℕ = nested_start (at + width (name_leaves name)) value.body in
+    let e : nested_start (c.at + at + width (name_leaves name)) value.body ≡ c.at + i = omega arith in
+    ap (λ n. key_parts (c.at + at) name.key ++ entries_parts n value.nested) e
+    ∙ ap (λ ks. ks ++ entries_parts (c.at + i) value.nested) (lifted_key c at name.key)
+    ∙ ap (λ ks. map (lift_key c) (key_parts at name.key) ++ ks) (lifted_entries c i value.nested)
+    ∙ sym (map-append (lift_key c) (key_parts at name.key) (entries_parts i value.nested))
 lifted_content_parts c at (header before key behind) =
     ap (λ n. key_parts n key) (let e : c.at + at + 1 + width before ≡ c.at + (at + 1 + width before) = omega arith in e) ∙ lifted_key c (at + 1 + width before) key
 lifted_content_parts c at (element before key behind) =

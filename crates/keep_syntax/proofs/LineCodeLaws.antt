@@ -1,4 +1,4 @@
--- What the code keeps of comments, newlines and lines.
+-- What the code stores of comments, newlines and lines.
 use Rattle.std.proofs.Common.{◌≡◌, ℕ, ◌+◌, ◌<◌, true, List, [], ◌∷◌, length, get_or, drop, Option, Some, None, Ok, Err, refl, sym, ap, ◌∙◌, subst, arith, IsCharBoundary}
 use Rattle.std.proofs.lemmas.List.{append-nil}
 use Rattle.keep_token.specs.declared.leaf.Leaf.{Leaf}
@@ -15,13 +15,13 @@ use Rattle.keep_parts.specs.declared.info.StatementKind.TheVariants.{KeyVal, Hea
 use Rattle.keep_syntax.specs.Tree.{Written, Gap, Content, blank, keyval, header, element, Line, content_leaves, line_leaves}
 use Rattle.keep_syntax.specs.Numbered.{width, span, key_count, content_parts, content_values, Count, line_start, line_statements}
 use Rattle.keep_syntax.specs.Reading.{Bad, written, space_at, is_line_end, content_at, after_of, comment_at, line_at}
-use Rattle.keep_parts.specs.Flat.{Flat, with_mark}
+use Rattle.keep_parts.specs.Flat.{Flat, with_token}
 use Rattle.keep_syntax.specs.Growth.{Taken, only, Grows, Fails, IsSyntax, SpaceRead}
 use Rattle.keep_parts.specs.Rereading.{count_at}
 use Rattle.keep_syntax.specs.FlatLines.{content_head, content_taken, ContentIs, CommentRead, line_taken, LineIs, newline_by, NewlineRead}
 use Rattle.keep_syntax.proofs.LoopLaws.{done, ok_is}
 use Rattle.keep_syntax.proofs.GrowthLaws.{same_taken, grows_nothing, grows_then, grows_as, grown_keys, grown_values}
-use Rattle.keep_syntax.proofs.GapCodeLaws.{moved_some, moved_none, first-drop, behind_leaf, leaf_grows, fails_bad, fails_through}
+use Rattle.keep_syntax.proofs.GapCodeLaws.{moved_some, moved_none, first-drop, after_leaf, leaf_grows, fails_bad, fails_through}
 
 -- ---- a comment
 
@@ -54,7 +54,7 @@ other_comment text at f l end bound e other =
 pub none_comment : (text : List ℕ) (at : ℕ) (f : Flat) → IsCharBoundary text at → None ≡ moved at (gap_at (drop at text)) → CommentRead text at f f (Ok at)
 none_comment text at f bound e = no_comment text at f bound (comment_nothing (drop at text) (moved_none at (gap_at (drop at text)) e))
 
-pub some_comment : (text : List ℕ) (at : ℕ) (old new : Flat) (end : ℕ) → IsCharBoundary text at → IsCharBoundary text end → Some (leaf.Comment, end) ≡ moved at (gap_at (drop at text)) → new ≡ with_mark leaf.Comment at old → CommentRead text at old new (Ok end)
+pub some_comment : (text : List ℕ) (at : ℕ) (old new : Flat) (end : ℕ) → IsCharBoundary text at → IsCharBoundary text end → Some (leaf.Comment, end) ≡ moved at (gap_at (drop at text)) → new ≡ with_token leaf.Comment at old → CommentRead text at old new (Ok end)
 some_comment text at old new end bound bound' e is =
     let m = moved_some at (gap_at (drop at text)) leaf.Comment end e in
     let n = m.0 in
@@ -63,7 +63,7 @@ some_comment text at old new end bound bound' e is =
       part = Some w;
       bound = bound';
       forward = omega (arith, m.2);
-      is_read = ap done (comment_some (drop at text) n m.1 ∙ ap (λ (t : List ℕ). (Some w, t)) (behind_leaf text at n end m.2));
+      is_read = ap done (comment_some (drop at text) n m.1 ∙ ap (λ (t : List ℕ). (Some w, t)) (after_leaf text at n end m.2));
       grows = leaf_grows text at n end leaf.Comment old new m.2 bound'.0 bound is;
     }
 
@@ -87,7 +87,7 @@ pub none_newline : (text : List ℕ) (at : ℕ) (f : Flat) (e : ReadFault) → N
 none_newline text at f e is fault =
     fails_bad text e (newline_by (drop at text) (gap_at (drop at text))) fault (ap (newline_by (drop at text)) (moved_none at (gap_at (drop at text)) is))
 
-pub some_newline : (text : List ℕ) (at : ℕ) (old new : Flat) (end : ℕ) → at < end → IsCharBoundary text at → IsCharBoundary text end → Some (leaf.Newline, end) ≡ moved at (gap_at (drop at text)) → new ≡ with_mark leaf.Newline at old → NewlineRead text at old new (Ok end)
+pub some_newline : (text : List ℕ) (at : ℕ) (old new : Flat) (end : ℕ) → at < end → IsCharBoundary text at → IsCharBoundary text end → Some (leaf.Newline, end) ≡ moved at (gap_at (drop at text)) → new ≡ with_token leaf.Newline at old → NewlineRead text at old new (Ok end)
 some_newline text at old new end lt bound bound' e is =
     let m = moved_some at (gap_at (drop at text)) leaf.Newline end e in
     let n = m.0 in
@@ -96,7 +96,7 @@ some_newline text at old new end lt bound bound' e is =
       part = w;
       bound = bound';
       forward = omega arith;
-      is_read = ap (newline_by (drop at text)) m.1 ∙ ap (λ (t : List ℕ). done (w, t)) (behind_leaf text at n end m.2);
+      is_read = ap (newline_by (drop at text)) m.1 ∙ ap (λ (t : List ℕ). done (w, t)) (after_leaf text at n end m.2);
       grows = leaf_grows text at n end leaf.Newline old new m.2 bound'.0 bound is;
     }
 
@@ -132,7 +132,7 @@ line_blank profile room text at begin end old f1 new s e k =
         is_read = line_reads profile room text at begin begin begin end s.part [] blank k.part (ok_is (space_at (drop at text)) (s.part, drop begin text) s.is_read) (blank_content profile room text begin e) refl (ok_is (comment_at (drop begin text)) (k.part, drop end text) k.is_read);
         grows = grows_then s.grows k.grows;
       };
-      told = refl;
+      stated = refl;
     }
 
 -- white space may follow what is not blank
@@ -142,35 +142,35 @@ after_space p (keyval name value) h text e = refl
 after_space p (header before key behind) h text e = refl
 after_space p (element before key behind) h text e = refl
 
-abbrev told_by : Head → ℕ → ℕ → ℕ → ℕ → ℕ → Statement
-told_by h begin close at end parts = record { kind = h.kind; span = span begin close; line = span at end; first_key = parts; keys = h.keys; value = h.value }
+abbrev stated_by : Head → ℕ → ℕ → ℕ → ℕ → ℕ → Statement
+stated_by h begin close at end parts = record { kind = h.kind; span = span begin close; line = span at end; first_key = parts; keys = h.keys; value = h.value }
 
 -- the statement of a line with this content
-told_is : (p : Start) (c : Content) (h : Head) (n : Count) (g a : Gap) (k : Option Written) (begin close end : ℕ) → content_head p c ≡ Some h → begin ≡ n.at + width g → close ≡ begin + width (content_leaves c) → p.values ≡ n.values
-    → told_by h begin close n.at end n.parts ∷ [] ≡ line_statements n (record { before = g; content = c; after = a; comment = k }) end
-told_is p blank h n g a k begin close end e e1 e2 e3 = absurd cc
-told_is p (keyval name value) h n g a k begin close end e e1 e2 e3 =
+stated_is : (p : Start) (c : Content) (h : Head) (n : Count) (g a : Gap) (k : Option Written) (begin close end : ℕ) → content_head p c ≡ Some h → begin ≡ n.at + width g → close ≡ begin + width (content_leaves c) → p.values ≡ n.values
+    → stated_by h begin close n.at end n.parts ∷ [] ≡ line_statements n (record { before = g; content = c; after = a; comment = k }) end
+stated_is p blank h n g a k begin close end e e1 e2 e3 = absurd cc
+stated_is p (keyval name value) h n g a k begin close end e e1 e2 e3 =
     let w = width (content_leaves (keyval name value)) in
     let head : ℕ → Head = λ v. record { kind = KeyVal; keys = key_count name.key; value = Some v } in
     let is : head p.values ≡ h = cc in
-    let told : ℕ → ℕ → Head → List Statement = λ b x q. told_by q b x n.at end n.parts ∷ [] in
-    ap (told begin close) (sym is) ∙ ap (λ (x : ℕ). told begin x (head p.values)) e2 ∙ ap (λ (b : ℕ). told b (b + w) (head p.values)) e1 ∙ ap (λ (v : ℕ). told (n.at + width g) ((n.at + width g) + w) (head v)) e3
-told_is p (header before key behind) h n g a k begin close end e e1 e2 e3 =
+    let stated : ℕ → ℕ → Head → List Statement = λ b x q. stated_by q b x n.at end n.parts ∷ [] in
+    ap (stated begin close) (sym is) ∙ ap (λ (x : ℕ). stated begin x (head p.values)) e2 ∙ ap (λ (b : ℕ). stated b (b + w) (head p.values)) e1 ∙ ap (λ (v : ℕ). stated (n.at + width g) ((n.at + width g) + w) (head v)) e3
+stated_is p (header before key behind) h n g a k begin close end e e1 e2 e3 =
     let w = width (content_leaves (header before key behind)) in
     let head : Head = record { kind = Header; keys = key_count key; value = None } in
     let is : head ≡ h = cc in
-    let told : ℕ → ℕ → Head → List Statement = λ b x q. told_by q b x n.at end n.parts ∷ [] in
-    ap (told begin close) (sym is) ∙ ap (λ (x : ℕ). told begin x head) e2 ∙ ap (λ (b : ℕ). told b (b + w) head) e1
-told_is p (element before key behind) h n g a k begin close end e e1 e2 e3 =
+    let stated : ℕ → ℕ → Head → List Statement = λ b x q. stated_by q b x n.at end n.parts ∷ [] in
+    ap (stated begin close) (sym is) ∙ ap (λ (x : ℕ). stated begin x head) e2 ∙ ap (λ (b : ℕ). stated b (b + w) head) e1
+stated_is p (element before key behind) h n g a k begin close end e e1 e2 e3 =
     let w = width (content_leaves (element before key behind)) in
     let head : Head = record { kind = Element; keys = key_count key; value = None } in
     let is : head ≡ h = cc in
-    let told : ℕ → ℕ → Head → List Statement = λ b x q. told_by q b x n.at end n.parts ∷ [] in
-    ap (told begin close) (sym is) ∙ ap (λ (x : ℕ). told begin x head) e2 ∙ ap (λ (b : ℕ). told b (b + w) head) e1
+    let stated : ℕ → ℕ → Head → List Statement = λ b x q. stated_by q b x n.at end n.parts ∷ [] in
+    ap (stated begin close) (sym is) ∙ ap (λ (x : ℕ). stated begin x head) e2 ∙ ap (λ (b : ℕ). stated b (b + w) head) e1
 
 pub line_is : (profile : Profile) (room : ℕ) (text : List ℕ) (at begin close behind end : ℕ) (old f1 f2 f3 new : Flat) (p : Start) (h : Head) → SpaceRead text at old f1 (Ok begin)
     → p ≡ record { at = begin; values = length old.values; parts = length old.keys; owner = owner.Line (length old.statements); depth = 0; comma = None } → ContentIs profile room text p f1 f2 close h
-    → SpaceRead text close f2 f3 (Ok behind) → CommentRead text behind f3 new (Ok end) → LineIs profile room text at old new end (Some (told_by h begin close at end (length old.keys)))
+    → SpaceRead text close f2 f3 (Ok behind) → CommentRead text behind f3 new (Ok end) → LineIs profile room text at old new end (Some (stated_by h begin close at end (length old.keys)))
 line_is profile room text at begin close behind end old f1 f2 f3 new p h s pe con a k =
     let n = count_at at old in
     let r = con.read in
@@ -187,8 +187,8 @@ line_is profile room text at begin close behind end old f1 f2 f3 new p h s pe co
         bound = k.bound;
         forward = omega (arith, s.forward, pat, r.forward, a.forward, k.forward);
         is_read = line_reads profile room text at begin close behind end s.part a.part c k.part (ok_is (space_at (drop at text)) (s.part, drop begin text) s.is_read) (ap (λ (m : ℕ). content_at profile room (drop m text)) (sym pat) ∙ r.is_read)
-            (after_space p c h (drop close text) con.told ∙ ok_is (space_at (drop close text)) (a.part, drop behind text) a.is_read) (ok_is (comment_at (drop behind text)) (k.part, drop end text) k.is_read);
+            (after_space p c h (drop close text) con.stated ∙ ok_is (space_at (drop close text)) (a.part, drop behind text) a.is_read) (ok_is (comment_at (drop behind text)) (k.part, drop end text) k.is_read);
         grows = grows_as (line_taken n l) (same_taken _ (taken p) refl refl (append-nil (content_parts p.at c)) (append-nil (content_values p c)) ∙ ap taken ps) g;
       };
-      told = told_is p c h n s.part a.part k.part begin close end con.told s.grows.place (omega (arith, r.grows.place, pat)) (ap (λ (q : Start). q.values) pe);
+      stated = stated_is p c h n s.part a.part k.part begin close end con.stated s.grows.place (omega (arith, r.grows.place, pat)) (ap (λ (q : Start). q.values) pe);
     }

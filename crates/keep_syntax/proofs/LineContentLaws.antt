@@ -1,4 +1,4 @@
--- What the code keeps of the content of a line: a keyval or a header.
+-- What the code stores of the content of a line: a keyval or a header.
 use Rattle.std.proofs.Common.{◌≡◌, ℕ, suc, ◌+◌, ◌-◌, false, ◌==◌, ◌&&◌, List, [], ◌∷◌, ◌++◌, length, get_or, get_or-drop, drop, Some, None, Ok, refl, sym, ap, ◌∙◌, arith, append_assoc}
 use Rattle.std.proofs.lemmas.List.{append-nil}
 use Rattle.keep_token.specs.declared.leaf.Leaf.{Leaf}
@@ -8,15 +8,15 @@ use Rattle.keep_syntax.specs.declared.fault.ReadFault.{ReadFault}
 use Rattle.keep_parts.specs.declared.info.Start.{Start}
 use Rattle.keep_parts.specs.declared.info.StatementKind.TheVariants.{KeyVal, Header, Element}
 use Rattle.keep_syntax.specs.declared.line.Head.{Head}
-use Rattle.keep_syntax.specs.Tree.{Written, Gap, Further, Key, keyval, header, element, mark, key_leaves, name_leaves, content_leaves}
-use Rattle.keep_syntax.specs.Numbered.{width, key_count, key_parts, further_parts, entries_parts, inside_start, value_values}
+use Rattle.keep_syntax.specs.Tree.{Written, Gap, Further, Key, keyval, header, element, token, key_leaves, name_leaves, content_leaves}
+use Rattle.keep_syntax.specs.Numbered.{width, key_count, key_parts, further_parts, entries_parts, nested_start, value_values}
 use Rattle.keep_syntax.specs.Reading.{space_at, key_of, name_of, value_of, is_line_end, keyval_of, header_by, element_by, content_at}
 use Rattle.keep_parts.specs.Flat.{Flat}
-use Rattle.keep_syntax.specs.Growth.{Taken, only, Fails, IsSyntax, SignIs, SpaceRead, KeyRead, NameRead, ValueRead, key_taken, name_taken}
+use Rattle.keep_syntax.specs.Growth.{Taken, only, Fails, IsSyntax, PunctuationIs, SpaceRead, KeyRead, NameRead, ValueRead, key_taken, name_taken}
 use Rattle.keep_syntax.specs.FlatLines.{content_taken, ContentIs}
 use Rattle.keep_syntax.proofs.LoopLaws.{done, ok_is}
 use Rattle.keep_syntax.proofs.GrowthLaws.{same_taken, grows_then, grows_as, grown_keys, grown_values}
-use Rattle.keep_syntax.proofs.GapCodeLaws.{first-drop, behind_leaf, behind_sign, sign_grows, fails_bad, fails_through}
+use Rattle.keep_syntax.proofs.GapCodeLaws.{first-drop, after_leaf, after_sign, sign_grows, fails_bad, fails_through}
 
 -- ---- which content
 
@@ -48,9 +48,9 @@ pub name_grown : (profile : Profile) (text : List ℕ) (at begin : ℕ) (old new
 name_grown profile text at begin old new n =
     (omega (arith, grown_keys (name_taken at n.part) n.grows, length-key at n.part.key), omega (arith, grown_values (name_taken at n.part) n.grows))
 
-pub key_grown : (profile : Profile) (text : List ℕ) (at len inner begin close : ℕ) (l : Leaf) (old f1 f2 new : Flat) → SignIs text at len l old f1 inner → (s : SpaceRead text inner f1 f2 (Ok begin)) → (k : KeyRead profile text begin f2 new (Ok close)) → length new.keys ≡ length old.keys + key_count k.part.0
+pub key_grown : (profile : Profile) (text : List ℕ) (at len inner begin close : ℕ) (l : Leaf) (old f1 f2 new : Flat) → PunctuationIs text at len l old f1 inner → (s : SpaceRead text inner f1 f2 (Ok begin)) → (k : KeyRead profile text begin f2 new (Ok close)) → length new.keys ≡ length old.keys + key_count k.part.0
 key_grown profile text at len inner begin close l old f1 f2 new sg s k =
-    omega (arith, ap (λ (f : Flat). length f.keys) sg.kept, grown_keys (only s.part) s.grows, grown_keys (key_taken begin k.part) k.grows, length-key begin k.part.0)
+    omega (arith, ap (λ (f : Flat). length f.keys) sg.stored, grown_keys (only s.part) s.grows, grown_keys (key_taken begin k.part) k.grows, length-key begin k.part.0)
 
 -- ---- a keyval
 
@@ -69,7 +69,7 @@ pub keyval_is : (profile : Profile) (room : ℕ) (text : List ℕ) (p : Start) (
 keyval_is profile room text p begin end count keys old f1 new more other n e1 e2 e3 v =
     let c = keyval n.part v.part in
     let counted : keys ≡ key_count n.part.key = omega (arith, e1, e2, e3, (name_grown profile text p.at begin old f1 n).0) in
-    let taken : ℕ → ℕ → Taken = λ at ks. record { leaves = content_leaves c; statements = []; keys = key_parts p.at n.part.key ++ entries_parts (inside_start at v.part.body) v.part.inside; values = value_values p at ks v.part } in
+    let taken : ℕ → ℕ → Taken = λ at ks. record { leaves = content_leaves c; statements = []; keys = key_parts p.at n.part.key ++ entries_parts (nested_start at v.part.body) v.part.nested; values = value_values p at ks v.part } in
     let same : taken begin keys ≡ content_taken p c = ap (λ (m : ℕ). taken m keys) n.grows.place ∙ ap (taken (p.at + width (name_leaves n.part))) counted in
     record {
       read = record {
@@ -79,13 +79,13 @@ keyval_is profile room text p begin end count keys old f1 new more other n e1 e2
         is_read = keyval_content profile room text p.at more other ∙ rw (n.is_read, v.is_read) refl;
         grows = grows_as (content_taken p c) same (grows_then n.grows v.grows);
       };
-      told = ap (λ (k : ℕ). let h : Head = record { kind = KeyVal; keys = k; value = Some p.values } in Some h) (sym counted);
+      stated = ap (λ (k : ℕ). let h : Head = record { kind = KeyVal; keys = k; value = Some p.values } in Some h) (sym counted);
     }
 
 -- ---- a header
 
 space_is : (text : List ℕ) (at len inner begin : ℕ) (g : Gap) → inner ≡ at + len → done (space_at (drop inner text)) ≡ done (g, drop begin text) → space_at (drop len (drop at text)) ≡ (g, drop begin text)
-space_is text at len inner begin g e s = ap space_at (behind_leaf text at len inner (sym e)) ∙ ok_is (space_at (drop inner text)) (g, drop begin text) s
+space_is text at len inner begin g e s = ap space_at (after_leaf text at len inner (sym e)) ∙ ok_is (space_at (drop inner text)) (g, drop begin text) s
 
 pub header_fails : (profile : Profile) (room : ℕ) (text : List ℕ) (at inner begin : ℕ) (f1 f2 : Flat) (e : ReadFault) → get_or text at 0 ≡ 0x5B → (get_or text (at + 1) 0 == 0x5B) ≡ false → inner ≡ at + 1 → SpaceRead text inner f1 f2 (Ok begin)
     → Fails text e (key_of profile (drop begin text)) → Fails text e (content_at profile room (drop at text))
@@ -97,8 +97,8 @@ pub header_bad : (profile : Profile) (room : ℕ) (text : List ℕ) (at inner be
 header_bad profile room text at inner begin close f1 f2 f3 e opens once is s k other fault =
     fails_bad text e (content_at profile room (drop at text)) fault (header_content profile room text at opens once ∙ rw (space_is text at 1 inner begin s.part is s.is_read, k.is_read, first-drop text close, other) refl)
 
-pub header_is : (profile : Profile) (room : ℕ) (text : List ℕ) (p : Start) (inner begin close end count : ℕ) (old f1 f2 f3 new : Flat) → get_or text p.at 0 ≡ 0x5B → (get_or text (p.at + 1) 0 == 0x5B) ≡ false → SignIs text p.at 1 leaf.HeadOpen old f1 inner → SpaceRead text inner f1 f2 (Ok begin)
-    → KeyRead profile text begin f2 f3 (Ok close) → get_or text close 0 ≡ 0x5D → p.parts ≡ length old.keys → count ≡ length f3.keys → SignIs text close 1 leaf.HeadClose f3 new end
+pub header_is : (profile : Profile) (room : ℕ) (text : List ℕ) (p : Start) (inner begin close end count : ℕ) (old f1 f2 f3 new : Flat) → get_or text p.at 0 ≡ 0x5B → (get_or text (p.at + 1) 0 == 0x5B) ≡ false → PunctuationIs text p.at 1 leaf.HeadOpen old f1 inner → SpaceRead text inner f1 f2 (Ok begin)
+    → KeyRead profile text begin f2 f3 (Ok close) → get_or text close 0 ≡ 0x5D → p.parts ≡ length old.keys → count ≡ length f3.keys → PunctuationIs text close 1 leaf.HeadClose f3 new end
     → ContentIs profile room text p old new end (record { kind = Header; keys = count - p.parts; value = None })
 header_is profile room text p inner begin close end count old f1 f2 f3 new opens once sg s k closes e1 e2 sg2 =
     let key = k.part.0 in
@@ -111,10 +111,10 @@ header_is profile room text p inner begin close end count old f1 f2 f3 new opens
         part = c;
         bound = sg2.bound;
         forward = omega (arith, sg.end_is, s.forward, k.forward, sg2.end_is);
-        is_read = header_content profile room text p.at opens once ∙ rw (space_is text p.at 1 inner begin s.part sg.end_is s.is_read, k.is_read, first-drop text close, closes, behind_sign text close end sg2.end_is) refl;
-        grows = grows_as (content_taken p c) (same_taken _ (content_taken p c) (ap (λ (ws : List Written). mark leaf.HeadOpen (0x5B ∷ []) ++ (s.part ++ ws)) (append_assoc (key_leaves key) k.part.1 (mark leaf.HeadClose (0x5D ∷ [])))) refl (append-nil (key_parts begin key) ∙ ap (λ (n : ℕ). key_parts n key) from) refl) g;
+        is_read = header_content profile room text p.at opens once ∙ rw (space_is text p.at 1 inner begin s.part sg.end_is s.is_read, k.is_read, first-drop text close, closes, after_sign text close end sg2.end_is) refl;
+        grows = grows_as (content_taken p c) (same_taken _ (content_taken p c) (ap (λ (ws : List Written). token leaf.HeadOpen (0x5B ∷ []) ++ (s.part ++ ws)) (append_assoc (key_leaves key) k.part.1 (token leaf.HeadClose (0x5D ∷ [])))) refl (append-nil (key_parts begin key) ∙ ap (λ (n : ℕ). key_parts n key) from) refl) g;
       };
-      told = ap (λ (n : ℕ). let h : Head = record { kind = Header; keys = n; value = None } in Some h) counted;
+      stated = ap (λ (n : ℕ). let h : Head = record { kind = Header; keys = n; value = None } in Some h) counted;
     }
 
 -- ---- the header of an element
@@ -129,8 +129,8 @@ pub element_bad : (profile : Profile) (room : ℕ) (text : List ℕ) (at inner b
 element_bad profile room text at inner begin close f1 f2 f3 e opens twice is s k other fault =
     fails_bad text e (content_at profile room (drop at text)) fault (element_content profile room text at opens twice ∙ rw (space_is text at 2 inner begin s.part is s.is_read, k.is_read, first-drop text close, next-drop text close, other) refl)
 
-pub element_is : (profile : Profile) (room : ℕ) (text : List ℕ) (p : Start) (inner begin close end count : ℕ) (old f1 f2 f3 new : Flat) → get_or text p.at 0 ≡ 0x5B → get_or text (p.at + 1) 0 ≡ 0x5B → SignIs text p.at 2 leaf.ElemOpen old f1 inner → SpaceRead text inner f1 f2 (Ok begin)
-    → KeyRead profile text begin f2 f3 (Ok close) → get_or text close 0 ≡ 0x5D → get_or text (close + 1) 0 ≡ 0x5D → p.parts ≡ length old.keys → count ≡ length f3.keys → SignIs text close 2 leaf.ElemClose f3 new end
+pub element_is : (profile : Profile) (room : ℕ) (text : List ℕ) (p : Start) (inner begin close end count : ℕ) (old f1 f2 f3 new : Flat) → get_or text p.at 0 ≡ 0x5B → get_or text (p.at + 1) 0 ≡ 0x5B → PunctuationIs text p.at 2 leaf.ElemOpen old f1 inner → SpaceRead text inner f1 f2 (Ok begin)
+    → KeyRead profile text begin f2 f3 (Ok close) → get_or text close 0 ≡ 0x5D → get_or text (close + 1) 0 ≡ 0x5D → p.parts ≡ length old.keys → count ≡ length f3.keys → PunctuationIs text close 2 leaf.ElemClose f3 new end
     → ContentIs profile room text p old new end (record { kind = Element; keys = count - p.parts; value = None })
 element_is profile room text p inner begin close end count old f1 f2 f3 new opens twice sg s k closes closes2 e1 e2 sg2 =
     let key = k.part.0 in
@@ -143,8 +143,8 @@ element_is profile room text p inner begin close end count old f1 f2 f3 new open
         part = c;
         bound = sg2.bound;
         forward = omega (arith, sg.end_is, s.forward, k.forward, sg2.end_is);
-        is_read = element_content profile room text p.at opens twice ∙ rw (space_is text p.at 2 inner begin s.part sg.end_is s.is_read, k.is_read, first-drop text close, next-drop text close, closes, closes2, behind_leaf text close 2 end (sym sg2.end_is)) refl;
-        grows = grows_as (content_taken p c) (same_taken _ (content_taken p c) (ap (λ (ws : List Written). mark leaf.ElemOpen (0x5B ∷ 0x5B ∷ []) ++ (s.part ++ ws)) (append_assoc (key_leaves key) k.part.1 (mark leaf.ElemClose (0x5D ∷ 0x5D ∷ [])))) refl (append-nil (key_parts begin key) ∙ ap (λ (n : ℕ). key_parts n key) from) refl) g;
+        is_read = element_content profile room text p.at opens twice ∙ rw (space_is text p.at 2 inner begin s.part sg.end_is s.is_read, k.is_read, first-drop text close, next-drop text close, closes, closes2, after_leaf text close 2 end (sym sg2.end_is)) refl;
+        grows = grows_as (content_taken p c) (same_taken _ (content_taken p c) (ap (λ (ws : List Written). token leaf.ElemOpen (0x5B ∷ 0x5B ∷ []) ++ (s.part ++ ws)) (append_assoc (key_leaves key) k.part.1 (token leaf.ElemClose (0x5D ∷ 0x5D ∷ [])))) refl (append-nil (key_parts begin key) ∙ ap (λ (n : ℕ). key_parts n key) from) refl) g;
       };
-      told = ap (λ (n : ℕ). let h : Head = record { kind = Element; keys = n; value = None } in Some h) counted;
+      stated = ap (λ (n : ℕ). let h : Head = record { kind = Element; keys = n; value = None } in Some h) counted;
     }

@@ -11,7 +11,7 @@ use Rattle.keep_token.specs.Abnf.{is_ws, is_comment}
 use Rattle.keep_token.specs.Leaves.{IsLeaf}
 use Rattle.keep_token.specs.Scanning.{first, gap_at, may_follow_scalar}
 use Rattle.keep_token.proofs.Shared.{tested, comment_again, newline_again, Gaps, white, line, comment, nothing, gap_cases}
-use Rattle.keep_syntax.specs.Tree.{Written, Gap, Key, Name, Value, Content, blank, keyval, header, element, Line, mark, text_of, key_leaves, name_leaves, value_leaves, value_text, content_leaves, comment_leaves, line_leaves, content_depth}
+use Rattle.keep_syntax.specs.Tree.{Written, Gap, Key, Name, Value, Content, blank, keyval, header, element, Line, token, text_of, key_leaves, name_leaves, value_leaves, value_text, content_leaves, comment_leaves, line_leaves, content_depth}
 use Rattle.keep_syntax.specs.Grammar.{IsContent, IsAfter, IsComment, IsLine}
 use Rattle.keep_syntax.specs.Reading.{Bad, Read, ◌>>=◌, space_at, key_of, name_of, value_of, is_line_end, keyval_of, header_by, element_by, content_at, after_of, comment_of, comment_at, line_by, line_at}
 use Rattle.keep_syntax.proofs.LoopLaws.{bind_ok, ok_is, guard_ok}
@@ -27,12 +27,12 @@ keyval_text n v rest = ap (λ (t : List ℕ). t ++ rest) (text_of-append (name_l
 
 pub header_text : (b : Gap) (k : Key) (a : Gap) (rest : List ℕ) → text_of (content_leaves (header b k a)) ++ rest ≡ 0x5B ∷ (text_of b ++ (text_of (key_leaves k) ++ (text_of a ++ (0x5D ∷ rest))))
 header_text b k a rest =
-    let z = mark leaf.HeadClose (0x5D ∷ []) in
+    let z = token leaf.HeadClose (0x5D ∷ []) in
     ap (λ (t : List ℕ). 0x5B ∷ (t ++ rest)) (text_of-append b (key_leaves k ++ (a ++ z)) ∙ ap (λ (t : List ℕ). text_of b ++ t) (text_of-append (key_leaves k) (a ++ z) ∙ ap (λ (t : List ℕ). text_of (key_leaves k) ++ t) (text_of-append a z))) ∙ simp append_assoc
 
 pub element_text : (b : Gap) (k : Key) (a : Gap) (rest : List ℕ) → text_of (content_leaves (element b k a)) ++ rest ≡ 0x5B ∷ 0x5B ∷ (text_of b ++ (text_of (key_leaves k) ++ (text_of a ++ (0x5D ∷ 0x5D ∷ rest))))
 element_text b k a rest =
-    let z = mark leaf.ElemClose (0x5D ∷ 0x5D ∷ []) in
+    let z = token leaf.ElemClose (0x5D ∷ 0x5D ∷ []) in
     ap (λ (t : List ℕ). 0x5B ∷ 0x5B ∷ (t ++ rest)) (text_of-append b (key_leaves k ++ (a ++ z)) ∙ ap (λ (t : List ℕ). text_of b ++ t) (text_of-append (key_leaves k) (a ++ z) ∙ ap (λ (t : List ℕ). text_of (key_leaves k) ++ t) (text_of-append a z))) ∙ simp append_assoc
 
 pub line_text : (l : Line) (rest : List ℕ) → text_of (line_leaves l) ++ rest ≡ text_of l.before ++ (text_of (content_leaves l.content) ++ (text_of l.after ++ (text_of (comment_leaves l.comment) ++ rest)))

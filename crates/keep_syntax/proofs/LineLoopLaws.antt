@@ -1,4 +1,4 @@
--- What the code keeps of lines, one behind the other.
+-- What the code stores of lines, one after the other.
 use Rattle.std.proofs.Common.{◌≡◌, ℕ, ◌+◌, ◌<◌, List, [], ◌∷◌, ◌++◌, length, drop, Option, Some, None, Result, Ok, Err, refl, sym, ap, ◌∙◌, subst, arith, append_assoc, IsCharBoundary}
 use Rattle.std.specs.Prelude.{OnOk, IsOkUnless}
 use Rattle.std.specs.List.{flat_map}
@@ -12,7 +12,7 @@ use Rattle.keep_syntax.specs.declared.fault.ReadFault.{ReadFault}
 use Rattle.keep_syntax.specs.declared.fault.ReadFault.TheVariants as faults
 use Rattle.keep_parts.specs.declared.info.Statement.{Statement}
 use Rattle.keep_syntax.specs.Tree.{Written, Content, blank, keyval, header, element, Line, Ended, line_leaves, ended_leaves}
-use Rattle.keep_syntax.specs.Numbered.{width, Count, line_parts, line_values, line_statements, content_statements, behind_lines}
+use Rattle.keep_syntax.specs.Numbered.{width, Count, line_parts, line_values, line_statements, content_statements, after_lines}
 use Rattle.keep_syntax.specs.Reading.{Fault, Bad, written, line_at, lines_of}
 use Rattle.keep_parts.specs.Flat.{Flat}
 use Rattle.keep_syntax.specs.Growth.{Taken, only, both, add_at, Grows, Fails}
@@ -22,7 +22,7 @@ use Rattle.keep_syntax.specs.WholeLines.{line_starts}
 use Rattle.keep_syntax.proofs.LoopLaws.{done}
 use Rattle.keep_syntax.proofs.NumberingLaws.{width-append}
 use Rattle.keep_syntax.proofs.StepLaws.{lines_newline, lines_last, lines_err, lines_bad}
-use Rattle.keep_syntax.proofs.LineNumberingLaws.{over_ended, ended-snoc, over-last, behind_lines-at, behind_lines-statements, behind_lines-parts, behind_lines-values}
+use Rattle.keep_syntax.proofs.LineNumberingLaws.{over_ended, ended-snoc, over-last, after_lines-at, after_lines-statements, after_lines-parts, after_lines-values}
 use Rattle.keep_parts.proofs.Shared.{same_flat}
 use Rattle.keep_syntax.proofs.GrowthLaws.{same_taken, grows_nothing, grows_then, grows_as, grown_keys, grown_values, grown_statements}
 use Rattle.keep_syntax.proofs.GapCodeLaws.{fails_memory, fails_through}
@@ -77,16 +77,16 @@ ended_content c l (Some s) x y (element before key behind) e = moved s _ e
 ended_is : (c : Count) (l : Line) (s : Option Statement) (x y : ℕ) → statement_list s ≡ line_statements c l x → ended_list y s ≡ line_statements c l y
 ended_is c l s x y e = ended_content c l s x y l.content e
 
--- ---- what is kept
+-- ---- what is stored
 
-abbrev told_taken : List Statement → Taken
-told_taken ss = record { leaves = []; statements = ss; keys = []; values = [] }
+abbrev stated_taken : List Statement → Taken
+stated_taken ss = record { leaves = []; statements = ss; keys = []; values = [] }
 
-grows_told : (text : List ℕ) (ss : List Statement) (old new : Flat) (at : ℕ) → new ≡ with_statements ss old → Grows text old new at at (told_taken ss)
+grows_stated : (text : List ℕ) (ss : List Statement) (old new : Flat) (at : ℕ) → new ≡ with_statements ss old → Grows text old new at at (stated_taken ss)
 unfolding add_at
-grows_told text ss old new at e = record {
+grows_stated text ss old new at e = record {
   place = omega arith;
-  kept = e ∙ same_flat (with_statements ss old) (add_at old at (told_taken ss)) (sym (append-nil old.kinds)) (sym (append-nil old.starts)) refl (sym (append-nil old.keys)) (sym (append-nil old.values));
+  stored = e ∙ same_flat (with_statements ss old) (add_at old at (stated_taken ss)) (sym (append-nil old.kinds)) (sym (append-nil old.starts)) refl (sym (append-nil old.keys)) (sym (append-nil old.values));
   bounds = tt;
 }
 
@@ -106,7 +106,7 @@ all_taken c es = record {
   values = over_ended (λ c l line_end. line_values c l) c es;
 }
 
-all_snoc : (c : Count) (es : List Ended) (e : Ended) → both (all_taken c es) (one_taken (behind_lines c es) e) ≡ all_taken c (es ++ (e ∷ []))
+all_snoc : (c : Count) (es : List Ended) (e : Ended) → both (all_taken c es) (one_taken (after_lines c es) e) ≡ all_taken c (es ++ (e ∷ []))
 all_snoc c es e =
     same_taken _ (all_taken c (es ++ (e ∷ [])))
     (ap (λ (ws : List Written). flat_map ended_leaves es ++ ws) (sym (append-nil (ended_leaves e))) ∙ sym (flat_map-append ended_leaves es (e ∷ [])))
@@ -114,7 +114,7 @@ all_snoc c es e =
     (sym (ended-snoc (λ c l line_end. line_parts c l) c es e))
     (sym (ended-snoc (λ c l line_end. line_values c l) c es e))
 
-all_last : (c : Count) (es : List Ended) (l : Line) → both (all_taken c es) (last_taken (behind_lines c es) l) ≡ lines_taken c (es, l)
+all_last : (c : Count) (es : List Ended) (l : Line) → both (all_taken c es) (last_taken (after_lines c es) l) ≡ lines_taken c (es, l)
 all_last c es l =
     same_taken _ (lines_taken c (es, l)) refl
     (sym (over-last line_statements c es l))
@@ -125,15 +125,15 @@ pub same_count : (a b : Count) → a.at ≡ b.at → a.statements ≡ b.statemen
 same_count a b e1 e2 e3 e4 =
     ap (λ (x : ℕ). record a { at = x }) e1 ∙ ap (λ (x : ℕ). record a { at = b.at; statements = x }) e2 ∙ ap (λ (x : ℕ). record b { parts = x; values = a.values }) e3 ∙ ap (λ (x : ℕ). record b { values = x }) e4
 
--- what is kept tells what comes before the next line
-count_is : (text : List ℕ) (begin here : ℕ) (old now : Flat) (es : List Ended) → Grows text old now begin here (all_taken (count_at begin old) es) → count_at here now ≡ behind_lines (count_at begin old) es
+-- what is stored tells what comes before the next line
+count_is : (text : List ℕ) (begin here : ℕ) (old now : Flat) (es : List Ended) → Grows text old now begin here (all_taken (count_at begin old) es) → count_at here now ≡ after_lines (count_at begin old) es
 count_is text begin here old now es g =
     let c = count_at begin old in
-    same_count (count_at here now) (behind_lines c es)
-    (g.place ∙ sym (behind_lines-at c es))
-    (grown_statements (all_taken c es) g ∙ sym (behind_lines-statements c es))
-    (grown_keys (all_taken c es) g ∙ sym (behind_lines-parts c es))
-    (grown_values (all_taken c es) g ∙ sym (behind_lines-values c es))
+    same_count (count_at here now) (after_lines c es)
+    (g.place ∙ sym (after_lines-at c es))
+    (grown_statements (all_taken c es) g ∙ sym (after_lines-statements c es))
+    (grown_keys (all_taken c es) g ∙ sym (after_lines-parts c es))
+    (grown_values (all_taken c es) g ∙ sym (after_lines-values c es))
 
 -- ---- where lines begin
 
@@ -148,19 +148,19 @@ line_starts-snoc at (d ∷ es) e end h =
 
 -- the lines so far, and where they and the next one begin
 pub record LinesSoFar (profile : Profile) (room : ℕ) (text : List ℕ) (begin here : ℕ) (old now : Flat) (before after : List ℕ) : Type 0 where
-  pub front : List Ended
+  pub prefix : List Ended
   pub bound : IsCharBoundary text here
-  pub read : lines_of profile room [] (drop begin text) ≡ lines_of profile room front (drop here text)
-  pub grows : Grows text old now begin here (all_taken (count_at begin old) front)
-  pub starts : after ≡ before ++ line_starts begin front
+  pub read : lines_of profile room [] (drop begin text) ≡ lines_of profile room prefix (drop here text)
+  pub grows : Grows text old now begin here (all_taken (count_at begin old) prefix)
+  pub starts : after ≡ before ++ line_starts begin prefix
 
 pub lines_none : (profile : Profile) (room : ℕ) (text : List ℕ) (begin : ℕ) (old : Flat) (before after : List ℕ) → IsCharBoundary text begin → after ≡ before ++ (begin ∷ [])
     → LinesSoFar profile room text begin begin old old before after
-lines_none profile room text begin old before after bound first = record { front = []; bound = bound; read = refl; grows = grows_nothing text old begin; starts = first }
+lines_none profile room text begin old before after bound first = record { prefix = []; bound = bound; read = refl; grows = grows_nothing text old begin; starts = first }
 
 pub lines_fail : (profile : Profile) (room : ℕ) (text : List ℕ) (begin here : ℕ) (old now : Flat) (before after : List ℕ) (e : ReadFault) → LinesSoFar profile room text begin here old now before after → Fails text e (line_at profile room (drop here text)) → Fails text e (lines_of profile room [] (drop begin text))
 lines_fail profile room text begin here old now before after e s k =
-    fails_through text e (line_at profile room (drop here text)) (lines_of profile room [] (drop begin text)) (λ d h. s.read ∙ lines_err profile room s.front (drop here text) d h) k
+    fails_through text e (line_at profile room (drop here text)) (lines_of profile room [] (drop begin text)) (λ d h. s.read ∙ lines_err profile room s.prefix (drop here text) d h) k
 
 pub lines_refuse : (profile : Profile) (room : ℕ) (text : List ℕ) (begin here close : ℕ) (st : Option Statement) (old now f1 f2 : Flat) (before after : List ℕ) (e : ReadFault) → LinesSoFar profile room text begin here old now before after → LineIs profile room text here now f1 close st → (close ≡ length text → ⊥)
     → NewlineRead text close f1 f2 (Err e) → Fails text e (lines_of profile room [] (drop begin text))
@@ -168,7 +168,7 @@ lines_refuse profile room text begin here close st old now f1 f2 before after e 
     let rest = drop close text in
     let some : 0 < length rest = omega (arith, length-drop close text, i.read.bound.0, more) in
     fails_through text e (newline_by rest (gap_at rest)) (lines_of profile room [] (drop begin text))
-    (λ d h. s.read ∙ lines_bad profile room s.front (drop here text) i.read.part rest i.read.is_read some (λ n g. newline_not rest d n h g) ∙ ap Err (sym (newline_bad rest d h))) k
+    (λ d h. s.read ∙ lines_bad profile room s.prefix (drop here text) i.read.part rest i.read.is_read some (λ n g. newline_not rest d n h g) ∙ ap Err (sym (newline_bad rest d h))) k
 
 pub lines_more : (profile : Profile) (room : ℕ) (text : List ℕ) (begin here close end : ℕ) (st : Option Statement) (old now f1 f2 new : Flat) (before after later : List ℕ) → LinesSoFar profile room text begin here old now before after → LineIs profile room text here now f1 close st
     → NewlineRead text close f1 f2 (Ok end) → new ≡ with_statements (ended_list end st) f2 → later ≡ after ++ (end ∷ []) → LinesSoFar profile room text begin end old new before later
@@ -180,20 +180,20 @@ lines_more profile room text begin here close end st old now f1 f2 new before af
     let e : Ended = record { line = l; newline = w } in
     let found = newline_found (drop close text) w (drop end text) nl.is_read in
     let ss = ended_list end st in
-    let g = grows_then i.read.grows (grows_then nl.grows (grows_told text ss f2 new end is)) in
-    let told : ss ≡ line_statements n l (n.at + width (ended_leaves e)) = ended_is n l st close end i.told ∙ ap (line_statements n l) g.place in
-    let one : Grows text now new here end (one_taken n e) = grows_as (one_taken n e) (same_taken _ (one_taken n e) refl told (append-nil (line_parts n l)) (append-nil (line_values n l))) g in
-    let counted : Grows text now new here end (one_taken (behind_lines c s.front) e) = grows_as (one_taken (behind_lines c s.front) e) (ap (λ (m : Count). one_taken m e) (count_is text begin here old now s.front s.grows)) one in
-    let all : Grows text old new begin end (all_taken c (s.front ++ (e ∷ []))) = grows_as (all_taken c (s.front ++ (e ∷ []))) (all_snoc c s.front e) (grows_then s.grows counted) in
+    let g = grows_then i.read.grows (grows_then nl.grows (grows_stated text ss f2 new end is)) in
+    let stated : ss ≡ line_statements n l (n.at + width (ended_leaves e)) = ended_is n l st close end i.stated ∙ ap (line_statements n l) g.place in
+    let one : Grows text now new here end (one_taken n e) = grows_as (one_taken n e) (same_taken _ (one_taken n e) refl stated (append-nil (line_parts n l)) (append-nil (line_values n l))) g in
+    let counted : Grows text now new here end (one_taken (after_lines c s.prefix) e) = grows_as (one_taken (after_lines c s.prefix) e) (ap (λ (m : Count). one_taken m e) (count_is text begin here old now s.prefix s.grows)) one in
+    let all : Grows text old new begin end (all_taken c (s.prefix ++ (e ∷ []))) = grows_as (all_taken c (s.prefix ++ (e ∷ []))) (all_snoc c s.prefix e) (grows_then s.grows counted) in
     record {
-      front = s.front ++ (e ∷ []);
+      prefix = s.prefix ++ (e ∷ []);
       bound = nl.bound;
-      read = s.read ∙ lines_newline profile room s.front (drop here text) l (drop close text) found.0 i.read.is_read found.1
-          ∙ ap (λ (x : Written). let d : Ended = record { line = l; newline = x } in lines_of profile room (s.front ++ (d ∷ [])) (drop found.0 (drop close text))) (sym found.2)
-          ∙ ap (λ (t : List ℕ). lines_of profile room (s.front ++ (e ∷ [])) t) (sym found.3);
+      read = s.read ∙ lines_newline profile room s.prefix (drop here text) l (drop close text) found.0 i.read.is_read found.1
+          ∙ ap (λ (x : Written). let d : Ended = record { line = l; newline = x } in lines_of profile room (s.prefix ++ (d ∷ [])) (drop found.0 (drop close text))) (sym found.2)
+          ∙ ap (λ (t : List ℕ). lines_of profile room (s.prefix ++ (e ∷ [])) t) (sym found.3);
       grows = all;
-      starts = next ∙ ap (λ (ns : List ℕ). ns ++ (end ∷ [])) s.starts ∙ append_assoc before (line_starts begin s.front) (end ∷ [])
-          ∙ ap (λ (ns : List ℕ). before ++ ns) (sym (line_starts-snoc begin s.front e end all.place));
+      starts = next ∙ ap (λ (ns : List ℕ). ns ++ (end ∷ [])) s.starts ∙ append_assoc before (line_starts begin s.prefix) (end ∷ [])
+          ∙ ap (λ (ns : List ℕ). before ++ ns) (sym (line_starts-snoc begin s.prefix e end all.place));
     }
 
 lines_end : (profile : Profile) (room : ℕ) (text : List ℕ) (begin here close : ℕ) (st : Option Statement) (old now f1 new : Flat) (before after : List ℕ) → LinesSoFar profile room text begin here old now before after → LineIs profile room text here now f1 close st
@@ -203,25 +203,25 @@ lines_end profile room text begin here close st old now f1 new before after s i 
     let n = count_at here now in
     let l = i.read.part in
     let ss = ended_list close st in
-    let g = grows_then i.read.grows (grows_told text ss f1 new close is) in
-    let told : ss ≡ line_statements n l (n.at + width (line_leaves l)) = ended_is n l st close close i.told ∙ ap (line_statements n l) i.read.grows.place in
-    let one : Grows text now new here close (last_taken n l) = grows_as (last_taken n l) (same_taken _ (last_taken n l) (append-nil (line_leaves l)) told (append-nil (line_parts n l)) (append-nil (line_values n l))) g in
-    let counted : Grows text now new here close (last_taken (behind_lines c s.front) l) = grows_as (last_taken (behind_lines c s.front) l) (ap (λ (m : Count). last_taken m l) (count_is text begin here old now s.front s.grows)) one in
-    let whole : Grows text old new begin close (lines_taken c (s.front, l)) = grows_as (lines_taken c (s.front, l)) (all_last c s.front l) (grows_then s.grows counted) in
+    let g = grows_then i.read.grows (grows_stated text ss f1 new close is) in
+    let stated : ss ≡ line_statements n l (n.at + width (line_leaves l)) = ended_is n l st close close i.stated ∙ ap (line_statements n l) i.read.grows.place in
+    let one : Grows text now new here close (last_taken n l) = grows_as (last_taken n l) (same_taken _ (last_taken n l) (append-nil (line_leaves l)) stated (append-nil (line_parts n l)) (append-nil (line_values n l))) g in
+    let counted : Grows text now new here close (last_taken (after_lines c s.prefix) l) = grows_as (last_taken (after_lines c s.prefix) l) (ap (λ (m : Count). last_taken m l) (count_is text begin here old now s.prefix s.grows)) one in
+    let whole : Grows text old new begin close (lines_taken c (s.prefix, l)) = grows_as (lines_taken c (s.prefix, l)) (all_last c s.prefix l) (grows_then s.grows counted) in
     let nothing_left : drop close text ≡ [] = drop_all close text (omega (arith, at_end)) in
-    let nothing_behind : drop (length text) text ≡ [] = drop_all (length text) text (omega arith) in
+    let nothing_after : drop (length text) text ≡ [] = drop_all (length text) text (omega arith) in
     record {
       read = record {
-        part = (s.front, l);
+        part = (s.prefix, l);
         bound = subst (λ (m : ℕ). IsCharBoundary text m) at_end i.read.bound;
         forward = omega (arith, s.grows.place, i.read.forward, at_end);
-        is_read = s.read ∙ lines_last profile room s.front (drop here text) l (i.read.is_read ∙ ap (λ (t : List ℕ). done (l, t)) nothing_left) ∙ ap (λ (t : List ℕ). done ((s.front, l), t)) (sym nothing_behind);
-        grows = subst (λ (m : ℕ). Grows text old new begin m (lines_taken c (s.front, l))) at_end whole;
+        is_read = s.read ∙ lines_last profile room s.prefix (drop here text) l (i.read.is_read ∙ ap (λ (t : List ℕ). done (l, t)) nothing_left) ∙ ap (λ (t : List ℕ). done ((s.prefix, l), t)) (sym nothing_after);
+        grows = subst (λ (m : ℕ). Grows text old new begin m (lines_taken c (s.prefix, l))) at_end whole;
       };
       starts = s.starts;
     }
 
-pub lines_told : {A : Type 0} (profile : Profile) (room : ℕ) (text : List ℕ) (begin here close : ℕ) (st : Option Statement) (old now f1 new : Flat) (before after : List ℕ) (r : Result A ReadFault) → LinesSoFar profile room text begin here old now before after → LineIs profile room text here now f1 close st
+pub lines_stated : {A : Type 0} (profile : Profile) (room : ℕ) (text : List ℕ) (begin here close : ℕ) (st : Option Statement) (old now f1 new : Flat) (before after : List ℕ) (r : Result A ReadFault) → LinesSoFar profile room text begin here old now before after → LineIs profile room text here now f1 close st
     → OnOk r (new ≡ with_statements (ended_list close st) f1) → IsOkUnless r faults.Memory → close ≡ length text → LinesRead profile room text begin old new before after r
-lines_told profile room text begin here close st old now f1 new before after (Ok x) s i is only at_end = lines_end profile room text begin here close st old now f1 new before after s i is at_end
-lines_told profile room text begin here close st old now f1 new before after (Err e) s i is only at_end = fails_memory text e (lines_of profile room [] (drop begin text)) only
+lines_stated profile room text begin here close st old now f1 new before after (Ok x) s i is only at_end = lines_end profile room text begin here close st old now f1 new before after s i is at_end
+lines_stated profile room text begin here close st old now f1 new before after (Err e) s i is only at_end = fails_memory text e (lines_of profile room [] (drop begin text)) only

@@ -6,7 +6,7 @@ use Rattle.keep_parts.specs.declared.info.Span.{Span}
 use Rattle.keep_parts.specs.declared.info.Owner.{Owner}
 use Rattle.keep_parts.specs.declared.info.Owner.TheVariants as owner
 use Rattle.keep_syntax.specs.Tree.{Line, Ended, ended_leaves}
-use Rattle.keep_syntax.specs.Numbered.{width, Count, line_statements, line_parts, line_values, next_line, over_lines, behind_lines}
+use Rattle.keep_syntax.specs.Numbered.{width, Count, line_statements, line_parts, line_values, next_line, over_lines, after_lines}
 use Rattle.keep_syntax.proofs.LineNumberingLaws.{over_ended}
 use Rattle.keep_parts.specs.Lifted.{origin, plus, lift_there, lift_span, lift_owner, lift_key, lift_statement, lift_value, moved, moved_there, moved_span, moved_owner, moved_key, moved_statement, moved_value}
 use Rattle.keep_syntax.proofs.LiftLaws.{lifted_next, lifted_over, lifted_line_statements, lifted_line_parts, lifted_line_values, count_is}
@@ -20,11 +20,11 @@ OverLine A = Count → Line → ℕ → List A
 abbrev pub Lifts : {A : Type 0} → OverLine A → (Count → A → A) → Type 0
 Lifts f lift = (c d : Count) (l : Line) (end : ℕ) → f (plus c d) l (c.at + end) ≡ map (lift c) (f d l end)
 
-pub over-front : {A : Type 0} (f : OverLine A) (c : Count) (front es : List Ended) (last : Line) → over_lines f c (front ++ es) last ≡ over_ended f c front ++ over_lines f (behind_lines c front) es last
-over-front f c [] es last = refl
-over-front {A} f c (e ∷ front) es last =
+pub over-prefix : {A : Type 0} (f : OverLine A) (c : Count) (prefix es : List Ended) (last : Line) → over_lines f c (prefix ++ es) last ≡ over_ended f c prefix ++ over_lines f (after_lines c prefix) es last
+over-prefix f c [] es last = refl
+over-prefix {A} f c (e ∷ prefix) es last =
     let here : List A = f c e.line (c.at + width (ended_leaves e)) in
-    ap (λ xs. here ++ xs) (over-front f (next_line c e) front es last) ∙ sym (append_assoc here (over_ended f (next_line c e) front) (over_lines f (behind_lines (next_line c e) front) es last))
+    ap (λ xs. here ++ xs) (over-prefix f (next_line c e) prefix es last) ∙ sym (append_assoc here (over_ended f (next_line c e) prefix) (over_lines f (after_lines (next_line c e) prefix) es last))
 
 pub lifted_ended : {A : Type 0} (f : OverLine A) (lift : Count → A → A) → Lifts f lift → (c d : Count) (es : List Ended) → over_ended f (plus c d) es ≡ map (lift c) (over_ended f d es)
 lifted_ended f lift h c d [] = refl
@@ -56,25 +56,25 @@ moved_over {A} f lift move h m a b es last =
     let is : over_lines f b es last ≡ map (lift b) alone = ap (λ k. over_lines f k es last) (sym (plus-origin b)) ∙ lifted_over f lift h b origin es last in
     ap (map (move a b)) was ∙ moves_all lift move m a b alone ∙ sym is
 
--- The list over lines among which some are new: of the front unchanged, of the new lines as from 0 but lifted, and of those
--- after as before but moved.
+-- The list over lines among which some are new: of the prefix unchanged, of the new lines as from 0 but lifted, and of
+-- those after as before but moved.
 pub lines_law : {A : Type 0} (f : OverLine A) (lift : Count → A → A) (move : Count → Count → A → A) → Lifts f lift → Moves lift move
-    → (c : Count) (front gone new back : List Ended) (last : Line)
-    → over_lines f c (front ++ (new ++ back)) last
-    ≡ over_ended f c front
-    ++ (map (lift (behind_lines c front)) (over_ended f origin new)
-    ++ map (move (behind_lines (behind_lines c front) gone) (behind_lines (behind_lines c front) new)) (over_lines f (behind_lines (behind_lines c front) gone) back last))
-lines_law {A} f lift move h m c front gone new back last =
-    let a : Count = behind_lines c front in
-    let old : Count = behind_lines a gone in
-    let now : Count = behind_lines a new in
+    → (c : Count) (prefix gone new back : List Ended) (last : Line)
+    → over_lines f c (prefix ++ (new ++ back)) last
+    ≡ over_ended f c prefix
+    ++ (map (lift (after_lines c prefix)) (over_ended f origin new)
+    ++ map (move (after_lines (after_lines c prefix) gone) (after_lines (after_lines c prefix) new)) (over_lines f (after_lines (after_lines c prefix) gone) back last))
+lines_law {A} f lift move h m c prefix gone new back last =
+    let a : Count = after_lines c prefix in
+    let old : Count = after_lines a gone in
+    let now : Count = after_lines a new in
     let alone : List A = over_lines f origin back last in
     let was : over_lines f old back last ≡ map (lift old) alone = ap (λ k. over_lines f k back last) (sym (plus-origin old)) ∙ lifted_over f lift h old origin back last in
     let is : over_lines f now back last ≡ map (lift now) alone = ap (λ k. over_lines f k back last) (sym (plus-origin now)) ∙ lifted_over f lift h now origin back last in
     let there : over_lines f now back last ≡ map (move old now) (over_lines f old back last) = is ∙ sym (ap (map (move old now)) was ∙ moves_all lift move m old now alone) in
     let fresh : over_ended f a new ≡ map (lift a) (over_ended f origin new) = ap (λ k. over_ended f k new) (sym (plus-origin a)) ∙ lifted_ended f lift h a origin new in
-    over-front f c front (new ++ back) last
-    ∙ ap (λ xs. over_ended f c front ++ xs) (over-front f a new back last ∙ ap (λ xs. xs ++ over_lines f now back last) fresh ∙ ap (λ xs. map (lift a) (over_ended f origin new) ++ xs) there)
+    over-prefix f c prefix (new ++ back) last
+    ∙ ap (λ xs. over_ended f c prefix ++ xs) (over-prefix f a new back last ∙ ap (λ xs. xs ++ over_lines f now back last) fresh ∙ ap (λ xs. map (lift a) (over_ended f origin new) ++ xs) there)
 
 -- ---- of statements, key parts and values
 
@@ -108,11 +108,11 @@ moves_values a b v =
 -- the three laws
 abbrev pub LinesLaw : {A : Type 0} → OverLine A → (Count → A → A) → (Count → Count → A → A) → Type 0
 LinesLaw f lift move =
-    (c : Count) (front gone new back : List Ended) (last : Line)
-    → over_lines f c (front ++ (new ++ back)) last
-    ≡ over_ended f c front
-    ++ (map (lift (behind_lines c front)) (over_ended f origin new)
-    ++ map (move (behind_lines (behind_lines c front) gone) (behind_lines (behind_lines c front) new)) (over_lines f (behind_lines (behind_lines c front) gone) back last))
+    (c : Count) (prefix gone new back : List Ended) (last : Line)
+    → over_lines f c (prefix ++ (new ++ back)) last
+    ≡ over_ended f c prefix
+    ++ (map (lift (after_lines c prefix)) (over_ended f origin new)
+    ++ map (move (after_lines (after_lines c prefix) gone) (after_lines (after_lines c prefix) new)) (over_lines f (after_lines (after_lines c prefix) gone) back last))
 
 pub statements_law : LinesLaw line_statements lift_statement moved_statement
 statements_law = lines_law line_statements lift_statement moved_statement lifted_line_statements moves_statements

@@ -1,4 +1,4 @@
--- What the code keeps of an entry, and of entries one behind the other.
+-- What the code stores of an entry, and of entries one after the other.
 use Rattle.std.proofs.Common.{◌≡◌, ℕ, ◌+◌, ◌-◌, ◌<◌, true, false, ◌==◌, List, [], ◌∷◌, ◌++◌, length, get_or, drop, Option, Some, None, Result, Ok, Err, refl, sym, ap, ◌∙◌, arith, append_assoc, IsCharBoundary}
 use Rattle.std.specs.Option.{is_some}
 use Rattle.std.proofs.lemmas.List.{append-nil}
@@ -9,10 +9,10 @@ use Rattle.keep_syntax.specs.declared.info.Brackets.{Brackets}
 use Rattle.keep_parts.specs.declared.info.KeyPart.{KeyPart}
 use Rattle.keep_parts.specs.declared.info.ValueInfo.{ValueInfo}
 use Rattle.keep_syntax.specs.Tree.{Written, Gap, Name, Entries, none, Value, named_leaves, value_leaves, comma_leaves}
-use Rattle.keep_syntax.specs.Numbered.{width, entries_parts, entries_values, info, inside_of, inside_start, value_start, comma_start, comma_place, name_count, named_parts, behind}
-use Rattle.keep_syntax.specs.Reading.{Turn, goes_on, ready, join, Item, entry_of, turn_of, value_of, close_byte, gap_in, named_in, after_by, item_by, entry_by, entries_by}
+use Rattle.keep_syntax.specs.Numbered.{width, entries_parts, entries_values, info, nested_of, nested_start, value_start, comma_start, comma_place, name_count, named_parts, behind}
+use Rattle.keep_syntax.specs.Reading.{Iteration, continues, ready, join, Item, entry_of, iteration_of, value_of, close_byte, gap_in, named_in, after_by, item_by, entry_by, entries_by}
 use Rattle.keep_parts.specs.Flat.{Flat, with_comma}
-use Rattle.keep_syntax.specs.Growth.{Taken, Grows, Fails, NamedRead, ValueRead, AfterRead, AfterKept, named_taken, value_taken, entries_taken, item_taken, EntriesAre, ItemIs, ItemRead}
+use Rattle.keep_syntax.specs.Growth.{Taken, Grows, Fails, NamedRead, ValueRead, AfterRead, AfterStored, named_taken, value_taken, entries_taken, item_taken, EntriesAre, ItemIs, ItemRead}
 use Rattle.keep_syntax.proofs.LoopLaws.{done, loop_on, loop_ready, loop_err}
 use Rattle.keep_syntax.proofs.ValueLaws.{value_takes, entry_shortens}
 use Rattle.keep_syntax.proofs.GrowthLaws.{same_taken, grows_nothing, grows_then, grows_as, grows_changed, grown_values, grown_keys}
@@ -30,7 +30,7 @@ pub item_fails_value : (profile : Profile) (b : Brackets) (room : ℕ) (text : L
 unfolding item_by
 item_fails_value profile b room text at begin old f1 e n k = fails_through text e (value_of profile room (drop begin text)) (item_by profile b (value_of profile room) (drop at text)) (λ f h. rw (n.is_read, h) refl) k
 
--- what is behind the name and the value
+-- what is after the name and the value
 item_reads : (profile : Profile) (b : Brackets) (room : ℕ) (text : List ℕ) (p : Start) (begin keys end : ℕ) (old f1 f2 : Flat) → (n : NamedRead profile b text p.at old f1 (Ok begin)) → (v : ValueRead profile room text begin keys p f1 f2 (Ok end))
     → item_by profile b (value_of profile room) (drop p.at text) ≡ after_by profile b n.part v.part (gap_in profile b (drop end text))
 unfolding item_by
@@ -38,40 +38,40 @@ item_reads profile b room text p begin keys end old f1 f2 n v = rw (n.is_read, v
 
 -- what an entry adds, by its parts
 entry_taken : (p : Start) (begin keys : ℕ) (i : Item) (end : ℕ) (t : Taken) → begin ≡ p.at + width (named_leaves i.name) → keys ≡ name_count i.name → end ≡ begin + width (value_leaves i.value)
-    → t.leaves ≡ (named_leaves i.name ++ value_leaves i.value) ++ (i.after ++ comma_leaves i.comma) → t.statements ≡ [] → t.keys ≡ named_parts p.at i.name ++ entries_parts (inside_start begin i.value.body) i.value.inside
-    → t.values ≡ info p begin keys i.value.body i.value.inside (comma_place (end + width i.after) i.comma) ∷ entries_values (inside_of p begin keys i.value.body) i.value.inside → t ≡ item_taken p i
+    → t.leaves ≡ (named_leaves i.name ++ value_leaves i.value) ++ (i.after ++ comma_leaves i.comma) → t.statements ≡ [] → t.keys ≡ named_parts p.at i.name ++ entries_parts (nested_start begin i.value.body) i.value.nested
+    → t.values ≡ info p begin keys i.value.body i.value.nested (comma_place (end + width i.after) i.comma) ∷ entries_values (nested_of p begin keys i.value.body) i.value.nested → t ≡ item_taken p i
 entry_taken p begin keys i end t e1 e2 e3 ls ss ks vs =
     let v = i.value in
     let start = value_start p.at i.name in
-    let ends : end + width i.after ≡ comma_start p.at i.name v.body v.inside i.after = omega (arith, value_end-width start v) in
+    let ends : end + width i.after ≡ comma_start p.at i.name v.body v.nested i.after = omega (arith, value_end-width start v) in
     same_taken t (item_taken p i)
     (ls ∙ simp (append_assoc, append-nil)) ss
-    (ks ∙ ap (λ (n : ℕ). named_parts p.at i.name ++ entries_parts (inside_start n v.body) v.inside) e1 ∙ ap (λ (x : List KeyPart). named_parts p.at i.name ++ x) (sym (append-nil (entries_parts (inside_start start v.body) v.inside))))
-    (vs ∙ ap (λ (n : ℕ). info p begin keys v.body v.inside (comma_place n i.comma) ∷ entries_values (inside_of p begin keys v.body) v.inside) ends
-    ∙ ap (λ (n : ℕ). info p n keys v.body v.inside (comma_place (comma_start p.at i.name v.body v.inside i.after) i.comma) ∷ entries_values (inside_of p n keys v.body) v.inside) e1
-    ∙ ap (λ (k : ℕ). info p start k v.body v.inside (comma_place (comma_start p.at i.name v.body v.inside i.after) i.comma) ∷ entries_values (inside_of p start k v.body) v.inside) e2
-    ∙ ap (λ (x : List ValueInfo). info p start (name_count i.name) v.body v.inside (comma_place (comma_start p.at i.name v.body v.inside i.after) i.comma) ∷ x) (sym (append-nil (entries_values (inside_of p start (name_count i.name) v.body) v.inside))))
+    (ks ∙ ap (λ (n : ℕ). named_parts p.at i.name ++ entries_parts (nested_start n v.body) v.nested) e1 ∙ ap (λ (x : List KeyPart). named_parts p.at i.name ++ x) (sym (append-nil (entries_parts (nested_start start v.body) v.nested))))
+    (vs ∙ ap (λ (n : ℕ). info p begin keys v.body v.nested (comma_place n i.comma) ∷ entries_values (nested_of p begin keys v.body) v.nested) ends
+    ∙ ap (λ (n : ℕ). info p n keys v.body v.nested (comma_place (comma_start p.at i.name v.body v.nested i.after) i.comma) ∷ entries_values (nested_of p n keys v.body) v.nested) e1
+    ∙ ap (λ (k : ℕ). info p start k v.body v.nested (comma_place (comma_start p.at i.name v.body v.nested i.after) i.comma) ∷ entries_values (nested_of p start k v.body) v.nested) e2
+    ∙ ap (λ (x : List ValueInfo). info p start (name_count i.name) v.body v.nested (comma_place (comma_start p.at i.name v.body v.nested i.after) i.comma) ∷ x) (sym (append-nil (entries_values (nested_of p start (name_count i.name) v.body) v.nested))))
 
--- the parts of an entry, one behind the other
+-- the parts of an entry, one after the other
 entry_grows : (text : List ℕ) (p : Start) (begin keys end next : ℕ) (name : Option Name) (v : Value) (after : Gap) (comma : Option Gap) (old f1 f2 new : Flat) → keys ≡ name_count name → p.values ≡ length old.values
-    → Grows text old f1 p.at begin (named_taken p.at name) → Grows text f1 f2 begin end (value_taken p begin keys v) → AfterKept text end p.values f2 new next after comma
+    → Grows text old f1 p.at begin (named_taken p.at name) → Grows text f1 f2 begin end (value_taken p begin keys v) → AfterStored text end p.values f2 new next after comma
     → Grows text old new p.at next (item_taken p (record { name = name; value = v; after = after; comma = comma }))
 entry_grows text p begin keys end next name v after None old f1 f2 new k n g1 g2 a =
     let i : Item = record { name = name; value = v; after = after; comma = None } in
     grows_as (item_taken p i)
     (entry_taken p begin keys i end _ g1.place k g2.place (ap (λ (x : List Written). (named_leaves name ++ value_leaves v) ++ x) (sym (append-nil after))) refl (append-nil _)
-    (ap (λ (x : List ValueInfo). info p begin keys v.body v.inside None ∷ x) (append-nil (entries_values (inside_of p begin keys v.body) v.inside))))
+    (ap (λ (x : List ValueInfo). info p begin keys v.body v.nested None ∷ x) (append-nil (entries_values (nested_of p begin keys v.body) v.nested))))
     (grows_then (grows_then g1 g2) a)
 entry_grows text p begin keys end next name v after (Some behind) old f1 f2 new k n g1 g2 a =
     let i : Item = record { name = name; value = v; after = after; comma = Some behind } in
-    let inner = entries_values (inside_of p begin keys v.body) v.inside in
-    let head = info p begin keys v.body v.inside None in
+    let inner = entries_values (nested_of p begin keys v.body) v.nested in
+    let head = info p begin keys v.body v.nested None in
     let first' = grows_then (grows_then g1 g2) a.2 in
-    let told = grows_changed (with_comma (end + width after)) p.values _ head (inner ++ []) refl n first' a.3 in
+    let stated = grows_changed (with_comma (end + width after)) p.values _ head (inner ++ []) refl n first' a.3 in
     grows_as (item_taken p i)
     (entry_taken p begin keys i end _ g1.place k g2.place (simp (append_assoc, append-nil)) refl (append-nil _ ∙ append-nil _)
     (ap (λ (x : List ValueInfo). with_comma (end + width after) head ∷ x) (append-nil _ ∙ append-nil inner)))
-    (grows_then told a.4)
+    (grows_then stated a.4)
 
 -- how many key parts the name has
 pub name_keys : (profile : Profile) (b : Brackets) (text : List ℕ) (p : Start) (begin : ℕ) (old f1 : Flat) → p.parts ≡ length old.keys → (n : NamedRead profile b text p.at old f1 (Ok begin)) → length f1.keys ≡ p.parts + name_count n.part
@@ -91,14 +91,14 @@ item_is profile b room text p begin keys end old f1 f2 new (Err e) n1 n2 k n v a
 item_is profile b room text p begin keys end old f1 f2 new (Ok r) n1 n2 k n v a =
     let i : Item = record { name = n.part; value = v.part; after = a.after; comma = a.behind } in
     let own : keys ≡ name_count n.part = omega (arith, name_keys profile b text p begin old f1 n2 n) in
-    let ends : end + width a.after ≡ comma_start p.at n.part v.part.body v.part.inside a.after = omega (arith, value_end-width (value_start p.at n.part) v.part, n.grows.place, v.grows.place) in
+    let ends : end + width a.after ≡ comma_start p.at n.part v.part.body v.part.nested a.after = omega (arith, value_end-width (value_start p.at n.part) v.part, n.grows.place, v.grows.place) in
     record {
       read = record {
         part = i;
         bound = a.bound;
         forward = omega (arith, n.forward, v.forward, a.forward);
         is_read = item_reads profile b room text p begin keys end old f1 f2 n v ∙ a.is_read n.part v.part;
-        grows = entry_grows text p begin keys end r.0 n.part v.part a.after a.behind old f1 f2 new own n1 n.grows v.grows a.kept;
+        grows = entry_grows text p begin keys end r.0 n.part v.part a.after a.behind old f1 f2 new own n1 n.grows v.grows a.stored;
       };
       comma_is = a.comma_is ∙ ap (λ (x : ℕ). comma_place x a.behind) ends;
       closed = a.closed;
@@ -107,24 +107,24 @@ item_is profile b room text p begin keys end old f1 f2 new (Ok r) n1 n2 k n v a 
 -- ---- entries
 
 pub record SoFar (b : Brackets) (profile : Profile) (room : ℕ) (text : List ℕ) (p : Start) (old now : Flat) (here : Start) : Type 0 where
-  pub front : Entries
+  pub prefix : Entries
   pub bound : IsCharBoundary text here.at
-  pub read : entries_by profile b (value_of profile room) none (drop p.at text) ≡ entries_by profile b (value_of profile room) front (drop here.at text)
-  pub grows : Grows text old now p.at here.at (entries_taken p front)
-  pub then : here ≡ behind p front
+  pub read : entries_by profile b (value_of profile room) none (drop p.at text) ≡ entries_by profile b (value_of profile room) prefix (drop here.at text)
+  pub grows : Grows text old now p.at here.at (entries_taken p prefix)
+  pub then : here ≡ behind p prefix
   pub depth : here.depth ≡ p.depth
   pub values : here.values ≡ length now.values
   pub parts : here.parts ≡ length now.keys
 
 pub so_far_none : (b : Brackets) (profile : Profile) (room : ℕ) (text : List ℕ) (p : Start) (old : Flat) → IsCharBoundary text p.at → p.values ≡ length old.values → p.parts ≡ length old.keys → SoFar b profile room text p old old p
-so_far_none b profile room text p old bound n1 n2 = record { front = none; bound = bound; read = refl; grows = grows_nothing text old p.at; then = refl; depth = refl; values = n1; parts = n2 }
+so_far_none b profile room text p old bound n1 n2 = record { prefix = none; bound = bound; read = refl; grows = grows_nothing text old p.at; then = refl; depth = refl; values = n1; parts = n2 }
 
--- entries behind entries
-join_grows : (text : List ℕ) (p here : Start) (end : ℕ) (old now new : Flat) (front it : Entries) → here ≡ behind p front → Grows text old now p.at here.at (entries_taken p front) → Grows text now new here.at end (entries_taken here it) → Grows text old new p.at end (entries_taken p (join front it))
-join_grows text p here end old now new front it e g h =
-    grows_as (entries_taken p (join front it))
-    (same_taken _ (entries_taken p (join front it)) (sym (leaves-join front it)) refl
-    (ap (λ (q : Start). entries_parts p.at front ++ entries_parts q.at it) e ∙ sym (parts-join p front it)) (ap (λ (q : Start). entries_values p front ++ entries_values q it) e ∙ sym (values-join p front it)))
+-- entries after entries
+join_grows : (text : List ℕ) (p here : Start) (end : ℕ) (old now new : Flat) (prefix it : Entries) → here ≡ behind p prefix → Grows text old now p.at here.at (entries_taken p prefix) → Grows text now new here.at end (entries_taken here it) → Grows text old new p.at end (entries_taken p (join prefix it))
+join_grows text p here end old now new prefix it e g h =
+    grows_as (entries_taken p (join prefix it))
+    (same_taken _ (entries_taken p (join prefix it)) (sym (leaves-join prefix it)) refl
+    (ap (λ (q : Start). entries_parts p.at prefix ++ entries_parts q.at it) e ∙ sym (parts-join p prefix it)) (ap (λ (q : Start). entries_values p prefix ++ entries_values q it) e ∙ sym (values-join p prefix it)))
     (grows_then g h)
 
 -- whether a comma is there
@@ -136,19 +136,19 @@ pub comma_none : (comma : Option ℕ) → is_some comma ≡ false → comma ≡ 
 comma_none None e = refl
 comma_none (Some n) e = absurd cc
 
-turn_ready : (front : Entries) (i : Item) (n : ℕ) (comma : Option ℕ) (c : Option Gap) → comma ≡ comma_place n c → comma ≡ None → turn_of front i c ≡ ready (join front (entry_of i none))
-turn_ready front i n comma None e h = refl
-turn_ready front i n comma (Some g) e h = absurd cc
+iteration_ready : (prefix : Entries) (i : Item) (n : ℕ) (comma : Option ℕ) (c : Option Gap) → comma ≡ comma_place n c → comma ≡ None → iteration_of prefix i c ≡ ready (join prefix (entry_of i none))
+iteration_ready prefix i n comma None e h = refl
+iteration_ready prefix i n comma (Some g) e h = absurd cc
 
-turn_goes : (front : Entries) (i : Item) (n : ℕ) (comma : Option ℕ) (c : Option Gap) → comma ≡ comma_place n c → (comma ≡ None → ⊥) → turn_of front i c ≡ goes_on (join front (entry_of i none))
-turn_goes front i n comma None e h = absurd (h e)
-turn_goes front i n comma (Some g) e h = refl
+iteration_continues : (prefix : Entries) (i : Item) (n : ℕ) (comma : Option ℕ) (c : Option Gap) → comma ≡ comma_place n c → (comma ≡ None → ⊥) → iteration_of prefix i c ≡ continues (join prefix (entry_of i none))
+iteration_continues prefix i n comma None e h = absurd (h e)
+iteration_continues prefix i n comma (Some g) e h = refl
 
--- a turn at an entry
-turn_reads : (b : Brackets) (profile : Profile) (room : ℕ) (text : List ℕ) (here : Start) (front : Entries) (now new : Flat) (end : ℕ) (comma : Option ℕ) → (i : ItemIs b profile room text here now new end comma) → (get_or text here.at 0 == close_byte b) ≡ false
-    → entry_by profile b (value_of profile room) front (drop here.at text) ≡ Ok (turn_of front i.read.part i.read.part.comma, drop end text)
+-- an iteration at an entry
+iteration_reads : (b : Brackets) (profile : Profile) (room : ℕ) (text : List ℕ) (here : Start) (prefix : Entries) (now new : Flat) (end : ℕ) (comma : Option ℕ) → (i : ItemIs b profile room text here now new end comma) → (get_or text here.at 0 == close_byte b) ≡ false
+    → entry_by profile b (value_of profile room) prefix (drop here.at text) ≡ Ok (iteration_of prefix i.read.part i.read.part.comma, drop end text)
 unfolding entry_by
-turn_reads b profile room text here front now new end comma i open' = rw (first-drop text here.at, open', i.read.is_read) refl
+iteration_reads b profile room text here prefix now new end comma i open' = rw (first-drop text here.at, open', i.read.is_read) refl
 
 pub so_far_more : (b : Brackets) (profile : Profile) (room : ℕ) (text : List ℕ) (p : Start) (old now new : Flat) (here : Start) (end nv np : ℕ) (comma : Option ℕ) → SoFar b profile room text p old now here → ItemIs b profile room text here now new end comma
     → (get_or text here.at 0 == close_byte b) ≡ false → (comma ≡ None → ⊥) → nv ≡ length new.values → np ≡ length new.keys → SoFar b profile room text p old new (record { at = end; values = nv; parts = np; owner = here.owner; depth = here.depth; comma = comma })
@@ -156,18 +156,18 @@ so_far_more b profile room text p old now new here end nv np comma s i open' som
     let it = i.read.part in
     let es = entry_of it none in
     let next : Start = record { at = end; values = nv; parts = np; owner = here.owner; depth = here.depth; comma = comma } in
-    let turn : entry_by profile b (value_of profile room) s.front (drop here.at text) ≡ Ok (goes_on (join s.front es), drop end text) =
-    turn_reads b profile room text here s.front now new end comma i open' ∙ ap (λ (t : Turn Entries Entries). done (t, drop end text)) (turn_goes s.front it _ comma it.comma i.comma_is some) in
+    let iteration : entry_by profile b (value_of profile room) s.prefix (drop here.at text) ≡ Ok (continues (join s.prefix es), drop end text) =
+    iteration_reads b profile room text here s.prefix now new end comma i open' ∙ ap (λ (t : Iteration Entries Entries). done (t, drop end text)) (iteration_continues s.prefix it _ comma it.comma i.comma_is some) in
     let here_next : next ≡ behind here es =
     same_start next (behind here es) (omega (arith, i.read.grows.place, behind-at here es))
     (omega (arith, s.values, grown_values (entries_taken here es) i.read.grows, length-values here es, behind-values here es))
     (omega (arith, s.parts, grown_keys (entries_taken here es) i.read.grows, length-parts here.at es, behind-parts here es)) refl refl i.comma_is in
     record {
-      front = join s.front es;
+      prefix = join s.prefix es;
       bound = i.read.bound;
-      read = s.read ∙ loop_on (entry_by profile b (value_of profile room)) (entry_shortens profile b room (value_of profile room) (value_takes profile room)) s.front (drop here.at text) (join s.front es) (drop end text) turn;
-      grows = join_grows text p here end old now new s.front es s.then s.grows i.read.grows;
-      then = here_next ∙ ap (λ (q : Start). behind q es) s.then ∙ sym (behind-join p s.front es);
+      read = s.read ∙ loop_on (entry_by profile b (value_of profile room)) (entry_shortens profile b room (value_of profile room) (value_takes profile room)) s.prefix (drop here.at text) (join s.prefix es) (drop end text) iteration;
+      grows = join_grows text p here end old now new s.prefix es s.then s.grows i.read.grows;
+      then = here_next ∙ ap (λ (q : Start). behind q es) s.then ∙ sym (behind-join p s.prefix es);
       depth = s.depth;
       values = e1;
       parts = e2;
@@ -178,31 +178,31 @@ pub so_far_last : (b : Brackets) (profile : Profile) (room : ℕ) (text : List �
 so_far_last b profile room text p old now new here end comma s i open' none' =
     let it = i.read.part in
     let es = entry_of it none in
-    let turn : entry_by profile b (value_of profile room) s.front (drop here.at text) ≡ Ok (ready (join s.front es), drop end text) =
-    turn_reads b profile room text here s.front now new end comma i open' ∙ ap (λ (t : Turn Entries Entries). done (t, drop end text)) (turn_ready s.front it _ comma it.comma i.comma_is none') in
+    let iteration : entry_by profile b (value_of profile room) s.prefix (drop here.at text) ≡ Ok (ready (join s.prefix es), drop end text) =
+    iteration_reads b profile room text here s.prefix now new end comma i open' ∙ ap (λ (t : Iteration Entries Entries). done (t, drop end text)) (iteration_ready s.prefix it _ comma it.comma i.comma_is none') in
     record {
       read = record {
-        part = join s.front es;
+        part = join s.prefix es;
         bound = i.read.bound;
         forward = omega (arith, s.grows.place, i.read.forward);
-        is_read = s.read ∙ loop_ready (entry_by profile b (value_of profile room)) s.front (drop here.at text) (join s.front es) (drop end text) turn;
-        grows = join_grows text p here end old now new s.front es s.then s.grows i.read.grows;
+        is_read = s.read ∙ loop_ready (entry_by profile b (value_of profile room)) s.prefix (drop here.at text) (join s.prefix es) (drop end text) iteration;
+        grows = join_grows text p here end old now new s.prefix es s.then s.grows i.read.grows;
       };
       closed = i.closed none';
     }
 
-turn_closes : (b : Brackets) (profile : Profile) (room : ℕ) (text : List ℕ) (here : Start) (front : Entries) → (get_or text here.at 0 == close_byte b) ≡ true → entry_by profile b (value_of profile room) front (drop here.at text) ≡ Ok (ready front, drop here.at text)
+iteration_closes : (b : Brackets) (profile : Profile) (room : ℕ) (text : List ℕ) (here : Start) (prefix : Entries) → (get_or text here.at 0 == close_byte b) ≡ true → entry_by profile b (value_of profile room) prefix (drop here.at text) ≡ Ok (ready prefix, drop here.at text)
 unfolding entry_by
-turn_closes b profile room text here front closed = rw (first-drop text here.at, closed) refl
+iteration_closes b profile room text here prefix closed = rw (first-drop text here.at, closed) refl
 
 pub so_far_done : (b : Brackets) (profile : Profile) (room : ℕ) (text : List ℕ) (p : Start) (old now : Flat) (here : Start) → SoFar b profile room text p old now here → get_or text here.at 0 ≡ close_byte b → (get_or text here.at 0 == close_byte b) ≡ true → EntriesAre b profile room text p old now here.at
 so_far_done b profile room text p old now here s close closed =
     record {
       read = record {
-        part = s.front;
+        part = s.prefix;
         bound = s.bound;
         forward = omega (arith, s.grows.place);
-        is_read = s.read ∙ loop_ready (entry_by profile b (value_of profile room)) s.front (drop here.at text) s.front (drop here.at text) (turn_closes b profile room text here s.front closed);
+        is_read = s.read ∙ loop_ready (entry_by profile b (value_of profile room)) s.prefix (drop here.at text) s.prefix (drop here.at text) (iteration_closes b profile room text here s.prefix closed);
         grows = s.grows;
       };
       closed = close;
@@ -213,4 +213,4 @@ pub so_far_fails : (b : Brackets) (profile : Profile) (room : ℕ) (text : List 
 unfolding entry_by
 so_far_fails b profile room text p old now here e s open' k =
     fails_through text e (item_by profile b (value_of profile room) (drop here.at text)) (entries_by profile b (value_of profile room) none (drop p.at text))
-    (λ f h. s.read ∙ loop_err (entry_by profile b (value_of profile room)) s.front (drop here.at text) f (rw (first-drop text here.at, open', h) refl)) k
+    (λ f h. s.read ∙ loop_err (entry_by profile b (value_of profile room)) s.prefix (drop here.at text) f (rw (first-drop text here.at, open', h) refl)) k

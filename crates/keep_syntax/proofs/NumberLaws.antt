@@ -1,4 +1,4 @@
--- Tokens, key parts and values of entries, one behind the other, and how many there are.
+-- Tokens, key parts and values of entries, one after the other, and how many there are.
 use Rattle.std.proofs.Common.{◌≡◌, ℕ, suc, ◌+◌, List, [], ◌∷◌, ◌++◌, length, Option, Some, None, refl, sym, ap, ◌∙◌, append_assoc, arith}
 use Rattle.std.proofs.lemmas.List.{length-append}
 use Rattle.keep_parts.specs.declared.info.Start.{Start}
@@ -6,7 +6,7 @@ use Rattle.keep_parts.specs.declared.info.Owner.{Owner}
 use Rattle.keep_parts.specs.declared.info.KeyPart.{KeyPart}
 use Rattle.keep_parts.specs.declared.info.ValueInfo.{ValueInfo}
 use Rattle.keep_syntax.specs.Tree.{Further, Name, Entries, none, entry, Value, named_leaves, opening, closing, comma_leaves, entries_leaves, value_leaves}
-use Rattle.keep_syntax.specs.Numbered.{width, entries_parts, value_count, part_count, name_count, named_parts, further_parts, entries_values, inside_of, rest_of, behind, info, value_start, inside_start, value_end, comma_start, entry_end, comma_place}
+use Rattle.keep_syntax.specs.Numbered.{width, entries_parts, value_count, part_count, name_count, named_parts, further_parts, entries_values, nested_of, rest_of, behind, info, value_start, nested_start, value_end, comma_start, entry_end, comma_place}
 use Rattle.keep_syntax.specs.Reading.{join}
 use Rattle.keep_syntax.proofs.GrowthLaws.{width-append}
 
@@ -18,55 +18,55 @@ same_start a b e1 e2 e3 e4 e5 e6 =
 
 pub leaves-join : (a b : Entries) → entries_leaves (join a b) ≡ entries_leaves a ++ entries_leaves b
 leaves-join none b = refl
-leaves-join (entry name body inside after comma rest) b = rw (leaves-join rest b) (simp append_assoc)
+leaves-join (entry name body nested after comma rest) b = rw (leaves-join rest b) (simp append_assoc)
 
--- the places behind entries
+-- the places after entries
 pub behind-at : (p : Start) (es : Entries) → (behind p es).at ≡ p.at + width (entries_leaves es)
 behind-at p none = omega arith
-behind-at p (entry name body inside after comma rest) =
+behind-at p (entry name body nested after comma rest) =
     let n = named_leaves name in
     let o = opening body in
-    let i = entries_leaves inside in
+    let i = entries_leaves nested in
     let c = closing body in
     let k = comma_leaves comma in
     let r = entries_leaves rest in
-    omega (arith, behind-at (rest_of p name body inside after comma) rest, width-append n (o ++ (i ++ (c ++ (after ++ (k ++ r))))), width-append o (i ++ (c ++ (after ++ (k ++ r)))), width-append i (c ++ (after ++ (k ++ r))), width-append c (after ++ (k ++ r)), width-append after (k ++ r), width-append k r)
+    omega (arith, behind-at (rest_of p name body nested after comma) rest, width-append n (o ++ (i ++ (c ++ (after ++ (k ++ r))))), width-append o (i ++ (c ++ (after ++ (k ++ r)))), width-append i (c ++ (after ++ (k ++ r))), width-append c (after ++ (k ++ r)), width-append after (k ++ r), width-append k r)
 
 pub behind-join : (p : Start) (a b : Entries) → behind p (join a b) ≡ behind (behind p a) b
 behind-join p none b = refl
-behind-join p (entry name body inside after comma rest) b = behind-join (rest_of p name body inside after comma) rest b
+behind-join p (entry name body nested after comma rest) b = behind-join (rest_of p name body nested after comma) rest b
 
 pub values-join : (p : Start) (a b : Entries) → entries_values p (join a b) ≡ entries_values p a ++ entries_values (behind p a) b
 values-join p none b = refl
-values-join p (entry name body inside after comma rest) b =
+values-join p (entry name body nested after comma rest) b =
     let at = value_start p.at name in
-    let head = info p at (name_count name) body inside (comma_place (comma_start p.at name body inside after) comma) in
-    let ins = entries_values (inside_of p at (name_count name) body) inside in
-    let q = rest_of p name body inside after comma in
+    let head = info p at (name_count name) body nested (comma_place (comma_start p.at name body nested after) comma) in
+    let ins = entries_values (nested_of p at (name_count name) body) nested in
+    let q = rest_of p name body nested after comma in
     ap (λ (vs : List ValueInfo). head ∷ (ins ++ vs)) (values-join q rest b) ∙ ap (λ (vs : List ValueInfo). head ∷ vs) (sym (append_assoc ins (entries_values q rest) (entries_values (behind q rest) b)))
 
 pub parts-join : (p : Start) (a b : Entries) → entries_parts p.at (join a b) ≡ entries_parts p.at a ++ entries_parts (behind p a).at b
 parts-join p none b = refl
-parts-join p (entry name body inside after comma rest) b =
-    let ins = entries_parts (inside_start (value_start p.at name) body) inside in
-    let q = rest_of p name body inside after comma in
+parts-join p (entry name body nested after comma rest) b =
+    let ins = entries_parts (nested_start (value_start p.at name) body) nested in
+    let q = rest_of p name body nested after comma in
     ap (λ (ks : List KeyPart). named_parts p.at name ++ (ins ++ ks)) (parts-join q rest b)
     ∙ sym (append_assoc (named_parts p.at name) (ins ++ entries_parts q.at rest) _ ∙ ap (λ (ks : List KeyPart). named_parts p.at name ++ ks) (append_assoc ins (entries_parts q.at rest) _))
 
 -- where a value ends
-pub value_end-width : (at : ℕ) (v : Value) → value_end at v.body v.inside ≡ at + width (value_leaves v)
+pub value_end-width : (at : ℕ) (v : Value) → value_end at v.body v.nested ≡ at + width (value_leaves v)
 value_end-width at v =
-    omega (arith, width-append (opening v.body) (entries_leaves v.inside ++ closing v.body), width-append (entries_leaves v.inside) (closing v.body))
+    omega (arith, width-append (opening v.body) (entries_leaves v.nested ++ closing v.body), width-append (entries_leaves v.nested) (closing v.body))
 
 -- ---- how many there are
 
 pub length-values : (p : Start) (es : Entries) → length (entries_values p es) ≡ value_count es
 length-values p none = refl
-length-values p (entry name body inside after comma rest) =
+length-values p (entry name body nested after comma rest) =
     let at = value_start p.at name in
-    let i = inside_of p at (name_count name) body in
-    let q = rest_of p name body inside after comma in
-    omega (arith, length-append (entries_values i inside) (entries_values q rest), length-values i inside, length-values q rest)
+    let i = nested_of p at (name_count name) body in
+    let q = rest_of p name body nested after comma in
+    omega (arith, length-append (entries_values i nested) (entries_values q rest), length-values i nested, length-values q rest)
 
 pub length-further : (at : ℕ) (fs : List Further) → length (further_parts at fs) ≡ length fs
 length-further at [] = refl
@@ -78,16 +78,16 @@ length-named at (Some n) = ap suc (length-further (at + length n.key.first.text)
 
 pub length-parts : (at : ℕ) (es : Entries) → length (entries_parts at es) ≡ part_count es
 length-parts at none = refl
-length-parts at (entry name body inside after comma rest) =
+length-parts at (entry name body nested after comma rest) =
     let a = named_parts at name in
-    let i = entries_parts (inside_start (value_start at name) body) inside in
-    let r = entries_parts (entry_end at name body inside after comma) rest in
-    omega (arith, length-append a (i ++ r), length-append i r, length-named at name, length-parts (inside_start (value_start at name) body) inside, length-parts (entry_end at name body inside after comma) rest)
+    let i = entries_parts (nested_start (value_start at name) body) nested in
+    let r = entries_parts (entry_end at name body nested after comma) rest in
+    omega (arith, length-append a (i ++ r), length-append i r, length-named at name, length-parts (nested_start (value_start at name) body) nested, length-parts (entry_end at name body nested after comma) rest)
 
 pub behind-values : (p : Start) (es : Entries) → (behind p es).values ≡ p.values + value_count es
 behind-values p none = omega arith
-behind-values p (entry name body inside after comma rest) = omega (arith, behind-values (rest_of p name body inside after comma) rest)
+behind-values p (entry name body nested after comma rest) = omega (arith, behind-values (rest_of p name body nested after comma) rest)
 
 pub behind-parts : (p : Start) (es : Entries) → (behind p es).parts ≡ p.parts + part_count es
 behind-parts p none = omega arith
-behind-parts p (entry name body inside after comma rest) = omega (arith, behind-parts (rest_of p name body inside after comma) rest)
+behind-parts p (entry name body nested after comma rest) = omega (arith, behind-parts (rest_of p name body nested after comma) rest)

@@ -4,7 +4,7 @@ use Rattle.std.specs.List.{flat_map}
 use Rattle.std.proofs.lemmas.List.{append-nil}
 use Rattle.std.proofs.lemmas.Grind.{flat_map-append}
 use Rattle.keep_syntax.specs.Tree.{Written, Line, Ended, Document, line_leaves, ended_leaves, bom_leaves}
-use Rattle.keep_syntax.specs.Numbered.{width, Count, first_line, line_statements, line_parts, line_values, behind_lines}
+use Rattle.keep_syntax.specs.Numbered.{width, Count, first_line, line_statements, line_parts, line_values, after_lines}
 use Rattle.keep_parts.specs.Flat.{Flat}
 use Rattle.keep_syntax.specs.Growth.{Taken, only, kinds, starts, add_at}
 use Rattle.keep_syntax.specs.FlatLines.{lines_taken, flat_of}
@@ -13,9 +13,9 @@ use Rattle.keep_parts.specs.Lifted.{origin, moved}
 use Rattle.keep_parts.specs.Rereading.{moved_flat, joined}
 use Rattle.keep_parts.proofs.Shared.{same_flat}
 use Rattle.keep_syntax.proofs.GrowthLaws.{kinds-append, starts-append}
-use Rattle.keep_syntax.proofs.LineNumberingLaws.{over_ended, over-last, behind_lines-at}
+use Rattle.keep_syntax.proofs.LineNumberingLaws.{over_ended, over-last, after_lines-at}
 use Rattle.keep_syntax.proofs.LineLoopLaws.{all_taken}
-use Rattle.keep_syntax.proofs.LinesLaws.{over-front, moved_statements, moved_parts, moved_values}
+use Rattle.keep_syntax.proofs.LinesLaws.{over-prefix, moved_statements, moved_parts, moved_values}
 use Rattle.keep_syntax.proofs.ReplacedLaws.{starts_move}
 
 -- what parts add that begin at a place
@@ -43,19 +43,19 @@ joined_assoc f g h =
     (append_assoc f.values g.values h.values)
 
 -- the lines before others, and these
-pub lines_front : (c : Count) (xs ys : List Ended) (l : Line) → lines_piece c (xs ++ ys) l ≡ joined (ended_piece c xs) (lines_piece (behind_lines c xs) ys l)
-lines_front c xs ys l =
-    let k = behind_lines c xs in
+pub lines_prefix : (c : Count) (xs ys : List Ended) (l : Line) → lines_piece c (xs ++ ys) l ≡ joined (ended_piece c xs) (lines_piece (after_lines c xs) ys l)
+lines_prefix c xs ys l =
+    let k = after_lines c xs in
     let before : List Written = flat_map ended_leaves xs in
     let after : List Written = flat_map ended_leaves ys ++ line_leaves l in
     let split : flat_map ended_leaves (xs ++ ys) ++ line_leaves l ≡ before ++ after =
     ap (λ (ws : List Written). ws ++ line_leaves l) (flat_map-append ended_leaves xs ys) ∙ append_assoc before (flat_map ended_leaves ys) (line_leaves l) in
     same_flat (lines_piece c (xs ++ ys) l) (joined (ended_piece c xs) (lines_piece k ys l))
     (ap kinds split ∙ kinds-append before after)
-    (ap (starts c.at) split ∙ starts-append c.at before after ∙ ap (λ (n : ℕ). starts c.at before ++ starts n after) (sym (behind_lines-at c xs)))
-    (over-front line_statements c xs ys l)
-    (over-front (λ c l line_end. line_parts c l) c xs ys l)
-    (over-front (λ c l line_end. line_values c l) c xs ys l)
+    (ap (starts c.at) split ∙ starts-append c.at before after ∙ ap (λ (n : ℕ). starts c.at before ++ starts n after) (sym (after_lines-at c xs)))
+    (over-prefix line_statements c xs ys l)
+    (over-prefix (λ c l line_end. line_parts c l) c xs ys l)
+    (over-prefix (λ c l line_end. line_values c l) c xs ys l)
 
 -- lines from one count on are those from another, moved
 pub lines_moved : (a b : Count) (es : List Ended) (l : Line) → moved_flat a b (lines_piece a es l) ≡ lines_piece b es l
@@ -99,32 +99,32 @@ moved_none : (n : ℕ) → moved 0 0 n ≡ n
 moved_none n = omega arith
 
 -- Lines among which some are new: those before unchanged, the new ones lifted, and those after moved.
-pub lines_replaced : (d : Document) (front gone new back : List Ended) (last : Line)
-    → let c1 = behind_lines (first_line d) front in
-    joined (joined (joined (bom_piece d) (ended_piece (first_line d) front)) (moved_flat origin c1 (lines_piece origin new empty_line)))
-    (moved_flat (behind_lines c1 gone) (behind_lines c1 new) (lines_piece (behind_lines c1 gone) back last))
-    ≡ joined (bom_piece d) (lines_piece (first_line d) (front ++ (new ++ back)) last)
-lines_replaced d front gone new back last =
+pub lines_replaced : (d : Document) (prefix gone new back : List Ended) (last : Line)
+    → let c1 = after_lines (first_line d) prefix in
+    joined (joined (joined (bom_piece d) (ended_piece (first_line d) prefix)) (moved_flat origin c1 (lines_piece origin new empty_line)))
+    (moved_flat (after_lines c1 gone) (after_lines c1 new) (lines_piece (after_lines c1 gone) back last))
+    ≡ joined (bom_piece d) (lines_piece (first_line d) (prefix ++ (new ++ back)) last)
+lines_replaced d prefix gone new back last =
     let c0 = first_line d in
-    let c1 = behind_lines c0 front in
-    let c2 = behind_lines c1 new in
-    let before = joined (bom_piece d) (ended_piece c0 front) in
+    let c1 = after_lines c0 prefix in
+    let c2 = after_lines c1 new in
+    let before = joined (bom_piece d) (ended_piece c0 prefix) in
     let here : moved_flat origin c1 (lines_piece origin new empty_line) ≡ ended_piece c1 new = lines_moved origin c1 new empty_line ∙ lines_ended c1 new in
-    let there = lines_moved (behind_lines c1 gone) c2 back last in
-    ap (λ (f : Flat). joined (joined before f) (moved_flat (behind_lines c1 gone) c2 (lines_piece (behind_lines c1 gone) back last))) here
+    let there = lines_moved (after_lines c1 gone) c2 back last in
+    ap (λ (f : Flat). joined (joined before f) (moved_flat (after_lines c1 gone) c2 (lines_piece (after_lines c1 gone) back last))) here
     ∙ ap (λ (f : Flat). joined (joined before (ended_piece c1 new)) f) there
     ∙ joined_assoc before (ended_piece c1 new) (lines_piece c2 back last)
-    ∙ ap (λ (f : Flat). joined before f) (sym (lines_front c1 new back last))
-    ∙ joined_assoc (bom_piece d) (ended_piece c0 front) (lines_piece c1 (new ++ back) last)
-    ∙ ap (λ (f : Flat). joined (bom_piece d) f) (sym (lines_front c0 front (new ++ back) last))
+    ∙ ap (λ (f : Flat). joined before f) (sym (lines_prefix c1 new back last))
+    ∙ joined_assoc (bom_piece d) (ended_piece c0 prefix) (lines_piece c1 (new ++ back) last)
+    ∙ ap (λ (f : Flat). joined (bom_piece d) f) (sym (lines_prefix c0 prefix (new ++ back) last))
 
 -- and where the new ones come last
-pub lines_replaced_last : (d : Document) (front new : List Ended) (last : Line)
-    → joined (joined (bom_piece d) (ended_piece (first_line d) front)) (moved_flat origin (behind_lines (first_line d) front) (lines_piece origin new last))
-    ≡ joined (bom_piece d) (lines_piece (first_line d) (front ++ new) last)
-lines_replaced_last d front new last =
+pub lines_replaced_last : (d : Document) (prefix new : List Ended) (last : Line)
+    → joined (joined (bom_piece d) (ended_piece (first_line d) prefix)) (moved_flat origin (after_lines (first_line d) prefix) (lines_piece origin new last))
+    ≡ joined (bom_piece d) (lines_piece (first_line d) (prefix ++ new) last)
+lines_replaced_last d prefix new last =
     let c0 = first_line d in
-    let c1 = behind_lines c0 front in
-    ap (λ (f : Flat). joined (joined (bom_piece d) (ended_piece c0 front)) f) (lines_moved origin c1 new last)
-    ∙ joined_assoc (bom_piece d) (ended_piece c0 front) (lines_piece c1 new last)
-    ∙ ap (λ (f : Flat). joined (bom_piece d) f) (sym (lines_front c0 front new last))
+    let c1 = after_lines c0 prefix in
+    ap (λ (f : Flat). joined (joined (bom_piece d) (ended_piece c0 prefix)) f) (lines_moved origin c1 new last)
+    ∙ joined_assoc (bom_piece d) (ended_piece c0 prefix) (lines_piece c1 new last)
+    ∙ ap (λ (f : Flat). joined (bom_piece d) f) (sym (lines_prefix c0 prefix new last))

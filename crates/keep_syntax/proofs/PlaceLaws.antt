@@ -1,10 +1,10 @@
--- Tokens stand one behind the other, and their texts joined are the text.
+-- Tokens are one after the other, and their texts joined are the text.
 use Rattle.std.proofs.Common.{◌≡◌, ℕ, suc, ◌+◌, List, [], ◌∷◌, ◌++◌, length, take, drop, refl, sym, ap, ◌∙◌, arith, append_assoc, take_at, drop_at}
 use Rattle.std.specs.List.{flat_map}
 use Rattle.std.proofs.lemmas.List.{length-append}
 use Rattle.keep_token.specs.declared.leaf.Leaf.TheVariants as leaf
-use Rattle.keep_syntax.specs.Tree.{Written, Document, text_of, mark, leaves, text}
-use Rattle.keep_syntax.specs.Numbered.{width, Placed, placed, marks, tokens}
+use Rattle.keep_syntax.specs.Tree.{Written, Document, text_of, token, leaves, text}
+use Rattle.keep_syntax.specs.Numbered.{width, Placed, placed, token_places, tokens}
 use Rattle.keep_syntax.proofs.SpaceLaws.{text_of-append}
 use Rattle.keep_syntax.proofs.NumberingLaws.{width-append}
 use Rattle.keep_syntax.proofs.CountLaws.{inner_leaves, leaves_end}
@@ -34,11 +34,11 @@ token_text a b w rest =
 -- The last token is End, at the end of the text; those before it are the other leaves.
 pub tokens_end : (s : Document) → tokens s ≡ placed 0 (inner_leaves s) ++ (record { leaf = leaf.End; at = length (text s); text = [] } ∷ [])
 tokens_end s =
-    let end = mark leaf.End [] in
+    let end = token leaf.End [] in
     let at : width (inner_leaves s) ≡ length (text s) = omega (arith, ap width (leaves_end s), width-append (inner_leaves s) end) in
     ap (placed 0) (leaves_end s) ∙ placed-append 0 (inner_leaves s) end ∙ ap (λ (n : ℕ). placed 0 (inner_leaves s) ++ (record { leaf = leaf.End; at = n; text = [] } ∷ [])) (omega arith)
 
--- the same of the tokens without their texts
-pub marks_placed : (at : ℕ) (ws : List Written) → length (marks at ws) ≡ length (placed at ws)
-marks_placed at [] = refl
-marks_placed at (w ∷ ws) = ap suc (marks_placed (at + length w.text) ws)
+-- as many tokens without their texts as with them
+pub tokens_placed : (at : ℕ) (ws : List Written) → length (token_places at ws) ≡ length (placed at ws)
+tokens_placed at [] = refl
+tokens_placed at (w ∷ ws) = ap suc (tokens_placed (at + length w.text) ws)

@@ -1,4 +1,4 @@
--- What was kept of a text is the syntax of its document, or of its value, and a fault tells what the grammar says.
+-- What was stored of a text is the syntax of its document, or of its value, and a fault tells what the grammar says.
 use Rattle.std.proofs.Common.{◌≡◌, ℕ, ◌+◌, ◌≤◌, List, [], ◌∷◌, ◌++◌, length, slice_get, Some, Result, Ok, refl, sym, ap, ◌∙◌, subst, arith, add-one, IsCharBoundary}
 use Rattle.std.specs.List.{AllByRecursion}
 use Rattle.std.proofs.lemmas.List.{append-nil}
@@ -11,7 +11,7 @@ use Rattle.keep_parts.specs.declared.parts.Parts.{Parts}
 use Rattle.keep_parts.specs.declared.info.ValueInfo.{ValueInfo}
 use Rattle.keep_syntax.specs.declared.syntax.Syntax.{Syntax}
 use Rattle.keep_syntax.specs.declared.alone.ValueSyntax.{ValueSyntax}
-use Rattle.keep_syntax.specs.Tree.{Document, Value, text_of, mark, leaves, text}
+use Rattle.keep_syntax.specs.Tree.{Document, Value, text_of, token, leaves, text}
 use Rattle.keep_syntax.specs.Grammar.{Reads, ReadsValue}
 use Rattle.keep_syntax.specs.Numbered.{placed, tokens}
 use Rattle.keep_syntax.specs.Reading.{Fault, read_document, read_one_value}
@@ -28,8 +28,8 @@ use Rattle.keep_syntax.proofs.WholeLaws.{value_found, value_read, value_bad}
 use Rattle.keep_syntax.proofs.DocumentLaws.{document_found, document_read, document_bad}
 use Rattle.keep_syntax.proofs.DeepLaws.{value_deep}
 use Rattle.keep_syntax.proofs.DeepLineLaws.{document_deep}
-use Rattle.keep_syntax.proofs.CountLaws.{inner_leaves, leaves_end, leaves_count, marks_count}
-use Rattle.keep_syntax.proofs.PlaceLaws.{marks_placed}
+use Rattle.keep_syntax.proofs.CountLaws.{inner_leaves, leaves_end, leaves_count, tokens_count}
+use Rattle.keep_syntax.proofs.PlaceLaws.{tokens_placed}
 use Rattle.keep_syntax.proofs.DepthLaws.{values_within, value_values_within}
 use Rattle.keep_syntax.proofs.DeepestLaws.{all_at, deepest_alone}
 use Rattle.keep_syntax.proofs.LawLaws.{tokens_few}
@@ -41,7 +41,7 @@ abbrev pub syntax_of : Parts → List ℕ → ℕ → Syntax
 syntax_of p lines len = record { parts = p; lines = lines; len = len }
 
 pub inner_text : (d : Document) → text d ≡ text_of (inner_leaves d)
-inner_text d = ap text_of (leaves_end d) ∙ text_of-append (inner_leaves d) (mark leaf.End []) ∙ append-nil (text_of (inner_leaves d))
+inner_text d = ap text_of (leaves_end d) ∙ text_of-append (inner_leaves d) (token leaf.End []) ∙ append-nil (text_of (inner_leaves d))
 
 tokens_are : (d : Document) → cut (text d) (kinds (inner_leaves d) ++ (leaf.End ∷ [])) (starts 0 (inner_leaves d)) ≡ tokens d
 tokens_are d = cut_placed (text d) [] (inner_leaves d) 0 refl (inner_text d) ∙ ap (placed 0) (sym (leaves_end d))
@@ -68,7 +68,7 @@ syntax_is s d stored lines len = record {
 
 pub is_syntax : (profile : Profile) (limit : ℕ) (bytes : List ℕ) (p : Parts) (lines : List ℕ) (len : ℕ) (h : DocumentOf profile limit bytes p lines len) → IsSyntaxOf (syntax_of p lines len) h.0.document
 is_syntax profile limit bytes p lines len h =
-    syntax_is (syntax_of p lines len) h.0.document h.0.grows.kept h.0.lines (h.1 ∙ ap length (is_read profile limit bytes (flat p) lines h.0).spelled)
+    syntax_is (syntax_of p lines len) h.0.document h.0.grows.stored h.0.lines (h.1 ∙ ap length (is_read profile limit bytes (flat p) lines h.0).spelled)
 
 pub found : (profile : Profile) (limit : ℕ) (bytes : List ℕ) (p : Parts) (lines : List ℕ) (len : ℕ) → DocumentOf profile limit bytes p lines len
     → (d : Document) × Reads profile limit bytes d × IsSyntaxOf (syntax_of p lines len) d
@@ -85,7 +85,7 @@ of_text profile limit bytes p lines len h =
     let d = h.0.document in
     let inner = inner_leaves d in
     let spelled = (is_read profile limit bytes (flat p) lines h.0).spelled in
-    let begin : (flat p).starts ≡ starts 0 inner = ap (λ (f : Flat). f.starts) h.0.grows.kept in
+    let begin : (flat p).starts ≡ starts 0 inner = ap (λ (f : Flat). f.starts) h.0.grows.stored in
     record {
       document = d;
       spelled = spelled;
@@ -105,7 +105,7 @@ few profile limit bytes p lines len h =
     let s = syntax_of p lines len in
     let r = is_read profile limit bytes (flat p) lines h.0 in
     let same : length (tokens_of s bytes) ≡ length (tokens d) = ap (λ (b : List ℕ). length (tokens_of s b)) r.spelled ∙ ap length (is_syntax profile limit bytes p lines len h).tokens in
-    omega (arith, same, marks_placed 0 (leaves d), marks_count 0 (leaves d), leaves_count profile limit bytes d r)
+    omega (arith, same, tokens_placed 0 (leaves d), tokens_count 0 (leaves d), leaves_count profile limit bytes d r)
 
 -- what is read leaves no fault but out of memory
 memory_only : {A : Type 0} (bytes : List ℕ) (e : ReadFault) (r : Result A Fault) (x : A) → Fails bytes e r → r ≡ Ok x → e ≡ faults.Memory
@@ -150,14 +150,14 @@ value_is_read profile limit bytes p h = value_found profile limit bytes h.value 
 
 values_are : (profile : Profile) (limit : ℕ) (bytes : List ℕ) (p : Parts) (h : OneIs profile limit bytes (flat p)) → (flat p).values ≡ values_alone h.value
 unfolding add_at
-values_are profile limit bytes p h = ap (λ (f : Flat). f.values) h.grows.kept
+values_are profile limit bytes p h = ap (λ (f : Flat). f.values) h.grows.stored
 
 pub is_value_syntax : (profile : Profile) (limit : ℕ) (bytes : List ℕ) (p : Parts) (h : OneIs profile limit bytes (flat p)) (depth : ℕ) → depth ≡ deepest (flat p).values → IsValueSyntaxOf (value_syntax_of p depth) h.value
 unfolding add_at
 is_value_syntax profile limit bytes p h depth e =
     let is = values_are profile limit bytes p h in
     record {
-      parts = ap (λ (f : Flat). f.keys) h.grows.kept;
+      parts = ap (λ (f : Flat). f.keys) h.grows.stored;
       values = is;
       depth = e ∙ ap deepest is ∙ deepest_alone profile h.value (value_is_read profile limit bytes p h).valid;
     }

@@ -6,12 +6,12 @@ use Rattle.std.proofs.Common.{le-leb, leb-true, leb-false}
 use Rattle.std.proofs.lemmas.List.{append-nil, length-append}
 use Rattle.keep_syntax.specs.Tree.{Written, Line, Ended, line_leaves, ended_leaves, text_of}
 use Rattle.keep_syntax.specs.Growth.{starts}
-use Rattle.keep_syntax.specs.Numbered.{width, Count, behind_lines, over_lines, line_statements, line_parts, line_values}
+use Rattle.keep_syntax.specs.Numbered.{width, Count, after_lines, over_lines, line_statements, line_parts, line_values}
 use Rattle.keep_syntax.proofs.LineNumberingLaws.{over_ended, over-last}
 use Rattle.keep_syntax.specs.WholeLines.{empty_line, line_starts, last_to, lines_before, lines_from}
 use Rattle.keep_parts.specs.Lifted.{origin, lift_key, lift_statement, lift_value, moved, moved_key, moved_statement, moved_value}
 use Rattle.keep_syntax.proofs.LiftLaws.{lifted_over, lifted_line_statements, lifted_line_parts, lifted_line_values}
-use Rattle.keep_syntax.proofs.LinesLaws.{OverLine, Lifts, Moves, lines_law, over-front, plus-origin, moves_keys, moves_statements, moves_values}
+use Rattle.keep_syntax.proofs.LinesLaws.{OverLine, Lifts, Moves, lines_law, over-prefix, plus-origin, moves_keys, moves_statements, moves_values}
 use Rattle.keep_parts.proofs.Shared.{if_true, if_false}
 use Rattle.keep_syntax.proofs.LineStartLaws.{line_of, next_of, HaveBytes, line_step, next_step, before_step, from_step, none_before, all_from, line_low, next_high}
 
@@ -54,12 +54,12 @@ parted start end total at (e ∷ es) h low order within =
         let r = rest k in
         let p : ℕ = line_of start b es in
         let o : ℕ = next_of end total b es in
-        let front : lines_before (line_of start at (e ∷ es)) at (e ∷ es) ≡ e ∷ lines_before p b es = ap (λ n. lines_before n at (e ∷ es)) (line_step start at e es k) ∙ before_step p at e es (omega (arith, h.0, line_low start b b es (omega arith))) in
+        let prefix : lines_before (line_of start at (e ∷ es)) at (e ∷ es) ≡ e ∷ lines_before p b es = ap (λ n. lines_before n at (e ∷ es)) (line_step start at e es k) ∙ before_step p at e es (omega (arith, h.0, line_low start b b es (omega arith))) in
         let back : lines_from (next_of end total at (e ∷ es)) at (e ∷ es) ≡ lines_from o b es =
         ap (λ n. lines_from n at (e ∷ es)) (next_step end total at e es (omega (arith, h.0, k, order))) ∙ from_step o at e es (omega (arith, h.0, k, order, next_high end total b es within)) in
         record {
           gone = r.gone;
-          all = ap (λ xs. e ∷ xs) r.all ∙ sym (ap (λ xs. xs ++ (r.gone ++ lines_from (next_of end total at (e ∷ es)) at (e ∷ es))) front ∙ ap (λ xs. e ∷ (lines_before p b es ++ (r.gone ++ xs))) back);
+          all = ap (λ xs. e ∷ xs) r.all ∙ sym (ap (λ xs. xs ++ (r.gone ++ lines_from (next_of end total at (e ∷ es)) at (e ∷ es))) prefix ∙ ap (λ xs. e ∷ (lines_before p b es ++ (r.gone ++ xs))) back);
         }
     by false t rest =
         let g = gone_from end total at (e ∷ es) h within in
@@ -78,36 +78,36 @@ parted start end total at (e ∷ es) h low order within =
 abbrev Silent : {A : Type 0} → OverLine A → Type 0
 Silent f = (c : Count) (end : ℕ) → f c empty_line end ≡ []
 
--- A document whose lines are those in front, those that are gone, and those after with a last line: the gone ones are replaced
--- by new ones. If these come last, nothing comes after.
+-- A document whose lines are those before, those that are gone, and those after with a last line: the gone ones are
+-- replaced by new ones. If these come last, nothing comes after.
 pub replaced_law : {A : Type 0} (f : OverLine A) (lift : Count → A → A) (move : Count → Count → A → A) → Lifts f lift → Moves lift move → Silent f
-    → (c : Count) (front gone new back : List Ended) (last line : Line) (test : Bool) → (test ≡ true → line ≡ empty_line) → (test ≡ false → back ≡ [])
-    → over_lines f c (front ++ (new ++ back)) (if test then last else line)
-    ≡ over_ended f c front
-    ++ (map (lift (behind_lines c front)) (over_lines f origin new line)
-    ++ map (move (behind_lines (behind_lines c front) gone) (behind_lines (behind_lines c front) new)) (if test then over_lines f (behind_lines (behind_lines c front) gone) back last else []))
-replaced_law {A} f lift move h m silent c front gone new back last line true empty none =
-    let a : Count = behind_lines c front in
+    → (c : Count) (prefix gone new back : List Ended) (last line : Line) (test : Bool) → (test ≡ true → line ≡ empty_line) → (test ≡ false → back ≡ [])
+    → over_lines f c (prefix ++ (new ++ back)) (if test then last else line)
+    ≡ over_ended f c prefix
+    ++ (map (lift (after_lines c prefix)) (over_lines f origin new line)
+    ++ map (move (after_lines (after_lines c prefix) gone) (after_lines (after_lines c prefix) new)) (if test then over_lines f (after_lines (after_lines c prefix) gone) back last else []))
+replaced_law {A} f lift move h m silent c prefix gone new back last line true empty none =
+    let a : Count = after_lines c prefix in
     let same : over_ended f origin new ≡ over_lines f origin new line =
-    sym (over-last f origin new line ∙ ap (λ xs. over_ended f origin new ++ xs) (ap (λ l. f (behind_lines origin new) l ((behind_lines origin new).at + width (line_leaves l))) (empty refl) ∙ silent (behind_lines origin new) _) ∙ append-nil (over_ended f origin new)) in
-    lines_law f lift move h m c front gone new back last
-    ∙ ap (λ xs. over_ended f c front ++ (map (lift a) xs ++ map (move (behind_lines a gone) (behind_lines a new)) (over_lines f (behind_lines a gone) back last))) same
-replaced_law {A} f lift move h m silent c front gone new back last line false empty none =
-    let a : Count = behind_lines c front in
+    sym (over-last f origin new line ∙ ap (λ xs. over_ended f origin new ++ xs) (ap (λ l. f (after_lines origin new) l ((after_lines origin new).at + width (line_leaves l))) (empty refl) ∙ silent (after_lines origin new) _) ∙ append-nil (over_ended f origin new)) in
+    lines_law f lift move h m c prefix gone new back last
+    ∙ ap (λ xs. over_ended f c prefix ++ (map (lift a) xs ++ map (move (after_lines a gone) (after_lines a new)) (over_lines f (after_lines a gone) back last))) same
+replaced_law {A} f lift move h m silent c prefix gone new back last line false empty none =
+    let a : Count = after_lines c prefix in
     let fresh : over_lines f a new line ≡ map (lift a) (over_lines f origin new line) = ap (λ k. over_lines f k new line) (sym (plus-origin a)) ∙ lifted_over f lift h a origin new line in
-    ap (λ es. over_lines f c (front ++ es) line) (ap (λ b. new ++ b) (none refl) ∙ append-nil new)
-    ∙ over-front f c front new line
-    ∙ ap (λ xs. over_ended f c front ++ xs) (fresh ∙ sym (append-nil (map (lift a) (over_lines f origin new line))))
+    ap (λ es. over_lines f c (prefix ++ es) line) (ap (λ b. new ++ b) (none refl) ∙ append-nil new)
+    ∙ over-prefix f c prefix new line
+    ∙ ap (λ xs. over_ended f c prefix ++ xs) (fresh ∙ sym (append-nil (map (lift a) (over_lines f origin new line))))
 
 -- ---- of statements, key parts and values
 
 abbrev pub ReplacedLaw : {A : Type 0} → OverLine A → (Count → A → A) → (Count → Count → A → A) → Type 0
 ReplacedLaw f lift move =
-    (c : Count) (front gone new back : List Ended) (last line : Line) (test : Bool) → (test ≡ true → line ≡ empty_line) → (test ≡ false → back ≡ [])
-    → over_lines f c (front ++ (new ++ back)) (if test then last else line)
-    ≡ over_ended f c front
-    ++ (map (lift (behind_lines c front)) (over_lines f origin new line)
-    ++ map (move (behind_lines (behind_lines c front) gone) (behind_lines (behind_lines c front) new)) (if test then over_lines f (behind_lines (behind_lines c front) gone) back last else []))
+    (c : Count) (prefix gone new back : List Ended) (last line : Line) (test : Bool) → (test ≡ true → line ≡ empty_line) → (test ≡ false → back ≡ [])
+    → over_lines f c (prefix ++ (new ++ back)) (if test then last else line)
+    ≡ over_ended f c prefix
+    ++ (map (lift (after_lines c prefix)) (over_lines f origin new line)
+    ++ map (move (after_lines (after_lines c prefix) gone) (after_lines (after_lines c prefix) new)) (if test then over_lines f (after_lines (after_lines c prefix) gone) back last else []))
 
 pub replaced_statements : ReplacedLaw line_statements lift_statement moved_statement
 replaced_statements = replaced_law line_statements lift_statement moved_statement lifted_line_statements moves_statements (λ c end. refl)

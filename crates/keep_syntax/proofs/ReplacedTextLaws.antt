@@ -24,7 +24,7 @@ use Rattle.keep_syntax.proofs.CutLaws.{start_holds, start_forward}
 use Rattle.keep_syntax.proofs.ReadLaws.{inner_text}
 use Rattle.keep_parts.proofs.Shared.{if_true, if_false}
 use Rattle.keep_syntax.proofs.SplitLaws.{Split}
-use Rattle.keep_syntax.proofs.CountingLaws.{all_append, all_front, all_back}
+use Rattle.keep_syntax.proofs.CountingLaws.{all_append, all_prefix, all_back}
 use Rattle.keep_syntax.proofs.RereadLaws.{lines_of, middle_lines, end_lines, empty_last}
 
 -- ---- texts
@@ -71,7 +71,7 @@ replaced_text {profile} {limit} {d} {whole} {bytes} {m} h =
     bom = text_of (bom_leaves d.bom)
 
     before : List ℕ
-    before = bom ++ ended_text s.front
+    before = bom ++ ended_text s.prefix
 
     gone : List ℕ
     gone = ended_text s.gone
@@ -80,7 +80,7 @@ replaced_text {profile} {limit} {d} {whole} {bytes} {m} h =
     after = ended_text s.back
 
     long : length before ≡ whole.start
-    long = omega (arith, length-append bom (ended_text s.front), s.start_is)
+    long = omega (arith, length-append bom (ended_text s.prefix), s.start_is)
 
     spelled : (es : List Ended) (l : Line) → r.ended ≡ es → r.last ≡ l → text r ≡ bom ++ (ended_text es ++ line_text l)
     spelled es l e k = text_parts r ∙ ap (λ (xs : List Ended). bom ++ (ended_text xs ++ line_text r.last)) e ∙ ap (λ (x : Line). bom ++ (ended_text es ++ line_text x)) k
@@ -88,9 +88,9 @@ replaced_text {profile} {limit} {d} {whole} {bytes} {m} h =
     old : text d ≡ before ++ (gone ++ (after ++ line_text d.last))
     old =
         text_parts d
-        ∙ ap (λ t. bom ++ (t ++ line_text d.last)) (ap ended_text s.all ∙ ended_join s.front (s.gone ++ s.back) ∙ ap (λ t. ended_text s.front ++ t) (ended_join s.gone s.back))
-        ∙ ap (λ t. bom ++ t) (append_assoc (ended_text s.front) (gone ++ after) (line_text d.last) ∙ ap (λ t. ended_text s.front ++ t) (append_assoc gone after (line_text d.last)))
-        ∙ sym (append_assoc bom (ended_text s.front) (gone ++ (after ++ line_text d.last)))
+        ∙ ap (λ t. bom ++ (t ++ line_text d.last)) (ap ended_text s.all ∙ ended_join s.prefix (s.gone ++ s.back) ∙ ap (λ t. ended_text s.prefix ++ t) (ended_join s.gone s.back))
+        ∙ ap (λ t. bom ++ t) (append_assoc (ended_text s.prefix) (gone ++ after) (line_text d.last) ∙ ap (λ t. ended_text s.prefix ++ t) (append_assoc gone after (line_text d.last)))
+        ∙ sym (append_assoc bom (ended_text s.prefix) (gone ++ (after ++ line_text d.last)))
 
     by : (b : Bool) → ltb whole.end (length (text d)) ≡ b → put_at whole bytes (text d) ≡ text r
     by true t =
@@ -98,19 +98,19 @@ replaced_text {profile} {limit} {d} {whole} {bytes} {m} h =
         let new = bytes_text h ∙ ap (λ (l : Line). ended_text m.ended ++ line_text l) (empty_last h more) ∙ append-nil (ended_text m.ended) in
         put_text whole before gone (after ++ line_text d.last) bytes (text d) old (sym long) (omega (arith, long, s.end_is more))
         ∙ ap (λ x. before ++ (x ++ (after ++ line_text d.last))) new
-        ∙ sym (spelled (s.front ++ (m.ended ++ s.back)) d.last (middle_lines h) (if_true (ltb whole.end (length (text d))) d.last m.last t)
-        ∙ ap (λ x. bom ++ (x ++ line_text d.last)) (ended_join s.front (m.ended ++ s.back) ∙ ap (λ x. ended_text s.front ++ x) (ended_join m.ended s.back))
-        ∙ ap (λ x. bom ++ x) (append_assoc (ended_text s.front) (ended_text m.ended ++ after) (line_text d.last) ∙ ap (λ x. ended_text s.front ++ x) (append_assoc (ended_text m.ended) after (line_text d.last)))
-        ∙ sym (append_assoc bom (ended_text s.front) (ended_text m.ended ++ (after ++ line_text d.last))))
+        ∙ sym (spelled (s.prefix ++ (m.ended ++ s.back)) d.last (middle_lines h) (if_true (ltb whole.end (length (text d))) d.last m.last t)
+        ∙ ap (λ x. bom ++ (x ++ line_text d.last)) (ended_join s.prefix (m.ended ++ s.back) ∙ ap (λ x. ended_text s.prefix ++ x) (ended_join m.ended s.back))
+        ∙ ap (λ x. bom ++ x) (append_assoc (ended_text s.prefix) (ended_text m.ended ++ after) (line_text d.last) ∙ ap (λ x. ended_text s.prefix ++ x) (append_assoc (ended_text m.ended) after (line_text d.last)))
+        ∙ sym (append_assoc bom (ended_text s.prefix) (ended_text m.ended ++ (after ++ line_text d.last))))
     by false t =
         let past : length (text d) ≤ whole.end = ltb-false whole.end (length (text d)) t in
         ap (λ x. x ++ (bytes ++ drop whole.end (text d))) (ap (λ x. take whole.start x) old ∙ ap (λ n. take n (before ++ (gone ++ (after ++ line_text d.last)))) (sym long) ∙ take-append_seam before (gone ++ (after ++ line_text d.last)))
         ∙ ap (λ x. before ++ (bytes ++ x)) (drop_all whole.end (text d) past)
         ∙ ap (λ x. before ++ x) (append-nil bytes ∙ bytes_text h)
-        ∙ sym (spelled (s.front ++ m.ended) m.last (end_lines h past) (if_false (ltb whole.end (length (text d))) d.last m.last t)
-        ∙ ap (λ x. bom ++ (x ++ line_text m.last)) (ended_join s.front m.ended)
-        ∙ ap (λ x. bom ++ x) (append_assoc (ended_text s.front) (ended_text m.ended) (line_text m.last))
-        ∙ sym (append_assoc bom (ended_text s.front) (ended_text m.ended ++ line_text m.last)))
+        ∙ sym (spelled (s.prefix ++ m.ended) m.last (end_lines h past) (if_false (ltb whole.end (length (text d))) d.last m.last t)
+        ∙ ap (λ x. bom ++ (x ++ line_text m.last)) (ended_join s.prefix m.ended)
+        ∙ ap (λ x. bom ++ x) (append_assoc (ended_text s.prefix) (ended_text m.ended) (line_text m.last))
+        ∙ sym (append_assoc bom (ended_text s.prefix) (ended_text m.ended ++ line_text m.last)))
 
 -- ---- the grammar
 
@@ -122,18 +122,18 @@ pub replaced_valid : {profile : Profile} {limit : ℕ} {d : Document} {whole : S
 replaced_valid {profile} {limit} {d} {whole} {bytes} {m} h =
     let s = lines_of h in
     let all = subst (λ (es : List Ended). AllByRecursion (IsEnded profile) es) s.all h.valid.ended in
-    let back = all_back (IsEnded profile) s.gone s.back (all_back (IsEnded profile) s.front (s.gone ++ s.back) all) in
+    let back = all_back (IsEnded profile) s.gone s.back (all_back (IsEnded profile) s.prefix (s.gone ++ s.back) all) in
     record {
       ended = subst (λ (es : List Ended). AllByRecursion (IsEnded profile) es) (sym (middle_lines h))
-          (all_append (IsEnded profile) s.front (m.ended ++ s.back) (all_front (IsEnded profile) s.front (s.gone ++ s.back) all) (all_append (IsEnded profile) m.ended s.back h.reads.valid.ended back));
+          (all_append (IsEnded profile) s.prefix (m.ended ++ s.back) (all_prefix (IsEnded profile) s.prefix (s.gone ++ s.back) all) (all_append (IsEnded profile) m.ended s.back h.reads.valid.ended back));
       last = either (IsLine profile) (ltb whole.end (length (text d))) d.last m.last h.valid.last h.reads.valid.last;
     }
 
-depth_front : (n : ℕ) (xs ys : List Ended) → lines_depth (xs ++ ys) ≤ n → lines_depth xs ≤ n
-depth_front n [] ys h = omega arith
-depth_front n (x ∷ xs) ys h =
+depth_prefix : (n : ℕ) (xs ys : List Ended) → lines_depth (xs ++ ys) ≤ n → lines_depth xs ≤ n
+depth_prefix n [] ys h = omega arith
+depth_prefix n (x ∷ xs) ys h =
     let k : lines_depth (xs ++ ys) ≤ n = omega (arith, h) in
-    omega (arith, h, depth_front n xs ys k)
+    omega (arith, h, depth_prefix n xs ys k)
 
 depth_back : (n : ℕ) (xs ys : List Ended) → lines_depth (xs ++ ys) ≤ n → lines_depth ys ≤ n
 depth_back n [] ys h = h
@@ -146,10 +146,10 @@ depth_join n (x ∷ xs) ys h k = let rest = depth_join n xs ys (omega (arith, h)
 replaced_shallow : {profile : Profile} {limit : ℕ} {d : Document} {whole : Span} {bytes : List ℕ} {m : Document} → CanReplace profile limit d whole bytes m → depth d ≤ limit → depth (replaced d whole m) ≤ limit
 replaced_shallow {profile} {limit} {d} {whole} {bytes} {m} h low =
     let s = lines_of h in
-    let all : lines_depth (s.front ++ (s.gone ++ s.back)) ≤ limit = omega (arith, low, ap lines_depth s.all) in
-    let back = depth_back limit s.gone s.back (depth_back limit s.front (s.gone ++ s.back) all) in
+    let all : lines_depth (s.prefix ++ (s.gone ++ s.back)) ≤ limit = omega (arith, low, ap lines_depth s.all) in
+    let back = depth_back limit s.gone s.back (depth_back limit s.prefix (s.gone ++ s.back) all) in
     let new : lines_depth m.ended ≤ limit = omega (arith, h.reads.shallow) in
-    let ended = depth_join limit s.front (m.ended ++ s.back) (depth_front limit s.front (s.gone ++ s.back) all) (depth_join limit m.ended s.back new back) in
+    let ended = depth_join limit s.prefix (m.ended ++ s.back) (depth_prefix limit s.prefix (s.gone ++ s.back) all) (depth_join limit m.ended s.back new back) in
     let last = either (λ (l : Line). content_depth l.content ≤ limit) (ltb whole.end (length (text d))) d.last m.last (omega (arith, low)) (omega (arith, h.reads.shallow)) in
     omega (arith, ended, last, ap lines_depth (middle_lines h))
 
@@ -159,25 +159,25 @@ lines_are_replaced profile limit d whole lines m h low = record { valid = replac
 
 -- ---- where a text may be cut
 
-seam_byte : (front : List ℕ) (c : ℕ) (rest : List ℕ) → slice_index (front ++ (c ∷ rest)) (length front) ≡ c
+seam_byte : (prefix : List ℕ) (c : ℕ) (rest : List ℕ) → slice_index (prefix ++ (c ∷ rest)) (length prefix) ≡ c
 seam_byte [] c rest = refl
 seam_byte (x ∷ xs) c rest = seam_byte xs c rest
 
-cut_here : (bytes front : List ℕ) (w : Written) (rest : List ℕ) (at : ℕ) → at ≡ length front → bytes ≡ front ++ (w.text ++ rest) → BeginsChar w → IsCharBoundary bytes at
-cut_here bytes front w rest at here e h =
+cut_here : (bytes prefix : List ℕ) (w : Written) (rest : List ℕ) (at : ℕ) → at ≡ length prefix → bytes ≡ prefix ++ (w.text ++ rest) → BeginsChar w → IsCharBoundary bytes at
+cut_here bytes prefix w rest at here e h =
     by w.text e h
   where
-    by : (t : List ℕ) → bytes ≡ front ++ (t ++ rest) → BeginsChar (record { leaf = w.leaf; text = t }) → IsCharBoundary bytes at
+    by : (t : List ℕ) → bytes ≡ prefix ++ (t ++ rest) → BeginsChar (record { leaf = w.leaf; text = t }) → IsCharBoundary bytes at
     by [] e h = absurd (omega (arith, h.0))
     by (c ∷ cs) e h =
-        let is : slice_index bytes at ≡ c = ap (slice_index bytes) here ∙ ap (λ t. slice_index t (length front)) e ∙ seam_byte front c (cs ++ rest) in
-        (omega (arith, here, ap length e, length-append front ((c ∷ cs) ++ rest)), λ within high. let low : 192 ≤ c = h.1 (omega (arith, high, is)) in omega (arith, low, is))
+        let is : slice_index bytes at ≡ c = ap (slice_index bytes) here ∙ ap (λ t. slice_index t (length prefix)) e ∙ seam_byte prefix c (cs ++ rest) in
+        (omega (arith, here, ap length e, length-append prefix ((c ∷ cs) ++ rest)), λ within high. let low : 192 ≤ c = h.1 (omega (arith, high, is)) in omega (arith, low, is))
 
-starts_cut : (bytes front : List ℕ) (ws : List Written) (at : ℕ) → at ≡ length front → bytes ≡ front ++ text_of ws → AreSome ws → AllByRecursion (IsCharBoundary bytes) (starts at ws)
-starts_cut bytes front [] at here e h = tt
-starts_cut bytes front (w ∷ ws) at here e h = (
-  cut_here bytes front w (text_of ws) at here e h.0,
-  starts_cut bytes (front ++ w.text) ws (at + length w.text) (omega (arith, here, length-append front w.text)) (e ∙ sym (append_assoc front w.text (text_of ws))) h.1,
+starts_cut : (bytes prefix : List ℕ) (ws : List Written) (at : ℕ) → at ≡ length prefix → bytes ≡ prefix ++ text_of ws → AreSome ws → AllByRecursion (IsCharBoundary bytes) (starts at ws)
+starts_cut bytes prefix [] at here e h = tt
+starts_cut bytes prefix (w ∷ ws) at here e h = (
+  cut_here bytes prefix w (text_of ws) at here e h.0,
+  starts_cut bytes (prefix ++ w.text) ws (at + length w.text) (omega (arith, here, length-append prefix w.text)) (e ∙ sym (append_assoc prefix w.text (text_of ws))) h.1,
 )
 
 -- The syntax of a document of the grammar is that of its text.

@@ -10,12 +10,12 @@ use Rattle.keep_parts.specs.declared.info.ValueInfo.{ValueInfo}
 use Rattle.keep_parts.specs.declared.moves.Counts.{Counts}
 use Rattle.keep_parts.specs.declared.parts.Parts.{Parts}
 use Rattle.keep_syntax.specs.Numbered.{Count}
-use Rattle.keep_parts.specs.Flat.{Flat, flat, told, told_key, shown, statements_in, key_parts_in, values_in}
-use Rattle.keep_parts.specs.Rereading.{count_at, count_of, nothing, counts_at, counts_before, with_front, with_new, with_back, replaced_flat, CanMove}
+use Rattle.keep_parts.specs.Flat.{Flat, flat, unpacked_statement, unpacked_key_part, unpacked_value, statements_in, key_parts_in, values_in}
+use Rattle.keep_parts.specs.Rereading.{count_at, count_of, nothing, counts_at, counts_before, with_prefix, with_new, with_back, replaced_flat, CanMove}
 use Rattle.keep_parts.specs.Lifted.{origin, moved, moved_key, moved_statement, moved_value}
 use Rattle.keep_parts.specs.Shifting.{shifted_key, CanShiftKey, shifted_statement, CanShiftStatement, shifted_value, CanShiftValue}
 use Rattle.keep_syntax.specs.Replacing.{IsPacked, CanShift, IsRun, IsShifted, IsAsBefore, CanExchange, same, IsExchanged, replaced_places, placed, counts_after, counts_behind, UndoesRun}
-use Rattle.keep_parts.proofs.Shared.{same_flat, if_true, if_false, range_length, map_is, key_is, key_back, statement_is, statement_back, value_is, value_back, told_exchanged, same_exchanged, room_again, exchanged_back}
+use Rattle.keep_parts.proofs.Shared.{same_flat, if_true, if_false, range_length, map_is, key_is, key_back, statement_is, statement_back, value_is, value_back, unpacked_exchanged, same_exchanged, room_again, exchanged_back}
 use Rattle.keep_syntax.proofs.LineLoopLaws.{same_count}
 use Rattle.keep_syntax.proofs.RereadLaws.{stays_key, stays_statement, stays_value, map_same}
 
@@ -85,15 +85,15 @@ module _ (f g : Flat) (whole : Span) (len size end : ℕ) (can : CanMove f whole
   abbrev until : Counts
   until = counts_after from (counts_at size g) end
 
-  front_count : count_at whole.start (with_front f whole.start) ≡ count_of from
-  front_count = same_count (count_at whole.start (with_front f whole.start)) (count_of from) refl
-      (front_length (moved_statement origin origin) f.statements from.statements can.front.statements)
-      (front_length (moved_key origin origin) f.keys from.keys can.front.keys)
-      (front_length (moved_value origin origin) f.values from.values can.front.values)
+  front_count : count_at whole.start (with_prefix f whole.start) ≡ count_of from
+  front_count = same_count (count_at whole.start (with_prefix f whole.start)) (count_of from) refl
+      (front_length (moved_statement origin origin) f.statements from.statements can.prefix.statements)
+      (front_length (moved_key origin origin) f.keys from.keys can.prefix.keys)
+      (front_length (moved_value origin origin) f.values from.values can.prefix.values)
 
   new_count : count_at end (with_new f g whole.start size) ≡ count_of until
   new_count =
-      let c = count_at whole.start (with_front f whole.start) in
+      let c = count_at whole.start (with_prefix f whole.start) in
       let a = map (moved_statement origin origin) (slice_range f.statements 0 from.statements) in
       let b = map (moved_key origin origin) (slice_range f.keys 0 from.keys) in
       let d = map (moved_value origin origin) (slice_range f.values 0 from.values) in
@@ -101,14 +101,14 @@ module _ (f g : Flat) (whole : Span) (len size end : ℕ) (can : CanMove f whole
       let b2 = map (moved_key origin c) (slice_range g.keys 0 (length g.keys)) in
       let d2 = map (moved_value origin c) (slice_range g.values 0 (length g.values)) in
       same_count (count_at end (with_new f g whole.start size)) (count_of until) refl
-      (omega (arith, length-append a a2, front_length (moved_statement origin origin) f.statements from.statements can.front.statements, new_length (moved_statement origin c) g.statements))
-      (omega (arith, length-append b b2, front_length (moved_key origin origin) f.keys from.keys can.front.keys, new_length (moved_key origin c) g.keys))
-      (omega (arith, length-append d d2, front_length (moved_value origin origin) f.values from.values can.front.values, new_length (moved_value origin c) g.values))
+      (omega (arith, length-append a a2, front_length (moved_statement origin origin) f.statements from.statements can.prefix.statements, new_length (moved_statement origin c) g.statements))
+      (omega (arith, length-append b b2, front_length (moved_key origin origin) f.keys from.keys can.prefix.keys, new_length (moved_key origin c) g.keys))
+      (omega (arith, length-append d d2, front_length (moved_value origin origin) f.values from.values can.prefix.values, new_length (moved_value origin c) g.values))
 
   back_placed : with_back f g whole len size end ≡ placed f g from (counts_before f whole.end) until end
   back_placed =
       let to = counts_before f whole.end in
-      let c = count_at whole.start (with_front f whole.start) in
+      let c = count_at whole.start (with_prefix f whole.start) in
       let e = count_at end (with_new f g whole.start size) in
       same_flat (with_back f g whole len size end) (placed f g from to until end)
       (three_kept f.kinds g.kinds from.tokens to.tokens) refl
@@ -128,7 +128,7 @@ module _ (f g : Flat) (whole : Span) (len size end : ℕ) (can : CanMove f whole
   new_placed : with_new f g whole.start size ≡ placed f g from (counts_at len f) until end
   new_placed =
       let to = counts_at len f in
-      let c = count_at whole.start (with_front f whole.start) in
+      let c = count_at whole.start (with_prefix f whole.start) in
       let ps = map (moved 0 0) (slice_range f.starts 0 from.tokens) ++ map (moved 0 whole.start) (slice_range g.starts 0 (length g.kinds)) in
       same_flat (with_new f g whole.start size) (placed f g from to until end)
       (two_kept f.kinds g.kinds from.tokens)
@@ -151,14 +151,14 @@ module _ (f g : Flat) (whole : Span) (len size end : ℕ) (can : CanMove f whole
 
 -- ---- what is packed
 
-packed_statements : (p : Parts) → p.statements.wide.items ≡ [] → statements_in p.statements ≡ map told p.statements.narrow.items
-packed_statements p e = ap (λ xs. map told p.statements.narrow.items ++ xs) e ∙ append-nil (map told p.statements.narrow.items)
+packed_statements : (p : Parts) → p.statements.unpacked.items ≡ [] → statements_in p.statements ≡ map unpacked_statement p.statements.packed.items
+packed_statements p e = ap (λ xs. map unpacked_statement p.statements.packed.items ++ xs) e ∙ append-nil (map unpacked_statement p.statements.packed.items)
 
-packed_keys : (p : Parts) → p.keys.wide.items ≡ [] → key_parts_in p.keys ≡ map told_key p.keys.narrow.items
-packed_keys p e = ap (λ xs. map told_key p.keys.narrow.items ++ xs) e ∙ append-nil (map told_key p.keys.narrow.items)
+packed_keys : (p : Parts) → p.keys.unpacked.items ≡ [] → key_parts_in p.keys ≡ map unpacked_key_part p.keys.packed.items
+packed_keys p e = ap (λ xs. map unpacked_key_part p.keys.packed.items ++ xs) e ∙ append-nil (map unpacked_key_part p.keys.packed.items)
 
-packed_values : (p : Parts) → p.values.wide.items ≡ [] → values_in p.values ≡ map shown p.values.narrow.items
-packed_values p e = ap (λ xs. map shown p.values.narrow.items ++ xs) e ∙ append-nil (map shown p.values.narrow.items)
+packed_values : (p : Parts) → p.values.unpacked.items ≡ [] → values_in p.values ≡ map unpacked_value p.values.packed.items
+packed_values p e = ap (λ xs. map unpacked_value p.values.packed.items ++ xs) e ∙ append-nil (map unpacked_value p.values.packed.items)
 
 map_id : {A : Type 0} (xs : List A) → map same xs ≡ xs
 map_id xs = map_same same (λ x. refl) xs
@@ -179,23 +179,23 @@ exchanged_flat p fresh run q gone from to until end pp pf can new shift starts h
     ∙ ap (λ xs. take from.tokens p.kinds.items ++ (xs ++ map same (drop to.tokens p.kinds.items))) shift.kinds
     ∙ ap (λ xs. take from.tokens p.kinds.items ++ (fresh.kinds.items ++ xs)) (map_id (drop to.tokens p.kinds.items)))
     (h.starts ∙ starts)
-    (packed_statements q (h.wide_statements ∙ pp.statements)
-    ∙ told_exchanged told (shifted_statement to until) m (CanShiftStatement to until) (statement_is to until) from.statements to.statements p.statements.narrow run.statements.narrow q.statements.narrow gone.statements.narrow h.statements can.statements
-    ∙ ap (λ (xs : List Statement). take from.statements xs ++ (map told run.statements.narrow.items ++ map m (drop to.statements xs))) (sym (packed_statements p pp.statements))
+    (packed_statements q (h.unpacked_statements ∙ pp.statements)
+    ∙ unpacked_exchanged unpacked_statement (shifted_statement to until) m (CanShiftStatement to until) (statement_is to until) from.statements to.statements p.statements.packed run.statements.packed q.statements.packed gone.statements.packed h.statements can.statements
+    ∙ ap (λ (xs : List Statement). take from.statements xs ++ (map unpacked_statement run.statements.packed.items ++ map m (drop to.statements xs))) (sym (packed_statements p pp.statements))
     ∙ ap (λ (xs : List Statement). take from.statements (statements_in p.statements) ++ (xs ++ map m (drop to.statements (statements_in p.statements))))
-    (ap (map told) shift.statements ∙ map_is told (shifted_statement nothing from) m1 (CanShiftStatement nothing from) (statement_is nothing from) fresh.statements.narrow.items new.statements
+    (ap (map unpacked_statement) shift.statements ∙ map_is unpacked_statement (shifted_statement nothing from) m1 (CanShiftStatement nothing from) (statement_is nothing from) fresh.statements.packed.items new.statements
     ∙ ap (map m1) (sym (packed_statements fresh pf.statements))))
-    (packed_keys q (h.wide_keys ∙ pp.keys)
-    ∙ told_exchanged told_key (shifted_key to until) k (CanShiftKey to until) (key_is to until) from.keys to.keys p.keys.narrow run.keys.narrow q.keys.narrow gone.keys.narrow h.keys can.keys
-    ∙ ap (λ (xs : List KeyPart). take from.keys xs ++ (map told_key run.keys.narrow.items ++ map k (drop to.keys xs))) (sym (packed_keys p pp.keys))
+    (packed_keys q (h.unpacked_keys ∙ pp.keys)
+    ∙ unpacked_exchanged unpacked_key_part (shifted_key to until) k (CanShiftKey to until) (key_is to until) from.keys to.keys p.keys.packed run.keys.packed q.keys.packed gone.keys.packed h.keys can.keys
+    ∙ ap (λ (xs : List KeyPart). take from.keys xs ++ (map unpacked_key_part run.keys.packed.items ++ map k (drop to.keys xs))) (sym (packed_keys p pp.keys))
     ∙ ap (λ (xs : List KeyPart). take from.keys (key_parts_in p.keys) ++ (xs ++ map k (drop to.keys (key_parts_in p.keys))))
-    (ap (map told_key) shift.keys ∙ map_is told_key (shifted_key nothing from) k1 (CanShiftKey nothing from) (key_is nothing from) fresh.keys.narrow.items new.keys
+    (ap (map unpacked_key_part) shift.keys ∙ map_is unpacked_key_part (shifted_key nothing from) k1 (CanShiftKey nothing from) (key_is nothing from) fresh.keys.packed.items new.keys
     ∙ ap (map k1) (sym (packed_keys fresh pf.keys))))
-    (packed_values q (h.wide_values ∙ pp.values)
-    ∙ told_exchanged shown (shifted_value to until) v (CanShiftValue to until) (value_is to until) from.values to.values p.values.narrow run.values.narrow q.values.narrow gone.values.narrow h.values can.values
-    ∙ ap (λ (xs : List ValueInfo). take from.values xs ++ (map shown run.values.narrow.items ++ map v (drop to.values xs))) (sym (packed_values p pp.values))
+    (packed_values q (h.unpacked_values ∙ pp.values)
+    ∙ unpacked_exchanged unpacked_value (shifted_value to until) v (CanShiftValue to until) (value_is to until) from.values to.values p.values.packed run.values.packed q.values.packed gone.values.packed h.values can.values
+    ∙ ap (λ (xs : List ValueInfo). take from.values xs ++ (map unpacked_value run.values.packed.items ++ map v (drop to.values xs))) (sym (packed_values p pp.values))
     ∙ ap (λ (xs : List ValueInfo). take from.values (values_in p.values) ++ (xs ++ map v (drop to.values (values_in p.values))))
-    (ap (map shown) shift.values ∙ map_is shown (shifted_value nothing from) v1 (CanShiftValue nothing from) (value_is nothing from) fresh.values.narrow.items new.values
+    (ap (map unpacked_value) shift.values ∙ map_is unpacked_value (shifted_value nothing from) v1 (CanShiftValue nothing from) (value_is nothing from) fresh.values.packed.items new.values
     ∙ ap (map v1) (sym (packed_values fresh pf.values))))
 
 -- ---- before and after taking memory
@@ -203,22 +203,22 @@ exchanged_flat p fresh run q gone from to until end pp pf can new shift starts h
 pub before_is : (p q : Parts) → IsAsBefore p q → flat q ≡ flat p
 before_is p q h =
     same_flat (flat q) (flat p) h.kinds h.starts
-    (ap (λ xs. map told xs ++ q.statements.wide.items) h.statements ∙ ap (λ xs. map told p.statements.narrow.items ++ xs) h.wide_statements)
-    (ap (λ xs. map told_key xs ++ q.keys.wide.items) h.keys ∙ ap (λ xs. map told_key p.keys.narrow.items ++ xs) h.wide_keys)
-    (ap (λ xs. map shown xs ++ q.values.wide.items) h.values ∙ ap (λ xs. map shown p.values.narrow.items ++ xs) h.wide_values)
+    (ap (λ xs. map unpacked_statement xs ++ q.statements.unpacked.items) h.statements ∙ ap (λ xs. map unpacked_statement p.statements.packed.items ++ xs) h.unpacked_statements)
+    (ap (λ xs. map unpacked_key_part xs ++ q.keys.unpacked.items) h.keys ∙ ap (λ xs. map unpacked_key_part p.keys.packed.items ++ xs) h.unpacked_keys)
+    (ap (λ xs. map unpacked_value xs ++ q.values.unpacked.items) h.values ∙ ap (λ xs. map unpacked_value p.values.packed.items ++ xs) h.unpacked_values)
 
 pub exchanged_before : (p p1 run run1 q gone : Parts) (from to old new : Counts) → IsAsBefore p p1 → IsAsBefore run run1
     → IsExchanged from to old new p1 run1 q gone → IsExchanged from to old new p run q gone
 exchanged_before p p1 run run1 q gone from to old new e r h = record {
   kinds = same_exchanged same from.tokens to.tokens p.kinds p1.kinds run.kinds run1.kinds q.kinds gone.kinds e.kinds r.kinds h.kinds;
-  statements = same_exchanged (shifted_statement old new) from.statements to.statements p.statements.narrow p1.statements.narrow run.statements.narrow run1.statements.narrow q.statements.narrow gone.statements.narrow e.statements r.statements h.statements;
-  keys = same_exchanged (shifted_key old new) from.keys to.keys p.keys.narrow p1.keys.narrow run.keys.narrow run1.keys.narrow q.keys.narrow gone.keys.narrow e.keys r.keys h.keys;
-  values = same_exchanged (shifted_value old new) from.values to.values p.values.narrow p1.values.narrow run.values.narrow run1.values.narrow q.values.narrow gone.values.narrow e.values r.values h.values;
+  statements = same_exchanged (shifted_statement old new) from.statements to.statements p.statements.packed p1.statements.packed run.statements.packed run1.statements.packed q.statements.packed gone.statements.packed e.statements r.statements h.statements;
+  keys = same_exchanged (shifted_key old new) from.keys to.keys p.keys.packed p1.keys.packed run.keys.packed run1.keys.packed q.keys.packed gone.keys.packed e.keys r.keys h.keys;
+  values = same_exchanged (shifted_value old new) from.values to.values p.values.packed p1.values.packed run.values.packed run1.values.packed q.values.packed gone.values.packed e.values r.values h.values;
   starts = h.starts ∙ r.starts;
   gone_starts = h.gone_starts ∙ e.starts;
-  wide_statements = h.wide_statements ∙ e.wide_statements;
-  wide_keys = h.wide_keys ∙ e.wide_keys;
-  wide_values = h.wide_values ∙ e.wide_values;
+  unpacked_statements = h.unpacked_statements ∙ e.unpacked_statements;
+  unpacked_keys = h.unpacked_keys ∙ e.unpacked_keys;
+  unpacked_values = h.unpacked_values ∙ e.unpacked_values;
 }
 
 -- ---- going back
@@ -226,11 +226,11 @@ exchanged_before p p1 run run1 q gone from to old new e r h = record {
 pub can_go_back : (gone : Parts) (from to until : Counts) (before after : Parts) → UndoesRun gone from to until before after → CanExchange from until after gone
 can_go_back gone from to until before after u = record {
   kinds = room_again same from.tokens to.tokens until.tokens before.kinds u.run.kinds after.kinds gone.kinds u.is_run.tokens.order u.is_run.tokens.within u.tokens u.now.kinds;
-  statements = room_again (shifted_statement to until) from.statements to.statements until.statements before.statements.narrow u.run.statements.narrow after.statements.narrow gone.statements.narrow
+  statements = room_again (shifted_statement to until) from.statements to.statements until.statements before.statements.packed u.run.statements.packed after.statements.packed gone.statements.packed
       u.is_run.statements.order u.is_run.statements.within u.statements u.now.statements;
-  keys = room_again (shifted_key to until) from.keys to.keys until.keys before.keys.narrow u.run.keys.narrow after.keys.narrow gone.keys.narrow
+  keys = room_again (shifted_key to until) from.keys to.keys until.keys before.keys.packed u.run.keys.packed after.keys.packed gone.keys.packed
       u.is_run.keys.order u.is_run.keys.within u.keys u.now.keys;
-  values = room_again (shifted_value to until) from.values to.values until.values before.values.narrow u.run.values.narrow after.values.narrow gone.values.narrow
+  values = room_again (shifted_value to until) from.values to.values until.values before.values.packed u.run.values.packed after.values.packed gone.values.packed
       u.is_run.values.order u.is_run.values.within u.values u.now.values;
 }
 
@@ -245,17 +245,17 @@ went_back gone from to until before after r rest u h = before_is before r (recor
       u.is_run.tokens.order u.is_run.tokens.within u.tokens (all_same (drop to.tokens before.kinds.items)) u.now.kinds h.kinds;
   starts = h.starts ∙ u.now.gone_starts;
   statements = exchanged_back (shifted_statement to until) (shifted_statement until to) (CanShiftStatement to until) (statement_back to until) from.statements to.statements until.statements
-      before.statements.narrow u.run.statements.narrow after.statements.narrow gone.statements.narrow r.statements.narrow rest.statements.narrow
+      before.statements.packed u.run.statements.packed after.statements.packed gone.statements.packed r.statements.packed rest.statements.packed
       u.is_run.statements.order u.is_run.statements.within u.statements u.can.statements u.now.statements h.statements;
   keys = exchanged_back (shifted_key to until) (shifted_key until to) (CanShiftKey to until) (key_back to until) from.keys to.keys until.keys
-      before.keys.narrow u.run.keys.narrow after.keys.narrow gone.keys.narrow r.keys.narrow rest.keys.narrow
+      before.keys.packed u.run.keys.packed after.keys.packed gone.keys.packed r.keys.packed rest.keys.packed
       u.is_run.keys.order u.is_run.keys.within u.keys u.can.keys u.now.keys h.keys;
   values = exchanged_back (shifted_value to until) (shifted_value until to) (CanShiftValue to until) (value_back to until) from.values to.values until.values
-      before.values.narrow u.run.values.narrow after.values.narrow gone.values.narrow r.values.narrow rest.values.narrow
+      before.values.packed u.run.values.packed after.values.packed gone.values.packed r.values.packed rest.values.packed
       u.is_run.values.order u.is_run.values.within u.values u.can.values u.now.values h.values;
-  wide_statements = h.wide_statements ∙ u.now.wide_statements;
-  wide_keys = h.wide_keys ∙ u.now.wide_keys;
-  wide_values = h.wide_values ∙ u.now.wide_values;
+  unpacked_statements = h.unpacked_statements ∙ u.now.unpacked_statements;
+  unpacked_keys = h.unpacked_keys ∙ u.now.unpacked_keys;
+  unpacked_values = h.unpacked_values ∙ u.now.unpacked_values;
 })
 
 -- ---- a run that is replaced
@@ -273,27 +273,27 @@ run_undone p fresh run q gone from to until size end is pf can shift u h = recor
     arith,
     ap (λ (c : Counts). c.statements) u,
     ap length shift.statements,
-    length-map fresh.statements.narrow.items (shifted_statement nothing from),
-    run.statements.narrow.ok.0,
+    length-map fresh.statements.packed.items (shifted_statement nothing from),
+    run.statements.packed.ok.0,
     ap length (packed_statements fresh pf.statements),
-    length-map fresh.statements.narrow.items told,
+    length-map fresh.statements.packed.items unpacked_statement,
   );
   keys = omega (
     arith,
     ap (λ (c : Counts). c.keys) u,
     ap length shift.keys,
-    length-map fresh.keys.narrow.items (shifted_key nothing from),
-    run.keys.narrow.ok.0,
+    length-map fresh.keys.packed.items (shifted_key nothing from),
+    run.keys.packed.ok.0,
     ap length (packed_keys fresh pf.keys),
-    length-map fresh.keys.narrow.items told_key,
+    length-map fresh.keys.packed.items unpacked_key_part,
   );
   values = omega (
     arith,
     ap (λ (c : Counts). c.values) u,
     ap length shift.values,
-    length-map fresh.values.narrow.items (shifted_value nothing from),
-    run.values.narrow.ok.0,
+    length-map fresh.values.packed.items (shifted_value nothing from),
+    run.values.packed.ok.0,
     ap length (packed_values fresh pf.values),
-    length-map fresh.values.narrow.items shown,
+    length-map fresh.values.packed.items unpacked_value,
   );
 }

@@ -16,9 +16,9 @@ use Rattle.keep_parts.specs.declared.parts.Parts.{Parts}
 use Rattle.keep_syntax.specs.declared.syntax.Syntax.{Syntax}
 use Rattle.keep_syntax.specs.Tree.{Line, Ended, Document, line_leaves, ended_leaves, bom_leaves, text}
 use Rattle.keep_syntax.specs.Grammar.{IsEnded, IsDocument, Reads}
-use Rattle.keep_syntax.specs.Numbered.{span, width, Count, first_line, next_line, behind_lines}
+use Rattle.keep_syntax.specs.Numbered.{span, width, Count, first_line, next_line, after_lines}
 use Rattle.keep_parts.specs.Flat.{Flat, flat, empty}
-use Rattle.keep_parts.specs.Rereading.{count_at, nothing, counts_at, counts_before, places_before, IsPart, part_of, moved_flat, joined, appended, with_front, with_new, with_back, replaced_flat, CanMove, front_starts, back_starts, replaced_starts}
+use Rattle.keep_parts.specs.Rereading.{count_at, nothing, counts_at, counts_before, places_before, IsPart, part_of, moved_flat, joined, appended, with_prefix, with_new, with_back, replaced_flat, CanMove, prefix_starts, back_starts, replaced_starts}
 use Rattle.keep_syntax.specs.FlatLines.{flat_of, DocumentIs}
 use Rattle.keep_syntax.specs.WholeLines.{empty_line, line_starts, lines_from, begin, starts_of, replaced}
 use Rattle.keep_parts.specs.Lifted.{origin, moved, moved_there, moved_span, moved_owner, moved_key, moved_statement, moved_value}
@@ -29,11 +29,11 @@ use Rattle.keep_syntax.proofs.ReadLaws.{syntax_of, syntax_is}
 use Rattle.keep_syntax.proofs.NumberingLaws.{width-append}
 use Rattle.keep_parts.proofs.Shared.{same_flat, if_true, if_false}
 use Rattle.keep_syntax.proofs.LineLoopLaws.{same_count}
-use Rattle.keep_syntax.proofs.LineNumberingLaws.{behind_lines-at, behind_lines-statements, behind_lines-parts, behind_lines-values}
+use Rattle.keep_syntax.proofs.LineNumberingLaws.{after_lines-at, after_lines-statements, after_lines-parts, after_lines-values}
 use Rattle.keep_syntax.proofs.LineStartLaws.{HaveBytes}
 use Rattle.keep_syntax.proofs.SplitLaws.{bytes_of, have_bytes, Split, document_split, text_length}
 use Rattle.keep_syntax.proofs.PieceLaws.{bom_piece, ended_piece, lines_piece, flat_pieces, flat_lines, lines_replaced, lines_replaced_last, lines_moved, lines_ended}
-use Rattle.keep_syntax.proofs.CountingLaws.{Before, From, places_found, all_front, before_piece, before_even, before_count, flat_before, counts_found, lines_even, part_front, part_back, part_all, range_front, range_back, range_all}
+use Rattle.keep_syntax.proofs.CountingLaws.{Before, From, places_found, all_prefix, before_piece, before_even, before_count, flat_before, counts_found, lines_even, part_prefix, part_back, part_all, range_prefix, range_back, range_all}
 
 -- ---- moving from nothing to nothing
 
@@ -99,86 +99,86 @@ bytes_are {m = m} h = omega (arith, ap length h.reads.spelled, text_length m, ap
 
 -- ---- all that is stored
 
-front_is : (profile : Profile) (d : Document) (front rest : List Ended) (place : ℕ) → IsDocument profile d → d.ended ≡ front ++ rest → place ≡ begin d + bytes_of front → with_front (flat_of d) place ≡ before_piece d front
-front_is profile d front rest place valid e here =
-    let c = behind_lines (first_line d) front in
-    let x = before_piece d front in
-    let found = counts_found profile d front rest place valid e (omega (arith, here, behind_lines-at (first_line d) front)) in
+prefix_is : (profile : Profile) (d : Document) (prefix rest : List Ended) (place : ℕ) → IsDocument profile d → d.ended ≡ prefix ++ rest → place ≡ begin d + bytes_of prefix → with_prefix (flat_of d) place ≡ before_piece d prefix
+prefix_is profile d prefix rest place valid e here =
+    let c = after_lines (first_line d) prefix in
+    let x = before_piece d prefix in
+    let found = counts_found profile d prefix rest place valid e (omega (arith, here, after_lines-at (first_line d) prefix)) in
     let part : part_of nothing (counts_before (flat_of d) place) (flat_of d) ≡ x =
-    ap (λ (k : Counts). part_of nothing k (flat_of d)) found ∙ ap (λ (f : Flat). part_of nothing (counts_at place x) f) (flat_before d front rest e) ∙ part_front x (lines_piece c rest d.last) place (before_even d front) in
+    ap (λ (k : Counts). part_of nothing k (flat_of d)) found ∙ ap (λ (f : Flat). part_of nothing (counts_at place x) f) (flat_before d prefix rest e) ∙ part_prefix x (lines_piece c rest d.last) place (before_even d prefix) in
     ap (λ (f : Flat). joined empty (moved_flat origin origin f)) part ∙ stays_flat x
 
-new_is : (profile : Profile) (d m : Document) (front rest : List Ended) (place size : ℕ) → IsDocument profile d → d.ended ≡ front ++ rest → place ≡ begin d + bytes_of front → m.bom ≡ false
-    → with_new (flat_of d) (flat_of m) place size ≡ joined (before_piece d front) (moved_flat origin (behind_lines (first_line d) front) (lines_piece origin m.ended m.last))
-new_is profile d m front rest place size valid e here bom =
-    let c = behind_lines (first_line d) front in
-    let x = before_piece d front in
+new_is : (profile : Profile) (d m : Document) (prefix rest : List Ended) (place size : ℕ) → IsDocument profile d → d.ended ≡ prefix ++ rest → place ≡ begin d + bytes_of prefix → m.bom ≡ false
+    → with_new (flat_of d) (flat_of m) place size ≡ joined (before_piece d prefix) (moved_flat origin (after_lines (first_line d) prefix) (lines_piece origin m.ended m.last))
+new_is profile d m prefix rest place size valid e here bom =
+    let c = after_lines (first_line d) prefix in
+    let x = before_piece d prefix in
     let y = lines_piece origin m.ended m.last in
-    let count : count_at place x ≡ c = before_count d front place (omega (arith, here, behind_lines-at (first_line d) front)) in
+    let count : count_at place x ≡ c = before_count d prefix place (omega (arith, here, after_lines-at (first_line d) prefix)) in
     let part : part_of nothing (counts_at size (flat_of m)) (flat_of m) ≡ y = ap (λ (f : Flat). part_of nothing (counts_at size f) f) (flat_lines m bom) ∙ part_all y size (lines_even origin m.ended m.last) in
-    ap (λ (f : Flat). appended f (flat_of m) nothing (counts_at size (flat_of m)) place) (front_is profile d front rest place valid e here)
+    ap (λ (f : Flat). appended f (flat_of m) nothing (counts_at size (flat_of m)) place) (prefix_is profile d prefix rest place valid e here)
     ∙ ap (λ (k : Count). joined x (moved_flat origin k (part_of nothing (counts_at size (flat_of m)) (flat_of m)))) count
     ∙ ap (λ (f : Flat). joined x (moved_flat origin c f)) part
 
 pub bytes_join : (xs ys : List Ended) → bytes_of (xs ++ ys) ≡ bytes_of xs + bytes_of ys
 bytes_join xs ys = ap width (flat_map-append ended_leaves xs ys) ∙ width-append (flat_map ended_leaves xs) (flat_map ended_leaves ys)
 
-behind_join : (c : Count) (xs ys : List Ended) → behind_lines c (xs ++ ys) ≡ behind_lines (behind_lines c xs) ys
-behind_join c [] ys = refl
-behind_join c (x ∷ xs) ys = behind_join (next_line c x) xs ys
+after_join : (c : Count) (xs ys : List Ended) → after_lines c (xs ++ ys) ≡ after_lines (after_lines c xs) ys
+after_join c [] ys = refl
+after_join c (x ∷ xs) ys = after_join (next_line c x) xs ys
 
 -- the count after the new lines
-after_count : (d : Document) (front new : List Ended) (end : ℕ) → end ≡ (behind_lines (behind_lines (first_line d) front) new).at
-    → count_at end (joined (before_piece d front) (ended_piece (behind_lines (first_line d) front) new)) ≡ behind_lines (behind_lines (first_line d) front) new
-after_count d front new end e =
+after_count : (d : Document) (prefix new : List Ended) (end : ℕ) → end ≡ (after_lines (after_lines (first_line d) prefix) new).at
+    → count_at end (joined (before_piece d prefix) (ended_piece (after_lines (first_line d) prefix) new)) ≡ after_lines (after_lines (first_line d) prefix) new
+after_count d prefix new end e =
     let c0 = first_line d in
-    let c = behind_lines c0 front in
-    let x = before_piece d front in
+    let c = after_lines c0 prefix in
+    let x = before_piece d prefix in
     let y = ended_piece c new in
-    same_count (count_at end (joined x y)) (behind_lines c new) e
-    (omega (arith, length-append x.statements y.statements, behind_lines-statements c0 front, behind_lines-statements c new))
-    (omega (arith, length-append x.keys y.keys, behind_lines-parts c0 front, behind_lines-parts c new))
-    (omega (arith, length-append x.values y.values, behind_lines-values c0 front, behind_lines-values c new))
+    same_count (count_at end (joined x y)) (after_lines c new) e
+    (omega (arith, length-append x.statements y.statements, after_lines-statements c0 prefix, after_lines-statements c new))
+    (omega (arith, length-append x.keys y.keys, after_lines-parts c0 prefix, after_lines-parts c new))
+    (omega (arith, length-append x.values y.values, after_lines-values c0 prefix, after_lines-values c new))
 
 -- lines in the middle
-pub flat_middle : (profile : Profile) (d m : Document) (front gone back : List Ended) (whole : Span) (len size end : ℕ) → IsDocument profile d → d.ended ≡ front ++ (gone ++ back) → whole.start ≡ begin d + bytes_of front
+pub flat_middle : (profile : Profile) (d m : Document) (prefix gone back : List Ended) (whole : Span) (len size end : ℕ) → IsDocument profile d → d.ended ≡ prefix ++ (gone ++ back) → whole.start ≡ begin d + bytes_of prefix
     → whole.end ≡ whole.start + bytes_of gone → m.bom ≡ false → m.last ≡ empty_line → end ≡ whole.start + bytes_of m.ended
-    → with_back (flat_of d) (flat_of m) whole len size end ≡ joined (bom_piece d) (lines_piece (first_line d) (front ++ (m.ended ++ back)) d.last)
-flat_middle profile d m front gone back whole len size end valid e here there bom last after =
+    → with_back (flat_of d) (flat_of m) whole len size end ≡ joined (bom_piece d) (lines_piece (first_line d) (prefix ++ (m.ended ++ back)) d.last)
+flat_middle profile d m prefix gone back whole len size end valid e here there bom last after =
     let c0 = first_line d in
-    let c1 = behind_lines c0 front in
-    let c2 = behind_lines c1 gone in
-    let x = before_piece d front in
-    let z = before_piece d (front ++ gone) in
+    let c1 = after_lines c0 prefix in
+    let c2 = after_lines c1 gone in
+    let x = before_piece d prefix in
+    let z = before_piece d (prefix ++ gone) in
     let f = flat_of d in
     let new : Flat = lines_piece origin m.ended empty_line in
     let rest : Flat = lines_piece c2 back d.last in
-    let e2 : d.ended ≡ (front ++ gone) ++ back = e ∙ sym (append_assoc front gone back) in
-    let c2_is : behind_lines c0 (front ++ gone) ≡ c2 = behind_join c0 front gone in
+    let e2 : d.ended ≡ (prefix ++ gone) ++ back = e ∙ sym (append_assoc prefix gone back) in
+    let c2_is : after_lines c0 (prefix ++ gone) ≡ c2 = after_join c0 prefix gone in
     let first : with_new f (flat_of m) whole.start size ≡ joined x (moved_flat origin c1 new) =
-    new_is profile d m front (gone ++ back) whole.start size valid e here bom ∙ ap (λ (l : Line). joined x (moved_flat origin c1 (lines_piece origin m.ended l))) last in
-    let new_at : count_at end (joined x (moved_flat origin c1 new)) ≡ behind_lines c1 m.ended =
+    new_is profile d m prefix (gone ++ back) whole.start size valid e here bom ∙ ap (λ (l : Line). joined x (moved_flat origin c1 (lines_piece origin m.ended l))) last in
+    let new_at : count_at end (joined x (moved_flat origin c1 new)) ≡ after_lines c1 m.ended =
     ap (λ (g : Flat). count_at end (joined x g)) (lines_moved origin c1 m.ended empty_line ∙ lines_ended c1 m.ended)
-    ∙ after_count d front m.ended end (omega (arith, after, here, behind_lines-at c0 front, behind_lines-at c1 m.ended)) in
+    ∙ after_count d prefix m.ended end (omega (arith, after, here, after_lines-at c0 prefix, after_lines-at c1 m.ended)) in
     let old : counts_before f whole.end ≡ counts_at whole.end z =
-    counts_found profile d (front ++ gone) back whole.end valid e2 (omega (arith, there, here, behind_lines-at c0 front, behind_lines-at c1 gone, ap (λ (k : Count). k.at) c2_is)) in
+    counts_found profile d (prefix ++ gone) back whole.end valid e2 (omega (arith, there, here, after_lines-at c0 prefix, after_lines-at c1 gone, ap (λ (k : Count). k.at) c2_is)) in
     let old_at : count_at whole.end z ≡ c2 =
-    before_count d (front ++ gone) whole.end (omega (arith, there, here, behind_lines-at c0 front, behind_lines-at c1 gone, ap (λ (k : Count). k.at) c2_is)) ∙ c2_is in
-    let f_is : f ≡ joined z rest = flat_before d (front ++ gone) back e2 ∙ ap (λ (k : Count). joined z (lines_piece k back d.last)) c2_is in
+    before_count d (prefix ++ gone) whole.end (omega (arith, there, here, after_lines-at c0 prefix, after_lines-at c1 gone, ap (λ (k : Count). k.at) c2_is)) ∙ c2_is in
+    let f_is : f ≡ joined z rest = flat_before d (prefix ++ gone) back e2 ∙ ap (λ (k : Count). joined z (lines_piece k back d.last)) c2_is in
     let part : part_of (counts_at whole.end z) (counts_at len f) f ≡ rest =
-    ap (λ (g : Flat). part_of (counts_at whole.end z) (counts_at len g) g) f_is ∙ part_back z rest whole.end len (before_even d (front ++ gone)) (lines_even c2 back d.last) in
+    ap (λ (g : Flat). part_of (counts_at whole.end z) (counts_at len g) g) f_is ∙ part_back z rest whole.end len (before_even d (prefix ++ gone)) (lines_even c2 back d.last) in
     let before = joined x (moved_flat origin c1 new) in
     ap (λ (g : Flat). appended g f (counts_before f whole.end) (counts_at len f) end) first
     ∙ ap (λ (k : Counts). appended before f k (counts_at len f) end) old
     ∙ ap (λ (k : Count). joined before (moved_flat k (count_at end before) (part_of (counts_at whole.end z) (counts_at len f) f))) old_at
     ∙ ap (λ (k : Count). joined before (moved_flat c2 k (part_of (counts_at whole.end z) (counts_at len f) f))) new_at
-    ∙ ap (λ (g : Flat). joined before (moved_flat c2 (behind_lines c1 m.ended) g)) part
-    ∙ lines_replaced d front gone m.ended back d.last
+    ∙ ap (λ (g : Flat). joined before (moved_flat c2 (after_lines c1 m.ended) g)) part
+    ∙ lines_replaced d prefix gone m.ended back d.last
 
 -- lines at the end
-pub flat_end : (profile : Profile) (d m : Document) (front rest : List Ended) (whole : Span) (size : ℕ) → IsDocument profile d → d.ended ≡ front ++ rest → whole.start ≡ begin d + bytes_of front → m.bom ≡ false
-    → with_new (flat_of d) (flat_of m) whole.start size ≡ joined (bom_piece d) (lines_piece (first_line d) (front ++ m.ended) m.last)
-flat_end profile d m front rest whole size valid e here bom = new_is profile d m front rest whole.start size valid e here bom ∙ lines_replaced_last d front m.ended m.last
+pub flat_end : (profile : Profile) (d m : Document) (prefix rest : List Ended) (whole : Span) (size : ℕ) → IsDocument profile d → d.ended ≡ prefix ++ rest → whole.start ≡ begin d + bytes_of prefix → m.bom ≡ false
+    → with_new (flat_of d) (flat_of m) whole.start size ≡ joined (bom_piece d) (lines_piece (first_line d) (prefix ++ m.ended) m.last)
+flat_end profile d m prefix rest whole size valid e here bom = new_is profile d m prefix rest whole.start size valid e here bom ∙ lines_replaced_last d prefix m.ended m.last
 
 -- ---- where lines begin
 
@@ -226,29 +226,29 @@ starts_moved old new es =
     ap (map (moved old new)) (starts_alone old es) ∙ map-append (moved old new) (begins old es) ((old + bytes_of es) ∷ [])
     ∙ ap (λ ns. ns ++ moved old new (old + bytes_of es) ∷ []) (begins_moved old new es) ∙ ap (λ n. begins new es ++ n ∷ []) last ∙ sym (starts_alone new es)
 
-starts_count : (profile : Profile) (d : Document) (front rest : List Ended) (place : ℕ) → IsDocument profile d → d.ended ≡ front ++ rest → place ≡ begin d + bytes_of front
-    → places_before place (starts_of d) ≡ length (begins (begin d) front)
-starts_count profile d front rest place valid e here =
-    let bytes = have_bytes profile front (all_front (IsEnded profile) front rest (subst (λ (es : List Ended). AllByRecursion (IsEnded profile) es) e valid.ended)) in
-    ap (λ es. places_before place (line_starts (begin d) es)) e ∙ ap (places_before place) (starts_split (begin d) front rest)
-    ∙ places_found place (begins (begin d) front) (line_starts (begin d + bytes_of front) rest) (begins_before (begin d) place front bytes (omega (arith, here)))
-    (subst (λ (n : ℕ). From n (line_starts (begin d + bytes_of front) rest)) (sym here) (starts_from (begin d + bytes_of front) rest))
+starts_count : (profile : Profile) (d : Document) (prefix rest : List Ended) (place : ℕ) → IsDocument profile d → d.ended ≡ prefix ++ rest → place ≡ begin d + bytes_of prefix
+    → places_before place (starts_of d) ≡ length (begins (begin d) prefix)
+starts_count profile d prefix rest place valid e here =
+    let bytes = have_bytes profile prefix (all_prefix (IsEnded profile) prefix rest (subst (λ (es : List Ended). AllByRecursion (IsEnded profile) es) e valid.ended)) in
+    ap (λ es. places_before place (line_starts (begin d) es)) e ∙ ap (places_before place) (starts_split (begin d) prefix rest)
+    ∙ places_found place (begins (begin d) prefix) (line_starts (begin d + bytes_of prefix) rest) (begins_before (begin d) place prefix bytes (omega (arith, here)))
+    (subst (λ (n : ℕ). From n (line_starts (begin d + bytes_of prefix) rest)) (sym here) (starts_from (begin d + bytes_of prefix) rest))
 
-front_begins : (profile : Profile) (d : Document) (front rest : List Ended) (place : ℕ) → IsDocument profile d → d.ended ≡ front ++ rest → place ≡ begin d + bytes_of front → front_starts (starts_of d) place ≡ begins (begin d) front
-front_begins profile d front rest place valid e here =
-    let found = starts_count profile d front rest place valid e here in
-    let part : slice_range (starts_of d) 0 (places_before place (starts_of d)) ≡ begins (begin d) front =
-    ap (λ ns. slice_range ns 0 (places_before place (starts_of d))) (ap (line_starts (begin d)) e ∙ starts_split (begin d) front rest)
-    ∙ range_front (begins (begin d) front) (line_starts (begin d + bytes_of front) rest) (places_before place (starts_of d)) found in
-    ap (map (moved 0 0)) part ∙ map_same (moved 0 0) stays (begins (begin d) front)
+prefix_begins : (profile : Profile) (d : Document) (prefix rest : List Ended) (place : ℕ) → IsDocument profile d → d.ended ≡ prefix ++ rest → place ≡ begin d + bytes_of prefix → prefix_starts (starts_of d) place ≡ begins (begin d) prefix
+prefix_begins profile d prefix rest place valid e here =
+    let found = starts_count profile d prefix rest place valid e here in
+    let part : slice_range (starts_of d) 0 (places_before place (starts_of d)) ≡ begins (begin d) prefix =
+    ap (λ ns. slice_range ns 0 (places_before place (starts_of d))) (ap (line_starts (begin d)) e ∙ starts_split (begin d) prefix rest)
+    ∙ range_prefix (begins (begin d) prefix) (line_starts (begin d + bytes_of prefix) rest) (places_before place (starts_of d)) found in
+    ap (map (moved 0 0)) part ∙ map_same (moved 0 0) stays (begins (begin d) prefix)
 
-back_begins : (profile : Profile) (d : Document) (front rest : List Ended) (place end : ℕ) → IsDocument profile d → d.ended ≡ front ++ rest → place ≡ begin d + bytes_of front → back_starts (starts_of d) place end ≡ line_starts end rest
-back_begins profile d front rest place end valid e here =
-    let found = starts_count profile d front rest place valid e here in
-    let all : starts_of d ≡ begins (begin d) front ++ line_starts place rest = ap (line_starts (begin d)) e ∙ starts_split (begin d) front rest ∙ ap (λ n. begins (begin d) front ++ line_starts n rest) (sym here) in
+back_begins : (profile : Profile) (d : Document) (prefix rest : List Ended) (place end : ℕ) → IsDocument profile d → d.ended ≡ prefix ++ rest → place ≡ begin d + bytes_of prefix → back_starts (starts_of d) place end ≡ line_starts end rest
+back_begins profile d prefix rest place end valid e here =
+    let found = starts_count profile d prefix rest place valid e here in
+    let all : starts_of d ≡ begins (begin d) prefix ++ line_starts place rest = ap (line_starts (begin d)) e ∙ starts_split (begin d) prefix rest ∙ ap (λ n. begins (begin d) prefix ++ line_starts n rest) (sym here) in
     let part : slice_range (starts_of d) (places_before place (starts_of d)) (length (starts_of d)) ≡ line_starts place rest =
     ap (λ ns. slice_range ns (places_before place (starts_of d)) (length (starts_of d))) all
-    ∙ range_back (begins (begin d) front) (line_starts place rest) (places_before place (starts_of d)) (length (starts_of d)) found (ap length all) in
+    ∙ range_back (begins (begin d) prefix) (line_starts place rest) (places_before place (starts_of d)) (length (starts_of d)) found (ap length all) in
     ap (map (moved place end)) part ∙ starts_moved place end rest
 
 -- the new lines begin after those before, and so do all that come last
@@ -259,38 +259,38 @@ new_begins profile m place size valid bom e =
     let found = starts_count profile m m.ended [] size valid (sym (append-nil m.ended)) (omega (arith, e, zero_is)) in
     let part : slice_range (starts_of m) 0 (places_before size (starts_of m)) ≡ begins (begin m) m.ended =
     ap (λ ns. slice_range ns 0 (places_before size (starts_of m))) (starts_alone (begin m) m.ended)
-    ∙ range_front (begins (begin m) m.ended) ((begin m + bytes_of m.ended) ∷ []) (places_before size (starts_of m)) found in
+    ∙ range_prefix (begins (begin m) m.ended) ((begin m + bytes_of m.ended) ∷ []) (places_before size (starts_of m)) found in
     ap (map (moved 0 place)) part ∙ ap (λ n. map (moved 0 place) (begins n m.ended)) zero_is ∙ begins_moved 0 place m.ended
 
 last_begins : (m : Document) (place : ℕ) → m.bom ≡ false → map (moved 0 place) (slice_range (starts_of m) 0 (length (starts_of m))) ≡ line_starts place m.ended
 last_begins m place bom =
     ap (map (moved 0 place)) (range_all (starts_of m) (length (starts_of m)) refl) ∙ ap (λ (b : Bool). map (moved 0 place) (line_starts (width (bom_leaves b)) m.ended)) bom ∙ starts_moved 0 place m.ended
 
-pub starts_middle : (profile : Profile) (d m : Document) (front gone back : List Ended) (whole : Span) (size end : ℕ) → IsDocument profile d → IsDocument profile m → d.ended ≡ front ++ (gone ++ back)
-    → whole.start ≡ begin d + bytes_of front → whole.end ≡ whole.start + bytes_of gone → m.bom ≡ false → size ≡ bytes_of m.ended → end ≡ whole.start + size
-    → (front_starts (starts_of d) whole.start ++ map (moved 0 whole.start) (slice_range (starts_of m) 0 (places_before size (starts_of m)))) ++ back_starts (starts_of d) whole.end end
-    ≡ line_starts (begin d) (front ++ (m.ended ++ back))
-starts_middle profile d m front gone back whole size end valid fine e here there bom long after =
-    let e2 : d.ended ≡ (front ++ gone) ++ back = e ∙ sym (append_assoc front gone back) in
-    let x = begins (begin d) front in
+pub starts_middle : (profile : Profile) (d m : Document) (prefix gone back : List Ended) (whole : Span) (size end : ℕ) → IsDocument profile d → IsDocument profile m → d.ended ≡ prefix ++ (gone ++ back)
+    → whole.start ≡ begin d + bytes_of prefix → whole.end ≡ whole.start + bytes_of gone → m.bom ≡ false → size ≡ bytes_of m.ended → end ≡ whole.start + size
+    → (prefix_starts (starts_of d) whole.start ++ map (moved 0 whole.start) (slice_range (starts_of m) 0 (places_before size (starts_of m)))) ++ back_starts (starts_of d) whole.end end
+    ≡ line_starts (begin d) (prefix ++ (m.ended ++ back))
+starts_middle profile d m prefix gone back whole size end valid fine e here there bom long after =
+    let e2 : d.ended ≡ (prefix ++ gone) ++ back = e ∙ sym (append_assoc prefix gone back) in
+    let x = begins (begin d) prefix in
     let y = begins whole.start m.ended in
-    let there2 : whole.end ≡ begin d + bytes_of (front ++ gone) = omega (arith, there, here, bytes_join front gone) in
-    ap (λ ns. (ns ++ map (moved 0 whole.start) (slice_range (starts_of m) 0 (places_before size (starts_of m)))) ++ back_starts (starts_of d) whole.end end) (front_begins profile d front (gone ++ back) whole.start valid e here)
+    let there2 : whole.end ≡ begin d + bytes_of (prefix ++ gone) = omega (arith, there, here, bytes_join prefix gone) in
+    ap (λ ns. (ns ++ map (moved 0 whole.start) (slice_range (starts_of m) 0 (places_before size (starts_of m)))) ++ back_starts (starts_of d) whole.end end) (prefix_begins profile d prefix (gone ++ back) whole.start valid e here)
     ∙ ap (λ ns. (x ++ ns) ++ back_starts (starts_of d) whole.end end) (new_begins profile m whole.start size fine bom long)
-    ∙ ap (λ ns. (x ++ y) ++ ns) (back_begins profile d (front ++ gone) back whole.end end valid e2 there2)
+    ∙ ap (λ ns. (x ++ y) ++ ns) (back_begins profile d (prefix ++ gone) back whole.end end valid e2 there2)
     ∙ append_assoc x y (line_starts end back)
-    ∙ sym (starts_split (begin d) front (m.ended ++ back)
+    ∙ sym (starts_split (begin d) prefix (m.ended ++ back)
     ∙ ap (λ n. x ++ line_starts n (m.ended ++ back)) (sym here)
     ∙ ap (λ ns. x ++ ns) (starts_split whole.start m.ended back)
     ∙ ap (λ n. x ++ (y ++ line_starts n back)) (let i : whole.start + bytes_of m.ended ≡ end = omega (arith, long, after) in i))
 
-pub starts_end : (profile : Profile) (d m : Document) (front rest : List Ended) (whole : Span) → IsDocument profile d → d.ended ≡ front ++ rest → whole.start ≡ begin d + bytes_of front → m.bom ≡ false
-    → front_starts (starts_of d) whole.start ++ map (moved 0 whole.start) (slice_range (starts_of m) 0 (length (starts_of m))) ≡ line_starts (begin d) (front ++ m.ended)
-starts_end profile d m front rest whole valid e here bom =
-    let x = begins (begin d) front in
-    ap (λ ns. ns ++ map (moved 0 whole.start) (slice_range (starts_of m) 0 (length (starts_of m)))) (front_begins profile d front rest whole.start valid e here)
+pub starts_end : (profile : Profile) (d m : Document) (prefix rest : List Ended) (whole : Span) → IsDocument profile d → d.ended ≡ prefix ++ rest → whole.start ≡ begin d + bytes_of prefix → m.bom ≡ false
+    → prefix_starts (starts_of d) whole.start ++ map (moved 0 whole.start) (slice_range (starts_of m) 0 (length (starts_of m))) ≡ line_starts (begin d) (prefix ++ m.ended)
+starts_end profile d m prefix rest whole valid e here bom =
+    let x = begins (begin d) prefix in
+    ap (λ ns. ns ++ map (moved 0 whole.start) (slice_range (starts_of m) 0 (length (starts_of m)))) (prefix_begins profile d prefix rest whole.start valid e here)
     ∙ ap (λ ns. x ++ ns) (last_begins m whole.start bom)
-    ∙ sym (starts_split (begin d) front m.ended ∙ ap (λ n. x ++ line_starts n m.ended) (sym here))
+    ∙ sym (starts_split (begin d) prefix m.ended ∙ ap (λ n. x ++ line_starts n m.ended) (sym here))
 
 -- ---- all of it
 
@@ -301,14 +301,14 @@ appended_as {out} {out2} {new} other {a} {a2} {b} {b2} at p q r h =
 
 -- the lines of the new document
 pub middle_lines : {profile : Profile} {limit : ℕ} {d : Document} {whole : Span} {bytes : List ℕ} {m : Document} (h : CanReplace profile limit d whole bytes m)
-    → (replaced d whole m).ended ≡ (lines_of h).front ++ (m.ended ++ (lines_of h).back)
+    → (replaced d whole m).ended ≡ (lines_of h).prefix ++ (m.ended ++ (lines_of h).back)
 middle_lines {d = d} {whole = whole} {m = m} h =
-    ap (λ es. es ++ (m.ended ++ lines_from whole.end (begin d) d.ended)) (lines_of h).before ∙ ap (λ es. (lines_of h).front ++ (m.ended ++ es)) (lines_of h).from
+    ap (λ es. es ++ (m.ended ++ lines_from whole.end (begin d) d.ended)) (lines_of h).before ∙ ap (λ es. (lines_of h).prefix ++ (m.ended ++ es)) (lines_of h).from
 
 pub end_lines : {profile : Profile} {limit : ℕ} {d : Document} {whole : Span} {bytes : List ℕ} {m : Document} (h : CanReplace profile limit d whole bytes m) → length (text d) ≤ whole.end
-    → (replaced d whole m).ended ≡ (lines_of h).front ++ m.ended
+    → (replaced d whole m).ended ≡ (lines_of h).prefix ++ m.ended
 end_lines {m = m} h past =
-    middle_lines h ∙ ap (λ es. (lines_of h).front ++ (m.ended ++ es)) ((lines_of h).none past) ∙ ap (λ es. (lines_of h).front ++ es) (append-nil m.ended)
+    middle_lines h ∙ ap (λ es. (lines_of h).prefix ++ (m.ended ++ es)) ((lines_of h).none past) ∙ ap (λ es. (lines_of h).prefix ++ es) (append-nil m.ended)
 
 -- the new lines end with a newline where others follow
 pub empty_last : {profile : Profile} {limit : ℕ} {d : Document} {whole : Span} {bytes : List ℕ} {m : Document} → CanReplace profile limit d whole bytes m → whole.end < length (text d) → m.last ≡ empty_line
@@ -337,13 +337,13 @@ reread_flat {profile} {limit} {d} {whole} {bytes} {m} h len size end long wide a
         let more : whole.end < length (text d) = omega (arith, ltb-true whole.end len t, long) in
         let last = empty_last h more in
         if_true (ltb whole.end len) _ _ t
-        ∙ flat_middle profile d m s.front s.gone s.back whole len size end h.valid s.all s.start_is (s.end_is more) h.bom last (omega (arith, after, wide, bytes_are h, ap (λ (l : Line). width (line_leaves l)) last))
-        ∙ sym (pieces (s.front ++ (m.ended ++ s.back)) d.last (middle_lines h) (if_true (ltb whole.end (length (text d))) _ _ (lt-ltb whole.end (length (text d)) more)))
+        ∙ flat_middle profile d m s.prefix s.gone s.back whole len size end h.valid s.all s.start_is (s.end_is more) h.bom last (omega (arith, after, wide, bytes_are h, ap (λ (l : Line). width (line_leaves l)) last))
+        ∙ sym (pieces (s.prefix ++ (m.ended ++ s.back)) d.last (middle_lines h) (if_true (ltb whole.end (length (text d))) _ _ (lt-ltb whole.end (length (text d)) more)))
     by false t =
         let past : length (text d) ≤ whole.end = omega (arith, ltb-false whole.end len t, long) in
         if_false (ltb whole.end len) _ _ t
-        ∙ flat_end profile d m s.front (s.gone ++ s.back) whole size h.valid s.all s.start_is h.bom
-        ∙ sym (pieces (s.front ++ m.ended) m.last (end_lines h past) (if_false (ltb whole.end (length (text d))) _ _ (le-ltb whole.end (length (text d)) past)))
+        ∙ flat_end profile d m s.prefix (s.gone ++ s.back) whole size h.valid s.all s.start_is h.bom
+        ∙ sym (pieces (s.prefix ++ m.ended) m.last (end_lines h past) (if_false (ltb whole.end (length (text d))) _ _ (le-ltb whole.end (length (text d)) past)))
 
 pub reread_starts : {profile : Profile} {limit : ℕ} {d : Document} {whole : Span} {bytes : List ℕ} {m : Document} (h : CanReplace profile limit d whole bytes m) (len size end : ℕ) → len ≡ length (text d)
     → size ≡ length bytes → end ≡ whole.start + size → replaced_starts (starts_of d) (starts_of m) whole len size end ≡ starts_of (replaced d whole m)
@@ -358,11 +358,11 @@ reread_starts {profile} {limit} {d} {whole} {bytes} {m} h len size end long wide
         let more : whole.end < length (text d) = omega (arith, ltb-true whole.end len t, long) in
         let last = empty_last h more in
         if_true (ltb whole.end len) _ _ t
-        ∙ starts_middle profile d m s.front s.gone s.back whole size end h.valid h.reads.valid s.all s.start_is (s.end_is more) h.bom (omega (arith, wide, bytes_are h, ap (λ (l : Line). width (line_leaves l)) last)) after
+        ∙ starts_middle profile d m s.prefix s.gone s.back whole size end h.valid h.reads.valid s.all s.start_is (s.end_is more) h.bom (omega (arith, wide, bytes_are h, ap (λ (l : Line). width (line_leaves l)) last)) after
         ∙ sym (ap (line_starts (begin d)) (middle_lines h))
     by false t =
         let past : length (text d) ≤ whole.end = omega (arith, ltb-false whole.end len t, long) in
-        if_false (ltb whole.end len) _ _ t ∙ starts_end profile d m s.front (s.gone ++ s.back) whole h.valid s.all s.start_is h.bom ∙ sym (ap (line_starts (begin d)) (end_lines h past))
+        if_false (ltb whole.end len) _ _ t ∙ starts_end profile d m s.prefix (s.gone ++ s.back) whole h.valid s.all s.start_is h.bom ∙ sym (ap (line_starts (begin d)) (end_lines h past))
 
 pub reread_length : {profile : Profile} {limit : ℕ} {d : Document} {whole : Span} {bytes : List ℕ} {m : Document} (h : CanReplace profile limit d whole bytes m) (len size end : ℕ) → len ≡ length (text d)
     → size ≡ length bytes → end ≡ whole.start + size → moved whole.end end len ≡ length (text (replaced d whole m))
@@ -380,11 +380,11 @@ reread_length {profile} {limit} {d} {whole} {bytes} {m} h len size end long wide
         let more : whole.end < length (text d) = omega (arith, ltb-true whole.end len t, long) in
         let last = ap (λ (l : Line). width (line_leaves l)) (empty_last h more) in
         let same = ap (λ (l : Line). width (line_leaves l)) (if_true (ltb whole.end (length (text d))) d.last m.last (lt-ltb whole.end (length (text d)) more)) in
-        omega (arith, long, wide, after, last, same, bytes_are h, text_length d, text_length r, s.start_is, s.end_is more, ap bytes_of s.all, ap bytes_of (middle_lines h), bytes_join s.front (s.gone ++ s.back), bytes_join s.gone s.back, bytes_join s.front (m.ended ++ s.back), bytes_join m.ended s.back)
+        omega (arith, long, wide, after, last, same, bytes_are h, text_length d, text_length r, s.start_is, s.end_is more, ap bytes_of s.all, ap bytes_of (middle_lines h), bytes_join s.prefix (s.gone ++ s.back), bytes_join s.gone s.back, bytes_join s.prefix (m.ended ++ s.back), bytes_join m.ended s.back)
     by false t =
         let past : length (text d) ≤ whole.end = omega (arith, ltb-false whole.end len t, long) in
         let same = ap (λ (l : Line). width (line_leaves l)) (if_false (ltb whole.end (length (text d))) d.last m.last (le-ltb whole.end (length (text d)) past)) in
-        omega (arith, long, wide, after, past, same, bytes_are h, text_length r, s.start_is, ap bytes_of (end_lines h past), bytes_join s.front m.ended)
+        omega (arith, long, wide, after, past, same, bytes_are h, text_length r, s.start_is, ap bytes_of (end_lines h past), bytes_join s.prefix m.ended)
 
 -- ---- what can be taken
 
@@ -416,21 +416,21 @@ pub can_move : {profile : Profile} {limit : ℕ} {d : Document} {whole : Span} {
 can_move {profile} {limit} {d} {whole} {bytes} {m} h len long =
     let s = lines_of h in
     let c0 = first_line d in
-    let c1 = behind_lines c0 s.front in
-    let x = before_piece d s.front in
+    let c1 = after_lines c0 s.prefix in
+    let x = before_piece d s.prefix in
     let y = lines_piece c1 (s.gone ++ s.back) d.last in
-    let start = counts_found profile d s.front (s.gone ++ s.back) whole.start h.valid s.all (omega (arith, s.start_is, behind_lines-at c0 s.front)) in
-    let z = before_piece d (s.front ++ s.gone) in
-    let rest = lines_piece (behind_lines c0 (s.front ++ s.gone)) s.back d.last in
-    let e2 : d.ended ≡ (s.front ++ s.gone) ++ s.back = s.all ∙ sym (append_assoc s.front s.gone s.back) in
+    let start = counts_found profile d s.prefix (s.gone ++ s.back) whole.start h.valid s.all (omega (arith, s.start_is, after_lines-at c0 s.prefix)) in
+    let z = before_piece d (s.prefix ++ s.gone) in
+    let rest = lines_piece (after_lines c0 (s.prefix ++ s.gone)) s.back d.last in
+    let e2 : d.ended ≡ (s.prefix ++ s.gone) ++ s.back = s.all ∙ sym (append_assoc s.prefix s.gone s.back) in
     record {
-      front = subst (λ (k : Counts). IsPart nothing k (flat_of d)) (sym start)
-          (subst (λ (f : Flat). IsPart nothing (counts_at whole.start x) f) (sym (flat_before d s.front (s.gone ++ s.back) s.all)) (part_before x y whole.start));
+      prefix = subst (λ (k : Counts). IsPart nothing k (flat_of d)) (sym start)
+          (subst (λ (f : Flat). IsPart nothing (counts_at whole.start x) f) (sym (flat_before d s.prefix (s.gone ++ s.back) s.all)) (part_before x y whole.start));
       back = λ more.
           let there = s.end_is (omega (arith, more, long)) in
-          let end = counts_found profile d (s.front ++ s.gone) s.back whole.end h.valid e2 (omega (arith, there, s.start_is, bytes_join s.front s.gone, behind_lines-at c0 (s.front ++ s.gone))) in
+          let end = counts_found profile d (s.prefix ++ s.gone) s.back whole.end h.valid e2 (omega (arith, there, s.start_is, bytes_join s.prefix s.gone, after_lines-at c0 (s.prefix ++ s.gone))) in
           subst (λ (k : Counts). IsPart k (counts_at len (flat_of d)) (flat_of d)) (sym end)
-          (subst (λ (f : Flat). IsPart (counts_at whole.end z) (counts_at len f) f) (sym (flat_before d (s.front ++ s.gone) s.back e2)) (part_after z rest whole.end len));
+          (subst (λ (f : Flat). IsPart (counts_at whole.end z) (counts_at len f) f) (sym (flat_before d (s.prefix ++ s.gone) s.back e2)) (part_after z rest whole.end len));
     }
 
 -- ---- the syntax
@@ -444,7 +444,7 @@ pub reread_is : {profile : Profile} {limit : ℕ} {d : Document} {whole : Span} 
     → flat p ≡ replaced_flat (flat s.parts) g whole s.len size end → ls ≡ replaced_starts s.lines ms whole s.len size end → IsSyntaxOf (syntax_of p ls len) (replaced d whole m)
 reread_is {profile} {limit} {d} {whole} {bytes} {m} s g ms p ls len size end is h fresh wide after long parts lines =
     let same : fresh.document ≡ m = fresh_is fresh h.reads in
-    let g_is : g ≡ flat_of m = fresh.grows.kept ∙ ap flat_of same in
+    let g_is : g ≡ flat_of m = fresh.grows.stored ∙ ap flat_of same in
     let ms_is : ms ≡ starts_of m = fresh.lines ∙ ap starts_of same in
     syntax_is (syntax_of p ls len) (replaced d whole m)
     (parts ∙ ap (λ (f : Flat). replaced_flat f g whole s.len size end) is.stored ∙ ap (λ (f : Flat). replaced_flat (flat_of d) f whole s.len size end) g_is ∙ reread_flat h s.len size end is.len wide after)

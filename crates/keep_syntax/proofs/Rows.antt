@@ -22,7 +22,7 @@ tree = record {
   ended = [];
   last = record {
     before = [];
-    content = keyval (name 97) (record { body = array []; inside = entry None (scalar (number 49)) none [] (Some space) (entry None (inline []) (entry (Some (name 98)) (scalar (number 50)) none [] None none) [] None none) });
+    content = keyval (name 97) (record { body = array []; nested = entry None (scalar (number 49)) none [] (Some space) (entry None (inline []) (entry (Some (name 98)) (scalar (number 50)) none [] None none) [] None none) });
     after = [];
     comment = None;
   };

@@ -17,9 +17,9 @@ use Rattle.keep_token.specs.Scanning.{first, gap_at, may_follow_scalar}
 use Rattle.keep_token.proofs.Shared.{tested, ws_found, ws_again, newline_again, comment_again, Found, white, line, comment, nothing, gap_cases}
 use Rattle.keep_syntax.specs.declared.info.Brackets.{Brackets}
 use Rattle.keep_syntax.specs.declared.info.Brackets.TheVariants as brackets
-use Rattle.keep_syntax.specs.Tree.{Written, Gap, text_of, mark}
-use Rattle.keep_syntax.specs.Grammar.{IsSpace, IsBlank, GoesOn, is_ws_leaf, Place, in_array, in_inline, IsGap}
-use Rattle.keep_syntax.specs.Reading.{written, space_of, space_at, in_front, blank_from, blank_at, gap_in}
+use Rattle.keep_syntax.specs.Tree.{Written, Gap, text_of, token}
+use Rattle.keep_syntax.specs.Grammar.{IsSpace, IsBlank, Continues, is_ws_leaf, Place, in_array, in_inline, IsGap}
+use Rattle.keep_syntax.specs.Reading.{written, space_of, space_at, prepended, blank_from, blank_at, gap_in}
 
 pub text_of-append : (a b : List Written) → text_of (a ++ b) ≡ text_of a ++ text_of b
 text_of-append a b = flat_map-append (λ w. w.text) a b
@@ -72,7 +72,7 @@ space_none text e =
       | nothing r f ↦ rw r refl
     ]
 
-space_some : (text : List ℕ) → is_ws (first text) ≡ true → space_at text ≡ (mark leaf.Ws (take (prefix_len is_ws text) text), drop (prefix_len is_ws text) text)
+space_some : (text : List ℕ) → is_ws (first text) ≡ true → space_at text ≡ (token leaf.Ws (take (prefix_len is_ws text) text), drop (prefix_len is_ws text) text)
 unfolding space_at
 space_some text e = rw (ws_found text e).0 refl
 
@@ -95,12 +95,12 @@ space_again [] rest h stop = space_none rest stop
 space_again (w ∷ []) rest h stop =
     let t = w.text in
     let found : gap_at (t ++ rest) ≡ Some (leaf.Ws, length t) = ws_again t rest h.1 stop in
-    let is_w : mark leaf.Ws t ≡ w ∷ [] = ap (λ (l : Leaf). record { leaf = l; text = t } ∷ []) (sym h.0) in
+    let is_w : token leaf.Ws t ≡ w ∷ [] = ap (λ (l : Leaf). record { leaf = l; text = t } ∷ []) (sym h.0) in
     let e : space_of (t ++ rest) (gap_at (t ++ rest)) ≡ (w ∷ [], rest) = rw (found, take_at t rest (length t) refl, drop_at t rest (length t) refl, is_w) refl in
     subst (λ (x : List ℕ). space_of (x ++ rest) (gap_at (x ++ rest)) ≡ (w ∷ [], rest)) (sym (append-nil t)) e
 space_again (w ∷ v ∷ more) rest h stop = absurd h
 
--- A class that has no white space fails at white space, so it fails behind any gap.
+-- A class that has no white space fails at white space, so it fails after any gap.
 pub space_class : (p : ℕ → Bool) (g : Gap) (rest : List ℕ) → IsSpace g → ((c : ℕ) → is_ws c ≡ true → p c ≡ false) → p (first rest) ≡ false → p (first (text_of g ++ rest)) ≡ false
 space_class p [] rest h not_ws stop = stop
 space_class p (w ∷ []) rest h not_ws stop = rw (append-nil w.text) (ws_class p w.text rest not_ws h.1)
@@ -118,10 +118,10 @@ comment_first (c ∷ cs) zero found = absurd (omega (arith, found.some))
 comment_first (c ∷ cs) (suc n) found = let (a, b, spelled, hash, all) = found.leaf in ap first (spelled ∙ ap (λ (x : List ℕ). x ++ b) hash)
 
 -- what follows white space, and what follows a comment
-ws_goes_on : (n : ℕ) (text : List ℕ) → is_ws (first text) ≡ false → GoesOn leaf.Ws (blank_from n text).0
+ws_continues : (n : ℕ) (text : List ℕ) → is_ws (first text) ≡ false → Continues leaf.Ws (blank_from n text).0
 unfolding blank_from
-ws_goes_on zero text stop = tt
-ws_goes_on (suc n) text stop =
+ws_continues zero text stop = tt
+ws_continues (suc n) text stop =
     elim (gap_cases text) [
       | white r f ↦ absurd cc
       | line k r f found ↦ rw r refl
@@ -129,10 +129,10 @@ ws_goes_on (suc n) text stop =
       | nothing r f ↦ rw r tt
     ]
 
-comment_goes_on : (n : ℕ) (text : List ℕ) → is_comment (first text) ≡ false → is_solid (first (blank_from n text).1) ≡ true → GoesOn leaf.Comment (blank_from n text).0
+comment_continues : (n : ℕ) (text : List ℕ) → is_comment (first text) ≡ false → is_solid (first (blank_from n text).1) ≡ true → Continues leaf.Comment (blank_from n text).0
 unfolding blank_from
-comment_goes_on zero text stop solid = absurd (solid_is_comment (first text) solid stop)
-comment_goes_on (suc n) text stop solid =
+comment_continues zero text stop solid = absurd (solid_is_comment (first text) solid stop)
+comment_continues (suc n) text stop solid =
     elim (gap_cases text) [
       | white r f ↦ absurd (ws_is_comment (first text) f stop)
       | line k r f found ↦ rw r refl
@@ -149,13 +149,13 @@ blank_takes_from (suc n) text lt =
           let k = prefix_len is_ws text in
           let (at, found, stop) = ws_found text f in
           let ih = blank_takes_from n (drop k text) (omega (arith, length-drop k text, found.some, found.within)) in
-          rw r (record { spelled = one (blank_from n (drop k text)).0 (blank_from n (drop k text)).1 k ih.spelled; valid = λ s. (refl, found.leaf, ws_goes_on n (drop k text) stop, ih.valid s) })
+          rw r (record { spelled = one (blank_from n (drop k text)).0 (blank_from n (drop k text)).1 k ih.spelled; valid = λ s. (refl, found.leaf, ws_continues n (drop k text) stop, ih.valid s) })
       | line k r f found ↦
           let ih = blank_takes_from n (drop k text) (omega (arith, length-drop k text, found.some, found.within)) in
           rw r (record { spelled = one (blank_from n (drop k text)).0 (blank_from n (drop k text)).1 k ih.spelled; valid = λ s. (refl, found.leaf, tt, ih.valid s) })
       | comment k r f found stop ↦
           let ih = blank_takes_from n (drop k text) (omega (arith, length-drop k text, found.some, found.within)) in
-          rw r (record { spelled = one (blank_from n (drop k text)).0 (blank_from n (drop k text)).1 k ih.spelled; valid = λ s. (refl, found.leaf, comment_goes_on n (drop k text) stop s, ih.valid s) })
+          rw r (record { spelled = one (blank_from n (drop k text)).0 (blank_from n (drop k text)).1 k ih.spelled; valid = λ s. (refl, found.leaf, comment_continues n (drop k text) stop s, ih.valid s) })
       | nothing r f ↦ rw r (record { spelled = refl; valid = λ s. tt })
     ]
   where
@@ -172,16 +172,16 @@ blank_same zero m text lt lt' = absurd (omega arith)
 blank_same (suc n) zero text lt lt' = absurd (omega arith)
 blank_same (suc n) (suc m) text lt lt' =
     elim (gap_cases text) [
-      | white r f ↦ let (at, found, stop) = ws_found text f in let k = prefix_len is_ws text in rw r (ap (in_front (written leaf.Ws k text)) (blank_same n m (drop k text) (omega (arith, length-drop k text, found.some, found.within)) (omega (arith, length-drop k text, found.some, found.within))))
-      | line k r f found ↦ rw r (ap (in_front (written leaf.Newline k text)) (blank_same n m (drop k text) (omega (arith, length-drop k text, found.some, found.within)) (omega (arith, length-drop k text, found.some, found.within))))
-      | comment k r f found stop ↦ rw r (ap (in_front (written leaf.Comment k text)) (blank_same n m (drop k text) (omega (arith, length-drop k text, found.some, found.within)) (omega (arith, length-drop k text, found.some, found.within))))
+      | white r f ↦ let (at, found, stop) = ws_found text f in let k = prefix_len is_ws text in rw r (ap (prepended (written leaf.Ws k text)) (blank_same n m (drop k text) (omega (arith, length-drop k text, found.some, found.within)) (omega (arith, length-drop k text, found.some, found.within))))
+      | line k r f found ↦ rw r (ap (prepended (written leaf.Newline k text)) (blank_same n m (drop k text) (omega (arith, length-drop k text, found.some, found.within)) (omega (arith, length-drop k text, found.some, found.within))))
+      | comment k r f found stop ↦ rw r (ap (prepended (written leaf.Comment k text)) (blank_same n m (drop k text) (omega (arith, length-drop k text, found.some, found.within)) (omega (arith, length-drop k text, found.some, found.within))))
       | nothing r f ↦ rw r refl
     ]
 
--- a leaf in front, and none
-pub blank_step : (text : List ℕ) (l : Leaf) (n : ℕ) → 0 < n → n ≤ length text → gap_at text ≡ Some (l, n) → blank_at text ≡ in_front (written l n text) (blank_at (drop n text))
+-- a leaf at the start, and none
+pub blank_step : (text : List ℕ) (l : Leaf) (n : ℕ) → 0 < n → n ≤ length text → gap_at text ≡ Some (l, n) → blank_at text ≡ prepended (written l n text) (blank_at (drop n text))
 unfolding blank_from
-blank_step text l n some within e = rw e (ap (in_front (written l n text)) (blank_same (length text) (suc (length (drop n text))) (drop n text) (omega (arith, length-drop n text)) (omega arith)))
+blank_step text l n some within e = rw e (ap (prepended (written l n text)) (blank_same (length text) (suc (length (drop n text))) (drop n text) (omega (arith, length-drop n text)) (omega arith)))
 
 pub blank_stop : (text : List ℕ) → gap_at text ≡ None → blank_at text ≡ ([], text)
 unfolding blank_from
@@ -199,7 +199,7 @@ blank_class p (w ∷ more) x ws e0 e1 e2 h stop = rw (append_assoc w.text (text_
     by _ t k i = absurd cc
 
 -- a gap that does not begin with white space
-solid_or_line : (more : Gap) (x : List ℕ) → GoesOn leaf.Ws more → IsBlank more → is_solid (first x) ≡ true → is_ws (first (text_of more ++ x)) ≡ false
+solid_or_line : (more : Gap) (x : List ℕ) → Continues leaf.Ws more → IsBlank more → is_solid (first x) ≡ true → is_ws (first (text_of more ++ x)) ≡ false
 solid_or_line [] x g h solid = solid_no_ws (first x) solid
 solid_or_line (v ∷ more) x g h solid = rw (append_assoc v.text (text_of more) x) (by v.leaf v.text h.0 g h.1)
   where
@@ -209,14 +209,14 @@ solid_or_line (v ∷ more) x g h solid = rw (append_assoc v.text (text_of more) 
     by leaf.Comment t k n i = comment_class is_ws t (text_of more ++ x) refl i
     by _ t k n i = absurd cc
 
-behind_comment : (more : Gap) (x : List ℕ) → GoesOn leaf.Comment more → IsBlank more → is_comment (first (text_of more ++ x)) ≡ false
-behind_comment [] x g h = absurd g
-behind_comment (v ∷ more) x g h = rw (append_assoc v.text (text_of more) x) (newline_class is_comment v.text (text_of more ++ x) refl refl (subst (λ (l : Leaf). IsLeaf Strict l v.text) g h.1))
+after_comment : (more : Gap) (x : List ℕ) → Continues leaf.Comment more → IsBlank more → is_comment (first (text_of more ++ x)) ≡ false
+after_comment [] x g h = absurd g
+after_comment (v ∷ more) x g h = rw (append_assoc v.text (text_of more) x) (newline_class is_comment v.text (text_of more ++ x) refl refl (subst (λ (l : Leaf). IsLeaf Strict l v.text) g h.1))
 
-leaf_again : (l : Leaf) (t : List ℕ) (more : Gap) (x : List ℕ) → IsTrue (is_gap_leaf l) → IsLeaf Strict l t → GoesOn l more → IsBlank more → is_solid (first x) ≡ true → gap_at (t ++ (text_of more ++ x)) ≡ Some (l, length t)
+leaf_again : (l : Leaf) (t : List ℕ) (more : Gap) (x : List ℕ) → IsTrue (is_gap_leaf l) → IsLeaf Strict l t → Continues l more → IsBlank more → is_solid (first x) ≡ true → gap_at (t ++ (text_of more ++ x)) ≡ Some (l, length t)
 leaf_again leaf.Ws t more x k i g h solid = ws_again t (text_of more ++ x) i (solid_or_line more x g h solid)
 leaf_again leaf.Newline t more x k i g h solid = newline_again t (text_of more ++ x) i
-leaf_again leaf.Comment t more x k i g h solid = comment_again t (text_of more ++ x) i (behind_comment more x g h)
+leaf_again leaf.Comment t more x k i g h solid = comment_again t (text_of more ++ x) i (after_comment more x g h)
 leaf_again _ t more x k i g h solid = absurd cc
 
 gap_none : (text : List ℕ) → is_solid (first text) ≡ true → gap_at text ≡ None
@@ -240,7 +240,7 @@ blank_again [] rest h solid = blank_stop rest (gap_none rest solid)
 blank_again (w ∷ more) rest h solid =
     let t = w.text in
     let x = text_of more ++ rest in
-    let step : blank_at (t ++ x) ≡ in_front (written w.leaf (length t) (t ++ x)) (blank_at (drop (length t) (t ++ x))) =
+    let step : blank_at (t ++ x) ≡ prepended (written w.leaf (length t) (t ++ x)) (blank_at (drop (length t) (t ++ x))) =
     blank_step (t ++ x) w.leaf (length t) (gap_leaf_some w.leaf t h.0 h.1) (omega (arith, length-append t x)) (leaf_again w.leaf t more rest h.0 h.1 h.2 h.3 solid) in
     let ih : blank_at x ≡ (more, rest) = blank_again more rest h.3 solid in
     ap blank_at (append_assoc t (text_of more) rest) ∙ step ∙ rw (take_at t x (length t) refl, drop_at t x (length t) refl, ih) refl
@@ -274,8 +274,8 @@ gap_again Wide brackets.Inline g rest h solid = blank_again g rest h solid
 pub space_blank : (g : Gap) → IsSpace g → IsBlank g
 space_blank [] h = tt
 space_blank (w ∷ []) h =
-    let at_ws : IsTrue (is_gap_leaf leaf.Ws) × IsLeaf Strict leaf.Ws w.text × GoesOn leaf.Ws [] × IsBlank [] = (refl, h.1, tt, tt) in
-    subst (λ (l : Leaf). IsTrue (is_gap_leaf l) × IsLeaf Strict l w.text × GoesOn l [] × IsBlank []) (sym h.0) at_ws
+    let at_ws : IsTrue (is_gap_leaf leaf.Ws) × IsLeaf Strict leaf.Ws w.text × Continues leaf.Ws [] × IsBlank [] = (refl, h.1, tt, tt) in
+    subst (λ (l : Leaf). IsTrue (is_gap_leaf l) × IsLeaf Strict l w.text × Continues l [] × IsBlank []) (sym h.0) at_ws
 space_blank (w ∷ v ∷ more) h = absurd h
 
 pub gap_blank : (profile : Profile) (b : Brackets) (g : Gap) → IsGap profile (place_of b) g → IsBlank g

@@ -6,7 +6,7 @@ use Rattle.std.proofs.lemmas.List.{length-append}
 use Rattle.keep_token.specs.declared.leaf.Profile.{Profile}
 use Rattle.keep_token.specs.declared.leaf.Leaf.TheVariants as leaf
 use Rattle.keep_parts.specs.declared.info.Span.{Span}
-use Rattle.keep_syntax.specs.Tree.{Written, Ended, Document, mark, line_leaves, ended_leaves, bom_leaves, text}
+use Rattle.keep_syntax.specs.Tree.{Written, Ended, Document, token, line_leaves, ended_leaves, bom_leaves, text}
 use Rattle.keep_syntax.specs.Grammar.{IsEnded, IsDocument}
 use Rattle.keep_syntax.specs.Numbered.{width}
 use Rattle.keep_syntax.specs.WholeLines.{line_starts, last_to, lines_before, lines_from, begin, touched}
@@ -71,18 +71,18 @@ rest end total at (e ∷ es) h within fills =
 -- ---- all lines
 
 pub record Split (total at : ℕ) (es : List Ended) (p o : ℕ) : Type 0 where
-  pub front : List Ended
+  pub prefix : List Ended
   pub gone : List Ended
   pub back : List Ended
-  pub all : es ≡ front ++ (gone ++ back)
-  pub before : lines_before p at es ≡ front
+  pub all : es ≡ prefix ++ (gone ++ back)
+  pub before : lines_before p at es ≡ prefix
   pub from : lines_from o at es ≡ back
-  pub start_is : p ≡ at + bytes_of front
+  pub start_is : p ≡ at + bytes_of prefix
   pub end_is : o < total → o ≡ p + bytes_of gone
   pub none : total ≤ o → back ≡ []
 
 split_here : (total at : ℕ) (es : List Ended) (o : ℕ) → Rest total at es o → Split total at es at o
-split_here total at es o r = record { front = []; gone = r.gone; back = r.back; all = r.all; before = none_before at es; from = r.from; start_is = omega arith; end_is = r.end_is; none = r.none }
+split_here total at es o r = record { prefix = []; gone = r.gone; back = r.back; all = r.all; before = none_before at es; from = r.from; start_is = omega arith; end_is = r.end_is; none = r.none }
 
 split : (start end total at : ℕ) (es : List Ended) → HaveBytes es → at ≤ start → start ≤ end → end ≤ total → at + bytes_of es ≤ total → Split total at es (line_of start at es) (next_of end total at es)
 split start end total at [] h low order within fills =
@@ -104,13 +104,13 @@ split start end total at (e ∷ es) h low order within fills =
         subst (λ n. Split total at (e ∷ es) n (next_of end total at (e ∷ es))) (sym (line_step start at e es k))
         (subst (λ n. Split total at (e ∷ es) p n) (sym (next_step end total at e es (omega (arith, h.0, k, order))))
         (record {
-          front = e ∷ r.front;
+          prefix = e ∷ r.prefix;
           gone = r.gone;
           back = r.back;
           all = ap (λ xs. e ∷ xs) r.all;
           before = before_step p at e es past ∙ ap (λ xs. e ∷ xs) r.before;
           from = from_step o at e es there ∙ r.from;
-          start_is = omega (arith, r.start_is, width-append (ended_leaves e) (flat_map ended_leaves r.front));
+          start_is = omega (arith, r.start_is, width-append (ended_leaves e) (flat_map ended_leaves r.prefix));
           end_is = r.end_is;
           none = r.none;
         }))
@@ -124,7 +124,7 @@ split start end total at (e ∷ es) h low order within fills =
 -- the length of a document's text
 pub text_length : (d : Document) → length (text d) ≡ begin d + (bytes_of d.ended + width (line_leaves d.last))
 text_length d =
-    let end : List Written = mark leaf.End [] in
+    let end : List Written = token leaf.End [] in
     omega (arith, width-append (bom_leaves d.bom) (flat_map ended_leaves d.ended ++ (line_leaves d.last ++ end)), width-append (flat_map ended_leaves d.ended) (line_leaves d.last ++ end), width-append (line_leaves d.last) end)
 
 pub document_split : (profile : Profile) (d : Document) (sp : Span) → IsDocument profile d → begin d ≤ sp.start → sp.start ≤ sp.end → sp.end ≤ length (text d)

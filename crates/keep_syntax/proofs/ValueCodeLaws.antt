@@ -1,4 +1,4 @@
--- What the code keeps of scalars, brackets, and what follows a value.
+-- What the code stores of scalars, brackets, and what follows a value.
 use Rattle.std.proofs.Common.{◌≡◌, ℕ, zero, suc, ◌+◌, ◌<◌, true, false, not, ◌&&◌, ◌==◌, List, [], ◌∷◌, ◌++◌, length, get_or, drop, Option, Some, None, Result, Ok, Err, refl, sym, ap, ◌∙◌, subst, arith, IsCharBoundary}
 use Rattle.std.proofs.lemmas.List.{append-nil, length-append}
 use Rattle.keep_token.specs.declared.leaf.Leaf.{Leaf}
@@ -11,37 +11,37 @@ use Rattle.keep_parts.specs.declared.info.Owner.{Owner}
 use Rattle.keep_syntax.specs.declared.info.Brackets.{Brackets}
 use Rattle.keep_syntax.specs.declared.info.Brackets.TheVariants as brackets
 use Rattle.keep_parts.specs.declared.info.ValueInfo.{ValueInfo}
-use Rattle.keep_syntax.specs.Tree.{Gap, Name, scalar, Entries, none, Value, mark, entries_leaves, value_leaves}
-use Rattle.keep_syntax.specs.Numbered.{width, span, entries_parts, entries_values, value_values, info, inside_of, inside_start, value_end, leaf_of}
+use Rattle.keep_syntax.specs.Tree.{Gap, Name, scalar, Entries, none, Value, token, entries_leaves, value_leaves}
+use Rattle.keep_syntax.specs.Numbered.{width, span, entries_parts, entries_values, value_values, info, nested_of, nested_start, value_end, leaf_of}
 use Rattle.keep_syntax.specs.Numbered as numbered
 use Rattle.keep_syntax.specs.Reading.{Bad, Read, written, scalar_of, value_by, value_of, entries_by, body_in, open_byte, close_byte, gap_in, is_free, named_in, name_of, after_by, comma_by}
-use Rattle.keep_parts.specs.Flat.{Flat, with_mark, with_value, begun, with_end, with_comma, ChangesValue}
-use Rattle.keep_syntax.specs.Growth.{Taken, only, both, Grows, PartRead, Fails, SignIs, GapRead, NameRead, NamedRead, ScalarRead, BracketRead, bracket_of, open_leaf, close_leaf, owner_in, value_taken, entries_taken, AfterIs, EntriesAre}
+use Rattle.keep_parts.specs.Flat.{Flat, with_token, with_value, begun, with_end, with_comma, ChangesValue}
+use Rattle.keep_syntax.specs.Growth.{Taken, only, both, Grows, PartRead, Fails, PunctuationIs, GapRead, NameRead, NamedRead, ScalarRead, BracketRead, bracket_of, open_leaf, close_leaf, owner_in, value_taken, entries_taken, AfterIs, EntriesAre}
 use Rattle.keep_syntax.proofs.LoopLaws.{done, ok_is}
 use Rattle.keep_syntax.proofs.GrowthLaws.{same_taken, grows_nothing, grows_then, grows_as, grows_value, grows_changed, grown_values, grown_keys, one_value}
 use Rattle.keep_syntax.proofs.NumberLaws.{same_start}
-use Rattle.keep_syntax.proofs.GapCodeLaws.{moved_some, first-drop, behind_leaf, behind_sign, leaf_end, leaf_grows, sign_grows, fails_through}
+use Rattle.keep_syntax.proofs.GapCodeLaws.{moved_some, first-drop, after_leaf, after_sign, leaf_end, leaf_grows, sign_grows, fails_through}
 
--- the same reading, said otherwise
+-- what reading stored, by an equal result of reading
 pub same_read : {A : Type 0} (text : List ℕ) (at least : ℕ) (taken : A → Taken) (old new : Flat) (x : Result ℕ ReadFault) (r s : Read A) → r ≡ s → PartRead text at least r taken old new x → PartRead text at least s taken old new x
 same_read {A} text at least taken old new x r s e h = subst (λ (y : Read A). PartRead text at least y taken old new x) e h
 
 -- ---- a scalar
 
 pub scalar_is : (profile : Profile) (text : List ℕ) (at keys : ℕ) (p : Start) (old mid new : Flat) (l : Leaf) (end : ℕ) → IsCharBoundary text at → IsCharBoundary text end → at < end
-    → moved at (scalar_at profile (drop at text)) ≡ Some (l, end) → mid ≡ with_mark l at old → new ≡ with_value (begun l at end keys p) mid → ScalarRead profile text at keys p old new (Ok end)
+    → moved at (scalar_at profile (drop at text)) ≡ Some (l, end) → mid ≡ with_token l at old → new ≡ with_value (begun l at end keys p) mid → ScalarRead profile text at keys p old new (Ok end)
 scalar_is profile text at keys p old mid new l end bound bound' lt e e1 e2 =
     let m = moved_some at (scalar_at profile (drop at text)) l end (sym e) in
     let n = m.0 in
     let w = written l n (drop at text) in
-    let v : Value = record { body = scalar w; inside = none } in
+    let v : Value = record { body = scalar w; nested = none } in
     let ends : end ≡ at + length w.text = leaf_end text at n end m.2 bound'.0 in
     let there : end ≡ value_end at (scalar w) none = omega (arith, length-append w.text []) in
     record {
       part = v;
       bound = bound';
       forward = omega arith;
-      is_read = ap (scalar_of (drop at text)) m.1 ∙ ap (λ (t : List ℕ). done (v, t)) (behind_leaf text at n end m.2);
+      is_read = ap (scalar_of (drop at text)) m.1 ∙ ap (λ (t : List ℕ). done (v, t)) (after_leaf text at n end m.2);
       grows = grows_as (value_taken p at keys v) (ap (λ (x : ℕ). let t : Taken = record { leaves = w ∷ []; statements = []; keys = []; values = begun l at x keys p ∷ [] } in t) there)
           (grows_then (leaf_grows text at n end l old mid m.2 bound'.0 bound e1) (grows_value text (begun l at end keys p) mid new end e2));
     }
@@ -87,18 +87,18 @@ after_none profile b text at number end old new g no_comma close closed = record
   comma_is = refl;
   closed = λ _. close;
   is_read = λ name v. rw (gap_is profile b text at end old new g, first-drop text end, no_comma, closed) refl;
-  kept = g.grows;
+  stored = g.grows;
 }
 
 pub after_bad : (profile : Profile) (b : Brackets) (text : List ℕ) (at end : ℕ) (old new : Flat) → GapRead profile b text at old new (Ok end) → (get_or text end 0 == 0x2C) ≡ false → (get_or text end 0 == close_byte b) ≡ false
     → (name : Option Name) (v : Value) → after_by profile b name v (gap_in profile b (drop at text)) ≡ Err Bad
 after_bad profile b text at end old new g no_comma open' name v = rw (gap_is profile b text at end old new g, first-drop text end, no_comma, open') refl
 
--- behind the comma
+-- after the comma
 behind_comma : (profile : Profile) (b : Brackets) (text : List ℕ) (at end behind next : ℕ) (old f1 f3 new : Flat) → (g : GapRead profile b text at old f1 (Ok end)) → get_or text end 0 ≡ 0x2C → behind ≡ end + 1 → (h : GapRead profile b text behind f3 new (Ok next))
     → (name : Option Name) (v : Value) → after_by profile b name v (gap_in profile b (drop at text)) ≡ comma_by profile b name v g.part (h.part, drop next text)
 behind_comma profile b text at end behind next old f1 f3 new g comma e h name v =
-    let s : gap_in profile b (drop 1 (drop end text)) ≡ (h.part, drop next text) = ap (gap_in profile b) (behind_sign text end behind e) ∙ gap_is profile b text behind next f3 new h in
+    let s : gap_in profile b (drop 1 (drop end text)) ≡ (h.part, drop next text) = ap (gap_in profile b) (after_sign text end behind e) ∙ gap_is profile b text behind next f3 new h in
     rw (gap_is profile b text at end old f1 g, first-drop text end, comma, s) refl
 
 pub after_last : (profile : Profile) (b : Brackets) (text : List ℕ) (at end behind next : ℕ) (old f1 f3 new : Flat) → GapRead profile b text at old f1 (Ok end) → get_or text end 0 ≡ 0x2C → behind ≡ end + 1 → GapRead profile b text behind f3 new (Ok next)
@@ -106,11 +106,11 @@ pub after_last : (profile : Profile) (b : Brackets) (text : List ℕ) (at end be
 after_last profile b text at end behind next old f1 f3 new g comma e h tight closed name v =
     behind_comma profile b text at end behind next old f1 f3 new g comma e h name v ∙ rw (tight, first-drop text next, closed) refl
 
-pub after_comma : (profile : Profile) (b : Brackets) (text : List ℕ) (at number end behind next : ℕ) (old f1 f2 f3 new : Flat) → GapRead profile b text at old f1 (Ok end) → get_or text end 0 ≡ 0x2C → SignIs text end 1 leaf.Comma f1 f2 behind
+pub after_comma : (profile : Profile) (b : Brackets) (text : List ℕ) (at number end behind next : ℕ) (old f1 f2 f3 new : Flat) → GapRead profile b text at old f1 (Ok end) → get_or text end 0 ≡ 0x2C → PunctuationIs text end 1 leaf.Comma f1 f2 behind
     → ChangesValue (with_comma end) number f2 f3 → GapRead profile b text behind f3 new (Ok next) → (not (is_free profile b) && (get_or text next 0 == close_byte b)) ≡ false → AfterIs profile b text at number old new next (Some end)
 after_comma profile b text at number end behind next old f1 f2 f3 new g comma sg change h may =
     let there : end ≡ at + width g.part = g.grows.place in
-    let behind_is : behind ≡ at + width g.part + 1 = omega (arith, sg.end_is) in
+    let after_is : behind ≡ at + width g.part + 1 = omega (arith, sg.end_is) in
     record {
       after = g.part;
       behind = Some h.part;
@@ -119,27 +119,27 @@ after_comma profile b text at number end behind next old f1 f2 f3 new g comma sg
       comma_is = ap (λ (n : ℕ). Some n) there;
       closed = λ e. absurd cc;
       is_read = λ name v. behind_comma profile b text at end behind next old f1 f3 new g comma sg.end_is h name v ∙ rw (first-drop text next, may) refl;
-      kept = (
+      stored = (
         f2,
         f3,
-        subst (λ (n : ℕ). Grows text old f2 at n (only (g.part ++ mark leaf.Comma (0x2C ∷ [])))) behind_is (grows_then g.grows (sign_grows text (0x2C ∷ []) end 1 leaf.Comma f1 f2 behind refl sg)),
+        subst (λ (n : ℕ). Grows text old f2 at n (only (g.part ++ token leaf.Comma (0x2C ∷ [])))) after_is (grows_then g.grows (sign_grows text (0x2C ∷ []) end 1 leaf.Comma f1 f2 behind refl sg)),
         subst (λ (n : ℕ). ChangesValue (with_comma n) number f2 f3) there change,
-        subst (λ (n : ℕ). Grows text f3 new n next (only h.part)) behind_is h.grows,
+        subst (λ (n : ℕ). Grows text f3 new n next (only h.part)) after_is h.grows,
       );
     }
 
 -- the value is there to be told its comma
-pub after_number : (profile : Profile) (b : Brackets) (text : List ℕ) (at number end behind : ℕ) (old f1 f2 : Flat) → GapRead profile b text at old f1 (Ok end) → SignIs text end 1 leaf.Comma f1 f2 behind → number < length old.values → number < length f2.values
+pub after_number : (profile : Profile) (b : Brackets) (text : List ℕ) (at number end behind : ℕ) (old f1 f2 : Flat) → GapRead profile b text at old f1 (Ok end) → PunctuationIs text end 1 leaf.Comma f1 f2 behind → number < length old.values → number < length f2.values
 after_number profile b text at number end behind old f1 f2 g sg lt =
-    omega (arith, grown_values (only g.part) g.grows, grown_values (only (mark leaf.Comma (0x2C ∷ []))) (sign_grows text (0x2C ∷ []) end 1 leaf.Comma f1 f2 behind refl sg))
+    omega (arith, grown_values (only g.part) g.grows, grown_values (only (token leaf.Comma (0x2C ∷ []))) (sign_grows text (0x2C ∷ []) end 1 leaf.Comma f1 f2 behind refl sg))
 
 -- ---- brackets
 
-bracket_leaves : (b : Brackets) (g : Gap) (es : Entries) → mark (open_leaf b) (open_byte b ∷ []) ++ (g ++ (entries_leaves es ++ mark (close_leaf b) (close_byte b ∷ []))) ≡ value_leaves (record { body = body_in b g; inside = es })
+bracket_leaves : (b : Brackets) (g : Gap) (es : Entries) → token (open_leaf b) (open_byte b ∷ []) ++ (g ++ (entries_leaves es ++ token (close_leaf b) (close_byte b ∷ []))) ≡ value_leaves (record { body = body_in b g; nested = es })
 bracket_leaves brackets.Array g es = refl
 bracket_leaves brackets.Inline g es = refl
 
-bracket_start : (b : Brackets) (at : ℕ) (g : Gap) → inside_start at (body_in b g) ≡ at + 1 + width g
+bracket_start : (b : Brackets) (at : ℕ) (g : Gap) → nested_start at (body_in b g) ≡ at + 1 + width g
 bracket_start brackets.Array at g = omega arith
 bracket_start brackets.Inline at g = omega arith
 
@@ -155,60 +155,60 @@ bracket_end : (b : Brackets) (at : ℕ) (g : Gap) (es : Entries) → value_end a
 bracket_end brackets.Array at g es = omega arith
 bracket_end brackets.Inline at g es = omega arith
 
--- reading behind the opening
+-- reading after the opening
 opens_at : (profile : Profile) (b : Brackets) (text : List ℕ) (at open' first' : ℕ) (f2 f3 : Flat) → open' ≡ at + 1 → (g : GapRead profile b text open' f2 f3 (Ok first')) → gap_in profile b (drop 1 (drop at text)) ≡ (g.part, drop first' text)
-opens_at profile b text at open' first' f2 f3 e g = ap (gap_in profile b) (behind_sign text at open' e) ∙ gap_is profile b text open' first' f2 f3 g
+opens_at profile b text at open' first' f2 f3 e g = ap (gap_in profile b) (after_sign text at open' e) ∙ gap_is profile b text open' first' f2 f3 g
 
 pub bracket_fails : (profile : Profile) (b : Brackets) (text : List ℕ) (at room open' first' : ℕ) (f2 f3 : Flat) (e : ReadFault) → open' ≡ at + 1 → GapRead profile b text open' f2 f3 (Ok first') → Fails text e (entries_by profile b (value_of profile room) none (drop first' text))
     → Fails text e (bracket_of profile (suc room) b (drop at text))
 bracket_fails profile b text at room open' first' f2 f3 e o g k =
     fails_through text e (entries_by profile b (value_of profile room) none (drop first' text)) (bracket_of profile (suc room) b (drop at text)) (λ f h. rw (opens_at profile b text at open' first' f2 f3 o g, h) refl) k
 
-pub bracket_number : (text : List ℕ) (b : Brackets) (profile : Profile) (room at keys open' first' close end : ℕ) (p q : Start) (old f1 f2 f3 f4 f5 : Flat) → SignIs text at 1 (open_leaf b) old f1 open' → f2 ≡ with_value (begun (open_leaf b) at at keys p) f1
-    → GapRead profile b text open' f2 f3 (Ok first') → EntriesAre b profile room text q f3 f4 close → SignIs text close 1 (close_leaf b) f4 f5 end → length old.values < length f5.values
+pub bracket_number : (text : List ℕ) (b : Brackets) (profile : Profile) (room at keys open' first' close end : ℕ) (p q : Start) (old f1 f2 f3 f4 f5 : Flat) → PunctuationIs text at 1 (open_leaf b) old f1 open' → f2 ≡ with_value (begun (open_leaf b) at at keys p) f1
+    → GapRead profile b text open' f2 f3 (Ok first') → EntriesAre b profile room text q f3 f4 close → PunctuationIs text close 1 (close_leaf b) f4 f5 end → length old.values < length f5.values
 bracket_number text b profile room at keys open' first' close end p q old f1 f2 f3 f4 f5 sg e g en sg2 =
     let v = begun (open_leaf b) at at keys p in
     omega (
       arith,
-      grown_values (only (mark (open_leaf b) (0 ∷ []))) (sign_grows text (0 ∷ []) at 1 (open_leaf b) old f1 open' refl sg),
+      grown_values (only (token (open_leaf b) (0 ∷ []))) (sign_grows text (0 ∷ []) at 1 (open_leaf b) old f1 open' refl sg),
       grown_values (one_value v) (grows_value text v f1 f2 open' e),
       grown_values (only g.part) g.grows,
       grown_values (entries_taken q en.read.part) en.read.grows,
-      grown_values (only (mark (close_leaf b) (0 ∷ []))) (sign_grows text (0 ∷ []) close 1 (close_leaf b) f4 f5 end refl sg2),
+      grown_values (only (token (close_leaf b) (0 ∷ []))) (sign_grows text (0 ∷ []) close 1 (close_leaf b) f4 f5 end refl sg2),
     )
 
 pub bracket_is : (text : List ℕ) (b : Brackets) (profile : Profile) (room at keys open' first' close end number nv np depth : ℕ) (o : Owner) (p : Start) (old f1 f2 f3 f4 f5 new : Flat)
-    → SignIs text at 1 (open_leaf b) old f1 open' → f2 ≡ with_value (begun (open_leaf b) at at keys p) f1 → GapRead profile b text open' f2 f3 (Ok first')
+    → PunctuationIs text at 1 (open_leaf b) old f1 open' → f2 ≡ with_value (begun (open_leaf b) at at keys p) f1 → GapRead profile b text open' f2 f3 (Ok first')
     → nv ≡ length f3.values → np ≡ length f3.keys → o ≡ owner_in b number → depth ≡ suc p.depth → number ≡ length old.values → p.values ≡ length old.values → p.parts + keys ≡ length old.keys
-    → EntriesAre b profile room text (record { at = first'; values = nv; parts = np; owner = o; depth = depth; comma = None }) f3 f4 close → SignIs text close 1 (close_leaf b) f4 f5 end → ChangesValue (with_end end) number f5 new
+    → EntriesAre b profile room text (record { at = first'; values = nv; parts = np; owner = o; depth = depth; comma = None }) f3 f4 close → PunctuationIs text close 1 (close_leaf b) f4 f5 end → ChangesValue (with_end end) number f5 new
     → BracketRead b profile (suc room) text at keys p old new (Ok end)
 bracket_is text b profile room at keys open' first' close end number nv np depth o p old f1 f2 f3 f4 f5 new sg e g i1 i2 i3 i4 n1 n2 n3 en sg2 change =
     let gap = g.part in
     let es = en.read.part in
     let q : Start = record { at = first'; values = nv; parts = np; owner = o; depth = depth; comma = None } in
-    let v : Value = record { body = body_in b gap; inside = es } in
+    let v : Value = record { body = body_in b gap; nested = es } in
     let begin = begun (open_leaf b) at at keys p in
     let opened = sign_grows text (open_byte b ∷ []) at 1 (open_leaf b) old f1 open' refl sg in
-    let told = grows_value text begin f1 f2 open' e in
+    let stated = grows_value text begin f1 f2 open' e in
     let closed = sign_grows text (close_byte b ∷ []) close 1 (close_leaf b) f4 f5 end refl sg2 in
-    let before = grows_then opened (grows_then told g.grows) in
-    let same : q ≡ inside_of p at keys (body_in b gap) =
-    same_start q (inside_of p at keys (body_in b gap)) (omega (arith, bracket_start b at gap, sg.end_is, g.grows.place))
-    (omega (arith, grown_values (both (only (mark (open_leaf b) (open_byte b ∷ []))) (both (one_value begin) (only gap))) before)) (omega (arith, grown_keys (both (only (mark (open_leaf b) (open_byte b ∷ []))) (both (one_value begin) (only gap))) before))
+    let before = grows_then opened (grows_then stated g.grows) in
+    let same : q ≡ nested_of p at keys (body_in b gap) =
+    same_start q (nested_of p at keys (body_in b gap)) (omega (arith, bracket_start b at gap, sg.end_is, g.grows.place))
+    (omega (arith, grown_values (both (only (token (open_leaf b) (open_byte b ∷ []))) (both (one_value begin) (only gap))) before)) (omega (arith, grown_keys (both (only (token (open_leaf b) (open_byte b ∷ []))) (both (one_value begin) (only gap))) before))
     (i3 ∙ ap (owner_in b) (n1 ∙ sym n2) ∙ bracket_owner b gap p.values) i4 refl in
-    let whole = grows_then opened (grows_then told (grows_then g.grows (grows_then en.read.grows closed))) in
+    let whole = grows_then opened (grows_then stated (grows_then g.grows (grows_then en.read.grows closed))) in
     let ended = grows_changed (with_end end) number _ begin (entries_values q es ++ []) refl n1 whole change in
     let ends : end ≡ value_end at (body_in b gap) es = omega (arith, bracket_end b at gap es, sg.end_is, g.grows.place, en.read.grows.place, sg2.end_is) in
     record {
       part = v;
       bound = sg2.bound;
       forward = omega (arith, sg.end_is, g.forward, en.read.forward, sg2.end_is);
-      is_read = rw (opens_at profile b text at open' first' f2 f3 sg.end_is g, en.read.is_read) (ap (λ (t : List ℕ). done (v, t)) (behind_sign text close end sg2.end_is));
+      is_read = rw (opens_at profile b text at open' first' f2 f3 sg.end_is g, en.read.is_read) (ap (λ (t : List ℕ). done (v, t)) (after_sign text close end sg2.end_is));
       grows = grows_as (value_taken p at keys v)
           (same_taken _ (value_taken p at keys v) (bracket_leaves b gap es) refl
           (append-nil (entries_parts first' es) ∙ ap (λ (x : Start). entries_parts x.at es) same)
           (ap (λ (xs : List ValueInfo). begun (open_leaf b) at end keys p ∷ xs) (append-nil (entries_values q es) ∙ ap (λ (x : Start). entries_values x es) same)
-          ∙ ap (λ (n : ℕ). begun (open_leaf b) at n keys p ∷ entries_values (inside_of p at keys (body_in b gap)) es) ends
-          ∙ ap (λ (l : Leaf). begun l at (value_end at (body_in b gap) es) keys p ∷ entries_values (inside_of p at keys (body_in b gap)) es) (bracket_leaf b gap)))
+          ∙ ap (λ (n : ℕ). begun (open_leaf b) at n keys p ∷ entries_values (nested_of p at keys (body_in b gap)) es) ends
+          ∙ ap (λ (l : Leaf). begun l at (value_end at (body_in b gap) es) keys p ∷ entries_values (nested_of p at keys (body_in b gap)) es) (bracket_leaf b gap)))
           ended;
     }

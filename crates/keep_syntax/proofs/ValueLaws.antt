@@ -14,9 +14,9 @@ use Rattle.keep_token.specs.Scanning.{first, scalar_at, with_len}
 use Rattle.keep_token.proofs.Shared.{tested, scalar_found}
 use Rattle.keep_syntax.specs.declared.info.Brackets.{Brackets}
 use Rattle.keep_syntax.specs.declared.info.Brackets.TheVariants as brackets
-use Rattle.keep_syntax.specs.Tree.{Written, Gap, Name, scalar, Entries, none, entry, Value, text_of, mark, named_leaves, comma_leaves, entries_leaves, value_leaves, value_text, entries_depth, value_depth}
+use Rattle.keep_syntax.specs.Tree.{Written, Gap, Name, scalar, Entries, none, entry, Value, text_of, token, named_leaves, comma_leaves, entries_leaves, value_leaves, value_text, entries_depth, value_depth}
 use Rattle.keep_syntax.specs.Grammar.{IsGap, IsNamed, MayEndInComma, IsComma, AreEntries, IsValue}
-use Rattle.keep_syntax.specs.Reading.{Deep, Read, ◌>>=◌, Turn, goes_on, ready, written, open_byte, close_byte, body_in, is_free, gap_in, name_of, join, Item, entry_of, named_in, after_by, item_by, turn_of, entry_by, entries_by, bracket_by, scalar_of, value_by, value_of}
+use Rattle.keep_syntax.specs.Reading.{Deep, Read, ◌>>=◌, Iteration, continues, ready, written, open_byte, close_byte, body_in, is_free, gap_in, name_of, join, Item, entry_of, named_in, after_by, item_by, iteration_of, entry_by, entries_by, bracket_by, scalar_of, value_by, value_of}
 use Rattle.keep_syntax.proofs.LoopLaws.{bind_ok, ok_is, Shortens, repeat_holds}
 use Rattle.keep_syntax.proofs.SpaceLaws.{text_of-append, is_solid, place_of, gap_takes, gap_shortens}
 use Rattle.keep_syntax.proofs.KeyLaws.{first_is, key_first_solid, name_takes}
@@ -25,26 +25,26 @@ use Rattle.keep_syntax.proofs.KeyLaws.{first_is, key_first_solid, name_takes}
 
 pub join-assoc : (a b c : Entries) → join (join a b) c ≡ join a (join b c)
 join-assoc none b c = refl
-join-assoc (entry name body inside after comma rest) b c = ap (λ (r : Entries). entry name body inside after comma r) (join-assoc rest b c)
+join-assoc (entry name body nested after comma rest) b c = ap (λ (r : Entries). entry name body nested after comma r) (join-assoc rest b c)
 
 pub join-none : (a : Entries) → join a none ≡ a
 join-none none = refl
-join-none (entry name body inside after comma rest) = ap (λ (r : Entries). entry name body inside after comma r) (join-none rest)
+join-none (entry name body nested after comma rest) = ap (λ (r : Entries). entry name body nested after comma r) (join-none rest)
 
 -- ---- texts by parts
 
-pub bracket_text : (b : Brackets) (g : Gap) (inside : Entries) (rest : List ℕ) → value_text (record { body = body_in b g; inside = inside }) ++ rest ≡ open_byte b ∷ (text_of g ++ (text_of (entries_leaves inside) ++ (close_byte b ∷ rest)))
-bracket_text b g inside rest = by b
+pub bracket_text : (b : Brackets) (g : Gap) (nested : Entries) (rest : List ℕ) → value_text (record { body = body_in b g; nested = nested }) ++ rest ≡ open_byte b ∷ (text_of g ++ (text_of (entries_leaves nested) ++ (close_byte b ∷ rest)))
+bracket_text b g nested rest = by b
   where
-    parts : (l k : Leaf) (o c : ℕ) → text_of ((mark l (o ∷ []) ++ g) ++ (entries_leaves inside ++ mark k (c ∷ []))) ++ rest ≡ o ∷ (text_of g ++ (text_of (entries_leaves inside) ++ (c ∷ rest)))
+    parts : (l k : Leaf) (o c : ℕ) → text_of ((token l (o ∷ []) ++ g) ++ (entries_leaves nested ++ token k (c ∷ []))) ++ rest ≡ o ∷ (text_of g ++ (text_of (entries_leaves nested) ++ (c ∷ rest)))
     parts l k o c =
-        let e = entries_leaves inside in
-        let z = mark k (c ∷ []) in
-        let one : text_of ((mark l (o ∷ []) ++ g) ++ (e ++ z)) ≡ o ∷ (text_of g ++ (text_of e ++ text_of z)) =
+        let e = entries_leaves nested in
+        let z = token k (c ∷ []) in
+        let one : text_of ((token l (o ∷ []) ++ g) ++ (e ++ z)) ≡ o ∷ (text_of g ++ (text_of e ++ text_of z)) =
         ap (λ (t : List ℕ). o ∷ t) (text_of-append g (e ++ z) ∙ ap (λ (t : List ℕ). text_of g ++ t) (text_of-append e z)) in
         ap (λ (t : List ℕ). t ++ rest) one ∙ ap (λ (t : List ℕ). o ∷ t) (append_assoc (text_of g) (text_of e ++ text_of z) rest ∙ ap (λ (t : List ℕ). text_of g ++ t) (append_assoc (text_of e) (text_of z) rest))
 
-    by : (b : Brackets) → value_text (record { body = body_in b g; inside = inside }) ++ rest ≡ open_byte b ∷ (text_of g ++ (text_of (entries_leaves inside) ++ (close_byte b ∷ rest)))
+    by : (b : Brackets) → value_text (record { body = body_in b g; nested = nested }) ++ rest ≡ open_byte b ∷ (text_of g ++ (text_of (entries_leaves nested) ++ (close_byte b ∷ rest)))
     by brackets.Array = parts leaf.ArrayOpen leaf.ArrayClose 0x5B 0x5D
     by brackets.Inline = parts leaf.InlineOpen leaf.InlineClose 0x7B 0x7D
 
@@ -81,7 +81,7 @@ pub close_solid : (b : Brackets) (text : List ℕ) → (first text == close_byte
 close_solid brackets.Array text e = rw (eqb-true (first text) 0x5D e) refl
 close_solid brackets.Inline text e = rw (eqb-true (first text) 0x7D e) refl
 
--- no word stands where no byte of one does
+-- no word is where no byte of one is
 word_len_none : (text : List ℕ) → is_word (first text) ≡ false → word_len text ≡ 0
 word_len_none text e = let run : prefix_len is_word text ≡ 0 = by text e in rw run refl
   where
@@ -134,9 +134,9 @@ scalar_takes profile room text v rest h = by (scalar_at profile text) refl h
     by None is e = absurd cc
     by (Some (l, n)) is e =
         let (kind, some, within, belongs) = scalar_found profile text l n is in
-        let made : Value × List ℕ = (record { body = scalar (written l n text); inside = none }, drop n text) in
+        let made : Value × List ℕ = (record { body = scalar (written l n text); nested = none }, drop n text) in
         subst (λ (x : Value × List ℕ). TookValue profile room text x.0 x.1) (ok_is made (v, rest) e) (record {
-          valid = record { body = (kind, belongs); inside = tt };
+          valid = record { body = (kind, belongs); nested = tt };
           shallow = omega arith;
           spelled = sym (rw (append-nil (take n text)) (take-append-drop n text));
           shorter = omega (arith, length-drop n text);
@@ -145,17 +145,17 @@ scalar_takes profile room text v rest h = by (scalar_at profile text) refl h
 
 -- ---- entries
 
--- what stands behind an entry
-abbrev pub Behind : Profile → Brackets → Option Gap → List ℕ → Type 0
-Behind profile b None rest = (first rest == close_byte b) ≡ true
-Behind profile b (Some g) rest = (is_solid (first rest) ≡ true → IsGap profile (place_of b) g) × ((not (is_free profile b) && first rest == close_byte b) ≡ false)
+-- what comes after an entry
+abbrev pub After : Profile → Brackets → Option Gap → List ℕ → Type 0
+After profile b None rest = (first rest == close_byte b) ≡ true
+After profile b (Some g) rest = (is_solid (first rest) ≡ true → IsGap profile (place_of b) g) × ((not (is_free profile b) && first rest == close_byte b) ≡ false)
 
 pub record TookItem (profile : Profile) (b : Brackets) (room : ℕ) (text : List ℕ) (i : Item) (rest : List ℕ) : Type 0 where
   pub named : IsNamed profile (place_of b) i.name
   pub valid : IsValue profile i.value
   pub shallow : value_depth i.value ≤ room
   pub gap : IsGap profile (place_of b) i.after
-  pub behind : Behind profile b i.comma rest
+  pub behind : After profile b i.comma rest
   pub spelled : text ≡ text_of (item_leaves i) ++ rest
   pub shorter : length rest < length text
   pub begins : is_solid (first text) ≡ true
@@ -188,7 +188,7 @@ record TookAfter (profile : Profile) (b : Brackets) (name : Option Name) (v : Va
   same_name : i.name ≡ name
   same_value : i.value ≡ v
   gap : IsGap profile (place_of b) i.after
-  behind : Behind profile b i.comma rest
+  behind : After profile b i.comma rest
   spelled : text ≡ text_of i.after ++ (text_of (comma_leaves i.comma) ++ rest)
   shorter : length rest ≤ length text
 
@@ -270,7 +270,7 @@ may_end Wide brackets.Array free = tt
 may_end Strict brackets.Inline free = absurd cc
 may_end Wide brackets.Inline free = tt
 
-is_comma : (profile : Profile) (b : Brackets) (g : Gap) (back : Entries) (room : ℕ) (text rest : List ℕ) → Behind profile b (Some g) text → Took profile b room text back rest → IsComma profile (place_of b) (Some g) back
+is_comma : (profile : Profile) (b : Brackets) (g : Gap) (back : Entries) (room : ℕ) (text rest : List ℕ) → After profile b (Some g) text → Took profile b room text back rest → IsComma profile (place_of b) (Some g) back
 is_comma profile b g none room text rest h t =
     let closes : (first text == close_byte b) ≡ true = ap (λ (x : List ℕ). first x == close_byte b) t.spelled ∙ t.closed in
     (h.0 t.begins, may_end profile b (free (is_free profile b) (rw closes at h.1)))
@@ -278,12 +278,12 @@ is_comma profile b g none room text rest h t =
     free : (f : Bool) → (not f && true) ≡ false → f ≡ true
     free true e = refl
     free false e = absurd cc
-is_comma profile b g (entry name body inside after comma more) room text rest h t = h.0 t.begins
+is_comma profile b g (entry name body nested after comma more) room text rest h t = h.0 t.begins
 
--- an entry in front of entries that were read
+-- an entry before entries that were read
 took_entry : (profile : Profile) (b : Brackets) (room : ℕ) (text : List ℕ) (i : Item) (text' : List ℕ) (back : Entries) (rest : List ℕ) → TookItem profile b room text i text' → IsComma profile (place_of b) i.comma back → Took profile b room text' back rest → Took profile b room text (entry_of i back) rest
 took_entry profile b room text i text' back rest ti comma t = record {
-  valid = (ti.named, ti.valid.body, ti.valid.inside, ti.gap, comma, t.valid);
+  valid = (ti.named, ti.valid.body, ti.valid.nested, ti.gap, comma, t.valid);
   shallow = omega (arith, ti.shallow, t.shallow);
   spelled = ti.spelled ∙ ap (λ (x : List ℕ). text_of (item_leaves i) ++ x) t.spelled ∙ sym (entry_text i back rest);
   closed = t.closed;
@@ -291,56 +291,56 @@ took_entry profile b room text i text' back rest ti comma t = record {
   shorter = omega (arith, ti.shorter, t.shorter);
 }
 
--- what a turn does
-pub data EntryTurn (profile : Profile) (b : Brackets) (room : ℕ) (front : Entries) (text : List ℕ) (t : Turn Entries Entries) (rest : List ℕ) : Type 0 where
-  at_close : (first text == close_byte b) ≡ true → t ≡ ready front → rest ≡ text → EntryTurn profile b room front text t rest
-  at_last : (i : Item) → i.comma ≡ None → t ≡ ready (join front (entry_of i none)) → TookItem profile b room text i rest → EntryTurn profile b room front text t rest
-  at_comma : (i : Item) (g : Gap) → i.comma ≡ Some g → t ≡ goes_on (join front (entry_of i none)) → TookItem profile b room text i rest → EntryTurn profile b room front text t rest
+-- what an iteration does
+pub data EntryIteration (profile : Profile) (b : Brackets) (room : ℕ) (prefix : Entries) (text : List ℕ) (t : Iteration Entries Entries) (rest : List ℕ) : Type 0 where
+  at_close : (first text == close_byte b) ≡ true → t ≡ ready prefix → rest ≡ text → EntryIteration profile b room prefix text t rest
+  at_last : (i : Item) → i.comma ≡ None → t ≡ ready (join prefix (entry_of i none)) → TookItem profile b room text i rest → EntryIteration profile b room prefix text t rest
+  at_comma : (i : Item) (g : Gap) → i.comma ≡ Some g → t ≡ continues (join prefix (entry_of i none)) → TookItem profile b room text i rest → EntryIteration profile b room prefix text t rest
 
-pub entry_cases : (profile : Profile) (b : Brackets) (room : ℕ) (value : List ℕ → Read Value) → ReadsValues profile room value → (front : Entries) (text : List ℕ) (t : Turn Entries Entries) (rest : List ℕ) → entry_by profile b value front text ≡ Ok (t, rest) → EntryTurn profile b room front text t rest
+pub entry_cases : (profile : Profile) (b : Brackets) (room : ℕ) (value : List ℕ → Read Value) → ReadsValues profile room value → (prefix : Entries) (text : List ℕ) (t : Iteration Entries Entries) (rest : List ℕ) → entry_by profile b value prefix text ≡ Ok (t, rest) → EntryIteration profile b room prefix text t rest
 unfolding entry_by
-entry_cases profile b room value sound front text t rest h =
+entry_cases profile b room value sound prefix text t rest h =
     elim (tested (first text == close_byte b)) [
       | inl e ↦
-          let same = ok_is (ready front, text) (t, rest) (rw e at h) in
-          at_close e (sym (ap (λ (x : Turn Entries Entries × List ℕ). x.0) same)) (sym (ap (λ (x : Turn Entries Entries × List ℕ). x.1) same))
+          let same = ok_is (ready prefix, text) (t, rest) (rw e at h) in
+          at_close e (sym (ap (λ (x : Iteration Entries Entries × List ℕ). x.0) same)) (sym (ap (λ (x : Iteration Entries Entries × List ℕ). x.1) same))
       | inr e ↦
-          let (i, e1, e2) = bind_ok (item_by profile b value text) (λ i. Ok (turn_of front i.0 i.0.comma, i.1)) (t, rest) (rw e at h) in
+          let (i, e1, e2) = bind_ok (item_by profile b value text) (λ i. Ok (iteration_of prefix i.0 i.0.comma, i.1)) (t, rest) (rw e at h) in
           let ti = item_takes profile b room value sound text i.0 i.1 e1 in
-          let same = ok_is (turn_of front i.0 i.0.comma, i.1) (t, rest) e2 in
-          by i.0 i.0.comma refl (sym (ap (λ (x : Turn Entries Entries × List ℕ). x.0) same)) (subst (λ (r : List ℕ). TookItem profile b room text i.0 r) (ap (λ (x : Turn Entries Entries × List ℕ). x.1) same) ti)
+          let same = ok_is (iteration_of prefix i.0 i.0.comma, i.1) (t, rest) e2 in
+          by i.0 i.0.comma refl (sym (ap (λ (x : Iteration Entries Entries × List ℕ). x.0) same)) (subst (λ (r : List ℕ). TookItem profile b room text i.0 r) (ap (λ (x : Iteration Entries Entries × List ℕ). x.1) same) ti)
     ]
   where
-    by : (i : Item) (c : Option Gap) → i.comma ≡ c → t ≡ turn_of front i c → TookItem profile b room text i rest → EntryTurn profile b room front text t rest
+    by : (i : Item) (c : Option Gap) → i.comma ≡ c → t ≡ iteration_of prefix i c → TookItem profile b room text i rest → EntryIteration profile b room prefix text t rest
     by i None is e ti = at_last i is e ti
     by i (Some g) is e ti = at_comma i g is e ti
 
-abbrev on_turn : Entries → Turn Entries Entries
-on_turn s = goes_on s
+abbrev on_iteration : Entries → Iteration Entries Entries
+on_iteration s = continues s
 
-abbrev ready_turn : Entries → Turn Entries Entries
-ready_turn s = ready s
+abbrev ready_iteration : Entries → Iteration Entries Entries
+ready_iteration s = ready s
 
 pub entry_shortens : (profile : Profile) (b : Brackets) (room : ℕ) (value : List ℕ → Read Value) → ReadsValues profile room value → Shortens (entry_by profile b value)
 entry_shortens profile b room value sound s text s' rest h =
-    elim (entry_cases profile b room value sound s text (goes_on s') rest h) [
-      | at_close c e r ↦ absurd (let f : on_turn s' ≡ ready_turn s = e in cc)
-      | at_last i is e ti ↦ absurd (let f : on_turn s' ≡ ready_turn (join s (entry_of i none)) = e in cc)
+    elim (entry_cases profile b room value sound s text (continues s') rest h) [
+      | at_close c e r ↦ absurd (let f : on_iteration s' ≡ ready_iteration s = e in cc)
+      | at_last i is e ti ↦ absurd (let f : on_iteration s' ≡ ready_iteration (join s (entry_of i none)) = e in cc)
       | at_comma i g is e ti ↦ ti.shorter
     ]
 
-pub record TookEntries (profile : Profile) (b : Brackets) (room : ℕ) (front : Entries) (text : List ℕ) (es : Entries) (rest : List ℕ) : Type 0 where
+pub record TookEntries (profile : Profile) (b : Brackets) (room : ℕ) (prefix : Entries) (text : List ℕ) (es : Entries) (rest : List ℕ) : Type 0 where
   pub back : Entries
-  pub grown : es ≡ join front back
+  pub grown : es ≡ join prefix back
   pub took : Took profile b room text back rest
 
-pub entries_take : (profile : Profile) (b : Brackets) (room : ℕ) (value : List ℕ → Read Value) → ReadsValues profile room value → (front : Entries) (text : List ℕ) (es : Entries) (rest : List ℕ) → entries_by profile b value front text ≡ Ok (es, rest) → TookEntries profile b room front text es rest
-entries_take profile b room value sound front text es rest h = repeat_holds (entry_by profile b value) (TookEntries profile b room) last on (suc (length text)) front text es rest h
+pub entries_take : (profile : Profile) (b : Brackets) (room : ℕ) (value : List ℕ → Read Value) → ReadsValues profile room value → (prefix : Entries) (text : List ℕ) (es : Entries) (rest : List ℕ) → entries_by profile b value prefix text ≡ Ok (es, rest) → TookEntries profile b room prefix text es rest
+entries_take profile b room value sound prefix text es rest h = repeat_holds (entry_by profile b value) (TookEntries profile b room) last on (suc (length text)) prefix text es rest h
   where
-    ready_is : (x y : Entries) → ready_turn x ≡ ready_turn y → x ≡ y
+    ready_is : (x y : Entries) → ready_iteration x ≡ ready_iteration y → x ≡ y
     ready_is x y e = cc
 
-    on_is : (x y : Entries) → on_turn x ≡ on_turn y → x ≡ y
+    on_is : (x y : Entries) → on_iteration x ≡ on_iteration y → x ≡ y
     on_is x y e = cc
 
     last : (s : Entries) (text : List ℕ) (es : Entries) (rest : List ℕ) → entry_by profile b value s text ≡ Ok (ready es, rest) → TookEntries profile b room s text es rest
@@ -349,22 +349,22 @@ entries_take profile b room value sound front text es rest h = repeat_holds (ent
           | at_close c k r ↦
               record { back = none; grown = ready_is es s k ∙ sym (join-none s); took = subst (λ (x : List ℕ). Took profile b room text none x) (sym r) (took_none profile b room text c) }
           | at_last i is k ti ↦
-              let closed : (first rest == close_byte b) ≡ true = subst (λ (c : Option Gap). Behind profile b c rest) is ti.behind in
+              let closed : (first rest == close_byte b) ≡ true = subst (λ (c : Option Gap). After profile b c rest) is ti.behind in
               record {
                 back = entry_of i none;
                 grown = ready_is es (join s (entry_of i none)) k;
                 took = took_entry profile b room text i rest none rest ti (subst (λ (c : Option Gap). IsComma profile (place_of b) c none) (sym is) tt) (took_none profile b room rest closed);
               }
-          | at_comma i g is k ti ↦ absurd (let f : ready_turn es ≡ on_turn (join s (entry_of i none)) = k in cc)
+          | at_comma i g is k ti ↦ absurd (let f : ready_iteration es ≡ on_iteration (join s (entry_of i none)) = k in cc)
         ]
 
-    on : (s : Entries) (text : List ℕ) (s' : Entries) (text' : List ℕ) (es : Entries) (rest : List ℕ) → entry_by profile b value s text ≡ Ok (goes_on s', text') → TookEntries profile b room s' text' es rest → TookEntries profile b room s text es rest
+    on : (s : Entries) (text : List ℕ) (s' : Entries) (text' : List ℕ) (es : Entries) (rest : List ℕ) → entry_by profile b value s text ≡ Ok (continues s', text') → TookEntries profile b room s' text' es rest → TookEntries profile b room s text es rest
     on s text s' text' es rest e t =
-        elim (entry_cases profile b room value sound s text (goes_on s') text' e) [
-          | at_close c k r ↦ absurd (let f : on_turn s' ≡ ready_turn s = k in cc)
-          | at_last i is k ti ↦ absurd (let f : on_turn s' ≡ ready_turn (join s (entry_of i none)) = k in cc)
+        elim (entry_cases profile b room value sound s text (continues s') text' e) [
+          | at_close c k r ↦ absurd (let f : on_iteration s' ≡ ready_iteration s = k in cc)
+          | at_last i is k ti ↦ absurd (let f : on_iteration s' ≡ ready_iteration (join s (entry_of i none)) = k in cc)
           | at_comma i g is k ti ↦
-              let behind : Behind profile b (Some g) text' = subst (λ (c : Option Gap). Behind profile b c text') is ti.behind in
+              let behind : After profile b (Some g) text' = subst (λ (c : Option Gap). After profile b c text') is ti.behind in
               let comma : IsComma profile (place_of b) i.comma t.back = subst (λ (c : Option Gap). IsComma profile (place_of b) c t.back) (sym is) (is_comma profile b g t.back room text' rest behind t.took) in
               record {
                 back = entry_of i t.back;
@@ -375,13 +375,13 @@ entries_take profile b room value sound front text es rest h = repeat_holds (ent
 
 -- ---- brackets
 
-pub bracket_valid : (profile : Profile) (b : Brackets) (g : Gap) (inside : Entries) → IsGap profile (place_of b) g → AreEntries profile (place_of b) inside → IsValue profile (record { body = body_in b g; inside = inside })
-bracket_valid profile brackets.Array g inside h k = record { body = h; inside = k }
-bracket_valid profile brackets.Inline g inside h k = record { body = h; inside = k }
+pub bracket_valid : (profile : Profile) (b : Brackets) (g : Gap) (nested : Entries) → IsGap profile (place_of b) g → AreEntries profile (place_of b) nested → IsValue profile (record { body = body_in b g; nested = nested })
+bracket_valid profile brackets.Array g nested h k = record { body = h; nested = k }
+bracket_valid profile brackets.Inline g nested h k = record { body = h; nested = k }
 
-pub bracket_depth : (b : Brackets) (g : Gap) (inside : Entries) → value_depth (record { body = body_in b g; inside = inside }) ≡ suc (entries_depth inside)
-bracket_depth brackets.Array g inside = refl
-bracket_depth brackets.Inline g inside = refl
+pub bracket_depth : (b : Brackets) (g : Gap) (nested : Entries) → value_depth (record { body = body_in b g; nested = nested }) ≡ suc (entries_depth nested)
+bracket_depth brackets.Array g nested = refl
+bracket_depth brackets.Inline g nested = refl
 
 pub open_some : (b : Brackets) → 0 < open_byte b
 open_some brackets.Array = omega arith
@@ -399,10 +399,10 @@ pub bracket_takes : (profile : Profile) (room : ℕ) (value : List ℕ → Read 
 bracket_takes profile room value sound b text v rest opens h =
     let g = gap_in profile b (drop 1 text) in
     let gg = gap_takes profile b (drop 1 text) in
-    let (es, e1, e2) = bind_ok (entries_by profile b value none g.1) (λ es. Ok (record { body = body_in b g.0; inside = es.0 }, drop 1 es.1)) (v, rest) h in
+    let (es, e1, e2) = bind_ok (entries_by profile b value none g.1) (λ es. Ok (record { body = body_in b g.0; nested = es.0 }, drop 1 es.1)) (v, rest) h in
     let te = entries_take profile b room value sound none g.1 es.0 es.1 e1 in
     let t : Took profile b room g.1 es.0 es.1 = subst (λ (x : Entries). Took profile b room g.1 x es.1) (sym te.grown) te.took in
-    let made : Value × List ℕ = (record { body = body_in b g.0; inside = es.0 }, drop 1 es.1) in
+    let made : Value × List ℕ = (record { body = body_in b g.0; nested = es.0 }, drop 1 es.1) in
     let opened : text ≡ open_byte b ∷ drop 1 text = first_is (open_byte b) text (open_some b) opens in
     let closed : es.1 ≡ close_byte b ∷ drop 1 es.1 = first_is (close_byte b) es.1 (close_some b) t.closed in
     subst (λ (x : Value × List ℕ). TookValue profile (suc room) text x.0 x.1) (ok_is made (v, rest) e2) (record {

@@ -1,4 +1,4 @@
--- What the code keeps of whole texts.
+-- What the code stores of whole texts.
 use Rattle.std.proofs.Common.{◌≡◌, ℕ, ◌+◌, ◌<◌, Bool, true, false, ◌==◌, List, [], ◌∷◌, ◌++◌, length, drop, Result, Ok, refl, ap, ◌∙◌, subst, arith, IsUtf8, IsCharBoundary}
 use Rattle.std.proofs.lemmas.Bool.{false≢true}
 use Rattle.std.proofs.lemmas.Bool.Decides.{nat_tests}
@@ -10,14 +10,14 @@ use Rattle.keep_token.specs.declared.leaf.Profile.{Profile}
 use Rattle.keep_syntax.specs.declared.fault.ReadFault.{ReadFault}
 use Rattle.keep_syntax.specs.Tree.{Value, Document, bom_leaves}
 use Rattle.keep_syntax.specs.Numbered.{Count, first_line, statements, parts, values}
-use Rattle.keep_syntax.specs.Reading.{Fault, ◌>>=◌, lines_of, has_bom, behind_bom, read_document, value_of, read_one_value}
-use Rattle.keep_parts.specs.Flat.{Flat, empty, with_mark}
+use Rattle.keep_syntax.specs.Reading.{Fault, ◌>>=◌, lines_of, has_bom, after_bom, read_document, value_of, read_one_value}
+use Rattle.keep_parts.specs.Flat.{Flat, empty, with_token}
 use Rattle.keep_syntax.specs.Growth.{only, both, kinds, starts, add_at, Grows, Fails, IsSyntax, value_taken, ValueRead}
 use Rattle.keep_parts.specs.Rereading.{count_at}
 use Rattle.keep_syntax.specs.FlatLines.{lines_taken, LinesAre, BomRead, document_taken, DocumentIs, alone, OneIs}
 use Rattle.keep_syntax.specs.WholeLines.{line_starts}
 use Rattle.keep_syntax.proofs.LoopLaws.{done, ok_is}
-use Rattle.keep_syntax.proofs.GrowthLaws.{grows_nothing, grows_then, grows_as, grows_mark, grown_keys, grown_values, grown_statements}
+use Rattle.keep_syntax.proofs.GrowthLaws.{grows_nothing, grows_then, grows_as, grows_token, grown_keys, grown_values, grown_statements}
 use Rattle.keep_syntax.proofs.LineLoopLaws.{same_count}
 use Rattle.keep_syntax.proofs.GapCodeLaws.{fails_bad, fails_through}
 
@@ -35,13 +35,13 @@ bom_boundary (a ∷ b ∷ c ∷ rest) utf8 h =
     let third_is : c ≡ 0xBF = grind (arith, nat_tests) in
     IsCharBoundary-past_char (a ∷ b ∷ c ∷ rest) rest 0 0xFEFF (omega arith) utf8 (rw (first_is, second_is, third_is))
 
-pub bom_there : (text : List ℕ) (old new : Flat) → IsUtf8 text → has_bom text ≡ true → new ≡ with_mark leaf.Bom 0 old → BomRead text old new (Ok 3)
+pub bom_there : (text : List ℕ) (old new : Flat) → IsUtf8 text → has_bom text ≡ true → new ≡ with_token leaf.Bom 0 old → BomRead text old new (Ok 3)
 bom_there text old new utf8 e is = record {
   part = true;
   bound = bom_boundary text utf8 e;
   forward = omega arith;
-  is_read = ap (λ (b : Bool). done (b, behind_bom b text)) e;
-  grows = grows_mark text (0xEF ∷ 0xBB ∷ 0xBF ∷ []) leaf.Bom old new 0 3 refl (IsCharBoundary-start text utf8) is;
+  is_read = ap (λ (b : Bool). done (b, after_bom b text)) e;
+  grows = grows_token text (0xEF ∷ 0xBB ∷ 0xBF ∷ []) leaf.Bom old new 0 3 refl (IsCharBoundary-start text utf8) is;
 }
 
 pub bom_absent : (text : List ℕ) (old : Flat) → IsUtf8 text → has_bom text ≡ false → BomRead text old old (Ok 0)
@@ -49,7 +49,7 @@ bom_absent text old utf8 e = record {
   part = false;
   bound = IsCharBoundary-start text utf8;
   forward = omega arith;
-  is_read = ap (λ (b : Bool). done (b, behind_bom b text)) e;
+  is_read = ap (λ (b : Bool). done (b, after_bom b text)) e;
   grows = grows_nothing text old 0;
 }
 
@@ -58,13 +58,13 @@ bom_absent text old utf8 e = record {
 abbrev document_by : Profile → ℕ → Bool × List ℕ → Result Document Fault
 document_by profile limit b = lines_of profile limit [] b.1 >>= λ l. Ok (record { bom = b.0; ended = l.0.0; last = l.0.1 })
 
-document_behind : (profile : Profile) (limit : ℕ) (text : List ℕ) (begin : ℕ) (old new : Flat) (b : BomRead text old new (Ok begin)) → read_document profile limit text ≡ document_by profile limit (b.part, drop begin text)
+document_after : (profile : Profile) (limit : ℕ) (text : List ℕ) (begin : ℕ) (old new : Flat) (b : BomRead text old new (Ok begin)) → read_document profile limit text ≡ document_by profile limit (b.part, drop begin text)
 unfolding read_document
-document_behind profile limit text begin old new b = ap (document_by profile limit) (ok_is (has_bom text, behind_bom (has_bom text) text) (b.part, drop begin text) b.is_read)
+document_after profile limit text begin old new b = ap (document_by profile limit) (ok_is (has_bom text, after_bom (has_bom text) text) (b.part, drop begin text) b.is_read)
 
 pub document_fails : (profile : Profile) (limit : ℕ) (text : List ℕ) (begin : ℕ) (old new : Flat) (e : ReadFault) → BomRead text old new (Ok begin) → Fails text e (lines_of profile limit [] (drop begin text)) → Fails text e (read_document profile limit text)
 document_fails profile limit text begin old new e b k =
-    fails_through text e (lines_of profile limit [] (drop begin text)) (read_document profile limit text) (λ d h. document_behind profile limit text begin old new b ∙ rw h refl) k
+    fails_through text e (lines_of profile limit [] (drop begin text)) (read_document profile limit text) (λ d h. document_after profile limit text begin old new b ∙ rw h refl) k
 
 pub document_is : (profile : Profile) (limit : ℕ) (text : List ℕ) (begin : ℕ) (old mid new : Flat) (none starts : List ℕ) → old ≡ empty → none ≡ [] → BomRead text old mid (Ok begin) → LinesAre profile limit text begin mid new none starts
     → DocumentIs profile limit text new starts
@@ -78,16 +78,16 @@ document_is profile limit text begin old mid new none starts e nothing b all =
     let g : Grows text old new 0 (length text) (document_taken d) = grows_as (document_taken d) (ap (λ (c : Count). both bom (lines_taken c ls.part)) counted) (grows_then b.grows ls.grows) in
     record {
       document = d;
-      is_read = document_behind profile limit text begin old mid b ∙ rw ls.is_read refl;
+      is_read = document_after profile limit text begin old mid b ∙ rw ls.is_read refl;
       grows = subst (λ (f : Flat). Grows text f new 0 (length text) (document_taken d)) e g;
       lines = all.starts ∙ ap (λ (ns : List ℕ). ns ++ line_starts begin ls.part.0) nothing ∙ ap (λ (n : ℕ). line_starts n ls.part.0) (omega (arith, b.grows.place));
     }
 
--- the lists that are kept are those of the document
-pub document_kept : (profile : Profile) (limit : ℕ) (text : List ℕ) (new : Flat) (places : List ℕ) (h : DocumentIs profile limit text new places)
+-- the lists that are stored are those of the document
+pub document_stored : (profile : Profile) (limit : ℕ) (text : List ℕ) (new : Flat) (places : List ℕ) (h : DocumentIs profile limit text new places)
     → new ≡ record { kinds = kinds (document_taken h.document).leaves; starts = starts 0 (document_taken h.document).leaves; statements = statements h.document; keys = parts h.document; values = values h.document }
 unfolding add_at
-document_kept profile limit text new places h = h.grows.kept
+document_stored profile limit text new places h = h.grows.stored
 
 -- ---- one value
 

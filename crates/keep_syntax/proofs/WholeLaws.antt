@@ -7,7 +7,7 @@ use Rattle.keep_syntax.specs.declared.info.Brackets.{Brackets}
 use Rattle.keep_syntax.specs.declared.info.Brackets.TheVariants as brackets
 use Rattle.keep_syntax.specs.Tree.{Entries, none, Value, value_text, value_depth}
 use Rattle.keep_syntax.specs.Grammar.{IsValue, ReadsValue}
-use Rattle.keep_syntax.specs.Reading.{Fault, Bad, Deep, Read, ◌>>=◌, close_byte, body_in, gap_in, named_in, after_by, item_by, turn_of, entry_by, entries_by, bracket_by, scalar_of, value_by, value_of, read_one_value}
+use Rattle.keep_syntax.specs.Reading.{Fault, Bad, Deep, Read, ◌>>=◌, close_byte, body_in, gap_in, named_in, after_by, item_by, iteration_of, entry_by, entries_by, bracket_by, scalar_of, value_by, value_of, read_one_value}
 use Rattle.keep_syntax.proofs.LoopLaws.{bind_ok, ok_is, guard_ok, Same, same_refl, same_bind, same_cond, same_repeat}
 use Rattle.keep_syntax.proofs.ValueLaws.{value_takes}
 use Rattle.keep_syntax.proofs.AgainLaws.{value_again}
@@ -46,16 +46,16 @@ same_item profile b value value' h text =
     same_bind (named_in profile b text) (named_in profile b text) (λ n. value n.1 >>= λ v. after_by profile b n.0 v.0 (gap_in profile b v.1)) (λ n. value' n.1 >>= λ v. after_by profile b n.0 v.0 (gap_in profile b v.1)) (same_refl (named_in profile b text))
     (λ n. same_bind (value n.1) (value' n.1) (λ v. after_by profile b n.0 v.0 (gap_in profile b v.1)) (λ v. after_by profile b n.0 v.0 (gap_in profile b v.1)) (h n.1) (λ v. same_refl (after_by profile b n.0 v.0 (gap_in profile b v.1))))
 
-same_entry : (profile : Profile) (b : Brackets) (value value' : List ℕ → Read Value) → ((t : List ℕ) → Same (value t) (value' t)) → (front : Entries) (text : List ℕ) → Same (entry_by profile b value front text) (entry_by profile b value' front text)
+same_entry : (profile : Profile) (b : Brackets) (value value' : List ℕ → Read Value) → ((t : List ℕ) → Same (value t) (value' t)) → (prefix : Entries) (text : List ℕ) → Same (entry_by profile b value prefix text) (entry_by profile b value' prefix text)
 unfolding entry_by
-same_entry profile b value value' h front text =
+same_entry profile b value value' h prefix text =
     same_cond (first text == close_byte b) _ _ _ _ refl
-    (same_bind (item_by profile b value text) (item_by profile b value' text) (λ i. Ok (turn_of front i.0 i.0.comma, i.1)) (λ i. Ok (turn_of front i.0 i.0.comma, i.1)) (same_item profile b value value' h text) (λ i. refl))
+    (same_bind (item_by profile b value text) (item_by profile b value' text) (λ i. Ok (iteration_of prefix i.0 i.0.comma, i.1)) (λ i. Ok (iteration_of prefix i.0 i.0.comma, i.1)) (same_item profile b value value' h text) (λ i. refl))
 
 same_bracket : (profile : Profile) (value value' : List ℕ → Read Value) → ((t : List ℕ) → Same (value t) (value' t)) → (b : Brackets) (text : List ℕ) → Same (bracket_by profile value b text) (bracket_by profile value' b text)
 same_bracket profile value value' h b text =
     let g = gap_in profile b (drop 1 text) in
-    same_bind (entries_by profile b value none g.1) (entries_by profile b value' none g.1) (λ es. Ok (record { body = body_in b g.0; inside = es.0 }, drop 1 es.1)) (λ es. Ok (record { body = body_in b g.0; inside = es.0 }, drop 1 es.1))
+    same_bind (entries_by profile b value none g.1) (entries_by profile b value' none g.1) (λ es. Ok (record { body = body_in b g.0; nested = es.0 }, drop 1 es.1)) (λ es. Ok (record { body = body_in b g.0; nested = es.0 }, drop 1 es.1))
     (same_repeat (suc (length g.1)) (entry_by profile b value) (entry_by profile b value') (same_entry profile b value value' h) none g.1) (λ es. refl)
 
 same_value : (profile : Profile) (bracket bracket' : Brackets → List ℕ → Read Value) → ((b : Brackets) (t : List ℕ) → Same (bracket b t) (bracket' b t)) → (text : List ℕ) → Same (value_by profile bracket text) (value_by profile bracket' text)

@@ -48,17 +48,17 @@ last_wider in_inline h = absurd h
 
 comma_wider : (place : Place) (c : Option Gap) (rest : Entries) → IsComma Strict place c rest → IsComma Wide place c rest
 comma_wider place None none h = h
-comma_wider place None (entry name body inside after comma rest) h = h
+comma_wider place None (entry name body nested after comma rest) h = h
 comma_wider place (Some b) none h = (gap_wider place b h.0, last_wider place h.1)
-comma_wider place (Some b) (entry name body inside after comma rest) h = gap_wider place b h
+comma_wider place (Some b) (entry name body nested after comma rest) h = gap_wider place b h
 
 entries_wider : (es : Entries) (place : Place) → AreEntries Strict place es → AreEntries Wide place es
 entries_wider none place h = tt
-entries_wider (entry name body inside after comma rest) place h =
-    (named_wider place name h.0, body_wider body h.1, entries_wider inside (place_in body) h.2, gap_wider place after h.3, comma_wider place comma rest h.4, entries_wider rest place h.5)
+entries_wider (entry name body nested after comma rest) place h =
+    (named_wider place name h.0, body_wider body h.1, entries_wider nested (place_in body) h.2, gap_wider place after h.3, comma_wider place comma rest h.4, entries_wider rest place h.5)
 
 pub value_wider : (v : Value) → IsValue Strict v → IsValue Wide v
-value_wider v h = record { body = body_wider v.body h.body; inside = entries_wider v.inside (place_in v.body) h.inside }
+value_wider v h = record { body = body_wider v.body h.body; nested = entries_wider v.nested (place_in v.body) h.nested }
 
 content_wider : (c : Content) → IsContent Strict c → IsContent Wide c
 content_wider blank h = h

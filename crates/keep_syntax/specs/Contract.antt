@@ -15,7 +15,7 @@ use Rattle.keep_syntax.specs.declared.alone.ValueSyntax.{ValueSyntax}
 use Rattle.keep_syntax.specs.declared.tokens.Tokens.{Tokens}
 use Rattle.keep_syntax.specs.Tree.{Value, Document, text, value_text, value_depth}
 use Rattle.keep_syntax.specs.Grammar.{IsValue, IsDocument, Reads, ReadsValue}
-use Rattle.keep_syntax.specs.Numbered.{Placed, tokens, statements, parts, values, inside_start, entries_parts, value_values}
+use Rattle.keep_syntax.specs.Numbered.{Placed, tokens, statements, parts, values, nested_start, entries_parts, value_values}
 use Rattle.keep_syntax.specs.Deep.{IsTooDeep, IsValueTooDeep}
 use Rattle.keep_parts.specs.Flat.{flat}
 use Rattle.keep_syntax.specs.Cut.{start_in, cut_by}
@@ -52,7 +52,7 @@ pub record IsSyntaxOf (s : Syntax) (d : Document) : Type 0 where
 abbrev pub IsReadOf : Profile → ℕ → List ℕ → Syntax → Type 0
 IsReadOf profile limit bytes s = (d : Document) × Reads profile limit bytes d × IsSyntaxOf s d
 
--- Its parts are those of this text: each token begins at the start of a character, and none behind the next.
+-- Its parts are those of this text: each token begins at the start of a character, and none after the next.
 pub record IsTextOf (s : Syntax) (bytes : List ℕ) : Type 0 where
   pub document : Document
   pub spelled : bytes ≡ text document
@@ -101,12 +101,12 @@ value_parts_of s = (flat s.parts).keys
 abbrev pub value_values_of : ValueSyntax → List ValueInfo
 value_values_of s = (flat s.parts).values
 
--- A value alone begins its text, and is told as one of a keyval with no key.
+-- A value alone begins its text, and is stored as that of a keyval with no key.
 abbrev pub alone : Start
 alone = record { at = 0; values = 0; parts = 0; owner = owner.Line 0; depth = 0; comma = None }
 
 abbrev pub parts_alone : Value → List KeyPart
-parts_alone v = entries_parts (inside_start 0 v.body) v.inside
+parts_alone v = entries_parts (nested_start 0 v.body) v.nested
 
 abbrev pub values_alone : Value → List ValueInfo
 values_alone v = value_values alone 0 0 v
@@ -131,7 +131,7 @@ IsFaultOf profile limit bytes (faults.Syntax at what) = (d : Document) → IsDoc
 IsFaultOf profile limit bytes (faults.TooDeep at) = IsTooDeep profile limit bytes at
 IsFaultOf profile limit bytes _ = ⊥
 
--- the same of one value
+-- What a fault says of the text of one value.
 abbrev pub IsValueFaultOf : Profile → ℕ → List ℕ → ReadFault → Type 0
 IsValueFaultOf profile limit bytes faults.Memory = ⊤
 IsValueFaultOf profile limit bytes (faults.Syntax at what) = (v : Value) → IsValue profile v → bytes ≡ value_text v → ⊥
@@ -140,8 +140,8 @@ IsValueFaultOf profile limit bytes _ = ⊥
 
 -- ---- the iterator over tokens
 
-abbrev pub shown_token : Token → Placed
-shown_token t = record { leaf = t.leaf; at = t.at; text = t.text.now }
+abbrev pub placed_token : Token → Placed
+placed_token t = record { leaf = t.leaf; at = t.at; text = t.text.now }
 
 -- the tokens that it has not given yet
 abbrev pub left : Tokens → List Placed

@@ -1,4 +1,4 @@
--- What reading lines and whole texts adds to what is kept.
+-- What reading lines and whole texts adds to what is stored.
 use Rattle.std.specs.Prelude.{◌≡◌, ℕ, List, [], ◌∷◌, ◌++◌, length, drop, Option, Some, None, Result, Ok, Err}
 use Rattle.std.specs.List.{flat_map}
 use Rattle.keep_token.specs.declared.leaf.Leaf.{Leaf}
@@ -17,7 +17,7 @@ use Rattle.keep_parts.specs.Rereading.{count_at}
 pub use Rattle.keep_parts.specs.Rereading.{with_statements}
 use Rattle.keep_syntax.specs.WholeLines.{line_starts, starts_of}
 use Rattle.keep_syntax.specs.Numbered.{span, key_count, content_parts, content_values, Count, line_parts, line_values, line_statements, over_lines, statements, parts, values}
-use Rattle.keep_syntax.specs.Reading.{Bad, Read, written, content_at, comment_at, line_at, Lines, lines_of, has_bom, behind_bom, read_document, read_one_value}
+use Rattle.keep_syntax.specs.Reading.{Bad, Read, written, content_at, comment_at, line_at, Lines, lines_of, has_bom, after_bom, read_document, read_one_value}
 use Rattle.keep_parts.specs.Flat.{Flat, flat, empty}
 use Rattle.keep_syntax.specs.Growth.{add_at, Taken, only, Grows, Fails, PartIs, PartRead, value_taken}
 
@@ -36,7 +36,7 @@ content_taken p c = record { leaves = content_leaves c; statements = []; keys = 
 -- a content that is not blank
 pub record ContentIs (profile : Profile) (room : ℕ) (text : List ℕ) (p : Start) (old new : Flat) (end : ℕ) (head : Head) : Type 0 where
   pub read : PartIs text p.at 1 (content_at profile room (drop p.at text)) (content_taken p) old new end
-  pub told : content_head p read.part ≡ Some head
+  pub stated : content_head p read.part ≡ Some head
 
 abbrev pub ContentRead : Profile → ℕ → List ℕ → Start → Flat → Flat → Result (ℕ × Head) ReadFault → Type 0
 ContentRead profile room text p old new (Ok r) = ContentIs profile room text p old new r.0 r.1
@@ -57,7 +57,7 @@ statement_list (Some s) = s ∷ []
 -- a line without its newline, and its statement as if the line ended there
 pub record LineIs (profile : Profile) (room : ℕ) (text : List ℕ) (at : ℕ) (old new : Flat) (end : ℕ) (s : Option Statement) : Type 0 where
   pub read : PartIs text at 0 (line_at profile room (drop at text)) (line_taken (count_at at old)) old new end
-  pub told : statement_list s ≡ line_statements (count_at at old) read.part end
+  pub stated : statement_list s ≡ line_statements (count_at at old) read.part end
 
 abbrev pub LineRead : Profile → ℕ → List ℕ → ℕ → Flat → Flat → Result (ℕ × Option Statement) ReadFault → Type 0
 LineRead profile room text at old new (Ok r) = LineIs profile room text at old new r.0 r.1
@@ -96,7 +96,7 @@ LinesRead profile room text at old new before after (Err e) = Fails text e (line
 
 -- a byte order mark, if there is one
 abbrev pub BomRead : List ℕ → Flat → Flat → Result ℕ ReadFault → Type 0
-BomRead text old new r = PartRead text 0 0 (Ok (has_bom text, behind_bom (has_bom text) text)) (λ b. only (bom_leaves b)) old new r
+BomRead text old new r = PartRead text 0 0 (Ok (has_bom text, after_bom (has_bom text) text)) (λ b. only (bom_leaves b)) old new r
 
 -- a document's tokens but End, and its statements, key parts and values
 abbrev pub document_taken : Document → Taken

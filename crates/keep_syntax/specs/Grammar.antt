@@ -23,16 +23,16 @@ is_ws_leaf leaf.Ws = true
 is_ws_leaf _ = false
 
 -- A run of white space is maximal, and a comment ends in a newline.
-abbrev pub GoesOn : Leaf → Gap → Type 0
-GoesOn leaf.Comment [] = ⊥
-GoesOn leaf.Comment (v ∷ more) = v.leaf ≡ leaf.Newline
-GoesOn leaf.Ws (v ∷ more) = IsTrue (not (is_ws_leaf v.leaf))
-GoesOn _ _ = ⊤
+abbrev pub Continues : Leaf → Gap → Type 0
+Continues leaf.Comment [] = ⊥
+Continues leaf.Comment (v ∷ more) = v.leaf ≡ leaf.Newline
+Continues leaf.Ws (v ∷ more) = IsTrue (not (is_ws_leaf v.leaf))
+Continues _ _ = ⊤
 
 -- *( wschar / [ comment ] newline )
 abbrev pub IsBlank : Gap → Type 0
 IsBlank [] = ⊤
-IsBlank (w ∷ more) = IsTrue (is_gap_leaf w.leaf) × IsWritten Strict w × GoesOn w.leaf more × IsBlank more
+IsBlank (w ∷ more) = IsTrue (is_gap_leaf w.leaf) × IsWritten Strict w × Continues w.leaf more × IsBlank more
 
 -- simple-key
 abbrev pub IsKeyPart : Profile → Written → Type 0
@@ -52,7 +52,7 @@ pub record IsName (profile : Profile) (n : Name) : Type 0 where
   pub before : IsSpace n.before
   pub behind : IsSpace n.behind
 
--- what entries stand in; a scalar has none
+-- what entries are in; a scalar has none
 pub data Place : Type 0 where
   in_scalar : Place
   in_array : Place
@@ -81,7 +81,7 @@ IsBody profile (scalar w) = IsTrue (is_scalar_leaf w.leaf) × IsWritten profile 
 IsBody profile (array first) = IsGap profile in_array first
 IsBody profile (inline first) = IsGap profile in_inline first
 
--- whether a comma may stand behind the last
+-- whether a comma may come after the last
 abbrev pub MayEndInComma : Profile → Place → Type 0
 MayEndInComma profile in_array = ⊤
 MayEndInComma Wide in_inline = ⊤
@@ -90,19 +90,19 @@ MayEndInComma _ _ = ⊥
 -- a comma between two
 abbrev pub IsComma : Profile → Place → Option Gap → Entries → Type 0
 IsComma profile place None none = ⊤
-IsComma profile place None (entry name body inside after comma rest) = ⊥
+IsComma profile place None (entry name body nested after comma rest) = ⊥
 IsComma profile place (Some behind) none = IsGap profile place behind × MayEndInComma profile place
-IsComma profile place (Some behind) (entry name body inside after comma rest) = IsGap profile place behind
+IsComma profile place (Some behind) (entry name body nested after comma rest) = IsGap profile place behind
 
 abbrev pub AreEntries : Profile → Place → Entries → Type 0
 AreEntries profile place none = ⊤
-AreEntries profile place (entry name body inside after comma rest) =
-    IsNamed profile place name × IsBody profile body × AreEntries profile (place_in body) inside
+AreEntries profile place (entry name body nested after comma rest) =
+    IsNamed profile place name × IsBody profile body × AreEntries profile (place_in body) nested
     × IsGap profile place after × IsComma profile place comma rest × AreEntries profile place rest
 
 pub record IsValue (profile : Profile) (v : Value) : Type 0 where
   pub body : IsBody profile v.body
-  pub inside : AreEntries profile (place_in v.body) v.inside
+  pub nested : AreEntries profile (place_in v.body) v.nested
 
 abbrev pub IsContent : Profile → Content → Type 0
 IsContent profile blank = ⊤
@@ -144,7 +144,7 @@ pub record Reads (profile : Profile) (limit : ℕ) (bytes : List ℕ) (s : Docum
 abbrev pub IsAccepted : Profile → ℕ → List ℕ → Type 0
 IsAccepted profile limit bytes = (s : Document) × Reads profile limit bytes s
 
--- the same of one value, with nothing before or after it
+-- A value of the grammar within the limit has the text, with nothing before or after it.
 pub record ReadsValue (profile : Profile) (limit : ℕ) (bytes : List ℕ) (v : Value) : Type 0 where
   pub valid : IsValue profile v
   pub spelled : bytes ≡ value_text v

@@ -1,4 +1,4 @@
--- What the parts that were read add to what is kept.
+-- What the parts that were read add to what is stored.
 use Rattle.std.specs.Prelude.{◌≡◌, ℕ, zero, suc, ◌+◌, ◌≤◌, slice_index, List, [], ◌∷◌, ◌++◌, length, drop, map, Option, Some, None, Result, Ok, Err, ⊤, IsCharBoundary}
 use Rattle.std.specs.List.{AllByRecursion, flat_map}
 use Rattle.keep_token.specs.declared.leaf.Leaf.{Leaf}
@@ -15,11 +15,11 @@ use Rattle.keep_parts.specs.declared.info.Owner.TheVariants as owner
 use Rattle.keep_syntax.specs.declared.info.Brackets.TheVariants as brackets
 use Rattle.keep_token.specs.declared.leaf.Leaf.TheVariants as leaf
 use Rattle.keep_token.specs.Scanning.{scalar_at}
-use Rattle.keep_syntax.specs.Tree.{Written, Gap, Further, Key, Name, Entries, none, Value, mark, further_leaves, key_leaves, name_leaves, named_leaves, entries_leaves, value_leaves}
-use Rattle.keep_syntax.specs.Numbered.{width, key_parts, further_parts, named_parts, entries_parts, entries_values, value_values, inside_start, comma_start, comma_place}
+use Rattle.keep_syntax.specs.Tree.{Written, Gap, Further, Key, Name, Entries, none, Value, token, further_leaves, key_leaves, name_leaves, named_leaves, entries_leaves, value_leaves}
+use Rattle.keep_syntax.specs.Numbered.{width, key_parts, further_parts, named_parts, entries_parts, entries_values, value_values, nested_start, comma_start, comma_place}
 use Rattle.keep_syntax.specs.Numbered as numbered
 use Rattle.keep_syntax.specs.Reading.{Fault, Bad, Deep, Read, space_at, blank_at, gap_in, part_at, more_of, key_of, name_of, named_in, Item, entry_of, after_by, item_by, entries_by, bracket_by, scalar_of, value_of, close_byte}
-use Rattle.keep_parts.specs.Flat.{Flat, with_mark, with_comma, ChangesValue}
+use Rattle.keep_parts.specs.Flat.{Flat, with_token, with_comma, ChangesValue}
 pub use Rattle.keep_parts.specs.Flat.{flat}
 
 -- ---- what parts add
@@ -34,7 +34,7 @@ pub record Taken : Type 0 where
 abbrev pub only : List Written → Taken
 only ws = record { leaves = ws; statements = []; keys = []; values = [] }
 
--- one behind the other
+-- one after the other
 abbrev pub both : Taken → Taken → Taken
 both a b = record { leaves = a.leaves ++ b.leaves; statements = a.statements ++ b.statements; keys = a.keys ++ b.keys; values = a.values ++ b.values }
 
@@ -55,10 +55,10 @@ add_at f at t = record {
   values = f.values ++ t.values;
 }
 
--- What is kept grew by parts that stand between these places, each leaf at the start of a character.
+-- What is stored grew by parts that are between these places, each leaf at the start of a character.
 pub record Grows (text : List ℕ) (old new : Flat) (at end : ℕ) (t : Taken) : Type 0 where
   pub place : end ≡ at + width t.leaves
-  pub kept : new ≡ add_at old at t
+  pub stored : new ≡ add_at old at t
   pub bounds : AllByRecursion (IsCharBoundary text) (starts at t.leaves)
 
 -- ---- reading
@@ -70,7 +70,7 @@ Fails text (faults.Syntax at what) read = read ≡ Err Bad
 Fails text (faults.TooDeep at) read = (at ≤ length text) × (read ≡ Err (Deep (drop at text)))
 Fails text _ read = ⊥
 
--- A part was read from a place on, of so many bytes at least, and what it adds is kept.
+-- A part was read from a place on, of so many bytes at least, and what it adds is stored.
 pub record PartIs {A : Type 0} (text : List ℕ) (at least : ℕ) (read : Read A) (taken : A → Taken) (old new : Flat) (end : ℕ) : Type 0 where
   pub part : A
   pub bound : IsCharBoundary text end
@@ -89,16 +89,16 @@ abbrev pub IsSyntax : ReadFault → Type 0
 IsSyntax (faults.Syntax at what) = ⊤
 IsSyntax _ = ⊥
 
--- a token of so many bytes is kept
-pub record SignIs (text : List ℕ) (at len : ℕ) (leaf : Leaf) (old new : Flat) (end : ℕ) : Type 0 where
+-- a token of so many bytes is stored
+pub record PunctuationIs (text : List ℕ) (at len : ℕ) (leaf : Leaf) (old new : Flat) (end : ℕ) : Type 0 where
   pub end_is : end ≡ at + len
   pub bound : IsCharBoundary text end
   pub start : IsCharBoundary text at
-  pub kept : new ≡ with_mark leaf at old
+  pub stored : new ≡ with_token leaf at old
 
-abbrev pub SignRead : List ℕ → ℕ → ℕ → Leaf → Flat → Flat → Result ℕ ReadFault → Type 0
-SignRead text at len leaf old new (Ok end) = SignIs text at len leaf old new end
-SignRead text at len leaf old new (Err e) = e ≡ faults.Memory
+abbrev pub PunctuationRead : List ℕ → ℕ → ℕ → Leaf → Flat → Flat → Result ℕ ReadFault → Type 0
+PunctuationRead text at len leaf old new (Ok end) = PunctuationIs text at len leaf old new end
+PunctuationRead text at len leaf old new (Err e) = e ≡ faults.Memory
 
 -- ---- gaps
 
@@ -119,14 +119,14 @@ part_taken at w = record { leaves = w ∷ []; statements = []; keys = numbered.p
 abbrev pub KeyPartRead : Profile → List ℕ → ℕ → Flat → Flat → Result ℕ ReadFault → Type 0
 KeyPartRead profile text at old new r = PartRead text at 1 (part_at profile (drop at text)) (part_taken at) old new r
 
--- further parts, and the gap behind them
+-- further parts, and the gap after them
 abbrev pub further_taken : ℕ → List Further × Gap → Taken
 further_taken at m = record { leaves = flat_map further_leaves m.0 ++ m.1; statements = []; keys = further_parts at m.0; values = [] }
 
 abbrev pub FurtherRead : Profile → List ℕ → ℕ → Flat → Flat → Result ℕ ReadFault → Type 0
 FurtherRead profile text at old new r = PartRead text at 0 (more_of profile [] (drop at text)) (further_taken at) old new r
 
--- a key, and the gap behind it
+-- a key, and the gap after it
 abbrev pub key_taken : ℕ → Key × Gap → Taken
 key_taken at k = record { leaves = key_leaves k.0 ++ k.1; statements = []; keys = key_parts at k.0; values = [] }
 
@@ -155,7 +155,7 @@ owner_in brackets.Inline number = owner.Inline number
 
 -- a value that begins at a place, in entries that begin at p, with so many key parts of its own
 abbrev pub value_taken : Start → ℕ → ℕ → Value → Taken
-value_taken p at keys v = record { leaves = value_leaves v; statements = []; keys = entries_parts (inside_start at v.body) v.inside; values = value_values p at keys v }
+value_taken p at keys v = record { leaves = value_leaves v; statements = []; keys = entries_parts (nested_start at v.body) v.nested; values = value_values p at keys v }
 
 abbrev pub ScalarRead : Profile → List ℕ → ℕ → ℕ → Start → Flat → Flat → Result ℕ ReadFault → Type 0
 ScalarRead profile text at keys p old new r = PartRead text at 1 (scalar_of (drop at text) (scalar_at profile (drop at text))) (value_taken p at keys) old new r
@@ -177,11 +177,11 @@ named_taken at n = record { leaves = named_leaves n; statements = []; keys = nam
 abbrev pub NamedRead : Profile → Brackets → List ℕ → ℕ → Flat → Flat → Result ℕ ReadFault → Type 0
 NamedRead profile b text at old new r = PartRead text at 0 (named_in profile b (drop at text)) (named_taken at) old new r
 
--- what follows a value is kept, and the comma is told of the value of this number
-abbrev pub AfterKept : List ℕ → ℕ → ℕ → Flat → Flat → ℕ → Gap → Option Gap → Type 0
-AfterKept text at number old new end after None = Grows text old new at end (only after)
-AfterKept text at number old new end after (Some behind) =
-    (mid : Flat) × (changed : Flat) × Grows text old mid at (at + width after + 1) (only (after ++ mark leaf.Comma (0x2C ∷ [])))
+-- what follows a value is stored, and the value with this number is told its comma
+abbrev pub AfterStored : List ℕ → ℕ → ℕ → Flat → Flat → ℕ → Gap → Option Gap → Type 0
+AfterStored text at number old new end after None = Grows text old new at end (only after)
+AfterStored text at number old new end after (Some behind) =
+    (mid : Flat) × (changed : Flat) × Grows text old mid at (at + width after + 1) (only (after ++ token leaf.Comma (0x2C ∷ [])))
     × ChangesValue (with_comma (at + width after)) number mid changed × Grows text changed new (at + width after + 1) end (only behind)
 
 pub record AfterIs (profile : Profile) (b : Brackets) (text : List ℕ) (at number : ℕ) (old new : Flat) (end : ℕ) (comma : Option ℕ) : Type 0 where
@@ -192,7 +192,7 @@ pub record AfterIs (profile : Profile) (b : Brackets) (text : List ℕ) (at numb
   pub comma_is : comma ≡ comma_place (at + width after) behind
   pub closed : comma ≡ None → slice_index text end ≡ close_byte b
   pub is_read : (name : Option Name) (v : Value) → after_by profile b name v (gap_in profile b (drop at text)) ≡ Ok (record { name = name; value = v; after = after; comma = behind }, drop end text)
-  pub kept : AfterKept text at number old new end after behind
+  pub stored : AfterStored text at number old new end after behind
 
 abbrev pub AfterRead : Profile → Brackets → List ℕ → ℕ → ℕ → Flat → Flat → Result (ℕ × Option ℕ) ReadFault → Type 0
 AfterRead profile b text at number old new (Ok r) = AfterIs profile b text at number old new r.0 r.1
@@ -214,7 +214,7 @@ item_taken p i = entries_taken p (entry_of i none)
 
 pub record ItemIs (b : Brackets) (profile : Profile) (room : ℕ) (text : List ℕ) (p : Start) (old new : Flat) (end : ℕ) (comma : Option ℕ) : Type 0 where
   pub read : PartIs text p.at 1 (item_by profile b (value_of profile room) (drop p.at text)) (item_taken p) old new end
-  pub comma_is : comma ≡ comma_place (comma_start p.at read.part.name read.part.value.body read.part.value.inside read.part.after) read.part.comma
+  pub comma_is : comma ≡ comma_place (comma_start p.at read.part.name read.part.value.body read.part.value.nested read.part.after) read.part.comma
   pub closed : comma ≡ None → slice_index text end ≡ close_byte b
 
 abbrev pub ItemRead : Brackets → Profile → ℕ → List ℕ → Start → Flat → Flat → Result (ℕ × Option ℕ) ReadFault → Type 0

@@ -1,5 +1,6 @@
--- Reading from left to right, as a function on lists: what the code equals, and what the laws in proofs/ tie to the grammar.
--- A part is read from the front of a text, and what is behind it is handed on. Places are the texts from them on, so nothing is counted.
+-- Reading from left to right, as a function on lists: what the code equals, and what the laws in proofs/ tie to the
+-- grammar. A part is read from the start of a text, and what comes after it is handed on. Places are the texts from
+-- them on, so nothing is counted.
 use Rattle.std.specs.Prelude.{ℕ, zero, suc, Bool, true, false, not, ◌&&◌, ◌||◌, ◌==◌, if◌then◌else◌, List, [], ◌∷◌, ◌++◌, length, take, drop, slice_index, Option, Some, None, Result, Ok, Err}
 use Rattle.keep_token.specs.declared.leaf.Profile.{Profile}
 use Rattle.keep_token.specs.declared.leaf.Profile.TheVariants.{Strict, Wide}
@@ -8,14 +9,14 @@ use Rattle.keep_token.specs.declared.leaf.Leaf.TheVariants as leaf
 use Rattle.keep_token.specs.Scanning.{first, gap_at, key_at, scalar_at}
 use Rattle.keep_syntax.specs.declared.info.Brackets.{Brackets}
 use Rattle.keep_syntax.specs.declared.info.Brackets.TheVariants as brackets
-use Rattle.keep_syntax.specs.Tree.{Written, Gap, Further, Key, Name, Body, scalar, array, inline, Entries, none, entry, Value, Content, blank, keyval, header, element, Line, Ended, Document, mark}
+use Rattle.keep_syntax.specs.Tree.{Written, Gap, Further, Key, Name, Body, scalar, array, inline, Entries, none, entry, Value, Content, blank, keyval, header, element, Line, Ended, Document, token}
 
 -- nothing fits, or a bracket is one too many: the text from it on
 pub data Fault : Type 0 where
   Bad : Fault
   Deep : (rest : List ℕ) → Fault
 
--- a part and the text behind it
+-- a part and the text after it
 abbrev pub Read : Type 0 → Type 0
 Read A = Result (A × List ℕ) Fault
 
@@ -26,23 +27,23 @@ abbrev pub ◌>>=◌ : {A B : Type 0} → Result A Fault → (A → Result B Fau
 
 -- ---- loops
 
--- after a turn: on with this, or ready with that
-pub data Turn (S A : Type 0) : Type 0 where
-  goes_on : (state : S) → Turn S A
-  ready : (made : A) → Turn S A
+-- after an iteration: continue with this, or ready with that
+pub data Iteration (S A : Type 0) : Type 0 where
+  continues : (state : S) → Iteration S A
+  ready : (made : A) → Iteration S A
 
-abbrev pub onward : {S A : Type 0} → (S → List ℕ → Read A) → Turn S A → List ℕ → Read A
-onward go (goes_on state) text = go state text
+abbrev pub onward : {S A : Type 0} → (S → List ℕ → Read A) → Iteration S A → List ℕ → Read A
+onward go (continues state) text = go state text
 onward go (ready made) text = Ok (made, text)
 
--- turn after turn, at most so many
-unfoldable pub repeat : {S A : Type 0} → ℕ → (S → List ℕ → Read (Turn S A)) → S → List ℕ → Read A
-repeat zero turn state text = Err Bad
-repeat (suc n) turn state text = turn state text >>= λ t. onward (repeat n turn) t.0 t.1
+-- iteration after iteration, at most so many
+unfoldable pub repeat : {S A : Type 0} → ℕ → (S → List ℕ → Read (Iteration S A)) → S → List ℕ → Read A
+repeat zero iteration state text = Err Bad
+repeat (suc n) iteration state text = iteration state text >>= λ t. onward (repeat n iteration) t.0 t.1
 
--- each turn but the last takes a byte, so these are enough
-abbrev pub loop : {S A : Type 0} → (S → List ℕ → Read (Turn S A)) → S → List ℕ → Read A
-loop turn state text = repeat (suc (length text)) turn state text
+-- each iteration but the last takes a byte, so these are enough
+abbrev pub loop : {S A : Type 0} → (S → List ℕ → Read (Iteration S A)) → S → List ℕ → Read A
+loop iteration state text = repeat (suc (length text)) iteration state text
 
 -- ---- gaps
 
@@ -51,19 +52,20 @@ written l n text = record { leaf = l; text = take n text }
 
 -- [ ws ]
 abbrev pub space_of : List ℕ → Option (Leaf × ℕ) → Gap × List ℕ
-space_of text (Some (leaf.Ws, n)) = (mark leaf.Ws (take n text), drop n text)
+space_of text (Some (leaf.Ws, n)) = (token leaf.Ws (take n text), drop n text)
 space_of text _ = ([], text)
 
 unfoldable pub space_at : List ℕ → Gap × List ℕ
 space_at text = space_of text (gap_at text)
 
-abbrev pub in_front : Written → Gap × List ℕ → Gap × List ℕ
-in_front w g = (w ∷ g.0, g.1)
+abbrev pub prepended : Written → Gap × List ℕ → Gap × List ℕ
+prepended w g = (w ∷ g.0, g.1)
 
--- White space, newlines and comments, as far as they go, in at most so many steps. Whether a comment ends in a newline shows behind them.
+-- White space, newlines and comments, as far as they go, in at most so many steps. Whether a comment ends in a newline
+-- shows after them.
 abbrev pub blank_of : (List ℕ → Gap × List ℕ) → List ℕ → Option (Leaf × ℕ) → Gap × List ℕ
 blank_of go text None = ([], text)
-blank_of go text (Some (l, n)) = in_front (written l n text) (go (drop n text))
+blank_of go text (Some (l, n)) = prepended (written l n text) (go (drop n text))
 
 unfoldable pub blank_from : ℕ → List ℕ → Gap × List ℕ
 blank_from zero text = ([], text)
@@ -86,7 +88,7 @@ abbrev pub body_in : Brackets → Gap → Body
 body_in brackets.Array first = array first
 body_in brackets.Inline first = inline first
 
--- whether newlines and comments may stand in the gaps, and a comma behind the last entry
+-- whether newlines and comments may be in the gaps, and a comma after the last entry
 abbrev pub is_free : Profile → Brackets → Bool
 is_free profile brackets.Array = true
 is_free Strict brackets.Inline = false
@@ -109,21 +111,21 @@ part_of text (Some (l, n)) = Ok (written l n text, drop n text)
 abbrev pub part_at : Profile → List ℕ → Read Written
 part_at profile text = part_of text (key_at profile text)
 
--- Behind a key part: gap, dot, gap and a further part, or the gap behind the key.
-abbrev pub further_by : Profile → List Further → Gap × List ℕ → Read (Turn (List Further) (List Further × Gap))
-further_by profile front b =
+-- After a key part: gap, dot, gap and a further part, or the gap after the key.
+abbrev pub further_by : Profile → List Further → Gap × List ℕ → Read (Iteration (List Further) (List Further × Gap))
+further_by profile prefix b =
     if first b.1 == 0x2E
-    then (part_at profile (space_at (drop 1 b.1)).1 >>= λ p. Ok (goes_on (front ++ (record { before = b.0; behind = (space_at (drop 1 b.1)).0; part = p.0 } ∷ [])), p.1))
-    else Ok (ready (front, b.0), b.1)
+    then (part_at profile (space_at (drop 1 b.1)).1 >>= λ p. Ok (continues (prefix ++ (record { before = b.0; behind = (space_at (drop 1 b.1)).0; part = p.0 } ∷ [])), p.1))
+    else Ok (ready (prefix, b.0), b.1)
 
-unfoldable pub further_at : Profile → List Further → List ℕ → Read (Turn (List Further) (List Further × Gap))
-further_at profile front text = further_by profile front (space_at text)
+unfoldable pub further_at : Profile → List Further → List ℕ → Read (Iteration (List Further) (List Further × Gap))
+further_at profile prefix text = further_by profile prefix (space_at text)
 
--- the further parts behind those in front, and the gap behind the key
+-- the further parts after those that were read, and the gap after the key
 abbrev pub more_of : Profile → List Further → List ℕ → Read (List Further × Gap)
-more_of profile front text = loop (further_at profile) front text
+more_of profile prefix text = loop (further_at profile) prefix text
 
--- a key and the gap behind it
+-- a key and the gap after it
 unfoldable pub key_of : Profile → List ℕ → Read (Key × Gap)
 key_of profile text =
     part_at profile text >>= λ p. more_of profile [] p.1 >>= λ m.
@@ -144,7 +146,7 @@ name_of profile text = key_of profile text >>= λ k. equals_by k.0 k.1
 -- entries, and then further ones
 abbrev pub join : Entries → Entries → Entries
 join none es = es
-join (entry name body inside after comma rest) es = entry name body inside after comma (join rest es)
+join (entry name body nested after comma rest) es = entry name body nested after comma (join rest es)
 
 -- an entry by itself
 pub record Item : Type 0 where
@@ -154,14 +156,14 @@ pub record Item : Type 0 where
   pub comma : Option Gap
 
 abbrev pub entry_of : Item → Entries → Entries
-entry_of i rest = entry i.name i.value.body i.value.inside i.after i.comma rest
+entry_of i rest = entry i.name i.value.body i.value.nested i.after i.comma rest
 
 -- an item of an array has no name
 abbrev pub named_in : Profile → Brackets → List ℕ → Read (Option Name)
 named_in profile brackets.Array text = Ok (None, text)
 named_in profile brackets.Inline text = name_of profile text >>= λ n. Ok (Some n.0, n.1)
 
--- Behind a comma and its gap an entry must stand, unless the bracket may.
+-- After a comma and its gap an entry must follow, unless the bracket may.
 abbrev pub comma_by : Profile → Brackets → Option Name → Value → Gap → Gap × List ℕ → Read Item
 comma_by profile b name v after k =
     if not (is_free profile b) && first k.1 == close_byte b then Err Bad
@@ -179,29 +181,29 @@ unfoldable pub item_by : Profile → Brackets → (List ℕ → Read Value) → 
 item_by profile b value text =
     named_in profile b text >>= λ n. value n.1 >>= λ v. after_by profile b n.0 v.0 (gap_in profile b v.1)
 
--- behind a comma further, else ready
-abbrev pub turn_of : Entries → Item → Option Gap → Turn Entries Entries
-turn_of front i None = ready (join front (entry_of i none))
-turn_of front i (Some behind) = goes_on (join front (entry_of i none))
+-- after a comma further, else ready
+abbrev pub iteration_of : Entries → Item → Option Gap → Iteration Entries Entries
+iteration_of prefix i None = ready (join prefix (entry_of i none))
+iteration_of prefix i (Some behind) = continues (join prefix (entry_of i none))
 
-unfoldable pub entry_by : Profile → Brackets → (List ℕ → Read Value) → Entries → List ℕ → Read (Turn Entries Entries)
-entry_by profile b value front text =
-    if first text == close_byte b then Ok (ready front, text)
-    else (item_by profile b value text >>= λ i. Ok (turn_of front i.0 i.0.comma, i.1))
+unfoldable pub entry_by : Profile → Brackets → (List ℕ → Read Value) → Entries → List ℕ → Read (Iteration Entries Entries)
+entry_by profile b value prefix text =
+    if first text == close_byte b then Ok (ready prefix, text)
+    else (item_by profile b value text >>= λ i. Ok (iteration_of prefix i.0 i.0.comma, i.1))
 
--- the entries up to the closing bracket, behind those in front
+-- the entries up to the closing bracket, after those that were read
 abbrev pub entries_by : Profile → Brackets → (List ℕ → Read Value) → Entries → List ℕ → Read Entries
-entries_by profile b value front text = loop (entry_by profile b value) front text
+entries_by profile b value prefix text = loop (entry_by profile b value) prefix text
 
 -- an array or an inline table, whose values `value` reads
 abbrev pub bracket_by : Profile → (List ℕ → Read Value) → Brackets → List ℕ → Read Value
 bracket_by profile value b text =
     entries_by profile b value none (gap_in profile b (drop 1 text)).1 >>= λ es.
-    Ok (record { body = body_in b (gap_in profile b (drop 1 text)).0; inside = es.0 }, drop 1 es.1)
+    Ok (record { body = body_in b (gap_in profile b (drop 1 text)).0; nested = es.0 }, drop 1 es.1)
 
 abbrev pub scalar_of : List ℕ → Option (Leaf × ℕ) → Read Value
 scalar_of text None = Err Bad
-scalar_of text (Some (l, n)) = Ok (record { body = scalar (written l n text); inside = none }, drop n text)
+scalar_of text (Some (l, n)) = Ok (record { body = scalar (written l n text); nested = none }, drop n text)
 
 -- a value, where `bracket` reads those in brackets
 abbrev pub value_by : Profile → (Brackets → List ℕ → Read Value) → List ℕ → Read Value
@@ -210,7 +212,7 @@ value_by profile bracket text =
     else if first text == 0x7B then bracket brackets.Inline text
     else scalar_of text (scalar_at profile text)
 
--- A value, where so many more brackets may be opened: one more is told with the text from it on.
+-- A value, where so many more brackets may be opened: one more is a fault with the text from it on.
 unfoldable pub value_of : Profile → ℕ → List ℕ → Read Value
 value_of profile zero text = value_by profile (λ b t. Err (Deep t)) text
 value_of profile (suc room) text = value_by profile (bracket_by profile (value_of profile room)) text
@@ -224,7 +226,7 @@ is_line_end c = ((c == 0 || c == 0x0A) || c == 0x0D) || c == 0x23
 abbrev pub keyval_of : Profile → ℕ → List ℕ → Read Content
 keyval_of profile room text = name_of profile text >>= λ n. value_of profile room n.1 >>= λ v. Ok (keyval n.0 v.0, v.1)
 
--- behind a header's opening and gap
+-- after a header's opening and gap
 abbrev pub header_by : Profile → Gap × List ℕ → Read Content
 header_by profile b =
     key_of profile b.1 >>= λ k.
@@ -265,37 +267,37 @@ line_at profile room text = content_at profile room (space_at text).1 >>= λ c. 
 abbrev pub Lines : Type 0
 Lines = List Ended × Line
 
--- at a newline goes on behind it
-abbrev pub newline_of : List Ended → Line → List ℕ → Option (Leaf × ℕ) → Read (Turn (List Ended) Lines)
-newline_of front l text (Some (leaf.Newline, n)) = Ok (goes_on (front ++ (record { line = l; newline = written leaf.Newline n text } ∷ [])), drop n text)
-newline_of front l text _ = Err Bad
+-- at a newline continues after it
+abbrev pub newline_of : List Ended → Line → List ℕ → Option (Leaf × ℕ) → Read (Iteration (List Ended) Lines)
+newline_of prefix l text (Some (leaf.Newline, n)) = Ok (continues (prefix ++ (record { line = l; newline = written leaf.Newline n text } ∷ [])), drop n text)
+newline_of prefix l text _ = Err Bad
 
 -- at the end is ready
-abbrev pub behind_line : List Ended → Line → List ℕ → Read (Turn (List Ended) Lines)
-behind_line front l [] = Ok (ready (front, l), [])
-behind_line front l (c ∷ cs) = newline_of front l (c ∷ cs) (gap_at (c ∷ cs))
+abbrev pub after_line : List Ended → Line → List ℕ → Read (Iteration (List Ended) Lines)
+after_line prefix l [] = Ok (ready (prefix, l), [])
+after_line prefix l (c ∷ cs) = newline_of prefix l (c ∷ cs) (gap_at (c ∷ cs))
 
-unfoldable pub ended_at : Profile → ℕ → List Ended → List ℕ → Read (Turn (List Ended) Lines)
-ended_at profile room front text = line_at profile room text >>= λ l. behind_line front l.0 l.1
+unfoldable pub ended_at : Profile → ℕ → List Ended → List ℕ → Read (Iteration (List Ended) Lines)
+ended_at profile room prefix text = line_at profile room text >>= λ l. after_line prefix l.0 l.1
 
--- the lines behind those in front
+-- the lines after those that were read
 abbrev pub lines_of : Profile → ℕ → List Ended → List ℕ → Read Lines
-lines_of profile room front text = loop (ended_at profile room) front text
+lines_of profile room prefix text = loop (ended_at profile room) prefix text
 
 -- ---- whole texts
 
--- EF BB BF stands in front
+-- EF BB BF comes first
 abbrev pub has_bom : List ℕ → Bool
 has_bom text = (first text == 0xEF && slice_index text 1 == 0xBB) && slice_index text 2 == 0xBF
 
-abbrev pub behind_bom : Bool → List ℕ → List ℕ
-behind_bom true text = drop 3 text
-behind_bom false text = text
+abbrev pub after_bom : Bool → List ℕ → List ℕ
+after_bom true text = drop 3 text
+after_bom false text = text
 
 -- a document and nothing else
 unfoldable pub read_document : Profile → ℕ → List ℕ → Result Document Fault
 read_document profile limit text =
-    lines_of profile limit [] (behind_bom (has_bom text) text) >>= λ l. Ok (record { bom = has_bom text; ended = l.0.0; last = l.0.1 })
+    lines_of profile limit [] (after_bom (has_bom text) text) >>= λ l. Ok (record { bom = has_bom text; ended = l.0.0; last = l.0.1 })
 
 -- one value and nothing else
 unfoldable pub read_one_value : Profile → ℕ → List ℕ → Result Value Fault

@@ -56,7 +56,7 @@ impl ValueSyntax {
         self.parts.key_count()
     }
 
-    /// The key part of this number, from 0.
+    /// The key part with this number, from 0.
     pub fn key_part(&self, number: usize) -> KeyPart
         requires { number < length (spec.value_parts_of self.now) }
         ensures { slice_get (spec.value_parts_of self.now) number ≡ Some result }
@@ -71,8 +71,8 @@ impl ValueSyntax {
         self.parts.value_count()
     }
 
-    /// The value of this number, from 0. A value comes before those inside it. Its depth is at most the limit to which the text
-    /// was read, and less than the limit for an array or an inline table.
+    /// The value with this number, from 0. A value comes before those inside it. Its depth is at most the limit to
+    /// which the text was read, and less than the limit for an array or an inline table.
     pub fn value(&self, number: usize) -> ValueInfo
         requires { number < length (spec.value_values_of self.now) }
         ensures stored { slice_get (spec.value_values_of self.now) number ≡ Some result }
@@ -81,7 +81,7 @@ impl ValueSyntax {
         self.parts.value(number)
     }
 
-    /// What is kept of the text, each part by its number.
+    /// What is stored of the text, each part by its number.
     pub fn parts(&self) -> &Parts
         ensures { result.now ≡ self.now.parts }
     {

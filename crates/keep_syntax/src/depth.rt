@@ -18,8 +18,9 @@ fn open_in(value: ValueInfo, limit: u16) -> u16
     }
 }
 
-/// How many arrays and inline tables at most are open in the values that are kept, if no value has more than the limit.
-#[tactic(auto, using(crate::proofs::DeepestLaws::deepest_turn))]
+/// How many arrays and inline tables at most are open in the values that are stored, if no value has more than the
+/// limit.
+#[tactic(auto, using(crate::proofs::DeepestLaws::deepest_iteration))]
 pub(crate) fn deepest(parts: &Parts, limit: u16) -> u16
     requires { AllByRecursion (spec.IsWithin limit) (flat parts.now).values }
     ensures { result ≡ spec.deepest (flat parts.now).values }

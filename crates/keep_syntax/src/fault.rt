@@ -26,10 +26,10 @@ pub enum ReadFault {
     /// The bytes from `at` on are not UTF-8.
     #[error("not UTF-8 at {at}")]
     Utf8 { at: usize },
-    /// What stands at `at` fits no rule of the grammar.
+    /// What is at `at` fits no rule of the grammar.
     #[error("syntax at {at}: {what:?}")]
     Syntax { at: usize, what: What },
-    /// The bracket at `at` stands inside as many arrays and inline tables as the limit allows.
+    /// The bracket at `at` is inside as many arrays and inline tables as the limit allows.
     #[error("too deep at {at}")]
     TooDeep { at: usize },
     /// The key part at `at` breaks a rule of definition.

@@ -1,11 +1,11 @@
-//! Gaps: what stands between the parts. (TOML v1.0.0, "Comment"; toml.abnf: `ws`, `ws-comment-newline`)
+//! Gaps: what is between the parts. (TOML v1.0.0, "Comment"; toml.abnf: `ws`, `ws-comment-newline`)
 ghost use Rattle.std.specs.Prelude.{◌≡◌, IsCharBoundary};
 ghost use Rattle.keep_syntax.specs.Growth as spec;
 ghost use Rattle.keep_syntax.specs.Reading.{is_free};
 
 use crate::fault::ReadFault;
 use crate::info::Brackets;
-use keep_parts::{Parts, push_mark};
+use keep_parts::{Parts, push_token};
 use keep_token::{Leaf, Profile, scan_gap};
 
 /// `ws`: white space from the byte `at` on, if there is some, and where it ends.
@@ -17,7 +17,7 @@ pub fn space(text: &str, at: usize, out: &mut Parts) -> Result<usize, ReadFault>
     match scan_gap(text, at) {
         Some((leaf, end)) => match leaf {
             Leaf::Ws => {
-                push_mark(out, Leaf::Ws, at)?;
+                push_token(out, Leaf::Ws, at)?;
                 Ok(end)
             }
             _ => Ok(at),
@@ -33,13 +33,13 @@ fn blank(text: &str, at: usize, out: &mut Parts) -> Result<usize, ReadFault>
 {
     let mut here = at;
     'leaves: while let Some((leaf, end)) = scan_gap(text, here) {
-        push_mark(out, leaf, here)?;
+        push_token(out, leaf, here)?;
         here = end;
     }
     Ok(here)
 }
 
-/// Whether newlines and comments may stand between the parts, and a comma behind the last.
+/// Whether newlines and comments may be between the parts, and a comma after the last.
 pub fn is_free(profile: Profile, brackets: Brackets) -> bool
     ensures { result ≡ is_free profile brackets }
 {

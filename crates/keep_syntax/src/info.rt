@@ -21,7 +21,7 @@ impl Limits {
         profile: Profile::Strict,
     };
 
-    /// The same with this project's own additions.
+    /// The standard depth limit, with this project's own additions to the grammar.
     pub const WIDE: Limits = Limits {
         depth: STANDARD_DEPTH,
         profile: Profile::Wide,
@@ -32,7 +32,7 @@ const _: () = prove!(Limits::STANDARD.depth == STANDARD_DEPTH);
 
 const _: () = prove!(Limits::WIDE.depth == STANDARD_DEPTH);
 
-/// A leaf as it stands in the text, from byte `at` on.
+/// A leaf as it is written in the text, from byte `at` on.
 #[derive(Clone, Copy, Debug)]
 pub struct Token<'a> {
     pub leaf: Leaf,
@@ -42,7 +42,7 @@ pub struct Token<'a> {
 
 /// A token: a leaf and where it begins. It ends where the next begins.
 #[derive(Clone, Copy, Debug, PartialEq, Eq)]
-pub struct Mark {
+pub struct TokenPlace {
     pub leaf: Leaf,
     pub at: usize,
 }

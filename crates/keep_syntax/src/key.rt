@@ -4,8 +4,8 @@ ghost use Rattle.keep_syntax.specs.Growth as spec;
 
 use crate::fault::ReadFault;
 use crate::gap::space;
-use crate::text::{byte_at, misplaced, sign};
-use keep_parts::{KeyPart, Parts, Span, push_key, push_mark};
+use crate::text::{byte_at, misplaced, punctuation};
+use keep_parts::{KeyPart, Parts, Span, push_key, push_token};
 use keep_token::{Leaf, Profile, scan_key};
 
 /// `simple-key`: the key part at the byte `at`, and where it ends.
@@ -14,15 +14,15 @@ fn key_part(text: &str, at: usize, profile: Profile, out: &mut Parts) -> Result<
     ensures { spec.KeyPartRead profile text.now at (spec.flat out.old) (spec.flat out.new) result }
 {
     let (leaf, end) = scan_key(text, at, profile)?;
-    push_mark(out, leaf, at)?;
+    push_token(out, leaf, at)?;
     let span = Span { start: at, end };
     push_key(out, KeyPart { leaf, span })?;
     Ok(end)
 }
 
-/// `*( dot-sep simple-key )`: the further parts of a key from the byte `at` on, and the gap behind the key; where that
+/// `*( dot-sep simple-key )`: the further parts of a key from the byte `at` on, and the gap after the key; where that
 /// ends.
-fn further(text: &str, at: usize, profile: Profile, out: &mut Parts) -> Result<usize, ReadFault>
+fn dotted_rest(text: &str, at: usize, profile: Profile, out: &mut Parts) -> Result<usize, ReadFault>
     requires { IsCharBoundary text.now at }
     ensures { spec.FurtherRead profile text.now at (spec.flat out.old) (spec.flat out.new) result }
 {
@@ -32,23 +32,28 @@ fn further(text: &str, at: usize, profile: Profile, out: &mut Parts) -> Result<u
         if byte_at(text, dot) != b'.' {
             return Ok(dot);
         }
-        let behind = sign(text, dot, 1, Leaf::Dot, out)?;
+        let behind = punctuation(text, dot, 1, Leaf::Dot, out)?;
         let begin = space(text, behind, out)?;
         here = key_part(text, begin, profile, out)?;
     }
 }
 
-/// `key`: the key at the byte `at`, and the gap behind it; where that ends.
+/// `key`: the key at the byte `at`, and the gap after it; where that ends.
 pub fn key(text: &str, at: usize, profile: Profile, out: &mut Parts) -> Result<usize, ReadFault>
     requires { IsCharBoundary text.now at }
     ensures { spec.KeyRead profile text.now at (spec.flat out.old) (spec.flat out.new) result }
 {
     let end = key_part(text, at, profile, out)?;
-    further(text, end, profile, out)
+    dotted_rest(text, end, profile, out)
 }
 
 /// `key keyval-sep`: the key at the byte `at`, the equals sign and the gaps round it; where the value begins.
-pub fn name(text: &str, at: usize, profile: Profile, out: &mut Parts) -> Result<usize, ReadFault>
+pub fn key_and_equals(
+    text: &str,
+    at: usize,
+    profile: Profile,
+    out: &mut Parts,
+) -> Result<usize, ReadFault>
     requires { IsCharBoundary text.now at }
     ensures { spec.NameRead profile text.now at (spec.flat out.old) (spec.flat out.new) result }
 {
@@ -56,6 +61,6 @@ pub fn name(text: &str, at: usize, profile: Profile, out: &mut Parts) -> Result<
     if byte_at(text, equals) != b'=' {
         return Err(misplaced(text, equals));
     }
-    let behind = sign(text, equals, 1, Leaf::Equals, out)?;
+    let behind = punctuation(text, equals, 1, Leaf::Equals, out)?;
     space(text, behind, out)
 }

@@ -22,7 +22,7 @@ pub fn wide_reads_strict()
     ensures values { spec.WideReadsStrictValue }
 {}
 
-/// A document is its tokens, one behind the other, each but `End` of a byte at least.
+/// A document is its tokens, one after the other, each but `End` of a byte at least.
 pub fn tokens_partition()
     ensures joined { spec.TokensJoin }
     ensures parts { spec.TokensPartition }

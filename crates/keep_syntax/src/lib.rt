@@ -19,7 +19,7 @@ mod whole;
 
 pub use alone::ValueSyntax;
 pub use fault::{ReadFault, Why};
-pub use info::{Brackets, Limits, Mark, STANDARD_DEPTH, Token};
+pub use info::{Brackets, Limits, STANDARD_DEPTH, Token, TokenPlace};
 pub use keep_parts::{KeyPart, Owner, Parts, Span, Start, Statement, StatementKind, ValueInfo};
 pub use syntax::{Replaced, Syntax};
 pub use tokens::Tokens;

@@ -9,11 +9,11 @@ ghost use Rattle.keep_syntax.specs.Reading.{is_line_end};
 use crate::fault::ReadFault;
 use crate::gap::space;
 use crate::info::Limits;
-use crate::key::{key, name};
-use crate::text::{byte_at, misplaced, sign};
+use crate::key::{key, key_and_equals};
+use crate::text::{byte_at, misplaced, punctuation};
 use crate::value::value;
 use keep_parts::{
-    Owner, Parts, Span, Start, Starts, Statement, StatementKind, push_mark, push_statement,
+    Owner, Parts, Span, Start, Starts, Statement, StatementKind, push_statement, push_token,
     statement_count,
 };
 use keep_token::{Leaf, scan_gap};
@@ -48,7 +48,7 @@ fn keyval(
     requires named { (slice_index text.now start.now.at == 0x5B) ≡ false }
     ensures { lines_spec.ContentRead limits.profile limits.depth text.now start.now (spec.flat out.old) (spec.flat out.new) result }
 {
-    let begin = name(text, start.at, limits.profile, out)?;
+    let begin = key_and_equals(text, start.at, limits.profile, out)?;
     let keys = out.key_count() - start.parts;
     let end = value(text, begin, limits, keys, start, out)?;
     let head = Head {
@@ -72,7 +72,7 @@ fn header(
     requires once { (slice_index text.now (start.now.at + 1) == 0x5B) ≡ false }
     ensures { lines_spec.ContentRead limits.profile limits.depth text.now start.now (spec.flat out.old) (spec.flat out.new) result }
 {
-    let behind = sign(text, start.at, 1, Leaf::HeadOpen, out)?;
+    let behind = punctuation(text, start.at, 1, Leaf::HeadOpen, out)?;
     let begin = space(text, behind, out)?;
     let close = key(text, begin, limits.profile, out)?;
     if byte_at(text, close) != b']' {
@@ -83,7 +83,7 @@ fn header(
         keys: out.key_count() - start.parts,
         value: None,
     };
-    let end = sign(text, close, 1, Leaf::HeadClose, out)?;
+    let end = punctuation(text, close, 1, Leaf::HeadClose, out)?;
     Ok((end, head))
 }
 
@@ -100,7 +100,7 @@ fn element(
     requires twice { slice_index text.now (start.now.at + 1) ≡ 0x5B }
     ensures { lines_spec.ContentRead limits.profile limits.depth text.now start.now (spec.flat out.old) (spec.flat out.new) result }
 {
-    let behind = sign(text, start.at, 2, Leaf::ElemOpen, out)?;
+    let behind = punctuation(text, start.at, 2, Leaf::ElemOpen, out)?;
     let begin = space(text, behind, out)?;
     let close = key(text, begin, limits.profile, out)?;
     if byte_at(text, close) != b']' || byte_at(text, close + 1) != b']' {
@@ -111,12 +111,12 @@ fn element(
         keys: out.key_count() - start.parts,
         value: None,
     };
-    let end = sign(text, close, 2, Leaf::ElemClose, out)?;
+    let end = punctuation(text, close, 2, Leaf::ElemClose, out)?;
     Ok((end, head))
 }
 
 /// The keyval or header from `start` on, and where it ends.
-fn content(
+fn statement_head(
     text: &str,
     limits: Limits,
     start: &Start,
@@ -146,7 +146,7 @@ fn comment(text: &str, at: usize, out: &mut Parts) -> Result<usize, ReadFault>
     match scan_gap(text, at) {
         Some((leaf, end)) => match leaf {
             Leaf::Comment => {
-                push_mark(out, Leaf::Comment, at)?;
+                push_token(out, Leaf::Comment, at)?;
                 Ok(end)
             }
             _ => Ok(at),
@@ -182,7 +182,7 @@ fn line(
         depth: 0,
         comma: None,
     };
-    let (close, head) = content(text, limits, &start, out)?;
+    let (close, head) = statement_head(text, limits, &start, out)?;
     let behind = space(text, close, out)?;
     let end = comment(text, behind, out)?;
     let statement = Statement {
@@ -207,7 +207,7 @@ fn newline(text: &str, at: usize, out: &mut Parts) -> Result<usize, ReadFault>
     match scan_gap(text, at) {
         Some((leaf, end)) => match leaf {
             Leaf::Newline => {
-                push_mark(out, Leaf::Newline, at)?;
+                push_token(out, Leaf::Newline, at)?;
                 Ok(end)
             }
             _ => Err(misplaced(text, at)),
@@ -216,7 +216,7 @@ fn newline(text: &str, at: usize, out: &mut Parts) -> Result<usize, ReadFault>
     }
 }
 
-/// Keeps a line's statement, now that the line's end is known.
+/// Stores a line's statement, now that the line's end is known.
 fn tell(out: &mut Parts, statement: Option<Statement>, end: usize) -> Result<(), ReadFault>
     ensures ok { OnOk result (spec.flat out.new ≡ lines_spec.with_statements (lines_spec.ended_list end statement) (spec.flat out.old)) }
     ensures err { IsOkUnless result Memory }

@@ -16,7 +16,7 @@ use std::mem;
 /// What was stored of lines that others replaced.
 #[derive(Debug, Drop)]
 pub enum Gone {
-    /// It stood between the counts `from` and `to`; what replaced it ends at `until`.
+    /// It was there between the counts `from` and `to`; what replaced it ends at `until`.
     Run {
         run: Parts,
         from: Counts,

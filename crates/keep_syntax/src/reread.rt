@@ -7,9 +7,8 @@ ghost use Rattle.keep_parts.specs.Rereading as spec;
 
 use crate::fault::ReadFault;
 use keep_parts::{
-    Counts, Parts, Span, Starts, append_marks, mark_count, marks_before, moved_key,
-    moved_statement, moved_value, push_info, push_key, push_statement, statement_at,
-    statement_count,
+    Counts, Parts, Span, Starts, append_tokens, moved_key, moved_statement, moved_value, push_info,
+    push_key, push_statement, statement_at, statement_count, stored_token_count, tokens_before,
 };
 use std::alloc::Global;
 
@@ -59,7 +58,7 @@ pub fn counts_before(parts: &Parts, place: usize) -> Counts
     let statements = statements_before(parts, place);
     Counts {
         at: place,
-        tokens: marks_before(parts, place),
+        tokens: tokens_before(parts, place),
         statements,
         keys: first_key(parts, statements),
         values: first_value(parts, statements),
@@ -72,7 +71,7 @@ pub fn counts_at(parts: &Parts, at: usize) -> Counts
 {
     Counts {
         at,
-        tokens: mark_count(parts),
+        tokens: stored_token_count(parts),
         statements: statement_count(parts),
         keys: parts.key_count(),
         values: parts.value_count(),
@@ -156,7 +155,7 @@ pub fn append_moved(
         (spec.moved_flat (spec.count_of from.now) (count_at at (flat out.old)) (spec.part_of from.now to.now (flat other.now)))) }
 {
     let new = counts_at(out, at);
-    append_marks(out, other, from, to, at)?;
+    append_tokens(out, other, from, to, at)?;
     append_statements(out, other, from, to, &new)?;
     append_keys(out, other, from, to, &new)?;
     append_values(out, other, from, to, &new)

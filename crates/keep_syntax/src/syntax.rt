@@ -17,8 +17,8 @@ use crate::reread::{replaced_parts, replaced_starts};
 use crate::tokens::Tokens;
 use crate::whole::read_lines;
 use keep_parts::{
-    KeyPart, Parts, Span, Starts, Statement, ValueInfo, mark_count, moved, statement_at,
-    statement_count,
+    KeyPart, Parts, Span, Starts, Statement, ValueInfo, moved, statement_at, statement_count,
+    stored_token_count,
 };
 pub use rereading::Replaced;
 use std::alloc::{AllocError, Global};
@@ -62,7 +62,7 @@ impl Syntax {
         ensures counted { (bytes : List ℕ) → result ≡ length (spec.tokens_of self.now bytes) }
         ensures few { (profile : Profile) (limit : ℕ) (bytes : List ℕ) → spec.IsReadOf profile limit bytes self.now → result ≤ length bytes + 1 }
     {
-        mark_count(&self.parts) + 1
+        stored_token_count(&self.parts) + 1
     }
 
     /// The tokens of the text that was read.
@@ -80,7 +80,7 @@ impl Syntax {
         statement_count(&self.parts)
     }
 
-    /// The statement of this number, from 0.
+    /// The statement with this number, from 0.
     pub fn statement(&self, number: usize) -> Statement
         requires { number < length (spec.statements_of self.now) }
         ensures { slice_get (spec.statements_of self.now) number ≡ Some result }
@@ -95,7 +95,7 @@ impl Syntax {
         self.parts.key_count()
     }
 
-    /// The key part of this number, from 0.
+    /// The key part with this number, from 0.
     pub fn key_part(&self, number: usize) -> KeyPart
         requires { number < length (spec.parts_of self.now) }
         ensures { slice_get (spec.parts_of self.now) number ≡ Some result }
@@ -110,8 +110,8 @@ impl Syntax {
         self.parts.value_count()
     }
 
-    /// The value of this number, from 0. A value comes before those inside it. Its depth is at most the limit to which the text
-    /// was read, and less than the limit for an array or an inline table.
+    /// The value with this number, from 0. A value comes before those inside it. Its depth is at most the limit to
+    /// which the text was read, and less than the limit for an array or an inline table.
     pub fn value(&self, number: usize) -> ValueInfo
         requires { number < length (spec.values_of self.now) }
         ensures stored { slice_get (spec.values_of self.now) number ≡ Some result }
@@ -157,7 +157,8 @@ impl Syntax {
         }
     }
 
-    /// The same. A number that no machine word holds is answered as out of memory: a text that memory holds has none.
+    /// Puts the parts of both syntaxes together. A number that no machine word holds is answered as out of memory: a
+    /// text that memory holds has none.
     fn with_lines(
         &self,
         alloc: Global,
@@ -182,7 +183,7 @@ impl Syntax {
         Ok(Syntax { parts, lines, len })
     }
 
-    /// What is kept of the text, each part by its number.
+    /// What is stored of the text, each part by its number.
     pub fn parts(&self) -> &Parts
         ensures { result.now ≡ self.now.parts }
     {

@@ -3,7 +3,7 @@ ghost use Rattle.std.specs.Prelude.{◌≡◌, ℕ, ◌+◌, ◌-◌, ◌<◌, �
 ghost use Rattle.keep_syntax.specs.Growth as spec;
 
 use crate::fault::ReadFault;
-use keep_parts::{Parts, push_mark};
+use keep_parts::{Parts, push_token};
 use keep_token::{Leaf, What};
 
 /// The byte at a place, or 0 past the end.
@@ -16,9 +16,9 @@ pub fn byte_at(text: &str, at: usize) -> u8
     }
 }
 
-/// Keeps a token of `len` bytes, the last of them an ASCII one, and tells where it ends.
+/// Stores a token of `len` bytes, the last of them an ASCII one, and tells where it ends.
 #[inline(always)]
-pub fn sign(
+pub fn punctuation(
     text: &str,
     at: usize,
     len: usize,
@@ -29,9 +29,9 @@ pub fn sign(
     requires some { 0 < len }
     requires within { at + len ≤ length text.now }
     requires ascii { slice_index text.now (at + len - 1) < 128 }
-    ensures { spec.SignRead text.now at len leaf (spec.flat out.old) (spec.flat out.new) result }
+    ensures { spec.PunctuationRead text.now at len leaf (spec.flat out.old) (spec.flat out.new) result }
 {
-    push_mark(out, leaf, at)?;
+    push_token(out, leaf, at)?;
     Ok(at + len)
 }
 

@@ -5,7 +5,7 @@ ghost use Rattle.keep_syntax.specs.Cut.{start_in, all_kinds};
 ghost use Rattle.keep_parts.specs.Flat.{flat};
 
 use crate::info::Token;
-use keep_parts::{Parts, Places, mark_at, mark_count, mark_starts};
+use keep_parts::{Parts, Places, stored_token_count, token_at, token_starts};
 use keep_token::Leaf;
 
 /// The tokens of a document in text order, `End` the last. The result of [`crate::Syntax::tokens`].
@@ -16,7 +16,7 @@ pub struct Tokens<'a> {
     next: usize,
     /// Where the token `next` begins.
     start: usize,
-    /// Where those behind it begin.
+    /// Where those after it begin.
     behind: Places<'a>,
     ghost cuts: { (n : ℕ) → IsCharBoundary text.now (start_in text.now (flat parts.now).starts n) },
     ghost forward: { (n : ℕ) → start_in text.now (flat parts.now).starts n ≤ start_in text.now (flat parts.now).starts (n + 1) },
@@ -24,14 +24,14 @@ pub struct Tokens<'a> {
     ghost rest: { places_left behind ≡ drop (next + 1) (flat parts.now).starts },
 }
 
-// the kind of the token of this number, `End` behind those that are kept
+// the kind of the token with this number, `End` after those that are stored
 fn kind_of(parts: &Parts, number: usize) -> Option<Leaf>
     ensures value { result ≡ slice_get (all_kinds (flat parts.now)) number }
     ensures small { IfSome result (λ _. number < 2 ^ 63) }
 {
-    let count = mark_count(parts);
+    let count = stored_token_count(parts);
     if number < count {
-        Some(mark_at(parts, number))
+        Some(token_at(parts, number))
     } else if number == count {
         Some(Leaf::End)
     } else {
@@ -41,11 +41,11 @@ fn kind_of(parts: &Parts, number: usize) -> Option<Leaf>
 
 impl<'a> Iterator for Tokens<'a> {
     ghost use Rattle.std.specs.Iterator.{YieldsFirstBy, item_count};
-    ghost use Rattle.keep_syntax.specs.Contract.{shown_token, left};
+    ghost use Rattle.keep_syntax.specs.Contract.{placed_token, left};
 
     type Item = Token<'a>;
 
-    ghost next_gives = { YieldsFirstBy shown_token left };
+    ghost next_gives = { YieldsFirstBy placed_token left };
 
     ghost remaining = { item_count left };
 
@@ -68,13 +68,13 @@ impl<'a> Tokens<'a> {
     ghost use Rattle.keep_syntax.specs.Cut.{cut_by};
     ghost use Rattle.keep_syntax.specs.Contract.{left};
 
-    /// All tokens that are kept of this text.
+    /// All tokens that are stored of this text.
     pub(crate) fn new(parts: &'a Parts, text: &'a str) -> Tokens<'a>
         requires cuts { (n : ℕ) → IsCharBoundary text.now (start_in text.now (flat parts.now).starts n) }
         requires forward { (n : ℕ) → start_in text.now (flat parts.now).starts n ≤ start_in text.now (flat parts.now).starts (n + 1) }
         ensures { left result ≡ cut_by (flat parts.now) text.now }
     {
-        let mut behind = mark_starts(parts);
+        let mut behind = token_starts(parts);
         let start = behind.next().unwrap_or(text.len());
         Tokens {
             parts,

@@ -9,9 +9,9 @@ ghost use Rattle.keep_syntax.specs.Reading.{open_byte, close_byte};
 use crate::fault::ReadFault;
 use crate::gap::{gap_in, is_free};
 use crate::info::{Brackets, Limits};
-use crate::key::name;
-use crate::text::{byte_at, misplaced, sign};
-use keep_parts::{Owner, Parts, Start, push_mark, push_value, set_comma, set_end};
+use crate::key::key_and_equals;
+use crate::text::{byte_at, misplaced, punctuation};
+use keep_parts::{Owner, Parts, Start, push_token, push_value, set_comma, set_end};
 use keep_token::{Leaf, Profile, What, scan_scalar};
 
 /// A string, a number, a date, a time or a truth value at the byte `at`, and where it ends.
@@ -27,7 +27,7 @@ fn scalar(
     ensures { spec.ScalarRead profile text.now at keys start.now (spec.flat out.old) (spec.flat out.new) result }
 {
     let (leaf, end) = scan_scalar(text, at, profile)?;
-    push_mark(out, leaf, at)?;
+    push_token(out, leaf, at)?;
     push_value(out, leaf, at, end, keys, start)?;
     Ok(end)
 }
@@ -59,7 +59,7 @@ fn close_byte(brackets: Brackets) -> u8
     }
 }
 
-/// What stands in the value of this number.
+/// What is in the value with this number.
 fn owner_in(brackets: Brackets, number: usize) -> Owner
     ensures { result ≡ spec.owner_in brackets number }
 {
@@ -70,7 +70,7 @@ fn owner_in(brackets: Brackets, number: usize) -> Owner
 }
 
 /// A keyval's name in an inline table, and nothing in an array; where the value begins.
-fn named(
+fn entry_key(
     text: &str,
     at: usize,
     profile: Profile,
@@ -82,13 +82,13 @@ fn named(
 {
     match brackets {
         Brackets::Array => Ok(at),
-        Brackets::Inline => name(text, at, profile, out),
+        Brackets::Inline => key_and_equals(text, at, profile, out),
     }
 }
 
-/// What follows the value of this number that ends at `at`: its gap, and a comma with the gap behind it unless the
-/// bracket closes. Where that ends, and where the comma stands.
-fn after(
+/// What follows the value with this number that ends at `at`: its gap, and a comma with the gap after it unless the
+/// bracket closes. Where that ends, and where the comma is.
+fn after_entry(
     text: &str,
     at: usize,
     profile: Profile,
@@ -103,7 +103,7 @@ fn after(
     let end = gap_in(text, at, profile, brackets, out)?;
     let byte = byte_at(text, end);
     if byte == b',' {
-        let behind = sign(text, end, 1, Leaf::Comma, out)?;
+        let behind = punctuation(text, end, 1, Leaf::Comma, out)?;
         set_comma(out, number, end);
         let next = gap_in(text, behind, profile, brackets, out)?;
         if !is_free(profile, brackets) && byte_at(text, next) == close_byte(brackets) {
@@ -120,7 +120,7 @@ fn after(
     }
 }
 
-/// `val`: the value at the byte `at`, and where it ends. It has `keys` key parts of its own, and stands in entries that
+/// `val`: the value at the byte `at`, and where it ends. It has `keys` key parts of its own, and is in entries that
 /// begin at `start`; `limits` tells how many more brackets may be opened.
 #[cycle(nesting)]
 pub fn value(
@@ -147,7 +147,7 @@ pub fn value(
     }
 }
 
-/// `array` or `inline-table`: the one whose bracket stands at the byte `at`, and where it ends.
+/// `array` or `inline-table`: the one whose bracket is at the byte `at`, and where it ends.
 #[cycle(nesting)]
 fn bracket(
     text: &str,
@@ -169,10 +169,10 @@ fn bracket(
         return Err(ReadFault::TooDeep { at });
     }
     let number = out.value_count();
-    let open = sign(text, at, 1, open_leaf(brackets), out)?;
+    let open = punctuation(text, at, 1, open_leaf(brackets), out)?;
     push_value(out, open_leaf(brackets), at, at, keys, start)?;
     let first = gap_in(text, open, limits.profile, brackets, out)?;
-    let inside = Start {
+    let nested = Start {
         at: first,
         values: out.value_count(),
         parts: out.key_count(),
@@ -184,13 +184,13 @@ fn bracket(
         depth: limits.depth - 1,
         profile: limits.profile,
     };
-    let close = entries(text, inner, brackets, &inside, out)?;
-    let end = sign(text, close, 1, close_leaf(brackets), out)?;
+    let close = entries(text, inner, brackets, &nested, out)?;
+    let end = punctuation(text, close, 1, close_leaf(brackets), out)?;
     set_end(out, number, end);
     Ok(end)
 }
 
-/// The items or keyvals from `start` on, up to the closing bracket, and where that stands.
+/// The items or keyvals from `start` on, up to the closing bracket, and where that is.
 #[cycle(nesting)]
 fn entries(
     text: &str,
@@ -224,7 +224,7 @@ fn entries(
 }
 
 /// An item or a keyval with what follows it up to the next or the closing bracket; where that ends, and where the comma
-/// behind it stands.
+/// after it is.
 #[cycle(nesting)]
 fn item(
     text: &str,
@@ -239,8 +239,8 @@ fn item(
     requires depth { start.now.depth + limits.depth < 2 ^ 16 }
     ensures { spec.ItemRead brackets limits.profile limits.depth text.now start.now (spec.flat out.old) (spec.flat out.new) result }
 {
-    let begin = named(text, start.at, limits.profile, brackets, out)?;
+    let begin = entry_key(text, start.at, limits.profile, brackets, out)?;
     let keys = out.key_count() - start.parts;
     let end = value(text, begin, limits, keys, start, out)?;
-    after(text, end, limits.profile, brackets, start.values, out)
+    after_entry(text, end, limits.profile, brackets, start.values, out)
 }

@@ -1,4 +1,4 @@
--- Escapes and line-ending backslashes are ASCII, so that a text may be cut behind them.
+-- Escapes and line-ending backslashes are ASCII, so that a text may be cut after them.
 use Rattle.std.proofs.Common.{◌≡◌, ℕ, zero, suc, ◌<◌, true, ◌||◌, ◌==◌, List, [], ◌∷◌, ◌++◌, length, take, refl, sym, ap, ◌∙◌, subst, arith, inl, inr, take_at, length-append}
 use Rattle.std.specs.List.{list_all}
 use Rattle.std.specs.Char.{is_digit}
@@ -74,12 +74,12 @@ pub line_end_ascii : (a b c : List ℕ) → IsMlBasicPiece Wide (LineEnd a b c) 
 line_end_ascii a b c h =
     ascii_more 0x5C (a ++ (b ++ c)) (omega arith) (IsAscii-append a (b ++ c) (white_ascii a h.0) (IsAscii-append b c (newline_ascii b h.1) (blank_ascii c h.2)))
 
--- a text may be cut behind ASCII
-pub cut_behind : (text front rest : List ℕ) → text ≡ front ++ rest → IsUtf8 text → IsAscii front → IsCharBoundary text (length front)
-cut_behind text front rest e u ascii =
-    let same : take (length front) text ≡ front = ap (take (length front)) e ∙ take_at front rest (length front) refl in
-    IsCharBoundary-from_take text (length front) u (omega (arith, ap length e, length-append front rest)) (subst IsUtf8 (sym same) (IsUtf8-from_ascii front ascii))
+-- a text may be cut after ASCII
+pub cut_after : (text prefix rest : List ℕ) → text ≡ prefix ++ rest → IsUtf8 text → IsAscii prefix → IsCharBoundary text (length prefix)
+cut_after text prefix rest e u ascii =
+    let same : take (length prefix) text ≡ prefix = ap (take (length prefix)) e ∙ take_at prefix rest (length prefix) refl in
+    IsCharBoundary-from_take text (length prefix) u (omega (arith, ap length e, length-append prefix rest)) (subst IsUtf8 (sym same) (IsUtf8-from_ascii prefix ascii))
 
--- and in front of it
-pub cut_before : (text front back : List ℕ) → text ≡ front ++ back → IsAscii back → IsCharBoundary text (length front)
-cut_before text front back e ascii = IsCharBoundary-at_seam text front back e (IsUtf8-from_ascii back ascii)
+-- and before it
+pub cut_before : (text prefix back : List ℕ) → text ≡ prefix ++ back → IsAscii back → IsCharBoundary text (length prefix)
+cut_before text prefix back e ascii = IsCharBoundary-at_seam text prefix back e (IsUtf8-from_ascii back ascii)

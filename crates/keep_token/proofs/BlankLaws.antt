@@ -1,4 +1,4 @@
--- How tabs, spaces and newlines go on from a place.
+-- How tabs, spaces and newlines continue from a place.
 use Rattle.std.proofs.Common.{◌≡◌, ℕ, ◌+◌, ◌<◌, true, false, ◌&&◌, ◌==◌, List, [], ◌∷◌, length, get_or, drop, refl, ap, arith, inl, inr, add-zero, get_or-drop, length-drop}
 use Rattle.std.proofs.lemmas.Bool.{cases_Bool}
 use Rattle.std.proofs.lemmas.List.{drop-drop}

@@ -74,7 +74,7 @@ date_spelled a b c d e f g h i j year month day p q r s t u = cc
 pub date_from : (t : List ℕ) → is_date t ≡ true → LocalDate t
 date_from (a ∷ b ∷ c ∷ d ∷ e ∷ f ∷ g ∷ h ∷ i ∷ j ∷ []) k =
     let (at_a, at_b, at_c, at_d, at_e, at_f, at_g, at_h, at_i, at_j, m_from, m_to, d_from, d_to) = date_is a b c d e f g h i j k in
-    let (front, front_below) = two_pair a b at_a at_b in
+    let (prefix, prefix_below) = two_pair a b at_a at_b in
     let (back, back_below) = two_pair c d at_c at_d in
     let high : (pair a b * 100 + pair c d) / 100 ≡ pair a b = omega arith in
     let low : (pair a b * 100 + pair c d) % 100 ≡ pair c d = omega arith in (
@@ -86,7 +86,7 @@ date_from (a ∷ b ∷ c ∷ d ∷ e ∷ f ∷ g ∷ h ∷ i ∷ j ∷ []) k =
       leb-true _ _ m_to,
       leb-true _ _ d_from,
       leb-true _ _ d_to,
-      date_spelled a b c d e f g h i j (pair a b * 100 + pair c d) (pair f g) (pair i j) (ap two high ∙ front) (ap two low ∙ back) (eqb-true e 0x2D at_e) (two_pair f g at_f at_g).0 (eqb-true h 0x2D at_h) (two_pair i j at_i at_j).0,
+      date_spelled a b c d e f g h i j (pair a b * 100 + pair c d) (pair f g) (pair i j) (ap two high ∙ prefix) (ap two low ∙ back) (eqb-true e 0x2D at_e) (two_pair f g at_f at_g).0 (eqb-true h 0x2D at_h) (two_pair i j at_i at_j).0,
     )
 date_from _ k = absurd cc
 
@@ -119,9 +119,9 @@ minutes_from _ k = absurd cc
 
 -- ---- times
 
--- hh:mm in front
-minutes_front : (a rest : List ℕ) → Minutes a → (is_minutes (take 5 (a ++ rest)) ≡ true) × (drop 5 (a ++ rest) ≡ rest)
-minutes_front a rest h =
+-- hh:mm at the start
+minutes_prefix : (a rest : List ℕ) → Minutes a → (is_minutes (take 5 (a ++ rest)) ≡ true) × (drop 5 (a ++ rest) ≡ rest)
+minutes_prefix a rest h =
     let (test, five) = minutes_to a h in
     (rw (take_at a rest 5 five) test, drop_at a rest 5 five)
 
@@ -139,7 +139,7 @@ fraction_from (c ∷ d ∷ ds) k =
 
 strict_time_to : (profile : Profile) (t : List ℕ) → (Seconds ⨾ Maybe SecondFraction) t → is_time profile t ≡ true
 strict_time_to profile t (ab, c, e, (a, b, f, minutes, (s, s_to, g)), fraction) =
-    let (test, rest) = minutes_front a (b ++ c) minutes in
+    let (test, rest) = minutes_prefix a (b ++ c) minutes in
     let below : s < 100 = omega arith in
     let ends : is_time_end (b ++ c) ≡ true = rw g (rw (tens s below, ones s, pair_two s below, le-leb _ _ s_to) (fraction_to c fraction)) in
     rw (e, f) (subst (λ (u : List ℕ). is_time profile u ≡ true) (sym (append_assoc a b c))
@@ -150,7 +150,7 @@ pub time_to : (profile : Profile) (t : List ℕ) → LocalTime profile t → is_
 time_to Strict t h = strict_time_to Strict t h
 time_to Wide t (inl h) = strict_time_to Wide t h
 time_to Wide t (inr h) =
-    let (test, rest) = minutes_front t [] h in
+    let (test, rest) = minutes_prefix t [] h in
     subst (λ (u : List ℕ). is_time Wide u ≡ true) (append-nil t)
     (and_from (is_minutes (take 5 (t ++ []))) (is_time_end (drop 5 (t ++ [])) || is_short Wide (drop 5 (t ++ []))) test (rw rest refl))
 
@@ -189,18 +189,18 @@ time_parts_from Wide m (c ∷ cs) h k =
 
 pub time_from : (profile : Profile) (t : List ℕ) → is_time profile t ≡ true → LocalTime profile t
 time_from profile t k =
-    let (front, back) = and_parts (is_minutes (take 5 t)) (is_time_end (drop 5 t) || is_short profile (drop 5 t)) k in
-    subst (LocalTime profile) (take-append-drop 5 t) (time_parts_from profile (take 5 t) (drop 5 t) (minutes_from (take 5 t) front) back)
+    let (prefix, back) = and_parts (is_minutes (take 5 t)) (is_time_end (drop 5 t) || is_short profile (drop 5 t)) k in
+    subst (LocalTime profile) (take-append-drop 5 t) (time_parts_from profile (take 5 t) (drop 5 t) (minutes_from (take 5 t) prefix) back)
 
 -- ---- dates with times
 
 pub date_ten : (t : List ℕ) → LocalDate t → length t ≡ 10
 date_ten t (y, m, d, y_below, m_from, m_to, d_from, d_to, e) = rw e refl
 
--- the bytes behind a front and one byte
-pub drop_behind : (a : List ℕ) (c : ℕ) (rest : List ℕ) (n : ℕ) → n ≡ suc (length a) → drop n (a ++ (c ∷ rest)) ≡ rest
-drop_behind [] c rest n h = rw h refl
-drop_behind (x ∷ xs) c rest n h = rw h (drop_behind xs c rest (suc (length xs)) refl)
+-- the bytes after a prefix and one byte
+pub drop_after : (a : List ℕ) (c : ℕ) (rest : List ℕ) (n : ℕ) → n ≡ suc (length a) → drop n (a ++ (c ∷ rest)) ≡ rest
+drop_after [] c rest n h = rw h refl
+drop_after (x ∷ xs) c rest n h = rw h (drop_after xs c rest (suc (length xs)) refl)
 
 -- a place whose byte passes is in the text
 pub within : (t : List ℕ) (n : ℕ) (p : ℕ → Bool) → p 0 ≡ false → p (slice_index t n) ≡ true → n < length t
@@ -213,10 +213,10 @@ within t n p none k =
 pub date_time_to : (profile : Profile) (t : List ℕ) → LocalDateTime profile t → is_date_time profile t ≡ true
 date_time_to profile t (a, b, e, date, (s, time, f, (c, one, sep), is)) =
     let ten = date_ten a date in
-    let rest : drop 11 (a ++ (c ∷ time)) ≡ time = drop_behind a c time 11 (omega arith) in
+    let rest : drop 11 (a ++ (c ∷ time)) ≡ time = drop_after a c time 11 (omega arith) in
     rw (e, f, one) (rw (take_at a (c ∷ time) 10 ten, get_or_at a c time 0 10 ten, rest, date_to a date, sep) (time_to profile time is))
 
--- a text by the bytes before a place, the byte there and the bytes behind it
+-- a text by the bytes before a place, the byte there and the bytes after it
 pub parted : (t : List ℕ) (n : ℕ) → n < length t → t ≡ take n t ++ (slice_index t n ∷ drop (suc n) t)
 parted t n h = sym (take-append-drop n t) ∙ ap (λ (u : List ℕ). take n t ++ u) (drop-cons t n 0 h)
 
@@ -233,22 +233,22 @@ date_time_from profile t k =
 
 -- ---- dates and times with an offset
 
--- a text cut at a place: the byte there, the bytes before it and those behind it
+-- a text cut at a place: the byte there, the bytes before it and those after it
 split_at : (a : List ℕ) (c : ℕ) (m : List ℕ) (n : ℕ) → n ≡ length a
     → (slice_index (a ++ (c ∷ m)) n ≡ c) × (take n (a ++ (c ∷ m)) ≡ a) × (drop (suc n) (a ++ (c ∷ m)) ≡ m)
-split_at a c m n h = (get_or_at a c m 0 n (sym h), take_at a (c ∷ m) n (sym h), drop_behind a c m (suc n) (ap suc h))
+split_at a c m n h = (get_or_at a c m 0 n (sym h), take_at a (c ∷ m) n (sym h), drop_after a c m (suc n) (ap suc h))
 
 ends_in_zulu : (profile : Profile) (a : List ℕ) (c : ℕ) (n : ℕ) → n ≡ length a → is_zulu c ≡ true → is_date_time profile a ≡ true
     → (is_zulu (slice_index (a ++ (c ∷ [])) n) && is_date_time profile (take n (a ++ (c ∷ [])))) ≡ true
 ends_in_zulu profile a c n h zulu date =
-    let (at, front, behind) = split_at a c [] n h in
-    rw (at, front, zulu) date
+    let (at, prefix, behind) = split_at a c [] n h in
+    rw (at, prefix, zulu) date
 
 ends_in_minutes : (profile : Profile) (a : List ℕ) (c : ℕ) (m : List ℕ) (n k : ℕ) → n ≡ length a → k ≡ suc n → is_sign c ≡ true → is_minutes m ≡ true → is_date_time profile a ≡ true
     → ((is_sign (slice_index (a ++ (c ∷ m)) n) && is_minutes (drop k (a ++ (c ∷ m)))) && is_date_time profile (take n (a ++ (c ∷ m)))) ≡ true
 ends_in_minutes profile a c m n k h g sign minutes date =
-    let (at, front, behind) = split_at a c m n h in
-    rw (g, at, front, behind, sign, minutes) date
+    let (at, prefix, behind) = split_at a c m n h in
+    rw (g, at, prefix, behind, sign, minutes) date
 
 pub offset_date_time_to : (profile : Profile) (t : List ℕ) → OffsetDateTime profile t → is_offset_date_time profile t ≡ true
 offset_date_time_to profile t (a, b, e, local, inl (c, one, zulu)) =
@@ -287,9 +287,9 @@ minutes_offset_from profile t n h sign minutes local = (
   inr (slice_index t n ∷ [], drop (suc n) t, refl, (slice_index t n, refl, sign), minutes_from (drop (suc n) t) minutes),
 )
 
--- a text whose front is a date and a time is longer than the front's bound
-front_long : (profile : Profile) (t : List ℕ) (n : ℕ) → is_date_time profile (take n t) ≡ true → 10 < n
-front_long profile t n k = omega (arith, date_time_some profile (take n t) k, length-take n t)
+-- a text whose prefix is a date and a time is longer than the prefix's bound
+prefix_long : (profile : Profile) (t : List ℕ) (n : ℕ) → is_date_time profile (take n t) ≡ true → 10 < n
+prefix_long profile t n k = omega (arith, date_time_some profile (take n t) k, length-take n t)
 
 pub offset_date_time_from : (profile : Profile) (t : List ℕ) → is_offset_date_time profile t ≡ true → OffsetDateTime profile t
 offset_date_time_from profile t k =
@@ -297,11 +297,11 @@ offset_date_time_from profile t k =
     elim (or_cases (is_zulu (slice_index t (n - 1)) && is_date_time profile (take (n - 1) t)) ((is_sign (slice_index t (n - 6)) && is_minutes (drop (n - 5) t)) && is_date_time profile (take (n - 6) t)) k) [
       | inl z ↦
           let (zulu, local) = and_parts (is_zulu (slice_index t (n - 1))) (is_date_time profile (take (n - 1) t)) z in
-          zulu_from profile t (n - 1) (omega (arith, front_long profile t (n - 1) local)) zulu local
+          zulu_from profile t (n - 1) (omega (arith, prefix_long profile t (n - 1) local)) zulu local
       | inr m ↦
-          let (front, local) = and_parts (is_sign (slice_index t (n - 6)) && is_minutes (drop (n - 5) t)) (is_date_time profile (take (n - 6) t)) m in
-          let (sign, minutes) = and_parts (is_sign (slice_index t (n - 6))) (is_minutes (drop (n - 5) t)) front in
-          let long = front_long profile t (n - 6) local in
+          let (prefix, local) = and_parts (is_sign (slice_index t (n - 6)) && is_minutes (drop (n - 5) t)) (is_date_time profile (take (n - 6) t)) m in
+          let (sign, minutes) = and_parts (is_sign (slice_index t (n - 6))) (is_minutes (drop (n - 5) t)) prefix in
+          let long = prefix_long profile t (n - 6) local in
           let next : n - 5 ≡ suc (n - 6) = omega arith in
           minutes_offset_from profile t (n - 6) (omega arith) sign (rw next at minutes) local
     ]

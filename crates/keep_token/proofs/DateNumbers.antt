@@ -40,21 +40,21 @@ colon_stops : (c : ℕ) → c ≡ 0x3A → is_stop c ≡ true
 colon_stops c e = rw e refl
 
 pub date_begins : (t : List ℕ) → is_date t ≡ true → BeginsAsDate t
-date_begins t k = let s = date_shows t k in begins_at t 4 (omega arith) (omega (arith, s.ten)) s.front (dash_stops (slice_index t 4) s.dash)
+date_begins t k = let s = date_shows t k in begins_at t 4 (omega arith) (omega (arith, s.ten)) s.prefix (dash_stops (slice_index t 4) s.dash)
 
 pub time_begins : (profile : Profile) (t : List ℕ) → is_time profile t ≡ true → BeginsAsDate t
-time_begins profile t k = let s = time_shows profile t k in begins_at t 2 (omega arith) (omega (arith, s.long)) s.front (colon_stops (slice_index t 2) s.colon)
+time_begins profile t k = let s = time_shows profile t k in begins_at t 2 (omega arith) (omega (arith, s.long)) s.prefix (colon_stops (slice_index t 2) s.colon)
 
-shown_begins : (t : List ℕ) → ShowsDateTime t → BeginsAsDate t
-shown_begins t s = begins_at t 4 (omega arith) (omega (arith, s.long)) s.front (dash_stops (slice_index t 4) s.dash)
+seen_begins : (t : List ℕ) → ShowsDateTime t → BeginsAsDate t
+seen_begins t s = begins_at t 4 (omega arith) (omega (arith, s.long)) s.prefix (dash_stops (slice_index t 4) s.dash)
 
 pub date_time_begins : (profile : Profile) (t : List ℕ) → is_date_time profile t ≡ true → BeginsAsDate t
-date_time_begins profile t k = shown_begins t (date_time_shows profile t k)
+date_time_begins profile t k = seen_begins t (date_time_shows profile t k)
 
 pub offset_date_time_begins : (profile : Profile) (t : List ℕ) → is_offset_date_time profile t ≡ true → BeginsAsDate t
-offset_date_time_begins profile t k = shown_begins t (offset_date_time_shows profile t k)
+offset_date_time_begins profile t k = seen_begins t (offset_date_time_shows profile t k)
 
--- ---- no digits go on past a dash or a colon
+-- ---- no digits continue past a dash or a colon
 
 stop_is : (c : ℕ) → is_stop c ≡ true → (is_ascii_digit c ≡ false) × (is_underscore c ≡ false) × (is_whole c ≡ true)
 stop_is c h = (grind (arith, nat_tests), grind (arith, nat_tests), grind (arith, nat_tests))

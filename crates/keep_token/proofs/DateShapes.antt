@@ -23,7 +23,7 @@ pub record ShowsDate (t : List ℕ) : Type 0 where
   pub ten : length t ≡ 10
   pub shape : has_date_shape t ≡ true
   pub digit : is_ascii_digit (slice_index t 0) ≡ true
-  pub front : list_all is_ascii_digit (take 4 t) ≡ true
+  pub prefix : list_all is_ascii_digit (take 4 t) ≡ true
   pub third : is_ascii_digit (slice_index t 2) ≡ true
   pub dash : slice_index t 4 ≡ 0x2D
   pub words : list_all is_word t ≡ true
@@ -38,7 +38,7 @@ date_shows (a ∷ b ∷ c ∷ d ∷ e ∷ f ∷ g ∷ h ∷ i ∷ j ∷ []) k =
       ten = refl;
       shape = rw (at_a, at_b, at_c, at_d, at_e, at_f, at_g, at_h, at_i, at_j) refl;
       digit = at_a;
-      front = rw (at_a, at_b, at_c, at_d) refl;
+      prefix = rw (at_a, at_b, at_c, at_d) refl;
       third = at_c;
       dash = eqb-true e 0x2D at_e;
       words = rw (digit_word a at_a, digit_word b at_b, digit_word c at_c, digit_word d at_d, eqb-true e 0x2D at_e, digit_word f at_f, digit_word g at_g, eqb-true h 0x2D at_h, digit_word i at_i, digit_word j at_j) refl;
@@ -55,7 +55,7 @@ is_clock c = (is_ascii_digit c || c == 0x2E) || c == 0x3A
 pub record ShowsTime (t : List ℕ) : Type 0 where
   pub long : 4 < length t
   pub digit : is_ascii_digit (slice_index t 0) ≡ true
-  pub front : list_all is_ascii_digit (take 2 t) ≡ true
+  pub prefix : list_all is_ascii_digit (take 2 t) ≡ true
   pub colon : slice_index t 2 ≡ 0x3A
   pub fifth : is_ascii_digit (slice_index t 4) ≡ true
   pub clock : list_all is_clock t ≡ true
@@ -108,7 +108,7 @@ time_shows profile (a ∷ b ∷ c ∷ d ∷ e ∷ more) k =
     record {
       long = omega arith;
       digit = at_a;
-      front = rw (at_a, at_b) refl;
+      prefix = rw (at_a, at_b) refl;
       colon = eqb-true c 0x3A at_c;
       fifth = at_e;
       clock = rw (digit_clock a at_a, digit_clock b at_b, eqb-true c 0x3A at_c, digit_clock d at_d, digit_clock e at_e) (time_rest_clock profile more rest);
@@ -125,7 +125,7 @@ pub record ShowsDateTime (t : List ℕ) : Type 0 where
   pub long : 15 < length t
   pub date : is_date (take 10 t) ≡ true
   pub digit : is_ascii_digit (slice_index t 0) ≡ true
-  pub front : list_all is_ascii_digit (take 4 t) ≡ true
+  pub prefix : list_all is_ascii_digit (take 4 t) ≡ true
   pub third : is_ascii_digit (slice_index t 2) ≡ true
   pub dash : slice_index t 4 ≡ 0x2D
   pub between : is_between_date_and_time (slice_index t 10) ≡ true
@@ -151,7 +151,7 @@ date_time_shows profile t k =
       long = omega (arith, w.long, length-drop 11 t);
       date = date;
       digit = rw (get_or-take 10 t 0 0 (omega arith)) at d.digit;
-      front = rw (take-take 4 10 t (omega arith)) at d.front;
+      prefix = rw (take-take 4 10 t (omega arith)) at d.prefix;
       third = rw (get_or-take 10 t 2 0 (omega arith)) at d.third;
       dash = rw (get_or-take 10 t 4 0 (omega arith)) at d.dash;
       between = between;
@@ -174,7 +174,7 @@ shows_longer a b s h =
       long = omega (arith, length-append a b);
       date = rw ten s.date;
       digit = rw at_0 s.digit;
-      front = rw four s.front;
+      prefix = rw four s.prefix;
       third = rw at_2 s.third;
       dash = rw at_4 s.dash;
       between = rw at_10 s.between;
@@ -257,7 +257,7 @@ offset_no_clock : (a : List ℕ) (c : ℕ) (m : List ℕ) → 11 ≤ length a �
 offset_no_clock a c m long other all =
     let rest : drop 11 (a ++ (c ∷ m)) ≡ drop 11 a ++ (c ∷ m) = drop-append-le 11 a (c ∷ m) long in
     let split = rw (rest, list_all-append is_clock (drop 11 a) (c ∷ m), other) at all in
-    let (front, never) = and_parts (list_all is_clock (drop 11 a)) false split in
+    let (prefix, never) = and_parts (list_all is_clock (drop 11 a)) false split in
     cc
 
 pub date_time_not_offset_date_time : (profile : Profile) (t : List ℕ) → is_date_time profile t ≡ true → is_offset_date_time profile t ≡ false
@@ -277,6 +277,6 @@ offset_date_time_not_time profile t = other_way (is_time profile t) (is_offset_d
 pub offset_date_time_not_date_time : (profile : Profile) (t : List ℕ) → is_offset_date_time profile t ≡ true → is_date_time profile t ≡ false
 offset_date_time_not_date_time profile t = other_way (is_date_time profile t) (is_offset_date_time profile t) (date_time_not_offset_date_time profile t)
 
--- a text too short for a date and a time has no offset behind them
+-- a text too short for a date and a time has no offset after them
 pub short_no_offset : (profile : Profile) (t : List ℕ) → length t < 16 → is_offset_date_time profile t ≡ false
 short_no_offset profile t short = refuted (is_offset_date_time profile t) (λ h. omega (arith, (offset_date_time_shows profile t h).long))

@@ -48,14 +48,14 @@ digits_text d (c ∷ cs) h =
     let m = and_parts (is_ascii_digit c) (list_all is_ascii_digit cs) k.1 in
     rw (no_underscore c m.0) (and_from (is_ascii_digit d) (is_digits is_ascii_digit (c ∷ cs)) k.0 (digits_text c cs k.1))
 
-all_kept : (ds : List ℕ) → list_all is_ascii_digit ds ≡ true → filter (λ c. not (is_underscore c)) ds ≡ ds
-all_kept [] h = refl
-all_kept (c ∷ cs) h =
+all_preserved : (ds : List ℕ) → list_all is_ascii_digit ds ≡ true → filter (λ c. not (is_underscore c)) ds ≡ ds
+all_preserved [] h = refl
+all_preserved (c ∷ cs) h =
     let k = and_parts (is_ascii_digit c) (list_all is_ascii_digit cs) h in
-    rw (no_underscore c k.0) (ap (λ (t : List ℕ). c ∷ t) (all_kept cs k.1))
+    rw (no_underscore c k.0) (ap (λ (t : List ℕ). c ∷ t) (all_preserved cs k.1))
 
 value_is : (ds : List ℕ) → list_all is_ascii_digit ds ≡ true → digits_value 10 ds ≡ sum_of_digits 10 ds
-value_is ds h = ap (sum_of_digits 10) (all_kept ds h)
+value_is ds h = ap (sum_of_digits 10) (all_preserved ds h)
 
 leads : (d : ℕ) → is_ascii_digit d ≡ true → 48 < d → between 0x31 0x39 d ≡ true
 leads d h k = grind (arith, nat_tests)

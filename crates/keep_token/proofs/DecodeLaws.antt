@@ -16,7 +16,7 @@ use Rattle.keep_token.specs.PieceLens.{piece_len}
 use Rattle.keep_token.proofs.StringSteps.{Stops}
 use Rattle.keep_token.proofs.StringManyLines.{blank_len_none, takes_all_rest}
 use Rattle.keep_token.proofs.StringPieces.{ml_basic_laws}
-use Rattle.keep_token.proofs.AsciiPieces.{letter_piece_ascii, number_piece_ascii, line_end_ascii, cut_behind}
+use Rattle.keep_token.proofs.AsciiPieces.{letter_piece_ascii, number_piece_ascii, line_end_ascii, cut_after}
 
 -- a byte that is no backslash
 abbrev pub is_plain : ℕ → Bool
@@ -123,7 +123,7 @@ stops_body (Letter b) ps h all = tt
 stops_body (Number b ds) ps h all = tt
 stops_body (Break b) ps h all = tt
 
--- the piece at a backslash: its text, which is ASCII, and what is left behind it
+-- the piece at a backslash: its text, which is ASCII, and what is left after it
 pub record Here (ps : List Piece) (rest behind value : List ℕ) : Type 0 where
   pub piece : Piece
   pub found : or_else (escape_at Wide behind) (line_end_at behind) ≡ Some piece
@@ -173,14 +173,14 @@ pub left_here : (ps : List Piece) (body value : List ℕ) (stop : ℕ) → LeftO
 left_here ps body value stop l h byte =
     here_of ps (drop stop body) (drop (stop + 1) body) value l.back (drop_more body stop 0 h ∙ ap (λ (c : ℕ). c ∷ drop (stop + 1) body) byte) l.spelled l.each l.whole l.given
 
-behind_here : (ps : List Piece) (body value : List ℕ) (stop n : ℕ) (h : Here ps (drop stop body) (drop (stop + 1) body) value) → n ≡ length (piece_text h.piece) → h.more ≡ drop (stop + n) body
-behind_here ps body value stop n h e =
+after_here : (ps : List Piece) (body value : List ℕ) (stop n : ℕ) (h : Here ps (drop stop body) (drop (stop + 1) body) value) → n ≡ length (piece_text h.piece) → h.more ≡ drop (stop + n) body
+after_here ps body value stop n h e =
     sym (drop_at (piece_text h.piece) h.more n (sym e)) ∙ ap (drop n) (sym h.spelled) ∙ drop-drop n stop body
 
--- a text may be cut behind the piece
+-- a text may be cut after the piece
 pub cut_here : (ps : List Piece) (body value : List ℕ) (stop n : ℕ) (h : Here ps (drop stop body) (drop (stop + 1) body) value) → n ≡ length (piece_text h.piece) → IsUtf8 body → IsCharBoundary body stop → IsCharBoundary body (stop + n)
 cut_here ps body value stop n h e u here =
-    let cut = cut_behind (drop stop body) (piece_text h.piece) h.more h.spelled (IsUtf8-drop body stop u here) h.ascii in
+    let cut = cut_after (drop stop body) (piece_text h.piece) h.more h.spelled (IsUtf8-drop body stop u here) h.ascii in
     IsCharBoundary-from_rest body stop n here.0 (subst (λ k. IsCharBoundary (drop stop body) k) (sym e) cut)
 
 -- the piece is the escape that is found, or else the line-ending backslash
@@ -192,7 +192,7 @@ here_escape ps rest behind value h q e =
 pub here_line_end : (ps : List Piece) (rest behind value : List ℕ) (h : Here ps rest behind value) → escape_at Wide behind ≡ None → line_end_at behind ≡ Some h.piece
 here_line_end ps rest behind value h e = ap (λ (o : Option Piece). or_else o (line_end_at behind)) (sym e) ∙ h.found
 
--- ---- one turn
+-- ---- one iteration
 
 -- where a run stops, the text may be cut
 pub cut_stop : (body : List ℕ) (at n : ℕ) → n ≡ prefix_len is_plain (drop at body) → at + n ≤ length body → IsCharBoundary body (at + n)
@@ -208,24 +208,24 @@ after_run ps body value part new at n l e cut grown =
     let same : part ≡ take n (drop at body) = cut ∙ ap (λ k. take k (drop at body)) (omega arith) in
     subst (LeftOf ps (drop (at + n) body)) (sym (grown ∙ ap (λ t. value ++ t) same)) (left_run ps body value at n l e)
 
--- what holds again behind a piece
-pub record Turn (ps : List Piece) (body new : List ℕ) (at : ℕ) : Type 0 where
+-- what holds again after a piece
+pub record Iteration (ps : List Piece) (body new : List ℕ) (at : ℕ) : Type 0 where
   pub cut : IsCharBoundary body at
   pub left : LeftOf ps (drop at body) new
 
-turn : (ps : List Piece) (body value new : List ℕ) (stop n : ℕ) (h : Here ps (drop stop body) (drop (stop + 1) body) value) → n ≡ length (piece_text h.piece) → new ≡ value ++ piece_value h.piece → IsUtf8 body → IsCharBoundary body stop
-    → Turn ps body new (stop + n)
-turn ps body value new stop n h e grown u cut = record {
+iteration : (ps : List Piece) (body value new : List ℕ) (stop n : ℕ) (h : Here ps (drop stop body) (drop (stop + 1) body) value) → n ≡ length (piece_text h.piece) → new ≡ value ++ piece_value h.piece → IsUtf8 body → IsCharBoundary body stop
+    → Iteration ps body new (stop + n)
+iteration ps body value new stop n h e grown u cut = record {
   cut = cut_here ps body value stop n h e u cut;
-  left = subst (λ t. LeftOf ps t new) (behind_here ps body value stop n h e) (subst (LeftOf ps h.more) (sym grown) h.left);
+  left = subst (λ t. LeftOf ps t new) (after_here ps body value stop n h e) (subst (LeftOf ps h.more) (sym grown) h.left);
 }
 
-pub turn_escape : (ps : List Piece) (body value bytes new : List ℕ) (stop n : ℕ) (q : Piece) → LeftOf ps (drop stop body) value → stop < length body → get_or body stop 0 ≡ 0x5C
-    → escape_at Wide (drop (stop + 1) body) ≡ Some q → n ≡ length (piece_text q) → bytes ≡ piece_value q → new ≡ value ++ bytes → IsUtf8 body → IsCharBoundary body stop → Turn ps body new (stop + n)
-turn_escape ps body value bytes new stop n q l h byte found len given grown u cut =
+pub iteration_escape : (ps : List Piece) (body value bytes new : List ℕ) (stop n : ℕ) (q : Piece) → LeftOf ps (drop stop body) value → stop < length body → get_or body stop 0 ≡ 0x5C
+    → escape_at Wide (drop (stop + 1) body) ≡ Some q → n ≡ length (piece_text q) → bytes ≡ piece_value q → new ≡ value ++ bytes → IsUtf8 body → IsCharBoundary body stop → Iteration ps body new (stop + n)
+iteration_escape ps body value bytes new stop n q l h byte found len given grown u cut =
     let here = left_here ps body value stop l h byte in
     let same = here_escape ps (drop stop body) (drop (stop + 1) body) value here q found in
-    turn ps body value new stop n here (len ∙ ap (λ p. length (piece_text p)) same) (grown ∙ ap (λ t. value ++ t) (given ∙ ap piece_value same)) u cut
+    iteration ps body value new stop n here (len ∙ ap (λ p. length (piece_text p)) same) (grown ∙ ap (λ t. value ++ t) (given ∙ ap piece_value same)) u cut
 
 line_end_value : (p : Piece) (a b c : List ℕ) → Some (LineEnd a b c) ≡ Some p → piece_value p ≡ []
 line_end_value p a b c e = let f : LineEnd a b c ≡ p = cc in ap piece_value (sym f)
@@ -239,18 +239,18 @@ line_end_gives text p e =
       | inr f ↦ let g = rw f at e in line_end_value p _ _ _ g
     ]
 
-pub turn_line_end : (ps : List Piece) (body value : List ℕ) (stop n : ℕ) → LeftOf ps (drop stop body) value → stop < length body → get_or body stop 0 ≡ 0x5C
-    → escape_at Wide (drop (stop + 1) body) ≡ None → piece_len (line_end_at (drop (stop + 1) body)) ≡ Some n → IsUtf8 body → IsCharBoundary body stop → Turn ps body value (stop + n)
-turn_line_end ps body value stop n l h byte none found u cut =
+pub iteration_line_end : (ps : List Piece) (body value : List ℕ) (stop n : ℕ) → LeftOf ps (drop stop body) value → stop < length body → get_or body stop 0 ≡ 0x5C
+    → escape_at Wide (drop (stop + 1) body) ≡ None → piece_len (line_end_at (drop (stop + 1) body)) ≡ Some n → IsUtf8 body → IsCharBoundary body stop → Iteration ps body value (stop + n)
+iteration_line_end ps body value stop n l h byte none found u cut =
     let here = left_here ps body value stop l h byte in
     let line = here_line_end ps (drop stop body) (drop (stop + 1) body) value here none in
     let len : Some n ≡ Some (length (piece_text here.piece)) = sym found ∙ ap piece_len line in
     let empty = line_end_gives (drop (stop + 1) body) here.piece line in
-    turn ps body value value stop n here (cc) (sym (append-nil value) ∙ ap (λ t. value ++ t) (sym empty)) u cut
+    iteration ps body value value stop n here (cc) (sym (append-nil value) ∙ ap (λ t. value ++ t) (sym empty)) u cut
 
-pub no_turn : (ps : List Piece) (body value : List ℕ) (stop : ℕ) → LeftOf ps (drop stop body) value → stop < length body → get_or body stop 0 ≡ 0x5C
+pub no_iteration : (ps : List Piece) (body value : List ℕ) (stop : ℕ) → LeftOf ps (drop stop body) value → stop < length body → get_or body stop 0 ≡ 0x5C
     → escape_at Wide (drop (stop + 1) body) ≡ None → piece_len (line_end_at (drop (stop + 1) body)) ≡ None → ⊥
-no_turn ps body value stop l h byte none missed =
+no_iteration ps body value stop l h byte none missed =
     let here = left_here ps body value stop l h byte in
     let line = here_line_end ps (drop stop body) (drop (stop + 1) body) value here none in
     let f : None ≡ Some (length (piece_text here.piece)) = sym missed ∙ ap piece_len line in

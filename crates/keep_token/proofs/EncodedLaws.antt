@@ -27,22 +27,22 @@ plain_byte c h = grind (arith, nat_tests)
 pub escaped_ascii : (c : ℕ) → is_plain c ≡ false → c < 128
 escaped_ascii c h = grind (arith, nat_tests)
 
--- a run that f keeps stands in front
-run_kept : (p : ℕ → Bool) (f : ℕ → List ℕ) → ((c : ℕ) → p c ≡ true → f c ≡ c ∷ []) → (text : List ℕ)
+-- a run that f keeps comes first
+run_preserved : (p : ℕ → Bool) (f : ℕ → List ℕ) → ((c : ℕ) → p c ≡ true → f c ≡ c ∷ []) → (text : List ℕ)
     → flat_map f text ≡ take (prefix_len p text) text ++ flat_map f (drop (prefix_len p text) text)
-run_kept p f keeps [] = refl
-run_kept p f keeps (c ∷ cs) =
+run_preserved p f keeps [] = refl
+run_preserved p f keeps (c ∷ cs) =
     elim (tested (p c)) [
-      | inl e ↦ rw (e, one-add (prefix_len p cs), keeps c e) (ap (λ (t : List ℕ). c ∷ t) (run_kept p f keeps cs))
+      | inl e ↦ rw (e, one-add (prefix_len p cs), keeps c e) (ap (λ (t : List ℕ). c ∷ t) (run_preserved p f keeps cs))
       | inr e ↦ rw e refl
     ]
 
 -- a run of plain bytes is written as it is
 plain_run : (text : List ℕ)
     → flat_map encoded_byte text ≡ take (prefix_len is_plain text) text ++ flat_map encoded_byte (drop (prefix_len is_plain text) text)
-plain_run text = run_kept is_plain encoded_byte plain_byte text
+plain_run text = run_preserved is_plain encoded_byte plain_byte text
 
--- and the byte behind it by its escape
+-- and the byte after it by its escape
 escape_next : (text : List ℕ) (n : ℕ) → n < length text
     → flat_map encoded_byte (drop n text) ≡ encoded_byte (get_or text n 0) ++ flat_map encoded_byte (drop (n + 1) text)
 escape_next text n h = rw (drop-cons text n 0, add-one n) refl
@@ -50,7 +50,7 @@ escape_next text n h = rw (drop-cons text n 0, add-one n) refl
 pub not_plain : (text : List ℕ) (n : ℕ) → n ≡ prefix_len is_plain text → n < length text → is_plain (get_or text n 0) ≡ false
 not_plain text n e h = rw e (prefix_len_stops is_plain text 0 (omega arith))
 
--- a text may be cut where a run of plain bytes ends, and behind the byte that ends it
+-- a text may be cut where a run of plain bytes ends, and after the byte that ends it
 pub plain_end : (text : List ℕ) (n : ℕ) → n ≡ prefix_len is_plain text → IsCharBoundary text n
 plain_end text n e =
     (omega (arith, prefix_len-le-length is_plain text), λ more big. absurd (omega (arith, escaped_ascii (get_or text n 0) (not_plain text n e more))))

@@ -1,4 +1,4 @@
--- A leaf ends where a character ends: behind an ASCII byte, or before one.
+-- A leaf ends where a character ends: after an ASCII byte, or before one.
 use Rattle.std.proofs.Common.{◌≡◌, ℕ, zero, suc, ◌+◌, ◌-◌, ◌<◌, ◌≤◌, true, false, List, [], ◌∷◌, ◌++◌, length, get_or, take, drop, Option, Some, None, sym, ap, ◌∙◌, inl, inr, arith, add-zero, get_or-drop, length-drop}
 use Rattle.std.specs.Prelude.{IsUtf8, IsCharBoundary}
 use Rattle.std.proofs.lemmas.Bool.{cases_lt}
@@ -16,7 +16,7 @@ use Rattle.keep_token.specs.Scanning.{gap_at}
 use Rattle.keep_token.proofs.GapLaws.{gap_cases, white, line, comment, nothing}
 use Rattle.keep_token.proofs.GapLeaves.{all_pass, gap_found, gap_one}
 
--- behind an ASCII byte
+-- after an ASCII byte
 pub behind_ascii : (text : List ℕ) (at n : ℕ) → IsUtf8 text → 0 < n → n ≤ length (drop at text) → get_or (drop at text) (n - 1) 0 < 128 → IsCharBoundary text (at + n)
 behind_ascii text at n utf8 some le low =
     let here : get_or text (at + (n - 1)) 0 < 128 = rw (get_or-drop at text (n - 1) 0) at low in
@@ -80,8 +80,8 @@ last_of text n some le low =
     let here : get_or (take n text) (n - 1) 0 < 128 = rw len at low in
     rw (get_or-take n text (n - 1) 0 (omega arith)) at here
 
-low_behind_comment : (c : ℕ) → c < 256 → is_comment c ≡ false → c < 128
-low_behind_comment c byte h = grind (arith, nat_tests)
+low_after_comment : (c : ℕ) → c < 256 → is_comment c ≡ false → c < 128
+low_after_comment c byte h = grind (arith, nat_tests)
 
 comment_stops : (text : List ℕ) (n : ℕ) → gap_at text ≡ Some (leaf.Comment, n) → is_comment (first (drop n text)) ≡ false
 comment_stops text n e =
@@ -101,7 +101,7 @@ gap_ends_by text at leaf.Newline n bytes utf8 le h e =
     behind_ascii text at n utf8 some h.leaf.within (last_of (drop at text) n some h.leaf.within (newline_last (take n (drop at text)) h.leaf.belongs))
 gap_ends_by text at leaf.Comment n bytes utf8 le h e =
     let byte : first (drop n (drop at text)) < 256 = rw (get_or-drop n (drop at text) 0 0, get_or-drop at text (n + 0) 0) (bytes (at + (n + 0))) in
-    before_ascii text at n le h.leaf.within (low_behind_comment (first (drop n (drop at text))) byte (comment_stops (drop at text) n e))
+    before_ascii text at n le h.leaf.within (low_after_comment (first (drop n (drop at text))) byte (comment_stops (drop at text) n e))
 gap_ends_by text at _ n bytes utf8 le h e = absurd (let k = h.kind in cc)
 
 pub gap_ends : (text : List ℕ) (at : ℕ) (l : Leaf) (n : ℕ) → ((i : ℕ) → get_or text i 0 < 256) → IsUtf8 text → at ≤ length text → gap_at (drop at text) ≡ Some (l, n) → IsCharBoundary text (at + n)

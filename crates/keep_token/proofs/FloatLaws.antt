@@ -26,7 +26,7 @@ digits_pass digit p f u (d ∷ c ∷ cs) h =
       | inr e ↦ rw (f d here, digits_pass digit p f u (c ∷ cs) (rw e at more)) refl
     ]
 
--- the same for decimal integers, whose signs pass too
+-- each byte of a decimal integer passes a test that its digits, its signs and the underscore pass
 pub decimal_pass : (p : ℕ → Bool) → ((c : ℕ) → is_ascii_digit c ≡ true → p c ≡ true) → ((c : ℕ) → is_sign c ≡ true → p c ≡ true) → p 0x5F ≡ true → (t : List ℕ) → is_decimal t ≡ true → list_all p t ≡ true
 decimal_pass p f s u [] h = absurd cc
 decimal_pass p f s u (c ∷ cs) h =
@@ -125,17 +125,17 @@ fraction_first (c ∷ cs) h = (and_parts (c == 0x2E) (is_digits is_ascii_digit (
 
 -- ---- numbers with a fraction or an exponent
 
-number_front : (a b : List ℕ) → is_decimal a ≡ true → is_whole (first b) ≡ false → (is_exponent b || is_fraction b) ≡ true → is_number (a ++ b) ≡ true
-number_front a b h stop tail =
+number_prefix : (a b : List ℕ) → is_decimal a ≡ true → is_whole (first b) ≡ false → (is_exponent b || is_fraction b) ≡ true → is_number (a ++ b) ≡ true
+number_prefix a b h stop tail =
     rw (prefix_len-run is_whole a b (decimal_whole a h) stop, take_at a b (length a) refl, drop_at a b (length a) refl, h) tail
 
 number_to : (t : List ℕ) → (Decimal ⨾ (Exponent or (Fraction ⨾ Maybe Exponent))) t → is_number t ≡ true
 number_to t (a, b, e, d, inl ex) =
     let k = exponent_to b ex in
-    rw e (number_front a b (decimal_to a d) (not_whole (first b) (exponent_first b k)) (rw k refl))
+    rw e (number_prefix a b (decimal_to a d) (not_whole (first b) (exponent_first b k)) (rw k refl))
 number_to t (a, b, e, d, inr fr) =
     let k = fraction_to b fr in
-    rw e (number_front a b (decimal_to a d) (rw (fraction_first b k) refl) (or_right (is_exponent b) (is_fraction b) k))
+    rw e (number_prefix a b (decimal_to a d) (rw (fraction_first b k) refl) (or_right (is_exponent b) (is_fraction b) k))
 
 number_from : (t : List ℕ) → is_number t ≡ true → (Decimal ⨾ (Exponent or (Fraction ⨾ Maybe Exponent))) t
 number_from t h =

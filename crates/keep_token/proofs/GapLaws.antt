@@ -1,4 +1,4 @@
--- Gaps: what is found is a leaf, and a leaf is found again in front of what does not go on with it.
+-- Gaps: what is found is a leaf, and a leaf is found again before what does not continue with it.
 use Rattle.std.proofs.Common.{◌≡◌, ℕ, suc, ◌+◌, ◌<◌, ◌≤◌, Bool, true, false, ◌&&◌, ◌==◌, List, [], ◌∷◌, ◌++◌, length, get_or, take, drop, Option, Some, None, refl, ap, inl, inr, arith, eqb-true}
 use Rattle.std.proofs.lemmas.Bool.{and_parts}
 use Rattle.std.proofs.lemmas.List.{length-take}
@@ -11,7 +11,7 @@ use Rattle.keep_token.specs.Abnf.{Some1, is_ws, is_comment}
 use Rattle.keep_token.specs.Leaves.{IsLeaf}
 use Rattle.keep_token.specs.Pieces.{first}
 use Rattle.keep_token.specs.Scanning.{gap_at}
-pub use Rattle.keep_token.proofs.RunLaws.{tested, prefix_len-run, list_all-run, first-behind_run, prefix_len-positive}
+pub use Rattle.keep_token.proofs.RunLaws.{tested, prefix_len-run, list_all-run, first-after_run, prefix_len-positive}
 
 -- what a scan finds at a place: a leaf of n bytes, in its language
 pub record Found (l : Leaf) (text : List ℕ) (n : ℕ) : Type 0 where
@@ -31,7 +31,7 @@ pub ws_found : (text : List ℕ) → is_ws (first text) ≡ true → (gap_at tex
 unfolding gap_at
 ws_found text e =
     let (some, within, run) = run_found is_ws text refl e in
-    (rw e refl, record { some = some; within = within; leaf = run }, first-behind_run is_ws text refl)
+    (rw e refl, record { some = some; within = within; leaf = run }, first-after_run is_ws text refl)
 
 -- what is found has the kind that the first byte shows
 pub data Gaps (text : List ℕ) (r : Option (Leaf × ℕ)) : Type 0 where
@@ -48,7 +48,7 @@ comment_found (c ∷ cs) e =
     let hash : c ≡ 0x23 = eqb-true c 0x23 e in
     let le = prefix_len-le-length is_comment cs in
     let spelled : take (1 + n) (c ∷ cs) ≡ (0x23 ∷ []) ++ take n cs = rw (one, hash) refl in
-    (record { some = omega arith; within = omega arith; leaf = (0x23 ∷ [], take n cs, spelled, refl, list_all-run is_comment cs) }, rw one (first-behind_run is_comment cs refl))
+    (record { some = omega arith; within = omega arith; leaf = (0x23 ∷ [], take n cs, spelled, refl, list_all-run is_comment cs) }, rw one (first-after_run is_comment cs refl))
 
 pub newline_one : (text : List ℕ) → (first text == 0x0A) ≡ true → Found leaf.Newline text 1
 newline_one [] e = absurd cc

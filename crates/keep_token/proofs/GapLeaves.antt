@@ -19,7 +19,7 @@ all_pass p [] i h lt = absurd (omega arith)
 all_pass p (x ∷ xs) zero h lt = (and_parts (p x) (list_all p xs) h).0
 all_pass p (x ∷ xs) (suc i) h lt = all_pass p xs i (and_parts (p x) (list_all p xs) h).1 (omega arith)
 
--- a front of passing bytes is no longer than the run
+-- a prefix of passing bytes is no longer than the run
 pub run_longest : (p : ℕ → Bool) (text : List ℕ) (m : ℕ) → m ≤ length text → list_all p (take m text) ≡ true → m ≤ prefix_len p text
 run_longest p text m le h =
     elim (cases_lt (prefix_len p text) m) [
@@ -31,7 +31,7 @@ run_longest p text m le h =
           absurd (let k : p (get_or text (prefix_len p text) 0) ≡ true = rw (← same) at in cc)
     ]
 
--- a front of the text that is not empty begins with the text's first byte
+-- a prefix of the text that is not empty begins with the text's first byte
 pub first-take : (n : ℕ) (text : List ℕ) → 0 < n → n ≤ length text → first (take n text) ≡ first text
 first-take zero text some le = absurd (omega arith)
 first-take (suc n) [] some le = absurd (omega arith)
@@ -50,7 +50,7 @@ ws_leaf text e =
     let (at, found, stop) = ws_found text e in
     record { kind = refl; leaf = record { within = found.within; belongs = found.leaf; longest = λ m le h. run_longest is_ws text m le h.1 } }
 
--- a newline in front of a text that begins with LF, or CR LF, has that length
+-- a newline before a text that begins with LF, or CR LF, has that length
 newline_len_one : (text : List ℕ) (m : ℕ) → (first text == 0x0A) ≡ true → m ≤ length text → IsLeaf Strict leaf.Newline (take m text) → m ≤ 1
 newline_len_one text m e le (inl h) = let k : length (take m text) ≡ 1 = ap length h in omega (arith, length-take m text)
 newline_len_one [] m e le (inr h) = absurd cc

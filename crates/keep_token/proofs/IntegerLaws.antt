@@ -30,7 +30,7 @@ ten_digits (d ∷ c ∷ cs) =
       | inr e ↦ rw (e, ten_digit d, ten_digits (c ∷ cs)) refl
     ]
 
--- one digit, or no 0 in front
+-- one digit, or no 0 at the start
 abbrev pub MayBeUnsigned : List ℕ → Type 0
 MayBeUnsigned t = (length t < 2) ⊎ (get_or t 0 0 ≡ 0x30 → ⊥)
 
@@ -56,27 +56,27 @@ or_none : (b : Bool) → (b || false) ≡ b
 or_none true = refl
 or_none false = refl
 
-front_none : (z x o b d p q r : Bool) → x ≡ false → o ≡ false → b ≡ false → (d || (((z && x) && p) || (((z && o) && q) || ((z && b) && r)))) ≡ d
-front_none true x o b d p q r e f g = rw (e, f, g) (or_none d)
-front_none false x o b d p q r e f g = or_none d
+prefix_none : (z x o b d p q r : Bool) → x ≡ false → o ≡ false → b ≡ false → (d || (((z && x) && p) || (((z && o) && q) || ((z && b) && r)))) ≡ d
+prefix_none true x o b d p q r e f g = rw (e, f, g) (or_none d)
+prefix_none false x o b d p q r e f g = or_none d
 
-front_other : (z x o b d p q r : Bool) → z ≡ false → (d || (((z && x) && p) || (((z && o) && q) || ((z && b) && r)))) ≡ d
-front_other true x o b d p q r e = absurd cc
-front_other false x o b d p q r e = or_none d
+prefix_other : (z x o b d p q r : Bool) → z ≡ false → (d || (((z && x) && p) || (((z && o) && q) || ((z && b) && r)))) ≡ d
+prefix_other true x o b d p q r e = absurd cc
+prefix_other false x o b d p q r e = or_none d
 
 base_ten : (t : List ℕ) → base_of t ≡ 10 → is_integer_text t ≡ is_decimal t
 base_ten [] h = refl
 base_ten (z ∷ []) h = or_none (is_decimal (z ∷ []))
 base_ten (z ∷ x ∷ ds) h =
     elim (tested (z == 0x30)) [
-      | inr e ↦ front_other (z == 0x30) (x == 0x78) (x == 0x6F) (x == 0x62) (is_decimal (z ∷ x ∷ ds)) (is_digits (is_in_base 16) ds) (is_digits (is_in_base 8) ds) (is_digits (is_in_base 2) ds) e
+      | inr e ↦ prefix_other (z == 0x30) (x == 0x78) (x == 0x6F) (x == 0x62) (is_decimal (z ∷ x ∷ ds)) (is_digits (is_in_base 16) ds) (is_digits (is_in_base 8) ds) (is_digits (is_in_base 2) ds) e
       | inl e ↦ elim (tested (x == 0x78)) [
         | inl f ↦ absurd (let k : 16 ≡ 10 = rw (e, f) at h in omega (arith, k))
         | inr f ↦ elim (tested (x == 0x6F)) [
           | inl g ↦ absurd (let k : 8 ≡ 10 = rw (e, f, g) at h in omega (arith, k))
           | inr g ↦ elim (tested (x == 0x62)) [
             | inl i ↦ absurd (let k : 2 ≡ 10 = rw (e, f, g, i) at h in omega (arith, k))
-            | inr i ↦ front_none (z == 0x30) (x == 0x78) (x == 0x6F) (x == 0x62) (is_decimal (z ∷ x ∷ ds)) (is_digits (is_in_base 16) ds) (is_digits (is_in_base 8) ds) (is_digits (is_in_base 2) ds) f g i
+            | inr i ↦ prefix_none (z == 0x30) (x == 0x78) (x == 0x6F) (x == 0x62) (is_decimal (z ∷ x ∷ ds)) (is_digits (is_in_base 16) ds) (is_digits (is_in_base 8) ds) (is_digits (is_in_base 2) ds) f g i
           ]
         ]
       ]
@@ -94,18 +94,18 @@ minus_cons ds = record { ten = refl; decimal = refl; value = refl }
 plus_cons : (ds : List ℕ) → IsWritten (0x2B ∷ ds) ds (pos (digits_value 10 ds))
 plus_cons ds = record { ten = refl; decimal = refl; value = refl }
 
-behind_one : (c : ℕ) (cs : List ℕ) → take (length (c ∷ cs) - 1) cs ≡ cs
-behind_one c cs = let n : length (c ∷ cs) - 1 ≡ length cs = omega arith in rw n (take_all cs)
+after_one : (c : ℕ) (cs : List ℕ) → take (length (c ∷ cs) - 1) cs ≡ cs
+after_one c cs = let n : length (c ∷ cs) - 1 ≡ length cs = omega arith in rw n (take_all cs)
 
 pub minus_written : (t : List ℕ) → 1 ≤ length t → get_or t 0 0 ≡ 0x2D → IsWritten t (take (length t - 1) (drop 1 t)) (negated (digits_value 10 (take (length t - 1) (drop 1 t))))
 minus_written [] some is = absurd (omega arith)
-minus_written (c ∷ cs) some is = rw (behind_one c cs, is) (minus_cons cs)
+minus_written (c ∷ cs) some is = rw (after_one c cs, is) (minus_cons cs)
 
 pub plus_written : (t : List ℕ) → 1 ≤ length t → get_or t 0 0 ≡ 0x2B → IsWritten t (take (length t - 1) (drop 1 t)) (pos (digits_value 10 (take (length t - 1) (drop 1 t))))
 plus_written [] some is = absurd (omega arith)
-plus_written (c ∷ cs) some is = rw (behind_one c cs, is) (plus_cons cs)
+plus_written (c ∷ cs) some is = rw (after_one c cs, is) (plus_cons cs)
 
--- no sign stands in front
+-- no sign comes first
 abbrev pub IsPlain : List ℕ → Type 0
 IsPlain t = (length t < 1) ⊎ ((get_or t 0 0 ≡ 0x2D → ⊥) × (get_or t 0 0 ≡ 0x2B → ⊥))
 

@@ -1,4 +1,5 @@
--- What is found in the place of a key part is the leaf there, and a key part is found again in front of what does not go on with it.
+-- What is found in the place of a key part is the leaf there, and a key part is found again before what does not
+-- continue with it.
 use Rattle.std.proofs.Common.{◌≡◌, ℕ, zero, suc, ◌<◌, ◌≤◌, true, false, ◌==◌, List, [], ◌∷◌, ◌++◌, length, take, drop, Option, Some, None, refl, sym, ap, ◌∙◌, subst, inl, inr, arith}
 use Rattle.std.proofs.lemmas.Bool.{and_parts}
 use Rattle.std.proofs.lemmas.List.{length-take, take-append-drop}
@@ -14,7 +15,7 @@ use Rattle.keep_token.proofs.GapLaws.{tested, prefix_len-run, run_found}
 use Rattle.keep_token.proofs.GapLeaves.{run_longest, longest_one}
 use Rattle.keep_token.proofs.Ends.{some_injective}
 use Rattle.keep_token.proofs.StringKinds.{basic_found, basic_again, basic_longest, literal_found, literal_again, literal_longest}
-use Rattle.keep_token.proofs.StringFronts.{basic_first, literal_first}
+use Rattle.keep_token.proofs.StringPrefixes.{basic_first, literal_first}
 
 -- a kind with a length that was found
 pub with_kind_is : (k : Leaf) (o : Option ℕ) (l : Leaf) (n : ℕ) → with_kind k o ≡ Some (l, n) → (l ≡ k) × (o ≡ Some n)

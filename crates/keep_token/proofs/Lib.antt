@@ -15,7 +15,7 @@ pub mod StringOneLine
 pub mod StringManyLines
 pub mod StringPieces
 pub mod StringKinds
-pub mod StringFronts
+pub mod StringPrefixes
 pub mod KeyLaws
 mod StringVectors
 pub mod StringUtf8

@@ -63,14 +63,14 @@ pub prefixed_from : (base letter : ℕ) (t : List ℕ) → is_prefixed base lett
 prefixed_from base letter [] h = absurd cc
 prefixed_from base letter (z ∷ []) h = absurd cc
 prefixed_from base letter (z ∷ x ∷ ds) h =
-    let (front, digits) = and_parts (z == 0x30 && x == letter) (is_digits (is_in_base base) ds) h in
-    let (nought, same) = and_parts (z == 0x30) (x == letter) front in
+    let (prefix, digits) = and_parts (z == 0x30 && x == letter) (is_digits (is_in_base base) ds) h in
+    let (nought, same) = and_parts (z == 0x30) (x == letter) prefix in
     (z ∷ x ∷ [], ds, refl, rw (eqb-true z 0x30 nought, eqb-true x letter same) refl, digits)
 
 pub prefixed_to : (base letter : ℕ) (t : List ℕ) → Prefixed base (0x30 ∷ letter ∷ []) t → is_prefixed base letter t ≡ true
-prefixed_to base letter t (a, b, e, front, digits) =
+prefixed_to base letter t (a, b, e, prefix, digits) =
     let same : (letter == letter) ≡ true = grind (arith, nat_tests) in
-    rw (e, front, same) digits
+    rw (e, prefix, same) digits
 
 pub integer_text_from : (t : List ℕ) → is_integer_text t ≡ true → IntegerText t
 integer_text_from t h =

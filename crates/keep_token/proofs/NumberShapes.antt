@@ -78,8 +78,8 @@ prefixed_letter : (base letter : ℕ) (t : List ℕ) → is_letter letter ≡ tr
 prefixed_letter base letter [] is h = absurd cc
 prefixed_letter base letter (z ∷ []) is h = absurd cc
 prefixed_letter base letter (z ∷ x ∷ ds) is h =
-    let (front, digits) = and_parts (z == 0x30 && x == letter) (is_digits (is_in_base base) ds) h in
-    let (nought, same) = and_parts (z == 0x30) (x == letter) front in
+    let (prefix, digits) = and_parts (z == 0x30 && x == letter) (is_digits (is_in_base base) ds) h in
+    let (nought, same) = and_parts (z == 0x30) (x == letter) prefix in
     let letter_is : is_letter x ≡ true = rw (eqb-true x letter same) is in
     subst (λ (c : ℕ). is_float (c ∷ x ∷ ds) ≡ false) (sym (eqb-true z 0x30 nought)) (letter_no_float x ds letter_is)
 

@@ -98,7 +98,7 @@ no_text = boolean_from (codes "false") refl
 abbrev IsNoScalar : Profile → List ℕ → Type 0
 IsNoScalar profile t = (l : Leaf) → is_scalar_leaf l ≡ true → IsLeaf profile l t → ⊥
 
--- no word, and no mark of a string in front
+-- no word, and no mark of a string at the start
 abbrev is_refused : Profile → List ℕ → Bool
 is_refused profile t = is_none (word_leaf profile t) && not (first t == 0x22 || first t == 0x27)
 

@@ -28,8 +28,8 @@ decimal_word : (t : List ℕ) → Decimal t → list_all is_word t ≡ true
 decimal_word t h = decimal_pass is_word digit_word sign_word refl t (decimal_to t h)
 
 prefixed_word : (base : ℕ) (p t : List ℕ) → base ≤ 16 → list_all is_word p ≡ true → Prefixed base p t → list_all is_word t ≡ true
-prefixed_word base p t small front (a, b, e, f, digits) =
-    rw (e, f) (list_all-both is_word p b front (digits_pass (is_in_base base) is_word (λ c h. base_word base c small h) refl b digits))
+prefixed_word base p t small prefix (a, b, e, f, digits) =
+    rw (e, f) (list_all-both is_word p b prefix (digits_pass (is_in_base base) is_word (λ c h. base_word base c small h) refl b digits))
 
 integer_text_word : (t : List ℕ) → IntegerText t → list_all is_word t ≡ true
 integer_text_word t (inl h) = decimal_word t h

@@ -1,4 +1,4 @@
--- How far a string's pieces reach, from any place behind its opening: the equations that a scan follows.
+-- How far a string's pieces reach, from any place after its opening: the equations that a scan follows.
 use Rattle.std.proofs.Common.{◌≡◌, ℕ, zero, suc, ◌+◌, ◌<◌, ◌≤◌, Bool, true, List, [], ◌∷◌, length, drop, Option, Some, None, refl, sym, ap, ◌∙◌, arith, inl, inr, add-zero, length-append, length-drop}
 use Rattle.std.specs.List.{prefix_len}
 use Rattle.std.proofs.lemmas.Bool.{cases_Bool}
@@ -69,7 +69,7 @@ pub reach_none : (piece : List ℕ → Option Piece) → TakesSome piece → (ma
 unfolding end_of
 reach_none piece takes many mark bytes at still e = ap (end_of at) (onward_step piece takes many mark (drop at bytes) None still e)
 
--- one piece of the text in front
+-- one piece of the text at the start
 end_step : (piece : List ℕ → Option Piece) → TakesSome piece → (many : Bool) (mark at : ℕ) (text : List ℕ) (p : Piece)
     → closes many mark text ≡ None → piece text ≡ Some p → end_of at (pieces_of piece many mark text) ≡ end_of (at + length (piece_text p)) (pieces_of piece many mark (drop (length (piece_text p)) text))
 end_step piece takes many mark at text p still e =

@@ -1,4 +1,4 @@
--- Runs of bytes of a class: how long they are, what stands behind them, and that they are found again.
+-- Runs of bytes of a class: how long they are, what comes after them, and that they are found again.
 use Rattle.std.proofs.Common.{◌≡◌, ℕ, suc, ◌+◌, ◌<◌, Bool, true, false, List, [], ◌∷◌, ◌++◌, length, take, drop, refl, inl, inr, arith, add-zero, get_or-drop, take_at, drop_at, ◌⊎◌}
 use Rattle.std.proofs.lemmas.Bool.{cases_lt, and_parts}
 use Rattle.std.proofs.lemmas.List.{append-nil, get_or_past}
@@ -11,7 +11,7 @@ pub tested : (b : Bool) → (b ≡ true) ⊎ (b ≡ false)
 tested true = inl refl
 tested false = inr refl
 
--- a run is found again in front of a byte that does not pass
+-- a run is found again before a byte that does not pass
 pub prefix_len-run : (p : ℕ → Bool) (run rest : List ℕ) → list_all p run ≡ true → p (first rest) ≡ false → prefix_len p (run ++ rest) ≡ length run
 prefix_len-run p [] [] all stop = refl
 prefix_len-run p [] (c ∷ rest) all stop = rw stop
@@ -29,9 +29,9 @@ list_all-run p (c ∷ cs) =
       | inr e ↦ rw e refl
     ]
 
--- the byte behind a run does not pass
-pub first-behind_run : (p : ℕ → Bool) (text : List ℕ) → p 0 ≡ false → p (first (drop (prefix_len p text) text)) ≡ false
-first-behind_run p text none =
+-- the byte after a run does not pass
+pub first-after_run : (p : ℕ → Bool) (text : List ℕ) → p 0 ≡ false → p (first (drop (prefix_len p text) text)) ≡ false
+first-after_run p text none =
     elim (cases_lt (prefix_len p text) (length text)) [
       | inl within ↦ rw (get_or-drop (prefix_len p text) text 0 0, add-zero) (prefix_len_stops p text 0 within)
       | inr past ↦ rw (get_or-drop (prefix_len p text) text 0 0, add-zero, get_or_past text _ 0 past) none

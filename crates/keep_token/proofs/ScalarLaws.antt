@@ -1,4 +1,4 @@
--- What is found in the place of a scalar is the leaf there, and a scalar is found again in front of what may follow it.
+-- What is found in the place of a scalar is the leaf there, and a scalar is found again before what may follow it.
 use Rattle.std.proofs.Common.{◌≡◌, ℕ, ◌+◌, ◌<◌, ◌≤◌, true, false, ◌&&◌, ◌==◌, List, [], ◌∷◌, ◌++◌, length, get_or, take, drop, Option, Some, None, refl, sym, ap, ◌∙◌, subst, inl, inr, arith, eqb-true, take_at}
 use Rattle.std.proofs.lemmas.Bool.{and_parts, cases_lt}
 use Rattle.std.proofs.lemmas.Bool.Decides.{nat_tests}
@@ -18,8 +18,8 @@ use Rattle.keep_token.specs.Scanning.{scalar_at, with_len, are_three, may_follow
 use Rattle.keep_token.proofs.GapLaws.{tested}
 use Rattle.keep_token.proofs.Ends.{some_injective}
 use Rattle.keep_token.proofs.KeyLaws.{with_kind_is, cut}
-use Rattle.keep_token.proofs.StringKinds.{basic_found, basic_again, literal_found, literal_again, ml_basic_found, ml_basic_again, ml_basic_longest, ml_basic_front, ml_literal_found, ml_literal_again, ml_literal_longest, ml_literal_front}
-use Rattle.keep_token.proofs.StringFronts.{basic_first, literal_first, ml_basic_first, ml_literal_first, ml_basic_three, ml_literal_three, basic_no_apostrophes, literal_no_quotes, ml_literal_no_quotes, basic_not_three, literal_not_three}
+use Rattle.keep_token.proofs.StringKinds.{basic_found, basic_again, literal_found, literal_again, ml_basic_found, ml_basic_again, ml_basic_longest, ml_basic_prefix, ml_literal_found, ml_literal_again, ml_literal_longest, ml_literal_prefix}
+use Rattle.keep_token.proofs.StringPrefixes.{basic_first, literal_first, ml_basic_first, ml_literal_first, ml_basic_three, ml_literal_three, basic_no_apostrophes, literal_no_quotes, ml_literal_no_quotes, basic_not_three, literal_not_three}
 use Rattle.keep_token.proofs.WordLaws.{word_leaf_found, word_leaf_again, word_len_again, word_first}
 
 -- ---- three marks
@@ -43,7 +43,7 @@ three_from mark (a ∷ b ∷ c ∷ more) same e =
     let three : c ≡ mark = ap (λ (x : List ℕ). get_or x 2 0) e in
     rw (one, two, three, same) refl
 
--- where no three marks stand, no string over many lines is opened
+-- where no three marks are, no string over many lines is opened
 closed : (text : List ℕ) → are_three 0x22 text ≡ false → are_three 0x27 text ≡ false → opens_many_lines text → ⊥
 closed text e f (inl h) = let k = three_from 0x22 text refl h in cc
 closed text e f (inr h) = let k = three_from 0x27 text refl h in cc
@@ -119,8 +119,8 @@ word_kinds leaf.LocalDate h = (refl, refl, refl)
 word_kinds leaf.LocalTime h = (refl, refl, refl)
 word_kinds _ h = absurd cc
 
-space_inside : (text : List ℕ) (i : ℕ) → (get_or text i 0 == 0x20) ≡ true → i < length text
-space_inside text i e =
+space_nested : (text : List ℕ) (i : ℕ) → (get_or text i 0 == 0x20) ≡ true → i < length text
+space_nested text i e =
     elim (cases_lt i (length text)) [
       | inl lt ↦ lt
       | inr ge ↦ absurd (let k : (0 == 0x20) ≡ true = rw (get_or_past text i 0 ge) at e in cc)
@@ -135,7 +135,7 @@ word_len-le text =
     elim (tested (has_date_shape (take run text) && (get_or text run 0 == 0x20 && is_ascii_digit (get_or text (run + 1) 0)))) [
       | inl e ↦
           let space = (and_parts (get_or text run 0 == 0x20) (is_ascii_digit (get_or text (run + 1) 0)) (and_parts (has_date_shape (take run text)) _ e).1).0 in
-          let inside : run < length text = space_inside text run space in
+          let nested : run < length text = space_nested text run space in
           rw e (omega (arith, length-drop (run + 1) text))
       | inr e ↦ rw e le
     ]
@@ -192,8 +192,8 @@ first-append : (t rest : List ℕ) → 0 < length t → first (t ++ rest) ≡ fi
 first-append [] rest some = absurd (omega arith)
 first-append (c ∷ cs) rest some = refl
 
-word_at_front : (profile : Profile) (l : Leaf) (t rest : List ℕ) → is_word_leaf l ≡ true → IsLeaf profile l t → word_len (t ++ rest) ≡ length t → scalar_at profile (t ++ rest) ≡ Some (l, length t)
-word_at_front profile l t rest k h len =
+word_at_prefix : (profile : Profile) (l : Leaf) (t rest : List ℕ) → is_word_leaf l ≡ true → IsLeaf profile l t → word_len (t ++ rest) ≡ length t → scalar_at profile (t ++ rest) ≡ Some (l, length t)
+word_at_prefix profile l t rest k h len =
     let (some, quote, apostrophe) = word_first profile l t h k in
     let same : first (t ++ rest) ≡ first t = first-append t rest some in
     let whole : take (word_len (t ++ rest)) (t ++ rest) ≡ t = rw len (take_at t rest (length t) refl) in
@@ -205,28 +205,28 @@ is_same text c e same = rw e same
 is_other : (text : List ℕ) (c d : ℕ) → first text ≡ c → (c == d) ≡ false → (first text == d) ≡ false
 is_other text c d e other = rw e other
 
-basic_at_front : (profile : Profile) (t rest : List ℕ) → Basic profile t → are_three 0x22 (t ++ rest) ≡ false → scalar_at profile (t ++ rest) ≡ Some (leaf.Basic, length t)
-basic_at_front profile t rest h quotes =
+basic_at_prefix : (profile : Profile) (t rest : List ℕ) → Basic profile t → are_three 0x22 (t ++ rest) ≡ false → scalar_at profile (t ++ rest) ≡ Some (leaf.Basic, length t)
+basic_at_prefix profile t rest h quotes =
     basic_scalar profile (t ++ rest) (length t) quotes (basic_no_apostrophes profile t rest h) (is_same (t ++ rest) 0x22 (basic_first profile t rest h) refl) (basic_again profile t rest h)
 
-literal_at_front : (profile : Profile) (t rest : List ℕ) → Literal t → are_three 0x27 (t ++ rest) ≡ false → scalar_at profile (t ++ rest) ≡ Some (leaf.Literal, length t)
-literal_at_front profile t rest h apostrophes =
+literal_at_prefix : (profile : Profile) (t rest : List ℕ) → Literal t → are_three 0x27 (t ++ rest) ≡ false → scalar_at profile (t ++ rest) ≡ Some (leaf.Literal, length t)
+literal_at_prefix profile t rest h apostrophes =
     let begins = literal_first t rest h in
     literal_scalar profile (t ++ rest) (length t) (literal_no_quotes t rest h) apostrophes (is_other (t ++ rest) 0x27 0x22 begins refl) (is_same (t ++ rest) 0x27 begins refl) (literal_again t rest h)
 
--- what follows a string over many lines does not go on with it where the leaf is the longest
-ml_basic_at_front : (profile : Profile) (t rest : List ℕ) → MlBasic profile t → ScalarLeaf profile (t ++ rest) leaf.MlBasic (length t) → scalar_at profile (t ++ rest) ≡ Some (leaf.MlBasic, length t)
-ml_basic_at_front profile t rest h leaf_is =
-    let (k, found, le) = ml_basic_front profile t rest h in
+-- what follows a string over many lines does not continue with it where the leaf is the longest
+ml_basic_at_prefix : (profile : Profile) (t rest : List ℕ) → MlBasic profile t → ScalarLeaf profile (t ++ rest) leaf.MlBasic (length t) → scalar_at profile (t ++ rest) ≡ Some (leaf.MlBasic, length t)
+ml_basic_at_prefix profile t rest h leaf_is =
+    let (k, found, le) = ml_basic_prefix profile t rest h in
     let three = ml_basic_three profile t rest h in
     let (some, within, belongs) = ml_basic_found profile (t ++ rest) k three found in
     let ge : k ≤ length t = leaf_is.longest refl k within belongs in
     let same : k ≡ length t = omega arith in
     ml_basic_scalar profile (t ++ rest) k three found ∙ ap (λ (n : ℕ). Some (leaf.MlBasic, n)) same
 
-ml_literal_at_front : (profile : Profile) (t rest : List ℕ) → MlLiteral t → ScalarLeaf profile (t ++ rest) leaf.MlLiteral (length t) → scalar_at profile (t ++ rest) ≡ Some (leaf.MlLiteral, length t)
-ml_literal_at_front profile t rest h leaf_is =
-    let (k, found, le) = ml_literal_front t rest h in
+ml_literal_at_prefix : (profile : Profile) (t rest : List ℕ) → MlLiteral t → ScalarLeaf profile (t ++ rest) leaf.MlLiteral (length t) → scalar_at profile (t ++ rest) ≡ Some (leaf.MlLiteral, length t)
+ml_literal_at_prefix profile t rest h leaf_is =
+    let (k, found, le) = ml_literal_prefix t rest h in
     let three = ml_literal_three t rest h in
     let (some, within, belongs) = ml_literal_found (t ++ rest) k three found in
     let ge : k ≤ length t = leaf_is.longest refl k within belongs in
@@ -255,25 +255,25 @@ scalar_kind leaf.LocalDate h = a_word refl
 scalar_kind leaf.LocalTime h = a_word refl
 scalar_kind _ h = absurd cc
 
-front_is_leaf : (profile : Profile) (l : Leaf) (t rest : List ℕ) → ScalarLeaf profile (t ++ rest) l (length t) → IsLeaf profile l t
-front_is_leaf profile l t rest h = subst (λ (u : List ℕ). IsLeaf profile l u) (take_at t rest (length t) refl) h.belongs
+prefix_is_leaf : (profile : Profile) (l : Leaf) (t rest : List ℕ) → ScalarLeaf profile (t ++ rest) l (length t) → IsLeaf profile l t
+prefix_is_leaf profile l t rest h = subst (λ (u : List ℕ). IsLeaf profile l u) (take_at t rest (length t) refl) h.belongs
 
-scalar_at_front : (profile : Profile) (l : Leaf) (t rest : List ℕ) → ScalarLeaf profile (t ++ rest) l (length t) → scalar_at profile (t ++ rest) ≡ Some (l, length t)
-scalar_at_front profile l t rest h =
-    let belongs = front_is_leaf profile l t rest h in
+scalar_at_prefix : (profile : Profile) (l : Leaf) (t rest : List ℕ) → ScalarLeaf profile (t ++ rest) l (length t) → scalar_at profile (t ++ rest) ≡ Some (l, length t)
+scalar_at_prefix profile l t rest h =
+    let belongs = prefix_is_leaf profile l t rest h in
     elim (scalar_kind l h.kind) [
-      | a_word k ↦ word_at_front profile l t rest k belongs (sym (h.word k))
-      | a_basic k ↦ rw k (basic_at_front profile t rest (rw k at belongs) (no_quotes (t ++ rest) (h.one_line (rw k refl))))
-      | a_literal k ↦ rw k (literal_at_front profile t rest (rw k at belongs) (no_apostrophes (t ++ rest) (h.one_line (rw k refl))))
-      | a_ml_basic k ↦ rw k (ml_basic_at_front profile t rest (rw k at belongs) (rw k at h))
-      | a_ml_literal k ↦ rw k (ml_literal_at_front profile t rest (rw k at belongs) (rw k at h))
+      | a_word k ↦ word_at_prefix profile l t rest k belongs (sym (h.word k))
+      | a_basic k ↦ rw k (basic_at_prefix profile t rest (rw k at belongs) (no_quotes (t ++ rest) (h.one_line (rw k refl))))
+      | a_literal k ↦ rw k (literal_at_prefix profile t rest (rw k at belongs) (no_apostrophes (t ++ rest) (h.one_line (rw k refl))))
+      | a_ml_basic k ↦ rw k (ml_basic_at_prefix profile t rest (rw k at belongs) (rw k at h))
+      | a_ml_literal k ↦ rw k (ml_literal_at_prefix profile t rest (rw k at belongs) (rw k at h))
     ]
 
 pub scalar_one : (profile : Profile) (text : List ℕ) (l : Leaf) (n : ℕ) → ScalarLeaf profile text l n → scalar_at profile text ≡ Some (l, n)
 scalar_one profile text l n h =
     let (whole, len) = cut text n h.within in
     let moved : ScalarLeaf profile (take n text ++ drop n text) l (length (take n text)) = rw (whole, len) h in
-    let found = scalar_at_front profile l (take n text) (drop n text) moved in
+    let found = scalar_at_prefix profile l (take n text) (drop n text) moved in
     rw (whole, len) at found
 
 -- ---- a scalar is found again
@@ -286,9 +286,9 @@ pub scalar_again : (profile : Profile) (l : Leaf) (t rest : List ℕ) → is_sca
 scalar_again profile l t rest k h stop =
     let (quote, apostrophe) = followed rest stop in
     elim (scalar_kind l k) [
-      | a_word e ↦ word_at_front profile l t rest e h (word_len_again profile l t rest e h stop)
-      | a_basic e ↦ rw e (basic_at_front profile t rest (rw e at h) (basic_not_three profile t rest (rw e at h) quote))
-      | a_literal e ↦ rw e (literal_at_front profile t rest (rw e at h) (literal_not_three t rest (rw e at h) apostrophe))
+      | a_word e ↦ word_at_prefix profile l t rest e h (word_len_again profile l t rest e h stop)
+      | a_basic e ↦ rw e (basic_at_prefix profile t rest (rw e at h) (basic_not_three profile t rest (rw e at h) quote))
+      | a_literal e ↦ rw e (literal_at_prefix profile t rest (rw e at h) (literal_not_three t rest (rw e at h) apostrophe))
       | a_ml_basic e ↦ rw e (ml_basic_scalar profile (t ++ rest) (length t) (ml_basic_three profile t rest (rw e at h)) (ml_basic_again profile t rest (rw e at h) quote))
       | a_ml_literal e ↦ rw e (ml_literal_scalar profile (t ++ rest) (length t) (ml_literal_no_quotes t rest (rw e at h)) (ml_literal_three t rest (rw e at h)) (ml_literal_again t rest (rw e at h) apostrophe))
     ]
@@ -315,8 +315,8 @@ scalar_found profile text l n at =
     (h.kind, omega (arith, length-take n text), h.within, h.belongs)
 
 -- no text is of two kinds of scalars
-pub scalars_apart : (profile : Profile) (text : List ℕ) (one other : Leaf) → is_scalar_leaf one ≡ true → is_scalar_leaf other ≡ true → IsLeaf profile one text → IsLeaf profile other text → one ≡ other
-scalars_apart profile text one other k m h g =
+pub scalars_disjoint : (profile : Profile) (text : List ℕ) (one other : Leaf) → is_scalar_leaf one ≡ true → is_scalar_leaf other ≡ true → IsLeaf profile one text → IsLeaf profile other text → one ≡ other
+scalars_disjoint profile text one other k m h g =
     let e = scalar_again profile one text [] k h refl in
     let f = scalar_again profile other text [] m g refl in
     let same : ◌≡◌ {A = Leaf × ℕ} (one, length text) (other, length text) = some_injective (sym e ∙ f) in

@@ -107,12 +107,12 @@ scalar_at_place profile text at l n e =
     let same : at + n - at ≡ n = omega arith in
     (omega arith, rw same (scalar_leaf profile (drop at text) l n e))
 
--- where one was found, no other stands there
+-- where one was found, no other is there
 pub only_found : {E : Type 0} (at : ℕ) (o : Option (Leaf × ℕ)) (l : Leaf) (n : ℕ) → o ≡ Some (l, n) → (k : Leaf) (m : ℕ) → o ≡ Some (k, m) → ◌≡◌ {A = Result (Leaf × ℕ) E} (Ok (l, at + n)) (Ok (k, at + m))
 only_found at o l n e k m h =
     let f : ◌≡◌ {A = Leaf × ℕ} (l, n) (k, m) = some_injective (sym e ∙ h) in
     ap (λ (p : Leaf × ℕ). Ok (p.0, at + p.1)) f
 
--- where none was found, none stands there
+-- where none was found, none is there
 pub only_none : {R : Type 0} (o : Option (Leaf × ℕ)) (k : Leaf) (m : ℕ) → o ≡ None → o ≡ Some (k, m) → R
 only_none o k m e h = absurd (let f : ◌≡◌ {A = Option (Leaf × ℕ)} None (Some (k, m)) = sym e ∙ h in cc)

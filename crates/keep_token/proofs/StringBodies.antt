@@ -1,4 +1,4 @@
--- What stands between the marks of a string, where a text may be cut there, and what it means.
+-- What is between the marks of a string, where a text may be cut there, and what it means.
 use Rattle.std.proofs.Common.{◌≡◌, ℕ, ◌+◌, ◌-◌, ◌<◌, true, false, ◌==◌, List, [], ◌∷◌, ◌++◌, length, take, drop, Option, refl, sym, ap, ◌∙◌, subst, arith, inl, inr, append_assoc, length-append, drop_at, take_at}
 use Rattle.std.specs.List.{slice_range}
 use Rattle.std.specs.Str.{IsUtf8, IsAscii, IsCharBoundary}
@@ -11,22 +11,22 @@ use Rattle.keep_token.proofs.StringSteps.{PieceLaws}
 use Rattle.keep_token.proofs.StringManyLines.{takes_all_rest}
 use Rattle.keep_token.proofs.StringPieces.{ml_basic_laws, ml_literal_laws}
 use Rattle.std.proofs.lemmas.Bool.{or_left}
-use Rattle.keep_token.proofs.AsciiPieces.{ascii_none, ascii_more, newline_ascii, cut_behind, cut_before}
+use Rattle.keep_token.proofs.AsciiPieces.{ascii_none, ascii_more, newline_ascii, cut_after, cut_before}
 
 -- ---- between ASCII
 
-pub start_cut : (text front body back : List ℕ) (start : ℕ) → text ≡ front ++ (body ++ back) → IsUtf8 text → IsAscii front → start ≡ length front → IsCharBoundary text start
-start_cut text front body back start e u ascii len = subst (λ k. IsCharBoundary text k) (sym len) (cut_behind text front (body ++ back) e u ascii)
+pub start_cut : (text prefix body back : List ℕ) (start : ℕ) → text ≡ prefix ++ (body ++ back) → IsUtf8 text → IsAscii prefix → start ≡ length prefix → IsCharBoundary text start
+start_cut text prefix body back start e u ascii len = subst (λ k. IsCharBoundary text k) (sym len) (cut_after text prefix (body ++ back) e u ascii)
 
-pub end_cut : (text front body back : List ℕ) (end : ℕ) → text ≡ front ++ (body ++ back) → IsAscii back → end + length back ≡ length text → IsCharBoundary text end
-end_cut text front body back end e ascii len =
-    let same : length (front ++ body) ≡ end = omega (arith, len, ap length e, length-append front (body ++ back), length-append body back, length-append front body) in
-    subst (λ k. IsCharBoundary text k) same (cut_before text (front ++ body) back (e ∙ sym (append_assoc front body back)) ascii)
+pub end_cut : (text prefix body back : List ℕ) (end : ℕ) → text ≡ prefix ++ (body ++ back) → IsAscii back → end + length back ≡ length text → IsCharBoundary text end
+end_cut text prefix body back end e ascii len =
+    let same : length (prefix ++ body) ≡ end = omega (arith, len, ap length e, length-append prefix (body ++ back), length-append body back, length-append prefix body) in
+    subst (λ k. IsCharBoundary text k) same (cut_before text (prefix ++ body) back (e ∙ sym (append_assoc prefix body back)) ascii)
 
-pub inside : (text front body back : List ℕ) (start end : ℕ) → text ≡ front ++ (body ++ back) → start ≡ length front → end + length back ≡ length text → slice_range text start end ≡ body
-inside text front body back start end e first last =
-    let rest : drop start text ≡ body ++ back = ap (drop start) e ∙ drop_at front (body ++ back) start (sym first) in
-    let len : length body ≡ end - start = omega (arith, last, first, ap length e, length-append front (body ++ back), length-append body back) in
+pub nested : (text prefix body back : List ℕ) (start end : ℕ) → text ≡ prefix ++ (body ++ back) → start ≡ length prefix → end + length back ≡ length text → slice_range text start end ≡ body
+nested text prefix body back start end e first last =
+    let rest : drop start text ≡ body ++ back = ap (drop start) e ∙ drop_at prefix (body ++ back) start (sym first) in
+    let len : length body ≡ end - start = omega (arith, last, first, ap length e, length-append prefix (body ++ back), length-append body back) in
     ap (take (end - start)) rest ∙ take_at body back (end - start) len
 
 pub one_ascii : (mark : ℕ) → mark < 128 → IsAscii (mark ∷ [])
@@ -162,7 +162,7 @@ ends P mark text ps p h =
 pub between_marks : (P : Piece → Type 0) (mark : ℕ) (text : List ℕ) (ps : List Piece) (p : Parts P mark text ps) (n : ℕ) → n ≡ newline_len (drop 3 text) → slice_range text (3 + n) (length text - 3) ≡ text_of p.rest
 between_marks P mark text ps p n e =
     let len : length text - 3 + 3 ≡ length text = omega (arith, ap length p.spelled) in
-    inside text (opening P mark text ps p) (text_of p.rest) (mark ∷ mark ∷ mark ∷ []) (3 + n) (length text - 3) p.spelled (opening_len P mark text ps p n e) len
+    nested text (opening P mark text ps p) (text_of p.rest) (mark ∷ mark ∷ mark ∷ []) (3 + n) (length text - 3) p.spelled (opening_len P mark text ps p n e) len
 
 pub ml_basic_body : (body text : List ℕ) (ps : List Piece) → IsMlBasicOf Wide text ps → (p : Parts (IsMlBasicPiece Wide) 0x22 text ps) → body ≡ text_of p.rest → IsBodyOf body p.rest
 ml_basic_body body text ps h p e = record { spelled = e; each = p.each; whole = p.whole h.whole }

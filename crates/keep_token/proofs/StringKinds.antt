@@ -6,14 +6,14 @@ use Rattle.keep_token.specs.Strings.{Piece, Plain, Letter, Number, Break, LineEn
 use Rattle.keep_token.specs.Pieces.{first, basic_piece, literal_piece, ml_basic_piece, ml_literal_piece, pieces_of, len_of, basic_at, literal_at, ml_basic_at, ml_literal_at}
 use Rattle.keep_token.specs.Abnf.{Longest}
 use Rattle.keep_token.specs.Scanning.{are_three}
-use Rattle.keep_token.proofs.StringOneLine.{front_one, again_one}
-use Rattle.keep_token.proofs.StringManyLines.{AgainMany, front_many, again_many}
+use Rattle.keep_token.proofs.StringOneLine.{prefix_one, again_one}
+use Rattle.keep_token.proofs.StringManyLines.{AgainMany, prefix_many, again_many}
 use Rattle.keep_token.proofs.StringPieces.{basic_laws, literal_laws, ml_basic_laws, ml_literal_laws, basic_not_mark, literal_not_mark, basic_stops, literal_stops, ml_basic_marks, ml_literal_marks}
 
 -- ---- of any kind
 
 -- the text begins with the string of these pieces
-pub record Front (Of : List ℕ → List Piece → Type 0) (spelled : List Piece → List ℕ) (text : List ℕ) (ps : List Piece) : Type 0 where
+pub record Prefix (Of : List ℕ → List Piece → Type 0) (spelled : List Piece → List ℕ) (text : List ℕ) (ps : List Piece) : Type 0 where
   pub rest : List ℕ
   pub split : text ≡ spelled ps ++ rest
   pub string : Of (spelled ps) ps
@@ -22,23 +22,23 @@ pub record Front (Of : List ℕ → List Piece → Type 0) (spelled : List Piece
 abbrev pub FoundAt : (List ℕ → List Piece → Type 0) → List ℕ → ℕ → Type 0
 FoundAt Of text n = (0 < n) × (n ≤ length text) × ((ps : List Piece) × Of (take n text) ps)
 
-pub front_taken : (Of : List ℕ → List Piece → Type 0) (spelled : List Piece → List ℕ) (text : List ℕ) (ps : List Piece) → Front Of spelled text ps → Of (take (length (spelled ps)) text) ps
-front_taken Of spelled text ps f = subst (λ t. Of t ps) (sym (ap (take (length (spelled ps))) f.split ∙ take_at (spelled ps) f.rest (length (spelled ps)) refl)) f.string
+pub prefix_taken : (Of : List ℕ → List Piece → Type 0) (spelled : List Piece → List ℕ) (text : List ℕ) (ps : List Piece) → Prefix Of spelled text ps → Of (take (length (spelled ps)) text) ps
+prefix_taken Of spelled text ps f = subst (λ t. Of t ps) (sym (ap (take (length (spelled ps))) f.split ∙ take_at (spelled ps) f.rest (length (spelled ps)) refl)) f.string
 
 len_found : (spelled : List Piece → List ℕ) (o : Option (List Piece)) (n : ℕ) → len_of spelled o ≡ Some n → (ps : List Piece) × (o ≡ Some ps) × (length (spelled ps) ≡ n)
 len_found spelled None n e = absurd cc
 len_found spelled (Some ps) n e = (ps, refl, cc)
 
 at_found : (Of : List ℕ → List Piece → Type 0) (spelled : List Piece → List ℕ) (text : List ℕ) (o : Option (List Piece)) (n : ℕ) → len_of spelled o ≡ Some n
-    → ((ps : List Piece) → 0 < length (spelled ps)) → ((ps : List Piece) → o ≡ Some ps → Front Of spelled text ps) → FoundAt Of text n
-at_found Of spelled text o n e some front =
+    → ((ps : List Piece) → 0 < length (spelled ps)) → ((ps : List Piece) → o ≡ Some ps → Prefix Of spelled text ps) → FoundAt Of text n
+at_found Of spelled text o n e some prefix =
     let l = len_found spelled o n e in
-    let f = front l.0 l.1 in
+    let f = prefix l.0 l.1 in
     let long = ap length f.split ∙ length-append (spelled l.0) f.rest in
     let least = some l.0 in
-    (omega (arith, l.2, least), omega (arith, l.2, long), (l.0, subst (λ k. Of (take k text) l.0) l.2 (front_taken Of spelled text l.0 f)))
+    (omega (arith, l.2, least), omega (arith, l.2, long), (l.0, subst (λ k. Of (take k text) l.0) l.2 (prefix_taken Of spelled text l.0 f)))
 
--- what is found where a string stands is that string, or a longer one
+-- what is found where a string is is that string, or a longer one
 longest_from : (at : List ℕ → Option ℕ) (text : List ℕ) (n m : ℕ) → at text ≡ Some n → m ≤ length text
     → ((rest : List ℕ) → (k : ℕ) × (at (take m text ++ rest) ≡ Some k) × (length (take m text) ≤ k)) → m ≤ n
 longest_from at text n m e le again =
@@ -66,9 +66,9 @@ three_open mark (a ∷ b ∷ c ∷ cs) not_zero h =
 -- ---- basic strings
 
 pub basic_pieces_found : (profile : Profile) (text : List ℕ) (ps : List Piece) → (first text == 0x22) ≡ true → pieces_of (basic_piece profile) false 0x22 (drop 1 text) ≡ Some ps
-    → Front (IsBasicOf profile) basic_text text ps
+    → Prefix (IsBasicOf profile) basic_text text ps
 basic_pieces_found profile text ps opening e =
-    let f = front_one (IsBasicPiece profile) (basic_piece profile) (basic_laws profile) 0x22 refl text ps opening e in
+    let f = prefix_one (IsBasicPiece profile) (basic_piece profile) (basic_laws profile) 0x22 refl text ps opening e in
     record { rest = f.rest; split = f.spelled; string = record { spelled = refl; each = f.each } }
 
 pub basic_found_of : (profile : Profile) (text : List ℕ) (n : ℕ) → (first text == 0x22) ≡ true → basic_at profile text ≡ Some n → FoundAt (IsBasicOf profile) text n
@@ -101,9 +101,9 @@ basic_none profile text e m le h = none_from (basic_at profile) text m e (λ res
 -- ---- literal strings
 
 pub literal_pieces_found : (text : List ℕ) (ps : List Piece) → (first text == 0x27) ≡ true → pieces_of literal_piece false 0x27 (drop 1 text) ≡ Some ps
-    → Front IsLiteralOf literal_text text ps
+    → Prefix IsLiteralOf literal_text text ps
 literal_pieces_found text ps opening e =
-    let f = front_one IsLiteralPiece literal_piece literal_laws 0x27 refl text ps opening e in
+    let f = prefix_one IsLiteralPiece literal_piece literal_laws 0x27 refl text ps opening e in
     record { rest = f.rest; split = f.spelled; string = record { spelled = refl; each = f.each } }
 
 pub literal_found_of : (text : List ℕ) (n : ℕ) → (first text == 0x27) ≡ true → literal_at text ≡ Some n → FoundAt IsLiteralOf text n
@@ -135,9 +135,9 @@ literal_none text e m le h = none_from literal_at text m e (λ rest. (length (ta
 -- ---- basic strings over many lines
 
 pub ml_basic_pieces_found : (profile : Profile) (text : List ℕ) (ps : List Piece) → are_three 0x22 text ≡ true → pieces_of (ml_basic_piece profile) true 0x22 (drop 3 text) ≡ Some ps
-    → Front (IsMlBasicOf profile) ml_basic_text text ps
+    → Prefix (IsMlBasicOf profile) ml_basic_text text ps
 ml_basic_pieces_found profile text ps opening e =
-    let f = front_many (IsMlBasicPiece profile) (ml_basic_piece profile) (ml_basic_laws profile) 0x22 refl text (drop 3 text) ps (three_open 0x22 text refl opening) e in
+    let f = prefix_many (IsMlBasicPiece profile) (ml_basic_piece profile) (ml_basic_laws profile) 0x22 refl text (drop 3 text) ps (three_open 0x22 text refl opening) e in
     record { rest = f.rest; split = f.spelled; string = record { spelled = refl; each = f.each; no_end = f.no_end; whole = f.whole } }
 
 pub ml_basic_found_of : (profile : Profile) (text : List ℕ) (n : ℕ) → are_three 0x22 text ≡ true → ml_basic_at profile text ≡ Some n → FoundAt (IsMlBasicOf profile) text n
@@ -165,22 +165,22 @@ ml_basic_pieces_one profile t ps qs h k =
     let e : Some ps ≡ Some qs = sym (ml_basic_pieces_again profile t [] ps h refl) ∙ ml_basic_pieces_again profile t [] qs k refl in
     cc
 
--- where a string over many lines stands, it or a longer one is found
-pub ml_basic_front : (profile : Profile) (t rest : List ℕ) → MlBasic profile t → (k : ℕ) × (ml_basic_at profile (t ++ rest) ≡ Some k) × (length t ≤ k)
-ml_basic_front profile t rest (ps, h) =
+-- where a string over many lines is, it or a longer one is found
+pub ml_basic_prefix : (profile : Profile) (t rest : List ℕ) → MlBasic profile t → (k : ℕ) × (ml_basic_at profile (t ++ rest) ≡ Some k) × (length t ≤ k)
+ml_basic_prefix profile t rest (ps, h) =
     let m = ml_basic_many profile t rest ps h in
     let long = ap length h.spelled in
     (length (ml_basic_text m.all), ap (len_of ml_basic_text) (ml_basic_pieces profile t rest ps h), omega (arith, m.longer, long))
 
 pub ml_basic_longest : (profile : Profile) (text : List ℕ) (n : ℕ) → ml_basic_at profile text ≡ Some n → (m : ℕ) → m ≤ length text → MlBasic profile (take m text) → m ≤ n
-ml_basic_longest profile text n e m le h = longest_from (ml_basic_at profile) text n m e le (λ rest. ml_basic_front profile (take m text) rest h)
+ml_basic_longest profile text n e m le h = longest_from (ml_basic_at profile) text n m e le (λ rest. ml_basic_prefix profile (take m text) rest h)
 
 pub ml_basic_none : (profile : Profile) (text : List ℕ) → ml_basic_at profile text ≡ None → (m : ℕ) → m ≤ length text → MlBasic profile (take m text) → ⊥
-ml_basic_none profile text e m le h = none_from (ml_basic_at profile) text m e (λ rest. ml_basic_front profile (take m text) rest h)
+ml_basic_none profile text e m le h = none_from (ml_basic_at profile) text m e (λ rest. ml_basic_prefix profile (take m text) rest h)
 
 -- ---- literal strings over many lines
 
--- no line-ending backslash stands in a literal string
+-- no line-ending backslash is in a literal string
 literal_takes_all : (ps : List Piece) → Each IsMlLiteralPiece ps → takes_all ps ≡ true
 literal_takes_all [] h = refl
 literal_takes_all (p ∷ []) h = refl
@@ -191,9 +191,9 @@ literal_takes_all (Number l ds ∷ q ∷ ps) h = absurd h.0
 literal_takes_all (LineEnd a b c ∷ q ∷ ps) h = absurd h.0
 
 pub ml_literal_pieces_found : (text : List ℕ) (ps : List Piece) → are_three 0x27 text ≡ true → pieces_of ml_literal_piece true 0x27 (drop 3 text) ≡ Some ps
-    → Front IsMlLiteralOf ml_literal_text text ps
+    → Prefix IsMlLiteralOf ml_literal_text text ps
 ml_literal_pieces_found text ps opening e =
-    let f = front_many IsMlLiteralPiece ml_literal_piece ml_literal_laws 0x27 refl text (drop 3 text) ps (three_open 0x27 text refl opening) e in
+    let f = prefix_many IsMlLiteralPiece ml_literal_piece ml_literal_laws 0x27 refl text (drop 3 text) ps (three_open 0x27 text refl opening) e in
     record { rest = f.rest; split = f.spelled; string = record { spelled = refl; each = f.each; no_end = f.no_end } }
 
 pub ml_literal_found_of : (text : List ℕ) (n : ℕ) → are_three 0x27 text ≡ true → ml_literal_at text ≡ Some n → FoundAt IsMlLiteralOf text n
@@ -221,19 +221,19 @@ ml_literal_pieces_one t ps qs h k =
     let e : Some ps ≡ Some qs = sym (ml_literal_pieces_again t [] ps h refl) ∙ ml_literal_pieces_again t [] qs k refl in
     cc
 
-pub ml_literal_front : (t rest : List ℕ) → MlLiteral t → (k : ℕ) × (ml_literal_at (t ++ rest) ≡ Some k) × (length t ≤ k)
-ml_literal_front t rest (ps, h) =
+pub ml_literal_prefix : (t rest : List ℕ) → MlLiteral t → (k : ℕ) × (ml_literal_at (t ++ rest) ≡ Some k) × (length t ≤ k)
+ml_literal_prefix t rest (ps, h) =
     let m = ml_literal_many t rest ps h in
     let long = ap length h.spelled in
     (length (ml_literal_text m.all), ap (len_of ml_literal_text) (ml_literal_pieces t rest ps h), omega (arith, m.longer, long))
 
 pub ml_literal_longest : (text : List ℕ) (n : ℕ) → ml_literal_at text ≡ Some n → (m : ℕ) → m ≤ length text → MlLiteral (take m text) → m ≤ n
-ml_literal_longest text n e m le h = longest_from ml_literal_at text n m e le (λ rest. ml_literal_front (take m text) rest h)
+ml_literal_longest text n e m le h = longest_from ml_literal_at text n m e le (λ rest. ml_literal_prefix (take m text) rest h)
 
 pub ml_literal_none : (text : List ℕ) → ml_literal_at text ≡ None → (m : ℕ) → m ≤ length text → MlLiteral (take m text) → ⊥
-ml_literal_none text e m le h = none_from ml_literal_at text m e (λ rest. ml_literal_front (take m text) rest h)
+ml_literal_none text e m le h = none_from ml_literal_at text m e (λ rest. ml_literal_prefix (take m text) rest h)
 
--- ---- the longest front, as the definitions say it
+-- ---- the longest prefix, as the definitions say it
 
 pub basic_leaf : (profile : Profile) (text : List ℕ) (n : ℕ) → (first text == 0x22) ≡ true → basic_at profile text ≡ Some n → Longest (Basic profile) text n
 basic_leaf profile text n opening e =

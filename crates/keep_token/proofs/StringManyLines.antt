@@ -24,16 +24,16 @@ mark_step mark (c ∷ cs) h =
 mark_more : (mark : ℕ) (text cs rest : List ℕ) → text ≡ mark ∷ cs → cs ≡ rest → text ≡ mark ∷ rest
 mark_more mark text cs rest e f = e ∙ ap (λ t. mark ∷ t) f
 
--- so many marks and three more stand in front
-marks_front : (mark k : ℕ) (text : List ℕ) → k + 3 ≤ marks mark text → (rest : List ℕ) × (text ≡ text_of (some_of k mark) ++ (mark ∷ mark ∷ mark ∷ rest))
-marks_front mark zero text h =
+-- so many marks and three more come first
+marks_prefix : (mark k : ℕ) (text : List ℕ) → k + 3 ≤ marks mark text → (rest : List ℕ) × (text ≡ text_of (some_of k mark) ++ (mark ∷ mark ∷ mark ∷ rest))
+marks_prefix mark zero text h =
     let a = mark_step mark text (omega arith) in
     let b = mark_step mark a.0 (omega (arith, a.2)) in
     let c = mark_step mark b.0 (omega (arith, a.2, b.2)) in
     (c.0, mark_more mark text a.0 (mark ∷ mark ∷ c.0) a.1 (mark_more mark a.0 b.0 (mark ∷ c.0) b.1 c.1))
-marks_front mark (suc k) text h =
+marks_prefix mark (suc k) text h =
     let a = mark_step mark text (omega arith) in
-    let b = marks_front mark k a.0 (omega (arith, a.2)) in
+    let b = marks_prefix mark k a.0 (omega (arith, a.2)) in
     (b.0, mark_more mark text a.0 (text_of (some_of k mark) ++ (mark ∷ mark ∷ mark ∷ b.0)) a.1 b.1)
 
 closes_many_found : (mark : ℕ) (text : List ℕ) (ps : List Piece) → closes true mark text ≡ Some ps → (k : ℕ) × (rest : List ℕ) × (k ≤ 2) × (ps ≡ some_of k mark) × (text ≡ text_of (some_of k mark) ++ (mark ∷ mark ∷ mark ∷ rest))
@@ -42,7 +42,7 @@ closes_many_found mark text ps e =
       | inl m ↦
           let enough = leb-true 3 (marks mark text) m in
           let k = min (marks mark text) 5 - 3 in
-          let f = marks_front mark k text (omega (arith, enough)) in
+          let f = marks_prefix mark k text (omega (arith, enough)) in
           let g = rw m at e in
           (k, f.0, omega arith, cc, f.1)
       | inr m ↦ absurd (let f = rw m at e in cc)
@@ -164,10 +164,10 @@ lead P mark head (p ∷ ps) h =
       | inr f ↦ other (λ tail. marks_none mark (text_of (p ∷ ps) ++ tail) (rw (append_assoc (piece_text p) (text_of ps) tail) (f (text_of ps ++ tail))))
     ]
 
--- the marks in front of the closing are at most two, and all of the body; or the string does not end here
+-- the marks before the closing are at most two, and all of the body; or the string does not end here
 data Ending (mark : ℕ) (ps : List Piece) : Type 0 where
   body : (k : ℕ) → k ≤ 2 → ps ≡ some_of k mark → Ending mark ps
-  goes_on : ((tail : List ℕ) → marks mark (text_of ps ++ tail) < 3) → Ending mark ps
+  continues : ((tail : List ℕ) → marks mark (text_of ps ++ tail) < 3) → Ending mark ps
 
 ending_two : (P : Piece → Type 0) (mark : ℕ) → MarkOrNot P mark → (ps : List Piece) → Each P ps → no_three mark (Plain mark ∷ Plain mark ∷ ps) ≡ true → Ending mark (Plain mark ∷ Plain mark ∷ ps)
 ending_two P mark head ps h three =
@@ -175,7 +175,7 @@ ending_two P mark head ps h three =
     elim (lead P mark head ps h) [
       | ends e ↦ body 2 (omega arith) (ap (λ (qs : List Piece). Plain mark ∷ Plain mark ∷ qs) e)
       | marked qs e ↦ absurd (let f = rw (e, same) at three in cc)
-      | other f ↦ goes_on (λ tail. omega (arith, marks_more mark (mark ∷ text_of ps ++ tail), marks_more mark (text_of ps ++ tail), f tail))
+      | other f ↦ continues (λ tail. omega (arith, marks_more mark (mark ∷ text_of ps ++ tail), marks_more mark (text_of ps ++ tail), f tail))
     ]
 
 ending_one : (P : Piece → Type 0) (mark : ℕ) → MarkOrNot P mark → (ps : List Piece) → Each P ps → no_three mark (Plain mark ∷ ps) ≡ true → Ending mark (Plain mark ∷ ps)
@@ -185,7 +185,7 @@ ending_one P mark head ps h three =
       | marked qs e ↦
           let each = rw e at h in
           subst (λ (rs : List Piece). Ending mark (Plain mark ∷ rs)) (sym e) (ending_two P mark head qs each.1 (rw e at three))
-      | other f ↦ goes_on (λ tail. omega (arith, marks_more mark (text_of ps ++ tail), f tail))
+      | other f ↦ continues (λ tail. omega (arith, marks_more mark (text_of ps ++ tail), f tail))
     ]
 
 ending : (P : Piece → Type 0) (mark : ℕ) → MarkOrNot P mark → (ps : List Piece) → Each P ps → no_three mark ps ≡ true → Ending mark ps
@@ -195,7 +195,7 @@ ending P mark head ps h three =
       | marked qs e ↦
           let each = rw e at h in
           subst (λ (rs : List Piece). Ending mark rs) (sym e) (ending_one P mark head qs each.1 (rw e at three))
-      | other f ↦ goes_on (λ tail. omega (arith, f tail))
+      | other f ↦ continues (λ tail. omega (arith, f tail))
     ]
 
 marks_of_some : (mark k : ℕ) (text : List ℕ) → marks mark (text_of (some_of k mark) ++ text) ≡ k + marks mark text
@@ -206,7 +206,7 @@ length-some : (mark k : ℕ) → length (text_of (some_of k mark)) ≡ k
 length-some mark zero = refl
 length-some mark (suc k) = omega (arith, length-some mark k)
 
--- what is found in front of the closing marks, of which more may stand there than three
+-- what is found before the closing marks, of which more may be there than three
 pub record Again (piece : List ℕ → Option Piece) (n mark : ℕ) (ps : List Piece) (rest : List ℕ) : Type 0 where
   pub all : List Piece
   pub found : pieces_by n piece true mark (text_of ps ++ (mark ∷ mark ∷ mark ∷ rest)) ≡ Some all
@@ -230,21 +230,21 @@ again_closed piece n mark ps rest k small e =
       same = λ stop. ap (λ m. some_of m mark) (omega (arith, count, marks_none mark rest stop)) ∙ sym e;
     }
 
-stops_front : (P : Piece → Type 0) (piece : List ℕ → Option Piece) → PieceLaws P piece → (p : Piece) (ps : List Piece) (c : ℕ) (rest : List ℕ) → Each P ps → takes_all (p ∷ ps) ≡ true
+stops_prefix : (P : Piece → Type 0) (piece : List ℕ → Option Piece) → PieceLaws P piece → (p : Piece) (ps : List Piece) (c : ℕ) (rest : List ℕ) → Each P ps → takes_all (p ∷ ps) ≡ true
     → ((is_ws c || c == 0x0A) ≡ false) → ((c == 0x0D) ≡ false) → Stops p (text_of ps ++ (c ∷ rest))
-stops_front P piece laws (LineEnd x y z) [] c rest h all white cr = blank_len_none c rest white cr
-stops_front P piece laws (LineEnd x y z) (Plain b ∷ ps) c rest h all white cr =
+stops_prefix P piece laws (LineEnd x y z) [] c rest h all white cr = blank_len_none c rest white cr
+stops_prefix P piece laws (LineEnd x y z) (Plain b ∷ ps) c rest h all white cr =
     let parts = and_parts (not (is_ws b)) (takes_all (Plain b ∷ ps)) all in
     let line = laws.plain b h.0 in
     blank_len_none b (text_of ps ++ (c ∷ rest)) (or_from (is_ws b) (b == 0x0A) (not-true (is_ws b) parts.0) line.0) line.1
-stops_front P piece laws (LineEnd x y z) (Letter b ∷ ps) c rest h all white cr = blank_len_none 0x5C (b ∷ text_of ps ++ (c ∷ rest)) refl refl
-stops_front P piece laws (LineEnd x y z) (Number b ds ∷ ps) c rest h all white cr = blank_len_none 0x5C (b ∷ (ds ++ text_of ps) ++ (c ∷ rest)) refl refl
-stops_front P piece laws (LineEnd x y z) (Break b ∷ ps) c rest h all white cr = absurd cc
-stops_front P piece laws (LineEnd x y z) (LineEnd a b d ∷ ps) c rest h all white cr = blank_len_none 0x5C (((a ++ (b ++ d)) ++ text_of ps) ++ (c ∷ rest)) refl refl
-stops_front P piece laws (Plain b) ps c rest h all white cr = tt
-stops_front P piece laws (Letter b) ps c rest h all white cr = tt
-stops_front P piece laws (Number b ds) ps c rest h all white cr = tt
-stops_front P piece laws (Break b) ps c rest h all white cr = tt
+stops_prefix P piece laws (LineEnd x y z) (Letter b ∷ ps) c rest h all white cr = blank_len_none 0x5C (b ∷ text_of ps ++ (c ∷ rest)) refl refl
+stops_prefix P piece laws (LineEnd x y z) (Number b ds ∷ ps) c rest h all white cr = blank_len_none 0x5C (b ∷ (ds ++ text_of ps) ++ (c ∷ rest)) refl refl
+stops_prefix P piece laws (LineEnd x y z) (Break b ∷ ps) c rest h all white cr = absurd cc
+stops_prefix P piece laws (LineEnd x y z) (LineEnd a b d ∷ ps) c rest h all white cr = blank_len_none 0x5C (((a ++ (b ++ d)) ++ text_of ps) ++ (c ∷ rest)) refl refl
+stops_prefix P piece laws (Plain b) ps c rest h all white cr = tt
+stops_prefix P piece laws (Letter b) ps c rest h all white cr = tt
+stops_prefix P piece laws (Number b ds) ps c rest h all white cr = tt
+stops_prefix P piece laws (Break b) ps c rest h all white cr = tt
 
 pub takes_all_rest : (p : Piece) (ps : List Piece) → takes_all (p ∷ ps) ≡ true → takes_all ps ≡ true
 takes_all_rest p [] h = refl
@@ -264,14 +264,14 @@ many_lines_again P piece laws mark is_mark white cr head (suc n) [] rest h three
 many_lines_again P piece laws mark is_mark white cr head (suc n) (p ∷ ps) rest h three all few =
     elim (ending P mark head (p ∷ ps) h three) [
       | body k small e ↦ again_closed piece n mark (p ∷ ps) rest k small e
-      | goes_on f ↦
+      | continues f ↦
           let tail = mark ∷ mark ∷ mark ∷ rest in
           let more = text_of ps ++ tail in
           let ih = many_lines_again P piece laws mark is_mark white cr head n ps rest h.1 (no_three_rest mark p ps three) (takes_all_rest p ps all) (omega arith) in
           let still : closes true mark (text_of (p ∷ ps) ++ tail) ≡ None = closes_few mark (text_of (p ∷ ps) ++ tail) (f tail) in
           let split = append_assoc (piece_text p) (text_of ps) tail in
           let still' : closes true mark (piece_text p ++ more) ≡ None = ap (closes true mark) (sym split) ∙ still in
-          let stops = stops_front P piece laws p ps mark (mark ∷ mark ∷ rest) h.1 all white cr in
+          let stops = stops_prefix P piece laws p ps mark (mark ∷ mark ∷ rest) h.1 all white cr in
           record {
             all = p ∷ ih.all;
             found = ap (pieces_by (suc n) piece true mark) split ∙ (rw (still', laws.again p more h.0 stops, drop_at (piece_text p) more (length (piece_text p)) refl, ih.found) refl);
@@ -286,22 +286,22 @@ abbrev pub many_lines : ℕ → List Piece → List ℕ
 many_lines mark ps = mark ∷ mark ∷ mark ∷ text_of ps ++ (mark ∷ mark ∷ mark ∷ [])
 
 -- the text is a string over many lines and more
-pub record FrontMany (P : Piece → Type 0) (mark : ℕ) (text : List ℕ) (ps : List Piece) : Type 0 where
+pub record PrefixMany (P : Piece → Type 0) (mark : ℕ) (text : List ℕ) (ps : List Piece) : Type 0 where
   pub rest : List ℕ
   pub spelled : text ≡ many_lines mark ps ++ rest
   pub each : Each P ps
   pub no_end : no_three mark ps ≡ true
   pub whole : takes_all ps ≡ true
 
-pub front_many : (P : Piece → Type 0) (piece : List ℕ → Option Piece) → PieceLaws P piece → (mark : ℕ) → P (Plain mark)
-    → (text behind : List ℕ) (ps : List Piece) → text ≡ mark ∷ mark ∷ mark ∷ behind → pieces_of piece true mark (drop 3 text) ≡ Some ps → FrontMany P mark text ps
-front_many P piece laws mark is_mark text behind ps opening e =
+pub prefix_many : (P : Piece → Type 0) (piece : List ℕ → Option Piece) → PieceLaws P piece → (mark : ℕ) → P (Plain mark)
+    → (text behind : List ℕ) (ps : List Piece) → text ≡ mark ∷ mark ∷ mark ∷ behind → pieces_of piece true mark (drop 3 text) ≡ Some ps → PrefixMany P mark text ps
+prefix_many P piece laws mark is_mark text behind ps opening e =
     let found : pieces_of piece true mark behind ≡ Some ps = ap (λ t. pieces_of piece true mark (drop 3 t)) (sym opening) ∙ e in
     let f = many_lines_found P piece laws mark is_mark (suc (length behind)) behind ps found in
     let spelled : text ≡ many_lines mark ps ++ f.rest = opening ∙ ap (λ t. mark ∷ mark ∷ mark ∷ t) (f.spelled ∙ sym (append_assoc (text_of ps) (mark ∷ mark ∷ mark ∷ []) f.rest)) in
     record { rest = f.rest; spelled = spelled; each = f.each; no_end = f.no_end; whole = f.whole }
 
--- the pieces found where a string over many lines stands, which may be longer
+-- the pieces found where a string over many lines is, which may be longer
 pub record AgainMany (piece : List ℕ → Option Piece) (mark : ℕ) (ps : List Piece) (rest : List ℕ) : Type 0 where
   pub all : List Piece
   pub found : pieces_of piece true mark (drop 3 (many_lines mark ps ++ rest)) ≡ Some all

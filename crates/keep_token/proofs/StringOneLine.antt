@@ -36,7 +36,7 @@ one_line_found P piece laws mark zero_not (suc n) text ps e =
           subst (λ qs. FoundOne P mark text qs) (sym s.all) (record { rest = b.rest; spelled = spelled_more s.here s.behind text s.more (mark ∷ b.rest) s.spelled b.spelled; each = (s.allowed, b.each) })
     ]
 
--- a string on one line is found again, in front of anything
+-- a string on one line is found again, before anything
 pub one_line_again : (P : Piece → Type 0) (piece : List ℕ → Option Piece) → PieceLaws P piece → (mark : ℕ)
     → ((p : Piece) (more : List ℕ) → P p → (first (piece_text p ++ more) == mark) ≡ false) → ((p : Piece) (more : List ℕ) → P p → Stops p more)
     → (n : ℕ) (ps : List Piece) (rest : List ℕ) → Each P ps → length ps < n → pieces_by n piece false mark (text_of ps ++ (mark ∷ rest)) ≡ Some ps
@@ -53,15 +53,15 @@ abbrev pub one_line : ℕ → List Piece → List ℕ
 one_line mark ps = mark ∷ text_of ps ++ (mark ∷ [])
 
 -- the text is a string on one line and more
-pub record FrontOne (P : Piece → Type 0) (mark : ℕ) (text : List ℕ) (ps : List Piece) : Type 0 where
+pub record PrefixOne (P : Piece → Type 0) (mark : ℕ) (text : List ℕ) (ps : List Piece) : Type 0 where
   pub rest : List ℕ
   pub spelled : text ≡ one_line mark ps ++ rest
   pub each : Each P ps
 
-pub front_one : (P : Piece → Type 0) (piece : List ℕ → Option Piece) → PieceLaws P piece → (mark : ℕ) → (0 == mark) ≡ false
-    → (text : List ℕ) (ps : List Piece) → (first text == mark) ≡ true → pieces_of piece false mark (drop 1 text) ≡ Some ps → FrontOne P mark text ps
-front_one P piece laws mark zero_not [] ps opening e = absurd (let f = rw zero_not at opening in cc)
-front_one P piece laws mark zero_not (c ∷ cs) ps opening e =
+pub prefix_one : (P : Piece → Type 0) (piece : List ℕ → Option Piece) → PieceLaws P piece → (mark : ℕ) → (0 == mark) ≡ false
+    → (text : List ℕ) (ps : List Piece) → (first text == mark) ≡ true → pieces_of piece false mark (drop 1 text) ≡ Some ps → PrefixOne P mark text ps
+prefix_one P piece laws mark zero_not [] ps opening e = absurd (let f = rw zero_not at opening in cc)
+prefix_one P piece laws mark zero_not (c ∷ cs) ps opening e =
     let f = one_line_found P piece laws mark zero_not (suc (length cs)) cs ps e in
     let spelled : c ∷ cs ≡ one_line mark ps ++ f.rest = ap (λ (b : ℕ). b ∷ cs) (eqb-true c mark opening) ∙ ap (λ t. mark ∷ t) (f.spelled ∙ sym (append_assoc (text_of ps) (mark ∷ []) f.rest)) in
     record { rest = f.rest; spelled = spelled; each = f.each }

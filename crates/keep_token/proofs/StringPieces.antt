@@ -1,4 +1,5 @@
--- In each kind of string: the piece that is found spells the text and may stand there, and each piece that may stand there is found again.
+-- In each kind of string: the piece that is found spells the text and may be there, and each piece that may be there is
+-- found again.
 use Rattle.std.proofs.Common.{◌≡◌, ℕ, suc, ◌+◌, ◌<◌, Bool, true, false, ◌&&◌, ◌||◌, ◌==◌, nat_lt, List, [], ◌∷◌, ◌++◌, length, take, drop, Option, Some, None, refl, sym, ap, ◌∙◌, subst, inl, inr, arith, ◌⊎◌, append_assoc, take_at, drop_at, take-append-drop, eqb-true, eq-eqb, lt-ltb}
 use Rattle.std.proofs.lemmas.Bool.{and_parts, cases_Bool, ltb-true}
 use Rattle.std.proofs.lemmas.Bool.Decides.{nat_tests}
@@ -320,7 +321,7 @@ line_end_again before newline after more white line blank stop =
       take_at after more (length after) refl,
     ) refl
 
--- what stands behind the backslash of a line end is no escape
+-- what comes after the backslash of a line end is no escape
 line_end_no_escape : (profile : Profile) (before newline more : List ℕ) → list_all is_ws before ≡ true → Newline newline → escape_at profile (before ++ (newline ++ more)) ≡ None
 line_end_no_escape profile [] newline more white (inl e) = rw e (blank_no_escape profile 0x0A more refl)
 line_end_no_escape profile [] newline more white (inr e) = rw e (blank_no_escape profile 0x0D (0x0A ∷ more) refl)

@@ -1,4 +1,4 @@
--- What a scan of each kind of string meets on its way: runs, marks, newlines, backslashes, and where nothing goes on.
+-- What a scan of each kind of string meets on its way: runs, marks, newlines, backslashes, and where nothing continues.
 use Rattle.std.proofs.Common.{◌≡◌, ℕ, zero, suc, ◌+◌, ◌-◌, ◌<◌, ◌≤◌, min, Bool, true, false, ◌==◌, List, [], ◌∷◌, ◌++◌, length, get_or, take, drop, Option, Some, None, refl, sym, ap, ◌∙◌, arith, inl, inr, add-zero, get_or-drop, length-append, length-drop, eq-eqb}
 use Rattle.std.specs.Prelude.{nat_le}
 use Rattle.std.specs.List.{prefix_len}
@@ -37,9 +37,9 @@ ml_literal_takes = takes_from _ _ ml_literal_laws
 pub first_at : (bytes : List ℕ) (at : ℕ) → first (drop at bytes) ≡ get_or bytes at 0
 first_at bytes at = get_or-drop at bytes 0 0 ∙ ap (λ i. get_or bytes i 0) (add-zero at)
 
--- a byte that is not 0 stands within the text
-pub stands_within : (bytes : List ℕ) (at v : ℕ) → get_or bytes at 0 ≡ v → 0 < v → at < length bytes
-stands_within bytes at v e some =
+-- a byte that is not 0 is within the text
+pub occurs_within : (bytes : List ℕ) (at v : ℕ) → get_or bytes at 0 ≡ v → 0 < v → at < length bytes
+occurs_within bytes at v e some =
     elim (cases_lt at (length bytes)) [
       | inl within ↦ within
       | inr past ↦ absurd (omega (arith, get_or_past bytes at 0 past))
@@ -49,9 +49,9 @@ stands_within bytes at v e some =
 pub length-rest : (bytes : List ℕ) (at : ℕ) → at ≤ length bytes → length (take (length bytes - at) (drop at bytes)) + at ≡ length bytes
 length-rest bytes at h = omega (arith, ap length (take_rest bytes at), length-drop at bytes)
 
--- the byte behind a run is not of its class
-pub behind_run : (class : ℕ → Bool) → class 0 ≡ false → (bytes : List ℕ) (at n : ℕ) → n ≡ prefix_len class (drop at bytes) → class (get_or bytes (at + n) 0) ≡ false
-behind_run class none bytes at n e =
+-- the byte after a run is not of its class
+pub after_run : (class : ℕ → Bool) → class 0 ≡ false → (bytes : List ℕ) (at n : ℕ) → n ≡ prefix_len class (drop at bytes) → class (get_or bytes (at + n) 0) ≡ false
+after_run class none bytes at n e =
     elim (cases_lt n (length (drop at bytes))) [
       | inl within ↦
           let stops = prefix_len_stops class (drop at bytes) 0 (omega arith) in
@@ -133,15 +133,15 @@ basic_run profile bytes at n e = reach_run (basic_piece profile) (basic_takes pr
 
 pub basic_ends : (profile : Profile) (bytes : List ℕ) (at : ℕ) → get_or bytes at 0 ≡ 0x22 → basic_reach profile bytes 1 ≡ basic_reach profile bytes at → basic_at profile bytes ≡ Some (at + 1)
 unfolding basic_reach
-basic_ends profile bytes at quote kept =
+basic_ends profile bytes at quote preserved =
     let here = reach_closed (basic_piece profile) (basic_takes profile) false 0x22 bytes at [] (closed_one 0x22 bytes at quote) in
-    len_found basic_text 1 1 (len_one 0x22) (pieces_of (basic_piece profile) false 0x22 (drop 1 bytes)) at (kept ∙ here ∙ ap (λ (n : ℕ). Some n) (add-zero at))
+    len_found basic_text 1 1 (len_one 0x22) (pieces_of (basic_piece profile) false 0x22 (drop 1 bytes)) at (preserved ∙ here ∙ ap (λ (n : ℕ). Some n) (add-zero at))
 
 basic_fails : (profile : Profile) (bytes : List ℕ) (at : ℕ) → (get_or bytes at 0 ≡ 0x22 → ⊥) → basic_piece profile (drop at bytes) ≡ None → basic_reach profile bytes 1 ≡ basic_reach profile bytes at → basic_at profile bytes ≡ None
 unfolding basic_reach
-basic_fails profile bytes at quote none kept =
+basic_fails profile bytes at quote none preserved =
     let here = reach_none (basic_piece profile) (basic_takes profile) false 0x22 bytes at (open_one 0x22 bytes at quote) none in
-    len_none basic_text 1 (pieces_of (basic_piece profile) false 0x22 (drop 1 bytes)) (kept ∙ here)
+    len_none basic_text 1 (pieces_of (basic_piece profile) false 0x22 (drop 1 bytes)) (preserved ∙ here)
 
 basic_backslash : (profile : Profile) (bytes : List ℕ) (at : ℕ) → get_or bytes at 0 ≡ 0x5C → basic_piece profile (drop at bytes) ≡ escape_at profile (drop (at + 1) bytes)
 basic_backslash profile bytes at h =
@@ -155,14 +155,14 @@ basic_escape profile bytes at n p h e len =
     reach_piece (basic_piece profile) (basic_takes profile) false 0x22 bytes at n p (open_one 0x22 bytes at (λ q. absurd (omega arith))) (basic_backslash profile bytes at h ∙ e) len
 
 pub basic_no_escape : (profile : Profile) (bytes : List ℕ) (at : ℕ) → get_or bytes at 0 ≡ 0x5C → escape_at profile (drop (at + 1) bytes) ≡ None → basic_reach profile bytes 1 ≡ basic_reach profile bytes at → basic_at profile bytes ≡ None
-basic_no_escape profile bytes at h e kept = basic_fails profile bytes at (λ q. absurd (omega arith)) (basic_backslash profile bytes at h ∙ e) kept
+basic_no_escape profile bytes at h e preserved = basic_fails profile bytes at (λ q. absurd (omega arith)) (basic_backslash profile bytes at h ∙ e) preserved
 
 pub basic_stops : (profile : Profile) (bytes : List ℕ) (at : ℕ) → (get_or bytes at 0 ≡ 0x22 → ⊥) → (get_or bytes at 0 ≡ 0x5C → ⊥) → is_basic (get_or bytes at 0) ≡ false
     → basic_reach profile bytes 1 ≡ basic_reach profile bytes at → basic_at profile bytes ≡ None
-basic_stops profile bytes at quote backslash plain kept =
+basic_stops profile bytes at quote backslash plain preserved =
     let f : (first (drop at bytes) == 0x5C) ≡ false = ne_eqb (first (drop at bytes)) 0x5C (λ e. backslash (sym (first_at bytes at) ∙ e)) in
     let g : is_basic (first (drop at bytes)) ≡ false = ap is_basic (first_at bytes at) ∙ plain in
-    basic_fails profile bytes at quote (rw (f, g) refl) kept
+    basic_fails profile bytes at quote (rw (f, g) refl) preserved
 
 -- ---- literal strings
 
@@ -185,7 +185,7 @@ literal_ends bytes n e quote =
 
 pub literal_stops : (bytes : List ℕ) (n : ℕ) → n ≡ prefix_len is_literal (drop 1 bytes) → (get_or bytes (1 + n) 0 ≡ 0x27 → ⊥) → literal_at bytes ≡ None
 literal_stops bytes n e quote =
-    let g : is_literal (first (drop (1 + n) bytes)) ≡ false = ap is_literal (first_at bytes (1 + n)) ∙ behind_run is_literal refl bytes 1 n e in
+    let g : is_literal (first (drop (1 + n) bytes)) ≡ false = ap is_literal (first_at bytes (1 + n)) ∙ after_run is_literal refl bytes 1 n e in
     let none : literal_piece (drop (1 + n) bytes) ≡ None = rw g refl in
     let here = reach_none literal_piece literal_takes false 0x27 bytes (1 + n) (open_one 0x27 bytes (1 + n) quote) none in
     len_none literal_text 1 (pieces_of literal_piece false 0x27 (drop 1 bytes)) (literal_run bytes n e ∙ here)
@@ -228,10 +228,10 @@ ml_basic_run profile bytes at n e = reach_run (ml_basic_piece profile) (ml_basic
 
 pub ml_basic_ends : (profile : Profile) (bytes : List ℕ) (at n : ℕ) → n ≡ marks 0x22 (drop at bytes) → 3 ≤ n → ml_basic_reach profile bytes 3 ≡ ml_basic_reach profile bytes at → ml_basic_at profile bytes ≡ Some (at + min n 5)
 unfolding ml_basic_reach
-ml_basic_ends profile bytes at n e some kept =
+ml_basic_ends profile bytes at n e some preserved =
     let k = min n 5 - 3 in
     let here = reach_closed (ml_basic_piece profile) (ml_basic_takes profile) true 0x22 bytes at (some_of k 0x22) (closed_many 0x22 (drop at bytes) n e some) in
-    len_found ml_basic_text 3 3 (len_three 0x22) (pieces_of (ml_basic_piece profile) true 0x22 (drop 3 bytes)) (at + k) (kept ∙ here ∙ ap (λ m. Some (at + m)) (length-marks k 0x22))
+    len_found ml_basic_text 3 3 (len_three 0x22) (pieces_of (ml_basic_piece profile) true 0x22 (drop 3 bytes)) (at + k) (preserved ∙ here ∙ ap (λ m. Some (at + m)) (length-marks k 0x22))
     ∙ ap (λ (m : ℕ). Some m) (omega arith)
 
 pub ml_basic_more : (profile : Profile) (bytes : List ℕ) (at n k : ℕ) → n ≡ marks 0x22 (drop at bytes) → n < 3 → piece_len (ml_basic_piece profile (drop at bytes)) ≡ Some k
@@ -244,9 +244,9 @@ ml_basic_more profile bytes at n k e few found =
 pub ml_basic_stops : (profile : Profile) (bytes : List ℕ) (at n : ℕ) → n ≡ marks 0x22 (drop at bytes) → n < 3 → piece_len (ml_basic_piece profile (drop at bytes)) ≡ None
     → ml_basic_reach profile bytes 3 ≡ ml_basic_reach profile bytes at → ml_basic_at profile bytes ≡ None
 unfolding ml_basic_reach
-ml_basic_stops profile bytes at n e few none kept =
+ml_basic_stops profile bytes at n e few none preserved =
     let here = reach_none (ml_basic_piece profile) (ml_basic_takes profile) true 0x22 bytes at (open_many 0x22 (drop at bytes) n e few) (piece_len_none (ml_basic_piece profile (drop at bytes)) none) in
-    len_none ml_basic_text 3 (pieces_of (ml_basic_piece profile) true 0x22 (drop 3 bytes)) (kept ∙ here)
+    len_none ml_basic_text 3 (pieces_of (ml_basic_piece profile) true 0x22 (drop 3 bytes)) (preserved ∙ here)
 
 -- ---- literal strings over many lines
 
@@ -263,10 +263,10 @@ ml_literal_run bytes at n e = reach_run ml_literal_piece ml_literal_takes true 0
 
 pub ml_literal_ends : (bytes : List ℕ) (at n : ℕ) → n ≡ marks 0x27 (drop at bytes) → 3 ≤ n → ml_literal_reach bytes 3 ≡ ml_literal_reach bytes at → ml_literal_at bytes ≡ Some (at + min n 5)
 unfolding ml_literal_reach
-ml_literal_ends bytes at n e some kept =
+ml_literal_ends bytes at n e some preserved =
     let k = min n 5 - 3 in
     let here = reach_closed ml_literal_piece ml_literal_takes true 0x27 bytes at (some_of k 0x27) (closed_many 0x27 (drop at bytes) n e some) in
-    len_found ml_literal_text 3 3 (len_three 0x27) (pieces_of ml_literal_piece true 0x27 (drop 3 bytes)) (at + k) (kept ∙ here ∙ ap (λ m. Some (at + m)) (length-marks k 0x27))
+    len_found ml_literal_text 3 3 (len_three 0x27) (pieces_of ml_literal_piece true 0x27 (drop 3 bytes)) (at + k) (preserved ∙ here ∙ ap (λ m. Some (at + m)) (length-marks k 0x27))
     ∙ ap (λ (m : ℕ). Some m) (omega arith)
 
 pub ml_literal_more : (bytes : List ℕ) (at n k : ℕ) → n ≡ marks 0x27 (drop at bytes) → n < 3 → piece_len (ml_literal_piece (drop at bytes)) ≡ Some k
@@ -279,6 +279,6 @@ ml_literal_more bytes at n k e few found =
 pub ml_literal_stops : (bytes : List ℕ) (at n : ℕ) → n ≡ marks 0x27 (drop at bytes) → n < 3 → piece_len (ml_literal_piece (drop at bytes)) ≡ None
     → ml_literal_reach bytes 3 ≡ ml_literal_reach bytes at → ml_literal_at bytes ≡ None
 unfolding ml_literal_reach
-ml_literal_stops bytes at n e few none kept =
+ml_literal_stops bytes at n e few none preserved =
     let here = reach_none ml_literal_piece ml_literal_takes true 0x27 bytes at (open_many 0x27 (drop at bytes) n e few) (piece_len_none (ml_literal_piece (drop at bytes)) none) in
-    len_none ml_literal_text 3 (pieces_of ml_literal_piece true 0x27 (drop 3 bytes)) (kept ∙ here)
+    len_none ml_literal_text 3 (pieces_of ml_literal_piece true 0x27 (drop 3 bytes)) (preserved ∙ here)

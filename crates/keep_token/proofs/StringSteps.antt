@@ -13,7 +13,7 @@ Stops (Letter letter) more = ⊤
 Stops (Number letter digits) more = ⊤
 Stops (Break newline) more = ⊤
 
--- What a kind of string says of its pieces: which may stand there, and how the first one is found.
+-- What a kind of string says of its pieces: which may be there, and how the first one is found.
 pub record PieceLaws (P : Piece → Type 0) (piece : List ℕ → Option Piece) : Type 0 where
   pub found : (text : List ℕ) (p : Piece) → piece text ≡ Some p → (more : List ℕ) × (text ≡ piece_text p ++ more) × P p × Stops p more
   pub again : (p : Piece) (more : List ℕ) → P p → Stops p more → piece (piece_text p ++ more) ≡ Some p
@@ -31,7 +31,7 @@ before_found : (p : Piece) (o : Option (List Piece)) (ps : List Piece) → befor
 before_found p None ps e = absurd cc
 before_found p (Some more) ps e = (more, refl, cc)
 
--- the first piece, and what is found behind it
+-- the first piece, and what is found after it
 pub record Stepped (P : Piece → Type 0) (rest : List ℕ → Option (List Piece)) (text : List ℕ) (ps : List Piece) : Type 0 where
   pub here : Piece
   pub behind : List Piece
@@ -54,7 +54,7 @@ stepped P piece laws rest text ps e = go (piece text) refl e
         let cut : drop (length (piece_text p)) text ≡ f.0 = ap (drop (length (piece_text p))) f.1 ∙ drop_at (piece_text p) f.0 (length (piece_text p)) refl in
         record { here = p; behind = b.0; more = f.0; spelled = f.1; allowed = f.2; stops = f.3; found = ap rest (sym cut) ∙ b.1; all = b.2 }
 
--- a piece and what is spelled behind it
+-- a piece and what is spelled after it
 pub spelled_more : (p : Piece) (ps : List Piece) (text more tail : List ℕ) → text ≡ piece_text p ++ more → more ≡ text_of ps ++ tail → text ≡ text_of (p ∷ ps) ++ tail
 spelled_more p ps text more tail here behind = here ∙ ap (λ t. piece_text p ++ t) behind ∙ sym (append_assoc (piece_text p) (text_of ps) tail)
 

@@ -16,20 +16,20 @@ use Rattle.keep_token.proofs.StringManyLines.{many_lines}
 
 -- ---- cuts beside ASCII
 
--- before and behind an ASCII byte
-seam : (front : List ℕ) (c : ℕ) (rest : List ℕ) → get_or (front ++ (c ∷ rest)) (length front) 0 ≡ c
+-- before and after an ASCII byte
+seam : (prefix : List ℕ) (c : ℕ) (rest : List ℕ) → get_or (prefix ++ (c ∷ rest)) (length prefix) 0 ≡ c
 seam [] c rest = refl
-seam (b ∷ front) c rest = seam front c rest
+seam (b ∷ prefix) c rest = seam prefix c rest
 
-pub cut_one : (front : List ℕ) (c : ℕ) (rest : List ℕ) → c < 128 → IsUtf8 (front ++ (c ∷ rest)) → IsUtf8 front × IsUtf8 rest
-cut_one front c rest ascii u =
-    let text = front ++ (c ∷ rest) in
-    let within : length front < length text = omega (arith, length-append front (c ∷ rest)) in
-    let low : get_or text (length front) 0 < 128 = rw (seam front c rest) ascii in
-    let here = IsUtf8-take text (length front) u (IsCharBoundary-before_ascii text (length front) within low) in
-    let behind = IsUtf8-drop text (length front + 1) u (IsCharBoundary-after_ascii text (length front) u within low) in
-    let dropped : drop (length front + 1) text ≡ rest = ap (drop (length front + 1)) (sym (append_assoc front (c ∷ []) rest)) ∙ drop_at (front ++ (c ∷ [])) rest (length front + 1) (length-append front (c ∷ [])) in
-    (subst IsUtf8 (take_at front (c ∷ rest) (length front) refl) here, subst IsUtf8 dropped behind)
+pub cut_one : (prefix : List ℕ) (c : ℕ) (rest : List ℕ) → c < 128 → IsUtf8 (prefix ++ (c ∷ rest)) → IsUtf8 prefix × IsUtf8 rest
+cut_one prefix c rest ascii u =
+    let text = prefix ++ (c ∷ rest) in
+    let within : length prefix < length text = omega (arith, length-append prefix (c ∷ rest)) in
+    let low : get_or text (length prefix) 0 < 128 = rw (seam prefix c rest) ascii in
+    let here = IsUtf8-take text (length prefix) u (IsCharBoundary-before_ascii text (length prefix) within low) in
+    let behind = IsUtf8-drop text (length prefix + 1) u (IsCharBoundary-after_ascii text (length prefix) u within low) in
+    let dropped : drop (length prefix + 1) text ≡ rest = ap (drop (length prefix + 1)) (sym (append_assoc prefix (c ∷ []) rest)) ∙ drop_at (prefix ++ (c ∷ [])) rest (length prefix + 1) (length-append prefix (c ∷ [])) in
+    (subst IsUtf8 (take_at prefix (c ∷ rest) (length prefix) refl) here, subst IsUtf8 dropped behind)
 
 abbrev is_low : ℕ → Bool
 is_low c = nat_lt c 128
@@ -71,32 +71,32 @@ letter_value_low letter = grind (arith, nat_tests)
 number_utf8 : (n : ℕ) → is_scalar n ≡ true → IsUtf8 (encode_utf8 n)
 number_utf8 n h = IsUtf8-encode n (grind (arith, nat_tests))
 
-values_utf8 : (front : List ℕ) (ps : List Piece) (tail : List ℕ) → Each Cuts ps → IsUtf8 (front ++ (text_of ps ++ tail)) → IsUtf8 (front ++ (value_of ps ++ tail))
-values_utf8 front [] tail h u = u
-values_utf8 front (Plain b ∷ ps) tail h u =
-    let longer = subst IsUtf8 (sym (append_assoc front (b ∷ []) (text_of ps ++ tail))) u in
-    subst IsUtf8 (append_assoc front (b ∷ []) (value_of ps ++ tail)) (values_utf8 (front ++ (b ∷ [])) ps tail h.1 longer)
-values_utf8 front (Letter l ∷ ps) tail h u =
-    let cut = cut_one front 0x5C (l ∷ text_of ps ++ tail) (omega arith) u in
+values_utf8 : (prefix : List ℕ) (ps : List Piece) (tail : List ℕ) → Each Cuts ps → IsUtf8 (prefix ++ (text_of ps ++ tail)) → IsUtf8 (prefix ++ (value_of ps ++ tail))
+values_utf8 prefix [] tail h u = u
+values_utf8 prefix (Plain b ∷ ps) tail h u =
+    let longer = subst IsUtf8 (sym (append_assoc prefix (b ∷ []) (text_of ps ++ tail))) u in
+    subst IsUtf8 (append_assoc prefix (b ∷ []) (value_of ps ++ tail)) (values_utf8 (prefix ++ (b ∷ [])) ps tail h.1 longer)
+values_utf8 prefix (Letter l ∷ ps) tail h u =
+    let cut = cut_one prefix 0x5C (l ∷ text_of ps ++ tail) (omega arith) u in
     let more = (cut_one [] l (text_of ps ++ tail) h.0 cut.1).1 in
     let behind = values_utf8 [] ps tail h.1 more in
-    IsUtf8-append front (letter_value Wide l ∷ value_of ps ++ tail) cut.0 (IsUtf8-append (letter_value Wide l ∷ []) (value_of ps ++ tail) (one_low (letter_value Wide l) (letter_value_low l)) behind)
-values_utf8 front (Number l ds ∷ ps) tail h u =
-    let cut = cut_one front 0x5C (l ∷ (ds ++ text_of ps) ++ tail) (omega arith) u in
+    IsUtf8-append prefix (letter_value Wide l ∷ value_of ps ++ tail) cut.0 (IsUtf8-append (letter_value Wide l ∷ []) (value_of ps ++ tail) (one_low (letter_value Wide l) (letter_value_low l)) behind)
+values_utf8 prefix (Number l ds ∷ ps) tail h u =
+    let cut = cut_one prefix 0x5C (l ∷ (ds ++ text_of ps) ++ tail) (omega arith) u in
     let digits = (cut_one [] l ((ds ++ text_of ps) ++ tail) h.0.0 cut.1).1 in
     let more = cut_more ds (text_of ps ++ tail) h.0.1 (subst IsUtf8 (append_assoc ds (text_of ps) tail) digits) in
     let behind = values_utf8 [] ps tail h.1 more in
     let value = encode_utf8 (sum_of_digits 16 ds) in
-    subst (λ t. IsUtf8 (front ++ t)) (sym (append_assoc value (value_of ps) tail))
-    (IsUtf8-append front (value ++ (value_of ps ++ tail)) cut.0 (IsUtf8-append value (value_of ps ++ tail) (number_utf8 (sum_of_digits 16 ds) h.0.2) behind))
-values_utf8 front (Break n ∷ ps) tail h u =
-    let split : (more : List ℕ) → front ++ ((n ++ more) ++ tail) ≡ (front ++ n) ++ (more ++ tail) = λ more. ap (λ t. front ++ t) (append_assoc n more tail) ∙ sym (append_assoc front n (more ++ tail)) in
-    subst IsUtf8 (sym (split (value_of ps))) (values_utf8 (front ++ n) ps tail h.1 (subst IsUtf8 (split (text_of ps)) u))
-values_utf8 front (LineEnd a n b ∷ ps) tail h u =
+    subst (λ t. IsUtf8 (prefix ++ t)) (sym (append_assoc value (value_of ps) tail))
+    (IsUtf8-append prefix (value ++ (value_of ps ++ tail)) cut.0 (IsUtf8-append value (value_of ps ++ tail) (number_utf8 (sum_of_digits 16 ds) h.0.2) behind))
+values_utf8 prefix (Break n ∷ ps) tail h u =
+    let split : (more : List ℕ) → prefix ++ ((n ++ more) ++ tail) ≡ (prefix ++ n) ++ (more ++ tail) = λ more. ap (λ t. prefix ++ t) (append_assoc n more tail) ∙ sym (append_assoc prefix n (more ++ tail)) in
+    subst IsUtf8 (sym (split (value_of ps))) (values_utf8 (prefix ++ n) ps tail h.1 (subst IsUtf8 (split (text_of ps)) u))
+values_utf8 prefix (LineEnd a n b ∷ ps) tail h u =
     let run = a ++ (n ++ b) in
-    let cut = cut_one front 0x5C ((run ++ text_of ps) ++ tail) (omega arith) u in
+    let cut = cut_one prefix 0x5C ((run ++ text_of ps) ++ tail) (omega arith) u in
     let more = cut_more run (text_of ps ++ tail) h.0 (subst IsUtf8 (append_assoc run (text_of ps) tail) cut.1) in
-    IsUtf8-append front (value_of ps ++ tail) cut.0 (values_utf8 [] ps tail h.1 more)
+    IsUtf8-append prefix (value_of ps ++ tail) cut.0 (values_utf8 [] ps tail h.1 more)
 
 one_line_utf8 : (mark : ℕ) (ps : List Piece) → mark < 128 → Each Cuts ps → IsUtf8 (one_line mark ps) → IsUtf8 (value_of ps)
 one_line_utf8 mark ps low h u =
@@ -202,13 +202,13 @@ ml_literal_value_utf8 text ps u h = many_lines_utf8 0x27 ps (omega arith) (each_
 
 -- ---- where a string ends the text may be cut
 
-end_boundary : (text : List ℕ) (n mark : ℕ) (front : List ℕ) → IsUtf8 text → n ≤ length text → mark < 128 → take n text ≡ front ++ (mark ∷ []) → IsCharBoundary text n
-end_boundary text n mark front u within low spelled =
+end_boundary : (text : List ℕ) (n mark : ℕ) (prefix : List ℕ) → IsUtf8 text → n ≤ length text → mark < 128 → take n text ≡ prefix ++ (mark ∷ []) → IsCharBoundary text n
+end_boundary text n mark prefix u within low spelled =
     let rest = drop n text in
-    let split : text ≡ front ++ (mark ∷ rest) = sym (take-append-drop n text) ∙ ap (λ t. t ++ rest) spelled ∙ append_assoc front (mark ∷ []) rest in
-    let count : length front + 1 ≡ n = omega (arith, length-take n text, ap length spelled, length-append front (mark ∷ []), within) in
-    let byte : get_or text (length front) 0 ≡ mark = ap (λ t. get_or t (length front) 0) split ∙ seam front mark rest in
-    subst (λ k. IsCharBoundary text k) count (IsCharBoundary-after_ascii text (length front) u (omega (arith, count, within)) (rw byte low))
+    let split : text ≡ prefix ++ (mark ∷ rest) = sym (take-append-drop n text) ∙ ap (λ t. t ++ rest) spelled ∙ append_assoc prefix (mark ∷ []) rest in
+    let count : length prefix + 1 ≡ n = omega (arith, length-take n text, ap length spelled, length-append prefix (mark ∷ []), within) in
+    let byte : get_or text (length prefix) 0 ≡ mark = ap (λ t. get_or t (length prefix) 0) split ∙ seam prefix mark rest in
+    subst (λ k. IsCharBoundary text k) count (IsCharBoundary-after_ascii text (length prefix) u (omega (arith, count, within)) (rw byte low))
 
 last_of_three : (mark : ℕ) (body : List ℕ) → mark ∷ mark ∷ mark ∷ body ++ (mark ∷ mark ∷ mark ∷ []) ≡ (mark ∷ mark ∷ mark ∷ body ++ (mark ∷ mark ∷ [])) ++ (mark ∷ [])
 last_of_three mark body = ap (λ t. mark ∷ mark ∷ mark ∷ t) (sym (append_assoc body (mark ∷ mark ∷ []) (mark ∷ [])))

@@ -1,4 +1,5 @@
--- Strings with the bytes that they mean, and texts that are no strings. The texts of TOML v1.0.0's examples stand among them.
+-- Strings with the bytes that they mean, and texts that are no strings. The texts of TOML v1.0.0's examples are among
+-- them.
 use Rattle.std.proofs.Common.{◌≡◌, ℕ, List, [], ◌∷◌, length, Option, Some, None, refl, sym, ap, ◌∙◌, inl, inr, arith, append-nil}
 use Rattle.keep_token.specs.declared.leaf.Profile.{Profile}
 use Rattle.keep_token.specs.declared.leaf.Profile.TheVariants.{Strict, Wide}
@@ -30,9 +31,9 @@ before_surrogates : Means Strict leaf.Basic (0x22 ∷ 0x5C ∷ 0x75 ∷ 0x64 ∷
 unfolding lib.Utf8.encode
 before_surrogates = ((Number 0x75 (0x64 ∷ 0x37 ∷ 0x46 ∷ 0x46 ∷ []) ∷ []), record { spelled = refl; each = ((omega arith, refl, refl, refl), tt) }, refl)
 
-behind_surrogates : Means Strict leaf.Basic (0x22 ∷ 0x5C ∷ 0x75 ∷ 0x45 ∷ 0x30 ∷ 0x30 ∷ 0x30 ∷ 0x22 ∷ []) (0xEE ∷ 0x80 ∷ 0x80 ∷ [])
+after_surrogates : Means Strict leaf.Basic (0x22 ∷ 0x5C ∷ 0x75 ∷ 0x45 ∷ 0x30 ∷ 0x30 ∷ 0x30 ∷ 0x22 ∷ []) (0xEE ∷ 0x80 ∷ 0x80 ∷ [])
 unfolding lib.Utf8.encode
-behind_surrogates = ((Number 0x75 (0x45 ∷ 0x30 ∷ 0x30 ∷ 0x30 ∷ []) ∷ []), record { spelled = refl; each = ((omega arith, refl, refl, refl), tt) }, refl)
+after_surrogates = ((Number 0x75 (0x45 ∷ 0x30 ∷ 0x30 ∷ 0x30 ∷ []) ∷ []), record { spelled = refl; each = ((omega arith, refl, refl, refl), tt) }, refl)
 
 all_letters : Means Strict leaf.Basic (0x22 ∷ 0x5C ∷ 0x22 ∷ 0x5C ∷ 0x5C ∷ 0x5C ∷ 0x62 ∷ 0x5C ∷ 0x66 ∷ 0x5C ∷ 0x6E ∷ 0x5C ∷ 0x72 ∷ 0x5C ∷ 0x74 ∷ 0x22 ∷ []) (0x22 ∷ 0x5C ∷ 0x08 ∷ 0x0C ∷ 0x0A ∷ 0x0D ∷ 0x09 ∷ [])
 all_letters = ((Letter 0x22 ∷ Letter 0x5C ∷ Letter 0x62 ∷ Letter 0x66 ∷ Letter 0x6E ∷ Letter 0x72 ∷ Letter 0x74 ∷ []), record { spelled = refl; each = (omega arith, (omega arith, (omega arith, (omega arith, (omega arith, (omega arith, (omega arith, tt))))))) }, refl)
@@ -52,8 +53,8 @@ empty_literal = (([]), record { spelled = refl; each = tt }, refl)
 line_ending_backslash : Means Strict leaf.MlBasic (0x22 ∷ 0x22 ∷ 0x22 ∷ 0x0A ∷ 0x61 ∷ 0x5C ∷ 0x20 ∷ 0x20 ∷ 0x0A ∷ 0x0A ∷ 0x20 ∷ 0x62 ∷ 0x22 ∷ 0x22 ∷ 0x22 ∷ []) (0x61 ∷ 0x62 ∷ [])
 line_ending_backslash = ((Break (0x0A ∷ []) ∷ Plain 0x61 ∷ LineEnd (0x20 ∷ 0x20 ∷ []) (0x0A ∷ []) (0x0A ∷ 0x20 ∷ []) ∷ Plain 0x62 ∷ []), record { spelled = refl; each = (inl refl, (refl, ((refl, inl refl, refl), (refl, tt)))); no_end = refl; whole = refl }, refl)
 
-carriage_return_kept : Means Strict leaf.MlBasic (0x22 ∷ 0x22 ∷ 0x22 ∷ 0x61 ∷ 0x0D ∷ 0x0A ∷ 0x62 ∷ 0x22 ∷ 0x22 ∷ 0x22 ∷ []) (0x61 ∷ 0x0D ∷ 0x0A ∷ 0x62 ∷ [])
-carriage_return_kept = ((Plain 0x61 ∷ Break (0x0D ∷ 0x0A ∷ []) ∷ Plain 0x62 ∷ []), record { spelled = refl; each = (refl, (inr refl, (refl, tt))); no_end = refl; whole = refl }, refl)
+carriage_return_preserved : Means Strict leaf.MlBasic (0x22 ∷ 0x22 ∷ 0x22 ∷ 0x61 ∷ 0x0D ∷ 0x0A ∷ 0x62 ∷ 0x22 ∷ 0x22 ∷ 0x22 ∷ []) (0x61 ∷ 0x0D ∷ 0x0A ∷ 0x62 ∷ [])
+carriage_return_preserved = ((Plain 0x61 ∷ Break (0x0D ∷ 0x0A ∷ []) ∷ Plain 0x62 ∷ []), record { spelled = refl; each = (refl, (inr refl, (refl, tt))); no_end = refl; whole = refl }, refl)
 
 six_marks : Means Strict leaf.MlBasic (0x22 ∷ 0x22 ∷ 0x22 ∷ 0x22 ∷ 0x22 ∷ 0x22 ∷ []) ([])
 six_marks = (([]), record { spelled = refl; each = tt; no_end = refl; whole = refl }, refl)
@@ -151,8 +152,8 @@ no_opening_alone : Basic Strict (0x22 ∷ []) → ⊥
 no_opening_alone = not_basic Strict (0x22 ∷ []) None refl (none_some _)
 
 -- "a"b"
-closing_inside : Basic Strict (0x22 ∷ 0x61 ∷ 0x22 ∷ 0x62 ∷ 0x22 ∷ []) → ⊥
-closing_inside = not_basic Strict (0x22 ∷ 0x61 ∷ 0x22 ∷ 0x62 ∷ 0x22 ∷ []) (Some 3) refl (differs 3 5 (λ e. omega (arith, e)))
+closing_nested : Basic Strict (0x22 ∷ 0x61 ∷ 0x22 ∷ 0x62 ∷ 0x22 ∷ []) → ⊥
+closing_nested = not_basic Strict (0x22 ∷ 0x61 ∷ 0x22 ∷ 0x62 ∷ 0x22 ∷ []) (Some 3) refl (differs 3 5 (λ e. omega (arith, e)))
 
 -- a newline on one line
 newline_in_basic : Basic Strict (0x22 ∷ 0x61 ∷ 0x0A ∷ 0x62 ∷ 0x22 ∷ []) → ⊥

@@ -9,7 +9,7 @@ use Rattle.std.specs.Char.{digit_value}
 use Rattle.keep_token.specs.Numbers.{is_digits, is_in_base, is_underscore, digits_value}
 use Rattle.keep_token.proofs.RunLaws.{take_all}
 
--- how many digits stand in a text
+-- how many digits are in a text
 abbrev pub digit_count : List ℕ → ℕ
 digit_count t = length (filter (λ c. not (is_underscore c)) t)
 
@@ -28,14 +28,14 @@ pub so_far_empty : (base : ℕ) (digits : List ℕ) (value : ℕ) → SoFar base
 so_far_empty base digits value s p = let h = s.same in let k = p.0 in cc
 
 -- a text of digits begins with one
-pub digits_front : (digit : ℕ → Bool) (d : ℕ) (ds : List ℕ) → is_digits digit (d ∷ ds) ≡ true → digit d ≡ true
-digits_front digit d [] h = h
-digits_front digit d (c ∷ cs) h = (and_parts (digit d) (cond (c == 0x5F) (is_digits digit cs) (is_digits digit (c ∷ cs))) h).0
+pub digits_prefix : (digit : ℕ → Bool) (d : ℕ) (ds : List ℕ) → is_digits digit (d ∷ ds) ≡ true → digit d ≡ true
+digits_prefix digit d [] h = h
+digits_prefix digit d (c ∷ cs) h = (and_parts (digit d) (cond (c == 0x5F) (is_digits digit cs) (is_digits digit (c ∷ cs))) h).0
 
 pub so_far_bad : (base : ℕ) (digits : List ℕ) (value d : ℕ) (more : List ℕ) → SoFar base digits value (d ∷ more) → (digit_value d < base → ⊥) → IsBelow base digits → ⊥
 so_far_bad base digits value d more s bad p =
-    let front = digits_front (is_in_base base) d more (s.same ∙ p.0) in
-    bad (ltb-true _ _ front)
+    let prefix = digits_prefix (is_in_base base) d more (s.same ∙ p.0) in
+    bad (ltb-true _ _ prefix)
 
 -- a digit is no underscore
 digit_no_underscore : (base d : ℕ) → base ≤ 16 → digit_value d < base → is_underscore d ≡ false
@@ -44,7 +44,7 @@ digit_no_underscore base d small h = grind (arith, nat_tests)
 digits_value_digit : (base d : ℕ) (more : List ℕ) → is_underscore d ≡ false → (digits_value base (d ∷ more) ≡ digit_value d * base ^ digit_count more + digits_value base more) × (digit_count (d ∷ more) ≡ suc (digit_count more))
 digits_value_digit base d more e = (rw e refl, rw e refl)
 
--- one digit more, where p is the power of the base behind it
+-- one digit more, where p is the power of the base after it
 next_digit : (value base p d more all : ℕ) → value * (base * p) + (d * p + more) ≡ all → (value * base + d) * p + more ≡ all
 next_digit value base p d more all e = omega (arith, e)
 

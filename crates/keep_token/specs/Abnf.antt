@@ -64,7 +64,7 @@ is_word c = ((is_bare c || c == 0x2B) || c == 0x2E) || c == 0x3A
 abbrev pub Newline : Language
 Newline = Just (0x0A ∷ []) or Just (0x0D ∷ 0x0A ∷ [])
 
--- The longest front of the text that is in the language has n bytes.
+-- The longest prefix of the text that is in the language has n bytes.
 pub record Longest (A : Language) (text : List ℕ) (n : ℕ) : Type 0 where
   pub within : n ≤ length text
   pub belongs : A (take n text)

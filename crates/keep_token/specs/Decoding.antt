@@ -1,4 +1,4 @@
--- What stands between the quotation marks of a basic string, on one line or many, by its pieces.
+-- What is between the quotation marks of a basic string, on one line or many, by its pieces.
 use Rattle.std.specs.Prelude.{◌≡◌, ℕ, IsTrue, List}
 use Rattle.keep_token.specs.declared.leaf.Profile.TheVariants.{Wide}
 use Rattle.keep_token.specs.Strings.{Piece, Each, IsMlBasicPiece, takes_all, text_of, value_of}

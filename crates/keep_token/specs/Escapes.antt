@@ -2,7 +2,7 @@
 use Rattle.std.specs.Prelude.{ℕ, ◌/◌, ◌%◌, Bool, not, ◌&&◌, nat_lt, ◌==◌, if◌then◌else◌, List, [], ◌∷◌, ◌++◌, codes, Option, Some, None}
 use Rattle.keep_token.specs.Encoded.{digit}
 
--- the byte stands as it is
+-- the byte is written as it is
 abbrev pub is_plain : ℕ → Bool
 is_plain c = ((not (nat_lt c 0x20) && not (c == 0x22)) && not (c == 0x5C)) && not (c == 0x7F)
 

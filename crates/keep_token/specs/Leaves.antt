@@ -89,7 +89,8 @@ has_date_shape (a ∷ b ∷ c ∷ d ∷ e ∷ f ∷ g ∷ h ∷ i ∷ j ∷ []) 
     ((list_all is_ascii_digit (a ∷ b ∷ c ∷ d ∷ []) && e == 0x2D) && list_all is_ascii_digit (f ∷ g ∷ [])) && (h == 0x2D && list_all is_ascii_digit (i ∷ j ∷ []))
 has_date_shape _ = false
 
--- How long the word at the front is: the longest run of its bytes, and behind a full date, a space and a digit the next run too.
+-- How long the word at the start is: the longest run of its bytes, and after a full date, a space and a digit the next
+-- run too.
 abbrev pub word_len : List ℕ → ℕ
 word_len text =
     let run = prefix_len is_word text in
@@ -100,7 +101,7 @@ word_len text =
 abbrev pub opens_many_lines : List ℕ → Type 0
 opens_many_lines text = (take 3 text ≡ 0x22 ∷ 0x22 ∷ 0x22 ∷ []) ⊎ (take 3 text ≡ 0x27 ∷ 0x27 ∷ 0x27 ∷ [])
 
--- The leaf that begins at the front of the text, n bytes long: in a gap, in the place of a key part, of a scalar.
+-- The leaf that begins at the start of the text, n bytes long: in a gap, in the place of a key part, of a scalar.
 pub record GapLeaf (text : List ℕ) (l : Leaf) (n : ℕ) : Type 0 where
   pub kind : IsTrue (is_gap_leaf l)
   pub leaf : Longest (IsLeaf Strict l) text n

@@ -11,7 +11,7 @@ use Rattle.keep_token.specs.Strings.{Piece, Plain, Letter, Number, Break, LineEn
 abbrev pub first : List ℕ → ℕ
 first text = slice_index text 0
 
--- LF or CR LF in front, with its length, or 0
+-- LF or CR LF at the start, with its length, or 0
 abbrev pub newline_len : List ℕ → ℕ
 newline_len text =
     if first text == 0x0A then 1
@@ -27,14 +27,14 @@ blank_len (c ∷ d ∷ cs) =
     else if c == 0x0D && d == 0x0A then suc (suc (blank_len cs))
     else 0
 
--- the number behind a letter that asks for so many digits
+-- the number after a letter that asks for so many digits
 abbrev pub number_at : ℕ → ℕ → List ℕ → Option Piece
 number_at letter count text =
     let digits = take count text in
     if (length digits == count && list_all (λ c. is_digit c 16) digits) && is_scalar (sum_of_digits 16 digits)
     then Some (Number letter digits) else None
 
--- the escape whose backslash stands before the text
+-- the escape whose backslash comes before the text
 abbrev pub escape_at : Profile → List ℕ → Option Piece
 escape_at profile [] = None
 escape_at profile (c ∷ cs) =
@@ -42,7 +42,7 @@ escape_at profile (c ∷ cs) =
     else if nat_lt 0 (digit_count profile c) then number_at c (digit_count profile c) cs
     else None
 
--- the line-ending backslash that stands before the text
+-- the line-ending backslash that comes before the text
 abbrev pub line_end_at : List ℕ → Option Piece
 line_end_at text =
     let white = prefix_len is_ws text in
@@ -99,7 +99,7 @@ abbrev pub onward : (List ℕ → Option (List Piece)) → List ℕ → Option P
 onward rest text None = None
 onward rest text (Some piece) = before piece (rest (drop (length (piece_text piece)) text))
 
--- the pieces behind the opening, in at most so many steps
+-- the pieces after the opening, in at most so many steps
 abbrev pub pieces_by : ℕ → (List ℕ → Option Piece) → Bool → ℕ → List ℕ → Option (List Piece)
 pieces_by zero piece many mark text = None
 pieces_by (suc n) piece many mark text =
@@ -109,7 +109,7 @@ pieces_by (suc n) piece many mark text =
 abbrev pub pieces_of : (List ℕ → Option Piece) → Bool → ℕ → List ℕ → Option (List Piece)
 pieces_of piece many mark text = pieces_by (suc (length text)) piece many mark text
 
--- the length of the string at the front of the text
+-- the length of the string at the start of the text
 abbrev pub len_of : (List Piece → List ℕ) → Option (List Piece) → Option ℕ
 len_of spelled None = None
 len_of spelled (Some pieces) = Some (length (spelled pieces))

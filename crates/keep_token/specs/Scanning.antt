@@ -37,7 +37,7 @@ key_at profile text =
     else if first text == 0x27 then with_kind leaf.Literal (literal_at text)
     else None
 
--- three of the mark stand in front
+-- three of the mark come first
 abbrev pub are_three : ℕ → List ℕ → Bool
 are_three mark text = (first text == mark && slice_index text 1 == mark) && slice_index text 2 == mark
 
@@ -50,13 +50,14 @@ scalar_at profile text =
     else if first text == 0x27 then with_kind leaf.Literal (literal_at text)
     else with_len (word_leaf profile (take (word_len text) text)) (word_len text)
 
--- Whether a scalar that ends before this text is found again there: no byte goes on with it, and no time of day follows.
+-- Whether a scalar that ends before this text is found again there: no byte continues with it, and no time of day
+-- follows.
 abbrev pub may_follow_scalar : List ℕ → Bool
 may_follow_scalar rest =
     not ((is_word (first rest) || first rest == 0x22) || first rest == 0x27)
     && not (first rest == 0x20 && is_ascii_digit (slice_index rest 1))
 
--- a leaf of so many bytes, as it stands at a place
+-- a leaf of so many bytes, at a place
 abbrev pub moved : ℕ → Option (Leaf × ℕ) → Option (Leaf × ℕ)
 moved at None = None
 moved at (Some (leaf, n)) = Some (leaf, at + n)

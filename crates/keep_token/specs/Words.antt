@@ -104,7 +104,7 @@ is_second_fraction [] = true
 is_second_fraction (c ∷ []) = false
 is_second_fraction (c ∷ d ∷ ds) = c == 0x2E && list_all is_ascii_digit (d ∷ ds)
 
--- what stands behind hh:mm
+-- what comes after hh:mm
 abbrev pub is_time_end : List ℕ → Bool
 is_time_end (a ∷ b ∷ c ∷ more) = is_seconds a b c && is_second_fraction more
 is_time_end _ = false
@@ -125,11 +125,11 @@ is_date_time profile t = is_date (take 10 t) && (is_between_date_and_time (slice
 abbrev pub is_zulu : ℕ → Bool
 is_zulu c = c == 0x5A || c == 0x7A
 
--- Z behind a date and a time
+-- Z after a date and a time
 abbrev pub ends_in_zulu : Profile → List ℕ → Bool
 ends_in_zulu profile t = is_zulu (slice_index t (length t - 1)) && is_date_time profile (take (length t - 1) t)
 
--- a sign, hours and minutes behind a date and a time
+-- a sign, hours and minutes after a date and a time
 abbrev pub ends_in_minutes : Profile → List ℕ → Bool
 ends_in_minutes profile t = (is_sign (slice_index t (length t - 6)) && is_minutes (drop (length t - 5) t)) && is_date_time profile (take (length t - 6) t)
 

@@ -111,7 +111,7 @@ pub(crate) fn are_digits(bytes: &[u8]) -> bool
     bytes.iter().all(|byte| byte.is_ascii_digit())
 }
 
-/// How many bytes of white space stand in front.
+/// How many bytes of white space come first.
 pub(crate) fn ws_run(bytes: &[u8]) -> usize
     ensures len { result ≡ prefix_len abnf.is_ws bytes.now }
     ensures within { result ≤ length bytes.now }
@@ -119,7 +119,7 @@ pub(crate) fn ws_run(bytes: &[u8]) -> usize
     bytes.iter().take_while(|byte| is_ws(**byte)).count()
 }
 
-/// How many bytes of a comment stand in front.
+/// How many bytes of a comment come first.
 pub(crate) fn comment_run(bytes: &[u8]) -> usize
     ensures len { result ≡ prefix_len abnf.is_comment bytes.now }
     ensures within { result ≤ length bytes.now }
@@ -127,7 +127,7 @@ pub(crate) fn comment_run(bytes: &[u8]) -> usize
     bytes.iter().take_while(|byte| is_comment(**byte)).count()
 }
 
-/// How many bytes of a bare key stand in front.
+/// How many bytes of a bare key come first.
 pub(crate) fn bare_run(bytes: &[u8]) -> usize
     ensures len { result ≡ prefix_len abnf.is_bare bytes.now }
     ensures within { result ≤ length bytes.now }
@@ -135,7 +135,7 @@ pub(crate) fn bare_run(bytes: &[u8]) -> usize
     bytes.iter().take_while(|byte| is_bare(**byte)).count()
 }
 
-/// How many bytes of a word stand in front.
+/// How many bytes of a word come first.
 pub(crate) fn word_run(bytes: &[u8]) -> usize
     ensures len { result ≡ prefix_len abnf.is_word bytes.now }
     ensures within { result ≤ length bytes.now }
@@ -143,7 +143,7 @@ pub(crate) fn word_run(bytes: &[u8]) -> usize
     bytes.iter().take_while(|byte| is_word(**byte)).count()
 }
 
-/// How many bytes in front stand for themselves in a basic string.
+/// How many bytes at the start stand for themselves in a basic string.
 pub(crate) fn basic_run(bytes: &[u8]) -> usize
     ensures len { result ≡ prefix_len strings.is_basic bytes.now }
     ensures within { result ≤ length bytes.now }
@@ -151,7 +151,7 @@ pub(crate) fn basic_run(bytes: &[u8]) -> usize
     bytes.iter().take_while(|byte| is_basic(**byte)).count()
 }
 
-/// How many bytes in front stand for themselves in a literal string.
+/// How many bytes at the start stand for themselves in a literal string.
 pub(crate) fn literal_run(bytes: &[u8]) -> usize
     ensures len { result ≡ prefix_len strings.is_literal bytes.now }
     ensures within { result ≤ length bytes.now }

@@ -19,7 +19,7 @@ fn ends(block: u8x16) -> u64
     (low | block.simd_eq(u8x16::splat(0x7F))).to_bitmask()
 }
 
-/// How many bytes of a comment stand in front.
+/// How many bytes of a comment come first.
 #[inline(never)]
 pub(crate) fn comment_len(bytes: &[u8]) -> usize
     ensures len { result ≡ prefix_len is_comment bytes.now }

@@ -97,7 +97,7 @@ fn is_second_fraction(bytes: &[u8]) -> bool
     }
 }
 
-/// What stands behind hh:mm: the seconds, of which a minute may have 61, and their fraction.
+/// What comes after hh:mm: the seconds, of which a minute may have 61, and their fraction.
 fn is_time_end(bytes: &[u8]) -> bool
     ensures { result ≡ words.is_time_end bytes.now }
 {
@@ -112,7 +112,7 @@ fn is_time_end(bytes: &[u8]) -> bool
     }
 }
 
-/// Whether a time may end behind hh:mm.
+/// Whether a time may end after hh:mm.
 fn is_short(bytes: &[u8], profile: Profile) -> bool
     ensures { result ≡ words.is_short profile bytes.now }
 {

@@ -65,7 +65,7 @@ fn decode_ml_literal(alloc: Global, text: &str) -> Result<String, AllocError>
     String::from_str(alloc, &text[start..text.len() - 3])
 }
 
-/// How many bytes stand in front of the first backslash.
+/// How many bytes come before the first backslash.
 fn plain_run(bytes: &[u8]) -> usize
     ensures len { result ≡ prefix_len (λ byte. not (byte == 0x5C)) bytes.now }
     ensures within { result ≤ length bytes.now }

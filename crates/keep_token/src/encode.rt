@@ -16,7 +16,7 @@ use std::alloc::{AllocError, Global};
 /// The text as a basic string, with its quotation marks.
 ///
 /// TOML v1.0.0, "String". Quotation marks, backslashes and control characters are escaped, by a letter where there is
-/// one; all else stands as it is. The only error is out of memory.
+/// one; all else is written as it is. The only error is out of memory.
 pub fn encode_string(alloc: Global, text: &str) -> Result<String, AllocError>
     ensures text { IfOk result (λ s. string_bytes s ≡ encoded_string text.now) }
     ensures leaf { IfOk result (λ s. IsLeaf Strict leaf.Basic (string_bytes s)) }
@@ -43,7 +43,7 @@ pub fn encode_key(alloc: Global, text: &str) -> Result<String, AllocError>
     }
 }
 
-/// The number in decimal digits, behind `-` where it is below 0.
+/// The number in decimal digits, after `-` where it is below 0.
 ///
 /// TOML v1.0.0, "Integer". The only error is out of memory.
 pub fn encode_int(alloc: Global, value: i64) -> Result<String, AllocError>
@@ -74,7 +74,7 @@ fn can_be_bare(text: &str) -> bool
     !text.is_empty() && all_bare(text.as_bytes())
 }
 
-/// Whether each byte can stand in an `unquoted-key`.
+/// Whether each byte can be in an `unquoted-key`.
 fn all_bare(bytes: &[u8]) -> bool
     ensures { result ≡ list_all is_bare bytes.now }
 {
@@ -104,7 +104,7 @@ fn plain_len(bytes: &[u8]) -> usize
     bytes.iter().take_while(|&&byte| is_plain(byte)).count()
 }
 
-/// A byte that stands as it is.
+/// A byte that is written as it is.
 fn is_plain(byte: u8) -> bool
     ensures { result ≡ is_plain byte }
 {

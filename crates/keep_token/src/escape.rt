@@ -20,7 +20,7 @@ pub(crate) struct Escape {
     pub(crate) value: char,
 }
 
-/// What a letter stands for behind a backslash. `\e` is Wide's own.
+/// What a letter stands for after a backslash. `\e` is Wide's own.
 ///
 /// TOML v1.0.0, ABNF: `escape-seq-char`.
 fn letter_value(letter: u8, profile: Profile) -> Option<char>
@@ -41,7 +41,7 @@ fn letter_value(letter: u8, profile: Profile) -> Option<char>
     }
 }
 
-/// How many digits a letter asks for behind a backslash, or 0. `\x` is Wide's own.
+/// How many digits a letter asks for after a backslash, or 0. `\x` is Wide's own.
 fn digit_count(letter: u8, profile: Profile) -> usize
     ensures count { result ≡ strings.digit_count profile letter }
     ensures most { result ≤ 8 }
@@ -68,7 +68,7 @@ fn hex_value(digits: &[u8]) -> Option<u32>
     Some(value)
 }
 
-/// The escape whose backslash stands before the bytes: its letter is known, and its digits write a Unicode scalar value.
+/// The escape whose backslash comes before the bytes: its letter is known, and its digits write a Unicode scalar value.
 ///
 /// TOML v1.0.0, ABNF: `escaped`.
 pub(crate) fn read_escape(bytes: &[u8], profile: Profile) -> Option<Escape>
@@ -91,7 +91,8 @@ pub(crate) fn read_escape(bytes: &[u8], profile: Profile) -> Option<Escape>
     })
 }
 
-/// The length of the line-ending backslash that stands before the bytes, with all tabs, spaces and newlines that it takes.
+/// The length of the line-ending backslash that comes before the bytes, with all tabs, spaces and newlines that it
+/// takes.
 ///
 /// TOML v1.0.0, ABNF: `mlb-escaped-nl`.
 pub(crate) fn line_end_len(bytes: &[u8]) -> Option<usize>

@@ -1,9 +1,9 @@
 use thiserror::Error;
 
-/// What is wrong where a leaf must stand.
+/// What is wrong where a leaf has to come.
 #[derive(Clone, Copy, Debug, PartialEq, Eq)]
 pub enum What {
-    /// A key part must stand here, and none begins.
+    /// A key part has to come here, and none begins.
     KeyPart,
     /// A backslash begins no escape.
     Escape,
@@ -19,7 +19,7 @@ pub enum What {
     DateTime,
     /// A word that is no value.
     Word,
-    /// What stands here fits no rule.
+    /// What is here fits no rule.
     Structure,
 }
 

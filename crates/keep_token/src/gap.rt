@@ -1,4 +1,4 @@
-//! What stands between the parts: white space, newlines and comments. (TOML v1.0.0, "Comment"; toml.abnf: `ws`,
+//! What is between the parts: white space, newlines and comments. (TOML v1.0.0, "Comment"; toml.abnf: `ws`,
 //! `newline`, `comment`)
 ghost use Rattle.std.specs.Prelude.{◌≡◌, ℕ, ◌+◌, ◌-◌, ◌<◌, ◌≤◌, length, drop, IfSome, IsCharBoundary};
 ghost use Rattle.keep_token.specs.declared.leaf.Leaf.{Leaf};
@@ -9,7 +9,7 @@ use crate::bytes::{is_ws, ws_run};
 use crate::comment::comment_len;
 use crate::leaf::Leaf;
 
-// The leaf in front, and its length.
+// The leaf at the start, and its length.
 #[inline(always)]
 #[tactic(auto, unfolding(crate::specs::Scanning::gap_at))]
 fn gap_of(bytes: &[u8]) -> Option<(Leaf, usize)>
@@ -42,7 +42,7 @@ pub fn scan_gap(text: &str, at: usize) -> Option<(Leaf, usize)>
     ensures found { IfSome result (λ found. (at < found.1) × GapLeaf (drop at text.now) found.0 (found.1 - at)) }
     ensures only { (leaf : Leaf) → (n : ℕ) → GapLeaf (drop at text.now) leaf n → result ≡ Some (leaf, at + n) }
     ensures ends { IfSome result (λ found. IsCharBoundary text.now found.1) }
-    // the same by the function on lists, for proofs above
+    // the result by the function on lists, for proofs above
     ensures value { result ≡ moved at (gap_at (drop at text.now)) }
 {
     let (leaf, len) = gap_of(&text.as_bytes()[at..])?;

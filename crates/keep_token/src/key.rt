@@ -11,7 +11,7 @@ use crate::leaf::{Leaf, Profile};
 use crate::literal::literal_len;
 use crate::strings::fault_here;
 
-// The key part in front, and its length.
+// The key part at the start, and its length.
 #[tactic(auto, unfolding(crate::specs::Scanning::key_at))]
 fn key_of(bytes: &[u8], profile: Profile) -> Result<(Leaf, usize), LeafFault>
     ensures value { MatchResult result
@@ -41,13 +41,13 @@ fn key_of(bytes: &[u8], profile: Profile) -> Result<(Leaf, usize), LeafFault>
 ///
 /// # Errors
 ///
-/// The first fault from left to right where none stands there, with its place in the text.
+/// The first fault from left to right where there is none, with its place in the text.
 pub fn scan_key(text: &str, at: usize, profile: Profile) -> Result<(Leaf, usize), LeafFault>
     requires { IsCharBoundary text.now at }
     ensures found { IfOk result (λ found. (at < found.1) × KeyLeaf profile (drop at text.now) found.0 (found.1 - at)) }
     ensures only { (leaf : Leaf) → (n : ℕ) → KeyLeaf profile (drop at text.now) leaf n → result ≡ Ok (leaf, at + n) }
     ensures ends { IfOk result (λ found. IsCharBoundary text.now found.1) }
-    // the same by the function on lists, for proofs above
+    // the result by the function on lists, for proofs above
     ensures value { Scans result (moved at (key_at profile (drop at text.now))) }
     ensures place { IfErr result (λ fault. fault.at ≤ length text.now) }
 {

@@ -171,7 +171,7 @@ fn is_fraction(bytes: &[u8]) -> bool
     }
 }
 
-/// How many bytes stand before an exponent.
+/// How many bytes come before an exponent.
 fn part_run(bytes: &[u8]) -> usize
     ensures len { result ≡ prefix_len words.is_part bytes.now }
     ensures within { result ≤ length bytes.now }
@@ -179,7 +179,7 @@ fn part_run(bytes: &[u8]) -> usize
     bytes.iter().take_while(|byte| !is_e(**byte)).count()
 }
 
-/// How many bytes stand before a fraction or an exponent.
+/// How many bytes come before a fraction or an exponent.
 fn whole_run(bytes: &[u8]) -> usize
     ensures len { result ≡ prefix_len words.is_whole bytes.now }
     ensures within { result ≤ length bytes.now }

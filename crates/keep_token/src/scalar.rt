@@ -12,14 +12,14 @@ use crate::literal::{literal_len, ml_literal_len};
 use crate::strings::fault_here;
 use crate::word::{word_fault, word_leaf, word_len};
 
-// Whether three of the mark stand in front.
+// Whether three of the mark come first.
 fn begins_with_three(bytes: &[u8], mark: u8) -> bool
     ensures { result ≡ are_three mark bytes.now }
 {
     byte_at(bytes, 0) == mark && byte_at(bytes, 1) == mark && byte_at(bytes, 2) == mark
 }
 
-// The scalar in front, and its length.
+// The scalar at the start, and its length.
 #[tactic(auto, unfolding(crate::specs::Scanning::scalar_at))]
 fn scalar_of(bytes: &[u8], profile: Profile) -> Result<(Leaf, usize), LeafFault>
     ensures value { MatchResult result
@@ -56,13 +56,13 @@ fn scalar_of(bytes: &[u8], profile: Profile) -> Result<(Leaf, usize), LeafFault>
 ///
 /// # Errors
 ///
-/// The first fault from left to right where none stands there, with its place in the text.
+/// The first fault from left to right where there is none, with its place in the text.
 pub fn scan_scalar(text: &str, at: usize, profile: Profile) -> Result<(Leaf, usize), LeafFault>
     requires { IsCharBoundary text.now at }
     ensures found { IfOk result (λ found. (at < found.1) × ScalarLeaf profile (drop at text.now) found.0 (found.1 - at)) }
     ensures only { (leaf : Leaf) → (n : ℕ) → ScalarLeaf profile (drop at text.now) leaf n → result ≡ Ok (leaf, at + n) }
     ensures ends { IfOk result (λ found. IsCharBoundary text.now found.1) }
-    // the same by the function on lists, for proofs above
+    // the result by the function on lists, for proofs above
     ensures value { Scans result (moved at (scalar_at profile (drop at text.now))) }
     ensures place { IfErr result (λ fault. fault.at ≤ length text.now) }
 {

@@ -6,7 +6,7 @@ ghost use Rattle.keep_token.specs.Pieces as pieces;
 use crate::bytes::{byte_at, is_ws};
 use crate::fault::{LeafFault, What};
 
-/// How many quotation marks, or apostrophes, stand in front.
+/// How many quotation marks, or apostrophes, come first.
 pub(crate) fn marks_run(bytes: &[u8], mark: u8) -> usize
     ensures len { result ≡ prefix_len (λ byte. byte == mark) bytes.now }
     ensures within { result ≤ length bytes.now }
@@ -14,7 +14,7 @@ pub(crate) fn marks_run(bytes: &[u8], mark: u8) -> usize
     bytes.iter().take_while(|byte| **byte == mark).count()
 }
 
-/// The length of the `newline` in front, LF or CR LF, or 0.
+/// The length of the `newline` at the start, LF or CR LF, or 0.
 pub(crate) fn newline_len(bytes: &[u8]) -> usize
     ensures len { result ≡ pieces.newline_len bytes.now }
     ensures within { result ≤ length bytes.now }
@@ -49,7 +49,7 @@ pub(crate) fn blank_len(bytes: &[u8]) -> usize
     at
 }
 
-/// The fault at `at`, where the string can neither go on nor end. Places count from the string's start.
+/// The fault at `at`, where the string can neither continue nor end. Places count from the string's start.
 pub(crate) fn fault_at(bytes: &[u8], at: usize) -> LeafFault
     requires { at ≤ length bytes.now }
     ensures { result.at ≤ length bytes.now }
@@ -67,7 +67,7 @@ pub(crate) fn fault_at(bytes: &[u8], at: usize) -> LeafFault
     LeafFault { at, what }
 }
 
-/// The fault at the front of the bytes, where none of what must stand there begins: a control goes before all else.
+/// The fault at the start of the bytes, where none of what may come there begins: a control comes before all else.
 pub(crate) fn fault_here(bytes: &[u8], what: What) -> LeafFault
     ensures { result.at ≡ 0 }
 {
@@ -79,7 +79,7 @@ pub(crate) fn fault_here(bytes: &[u8], what: What) -> LeafFault
     LeafFault { at: 0, what }
 }
 
-// Whether a control character stands in front, or a carriage return without a line feed.
+// Whether a control character comes first, or a carriage return without a line feed.
 fn is_control(bytes: &[u8]) -> bool {
     match bytes.first() {
         Some(b'\t' | b'\n') => false,

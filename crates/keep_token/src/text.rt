@@ -1,7 +1,7 @@
 ghost use Rattle.std.specs.Prelude.{◌≡◌, ◌↔◌, IsUtf8, IfErr, IfOk, IsOk};
 ghost use Rattle.std.specs.Str.{IsValidUpTo};
 
-/// The same bytes as text, or the length of their longest front that is well-formed UTF-8.
+/// The bytes as text, or the length of their longest prefix that is well-formed UTF-8.
 ///
 /// TOML v1.0.0, "Spec": a document is UTF-8.
 pub fn text_of(bytes: &[u8]) -> Result<&str, usize>

@@ -10,7 +10,7 @@ use crate::fault::What;
 use crate::leaf::{Leaf, Profile};
 use crate::numbers::{is_boolean, is_float, is_integer};
 
-/// How many bytes the word in front has. A space between a date and a time is a byte of it.
+/// How many bytes the word at the start has. A space between a date and a time is a byte of it.
 pub(crate) fn word_len(bytes: &[u8]) -> usize
     ensures len { result ≡ leaves.word_len bytes.now }
     ensures within { result ≤ length bytes.now }

@@ -31,7 +31,7 @@ fn status(rt: &HostRuntime) -> io::Result<u8> {
 
 fn refused(rt: &HostRuntime, fault: &UseFault) -> io::Result<u8> {
     match fault {
-        // The text of clap stands alone, and ends its line.
+        // The text of clap is alone, and ends its line.
         UseFault::Words(error) => eprint!(rt; "{error}")?,
         other => eprintln!(rt; "keep-toml: {other}")?,
     }

@@ -102,11 +102,11 @@ no_value profile bytes syntax e (v, reads, is) h = by_rules profile bytes v e re
 -- ---- scalars
 
 abbrev a_scalar : Leaf → List ℕ → Value
-a_scalar l bytes = record { body = scalar (record { leaf = l; text = bytes }); inside = none }
+a_scalar l bytes = record { body = scalar (record { leaf = l; text = bytes }); nested = none }
 
 scalar_read : (l : Leaf) (bytes : List ℕ) → IsTrue (is_scalar_leaf l) → IsLeaf Strict l bytes → IsValueText Strict limit bytes (a_scalar l bytes)
 scalar_read l bytes kind is =
-    let valid : IsValue Strict (a_scalar l bytes) = record { body = (kind, is); inside = tt } in
+    let valid : IsValue Strict (a_scalar l bytes) = record { body = (kind, is); nested = tt } in
     record {
       reads = record { valid = valid; spelled = sym (append-nil bytes); shallow = omega arith };
       obeys = λ i j d lt within. absurd (omega (arith, within));

@@ -8,7 +8,7 @@ use Rattle.keep_syntax.specs.Limit.{standard_depth}
 use Rattle.keep_syntax.specs.Tree.{Value, value_depth}
 use Rattle.keep_syntax.specs.Grammar.{IsValue}
 use Rattle.keep_meaning.specs.Fact.{Fact}
-use Rattle.keep_meaning.specs.Meaning.{value_said}
+use Rattle.keep_meaning.specs.Meaning.{mentions_of_value}
 use Rattle.keep_meaning.specs.Nodes.{fact_at}
 use Rattle.keep_meaning.specs.ReadText.{IsValueText, IsValueFault}
 
@@ -26,7 +26,7 @@ IsAcceptedValue profile bytes = (v : Value) × IsValueText profile limit bytes v
 
 -- the text of a value that means this: a string, an integer, a truth value, ..
 abbrev pub IsTextOfFact : List ℕ → Fact → Type 0
-IsTextOfFact bytes fact = (v : Value) × IsTextOfValue bytes v × (fact_at [] (value_said v) ≡ Some fact)
+IsTextOfFact bytes fact = (v : Value) × IsTextOfValue bytes v × (fact_at [] (mentions_of_value v) ≡ Some fact)
 
 -- why a text is none, or out of memory
 abbrev pub IsRefusedValue : Profile → List ℕ → ReadFault → Type 0

@@ -95,14 +95,14 @@ and_false true = refl
 and_false false = refl
 
 -- the program with these subcommands, of which there are some
-abbrev pub kept : List Row → App
-kept rows = record { top = record top_app.top { is_leaf = false }; subs = map leaf_of rows }
+abbrev pub preserved : List Row → App
+preserved rows = record { top = record top_app.top { is_leaf = false }; subs = map leaf_of rows }
 
 abbrev top_of : List Row → Shape
-top_of rows = (built (kept rows)).top
+top_of rows = (built (preserved rows)).top
 
 abbrev names_in : List Row → Names
-names_in rows = names_of (built (kept rows))
+names_in rows = names_of (built (preserved rows))
 
 named_fault : (rows : List Row) (name found : Text) (words : List Text) → subcommand_met (names_in rows) idle name ≡ Some found
     → walk_fault (top_of rows) (names_in rows) (walk_from nothing_held) (name ∷ words) ≡ []
@@ -112,13 +112,13 @@ named_fault rows name found words e = rw (e, and_false) (stopped_fault (top_of r
 -- the faults of a parse from the walk over the words and the faults of that walk
 abbrev shell : List Row → Walk → Kinds → Kinds
 shell rows w kinds =
-    let a = built (kept rows) in
+    let a = built (preserved rows) in
     or_else kinds (or_else (entered_fault a w.stopped) (or_else (settle_fault a.top.rules a.top.args_override_self w.held)
     (or_else (defaults_fault (settled a.top.rules w.held).rows a.top.rules)
     (check_fault a.top (finished a.top.rules w.held) (is_some (entered a w.stopped))))))
 
 as_shell : (rows : List Row) (program : Text) (words : List Text)
-    → fault_of (kept rows) (program ∷ words) ≡ shell rows (walk (top_of rows).rules (names_in rows) nothing_held words) (walk_fault (top_of rows) (names_in rows) (walk_from nothing_held) words)
+    → fault_of (preserved rows) (program ∷ words) ≡ shell rows (walk (top_of rows).rules (names_in rows) nothing_held words) (walk_fault (top_of rows) (names_in rows) (walk_from nothing_held) words)
 as_shell rows program words = refl
 
 -- what a subcommand takes from the program
@@ -141,16 +141,16 @@ met_row rows name row e = met_name above rows name ∙ (ap (λ (o : Option Row).
 
 -- where the words begin with the name of a row, its command alone decides
 fault_named : (rows : List Row) (program name : Text) (row : Row) (words : List Text) → row_named name rows ≡ Some row
-    → fault_of (kept rows) (program ∷ name ∷ words) ≡ or_else (leaf_fault row words) []
+    → fault_of (preserved rows) (program ∷ name ∷ words) ≡ or_else (leaf_fault row words) []
 fault_named rows program name row words e =
     let met = met_row rows name row e in
     as_shell rows program (name ∷ words) ∙ (ap₂ (shell rows) (walk_named _ _ name name words met) (named_fault rows name name words met) ∙ shell_named rows name row words e)
 
 entered_named : (rows : List Row) (program name : Text) (row : Row) (words : List Text) → row_named name rows ≡ Some row
-    → subcommand_of (kept rows) (program ∷ name ∷ words) ≡ Some (rows_at (leaf row) words)
+    → subcommand_of (preserved rows) (program ∷ name ∷ words) ≡ Some (rows_at (leaf row) words)
 entered_named rows program name row words e =
     let met = met_row rows name row e in
-    ap (λ (w : Walk). entered (built (kept rows)) w.stopped) (walk_named _ _ name name words met) ∙ rw (met_shape above rows name, e) refl
+    ap (λ (w : Walk). entered (built (preserved rows)) w.stopped) (walk_named _ _ name name words met) ∙ rw (met_shape above rows name, e) refl
 
 -- ---- the words of a subcommand
 
@@ -264,7 +264,7 @@ words_decide row (k ∷ l ∷ []) (first ∷ second ∷ word ∷ rest) is few h 
 words_decide row (k ∷ l ∷ m ∷ ks) words is few h = absurd (omega (arith, leb-true (length (k ∷ l ∷ m ∷ ks)) 2 few))
 
 -- a word that names no subcommand
-unknown_name : (rows : List Row) (program name : Text) (rest : List Text) → row_named name rows ≡ None → IsPlainWord name → is_empty (fault_of (kept rows) (program ∷ name ∷ rest)) ≡ false
+unknown_name : (rows : List Row) (program name : Text) (rest : List Text) → row_named name rows ≡ None → IsPlainWord name → is_empty (fault_of (preserved rows) (program ∷ name ∷ rest)) ≡ false
 unfolding clap_on_literals
 unknown_name rows program name rest none p =
     let met : subcommand_met (names_in rows) idle name ≡ None = met_name above rows name ∙ ap (λ (o : Option Row). option_map (λ r. r.name) o) none in
@@ -274,11 +274,11 @@ unknown_name rows program name rest none p =
 
 -- A parse of these words is refused exactly where they ask for nothing, and else enters the row and finds the words that they ask for.
 abbrev Enters : List Row → List Text → Row → Type 0
-Enters rows words row = (fault_of (kept rows) words ≡ []) × (row_named row.name rows ≡ Some row) × (rest : List Text) × (found_in row rest ≡ rest)
-    × (wanted_in rows words ≡ Some (record { row = row; words = rest })) × (subcommand_of (kept rows) words ≡ Some (rows_at (leaf row) rest))
+Enters rows words row = (fault_of (preserved rows) words ≡ []) × (row_named row.name rows ≡ Some row) × (rest : List Text) × (found_in row rest ≡ rest)
+    × (wanted_in rows words ≡ Some (record { row = row; words = rest })) × (subcommand_of (preserved rows) words ≡ Some (rows_at (leaf row) rest))
 
 abbrev AsksNothing : List Row → List Text → Type 0
-AsksNothing rows words = (is_empty (fault_of (kept rows) words) ≡ false) × (wanted_in rows words ≡ None)
+AsksNothing rows words = (is_empty (fault_of (preserved rows) words) ≡ false) × (wanted_in rows words ≡ None)
 
 abbrev Decides : List Row → List Text → Type 0
 Decides rows words = ((row : Row) × Enters rows words row) ⊎ AsksNothing rows words
@@ -319,11 +319,11 @@ row_decides rows program name row words e (inr refuses) = inr (
   rw e (rw refuses.1 refl),
 )
 
-no_words : (rows : List Row) → is_empty (fault_of (kept rows) []) ≡ false
+no_words : (rows : List Row) → is_empty (fault_of (preserved rows) []) ≡ false
 unfolding clap_on_literals
 no_words rows = refl {a = false}
 
-no_name : (rows : List Row) (program : Text) → is_empty (fault_of (kept rows) (program ∷ [])) ≡ false
+no_name : (rows : List Row) (program : Text) → is_empty (fault_of (preserved rows) (program ∷ [])) ≡ false
 unfolding clap_on_literals
 no_name rows program = refl {a = false}
 
@@ -341,8 +341,8 @@ decides rows all (program ∷ name ∷ rest) h = by (row_named name rows) refl
 all_short : list_all is_short table ≡ true
 all_short = refl
 
-as_kept : program_app ≡ kept table
-as_kept = refl
+as_preserved : program_app ≡ preserved table
+as_preserved = refl
 
 keep_is_simple : is_simple_and_free program_app ≡ true
 unfolding clap_on_literals

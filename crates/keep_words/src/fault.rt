@@ -25,7 +25,7 @@ pub enum UseFault {
     /// A script has another top level than `edit`, an array of tables, alone.
     #[error("script: shape")]
     Shape,
-    /// The element of this number of a script, from 0, tells no edit.
+    /// The element with this number of a script, from 0, tells no edit.
     #[error("script: edit {index}: {why}")]
     Entry { index: usize, why: EntryWhy },
     /// A growth was refused.

@@ -19,8 +19,8 @@ impl From<AllocError> for GivenFault {
     }
 }
 
-/// The program's name as help shows it, and the words behind the one by which it was called. That one is not read: it may be
-/// any path, and need not be text.
+/// The program's name as help shows it, and the words after the one by which it was called. That one is not read: it
+/// may be any path, and need not be text.
 pub fn given_words(alloc: Global, env: &impl Env) -> Result<Vec<String>, GivenFault> {
     let mut words = Vec::new(alloc);
     words
@@ -38,7 +38,7 @@ pub fn given_words(alloc: Global, env: &impl Env) -> Result<Vec<String>, GivenFa
 // The most bytes of a word for which is asked at first.
 const ROOM: usize = 256;
 
-// The word of a number; None behind the last. The buffer is doubled until the word fits.
+// The word of a number; None after the last. The buffer is doubled until the word fits.
 fn word_at(alloc: Global, env: &impl Env, number: usize) -> Result<Option<String>, GivenFault> {
     let mut room = ROOM;
     for _ in 0..usize::BITS {

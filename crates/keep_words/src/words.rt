@@ -121,9 +121,9 @@ fn word<'a>(alloc: Global, id: &'a str, word: Word) -> Arg<'a>
     ensures rule { rule_of result ≡ word_rule id.entry.now }
     ensures local { result.global ≡ false }
 {
-    let (shown, help) = help::of_word(word);
+    let (label, help) = help::of_word(word);
     Arg::new(alloc, id)
-        .value_name(shown)
+        .value_name(label)
         .help(help)
         .required(true)
 }
@@ -137,7 +137,7 @@ fn chosen_in(alloc: Global, matches: &ArgMatches<'_>) -> Result<Chosen, AllocErr
     chosen_with(alloc, row_named(name), inner)
 }
 
-// What stands for no subcommand, which is never taken.
+// What is used for no subcommand, and is never taken.
 fn chosen_first(alloc: Global) -> Result<Chosen, AllocError>
     ensures { IfOk result (λ c. wanted_of_chosen c ≡ wanted_with [] first_row) }
 {

@@ -34,8 +34,8 @@ impl Document {
         Ok(Some(self.index.node(id).kind))
     }
 
-    /// How many nodes stand one step below a path: the keys of a table, the items of an array or the elements of an array of
-    /// tables, and 0 where another value stands. None where the path names no node. It takes no memory.
+    /// How many nodes are one step below a path: the keys of a table, the items of an array or the elements of an array
+    /// of tables, and 0 where another value is. None where the path names no node. It takes no memory.
     pub fn child_count(&self, path: &Path) -> Option<usize>
         ensures count { (s : tree.Document) → IsTextOfTree self.now s → result ≡ child_count_of path.now s }
         ensures accepted { IsAccepted self.now }

@@ -10,13 +10,13 @@ use Rattle.std.proofs.lemmas.List.{append-nil}
 use Rattle.keep_token.specs.declared.leaf.Leaf.TheVariants as leaf
 use Rattle.keep_token.specs.declared.leaf.Profile.{Profile}
 use Rattle.keep_token.specs.Pieces.{first}
-use Rattle.keep_syntax.specs.Tree.{Written, Content, blank, Line, Ended, Document, mark, line_leaves, ended_leaves, bom_leaves, text_of, text}
+use Rattle.keep_syntax.specs.Tree.{Written, Content, blank, Line, Ended, Document, token, line_leaves, ended_leaves, bom_leaves, text_of, text}
 use Rattle.keep_syntax.specs.Grammar.{IsEnded, IsDocument}
 use Rattle.keep_law.specs.Changed.{Changed, Place, place_of, framed_change}
 use Rattle.keep_law.specs.Edits.{at_line, append, changed_or_same}
 use Rattle.keep_law.specs.Lines.{Page, ended_text, line_text, content_text, with_page, is_empty, is_empty_list, newline_of, new_line, put_lines}
 use Rattle.keep_law.specs.TextEnds.{ends_in_newline, is_bare_start, header_at_end}
-use Rattle.keep_law.proofs.Common.LineEnds.{ends_behind, line_quiet, line_some, ended_ends}
+use Rattle.keep_law.proofs.Common.LineEnds.{ends_after, line_quiet, line_some, ended_ends}
 use Rattle.keep_law.proofs.Common.Texts.{text_of-append}
 use Rattle.keep_law.proofs.Remove.RemoveLinePlace.{is_high, page_low}
 
@@ -24,9 +24,9 @@ use Rattle.keep_law.proofs.Remove.RemoveLinePlace.{is_high, page_low}
 
 pub text_is : (s : Document) → text s ≡ text_of (bom_leaves s.bom) ++ (ended_text s.ended ++ line_text s.last)
 text_is s =
-    text_of-append (bom_leaves s.bom) (flat_map ended_leaves s.ended ++ (line_leaves s.last ++ mark leaf.End []))
-    ∙ ap (λ (t : List ℕ). text_of (bom_leaves s.bom) ++ t) (text_of-append (flat_map ended_leaves s.ended) (line_leaves s.last ++ mark leaf.End [])
-    ∙ ap (λ (t : List ℕ). ended_text s.ended ++ t) (text_of-append (line_leaves s.last) (mark leaf.End []) ∙ append-nil (line_text s.last)))
+    text_of-append (bom_leaves s.bom) (flat_map ended_leaves s.ended ++ (line_leaves s.last ++ token leaf.End []))
+    ∙ ap (λ (t : List ℕ). text_of (bom_leaves s.bom) ++ t) (text_of-append (flat_map ended_leaves s.ended) (line_leaves s.last ++ token leaf.End [])
+    ∙ ap (λ (t : List ℕ). ended_text s.ended ++ t) (text_of-append (line_leaves s.last) (token leaf.End []) ∙ append-nil (line_text s.last)))
 
 empty_text : (l : Line) → is_empty l ≡ true → line_text l ≡ []
 empty_text l h = ap text_of (by (line_leaves l) h)
@@ -112,7 +112,7 @@ all_end profile e [] h =
 all_end profile e (f ∷ es) h =
     let more = all_end profile f es h.1 in
     let whole : ended_text (e ∷ f ∷ es) ≡ text_of (ended_leaves e) ++ ended_text (f ∷ es) = text_of-append (ended_leaves e) (flat_map ended_leaves (f ∷ es)) in
-    (omega (arith, ap (λ (t : List ℕ). length t) whole, length-append (text_of (ended_leaves e)) (ended_text (f ∷ es)), more.0), ap ends_in_newline whole ∙ ends_behind (text_of (ended_leaves e)) (ended_text (f ∷ es)) more.0 ∙ more.1)
+    (omega (arith, ap (λ (t : List ℕ). length t) whole, length-append (text_of (ended_leaves e)) (ended_text (f ∷ es)), more.0), ap ends_in_newline whole ∙ ends_after (text_of (ended_leaves e)) (ended_text (f ∷ es)) more.0 ∙ more.1)
 
 header_by : (t newline new : List ℕ) (x y : Bool) → is_bare_start t ≡ x → ends_in_newline t ≡ y → header_at_end t newline new ≡ cond x (new ++ newline) (cond y (newline ++ (new ++ newline)) (newline ++ (newline ++ (new ++ newline))))
 header_by t newline new true y e f = ap (λ (b : Bool). cond b [] (cond (ends_in_newline t) newline (newline ++ newline)) ++ (new ++ newline)) e
@@ -146,9 +146,9 @@ module _ (profile : Profile) (s : Document) (valid : IsDocument profile s) where
 
   ends_as : (t : List ℕ) → ended_text s.ended ++ line_text s.last ≡ t → 0 < length t → ends_in_newline (text s) ≡ ends_in_newline t
   ends_as t is some =
-      ap ends_in_newline (text_is s) ∙ ap (λ (x : List ℕ). ends_in_newline (text_of (bom_leaves s.bom) ++ x)) is ∙ ends_behind (text_of (bom_leaves s.bom)) t some
+      ap ends_in_newline (text_is s) ∙ ap (λ (x : List ℕ). ends_in_newline (text_of (bom_leaves s.bom) ++ x)) is ∙ ends_after (text_of (bom_leaves s.bom)) t some
 
-  -- the last line has no bytes, and no line stands before it
+  -- the last line has no bytes, and no line comes before it
   none_written : s.ended ≡ [] → is_empty s.last ≡ true → is_bare_start (text s) ≡ true
   none_written none empty =
       let nothing : ended_text s.ended ++ line_text s.last ≡ [] = ap (λ (es : List Ended). ended_text es ++ line_text s.last) none ∙ empty_text s.last empty in
@@ -160,10 +160,10 @@ module _ (profile : Profile) (s : Document) (valid : IsDocument profile s) where
       let long : 0 < length (line_text s.last) = line_some profile s.last valid.last some in
       let all : 0 < length (ended_text s.ended ++ line_text s.last) = omega (arith, long, length-append (ended_text s.ended) (line_text s.last)) in (
         not_bare all,
-        ends_as (ended_text s.ended ++ line_text s.last) refl all ∙ ends_behind (ended_text s.ended) (line_text s.last) long ∙ line_quiet profile s.last valid.last,
+        ends_as (ended_text s.ended ++ line_text s.last) refl all ∙ ends_after (ended_text s.ended) (line_text s.last) long ∙ line_quiet profile s.last valid.last,
       )
 
-  -- the last line has none, and lines with newlines stand before it
+  -- the last line has none, and lines with newlines come before it
   lines_written : (e : Ended) (es : List Ended) → s.ended ≡ e ∷ es → is_empty s.last ≡ true → (is_bare_start (text s) ≡ false) × (ends_in_newline (text s) ≡ true)
   lines_written e es are empty =
       let end = all_end profile e es (subst (λ (x : List Ended). AllByRecursion (IsEnded profile) x) are valid.ended) in

@@ -13,7 +13,7 @@ use Rattle.keep_meaning.specs.declared.role.Role.{Role}
 use Rattle.keep_meaning.specs.declared.role.Role.TheVariants.{Through, Past, Define, Element}
 use Rattle.keep_meaning.specs.Faults.{Fault, refuses, first_fault_after}
 use Rattle.keep_meaning.specs.Marks as marks_of
-use Rattle.keep_meaning.specs.Marks.{Mention, through, past, define, element as says_element, begun, passed, mark_of, marks, elements_of, entered_path, header_path, header_way, statement_mentions}
+use Rattle.keep_meaning.specs.Marks.{Mention, through, past, define, element as kinds_element, begun, passed, mark_of, marks, elements_of, entered_path, header_path, header_way, statement_mentions}
 use Rattle.keep_meaning.specs.Rules.{Mark, allows, why_of}
 use Rattle.keep_path.specs.Path.{Part, key, index, same_path}
 use Rattle.keep_law.specs.Headers.{is_refused, header_conflict}
@@ -83,14 +83,14 @@ some_elements (suc n) e = omega arith
 
 -- what a header says of one path on its way
 abbrev passing : List (List Part) → List Part → Bool → List Mention
-passing tables q b = cond b (record { path = q; says = through } ∷ []) (record { path = q; says = past } ∷ record { path = entered_path tables q; says = passed } ∷ [])
+passing tables q b = cond b (record { path = q; kind = through } ∷ []) (record { path = q; kind = past } ∷ record { path = entered_path tables q; kind = passed } ∷ [])
 
 module _ (earlier : List Mark) (tables : List (List Part)) (passes : LetsPass earlier tables) (role : Role) where
   -- the marks of the keys to go
   abbrev to_go : List Part → List (List ℕ) → List Mark
   to_go at keys = marks (header_way tables at keys) ++ record { role = role; path = header_path tables at keys } ∷ []
 
-  -- one key further on, behind a mark of that role
+  -- one key further on, after a mark of that role
   onward : (own : List Mark) (at : List Part) (k l : List ℕ) (ks : List (List ℕ)) (r : Role) → AllOf (Short at) own
       → ((own : List Mark) → AllOf (Short (entered_path tables (at ++ key k ∷ []))) own → reason (earlier ++ own) (to_go (entered_path tables (at ++ key k ∷ [])) (l ∷ ks)) ≡ header_conflict earlier tables (entered_path tables (at ++ key k ∷ [])) (l ∷ ks) role)
       → reason (earlier ++ own) (record { role = r; path = at ++ key k ∷ [] } ∷ to_go (entered_path tables (at ++ key k ∷ [])) (l ∷ ks))
@@ -134,13 +134,13 @@ module _ (ms : List Mention) (passes : LetsPass (marks ms) (tables_in ms)) (k : 
   pub table_met : first_conflict (marks ms) (marks (statement_mentions (end_reading ms) (marks_of.header (k ∷ ks)))) ≡ header_conflict (marks ms) (tables_in ms) [] (k ∷ ks) Define
   table_met =
       let path : List Part = header_path (tables_in ms) [] (k ∷ ks) in
-      ap (λ (l : List Mark). reason (marks ms) l) (filter_map-append mark_of (header_way (tables_in ms) [] (k ∷ ks)) (record { path = path; says = define } ∷ []))
+      ap (λ (l : List Mark). reason (marks ms) l) (filter_map-append mark_of (header_way (tables_in ms) [] (k ∷ ks)) (record { path = path; kind = define } ∷ []))
       ∙ ap (λ (l : List Mark). reason l (marks (header_way (tables_in ms) [] (k ∷ ks)) ++ record { role = Define; path = path } ∷ [])) (sym (append-nil (marks ms)))
       ∙ met (marks ms) (tables_in ms) passes Define [] [] k ks tt
 
   pub element_met : first_conflict (marks ms) (marks (statement_mentions (end_reading ms) (marks_of.element_header (k ∷ ks)))) ≡ header_conflict (marks ms) (tables_in ms) [] (k ∷ ks) Element
   element_met =
       let path : List Part = header_path (tables_in ms) [] (k ∷ ks) in
-      ap (λ (l : List Mark). reason (marks ms) l) (filter_map-append mark_of (header_way (tables_in ms) [] (k ∷ ks)) (record { path = path; says = says_element } ∷ record { path = path ++ index (elements_of path (tables_in ms)) ∷ []; says = begun } ∷ []))
+      ap (λ (l : List Mark). reason (marks ms) l) (filter_map-append mark_of (header_way (tables_in ms) [] (k ∷ ks)) (record { path = path; kind = kinds_element } ∷ record { path = path ++ index (elements_of path (tables_in ms)) ∷ []; kind = begun } ∷ []))
       ∙ ap (λ (l : List Mark). reason l (marks (header_way (tables_in ms) [] (k ∷ ks)) ++ record { role = Element; path = path } ∷ [])) (sym (append-nil (marks ms)))
       ∙ met (marks ms) (tables_in ms) passes Element [] [] k ks tt

@@ -3,10 +3,10 @@ use Rattle.std.proofs.Common.{ℕ, ◌+◌, ◌≤◌, List, [], ◌∷◌, ◌+
 use Rattle.keep_syntax.specs.Tree.{Gap, Name, Body, scalar, array, inline, Entries, none, entry, Value, named_leaves, opening, closing, comma_leaves, text_of, around, entries_depth, value_depth, content_depth, depth, Content, blank, keyval, header, element, Line, Ended, Document, name_leaves, comment_leaves, bom_leaves, ended_leaves}
 use Rattle.keep_path.specs.Path.{Part}
 use Rattle.keep_meaning.specs.Marks.{Reading}
-use Rattle.keep_meaning.specs.Meaning.{step, behind_line}
+use Rattle.keep_meaning.specs.Meaning.{step, after_line}
 use Rattle.keep_law.specs.Look.{strip}
 use Rattle.keep_law.specs.Changed.{Changed, within, or_else}
-use Rattle.keep_law.specs.Values.{Act, in_entries, in_value, entry_front, entry_back}
+use Rattle.keep_law.specs.Values.{Act, in_entries, in_value, entry_prefix, entry_back}
 use Rattle.keep_law.specs.Lines.{Page, page_of, in_content, in_line, in_lines, in_document, with_page, page_text}
 use Rattle.keep_law.proofs.Common.SetLaw.{EachTo, to_within, to_or_else}
 use Rattle.keep_law.proofs.Common.DoneInDocument.{page_depth}
@@ -35,36 +35,36 @@ around_less (array first) m n h = omega (arith, h)
 around_less (inline first) m n h = omega (arith, h)
 
 value_by : (act : Act) → IsActFlat act → (more : List Part) (body : Body) (es : Entries) → EachTo (NoDeeperIn es) (in_entries act more 0 es)
-    → EachTo (NoDeeper (record { body = body; inside = es }))
-    (or_else (within (λ fs. record { body = body; inside = fs }) (text_of (opening body)) (text_of (closing body)) (in_entries act more 0 es)) (act more (record { body = body; inside = es })))
+    → EachTo (NoDeeper (record { body = body; nested = es }))
+    (or_else (within (λ fs. record { body = body; nested = fs }) (text_of (opening body)) (text_of (closing body)) (in_entries act more 0 es)) (act more (record { body = body; nested = es })))
 value_by act flat more body es h =
-    to_or_else (NoDeeper (record { body = body; inside = es })) (within (λ fs. record { body = body; inside = fs }) (text_of (opening body)) (text_of (closing body)) (in_entries act more 0 es)) (act more (record { body = body; inside = es }))
-    (to_within (NoDeeperIn es) (NoDeeper (record { body = body; inside = es })) (λ fs. record { body = body; inside = fs }) (text_of (opening body)) (text_of (closing body)) (in_entries act more 0 es)
+    to_or_else (NoDeeper (record { body = body; nested = es })) (within (λ fs. record { body = body; nested = fs }) (text_of (opening body)) (text_of (closing body)) (in_entries act more 0 es)) (act more (record { body = body; nested = es }))
+    (to_within (NoDeeperIn es) (NoDeeper (record { body = body; nested = es })) (λ fs. record { body = body; nested = fs }) (text_of (opening body)) (text_of (closing body)) (in_entries act more 0 es)
     (λ fs k. around_less body (entries_depth fs) (entries_depth es) k) h)
-    (flat more (record { body = body; inside = es }))
+    (flat more (record { body = body; nested = es }))
 
-entries_by : (act : Act) → IsActFlat act → (path : List Part) (n : ℕ) (name : Option Name) (body : Body) (inside : Entries) (after : Gap) (comma : Option Gap) (rest : Entries)
+entries_by : (act : Act) → IsActFlat act → (path : List Part) (n : ℕ) (name : Option Name) (body : Body) (nested : Entries) (after : Gap) (comma : Option Gap) (rest : Entries)
     → EachTo (NoDeeperIn rest) (in_entries act path (n + 1) rest)
-    → ((more : List Part) → EachTo (NoDeeperIn inside) (in_entries act more 0 inside))
+    → ((more : List Part) → EachTo (NoDeeperIn nested) (in_entries act more 0 nested))
     → (o : Option (List Part))
-    → EachTo (NoDeeperIn (entry name body inside after comma rest)) (elim o [
-      | None ↦ within (entry name body inside after comma) (entry_front name body inside ++ (text_of after ++ text_of (comma_leaves comma))) []
+    → EachTo (NoDeeperIn (entry name body nested after comma rest)) (elim o [
+      | None ↦ within (entry name body nested after comma) (entry_prefix name body nested ++ (text_of after ++ text_of (comma_leaves comma))) []
           (in_entries act path (n + 1) rest)
-      | Some more ↦ within (λ v. entry name v.body v.inside after comma rest) (text_of (named_leaves name)) (entry_back after comma rest)
-          (or_else (within (λ es. record { body = body; inside = es }) (text_of (opening body)) (text_of (closing body)) (in_entries act more 0 inside))
-          (act more (record { body = body; inside = inside })))
+      | Some more ↦ within (λ v. entry name v.body v.nested after comma rest) (text_of (named_leaves name)) (entry_back after comma rest)
+          (or_else (within (λ es. record { body = body; nested = es }) (text_of (opening body)) (text_of (closing body)) (in_entries act more 0 nested))
+          (act more (record { body = body; nested = nested })))
     ])
-entries_by act flat path n name body inside after comma rest further deeper None =
-    to_within (NoDeeperIn rest) (NoDeeperIn (entry name body inside after comma rest)) (entry name body inside after comma) (entry_front name body inside ++ (text_of after ++ text_of (comma_leaves comma))) []
+entries_by act flat path n name body nested after comma rest further deeper None =
+    to_within (NoDeeperIn rest) (NoDeeperIn (entry name body nested after comma rest)) (entry name body nested after comma) (entry_prefix name body nested ++ (text_of after ++ text_of (comma_leaves comma))) []
     (in_entries act path (n + 1) rest) (λ es h. omega (arith, h)) further
-entries_by act flat path n name body inside after comma rest further deeper (Some more) =
-    to_within (NoDeeper (record { body = body; inside = inside })) (NoDeeperIn (entry name body inside after comma rest)) (λ v. entry name v.body v.inside after comma rest) (text_of (named_leaves name)) (entry_back after comma rest)
-    _ (λ v h. omega (arith, h)) (value_by act flat more body inside (deeper more))
+entries_by act flat path n name body nested after comma rest further deeper (Some more) =
+    to_within (NoDeeper (record { body = body; nested = nested })) (NoDeeperIn (entry name body nested after comma rest)) (λ v. entry name v.body v.nested after comma rest) (text_of (named_leaves name)) (entry_back after comma rest)
+    _ (λ v h. omega (arith, h)) (value_by act flat more body nested (deeper more))
 
 in_entries_depth : (act : Act) → IsActFlat act → (path : List Part) (n : ℕ) (es : Entries) → EachTo (NoDeeperIn es) (in_entries act path n es)
 in_entries_depth act flat path n none = tt
-in_entries_depth act flat path n (entry name body inside after comma rest) =
-    entries_by act flat path n name body inside after comma rest (in_entries_depth act flat path (n + 1) rest) (λ more. in_entries_depth act flat more 0 inside) (strip (step n name) path)
+in_entries_depth act flat path n (entry name body nested after comma rest) =
+    entries_by act flat path n name body nested after comma rest (in_entries_depth act flat path (n + 1) rest) (λ more. in_entries_depth act flat more 0 nested) (strip (step n name) path)
 
 -- ---- in lines
 
@@ -81,7 +81,7 @@ content_depths act flat body path (keyval name v) = by (strip (body ++ step 0 (S
     by None = tt
     by (Some more) =
         to_within (NoDeeper v) (NoDeeperContent (keyval name v)) (keyval name) (text_of (name_leaves name)) [] (in_value act more v) (λ v' h. h)
-        (value_by act flat more v.body v.inside (in_entries_depth act flat more 0 v.inside))
+        (value_by act flat more v.body v.nested (in_entries_depth act flat more 0 v.nested))
 
 pub line_depths : (act : Act) → IsActFlat act → (path : List Part) (r : Reading) (l : Line) → EachTo (NoDeeperLine l) (in_line act path r l)
 line_depths act flat path r l =
@@ -96,9 +96,9 @@ pages_depth f h r (e ∷ es) last =
     let rest : Page = record { ended = es; last = last } in
     let here : Line → Page = λ l. record { ended = record { line = l; newline = e.newline } ∷ es; last = last } in
     let there : Page → Page = λ b. record { ended = e ∷ b.ended; last = b.last } in
-    to_or_else (NoDeeperPage whole) (within here [] (e.newline.text ++ page_text rest) (f r e.line)) (within there (text_of (ended_leaves e)) [] (in_lines f (behind_line r e.line) es last))
+    to_or_else (NoDeeperPage whole) (within here [] (e.newline.text ++ page_text rest) (f r e.line)) (within there (text_of (ended_leaves e)) [] (in_lines f (after_line r e.line) es last))
     (to_within (NoDeeperLine e.line) (NoDeeperPage whole) here [] (e.newline.text ++ page_text rest) (f r e.line) (λ l k. omega (arith, k)) (h r e.line))
-    (to_within (NoDeeperPage rest) (NoDeeperPage whole) there (text_of (ended_leaves e)) [] (in_lines f (behind_line r e.line) es last) (λ b k. omega (arith, k)) (pages_depth f h (behind_line r e.line) es last))
+    (to_within (NoDeeperPage rest) (NoDeeperPage whole) there (text_of (ended_leaves e)) [] (in_lines f (after_line r e.line) es last) (λ b k. omega (arith, k)) (pages_depth f h (after_line r e.line) es last))
 
 -- ---- in the document
 

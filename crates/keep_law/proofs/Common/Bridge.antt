@@ -5,8 +5,8 @@ use Rattle.std.specs.List.{cons_option}
 use Rattle.std.proofs.lemmas.List.Kept.{AllPairs-cons}
 use Rattle.keep_meaning.specs.declared.role.Role.{Role}
 use Rattle.keep_meaning.specs.Rules.{allows, Allows, ObeysRules}
-use Rattle.keep_meaning.specs.Marks.{Saying, through, past, define, element, dotted, value, begun, passed, item, Mention, role_of, with_path, marks}
-use Rattle.keep_law.proofs.Common.Runs.{AllOf, Pairs, Allowed, Rules, says_allow}
+use Rattle.keep_meaning.specs.Marks.{MentionKind, through, past, define, element, dotted, value, begun, passed, item, Mention, role_of, with_path, marks}
+use Rattle.keep_law.proofs.Common.Runs.{AllOf, Pairs, Allowed, Rules, kinds_allow}
 
 all_index : {A : Type 0} (P : A → Type 0) (xs : List A) → AllOf P xs → (k : ℕ) (d : A) → k < length xs → P (get_or xs k d)
 all_index P [] h k d lt = absurd (omega arith)
@@ -21,8 +21,8 @@ abbrev pub role_allow : Option Role → Option Role → Bool
 role_allow (Some r) (Some t) = allows r t
 role_allow _ _ = true
 
--- sayings allow what the roles that they have do
-table_both : (a b : Saying) → says_allow a b ≡ true → role_allow (role_of a) (role_of b) ≡ true
+-- mention kinds allow what the roles that they have do
+table_both : (a b : MentionKind) → kinds_allow a b ≡ true → role_allow (role_of a) (role_of b) ≡ true
 table_both through through h = refl
 table_both through past h = absurd cc
 table_both through define h = refl
@@ -105,24 +105,24 @@ table_both (item f) begun h = refl
 table_both (item f) passed h = refl
 table_both (item f) (item g) h = absurd cc
 
-same_table : (a b : Saying) (r t : Role) → role_of a ≡ Some r → role_of b ≡ Some t → says_allow a b ≡ true → IsTrue (allows r t)
+same_table : (a b : MentionKind) (r t : Role) → role_of a ≡ Some r → role_of b ≡ Some t → kinds_allow a b ≡ true → IsTrue (allows r t)
 same_table a b r t ha hb h =
     let both : role_allow (role_of a) (role_of b) ≡ allows r t = ap (λ o. role_allow o (role_of b)) ha ∙ ap (role_allow (Some r)) hb in
     sym both ∙ table_both a b h
 
-allow_marks : (a : Mention) (r : Role) → role_of a.says ≡ Some r → (ms : List Mention) → AllOf (Allowed a) ms → AllOf (Allows (record { role = r; path = a.path })) (marks ms)
+allow_marks : (a : Mention) (r : Role) → role_of a.kind ≡ Some r → (ms : List Mention) → AllOf (Allowed a) ms → AllOf (Allows (record { role = r; path = a.path })) (marks ms)
 allow_marks a r ha [] h = tt
-allow_marks a r ha (m ∷ ms) h = by (role_of m.says) refl (allow_marks a r ha ms h.1)
+allow_marks a r ha (m ∷ ms) h = by (role_of m.kind) refl (allow_marks a r ha ms h.1)
   where
-    by : (o : Option Role) → role_of m.says ≡ o → AllOf (Allows (record { role = r; path = a.path })) (marks ms) → AllOf (Allows (record { role = r; path = a.path })) (cons_option (with_path m.path o) (marks ms))
+    by : (o : Option Role) → role_of m.kind ≡ o → AllOf (Allows (record { role = r; path = a.path })) (marks ms) → AllOf (Allows (record { role = r; path = a.path })) (cons_option (with_path m.path o) (marks ms))
     by None e rest = rest
-    by (Some t) e rest = ((λ p. same_table a.says m.says r t ha e (h.0 p)), rest)
+    by (Some t) e rest = ((λ p. same_table a.kind m.kind r t ha e (h.0 p)), rest)
 
 rules_marks : (ms : List Mention) → Rules ms → Pairs Allows (marks ms)
 rules_marks [] h = tt
-rules_marks (m ∷ ms) h = by (role_of m.says) refl (rules_marks ms h.1)
+rules_marks (m ∷ ms) h = by (role_of m.kind) refl (rules_marks ms h.1)
   where
-    by : (o : Option Role) → role_of m.says ≡ o → Pairs Allows (marks ms) → Pairs Allows (cons_option (with_path m.path o) (marks ms))
+    by : (o : Option Role) → role_of m.kind ≡ o → Pairs Allows (marks ms) → Pairs Allows (cons_option (with_path m.path o) (marks ms))
     by None e ih = ih
     by (Some r) e ih = (allow_marks m r e ms h.0, ih)
 

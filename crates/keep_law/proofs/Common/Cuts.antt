@@ -8,8 +8,8 @@ use Rattle.keep_meaning.specs.Nodes.{fact_at, first_of}
 use Rattle.keep_law.specs.Look.{strip, last_part, without_last}
 use Rattle.keep_law.specs.Edits.{remove}
 use Rattle.keep_law.specs.Trees.{Source, IsTreeOf, fact_from, from as from_path, nothing, put_out}
-use Rattle.keep_law.proofs.Common.Runs.{AllOf, all_join, Rules, IsApart, IsUnder, strip_both, says_at-apart, fact_elsewhere}
-use Rattle.keep_law.proofs.Common.SetLaw.{apart_below}
+use Rattle.keep_law.proofs.Common.Runs.{AllOf, all_join, Rules, IsDisjoint, IsUnder, strip_both, kinds_at-disjoint, fact_elsewhere}
+use Rattle.keep_law.proofs.Common.SetLaw.{disjoint_below}
 use Rattle.keep_law.proofs.Common.LineLaws.{EndsInKey}
 use Rattle.keep_law.proofs.Common.Moves.{rules_taken}
 use Rattle.keep_law.proofs.Common.InsertLaw.{without_ways, none_below}
@@ -21,9 +21,9 @@ pub record IsCut (path : List Part) (from to : List Mention) : Type 0 where
   pub behind : List Mention
   pub was : from ≡ before ++ ((ways ++ run) ++ behind)
   pub is : to ≡ before ++ behind
-  pub apart_before : AllOf (IsApart path) before
-  pub apart_behind : AllOf (IsApart path) behind
-  pub silent : AllOf (λ m. fact_of m.says ≡ None) ways
+  pub disjoint_before : AllOf (IsDisjoint path) before
+  pub disjoint_after : AllOf (IsDisjoint path) behind
+  pub silent : AllOf (λ m. fact_of m.kind ≡ None) ways
   pub under : AllOf (IsUnder path) run
 
 pub under_both : (s p : List Part) (ms : List Mention) → AllOf (IsUnder p) ms → AllOf (IsUnder (s ++ p)) (map (below s) ms)
@@ -44,8 +44,8 @@ cut_below s path from to h = record {
   behind = map (below s) h.behind;
   was = ap (map (below s)) h.was ∙ map_four s h.before h.ways h.run h.behind;
   is = ap (map (below s)) h.is ∙ map-append (below s) h.before h.behind;
-  apart_before = apart_below s path h.before h.apart_before;
-  apart_behind = apart_below s path h.behind h.apart_behind;
+  disjoint_before = disjoint_below s path h.before h.disjoint_before;
+  disjoint_after = disjoint_below s path h.behind h.disjoint_after;
   silent = none_below s h.ways h.silent;
   under = under_both s path h.run h.under;
 }
@@ -56,7 +56,7 @@ around left before mid behind right = simp append_assoc refl
 around_two : (left before behind right : List Mention) → left ++ ((before ++ behind) ++ right) ≡ (left ++ before) ++ (behind ++ right)
 around_two left before behind right = simp append_assoc refl
 
-pub cut_beside : (path : List Part) (from to left right : List Mention) → AllOf (IsApart path) left → AllOf (IsApart path) right
+pub cut_beside : (path : List Part) (from to left right : List Mention) → AllOf (IsDisjoint path) left → AllOf (IsDisjoint path) right
     → IsCut path from to → IsCut path (left ++ (from ++ right)) (left ++ (to ++ right))
 cut_beside path from to left right hl hr h = record {
   before = left ++ h.before;
@@ -65,8 +65,8 @@ cut_beside path from to left right hl hr h = record {
   behind = h.behind ++ right;
   was = ap (λ l. left ++ (l ++ right)) h.was ∙ around left h.before (h.ways ++ h.run) h.behind right;
   is = ap (λ l. left ++ (l ++ right)) h.is ∙ around_two left h.before h.behind right;
-  apart_before = all_join (IsApart path) left h.before hl h.apart_before;
-  apart_behind = all_join (IsApart path) h.behind right h.apart_behind hr;
+  disjoint_before = all_join (IsDisjoint path) left h.before hl h.disjoint_before;
+  disjoint_after = all_join (IsDisjoint path) h.behind right h.disjoint_after hr;
   silent = h.silent;
   under = h.under;
 }
@@ -83,7 +83,7 @@ pub cut_by : (path : List Part) (from to : List Mention) → IsCut path from to 
     → fact_at q to ≡ fact_from from [] (elim o [ Some more ↦ nothing | None ↦ from_path q ])
 cut_by path from to h q (Some r) e =
     ap (fact_at q) h.is
-    ∙ ap (λ l. first_of (filter_map fact_of l)) (says_at-apart path q r (h.before ++ h.behind) (all_join (IsApart path) h.before h.behind h.apart_before h.apart_behind) e)
+    ∙ ap (λ l. first_of (filter_map fact_of l)) (kinds_at-disjoint path q r (h.before ++ h.behind) (all_join (IsDisjoint path) h.before h.behind h.disjoint_before h.disjoint_after) e)
 cut_by path from to h q None e =
     ap (fact_at q) h.is
     ∙ sym (without_ways q h.before h.ways h.behind h.silent)

@@ -5,18 +5,18 @@ use Rattle.std.specs.List.{filter_map}
 use Rattle.keep_syntax.specs.Tree.{Name, name_leaves, comment_leaves, Value, Content, blank, keyval, header, element, Line, Ended, Document, ended_leaves, bom_leaves, text_of, value_depth, content_depth, lines_depth, depth}
 use Rattle.keep_meaning.specs.Fact.{Fact}
 use Rattle.keep_path.specs.Path.{Part}
-use Rattle.keep_meaning.specs.Marks.{Saying, Mention, below, fact_of, Reading, start}
-use Rattle.keep_meaning.specs.Meaning.{key_value, further_value, body_fact, entries_said, step, keyval_said, behind_line, lines_said, reading_behind, line_of, said_in, value_said}
+use Rattle.keep_meaning.specs.Marks.{MentionKind, Mention, below, fact_of, Reading, start}
+use Rattle.keep_meaning.specs.Meaning.{key_value, further_value, body_fact, entries_mentions, step, keyval_mentions, after_line, lines_mentions, reading_after_lines, line_of, mentions_in, mentions_of_value}
 use Rattle.keep_meaning.specs.Nodes.{fact_at, first_of}
 use Rattle.keep_law.specs.Look.{strip, enclosing}
 use Rattle.keep_law.specs.Changed.{Changed, within, framed_change}
 use Rattle.keep_law.specs.Values.{Act, in_value}
 use Rattle.keep_law.specs.Lines.{Page, page_text, page_of, in_content, in_line, in_lines, with_page}
-use Rattle.keep_law.specs.Edits.{inside}
-use Rattle.keep_law.proofs.Common.Runs.{AllOf, SomeOf, pairs_split, some_left, Allowed, Rules, IsApart, strip-sound, strip-append, says_at-below, fact_under}
-use Rattle.keep_law.proofs.Common.SetLaw.{IsAloneAt, clash_before, clash_behind, rules_below, rules_named}
+use Rattle.keep_law.specs.Edits.{nested}
+use Rattle.keep_law.proofs.Common.Runs.{AllOf, SomeOf, pairs_split, some_left, Allowed, Rules, IsDisjoint, strip-sound, strip-append, kinds_at-below, fact_under}
+use Rattle.keep_law.proofs.Common.SetLaw.{IsAloneAt, clash_before, clash_after, rules_below, rules_named}
 use Rattle.keep_law.proofs.Common.LineLaws.{EndsInKey, lines_closed, never_root}
-use Rattle.keep_law.proofs.Common.SetDocument.{ends_keys, longer, from_closed, keyval_alone, whole_said, page_lines}
+use Rattle.keep_law.proofs.Common.SetDocument.{ends_keys, longer, from_closed, keyval_alone, whole_mentions, page_lines}
 use Rattle.keep_law.proofs.Common.DoneAtValue.{EachOf, of_within, of_or_else, IsDoneAt, IsAtEnd, done_framed, done_value, entry_facts, enclosing_beyond}
 
 -- in the value of a keyval
@@ -26,10 +26,10 @@ pub record IsDoneIn (act : Act) (body path : List Part) (from : Content) (c : Ch
   pub more : List Part
   pub was : from ≡ keyval name value
   pub place : path ≡ (body ++ step 0 (Some name)) ++ more
-  pub changed : Rules (entries_said 0 value.inside) → IsDoneAt act more (value_said value) content_depth from c
+  pub changed : Rules (entries_mentions 0 value.nested) → IsDoneAt act more (mentions_of_value value) content_depth from c
 
 abbrev LaterDone : Type 0 → Act → List Part → Value → Changed Value → Type 0
-LaterDone R act more v c = R → IsDoneAt act more (value_said v) value_depth v c
+LaterDone R act more v c = R → IsDoneAt act more (mentions_of_value v) value_depth v c
 
 later_done : (R : Type 0) (P : Changed Value → Type 0) (o : Option (Changed Value)) → (R → EachOf P o) → EachOf (λ c. R → P c) o
 later_done R P None h = tt
@@ -42,17 +42,17 @@ done_content-by : (act : Act) → IsAtEnd act → (body path : List Part) (name 
     ])
 done_content-by act ends body path name v None e = tt
 done_content-by act ends body path name v (Some more) e =
-    let R : Type 0 = Rules (entries_said 0 v.inside) in
-    of_within (λ c. R → IsDoneAt act more (value_said v) value_depth v c) (IsDoneIn act body path (keyval name v)) (keyval name) (text_of (name_leaves name)) [] (in_value act more v)
+    let R : Type 0 = Rules (entries_mentions 0 v.nested) in
+    of_within (λ c. R → IsDoneAt act more (mentions_of_value v) value_depth v c) (IsDoneIn act body path (keyval name v)) (keyval name) (text_of (name_leaves name)) [] (in_value act more v)
     (λ c h. record {
       name = name;
       value = v;
       more = more;
       was = refl;
       place = strip-sound (body ++ step 0 (Some name)) path more e;
-      changed = λ rules. done_framed act more (value_said v) value_depth content_depth v (keyval name v) (keyval name) (text_of (name_leaves name)) [] c (λ w d. d) (h rules);
+      changed = λ rules. done_framed act more (mentions_of_value v) value_depth content_depth v (keyval name v) (keyval name) (text_of (name_leaves name)) [] c (λ w d. d) (h rules);
     })
-    (later_done R (IsDoneAt act more (value_said v) value_depth v) (in_value act more v) (λ rules. done_value act ends more v rules))
+    (later_done R (IsDoneAt act more (mentions_of_value v) value_depth v) (in_value act more v) (λ rules. done_value act ends more v rules))
 
 done_content : (act : Act) → IsAtEnd act → (body path : List Part) (c : Content) → EachOf (IsDoneIn act body path c) (in_content act body path c)
 done_content act ends body path blank = tt
@@ -73,8 +73,8 @@ pub record IsDoneInLines (act : Act) (r : Reading) (path : List Part) (from : Pa
   pub more : List Part
   pub was : page_lines from ≡ pre ++ line ∷ post
   pub content : line.content ≡ keyval name value
-  pub place : path ≡ ((reading_behind r pre).body ++ step 0 (Some name)) ++ more
-  pub changed : Rules (entries_said 0 value.inside) → IsDoneAt act more (value_said value) page_depth from c
+  pub place : path ≡ ((reading_after_lines r pre).body ++ step 0 (Some name)) ++ more
+  pub changed : Rules (entries_mentions 0 value.nested) → IsDoneAt act more (mentions_of_value value) page_depth from c
 
 abbrev line_depth : Line → ℕ
 line_depth l = content_depth l.content
@@ -99,9 +99,9 @@ done_line act ends path r l whole pre post outer left right e f =
       content = k.was;
       place = k.place;
       changed = λ rules.
-          done_framed act k.more (value_said k.value) line_depth page_depth l whole outer left right c (λ w. f c.to w)
-          (subst (λ (x : Changed Line). IsDoneAt act k.more (value_said k.value) line_depth l x) (sym e')
-          (done_framed act k.more (value_said k.value) content_depth line_depth l.content l (λ x. record l { content = x }) a b d (λ w i. i) (k.changed rules)));
+          done_framed act k.more (mentions_of_value k.value) line_depth page_depth l whole outer left right c (λ w. f c.to w)
+          (subst (λ (x : Changed Line). IsDoneAt act k.more (mentions_of_value k.value) line_depth l x) (sym e')
+          (done_framed act k.more (mentions_of_value k.value) content_depth line_depth l.content l (λ x. record l { content = x }) a b d (λ w i. i) (k.changed rules)));
     })
     (of_within (IsDoneIn act r.body path l.content) (λ c. (d : Changed Content) × IsDoneIn act r.body path l.content d × (c ≡ framed_change (λ x. record l { content = x }) a b d))
     (λ x. record l { content = x }) a b (in_content act r.body path l.content) (λ d k. (d, k, refl)) (done_content act ends r.body path l.content))
@@ -116,7 +116,7 @@ done_lines act ends path r (e ∷ es) last =
     let outer : Page → Page = λ b. record { ended = e ∷ b.ended; last = b.last } in
     of_or_else (IsDoneInLines act r path whole) _ _
     (done_line act ends path r e.line whole [] (map line_of es ++ last ∷ []) (λ l. record { ended = record { line = l; newline = e.newline } ∷ es; last = last }) [] (e.newline.text ++ page_text rest) refl (λ l' w h. omega (arith, h)))
-    (of_within (IsDoneInLines act (behind_line r e.line) path rest) (IsDoneInLines act r path whole) outer (text_of (ended_leaves e)) [] (in_lines (in_line act path) (behind_line r e.line) es last)
+    (of_within (IsDoneInLines act (after_line r e.line) path rest) (IsDoneInLines act r path whole) outer (text_of (ended_leaves e)) [] (in_lines (in_line act path) (after_line r e.line) es last)
     (λ c h. record {
       pre = e.line ∷ h.pre;
       post = h.post;
@@ -127,64 +127,64 @@ done_lines act ends path r (e ∷ es) last =
       was = ap (λ l. e.line ∷ l) h.was;
       content = h.content;
       place = h.place;
-      changed = λ rules. done_framed act h.more (value_said h.value) page_depth page_depth rest whole outer (text_of (ended_leaves e)) [] c (λ w d. omega (arith, d)) (h.changed rules);
+      changed = λ rules. done_framed act h.more (mentions_of_value h.value) page_depth page_depth rest whole outer (text_of (ended_leaves e)) [] c (λ w d. omega (arith, d)) (h.changed rules);
     })
-    (done_lines act ends path (behind_line r e.line) es last))
+    (done_lines act ends path (after_line r e.line) es last))
 
-abbrev facts_of : List Saying → Option Fact
+abbrev facts_of : List MentionKind → Option Fact
 facts_of l = first_of (filter_map fact_of l)
 
 -- what a document says at and under a keyval's path is what its value says
 pub record IsKeyvalOf (ms : List Mention) (p : List Part) (v : Value) : Type 0 where
-  pub facts : (q : List Part) → fact_at (p ++ q) ms ≡ fact_at q (value_said v)
-  pub rules : Rules (entries_said 0 v.inside)
+  pub facts : (q : List Part) → fact_at (p ++ q) ms ≡ fact_at q (mentions_of_value v)
+  pub rules : Rules (entries_mentions 0 v.nested)
 
-pub keyval_facts : (pre post : List Line) (l : Line) (name : Name) (v : Value) → l.content ≡ keyval name v → Rules (lines_said start (pre ++ l ∷ post))
-    → IsKeyvalOf (lines_said start (pre ++ l ∷ post)) ((reading_behind start pre).body ++ step 0 (Some name)) v
+pub keyval_facts : (pre post : List Line) (l : Line) (name : Name) (v : Value) → l.content ≡ keyval name v → Rules (lines_mentions start (pre ++ l ∷ post))
+    → IsKeyvalOf (lines_mentions start (pre ++ l ∷ post)) ((reading_after_lines start pre).body ++ step 0 (Some name)) v
 keyval_facts pre post l name v e rules =
-    let r : Reading = reading_behind start pre in
+    let r : Reading = reading_after_lines start pre in
     let p : List Part = r.body ++ step 0 (Some name) in
-    let left : List Mention = lines_said start pre in
-    let right : List Mention = lines_said r post in
-    let mid : List Mention = map (below r.body) (keyval_said name v) in
-    let said : lines_said start (pre ++ l ∷ post) ≡ left ++ (mid ++ right) = whole_said pre post l name v e in
-    let all_rules : Rules (left ++ (mid ++ right)) = subst Rules said rules in
+    let left : List Mention = lines_mentions start pre in
+    let right : List Mention = lines_mentions r post in
+    let mid : List Mention = map (below r.body) (keyval_mentions name v) in
+    let mentioned : lines_mentions start (pre ++ l ∷ post) ≡ left ++ (mid ++ right) = whole_mentions pre post l name v e in
+    let all_rules : Rules (left ++ (mid ++ right)) = subst Rules mentioned rules in
     let outer = pairs_split Allowed left (mid ++ right) all_rules in
     let inner = pairs_split Allowed mid right outer.right in
     let ends : EndsInKey p = ends_keys r.body (key_value name.key.first) (map further_value name.key.more) in
     let alone : SomeOf (IsAloneAt p) mid = keyval_alone r.body name v in
-    let apart_left : AllOf (IsApart p) left = from_closed p [] left (lines_closed p start pre ends) (λ u. never_root p ends u)
+    let disjoint_left : AllOf (IsDisjoint p) left = from_closed p [] left (lines_closed p start pre ends) (λ u. never_root p ends u)
     (λ s. clash_before p left (mid ++ right) s (some_left (IsAloneAt p) mid right alone) all_rules) in
-    let apart_right : AllOf (IsApart p) right = from_closed p r.body right (lines_closed p r post ends) (λ u. longer r.body _ _ u)
-    (λ s. clash_behind p mid right alone s outer.right) in
+    let disjoint_right : AllOf (IsDisjoint p) right = from_closed p r.body right (lines_closed p r post ends) (λ u. longer r.body _ _ u)
+    (λ s. clash_after p mid right alone s outer.right) in
     record {
       facts = λ q.
-          ap (fact_at (p ++ q)) said
-          ∙ fact_under p (p ++ q) q left mid right apart_left apart_right (strip-append p q)
+          ap (fact_at (p ++ q)) mentioned
+          ∙ fact_under p (p ++ q) q left mid right disjoint_left disjoint_right (strip-append p q)
           ∙ ap (λ (x : List Part). fact_at x mid) (append_assoc r.body (step 0 (Some name)) q)
-          ∙ ap facts_of (says_at-below r.body (step 0 (Some name) ++ q) (keyval_said name v))
-          ∙ entry_facts 0 (Some name) (body_fact v.body) (entries_said 0 v.inside) q;
-      rules = rules_named 0 (Some name) (body_fact v.body) (entries_said 0 v.inside) (rules_below r.body (keyval_said name v) inner.left);
+          ∙ ap facts_of (kinds_at-below r.body (step 0 (Some name) ++ q) (keyval_mentions name v))
+          ∙ entry_facts 0 (Some name) (body_fact v.body) (entries_mentions 0 v.nested) q;
+      rules = rules_named 0 (Some name) (body_fact v.body) (entries_mentions 0 v.nested) (rules_below r.body (keyval_mentions name v) inner.left);
     }
 
 -- What is done in a document is done at the value of the path.
-pub done_inside : (act : Act) → IsAtEnd act → (path : List Part) (s : Document) → Rules (said_in s) → EachOf (IsDoneAt act path (said_in s) depth s) (inside act path s)
-done_inside act ends path s rules =
-    of_within (IsDoneInLines act start path (page_of s)) (IsDoneAt act path (said_in s) depth s) (with_page s) (text_of (bom_leaves s.bom)) [] (in_lines (in_line act path) start s.ended s.last)
+pub done_nested : (act : Act) → IsAtEnd act → (path : List Part) (s : Document) → Rules (mentions_in s) → EachOf (IsDoneAt act path (mentions_in s) depth s) (nested act path s)
+done_nested act ends path s rules =
+    of_within (IsDoneInLines act start path (page_of s)) (IsDoneAt act path (mentions_in s) depth s) (with_page s) (text_of (bom_leaves s.bom)) [] (in_lines (in_line act path) start s.ended s.last)
     (λ c h.
-    let p : List Part = (reading_behind start h.pre).body ++ step 0 (Some h.name) in
-    let said : said_in s ≡ lines_said start (h.pre ++ h.line ∷ h.post) = ap (lines_said start) h.was in
-    let k : IsKeyvalOf (said_in s) p h.value = subst (λ (l : List Mention). IsKeyvalOf l p h.value) (sym said) (keyval_facts h.pre h.post h.line h.name h.value h.content (subst Rules said rules)) in
+    let p : List Part = (reading_after_lines start h.pre).body ++ step 0 (Some h.name) in
+    let mentioned : mentions_in s ≡ lines_mentions start (h.pre ++ h.line ∷ h.post) = ap (lines_mentions start) h.was in
+    let k : IsKeyvalOf (mentions_in s) p h.value = subst (λ (l : List Mention). IsKeyvalOf l p h.value) (sym mentioned) (keyval_facts h.pre h.post h.line h.name h.value h.content (subst Rules mentioned rules)) in
     let d = h.changed k.rules in
-    let g : enclosing h.more (value_said h.value) ≤ enclosing path (said_in s) =
-    subst (λ (x : List Part). enclosing h.more (value_said h.value) ≤ enclosing x (said_in s)) (sym h.place) (enclosing_beyond p h.more (said_in s) (value_said h.value) k.facts) in
+    let g : enclosing h.more (mentions_of_value h.value) ≤ enclosing path (mentions_in s) =
+    subst (λ (x : List Part). enclosing h.more (mentions_of_value h.value) ≤ enclosing x (mentions_in s)) (sym h.place) (enclosing_beyond p h.more (mentions_in s) (mentions_of_value h.value) k.facts) in
     record {
       value = d.value;
       done = d.done;
       by = d.by;
       old = d.old;
       new = d.new;
-      facts = λ q. ap (λ (x : List Part). fact_at (x ++ q) (said_in s)) h.place ∙ ap (λ (x : List Part). fact_at x (said_in s)) (append_assoc p h.more q) ∙ k.facts (h.more ++ q) ∙ d.facts q;
+      facts = λ q. ap (λ (x : List Part). fact_at (x ++ q) (mentions_in s)) h.place ∙ ap (λ (x : List Part). fact_at x (mentions_in s)) (append_assoc p h.more q) ∙ k.facts (h.more ++ q) ∙ d.facts q;
       depth = omega (arith, d.depth, g);
       bounded = λ k e. omega (arith, d.bounded k e, g);
     })

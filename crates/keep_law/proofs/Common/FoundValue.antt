@@ -1,4 +1,5 @@
--- What an act changes is one of the values in the list of all: which one it is, by how many stand before it, and where it stands.
+-- What an act changes is one of the values in the list of all: which one it is, by how many come before it, and where
+-- it is.
 use Rattle.std.proofs.Common.{◌≡◌, ℕ, suc, ◌+◌, ◌≤◌, true, false, List, [], ◌∷◌, ◌++◌, length, map, refl, sym, ap, subst, ◌∙◌, append_assoc, length-append, arith, Option, Some, None, inl, inr}
 use Rattle.std.specs.Prelude.{⊤}
 use Rattle.std.specs.List.{AllByRecursion}
@@ -9,37 +10,37 @@ use Rattle.keep_parts.specs.declared.info.ValueInfo.{ValueInfo}
 use Rattle.keep_syntax.specs.Tree.{Gap, Name, Body, Entries, none, entry, Value, Content, blank, keyval, header, element, Line, Ended, Document, name_leaves, named_leaves, opening, closing, comma_leaves, comment_leaves, ended_leaves, bom_leaves, text_of, value_text}
 use Rattle.keep_syntax.specs.Grammar.{Place, place_in, AreEntries, IsValue, IsContent, IsLine, IsEnded, IsDocument}
 use Rattle.keep_syntax.specs.Numbered as syntax
-use Rattle.keep_syntax.specs.Numbered.{value_start, inside_start, comma_start, comma_place, key_count, name_count, info, inside_of, rest_of, entries_values, line_start, content_values, line_values, over_lines, next_line, first_line}
+use Rattle.keep_syntax.specs.Numbered.{value_start, nested_start, comma_start, comma_place, key_count, name_count, info, nested_of, rest_of, entries_values, line_start, content_values, line_values, over_lines, next_line, first_line}
 use Rattle.keep_meaning.specs.Fact.{Fact}
 use Rattle.keep_path.specs.Path.{Part, key, index}
-use Rattle.keep_meaning.specs.Marks.{Saying, dotted, value, item, Mention, below, fact_of, Reading, statement_mentions, start}
-use Rattle.keep_meaning.specs.Meaning.{key_value, further_value, keys_of, body_fact, valued_mentions, keyed_mentions, entry_mentions, entries_said, step, keyval_said, statement_of, line_said, behind_line, lines_said, reading_behind, line_of, said_in}
+use Rattle.keep_meaning.specs.Marks.{MentionKind, dotted, value, item, Mention, below, fact_of, Reading, statement_mentions, start}
+use Rattle.keep_meaning.specs.Meaning.{key_value, further_value, keys_of, body_fact, valued_mentions, keyed_mentions, entry_mentions, entries_mentions, step, keyval_mentions, statement_of, line_mentions, after_line, lines_mentions, reading_after_lines, line_of, mentions_in}
 use Rattle.keep_meaning.specs.Counts.{is_value, one_if}
 use Rattle.keep_meaning.proofs.Shared.{valued, valued-append, valued-below, valued-keyed, valued-content, valued-entries, length-entries_values}
 use Rattle.keep_law.specs.Look.{strip}
 use Rattle.keep_law.specs.Changed.{Changed, framed_change, within, or_else}
-use Rattle.keep_law.specs.Values.{Act, entries_text, entry_front, entry_back, in_entries, in_value}
+use Rattle.keep_law.specs.Values.{Act, entries_text, entry_prefix, entry_back, in_entries, in_value}
 use Rattle.keep_law.specs.Lines.{page_text, in_content, in_line, in_lines, with_page}
-use Rattle.keep_law.specs.Edits.{inside}
-use Rattle.keep_law.proofs.Common.Runs.{AllOf, SomeOf, all_right, all_join, all_map, meet, some_right, pairs_split, Allowed, Rules, exclusive, IsApart, strip-sound}
-use Rattle.keep_law.proofs.Common.SetLaw.{IsAloneAt, tag_of, tag_told, keyed_split, keyed_apart, map_twice, all_longer, apart_below, apart_closed, apart_from_entry, clash_before, closed_named, closed_entries, rules_below}
-use Rattle.keep_law.proofs.Common.LineLaws.{lines_said-append}
-use Rattle.keep_law.proofs.Common.SetDocument.{said_of, whole_said}
+use Rattle.keep_law.specs.Edits.{nested}
+use Rattle.keep_law.proofs.Common.Runs.{AllOf, SomeOf, all_right, all_join, all_map, meet, some_right, pairs_split, Allowed, Rules, exclusive, IsDisjoint, strip-sound}
+use Rattle.keep_law.proofs.Common.SetLaw.{IsAloneAt, tag_of, tag_stated, keyed_split, keyed_disjoint, map_twice, all_longer, disjoint_below, disjoint_closed, disjoint_from_entry, clash_before, closed_named, closed_entries, rules_below}
+use Rattle.keep_law.proofs.Common.LineLaws.{lines_mentions-append}
+use Rattle.keep_law.proofs.Common.SetDocument.{mentions_of, whole_mentions}
 use Rattle.keep_law.proofs.Common.InValue.{beside_keyval}
 use Rattle.keep_law.proofs.Common.ValueThere.{some_cases}
 use Rattle.keep_law.proofs.Common.ValueNumber.{value_is_exclusive}
 use Rattle.keep_law.proofs.Common.DoneAtValue.{EachOf, of_within, of_or_else}
-use Rattle.keep_law.proofs.Common.ValuesSay.{length-sayings, sayings-entry, value_ends}
+use Rattle.keep_law.proofs.Common.ValuesMention.{length-mention_kinds, mention_kinds-entry, value_ends}
 
--- the first of these, if there is one, stands no deeper
+-- the first of these, if there is one, is no deeper
 abbrev pub BeginNoDeeper : ℕ → List ValueInfo → Type 0
 BeginNoDeeper d [] = ⊤
 BeginNoDeeper d (i ∷ is) = i.depth ≤ d
 
 -- The change is what an act does at one of these values, with that rest of the path; its text begins at `at`.
--- As many value sayings stand before the value's own as values before it.
--- Where the whole is valid, so is the value; what is said in it, and its values, come right behind it, and the values that
--- follow them do not begin deeper. By the rules nothing else is said at or under its path.
+-- As many mentions of values come before the value's own as values before it.
+-- Where the whole is valid, so is the value; what is said in it, and its values, come right after it, and the values
+-- that follow them do not begin deeper. By the rules nothing else is said at or under its path.
 pub record IsFoundIn {A : Type 0} (act : Act) (Whole : Profile → Type 0) (at : ℕ) (path : List Part) (ms : List Mention) (infos : List ValueInfo) (c : Changed A) : Type 0 where
   pub value : Value
   pub valid : (profile : Profile) → Whole profile → IsValue profile value
@@ -51,36 +52,36 @@ pub record IsFoundIn {A : Type 0} (act : Act) (Whole : Profile → Type 0) (at :
   pub earlier : List Mention
   pub mention : Mention
   pub later : List Mention
-  pub said : ms ≡ earlier ++ mention ∷ later
+  pub mentioned : ms ≡ earlier ++ mention ∷ later
   pub place : path ≡ mention.path ++ more
-  pub tells : is_value mention.says ≡ true
-  pub fact : fact_of mention.says ≡ Some (body_fact value.body)
-  pub front : List ValueInfo
+  pub tells : is_value mention.kind ≡ true
+  pub fact : fact_of mention.kind ≡ Some (body_fact value.body)
+  pub prefix : List ValueInfo
   pub own : ValueInfo
   pub behind : List ValueInfo
-  pub here : infos ≡ front ++ own ∷ behind
-  pub count : valued earlier ≡ length front
+  pub here : infos ≡ prefix ++ own ∷ behind
+  pub count : valued earlier ≡ length prefix
   pub start : at + length c.before ≡ own.span.start + length done.before
   pub end : own.span.end ≡ own.span.start + length (value_text value)
   pub begin : Start
   pub from : ℕ
   pub keys : ℕ
   pub comma : Option ℕ
-  pub told : own ≡ info begin from keys value.body value.inside comma
+  pub stated : own ≡ info begin from keys value.body value.nested comma
   pub further : List Mention
-  pub within_said : later ≡ map (below mention.path) (entries_said 0 value.inside) ++ further
+  pub within_mentioned : later ≡ map (below mention.path) (entries_mentions 0 value.nested) ++ further
   pub others : List ValueInfo
-  pub within_values : behind ≡ entries_values (inside_of begin from keys value.body) value.inside ++ others
+  pub within_values : behind ≡ entries_values (nested_of begin from keys value.body) value.nested ++ others
   pub beyond : List ℕ
-  pub text_behind : c.behind ≡ done.behind ++ beyond
+  pub text_after : c.behind ≡ done.behind ++ beyond
   pub ends : BeginNoDeeper own.depth others
-  pub apart : Rules ms → AllOf (IsApart mention.path) earlier × AllOf (IsApart mention.path) further
+  pub disjoint : Rules ms → AllOf (IsDisjoint mention.path) earlier × AllOf (IsDisjoint mention.path) further
 
--- ---- what stands alone at a path
+-- ---- what is alone at a path
 
-alone_here : (earlier later ms : List Mention) (m : Mention) → ms ≡ earlier ++ m ∷ later → is_value m.says ≡ true → SomeOf (IsAloneAt m.path) ms
-alone_here earlier later ms m said tells =
-    subst (SomeOf (IsAloneAt m.path)) (sym said) (some_right (IsAloneAt m.path) earlier (m ∷ later) (inl (record { path = refl; says = value_is_exclusive m.says tells })))
+alone_here : (earlier later ms : List Mention) (m : Mention) → ms ≡ earlier ++ m ∷ later → is_value m.kind ≡ true → SomeOf (IsAloneAt m.path) ms
+alone_here earlier later ms m mentioned tells =
+    subst (SomeOf (IsAloneAt m.path)) (sym mentioned) (some_right (IsAloneAt m.path) earlier (m ∷ later) (inl (record { path = refl; kind = value_is_exclusive m.kind tells })))
 
 -- seen from where the path begins
 pub record IsAloneBeyond (p q : List Part) (ms : List Mention) : Type 0 where
@@ -90,11 +91,11 @@ pub record IsAloneBeyond (p q : List Part) (ms : List Mention) : Type 0 where
 
 pub alone_beyond : (p q : List Part) (ms : List Mention) → SomeOf (IsAloneAt q) (map (below p) ms) → IsAloneBeyond p q ms
 alone_beyond p q [] s = absurd s
-alone_beyond p q (m ∷ ms) (inl a) = record { more = m.path; whole = sym a.path; alone = inl (record { path = refl; says = a.says }) }
+alone_beyond p q (m ∷ ms) (inl a) = record { more = m.path; whole = sym a.path; alone = inl (record { path = refl; kind = a.kind }) }
 alone_beyond p q (m ∷ ms) (inr s) = let h = alone_beyond p q ms s in record { more = h.more; whole = h.whole; alone = inr h.alone }
 
 abbrev Shared : Mention → Type 0
-Shared m = exclusive m.says ≡ false
+Shared m = exclusive m.kind ≡ false
 
 shared_below : (p : List Part) (ms : List Mention) → AllOf Shared ms → AllOf Shared (map (below p) ms)
 shared_below p [] h = tt
@@ -103,29 +104,29 @@ shared_below p (m ∷ ms) h = (h.0, shared_below p ms h.1)
 shared_ways : (ks : List (List ℕ)) → AllOf Shared (keyed_mentions ks [])
 shared_ways [] = tt
 shared_ways (k ∷ []) = tt
-shared_ways (k ∷ l ∷ ks) = shared_below (key k ∷ []) (record { path = []; says = dotted } ∷ keyed_mentions (l ∷ ks) []) (refl, shared_ways (l ∷ ks))
+shared_ways (k ∷ l ∷ ks) = shared_below (key k ∷ []) (record { path = []; kind = dotted } ∷ keyed_mentions (l ∷ ks) []) (refl, shared_ways (l ∷ ks))
 
 never_shared : (q : List Part) (ms : List Mention) → AllOf Shared ms → SomeOf (IsAloneAt q) ms → ⊥
-never_shared q ms h s = let (m, alone, shared) = meet (IsAloneAt q) Shared ms s h in let k : true ≡ false = sym alone.says ∙ shared in absurd cc
+never_shared q ms h s = let (m, alone, shared) = meet (IsAloneAt q) Shared ms s h in let k : true ≡ false = sym alone.kind ∙ shared in absurd cc
 
 -- at or under an entry's step
-pub alone_named : (n : ℕ) (name : Option Name) (f : Fact) (inside : List Mention) (q : List Part) → SomeOf (IsAloneAt q) (entry_mentions n name f inside) → (more : List Part) × (q ≡ step n name ++ more)
-alone_named n None f inside q s = let h = alone_beyond (index n ∷ []) q (valued_mentions (item f) inside) s in (h.more, h.whole)
-alone_named n (Some name) f inside q s =
+pub alone_named : (n : ℕ) (name : Option Name) (f : Fact) (nested : List Mention) (q : List Part) → SomeOf (IsAloneAt q) (entry_mentions n name f nested) → (more : List Part) × (q ≡ step n name ++ more)
+alone_named n None f nested q s = let h = alone_beyond (index n ∷ []) q (valued_mentions (item f) nested) s in (h.more, h.whole)
+alone_named n (Some name) f nested q s =
     let p : List Part = map key (keys_of name.key) in
     let ways : List Mention = keyed_mentions (keys_of name.key) [] in
-    let ms : List Mention = valued_mentions (value f) inside in
+    let ms : List Mention = valued_mentions (value f) nested in
     elim (some_cases (IsAloneAt q) ways (map (below p) ms) (subst (SomeOf (IsAloneAt q)) (keyed_split (keys_of name.key) ms) s)) [
       | inl w ↦ absurd (never_shared q ways (shared_ways (keys_of name.key)) w)
       | inr t ↦ (let h = alone_beyond p q ms t in (h.more, h.whole))
     ]
 
--- never what entries stand in
-alone_entries : (n : ℕ) (es : Entries) → SomeOf (IsAloneAt []) (entries_said n es) → ⊥
+-- never what entries are in
+alone_entries : (n : ℕ) (es : Entries) → SomeOf (IsAloneAt []) (entries_mentions n es) → ⊥
 alone_entries n none s = s
-alone_entries n (entry name body inside after comma rest) s =
-    elim (some_cases (IsAloneAt []) (entry_mentions n name (body_fact body) (entries_said 0 inside)) (entries_said (n + 1) rest) s) [
-      | inl t ↦ (let (more, e) = alone_named n name (body_fact body) (entries_said 0 inside) [] t in no name more e)
+alone_entries n (entry name body nested after comma rest) s =
+    elim (some_cases (IsAloneAt []) (entry_mentions n name (body_fact body) (entries_mentions 0 nested)) (entries_mentions (n + 1) rest) s) [
+      | inl t ↦ (let (more, e) = alone_named n name (body_fact body) (entries_mentions 0 nested) [] t in no name more e)
       | inr t ↦ alone_entries (n + 1) rest t
     ]
   where
@@ -133,25 +134,25 @@ alone_entries n (entry name body inside after comma rest) s =
     no None more e = absurd cc
     no (Some name) more e = absurd cc
 
--- ---- how deep values stand
+-- ---- how deep values are
 
-own_deep : (d : ℕ) (infos front : List ValueInfo) (own : ValueInfo) (behind : List ValueInfo) → AllOf (λ (i : ValueInfo). d ≤ i.depth) infos → infos ≡ front ++ own ∷ behind → d ≤ own.depth
-own_deep d infos front own behind h e = (all_right (λ (i : ValueInfo). d ≤ i.depth) front (own ∷ behind) (subst (AllOf (λ (i : ValueInfo). d ≤ i.depth)) e h)).0
+own_deep : (d : ℕ) (infos prefix : List ValueInfo) (own : ValueInfo) (behind : List ValueInfo) → AllOf (λ (i : ValueInfo). d ≤ i.depth) infos → infos ≡ prefix ++ own ∷ behind → d ≤ own.depth
+own_deep d infos prefix own behind h e = (all_right (λ (i : ValueInfo). d ≤ i.depth) prefix (own ∷ behind) (subst (AllOf (λ (i : ValueInfo). d ≤ i.depth)) e h)).0
 
 pub entries_deep : (p : Start) (es : Entries) → AllOf (λ (i : ValueInfo). p.depth ≤ i.depth) (entries_values p es)
 entries_deep p none = tt
-entries_deep p (entry name body inside after comma rest) =
-    let i : Start = inside_of p (value_start p.at name) (name_count name) body in
-    let r : Start = rest_of p name body inside after comma in (
+entries_deep p (entry name body nested after comma rest) =
+    let i : Start = nested_of p (value_start p.at name) (name_count name) body in
+    let r : Start = rest_of p name body nested after comma in (
       omega arith,
-      all_join (λ (x : ValueInfo). p.depth ≤ x.depth) (entries_values i inside) (entries_values r rest)
-          (all_map (λ (x : ValueInfo). i.depth ≤ x.depth) (λ (x : ValueInfo). p.depth ≤ x.depth) (λ x h. omega (arith, h)) (entries_values i inside) (entries_deep i inside))
+      all_join (λ (x : ValueInfo). p.depth ≤ x.depth) (entries_values i nested) (entries_values r rest)
+          (all_map (λ (x : ValueInfo). i.depth ≤ x.depth) (λ (x : ValueInfo). p.depth ≤ x.depth) (λ x h. omega (arith, h)) (entries_values i nested) (entries_deep i nested))
           (entries_deep r rest),
     )
 
 entries_begin_deep : (p : Start) (es : Entries) → BeginNoDeeper p.depth (entries_values p es)
 entries_begin_deep p none = tt
-entries_begin_deep p (entry name body inside after comma rest) = omega arith
+entries_begin_deep p (entry name body nested after comma rest) = omega arith
 
 no_deeper-join : (d k : ℕ) (xs ys : List ValueInfo) → BeginNoDeeper d xs → BeginNoDeeper k ys → k ≤ d → BeginNoDeeper d (xs ++ ys)
 no_deeper-join d k [] [] h g e = tt
@@ -179,11 +180,11 @@ found_framed act Inner Whole at from path ms infos outer left right c valid e h 
   earlier = h.earlier;
   mention = h.mention;
   later = h.later;
-  said = h.said;
+  mentioned = h.mentioned;
   place = h.place;
   tells = h.tells;
   fact = h.fact;
-  front = h.front;
+  prefix = h.prefix;
   own = h.own;
   behind = h.behind;
   here = h.here;
@@ -194,18 +195,18 @@ found_framed act Inner Whole at from path ms infos outer left right c valid e h 
   from = h.from;
   keys = h.keys;
   comma = h.comma;
-  told = h.told;
+  stated = h.stated;
   further = h.further;
-  within_said = h.within_said;
+  within_mentioned = h.within_mentioned;
   others = h.others;
   within_values = h.within_values;
   beyond = h.beyond ++ right;
-  text_behind = ap (λ (t : List ℕ). t ++ right) h.text_behind ∙ append_assoc h.done.behind h.beyond right;
+  text_after = ap (λ (t : List ℕ). t ++ right) h.text_after ∙ append_assoc h.done.behind h.beyond right;
   ends = h.ends;
-  apart = h.apart;
+  disjoint = h.disjoint;
 }
 
--- beyond a front of the path
+-- beyond a prefix of the path
 found_beyond : {A : Type 0} (act : Act) (Whole : Profile → Type 0) (at : ℕ) (p more path : List Part) (ms : List Mention) (infos : List ValueInfo) (c : Changed A)
     → path ≡ p ++ more → IsFoundIn act Whole at more ms infos c → IsFoundIn act Whole at path (map (below p) ms) infos c
 found_beyond act Whole at p more path ms infos c e h = record {
@@ -219,11 +220,11 @@ found_beyond act Whole at p more path ms infos c e h = record {
   earlier = map (below p) h.earlier;
   mention = below p h.mention;
   later = map (below p) h.later;
-  said = ap (map (below p)) h.said ∙ map-append (below p) h.earlier (h.mention ∷ h.later);
+  mentioned = ap (map (below p)) h.mentioned ∙ map-append (below p) h.earlier (h.mention ∷ h.later);
   place = e ∙ ap (λ q. p ++ q) h.place ∙ sym (append_assoc p h.mention.path h.more);
   tells = h.tells;
   fact = h.fact;
-  front = h.front;
+  prefix = h.prefix;
   own = h.own;
   behind = h.behind;
   here = h.here;
@@ -234,21 +235,21 @@ found_beyond act Whole at p more path ms infos c e h = record {
   from = h.from;
   keys = h.keys;
   comma = h.comma;
-  told = h.told;
+  stated = h.stated;
   further = map (below p) h.further;
-  within_said = ap (map (below p)) h.within_said ∙ map-append (below p) (map (below h.mention.path) (entries_said 0 h.value.inside)) h.further
-      ∙ ap (λ (l : List Mention). l ++ map (below p) h.further) (map_twice p h.mention.path (entries_said 0 h.value.inside));
+  within_mentioned = ap (map (below p)) h.within_mentioned ∙ map-append (below p) (map (below h.mention.path) (entries_mentions 0 h.value.nested)) h.further
+      ∙ ap (λ (l : List Mention). l ++ map (below p) h.further) (map_twice p h.mention.path (entries_mentions 0 h.value.nested));
   others = h.others;
   within_values = h.within_values;
   beyond = h.beyond;
-  text_behind = h.text_behind;
+  text_after = h.text_after;
   ends = h.ends;
-  apart = λ rules. let a = h.apart (rules_below p ms rules) in (apart_below p h.mention.path h.earlier a.0, apart_below p h.mention.path h.further a.1);
+  disjoint = λ rules. let a = h.disjoint (rules_below p ms rules) in (disjoint_below p h.mention.path h.earlier a.0, disjoint_below p h.mention.path h.further a.1);
 }
 
--- behind others, and before others
+-- after others, and before others
 found_after : {A : Type 0} (act : Act) (Whole : Profile → Type 0) (at : ℕ) (path : List Part) (xs ms : List Mention) (is infos : List ValueInfo) (c : Changed A)
-    → valued xs ≡ length is → (Rules (xs ++ ms) → (q : List Part) → SomeOf (IsAloneAt q) ms → AllOf (IsApart q) xs)
+    → valued xs ≡ length is → (Rules (xs ++ ms) → (q : List Part) → SomeOf (IsAloneAt q) ms → AllOf (IsDisjoint q) xs)
     → IsFoundIn act Whole at path ms infos c → IsFoundIn act Whole at path (xs ++ ms) (is ++ infos) c
 found_after act Whole at path xs ms is infos c e far h = record {
   value = h.value;
@@ -261,35 +262,35 @@ found_after act Whole at path xs ms is infos c e far h = record {
   earlier = xs ++ h.earlier;
   mention = h.mention;
   later = h.later;
-  said = ap (λ l. xs ++ l) h.said ∙ sym (append_assoc xs h.earlier (h.mention ∷ h.later));
+  mentioned = ap (λ l. xs ++ l) h.mentioned ∙ sym (append_assoc xs h.earlier (h.mention ∷ h.later));
   place = h.place;
   tells = h.tells;
   fact = h.fact;
-  front = is ++ h.front;
+  prefix = is ++ h.prefix;
   own = h.own;
   behind = h.behind;
-  here = ap (λ l. is ++ l) h.here ∙ sym (append_assoc is h.front (h.own ∷ h.behind));
-  count = omega (arith, e, h.count, valued-append xs h.earlier, length-append is h.front);
+  here = ap (λ l. is ++ l) h.here ∙ sym (append_assoc is h.prefix (h.own ∷ h.behind));
+  count = omega (arith, e, h.count, valued-append xs h.earlier, length-append is h.prefix);
   start = h.start;
   end = h.end;
   begin = h.begin;
   from = h.from;
   keys = h.keys;
   comma = h.comma;
-  told = h.told;
+  stated = h.stated;
   further = h.further;
-  within_said = h.within_said;
+  within_mentioned = h.within_mentioned;
   others = h.others;
   within_values = h.within_values;
   beyond = h.beyond;
-  text_behind = h.text_behind;
+  text_after = h.text_after;
   ends = h.ends;
-  apart = λ rules. let a = h.apart (pairs_split Allowed xs ms rules).right in
-      (all_join (IsApart h.mention.path) xs h.earlier (far rules h.mention.path (alone_here h.earlier h.later ms h.mention h.said h.tells)) a.0, a.1);
+  disjoint = λ rules. let a = h.disjoint (pairs_split Allowed xs ms rules).right in
+      (all_join (IsDisjoint h.mention.path) xs h.earlier (far rules h.mention.path (alone_here h.earlier h.later ms h.mention h.mentioned h.tells)) a.0, a.1);
 }
 
 found_before : {A : Type 0} (act : Act) (Whole : Profile → Type 0) (at : ℕ) (path : List Part) (ms ys : List Mention) (infos js : List ValueInfo) (c : Changed A)
-    → (d : ℕ) → AllOf (λ (i : ValueInfo). d ≤ i.depth) infos → BeginNoDeeper d js → (Rules (ms ++ ys) → (q : List Part) → SomeOf (IsAloneAt q) ms → AllOf (IsApart q) ys)
+    → (d : ℕ) → AllOf (λ (i : ValueInfo). d ≤ i.depth) infos → BeginNoDeeper d js → (Rules (ms ++ ys) → (q : List Part) → SomeOf (IsAloneAt q) ms → AllOf (IsDisjoint q) ys)
     → IsFoundIn act Whole at path ms infos c → IsFoundIn act Whole at path (ms ++ ys) (infos ++ js) c
 found_before act Whole at path ms ys infos js c d deep low far h = record {
   value = h.value;
@@ -302,14 +303,14 @@ found_before act Whole at path ms ys infos js c d deep low far h = record {
   earlier = h.earlier;
   mention = h.mention;
   later = h.later ++ ys;
-  said = ap (λ l. l ++ ys) h.said ∙ append_assoc h.earlier (h.mention ∷ h.later) ys;
+  mentioned = ap (λ l. l ++ ys) h.mentioned ∙ append_assoc h.earlier (h.mention ∷ h.later) ys;
   place = h.place;
   tells = h.tells;
   fact = h.fact;
-  front = h.front;
+  prefix = h.prefix;
   own = h.own;
   behind = h.behind ++ js;
-  here = ap (λ l. l ++ js) h.here ∙ append_assoc h.front (h.own ∷ h.behind) js;
+  here = ap (λ l. l ++ js) h.here ∙ append_assoc h.prefix (h.own ∷ h.behind) js;
   count = h.count;
   start = h.start;
   end = h.end;
@@ -317,21 +318,21 @@ found_before act Whole at path ms ys infos js c d deep low far h = record {
   from = h.from;
   keys = h.keys;
   comma = h.comma;
-  told = h.told;
+  stated = h.stated;
   further = h.further ++ ys;
-  within_said = ap (λ l. l ++ ys) h.within_said ∙ append_assoc (map (below h.mention.path) (entries_said 0 h.value.inside)) h.further ys;
+  within_mentioned = ap (λ l. l ++ ys) h.within_mentioned ∙ append_assoc (map (below h.mention.path) (entries_mentions 0 h.value.nested)) h.further ys;
   others = h.others ++ js;
-  within_values = ap (λ l. l ++ js) h.within_values ∙ append_assoc (entries_values (inside_of h.begin h.from h.keys h.value.body) h.value.inside) h.others js;
+  within_values = ap (λ l. l ++ js) h.within_values ∙ append_assoc (entries_values (nested_of h.begin h.from h.keys h.value.body) h.value.nested) h.others js;
   beyond = h.beyond;
-  text_behind = h.text_behind;
-  ends = no_deeper-join h.own.depth d h.others js h.ends low (own_deep d infos h.front h.own h.behind deep h.here);
-  apart = λ rules. let a = h.apart (pairs_split Allowed ms ys rules).left in
-      (a.0, all_join (IsApart h.mention.path) h.further ys a.1 (far rules h.mention.path (alone_here h.earlier h.later ms h.mention h.said h.tells)));
+  text_after = h.text_after;
+  ends = no_deeper-join h.own.depth d h.others js h.ends low (own_deep d infos h.prefix h.own h.behind deep h.here);
+  disjoint = λ rules. let a = h.disjoint (pairs_split Allowed ms ys rules).left in
+      (a.0, all_join (IsDisjoint h.mention.path) h.further ys a.1 (far rules h.mention.path (alone_here h.earlier h.later ms h.mention h.mentioned h.tells)));
 }
 
 -- between others, of lines
 found_between : {A : Type 0} (act : Act) (Whole : Profile → Type 0) (at : ℕ) (path : List Part) (xs ms ys : List Mention) (is infos js : List ValueInfo) (c : Changed A)
-    → valued xs ≡ length is → BeginNoDeeper 0 js → (Rules (xs ++ (ms ++ ys)) → (q : List Part) → SomeOf (IsAloneAt q) ms → AllOf (IsApart q) xs × AllOf (IsApart q) ys)
+    → valued xs ≡ length is → BeginNoDeeper 0 js → (Rules (xs ++ (ms ++ ys)) → (q : List Part) → SomeOf (IsAloneAt q) ms → AllOf (IsDisjoint q) xs × AllOf (IsDisjoint q) ys)
     → IsFoundIn act Whole at path ms infos c → IsFoundIn act Whole at path (xs ++ (ms ++ ys)) (is ++ (infos ++ js)) c
 found_between act Whole at path xs ms ys is infos js c e low far h = record {
   value = h.value;
@@ -344,33 +345,33 @@ found_between act Whole at path xs ms ys is infos js c e low far h = record {
   earlier = xs ++ h.earlier;
   mention = h.mention;
   later = h.later ++ ys;
-  said = ap (λ l. xs ++ (l ++ ys)) h.said ∙ around_one xs h.earlier h.later ys h.mention;
+  mentioned = ap (λ l. xs ++ (l ++ ys)) h.mentioned ∙ around_one xs h.earlier h.later ys h.mention;
   place = h.place;
   tells = h.tells;
   fact = h.fact;
-  front = is ++ h.front;
+  prefix = is ++ h.prefix;
   own = h.own;
   behind = h.behind ++ js;
-  here = ap (λ l. is ++ (l ++ js)) h.here ∙ around_info is h.front h.behind js h.own;
-  count = omega (arith, e, h.count, valued-append xs h.earlier, length-append is h.front);
+  here = ap (λ l. is ++ (l ++ js)) h.here ∙ around_info is h.prefix h.behind js h.own;
+  count = omega (arith, e, h.count, valued-append xs h.earlier, length-append is h.prefix);
   start = h.start;
   end = h.end;
   begin = h.begin;
   from = h.from;
   keys = h.keys;
   comma = h.comma;
-  told = h.told;
+  stated = h.stated;
   further = h.further ++ ys;
-  within_said = ap (λ l. l ++ ys) h.within_said ∙ append_assoc (map (below h.mention.path) (entries_said 0 h.value.inside)) h.further ys;
+  within_mentioned = ap (λ l. l ++ ys) h.within_mentioned ∙ append_assoc (map (below h.mention.path) (entries_mentions 0 h.value.nested)) h.further ys;
   others = h.others ++ js;
-  within_values = ap (λ l. l ++ js) h.within_values ∙ append_assoc (entries_values (inside_of h.begin h.from h.keys h.value.body) h.value.inside) h.others js;
+  within_values = ap (λ l. l ++ js) h.within_values ∙ append_assoc (entries_values (nested_of h.begin h.from h.keys h.value.body) h.value.nested) h.others js;
   beyond = h.beyond;
-  text_behind = h.text_behind;
+  text_after = h.text_after;
   ends = no_deeper-join h.own.depth 0 h.others js h.ends low (omega arith);
-  apart = λ rules.
-      let a = h.apart (pairs_split Allowed ms ys (pairs_split Allowed xs (ms ++ ys) rules).right).left in
-      let b = far rules h.mention.path (alone_here h.earlier h.later ms h.mention h.said h.tells) in
-      (all_join (IsApart h.mention.path) xs h.earlier b.0 a.0, all_join (IsApart h.mention.path) h.further ys a.1 b.1);
+  disjoint = λ rules.
+      let a = h.disjoint (pairs_split Allowed ms ys (pairs_split Allowed xs (ms ++ ys) rules).right).left in
+      let b = far rules h.mention.path (alone_here h.earlier h.later ms h.mention h.mentioned h.tells) in
+      (all_join (IsDisjoint h.mention.path) xs h.earlier b.0 a.0, all_join (IsDisjoint h.mention.path) h.further ys a.1 b.1);
 }
   where
     around_one : (a b c d : List Mention) (m : Mention) → a ++ ((b ++ m ∷ c) ++ d) ≡ (a ++ b) ++ m ∷ (c ++ d)
@@ -380,17 +381,17 @@ found_between act Whole at path xs ms ys is infos js c e low far h = record {
     around_info a b c d m = simp append_assoc refl
 
 -- an entry's value is found where its key or number leads
-found_named : {A : Type 0} (act : Act) (Whole : Profile → Type 0) (at n : ℕ) (name : Option Name) (f : Fact) (inside : List Mention) (more path : List Part) (infos : List ValueInfo) (c : Changed A)
-    → path ≡ step n name ++ more → IsFoundIn act Whole at more (valued_mentions (tag_of name f) inside) infos c → IsFoundIn act Whole at path (entry_mentions n name f inside) infos c
-found_named act Whole at n None f inside more path infos c e h = found_beyond act Whole at (index n ∷ []) more path (valued_mentions (item f) inside) infos c e h
-found_named act Whole at n (Some name) f inside more path infos c e h =
-    let ms : List Mention = valued_mentions (value f) inside in
+found_named : {A : Type 0} (act : Act) (Whole : Profile → Type 0) (at n : ℕ) (name : Option Name) (f : Fact) (nested : List Mention) (more path : List Part) (infos : List ValueInfo) (c : Changed A)
+    → path ≡ step n name ++ more → IsFoundIn act Whole at more (valued_mentions (tag_of name f) nested) infos c → IsFoundIn act Whole at path (entry_mentions n name f nested) infos c
+found_named act Whole at n None f nested more path infos c e h = found_beyond act Whole at (index n ∷ []) more path (valued_mentions (item f) nested) infos c e h
+found_named act Whole at n (Some name) f nested more path infos c e h =
+    let ms : List Mention = valued_mentions (value f) nested in
     let p : List Part = map key (keys_of name.key) in
     subst (λ (l : List Mention). IsFoundIn act Whole at path l infos c) (sym (keyed_split (keys_of name.key) ms))
     (found_after act Whole at path (keyed_mentions (keys_of name.key) []) (map (below p) ms) [] infos c (valued-keyed (key_value name.key.first) (map further_value name.key.more) [])
     (λ rules q alone. let b = alone_beyond p q ms alone in
-    subst (λ (x : List Part). AllOf (IsApart x) (keyed_mentions (keys_of name.key) [])) (sym b.whole)
-    (all_longer p b.more (keyed_mentions (keys_of name.key) []) (keyed_apart (key_value name.key.first) (map further_value name.key.more))))
+    subst (λ (x : List Part). AllOf (IsDisjoint x) (keyed_mentions (keys_of name.key) [])) (sym b.whole)
+    (all_longer p b.more (keyed_mentions (keys_of name.key) []) (keyed_disjoint (key_value name.key.first) (map further_value name.key.more))))
     (found_beyond act Whole at p more path ms infos c e h))
 
 -- ---- in a value
@@ -406,12 +407,12 @@ below_root : (ms : List Mention) → ms ≡ map (below []) ms
 below_root [] = refl
 below_root (m ∷ ms) = ap (λ (l : List Mention). m ∷ l) (below_root ms)
 
-found_here : (act : Act) (p : Start) (at keys : ℕ) (comma : Option ℕ) (body : Body) (inside : Entries) (says : Saying) (more : List Part)
-    → is_value says ≡ true → fact_of says ≡ Some (body_fact body) → (o : Option (Changed Value)) → act more (record { body = body; inside = inside }) ≡ o
-    → EachOf (IsFoundIn act (Valid_value (record { body = body; inside = inside })) at more (valued_mentions says (entries_said 0 inside)) (info p at keys body inside comma ∷ entries_values (inside_of p at keys body) inside)) o
-found_here act p at keys comma body inside says more is f None e = tt
-found_here act p at keys comma body inside says more is f (Some c) e = record {
-  value = record { body = body; inside = inside };
+found_here : (act : Act) (p : Start) (at keys : ℕ) (comma : Option ℕ) (body : Body) (nested : Entries) (mention_kind : MentionKind) (more : List Part)
+    → is_value mention_kind ≡ true → fact_of mention_kind ≡ Some (body_fact body) → (o : Option (Changed Value)) → act more (record { body = body; nested = nested }) ≡ o
+    → EachOf (IsFoundIn act (Valid_value (record { body = body; nested = nested })) at more (valued_mentions mention_kind (entries_mentions 0 nested)) (info p at keys body nested comma ∷ entries_values (nested_of p at keys body) nested)) o
+found_here act p at keys comma body nested mention_kind more is f None e = tt
+found_here act p at keys comma body nested mention_kind more is f (Some c) e = record {
+  value = record { body = body; nested = nested };
   valid = λ profile v. v;
   more = more;
   done = c;
@@ -419,87 +420,87 @@ found_here act p at keys comma body inside says more is f (Some c) e = record {
   old = refl;
   new = refl;
   earlier = [];
-  mention = record { path = []; says = says };
-  later = entries_said 0 inside;
-  said = refl;
+  mention = record { path = []; kind = mention_kind };
+  later = entries_mentions 0 nested;
+  mentioned = refl;
   place = refl;
   tells = is;
   fact = f;
-  front = [];
-  own = info p at keys body inside comma;
-  behind = entries_values (inside_of p at keys body) inside;
+  prefix = [];
+  own = info p at keys body nested comma;
+  behind = entries_values (nested_of p at keys body) nested;
   here = refl;
   count = refl;
   start = refl;
-  end = value_ends at body inside;
+  end = value_ends at body nested;
   begin = p;
   from = at;
   keys = keys;
   comma = comma;
-  told = refl;
+  stated = refl;
   further = [];
-  within_said = below_root (entries_said 0 inside) ∙ sym (append-nil (map (below []) (entries_said 0 inside)));
+  within_mentioned = below_root (entries_mentions 0 nested) ∙ sym (append-nil (map (below []) (entries_mentions 0 nested)));
   others = [];
-  within_values = sym (append-nil (entries_values (inside_of p at keys body) inside));
+  within_values = sym (append-nil (entries_values (nested_of p at keys body) nested));
   beyond = [];
-  text_behind = sym (append-nil c.behind);
+  text_after = sym (append-nil c.behind);
   ends = tt;
-  apart = λ rules. (tt, tt);
+  disjoint = λ rules. (tt, tt);
 }
 
-root_apart : (says : Saying) (inside : Entries) (q : List Part) → SomeOf (IsAloneAt q) (entries_said 0 inside) → AllOf (IsApart q) (record { path = []; says = says } ∷ [])
-root_apart says inside [] s = absurd (alone_entries 0 inside s)
-root_apart says inside (p ∷ q) s = (refl, tt)
+root_disjoint : (mention_kind : MentionKind) (nested : Entries) (q : List Part) → SomeOf (IsAloneAt q) (entries_mentions 0 nested) → AllOf (IsDisjoint q) (record { path = []; kind = mention_kind } ∷ [])
+root_disjoint mention_kind nested [] s = absurd (alone_entries 0 nested s)
+root_disjoint mention_kind nested (p ∷ q) s = (refl, tt)
 
-found_value : (act : Act) (p : Start) (at keys : ℕ) (comma : Option ℕ) (body : Body) (inside : Entries) (says : Saying) (more : List Part)
-    → is_value says ≡ true → fact_of says ≡ Some (body_fact body)
-    → EachOf (IsFoundIn act (Valid_entries inside) (inside_start at body) more (entries_said 0 inside) (entries_values (inside_of p at keys body) inside)) (in_entries act more 0 inside)
-    → EachOf (IsFoundIn act (Valid_value (record { body = body; inside = inside })) at more (valued_mentions says (entries_said 0 inside)) (info p at keys body inside comma ∷ entries_values (inside_of p at keys body) inside))
-    (or_else (within (λ es. record { body = body; inside = es }) (text_of (opening body)) (text_of (closing body)) (in_entries act more 0 inside)) (act more (record { body = body; inside = inside })))
-found_value act p at keys comma body inside says more is f h =
-    let ms : List Mention = entries_said 0 inside in
-    let infos : List ValueInfo = entries_values (inside_of p at keys body) inside in
-    let own : ValueInfo = info p at keys body inside comma in
-    let outer : Entries → Value = λ es. record { body = body; inside = es } in
-    let V : Profile → Type 0 = Valid_value (record { body = body; inside = inside }) in
-    let E : Profile → Type 0 = Valid_entries inside in
+found_value : (act : Act) (p : Start) (at keys : ℕ) (comma : Option ℕ) (body : Body) (nested : Entries) (mention_kind : MentionKind) (more : List Part)
+    → is_value mention_kind ≡ true → fact_of mention_kind ≡ Some (body_fact body)
+    → EachOf (IsFoundIn act (Valid_entries nested) (nested_start at body) more (entries_mentions 0 nested) (entries_values (nested_of p at keys body) nested)) (in_entries act more 0 nested)
+    → EachOf (IsFoundIn act (Valid_value (record { body = body; nested = nested })) at more (valued_mentions mention_kind (entries_mentions 0 nested)) (info p at keys body nested comma ∷ entries_values (nested_of p at keys body) nested))
+    (or_else (within (λ es. record { body = body; nested = es }) (text_of (opening body)) (text_of (closing body)) (in_entries act more 0 nested)) (act more (record { body = body; nested = nested })))
+found_value act p at keys comma body nested mention_kind more is f h =
+    let ms : List Mention = entries_mentions 0 nested in
+    let infos : List ValueInfo = entries_values (nested_of p at keys body) nested in
+    let own : ValueInfo = info p at keys body nested comma in
+    let outer : Entries → Value = λ es. record { body = body; nested = es } in
+    let V : Profile → Type 0 = Valid_value (record { body = body; nested = nested }) in
+    let E : Profile → Type 0 = Valid_entries nested in
     let left : List ℕ = text_of (opening body) in
     let right : List ℕ = text_of (closing body) in
-    let one : valued (record { path = []; says = says } ∷ []) ≡ 1 = ap (λ b. one_if b + 0) is in
-    of_or_else (IsFoundIn act V at more (valued_mentions says ms) (own ∷ infos)) (within outer left right (in_entries act more 0 inside)) (act more (record { body = body; inside = inside }))
-    (of_within (IsFoundIn act E (inside_start at body) more ms infos) (IsFoundIn act V at more (valued_mentions says ms) (own ∷ infos)) outer left right (in_entries act more 0 inside)
+    let one : valued (record { path = []; kind = mention_kind } ∷ []) ≡ 1 = ap (λ b. one_if b + 0) is in
+    of_or_else (IsFoundIn act V at more (valued_mentions mention_kind ms) (own ∷ infos)) (within outer left right (in_entries act more 0 nested)) (act more (record { body = body; nested = nested }))
+    (of_within (IsFoundIn act E (nested_start at body) more ms infos) (IsFoundIn act V at more (valued_mentions mention_kind ms) (own ∷ infos)) outer left right (in_entries act more 0 nested)
     (λ c k.
-    found_framed act E V (inside_start at body) at more (valued_mentions says ms) (own ∷ infos) outer left right c (λ profile v. (place_in body, v.inside)) refl
-    (found_after act E (inside_start at body) more (record { path = []; says = says } ∷ []) ms (own ∷ []) infos c one (λ rules q alone. root_apart says inside q alone) k)) h)
-    (found_here act p at keys comma body inside says more is f (act more (record { body = body; inside = inside })) refl)
+    found_framed act E V (nested_start at body) at more (valued_mentions mention_kind ms) (own ∷ infos) outer left right c (λ profile v. (place_in body, v.nested)) refl
+    (found_after act E (nested_start at body) more (record { path = []; kind = mention_kind } ∷ []) ms (own ∷ []) infos c one (λ rules q alone. root_disjoint mention_kind nested q alone) k)) h)
+    (found_here act p at keys comma body nested mention_kind more is f (act more (record { body = body; nested = nested })) refl)
 
 tag_valued : (name : Option Name) (f : Fact) → is_value (tag_of name f) ≡ true
 tag_valued None f = refl
 tag_valued (Some name) f = refl
 
-pub valued-entry : (n : ℕ) (name : Option Name) (f : Fact) (inside : List Mention) → valued (entry_mentions n name f inside) ≡ suc (valued inside)
-valued-entry n name f inside =
-    sym (length-sayings (entry_mentions n name f inside)) ∙ ap (λ (l : List Saying). length l) (sayings-entry n name f inside) ∙ ap suc (length-sayings inside)
+pub valued-entry : (n : ℕ) (name : Option Name) (f : Fact) (nested : List Mention) → valued (entry_mentions n name f nested) ≡ suc (valued nested)
+valued-entry n name f nested =
+    sym (length-mention_kinds (entry_mentions n name f nested)) ∙ ap (λ (l : List MentionKind). length l) (mention_kinds-entry n name f nested) ∙ ap suc (length-mention_kinds nested)
 
-first_apart : (n : ℕ) (name : Option Name) (f : Fact) (inside rest : Entries) → Rules (entry_mentions n name f (entries_said 0 inside) ++ entries_said (n + 1) rest)
-    → (q : List Part) → SomeOf (IsAloneAt q) (entries_said (n + 1) rest) → AllOf (IsApart q) (entry_mentions n name f (entries_said 0 inside))
-first_apart n name f inside rest rules [] s = absurd (alone_entries (n + 1) rest s)
-first_apart n name f inside rest rules (p ∷ q) s =
-    let first : List Mention = entry_mentions n name f (entries_said 0 inside) in
-    apart_closed (p ∷ q) first first (closed_named n name f (entries_said 0 inside) (closed_entries 0 inside) p q) (λ t. clash_before (p ∷ q) first (entries_said (n + 1) rest) t s rules)
+first_disjoint : (n : ℕ) (name : Option Name) (f : Fact) (nested rest : Entries) → Rules (entry_mentions n name f (entries_mentions 0 nested) ++ entries_mentions (n + 1) rest)
+    → (q : List Part) → SomeOf (IsAloneAt q) (entries_mentions (n + 1) rest) → AllOf (IsDisjoint q) (entry_mentions n name f (entries_mentions 0 nested))
+first_disjoint n name f nested rest rules [] s = absurd (alone_entries (n + 1) rest s)
+first_disjoint n name f nested rest rules (p ∷ q) s =
+    let first : List Mention = entry_mentions n name f (entries_mentions 0 nested) in
+    disjoint_closed (p ∷ q) first first (closed_named n name f (entries_mentions 0 nested) (closed_entries 0 nested) p q) (λ t. clash_before (p ∷ q) first (entries_mentions (n + 1) rest) t s rules)
 
-rest_apart : (n : ℕ) (name : Option Name) (f : Fact) (inside : List Mention) (rest : Entries) → Rules (entry_mentions n name f inside ++ entries_said (n + 1) rest)
-    → (q : List Part) → SomeOf (IsAloneAt q) (entry_mentions n name f inside) → AllOf (IsApart q) (entries_said (n + 1) rest)
-rest_apart n name f inside rest rules q s =
-    let (more, e) = alone_named n name f inside q s in
-    subst (λ (x : List Part). AllOf (IsApart x) (entries_said (n + 1) rest)) (sym e) (apart_from_entry n name f inside rest more rules)
+rest_disjoint : (n : ℕ) (name : Option Name) (f : Fact) (nested : List Mention) (rest : Entries) → Rules (entry_mentions n name f nested ++ entries_mentions (n + 1) rest)
+    → (q : List Part) → SomeOf (IsAloneAt q) (entry_mentions n name f nested) → AllOf (IsDisjoint q) (entries_mentions (n + 1) rest)
+rest_disjoint n name f nested rest rules q s =
+    let (more, e) = alone_named n name f nested q s in
+    subst (λ (x : List Part). AllOf (IsDisjoint x) (entries_mentions (n + 1) rest)) (sym e) (disjoint_from_entry n name f nested rest more rules)
 
-pub front_ends : (at : ℕ) (name : Option Name) (body : Body) (inside : Entries) (after : Gap) (comma : Option Gap)
-    → at + length (entry_front name body inside ++ (text_of after ++ text_of (comma_leaves comma))) ≡ syntax.entry_end at name body inside after comma
-front_ends at name body inside after comma =
+pub prefix_ends : (at : ℕ) (name : Option Name) (body : Body) (nested : Entries) (after : Gap) (comma : Option Gap)
+    → at + length (entry_prefix name body nested ++ (text_of after ++ text_of (comma_leaves comma))) ≡ syntax.entry_end at name body nested after comma
+prefix_ends at name body nested after comma =
     let a : List ℕ = text_of (named_leaves name) in
     let b : List ℕ = text_of (opening body) in
-    let c : List ℕ = entries_text inside in
+    let c : List ℕ = entries_text nested in
     let d : List ℕ = text_of (closing body) in
     omega (
       arith,
@@ -510,61 +511,61 @@ front_ends at name body inside after comma =
       length-append (text_of after) (text_of (comma_leaves comma)),
     )
 
-found_entries-by : (act : Act) (path : List Part) (n : ℕ) (p : Start) (name : Option Name) (body : Body) (inside : Entries) (after : Gap) (comma : Option Gap) (rest : Entries)
-    → (let r : Start = rest_of p name body inside after comma in EachOf (IsFoundIn act (Valid_entries rest) r.at path (entries_said (n + 1) rest) (entries_values r rest)) (in_entries act path (n + 1) rest))
-    → ((more : List Part) → let i : Start = inside_of p (value_start p.at name) (name_count name) body in
-    EachOf (IsFoundIn act (Valid_entries inside) i.at more (entries_said 0 inside) (entries_values i inside)) (in_entries act more 0 inside))
+found_entries-by : (act : Act) (path : List Part) (n : ℕ) (p : Start) (name : Option Name) (body : Body) (nested : Entries) (after : Gap) (comma : Option Gap) (rest : Entries)
+    → (let r : Start = rest_of p name body nested after comma in EachOf (IsFoundIn act (Valid_entries rest) r.at path (entries_mentions (n + 1) rest) (entries_values r rest)) (in_entries act path (n + 1) rest))
+    → ((more : List Part) → let i : Start = nested_of p (value_start p.at name) (name_count name) body in
+    EachOf (IsFoundIn act (Valid_entries nested) i.at more (entries_mentions 0 nested) (entries_values i nested)) (in_entries act more 0 nested))
     → (o : Option (List Part)) → strip (step n name) path ≡ o
-    → EachOf (IsFoundIn act (Valid_entries (entry name body inside after comma rest)) p.at path (entries_said n (entry name body inside after comma rest)) (entries_values p (entry name body inside after comma rest))) (elim o [
-      | None ↦ within (entry name body inside after comma) (entry_front name body inside ++ (text_of after ++ text_of (comma_leaves comma))) []
+    → EachOf (IsFoundIn act (Valid_entries (entry name body nested after comma rest)) p.at path (entries_mentions n (entry name body nested after comma rest)) (entries_values p (entry name body nested after comma rest))) (elim o [
+      | None ↦ within (entry name body nested after comma) (entry_prefix name body nested ++ (text_of after ++ text_of (comma_leaves comma))) []
           (in_entries act path (n + 1) rest)
-      | Some more ↦ within (λ v. entry name v.body v.inside after comma rest) (text_of (named_leaves name)) (entry_back after comma rest)
-          (or_else (within (λ es. record { body = body; inside = es }) (text_of (opening body)) (text_of (closing body)) (in_entries act more 0 inside))
-          (act more (record { body = body; inside = inside })))
+      | Some more ↦ within (λ v. entry name v.body v.nested after comma rest) (text_of (named_leaves name)) (entry_back after comma rest)
+          (or_else (within (λ es. record { body = body; nested = es }) (text_of (opening body)) (text_of (closing body)) (in_entries act more 0 nested))
+          (act more (record { body = body; nested = nested })))
     ])
-found_entries-by act path n p name body inside after comma rest further deeper None e =
-    let whole : Entries = entry name body inside after comma rest in
+found_entries-by act path n p name body nested after comma rest further deeper None e =
+    let whole : Entries = entry name body nested after comma rest in
     let at : ℕ = value_start p.at name in
-    let i : Start = inside_of p at (name_count name) body in
-    let r : Start = rest_of p name body inside after comma in
-    let own : ValueInfo = info p at (name_count name) body inside (comma_place (comma_start p.at name body inside after) comma) in
-    let first : List Mention = entry_mentions n name (body_fact body) (entries_said 0 inside) in
-    let left : List ℕ = entry_front name body inside ++ (text_of after ++ text_of (comma_leaves comma)) in
-    let count : valued first ≡ length (own ∷ entries_values i inside) =
-    omega (arith, valued-entry n name (body_fact body) (entries_said 0 inside), valued-entries 0 inside, length-entries_values i inside) in
-    of_within (IsFoundIn act (Valid_entries rest) r.at path (entries_said (n + 1) rest) (entries_values r rest)) (IsFoundIn act (Valid_entries whole) p.at path (entries_said n whole) (entries_values p whole))
-    (entry name body inside after comma) left [] (in_entries act path (n + 1) rest)
+    let i : Start = nested_of p at (name_count name) body in
+    let r : Start = rest_of p name body nested after comma in
+    let own : ValueInfo = info p at (name_count name) body nested (comma_place (comma_start p.at name body nested after) comma) in
+    let first : List Mention = entry_mentions n name (body_fact body) (entries_mentions 0 nested) in
+    let left : List ℕ = entry_prefix name body nested ++ (text_of after ++ text_of (comma_leaves comma)) in
+    let count : valued first ≡ length (own ∷ entries_values i nested) =
+    omega (arith, valued-entry n name (body_fact body) (entries_mentions 0 nested), valued-entries 0 nested, length-entries_values i nested) in
+    of_within (IsFoundIn act (Valid_entries rest) r.at path (entries_mentions (n + 1) rest) (entries_values r rest)) (IsFoundIn act (Valid_entries whole) p.at path (entries_mentions n whole) (entries_values p whole))
+    (entry name body nested after comma) left [] (in_entries act path (n + 1) rest)
     (λ c h.
-    found_framed act (Valid_entries rest) (Valid_entries whole) r.at p.at path (entries_said n whole) (entries_values p whole) (entry name body inside after comma) left [] c (λ profile v. (v.0, v.1.5)) (front_ends p.at name body inside after comma)
-    (found_after act (Valid_entries rest) r.at path first (entries_said (n + 1) rest) (own ∷ entries_values i inside) (entries_values r rest) c count (first_apart n name (body_fact body) inside rest) h)) further
-found_entries-by act path n p name body inside after comma rest further deeper (Some more) e =
-    let whole : Entries = entry name body inside after comma rest in
+    found_framed act (Valid_entries rest) (Valid_entries whole) r.at p.at path (entries_mentions n whole) (entries_values p whole) (entry name body nested after comma) left [] c (λ profile v. (v.0, v.1.5)) (prefix_ends p.at name body nested after comma)
+    (found_after act (Valid_entries rest) r.at path first (entries_mentions (n + 1) rest) (own ∷ entries_values i nested) (entries_values r rest) c count (first_disjoint n name (body_fact body) nested rest) h)) further
+found_entries-by act path n p name body nested after comma rest further deeper (Some more) e =
+    let whole : Entries = entry name body nested after comma rest in
     let at : ℕ = value_start p.at name in
-    let i : Start = inside_of p at (name_count name) body in
-    let r : Start = rest_of p name body inside after comma in
-    let own : ValueInfo = info p at (name_count name) body inside (comma_place (comma_start p.at name body inside after) comma) in
-    let first : List Mention = entry_mentions n name (body_fact body) (entries_said 0 inside) in
-    let outer : Value → Entries = λ v. entry name v.body v.inside after comma rest in
+    let i : Start = nested_of p at (name_count name) body in
+    let r : Start = rest_of p name body nested after comma in
+    let own : ValueInfo = info p at (name_count name) body nested (comma_place (comma_start p.at name body nested after) comma) in
+    let first : List Mention = entry_mentions n name (body_fact body) (entries_mentions 0 nested) in
+    let outer : Value → Entries = λ v. entry name v.body v.nested after comma rest in
     let left : List ℕ = text_of (named_leaves name) in
-    let V : Profile → Type 0 = Valid_value (record { body = body; inside = inside }) in
-    let deep : AllOf (λ (x : ValueInfo). p.depth ≤ x.depth) (own ∷ entries_values i inside) =
-    (omega arith, all_map (λ (x : ValueInfo). i.depth ≤ x.depth) (λ (x : ValueInfo). p.depth ≤ x.depth) (λ x h. omega (arith, h)) (entries_values i inside) (entries_deep i inside)) in
-    of_within (IsFoundIn act V at more (valued_mentions (tag_of name (body_fact body)) (entries_said 0 inside)) (own ∷ entries_values i inside)) (IsFoundIn act (Valid_entries whole) p.at path (entries_said n whole) (entries_values p whole))
+    let V : Profile → Type 0 = Valid_value (record { body = body; nested = nested }) in
+    let deep : AllOf (λ (x : ValueInfo). p.depth ≤ x.depth) (own ∷ entries_values i nested) =
+    (omega arith, all_map (λ (x : ValueInfo). i.depth ≤ x.depth) (λ (x : ValueInfo). p.depth ≤ x.depth) (λ x h. omega (arith, h)) (entries_values i nested) (entries_deep i nested)) in
+    of_within (IsFoundIn act V at more (valued_mentions (tag_of name (body_fact body)) (entries_mentions 0 nested)) (own ∷ entries_values i nested)) (IsFoundIn act (Valid_entries whole) p.at path (entries_mentions n whole) (entries_values p whole))
     outer left (entry_back after comma rest) _
     (λ c h.
-    found_framed act V (Valid_entries whole) at p.at path (entries_said n whole) (entries_values p whole) outer left (entry_back after comma rest) c (λ profile v. record { body = v.1.1; inside = v.1.2 }) refl
-    (found_before act V at path first (entries_said (n + 1) rest) (own ∷ entries_values i inside) (entries_values r rest) c
-    p.depth deep (entries_begin_deep r rest) (rest_apart n name (body_fact body) (entries_said 0 inside) rest)
-    (found_named act V at n name (body_fact body) (entries_said 0 inside) more path (own ∷ entries_values i inside) c (strip-sound (step n name) path more e) h)))
-    (found_value act p at (name_count name) (comma_place (comma_start p.at name body inside after) comma) body inside (tag_of name (body_fact body)) more
-    (tag_valued name (body_fact body)) (tag_told name (body_fact body)) (deeper more))
+    found_framed act V (Valid_entries whole) at p.at path (entries_mentions n whole) (entries_values p whole) outer left (entry_back after comma rest) c (λ profile v. record { body = v.1.1; nested = v.1.2 }) refl
+    (found_before act V at path first (entries_mentions (n + 1) rest) (own ∷ entries_values i nested) (entries_values r rest) c
+    p.depth deep (entries_begin_deep r rest) (rest_disjoint n name (body_fact body) (entries_mentions 0 nested) rest)
+    (found_named act V at n name (body_fact body) (entries_mentions 0 nested) more path (own ∷ entries_values i nested) c (strip-sound (step n name) path more e) h)))
+    (found_value act p at (name_count name) (comma_place (comma_start p.at name body nested after) comma) body nested (tag_of name (body_fact body)) more
+    (tag_valued name (body_fact body)) (tag_stated name (body_fact body)) (deeper more))
 
-found_entries : (act : Act) (path : List Part) (n : ℕ) (p : Start) (es : Entries) → EachOf (IsFoundIn act (Valid_entries es) p.at path (entries_said n es) (entries_values p es)) (in_entries act path n es)
+found_entries : (act : Act) (path : List Part) (n : ℕ) (p : Start) (es : Entries) → EachOf (IsFoundIn act (Valid_entries es) p.at path (entries_mentions n es) (entries_values p es)) (in_entries act path n es)
 found_entries act path n p none = tt
-found_entries act path n p (entry name body inside after comma rest) =
-    found_entries-by act path n p name body inside after comma rest
-    (found_entries act path (n + 1) (rest_of p name body inside after comma) rest)
-    (λ more. found_entries act more 0 (inside_of p (value_start p.at name) (name_count name) body) inside)
+found_entries act path n p (entry name body nested after comma rest) =
+    found_entries-by act path n p name body nested after comma rest
+    (found_entries act path (n + 1) (rest_of p name body nested after comma) rest)
+    (λ more. found_entries act more 0 (nested_of p (value_start p.at name) (name_count name) body) nested)
     (strip (step n name) path) refl
 
 -- ---- in a document
@@ -575,26 +576,26 @@ Valid_content c profile = IsContent profile c
 abbrev Valid_line : Line → Profile → Type 0
 Valid_line l profile = IsLine profile l
 
-found_content-by : (act : Act) (front path : List Part) (p : Start) (name : Name) (v : Value) (o : Option (List Part)) → strip (front ++ step 0 (Some name)) path ≡ o
-    → EachOf (IsFoundIn act (Valid_content (keyval name v)) p.at path (map (below front) (keyval_said name v)) (content_values p (keyval name v))) (elim o [
+found_content-by : (act : Act) (prefix path : List Part) (p : Start) (name : Name) (v : Value) (o : Option (List Part)) → strip (prefix ++ step 0 (Some name)) path ≡ o
+    → EachOf (IsFoundIn act (Valid_content (keyval name v)) p.at path (map (below prefix) (keyval_mentions name v)) (content_values p (keyval name v))) (elim o [
       | None ↦ None
       | Some more ↦ within (keyval name) (text_of (name_leaves name)) [] (in_value act more v)
     ])
-found_content-by act front path p name v None e = tt
-found_content-by act front path p name v (Some more) e =
+found_content-by act prefix path p name v None e = tt
+found_content-by act prefix path p name v (Some more) e =
     let at : ℕ = p.at + syntax.width (name_leaves name) in
-    let i : Start = inside_of p at (key_count name.key) v.body in
+    let i : Start = nested_of p at (key_count name.key) v.body in
     let infos : List ValueInfo = content_values p (keyval name v) in
     let f : Fact = body_fact v.body in
     let inner : List Part = step 0 (Some name) ++ more in
-    let whole : path ≡ front ++ inner = strip-sound (front ++ step 0 (Some name)) path more e ∙ append_assoc front (step 0 (Some name)) more in
-    of_within (IsFoundIn act (Valid_value v) at more (valued_mentions (value f) (entries_said 0 v.inside)) infos) (IsFoundIn act (Valid_content (keyval name v)) p.at path (map (below front) (keyval_said name v)) infos)
+    let whole : path ≡ prefix ++ inner = strip-sound (prefix ++ step 0 (Some name)) path more e ∙ append_assoc prefix (step 0 (Some name)) more in
+    of_within (IsFoundIn act (Valid_value v) at more (valued_mentions (value f) (entries_mentions 0 v.nested)) infos) (IsFoundIn act (Valid_content (keyval name v)) p.at path (map (below prefix) (keyval_mentions name v)) infos)
     (keyval name) (text_of (name_leaves name)) [] (in_value act more v)
     (λ c h.
-    found_framed act (Valid_value v) (Valid_content (keyval name v)) at p.at path (map (below front) (keyval_said name v)) infos (keyval name) (text_of (name_leaves name)) [] c (λ profile x. x.1) refl
-    (found_beyond act (Valid_value v) at front inner path (keyval_said name v) infos c whole
-    (found_named act (Valid_value v) at 0 (Some name) f (entries_said 0 v.inside) more inner infos c refl h)))
-    (found_value act p at (key_count name.key) None v.body v.inside (value f) more refl refl (found_entries act more 0 i v.inside))
+    found_framed act (Valid_value v) (Valid_content (keyval name v)) at p.at path (map (below prefix) (keyval_mentions name v)) infos (keyval name) (text_of (name_leaves name)) [] c (λ profile x. x.1) refl
+    (found_beyond act (Valid_value v) at prefix inner path (keyval_mentions name v) infos c whole
+    (found_named act (Valid_value v) at 0 (Some name) f (entries_mentions 0 v.nested) more inner infos c refl h)))
+    (found_value act p at (key_count name.key) None v.body v.nested (value f) more refl refl (found_entries act more 0 i v.nested))
 
 found_content : (act : Act) (path : List Part) (r : Reading) (p : Start) (c : Content)
     → EachOf (IsFoundIn act (Valid_content c) p.at path (elim (statement_of c) [ None ↦ [] | Some s ↦ statement_mentions r s ]) (content_values p c)) (in_content act r.body path c)
@@ -603,13 +604,13 @@ found_content act path r p (keyval name v) = found_content-by act r.body path p 
 found_content act path r p (header before k behind) = tt
 found_content act path r p (element before k behind) = tt
 
-found_line : (act : Act) (path : List Part) (r : Reading) (c : syntax.Count) (l : Line) → EachOf (IsFoundIn act (Valid_line l) c.at path (line_said r l) (line_values c l)) (in_line act path r l)
+found_line : (act : Act) (path : List Part) (r : Reading) (c : syntax.Count) (l : Line) → EachOf (IsFoundIn act (Valid_line l) c.at path (line_mentions r l) (line_values c l)) (in_line act path r l)
 found_line act path r c l =
     let p : Start = line_start c l in
     let outer : Content → Line = λ x. record l { content = x } in
     let right : List ℕ = text_of l.after ++ text_of (comment_leaves l.comment) in
-    of_within (IsFoundIn act (Valid_content l.content) p.at path (line_said r l) (line_values c l)) (IsFoundIn act (Valid_line l) c.at path (line_said r l) (line_values c l)) outer (text_of l.before) right (in_content act r.body path l.content)
-    (λ d h. found_framed act (Valid_content l.content) (Valid_line l) p.at c.at path (line_said r l) (line_values c l) outer (text_of l.before) right d (λ profile x. x.content) refl h)
+    of_within (IsFoundIn act (Valid_content l.content) p.at path (line_mentions r l) (line_values c l)) (IsFoundIn act (Valid_line l) c.at path (line_mentions r l) (line_values c l)) outer (text_of l.before) right (in_content act r.body path l.content)
+    (λ d h. found_framed act (Valid_content l.content) (Valid_line l) p.at c.at path (line_mentions r l) (line_values c l) outer (text_of l.before) right d (λ profile x. x.content) refl h)
     (found_content act path r p l.content)
 
 abbrev all_values : syntax.Count → List Ended → Line → List ValueInfo
@@ -623,7 +624,7 @@ Valid_document s profile = IsDocument profile s
 
 -- ... of a keyval
 record IsFoundOnLine (act : Act) (path : List Part) (r : Reading) (c : syntax.Count) (l : Line) (d : Changed Line) : Type 0 where
-  found : IsFoundIn act (Valid_line l) c.at path (line_said r l) (line_values c l) d
+  found : IsFoundIn act (Valid_line l) c.at path (line_mentions r l) (line_values c l) d
   name : Name
   value : Value
   content : l.content ≡ keyval name value
@@ -646,56 +647,56 @@ found_on_line act path r c l = by l.content refl
     by : (x : Content) → l.content ≡ x → EachOf (IsFoundOnLine act path r c l) (in_line act path r l)
     by blank e = never blank e refl
     by (keyval name v) e =
-        each_map (IsFoundIn act (Valid_line l) c.at path (line_said r l) (line_values c l)) (IsFoundOnLine act path r c l) (in_line act path r l)
+        each_map (IsFoundIn act (Valid_line l) c.at path (line_mentions r l) (line_values c l)) (IsFoundOnLine act path r c l) (in_line act path r l)
         (λ d h. record { found = h; name = name; value = v; content = e }) (found_line act path r c l)
     by (header before k behind) e = never (header before k behind) e refl
     by (element before k behind) e = never (element before k behind) e refl
 
-alone_keyval : (body : List Part) (name : Name) (v : Value) (q : List Part) → SomeOf (IsAloneAt q) (map (below body) (keyval_said name v)) → (more : List Part) × (q ≡ (body ++ step 0 (Some name)) ++ more)
+alone_keyval : (body : List Part) (name : Name) (v : Value) (q : List Part) → SomeOf (IsAloneAt q) (map (below body) (keyval_mentions name v)) → (more : List Part) × (q ≡ (body ++ step 0 (Some name)) ++ more)
 alone_keyval body name v q s =
-    let b = alone_beyond body q (keyval_said name v) s in
-    let (more, e) = alone_named 0 (Some name) (body_fact v.body) (entries_said 0 v.inside) b.more b.alone in
+    let b = alone_beyond body q (keyval_mentions name v) s in
+    let (more, e) = alone_named 0 (Some name) (body_fact v.body) (entries_mentions 0 v.nested) b.more b.alone in
     (more, b.whole ∙ ap (λ (x : List Part). body ++ x) e ∙ sym (append_assoc body (step 0 (Some name)) more))
 
 -- the line between others, from the first line on
 found_at_line : (act : Act) (path : List Part) (pre post : List Line) (lefts js : List ValueInfo) (c : syntax.Count) (l : Line) (d : Changed Line)
-    → valued (lines_said start pre) ≡ length lefts → BeginNoDeeper 0 js → IsFoundOnLine act path (reading_behind start pre) c l d
-    → IsFoundIn act (Valid_line l) c.at path (lines_said start (pre ++ l ∷ post)) (lefts ++ (line_values c l ++ js)) d
+    → valued (lines_mentions start pre) ≡ length lefts → BeginNoDeeper 0 js → IsFoundOnLine act path (reading_after_lines start pre) c l d
+    → IsFoundIn act (Valid_line l) c.at path (lines_mentions start (pre ++ l ∷ post)) (lefts ++ (line_values c l ++ js)) d
 found_at_line act path pre post lefts js c l d count low h =
-    let r : Reading = reading_behind start pre in
-    let left : List Mention = lines_said start pre in
-    let mid : List Mention = map (below r.body) (keyval_said h.name h.value) in
-    let right : List Mention = lines_said r post in
+    let r : Reading = reading_after_lines start pre in
+    let left : List Mention = lines_mentions start pre in
+    let mid : List Mention = map (below r.body) (keyval_mentions h.name h.value) in
+    let right : List Mention = lines_mentions r post in
     let p : List Part = r.body ++ step 0 (Some h.name) in
-    subst (λ (ms : List Mention). IsFoundIn act (Valid_line l) c.at path ms (lefts ++ (line_values c l ++ js)) d) (sym (whole_said pre post l h.name h.value h.content))
+    subst (λ (ms : List Mention). IsFoundIn act (Valid_line l) c.at path ms (lefts ++ (line_values c l ++ js)) d) (sym (whole_mentions pre post l h.name h.value h.content))
     (found_between act (Valid_line l) c.at path left mid right lefts (line_values c l) js d count low
     (λ rules q alone.
     let b = beside_keyval pre post h.name h.value rules in
     let (more, e) = alone_keyval r.body h.name h.value q alone in
-    (subst (λ (x : List Part). AllOf (IsApart x) left) (sym e) (all_longer p more left b.before), subst (λ (x : List Part). AllOf (IsApart x) right) (sym e) (all_longer p more right b.behind)))
-    (subst (λ (ms : List Mention). IsFoundIn act (Valid_line l) c.at path ms (line_values c l) d) (said_of r l h.name h.value h.content) h.found))
+    (subst (λ (x : List Part). AllOf (IsDisjoint x) left) (sym e) (all_longer p more left b.before), subst (λ (x : List Part). AllOf (IsDisjoint x) right) (sym e) (all_longer p more right b.behind)))
+    (subst (λ (ms : List Mention). IsFoundIn act (Valid_line l) c.at path ms (line_values c l) d) (mentions_of r l h.name h.value h.content) h.found))
 
 lines_no_deeper : (c : syntax.Count) (es : List Ended) (last : Line) → BeginNoDeeper 0 (all_values c es last)
 lines_no_deeper c [] last = line_no_deeper (line_start c last) last.content refl
 lines_no_deeper c (e ∷ es) last =
     no_deeper-join 0 0 (line_values c e.line) (all_values (next_line c e) es last) (line_no_deeper (line_start c e.line) e.line.content refl) (lines_no_deeper (next_line c e) es last) (omega arith)
 
-reading_snoc : (r : Reading) (pre : List Line) (l : Line) → reading_behind r (pre ++ l ∷ []) ≡ behind_line (reading_behind r pre) l
+reading_snoc : (r : Reading) (pre : List Line) (l : Line) → reading_after_lines r (pre ++ l ∷ []) ≡ after_line (reading_after_lines r pre) l
 reading_snoc r [] l = refl
-reading_snoc r (x ∷ pre) l = reading_snoc (behind_line r x) pre l
+reading_snoc r (x ∷ pre) l = reading_snoc (after_line r x) pre l
 
-said_snoc : (pre : List Line) (r : Reading) (c : syntax.Count) (l : Line) (lefts : List ValueInfo) → reading_behind start pre ≡ r → valued (lines_said start pre) ≡ length lefts
-    → valued (lines_said start (pre ++ l ∷ [])) ≡ length (lefts ++ line_values c l)
-said_snoc pre r c l lefts e n =
-    let said : lines_said start (pre ++ l ∷ []) ≡ lines_said start pre ++ line_said r l =
-    lines_said-append start pre (l ∷ []) ∙ ap (λ (x : List Mention). lines_said start pre ++ x) (append-nil (line_said (reading_behind start pre) l)) ∙ ap (λ (x : Reading). lines_said start pre ++ line_said x l) e in
-    ap valued said ∙ omega (arith, valued-append (lines_said start pre) (line_said r l), n, valued-content r (line_start c l) l.content, length-append lefts (line_values c l))
+mentions_snoc : (pre : List Line) (r : Reading) (c : syntax.Count) (l : Line) (lefts : List ValueInfo) → reading_after_lines start pre ≡ r → valued (lines_mentions start pre) ≡ length lefts
+    → valued (lines_mentions start (pre ++ l ∷ [])) ≡ length (lefts ++ line_values c l)
+mentions_snoc pre r c l lefts e n =
+    let mentioned : lines_mentions start (pre ++ l ∷ []) ≡ lines_mentions start pre ++ line_mentions r l =
+    lines_mentions-append start pre (l ∷ []) ∙ ap (λ (x : List Mention). lines_mentions start pre ++ x) (append-nil (line_mentions (reading_after_lines start pre) l)) ∙ ap (λ (x : Reading). lines_mentions start pre ++ line_mentions x l) e in
+    ap valued mentioned ∙ omega (arith, valued-append (lines_mentions start pre) (line_mentions r l), n, valued-content r (line_start c l) l.content, length-append lefts (line_values c l))
 
 found_lines : (act : Act) (path : List Part) (pre : List Line) (lefts : List ValueInfo) (r : Reading) (c : syntax.Count) (es : List Ended) (last : Line)
-    → reading_behind start pre ≡ r → valued (lines_said start pre) ≡ length lefts
-    → EachOf (IsFoundIn act (Valid_lines es last) c.at path (lines_said start (pre ++ (map line_of es ++ last ∷ []))) (lefts ++ all_values c es last)) (in_lines (in_line act path) r es last)
+    → reading_after_lines start pre ≡ r → valued (lines_mentions start pre) ≡ length lefts
+    → EachOf (IsFoundIn act (Valid_lines es last) c.at path (lines_mentions start (pre ++ (map line_of es ++ last ∷ []))) (lefts ++ all_values c es last)) (in_lines (in_line act path) r es last)
 found_lines act path pre lefts r c [] last e n =
-    let ms : List Mention = lines_said start (pre ++ last ∷ []) in
+    let ms : List Mention = lines_mentions start (pre ++ last ∷ []) in
     let infos : List ValueInfo = lefts ++ line_values c last in
     of_within (IsFoundOnLine act path r c last) (IsFoundIn act (Valid_lines [] last) c.at path ms infos) (λ l. record { ended = []; last = l }) [] [] (in_line act path r last)
     (λ d h.
@@ -705,7 +706,7 @@ found_lines act path pre lefts r c [] last e n =
     (found_on_line act path r c last)
 found_lines act path pre lefts r c (e ∷ es) last same n =
     let post : List Line = map line_of es ++ last ∷ [] in
-    let ms : List Mention = lines_said start (pre ++ e.line ∷ post) in
+    let ms : List Mention = lines_mentions start (pre ++ e.line ∷ post) in
     let own : List ValueInfo = line_values c e.line in
     let more : List ValueInfo = all_values (next_line c e) es last in
     let infos : List ValueInfo = lefts ++ (own ++ more) in
@@ -718,20 +719,20 @@ found_lines act path pre lefts r c (e ∷ es) last same n =
     found_framed act (Valid_line e.line) Whole c.at c.at path ms infos (λ l. record { ended = record { line = l; newline = e.newline } ∷ es; last = last }) [] right d (λ profile v. v.0.0.line) (omega arith)
     (found_at_line act path pre post lefts more c e.line d n (lines_no_deeper (next_line c e) es last) (subst (λ (x : Reading). IsFoundOnLine act path x c e.line d) (sym same) h)))
     (found_on_line act path r c e.line))
-    (of_within (IsFoundIn act (Valid_lines es last) (next_line c e).at path (lines_said start further) ((lefts ++ own) ++ more)) (IsFoundIn act Whole c.at path ms infos)
-    (λ b. record { ended = e ∷ b.ended; last = b.last }) (text_of (ended_leaves e)) [] (in_lines (in_line act path) (behind_line r e.line) es last)
+    (of_within (IsFoundIn act (Valid_lines es last) (next_line c e).at path (lines_mentions start further) ((lefts ++ own) ++ more)) (IsFoundIn act Whole c.at path ms infos)
+    (λ b. record { ended = e ∷ b.ended; last = b.last }) (text_of (ended_leaves e)) [] (in_lines (in_line act path) (after_line r e.line) es last)
     (λ d h.
     found_framed act (Valid_lines es last) Whole (next_line c e).at c.at path ms infos (λ b. record { ended = e ∷ b.ended; last = b.last }) (text_of (ended_leaves e)) [] d (λ profile v. (v.0.1, v.1)) refl
-    (subst (λ (l : List Line). IsFoundIn act (Valid_lines es last) (next_line c e).at path (lines_said start l) infos d) (append_assoc pre (e.line ∷ []) post)
-    (subst (λ (l : List ValueInfo). IsFoundIn act (Valid_lines es last) (next_line c e).at path (lines_said start further) l d) (append_assoc lefts own more) h)))
-    (found_lines act path (pre ++ e.line ∷ []) (lefts ++ own) (behind_line r e.line) (next_line c e) es last
-    (reading_snoc start pre e.line ∙ ap (λ (x : Reading). behind_line x e.line) same) (said_snoc pre r c e.line lefts same n)))
+    (subst (λ (l : List Line). IsFoundIn act (Valid_lines es last) (next_line c e).at path (lines_mentions start l) infos d) (append_assoc pre (e.line ∷ []) post)
+    (subst (λ (l : List ValueInfo). IsFoundIn act (Valid_lines es last) (next_line c e).at path (lines_mentions start further) l d) (append_assoc lefts own more) h)))
+    (found_lines act path (pre ++ e.line ∷ []) (lefts ++ own) (after_line r e.line) (next_line c e) es last
+    (reading_snoc start pre e.line ∙ ap (λ (x : Reading). after_line x e.line) same) (mentions_snoc pre r c e.line lefts same n)))
 
 -- What an act changes in a document is one of its values.
-pub found_inside : (act : Act) (path : List Part) (s : Document) → EachOf (IsFoundIn act (Valid_document s) 0 path (said_in s) (syntax.values s)) (inside act path s)
-found_inside act path s =
+pub found_nested : (act : Act) (path : List Part) (s : Document) → EachOf (IsFoundIn act (Valid_document s) 0 path (mentions_in s) (syntax.values s)) (nested act path s)
+found_nested act path s =
     let Lines : Profile → Type 0 = Valid_lines s.ended s.last in
-    of_within (IsFoundIn act Lines (first_line s).at path (said_in s) (syntax.values s)) (IsFoundIn act (Valid_document s) 0 path (said_in s) (syntax.values s)) (with_page s) (text_of (bom_leaves s.bom)) []
+    of_within (IsFoundIn act Lines (first_line s).at path (mentions_in s) (syntax.values s)) (IsFoundIn act (Valid_document s) 0 path (mentions_in s) (syntax.values s)) (with_page s) (text_of (bom_leaves s.bom)) []
     (in_lines (in_line act path) start s.ended s.last)
-    (λ c h. found_framed act Lines (Valid_document s) (first_line s).at 0 path (said_in s) (syntax.values s) (with_page s) (text_of (bom_leaves s.bom)) [] c (λ profile v. (v.ended, v.last)) (omega arith) h)
+    (λ c h. found_framed act Lines (Valid_document s) (first_line s).at 0 path (mentions_in s) (syntax.values s) (with_page s) (text_of (bom_leaves s.bom)) [] c (λ profile v. (v.ended, v.last)) (omega arith) h)
     (found_lines act path [] [] start (first_line s) s.ended s.last refl refl)

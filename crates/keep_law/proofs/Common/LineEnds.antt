@@ -20,7 +20,7 @@ use Rattle.keep_token.specs.Leaves.{IsLeaf, is_scalar_leaf, word_len, has_date_s
 use Rattle.keep_token.specs.Pieces.{first}
 use Rattle.keep_token.specs.Strings as strings
 use Rattle.keep_token.proofs.Shared.{tested, prefix_len-positive, word_len_again, word_first, scalar_kind, a_word, a_basic, a_literal, a_ml_basic, a_ml_literal}
-use Rattle.keep_syntax.specs.Tree.{Written, Gap, Body, scalar, array, inline, Entries, none, entry, Value, Content, blank, keyval, header, element, Line, Ended, mark, key_leaves, name_leaves, entries_leaves, value_leaves, content_leaves, comment_leaves, line_leaves, ended_leaves, text_of, value_text}
+use Rattle.keep_syntax.specs.Tree.{Written, Gap, Body, scalar, array, inline, Entries, none, entry, Value, Content, blank, keyval, header, element, Line, Ended, token, key_leaves, name_leaves, entries_leaves, value_leaves, content_leaves, comment_leaves, line_leaves, ended_leaves, text_of, value_text}
 use Rattle.keep_syntax.specs.Grammar.{IsSpace, IsValue, IsBody, AreEntries, in_scalar, place_in, IsContent, IsAfter, IsComment, IsLine, IsEnded}
 use Rattle.keep_law.specs.Lines.{line_text, content_text, is_empty, is_empty_list}
 use Rattle.keep_law.specs.TextEnds.{ends_in_newline}
@@ -36,16 +36,16 @@ ends_at (c ∷ d ∷ cs) some =
     let n : length (c ∷ d ∷ cs) - 1 ≡ suc (length (d ∷ cs) - 1) = omega arith in
     ends_at (d ∷ cs) (omega arith) ∙ sym (ap (λ k. get_or (c ∷ d ∷ cs) k 0 == 0x0A) n)
 
--- what stands before it does not matter
-pub ends_behind : (a b : List ℕ) → 0 < length b → ends_in_newline (a ++ b) ≡ ends_in_newline b
-ends_behind [] b some = refl
-ends_behind (x ∷ []) [] some = absurd (omega arith)
-ends_behind (x ∷ []) (c ∷ b) some = refl
-ends_behind (x ∷ y ∷ a) b some = ends_behind (y ∷ a) b some
+-- what comes before it does not matter
+pub ends_after : (a b : List ℕ) → 0 < length b → ends_in_newline (a ++ b) ≡ ends_in_newline b
+ends_after [] b some = refl
+ends_after (x ∷ []) [] some = absurd (omega arith)
+ends_after (x ∷ []) (c ∷ b) some = refl
+ends_after (x ∷ y ∷ a) b some = ends_after (y ∷ a) b some
 
 pub quiet_append : (a b : List ℕ) → ends_in_newline a ≡ false → ends_in_newline b ≡ false → ends_in_newline (a ++ b) ≡ false
 quiet_append a [] h g = ap ends_in_newline (append-nil a) ∙ h
-quiet_append a (c ∷ b) h g = ends_behind a (c ∷ b) (omega arith) ∙ g
+quiet_append a (c ∷ b) h g = ends_after a (c ∷ b) (omega arith) ∙ g
 
 -- bytes of a class without the line feed
 quiet_byte : (p : ℕ → Bool) (c : ℕ) → p 0x0A ≡ false → p c ≡ true → (c == 0x0A) ≡ false
@@ -69,15 +69,15 @@ pub record IsClosed (t : List ℕ) : Type 0 where
   pub some : 0 < length t
   pub quiet : ends_in_newline t ≡ false
 
-closed_behind : (a b : List ℕ) → IsClosed b → IsClosed (a ++ b)
-closed_behind a b h = record { some = omega (arith, length-append a b, h.some); quiet = ends_behind a b h.some ∙ h.quiet }
+closed_after : (a b : List ℕ) → IsClosed b → IsClosed (a ++ b)
+closed_after a b h = record { some = omega (arith, length-append a b, h.some); quiet = ends_after a b h.some ∙ h.quiet }
 
 leaves_closed : (a b : List Written) → IsClosed (text_of b) → IsClosed (text_of (a ++ b))
-leaves_closed a b h = subst IsClosed (sym (text_of-append a b)) (closed_behind (text_of a) (text_of b) h)
+leaves_closed a b h = subst IsClosed (sym (text_of-append a b)) (closed_after (text_of a) (text_of b) h)
 
 -- ---- scalars
 
--- The last byte of a word is one of its class, also where a space stands in it.
+-- The last byte of a word is one of its class, also where a space is in it.
 run_last : (t : List ℕ) → 0 < length t → prefix_len is_word t ≡ length t → is_word (get_or t (length t - 1) 0) ≡ true
 run_last t some e = prefix_len_passes is_word t (length t - 1) 0 (omega (arith, e))
 
@@ -106,11 +106,11 @@ word_closed : (t : List ℕ) → 0 < length t → word_len t ≡ length t → Is
 word_closed t some e = record { some = some; quiet = ends_at t some ∙ quiet_byte is_word (get_or t (length t - 1) 0) refl (word_last t some e) }
 
 -- a string ends in its mark
-mark_closed : (front : List ℕ) (c : ℕ) → (c == 0x0A) ≡ false → IsClosed (front ++ (c ∷ []))
-mark_closed front c h = closed_behind front (c ∷ []) (record { some = omega arith; quiet = h })
+mark_closed : (prefix : List ℕ) (c : ℕ) → (c == 0x0A) ≡ false → IsClosed (prefix ++ (c ∷ []))
+mark_closed prefix c h = closed_after prefix (c ∷ []) (record { some = omega arith; quiet = h })
 
-marks_closed : (front : List ℕ) (c : ℕ) → (c == 0x0A) ≡ false → IsClosed (front ++ (c ∷ c ∷ c ∷ []))
-marks_closed front c h = closed_behind front (c ∷ c ∷ c ∷ []) (record { some = omega arith; quiet = h })
+marks_closed : (prefix : List ℕ) (c : ℕ) → (c == 0x0A) ≡ false → IsClosed (prefix ++ (c ∷ c ∷ c ∷ []))
+marks_closed prefix c h = closed_after prefix (c ∷ c ∷ c ∷ []) (record { some = omega arith; quiet = h })
 
 scalar_closed : (profile : Profile) (l : Leaf) (t : List ℕ) → IsTrue (is_scalar_leaf l) → IsLeaf profile l t → IsClosed t
 scalar_closed profile l t kind h =
@@ -124,21 +124,21 @@ scalar_closed profile l t kind h =
 
 -- ---- values
 
-nothing_inside : (profile : Profile) (inside : Entries) → AreEntries profile in_scalar inside → entries_leaves inside ≡ []
-nothing_inside profile none h = refl
-nothing_inside profile (entry None body inside after comma rest) h = absurd h.0
-nothing_inside profile (entry (Some n) body inside after comma rest) h = absurd h.0
+nothing_nested : (profile : Profile) (nested : Entries) → AreEntries profile in_scalar nested → entries_leaves nested ≡ []
+nothing_nested profile none h = refl
+nothing_nested profile (entry None body nested after comma rest) h = absurd h.0
+nothing_nested profile (entry (Some n) body nested after comma rest) h = absurd h.0
 
 pub value_closed : (profile : Profile) (v : Value) → IsValue profile v → IsClosed (value_text v)
-value_closed profile v h = by v.body v.inside h.body h.inside
+value_closed profile v h = by v.body v.nested h.body h.nested
   where
-    by : (b : Body) (inside : Entries) → IsBody profile b → AreEntries profile (place_in b) inside → IsClosed (value_text (record { body = b; inside = inside }))
-    by (scalar w) inside is in_it =
-        let spelled : w.text ≡ value_text (record { body = scalar w; inside = inside }) =
-        sym (append-nil w.text) ∙ ap (λ (ws : List Written). w.text ++ text_of (ws ++ [])) (sym (nothing_inside profile inside in_it)) in
+    by : (b : Body) (nested : Entries) → IsBody profile b → AreEntries profile (place_in b) nested → IsClosed (value_text (record { body = b; nested = nested }))
+    by (scalar w) nested is in_it =
+        let spelled : w.text ≡ value_text (record { body = scalar w; nested = nested }) =
+        sym (append-nil w.text) ∙ ap (λ (ws : List Written). w.text ++ text_of (ws ++ [])) (sym (nothing_nested profile nested in_it)) in
         subst IsClosed spelled (scalar_closed profile w.leaf w.text is.0 is.1)
-    by (array gap) inside is in_it = leaves_closed (mark leaf.ArrayOpen (0x5B ∷ []) ++ gap) (entries_leaves inside ++ mark leaf.ArrayClose (0x5D ∷ [])) (leaves_closed (entries_leaves inside) (mark leaf.ArrayClose (0x5D ∷ [])) (record { some = omega arith; quiet = refl }))
-    by (inline gap) inside is in_it = leaves_closed (mark leaf.InlineOpen (0x7B ∷ []) ++ gap) (entries_leaves inside ++ mark leaf.InlineClose (0x7D ∷ [])) (leaves_closed (entries_leaves inside) (mark leaf.InlineClose (0x7D ∷ [])) (record { some = omega arith; quiet = refl }))
+    by (array gap) nested is in_it = leaves_closed (token leaf.ArrayOpen (0x5B ∷ []) ++ gap) (entries_leaves nested ++ token leaf.ArrayClose (0x5D ∷ [])) (leaves_closed (entries_leaves nested) (token leaf.ArrayClose (0x5D ∷ [])) (record { some = omega arith; quiet = refl }))
+    by (inline gap) nested is in_it = leaves_closed (token leaf.InlineOpen (0x7B ∷ []) ++ gap) (entries_leaves nested ++ token leaf.InlineClose (0x7D ∷ [])) (leaves_closed (entries_leaves nested) (token leaf.InlineClose (0x7D ∷ [])) (record { some = omega arith; quiet = refl }))
 
 -- ---- lines
 
@@ -171,9 +171,9 @@ content_closed : (profile : Profile) (c : Content) → IsContent profile c → (
 content_closed profile blank h some = absurd (some refl)
 content_closed profile (keyval n v) h some = leaves_closed (name_leaves n) (value_leaves v) (value_closed profile v h.1)
 content_closed profile (header b k a) h some =
-    header_closed (mark leaf.HeadOpen (0x5B ∷ [])) b (key_leaves k) a (mark leaf.HeadClose (0x5D ∷ [])) (record { some = omega arith; quiet = refl })
+    header_closed (token leaf.HeadOpen (0x5B ∷ [])) b (key_leaves k) a (token leaf.HeadClose (0x5D ∷ [])) (record { some = omega arith; quiet = refl })
 content_closed profile (element b k a) h some =
-    header_closed (mark leaf.ElemOpen (0x5B ∷ 0x5B ∷ [])) b (key_leaves k) a (mark leaf.ElemClose (0x5D ∷ 0x5D ∷ [])) (record { some = omega arith; quiet = refl })
+    header_closed (token leaf.ElemOpen (0x5B ∷ 0x5B ∷ [])) b (key_leaves k) a (token leaf.ElemClose (0x5D ∷ 0x5D ∷ [])) (record { some = omega arith; quiet = refl })
 
 content_quiet : (profile : Profile) (c : Content) → IsContent profile c → ends_in_newline (content_text c) ≡ false
 content_quiet profile blank h = refl
@@ -198,15 +198,15 @@ ended_ends profile e h =
     let last = newline_ends e.newline.text h.newline in
     let whole : text_of (ended_leaves e) ≡ line_text e.line ++ e.newline.text = text_of-append (line_leaves e.line) (e.newline ∷ []) ∙ ap (λ (t : List ℕ). line_text e.line ++ t) (append-nil e.newline.text) in (
       omega (arith, ap (λ (t : List ℕ). length t) whole, length-append (line_text e.line) e.newline.text, last.0),
-      ap ends_in_newline whole ∙ ends_behind (line_text e.line) e.newline.text last.0 ∙ last.1,
+      ap ends_in_newline whole ∙ ends_after (line_text e.line) e.newline.text last.0 ∙ last.1,
     )
 
 -- A line that has leaves has bytes.
 more_some : (a b : List Written) → 0 < length (text_of b) → 0 < length (text_of (a ++ b))
 more_some a b h = omega (arith, h, ap (λ (t : List ℕ). length t) (text_of-append a b), length-append (text_of a) (text_of b))
 
-front_some : (a b : List Written) → 0 < length (text_of a) → 0 < length (text_of (a ++ b))
-front_some a b h = omega (arith, h, ap (λ (t : List ℕ). length t) (text_of-append a b), length-append (text_of a) (text_of b))
+prefix_some : (a b : List Written) → 0 < length (text_of a) → 0 < length (text_of (a ++ b))
+prefix_some a b h = omega (arith, h, ap (λ (t : List ℕ). length t) (text_of-append a b), length-append (text_of a) (text_of b))
 
 space_some : (w : Written) (g : Gap) → IsSpace (w ∷ g) → 0 < length (text_of (w ∷ g))
 space_some w [] h = omega (arith, h.1.0, length-append w.text [])
@@ -217,10 +217,10 @@ line_some profile l h some = by l.before l.content l.after l.comment h.before h.
   where
     by : (before : Gap) (c : Content) (after : Gap) (comment : Option Written) → IsSpace before → IsContent profile c → IsAfter c after → IsComment comment
         → is_empty (record { before = before; content = c; after = after; comment = comment }) ≡ false → 0 < length (line_text (record { before = before; content = c; after = after; comment = comment }))
-    by (w ∷ g) c after comment hb hc ha hm e = front_some (w ∷ g) _ (space_some w g hb)
-    by [] (keyval n v) after comment hb hc ha hm e = front_some (content_leaves (keyval n v)) _ (content_closed profile (keyval n v) hc (λ k. absurd cc)).some
-    by [] (header b k a) after comment hb hc ha hm e = front_some (content_leaves (header b k a)) _ (content_closed profile (header b k a) hc (λ k. absurd cc)).some
-    by [] (element b k a) after comment hb hc ha hm e = front_some (content_leaves (element b k a)) _ (content_closed profile (element b k a) hc (λ k. absurd cc)).some
+    by (w ∷ g) c after comment hb hc ha hm e = prefix_some (w ∷ g) _ (space_some w g hb)
+    by [] (keyval n v) after comment hb hc ha hm e = prefix_some (content_leaves (keyval n v)) _ (content_closed profile (keyval n v) hc (λ k. absurd cc)).some
+    by [] (header b k a) after comment hb hc ha hm e = prefix_some (content_leaves (header b k a)) _ (content_closed profile (header b k a) hc (λ k. absurd cc)).some
+    by [] (element b k a) after comment hb hc ha hm e = prefix_some (content_leaves (element b k a)) _ (content_closed profile (element b k a) hc (λ k. absurd cc)).some
     by [] blank after None hb hc ha hm e = let k : is_empty_list (after ++ []) ≡ true = ap (λ (g : Gap). is_empty_list (g ++ [])) ha in absurd cc
     by [] blank after (Some w) hb hc ha hm e =
         more_some after (w ∷ []) (omega (arith, (comment_closed w.text hm.1).some, length-append w.text []))

@@ -1,4 +1,4 @@
--- The same of changes of lines and of whole documents: each edit is a cut of the text.
+-- Changes of lines and of whole documents: each edit is a cut of the text.
 use Rattle.std.proofs.Common.{◌≡◌, ℕ, zero, suc, Bool, true, false, cond, List, [], ◌∷◌, ◌++◌, length, map, drop, refl, sym, ap, subst, ◌∙◌, append_assoc, Option, Some, None}
 use Rattle.std.specs.Prelude.{codes, position}
 use Rattle.std.specs.List.{flat_map}
@@ -7,12 +7,12 @@ use Rattle.std.proofs.lemmas.List.{append-nil}
 use Rattle.keep_syntax.specs.Tree.{Written, Name, Value, Content, blank, keyval, header, element, Line, Ended, Document, name_leaves, comment_leaves, line_leaves, ended_leaves, bom_leaves, text_of, text}
 use Rattle.keep_path.specs.Path.{Part, same_path}
 use Rattle.keep_meaning.specs.Marks.{Reading, start}
-use Rattle.keep_meaning.specs.Meaning.{step, behind_line, lines, said_in}
+use Rattle.keep_meaning.specs.Meaning.{step, after_line, lines, mentions_in}
 use Rattle.keep_law.specs.Look.{strip, holder, item_number, keys_in}
 use Rattle.keep_law.specs.Changed.{Changed, IsChangeOf, framed_change, within, or_else, place_of, put}
 use Rattle.keep_law.specs.Values.{Act, text_of_value, in_value, replacement, put_item, put_named, removal, renaming, rename_part, rename_name}
-use Rattle.keep_law.specs.Lines.{line_text, ended_text, Page, page_text, with_page, in_document, in_lines, in_content, in_line, rename_content, rename_line, part_paths, put_lines, drop_front, drop_lines, last_line, begins, goes_dotted, goes_through, body_length, body_end, reading_at, new_line, newline_of, content_text, is_empty}
-use Rattle.keep_law.specs.Edits.{Edit, set, insert, rename, remove, append_table, append_element, inside, at_line, without_lines, end_of, insert_line, change_insert, is_own, clear_line, change_remove, change_rename, change, key_with, name_with, new_keyval, new_header}
+use Rattle.keep_law.specs.Lines.{line_text, ended_text, Page, page_text, with_page, in_document, in_lines, in_content, in_line, rename_content, rename_line, part_paths, put_lines, drop_prefix, drop_lines, last_line, begins, leads_dotted, leads_through, body_length, body_end, reading_at, new_line, newline_of, content_text, is_empty}
+use Rattle.keep_law.specs.Edits.{Edit, set, insert, rename, remove, append_table, append_element, nested, at_line, without_lines, end_of, insert_line, change_insert, is_own, clear_line, change_remove, change_rename, change, key_with, name_with, new_keyval, new_header}
 use Rattle.keep_law.specs.Edits.{key_part}
 use Rattle.keep_law.proofs.Common.Texts.{EachIs, IsAct, within-is, or_else-is, put-place_of, text_of-append, in_value-is, replacement-is, put_item-is, put_named-is, removal-is, renaming-is, rename_part-is, rename_name-is, key_text_of, name_text_of}
 
@@ -30,8 +30,8 @@ in_lines-is f h r (e ∷ es) last =
     or_else-is page_text (record { ended = e ∷ es; last = last }) _ _
     (within-is line_text page_text (λ l. record { ended = record { line = l; newline = e.newline } ∷ es; last = last }) [] (e.newline.text ++ page_text (record { ended = es; last = last })) e.line (f r e.line)
     (λ y. ap (λ t. t ++ line_text last) (ended-text y e.newline es) ∙ simp append_assoc refl) (h r e.line))
-    (within-is page_text page_text (λ b. record { ended = e ∷ b.ended; last = b.last }) (text_of (ended_leaves e)) [] (record { ended = es; last = last }) (in_lines f (behind_line r e.line) es last)
-    (λ y. page-cons e y) (in_lines-is f h (behind_line r e.line) es last))
+    (within-is page_text page_text (λ b. record { ended = e ∷ b.ended; last = b.last }) (text_of (ended_leaves e)) [] (record { ended = es; last = last }) (in_lines f (after_line r e.line) es last)
+    (λ y. page-cons e y) (in_lines-is f h (after_line r e.line) es last))
 
 in_content-by : (act : Act) → IsAct act → (name : Name) (value : Value) (o : Option (List Part)) → EachIs content_text (keyval name value) (elim o [
   | None ↦ None
@@ -135,14 +135,14 @@ put_lines-is (suc m) new newline (e ∷ es) last =
     framed_change-is page_text page_text (λ b. record { ended = e ∷ b.ended; last = b.last }) (text_of (ended_leaves e)) [] (record { ended = es; last = last }) (put_lines m new newline es last)
     (λ y. page-cons e y) (put_lines-is m new newline es last)
 
-pub drop_front-is : (n : ℕ) (es : List Ended) (last : Line) → IsChangeOf page_text (record { ended = es; last = last }) (drop_front n es last)
-    × ((drop_front n es last).before ≡ [])
-drop_front-is zero [] last = (record { was = refl; is = refl }, refl)
-drop_front-is (suc m) [] last = (record { was = sym (append-nil _); is = refl }, refl)
-drop_front-is zero (e ∷ es) last = (record { was = refl; is = refl }, refl)
-drop_front-is (suc m) (e ∷ es) last =
-    let (h, b) = drop_front-is m es last in
-    let c : Changed Page = drop_front m es last in
+pub drop_prefix-is : (n : ℕ) (es : List Ended) (last : Line) → IsChangeOf page_text (record { ended = es; last = last }) (drop_prefix n es last)
+    × ((drop_prefix n es last).before ≡ [])
+drop_prefix-is zero [] last = (record { was = refl; is = refl }, refl)
+drop_prefix-is (suc m) [] last = (record { was = sym (append-nil _); is = refl }, refl)
+drop_prefix-is zero (e ∷ es) last = (record { was = refl; is = refl }, refl)
+drop_prefix-is (suc m) (e ∷ es) last =
+    let (h, b) = drop_prefix-is m es last in
+    let c : Changed Page = drop_prefix m es last in
     let rest : page_text (record { ended = es; last = last }) ≡ c.old ++ c.behind = h.was ∙ ap (λ t. t ++ (c.old ++ c.behind)) b in (
       record {
         was = page-cons e (record { ended = es; last = last }) ∙ ap (λ t. text_of (ended_leaves e) ++ (t ++ [])) rest
@@ -154,8 +154,8 @@ drop_front-is (suc m) (e ∷ es) last =
     )
 
 pub drop_lines-is : (i n : ℕ) (es : List Ended) (last : Line) → IsChangeOf page_text (record { ended = es; last = last }) (drop_lines i n es last)
-drop_lines-is i n [] last = (drop_front-is n [] last).0
-drop_lines-is zero n (e ∷ es) last = (drop_front-is n (e ∷ es) last).0
+drop_lines-is i n [] last = (drop_prefix-is n [] last).0
+drop_lines-is zero n (e ∷ es) last = (drop_prefix-is n (e ∷ es) last).0
 drop_lines-is (suc j) n (e ∷ es) last =
     framed_change-is page_text page_text (λ b. record { ended = e ∷ b.ended; last = b.last }) (text_of (ended_leaves e)) [] (record { ended = es; last = last }) (drop_lines j n es last)
     (λ y. page-cons e y) (drop_lines-is j n es last)
@@ -168,8 +168,8 @@ document-text s y = simp (text_of-append, append_assoc) refl
 pub in_document-is : (s : Document) (o : Option (Changed Page)) → EachIs page_text (record { ended = s.ended; last = s.last }) o → EachIs text s (in_document s o)
 in_document-is s o h = within-is page_text text (with_page s) (text_of (bom_leaves s.bom)) [] (record { ended = s.ended; last = s.last }) o (λ y. document-text s y) h
 
-pub inside-is : (act : Act) → IsAct act → (path : List Part) (s : Document) → EachIs text s (inside act path s)
-inside-is act h path s = in_document-is s (in_lines (in_line act path) start s.ended s.last) (in_lines-is (in_line act path) (λ r l. in_line-is act h path r l) start s.ended s.last)
+pub nested-is : (act : Act) → IsAct act → (path : List Part) (s : Document) → EachIs text s (nested act path s)
+nested-is act h path s = in_document-is s (in_lines (in_line act path) start s.ended s.last) (in_lines-is (in_line act path) (λ r l. in_line-is act h path r l) start s.ended s.last)
 
 pub at_line-is : (s : Document) (n : ℕ) (contents : List Content) → EachIs text s (at_line s n contents)
 at_line-is s n contents = in_document-is s (Some (put_lines n (map (new_line (newline_of s)) contents) (newline_of s) s.ended s.last))
@@ -191,30 +191,30 @@ insert_line-is s a rest value =
     (λ i. at_line-is s (suc i) (new_keyval (drop (length (reading_at i (lines s)).body) (a ++ rest)) value ∷ [])) _
     (with_number s (λ i. at_line s (body_end i (lines s)) (blank ∷ new_header (keys_in a) ∷ new_keyval rest value ∷ []))
     (λ i. at_line-is s (body_end i (lines s)) (blank ∷ new_header (keys_in a) ∷ new_keyval rest value ∷ [])) None tt
-    (last_line (goes_through a) start (lines s)))
-    (last_line (goes_dotted a) start (lines s)))
+    (last_line (leads_through a) start (lines s)))
+    (last_line (leads_dotted a) start (lines s)))
     (end_of s a)
 
 pub change_insert-is : (s : Document) (path : List Part) (value : Value) → EachIs text s (change_insert s path value)
 change_insert-is s path value =
-    let a : List Part = holder path (said_in s) in
+    let a : List Part = holder path (mentions_in s) in
     let rest : List Part = drop (length a) path in
-    with_number s (λ n. inside (put_item value) path s) (λ n. inside-is (put_item value) (put_item-is value) path s)
-    (or_else (insert_line s a rest value) (inside (put_named name_with (length rest) value) path s))
-    (or_else-is text s _ _ (insert_line-is s a rest value) (inside-is (put_named name_with (length rest) value) (put_named-is name_with (length rest) value) path s))
-    (item_number path (said_in s))
+    with_number s (λ n. nested (put_item value) path s) (λ n. nested-is (put_item value) (put_item-is value) path s)
+    (or_else (insert_line s a rest value) (nested (put_named name_with (length rest) value) path s))
+    (or_else-is text s _ _ (insert_line-is s a rest value) (nested-is (put_named name_with (length rest) value) (put_named-is name_with (length rest) value) path s))
+    (item_number path (mentions_in s))
 
 pub change_remove-is : (s : Document) (path : List Part) → EachIs text s (change_remove s path)
 change_remove-is s path =
     or_else-is text s _ _ (in_document-is s (in_lines (clear_line path) start s.ended s.last) (in_lines-is (clear_line path) (λ r l. clear_line-is path r l) start s.ended s.last))
     (or_else-is text s _ _ (with_number s (λ i. without_lines s i 1) (λ i. without_lines-is s i 1) None tt (last_line (λ r l. is_own path r l.content) start (lines s)))
     (or_else-is text s _ _ (with_number s (λ i. without_lines s i (suc (body_length (drop (suc i) (lines s))))) (λ i. without_lines-is s i (suc (body_length (drop (suc i) (lines s))))) None tt (last_line (begins path) start (lines s)))
-    (inside-is removal removal-is path s)))
+    (nested-is removal removal-is path s)))
 
 pub change_rename-is : (s : Document) (path : List Part) (name : List ℕ) → EachIs text s (change_rename s path name)
 change_rename-is s path name =
     or_else-is text s _ _ (in_document-is s (in_lines (rename_line (key_part name) path) start s.ended s.last) (in_lines-is (rename_line (key_part name) path) (λ r l. rename_line-is (key_part name) path r l) start s.ended s.last))
-    (inside-is (renaming (key_part name)) (renaming-is (key_part name)) path s)
+    (nested-is (renaming (key_part name)) (renaming-is (key_part name)) path s)
 
 if_empty : (s : Document) (b : Bool) (n m : ℕ) (xs ys : List Content) → EachIs text s (cond b (at_line s n xs) (at_line s m ys))
 if_empty s true n m xs ys = at_line-is s n xs
@@ -229,7 +229,7 @@ append-by s content (e ∷ es) = if_empty s (is_empty s.last) (length s.ended) (
 
 -- Every edit's change is a cut of the text.
 pub change-is : (s : Document) (e : Edit) → EachIs text s (change s e)
-change-is s (set path value) = inside-is (replacement value) (replacement-is value) path s
+change-is s (set path value) = nested-is (replacement value) (replacement-is value) path s
 change-is s (insert path value) = change_insert-is s path value
 change-is s (rename path name) = change_rename-is s path name
 change-is s (remove path) = change_remove-is s path

@@ -7,16 +7,16 @@ use Rattle.keep_syntax.specs.Tree.{Gap, Name, Body, Entries, none, entry, text_o
 use Rattle.keep_meaning.specs.Fact.{Fact}
 use Rattle.keep_path.specs.Path.{Part, key, index, same_part, same_path}
 use Rattle.keep_meaning.specs.Marks.{item, value, dotted, Mention, below}
-use Rattle.keep_meaning.specs.Meaning.{body_fact, valued_mentions, keyed_mentions, entry_mentions, entries_said, step}
+use Rattle.keep_meaning.specs.Meaning.{body_fact, valued_mentions, keyed_mentions, entry_mentions, entries_mentions, step}
 use Rattle.keep_law.specs.Look.{strip}
-use Rattle.keep_meaning.specs.Nodes.{is_at, says_at}
+use Rattle.keep_meaning.specs.Nodes.{is_at, kinds_at}
 use Rattle.keep_law.specs.Changed.{Changed, within}
-use Rattle.keep_law.specs.Values.{Row, take_out, taken_first, taken_only, taken_last, is_last_named, entry_front}
+use Rattle.keep_law.specs.Values.{Row, take_out, taken_first, taken_only, taken_last, is_last_named, entry_prefix}
 use Rattle.keep_law.proofs.Common.Runs.{AllOf, pairs_split, pairs_join, all_join, across_right, Across, Allowed, Rules, same_path-sound, same_path-refl}
 use Rattle.keep_law.proofs.Common.SetLaw.{EachTo, to_within}
 
 abbrev pub moved : (List Part → List Part) → Mention → Mention
-moved f m = record { path = f m.path; says = m.says }
+moved f m = record { path = f m.path; kind = m.kind }
 
 -- f keeps different paths different, of those that pass
 abbrev pub IsInjectiveOn : (List Part → Type 0) → (List Part → List Part) → Type 0
@@ -47,15 +47,15 @@ pub record IsMove (P : List Part → Type 0) (f : List Part → List Part) (from
   pub behind : List Mention
   pub was : from ≡ before ++ (old ++ behind)
   pub is : to ≡ map (moved f) before ++ (new ++ map (moved f) behind)
-  pub kept_before : AllOf (λ m. P m.path) before
-  pub kept_behind : AllOf (λ m. P m.path) behind
+  pub preserved_before : AllOf (λ m. P m.path) before
+  pub preserved_after : AllOf (λ m. P m.path) behind
 
 pub rules_move : (P : List Part → Type 0) (f : List Part → List Part) → IsInjectiveOn P f → (from to new : List Mention) → (h : IsMove P f from to new)
     → Rules from → Rules new → Across Allowed (map (moved f) h.before) new → Across Allowed new (map (moved f) h.behind) → Rules to
 rules_move P f inj from to new h rules rules_new left right =
     let rest : Rules (h.before ++ h.behind) = rules_taken h.before h.old h.behind (subst Rules h.was rules) in
     let all : Rules (map (moved f) h.before ++ map (moved f) h.behind) =
-    subst Rules (map-append (moved f) h.before h.behind) (rules_moved P f inj (h.before ++ h.behind) (all_join (λ m. P m.path) h.before h.behind h.kept_before h.kept_behind) rest) in
+    subst Rules (map-append (moved f) h.before h.behind) (rules_moved P f inj (h.before ++ h.behind) (all_join (λ m. P m.path) h.before h.behind h.preserved_before h.preserved_after) rest) in
     let parts = pairs_split Allowed (map (moved f) h.before) (map (moved f) h.behind) all in
     subst Rules (sym h.is)
     (pairs_join Allowed (map (moved f) h.before) (new ++ map (moved f) h.behind) (record {
@@ -82,20 +82,20 @@ is_at_moved P f inj q m hq hm false true e k =
     let y : same_path m.path q ≡ true = subst (λ (z : List Part). same_path m.path z ≡ true) x (same_path-refl m.path) in
     absurd cc
 
-says_moved-step : (f : List Part → List Part) (q : List Part) (m : Mention) (ms : List Mention) → says_at (f q) (map (moved f) ms) ≡ says_at q ms → (b : Bool) → is_at q m ≡ b → is_at (f q) (moved f m) ≡ b
-    → says_at (f q) (map (moved f) (m ∷ ms)) ≡ says_at q (m ∷ ms)
-says_moved-step f q m ms h true e k = rw (e, k) (ap (λ l. m.says ∷ l) h)
-says_moved-step f q m ms h false e k = rw (e, k) h
+mentions_moved-step : (f : List Part → List Part) (q : List Part) (m : Mention) (ms : List Mention) → kinds_at (f q) (map (moved f) ms) ≡ kinds_at q ms → (b : Bool) → is_at q m ≡ b → is_at (f q) (moved f m) ≡ b
+    → kinds_at (f q) (map (moved f) (m ∷ ms)) ≡ kinds_at q (m ∷ ms)
+mentions_moved-step f q m ms h true e k = rw (e, k) (ap (λ l. m.kind ∷ l) h)
+mentions_moved-step f q m ms h false e k = rw (e, k) h
 
 -- at a changed path the same is said as at the old one
-pub says_moved : (P : List Part → Type 0) (f : List Part → List Part) → IsInjectiveOn P f → (q : List Part) → P q → (ms : List Mention) → AllOf (λ m. P m.path) ms → says_at (f q) (map (moved f) ms) ≡ says_at q ms
-says_moved P f inj q hq [] h = refl
-says_moved P f inj q hq (m ∷ ms) h =
-    says_moved-step f q m ms (says_moved P f inj q hq ms h.1) (is_at q m) refl (is_at_moved P f inj q m hq h.0 (is_at q m) (is_at (f q) (moved f m)) refl refl)
+pub mentions_moved : (P : List Part → Type 0) (f : List Part → List Part) → IsInjectiveOn P f → (q : List Part) → P q → (ms : List Mention) → AllOf (λ m. P m.path) ms → kinds_at (f q) (map (moved f) ms) ≡ kinds_at q ms
+mentions_moved P f inj q hq [] h = refl
+mentions_moved P f inj q hq (m ∷ ms) h =
+    mentions_moved-step f q m ms (mentions_moved P f inj q hq ms h.1) (is_at q m) refl (is_at_moved P f inj q m hq h.0 (is_at q m) (is_at (f q) (moved f m)) refl refl)
 
 -- ---- an item taken out of an array
 
--- items behind number n move down by one
+-- items after number n move down by one
 abbrev pub down_part : ℕ → Part → Part
 down_part n (key text) = key text
 down_part n (index m) = index (cond (nat_lt n m) (m - 1) m)
@@ -106,15 +106,15 @@ down n (p ∷ ps) = down_part n p ∷ ps
 
 moved_same : (n : ℕ) (p : Part) (ms : List Mention) → down_part n p ≡ p → map (moved (down n)) (map (below (p ∷ [])) ms) ≡ map (below (p ∷ [])) ms
 moved_same n p [] e = refl
-moved_same n p (m ∷ ms) e = ap (λ (q : Part). record { path = q ∷ m.path; says = m.says } ∷ map (moved (down n)) (map (below (p ∷ [])) ms)) e ∙ ap (λ l. below (p ∷ []) m ∷ l) (moved_same n p ms e)
+moved_same n p (m ∷ ms) e = ap (λ (q : Part). record { path = q ∷ m.path; kind = m.kind } ∷ map (moved (down n)) (map (below (p ∷ [])) ms)) e ∙ ap (λ l. below (p ∷ []) m ∷ l) (moved_same n p ms e)
 
 moved_to : (n : ℕ) (p p' : Part) (ms : List Mention) → down_part n p ≡ p' → map (moved (down n)) (map (below (p ∷ [])) ms) ≡ map (below (p' ∷ [])) ms
 moved_to n p p' [] e = refl
-moved_to n p p' (m ∷ ms) e = ap (λ (q : Part). record { path = q ∷ m.path; says = m.says } ∷ map (moved (down n)) (map (below (p ∷ [])) ms)) e ∙ ap (λ l. below (p' ∷ []) m ∷ l) (moved_to n p p' ms e)
+moved_to n p p' (m ∷ ms) e = ap (λ (q : Part). record { path = q ∷ m.path; kind = m.kind } ∷ map (moved (down n)) (map (below (p ∷ [])) ms)) e ∙ ap (λ l. below (p' ∷ []) m ∷ l) (moved_to n p p' ms e)
 
 moved_keyed : (n : ℕ) (j : List ℕ) (js : List (List ℕ)) (ms : List Mention) → map (moved (down n)) (keyed_mentions (j ∷ js) ms) ≡ keyed_mentions (j ∷ js) ms
 moved_keyed n j [] ms = moved_same n (key j) ms refl
-moved_keyed n j (l ∷ js) ms = moved_same n (key j) (record { path = []; says = dotted } ∷ keyed_mentions (l ∷ js) ms) refl
+moved_keyed n j (l ∷ js) ms = moved_same n (key j) (record { path = []; kind = dotted } ∷ keyed_mentions (l ∷ js) ms) refl
 
 test_lt : (m n : ℕ) → m < n → nat_lt m n ≡ true
 test_lt m n h = lt-ltb m n h
@@ -122,34 +122,34 @@ test_lt m n h = lt-ltb m n h
 test_ge : (m n : ℕ) → n ≤ m → nat_lt m n ≡ false
 test_ge m n h = le-ltb m n h
 
--- those before number n stay, and those behind it move down
-pub named_before : (n k : ℕ) (name : Option Name) (f : Fact) (inside : List Mention) → k ≤ n → map (moved (down n)) (entry_mentions k name f inside) ≡ entry_mentions k name f inside
-named_before n k None f inside h = moved_same n (index k) (valued_mentions (item f) inside) (ap (λ b. index (cond b (k - 1) k)) (test_ge n k h))
-named_before n k (Some name) f inside h = moved_keyed n _ _ (valued_mentions (value f) inside)
+-- those before number n stay, and those after it move down
+pub named_before : (n k : ℕ) (name : Option Name) (f : Fact) (nested : List Mention) → k ≤ n → map (moved (down n)) (entry_mentions k name f nested) ≡ entry_mentions k name f nested
+named_before n k None f nested h = moved_same n (index k) (valued_mentions (item f) nested) (ap (λ b. index (cond b (k - 1) k)) (test_ge n k h))
+named_before n k (Some name) f nested h = moved_keyed n _ _ (valued_mentions (value f) nested)
 
-pub entries_behind : (n k : ℕ) (es : Entries) → n ≤ k → map (moved (down n)) (entries_said (k + 1) es) ≡ entries_said k es
-entries_behind n k none h = refl
-entries_behind n k (entry name body inside after comma rest) h =
-    map-append (moved (down n)) (entry_mentions (k + 1) name (body_fact body) (entries_said 0 inside)) (entries_said (k + 1 + 1) rest)
-    ∙ ap (λ l. l ++ map (moved (down n)) (entries_said (k + 1 + 1) rest)) (one name)
-    ∙ ap (λ l. entry_mentions k name (body_fact body) (entries_said 0 inside) ++ l) (entries_behind n (k + 1) rest (omega arith))
+pub entries_after : (n k : ℕ) (es : Entries) → n ≤ k → map (moved (down n)) (entries_mentions (k + 1) es) ≡ entries_mentions k es
+entries_after n k none h = refl
+entries_after n k (entry name body nested after comma rest) h =
+    map-append (moved (down n)) (entry_mentions (k + 1) name (body_fact body) (entries_mentions 0 nested)) (entries_mentions (k + 1 + 1) rest)
+    ∙ ap (λ l. l ++ map (moved (down n)) (entries_mentions (k + 1 + 1) rest)) (one name)
+    ∙ ap (λ l. entry_mentions k name (body_fact body) (entries_mentions 0 nested) ++ l) (entries_after n (k + 1) rest (omega arith))
   where
-    one : (name : Option Name) → map (moved (down n)) (entry_mentions (k + 1) name (body_fact body) (entries_said 0 inside)) ≡ entry_mentions k name (body_fact body) (entries_said 0 inside)
-    one None = moved_to n (index (k + 1)) (index k) (valued_mentions (item (body_fact body)) (entries_said 0 inside))
+    one : (name : Option Name) → map (moved (down n)) (entry_mentions (k + 1) name (body_fact body) (entries_mentions 0 nested)) ≡ entry_mentions k name (body_fact body) (entries_mentions 0 nested)
+    one None = moved_to n (index (k + 1)) (index k) (valued_mentions (item (body_fact body)) (entries_mentions 0 nested))
         (ap (λ b. index (cond b (k + 1 - 1) (k + 1))) (test_lt n (k + 1) (omega arith)) ∙ ap index (let e : k + 1 - 1 ≡ k = omega arith in e))
-    one (Some name') = moved_keyed n _ _ (valued_mentions (value (body_fact body)) (entries_said 0 inside))
+    one (Some name') = moved_keyed n _ _ (valued_mentions (value (body_fact body)) (entries_mentions 0 nested))
 
--- The run of one entry is gone, and those behind it have moved.
+-- The run of one entry is gone, and those after it have moved.
 pub record IsTaken (n k : ℕ) (from to : Entries) : Type 0 where
   pub before : List Mention
   pub old : List Mention
   pub behind : List Mention
-  pub was : entries_said k from ≡ before ++ (old ++ behind)
-  pub is : entries_said k to ≡ map (moved (down n)) (before ++ behind)
+  pub was : entries_mentions k from ≡ before ++ (old ++ behind)
+  pub is : entries_mentions k to ≡ map (moved (down n)) (before ++ behind)
 
 abbrev pub Unnamed : Entries → Type 0
 Unnamed none = ⊤
-Unnamed (entry name body inside after comma rest) = (name ≡ None) × Unnamed rest
+Unnamed (entry name body nested after comma rest) = (name ≡ None) × Unnamed rest
 
 its_number : (k n : ℕ) (name : Option Name) → same_path (step k name) (index n ∷ []) ≡ true → k ≡ n
 its_number k n None e = let x : index k ∷ [] ≡ index n ∷ [] = same_path-sound (index k ∷ []) (index n ∷ []) e in cc
@@ -169,68 +169,68 @@ taken_when : (P : Row → Type 0) (b : Bool) (c : Changed Row) → (b ≡ true �
 taken_when P true c h = h refl
 taken_when P false c h = tt
 
-taken_one : (n k : ℕ) (name : Option Name) (body : Body) (inside : Entries) (after : Gap) (comma : Option Gap) (rest : Entries) → n ≤ k
-    → IsTaken n k (entry name body inside after comma rest) rest
-taken_one n k name body inside after comma rest h = record {
+taken_one : (n k : ℕ) (name : Option Name) (body : Body) (nested : Entries) (after : Gap) (comma : Option Gap) (rest : Entries) → n ≤ k
+    → IsTaken n k (entry name body nested after comma rest) rest
+taken_one n k name body nested after comma rest h = record {
   before = [];
-  old = entry_mentions k name (body_fact body) (entries_said 0 inside);
-  behind = entries_said (k + 1) rest;
+  old = entry_mentions k name (body_fact body) (entries_mentions 0 nested);
+  behind = entries_mentions (k + 1) rest;
   was = refl;
-  is = sym (entries_behind n k rest h);
+  is = sym (entries_after n k rest h);
 }
 
-taken_two : (n k : ℕ) (gap : Gap) (name : Option Name) (body : Body) (inside : Entries) (after behind : Gap)
-    (name' : Option Name) (body' : Body) (inside' : Entries) (after' : Gap) (comma' : Option Gap) (rest' : Entries)
-    (further : Option (Changed Row)) → k ≤ n → name ≡ None → (b c : Bool) → same_path (step k name) (index n ∷ []) ≡ b → is_last_named (index n ∷ []) (k + 1) (entry name' body' inside' after' comma' rest') ≡ c
-    → (k + 1 ≤ n → EachTo (λ r. IsTaken n (k + 1) (entry name' body' inside' after' comma' rest') r.entries) further)
-    → EachTo {A = Row} (λ r. IsTaken n k (entry name body inside after (Some behind) (entry name' body' inside' after' comma' rest')) r.entries) (elim b [
-      | true ↦ Some (taken_first gap name body inside after behind (entry name' body' inside' after' comma' rest'))
+taken_two : (n k : ℕ) (gap : Gap) (name : Option Name) (body : Body) (nested : Entries) (after behind : Gap)
+    (name' : Option Name) (body' : Body) (nested' : Entries) (after' : Gap) (comma' : Option Gap) (rest' : Entries)
+    (further : Option (Changed Row)) → k ≤ n → name ≡ None → (b c : Bool) → same_path (step k name) (index n ∷ []) ≡ b → is_last_named (index n ∷ []) (k + 1) (entry name' body' nested' after' comma' rest') ≡ c
+    → (k + 1 ≤ n → EachTo (λ r. IsTaken n (k + 1) (entry name' body' nested' after' comma' rest') r.entries) further)
+    → EachTo {A = Row} (λ r. IsTaken n k (entry name body nested after (Some behind) (entry name' body' nested' after' comma' rest')) r.entries) (elim b [
+      | true ↦ Some (taken_first gap name body nested after behind (entry name' body' nested' after' comma' rest'))
       | false ↦ elim c [
-        | true ↦ Some (taken_last gap name body inside after behind name' body' inside' after')
-        | false ↦ within (λ r. record { gap = gap; entries = entry name body inside after (Some r.gap) r.entries })
-            (text_of gap ++ (entry_front name body inside ++ (text_of after ++ codes ","))) [] further
+        | true ↦ Some (taken_last gap name body nested after behind name' body' nested' after')
+        | false ↦ within (λ r. record { gap = gap; entries = entry name body nested after (Some r.gap) r.entries })
+            (text_of gap ++ (entry_prefix name body nested ++ (text_of after ++ codes ","))) [] further
       ]
     ])
-taken_two n k gap name body inside after behind name' body' inside' after' comma' rest' further h u true c e e' ih =
-    taken_one n k name body inside after (Some behind) (entry name' body' inside' after' comma' rest') (let same : k ≡ n = its_number k n name e in omega arith)
-taken_two n k gap name body inside after behind name' body' inside' after' None none further h u false true e e' ih = record {
-  before = entry_mentions k name (body_fact body) (entries_said 0 inside);
-  old = entry_mentions (k + 1) name' (body_fact body') (entries_said 0 inside');
+taken_two n k gap name body nested after behind name' body' nested' after' comma' rest' further h u true c e e' ih =
+    taken_one n k name body nested after (Some behind) (entry name' body' nested' after' comma' rest') (let same : k ≡ n = its_number k n name e in omega arith)
+taken_two n k gap name body nested after behind name' body' nested' after' None none further h u false true e e' ih = record {
+  before = entry_mentions k name (body_fact body) (entries_mentions 0 nested);
+  old = entry_mentions (k + 1) name' (body_fact body') (entries_mentions 0 nested');
   behind = [];
   was = refl;
-  is = ap (λ l. l ++ []) (sym (named_before n k name (body_fact body) (entries_said 0 inside) h)) ∙ sym (map-append (moved (down n)) (entry_mentions k name (body_fact body) (entries_said 0 inside)) []);
+  is = ap (λ l. l ++ []) (sym (named_before n k name (body_fact body) (entries_mentions 0 nested) h)) ∙ sym (map-append (moved (down n)) (entry_mentions k name (body_fact body) (entries_mentions 0 nested)) []);
 }
-taken_two n k gap name body inside after behind name' body' inside' after' (Some g) rest' further h u false true e e' ih = absurd cc
-taken_two n k gap name body inside after behind name' body' inside' after' None (entry n2 b2 i2 a2 c2 r2) further h u false true e e' ih = absurd cc
-taken_two n k gap name body inside after behind name' body' inside' after' comma' rest' further h u false false e e' ih =
-    let first : List Mention = entry_mentions k name (body_fact body) (entries_said 0 inside) in
-    to_within (λ r. IsTaken n (k + 1) (entry name' body' inside' after' comma' rest') r.entries)
-    (λ r. IsTaken n k (entry name body inside after (Some behind) (entry name' body' inside' after' comma' rest')) r.entries)
-    (λ r. record { gap = gap; entries = entry name body inside after (Some r.gap) r.entries }) _ [] further
+taken_two n k gap name body nested after behind name' body' nested' after' (Some g) rest' further h u false true e e' ih = absurd cc
+taken_two n k gap name body nested after behind name' body' nested' after' None (entry n2 b2 i2 a2 c2 r2) further h u false true e e' ih = absurd cc
+taken_two n k gap name body nested after behind name' body' nested' after' comma' rest' further h u false false e e' ih =
+    let first : List Mention = entry_mentions k name (body_fact body) (entries_mentions 0 nested) in
+    to_within (λ r. IsTaken n (k + 1) (entry name' body' nested' after' comma' rest') r.entries)
+    (λ r. IsTaken n k (entry name body nested after (Some behind) (entry name' body' nested' after' comma' rest')) r.entries)
+    (λ r. record { gap = gap; entries = entry name body nested after (Some r.gap) r.entries }) _ [] further
     (λ r t. record {
       before = first ++ t.before;
       old = t.old;
       behind = t.behind;
       was = ap (λ l. first ++ l) t.was ∙ sym (append_assoc first t.before (t.old ++ t.behind));
-      is = ap (λ l. first ++ l) t.is ∙ ap (λ l. l ++ map (moved (down n)) (t.before ++ t.behind)) (sym (named_before n k name (body_fact body) (entries_said 0 inside) h))
+      is = ap (λ l. first ++ l) t.is ∙ ap (λ l. l ++ map (moved (down n)) (t.before ++ t.behind)) (sym (named_before n k name (body_fact body) (entries_mentions 0 nested) h))
           ∙ sym (map-append (moved (down n)) first (t.before ++ t.behind)) ∙ ap (map (moved (down n))) (sym (append_assoc first t.before t.behind));
     }) (ih (next_number k n name u e h))
 
--- Taking an item out of an array: its run is gone, and the items behind it have moved down by one.
+-- Taking an item out of an array: its run is gone, and the items after it have moved down by one.
 pub item_taken : (n k : ℕ) (gap : Gap) (es : Entries) → k ≤ n → Unnamed es → EachTo (λ r. IsTaken n k es r.entries) (take_out (index n ∷ []) k gap es)
 item_taken n k gap none h u = tt
-item_taken n k gap (entry name body inside after None none) h u =
-    taken_when (λ r. IsTaken n k (entry name body inside after None none) r.entries) (same_path (step k name) (index n ∷ [])) (taken_only gap name body inside after)
-    (λ e. taken_one n k name body inside after None none (let same : k ≡ n = its_number k n name e in omega arith))
-item_taken n k gap (entry name body inside after None (entry name' body' inside' after' comma' rest')) h u = tt
-item_taken n k gap (entry name body inside after (Some behind) none) h u =
-    taken_when (λ r. IsTaken n k (entry name body inside after (Some behind) none) r.entries) (same_path (step k name) (index n ∷ [])) (taken_first gap name body inside after behind none)
-    (λ e. taken_one n k name body inside after (Some behind) none (let same : k ≡ n = its_number k n name e in omega arith))
-item_taken n k gap (entry name body inside after (Some behind) (entry name' body' inside' after' comma' rest')) h u =
-    taken_two n k gap name body inside after behind name' body' inside' after' comma' rest'
-    (take_out (index n ∷ []) (k + 1) behind (entry name' body' inside' after' comma' rest')) h u.0
-    (same_path (step k name) (index n ∷ [])) (is_last_named (index n ∷ []) (k + 1) (entry name' body' inside' after' comma' rest')) refl refl
-    (λ g. item_taken n (k + 1) behind (entry name' body' inside' after' comma' rest') g u.1)
+item_taken n k gap (entry name body nested after None none) h u =
+    taken_when (λ r. IsTaken n k (entry name body nested after None none) r.entries) (same_path (step k name) (index n ∷ [])) (taken_only gap name body nested after)
+    (λ e. taken_one n k name body nested after None none (let same : k ≡ n = its_number k n name e in omega arith))
+item_taken n k gap (entry name body nested after None (entry name' body' nested' after' comma' rest')) h u = tt
+item_taken n k gap (entry name body nested after (Some behind) none) h u =
+    taken_when (λ r. IsTaken n k (entry name body nested after (Some behind) none) r.entries) (same_path (step k name) (index n ∷ [])) (taken_first gap name body nested after behind none)
+    (λ e. taken_one n k name body nested after (Some behind) none (let same : k ≡ n = its_number k n name e in omega arith))
+item_taken n k gap (entry name body nested after (Some behind) (entry name' body' nested' after' comma' rest')) h u =
+    taken_two n k gap name body nested after behind name' body' nested' after' comma' rest'
+    (take_out (index n ∷ []) (k + 1) behind (entry name' body' nested' after' comma' rest')) h u.0
+    (same_path (step k name) (index n ∷ [])) (is_last_named (index n ∷ []) (k + 1) (entry name' body' nested' after' comma' rest')) refl refl
+    (λ g. item_taken n (k + 1) behind (entry name' body' nested' after' comma' rest') g u.1)
 
 not_it : (n : ℕ) (p : Part) (ps : List Part) (b : Bool) → same_part (index n) p ≡ b → strip (index n ∷ []) (p ∷ ps) ≡ None → same_part (index n) p ≡ false
 not_it n p ps true e h =

@@ -83,10 +83,10 @@ of_comma profile place (Some g) (entry a b c d e f) h = ((λ e. absurd cc), of_g
 
 of_entries : (profile : Profile) (place : Place) (es : Entries) → AreEntries profile place es → AllOf IsSound (entries_leaves es)
 of_entries profile place none h = tt
-of_entries profile place (entry name body inside after comma rest) (hn, hb, hi, ha, hc, hr) =
+of_entries profile place (entry name body nested after comma rest) (hn, hb, hi, ha, hc, hr) =
     all_join IsSound (named_leaves name) _ (of_named profile place name hn)
     (all_join IsSound (opening body) _ (of_opening profile body hb)
-    (all_join IsSound (entries_leaves inside) _ (of_entries profile (place_in body) inside hi)
+    (all_join IsSound (entries_leaves nested) _ (of_entries profile (place_in body) nested hi)
     (all_join IsSound (closing body) _ (of_closing body)
     (all_join IsSound after _ (of_gap profile place after ha)
     (all_join IsSound (comma_leaves comma) _ (of_comma profile place comma rest hc) (of_entries profile place rest hr))))))
@@ -95,7 +95,7 @@ of_content : (profile : Profile) (c : Content) → IsContent profile c → AllOf
 of_content profile blank h = tt
 of_content profile (keyval n v) h =
     all_join IsSound (name_leaves n) _ (of_name profile n h.0)
-    (all_join IsSound (opening v.body) _ (of_opening profile v.body h.1.body) (all_join IsSound (entries_leaves v.inside) _ (of_entries profile (place_in v.body) v.inside h.1.inside) (of_closing v.body)))
+    (all_join IsSound (opening v.body) _ (of_opening profile v.body h.1.body) (all_join IsSound (entries_leaves v.nested) _ (of_entries profile (place_in v.body) v.nested h.1.nested) (of_closing v.body)))
 of_content profile (header b k a) (hb, hk, ha) =
     ((λ e. absurd cc), all_join IsSound b _ (of_space b hb) (all_join IsSound (key_leaves k) _ (of_key profile k hk) (all_join IsSound a _ (of_space a ha) ((λ e. absurd cc), tt))))
 of_content profile (element b k a) (hb, hk, ha) =

@@ -7,9 +7,9 @@ use Rattle.std.proofs.lemmas.Slice.Eq.{bytes_eq-Decides}
 use Rattle.std.proofs.lemmas.Bool.{and_parts, eqb-true, eq-eqb}
 use Rattle.std.proofs.lemmas.List.Elements.{filter-append}
 use Rattle.keep_path.specs.Path.{Part, key, index, same_part, same_path}
-use Rattle.keep_meaning.specs.Marks.{Saying, through, past, define, element, dotted, value, begun, passed, item, Mention, below, fact_of}
+use Rattle.keep_meaning.specs.Marks.{MentionKind, through, past, define, element, dotted, value, begun, passed, item, Mention, below, fact_of}
 use Rattle.keep_law.specs.Look.{strip}
-use Rattle.keep_meaning.specs.Nodes.{is_at, says_at, fact_at, first_of}
+use Rattle.keep_meaning.specs.Nodes.{is_at, kinds_at, fact_at, first_of}
 
 -- ---- all pairs of a list
 
@@ -86,19 +86,19 @@ across_right R (x ∷ xs) ys zs h = (all_right (R x) ys zs h.0, across_right R x
 
 -- ---- the rules over mentions
 
--- a value and an item stand alone at their path
-abbrev pub exclusive : Saying → Bool
+-- a value and an item are alone at their path
+abbrev pub exclusive : MentionKind → Bool
 exclusive (value f) = true
 exclusive (item f) = true
 exclusive _ = false
 
 -- not told of an element by the way
-abbrev pub solid : Saying → Bool
+abbrev pub solid : MentionKind → Bool
 solid begun = false
 solid passed = false
 solid _ = true
 
-abbrev pub table_allows : Saying → Saying → Bool
+abbrev pub table_allows : MentionKind → MentionKind → Bool
 table_allows through through = true
 table_allows through define = true
 table_allows through dotted = true
@@ -115,11 +115,11 @@ table_allows _ begun = true
 table_allows _ passed = true
 table_allows _ _ = false
 
-abbrev pub says_allow : Saying → Saying → Bool
-says_allow a b = cond (exclusive a) (not (solid b)) (cond (exclusive b) (not (solid a)) (table_allows a b))
+abbrev pub kinds_allow : MentionKind → MentionKind → Bool
+kinds_allow a b = cond (exclusive a) (not (solid b)) (cond (exclusive b) (not (solid a)) (table_allows a b))
 
 abbrev pub Allowed : Mention → Mention → Type 0
-Allowed a b = a.path ≡ b.path → says_allow a.says b.says ≡ true
+Allowed a b = a.path ≡ b.path → kinds_allow a.kind b.kind ≡ true
 
 abbrev pub Rules : List Mention → Type 0
 Rules = Pairs Allowed
@@ -127,40 +127,40 @@ Rules = Pairs Allowed
 -- ---- paths under a path
 
 -- not at or under the path
-abbrev pub IsApart : List Part → Mention → Type 0
-IsApart p m = strip p m.path ≡ None
+abbrev pub IsDisjoint : List Part → Mention → Type 0
+IsDisjoint p m = strip p m.path ≡ None
 
 -- at or under it
 abbrev pub IsUnder : List Part → Mention → Type 0
 IsUnder p m = (r : List Part) × (strip p m.path ≡ Some r)
 
-apart_under : (p : List Part) (a b : Mention) → IsApart p a → IsUnder p b → a.path ≡ b.path → ⊥
-apart_under p a b h g e = let k : None ≡ Some g.0 = sym h ∙ ap (strip p) e ∙ g.1 in absurd cc
+disjoint_under : (p : List Part) (a b : Mention) → IsDisjoint p a → IsUnder p b → a.path ≡ b.path → ⊥
+disjoint_under p a b h g e = let k : None ≡ Some g.0 = sym h ∙ ap (strip p) e ∙ g.1 in absurd cc
 
-across_apart : (p : List Part) (xs ys : List Mention) → AllOf (IsApart p) xs → AllOf (IsUnder p) ys → Across Allowed xs ys
-across_apart p [] ys h g = tt
-across_apart p (x ∷ xs) ys h g = (all_map (IsUnder p) (Allowed x) (λ y u e. absurd (apart_under p x y h.0 u e)) ys g, across_apart p xs ys h.1 g)
+across_disjoint : (p : List Part) (xs ys : List Mention) → AllOf (IsDisjoint p) xs → AllOf (IsUnder p) ys → Across Allowed xs ys
+across_disjoint p [] ys h g = tt
+across_disjoint p (x ∷ xs) ys h g = (all_map (IsUnder p) (Allowed x) (λ y u e. absurd (disjoint_under p x y h.0 u e)) ys g, across_disjoint p xs ys h.1 g)
 
-across_under : (p : List Part) (xs ys : List Mention) → AllOf (IsUnder p) xs → AllOf (IsApart p) ys → Across Allowed xs ys
+across_under : (p : List Part) (xs ys : List Mention) → AllOf (IsUnder p) xs → AllOf (IsDisjoint p) ys → Across Allowed xs ys
 across_under p [] ys h g = tt
-across_under p (x ∷ xs) ys h g = (all_map (IsApart p) (Allowed x) (λ y a e. absurd (apart_under p y x a h.0 (sym e))) ys g, across_under p xs ys h.1 g)
+across_under p (x ∷ xs) ys h g = (all_map (IsDisjoint p) (Allowed x) (λ y a e. absurd (disjoint_under p y x a h.0 (sym e))) ys g, across_under p xs ys h.1 g)
 
 -- A run at and under a path, with nothing else there, may be replaced by another.
 pub rules_replaced : (p : List Part) (before old new behind : List Mention) → Rules (before ++ (old ++ behind))
-    → AllOf (IsApart p) before → AllOf (IsApart p) behind → AllOf (IsUnder p) new → Rules new → Rules (before ++ (new ++ behind))
+    → AllOf (IsDisjoint p) before → AllOf (IsDisjoint p) behind → AllOf (IsUnder p) new → Rules new → Rules (before ++ (new ++ behind))
 rules_replaced p before old new behind h hb hh hn rn =
     let outer = pairs_split Allowed before (old ++ behind) h in
     let inner = pairs_split Allowed old behind outer.right in
     pairs_join Allowed before (new ++ behind) (record {
       left = outer.left;
       right = pairs_join Allowed new behind (record { left = rn; right = inner.right; across = across_under p new behind hn hh });
-      across = across_join Allowed before new behind (across_apart p before new hb hn) (across_right Allowed before old behind outer.across);
+      across = across_join Allowed before new behind (across_disjoint p before new hb hn) (across_right Allowed before old behind outer.across);
     })
 
 -- ---- the tree
 
-pub says_at-append : (q : List Part) (xs ys : List Mention) → says_at q (xs ++ ys) ≡ says_at q xs ++ says_at q ys
-says_at-append q xs ys = ap (map (λ m. m.says)) (filter-append (is_at q) xs ys) ∙ map-append (λ m. m.says) (filter (is_at q) xs) (filter (is_at q) ys)
+pub kinds_at-append : (q : List Part) (xs ys : List Mention) → kinds_at q (xs ++ ys) ≡ kinds_at q xs ++ kinds_at q ys
+kinds_at-append q xs ys = ap (map (λ m. m.kind)) (filter-append (is_at q) xs ys) ∙ map-append (λ m. m.kind) (filter (is_at q) xs) (filter (is_at q) ys)
 
 -- the tests of parts and paths tell that they are equal
 pub same_part-sound : (p q : Part) → same_part p q ≡ true → p ≡ q
@@ -187,7 +187,7 @@ pub same_path-refl : (p : List Part) → same_path p p ≡ true
 same_path-refl [] = refl
 same_path-refl (a ∷ p) = rw (same_part-refl a) (same_path-refl p)
 
--- ---- fronts of paths
+-- ---- prefixes of paths
 
 pub strip-append : (p r : List Part) → strip p (p ++ r) ≡ Some r
 strip-append [] r = refl
@@ -202,7 +202,7 @@ strip-sound [] q r h = let e : q ≡ r = cc in e
 strip-sound (a ∷ p) [] r h = absurd cc
 strip-sound (a ∷ p) (b ∷ q) r h = strip_step a b p q r (same_part a b) refl (strip-sound p q r) h
 
--- beyond the same front, a path goes on under the rest
+-- beyond the same prefix, a path continues under the rest
 pub strip_both : (s p q : List Part) → strip (s ++ p) (s ++ q) ≡ strip p q
 strip_both [] p q = refl
 strip_both (a ∷ s) p q = rw (strip, same_part-refl a) (strip_both s p q)
@@ -217,58 +217,58 @@ pub none_or_some : (o : Option (List Part)) → (o ≡ None) ⊎ ((r : List Part
 none_or_some None = inl refl
 none_or_some (Some r) = inr (r, refl)
 
--- what is apart from the shorter path is apart from the longer
-pub apart_longer : (s p : List Part) (m : Mention) → IsApart s m → IsApart (s ++ p) m
-apart_longer s p m h = elim (none_or_some (strip (s ++ p) m.path)) [
+-- what is disjoint from the shorter path is disjoint from the longer
+pub disjoint_longer : (s p : List Part) (m : Mention) → IsDisjoint s m → IsDisjoint (s ++ p) m
+disjoint_longer s p m h = elim (none_or_some (strip (s ++ p) m.path)) [
   | inl e ↦ e
   | inr r ↦ (let k : None ≡ Some (p ++ r.0) = sym h ∙ strip_shorter s p m.path r.0 r.1 in absurd cc)
 ]
 
 -- ---- what is said at a path
 
-is_at-apart : (p : List Part) (m : Mention) (q r : List Part) → IsApart p m → strip p q ≡ Some r → (b : Bool) → is_at q m ≡ b → is_at q m ≡ false
-is_at-apart p m q r h u true e = let x : m.path ≡ q = same_path-sound m.path q e in let k : None ≡ Some r = sym h ∙ ap (strip p) x ∙ u in absurd cc
-is_at-apart p m q r h u false e = e
+is_at-disjoint : (p : List Part) (m : Mention) (q r : List Part) → IsDisjoint p m → strip p q ≡ Some r → (b : Bool) → is_at q m ≡ b → is_at q m ≡ false
+is_at-disjoint p m q r h u true e = let x : m.path ≡ q = same_path-sound m.path q e in let k : None ≡ Some r = sym h ∙ ap (strip p) x ∙ u in absurd cc
+is_at-disjoint p m q r h u false e = e
 
--- nothing at a path under p is said by what is apart from p
-pub says_at-apart : (p q r : List Part) (ms : List Mention) → AllOf (IsApart p) ms → strip p q ≡ Some r → says_at q ms ≡ []
-says_at-apart p q r [] h u = refl
-says_at-apart p q r (m ∷ ms) h u = rw (is_at-apart p m q r h.0 u (is_at q m) refl) (says_at-apart p q r ms h.1 u)
+-- nothing at a path under p is said by what is disjoint from p
+pub kinds_at-disjoint : (p q r : List Part) (ms : List Mention) → AllOf (IsDisjoint p) ms → strip p q ≡ Some r → kinds_at q ms ≡ []
+kinds_at-disjoint p q r [] h u = refl
+kinds_at-disjoint p q r (m ∷ ms) h u = rw (is_at-disjoint p m q r h.0 u (is_at q m) refl) (kinds_at-disjoint p q r ms h.1 u)
 
 is_at-under : (p : List Part) (m : Mention) (q r : List Part) → strip p m.path ≡ Some r → strip p q ≡ None → (b : Bool) → is_at q m ≡ b → is_at q m ≡ false
 is_at-under p m q r h u true e = let x : m.path ≡ q = same_path-sound m.path q e in let k : None ≡ Some r = sym u ∙ ap (strip p) (sym x) ∙ h in absurd cc
 is_at-under p m q r h u false e = e
 
 -- nothing elsewhere is said by what is under p
-pub says_at-under : (p q : List Part) (ms : List Mention) → AllOf (IsUnder p) ms → strip p q ≡ None → says_at q ms ≡ []
-says_at-under p q [] h u = refl
-says_at-under p q (m ∷ ms) h u = rw (is_at-under p m q h.0.0 h.0.1 u (is_at q m) refl) (says_at-under p q ms h.1 u)
+pub kinds_at-under : (p q : List Part) (ms : List Mention) → AllOf (IsUnder p) ms → strip p q ≡ None → kinds_at q ms ≡ []
+kinds_at-under p q [] h u = refl
+kinds_at-under p q (m ∷ ms) h u = rw (is_at-under p m q h.0.0 h.0.1 u (is_at q m) refl) (kinds_at-under p q ms h.1 u)
 
 -- seen from outside, the same is said of the longer path
 same_path-both : (p x r : List Part) → same_path (p ++ x) (p ++ r) ≡ same_path x r
 same_path-both [] x r = refl
 same_path-both (a ∷ p) x r = rw (same_part-refl a) (same_path-both p x r)
 
-says_at-step : (p r : List Part) (m : Mention) (ms : List Mention) → says_at (p ++ r) (map (below p) ms) ≡ says_at r ms → (b : Bool) → is_at r m ≡ b
-    → says_at (p ++ r) (map (below p) (m ∷ ms)) ≡ says_at r (m ∷ ms)
-says_at-step p r m ms h true e = rw (same_path-both p m.path r, e) (ap (λ l. m.says ∷ l) h)
-says_at-step p r m ms h false e = rw (same_path-both p m.path r, e) h
+kinds_at-step : (p r : List Part) (m : Mention) (ms : List Mention) → kinds_at (p ++ r) (map (below p) ms) ≡ kinds_at r ms → (b : Bool) → is_at r m ≡ b
+    → kinds_at (p ++ r) (map (below p) (m ∷ ms)) ≡ kinds_at r (m ∷ ms)
+kinds_at-step p r m ms h true e = rw (same_path-both p m.path r, e) (ap (λ l. m.kind ∷ l) h)
+kinds_at-step p r m ms h false e = rw (same_path-both p m.path r, e) h
 
-pub says_at-below : (p r : List Part) (ms : List Mention) → says_at (p ++ r) (map (below p) ms) ≡ says_at r ms
-says_at-below p r [] = refl
-says_at-below p r (m ∷ ms) = says_at-step p r m ms (says_at-below p r ms) (is_at r m) refl
+pub kinds_at-below : (p r : List Part) (ms : List Mention) → kinds_at (p ++ r) (map (below p) ms) ≡ kinds_at r ms
+kinds_at-below p r [] = refl
+kinds_at-below p r (m ∷ ms) = kinds_at-step p r m ms (kinds_at-below p r ms) (is_at r m) refl
 
 -- The facts where a run is replaced: under its path those of the run, and elsewhere those from before.
-pub fact_under : (p q r : List Part) (before new behind : List Mention) → AllOf (IsApart p) before → AllOf (IsApart p) behind → strip p q ≡ Some r
+pub fact_under : (p q r : List Part) (before new behind : List Mention) → AllOf (IsDisjoint p) before → AllOf (IsDisjoint p) behind → strip p q ≡ Some r
     → fact_at q (before ++ (new ++ behind)) ≡ fact_at q new
 fact_under p q r before new behind hb hh u =
     ap (λ l. first_of (filter_map fact_of l))
-    (says_at-append q before (new ++ behind) ∙ ap (λ l. l ++ says_at q (new ++ behind)) (says_at-apart p q r before hb u)
-    ∙ says_at-append q new behind ∙ ap (λ l. says_at q new ++ l) (says_at-apart p q r behind hh u) ∙ append-nil (says_at q new))
+    (kinds_at-append q before (new ++ behind) ∙ ap (λ l. l ++ kinds_at q (new ++ behind)) (kinds_at-disjoint p q r before hb u)
+    ∙ kinds_at-append q new behind ∙ ap (λ l. kinds_at q new ++ l) (kinds_at-disjoint p q r behind hh u) ∙ append-nil (kinds_at q new))
 
 pub fact_elsewhere : (p q : List Part) (before old new behind : List Mention) → AllOf (IsUnder p) old → AllOf (IsUnder p) new → strip p q ≡ None
     → fact_at q (before ++ (new ++ behind)) ≡ fact_at q (before ++ (old ++ behind))
 fact_elsewhere p q before old new behind ho hn u =
     ap (λ l. first_of (filter_map fact_of l))
-    (says_at-append q before (new ++ behind) ∙ ap (λ l. says_at q before ++ l) (says_at-append q new behind ∙ ap (λ l. l ++ says_at q behind) (says_at-under p q new hn u))
-    ∙ sym (says_at-append q before (old ++ behind) ∙ ap (λ l. says_at q before ++ l) (says_at-append q old behind ∙ ap (λ l. l ++ says_at q behind) (says_at-under p q old ho u))))
+    (kinds_at-append q before (new ++ behind) ∙ ap (λ l. kinds_at q before ++ l) (kinds_at-append q new behind ∙ ap (λ l. l ++ kinds_at q behind) (kinds_at-under p q new hn u))
+    ∙ sym (kinds_at-append q before (old ++ behind) ∙ ap (λ l. kinds_at q before ++ l) (kinds_at-append q old behind ∙ ap (λ l. l ++ kinds_at q behind) (kinds_at-under p q old ho u))))

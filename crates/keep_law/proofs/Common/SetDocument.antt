@@ -5,19 +5,19 @@ use Rattle.std.proofs.lemmas.List.{append-nil}
 use Rattle.keep_syntax.specs.Tree.{Name, name_leaves, Value, Content, blank, keyval, header, element, Line, Ended, Document, ended_leaves, text_of}
 use Rattle.keep_meaning.specs.Fact.{Fact}
 use Rattle.keep_path.specs.Path.{Part, key, same_path}
-use Rattle.keep_meaning.specs.Marks.{Saying, value, item, Mention, below, fact_of, Reading, start}
-use Rattle.keep_meaning.specs.Meaning.{key_value, further_value, keys_of, body_fact, valued_mentions, keyed_mentions, entries_said, step, keyval_said, line_said, behind_line, lines_said, reading_behind, line_of, lines, said_in}
+use Rattle.keep_meaning.specs.Marks.{MentionKind, value, item, Mention, below, fact_of, Reading, start}
+use Rattle.keep_meaning.specs.Meaning.{key_value, further_value, keys_of, body_fact, valued_mentions, keyed_mentions, entries_mentions, step, keyval_mentions, line_mentions, after_line, lines_mentions, reading_after_lines, line_of, lines, mentions_in}
 use Rattle.keep_law.specs.Look.{strip}
-use Rattle.keep_meaning.specs.Nodes.{says_at, fact_at, first_of}
+use Rattle.keep_meaning.specs.Nodes.{kinds_at, fact_at, first_of}
 use Rattle.keep_law.specs.Changed.{Changed, within}
 use Rattle.keep_law.specs.Values.{in_value, replacement}
 use Rattle.keep_law.specs.Lines.{Page, page_text, in_content, in_line, in_lines, with_page}
 use Rattle.keep_law.specs.Edits.{Edit, set, change}
 use Rattle.keep_law.specs.Trees.{IsTreeOf, fact_from, given, from as from_path}
-use Rattle.keep_meaning.specs.Meaning.{value_said}
-use Rattle.keep_law.proofs.Common.Runs.{says_allow, solid, AllOf, SomeOf, pairs_split, all_map, some_left, some_right, Allowed, Rules, exclusive, IsApart, IsUnder, strip-sound, strip-append, rules_replaced, says_at-below, fact_under, fact_elsewhere}
-use Rattle.keep_law.proofs.Common.SetLaw.{IsSolidAt, IsAloneAt, IsSet, run, set_below, set_beside, set_named, rules_below, rules_named, tag_of, ValueSet, set_value, EachTo, to_within, to_or_else, clash_before, clash_behind, apart_closed, all_longer, keyed_split, some_alone_below}
-use Rattle.keep_law.proofs.Common.LineLaws.{Reaches, EndsInKey, ClosedFrom, lines_closed, lines_said-append, never_root}
+use Rattle.keep_meaning.specs.Meaning.{mentions_of_value}
+use Rattle.keep_law.proofs.Common.Runs.{kinds_allow, solid, AllOf, SomeOf, pairs_split, all_map, some_left, some_right, Allowed, Rules, exclusive, IsDisjoint, IsUnder, strip-sound, strip-append, rules_replaced, kinds_at-below, fact_under, fact_elsewhere}
+use Rattle.keep_law.proofs.Common.SetLaw.{IsSolidAt, IsAloneAt, IsSet, run, set_below, set_beside, set_named, rules_below, rules_named, tag_of, ValueSet, set_value, EachTo, to_within, to_or_else, clash_before, clash_after, disjoint_closed, all_longer, keyed_split, some_alone_below}
+use Rattle.keep_law.proofs.Common.LineLaws.{Reaches, EndsInKey, ClosedFrom, lines_closed, lines_mentions-append, never_root}
 
 pub record ContentSet (body path : List Part) (new : Value) (from to : Content) : Type 0 where
   pub name : Name
@@ -27,7 +27,7 @@ pub record ContentSet (body path : List Part) (new : Value) (from to : Content) 
   pub was : from ≡ keyval name old
   pub is : to ≡ keyval name now
   pub place : path ≡ (body ++ step 0 (Some name)) ++ more
-  pub changed : Rules (entries_said 0 old.inside) → ValueSet (tag_of (Some name)) more new old.body old.inside now
+  pub changed : Rules (entries_mentions 0 old.nested) → ValueSet (tag_of (Some name)) more new old.body old.nested now
 
 later : {A : Type 0} (R : Type 0) (P : A → Type 0) (o : Option (Changed A)) → (R → EachTo P o) → EachTo (λ x. R → P x) o
 later R P None h = tt
@@ -40,10 +40,10 @@ content_set-by : (body path : List Part) (new : Value) (name : Name) (v : Value)
     ])
 content_set-by body path new name v None e = tt
 content_set-by body path new name v (Some more) e =
-    to_within (λ now. Rules (entries_said 0 v.inside) → ValueSet (tag_of (Some name)) more new v.body v.inside now) (ContentSet body path new (keyval name v))
+    to_within (λ now. Rules (entries_mentions 0 v.nested) → ValueSet (tag_of (Some name)) more new v.body v.nested now) (ContentSet body path new (keyval name v))
     (keyval name) (text_of (name_leaves name)) [] (in_value (replacement new) more v)
     (λ now h. record { name = name; old = v; now = now; more = more; was = refl; is = refl; place = strip-sound (body ++ step 0 (Some name)) path more e; changed = h })
-    (later (Rules (entries_said 0 v.inside)) (ValueSet (tag_of (Some name)) more new v.body v.inside) (in_value (replacement new) more v) (λ rules. set_value (Some name) new more v rules))
+    (later (Rules (entries_mentions 0 v.nested)) (ValueSet (tag_of (Some name)) more new v.body v.nested) (in_value (replacement new) more v) (λ rules. set_value (Some name) new more v rules))
 
 content_set : (body path : List Part) (new : Value) (c : Content) → EachTo (ContentSet body path new c) (in_content (replacement new) body path c)
 content_set body path new blank = tt
@@ -59,7 +59,7 @@ pub record LinesSet (r : Reading) (path : List Part) (new : Value) (from to : Li
   pub now : Line
   pub was : from ≡ pre ++ old ∷ post
   pub is : to ≡ pre ++ now ∷ post
-  pub content : ContentSet (reading_behind r pre).body path new old.content now.content
+  pub content : ContentSet (reading_after_lines r pre).body path new old.content now.content
 
 abbrev pub page_lines : Page → List Line
 page_lines p = map line_of p.ended ++ p.last ∷ []
@@ -77,9 +77,9 @@ lines_set path new r (e ∷ es) last =
     (λ l h. record { pre = []; post = map line_of es ++ last ∷ []; old = e.line; now = l; was = refl; is = refl; content = h })
     (to_within (ContentSet r.body path new e.line.content) (λ l. ContentSet r.body path new e.line.content l.content) (λ c. record e.line { content = c }) _ _ (in_content (replacement new) r.body path e.line.content)
     (λ c h. h) (content_set r.body path new e.line.content)))
-    (to_within (λ p. LinesSet (behind_line r e.line) path new (map line_of es ++ last ∷ []) (page_lines p)) (λ p. LinesSet r path new (map line_of (e ∷ es) ++ last ∷ []) (page_lines p)) (λ b. record { ended = e ∷ b.ended; last = b.last }) (text_of (ended_leaves e)) [] (in_lines (in_line (replacement new) path) (behind_line r e.line) es last)
+    (to_within (λ p. LinesSet (after_line r e.line) path new (map line_of es ++ last ∷ []) (page_lines p)) (λ p. LinesSet r path new (map line_of (e ∷ es) ++ last ∷ []) (page_lines p)) (λ b. record { ended = e ∷ b.ended; last = b.last }) (text_of (ended_leaves e)) [] (in_lines (in_line (replacement new) path) (after_line r e.line) es last)
     (λ p h. record { pre = e.line ∷ h.pre; post = h.post; old = h.old; now = h.now; was = ap (λ l. e.line ∷ l) h.was; is = ap (λ l. e.line ∷ l) h.is; content = h.content })
-    (lines_set path new (behind_line r e.line) es last))
+    (lines_set path new (after_line r e.line) es last))
 
 -- ---- the paths of keyvals
 
@@ -94,69 +94,69 @@ longer q b bs u =
     let e : length q ≡ length ((q ++ b ∷ bs) ++ u.0) = ap length (strip-sound (q ++ b ∷ bs) q u.0 u.1) in
     omega (arith, e, length-append (q ++ b ∷ bs) u.0, length-append q (b ∷ bs))
 
-pub keyval_alone : (body : List Part) (name : Name) (v : Value) → SomeOf (IsAloneAt (body ++ step 0 (Some name))) (map (below body) (keyval_said name v))
+pub keyval_alone : (body : List Part) (name : Name) (v : Value) → SomeOf (IsAloneAt (body ++ step 0 (Some name))) (map (below body) (keyval_mentions name v))
 keyval_alone body name v =
     let p : List Part = map key (keys_of name.key) in
-    let ms : List Mention = valued_mentions (value (body_fact v.body)) (entries_said 0 v.inside) in
+    let ms : List Mention = valued_mentions (value (body_fact v.body)) (entries_mentions 0 v.nested) in
     some_alone_below body p (keyed_mentions (keys_of name.key) ms)
     (subst (λ (l : List Mention). SomeOf (IsAloneAt p) l) (sym (keyed_split (keys_of name.key) ms))
-    (some_right (IsAloneAt p) (keyed_mentions (keys_of name.key) []) (map (below p) ms) (inl (record { path = append-nil p; says = refl }))))
+    (some_right (IsAloneAt p) (keyed_mentions (keys_of name.key) []) (map (below p) ms) (inl (record { path = append-nil p; kind = refl }))))
 
-pub from_closed : (p at : List Part) (ms : List Mention) → ClosedFrom p at ms ms → (Reaches p at → ⊥) → (SomeOf (IsSolidAt p) ms → ⊥) → AllOf (IsApart p) ms
+pub from_closed : (p at : List Part) (ms : List Mention) → ClosedFrom p at ms ms → (Reaches p at → ⊥) → (SomeOf (IsSolidAt p) ms → ⊥) → AllOf (IsDisjoint p) ms
 from_closed p at ms h f g =
-    apart_closed p ms ms (all_map (λ m. IsUnder p m → SomeOf (IsSolidAt p) ms ⊎ Reaches p at) (λ m. IsUnder p m → SomeOf (IsSolidAt p) ms) (λ m k u. elim (k u) [ inl s ↦ s | inr v ↦ absurd (f v) ]) ms h) g
+    disjoint_closed p ms ms (all_map (λ m. IsUnder p m → SomeOf (IsSolidAt p) ms ⊎ Reaches p at) (λ m. IsUnder p m → SomeOf (IsSolidAt p) ms) (λ m k u. elim (k u) [ inl s ↦ s | inr v ↦ absurd (f v) ]) ms h) g
 
--- what a keyval's line says, and where the reading stands behind it
-pub said_of : (r : Reading) (l : Line) (name : Name) (v : Value) → l.content ≡ keyval name v → line_said r l ≡ map (below r.body) (keyval_said name v)
-said_of r l name v e = ap (λ (c : Content). line_said r (record { before = l.before; content = c; after = l.after; comment = l.comment })) e
+-- what a keyval's line says, and where the reading is after it
+pub mentions_of : (r : Reading) (l : Line) (name : Name) (v : Value) → l.content ≡ keyval name v → line_mentions r l ≡ map (below r.body) (keyval_mentions name v)
+mentions_of r l name v e = ap (λ (c : Content). line_mentions r (record { before = l.before; content = c; after = l.after; comment = l.comment })) e
 
-pub reading_of : (r : Reading) (l : Line) (name : Name) (v : Value) → l.content ≡ keyval name v → behind_line r l ≡ r
-reading_of r l name v e = ap (λ (c : Content). behind_line r (record { before = l.before; content = c; after = l.after; comment = l.comment })) e
+pub reading_of : (r : Reading) (l : Line) (name : Name) (v : Value) → l.content ≡ keyval name v → after_line r l ≡ r
+reading_of r l name v e = ap (λ (c : Content). after_line r (record { before = l.before; content = c; after = l.after; comment = l.comment })) e
 
-pub whole_said : (pre post : List Line) (l : Line) (name : Name) (v : Value) → l.content ≡ keyval name v
-    → lines_said start (pre ++ l ∷ post) ≡ lines_said start pre ++ (map (below (reading_behind start pre).body) (keyval_said name v) ++ lines_said (reading_behind start pre) post)
-whole_said pre post l name v e =
-    let r : Reading = reading_behind start pre in
-    lines_said-append start pre (l ∷ post)
-    ∙ ap (λ x. lines_said start pre ++ (x ++ lines_said (behind_line r l) post)) (said_of r l name v e)
-    ∙ ap (λ (x : Reading). lines_said start pre ++ (map (below r.body) (keyval_said name v) ++ lines_said x post)) (reading_of r l name v e)
+pub whole_mentions : (pre post : List Line) (l : Line) (name : Name) (v : Value) → l.content ≡ keyval name v
+    → lines_mentions start (pre ++ l ∷ post) ≡ lines_mentions start pre ++ (map (below (reading_after_lines start pre).body) (keyval_mentions name v) ++ lines_mentions (reading_after_lines start pre) post)
+whole_mentions pre post l name v e =
+    let r : Reading = reading_after_lines start pre in
+    lines_mentions-append start pre (l ∷ post)
+    ∙ ap (λ x. lines_mentions start pre ++ (x ++ lines_mentions (after_line r l) post)) (mentions_of r l name v e)
+    ∙ ap (λ (x : Reading). lines_mentions start pre ++ (map (below r.body) (keyval_mentions name v) ++ lines_mentions x post)) (reading_of r l name v e)
 
-said_set : (path : List Part) (new : Value) (from to : List Line) → Rules (lines_said start from) → LinesSet start path new from to → IsSet path new (lines_said start from) (lines_said start to)
-said_set path new from to rules h =
+mentions_set : (path : List Part) (new : Value) (from to : List Line) → Rules (lines_mentions start from) → LinesSet start path new from to → IsSet path new (lines_mentions start from) (lines_mentions start to)
+mentions_set path new from to rules h =
     let c = h.content in
-    let r : Reading = reading_behind start h.pre in
+    let r : Reading = reading_after_lines start h.pre in
     let p : List Part = r.body ++ step 0 (Some c.name) in
-    let left : List Mention = lines_said start h.pre in
-    let right : List Mention = lines_said r h.post in
-    let mid : List Mention = map (below r.body) (keyval_said c.name c.old) in
-    let mid' : List Mention = map (below r.body) (keyval_said c.name c.now) in
-    let old_said : lines_said start from ≡ left ++ (mid ++ right) = ap (lines_said start) h.was ∙ whole_said h.pre h.post h.old c.name c.old c.was in
-    let new_said : lines_said start to ≡ left ++ (mid' ++ right) = ap (lines_said start) h.is ∙ whole_said h.pre h.post h.now c.name c.now c.is in
-    let all_rules : Rules (left ++ (mid ++ right)) = subst Rules old_said rules in
+    let left : List Mention = lines_mentions start h.pre in
+    let right : List Mention = lines_mentions r h.post in
+    let mid : List Mention = map (below r.body) (keyval_mentions c.name c.old) in
+    let mid' : List Mention = map (below r.body) (keyval_mentions c.name c.now) in
+    let old_mentioned : lines_mentions start from ≡ left ++ (mid ++ right) = ap (lines_mentions start) h.was ∙ whole_mentions h.pre h.post h.old c.name c.old c.was in
+    let new_mentions : lines_mentions start to ≡ left ++ (mid' ++ right) = ap (lines_mentions start) h.is ∙ whole_mentions h.pre h.post h.now c.name c.now c.is in
+    let all_rules : Rules (left ++ (mid ++ right)) = subst Rules old_mentioned rules in
     let outer = pairs_split Allowed left (mid ++ right) all_rules in
     let inner = pairs_split Allowed mid right outer.right in
     let ends : EndsInKey p = ends_keys r.body (key_value c.name.key.first) (map further_value c.name.key.more) in
     let alone : SomeOf (IsAloneAt p) mid = keyval_alone r.body c.name c.old in
-    let apart_left : AllOf (IsApart p) left = from_closed p [] left (lines_closed p start h.pre ends) (λ v. never_root p ends v)
+    let disjoint_left : AllOf (IsDisjoint p) left = from_closed p [] left (lines_closed p start h.pre ends) (λ v. never_root p ends v)
     (λ s. clash_before p left (mid ++ right) s (some_left (IsAloneAt p) mid right alone) all_rules) in
-    let apart_right : AllOf (IsApart p) right = from_closed p r.body right (lines_closed p r h.post ends) (λ v. longer r.body _ _ v)
-    (λ s. clash_behind p mid right alone s outer.right) in
-    let inside_rules : Rules (entries_said 0 c.old.inside) = rules_named 0 (Some c.name) (body_fact c.old.body) (entries_said 0 c.old.inside) (rules_below r.body (keyval_said c.name c.old) inner.left) in
-    let one : IsSet (step 0 (Some c.name) ++ c.more) new (keyval_said c.name c.old) (keyval_said c.name c.now) =
-    set_named 0 (Some c.name) (body_fact c.old.body) (body_fact c.now.body) (entries_said 0 c.old.inside) (entries_said 0 c.now.inside) c.more new (c.changed inside_rules) in
+    let disjoint_right : AllOf (IsDisjoint p) right = from_closed p r.body right (lines_closed p r h.post ends) (λ v. longer r.body _ _ v)
+    (λ s. clash_after p mid right alone s outer.right) in
+    let nested_rules : Rules (entries_mentions 0 c.old.nested) = rules_named 0 (Some c.name) (body_fact c.old.body) (entries_mentions 0 c.old.nested) (rules_below r.body (keyval_mentions c.name c.old) inner.left) in
+    let one : IsSet (step 0 (Some c.name) ++ c.more) new (keyval_mentions c.name c.old) (keyval_mentions c.name c.now) =
+    set_named 0 (Some c.name) (body_fact c.old.body) (body_fact c.now.body) (entries_mentions 0 c.old.nested) (entries_mentions 0 c.now.nested) c.more new (c.changed nested_rules) in
     let two : IsSet (p ++ c.more) new mid mid' = subst (λ (q : List Part). IsSet q new mid mid') (sym (append_assoc r.body (step 0 (Some c.name)) c.more))
-    (set_below r.body (step 0 (Some c.name) ++ c.more) new (keyval_said c.name c.old) (keyval_said c.name c.now) one) in
+    (set_below r.body (step 0 (Some c.name) ++ c.more) new (keyval_mentions c.name c.old) (keyval_mentions c.name c.now) one) in
     let three : IsSet (p ++ c.more) new (left ++ (mid ++ right)) (left ++ (mid' ++ right)) =
-    set_beside (p ++ c.more) new mid mid' left right (all_longer p c.more left apart_left) (all_longer p c.more right apart_right) two in
-    subst (λ (q : List Part). IsSet q new (lines_said start from) (lines_said start to)) (sym c.place)
-    (subst (λ (l : List Mention). IsSet (p ++ c.more) new l (lines_said start to)) (sym old_said)
-    (subst (λ (l : List Mention). IsSet (p ++ c.more) new (left ++ (mid ++ right)) l) (sym new_said) three))
+    set_beside (p ++ c.more) new mid mid' left right (all_longer p c.more left disjoint_left) (all_longer p c.more right disjoint_right) two in
+    subst (λ (q : List Part). IsSet q new (lines_mentions start from) (lines_mentions start to)) (sym c.place)
+    (subst (λ (l : List Mention). IsSet (p ++ c.more) new l (lines_mentions start to)) (sym old_mentioned)
+    (subst (λ (l : List Mention). IsSet (p ++ c.more) new (left ++ (mid ++ right)) l) (sym new_mentions) three))
 
 -- Setting replaces the run of mentions of the value at the path.
-pub document_set : (s : Document) (path : List Part) (new : Value) → Rules (said_in s) → EachTo (λ s'. IsSet path new (said_in s) (said_in s')) (change s (set path new))
+pub document_set : (s : Document) (path : List Part) (new : Value) → Rules (mentions_in s) → EachTo (λ s'. IsSet path new (mentions_in s) (mentions_in s')) (change s (set path new))
 document_set s path new rules =
-    to_within (λ p. LinesSet start path new (lines s) (page_lines p)) (λ s'. IsSet path new (said_in s) (said_in s')) (with_page s) _ [] (in_lines (in_line (replacement new) path) start s.ended s.last)
-    (λ p h. said_set path new (lines s) (page_lines p) rules h) (lines_set path new start s.ended s.last)
+    to_within (λ p. LinesSet start path new (lines s) (page_lines p)) (λ s'. IsSet path new (mentions_in s) (mentions_in s')) (with_page s) _ [] (in_lines (in_line (replacement new) path) start s.ended s.last)
+    (λ p h. mentions_set path new (lines s) (page_lines p) rules h) (lines_set path new start s.ended s.last)
 
 -- ---- its rules
 
@@ -175,82 +175,82 @@ pub under_below : (p : List Part) (ms : List Mention) → AllOf (IsUnder p) (map
 under_below p [] = tt
 under_below p (m ∷ ms) = ((m.path, strip-append p m.path), under_below p ms)
 
-under_run : (p : List Part) (says : Saying) (ms : List Mention) → AllOf (IsUnder p) (run p says ms)
-under_run p says ms = (([], ap (strip p) (sym (append-nil p)) ∙ strip-append p []), under_below p ms)
+under_run : (p : List Part) (mention_kind : MentionKind) (ms : List Mention) → AllOf (IsUnder p) (run p mention_kind ms)
+under_run p mention_kind ms = (([], ap (strip p) (sym (append-nil p)) ∙ strip-append p []), under_below p ms)
 
 -- what is exclusive allows the same
-head_allowed : (p : List Part) (a b : Saying) (ms : List Mention) → exclusive a ≡ true → exclusive b ≡ true
-    → AllOf (Allowed (record { path = []; says = a })) ms → AllOf (Allowed (record { path = p; says = b })) (map (below p) ms)
+head_allowed : (p : List Part) (a b : MentionKind) (ms : List Mention) → exclusive a ≡ true → exclusive b ≡ true
+    → AllOf (Allowed (record { path = []; kind = a })) ms → AllOf (Allowed (record { path = p; kind = b })) (map (below p) ms)
 head_allowed p a b [] ha hb h = tt
 head_allowed p a b (x ∷ ms) ha hb h = (
   (λ e.
       let root : [] ≡ x.path = cancel p [] x.path (append-nil p ∙ e) in
-      let was : says_allow a x.says ≡ not (solid x.says) = rw ha refl in
-      let now : says_allow b x.says ≡ not (solid x.says) = rw hb refl in
+      let was : kinds_allow a x.kind ≡ not (solid x.kind) = rw ha refl in
+      let now : kinds_allow b x.kind ≡ not (solid x.kind) = rw hb refl in
       now ∙ sym was ∙ h.0 root),
   head_allowed p a b ms ha hb h.1,
 )
 
-pub rules_set : (path : List Part) (new : Value) (from to : List Mention) → IsSet path new from to → Rules from → Rules (value_said new) → Rules to
+pub rules_set : (path : List Part) (new : Value) (from to : List Mention) → IsSet path new from to → Rules from → Rules (mentions_of_value new) → Rules to
 rules_set path new from to h rules value_rules =
-    let now : List Mention = run path (h.tag (body_fact new.body)) (entries_said 0 new.inside) in
+    let now : List Mention = run path (h.tag (body_fact new.body)) (entries_mentions 0 new.nested) in
     let run_rules : Rules now = (
-      head_allowed path (item (body_fact new.body)) (h.tag (body_fact new.body)) (entries_said 0 new.inside) refl (h.alone (body_fact new.body)) value_rules.0,
-      rules_outside path (entries_said 0 new.inside) value_rules.1,
+      head_allowed path (item (body_fact new.body)) (h.tag (body_fact new.body)) (entries_mentions 0 new.nested) refl (h.alone (body_fact new.body)) value_rules.0,
+      rules_outside path (entries_mentions 0 new.nested) value_rules.1,
     ) in
     subst Rules (sym h.is)
-    (rules_replaced path h.before (run path (h.tag h.fact) h.inside) now h.behind (subst Rules h.was rules) h.apart_before h.apart_behind
-    (under_run path (h.tag (body_fact new.body)) (entries_said 0 new.inside)) run_rules)
+    (rules_replaced path h.before (run path (h.tag h.fact) h.nested) now h.behind (subst Rules h.was rules) h.disjoint_before h.disjoint_after
+    (under_run path (h.tag (body_fact new.body)) (entries_mentions 0 new.nested)) run_rules)
 
 -- ---- its tree
 
-abbrev facts_of : List Saying → Option Fact
+abbrev facts_of : List MentionKind → Option Fact
 facts_of l = first_of (filter_map fact_of l)
 
-cons_facts : (a b : Saying) (l : List Saying) → fact_of a ≡ fact_of b → facts_of (a ∷ l) ≡ facts_of (b ∷ l)
+cons_facts : (a b : MentionKind) (l : List MentionKind) → fact_of a ≡ fact_of b → facts_of (a ∷ l) ≡ facts_of (b ∷ l)
 cons_facts a b l e = ap (λ (o : Option Fact). first_of (cons_option o (filter_map fact_of l))) e
 
-pub valued_facts : (a b : Saying) (ms : List Mention) (r : List Part) → fact_of a ≡ fact_of b → (c : Bool) → same_path [] r ≡ c → fact_at r (valued_mentions a ms) ≡ fact_at r (valued_mentions b ms)
-valued_facts a b ms r e true k = rw k (cons_facts a b (says_at r ms) e)
+pub valued_facts : (a b : MentionKind) (ms : List Mention) (r : List Part) → fact_of a ≡ fact_of b → (c : Bool) → same_path [] r ≡ c → fact_at r (valued_mentions a ms) ≡ fact_at r (valued_mentions b ms)
+valued_facts a b ms r e true k = rw k (cons_facts a b (kinds_at r ms) e)
 valued_facts a b ms r e false k = rw k refl
 
-pub run_facts : (path q r : List Part) (tag : Saying) (f : Fact) (ms : List Mention) → fact_of tag ≡ Some f → strip path q ≡ Some r → fact_at q (run path tag ms) ≡ fact_at r (valued_mentions (item f) ms)
-run_facts path q r tag f ms told e =
+pub run_facts : (path q r : List Part) (tag : MentionKind) (f : Fact) (ms : List Mention) → fact_of tag ≡ Some f → strip path q ≡ Some r → fact_at q (run path tag ms) ≡ fact_at r (valued_mentions (item f) ms)
+run_facts path q r tag f ms stated e =
     let whole : q ≡ path ++ r = strip-sound path q r e in
-    let top : run path tag ms ≡ map (below path) (valued_mentions tag ms) = ap (λ (p : List Part). record { path = p; says = tag } ∷ map (below path) ms) (sym (append-nil path)) in
+    let top : run path tag ms ≡ map (below path) (valued_mentions tag ms) = ap (λ (p : List Part). record { path = p; kind = tag } ∷ map (below path) ms) (sym (append-nil path)) in
     ap (λ (x : List Part). fact_at x (run path tag ms)) whole
     ∙ ap (λ (l : List Mention). fact_at (path ++ r) l) top
-    ∙ ap facts_of (says_at-below path r (valued_mentions tag ms))
-    ∙ valued_facts tag (item f) ms r told (same_path [] r) refl
+    ∙ ap facts_of (kinds_at-below path r (valued_mentions tag ms))
+    ∙ valued_facts tag (item f) ms r stated (same_path [] r) refl
 
 tree_by : (path : List Part) (new : Value) (from to : List Mention) → IsSet path new from to → (q : List Part) (o : Option (List Part)) → strip path q ≡ o
-    → fact_at q to ≡ fact_from from (value_said new) (elim o [ Some more ↦ given more | None ↦ from_path q ])
+    → fact_at q to ≡ fact_from from (mentions_of_value new) (elim o [ Some more ↦ given more | None ↦ from_path q ])
 tree_by path new from to h q None e =
-    let now : List Mention = run path (h.tag (body_fact new.body)) (entries_said 0 new.inside) in
-    let old : List Mention = run path (h.tag h.fact) h.inside in
+    let now : List Mention = run path (h.tag (body_fact new.body)) (entries_mentions 0 new.nested) in
+    let old : List Mention = run path (h.tag h.fact) h.nested in
     ap (fact_at q) h.is
-    ∙ fact_elsewhere path q h.before old now h.behind (under_run path (h.tag h.fact) h.inside) (under_run path (h.tag (body_fact new.body)) (entries_said 0 new.inside)) e
+    ∙ fact_elsewhere path q h.before old now h.behind (under_run path (h.tag h.fact) h.nested) (under_run path (h.tag (body_fact new.body)) (entries_mentions 0 new.nested)) e
     ∙ ap (fact_at q) (sym h.was)
 tree_by path new from to h q (Some r) e =
-    let now : List Mention = run path (h.tag (body_fact new.body)) (entries_said 0 new.inside) in
+    let now : List Mention = run path (h.tag (body_fact new.body)) (entries_mentions 0 new.nested) in
     ap (fact_at q) h.is
-    ∙ fact_under path q r h.before now h.behind h.apart_before h.apart_behind e
-    ∙ run_facts path q r (h.tag (body_fact new.body)) (body_fact new.body) (entries_said 0 new.inside) (h.told (body_fact new.body)) e
+    ∙ fact_under path q r h.before now h.behind h.disjoint_before h.disjoint_after e
+    ∙ run_facts path q r (h.tag (body_fact new.body)) (body_fact new.body) (entries_mentions 0 new.nested) (h.stated (body_fact new.body)) e
 
 pub tree_set : (path : List Part) (new : Value) (from to : List Mention) → IsSet path new from to → IsTreeOf from (set path new) to
 tree_set path new from to h q = tree_by path new from to h q (strip path q) refl
 
 -- Setting a value keeps the rules, and changes the tree as it says.
 pub record IsLawful (s : Document) (e : Edit) (s' : Document) : Type 0 where
-  pub rules : Rules (said_in s')
-  pub tree : IsTreeOf (said_in s) e (said_in s')
+  pub rules : Rules (mentions_in s')
+  pub tree : IsTreeOf (mentions_in s) e (mentions_in s')
 
 pub each_to : {A : Type 0} (P Q : A → Type 0) (o : Option (Changed A)) → ((x : A) → P x → Q x) → EachTo P o → EachTo Q o
 each_to P Q None f h = tt
 each_to P Q (Some c) f h = f c.to h
 
-pub set_law : (s : Document) (path : List Part) (new : Value) → Rules (said_in s) → Rules (value_said new) → EachTo (IsLawful s (set path new)) (change s (set path new))
+pub set_law : (s : Document) (path : List Part) (new : Value) → Rules (mentions_in s) → Rules (mentions_of_value new) → EachTo (IsLawful s (set path new)) (change s (set path new))
 set_law s path new rules value_rules =
-    each_to (λ s'. IsSet path new (said_in s) (said_in s')) (IsLawful s (set path new)) (change s (set path new))
-    (λ s' h. record { rules = rules_set path new (said_in s) (said_in s') h rules value_rules; tree = tree_set path new (said_in s) (said_in s') h })
+    each_to (λ s'. IsSet path new (mentions_in s) (mentions_in s')) (IsLawful s (set path new)) (change s (set path new))
+    (λ s' h. record { rules = rules_set path new (mentions_in s) (mentions_in s') h rules value_rules; tree = tree_set path new (mentions_in s) (mentions_in s') h })
     (document_set s path new rules)

@@ -7,11 +7,11 @@ use Rattle.keep_syntax.specs.Grammar.{IsValue, IsDocument}
 use Rattle.keep_path.specs.Path.{Part}
 use Rattle.keep_meaning.specs.Rules.{ObeysRules}
 use Rattle.keep_meaning.specs.Marks.{marks}
-use Rattle.keep_meaning.specs.Meaning.{said_in}
+use Rattle.keep_meaning.specs.Meaning.{mentions_in}
 use Rattle.keep_law.specs.Changed.{Changed, place_of, put}
 use Rattle.keep_law.specs.Edits.{Edit, set, change}
 use Rattle.keep_law.specs.Trees.{IsTreeOf}
-use Rattle.keep_meaning.specs.Meaning.{value_said}
+use Rattle.keep_meaning.specs.Meaning.{mentions_of_value}
 use Rattle.keep_law.proofs.Common.Runs.{Rules}
 use Rattle.keep_law.proofs.Common.Texts.{EachIs, put-place_of}
 use Rattle.keep_law.proofs.Common.LineTexts.{change-is}
@@ -22,10 +22,10 @@ use Rattle.keep_law.proofs.Common.Bridge.{obeys_from_rules}
 
 pub record IsSetWhole (profile : Profile) (s : Document) (e : Edit) (c : Changed Document) : Type 0 where
   pub valid : IsDocument profile c.to
-  pub obeys : ObeysRules (marks (said_in c.to))
-  pub rules : Rules (said_in c.to)
+  pub obeys : ObeysRules (marks (mentions_in c.to))
+  pub rules : Rules (mentions_in c.to)
   pub spelled : text c.to ≡ put (text s) (place_of c)
-  pub tree : IsTreeOf (said_in s) e (said_in c.to)
+  pub tree : IsTreeOf (mentions_in s) e (mentions_in c.to)
 
 abbrev pub EachChange : (Changed Document → Type 0) → Option (Changed Document) → Type 0
 EachChange P None = ⊤
@@ -33,9 +33,9 @@ EachChange P (Some c) = P c
 
 pub together : (profile : Profile) (s : Document) (e : Edit) (o : Option (Changed Document)) → EachTo (IsDocument profile) o → EachIs text s o → EachTo (IsLawful s e) o → EachChange (IsSetWhole profile s e) o
 together profile s e None a b c = tt
-together profile s e (Some x) a b c = record { valid = a; obeys = obeys_from_rules (said_in x.to) c.rules; rules = c.rules; spelled = put-place_of text s x b; tree = c.tree }
+together profile s e (Some x) a b c = record { valid = a; obeys = obeys_from_rules (mentions_in x.to) c.rules; rules = c.rules; spelled = put-place_of text s x b; tree = c.tree }
 
-pub set_whole : (profile : Profile) (s : Document) (path : List Part) (new : Value) → IsDocument profile s → Rules (said_in s) → IsValue profile new → Rules (value_said new)
+pub set_whole : (profile : Profile) (s : Document) (path : List Part) (new : Value) → IsDocument profile s → Rules (mentions_in s) → IsValue profile new → Rules (mentions_of_value new)
     → EachChange (IsSetWhole profile s (set path new)) (change s (set path new))
 set_whole profile s path new valid rules value_valid value_rules =
     together profile s (set path new) (change s (set path new)) (valid_set profile s path new valid value_valid) (change-is s (set path new)) (set_law s path new rules value_rules)

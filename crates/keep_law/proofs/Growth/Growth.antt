@@ -9,12 +9,12 @@ use Rattle.keep_path.specs.Path.{Part, key, index}
 use Rattle.keep_path.specs.PathText.{part_text, encoded_path}
 use Rattle.keep_law.specs.Edits.{key_part}
 use Rattle.keep_meaning.specs.Marks.{Reading, start}
-use Rattle.keep_meaning.specs.Meaning.{step, behind_line}
+use Rattle.keep_meaning.specs.Meaning.{step, after_line}
 use Rattle.keep_law.specs.Look.{strip, keys_in}
 use Rattle.keep_law.specs.Changed.{Changed, IsChangeOf, within, or_else}
-use Rattle.keep_law.specs.Values.{Act, entry_front, entry_back, in_entries, in_value, space}
+use Rattle.keep_law.specs.Values.{Act, entry_prefix, entry_back, in_entries, in_value, space}
 use Rattle.keep_law.specs.Lines.{Page, page_text, ended_text, in_content, in_line, in_lines, in_document, with_page, put_lines, newline_of, new_line, content_text}
-use Rattle.keep_law.specs.Edits.{key_with, name_with, new_keyval, further_part, inside, at_line}
+use Rattle.keep_law.specs.Edits.{key_with, name_with, new_keyval, further_part, nested, at_line}
 use Rattle.keep_law.proofs.Common.Runs.{strip-sound}
 use Rattle.keep_law.proofs.Common.Texts.{text_of-append}
 use Rattle.keep_law.proofs.Common.DoneAtValue.{EachOf, of_within, of_or_else}
@@ -40,42 +40,42 @@ longer_text f from n c h g =
 
 -- ---- in values
 
--- by how much an act may grow, told by the rest of the path
+-- by how much an act may grow, given by the rest of the path
 pub record IsBound (act : Act) (g : List Part → ℕ) : Type 0 where
   pub grows : (more : List Part) (v : Value) → GrowsBy (g more) (act more v)
   pub falls : (p more : List Part) → g more ≤ g (p ++ more)
 
-bound_value-by : (act : Act) (g : List Part → ℕ) → IsBound act g → (more : List Part) (body : Body) (inside : Entries) (left right : List ℕ) → GrowsBy (g more) (in_entries act more 0 inside)
-    → GrowsBy (g more) (or_else (within (λ es. record { body = body; inside = es }) left right (in_entries act more 0 inside)) (act more (record { body = body; inside = inside })))
-bound_value-by act g b more body inside left right h =
-    let v : Value = record { body = body; inside = inside } in
-    grows_or_else (g more) (within (λ es. record { body = body; inside = es }) left right (in_entries act more 0 inside)) (act more v)
-    (grows_within (g more) (λ es. record { body = body; inside = es }) left right (in_entries act more 0 inside) h) (b.grows more v)
+bound_value-by : (act : Act) (g : List Part → ℕ) → IsBound act g → (more : List Part) (body : Body) (nested : Entries) (left right : List ℕ) → GrowsBy (g more) (in_entries act more 0 nested)
+    → GrowsBy (g more) (or_else (within (λ es. record { body = body; nested = es }) left right (in_entries act more 0 nested)) (act more (record { body = body; nested = nested })))
+bound_value-by act g b more body nested left right h =
+    let v : Value = record { body = body; nested = nested } in
+    grows_or_else (g more) (within (λ es. record { body = body; nested = es }) left right (in_entries act more 0 nested)) (act more v)
+    (grows_within (g more) (λ es. record { body = body; nested = es }) left right (in_entries act more 0 nested) h) (b.grows more v)
 
-bound_entries-by : (act : Act) (g : List Part → ℕ) → IsBound act g → (path : List Part) (n : ℕ) (name : Option Name) (body : Body) (inside : Entries) (after : Gap) (comma : Option Gap) (rest : Entries)
-    → GrowsBy (g path) (in_entries act path (n + 1) rest) → ((more : List Part) → GrowsBy (g more) (in_entries act more 0 inside))
+bound_entries-by : (act : Act) (g : List Part → ℕ) → IsBound act g → (path : List Part) (n : ℕ) (name : Option Name) (body : Body) (nested : Entries) (after : Gap) (comma : Option Gap) (rest : Entries)
+    → GrowsBy (g path) (in_entries act path (n + 1) rest) → ((more : List Part) → GrowsBy (g more) (in_entries act more 0 nested))
     → (o : Option (List Part)) → strip (step n name) path ≡ o
     → GrowsBy (g path) (elim o [
-      | None ↦ within (entry name body inside after comma) (entry_front name body inside ++ (text_of after ++ text_of (comma_leaves comma))) []
+      | None ↦ within (entry name body nested after comma) (entry_prefix name body nested ++ (text_of after ++ text_of (comma_leaves comma))) []
           (in_entries act path (n + 1) rest)
-      | Some more ↦ within (λ v. entry name v.body v.inside after comma rest) (text_of (named_leaves name)) (entry_back after comma rest)
-          (or_else (within (λ es. record { body = body; inside = es }) (text_of (opening body)) (text_of (closing body)) (in_entries act more 0 inside))
-          (act more (record { body = body; inside = inside })))
+      | Some more ↦ within (λ v. entry name v.body v.nested after comma rest) (text_of (named_leaves name)) (entry_back after comma rest)
+          (or_else (within (λ es. record { body = body; nested = es }) (text_of (opening body)) (text_of (closing body)) (in_entries act more 0 nested))
+          (act more (record { body = body; nested = nested })))
     ])
-bound_entries-by act g b path n name body inside after comma rest further deeper None e =
-    grows_within (g path) (entry name body inside after comma) (entry_front name body inside ++ (text_of after ++ text_of (comma_leaves comma))) [] (in_entries act path (n + 1) rest) further
-bound_entries-by act g b path n name body inside after comma rest further deeper (Some more) e =
+bound_entries-by act g b path n name body nested after comma rest further deeper None e =
+    grows_within (g path) (entry name body nested after comma) (entry_prefix name body nested ++ (text_of after ++ text_of (comma_leaves comma))) [] (in_entries act path (n + 1) rest) further
+bound_entries-by act g b path n name body nested after comma rest further deeper (Some more) e =
     let less : g more ≤ g path = subst (λ (q : List Part). g more ≤ g q) (sym (strip-sound (step n name) path more e)) (b.falls (step n name) more) in
-    grows_within (g path) (λ v. entry name v.body v.inside after comma rest) (text_of (named_leaves name)) (entry_back after comma rest) _
-    (grows_more (g more) (g path) _ less (bound_value-by act g b more body inside (text_of (opening body)) (text_of (closing body)) (deeper more)))
+    grows_within (g path) (λ v. entry name v.body v.nested after comma rest) (text_of (named_leaves name)) (entry_back after comma rest) _
+    (grows_more (g more) (g path) _ less (bound_value-by act g b more body nested (text_of (opening body)) (text_of (closing body)) (deeper more)))
 
 bound_entries : (act : Act) (g : List Part → ℕ) → IsBound act g → (path : List Part) (n : ℕ) (es : Entries) → GrowsBy (g path) (in_entries act path n es)
 bound_entries act g b path n none = tt
-bound_entries act g b path n (entry name body inside after comma rest) =
-    bound_entries-by act g b path n name body inside after comma rest (bound_entries act g b path (n + 1) rest) (λ more. bound_entries act g b more 0 inside) (strip (step n name) path) refl
+bound_entries act g b path n (entry name body nested after comma rest) =
+    bound_entries-by act g b path n name body nested after comma rest (bound_entries act g b path (n + 1) rest) (λ more. bound_entries act g b more 0 nested) (strip (step n name) path) refl
 
 bound_value : (act : Act) (g : List Part → ℕ) → IsBound act g → (path : List Part) (v : Value) → GrowsBy (g path) (in_value act path v)
-bound_value act g b path v = bound_value-by act g b path v.body v.inside (text_of (opening v.body)) (text_of (closing v.body)) (bound_entries act g b path 0 v.inside)
+bound_value act g b path v = bound_value-by act g b path v.body v.nested (text_of (opening v.body)) (text_of (closing v.body)) (bound_entries act g b path 0 v.nested)
 
 bound_content-by : (act : Act) (g : List Part → ℕ) → IsBound act g → (body path : List Part) (name : Name) (v : Value) (o : Option (List Part)) → strip (body ++ step 0 (Some name)) path ≡ o
     → GrowsBy (g path) (elim o [ None ↦ None | Some more ↦ within (keyval name) (text_of (name_leaves name)) [] (in_value act more v) ])
@@ -97,16 +97,16 @@ pub grows_lines : (n : ℕ) (f : Reading → Line → Option (Changed Line)) →
 grows_lines n f h r [] last = grows_within n (λ l. record { ended = []; last = l }) [] [] (f r last) (h r last)
 grows_lines n f h r (e ∷ es) last =
     let o : Option (Changed Page) = within (λ l. record { ended = record { line = l; newline = e.newline } ∷ es; last = last }) [] (e.newline.text ++ page_text (record { ended = es; last = last })) (f r e.line) in
-    let p : Option (Changed Page) = within (λ b. record { ended = e ∷ b.ended; last = b.last }) (text_of (ended_leaves e)) [] (in_lines f (behind_line r e.line) es last) in
+    let p : Option (Changed Page) = within (λ b. record { ended = e ∷ b.ended; last = b.last }) (text_of (ended_leaves e)) [] (in_lines f (after_line r e.line) es last) in
     grows_or_else n o p
     (grows_within n (λ l. record { ended = record { line = l; newline = e.newline } ∷ es; last = last }) [] (e.newline.text ++ page_text (record { ended = es; last = last })) (f r e.line) (h r e.line))
-    (grows_within n (λ b. record { ended = e ∷ b.ended; last = b.last }) (text_of (ended_leaves e)) [] (in_lines f (behind_line r e.line) es last) (grows_lines n f h (behind_line r e.line) es last))
+    (grows_within n (λ b. record { ended = e ∷ b.ended; last = b.last }) (text_of (ended_leaves e)) [] (in_lines f (after_line r e.line) es last) (grows_lines n f h (after_line r e.line) es last))
 
 pub grows_document : (n : ℕ) (s : Document) (o : Option (Changed Page)) → GrowsBy n o → GrowsBy n (in_document s o)
 grows_document n s o h = grows_within n (with_page s) (text_of (bom_leaves s.bom)) [] o h
 
-pub grows_inside : (act : Act) (g : List Part → ℕ) → IsBound act g → (path : List Part) (s : Document) → GrowsBy (g path) (inside act path s)
-grows_inside act g b path s =
+pub grows_nested : (act : Act) (g : List Part → ℕ) → IsBound act g → (path : List Part) (s : Document) → GrowsBy (g path) (nested act path s)
+grows_nested act g b path s =
     grows_document (g path) s (in_lines (in_line act path) start s.ended s.last)
     (grows_lines (g path) (in_line act path)
     (λ r l. grows_within (g path) (λ c. record l { content = c }) (text_of l.before) (text_of l.after ++ text_of (comment_leaves l.comment)) (in_content act r.body path l.content) (bound_content act g b r.body path l.content))

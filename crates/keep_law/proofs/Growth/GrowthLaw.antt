@@ -10,39 +10,39 @@ use Rattle.keep_path.specs.PathText.{encoded_path}
 use Rattle.keep_law.specs.Edits.{key_part}
 use Rattle.keep_meaning.specs.Marks.{Reading, start, marks}
 use Rattle.keep_meaning.specs.Rules.{ObeysRules}
-use Rattle.keep_meaning.specs.Meaning.{step, lines, said_in}
+use Rattle.keep_meaning.specs.Meaning.{step, lines, mentions_in}
 use Rattle.keep_law.specs.Changed.{Changed}
-use Rattle.keep_law.specs.Values.{front_ws, entry_front, taken_first, taken_only, taken_last, is_last_named, take_out, removal, kept_gap, is_comment_leaf}
-use Rattle.keep_law.specs.Lines.{in_lines, last_line, drop_front, drop_lines, begins, body_length, content_text}
-use Rattle.keep_law.specs.Edits.{Edit, set, insert, rename, remove, append_table, append_element, inside, without_lines, clear_line, is_own, change_remove, change}
+use Rattle.keep_law.specs.Values.{prefix_ws, entry_prefix, taken_first, taken_only, taken_last, is_last_named, take_out, removal, preserved_gap, is_comment_leaf}
+use Rattle.keep_law.specs.Lines.{in_lines, last_line, drop_prefix, drop_lines, begins, body_length, content_text}
+use Rattle.keep_law.specs.Edits.{Edit, set, insert, rename, remove, append_table, append_element, nested, without_lines, clear_line, is_own, change_remove, change}
 use Rattle.keep_law.specs.Refusals.{refusal}
 use Rattle.keep_law.specs.Laws.{given_size}
 use Rattle.keep_law.proofs.Common.Texts.{EachIs}
 use Rattle.keep_law.proofs.Common.LineTexts.{change-is}
 use Rattle.keep_law.proofs.Common.Marks.{rules_of_document}
 use Rattle.keep_law.proofs.Set.SetIsLawful.{set_growth}
-use Rattle.keep_law.proofs.Growth.Growth.{GrowsBy, grows_within, grows_or_else, longer_text, IsBound, grows_lines, grows_document, grows_inside}
+use Rattle.keep_law.proofs.Growth.Growth.{GrowsBy, grows_within, grows_or_else, longer_text, IsBound, grows_lines, grows_document, grows_nested}
 use Rattle.keep_law.proofs.Growth.GrowthOfEdits.{insert_grows, rename_grows, append_table_grows, append_element_grows}
 use Rattle.keep_law.proofs.Growth.NewlineLength.{newline_short}
 
 -- ---- remove
 
-kept_shorter : (g : Gap) → length (text_of (kept_gap g)) ≤ length (text_of g)
-kept_shorter g = by (list_any (λ w. is_comment_leaf w.leaf) g)
+preserved_shorter : (g : Gap) → length (text_of (preserved_gap g)) ≤ length (text_of g)
+preserved_shorter g = by (list_any (λ w. is_comment_leaf w.leaf) g)
   where
     by : (b : Bool) → length (text_of (cond b g [])) ≤ length (text_of g)
     by true = omega arith
     by false = omega arith
 
-taken_first_grows : (gap : Gap) (name : Option Name) (body : Body) (inside : Entries) (after behind : Gap) (rest : Entries) → GrowsBy 0 (Some (taken_first gap name body inside after behind rest))
-taken_first_grows gap name body inside after behind rest =
-    let c = taken_first gap name body inside after behind rest in
-    omega (arith, kept_shorter after, length-append (entry_front name body inside) (text_of after ++ (codes "," ++ text_of (front_ws behind))), length-append (text_of after) (codes "," ++ text_of (front_ws behind)))
+taken_first_grows : (gap : Gap) (name : Option Name) (body : Body) (nested : Entries) (after behind : Gap) (rest : Entries) → GrowsBy 0 (Some (taken_first gap name body nested after behind rest))
+taken_first_grows gap name body nested after behind rest =
+    let c = taken_first gap name body nested after behind rest in
+    omega (arith, preserved_shorter after, length-append (entry_prefix name body nested) (text_of after ++ (codes "," ++ text_of (prefix_ws behind))), length-append (text_of after) (codes "," ++ text_of (prefix_ws behind)))
 
-taken_last_grows : (gap : Gap) (name : Option Name) (body : Body) (inside : Entries) (after behind : Gap) (name' : Option Name) (body' : Body) (inside' : Entries) (after' : Gap)
-    → GrowsBy 0 (Some (taken_last gap name body inside after behind name' body' inside' after'))
-taken_last_grows gap name body inside after behind name' body' inside' after' =
-    omega (arith, kept_shorter behind, length-append (codes ",") (text_of behind ++ entry_front name' body' inside'), length-append (text_of behind) (entry_front name' body' inside'))
+taken_last_grows : (gap : Gap) (name : Option Name) (body : Body) (nested : Entries) (after behind : Gap) (name' : Option Name) (body' : Body) (nested' : Entries) (after' : Gap)
+    → GrowsBy 0 (Some (taken_last gap name body nested after behind name' body' nested' after'))
+taken_last_grows gap name body nested after behind name' body' nested' after' =
+    omega (arith, preserved_shorter behind, length-append (codes ",") (text_of behind ++ entry_prefix name' body' nested'), length-append (text_of behind) (entry_prefix name' body' nested'))
 
 when_grows : {A : Type 0} (b : Bool) (o p : Option (Changed A)) → GrowsBy 0 o → GrowsBy 0 p → GrowsBy 0 (elim b [ true ↦ o | false ↦ p ])
 when_grows true o p h g = h
@@ -50,37 +50,37 @@ when_grows false o p h g = g
 
 take_out_grows : (path : List Part) (n : ℕ) (gap : Gap) (es : Entries) → GrowsBy 0 (take_out path n gap es)
 take_out_grows path n gap none = tt
-take_out_grows path n gap (entry name body inside after None none) = when_grows (same_path (step n name) path) (Some (taken_only gap name body inside after)) None (omega arith) tt
-take_out_grows path n gap (entry name body inside after None (entry name' body' inside' after' comma' rest')) = tt
-take_out_grows path n gap (entry name body inside after (Some behind) none) =
-    when_grows (same_path (step n name) path) (Some (taken_first gap name body inside after behind none)) None (taken_first_grows gap name body inside after behind none) tt
-take_out_grows path n gap (entry name body inside after (Some behind) (entry name' body' inside' after' comma' rest')) =
-    when_grows (same_path (step n name) path) (Some (taken_first gap name body inside after behind (entry name' body' inside' after' comma' rest'))) _
-    (taken_first_grows gap name body inside after behind (entry name' body' inside' after' comma' rest'))
-    (when_grows (is_last_named path (n + 1) (entry name' body' inside' after' comma' rest')) (Some (taken_last gap name body inside after behind name' body' inside' after')) _
-    (taken_last_grows gap name body inside after behind name' body' inside' after')
-    (grows_within 0 (λ r. record { gap = gap; entries = entry name body inside after (Some r.gap) r.entries })
-    (text_of gap ++ (entry_front name body inside ++ (text_of after ++ codes ","))) []
-    (take_out path (n + 1) behind (entry name' body' inside' after' comma' rest'))
-    (take_out_grows path (n + 1) behind (entry name' body' inside' after' comma' rest'))))
+take_out_grows path n gap (entry name body nested after None none) = when_grows (same_path (step n name) path) (Some (taken_only gap name body nested after)) None (omega arith) tt
+take_out_grows path n gap (entry name body nested after None (entry name' body' nested' after' comma' rest')) = tt
+take_out_grows path n gap (entry name body nested after (Some behind) none) =
+    when_grows (same_path (step n name) path) (Some (taken_first gap name body nested after behind none)) None (taken_first_grows gap name body nested after behind none) tt
+take_out_grows path n gap (entry name body nested after (Some behind) (entry name' body' nested' after' comma' rest')) =
+    when_grows (same_path (step n name) path) (Some (taken_first gap name body nested after behind (entry name' body' nested' after' comma' rest'))) _
+    (taken_first_grows gap name body nested after behind (entry name' body' nested' after' comma' rest'))
+    (when_grows (is_last_named path (n + 1) (entry name' body' nested' after' comma' rest')) (Some (taken_last gap name body nested after behind name' body' nested' after')) _
+    (taken_last_grows gap name body nested after behind name' body' nested' after')
+    (grows_within 0 (λ r. record { gap = gap; entries = entry name body nested after (Some r.gap) r.entries })
+    (text_of gap ++ (entry_prefix name body nested ++ (text_of after ++ codes ","))) []
+    (take_out path (n + 1) behind (entry name' body' nested' after' comma' rest'))
+    (take_out_grows path (n + 1) behind (entry name' body' nested' after' comma' rest'))))
 
 removal_bound : IsBound removal (λ more. 0)
-removal_bound = record { grows = λ more v. by more v.body v.inside; falls = λ p more. omega arith }
+removal_bound = record { grows = λ more v. by more v.body v.nested; falls = λ p more. omega arith }
   where
-    by : (more : List Part) (b : Body) (es : Entries) → GrowsBy 0 (removal more (record { body = b; inside = es }))
+    by : (more : List Part) (b : Body) (es : Entries) → GrowsBy 0 (removal more (record { body = b; nested = es }))
     by more (scalar w) es = tt
-    by more (array first) es = grows_within 0 (λ r. record { body = array r.gap; inside = r.entries }) (codes "[") (codes "]") (take_out more 0 first es) (take_out_grows more 0 first es)
-    by more (inline first) es = grows_within 0 (λ r. record { body = inline r.gap; inside = r.entries }) (codes "{") (codes "}") (take_out more 0 first es) (take_out_grows more 0 first es)
+    by more (array first) es = grows_within 0 (λ r. record { body = array r.gap; nested = r.entries }) (codes "[") (codes "]") (take_out more 0 first es) (take_out_grows more 0 first es)
+    by more (inline first) es = grows_within 0 (λ r. record { body = inline r.gap; nested = r.entries }) (codes "{") (codes "}") (take_out more 0 first es) (take_out_grows more 0 first es)
 
-front_gives : (n : ℕ) (es : List Ended) (last : Line) → (drop_front n es last).new ≡ []
-front_gives zero [] last = refl
-front_gives (suc m) [] last = refl
-front_gives zero (e ∷ es) last = refl
-front_gives (suc m) (e ∷ es) last = front_gives m es last
+prefix_gives : (n : ℕ) (es : List Ended) (last : Line) → (drop_prefix n es last).new ≡ []
+prefix_gives zero [] last = refl
+prefix_gives (suc m) [] last = refl
+prefix_gives zero (e ∷ es) last = refl
+prefix_gives (suc m) (e ∷ es) last = prefix_gives m es last
 
 lines_give : (i n : ℕ) (es : List Ended) (last : Line) → (drop_lines i n es last).new ≡ []
-lines_give i n [] last = front_gives n [] last
-lines_give zero n (e ∷ es) last = front_gives n (e ∷ es) last
+lines_give i n [] last = prefix_gives n [] last
+lines_give zero n (e ∷ es) last = prefix_gives n (e ∷ es) last
 lines_give (suc j) n (e ∷ es) last = lines_give j n es last
 
 lines_grow : (s : Document) (i n : ℕ) → GrowsBy 0 (without_lines s i n)
@@ -115,7 +115,7 @@ remove_grows s path =
     grows_or_else 0 _ _ (grows_document 0 s (in_lines (clear_line path) start s.ended s.last) (grows_lines 0 (clear_line path) (clear_grows path) start s.ended s.last))
     (grows_or_else 0 _ _ (number_grows (λ i. without_lines s i 1) (λ i. lines_grow s i 1) (last_line (λ r l. is_own path r l.content) start (lines s)))
     (grows_or_else 0 _ _ (number_grows (λ i. without_lines s i (suc (body_length (drop (suc i) (lines s))))) (λ i. lines_grow s i (suc (body_length (drop (suc i) (lines s))))) (last_line (begins path) start (lines s)))
-    (grows_inside removal (λ more. 0) removal_bound path s)))
+    (grows_nested removal (λ more. 0) removal_bound path s)))
 
 -- ---- every edit
 
@@ -123,7 +123,7 @@ of_grows : (s : Document) (n : ℕ) (o : Option (Changed Document)) (c : Changed
 of_grows s n None c e i h = absurd cc
 of_grows s n (Some d) c e i h = let k : d ≡ c = cc in subst (λ (x : Changed Document). length (text x.to) ≤ length (text s) + n) k (longer_text text s n d i h)
 
-pub growth : (profile : Profile) (limit : ℕ) (s : Document) (e : Edit) (c : Changed Document) → IsDocument profile s → ObeysRules (marks (said_in s)) → refusal profile limit s e ≡ None → change s e ≡ Some c
+pub growth : (profile : Profile) (limit : ℕ) (s : Document) (e : Edit) (c : Changed Document) → IsDocument profile s → ObeysRules (marks (mentions_in s)) → refusal profile limit s e ≡ None → change s e ≡ Some c
     → length (text c.to) ≤ length (text s) + given_size e + 12
 growth profile limit s (set path v) c valid obeys h k = omega (arith, set_growth path v s c (rules_of_document s obeys) k)
 growth profile limit s (insert path v) c valid obeys h k =

@@ -11,39 +11,39 @@ use Rattle.keep_path.specs.Path.{Part, key, index, same_path}
 use Rattle.keep_path.specs.PathText.{encoded_path}
 use Rattle.keep_law.specs.Edits.{key_part}
 use Rattle.keep_meaning.specs.Marks.{Mention, Reading, start}
-use Rattle.keep_meaning.specs.Meaning.{step, lines, said_in}
+use Rattle.keep_meaning.specs.Meaning.{step, lines, mentions_in}
 use Rattle.keep_meaning.specs.Nodes.{is_node}
 use Rattle.keep_law.specs.declared.fault.EditFault.{EditFault}
 use Rattle.keep_law.specs.declared.fault.EditFault.TheVariants as fault
-use Rattle.keep_law.specs.Look.{strip, keys_in, fronts, last_passing, holder, is_index, item_number, item_count, without_last, is_table}
+use Rattle.keep_law.specs.Look.{strip, keys_in, prefixes, last_passing, holder, is_index, item_number, item_count, without_last, is_table}
 use Rattle.keep_law.specs.Changed.{Changed, within, or_else}
-use Rattle.keep_law.specs.Values.{space, text_of_value, entry_front, entry_back, entries_text, put_before, put_behind, goes_past, bracketed_change, put_item, put_named, rename_further, rename_part, rename_name, rename_entry, renaming}
-use Rattle.keep_law.specs.Lines.{in_lines, last_line, goes_dotted, goes_through, body_end, newline_of, reading_at, rename_content, rename_line, part_paths, is_empty, content_text}
-use Rattle.keep_law.specs.Edits.{insert, append_table, append_element, key_with, name_with, new_keyval, new_header, inside, at_line, end_of, insert_line, change_insert, change_rename, append, change}
+use Rattle.keep_law.specs.Values.{space, text_of_value, entry_prefix, entry_back, entries_text, put_before, put_after, leads_past, bracketed_change, put_item, put_named, rename_further, rename_part, rename_name, rename_entry, renaming}
+use Rattle.keep_law.specs.Lines.{in_lines, last_line, leads_dotted, leads_through, body_end, newline_of, reading_at, rename_content, rename_line, part_paths, is_empty, content_text}
+use Rattle.keep_law.specs.Edits.{insert, append_table, append_element, key_with, name_with, new_keyval, new_header, nested, at_line, end_of, insert_line, change_insert, change_rename, append, change}
 use Rattle.keep_law.specs.Refusals.{refusal, first_that_holds, is_too_deep}
 use Rattle.keep_law.proofs.Common.Runs.{AllOf}
-use Rattle.keep_law.proofs.Growth.Growth.{GrowsBy, grows_within, grows_or_else, grows_more, IsBound, grows_lines, grows_document, grows_inside, W, W-append, key_size, steps_size, key_fits, key_fits_dotted, key_fits_path, steps_near, steps_append, steps_drop, path_append, lines_size, keyval_size, header_size, element_size, grows_at_line}
+use Rattle.keep_law.proofs.Growth.Growth.{GrowsBy, grows_within, grows_or_else, grows_more, IsBound, grows_lines, grows_document, grows_nested, W, W-append, key_size, steps_size, key_fits, key_fits_dotted, key_fits_path, steps_near, steps_append, steps_drop, path_append, lines_size, keyval_size, header_size, element_size, grows_at_line}
 
 -- ---- insert in a value
 
 put_before_grows : (n : ℕ) (new : Value) (es : Entries) → GrowsBy (length (value_text new) + 2) (put_before n new es)
 put_before_grows n new none = tt
-put_before_grows zero new (entry name body inside after comma rest) = omega (arith, length-append (text_of_value new) (codes ", "))
-put_before_grows (suc m) new (entry name body inside after comma rest) =
-    grows_within (length (value_text new) + 2) (entry name body inside after comma) (entry_front name body inside ++ (text_of after ++ text_of (comma_leaves comma))) [] (put_before m new rest) (put_before_grows m new rest)
+put_before_grows zero new (entry name body nested after comma rest) = omega (arith, length-append (text_of_value new) (codes ", "))
+put_before_grows (suc m) new (entry name body nested after comma rest) =
+    grows_within (length (value_text new) + 2) (entry name body nested after comma) (entry_prefix name body nested ++ (text_of after ++ text_of (comma_leaves comma))) [] (put_before m new rest) (put_before_grows m new rest)
 
-put_behind_grows : (front : List Part) (named : Option Name) (new : Value) (es : Entries) → GrowsBy (W (named_leaves named) + length (value_text new) + 2) (put_behind front named new es)
-put_behind_grows front named new none = tt
-put_behind_grows front named new (entry name body inside after comma rest) =
+put_after_grows : (prefix : List Part) (named : Option Name) (new : Value) (es : Entries) → GrowsBy (W (named_leaves named) + length (value_text new) + 2) (put_after prefix named new es)
+put_after_grows prefix named new none = tt
+put_after_grows prefix named new (entry name body nested after comma rest) =
     grows_or_else (W (named_leaves named) + length (value_text new) + 2) _ _
-    (grows_within (W (named_leaves named) + length (value_text new) + 2) (entry name body inside after comma) (entry_front name body inside ++ (text_of after ++ text_of (comma_leaves comma))) [] (put_behind front named new rest) (put_behind_grows front named new rest))
-    (by (goes_past front name))
+    (grows_within (W (named_leaves named) + length (value_text new) + 2) (entry name body nested after comma) (entry_prefix name body nested ++ (text_of after ++ text_of (comma_leaves comma))) [] (put_after prefix named new rest) (put_after_grows prefix named new rest))
+    (by (leads_past prefix name))
   where
     by : (b : Bool) → GrowsBy (W (named_leaves named) + length (value_text new) + 2) (elim b [
       | false ↦ None
       | true ↦ Some (record {
-        to = entry name body inside [] (Some space) (entry named new.body new.inside after comma rest);
-        before = entry_front name body inside;
+        to = entry name body nested [] (Some space) (entry named new.body new.nested after comma rest);
+        before = entry_prefix name body nested;
         old = [];
         new = codes ", " ++ (text_of (named_leaves named) ++ text_of_value new);
         behind = entry_back after comma rest;
@@ -53,14 +53,14 @@ put_behind_grows front named new (entry name body inside after comma rest) =
     by true = omega (arith, length-append (codes ", ") (text_of (named_leaves named) ++ text_of_value new), length-append (text_of (named_leaves named)) (text_of_value new))
 
 bracketed_grows : (n : ℕ) (named : Option Name) (new : Value) (more : Entries → Option (Changed Entries)) → W (named_leaves named) + length (value_text new) ≤ n → ((es : Entries) → GrowsBy n (more es))
-    → (b : Body) (inside : Entries) → GrowsBy n (bracketed_change named new more b inside)
-bracketed_grows n named new more h f (scalar w) inside = tt
+    → (b : Body) (nested : Entries) → GrowsBy n (bracketed_change named new more b nested)
+bracketed_grows n named new more h f (scalar w) nested = tt
 bracketed_grows n named new more h f (array first) none = omega (arith, h, length-append (text_of (named_leaves named)) (text_of_value new))
 bracketed_grows n named new more h f (inline first) none = omega (arith, h, length-append (text_of (named_leaves named)) (text_of_value new))
-bracketed_grows n named new more h f (array first) (entry name body inside after comma rest) =
-    grows_within n (λ es. record { body = array first; inside = es }) (codes "[" ++ text_of first) (codes "]") (more (entry name body inside after comma rest)) (f (entry name body inside after comma rest))
-bracketed_grows n named new more h f (inline first) (entry name body inside after comma rest) =
-    grows_within n (λ es. record { body = inline first; inside = es }) (codes "{" ++ text_of first) (codes "}") (more (entry name body inside after comma rest)) (f (entry name body inside after comma rest))
+bracketed_grows n named new more h f (array first) (entry name body nested after comma rest) =
+    grows_within n (λ es. record { body = array first; nested = es }) (codes "[" ++ text_of first) (codes "]") (more (entry name body nested after comma rest)) (f (entry name body nested after comma rest))
+bracketed_grows n named new more h f (inline first) (entry name body nested after comma rest) =
+    grows_within n (λ es. record { body = inline first; nested = es }) (codes "{" ++ text_of first) (codes "}") (more (entry name body nested after comma rest)) (f (entry name body nested after comma rest))
 
 put_item_bound : (new : Value) → IsBound (put_item new) (λ more. length (value_text new) + 2)
 put_item_bound new = record { grows = by; falls = λ p more. omega arith }
@@ -69,9 +69,9 @@ put_item_bound new = record { grows = by; falls = λ p more. omega arith }
     by [] v = tt
     by (key t ∷ ps) v = tt
     by (index n ∷ ps) v =
-        bracketed_grows (length (value_text new) + 2) None new (λ es. or_else (put_before n new es) (put_behind [] None new es)) (omega arith)
-        (λ es. grows_or_else (length (value_text new) + 2) (put_before n new es) (put_behind [] None new es) (put_before_grows n new es)
-        (grows_more (W (named_leaves None) + length (value_text new) + 2) (length (value_text new) + 2) (put_behind [] None new es) (omega arith) (put_behind_grows [] None new es))) v.body v.inside
+        bracketed_grows (length (value_text new) + 2) None new (λ es. or_else (put_before n new es) (put_after [] None new es)) (omega arith)
+        (λ es. grows_or_else (length (value_text new) + 2) (put_before n new es) (put_after [] None new es) (put_before_grows n new es)
+        (grows_more (W (named_leaves None) + length (value_text new) + 2) (length (value_text new) + 2) (put_after [] None new es) (omega arith) (put_after_grows [] None new es))) v.body v.nested
 
 name_size : (keys : List (List ℕ)) → W (named_leaves (Some (name_with keys))) ≡ key_size keys + 3
 name_size keys = W-append (key_leaves (key_with keys)) (space ++ (record { leaf = leaf.Equals; text = 0x3D ∷ [] } ∷ space))
@@ -83,10 +83,10 @@ put_named_bound rest new = record { grows = by; falls = λ p more. omega (arith,
     by more v =
         let n : ℕ = steps_size more + 7 + length (value_text new) in
         let named : Option Name = Some (name_with (keys_in more)) in
-        let front : List Part = take (length more - rest) more in
+        let prefix : List Part = take (length more - rest) more in
         let less : W (named_leaves named) + length (value_text new) + 2 ≤ n = omega (arith, name_size (keys_in more), key_fits more) in
-        bracketed_grows n named new (put_behind front named new) (omega (arith, less))
-        (λ es. grows_more (W (named_leaves named) + length (value_text new) + 2) n (put_behind front named new es) less (put_behind_grows front named new es)) v.body v.inside
+        bracketed_grows n named new (put_after prefix named new) (omega (arith, less))
+        (λ es. grows_more (W (named_leaves named) + length (value_text new) + 2) n (put_after prefix named new es) less (put_after_grows prefix named new es)) v.body v.nested
 
 -- ---- insert as a line
 
@@ -127,24 +127,24 @@ insert_line_grows s (p ∷ ps) t ts v h =
     (λ i. dotted_line_grows s (a ++ rest) (length (reading_at i (lines s)).body) v h (suc i)) _
     (grows_number n (λ i. at_line s (body_end i (lines s)) (blank ∷ new_header (keys_in a) ∷ new_keyval rest v ∷ []))
     (λ i. section_grows s p ps t ts v h (body_end i (lines s))) None tt
-    (last_line (goes_through a) start (lines s)))
-    (last_line (goes_dotted a) start (lines s)))
+    (last_line (leads_through a) start (lines s)))
+    (last_line (leads_dotted a) start (lines s)))
     (end_of s a)
 
 -- ---- the holder
 
-pub record IsProperFront (path front : List Part) : Type 0 where
+pub record IsProperPrefix (path prefix : List Part) : Type 0 where
   pub head : Part
   pub tail : List Part
-  pub is : path ≡ front ++ head ∷ tail
+  pub is : path ≡ prefix ++ head ∷ tail
 
-fronts_cons : (p : Part) (path : List Part) (l : List (List Part)) → AllOf (IsProperFront path) l → AllOf (IsProperFront (p ∷ path)) (map (λ front. p ∷ front) l)
-fronts_cons p path [] h = tt
-fronts_cons p path (x ∷ l) h = (record { head = h.0.head; tail = h.0.tail; is = ap (λ (q : List Part). p ∷ q) h.0.is }, fronts_cons p path l h.1)
+prefixes_cons : (p : Part) (path : List Part) (l : List (List Part)) → AllOf (IsProperPrefix path) l → AllOf (IsProperPrefix (p ∷ path)) (map (λ prefix. p ∷ prefix) l)
+prefixes_cons p path [] h = tt
+prefixes_cons p path (x ∷ l) h = (record { head = h.0.head; tail = h.0.tail; is = ap (λ (q : List Part). p ∷ q) h.0.is }, prefixes_cons p path l h.1)
 
-fronts_proper : (path : List Part) → AllOf (IsProperFront path) (fronts path)
-fronts_proper [] = tt
-fronts_proper (p ∷ ps) = (record { head = p; tail = ps; is = refl }, fronts_cons p ps (fronts ps) (fronts_proper ps))
+prefixes_proper : (path : List Part) → AllOf (IsProperPrefix path) (prefixes path)
+prefixes_proper [] = tt
+prefixes_proper (p ∷ ps) = (record { head = p; tail = ps; is = refl }, prefixes_cons p ps (prefixes ps) (prefixes_proper ps))
 
 abbrev InOption : (List Part → Type 0) → Option (List Part) → Type 0
 InOption P None = ⊤
@@ -159,14 +159,14 @@ last_in P test (x ∷ xs) h = by (last_passing test xs) (test x) (last_in P test
     by None true k = h.0
     by None false k = tt
 
-pub holder_proper : (p : Part) (ps : List Part) (ms : List Mention) → IsProperFront (p ∷ ps) (holder (p ∷ ps) ms)
-holder_proper p ps ms = by (last_passing (λ front. is_node front ms) (fronts (p ∷ ps))) (last_in (IsProperFront (p ∷ ps)) (λ front. is_node front ms) (fronts (p ∷ ps)) (fronts_proper (p ∷ ps)))
+pub holder_proper : (p : Part) (ps : List Part) (ms : List Mention) → IsProperPrefix (p ∷ ps) (holder (p ∷ ps) ms)
+holder_proper p ps ms = by (last_passing (λ prefix. is_node prefix ms) (prefixes (p ∷ ps))) (last_in (IsProperPrefix (p ∷ ps)) (λ prefix. is_node prefix ms) (prefixes (p ∷ ps)) (prefixes_proper (p ∷ ps)))
   where
-    by : (o : Option (List Part)) → InOption (IsProperFront (p ∷ ps)) o → IsProperFront (p ∷ ps) (elim o [ Some a ↦ a | None ↦ [] ])
+    by : (o : Option (List Part)) → InOption (IsProperPrefix (p ∷ ps)) o → IsProperPrefix (p ∷ ps) (elim o [ Some a ↦ a | None ↦ [] ])
     by None k = record { head = p; tail = ps; is = refl }
     by (Some a) k = k
 
--- what insert's refusal leaves: the path is new, and so is what is behind the holder, all keys
+-- what insert's refusal leaves: the path is new, and so is what is after the holder, all keys
 new_path : (nd ix : Bool) (more : List (Bool × EditFault)) → first_that_holds ((not nd && ix, fault.NotFound) ∷ (nd, fault.Exists) ∷ more) ≡ None → (nd ≡ false) × (ix ≡ false)
 new_path true ix more h = absurd cc
 new_path false true more h = absurd cc
@@ -174,50 +174,50 @@ new_path false false more h = (refl, refl)
 
 pub insert_grows : (profile : Profile) (limit : ℕ) (s : Document) (path : List Part) (v : Value) → length (newline_of s).text ≤ 2 → refusal profile limit s (insert path v) ≡ None
     → GrowsBy (length (encoded_path path) + length (value_text v) + 12) (change_insert s path v)
-insert_grows profile limit s path v nl h = by (item_number path (said_in s)) h
+insert_grows profile limit s path v nl h = by (item_number path (mentions_in s)) h
   where
-    fresh : (path : List Part) (p : Part) (ps front : List Part) → path ≡ front ++ p ∷ ps → list_any is_index (drop (length front) path) ≡ false
-        → GrowsBy (length (encoded_path path) + length (value_text v) + 12) (insert_line s front (drop (length front) path) v)
-    fresh path (index n) ps front e g =
-        let k : drop (length front) path ≡ index n ∷ ps = ap (drop (length front)) e ∙ drop-append_seam front (index n ∷ ps) in
+    fresh : (path : List Part) (p : Part) (ps prefix : List Part) → path ≡ prefix ++ p ∷ ps → list_any is_index (drop (length prefix) path) ≡ false
+        → GrowsBy (length (encoded_path path) + length (value_text v) + 12) (insert_line s prefix (drop (length prefix) path) v)
+    fresh path (index n) ps prefix e g =
+        let k : drop (length prefix) path ≡ index n ∷ ps = ap (drop (length prefix)) e ∙ drop-append_seam prefix (index n ∷ ps) in
         let t : true ≡ false = sym (ap (list_any is_index) k) ∙ g in absurd cc
-    fresh path (key t) ps front e g =
-        let k : drop (length front) path ≡ key t ∷ ps = ap (drop (length front)) e ∙ drop-append_seam front (key t ∷ ps) in
-        subst (λ (r : List Part). GrowsBy (length (encoded_path path) + length (value_text v) + 12) (insert_line s front r v)) (sym k)
-        (subst (λ (q : List Part). GrowsBy (length (encoded_path q) + length (value_text v) + 12) (insert_line s front (key t ∷ ps) v)) (sym e) (insert_line_grows s front t ps v nl))
+    fresh path (key t) ps prefix e g =
+        let k : drop (length prefix) path ≡ key t ∷ ps = ap (drop (length prefix)) e ∙ drop-append_seam prefix (key t ∷ ps) in
+        subst (λ (r : List Part). GrowsBy (length (encoded_path path) + length (value_text v) + 12) (insert_line s prefix r v)) (sym k)
+        (subst (λ (q : List Part). GrowsBy (length (encoded_path q) + length (value_text v) + 12) (insert_line s prefix (key t ∷ ps) v)) (sym e) (insert_line_grows s prefix t ps v nl))
 
-    both : (path : List Part) → is_node path (said_in s) ≡ false → list_any is_index (drop (length (holder path (said_in s))) path) ≡ false
+    both : (path : List Part) → is_node path (mentions_in s) ≡ false → list_any is_index (drop (length (holder path (mentions_in s))) path) ≡ false
         → GrowsBy (length (encoded_path path) + length (value_text v) + 12)
-        (or_else (insert_line s (holder path (said_in s)) (drop (length (holder path (said_in s))) path) v) (inside (put_named name_with (length (drop (length (holder path (said_in s))) path)) v) path s))
+        (or_else (insert_line s (holder path (mentions_in s)) (drop (length (holder path (mentions_in s))) path) v) (nested (put_named name_with (length (drop (length (holder path (mentions_in s))) path)) v) path s))
     both [] nd ix = absurd cc
     both (p ∷ ps) nd ix =
-        let a : List Part = holder (p ∷ ps) (said_in s) in
+        let a : List Part = holder (p ∷ ps) (mentions_in s) in
         let r : List Part = drop (length a) (p ∷ ps) in
-        let f = holder_proper p ps (said_in s) in
+        let f = holder_proper p ps (mentions_in s) in
         let n : ℕ = length (encoded_path (p ∷ ps)) + length (value_text v) + 12 in
-        grows_or_else n (insert_line s a r v) (inside (put_named name_with (length r) v) (p ∷ ps) s)
+        grows_or_else n (insert_line s a r v) (nested (put_named name_with (length r) v) (p ∷ ps) s)
         (fresh (p ∷ ps) f.head f.tail a f.is ix)
-        (grows_more (steps_size (p ∷ ps) + 7 + length (value_text v)) n (inside (put_named name_with (length r) v) (p ∷ ps) s) (omega (arith, steps_near (p ∷ ps)))
-        (grows_inside (put_named name_with (length r) v) (λ more. steps_size more + 7 + length (value_text v)) (put_named_bound (length r) v) (p ∷ ps) s))
+        (grows_more (steps_size (p ∷ ps) + 7 + length (value_text v)) n (nested (put_named name_with (length r) v) (p ∷ ps) s) (omega (arith, steps_near (p ∷ ps)))
+        (grows_nested (put_named name_with (length r) v) (λ more. steps_size more + 7 + length (value_text v)) (put_named_bound (length r) v) (p ∷ ps) s))
 
     by : (o : Option ℕ) → ◌≡◌ {A = Option EditFault} (elim o [
-      | Some n ↦ first_that_holds ((nat_lt (item_count (without_last path) (said_in s)) n, fault.NotFound) ∷ (is_too_deep limit path v (said_in s), fault.TooDeep) ∷ (not (is_allowed_in profile v), fault.Profile) ∷ [])
+      | Some n ↦ first_that_holds ((nat_lt (item_count (without_last path) (mentions_in s)) n, fault.NotFound) ∷ (is_too_deep limit path v (mentions_in s), fault.TooDeep) ∷ (not (is_allowed_in profile v), fault.Profile) ∷ [])
       | None ↦ first_that_holds (
-          (not (is_node path (said_in s)) && list_any is_index (drop (length (holder path (said_in s))) path), fault.NotFound)
-          ∷ (is_node path (said_in s), fault.Exists)
-          ∷ (not (is_table (holder path (said_in s)) (said_in s)), fault.NotTable)
-          ∷ (is_too_deep limit path v (said_in s), fault.TooDeep)
+          (not (is_node path (mentions_in s)) && list_any is_index (drop (length (holder path (mentions_in s))) path), fault.NotFound)
+          ∷ (is_node path (mentions_in s), fault.Exists)
+          ∷ (not (is_table (holder path (mentions_in s)) (mentions_in s)), fault.NotTable)
+          ∷ (is_too_deep limit path v (mentions_in s), fault.TooDeep)
           ∷ (not (is_allowed_in profile v), fault.Profile) ∷ [])
     ]) None → GrowsBy (length (encoded_path path) + length (value_text v) + 12) (elim o [
-      | Some n ↦ inside (put_item v) path s
-      | None ↦ or_else (insert_line s (holder path (said_in s)) (drop (length (holder path (said_in s))) path) v) (inside (put_named name_with (length (drop (length (holder path (said_in s))) path)) v) path s)
+      | Some n ↦ nested (put_item v) path s
+      | None ↦ or_else (insert_line s (holder path (mentions_in s)) (drop (length (holder path (mentions_in s))) path) v) (nested (put_named name_with (length (drop (length (holder path (mentions_in s))) path)) v) path s)
     ])
     by (Some n) k =
-        grows_more (length (value_text v) + 2) (length (encoded_path path) + length (value_text v) + 12) (inside (put_item v) path s) (omega arith)
-        (grows_inside (put_item v) (λ more. length (value_text v) + 2) (put_item_bound v) path s)
+        grows_more (length (value_text v) + 2) (length (encoded_path path) + length (value_text v) + 12) (nested (put_item v) path s) (omega arith)
+        (grows_nested (put_item v) (λ more. length (value_text v) + 2) (put_item_bound v) path s)
     by None k =
-        let (nd, ix) = new_path (is_node path (said_in s)) (list_any is_index (drop (length (holder path (said_in s))) path))
-        ((not (is_table (holder path (said_in s)) (said_in s)), fault.NotTable) ∷ (is_too_deep limit path v (said_in s), fault.TooDeep) ∷ (not (is_allowed_in profile v), fault.Profile) ∷ []) k in
+        let (nd, ix) = new_path (is_node path (mentions_in s)) (list_any is_index (drop (length (holder path (mentions_in s))) path))
+        ((not (is_table (holder path (mentions_in s)) (mentions_in s)), fault.NotTable) ∷ (is_too_deep limit path v (mentions_in s), fault.TooDeep) ∷ (not (is_allowed_in profile v), fault.Profile) ∷ []) k in
         both path nd ix
 
 -- ---- rename
@@ -234,30 +234,30 @@ rename_part_grows new (suc m) k = grows_within (length new.text) (λ fs. record 
 rename_name_grows : (new : Written) (n : ℕ) (name : Name) → GrowsBy (length new.text) (rename_name new n name)
 rename_name_grows new n name = grows_within (length new.text) (λ k. record name { key = k }) [] (text_of name.before ++ (codes "=" ++ text_of name.behind)) (rename_part new n name.key) (rename_part_grows new n name.key)
 
-rename_entry_by : (new : Written) (path : List Part) (name : Name) (body : Body) (inside : Entries) (after : Gap) (comma : Option Gap) (rest : Entries)
+rename_entry_by : (new : Written) (path : List Part) (name : Name) (body : Body) (nested : Entries) (after : Gap) (comma : Option Gap) (rest : Entries)
     → GrowsBy (length new.text) (rename_entry new path rest) → (o : Option (List Part)) → GrowsBy (length new.text) (elim o [
-      | Some more ↦ within (λ nm. entry (Some nm) body inside after comma rest) [] (text_of (opening body) ++ (entries_text inside ++ (text_of (closing body) ++ entry_back after comma rest)))
+      | Some more ↦ within (λ nm. entry (Some nm) body nested after comma rest) [] (text_of (opening body) ++ (entries_text nested ++ (text_of (closing body) ++ entry_back after comma rest)))
           (rename_name new (length path - 1) name)
-      | None ↦ within (entry (Some name) body inside after comma) (entry_front (Some name) body inside ++ (text_of after ++ text_of (comma_leaves comma))) [] (rename_entry new path rest)
+      | None ↦ within (entry (Some name) body nested after comma) (entry_prefix (Some name) body nested ++ (text_of after ++ text_of (comma_leaves comma))) [] (rename_entry new path rest)
     ])
-rename_entry_by new path name body inside after comma rest h (Some more) =
-    grows_within (length new.text) (λ nm. entry (Some nm) body inside after comma rest) [] (text_of (opening body) ++ (entries_text inside ++ (text_of (closing body) ++ entry_back after comma rest)))
+rename_entry_by new path name body nested after comma rest h (Some more) =
+    grows_within (length new.text) (λ nm. entry (Some nm) body nested after comma rest) [] (text_of (opening body) ++ (entries_text nested ++ (text_of (closing body) ++ entry_back after comma rest)))
     (rename_name new (length path - 1) name) (rename_name_grows new (length path - 1) name)
-rename_entry_by new path name body inside after comma rest h None =
-    grows_within (length new.text) (entry (Some name) body inside after comma) (entry_front (Some name) body inside ++ (text_of after ++ text_of (comma_leaves comma))) [] (rename_entry new path rest) h
+rename_entry_by new path name body nested after comma rest h None =
+    grows_within (length new.text) (entry (Some name) body nested after comma) (entry_prefix (Some name) body nested ++ (text_of after ++ text_of (comma_leaves comma))) [] (rename_entry new path rest) h
 
 rename_entry_grows : (new : Written) (path : List Part) (es : Entries) → GrowsBy (length new.text) (rename_entry new path es)
 rename_entry_grows new path none = tt
-rename_entry_grows new path (entry None body inside after comma rest) = tt
-rename_entry_grows new path (entry (Some name) body inside after comma rest) =
-    rename_entry_by new path name body inside after comma rest (rename_entry_grows new path rest) (strip path (step 0 (Some name)))
+rename_entry_grows new path (entry None body nested after comma rest) = tt
+rename_entry_grows new path (entry (Some name) body nested after comma rest) =
+    rename_entry_by new path name body nested after comma rest (rename_entry_grows new path rest) (strip path (step 0 (Some name)))
 
 renaming_bound : (new : Written) → IsBound (renaming new) (λ more. length new.text)
 renaming_bound new = record { grows = by; falls = λ p more. omega arith }
   where
     by : (more : List Part) (v : Value) → GrowsBy (length new.text) (renaming new more v)
     by [] v = tt
-    by (p ∷ ps) v = grows_within (length new.text) (λ es. record v { inside = es }) (text_of (opening v.body)) (text_of (closing v.body)) (rename_entry new (p ∷ ps) v.inside) (rename_entry_grows new (p ∷ ps) v.inside)
+    by (p ∷ ps) v = grows_within (length new.text) (λ es. record v { nested = es }) (text_of (opening v.body)) (text_of (closing v.body)) (rename_entry new (p ∷ ps) v.nested) (rename_entry_grows new (p ∷ ps) v.nested)
 
 rename_content_grows : (new : Written) (n : ℕ) (c : Content) → GrowsBy (length new.text) (rename_content new n c)
 rename_content_grows new n blank = tt
@@ -280,7 +280,7 @@ rename_grows s path name =
     let n : ℕ = length (key_part name).text in
     grows_or_else n _ _
     (grows_document n s (in_lines (rename_line (key_part name) path) start s.ended s.last) (grows_lines n (rename_line (key_part name) path) (rename_line_grows (key_part name) path) start s.ended s.last))
-    (grows_inside (renaming (key_part name)) (λ more. n) (renaming_bound (key_part name)) path s)
+    (grows_nested (renaming (key_part name)) (λ more. n) (renaming_bound (key_part name)) path s)
 
 -- ---- appends
 

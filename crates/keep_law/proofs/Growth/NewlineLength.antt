@@ -80,17 +80,17 @@ short_comma profile place (Some g) (entry a b c d e f) h = ((λ e. absurd cc), s
 
 short_entries : (profile : Profile) (place : Place) (es : Entries) → AreEntries profile place es → AllOf IsShort (entries_leaves es)
 short_entries profile place none h = tt
-short_entries profile place (entry name body inside after comma rest) (hn, hb, hi, ha, hc, hr) =
+short_entries profile place (entry name body nested after comma rest) (hn, hb, hi, ha, hc, hr) =
     all_join IsShort (named_leaves name) _ (short_named profile place name hn)
     (all_join IsShort (opening body) _ (short_opening profile body hb)
-    (all_join IsShort (entries_leaves inside) _ (short_entries profile (place_in body) inside hi)
+    (all_join IsShort (entries_leaves nested) _ (short_entries profile (place_in body) nested hi)
     (all_join IsShort (closing body) _ (short_closing body)
     (all_join IsShort after _ (short_gap profile place after ha)
     (all_join IsShort (comma_leaves comma) _ (short_comma profile place comma rest hc) (short_entries profile place rest hr))))))
 
 short_value : (profile : Profile) (v : Value) → IsValue profile v → AllOf IsShort (value_leaves v)
 short_value profile v h =
-    all_join IsShort (opening v.body) _ (short_opening profile v.body h.body) (all_join IsShort (entries_leaves v.inside) _ (short_entries profile (place_in v.body) v.inside h.inside) (short_closing v.body))
+    all_join IsShort (opening v.body) _ (short_opening profile v.body h.body) (all_join IsShort (entries_leaves v.nested) _ (short_entries profile (place_in v.body) v.nested h.nested) (short_closing v.body))
 
 short_content : (profile : Profile) (c : Content) → IsContent profile c → AllOf IsShort (content_leaves c)
 short_content profile blank h = tt

@@ -1,4 +1,4 @@
--- Where a keyval is put into braces: behind the last keyval that goes past the dots, or into empty braces.
+-- Where a keyval is put into braces: after the last keyval that goes past the dots, or into empty braces.
 use Rattle.std.proofs.Common.{◌≡◌, ℕ, suc, ◌+◌, ◌-◌, true, false, List, [], ◌∷◌, ◌++◌, length, map, take, slice_get, refl, sym, ap, subst, ◌∙◌, append_assoc, length-append, arith, Option, Some, None, ◌⊎◌, inl, inr}
 use Rattle.std.specs.Prelude.{codes, IsUtf8}
 use Rattle.std.specs.List.{AllByRecursion, list_any}
@@ -13,23 +13,23 @@ use Rattle.keep_syntax.specs.declared.info.Brackets.TheVariants as brackets
 use Rattle.keep_syntax.proofs.Shared.{gap_blank, allowed_value}
 use Rattle.keep_token.specs.Pieces.{first}
 use Rattle.keep_syntax.specs.Numbered as syntax
-use Rattle.keep_syntax.specs.Numbered.{inside_of}
+use Rattle.keep_syntax.specs.Numbered.{nested_of}
 use Rattle.keep_path.specs.Path.{Part, key}
 use Rattle.keep_meaning.specs.Marks.{Mention}
-use Rattle.keep_meaning.specs.Meaning.{entries_said, step, lines, said_in}
+use Rattle.keep_meaning.specs.Meaning.{entries_mentions, step, lines, mentions_in}
 use Rattle.keep_meaning.specs.Nodes.{is_at, is_node}
 use Rattle.keep_law.specs.Look.{holder, item_number, is_table, keys_in, key_text}
 use Rattle.keep_law.specs.Changed.{Changed}
-use Rattle.keep_law.specs.Values.{put_behind, put_named, bracketed_change, text_of_value, goes_past}
-use Rattle.keep_law.specs.Edits.{insert, change, inside, name_with}
-use Rattle.keep_law.specs.Insertion.{put_in, name_of, behind_entry, in_empty, keyed_text}
-use Rattle.keep_law.specs.Laws.{IsStanding, IsGivenValue}
+use Rattle.keep_law.specs.Values.{put_after, put_named, bracketed_change, text_of_value, leads_past}
+use Rattle.keep_law.specs.Edits.{insert, change, nested, name_with}
+use Rattle.keep_law.specs.Insertion.{put_in, name_of, after_entry, in_empty, keyed_text}
+use Rattle.keep_law.specs.Laws.{IsEditable, IsGivenValue}
 use Rattle.keep_law.specs.Refusals.{refusal, has_value}
-use Rattle.keep_law.proofs.Common.Runs.{AllOf, SomeOf, all_right, Rules, IsApart}
+use Rattle.keep_law.proofs.Common.Runs.{AllOf, SomeOf, all_right, Rules, IsDisjoint}
 use Rattle.keep_law.proofs.Common.SetLaw.{IsAloneAt}
 use Rattle.keep_law.proofs.Common.Marks.{rules_of_document}
 use Rattle.keep_law.proofs.Common.NewLines.{IsKeyText}
-use Rattle.keep_law.proofs.Common.InsertLaw.{fresh_apart}
+use Rattle.keep_law.proofs.Common.InsertLaw.{fresh_disjoint}
 use Rattle.keep_law.proofs.Common.ValueThere.{alone_of_has, fact_of_has}
 use Rattle.keep_law.proofs.Rename.KeyTexts.{key_texts}
 use Rattle.keep_law.proofs.Remove.RemovePlace.{some_is}
@@ -39,34 +39,34 @@ use Rattle.keep_law.proofs.Insert.NewPath.{IsNewPath, new_path}
 use Rattle.keep_law.proofs.Insert.InsertWhole.{suits_there, has_lines}
 use Rattle.keep_law.proofs.Insert.InsertBraces.{no_lines, change_braces}
 use Rattle.keep_law.proofs.Insert.ItemThere.{never_whole}
-use Rattle.keep_law.proofs.Insert.BracesPlace.{is_inline, entries_inline, take_front, IsBracesPlace, braces_there}
+use Rattle.keep_law.proofs.Insert.BracesPlace.{is_inline, entries_inline, take_prefix, IsBracesPlace, braces_there}
 use Rattle.keep_law.proofs.Insert.BracesStops.{rest_name, rest_keys}
-use Rattle.keep_law.proofs.Insert.NamedEntries.{IsTold}
+use Rattle.keep_law.proofs.Insert.NamedEntries.{IsStated}
 use Rattle.keep_law.proofs.Insert.NoLines.{value_no_lines}
 use Rattle.keep_law.proofs.Insert.FoundThere.{TakesNothing, IsFoundThere, found_there, put_place}
-use Rattle.keep_law.proofs.Insert.EntryPlaces.{IsEntryAt, own_of, IsBehindEntry, behind_at}
+use Rattle.keep_law.proofs.Insert.EntryPlaces.{IsEntryAt, own_of, IsAfterEntry, after_at}
 use Rattle.keep_law.proofs.Insert.EntryEdges.{gap_low, back_low, low_put}
 use Rattle.keep_law.proofs.Insert.LineBefore.{IsLowPlace}
 use Rattle.keep_law.proofs.Remove.RemoveLinePlace.{is_high}
 use Rattle.keep_law.proofs.Insert.EntryThere.{first_in}
-use Rattle.keep_law.proofs.Insert.ItemPlaces.{bracketed_nothing, behind_nothing, Nothing, of_some, within_is}
+use Rattle.keep_law.proofs.Insert.ItemPlaces.{bracketed_nothing, after_nothing, Nothing, of_some, within_is}
 
 named_nothing : (name : List (List ℕ) → Name) (rest : ℕ) (new : Value) → TakesNothing (put_named name rest new)
 named_nothing name rest new more v d e =
     of_some Nothing (put_named name rest new more v) d e
-    (bracketed_nothing (Some (name (keys_in more))) new (put_behind (take (length more - rest) more) (Some (name (keys_in more))) new) v.body v.inside
-    (λ es. behind_nothing (take (length more - rest) more) (Some (name (keys_in more))) new es))
+    (bracketed_nothing (Some (name (keys_in more))) new (put_after (take (length more - rest) more) (Some (name (keys_in more))) new) v.body v.nested
+    (λ es. after_nothing (take (length more - rest) more) (Some (name (keys_in more))) new es))
 
 -- keys of which there are some have a name
 name_is : (xs : List (List ℕ)) (k : List ℕ) (ks : List (List ℕ)) → name_of (xs ++ k ∷ ks) ≡ Some (name_with (xs ++ k ∷ ks))
 name_is [] k ks = refl
 name_is (x ∷ xs) k ks = refl
 
--- behind the value of that number
-pub record IsPutBehind (path : List Part) (s : Document) (new : Value) (keys : List (List ℕ)) (w : ℕ) : Type 0 where
+-- after the value with that number
+pub record IsPutAfter (path : List Part) (s : Document) (new : Value) (keys : List (List ℕ)) (w : ℕ) : Type 0 where
   pub info : ValueInfo
   pub here : slice_get (syntax.values s) w ≡ Some info
-  pub placed : IsLowPlace s (insert path new) (behind_entry info keys new)
+  pub placed : IsLowPlace s (insert path new) (after_entry info keys new)
 
 -- ---- what is done
 
@@ -78,14 +78,14 @@ pub record IsKeyvalFound (profile : Profile) (s : Document) (path at dots : List
   pub whole : path ≡ at ++ (dots ++ map key (k ∷ ks))
   pub there : IsFoundThere profile is_inline (put_named name_with (length (map key (k ∷ ks))) new) (dots ++ map key (k ∷ ks)) at s changed
 
-module _ (profile : Profile) (limit : ℕ) (s : Document) (path : List Part) (new : Value) (standing : IsStanding profile limit s) (given : IsGivenValue Wide new) (utf8 : AllByRecursion IsUtf8 (keys_in path))
-    (no_item : item_number path (said_in s) ≡ None) (allowed : refusal profile limit s (insert path new) ≡ None) (at dots : List Part) (whole : holder path (said_in s) ≡ at ++ dots)
-    (valued : has_value at (said_in s) ≡ true) (free : (b : Part) (bs r : List Part) → dots ≡ (b ∷ bs) ++ r → has_value (at ++ b ∷ bs) (said_in s) ≡ false) where
+module _ (profile : Profile) (limit : ℕ) (s : Document) (path : List Part) (new : Value) (editable : IsEditable profile limit s) (given : IsGivenValue Wide new) (utf8 : AllByRecursion IsUtf8 (keys_in path))
+    (no_item : item_number path (mentions_in s) ≡ None) (allowed : refusal profile limit s (insert path new) ≡ None) (at dots : List Part) (whole : holder path (mentions_in s) ≡ at ++ dots)
+    (valued : has_value at (mentions_in s) ≡ true) (free : (b : Part) (bs r : List Part) → dots ≡ (b ∷ bs) ++ r → has_value (at ++ b ∷ bs) (mentions_in s) ≡ false) where
   abbrev ms : List Mention
-  ms = said_in s
+  ms = mentions_in s
 
   rules : Rules ms
-  rules = rules_of_document s standing.obeys
+  rules = rules_of_document s editable.obeys
 
   alone : SomeOf (IsAloneAt at) ms
   alone = alone_of_has at ms valued
@@ -108,8 +108,8 @@ module _ (profile : Profile) (limit : ℕ) (s : Document) (path : List Part) (ne
         here = e;
         valued = is;
         none = free;
-        fresh = subst (λ (x : List Part). AllOf (IsApart (x ++ key fresh_path.first ∷ [])) ms) whole
-            (fresh_apart (holder path ms ++ key fresh_path.first ∷ []) (lines s) (holder path ms, fresh_path.first, refl) fresh_path.fresh);
+        fresh = subst (λ (x : List Part). AllOf (IsDisjoint (x ++ key fresh_path.first ∷ [])) ms) whole
+            (fresh_disjoint (holder path ms ++ key fresh_path.first ∷ []) (lines s) (holder path ms, fresh_path.first, refl) fresh_path.fresh);
         table = subst (λ (x : List Part). is_table x ms ≡ true) whole fresh_path.table;
         named = named_of (at ++ dots) ms named_there;
       }
@@ -125,18 +125,18 @@ module _ (profile : Profile) (limit : ℕ) (s : Document) (path : List Part) (ne
       all_right (IsKeyText profile) (keys_in at) (keys_in rest) (subst (AllOf (IsKeyText profile)) (ap keys_in path_is ∙ filter_map-append key_text at rest) texts) in
       let valid : IsValue profile new = allowed_value profile new given.valid (suits_there profile limit s path new no_item allowed) in
       let d : IsDoneThere profile is_inline (put_named name_with (length (map key (k ∷ ks))) new) rest at s =
-      braces_there profile s at dots k ks there new standing.valid rules (rest_name profile dots k ks mine) valid in
+      braces_there profile s at dots k ks there new editable.valid rules (rest_name profile dots k ks mine) valid in
       let lines : has_lines s (holder path ms) ≡ false = ap (has_lines s) whole ∙ value_no_lines s at dots rules alone in
       let is : change s (insert path new) ≡ Some d.changed =
       change_braces s path new no_item (no_lines s (holder path ms) lines)
-      ∙ ap (λ (l : List Part). inside (put_named name_with (length l) new) path s) fresh_path.rest
-      ∙ ap (λ (x : List Part). inside (put_named name_with (length (map key (k ∷ ks))) new) x s) path_is ∙ d.is in
+      ∙ ap (λ (l : List Part). nested (put_named name_with (length l) new) path s) fresh_path.rest
+      ∙ ap (λ (x : List Part). nested (put_named name_with (length (map key (k ∷ ks))) new) x s) path_is ∙ d.is in
       record {
         changed = d.changed;
         is = is;
         place = there;
         whole = path_is;
-        there = found_there profile is_inline (put_named name_with (length (map key (k ∷ ks))) new) rest at s standing.valid rules
+        there = found_there profile is_inline (put_named name_with (length (map key (k ∷ ks))) new) rest at s editable.valid rules
             (named_nothing name_with (length (map key (k ∷ ks))) new) d.changed d.is d.ended_is;
       }
 
@@ -162,19 +162,19 @@ module _ (profile : Profile) (s : Document) (path at dots : List Part) (new : Va
   named = Some (name_with (keys_in rest))
 
   -- the entries of the braces have values of their own
-  abbrev pub Told : ℕ → Option Name → Type 0
-  Told m name = IsTold (step m name) (entries_said 0 h.there.found.value.inside)
+  abbrev pub RowOutcome : ℕ → Option Name → Type 0
+  RowOutcome m name = IsStated (step m name) (entries_mentions 0 h.there.found.value.nested)
 
   abbrev put : Entries → Option (Changed Entries)
-  put es = put_behind (take (length rest - length keys) rest) named new es
+  put es = put_after (take (length rest - length keys) rest) named new es
 
-  pub record IsBehindKeyval : Type 0 where
-    pub entry : IsEntryAt Told 0 begin v.inside
-    pub goes : goes_past dots entry.name ≡ true
-    pub last : put_behind dots named new entry.rest ≡ None
-    pub is : IsLowPlace s (insert path new) (behind_entry (own_of Told 0 begin v.inside entry) (keys_in rest) new)
+  pub record IsAfterKeyval : Type 0 where
+    pub entry : IsEntryAt RowOutcome 0 begin v.nested
+    pub goes : leads_past dots entry.name ≡ true
+    pub last : put_after dots named new entry.rest ≡ None
+    pub is : IsLowPlace s (insert path new) (after_entry (own_of RowOutcome 0 begin v.nested entry) (keys_in rest) new)
 
-  are : AreEntries profile in_inline v.inside
+  are : AreEntries profile in_inline v.nested
   are = entries_inline profile v h.there.fit h.there.valid
 
   text_is : keyed_text (keys_in rest) new ≡ text_of (named_leaves named) ++ text_of_value new
@@ -189,24 +189,24 @@ module _ (profile : Profile) (s : Document) (path at dots : List Part) (new : Va
       let nothing : c.old ≡ [] = h.there.found.old ∙ h.there.nothing in
       low_put s (insert path new) c (put_in at fresh) h.is nothing (put_place c at fresh nothing start e) low
 
-  -- into empty braces, or behind a keyval
+  -- into empty braces, or after a keyval
   abbrev pub Placed : Type 0
-  Placed = ((v.inside ≡ none) × IsLowPlace s (insert path new) (in_empty h.there.found.own (keys_in rest) new)) ⊎ IsBehindKeyval
+  Placed = ((v.nested ≡ none) × IsLowPlace s (insert path new) (in_empty h.there.found.own (keys_in rest) new)) ⊎ IsAfterKeyval
 
-  by_behind : (d : Changed Entries) → put_behind dots named new v.inside ≡ Some d → length c.before ≡ begin.at + length d.before → c.new ≡ d.new → c.behind ≡ d.behind ++ (codes "}" ++ h.there.found.beyond) → Placed
-  by_behind d e start fresh more =
-      let b : IsBehindEntry Told dots named new 0 begin v.inside d = of_some (IsBehindEntry Told dots named new 0 begin v.inside) (put_behind dots named new v.inside) d e (behind_at Told dots named new 0 begin v.inside) in
+  by_after : (d : Changed Entries) → put_after dots named new v.nested ≡ Some d → length c.before ≡ begin.at + length d.before → c.new ≡ d.new → c.behind ≡ d.behind ++ (codes "}" ++ h.there.found.beyond) → Placed
+  by_after d e start fresh more =
+      let b : IsAfterEntry RowOutcome dots named new 0 begin v.nested d = of_some (IsAfterEntry RowOutcome dots named new 0 begin v.nested) (put_after dots named new v.nested) d e (after_at RowOutcome dots named new 0 begin v.nested) in
       inr (record {
         entry = b.entry;
         goes = b.goes;
         last = b.last;
-        is = put_low (own_of Told 0 begin v.inside b.entry).span.end (codes ", " ++ keyed_text (keys_in rest) new) (omega (arith, start, b.end))
+        is = put_low (own_of RowOutcome 0 begin v.nested b.entry).span.end (codes ", " ++ keyed_text (keys_in rest) new) (omega (arith, start, b.end))
             (fresh ∙ b.given ∙ ap (λ (t : List ℕ). codes ", " ++ t) (sym text_is))
             (ap (λ (t : List ℕ). is_high (first t)) (more ∙ ap (λ (t : List ℕ). t ++ (codes "}" ++ h.there.found.beyond)) b.behind)
             ∙ back_low profile brackets.Inline b.entry.after b.entry.comma b.entry.rest (codes "}" ++ h.there.found.beyond) (b.entry.valid profile in_inline are).3 (b.entry.valid profile in_inline are).5 refl);
       })
 
-  by_parts : (b : Body) (es : Entries) → v.body ≡ b → v.inside ≡ es → is_inline b ≡ true → bracketed_change named new put b es ≡ Some h.there.found.done → Placed
+  by_parts : (b : Body) (es : Entries) → v.body ≡ b → v.nested ≡ es → is_inline b ≡ true → bracketed_change named new put b es ≡ Some h.there.found.done → Placed
   by_parts (scalar w) es eb ei fit e = absurd cc
   by_parts (array g) es eb ei fit e = absurd cc
   by_parts (inline g) none eb ei fit e =
@@ -217,19 +217,19 @@ module _ (profile : Profile) (s : Document) (path at dots : List Part) (new : Va
         put_low (suc h.there.found.own.span.start) (keyed_text (keys_in rest) new) (omega (arith, h.there.found.start, ap (λ (t : List ℕ). length t) before))
             (h.there.found.new ∙ sym (ap (λ (x : Changed Value). x.new) j) ∙ sym text_is)
             (ap (λ (t : List ℕ). is_high (first t))
-            (h.there.found.text_behind ∙ ap (λ (t : List ℕ). t ++ h.there.found.beyond) (sym (ap (λ (x : Changed Value). x.behind) j)) ∙ append_assoc (text_of g) (codes "}") h.there.found.beyond)
+            (h.there.found.text_after ∙ ap (λ (t : List ℕ). t ++ h.there.found.beyond) (sym (ap (λ (x : Changed Value). x.behind) j)) ∙ append_assoc (text_of g) (codes "}") h.there.found.beyond)
             ∙ gap_low g (codes "}" ++ h.there.found.beyond) (gap_blank profile brackets.Inline g (subst (IsBody profile) eb h.there.valid.body)) refl),
       )
-  by_parts (inline g) (entry name body inside after comma more) eb ei fit e =
-      let es : Entries = entry name body inside after comma more in
-      let w = within_is (λ xs. record { body = inline g; inside = xs }) (codes "{" ++ text_of g) (codes "}") (put es) h.there.found.done e in
+  by_parts (inline g) (entry name body nested after comma more) eb ei fit e =
+      let es : Entries = entry name body nested after comma more in
+      let w = within_is (λ xs. record { body = inline g; nested = xs }) (codes "{" ++ text_of g) (codes "}") (put es) h.there.found.done e in
       let at : h.there.found.from + length (codes "{" ++ text_of g) ≡ begin.at =
-      omega (arith, ap (λ (x : Body). (inside_of h.there.found.begin h.there.found.from h.there.found.keys x).at) eb, length-append (codes "{") (text_of g)) in
-      let begins : h.there.found.own.span.start ≡ h.there.found.from = ap (λ (i : ValueInfo). i.span.start) h.there.found.told in
+      omega (arith, ap (λ (x : Body). (nested_of h.there.found.begin h.there.found.from h.there.found.keys x).at) eb, length-append (codes "{") (text_of g)) in
+      let begins : h.there.found.own.span.start ≡ h.there.found.from = ap (λ (i : ValueInfo). i.span.start) h.there.found.stated in
       let start : length c.before ≡ begin.at + length w.inner.before =
       omega (arith, h.there.found.start, begins, ap (λ (t : List ℕ). length t) w.before, length-append (codes "{" ++ text_of g) w.inner.before, at) in
-      by_behind w.inner (ap (λ (x : List Part). put_behind x named new v.inside) (sym (take_front dots keys)) ∙ ap put ei ∙ w.is) start (h.there.found.new ∙ w.new)
-      (h.there.found.text_behind ∙ ap (λ (t : List ℕ). t ++ h.there.found.beyond) w.behind ∙ append_assoc w.inner.behind (codes "}") h.there.found.beyond)
+      by_after w.inner (ap (λ (x : List Part). put_after x named new v.nested) (sym (take_prefix dots keys)) ∙ ap put ei ∙ w.is) start (h.there.found.new ∙ w.new)
+      (h.there.found.text_after ∙ ap (λ (t : List ℕ). t ++ h.there.found.beyond) w.behind ∙ append_assoc w.inner.behind (codes "}") h.there.found.beyond)
 
   pub keyval_placed : Placed
-  keyval_placed = by_parts v.body v.inside refl refl h.there.fit h.there.by
+  keyval_placed = by_parts v.body v.nested refl refl h.there.fit h.there.by

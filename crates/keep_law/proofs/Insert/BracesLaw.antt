@@ -7,20 +7,20 @@ use Rattle.keep_syntax.specs.Grammar.{AreEntries, in_inline}
 use Rattle.keep_meaning.specs.Fact.{Fact}
 use Rattle.keep_path.specs.Path.{Part, key}
 use Rattle.keep_meaning.specs.Marks.{Mention, below}
-use Rattle.keep_meaning.specs.Meaning.{keys_of, body_fact, valued_mentions, entries_said, keyval_said, said_in, value_said}
+use Rattle.keep_meaning.specs.Meaning.{keys_of, body_fact, valued_mentions, entries_mentions, keyval_mentions, mentions_in, mentions_of_value}
 use Rattle.keep_meaning.specs.Nodes.{is_root, has, is_define, is_begun, is_dotted}
 use Rattle.keep_law.specs.Look.{keys_in}
 use Rattle.keep_law.specs.Values.{put_named}
 use Rattle.keep_law.specs.Edits.{name_with}
 use Rattle.keep_law.specs.Trees.{has_fact, is_through_alone}
-use Rattle.keep_law.proofs.Common.Runs.{AllOf, SomeOf, some_left, Rules, IsApart}
+use Rattle.keep_law.proofs.Common.Runs.{AllOf, SomeOf, some_left, Rules, IsDisjoint}
 use Rattle.keep_law.proofs.Common.SetLaw.{EachTo}
 use Rattle.keep_law.proofs.Insert.NewPath.{keys_of_map}
 use Rattle.keep_law.proofs.Common.NewLines.{IsKeyText}
 use Rattle.keep_law.proofs.Common.InsertLaw.{IsKeyvalLaw}
 use Rattle.keep_law.proofs.Remove.RemoveInValue.{renumbered}
-use Rattle.keep_law.proofs.Common.Doubles.{IsDoubleOf, IsSaid, some_has}
-use Rattle.keep_law.proofs.Common.Stops.{stops, some_said_below}
+use Rattle.keep_law.proofs.Common.Doubles.{IsDoubleOf, IsMentioned, some_has}
+use Rattle.keep_law.proofs.Common.Stops.{stops, some_mentioned_below}
 use Rattle.keep_law.proofs.Insert.Gives.{IsNamedAt}
 use Rattle.keep_law.proofs.Insert.DoneThere.{IsDoneThere}
 use Rattle.keep_law.proofs.Insert.PutIn.{IsPast}
@@ -47,7 +47,7 @@ not_alone false false c d (inl h) = rw h refl
 not_alone false false true d (inr h) = refl
 not_alone false false false d (inr h) = rw h refl
 
-module _ (profile : Profile) (s : Document) (at dots : List Part) (k : List ℕ) (ks : List (List ℕ)) (place : IsBracesPlace s at dots k) (new : Value) (rules : Rules (said_in s)) (new_rules : Rules (value_said new))
+module _ (profile : Profile) (s : Document) (at dots : List Part) (k : List ℕ) (ks : List (List ℕ)) (place : IsBracesPlace s at dots k) (new : Value) (rules : Rules (mentions_in s)) (new_rules : Rules (mentions_of_value new))
     (texts : AllOf (IsKeyText profile) (keys_in (dots ++ map key (k ∷ ks)))) (d : IsDoneThere profile is_inline (put_named name_with (length (map key (k ∷ ks))) new) (dots ++ map key (k ∷ ks)) at s) where
   abbrev name : Name
   name = name_with (keys_in (dots ++ map key (k ∷ ks)))
@@ -56,41 +56,41 @@ module _ (profile : Profile) (s : Document) (at dots : List Part) (k : List ℕ)
   put = subst (EachTo (IsNamedPut dots name new d.old)) d.by (put_by profile s at dots k ks place new d.old d.fit)
 
   abbrev root : Mention
-  root = record { path = []; says = d.tag (body_fact d.old.body) }
+  root = record { path = []; kind = d.tag (body_fact d.old.body) }
 
   abbrev before : List Mention
   before = d.before ++ map (below at) (root ∷ put.put.before)
 
   abbrev behind : List Mention
-  behind = map (below at) (entries_said put.put.number put.put.rest) ++ d.behind
+  behind = map (below at) (entries_mentions put.put.number put.put.rest) ++ d.behind
 
-  was : said_in s ≡ before ++ behind
-  was = d.was ∙ ap (λ (l : List Mention). d.before ++ (map (below at) (root ∷ l) ++ d.behind)) put.put.was ∙ regroup (below at) d.before put.put.before (entries_said put.put.number put.put.rest) d.behind root
+  was : mentions_in s ≡ before ++ behind
+  was = d.was ∙ ap (λ (l : List Mention). d.before ++ (map (below at) (root ∷ l) ++ d.behind)) put.put.was ∙ regroup (below at) d.before put.put.before (entries_mentions put.put.number put.put.rest) d.behind root
 
-  now : said_in d.changed.to ≡ before ++ (map (below at) (keyval_said name new) ++ behind)
+  now : mentions_in d.changed.to ≡ before ++ (map (below at) (keyval_mentions name new) ++ behind)
   now =
       let rest : Entries = put.put.rest in
       let n : ℕ = put.put.number in
       let valid : AreEntries profile in_inline rest = put.put.valid profile in_inline (entries_inline profile d.old d.fit d.old_valid) in
-      let same : entries_said (n + 1) rest ≡ entries_said n rest = renumbered profile in_inline name rest (n + 1) n (rest_name profile dots k ks texts) valid in
+      let same : entries_mentions (n + 1) rest ≡ entries_mentions n rest = renumbered profile in_inline name rest (n + 1) n (rest_name profile dots k ks texts) valid in
       d.now
-      ∙ ap (λ (f : Fact). d.before ++ (map (below at) (valued_mentions (d.tag f) (entries_said 0 d.done.to.inside)) ++ d.behind)) put.fact
-      ∙ ap (λ (l : List Mention). d.before ++ (map (below at) (root ∷ l) ++ d.behind)) (put.put.is ∙ ap (λ (l : List Mention). put.put.before ++ (keyval_said name new ++ l)) same)
-      ∙ regroup_more (below at) d.before put.put.before (keyval_said name new) (entries_said n rest) d.behind root
+      ∙ ap (λ (f : Fact). d.before ++ (map (below at) (valued_mentions (d.tag f) (entries_mentions 0 d.done.to.nested)) ++ d.behind)) put.fact
+      ∙ ap (λ (l : List Mention). d.before ++ (map (below at) (root ∷ l) ++ d.behind)) (put.put.is ∙ ap (λ (l : List Mention). put.put.before ++ (keyval_mentions name new ++ l)) same)
+      ∙ regroup_more (below at) d.before put.put.before (keyval_mentions name new) (entries_mentions n rest) d.behind root
 
-  none_named : (es : Entries) → es ≡ none → SomeOf (IsNamedAt dots) (entries_said 0 es) → ⊥
+  none_named : (es : Entries) → es ≡ none → SomeOf (IsNamedAt dots) (entries_mentions 0 es) → ⊥
   none_named none e x = x
   none_named (entry a b c e f g) h x = absurd cc
 
   there : AreStops dots put.put.before
   there = by dots refl put.past
     where
-      by : (x : List Part) → dots ≡ x → (d.old.inside ≡ none) ⊎ IsPast dots put.put.before → AreStops dots put.put.before
+      by : (x : List Part) → dots ≡ x → (d.old.nested ≡ none) ⊎ IsPast dots put.put.before → AreStops dots put.put.before
       by x e (inr past) = past_stops dots put.put.before past
       by [] e (inl empty) = subst (λ (y : List Part). AreStops y put.put.before) (sym e) (no_stops put.put.before)
       by (p ∷ ps) e (inl empty) = elim (d.names dots place.named) [
         | inl top ↦ (let z : [] ≡ p ∷ ps = top ∙ e in absurd cc)
-        | inr deep ↦ absurd (none_named d.old.inside empty deep)
+        | inr deep ↦ absurd (none_named d.old.nested empty deep)
       ]
 
   doubles : AllOf (IsDoubleOf before) (map (below at) (stops there.keys))
@@ -106,23 +106,23 @@ module _ (profile : Profile) (s : Document) (at dots : List Part) (k : List ℕ)
       ap (λ (l : List Part). at ++ l) (map-append key there.keys (k ∷ ks) ∙ ap (λ (l : List Part). l ++ map key (k ∷ ks)) (sym there.is)) in
       subst (λ (p : List Part). IsKeyvalLaw s p new d.changed.to) whole
       (keyval_put_law s d.changed.to at there.keys k ks name new before behind was now means
-      (subst (λ (x : List Part). AllOf (IsApart ((at ++ x) ++ key k ∷ [])) (said_in s)) there.is place.fresh) doubles rules new_rules)
+      (subst (λ (x : List Part). AllOf (IsDisjoint ((at ++ x) ++ key k ∷ [])) (mentions_in s)) there.is place.fresh) doubles rules new_rules)
 
   -- the table is none that only headers make
-  pub plain_there : is_through_alone (at ++ dots) (said_in s) ≡ false
+  pub plain_there : is_through_alone (at ++ dots) (mentions_in s) ≡ false
   plain_there =
       let h : List Part = at ++ dots in
-      let ms : List Mention = said_in s in
+      let ms : List Mention = mentions_in s in
       not_alone (is_root h) (has is_define h ms || has is_begun h ms) (has is_dotted h ms) (has_fact h ms) (by there.keys refl)
     where
-      by : (l : List (List ℕ)) → there.keys ≡ l → (has is_dotted (at ++ dots) (said_in s) ≡ true) ⊎ (has_fact (at ++ dots) (said_in s) ≡ true)
+      by : (l : List (List ℕ)) → there.keys ≡ l → (has is_dotted (at ++ dots) (mentions_in s) ≡ true) ⊎ (has_fact (at ++ dots) (mentions_in s) ≡ true)
       by [] e =
           let whole : at ++ dots ≡ at = ap (λ (x : List Part). at ++ x) (there.is ∙ ap (map key) e) ∙ append-nil at in
-          inr (ap (λ (x : List Part). has_fact x (said_in s)) whole ∙ ap (λ (o : Option Fact). elim o [ None ↦ false | Some f ↦ true ]) place.here)
+          inr (ap (λ (x : List Part). has_fact x (mentions_in s)) whole ∙ ap (λ (o : Option Fact). elim o [ None ↦ false | Some f ↦ true ]) place.here)
       by (f ∷ fs) e =
           let run : List Mention = map (below at) (stops there.keys) in
-          let last : SomeOf (IsSaid is_dotted (at ++ map key there.keys)) run =
-          some_said_below is_dotted at (map key there.keys) (stops there.keys) (subst (λ (l : List (List ℕ)). SomeOf (IsSaid is_dotted (map key l)) (stops l)) (sym e) (last_stop f fs)) in
-          let here : SomeOf (IsSaid is_dotted (at ++ dots)) run = subst (λ (x : List Part). SomeOf (IsSaid is_dotted (at ++ x)) run) (sym there.is) last in
-          inl (some_has is_dotted (at ++ dots) (said_in s)
-          (subst (SomeOf (IsSaid is_dotted (at ++ dots))) (sym was) (some_left (IsSaid is_dotted (at ++ dots)) before behind (again (at ++ dots) before run doubles here))))
+          let last : SomeOf (IsMentioned is_dotted (at ++ map key there.keys)) run =
+          some_mentioned_below is_dotted at (map key there.keys) (stops there.keys) (subst (λ (l : List (List ℕ)). SomeOf (IsMentioned is_dotted (map key l)) (stops l)) (sym e) (last_stop f fs)) in
+          let here : SomeOf (IsMentioned is_dotted (at ++ dots)) run = subst (λ (x : List Part). SomeOf (IsMentioned is_dotted (at ++ x)) run) (sym there.is) last in
+          inl (some_has is_dotted (at ++ dots) (mentions_in s)
+          (subst (SomeOf (IsMentioned is_dotted (at ++ dots))) (sym was) (some_left (IsMentioned is_dotted (at ++ dots)) before behind (again (at ++ dots) before run doubles here))))

@@ -1,4 +1,4 @@
--- What stands behind the place of a new entry begins with no byte of a longer character.
+-- What comes after the place of a new entry begins with no byte of a longer character.
 use Rattle.std.proofs.Common.{◌≡◌, ℕ, ◌<◌, true, false, List, [], ◌∷◌, ◌++◌, length, drop, refl, sym, ap, subst, ◌∙◌, append_assoc, length-append, arith, Option, Some, None, drop_at}
 use Rattle.std.specs.Prelude.{IsTrue, ◌==◌}
 use Rattle.std.specs.List.{list_all}

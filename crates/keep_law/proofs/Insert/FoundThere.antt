@@ -9,21 +9,21 @@ use Rattle.keep_syntax.specs.Numbered as syntax
 use Rattle.keep_syntax.proofs.Shared.{value_begins, value_first_solid, is_solid}
 use Rattle.keep_path.specs.Path.{Part, same_path}
 use Rattle.keep_meaning.specs.Marks.{Mention, below, item}
-use Rattle.keep_meaning.specs.Meaning.{body_fact, valued_mentions, entries_said, said_in, value_said}
+use Rattle.keep_meaning.specs.Meaning.{body_fact, valued_mentions, entries_mentions, mentions_in, mentions_of_value}
 use Rattle.keep_meaning.specs.Counts.{is_value, numbered_in}
 use Rattle.keep_meaning.specs.Nodes.{fact_at, first_of, numbered_at, last_number, value_number}
 use Rattle.std.specs.List.{filter_map}
 use Rattle.keep_meaning.specs.Marks.{fact_of}
 use Rattle.keep_law.specs.Changed.{Changed, place_of, or_else}
 use Rattle.keep_law.specs.Values.{Act, text_of_value}
-use Rattle.keep_law.specs.Edits.{inside}
+use Rattle.keep_law.specs.Edits.{nested}
 use Rattle.keep_law.specs.Insertion.{put_in}
-use Rattle.keep_law.proofs.Common.Runs.{AllOf, Rules, pairs_split, Allowed, IsApart, strip-append, fact_under, says_at-below}
+use Rattle.keep_law.proofs.Common.Runs.{AllOf, Rules, pairs_split, Allowed, IsDisjoint, strip-append, fact_under, kinds_at-below}
 use Rattle.keep_law.proofs.Common.SetLaw.{rules_below}
 use Rattle.keep_law.proofs.Common.SetDocument.{valued_facts}
 use Rattle.keep_law.proofs.Common.DoneAtValue.{EachOf}
 use Rattle.keep_law.proofs.Common.ValueNumber.{number_of_value}
-use Rattle.keep_law.proofs.Common.FoundValue.{IsFoundIn, Valid_document, found_inside}
+use Rattle.keep_law.proofs.Common.FoundValue.{IsFoundIn, Valid_document, found_nested}
 use Rattle.keep_law.proofs.Remove.RemovePlace.{IsValueAt, value_at_split, same_place}
 use Rattle.keep_law.proofs.Insert.DoneThere.{ended, same_value}
 
@@ -32,18 +32,18 @@ abbrev pub TakesNothing : Act → Type 0
 TakesNothing act = (more : List Part) (v : Value) (d : Changed Value) → act more v ≡ Some d → d.old ≡ []
 
 pub record IsFoundThere (profile : Profile) (fits : Body → Bool) (act : Act) (rest path : List Part) (s : Document) (c : Changed Document) : Type 0 where
-  pub found : IsFoundIn (ended fits act rest) (Valid_document s) 0 path (said_in s) (syntax.values s) c
+  pub found : IsFoundIn (ended fits act rest) (Valid_document s) 0 path (mentions_in s) (syntax.values s) c
   pub place : found.mention.path ≡ path
   pub fit : fits found.value.body ≡ true
   pub by : act rest found.value ≡ Some found.done
   pub here : IsValueAt path s found.own
-  pub number : last_number is_value value_number (numbered_at path (numbered_in s)) ≡ Some (length found.front)
+  pub number : last_number is_value value_number (numbered_at path (numbered_in s)) ≡ Some (length found.prefix)
   pub valid : IsValue profile found.value
-  pub rules : Rules (entries_said 0 found.value.inside)
-  pub whole : said_in s ≡ found.earlier ++ (map (below path) (valued_mentions found.mention.says (entries_said 0 found.value.inside)) ++ found.further)
-  pub apart_before : AllOf (IsApart path) found.earlier
-  pub apart_behind : AllOf (IsApart path) found.further
-  pub facts : (q : List Part) → fact_at (path ++ q) (said_in s) ≡ fact_at q (value_said found.value)
+  pub rules : Rules (entries_mentions 0 found.value.nested)
+  pub whole : mentions_in s ≡ found.earlier ++ (map (below path) (valued_mentions found.mention.kind (entries_mentions 0 found.value.nested)) ++ found.further)
+  pub disjoint_before : AllOf (IsDisjoint path) found.earlier
+  pub disjoint_after : AllOf (IsDisjoint path) found.further
+  pub facts : (q : List Part) → fact_at (path ++ q) (mentions_in s) ≡ fact_at q (mentions_of_value found.value)
   pub nothing : found.done.old ≡ []
 
 -- a value has a text
@@ -70,21 +70,21 @@ acted fits act rest v d some nothing e = by (fits v.body) refl (act rest v) refl
     by true f None k w = absurd (same (let z : same_value v ≡ d = cc in z))
     by false f o k w = absurd (same (let z : same_value v ≡ d = cc in z))
 
-module _ (profile : Profile) (fits : Body → Bool) (act : Act) (rest path : List Part) (s : Document) (valid : IsDocument profile s) (rules : Rules (said_in s)) (takes : TakesNothing act) (c : Changed Document)
-    (is : inside act (path ++ rest) s ≡ Some c) (ended_is : inside (ended fits act rest) path s ≡ Some c) where
+module _ (profile : Profile) (fits : Body → Bool) (act : Act) (rest path : List Part) (s : Document) (valid : IsDocument profile s) (rules : Rules (mentions_in s)) (takes : TakesNothing act) (c : Changed Document)
+    (is : nested act (path ++ rest) s ≡ Some c) (ended_is : nested (ended fits act rest) path s ≡ Some c) where
   abbrev only : Act
   only = ended fits act rest
 
   abbrev Found : Type 0
-  Found = IsFoundIn only (Valid_document s) 0 path (said_in s) (syntax.values s) c
+  Found = IsFoundIn only (Valid_document s) 0 path (mentions_in s) (syntax.values s) c
 
   found : Found
-  found = subst (EachOf (IsFoundIn only (Valid_document s) 0 path (said_in s) (syntax.values s))) ended_is (found_inside only path s)
+  found = subst (EachOf (IsFoundIn only (Valid_document s) 0 path (mentions_in s) (syntax.values s))) ended_is (found_nested only path s)
 
   none_taken : c.old ≡ []
   none_taken =
-      let h : IsFoundIn act (Valid_document s) 0 (path ++ rest) (said_in s) (syntax.values s) c =
-      subst (EachOf (IsFoundIn act (Valid_document s) 0 (path ++ rest) (said_in s) (syntax.values s))) is (found_inside act (path ++ rest) s) in
+      let h : IsFoundIn act (Valid_document s) 0 (path ++ rest) (mentions_in s) (syntax.values s) c =
+      subst (EachOf (IsFoundIn act (Valid_document s) 0 (path ++ rest) (mentions_in s) (syntax.values s))) is (found_nested act (path ++ rest) s) in
       h.old ∙ takes h.more h.value h.done h.by
 
   by_more : (h : Found) (more : List Part) → h.more ≡ more → IsFoundThere profile fits act rest path s c
@@ -95,16 +95,16 @@ module _ (profile : Profile) (fits : Body → Bool) (act : Act) (rest path : Lis
       let v : Value = h.value in
       let own_valid : IsValue profile v = h.valid profile valid in
       let a : IsActed fits act rest v h.done = acted fits act rest v h.done (never_empty profile v own_valid) nothing (ap (λ (q : List Part). only q v) (sym e) ∙ h.by) in
-      let apart = h.apart rules in
-      let before : AllOf (IsApart path) h.earlier = subst (λ (q : List Part). AllOf (IsApart q) h.earlier) place apart.0 in
-      let behind : AllOf (IsApart path) h.further = subst (λ (q : List Part). AllOf (IsApart q) h.further) place apart.1 in
-      let inner : List Mention = entries_said 0 v.inside in
-      let own : List Mention = valued_mentions h.mention.says inner in
-      let top : h.mention ≡ below path (record { path = []; says = h.mention.says }) =
-      ap (λ (q : List Part). record { path = q; says = h.mention.says }) (place ∙ sym (append-nil path)) in
-      let whole : said_in s ≡ h.earlier ++ (map (below path) own ++ h.further) =
-      h.said
-      ∙ ap (λ (l : List Mention). h.earlier ++ h.mention ∷ l) (h.within_said ∙ ap (λ (q : List Part). map (below q) inner ++ h.further) place)
+      let disjoint = h.disjoint rules in
+      let before : AllOf (IsDisjoint path) h.earlier = subst (λ (q : List Part). AllOf (IsDisjoint q) h.earlier) place disjoint.0 in
+      let behind : AllOf (IsDisjoint path) h.further = subst (λ (q : List Part). AllOf (IsDisjoint q) h.further) place disjoint.1 in
+      let inner : List Mention = entries_mentions 0 v.nested in
+      let own : List Mention = valued_mentions h.mention.kind inner in
+      let top : h.mention ≡ below path (record { path = []; kind = h.mention.kind }) =
+      ap (λ (q : List Part). record { path = q; kind = h.mention.kind }) (place ∙ sym (append-nil path)) in
+      let whole : mentions_in s ≡ h.earlier ++ (map (below path) own ++ h.further) =
+      h.mentioned
+      ∙ ap (λ (l : List Mention). h.earlier ++ h.mention ∷ l) (h.within_mentioned ∙ ap (λ (q : List Part). map (below q) inner ++ h.further) place)
       ∙ ap (λ (m : Mention). h.earlier ++ m ∷ (map (below path) inner ++ h.further)) top in
       let mine : Rules own = rules_below path own (pairs_split Allowed (map (below path) own) h.further (pairs_split Allowed h.earlier (map (below path) own ++ h.further) (subst Rules whole rules)).right).left in
       record {
@@ -112,18 +112,18 @@ module _ (profile : Profile) (fits : Body → Bool) (act : Act) (rest path : Lis
         place = place;
         fit = a.fit;
         by = a.by;
-        here = value_at_split path s h.earlier h.mention h.later h.front h.own h.behind rules h.said place h.tells h.here h.count;
-        number = number_of_value path s h.earlier h.mention h.later rules h.said place h.tells ∙ ap Some h.count;
+        here = value_at_split path s h.earlier h.mention h.later h.prefix h.own h.behind rules h.mentioned place h.tells h.here h.count;
+        number = number_of_value path s h.earlier h.mention h.later rules h.mentioned place h.tells ∙ ap Some h.count;
         valid = own_valid;
         rules = mine.1;
         whole = whole;
-        apart_before = before;
-        apart_behind = behind;
+        disjoint_before = before;
+        disjoint_after = behind;
         facts = λ q.
             ap (fact_at (path ++ q)) whole
             ∙ fact_under path (path ++ q) q h.earlier (map (below path) own) h.further before behind (strip-append path q)
-            ∙ ap (λ l. first_of (filter_map fact_of l)) (says_at-below path q own)
-            ∙ valued_facts h.mention.says (item (body_fact v.body)) inner q h.fact (same_path [] q) refl;
+            ∙ ap (λ l. first_of (filter_map fact_of l)) (kinds_at-below path q own)
+            ∙ valued_facts h.mention.kind (item (body_fact v.body)) inner q h.fact (same_path [] q) refl;
         nothing = nothing;
       }
 

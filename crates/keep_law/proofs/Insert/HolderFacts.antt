@@ -1,7 +1,7 @@
--- What stands at the front of a path where `insert` puts a value: an array of tables is no value.
+-- What is at a prefix of a path where `insert` puts a value: an array of tables is no value.
 use Rattle.std.proofs.Common.{◌≡◌, true, List, refl}
 use Rattle.keep_path.specs.Path.{Part}
-use Rattle.keep_meaning.specs.Marks.{Saying, through, past, define, element, dotted, value, begun, passed, item, Mention}
+use Rattle.keep_meaning.specs.Marks.{MentionKind, through, past, define, element, dotted, value, begun, passed, item, Mention}
 use Rattle.keep_meaning.specs.Nodes.{has, is_element}
 use Rattle.keep_law.specs.Look.{is_bracket_at}
 use Rattle.keep_law.proofs.Common.Runs.{Rules, exclusive, solid}
@@ -9,7 +9,7 @@ use Rattle.keep_law.proofs.Common.Doubles.{has_some}
 use Rattle.keep_law.proofs.Common.EntryDepths.{alone_of_bracket}
 use Rattle.keep_law.proofs.Remove.RemoveRefusal.{IsShared, no_both}
 
-element_solid : (a : Saying) → is_element a ≡ true → solid a ≡ true
+element_solid : (a : MentionKind) → is_element a ≡ true → solid a ≡ true
 element_solid element e = refl
 element_solid through e = absurd cc
 element_solid past e = absurd cc
@@ -20,7 +20,7 @@ element_solid begun e = absurd cc
 element_solid passed e = absurd cc
 element_solid (item f) e = absurd cc
 
-element_many : (a : Saying) → is_element a ≡ true → exclusive a ≡ true → ⊥
+element_many : (a : MentionKind) → is_element a ≡ true → exclusive a ≡ true → ⊥
 element_many element e g = absurd cc
 element_many through e g = absurd cc
 element_many past e g = absurd cc

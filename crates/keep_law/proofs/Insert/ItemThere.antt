@@ -11,15 +11,15 @@ use Rattle.keep_meaning.specs.Fact as fact
 use Rattle.keep_meaning.specs.Fact.{Fact, is_bracket}
 use Rattle.keep_path.specs.Path.{Part, key, index}
 use Rattle.keep_meaning.specs.Marks.{Mention, start}
-use Rattle.keep_meaning.specs.Meaning.{further_value, step, body_fact, scalar_fact, lines, said_in}
+use Rattle.keep_meaning.specs.Meaning.{further_value, step, body_fact, scalar_fact, lines, mentions_in}
 use Rattle.keep_meaning.specs.Nodes.{fact_at}
 use Rattle.keep_token.specs.declared.leaf.Leaf.{Leaf}
 use Rattle.keep_token.specs.declared.leaf.Leaf.TheVariants as leaf
 use Rattle.keep_law.specs.Changed.{Changed, within, or_else}
 use Rattle.keep_law.specs.declared.fault.EditFault.TheVariants as fault
 use Rattle.keep_law.specs.Look.{strip, enclosing, last_part, without_last, is_array_at, item_number, item_count}
-use Rattle.keep_law.specs.Values.{Act, entry_front, entry_back, in_entries, put_item}
-use Rattle.keep_law.specs.Edits.{insert, inside}
+use Rattle.keep_law.specs.Values.{Act, entry_prefix, entry_back, in_entries, put_item}
+use Rattle.keep_law.specs.Edits.{insert, nested}
 use Rattle.keep_law.specs.Refusals.{refusal, refusal_by, first_that_holds, is_too_deep}
 use Rattle.keep_law.proofs.Common.Runs.{SomeOf, Rules, meet, exclusive, strip-sound}
 use Rattle.keep_law.proofs.Common.SetLaw.{EachTo, IsAloneAt, no_entry}
@@ -96,31 +96,31 @@ item_at path n ms h = by (last_part path) refl h
     by (Some (index m)) e g = numbered m (is_array_at (without_last path) ms) refl e g
 
 -- no value is the root
-pub never_whole : (s : Document) → SomeOf (IsAloneAt []) (said_in s) → ⊥
+pub never_whole : (s : Document) → SomeOf (IsAloneAt []) (mentions_in s) → ⊥
 never_whole s alone =
-    let (m, here, held) = meet (IsAloneAt []) (λ x. exclusive x.says ≡ true → IsHeld (said_in s) x) (said_in s) alone (lines_held start (lines s)) in
-    let h = held here.says in
-    never_root h.front h.ends (h.under.0, ap (strip h.front) (sym here.path) ∙ h.under.1)
+    let (m, here, held) = meet (IsAloneAt []) (λ x. exclusive x.kind ≡ true → IsHeld (mentions_in s) x) (mentions_in s) alone (lines_held start (lines s)) in
+    let h = held here.kind in
+    never_root h.prefix h.ends (h.under.0, ap (strip h.prefix) (sym here.path) ∙ h.under.1)
 
 -- ---- what the refusal tells
 
 pub record IsGranted (profile : Profile) (limit : ℕ) (s : Document) (path : List Part) (n : ℕ) (new : Value) : Type 0 where
-  pub few : n ≤ item_count (without_last path) (said_in s)
-  pub shallow : enclosing path (said_in s) + value_depth new ≤ limit
+  pub few : n ≤ item_count (without_last path) (mentions_in s)
+  pub shallow : enclosing path (mentions_in s) + value_depth new ≤ limit
   pub suits : is_allowed_in profile new ≡ true
 
-pub granted : (profile : Profile) (limit : ℕ) (s : Document) (path : List Part) (n : ℕ) (new : Value) → item_number path (said_in s) ≡ Some n → refusal profile limit s (insert path new) ≡ None → IsGranted profile limit s path n new
+pub granted : (profile : Profile) (limit : ℕ) (s : Document) (path : List Part) (n : ℕ) (new : Value) → item_number path (mentions_in s) ≡ Some n → refusal profile limit s (insert path new) ≡ None → IsGranted profile limit s path n new
 granted profile limit s path n new at h =
-    by (nat_lt (item_count (without_last path) (said_in s)) n) (is_too_deep limit path new (said_in s)) (is_allowed_in profile new) refl refl refl (rw (at, refusal_by) at h)
+    by (nat_lt (item_count (without_last path) (mentions_in s)) n) (is_too_deep limit path new (mentions_in s)) (is_allowed_in profile new) refl refl refl (rw (at, refusal_by) at h)
   where
-    by : (a b d : Bool) → nat_lt (item_count (without_last path) (said_in s)) n ≡ a → is_too_deep limit path new (said_in s) ≡ b → is_allowed_in profile new ≡ d
+    by : (a b d : Bool) → nat_lt (item_count (without_last path) (mentions_in s)) n ≡ a → is_too_deep limit path new (mentions_in s) ≡ b → is_allowed_in profile new ≡ d
         → first_that_holds ((a, fault.NotFound) ∷ (b, fault.TooDeep) ∷ (not d, fault.Profile) ∷ []) ≡ None → IsGranted profile limit s path n new
     by true b d ea eb ed g = absurd cc
     by false true d ea eb ed g = absurd cc
     by false false false ea eb ed g = absurd cc
     by false false true ea eb ed g = record {
-      few = ltb-false (item_count (without_last path) (said_in s)) n ea;
-      shallow = ltb-false limit (enclosing path (said_in s) + value_depth new) eb;
+      few = ltb-false (item_count (without_last path) (mentions_in s)) n ea;
+      shallow = ltb-false limit (enclosing path (mentions_in s) + value_depth new) eb;
       suits = ed;
     }
 
@@ -136,53 +136,53 @@ one_step p n (Some name) more e = rest_none (map further_value name.key.more) mo
 
 nothing_deeper : (act : Act) → ((v : Value) → act [] v ≡ None) → (p : Part) (n : ℕ) (es : Entries) → in_entries act (p ∷ []) n es ≡ None
 nothing_deeper act never p n none = refl
-nothing_deeper act never p n (entry name body inside after comma rest) = by (strip (step n name) (p ∷ [])) refl (nothing_deeper act never p (n + 1) rest)
+nothing_deeper act never p n (entry name body nested after comma rest) = by (strip (step n name) (p ∷ [])) refl (nothing_deeper act never p (n + 1) rest)
   where
     at_end : (more : List Part) → more ≡ []
-        → or_else (within (λ es. record { body = body; inside = es }) (text_of (opening body)) (text_of (closing body)) (in_entries act more 0 inside)) (act more (record { body = body; inside = inside })) ≡ None
+        → or_else (within (λ es. record { body = body; nested = es }) (text_of (opening body)) (text_of (closing body)) (in_entries act more 0 nested)) (act more (record { body = body; nested = nested })) ≡ None
     at_end [] e =
-        ap (λ (o : Option (Changed Entries)). or_else (within (λ es. record { body = body; inside = es }) (text_of (opening body)) (text_of (closing body)) o) (act [] (record { body = body; inside = inside }))) (no_entry act 0 inside)
-        ∙ never (record { body = body; inside = inside })
+        ap (λ (o : Option (Changed Entries)). or_else (within (λ es. record { body = body; nested = es }) (text_of (opening body)) (text_of (closing body)) o) (act [] (record { body = body; nested = nested }))) (no_entry act 0 nested)
+        ∙ never (record { body = body; nested = nested })
     at_end (q ∷ qs) e = absurd cc
 
     by : (o : Option (List Part)) → strip (step n name) (p ∷ []) ≡ o → in_entries act (p ∷ []) (n + 1) rest ≡ None → ◌≡◌ {A = Option (Changed Entries)} (elim o [
-      | None ↦ within (entry name body inside after comma) (entry_front name body inside ++ (text_of after ++ text_of (comma_leaves comma))) [] (in_entries act (p ∷ []) (n + 1) rest)
-      | Some more ↦ within (λ v. entry name v.body v.inside after comma rest) (text_of (named_leaves name)) (entry_back after comma rest)
-          (or_else (within (λ es. record { body = body; inside = es }) (text_of (opening body)) (text_of (closing body)) (in_entries act more 0 inside)) (act more (record { body = body; inside = inside })))
+      | None ↦ within (entry name body nested after comma) (entry_prefix name body nested ++ (text_of after ++ text_of (comma_leaves comma))) [] (in_entries act (p ∷ []) (n + 1) rest)
+      | Some more ↦ within (λ v. entry name v.body v.nested after comma rest) (text_of (named_leaves name)) (entry_back after comma rest)
+          (or_else (within (λ es. record { body = body; nested = es }) (text_of (opening body)) (text_of (closing body)) (in_entries act more 0 nested)) (act more (record { body = body; nested = nested })))
     ]) None
-    by None e further = ap (within (entry name body inside after comma) (entry_front name body inside ++ (text_of after ++ text_of (comma_leaves comma))) []) further
+    by None e further = ap (within (entry name body nested after comma) (entry_prefix name body nested ++ (text_of after ++ text_of (comma_leaves comma))) []) further
     by (Some more) e further =
-        ap (within (λ v. entry name v.body v.inside after comma rest) (text_of (named_leaves name)) (entry_back after comma rest)) (at_end more (one_step p n name more (strip-sound (step n name) (p ∷ []) more e)))
+        ap (within (λ v. entry name v.body v.nested after comma rest) (text_of (named_leaves name)) (entry_back after comma rest)) (at_end more (one_step p n name more (strip-sound (step n name) (p ∷ []) more e)))
 
 -- ---- the change
 
-pub put_of : (new : Value) (n : ℕ) (body : Body) (inside : Entries) → is_array body ≡ true → n ≤ size inside
-    → EachTo (IsItemPut new n (record { body = body; inside = inside })) (put_item new (index n ∷ []) (record { body = body; inside = inside }))
-put_of new n (array first) inside e few = item_put new n first inside few
-put_of new n (scalar w) inside e few = absurd cc
-put_of new n (inline first) inside e few = absurd cc
+pub put_of : (new : Value) (n : ℕ) (body : Body) (nested : Entries) → is_array body ≡ true → n ≤ size nested
+    → EachTo (IsItemPut new n (record { body = body; nested = nested })) (put_item new (index n ∷ []) (record { body = body; nested = nested }))
+put_of new n (array first) nested e few = item_put new n first nested few
+put_of new n (scalar w) nested e few = absurd cc
+put_of new n (inline first) nested e few = absurd cc
 
-some_of : (new : Value) (n : ℕ) (body : Body) (inside : Entries) → is_array body ≡ true → IsSome (put_item new (index n ∷ []) (record { body = body; inside = inside }))
-some_of new n (array first) inside e = some_item new n first inside
-some_of new n (scalar w) inside e = absurd cc
-some_of new n (inline first) inside e = absurd cc
+some_of : (new : Value) (n : ℕ) (body : Body) (nested : Entries) → is_array body ≡ true → IsSome (put_item new (index n ∷ []) (record { body = body; nested = nested }))
+some_of new n (array first) nested e = some_item new n first nested
+some_of new n (scalar w) nested e = absurd cc
+some_of new n (inline first) nested e = absurd cc
 
-valid_of : (profile : Profile) (new : Value) (n : ℕ) (body : Body) (inside : Entries) → is_array body ≡ true → IsValue profile new → IsValue profile (record { body = body; inside = inside })
-    → EachTo (IsValue profile) (put_item new (index n ∷ []) (record { body = body; inside = inside }))
-valid_of profile new n (array first) inside e given valid = valid_item profile new n first inside given valid
-valid_of profile new n (scalar w) inside e given valid = absurd cc
-valid_of profile new n (inline first) inside e given valid = absurd cc
+valid_of : (profile : Profile) (new : Value) (n : ℕ) (body : Body) (nested : Entries) → is_array body ≡ true → IsValue profile new → IsValue profile (record { body = body; nested = nested })
+    → EachTo (IsValue profile) (put_item new (index n ∷ []) (record { body = body; nested = nested }))
+valid_of profile new n (array first) nested e given valid = valid_item profile new n first nested given valid
+valid_of profile new n (scalar w) nested e given valid = absurd cc
+valid_of profile new n (inline first) nested e given valid = absurd cc
 
-pub deep_of : (new : Value) (n : ℕ) (body : Body) (inside : Entries) → is_array body ≡ true
-    → EachTo (OneDeeper new (record { body = body; inside = inside })) (put_item new (index n ∷ []) (record { body = body; inside = inside }))
-deep_of new n (array first) inside e = item_depth new n first inside
-deep_of new n (scalar w) inside e = absurd cc
-deep_of new n (inline first) inside e = absurd cc
+pub deep_of : (new : Value) (n : ℕ) (body : Body) (nested : Entries) → is_array body ≡ true
+    → EachTo (OneDeeper new (record { body = body; nested = nested })) (put_item new (index n ∷ []) (record { body = body; nested = nested }))
+deep_of new n (array first) nested e = item_depth new n first nested
+deep_of new n (scalar w) nested e = absurd cc
+deep_of new n (inline first) nested e = absurd cc
 
-pub entries_of : (profile : Profile) (body : Body) (inside : Entries) → is_array body ≡ true → IsValue profile (record { body = body; inside = inside }) → AreEntries profile in_array inside
-entries_of profile (array first) inside e valid = valid.inside
-entries_of profile (scalar w) inside e valid = absurd cc
-entries_of profile (inline first) inside e valid = absurd cc
+pub entries_of : (profile : Profile) (body : Body) (nested : Entries) → is_array body ≡ true → IsValue profile (record { body = body; nested = nested }) → AreEntries profile in_array nested
+entries_of profile (array first) nested e valid = valid.nested
+entries_of profile (scalar w) nested e valid = absurd cc
+entries_of profile (inline first) nested e valid = absurd cc
 
 pub bracket_of : (body : Body) → is_array body ≡ true → is_bracket (body_fact body) ≡ true
 bracket_of (array first) e = refl
@@ -194,11 +194,11 @@ some_named p [] s = absurd s
 some_named p (m ∷ ms) (inl a) = inl (a.path ∙ sym (append-nil p))
 some_named p (m ∷ ms) (inr s) = inr (some_named p ms s)
 
-pub put_there : (profile : Profile) (s : Document) (a : List Part) (new : Value) (n : ℕ) → IsDocument profile s → Rules (said_in s) → IsValue profile new → fact_at a (said_in s) ≡ Some fact.array
+pub put_there : (profile : Profile) (s : Document) (a : List Part) (new : Value) (n : ℕ) → IsDocument profile s → Rules (mentions_in s) → IsValue profile new → fact_at a (mentions_in s) ≡ Some fact.array
     → IsDoneThere profile is_array (put_item new) (index n ∷ []) a s
 put_there profile s a new n valid rules given at =
-    done_there profile is_array (put_item new) (index n ∷ []) a [] s fact.array valid rules at refl (some_named a (said_in s) (alone_of_fact a (said_in s) fact.array at refl))
-    (λ v e h. valid_of profile new n v.body v.inside e given h)
-    (λ body inside h r k.
-    let fit : is_array body ≡ true = array_body body (k.facts [] ∙ ap (λ (x : List Part). fact_at x (said_in s)) (append-nil a) ∙ at) in
-    record { fit = fit; shallow = nothing_deeper (put_item new) (λ v. refl) (index n) 0 inside; some = some_of new n body inside fit })
+    done_there profile is_array (put_item new) (index n ∷ []) a [] s fact.array valid rules at refl (some_named a (mentions_in s) (alone_of_fact a (mentions_in s) fact.array at refl))
+    (λ v e h. valid_of profile new n v.body v.nested e given h)
+    (λ body nested h r k.
+    let fit : is_array body ≡ true = array_body body (k.facts [] ∙ ap (λ (x : List Part). fact_at x (mentions_in s)) (append-nil a) ∙ at) in
+    record { fit = fit; shallow = nothing_deeper (put_item new) (λ v. refl) (index n) 0 nested; some = some_of new n body nested fit })

@@ -45,10 +45,10 @@ alone : (s : Document) (content : Content) (n m : ℕ) (b : Bool) (o : Option (C
 alone s content n m true o e = (n, content ∷ [], e, omega arith)
 alone s content n m false o e = (m, blank ∷ content ∷ [], e, omega arith)
 
-behind_all : (s : Document) (content : Content) (n m : ℕ) (b : Bool) (o : Option (Changed Document)) → o ≡ cond b (at_line s n (blank ∷ content ∷ [])) (at_line s m (blank ∷ content ∷ []))
+after_all : (s : Document) (content : Content) (n m : ℕ) (b : Bool) (o : Option (Changed Document)) → o ≡ cond b (at_line s n (blank ∷ content ∷ [])) (at_line s m (blank ∷ content ∷ []))
     → (number : ℕ) × (contents : List Content) × (o ≡ at_line s number contents) × (contents_depth contents ≤ content_depth content)
-behind_all s content n m true o e = (n, blank ∷ content ∷ [], e, omega arith)
-behind_all s content n m false o e = (m, blank ∷ content ∷ [], e, omega arith)
+after_all s content n m true o e = (n, blank ∷ content ∷ [], e, omega arith)
+after_all s content n m false o e = (m, blank ∷ content ∷ [], e, omega arith)
 
 pub appended : (s : Document) (content : Content) → IsAppended s content
 appended s content = by s.ended refl
@@ -58,5 +58,5 @@ appended s content = by s.ended refl
         let (number, contents, is, flat) = alone s content 0 1 (is_empty s.last) (append s content) (rw e refl) in
         record { number = number; contents = contents; is = is; flat = flat }
     by (x ∷ xs) e =
-        let (number, contents, is, flat) = behind_all s content (length s.ended) (suc (length s.ended)) (is_empty s.last) (append s content) (rw e refl) in
+        let (number, contents, is, flat) = after_all s content (length s.ended) (suc (length s.ended)) (is_empty s.last) (append s content) (rw e refl) in
         record { number = number; contents = contents; is = is; flat = flat }

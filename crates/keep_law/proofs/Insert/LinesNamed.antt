@@ -7,12 +7,12 @@ use Rattle.std.proofs.lemmas.List.Sums.{sum_by-append}
 use Rattle.keep_syntax.specs.Tree.{Written, Gap, Content, blank, keyval, header, element, Line}
 use Rattle.keep_path.specs.Path.{Part, key, index, same_path}
 use Rattle.keep_meaning.specs.Marks.{through, past, passed, Mention, Reading, below, header_path, header_way, passing_mentions, entered_path, elements_of}
-use Rattle.keep_meaning.specs.Meaning.{keys_of, line_said, lines_said, behind_line, reading_behind}
+use Rattle.keep_meaning.specs.Meaning.{keys_of, line_mentions, lines_mentions, after_line, reading_after_lines}
 use Rattle.keep_meaning.specs.Nodes.{is_at, is_through, is_element}
 use Rattle.keep_law.specs.Lines.{last_line, begins}
 use Rattle.keep_law.specs.Refusals.{tables_in}
 use Rattle.keep_law.proofs.Common.Runs.{SomeOf, some_left, some_right, same_path-sound, same_path-refl}
-use Rattle.keep_law.proofs.Common.Doubles.{IsSaid}
+use Rattle.keep_law.proofs.Common.Doubles.{IsMentioned}
 use Rattle.keep_law.proofs.Common.ValueThere.{IsSome, some_cases}
 use Rattle.keep_law.proofs.Common.RemoveThere.{some_here, some_later}
 use Rattle.keep_law.proofs.Insert.Gives.{IsNamedAt}
@@ -37,25 +37,25 @@ pub record IsLineOf (P : Mention → Type 0) (r : Reading) (ls : List Line) : Ty
   pub here : Line
   pub post : List Line
   pub was : ls ≡ pre ++ here ∷ post
-  pub said : SomeOf P (line_said (reading_behind r pre) here)
+  pub mentioned : SomeOf P (line_mentions (reading_after_lines r pre) here)
 
-pub line_of_some : (P : Mention → Type 0) (r : Reading) (ls : List Line) → SomeOf P (lines_said r ls) → IsLineOf P r ls
+pub line_of_some : (P : Mention → Type 0) (r : Reading) (ls : List Line) → SomeOf P (lines_mentions r ls) → IsLineOf P r ls
 line_of_some P r [] s = absurd s
-line_of_some P r (l ∷ ls) s = elim (some_cases P (line_said r l) (lines_said (behind_line r l) ls) s) [
-  | inl h ↦ record { pre = []; here = l; post = ls; was = refl; said = h }
-  | inr h ↦ (let k = line_of_some P (behind_line r l) ls h in record { pre = l ∷ k.pre; here = k.here; post = k.post; was = ap (λ (x : List Line). l ∷ x) k.was; said = k.said })
+line_of_some P r (l ∷ ls) s = elim (some_cases P (line_mentions r l) (lines_mentions (after_line r l) ls) s) [
+  | inl h ↦ record { pre = []; here = l; post = ls; was = refl; mentioned = h }
+  | inr h ↦ (let k = line_of_some P (after_line r l) ls h in record { pre = l ∷ k.pre; here = k.here; post = k.post; was = ap (λ (x : List Line). l ∷ x) k.was; mentioned = k.mentioned })
 ]
 
-pub some_among : (test : Reading → Line → Bool) (r : Reading) (pre : List Line) (l : Line) (post : List Line) → test (reading_behind r pre) l ≡ true → IsSome (last_line test r (pre ++ l ∷ post))
+pub some_among : (test : Reading → Line → Bool) (r : Reading) (pre : List Line) (l : Line) (post : List Line) → test (reading_after_lines r pre) l ≡ true → IsSome (last_line test r (pre ++ l ∷ post))
 some_among test r [] l post e = some_here test r l post e
-some_among test r (x ∷ pre) l post e = some_later test r x (pre ++ l ∷ post) (some_among test (behind_line r x) pre l post e)
+some_among test r (x ∷ pre) l post e = some_later test r x (pre ++ l ∷ post) (some_among test (after_line r x) pre l post e)
 
-pub some_front : (test : Reading → Line → Bool) (r : Reading) (pre post : List Line) → IsSome (last_line test r pre) → IsSome (last_line test r (pre ++ post))
-some_front test r [] post s = absurd s
-some_front test r (l ∷ pre) post s = by (last_line test (behind_line r l) pre) refl (test r l) refl s (λ k. some_front test (behind_line r l) pre post k)
+pub some_prefix : (test : Reading → Line → Bool) (r : Reading) (pre post : List Line) → IsSome (last_line test r pre) → IsSome (last_line test r (pre ++ post))
+some_prefix test r [] post s = absurd s
+some_prefix test r (l ∷ pre) post s = by (last_line test (after_line r l) pre) refl (test r l) refl s (λ k. some_prefix test (after_line r l) pre post k)
   where
-    by : (o : Option ℕ) → last_line test (behind_line r l) pre ≡ o → (b : Bool) → test r l ≡ b → IsSome {A = ℕ} (elim o [ Some n ↦ Some (suc n) | None ↦ cond b (Some zero) None ])
-        → (IsSome (last_line test (behind_line r l) pre) → IsSome (last_line test (behind_line r l) (pre ++ post))) → IsSome (last_line test r (l ∷ (pre ++ post)))
+    by : (o : Option ℕ) → last_line test (after_line r l) pre ≡ o → (b : Bool) → test r l ≡ b → IsSome {A = ℕ} (elim o [ Some n ↦ Some (suc n) | None ↦ cond b (Some zero) None ])
+        → (IsSome (last_line test (after_line r l) pre) → IsSome (last_line test (after_line r l) (pre ++ post))) → IsSome (last_line test r (l ∷ (pre ++ post)))
     by (Some n) e b k s more = some_later test r l (pre ++ post) (more (subst IsSome (sym e) tt))
     by None e true k s more = some_here test r l (pre ++ post) k
     by None e false k s more = absurd s
@@ -72,7 +72,7 @@ one_more q t false e = rw e refl
 -- each element is begun by a line
 content_begin : (q : List Part) (j : ℕ) (r : Reading) (before after : Gap) (comment : Option Written) (c : Content) (ls : List Line)
     → (let x : Line = record { before = before; content = c; after = after; comment = comment } in
-    elements_of q r.tables ≤ j → (elements_of q (behind_line r x).tables ≤ j → IsSome (last_line (begins (q ++ index j ∷ [])) (behind_line r x) ls))
+    elements_of q r.tables ≤ j → (elements_of q (after_line r x).tables ≤ j → IsSome (last_line (begins (q ++ index j ∷ [])) (after_line r x) ls))
     → IsSome (last_line (begins (q ++ index j ∷ [])) r (x ∷ ls)))
 content_begin q j r before after comment blank ls few ih = some_later (begins (q ++ index j ∷ [])) r (record { before = before; content = blank; after = after; comment = comment }) ls (ih few)
 content_begin q j r before after comment (keyval name v) ls few ih = some_later (begins (q ++ index j ∷ [])) r (record { before = before; content = keyval name v; after = after; comment = comment }) ls (ih few)
@@ -98,17 +98,17 @@ content_begin q j r before after comment (element b k a) ls few ih = by (same_pa
           some_here (begins (q ++ index j ∷ [])) r (record { before = before; content = element b k a; after = after; comment = comment }) ls (ap (same_path (p ++ index (elements_of p r.tables) ∷ [])) (sym whole) ∙ same_path-refl (p ++ index (elements_of p r.tables) ∷ [])))
     ]
 
-pub tables_begin : (q : List Part) (j : ℕ) (r : Reading) (ls : List Line) → elements_of q r.tables ≤ j → j < elements_of q (reading_behind r ls).tables → IsSome (last_line (begins (q ++ index j ∷ [])) r ls)
+pub tables_begin : (q : List Part) (j : ℕ) (r : Reading) (ls : List Line) → elements_of q r.tables ≤ j → j < elements_of q (reading_after_lines r ls).tables → IsSome (last_line (begins (q ++ index j ∷ [])) r ls)
 tables_begin q j r [] few more = absurd (omega (arith, few, more))
-tables_begin q j r (l ∷ ls) few more = content_begin q j r l.before l.after l.comment l.content ls few (λ f. tables_begin q j (behind_line r l) ls f more)
+tables_begin q j r (l ∷ ls) few more = content_begin q j r l.before l.after l.comment l.content ls few (λ f. tables_begin q j (after_line r l) ls f more)
 
 -- what is counted is said
-pub counted : (q : List Part) (ms : List Mention) → 0 < elements_of q (tables_in ms) → SomeOf (IsSaid is_element q) ms
+pub counted : (q : List Part) (ms : List Mention) → 0 < elements_of q (tables_in ms) → SomeOf (IsMentioned is_element q) ms
 counted q [] h = absurd (omega arith)
-counted q (m ∷ ms) h = by (is_element m.says) refl (same_path m.path q) refl h (λ g. counted q ms g)
+counted q (m ∷ ms) h = by (is_element m.kind) refl (same_path m.path q) refl h (λ g. counted q ms g)
   where
-    by : (b : Bool) → is_element m.says ≡ b → (c : Bool) → same_path m.path q ≡ c → 0 < elements_of q (cons_option (cond b (Some m.path) None) (tables_in ms))
-        → (0 < elements_of q (tables_in ms) → SomeOf (IsSaid is_element q) ms) → SomeOf (IsSaid is_element q) (m ∷ ms)
+    by : (b : Bool) → is_element m.kind ≡ b → (c : Bool) → same_path m.path q ≡ c → 0 < elements_of q (cons_option (cond b (Some m.path) None) (tables_in ms))
+        → (0 < elements_of q (tables_in ms) → SomeOf (IsMentioned is_element q) ms) → SomeOf (IsMentioned is_element q) (m ∷ ms)
     by true e true k h more = inl (same_path-sound m.path q k, e)
     by true e false k h more = inr (more (omega (arith, h, count_join q (m.path ∷ []) (tables_in ms), one_more q m.path false k)))
     by false e c k h more = inr (more h)
@@ -116,7 +116,7 @@ counted q (m ∷ ms) h = by (is_element m.says) refl (same_path m.path q) refl h
 -- ---- what a header says on its way
 
 pub data WayCase (tables : List (List Part)) (h : List Part) (ms : List Mention) : Type 0 where
-  goes : SomeOf (IsSaid is_through h) ms → WayCase tables h ms
+  goes : SomeOf (IsMentioned is_through h) ms → WayCase tables h ms
   beyond_element : 0 < elements_of h tables → WayCase tables h ms
   at_element : (q : List Part) → h ≡ q ++ index (elements_of q tables - 1) ∷ [] → 0 < elements_of q tables → WayCase tables h ms
 
@@ -125,7 +125,7 @@ some_elements zero e = absurd cc
 some_elements (suc n) e = omega arith
 
 pass_case : (tables : List (List Part)) (h q : List Part) (b : Bool) → (0 == elements_of q tables) ≡ b
-    → (let ms : List Mention = cond b (record { path = q; says = through } ∷ []) (record { path = q; says = past } ∷ record { path = cond b q (q ++ index (elements_of q tables - 1) ∷ []); says = passed } ∷ []) in
+    → (let ms : List Mention = cond b (record { path = q; kind = through } ∷ []) (record { path = q; kind = past } ∷ record { path = cond b q (q ++ index (elements_of q tables - 1) ∷ []); kind = passed } ∷ []) in
     SomeOf (IsNamedAt h) ms → WayCase tables h ms)
 pass_case tables h q true e (inl s) = goes (inl (s, refl))
 pass_case tables h q true e (inr s) = absurd s
@@ -134,12 +134,12 @@ pass_case tables h q false e (inr (inl s)) = at_element q (sym s) (some_elements
 pass_case tables h q false e (inr (inr s)) = absurd s
 
 case_left : (tables : List (List Part)) (h : List Part) (xs ys : List Mention) → WayCase tables h xs → WayCase tables h (xs ++ ys)
-case_left tables h xs ys (goes s) = goes (some_left (IsSaid is_through h) xs ys s)
+case_left tables h xs ys (goes s) = goes (some_left (IsMentioned is_through h) xs ys s)
 case_left tables h xs ys (beyond_element e) = beyond_element e
 case_left tables h xs ys (at_element q e k) = at_element q e k
 
 case_right : (tables : List (List Part)) (h : List Part) (xs ys : List Mention) → WayCase tables h ys → WayCase tables h (xs ++ ys)
-case_right tables h xs ys (goes s) = goes (some_right (IsSaid is_through h) xs ys s)
+case_right tables h xs ys (goes s) = goes (some_right (IsMentioned is_through h) xs ys s)
 case_right tables h xs ys (beyond_element e) = beyond_element e
 case_right tables h xs ys (at_element q e k) = at_element q e k
 

@@ -1,4 +1,4 @@
--- A path that is to be new: its longest front that names a node, and the keys behind that.
+-- A path that is to be new: its longest prefix that names a node, and the keys after that.
 use Rattle.std.proofs.Common.{◌≡◌, ℕ, Bool, true, false, not, cond, ◌||◌, ◌&&◌, List, [], ◌∷◌, ◌++◌, length, map, drop, refl, sym, ap, subst, ◌∙◌, Option, Some, None, ◌⊎◌, inl, inr}
 use Rattle.std.specs.List.{list_any}
 use Rattle.keep_token.specs.declared.leaf.Profile.{Profile}
@@ -9,11 +9,11 @@ use Rattle.keep_law.specs.declared.fault.EditFault.TheVariants as fault
 use Rattle.keep_path.specs.Path.{Part, key, index}
 use Rattle.keep_meaning.specs.Marks.{Mention}
 use Rattle.keep_meaning.specs.Nodes.{is_node, is_at, is_root}
-use Rattle.keep_law.specs.Look.{fronts, last_passing, holder, is_index, is_table, item_number, keys_in}
+use Rattle.keep_law.specs.Look.{prefixes, last_passing, holder, is_index, is_table, item_number, keys_in}
 use Rattle.keep_law.specs.Refusals.{first_that_holds, refusal_by, is_too_deep}
 use Rattle.keep_law.specs.Edits.{insert}
 
--- ---- the longest proper front that passes
+-- ---- the longest proper prefix that passes
 
 abbrev pub mapped : (List Part → List Part) → Option (List Part) → Option (List Part)
 mapped f None = None
@@ -46,20 +46,20 @@ longest_step T p ps (Some a) h b e = record { part = h.part; more = h.more; whol
 longest_step T p ps None h true e = record { part = p; more = ps; whole = refl; passes = e; next = h }
 longest_step T p ps None h false e = inr e
 
-longest : (T : List Part → Bool) (path : List Part) → Longest T path (last_passing T (fronts path))
+longest : (T : List Part → Bool) (path : List Part) → Longest T path (last_passing T (prefixes path))
 longest T [] = inl refl
 longest T (p ∷ ps) =
     subst (λ (o : Option (List Part)). Longest T (p ∷ ps) (elim o [ Some y ↦ Some y | None ↦ cond (T []) (Some []) None ]))
-    (sym (passing_map T (λ x. p ∷ x) (fronts ps)))
-    (longest_step T p ps (last_passing (λ x. T (p ∷ x)) (fronts ps)) (longest (λ x. T (p ∷ x)) ps) (T []) refl)
+    (sym (passing_map T (λ x. p ∷ x) (prefixes ps)))
+    (longest_step T p ps (last_passing (λ x. T (p ∷ x)) (prefixes ps)) (longest (λ x. T (p ∷ x)) ps) (T []) refl)
 
-pub held : (path : List Part) (ms : List Mention) → is_node path ms ≡ false → IsLongest (λ front. is_node front ms) path (holder path ms)
-held path ms new = by (last_passing (λ front. is_node front ms) (fronts path)) (longest (λ front. is_node front ms) path)
+pub held : (path : List Part) (ms : List Mention) → is_node path ms ≡ false → IsLongest (λ prefix. is_node prefix ms) path (holder path ms)
+held path ms new = by (last_passing (λ prefix. is_node prefix ms) (prefixes path)) (longest (λ prefix. is_node prefix ms) path)
   where
     never : path ≡ [] → ⊥
     never e = let k : is_node [] ms ≡ false = subst (λ (p : List Part). is_node p ms ≡ false) e new in absurd cc
 
-    by : (o : Option (List Part)) → Longest (λ front. is_node front ms) path o → IsLongest (λ front. is_node front ms) path (elim o [ Some a ↦ a | None ↦ [] ])
+    by : (o : Option (List Part)) → Longest (λ prefix. is_node prefix ms) path o → IsLongest (λ prefix. is_node prefix ms) path (elim o [ Some a ↦ a | None ↦ [] ])
     by (Some a) h = h
     by None (inl e) = absurd (never e)
     by None (inr e) = absurd cc
@@ -84,9 +84,9 @@ not_false false h = absurd cc
 
 -- ---- parts that are keys
 
-pub drop_front_parts : (a b : List Part) → drop (length a) (a ++ b) ≡ b
-drop_front_parts [] b = refl
-drop_front_parts (x ∷ a) b = drop_front_parts a b
+pub drop_prefix_parts : (a b : List Part) → drop (length a) (a ++ b) ≡ b
+drop_prefix_parts [] b = refl
+drop_prefix_parts (x ∷ a) b = drop_prefix_parts a b
 
 pub keys_of_map : (ks : List (List ℕ)) → keys_in (map key ks) ≡ ks
 keys_of_map [] = refl
@@ -105,7 +105,7 @@ rest_keys : (p : Part) (ps : List Part) → list_any is_index (p ∷ ps) ≡ fal
 rest_keys (key k) ps h = h
 rest_keys (index n) ps h = absurd cc
 
--- The path goes on from its holder by keys, and the first of them names no node.
+-- The path continues from its holder by keys, and the first of them names no node.
 pub record IsNewPath (path : List Part) (ms : List Mention) : Type 0 where
   pub first : List ℕ
   pub more : List (List ℕ)
@@ -120,7 +120,7 @@ new_path-by : (path : List Part) (ms : List Mention) → is_node path ms ≡ fal
 new_path-by path ms new table no_index =
     let a : List Part = holder path ms in
     let h = held path ms new in
-    let cut : drop (length a) path ≡ h.part ∷ h.more = ap (λ (l : List Part). drop (length a) l) h.whole ∙ drop_front_parts a (h.part ∷ h.more) in
+    let cut : drop (length a) path ≡ h.part ∷ h.more = ap (λ (l : List Part). drop (length a) l) h.whole ∙ drop_prefix_parts a (h.part ∷ h.more) in
     let no : list_any is_index (h.part ∷ h.more) ≡ false = subst (λ (l : List Part). list_any is_index l ≡ false) cut no_index in
     let k = first_key h.part h.more no in
     let rest : h.part ∷ h.more ≡ map key (k.0 ∷ keys_in h.more) =

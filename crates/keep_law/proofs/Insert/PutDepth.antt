@@ -1,4 +1,4 @@
--- What is put into brackets stands one deeper than they; and all that holds of a change, from its parts.
+-- What is put into brackets is one deeper than they; and all that holds of a change, from its parts.
 use Rattle.std.proofs.Common.{◌≡◌, ℕ, suc, ◌≤◌, Bool, true, cond, List, [], ◌∷◌, ◌++◌, map, sym, ap, subst, arith, Some}
 use Rattle.keep_token.specs.declared.leaf.Profile.{Profile}
 use Rattle.keep_syntax.specs.Tree.{Value, Document}
@@ -6,9 +6,9 @@ use Rattle.keep_syntax.specs.Grammar.{IsDocument}
 use Rattle.keep_meaning.specs.Fact.{is_bracket}
 use Rattle.keep_path.specs.Path.{Part}
 use Rattle.keep_meaning.specs.Marks.{Mention}
-use Rattle.keep_meaning.specs.Meaning.{body_fact, value_said}
+use Rattle.keep_meaning.specs.Meaning.{body_fact, mentions_of_value}
 use Rattle.keep_meaning.specs.Nodes.{fact_at}
-use Rattle.keep_law.specs.Look.{fronts, is_bracket_at, enclosing}
+use Rattle.keep_law.specs.Look.{prefixes, is_bracket_at, enclosing}
 use Rattle.keep_law.specs.Changed.{Changed}
 use Rattle.keep_law.specs.Edits.{Edit, change}
 use Rattle.keep_law.proofs.Common.SetLaw.{EachTo}
@@ -18,13 +18,13 @@ use Rattle.keep_law.proofs.Common.LineTexts.{change-is}
 use Rattle.keep_law.proofs.Common.DoneAtValue.{count_step}
 use Rattle.keep_law.proofs.Common.EntryDepths.{enclosing_beyond}
 
--- behind a bracket at a path one more encloses
-pub enclosing_more : (a : List Part) (p : Part) (ps : List Part) (ms : List Mention) (v : Value) → ((q : List Part) → fact_at (a ++ q) ms ≡ fact_at q (value_said v)) → is_bracket (body_fact v.body) ≡ true
+-- after a bracket at a path one more encloses
+pub enclosing_more : (a : List Part) (p : Part) (ps : List Part) (ms : List Mention) (v : Value) → ((q : List Part) → fact_at (a ++ q) ms ≡ fact_at q (mentions_of_value v)) → is_bracket (body_fact v.body) ≡ true
     → suc (enclosing a ms) ≤ enclosing (a ++ p ∷ ps) ms
 enclosing_more a p ps ms v holds bracket =
-    let t : List Part → Bool = is_bracket_at (value_said v) in
+    let t : List Part → Bool = is_bracket_at (mentions_of_value v) in
     let one : cond {A = ℕ} (t []) 1 0 ≡ 1 = ap (λ b. cond {A = ℕ} b 1 0) bracket in
-    omega (arith, enclosing_beyond a (p ∷ ps) ms (value_said v) holds, count_step t [] (map (λ x. p ∷ x) (fronts ps)), one)
+    omega (arith, enclosing_beyond a (p ∷ ps) ms (mentions_of_value v) holds, count_step t [] (map (λ x. p ∷ x) (prefixes ps)), one)
 
 pub whole_from : (profile : Profile) (s : Document) (e : Edit) (c : Changed Document) → change s e ≡ Some c → IsDocument profile c.to → IsLawful s e c.to → IsSetWhole profile s e c
 whole_from profile s e c is valid lawful =

@@ -6,9 +6,9 @@ use Rattle.keep_path.specs.Path.{Part, same_path}
 use Rattle.keep_meaning.specs.Marks.{Reading, start}
 use Rattle.keep_meaning.specs.Meaning.{step, lines}
 use Rattle.keep_law.specs.Changed.{Changed, within}
-use Rattle.keep_law.specs.Values.{entry_front, take_out, taken_only, taken_first, taken_last, is_last_named, removal, Row}
-use Rattle.keep_law.specs.Lines.{in_line, in_lines, last_line, begins, drop_front, drop_lines, body_length, content_text}
-use Rattle.keep_law.specs.Edits.{remove, change, inside, is_own, clear_line, without_lines}
+use Rattle.keep_law.specs.Values.{entry_prefix, take_out, taken_only, taken_first, taken_last, is_last_named, removal, Row}
+use Rattle.keep_law.specs.Lines.{in_line, in_lines, last_line, begins, drop_prefix, drop_lines, body_length, content_text}
+use Rattle.keep_law.specs.Edits.{remove, change, nested, is_own, clear_line, without_lines}
 use Rattle.keep_law.proofs.Common.SetLaw.{EachTo, to_within, to_or_else}
 use Rattle.keep_law.proofs.Common.DoneInDocument.{page_depth}
 use Rattle.keep_law.proofs.Common.ActDepth.{NoDeeper, NoDeeperLine, line_depths, pages_depth, in_document_depth}
@@ -19,43 +19,43 @@ use Rattle.keep_law.proofs.Remove.TakenOut.{out_when}
 abbrev NoDeeperRow : Entries → Row → Type 0
 NoDeeperRow es r = entries_depth r.entries ≤ entries_depth es
 
-two_depth : (gap : Gap) (name : Option Name) (body : Body) (inside : Entries) (after behind : Gap)
-    (name' : Option Name) (body' : Body) (inside' : Entries) (after' : Gap) (comma' : Option Gap) (rest' : Entries) (further : Option (Changed Row)) (b c : Bool)
-    → EachTo (NoDeeperRow (entry name' body' inside' after' comma' rest')) further
-    → EachTo (NoDeeperRow (entry name body inside after (Some behind) (entry name' body' inside' after' comma' rest'))) (elim b [
-      | true ↦ Some (taken_first gap name body inside after behind (entry name' body' inside' after' comma' rest'))
+two_depth : (gap : Gap) (name : Option Name) (body : Body) (nested : Entries) (after behind : Gap)
+    (name' : Option Name) (body' : Body) (nested' : Entries) (after' : Gap) (comma' : Option Gap) (rest' : Entries) (further : Option (Changed Row)) (b c : Bool)
+    → EachTo (NoDeeperRow (entry name' body' nested' after' comma' rest')) further
+    → EachTo (NoDeeperRow (entry name body nested after (Some behind) (entry name' body' nested' after' comma' rest'))) (elim b [
+      | true ↦ Some (taken_first gap name body nested after behind (entry name' body' nested' after' comma' rest'))
       | false ↦ elim c [
-        | true ↦ Some (taken_last gap name body inside after behind name' body' inside' after')
-        | false ↦ within (λ r. record { gap = gap; entries = entry name body inside after (Some r.gap) r.entries })
-            (text_of gap ++ (entry_front name body inside ++ (text_of after ++ codes ","))) [] further
+        | true ↦ Some (taken_last gap name body nested after behind name' body' nested' after')
+        | false ↦ within (λ r. record { gap = gap; entries = entry name body nested after (Some r.gap) r.entries })
+            (text_of gap ++ (entry_prefix name body nested ++ (text_of after ++ codes ","))) [] further
       ]
     ])
-two_depth gap name body inside after behind name' body' inside' after' comma' rest' further true c ih = omega arith
-two_depth gap name body inside after behind name' body' inside' after' comma' rest' further false true ih = omega arith
-two_depth gap name body inside after behind name' body' inside' after' comma' rest' further false false ih =
-    let next : Entries = entry name' body' inside' after' comma' rest' in
-    to_within (NoDeeperRow next) (NoDeeperRow (entry name body inside after (Some behind) next))
-    (λ r. record { gap = gap; entries = entry name body inside after (Some r.gap) r.entries }) (text_of gap ++ (entry_front name body inside ++ (text_of after ++ codes ","))) [] further
+two_depth gap name body nested after behind name' body' nested' after' comma' rest' further true c ih = omega arith
+two_depth gap name body nested after behind name' body' nested' after' comma' rest' further false true ih = omega arith
+two_depth gap name body nested after behind name' body' nested' after' comma' rest' further false false ih =
+    let next : Entries = entry name' body' nested' after' comma' rest' in
+    to_within (NoDeeperRow next) (NoDeeperRow (entry name body nested after (Some behind) next))
+    (λ r. record { gap = gap; entries = entry name body nested after (Some r.gap) r.entries }) (text_of gap ++ (entry_prefix name body nested ++ (text_of after ++ codes ","))) [] further
     (λ r h. omega (arith, h)) ih
 
 taken_depth : (path : List Part) (n : ℕ) (gap : Gap) (es : Entries) → EachTo (NoDeeperRow es) (take_out path n gap es)
 taken_depth path n gap none = tt
-taken_depth path n gap (entry name body inside after None none) =
-    out_when (NoDeeperRow (entry name body inside after None none)) (same_path (step n name) path) (taken_only gap name body inside after) (λ e. omega arith)
-taken_depth path n gap (entry name body inside after None (entry name' body' inside' after' comma' rest')) = tt
-taken_depth path n gap (entry name body inside after (Some behind) none) =
-    out_when (NoDeeperRow (entry name body inside after (Some behind) none)) (same_path (step n name) path) (taken_first gap name body inside after behind none) (λ e. omega arith)
-taken_depth path n gap (entry name body inside after (Some behind) (entry name' body' inside' after' comma' rest')) =
-    two_depth gap name body inside after behind name' body' inside' after' comma' rest' (take_out path (n + 1) behind (entry name' body' inside' after' comma' rest'))
-    (same_path (step n name) path) (is_last_named path (n + 1) (entry name' body' inside' after' comma' rest'))
-    (taken_depth path (n + 1) behind (entry name' body' inside' after' comma' rest'))
+taken_depth path n gap (entry name body nested after None none) =
+    out_when (NoDeeperRow (entry name body nested after None none)) (same_path (step n name) path) (taken_only gap name body nested after) (λ e. omega arith)
+taken_depth path n gap (entry name body nested after None (entry name' body' nested' after' comma' rest')) = tt
+taken_depth path n gap (entry name body nested after (Some behind) none) =
+    out_when (NoDeeperRow (entry name body nested after (Some behind) none)) (same_path (step n name) path) (taken_first gap name body nested after behind none) (λ e. omega arith)
+taken_depth path n gap (entry name body nested after (Some behind) (entry name' body' nested' after' comma' rest')) =
+    two_depth gap name body nested after behind name' body' nested' after' comma' rest' (take_out path (n + 1) behind (entry name' body' nested' after' comma' rest'))
+    (same_path (step n name) path) (is_last_named path (n + 1) (entry name' body' nested' after' comma' rest'))
+    (taken_depth path (n + 1) behind (entry name' body' nested' after' comma' rest'))
 
-removal_depth : (path : List Part) (body : Body) (es : Entries) → EachTo (NoDeeper (record { body = body; inside = es })) (removal path (record { body = body; inside = es }))
+removal_depth : (path : List Part) (body : Body) (es : Entries) → EachTo (NoDeeper (record { body = body; nested = es })) (removal path (record { body = body; nested = es }))
 removal_depth path (scalar w) es = tt
 removal_depth path (array first) es =
-    to_within (NoDeeperRow es) (NoDeeper (record { body = array first; inside = es })) (λ r. record { body = array r.gap; inside = r.entries }) (codes "[") (codes "]") (take_out path 0 first es) (λ r h. omega (arith, h)) (taken_depth path 0 first es)
+    to_within (NoDeeperRow es) (NoDeeper (record { body = array first; nested = es })) (λ r. record { body = array r.gap; nested = r.entries }) (codes "[") (codes "]") (take_out path 0 first es) (λ r h. omega (arith, h)) (taken_depth path 0 first es)
 removal_depth path (inline first) es =
-    to_within (NoDeeperRow es) (NoDeeper (record { body = inline first; inside = es })) (λ r. record { body = inline r.gap; inside = r.entries }) (codes "{") (codes "}") (take_out path 0 first es) (λ r h. omega (arith, h)) (taken_depth path 0 first es)
+    to_within (NoDeeperRow es) (NoDeeper (record { body = inline first; nested = es })) (λ r. record { body = inline r.gap; nested = r.entries }) (codes "{") (codes "}") (take_out path 0 first es) (λ r h. omega (arith, h)) (taken_depth path 0 first es)
 
 -- ---- in lines
 
@@ -79,15 +79,15 @@ clear_depth path r l = by l.comment (is_own path r l.content)
     by (Some c) false = tt
     by (Some c) true = omega arith
 
-front_depth : (n : ℕ) (es : List Ended) (last : Line) → page_depth (drop_front n es last).to ≤ page_depth (record { ended = es; last = last })
-front_depth zero [] last = omega arith
-front_depth (suc m) [] last = omega arith
-front_depth zero (e ∷ es) last = omega arith
-front_depth (suc m) (e ∷ es) last = omega (arith, front_depth m es last)
+prefix_depth : (n : ℕ) (es : List Ended) (last : Line) → page_depth (drop_prefix n es last).to ≤ page_depth (record { ended = es; last = last })
+prefix_depth zero [] last = omega arith
+prefix_depth (suc m) [] last = omega arith
+prefix_depth zero (e ∷ es) last = omega arith
+prefix_depth (suc m) (e ∷ es) last = omega (arith, prefix_depth m es last)
 
 drop_depth : (i n : ℕ) (es : List Ended) (last : Line) → page_depth (drop_lines i n es last).to ≤ page_depth (record { ended = es; last = last })
-drop_depth i n [] last = front_depth n [] last
-drop_depth zero n (e ∷ es) last = front_depth n (e ∷ es) last
+drop_depth i n [] last = prefix_depth n [] last
+drop_depth zero n (e ∷ es) last = prefix_depth n (e ∷ es) last
 drop_depth (suc j) n (e ∷ es) last = omega (arith, drop_depth j n es last)
 
 -- ---- in the document
@@ -102,4 +102,4 @@ remove_depth s path =
     to_or_else P _ _ (in_document_depth s (in_lines (clear_line path) start s.ended s.last) (pages_depth (clear_line path) (clear_depth path) start s.ended s.last))
     (to_or_else P _ _ (without_depth s (λ i. 1) (last_line (λ r l. is_own path r l.content) start (lines s)))
     (to_or_else P _ _ (without_depth s (λ i. suc (body_length (drop (suc i) (lines s)))) (last_line (begins path) start (lines s)))
-    (in_document_depth s (in_lines (in_line removal path) start s.ended s.last) (pages_depth (in_line removal path) (line_depths removal (λ more v. removal_depth more v.body v.inside) path) start s.ended s.last))))
+    (in_document_depth s (in_lines (in_line removal path) start s.ended s.last) (pages_depth (in_line removal path) (line_depths removal (λ more v. removal_depth more v.body v.nested) path) start s.ended s.last))))

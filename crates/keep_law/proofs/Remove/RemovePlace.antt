@@ -1,4 +1,4 @@
--- Where `remove` cuts in brackets: told by the value's own commas and places, and by the bytes of the text.
+-- Where `remove` cuts in brackets: found by the value's own commas and places, and by the bytes of the text.
 use Rattle.std.proofs.Common.{◌≡◌, ℕ, suc, ◌+◌, ◌-◌, Bool, true, false, cond, ◌||◌, ◌==◌, List, [], ◌∷◌, ◌++◌, length, map, drop, slice_get, refl, sym, ap, subst, ◌∙◌, append_assoc, length-append, arith, Option, Some, None, inl, inr, drop_at, ◌<◌, ◌≤◌}
 use Rattle.std.specs.Prelude.{codes, IsTrue, ⊤}
 use Rattle.std.specs.List.{list_all, list_any, prefix_len}
@@ -21,20 +21,20 @@ use Rattle.keep_parts.specs.declared.info.ValueInfo.{ValueInfo}
 use Rattle.keep_syntax.specs.Tree.{Written, Gap, Body, scalar, array, inline, Entries, Value, Document, text_of, text}
 use Rattle.keep_syntax.specs.Grammar.{IsBlank, AreEntries, IsDocument, place_in}
 use Rattle.keep_syntax.specs.Numbered as syntax
-use Rattle.keep_syntax.specs.Numbered.{span, info, inside_of, owner_in, entries_values}
+use Rattle.keep_syntax.specs.Numbered.{span, info, nested_of, owner_in, entries_values}
 use Rattle.keep_syntax.specs.Reading.{close_byte}
 use Rattle.keep_syntax.proofs.Shared.{is_solid}
 use Rattle.keep_meaning.specs.KeyText.{text_at}
 use Rattle.keep_path.specs.Path.{Part}
 use Rattle.keep_meaning.specs.Marks.{Mention, below}
-use Rattle.keep_meaning.specs.Meaning.{said_in}
+use Rattle.keep_meaning.specs.Meaning.{mentions_in}
 use Rattle.keep_meaning.specs.Counts.{is_value, one_if, numbered_in}
 use Rattle.keep_meaning.specs.Nodes.{numbered_at, last_number, value_number}
 use Rattle.keep_meaning.proofs.Shared.{IsPart, part_taken, valued, valued-append, valued-below}
 use Rattle.keep_law.specs.Changed.{Changed, Place, IsChangeOf, place_of, framed_change, within}
-use Rattle.keep_law.specs.Values.{is_comment_leaf, kept_gap, Row, take_out, removal}
-use Rattle.keep_law.specs.Edits.{inside}
-use Rattle.keep_law.specs.Removal.{past_space, is_hash, kept_text, entry_place}
+use Rattle.keep_law.specs.Values.{is_comment_leaf, preserved_gap, Row, take_out, removal}
+use Rattle.keep_law.specs.Edits.{nested}
+use Rattle.keep_law.specs.Removal.{past_space, is_hash, preserved_text, entry_place}
 use Rattle.keep_law.proofs.Common.Runs.{Rules}
 use Rattle.keep_law.proofs.Common.FoundValue.{IsFoundIn, Valid_document}
 use Rattle.keep_law.proofs.Common.ValueNumber.{number_of_value}
@@ -73,8 +73,8 @@ gap_hash [] h = refl
 gap_hash (w ∷ g) h =
     any_join is_hash w.text (text_of g) ∙ ap (λ b. b || list_any is_hash (text_of g)) (leaf_hash w.leaf w.text h.0 h.1) ∙ ap (λ b. is_comment_leaf w.leaf || b) (gap_hash g h.3)
 
-pub kept_is : (g : Gap) → IsBlank g → kept_text (text_of g) ≡ text_of (kept_gap g)
-kept_is g h = by (list_any is_hash (text_of g)) (list_any (λ (w : Written). is_comment_leaf w.leaf) g) (gap_hash g h)
+pub preserved_is : (g : Gap) → IsBlank g → preserved_text (text_of g) ≡ text_of (preserved_gap g)
+preserved_is g h = by (list_any is_hash (text_of g)) (list_any (λ (w : Written). is_comment_leaf w.leaf) g) (gap_hash g h)
   where
     by : (b c : Bool) → b ≡ c → cond b (text_of g) [] ≡ text_of (cond c g [])
     by true true e = refl
@@ -99,12 +99,12 @@ record IsCutText (bytes : List ℕ) (start : ℕ) (old behind : List ℕ) : Type
   whole : bytes ≡ before ++ (old ++ behind)
   place : length before ≡ start
 
--- a comma stands there
+-- a comma is there
 pub record IsComma (bytes : List ℕ) (at : ℕ) : Type 0 where
   pub within : at < length bytes
   pub byte : first (drop at bytes) ≡ 0x2C
 
--- Where the value's parts stand: its key or its text begins a part, and its commas are commas.
+-- Where the value's parts are: its key or its text begins a part, and its commas are commas.
 pub record IsEdged (bytes : List ℕ) (own : ValueInfo) : Type 0 where
   pub ordered : own.whole.start ≤ own.span.end
   pub opens : is_solid (first (drop own.whole.start bytes)) ≡ true
@@ -122,9 +122,9 @@ part_at bytes from to t h e = part_taken bytes from (to - from) t h (omega (arit
 
 abbrev by_commas : List ℕ → ValueInfo → Option ℕ → Option ℕ → Place
 by_commas bytes own after before = elim after [
-  | Some comma ↦ record { start = own.whole.start; end = past_space bytes (suc comma); new = kept_text (text_at bytes (span own.span.end comma)) }
+  | Some comma ↦ record { start = own.whole.start; end = past_space bytes (suc comma); new = preserved_text (text_at bytes (span own.span.end comma)) }
   | None ↦ elim before [
-    | Some comma ↦ record { start = comma; end = own.span.end; new = kept_text (text_at bytes (span (suc comma) own.whole.start)) }
+    | Some comma ↦ record { start = comma; end = own.span.end; new = preserved_text (text_at bytes (span (suc comma) own.whole.start)) }
     | None ↦ record { start = own.whole.start; end = own.span.end; new = [] }
   ]
 ]
@@ -149,13 +149,13 @@ next_edged bytes own start old new behind at cut =
     let comma : ℕ = own.span.end + length (text_of cut.after) in
     let whole : bytes ≡ at.before ++ (cut.text ++ (text_of cut.after ++ (0x2C ∷ (cut.white ++ behind)))) =
     at.whole ∙ ap (λ (t : List ℕ). at.before ++ (t ++ behind)) cut.was ∙ spread at.before cut.text (text_of cut.after) cut.white behind in
-    let front_is : length (at.before ++ (cut.text ++ text_of cut.after)) ≡ comma =
+    let prefix_is : length (at.before ++ (cut.text ++ text_of cut.after)) ≡ comma =
     omega (arith, length-append at.before (cut.text ++ text_of cut.after), length-append cut.text (text_of cut.after), at.place, cut.begins, cut.ends) in
     record {
       ordered = omega (arith, cut.ends);
       opens = opens_at bytes at.before cut.text (text_of cut.after ++ (0x2C ∷ (cut.white ++ behind))) own.whole.start cut.opens whole (at.place ∙ cut.begins);
       after = λ c e. subst (λ (n : ℕ). IsComma bytes n × (own.span.end ≤ n)) (same_some own.comma_after comma c cut.comma e)
-          (comma_at bytes (at.before ++ (cut.text ++ text_of cut.after)) (cut.white ++ behind) comma (whole ∙ three at.before cut.text (text_of cut.after) (0x2C ∷ (cut.white ++ behind))) front_is, omega arith);
+          (comma_at bytes (at.before ++ (cut.text ++ text_of cut.after)) (cut.white ++ behind) comma (whole ∙ three at.before cut.text (text_of cut.after) (0x2C ∷ (cut.white ++ behind))) prefix_is, omega arith);
       before = λ c e f. absurd (none_not own.comma_after comma cut.comma e);
     }
   where
@@ -201,29 +201,29 @@ next_placed : (bytes : List ℕ) (own : ValueInfo) (start : ℕ) (old new behind
     → entry_place bytes own ≡ place_at start old new
 next_placed bytes own start old new behind at cut stops =
     let comma : ℕ = own.span.end + length (text_of cut.after) in
-    let front : List ℕ = at.before ++ (cut.text ++ text_of cut.after) in
-    let whole : bytes ≡ front ++ (0x2C ∷ (cut.white ++ behind)) =
+    let prefix : List ℕ = at.before ++ (cut.text ++ text_of cut.after) in
+    let whole : bytes ≡ prefix ++ (0x2C ∷ (cut.white ++ behind)) =
     at.whole ∙ ap (λ (t : List ℕ). at.before ++ (t ++ behind)) cut.was ∙ spread at.before cut.text (text_of cut.after) cut.white behind in
-    let front_is : length front ≡ comma =
+    let prefix_is : length prefix ≡ comma =
     omega (arith, length-append at.before (cut.text ++ text_of cut.after), length-append cut.text (text_of cut.after), at.place, cut.begins, cut.ends) in
     let past : drop (suc comma) bytes ≡ cut.white ++ behind =
-    ap (drop (suc comma)) (whole ∙ sym (append_assoc front (0x2C ∷ []) (cut.white ++ behind)))
-    ∙ drop_at (front ++ (0x2C ∷ [])) (cut.white ++ behind) (suc comma) (omega (arith, length-append front (0x2C ∷ []), front_is)) in
+    ap (drop (suc comma)) (whole ∙ sym (append_assoc prefix (0x2C ∷ []) (cut.white ++ behind)))
+    ∙ drop_at (prefix ++ (0x2C ∷ [])) (cut.white ++ behind) (suc comma) (omega (arith, length-append prefix (0x2C ∷ []), prefix_is)) in
     let run : prefix_len is_ws (drop (suc comma) bytes) ≡ length cut.white = ap (prefix_len is_ws) past ∙ run_ends cut.white behind cut.all_white stops in
     let gap : text_at bytes (span own.span.end comma) ≡ text_of cut.after =
     part_at bytes own.span.end comma (text_of cut.after)
     (record {
-      front = at.before ++ cut.text;
+      prefix = at.before ++ cut.text;
       behind = 0x2C ∷ (cut.white ++ behind);
       place = omega (arith, length-append at.before cut.text, at.place, cut.begins, cut.ends);
       whole = whole ∙ two at.before cut.text (text_of cut.after) (0x2C ∷ (cut.white ++ behind));
     }) refl in
-    let kept : kept_text (text_at bytes (span own.span.end comma)) ≡ new = ap kept_text gap ∙ kept_is cut.after cut.blank ∙ sym cut.given in
+    let preserved : preserved_text (text_at bytes (span own.span.end comma)) ≡ new = ap preserved_text gap ∙ preserved_is cut.after cut.blank ∙ sym cut.given in
     let long : length old ≡ length cut.text + (length (text_of cut.after) + suc (length cut.white)) =
     ap (λ (t : List ℕ). length t) cut.was ∙ length-append cut.text (text_of cut.after ++ (0x2C ∷ cut.white)) ∙ ap (λ n. length cut.text + n) (length-append (text_of cut.after) (0x2C ∷ cut.white)) in
     ap (λ (o : Option ℕ). by_commas bytes own o own.comma_before) cut.comma
-    ∙ same_place own.whole.start start (past_space bytes (suc comma)) (start + length old) (kept_text (text_at bytes (span own.span.end comma))) new (sym cut.begins)
-    (omega (arith, run, long, cut.begins, cut.ends)) kept
+    ∙ same_place own.whole.start start (past_space bytes (suc comma)) (start + length old) (preserved_text (text_at bytes (span own.span.end comma))) new (sym cut.begins)
+    (omega (arith, run, long, cut.begins, cut.ends)) preserved
   where
     spread : (a b c d e : List ℕ) → a ++ ((b ++ (c ++ (0x2C ∷ d))) ++ e) ≡ (a ++ (b ++ c)) ++ (0x2C ∷ (d ++ e))
     spread a b c d e = simp append_assoc refl
@@ -238,13 +238,13 @@ last_placed bytes own start old new behind at cut =
     at.whole ∙ ap (λ (t : List ℕ). at.before ++ (t ++ behind)) cut.was ∙ spread at.before (text_of cut.before) cut.text behind in
     let gap : text_at bytes (span (suc start) own.whole.start) ≡ text_of cut.before =
     part_at bytes (suc start) own.whole.start (text_of cut.before)
-    (record { front = at.before ++ (0x2C ∷ []); behind = cut.text ++ behind; place = omega (arith, length-append at.before (0x2C ∷ []), at.place); whole = whole })
+    (record { prefix = at.before ++ (0x2C ∷ []); behind = cut.text ++ behind; place = omega (arith, length-append at.before (0x2C ∷ []), at.place); whole = whole })
     (omega (arith, cut.begins)) in
-    let kept : kept_text (text_at bytes (span (suc start) own.whole.start)) ≡ new = ap kept_text gap ∙ kept_is cut.before cut.blank ∙ sym cut.given in
+    let preserved : preserved_text (text_at bytes (span (suc start) own.whole.start)) ≡ new = ap preserved_text gap ∙ preserved_is cut.before cut.blank ∙ sym cut.given in
     let long : length old ≡ suc (length (text_of cut.before) + length cut.text) = ap (λ (t : List ℕ). length t) cut.was ∙ ap suc (length-append (text_of cut.before) cut.text) in
     ap (λ (o : Option ℕ). by_commas bytes own o own.comma_before) cut.no_comma
     ∙ ap (λ (o : Option ℕ). by_commas bytes own None o) cut.comma
-    ∙ same_place start start own.span.end (start + length old) (kept_text (text_at bytes (span (suc start) own.whole.start))) new refl (omega (arith, long, cut.begins, cut.ends)) kept
+    ∙ same_place start start own.span.end (start + length old) (preserved_text (text_at bytes (span (suc start) own.whole.start))) new refl (omega (arith, long, cut.begins, cut.ends)) preserved
   where
     spread : (a b c d : List ℕ) → a ++ ((0x2C ∷ (b ++ c)) ++ d) ≡ (a ++ (0x2C ∷ [])) ++ (b ++ (c ++ d))
     spread a b c d = simp append_assoc refl
@@ -269,30 +269,30 @@ pub record IsValueAt (path : List Part) (s : Document) (own : ValueInfo) : Type 
   pub is : last_number is_value value_number (numbered_at path (numbered_in s)) ≡ Some number
   pub here : slice_get (syntax.values s) number ≡ Some own
 
-pub value_at_split : (path : List Part) (s : Document) (earlier : List Mention) (m : Mention) (later : List Mention) (front : List ValueInfo) (own : ValueInfo) (others : List ValueInfo)
-    → Rules (said_in s) → said_in s ≡ earlier ++ m ∷ later → m.path ≡ path → is_value m.says ≡ true → syntax.values s ≡ front ++ own ∷ others → valued earlier ≡ length front → IsValueAt path s own
-value_at_split path s earlier m later front own others rules said place tells here count = record {
+pub value_at_split : (path : List Part) (s : Document) (earlier : List Mention) (m : Mention) (later : List Mention) (prefix : List ValueInfo) (own : ValueInfo) (others : List ValueInfo)
+    → Rules (mentions_in s) → mentions_in s ≡ earlier ++ m ∷ later → m.path ≡ path → is_value m.kind ≡ true → syntax.values s ≡ prefix ++ own ∷ others → valued earlier ≡ length prefix → IsValueAt path s own
+value_at_split path s earlier m later prefix own others rules mentioned place tells here count = record {
   number = valued earlier;
-  is = number_of_value path s earlier m later rules said place tells;
-  here = ap (λ (l : List ValueInfo). slice_get l (valued earlier)) here ∙ get_here front own others (valued earlier) count;
+  is = number_of_value path s earlier m later rules mentioned place tells;
+  here = ap (λ (l : List ValueInfo). slice_get l (valued earlier)) here ∙ get_here prefix own others (valued earlier) count;
 }
 
 -- a value in brackets
-abbrev pub IsInside : Owner → Type 0
-IsInside (owner.Line i) = ⊥
-IsInside _ = ⊤
+abbrev pub IsNested : Owner → Type 0
+IsNested (owner.Line i) = ⊥
+IsNested _ = ⊤
 
 pub record IsEntryPlaced (path : List Part) (s : Document) (c : Changed Document) : Type 0 where
   pub own : ValueInfo
   pub value : IsValueAt path s own
-  pub inside : IsInside own.owner
+  pub nested : IsNested own.owner
   pub edged : IsEdged (text s) own
   pub place : entry_place (text s) own ≡ place_of c
 
 -- what was taken out of a row, seen from its value
-record IsRowOut (b : Brackets) (more : List Part) (begin : ℕ) (p : Start) (inside : Entries) (left right : List ℕ) (done : Changed Value) : Type 0 where
+record IsRowOut (b : Brackets) (more : List Part) (begin : ℕ) (p : Start) (nested : Entries) (left right : List ℕ) (done : Changed Value) : Type 0 where
   row : Changed Row
-  out : IsOut b more 0 begin p inside row
+  out : IsOut b more 0 begin p nested row
   before : done.before ≡ left ++ row.before
   old : done.old ≡ row.old
   new : done.new ≡ row.new
@@ -301,10 +301,10 @@ record IsRowOut (b : Brackets) (more : List Part) (begin : ℕ) (p : Start) (ins
 pub some_is : {A : Type 0} (x y : A) → Some x ≡ Some y → x ≡ y
 some_is x y e = cc
 
-row_out : (b : Brackets) (more : List Part) (begin : ℕ) (p : Start) (inside : Entries) (outer : Row → Value) (left right : List ℕ) (done : Changed Value) (o : Option (Changed Row))
-    → EachOf (IsOut b more 0 begin p inside) o → within outer left right o ≡ Some done → IsRowOut b more begin p inside left right done
-row_out b more begin p inside outer left right done None h e = absurd cc
-row_out b more begin p inside outer left right done (Some d) h e =
+row_out : (b : Brackets) (more : List Part) (begin : ℕ) (p : Start) (nested : Entries) (outer : Row → Value) (left right : List ℕ) (done : Changed Value) (o : Option (Changed Row))
+    → EachOf (IsOut b more 0 begin p nested) o → within outer left right o ≡ Some done → IsRowOut b more begin p nested left right done
+row_out b more begin p nested outer left right done None h e = absurd cc
+row_out b more begin p nested outer left right done (Some d) h e =
     let k : framed_change outer left right d ≡ done = some_is (framed_change outer left right d) done e in
     record {
       row = d;
@@ -315,36 +315,36 @@ row_out b more begin p inside outer left right done (Some d) h e =
       behind = sym (ap (λ (x : Changed Value). x.behind) k);
     }
 
-valued_one : (m : Mention) (ms : List Mention) → is_value m.says ≡ true → valued (m ∷ ms) ≡ suc (valued ms)
+valued_one : (m : Mention) (ms : List Mention) → is_value m.kind ≡ true → valued (m ∷ ms) ≡ suc (valued ms)
 valued_one m ms e = ap (λ b. one_if b + valued ms) e ∙ omega arith
 
-module _ (profile : Profile) (path : List Part) (s : Document) (valid : IsDocument profile s) (rules : Rules (said_in s)) (c : Changed Document) (cut : IsChangeOf text s c) (h : IsFoundIn removal (Valid_document s) 0 path (said_in s) (syntax.values s) c) where
-  placed : (b : Brackets) (left right : List ℕ) → length left ≡ 1 → ((x : List ℕ) → (first (right ++ x) == close_byte b) ≡ true) → IsInside (owner_in h.value.body h.begin.values)
-      → IsRowOut b h.more (h.from + 1) (inside_of h.begin h.from h.keys h.value.body) h.value.inside left right h.done → IsEntryPlaced path s c
-  placed b left right one closed inside row =
-      let p : Start = inside_of h.begin h.from h.keys h.value.body in
+module _ (profile : Profile) (path : List Part) (s : Document) (valid : IsDocument profile s) (rules : Rules (mentions_in s)) (c : Changed Document) (cut : IsChangeOf text s c) (h : IsFoundIn removal (Valid_document s) 0 path (mentions_in s) (syntax.values s) c) where
+  placed : (b : Brackets) (left right : List ℕ) → length left ≡ 1 → ((x : List ℕ) → (first (right ++ x) == close_byte b) ≡ true) → IsNested (owner_in h.value.body h.begin.values)
+      → IsRowOut b h.more (h.from + 1) (nested_of h.begin h.from h.keys h.value.body) h.value.nested left right h.done → IsEntryPlaced path s c
+  placed b left right one closed nested row =
+      let p : Start = nested_of h.begin h.from h.keys h.value.body in
       let q : List Part = h.mention.path in
       let e = row.out in
       let d : Changed Row = row.row in
       let start : ℕ = h.from + 1 + length d.before in
-      let begins : h.own.span.start ≡ h.from = ap (λ (i : ValueInfo). i.span.start) h.told in
-      let front : length c.before ≡ start =
+      let begins : h.own.span.start ≡ h.from = ap (λ (i : ValueInfo). i.span.start) h.stated in
+      let prefix : length c.before ≡ start =
       omega (arith, h.start, begins, one, ap (λ (t : List ℕ). length t) row.before, length-append left d.before) in
       let old : c.old ≡ d.old = h.old ∙ row.old in
-      let behind : c.behind ≡ d.behind ++ (right ++ h.beyond) = h.text_behind ∙ ap (λ (t : List ℕ). t ++ h.beyond) row.behind ∙ append_assoc d.behind right h.beyond in
+      let behind : c.behind ≡ d.behind ++ (right ++ h.beyond) = h.text_after ∙ ap (λ (t : List ℕ). t ++ h.beyond) row.behind ∙ append_assoc d.behind right h.beyond in
       let at : IsCutText (text s) start d.old (d.behind ++ (right ++ h.beyond)) =
-      record { before = c.before; whole = cut.was ∙ ap (λ (t : List ℕ). c.before ++ (t ++ c.behind)) old ∙ ap (λ (t : List ℕ). c.before ++ (d.old ++ t)) behind; place = front } in
+      record { before = c.before; whole = cut.was ∙ ap (λ (t : List ℕ). c.before ++ (t ++ c.behind)) old ∙ ap (λ (t : List ℕ). c.before ++ (d.old ++ t)) behind; place = prefix } in
       let earlier : List Mention = h.earlier ++ h.mention ∷ map (below q) e.earlier in
       let later : List Mention = map (below q) e.later ++ h.further in
-      let said : said_in s ≡ earlier ++ below q e.mention ∷ later =
-      h.said
-      ∙ ap (λ (l : List Mention). h.earlier ++ h.mention ∷ l) (h.within_said ∙ ap (λ (l : List Mention). map (below q) l ++ h.further) e.said ∙ ap (λ (l : List Mention). l ++ h.further) (map-append (below q) e.earlier (e.mention ∷ e.later)))
+      let mentioned : mentions_in s ≡ earlier ++ below q e.mention ∷ later =
+      h.mentioned
+      ∙ ap (λ (l : List Mention). h.earlier ++ h.mention ∷ l) (h.within_mentioned ∙ ap (λ (l : List Mention). map (below q) l ++ h.further) e.mentioned ∙ ap (λ (l : List Mention). l ++ h.further) (map-append (below q) e.earlier (e.mention ∷ e.later)))
       ∙ regroup h.earlier (map (below q) e.earlier) (map (below q) e.later) h.further h.mention (below q e.mention) in
-      let values : syntax.values s ≡ (h.front ++ h.own ∷ e.front) ++ e.own ∷ (e.others ++ h.others) =
+      let values : syntax.values s ≡ (h.prefix ++ h.own ∷ e.prefix) ++ e.own ∷ (e.others ++ h.others) =
       h.here
-      ∙ ap (λ (l : List ValueInfo). h.front ++ h.own ∷ l) (h.within_values ∙ ap (λ (l : List ValueInfo). l ++ h.others) e.here)
-      ∙ regroup_values h.front e.front e.others h.others h.own e.own in
-      let count : valued earlier ≡ length (h.front ++ h.own ∷ e.front) =
+      ∙ ap (λ (l : List ValueInfo). h.prefix ++ h.own ∷ l) (h.within_values ∙ ap (λ (l : List ValueInfo). l ++ h.others) e.here)
+      ∙ regroup_values h.prefix e.prefix e.others h.others h.own e.own in
+      let count : valued earlier ≡ length (h.prefix ++ h.own ∷ e.prefix) =
       omega (
         arith,
         valued-append h.earlier (h.mention ∷ map (below q) e.earlier),
@@ -352,17 +352,17 @@ module _ (profile : Profile) (path : List Part) (s : Document) (valid : IsDocume
         valued-below q e.earlier,
         e.count,
         h.count,
-        length-append h.front (h.own ∷ e.front),
+        length-append h.prefix (h.own ∷ e.prefix),
       ) in
       record {
         own = e.own;
-        value = value_at_split path s earlier (below q e.mention) later (h.front ++ h.own ∷ e.front) e.own (e.others ++ h.others) rules said
+        value = value_at_split path s earlier (below q e.mention) later (h.prefix ++ h.own ∷ e.prefix) e.own (e.others ++ h.others) rules mentioned
             (ap (λ (x : List Part). q ++ x) e.place ∙ sym h.place) e.tells values count;
-        inside = subst IsInside (sym e.owner) inside;
+        nested = subst IsNested (sym e.owner) nested;
         edged = cut_edged b (text s) e.own start d.old d.new d.behind (right ++ h.beyond) at e.cut;
         place = cut_placed b (text s) e.own start d.old d.new d.behind (right ++ h.beyond) at e.cut (closed h.beyond)
-            ∙ same_place start (length c.before) (start + length d.old) (length c.before + length c.old) d.new c.new (sym front)
-            (omega (arith, front, ap (λ (t : List ℕ). length t) old)) (sym (h.new ∙ row.new));
+            ∙ same_place start (length c.before) (start + length d.old) (length c.before + length c.old) d.new c.new (sym prefix)
+            (omega (arith, prefix, ap (λ (t : List ℕ). length t) old)) (sym (h.new ∙ row.new));
       }
     where
       regroup : (a b c d : List Mention) (m n : Mention) → a ++ m ∷ ((b ++ n ∷ c) ++ d) ≡ (a ++ m ∷ b) ++ n ∷ (c ++ d)
@@ -371,22 +371,22 @@ module _ (profile : Profile) (path : List Part) (s : Document) (valid : IsDocume
       regroup_values : (a b c d : List ValueInfo) (m n : ValueInfo) → a ++ m ∷ ((b ++ n ∷ c) ++ d) ≡ (a ++ m ∷ b) ++ n ∷ (c ++ d)
       regroup_values a b c d m n = simp append_assoc refl
 
-  of_body : (body : Body) → h.value.body ≡ body → removal h.more (record { body = body; inside = h.value.inside }) ≡ Some h.done → IsEntryPlaced path s c
+  of_body : (body : Body) → h.value.body ≡ body → removal h.more (record { body = body; nested = h.value.nested }) ≡ Some h.done → IsEntryPlaced path s c
   of_body (scalar w) e by = absurd cc
   of_body (array g) e by =
-      let p : Start = inside_of h.begin h.from h.keys h.value.body in
-      let at : h.from + 1 + length (text_of g) ≡ p.at = omega (arith, ap (λ (x : Body). (inside_of h.begin h.from h.keys x).at) e) in
-      let are = subst (λ (x : Body). AreEntries profile (place_in x) h.value.inside) e (h.valid profile valid).inside in
-      placed brackets.Array (codes "[") (codes "]") refl (λ x. refl) (subst (λ (x : Body). IsInside (owner_in x h.begin.values)) (sym e) tt)
-      (row_out brackets.Array h.more (h.from + 1) p h.value.inside (λ r. record { body = array r.gap; inside = r.entries }) (codes "[") (codes "]") h.done (take_out h.more 0 g h.value.inside)
-      (entry_out profile brackets.Array h.more 0 (h.from + 1) g p h.value.inside at are (inl refl)) by)
+      let p : Start = nested_of h.begin h.from h.keys h.value.body in
+      let at : h.from + 1 + length (text_of g) ≡ p.at = omega (arith, ap (λ (x : Body). (nested_of h.begin h.from h.keys x).at) e) in
+      let are = subst (λ (x : Body). AreEntries profile (place_in x) h.value.nested) e (h.valid profile valid).nested in
+      placed brackets.Array (codes "[") (codes "]") refl (λ x. refl) (subst (λ (x : Body). IsNested (owner_in x h.begin.values)) (sym e) tt)
+      (row_out brackets.Array h.more (h.from + 1) p h.value.nested (λ r. record { body = array r.gap; nested = r.entries }) (codes "[") (codes "]") h.done (take_out h.more 0 g h.value.nested)
+      (entry_out profile brackets.Array h.more 0 (h.from + 1) g p h.value.nested at are (inl refl)) by)
   of_body (inline g) e by =
-      let p : Start = inside_of h.begin h.from h.keys h.value.body in
-      let at : h.from + 1 + length (text_of g) ≡ p.at = omega (arith, ap (λ (x : Body). (inside_of h.begin h.from h.keys x).at) e) in
-      let are = subst (λ (x : Body). AreEntries profile (place_in x) h.value.inside) e (h.valid profile valid).inside in
-      placed brackets.Inline (codes "{") (codes "}") refl (λ x. refl) (subst (λ (x : Body). IsInside (owner_in x h.begin.values)) (sym e) tt)
-      (row_out brackets.Inline h.more (h.from + 1) p h.value.inside (λ r. record { body = inline r.gap; inside = r.entries }) (codes "{") (codes "}") h.done (take_out h.more 0 g h.value.inside)
-      (entry_out profile brackets.Inline h.more 0 (h.from + 1) g p h.value.inside at are (inl refl)) by)
+      let p : Start = nested_of h.begin h.from h.keys h.value.body in
+      let at : h.from + 1 + length (text_of g) ≡ p.at = omega (arith, ap (λ (x : Body). (nested_of h.begin h.from h.keys x).at) e) in
+      let are = subst (λ (x : Body). AreEntries profile (place_in x) h.value.nested) e (h.valid profile valid).nested in
+      placed brackets.Inline (codes "{") (codes "}") refl (λ x. refl) (subst (λ (x : Body). IsNested (owner_in x h.begin.values)) (sym e) tt)
+      (row_out brackets.Inline h.more (h.from + 1) p h.value.nested (λ r. record { body = inline r.gap; nested = r.entries }) (codes "{") (codes "}") h.done (take_out h.more 0 g h.value.nested)
+      (entry_out profile brackets.Inline h.more 0 (h.from + 1) g p h.value.nested at are (inl refl)) by)
 
   pub entry_placed : IsEntryPlaced path s c
   entry_placed = of_body h.value.body refl h.by

@@ -6,12 +6,12 @@ use Rattle.keep_syntax.specs.Grammar.{IsDocument}
 use Rattle.keep_syntax.specs.Numbered as syntax
 use Rattle.keep_path.specs.Path.{Part}
 use Rattle.keep_meaning.specs.Marks.{Reading, start}
-use Rattle.keep_meaning.specs.Meaning.{behind_line, reading_behind, line_of, lines, said_in}
+use Rattle.keep_meaning.specs.Meaning.{after_line, reading_after_lines, line_of, lines, mentions_in}
 use Rattle.keep_law.specs.Changed.{Changed, IsChangeOf, framed_change, within, or_else}
 use Rattle.keep_law.specs.Values.{removal}
 use Rattle.keep_law.specs.Lines.{Page, page_text, content_text, with_page, in_lines, last_line, begins, body_length}
-use Rattle.keep_law.specs.Edits.{remove, change, inside, is_own, clear_line, without_lines}
-use Rattle.keep_law.specs.Laws.{IsStanding, IsLawfulEdit}
+use Rattle.keep_law.specs.Edits.{remove, change, nested, is_own, clear_line, without_lines}
+use Rattle.keep_law.specs.Laws.{IsEditable, IsLawfulEdit}
 use Rattle.keep_law.specs.Refusals.{refusal}
 use Rattle.keep_law.proofs.Common.Runs.{Rules}
 use Rattle.keep_law.proofs.Common.Texts.{EachIs}
@@ -19,7 +19,7 @@ use Rattle.keep_law.proofs.Common.LineTexts.{change-is}
 use Rattle.keep_law.proofs.Common.Marks.{rules_of_document}
 use Rattle.keep_law.proofs.Common.DoneAtValue.{EachOf}
 use Rattle.keep_law.proofs.EditLaws.{remove_lawful}
-use Rattle.keep_law.proofs.Common.FoundValue.{IsFoundIn, Valid_document, found_inside}
+use Rattle.keep_law.proofs.Common.FoundValue.{IsFoundIn, Valid_document, found_nested}
 use Rattle.keep_law.proofs.Remove.RemovePlace.{some_is, IsEntryPlaced, entry_placed}
 use Rattle.keep_law.proofs.Remove.RemoveLinePlace.{head_line, IsCleared, cleared_lines, cleared_placed, dropped_placed, IsLinePlaced, page_line, without}
 use Rattle.keep_law.proofs.Remove.RemoveSectionPlace.{IsSectionPlaced, section_placed}
@@ -41,13 +41,13 @@ none_second : {A : Type 0} (o p : Option A) → or_else o p ≡ None → p ≡ N
 none_second None p e = e
 none_second (Some c) p e = absurd cc
 
-none_lines : (f : Reading → Line → Option (Changed Line)) (r : Reading) (pre rest : List Ended) (last : Line) → in_lines f r (pre ++ rest) last ≡ None → f (reading_behind r (map line_of pre)) (head_line rest last) ≡ None
+none_lines : (f : Reading → Line → Option (Changed Line)) (r : Reading) (pre rest : List Ended) (last : Line) → in_lines f r (pre ++ rest) last ≡ None → f (reading_after_lines r (map line_of pre)) (head_line rest last) ≡ None
 none_lines f r [] [] last e = none_within (λ l. record { ended = []; last = l }) [] [] (f r last) e
 none_lines f r [] (x ∷ es) last e =
     none_within (λ l. record { ended = record { line = l; newline = x.newline } ∷ es; last = last }) [] (x.newline.text ++ page_text (record { ended = es; last = last })) (f r x.line) (none_first _ _ e)
 none_lines f r (x ∷ pre) rest last e =
-    none_lines f (behind_line r x.line) pre rest last
-    (none_within (λ b. record { ended = x ∷ b.ended; last = b.last }) (text_of (ended_leaves x)) [] (in_lines f (behind_line r x.line) (pre ++ rest) last) (none_second _ _ e))
+    none_lines f (after_line r x.line) pre rest last
+    (none_within (λ b. record { ended = x ∷ b.ended; last = b.last }) (text_of (ended_leaves x)) [] (in_lines f (after_line r x.line) (pre ++ rest) last) (none_second _ _ e))
 
 abbrev clear_by : Line → Option Written → Bool → Option (Changed Line)
 clear_by l o b = elim o [
@@ -74,33 +74,33 @@ no_comment path r l own e = by l.comment refl (is_own path r l.content) own e
 
 -- ---- by the kind of the change
 
-module _ (profile : Profile) (path : List Part) (s : Document) (valid : IsDocument profile s) (rules : Rules (said_in s)) (c : Changed Document) (cut : IsChangeOf text s c) where
-  by_value : inside removal path s ≡ Some c → IsPlaced path s c
+module _ (profile : Profile) (path : List Part) (s : Document) (valid : IsDocument profile s) (rules : Rules (mentions_in s)) (c : Changed Document) (cut : IsChangeOf text s c) where
+  by_value : nested removal path s ≡ Some c → IsPlaced path s c
   by_value e =
-      let h : IsFoundIn removal (Valid_document s) 0 path (said_in s) (syntax.values s) c =
-      subst (λ (o : Option (Changed Document)). EachOf (IsFoundIn removal (Valid_document s) 0 path (said_in s) (syntax.values s)) o) e (found_inside removal path s) in
+      let h : IsFoundIn removal (Valid_document s) 0 path (mentions_in s) (syntax.values s) c =
+      subst (λ (o : Option (Changed Document)). EachOf (IsFoundIn removal (Valid_document s) 0 path (mentions_in s) (syntax.values s)) o) e (found_nested removal path s) in
       inr (inl (entry_placed profile path s valid rules c cut h))
 
   by_section : (o : Option ℕ) → last_line (begins path) start (lines s) ≡ o
-      → or_else (elim o [ None ↦ None | Some i ↦ without_lines s i (suc (body_length (drop (suc i) (lines s)))) ]) (inside removal path s) ≡ Some c → IsPlaced path s c
+      → or_else (elim o [ None ↦ None | Some i ↦ without_lines s i (suc (body_length (drop (suc i) (lines s)))) ]) (nested removal path s) ≡ Some c → IsPlaced path s c
   by_section None k e = by_value e
   by_section (Some i) k e = inr (inr (section_placed profile path s i c valid k e))
 
   by_line : in_lines (clear_line path) start s.ended s.last ≡ None → (o : Option ℕ) → last_line (λ r l. is_own path r l.content) start (lines s) ≡ o
       → or_else (elim o [ None ↦ None | Some i ↦ without_lines s i 1 ])
-      (or_else (elim (last_line (begins path) start (lines s)) [ None ↦ None | Some i ↦ without_lines s i (suc (body_length (drop (suc i) (lines s)))) ]) (inside removal path s)) ≡ Some c
+      (or_else (elim (last_line (begins path) start (lines s)) [ None ↦ None | Some i ↦ without_lines s i (suc (body_length (drop (suc i) (lines s)))) ]) (nested removal path s)) ≡ Some c
       → IsPlaced path s c
   by_line none None k e = by_section (last_line (begins path) start (lines s)) refl e
   by_line none (Some i) k e =
       let h = page_line (λ r l. is_own path r l.content) start s.ended s.last i k in
-      let plain = no_comment path (reading_behind start (map line_of h.pre)) (head_line h.rest s.last) h.passes
+      let plain = no_comment path (reading_after_lines start (map line_of h.pre)) (head_line h.rest s.last) h.passes
       (none_lines (clear_line path) start h.pre h.rest s.last (ap (λ (es : List Ended). in_lines (clear_line path) start es s.last) (sym h.was) ∙ none)) in
       inl (dropped_placed profile path s valid rules c cut h.pre h.rest h.was h.passes plain (without s i 1 h.pre h.rest c h.was h.number e))
 
   by_comment : (o : Option (Changed Page)) → in_lines (clear_line path) start s.ended s.last ≡ o
       → or_else (within (with_page s) (text_of (bom_leaves s.bom)) [] o)
       (or_else (elim (last_line (λ r l. is_own path r l.content) start (lines s)) [ None ↦ None | Some i ↦ without_lines s i 1 ])
-      (or_else (elim (last_line (begins path) start (lines s)) [ None ↦ None | Some i ↦ without_lines s i (suc (body_length (drop (suc i) (lines s)))) ]) (inside removal path s))) ≡ Some c
+      (or_else (elim (last_line (begins path) start (lines s)) [ None ↦ None | Some i ↦ without_lines s i (suc (body_length (drop (suc i) (lines s)))) ]) (nested removal path s))) ≡ Some c
       → IsPlaced path s c
   by_comment None k e = by_line k (last_line (λ r l. is_own path r l.content) start (lines s)) refl e
   by_comment (Some p) k e =
@@ -116,8 +116,8 @@ pub record IsRemoved (profile : Profile) (limit : ℕ) (path : List Part) (s : D
   pub cut : IsChangeOf text s lawful.changed
   pub placed : IsPlaced path s lawful.changed
 
-pub removed : (profile : Profile) (limit : ℕ) (path : List Part) (s : Document) → IsStanding profile limit s → refusal profile limit s (remove path) ≡ None → IsRemoved profile limit path s
-removed profile limit path s standing allowed =
-    let law : IsLawfulEdit profile limit s (remove path) = remove_lawful profile limit s path standing allowed in
+pub removed : (profile : Profile) (limit : ℕ) (path : List Part) (s : Document) → IsEditable profile limit s → refusal profile limit s (remove path) ≡ None → IsRemoved profile limit path s
+removed profile limit path s editable allowed =
+    let law : IsLawfulEdit profile limit s (remove path) = remove_lawful profile limit s path editable allowed in
     let cut : IsChangeOf text s law.changed = subst (λ (o : Option (Changed Document)). EachIs text s o) law.is (change-is s (remove path)) in
-    record { lawful = law; cut = cut; placed = placed profile path s standing.valid (rules_of_document s standing.obeys) law.changed cut law.is }
+    record { lawful = law; cut = cut; placed = placed profile path s editable.valid (rules_of_document s editable.obeys) law.changed cut law.is }

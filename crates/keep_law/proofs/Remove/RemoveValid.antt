@@ -10,16 +10,16 @@ use Rattle.keep_token.specs.declared.leaf.Leaf.TheVariants as leaf
 use Rattle.keep_token.specs.Abnf.{is_ws}
 use Rattle.keep_token.specs.Leaves.{IsLeaf, is_gap_leaf}
 use Rattle.keep_syntax.specs.Tree.{Written, Gap, Name, Body, scalar, array, inline, Entries, none, entry, Line, Ended, Document, text_of}
-use Rattle.keep_syntax.specs.Grammar.{is_ws_leaf, IsSpace, GoesOn, IsBlank, Place, in_scalar, in_array, in_inline, IsGap, IsComma, AreEntries, IsValue, IsLine, IsEnded, IsDocument, IsComment}
+use Rattle.keep_syntax.specs.Grammar.{is_ws_leaf, IsSpace, Continues, IsBlank, Place, in_scalar, in_array, in_inline, IsGap, IsComma, AreEntries, IsValue, IsLine, IsEnded, IsDocument, IsComment}
 use Rattle.keep_path.specs.Path.{Part, same_path}
 use Rattle.keep_meaning.specs.Marks.{Reading, start}
 use Rattle.keep_meaning.specs.Meaning.{step, lines}
 use Rattle.keep_law.specs.Changed.{Changed, within}
-use Rattle.keep_law.specs.Values.{is_comment_leaf, joined_gap, kept_gap, past_ws, Row, take_out, taken_first, taken_only, taken_last, is_last_named, entry_front, removal}
+use Rattle.keep_law.specs.Values.{is_comment_leaf, joined_gap, preserved_gap, past_ws, Row, take_out, taken_first, taken_only, taken_last, is_last_named, entry_prefix, removal}
 use Rattle.keep_syntax.specs.WholeLines.{empty_line}
-use Rattle.keep_law.specs.Lines.{with_page, in_lines, in_line, drop_front, drop_lines, last_line, begins, body_length}
+use Rattle.keep_law.specs.Lines.{with_page, in_lines, in_line, drop_prefix, drop_lines, last_line, begins, body_length}
 use Rattle.std.specs.Prelude.{drop}
-use Rattle.keep_law.specs.Edits.{remove, change, inside, is_own, clear_line, without_lines}
+use Rattle.keep_law.specs.Edits.{remove, change, nested, is_own, clear_line, without_lines}
 use Rattle.keep_law.proofs.Common.SetLaw.{EachTo, to_within, to_or_else}
 use Rattle.keep_law.proofs.Common.SetValid.{IsActValid, IsPage, valid_lines, valid_line}
 
@@ -36,18 +36,18 @@ all_append (x ∷ xs) ys h g = let (one, more) = and_parts (is_ws x) (list_all i
 ws_append : (xs ys : List ℕ) → IsLeaf Strict leaf.Ws xs → IsLeaf Strict leaf.Ws ys → IsLeaf Strict leaf.Ws (xs ++ ys)
 ws_append xs ys h g = ((let k : 0 < length xs = h.0 in omega (arith, length-append xs ys)), all_append xs ys h.1 g.1)
 
-goes_two : (a : Leaf) (v : Written) (h : Gap) → GoesOn a [] → (is_ws_leaf a && is_ws_leaf v.leaf) ≡ false → GoesOn a (v ∷ h)
-goes_two leaf.Ws v h g e = ap not e
-goes_two leaf.Comment v h g e = absurd g
-goes_two _ v h g e = tt
+leads_two : (a : Leaf) (v : Written) (h : Gap) → Continues a [] → (is_ws_leaf a && is_ws_leaf v.leaf) ≡ false → Continues a (v ∷ h)
+leads_two leaf.Ws v h g e = ap not e
+leads_two leaf.Comment v h g e = absurd g
+leads_two _ v h g e = tt
 
-goes_same : (a : Leaf) (u x : Written) (g xs : Gap) → x.leaf ≡ u.leaf → GoesOn a (u ∷ g) → GoesOn a (x ∷ xs)
-goes_same leaf.Comment u x g xs e h = e ∙ h
-goes_same leaf.Ws u x g xs e h = ap (λ (l : Leaf). not (is_ws_leaf l)) e ∙ h
-goes_same _ u x g xs e h = tt
+leads_same : (a : Leaf) (u x : Written) (g xs : Gap) → x.leaf ≡ u.leaf → Continues a (u ∷ g) → Continues a (x ∷ xs)
+leads_same leaf.Comment u x g xs e h = e ∙ h
+leads_same leaf.Ws u x g xs e h = ap (λ (l : Leaf). not (is_ws_leaf l)) e ∙ h
+leads_same _ u x g xs e h = tt
 
-goes_behind : (a b : Leaf) (g : Gap) → a ≡ b → GoesOn a g → GoesOn b g
-goes_behind a b g e h = subst (λ (x : Leaf). GoesOn x g) e h
+leads_after : (a b : Leaf) (g : Gap) → a ≡ b → Continues a g → Continues b g
+leads_after a b g e h = subst (λ (x : Leaf). Continues x g) e h
 
 pub record IsHead (u : Written) (g : Gap) : Type 0 where
   pub first : Written
@@ -72,10 +72,10 @@ blank_two w v h true e hw hv =
     let b : v.leaf ≡ leaf.Ws = ws_leaf v.leaf two in (
       subst (λ (x : Leaf). IsTrue (is_gap_leaf x)) a hw.0,
       ws_append w.text v.text (subst (λ (x : Leaf). IsLeaf Strict x w.text) a hw.1) (subst (λ (x : Leaf). IsLeaf Strict x v.text) b hv.1),
-      goes_behind v.leaf leaf.Ws h b hv.2,
+      leads_after v.leaf leaf.Ws h b hv.2,
       hv.3,
     )
-blank_two w v h false e hw hv = (hw.0, hw.1, goes_two w.leaf v h hw.2 e, hv)
+blank_two w v h false e hw hv = (hw.0, hw.1, leads_two w.leaf v h hw.2 e, hv)
 
 joined_blank : (g h : Gap) → IsBlank g → IsBlank h → IsBlank (joined_gap g h)
 joined_blank [] h hg hh = hh
@@ -85,7 +85,7 @@ joined_blank (w ∷ u ∷ g) h hg hh =
     let top = joined_head u g h in (
       hg.0,
       hg.1,
-      subst (λ (x : Gap). GoesOn w.leaf x) (sym top.is) (goes_same w.leaf u top.first g top.more top.leaf hg.2),
+      subst (λ (x : Gap). Continues w.leaf x) (sym top.is) (leads_same w.leaf u top.first g top.more top.leaf hg.2),
       joined_blank (u ∷ g) h hg.3 hh,
     )
 
@@ -121,8 +121,8 @@ gap_either : (profile : Profile) (place : Place) (g : Gap) (b : Bool) → IsGap 
 gap_either profile place g true h = h
 gap_either profile place g false h = gap_none profile place g h
 
-gap_kept : (profile : Profile) (place : Place) (g : Gap) → IsGap profile place g → IsGap profile place (kept_gap g)
-gap_kept profile place g h = gap_either profile place g (list_any (λ w. is_comment_leaf w.leaf) g) h
+gap_preserved : (profile : Profile) (place : Place) (g : Gap) → IsGap profile place g → IsGap profile place (preserved_gap g)
+gap_preserved profile place g h = gap_either profile place g (list_any (λ w. is_comment_leaf w.leaf) g) h
 
 blank_past : (g : Gap) → IsBlank g → IsBlank (past_ws g)
 blank_past [] h = tt
@@ -158,71 +158,71 @@ row_when : (P : Row → Type 0) (b : Bool) (c : Changed Row) → (b ≡ true →
 row_when P true c h = h refl
 row_when P false c h = tt
 
-behind_gap : (profile : Profile) (place : Place) (behind : Gap) (rest : Entries) → IsComma profile place (Some behind) rest → IsGap profile place behind
-behind_gap profile place behind none h = h.0
-behind_gap profile place behind (entry name body inside after comma rest) h = h
+after_gap : (profile : Profile) (place : Place) (behind : Gap) (rest : Entries) → IsComma profile place (Some behind) rest → IsGap profile place behind
+after_gap profile place behind none h = h.0
+after_gap profile place behind (entry name body nested after comma rest) h = h
 
 first_gap : (profile : Profile) (place : Place) (gap after behind : Gap) → IsGap profile place gap → IsGap profile place after → IsGap profile place behind
-    → IsGap profile place (joined_gap gap (joined_gap (kept_gap after) (past_ws behind)))
+    → IsGap profile place (joined_gap gap (joined_gap (preserved_gap after) (past_ws behind)))
 first_gap profile place gap after behind hg ha hb =
-    gap_joined profile place gap _ hg (gap_joined profile place (kept_gap after) (past_ws behind) (gap_kept profile place after ha) (gap_past profile place behind hb))
+    gap_joined profile place gap _ hg (gap_joined profile place (preserved_gap after) (past_ws behind) (gap_preserved profile place after ha) (gap_past profile place behind hb))
 
-row_two : (profile : Profile) (place : Place) (path : List Part) (k : ℕ) (gap : Gap) (name : Option Name) (body : Body) (inside : Entries) (after behind : Gap)
-    (name' : Option Name) (body' : Body) (inside' : Entries) (after' : Gap) (comma' : Option Gap) (rest' : Entries)
-    (further : Option (Changed Row)) → IsGap profile place gap → AreEntries profile place (entry name body inside after (Some behind) (entry name' body' inside' after' comma' rest'))
-    → (b c : Bool) → is_last_named path (k + 1) (entry name' body' inside' after' comma' rest') ≡ c
-    → EachTo (IsRow profile place path (k + 1) (entry name' body' inside' after' comma' rest')) further
-    → EachTo {A = Row} (IsRow profile place path k (entry name body inside after (Some behind) (entry name' body' inside' after' comma' rest'))) (elim b [
-      | true ↦ Some (taken_first gap name body inside after behind (entry name' body' inside' after' comma' rest'))
+row_two : (profile : Profile) (place : Place) (path : List Part) (k : ℕ) (gap : Gap) (name : Option Name) (body : Body) (nested : Entries) (after behind : Gap)
+    (name' : Option Name) (body' : Body) (nested' : Entries) (after' : Gap) (comma' : Option Gap) (rest' : Entries)
+    (further : Option (Changed Row)) → IsGap profile place gap → AreEntries profile place (entry name body nested after (Some behind) (entry name' body' nested' after' comma' rest'))
+    → (b c : Bool) → is_last_named path (k + 1) (entry name' body' nested' after' comma' rest') ≡ c
+    → EachTo (IsRow profile place path (k + 1) (entry name' body' nested' after' comma' rest')) further
+    → EachTo {A = Row} (IsRow profile place path k (entry name body nested after (Some behind) (entry name' body' nested' after' comma' rest'))) (elim b [
+      | true ↦ Some (taken_first gap name body nested after behind (entry name' body' nested' after' comma' rest'))
       | false ↦ elim c [
-        | true ↦ Some (taken_last gap name body inside after behind name' body' inside' after')
-        | false ↦ within (λ r. record { gap = gap; entries = entry name body inside after (Some r.gap) r.entries })
-            (text_of gap ++ (entry_front name body inside ++ (text_of after ++ codes ","))) [] further
+        | true ↦ Some (taken_last gap name body nested after behind name' body' nested' after')
+        | false ↦ within (λ r. record { gap = gap; entries = entry name body nested after (Some r.gap) r.entries })
+            (text_of gap ++ (entry_prefix name body nested ++ (text_of after ++ codes ","))) [] further
       ]
     ])
-row_two profile place path k gap name body inside after behind name' body' inside' after' comma' rest' further hg h true c e ih =
+row_two profile place path k gap name body nested after behind name' body' nested' after' comma' rest' further hg h true c e ih =
     let g = first_gap profile place gap after behind hg h.3 h.4 in
     record { gap = g; entries = h.5; comma = λ e. g }
-row_two profile place path k gap name body inside after behind name' body' inside' after' None none further hg h false true e ih = record {
+row_two profile place path k gap name body nested after behind name' body' nested' after' None none further hg h false true e ih = record {
   gap = hg;
-  entries = (h.0, h.1, h.2, gap_joined profile place after _ h.3 (gap_joined profile place (kept_gap behind) after' (gap_kept profile place behind h.4) h.5.3), tt, tt);
+  entries = (h.0, h.1, h.2, gap_joined profile place after _ h.3 (gap_joined profile place (preserved_gap behind) after' (gap_preserved profile place behind h.4) h.5.3), tt, tt);
   comma = λ e. hg;
 }
-row_two profile place path k gap name body inside after behind name' body' inside' after' (Some g) rest' further hg h false true e ih = absurd cc
-row_two profile place path k gap name body inside after behind name' body' inside' after' None (entry n2 b2 i2 a2 c2 r2) further hg h false true e ih = absurd cc
-row_two profile place path k gap name body inside after behind name' body' inside' after' comma' rest' further hg h false false e ih =
-    to_within (IsRow profile place path (k + 1) (entry name' body' inside' after' comma' rest'))
-    (IsRow profile place path k (entry name body inside after (Some behind) (entry name' body' inside' after' comma' rest')))
-    (λ r. record { gap = gap; entries = entry name body inside after (Some r.gap) r.entries }) _ [] further
+row_two profile place path k gap name body nested after behind name' body' nested' after' (Some g) rest' further hg h false true e ih = absurd cc
+row_two profile place path k gap name body nested after behind name' body' nested' after' None (entry n2 b2 i2 a2 c2 r2) further hg h false true e ih = absurd cc
+row_two profile place path k gap name body nested after behind name' body' nested' after' comma' rest' further hg h false false e ih =
+    to_within (IsRow profile place path (k + 1) (entry name' body' nested' after' comma' rest'))
+    (IsRow profile place path k (entry name body nested after (Some behind) (entry name' body' nested' after' comma' rest')))
+    (λ r. record { gap = gap; entries = entry name body nested after (Some r.gap) r.entries }) _ [] further
     (λ r t. record { gap = hg; entries = (h.0, h.1, h.2, h.3, t.comma e, t.entries); comma = λ e. hg }) ih
 
 valid_row : (profile : Profile) (place : Place) (path : List Part) (k : ℕ) (gap : Gap) (es : Entries) → IsGap profile place gap → AreEntries profile place es
     → EachTo (IsRow profile place path k es) (take_out path k gap es)
 valid_row profile place path k gap none hg h = tt
-valid_row profile place path k gap (entry name body inside after None none) hg h =
-    row_when (IsRow profile place path k (entry name body inside after None none)) (same_path (step k name) path) (taken_only gap name body inside after)
+valid_row profile place path k gap (entry name body nested after None none) hg h =
+    row_when (IsRow profile place path k (entry name body nested after None none)) (same_path (step k name) path) (taken_only gap name body nested after)
     (λ e. record { gap = gap_joined profile place gap after hg h.3; entries = tt; comma = λ e'. absurd cc })
-valid_row profile place path k gap (entry name body inside after None (entry name' body' inside' after' comma' rest')) hg h = tt
-valid_row profile place path k gap (entry name body inside after (Some behind) none) hg h =
-    row_when (IsRow profile place path k (entry name body inside after (Some behind) none)) (same_path (step k name) path) (taken_first gap name body inside after behind none)
+valid_row profile place path k gap (entry name body nested after None (entry name' body' nested' after' comma' rest')) hg h = tt
+valid_row profile place path k gap (entry name body nested after (Some behind) none) hg h =
+    row_when (IsRow profile place path k (entry name body nested after (Some behind) none)) (same_path (step k name) path) (taken_first gap name body nested after behind none)
     (λ e. let g = first_gap profile place gap after behind hg h.3 h.4.0 in record { gap = g; entries = tt; comma = λ e'. (g, h.4.1) })
-valid_row profile place path k gap (entry name body inside after (Some behind) (entry name' body' inside' after' comma' rest')) hg h =
-    row_two profile place path k gap name body inside after behind name' body' inside' after' comma' rest'
-    (take_out path (k + 1) behind (entry name' body' inside' after' comma' rest')) hg h
-    (same_path (step k name) path) (is_last_named path (k + 1) (entry name' body' inside' after' comma' rest')) refl
-    (valid_row profile place path (k + 1) behind (entry name' body' inside' after' comma' rest') h.4 h.5)
+valid_row profile place path k gap (entry name body nested after (Some behind) (entry name' body' nested' after' comma' rest')) hg h =
+    row_two profile place path k gap name body nested after behind name' body' nested' after' comma' rest'
+    (take_out path (k + 1) behind (entry name' body' nested' after' comma' rest')) hg h
+    (same_path (step k name) path) (is_last_named path (k + 1) (entry name' body' nested' after' comma' rest')) refl
+    (valid_row profile place path (k + 1) behind (entry name' body' nested' after' comma' rest') h.4 h.5)
 
 pub valid_removal : (profile : Profile) → IsActValid profile removal
-valid_removal profile path v valid = by v.body v.inside valid
+valid_removal profile path v valid = by v.body v.nested valid
   where
-    by : (body : Body) (inside : Entries) → IsValue profile (record { body = body; inside = inside }) → EachTo (IsValue profile) (removal path (record { body = body; inside = inside }))
-    by (scalar w) inside valid = tt
-    by (array first) inside valid =
-        to_within (IsRow profile in_array path 0 inside) (IsValue profile) (λ r. record { body = array r.gap; inside = r.entries }) (codes "[") (codes "]")
-        (take_out path 0 first inside) (λ r h. record { body = h.gap; inside = h.entries }) (valid_row profile in_array path 0 first inside valid.body valid.inside)
-    by (inline first) inside valid =
-        to_within (IsRow profile in_inline path 0 inside) (IsValue profile) (λ r. record { body = inline r.gap; inside = r.entries }) (codes "{") (codes "}")
-        (take_out path 0 first inside) (λ r h. record { body = h.gap; inside = h.entries }) (valid_row profile in_inline path 0 first inside valid.body valid.inside)
+    by : (body : Body) (nested : Entries) → IsValue profile (record { body = body; nested = nested }) → EachTo (IsValue profile) (removal path (record { body = body; nested = nested }))
+    by (scalar w) nested valid = tt
+    by (array first) nested valid =
+        to_within (IsRow profile in_array path 0 nested) (IsValue profile) (λ r. record { body = array r.gap; nested = r.entries }) (codes "[") (codes "]")
+        (take_out path 0 first nested) (λ r h. record { body = h.gap; nested = h.entries }) (valid_row profile in_array path 0 first nested valid.body valid.nested)
+    by (inline first) nested valid =
+        to_within (IsRow profile in_inline path 0 nested) (IsValue profile) (λ r. record { body = inline r.gap; nested = r.entries }) (codes "{") (codes "}")
+        (take_out path 0 first nested) (λ r h. record { body = h.gap; nested = h.entries }) (valid_row profile in_inline path 0 first nested valid.body valid.nested)
 
 -- ---- lines
 
@@ -240,15 +240,15 @@ valid_clear profile path r l h = by l.comment h.comment
 valid_empty : (profile : Profile) → IsLine profile empty_line
 valid_empty profile = record { before = tt; content = tt; after = refl; comment = tt }
 
-valid_front : (profile : Profile) (n : ℕ) (es : List Ended) (last : Line) → AllByRecursion (IsEnded profile) es → IsLine profile last → IsPage profile (drop_front n es last).to
-valid_front profile zero [] last he hl = record { ended = tt; last = hl }
-valid_front profile (suc m) [] last he hl = record { ended = tt; last = valid_empty profile }
-valid_front profile zero (e ∷ es) last he hl = record { ended = he; last = hl }
-valid_front profile (suc m) (e ∷ es) last he hl = valid_front profile m es last he.1 hl
+valid_prefix : (profile : Profile) (n : ℕ) (es : List Ended) (last : Line) → AllByRecursion (IsEnded profile) es → IsLine profile last → IsPage profile (drop_prefix n es last).to
+valid_prefix profile zero [] last he hl = record { ended = tt; last = hl }
+valid_prefix profile (suc m) [] last he hl = record { ended = tt; last = valid_empty profile }
+valid_prefix profile zero (e ∷ es) last he hl = record { ended = he; last = hl }
+valid_prefix profile (suc m) (e ∷ es) last he hl = valid_prefix profile m es last he.1 hl
 
 valid_dropped : (profile : Profile) (i n : ℕ) (es : List Ended) (last : Line) → AllByRecursion (IsEnded profile) es → IsLine profile last → IsPage profile (drop_lines i n es last).to
-valid_dropped profile i n [] last he hl = valid_front profile n [] last he hl
-valid_dropped profile zero n (e ∷ es) last he hl = valid_front profile n (e ∷ es) last he hl
+valid_dropped profile i n [] last he hl = valid_prefix profile n [] last he hl
+valid_dropped profile zero n (e ∷ es) last he hl = valid_prefix profile n (e ∷ es) last he hl
 valid_dropped profile (suc i) n (e ∷ es) last he hl = let h = valid_dropped profile i n es last he.1 hl in record { ended = (he.0, h.ended); last = h.last }
 
 without_valid : (profile : Profile) (s : Document) → IsDocument profile s → (n : ℕ → ℕ) (o : Option ℕ) → EachTo (IsDocument profile) (elim o [ None ↦ None | Some i ↦ without_lines s i (n i) ])

@@ -5,9 +5,9 @@ use Rattle.keep_syntax.specs.Tree.{Document}
 use Rattle.keep_syntax.specs.Grammar.{IsDocument}
 use Rattle.keep_path.specs.Path.{Part}
 use Rattle.keep_meaning.specs.Rules.{ObeysRules}
-use Rattle.keep_meaning.specs.Marks.{Saying, through, past, define, dotted, value, begun, passed, item, Mention, start, marks}
+use Rattle.keep_meaning.specs.Marks.{MentionKind, through, past, define, dotted, value, begun, passed, item, Mention, start, marks}
 use Rattle.keep_meaning.specs.Marks as marks_of
-use Rattle.keep_meaning.specs.Meaning.{lines, said_in}
+use Rattle.keep_meaning.specs.Meaning.{lines, mentions_in}
 use Rattle.keep_meaning.specs.Nodes.{is_root, is_node, has, is_define, is_through, is_begun, is_passed}
 use Rattle.keep_law.specs.declared.fault.EditFault.TheVariants as fault
 use Rattle.keep_law.specs.Changed.{Changed}
@@ -19,7 +19,7 @@ use Rattle.keep_law.proofs.Common.SetLaw.{IsAloneAt}
 use Rattle.keep_law.proofs.Common.SetWhole.{IsSetWhole, EachChange}
 use Rattle.keep_law.proofs.Common.Marks.{rules_of_document}
 use Rattle.keep_law.proofs.Common.ValueThere.{IsSome, the_some, alone_of_has}
-use Rattle.keep_law.proofs.Common.BodyEnd.{end_is, told_has}
+use Rattle.keep_law.proofs.Common.BodyEnd.{end_is, stated_has}
 use Rattle.keep_law.proofs.Common.Doubles.{has_some}
 use Rattle.keep_law.proofs.Remove.RemoveLaw.{remove_key_is_right, remove_value_is_right}
 use Rattle.keep_law.proofs.Remove.RemoveRefusal.{IsShared, no_both}
@@ -28,7 +28,7 @@ use Rattle.keep_law.proofs.Common.TableThere.{defined_ends, some_of_table}
 
 -- ---- a defined table has no value
 
-define_solid : (a : Saying) → is_define a ≡ true → solid a ≡ true
+define_solid : (a : MentionKind) → is_define a ≡ true → solid a ≡ true
 define_solid define h = refl
 define_solid through h = absurd cc
 define_solid past h = absurd cc
@@ -39,7 +39,7 @@ define_solid begun h = absurd cc
 define_solid passed h = absurd cc
 define_solid (item f) h = absurd cc
 
-define_many : (a : Saying) → is_define a ≡ true → exclusive a ≡ true → ⊥
+define_many : (a : MentionKind) → is_define a ≡ true → exclusive a ≡ true → ⊥
 define_many define h g = absurd cc
 define_many through h g = absurd cc
 define_many past h g = absurd cc
@@ -59,10 +59,10 @@ pub record IsRemovable (path : List Part) (ms : List Mention) : Type 0 where
   pub below_root : is_root path ≡ false
   pub piece : is_one_piece path ms ≡ true
 
-pub removable : (profile : Profile) (limit : ℕ) (s : Document) (path : List Part) → refusal profile limit s (remove path) ≡ None → IsRemovable path (said_in s)
-removable profile limit s path h = by (is_node path (said_in s)) (is_root path) (is_one_piece path (said_in s)) refl refl h
+pub removable : (profile : Profile) (limit : ℕ) (s : Document) (path : List Part) → refusal profile limit s (remove path) ≡ None → IsRemovable path (mentions_in s)
+removable profile limit s path h = by (is_node path (mentions_in s)) (is_root path) (is_one_piece path (mentions_in s)) refl refl h
   where
-    by : (a b c : Bool) → is_root path ≡ b → is_one_piece path (said_in s) ≡ c → first_that_holds ((not a, fault.NotFound) ∷ (b, fault.NotKey) ∷ (not c, fault.Scattered) ∷ []) ≡ None → IsRemovable path (said_in s)
+    by : (a b c : Bool) → is_root path ≡ b → is_one_piece path (mentions_in s) ≡ c → first_that_holds ((not a, fault.NotFound) ∷ (b, fault.NotKey) ∷ (not c, fault.Scattered) ∷ []) ≡ None → IsRemovable path (mentions_in s)
     by false b c eb ec h = absurd cc
     by true true c eb ec h = absurd cc
     by true false false eb ec h = absurd cc
@@ -76,13 +76,13 @@ two_pieces false true true true q h e = absurd cc
 two_pieces false false t false q h e = absurd cc
 two_pieces false false t true q h e = absurd cc
 
--- ---- no header begins a body where a value stands
+-- ---- no header begins a body where a value is
 
 other : (d b : Bool) → (d || b) ≡ true → b ≡ false → d ≡ true
 other true b h e = refl
 other false b h e = absurd cc
 
-no_body : (s : Document) (path : List Part) → is_root path ≡ false → Rules (said_in s) → SomeOf (IsAloneAt path) (said_in s) → has is_begun path (said_in s) ≡ false → last_line (begins path) start (lines s) ≡ None
+no_body : (s : Document) (path : List Part) → is_root path ≡ false → Rules (mentions_in s) → SomeOf (IsAloneAt path) (mentions_in s) → has is_begun path (mentions_in s) ≡ false → last_line (begins path) start (lines s) ≡ None
 no_body s [] below rules alone plain = absurd cc
 no_body s (p ∷ ps) below rules alone plain = by (last_line (begins (p ∷ ps)) start (lines s)) refl
   where
@@ -90,11 +90,11 @@ no_body s (p ∷ ps) below rules alone plain = by (last_line (begins (p ∷ ps))
     by None e = e
     by (Some i) e =
         let here : end_of s (p ∷ ps) ≡ Some (body_end i (lines s)) = ap (λ (o : Option ℕ). elim o [ None ↦ None | Some i ↦ Some (body_end i (lines s)) ]) e in
-        elim (end_is s (p ∷ ps) (body_end i (lines s)) here).told [
+        elim (end_is s (p ∷ ps) (body_end i (lines s)) here).stated [
           | inl root ↦ absurd cc
-          | inr told ↦
-              (let defined : has is_define (p ∷ ps) (said_in s) ≡ true = other (has is_define (p ∷ ps) (said_in s)) (has is_begun (p ∷ ps) (said_in s)) (told_has (p ∷ ps) (said_in s) told) plain in
-              absurd (no_both is_define shared_define (p ∷ ps) (said_in s) (has_some is_define (p ∷ ps) (said_in s) defined) alone rules))
+          | inr stated ↦
+              (let defined : has is_define (p ∷ ps) (mentions_in s) ≡ true = other (has is_define (p ∷ ps) (mentions_in s)) (has is_begun (p ∷ ps) (mentions_in s)) (stated_has (p ∷ ps) (mentions_in s) stated) plain in
+              absurd (no_both is_define shared_define (p ∷ ps) (mentions_in s) (has_some is_define (p ∷ ps) (mentions_in s) defined) alone rules))
         ]
 
 -- ---- the change
@@ -109,10 +109,10 @@ whole_of profile s path there right =
     let (c, is) = the_some (change s (remove path)) there in
     record { changed = c; is = is; whole = subst (EachChange (IsSetWhole profile s (remove path))) is right }
 
-pub remove_whole : (profile : Profile) (limit : ℕ) (s : Document) (path : List Part) → IsDocument profile s → ObeysRules (marks (said_in s)) → has is_begun path (said_in s) ≡ false
+pub remove_whole : (profile : Profile) (limit : ℕ) (s : Document) (path : List Part) → IsDocument profile s → ObeysRules (marks (mentions_in s)) → has is_begun path (mentions_in s) ≡ false
     → refusal profile limit s (remove path) ≡ None → IsRemovedWhole profile s path
 remove_whole profile limit s path valid obeys plain allowed =
-    let ms : List Mention = said_in s in
+    let ms : List Mention = mentions_in s in
     let rules : Rules ms = rules_of_document s obeys in
     let h = removable profile limit s path allowed in
     elim (two_pieces (has_value path ms) (has is_define path ms) (has is_through path ms) (has is_begun path ms) (has is_passed path ms) h.piece plain) [

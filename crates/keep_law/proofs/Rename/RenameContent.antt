@@ -6,47 +6,47 @@ use Rattle.keep_token.specs.declared.leaf.Profile.{Profile}
 use Rattle.keep_syntax.specs.Tree.{Gap, Key, Content, blank, keyval, header, element, content_depth, text_of}
 use Rattle.keep_syntax.specs.Grammar.{IsContent, IsAfter}
 use Rattle.keep_path.specs.Path.{Part, key, index, same_path}
-use Rattle.keep_meaning.specs.Marks.{Saying, define, element as says_element, begun, value, Mention, below, Reading, elements_of, header_path, header_way, statement_mentions, next_reading}
-use Rattle.keep_meaning.specs.Meaning.{keys_of, body_fact, entries_said, keyval_said, statement_of}
+use Rattle.keep_meaning.specs.Marks.{MentionKind, define, element as kinds_element, begun, value, Mention, below, Reading, elements_of, header_path, header_way, statement_mentions, next_reading}
+use Rattle.keep_meaning.specs.Meaning.{keys_of, body_fact, entries_mentions, keyval_mentions, statement_of}
 use Rattle.keep_law.specs.Look.{strip}
 use Rattle.keep_law.specs.Values.{rename_part, rename_name, text_of_value}
 use Rattle.keep_law.specs.Lines.{plain_line, part_paths, rename_content}
 use Rattle.keep_law.specs.Edits.{key_part}
-use Rattle.keep_law.proofs.Common.Runs.{AllOf, SomeOf, all_left, all_right, some_left, some_right, IsApart, none_or_some}
+use Rattle.keep_law.proofs.Common.Runs.{AllOf, SomeOf, all_left, all_right, some_left, some_right, IsDisjoint, none_or_some}
 use Rattle.keep_law.proofs.Common.SetLaw.{IsSolidAt, EachTo, to_within}
 use Rattle.keep_law.proofs.Common.SetDocument.{from_closed}
 use Rattle.keep_law.proofs.Common.LineLaws.{EndsInKey, line_closed}
 use Rattle.keep_law.proofs.Common.Moves.{moved}
 use Rattle.keep_law.proofs.Common.NewLines.{IsKeyText}
-use Rattle.keep_law.proofs.Rename.RenamedPath.{IsBeside, ends_old, renamed_path, apart_renamed, renamed_index, short_apart, moved_apart, moved_under}
-use Rattle.keep_law.proofs.Rename.RenamedKeys.{AreClear, AreRenamed, elements_renamed, header_renamed, keys_kept}
+use Rattle.keep_law.proofs.Rename.RenamedPath.{IsBeside, ends_old, renamed_path, disjoint_renamed, renamed_index, short_disjoint, moved_disjoint, moved_under}
+use Rattle.keep_law.proofs.Rename.RenamedKeys.{AreClear, AreRenamed, elements_renamed, header_renamed, keys_preserved}
 use Rattle.keep_law.proofs.Rename.RenamedParts.{keys_renamed, part_solid, keyed_solid, part_reaches, keyed_renamed, header_position, keyval_position}
 use Rattle.keep_law.proofs.Rename.RenameKey.{IsKeyRenamed, IsNameRenamed, key_renamed, name_renamed}
 
--- what a line with this content says, and how the reading stands behind it
-abbrev pub content_said : Reading → Content → List Mention
-content_said r c = elim (statement_of c) [ None ↦ [] | Some s ↦ statement_mentions r s ]
+-- what a line with this content says, and how the reading is after it
+abbrev pub content_mentions : Reading → Content → List Mention
+content_mentions r c = elim (statement_of c) [ None ↦ [] | Some s ↦ statement_mentions r s ]
 
-abbrev pub content_behind : Reading → Content → Reading
-content_behind r c = elim (statement_of c) [ None ↦ r | Some s ↦ next_reading r s ]
+abbrev pub content_after : Reading → Content → Reading
+content_after r c = elim (statement_of c) [ None ↦ r | Some s ↦ next_reading r s ]
 
 abbrev pub moved_reading : (List Part → List Part) → Reading → Reading
 moved_reading f r = record { tables = map f r.tables; body = f r.body }
 
 pub record IsContentMoved (p b : List Part) (r : Reading) (c c' : Content) : Type 0 where
-  pub said : content_said (moved_reading (renamed_path p b) r) c' ≡ map (moved (renamed_path p b)) (content_said r c)
-  pub behind : content_behind (moved_reading (renamed_path p b) r) c' ≡ moved_reading (renamed_path p b) (content_behind r c)
+  pub mentioned : content_mentions (moved_reading (renamed_path p b) r) c' ≡ map (moved (renamed_path p b)) (content_mentions r c)
+  pub behind : content_after (moved_reading (renamed_path p b) r) c' ≡ moved_reading (renamed_path p b) (content_after r c)
 
 -- ---- a header
 
 pub root_renamed : (p b : List Part) → EndsInKey p → renamed_path p b [] ≡ []
-root_renamed p b ends = apart_renamed p b [] (short_apart p [] (omega (arith, ap length ends.2, length-append ends.0 (key ends.1 ∷ []))))
+root_renamed p b ends = disjoint_renamed p b [] (short_disjoint p [] (omega (arith, ap length ends.2, length-append ends.0 (key ends.1 ∷ []))))
 
 record IsWayMoved (p b : List Part) (tables : List (List Part)) (keys keys' : List (List ℕ)) : Type 0 where
   path : header_path (map (renamed_path p b) tables) [] keys' ≡ renamed_path p b (header_path tables [] keys)
   way : header_way (map (renamed_path p b) tables) [] keys' ≡ map (moved (renamed_path p b)) (header_way tables [] keys)
 
-way_moved : (p b : List Part) (tables : List (List Part)) (keys keys' : List (List ℕ)) → EndsInKey p → AreClear b tables → AllOf (IsApart b) (header_way tables [] keys)
+way_moved : (p b : List Part) (tables : List (List Part)) (keys keys' : List (List ℕ)) → EndsInKey p → AreClear b tables → AllOf (IsDisjoint b) (header_way tables [] keys)
     → AreRenamed p b tables [] keys keys' → IsWayMoved p b tables keys keys'
 way_moved p b tables keys keys' ends clear way h =
     let f : List Part → List Part = renamed_path p b in
@@ -57,36 +57,36 @@ way_moved p b tables keys keys' ends clear way h =
       way = ap (λ x. header_way (map f tables) x keys') root ∙ m.way;
     }
 
-header_moved : (p b : List Part) (r : Reading) (x y : Gap) (k k' : Key) → EndsInKey p → AreClear b r.tables → AllOf (IsApart b) (content_said r (header x k y))
+header_moved : (p b : List Part) (r : Reading) (x y : Gap) (k k' : Key) → EndsInKey p → AreClear b r.tables → AllOf (IsDisjoint b) (content_mentions r (header x k y))
     → AreRenamed p b r.tables [] (keys_of k) (keys_of k') → IsContentMoved p b r (header x k y) (header x k' y)
-header_moved p b r x y k k' ends clear apart h =
+header_moved p b r x y k k' ends clear disjoint h =
     let f : List Part → List Part = renamed_path p b in
     let path : List Part = header_path r.tables [] (keys_of k) in
     let way : List Mention = header_way r.tables [] (keys_of k) in
-    let m = way_moved p b r.tables (keys_of k) (keys_of k') ends clear (all_left (IsApart b) way (record { path = path; says = define } ∷ []) apart) h in
+    let m = way_moved p b r.tables (keys_of k) (keys_of k') ends clear (all_left (IsDisjoint b) way (record { path = path; kind = define } ∷ []) disjoint) h in
     record {
-      said = ap (λ (q : List Part). header_way (map f r.tables) [] (keys_of k') ++ record { path = q; says = define } ∷ []) m.path
-          ∙ ap (λ (l : List Mention). l ++ record { path = f path; says = define } ∷ []) m.way
-          ∙ sym (map-append (moved f) way (record { path = path; says = define } ∷ []));
+      mentioned = ap (λ (q : List Part). header_way (map f r.tables) [] (keys_of k') ++ record { path = q; kind = define } ∷ []) m.path
+          ∙ ap (λ (l : List Mention). l ++ record { path = f path; kind = define } ∷ []) m.way
+          ∙ sym (map-append (moved f) way (record { path = path; kind = define } ∷ []));
       behind = ap (λ (q : List Part). record { tables = map f r.tables; body = q }) m.path;
     }
 
-element_moved : (p b : List Part) (r : Reading) (x y : Gap) (k k' : Key) → EndsInKey p → AreClear b r.tables → AllOf (IsApart b) (content_said r (element x k y))
+element_moved : (p b : List Part) (r : Reading) (x y : Gap) (k k' : Key) → EndsInKey p → AreClear b r.tables → AllOf (IsDisjoint b) (content_mentions r (element x k y))
     → AreRenamed p b r.tables [] (keys_of k) (keys_of k') → IsContentMoved p b r (element x k y) (element x k' y)
-element_moved p b r x y k k' ends clear apart h =
+element_moved p b r x y k k' ends clear disjoint h =
     let f : List Part → List Part = renamed_path p b in
     let path : List Part = header_path r.tables [] (keys_of k) in
     let path' : List Part = header_path (map f r.tables) [] (keys_of k') in
     let n : ℕ = elements_of path r.tables in
     let way : List Mention = header_way r.tables [] (keys_of k) in
-    let end : List Mention = record { path = path; says = says_element } ∷ record { path = path ++ index n ∷ []; says = begun } ∷ [] in
-    let m = way_moved p b r.tables (keys_of k) (keys_of k') ends clear (all_left (IsApart b) way end apart) h in
-    let number : elements_of path' (map f r.tables) ≡ n = ap (λ q. elements_of q (map f r.tables)) m.path ∙ elements_renamed p b r.tables path clear (all_right (IsApart b) way end apart).0 in
+    let end : List Mention = record { path = path; kind = kinds_element } ∷ record { path = path ++ index n ∷ []; kind = begun } ∷ [] in
+    let m = way_moved p b r.tables (keys_of k) (keys_of k') ends clear (all_left (IsDisjoint b) way end disjoint) h in
+    let number : elements_of path' (map f r.tables) ≡ n = ap (λ q. elements_of q (map f r.tables)) m.path ∙ elements_renamed p b r.tables path clear (all_right (IsDisjoint b) way end disjoint).0 in
     let begins : path' ++ index (elements_of path' (map f r.tables)) ∷ [] ≡ f (path ++ index n ∷ []) =
     ap (λ i. path' ++ index i ∷ []) number ∙ ap (λ q. q ++ index n ∷ []) m.path ∙ sym (renamed_index p b path n ends) in
     record {
-      said = ap (λ (q : List Part). header_way (map f r.tables) [] (keys_of k') ++ record { path = path'; says = says_element } ∷ record { path = q; says = begun } ∷ []) begins
-          ∙ ap (λ (q : List Part). header_way (map f r.tables) [] (keys_of k') ++ record { path = q; says = says_element } ∷ record { path = f (path ++ index n ∷ []); says = begun } ∷ []) m.path
+      mentioned = ap (λ (q : List Part). header_way (map f r.tables) [] (keys_of k') ++ record { path = path'; kind = kinds_element } ∷ record { path = q; kind = begun } ∷ []) begins
+          ∙ ap (λ (q : List Part). header_way (map f r.tables) [] (keys_of k') ++ record { path = q; kind = kinds_element } ∷ record { path = f (path ++ index n ∷ []); kind = begun } ∷ []) m.path
           ∙ ap (λ (l : List Mention). l ++ map (moved f) end) m.way
           ∙ sym (map-append (moved f) way end);
       behind = ap (λ (q : List Part). record { tables = map f r.tables ++ path' ∷ []; body = q }) begins
@@ -96,38 +96,38 @@ element_moved p b r x y k k' ends clear apart h =
 
 -- ---- lines that stay
 
-header_never : (p : List Part) (tables : List (List Part)) (keys : List (List ℕ)) (says : Saying) (more : List Mention) → (SomeOf (IsSolidAt p) (record { path = p; says = says } ∷ []))
-    → (SomeOf (IsSolidAt p) (header_way tables [] keys ++ record { path = header_path tables [] keys; says = says } ∷ more) → ⊥) → header_path tables [] keys ≡ p → ⊥
-header_never p tables keys says more self never e =
-    never (some_right (IsSolidAt p) (header_way tables [] keys) (record { path = header_path tables [] keys; says = says } ∷ more)
-    (subst (λ (q : List Part). SomeOf (IsSolidAt p) (record { path = q; says = says } ∷ more)) (sym e) (some_left (IsSolidAt p) (record { path = p; says = says } ∷ []) more self)))
+header_never : (p : List Part) (tables : List (List Part)) (keys : List (List ℕ)) (mention_kind : MentionKind) (more : List Mention) → (SomeOf (IsSolidAt p) (record { path = p; kind = mention_kind } ∷ []))
+    → (SomeOf (IsSolidAt p) (header_way tables [] keys ++ record { path = header_path tables [] keys; kind = mention_kind } ∷ more) → ⊥) → header_path tables [] keys ≡ p → ⊥
+header_never p tables keys mention_kind more self never e =
+    never (some_right (IsSolidAt p) (header_way tables [] keys) (record { path = header_path tables [] keys; kind = mention_kind } ∷ more)
+    (subst (λ (q : List Part). SomeOf (IsSolidAt p) (record { path = q; kind = mention_kind } ∷ more)) (sym e) (some_left (IsSolidAt p) (record { path = p; kind = mention_kind } ∷ []) more self)))
 
-pub content_kept : (p b : List Part) (r : Reading) → EndsInKey p → AreClear b r.tables → (c : Content) → AllOf (IsApart b) (content_said r c) → (SomeOf (IsSolidAt p) (content_said r c) → ⊥)
+pub content_preserved : (p b : List Part) (r : Reading) → EndsInKey p → AreClear b r.tables → (c : Content) → AllOf (IsDisjoint b) (content_mentions r c) → (SomeOf (IsSolidAt p) (content_mentions r c) → ⊥)
     → IsContentMoved p b r c c
-content_kept p b r ends clear blank apart never = record { said = refl; behind = refl }
-content_kept p b r ends clear (keyval name v) apart never = record { said = by (none_or_some (strip p r.body)); behind = refl }
+content_preserved p b r ends clear blank disjoint never = record { mentioned = refl; behind = refl }
+content_preserved p b r ends clear (keyval name v) disjoint never = record { mentioned = by (none_or_some (strip p r.body)); behind = refl }
   where
     by : (strip p r.body ≡ None) ⊎ ((u : List Part) × (strip p r.body ≡ Some u))
-        → map (below (renamed_path p b r.body)) (keyval_said name v) ≡ map (moved (renamed_path p b)) (map (below r.body) (keyval_said name v))
-    by (inr u) = sym (moved_under p b r.body (keyval_said name v) u)
+        → map (below (renamed_path p b r.body)) (keyval_mentions name v) ≡ map (moved (renamed_path p b)) (map (below r.body) (keyval_mentions name v))
+    by (inr u) = sym (moved_under p b r.body (keyval_mentions name v) u)
     by (inl e) =
-        let ms : List Mention = map (below r.body) (keyval_said name v) in
-        ap (λ q. map (below q) (keyval_said name v)) (apart_renamed p b r.body e)
-        ∙ sym (moved_apart p b ms (from_closed p r.body ms (line_closed p r (plain_line (keyval name v)) ends).each (λ u. absurd (let k : None ≡ Some u.0 = sym e ∙ u.1 in cc)) never))
-content_kept p b r ends clear (header x k y) apart never =
-    header_moved p b r x y k k ends clear apart
-    (keys_kept p b r.tables [] (keys_of k) (λ s. never (some_left (IsSolidAt p) (header_way r.tables [] (keys_of k)) _ s))
-    (header_never p r.tables (keys_of k) define [] (inl (record { path = refl; says = refl })) never))
-content_kept p b r ends clear (element x k y) apart never =
-    element_moved p b r x y k k ends clear apart
-    (keys_kept p b r.tables [] (keys_of k) (λ s. never (some_left (IsSolidAt p) (header_way r.tables [] (keys_of k)) _ s))
-    (header_never p r.tables (keys_of k) says_element _ (inl (record { path = refl; says = refl })) never))
+        let ms : List Mention = map (below r.body) (keyval_mentions name v) in
+        ap (λ q. map (below q) (keyval_mentions name v)) (disjoint_renamed p b r.body e)
+        ∙ sym (moved_disjoint p b ms (from_closed p r.body ms (line_closed p r (plain_line (keyval name v)) ends).each (λ u. absurd (let k : None ≡ Some u.0 = sym e ∙ u.1 in cc)) never))
+content_preserved p b r ends clear (header x k y) disjoint never =
+    header_moved p b r x y k k ends clear disjoint
+    (keys_preserved p b r.tables [] (keys_of k) (λ s. never (some_left (IsSolidAt p) (header_way r.tables [] (keys_of k)) _ s))
+    (header_never p r.tables (keys_of k) define [] (inl (record { path = refl; kind = refl })) never))
+content_preserved p b r ends clear (element x k y) disjoint never =
+    element_moved p b r x y k k ends clear disjoint
+    (keys_preserved p b r.tables [] (keys_of k) (λ s. never (some_left (IsSolidAt p) (header_way r.tables [] (keys_of k)) _ s))
+    (header_never p r.tables (keys_of k) kinds_element _ (inl (record { path = refl; kind = refl })) never))
 
 -- ---- the line that is renamed
 
 pub record IsContentRenamed (profile : Profile) (p b : List Part) (r : Reading) (c c' : Content) : Type 0 where
-  pub some : SomeOf (IsSolidAt p) (content_said r c)
-  pub moves : AreClear b r.tables → AllOf (IsApart b) (content_said r c) → IsContentMoved p b r c c'
+  pub some : SomeOf (IsSolidAt p) (content_mentions r c)
+  pub moves : AreClear b r.tables → AllOf (IsDisjoint b) (content_mentions r c) → IsContentMoved p b r c c'
   pub valid : IsContent profile c → IsContent profile c'
   pub after : (g : Gap) → IsAfter c g → IsAfter c' g
   pub deep : content_depth c' ≡ content_depth c
@@ -140,9 +140,9 @@ content_renamed profile t p b r text beside n (keyval name v) e =
     let reach = part_reaches p r.body n (keys_of name.key) part in
     to_within (IsNameRenamed profile t n name) (IsContentRenamed profile p b r (keyval name v)) (λ nm. keyval nm v) [] (text_of_value v) (rename_name (key_part t) n name)
     (λ nm h. record {
-      some = keyed_solid p r.body n (keys_of name.key) (value (body_fact v.body)) (entries_said 0 v.inside) refl part;
-      moves = λ clear apart. record {
-        said = sym (keyed_renamed p b r.body (keys_of name.key) (keys_of nm.key) _
+      some = keyed_solid p r.body n (keys_of name.key) (value (body_fact v.body)) (entries_mentions 0 v.nested) refl part;
+      moves = λ clear disjoint. record {
+        mentioned = sym (keyed_renamed p b r.body (keys_of name.key) (keys_of nm.key) _
             (subst (AreRenamed p b [] r.body (keys_of name.key)) (sym h.keys) (keys_renamed t p b [] r.body n (keys_of name.key) beside part)) reach);
         behind = refl;
       };
@@ -155,7 +155,7 @@ content_renamed profile t p b r text beside n (header x k y) e =
     to_within (IsKeyRenamed profile t n k) (IsContentRenamed profile p b r (header x k y)) (λ k. header x k y) (codes "[" ++ text_of x) (text_of y ++ codes "]") (rename_part (key_part t) n k)
     (λ k' h. record {
       some = part_solid p r.tables [] n (keys_of k) define refl part;
-      moves = λ clear apart. header_moved p b r x y k k' (ends_old t p b beside) clear apart
+      moves = λ clear disjoint. header_moved p b r x y k k' (ends_old t p b beside) clear disjoint
           (subst (AreRenamed p b r.tables [] (keys_of k)) (sym h.keys) (keys_renamed t p b r.tables [] n (keys_of k) beside part));
       valid = λ w. (w.0, h.valid w.1, w.2);
       after = λ g w. w;
@@ -167,8 +167,8 @@ content_renamed profile t p b r text beside n (element x k y) e =
     let path : List Part = header_path r.tables [] (keys_of k) in
     to_within (IsKeyRenamed profile t n k) (IsContentRenamed profile p b r (element x k y)) (λ k. element x k y) (codes "[[" ++ text_of x) (text_of y ++ codes "]]") (rename_part (key_part t) n k)
     (λ k' h. record {
-      some = longer way (record { path = path; says = says_element }) _ (part_solid p r.tables [] n (keys_of k) says_element refl part);
-      moves = λ clear apart. element_moved p b r x y k k' (ends_old t p b beside) clear apart
+      some = longer way (record { path = path; kind = kinds_element }) _ (part_solid p r.tables [] n (keys_of k) kinds_element refl part);
+      moves = λ clear disjoint. element_moved p b r x y k k' (ends_old t p b beside) clear disjoint
           (subst (AreRenamed p b r.tables [] (keys_of k)) (sym h.keys) (keys_renamed t p b r.tables [] n (keys_of k) beside part));
       valid = λ w. (w.0, h.valid w.1, w.2);
       after = λ g w. w;

@@ -8,56 +8,56 @@ use Rattle.keep_token.specs.declared.leaf.Profile.{Profile}
 use Rattle.keep_syntax.specs.Tree.{Written, Gap, Name, Body, Entries, none, entry, Value, Content, blank, keyval, header, element, Line, Ended, Document, name_leaves, comment_leaves, ended_leaves, bom_leaves, text_of}
 use Rattle.keep_syntax.specs.Grammar.{IsNamed, AreEntries, IsContent, IsLine, IsEnded, IsDocument, Place, place_in}
 use Rattle.keep_path.specs.Path.{Part, key, index, same_path}
-use Rattle.keep_meaning.specs.Marks.{Saying, through, past, passed, define, element as says_element, begun, value, Mention, Reading, start, elements_of, entered_path, passing_mentions, header_path, header_way}
-use Rattle.keep_meaning.specs.Meaning.{key_value, further_value, keys_of, body_fact, entry_mentions, entries_said, step, keyval_said, line_said, behind_line, lines_said, line_of, said_in}
+use Rattle.keep_meaning.specs.Marks.{MentionKind, through, past, passed, define, element as kinds_element, begun, value, Mention, Reading, start, elements_of, entered_path, passing_mentions, header_path, header_way}
+use Rattle.keep_meaning.specs.Meaning.{key_value, further_value, keys_of, body_fact, entry_mentions, entries_mentions, step, keyval_mentions, line_mentions, after_line, lines_mentions, line_of, mentions_in}
 use Rattle.keep_law.specs.Look.{strip}
 use Rattle.keep_law.specs.Changed.{Changed, within}
 use Rattle.keep_law.specs.Values.{in_value, rename_entry, renaming, rename_part, rename_name, text_of_value}
-use Rattle.keep_law.specs.Lines.{Page, page_text, with_page, key_fronts, part_paths, rename_content, rename_line, in_content, in_line, in_lines, in_document}
-use Rattle.keep_law.specs.Edits.{key_part, inside, change_rename}
+use Rattle.keep_law.specs.Lines.{Page, page_text, with_page, key_prefixes, part_paths, rename_content, rename_line, in_content, in_line, in_lines, in_document}
+use Rattle.keep_law.specs.Edits.{key_part, nested, change_rename}
 use Rattle.keep_law.proofs.Common.Runs.{SomeOf, pairs_split, Allowed, Rules, same_path-refl, strip-append}
 use Rattle.keep_law.proofs.Common.SetLaw.{IsSolidAt, rules_below, rules_named}
 use Rattle.keep_law.proofs.Common.LineLaws.{EndsInKey}
 use Rattle.keep_law.proofs.Common.ValueThere.{IsSome, some_within, some_first, some_second, some_cases}
-use Rattle.keep_law.proofs.Rename.RenamedParts.{IsPart, fronts_entered, fronts_beyond, header_position, keyval_position}
+use Rattle.keep_law.proofs.Rename.RenamedParts.{IsPart, prefixes_entered, prefixes_beyond, header_position, keyval_position}
 use Rattle.keep_law.proofs.Rename.RenameKey.{some_key, some_name}
-use Rattle.keep_law.proofs.Rename.RenameContent.{content_said}
+use Rattle.keep_law.proofs.Rename.RenameContent.{content_mentions}
 use Rattle.keep_law.proofs.Rename.RenameInValue.{ends_later}
-use Rattle.keep_law.proofs.Rename.RenameThere.{entries_root, SomePart, keyed_cases, IsKeyOf, entry_cases, entry_there, no_key_behind, IsThere, value_there, deeper_there, behind_there}
+use Rattle.keep_law.proofs.Rename.RenameThere.{entries_root, SomePart, keyed_cases, IsKeyOf, entry_cases, entry_there, no_key_after, IsThere, value_there, deeper_there, after_there}
 
 -- ---- in entries
 
-keyed_there : (new : Written) (q : Part) (qs : List Part) (name : Option Name) (body : Body) (inside : Entries) (after : Gap) (comma : Option Gap) (rest : Entries)
-    → IsKeyOf (q ∷ qs) name → IsSome (rename_entry new (q ∷ qs) (entry name body inside after comma rest))
-keyed_there new q qs None body inside after comma rest u = absurd u
-keyed_there new q qs (Some name) body inside after comma rest u = entry_there new q qs name body inside after comma rest (inl u)
+keyed_there : (new : Written) (q : Part) (qs : List Part) (name : Option Name) (body : Body) (nested : Entries) (after : Gap) (comma : Option Gap) (rest : Entries)
+    → IsKeyOf (q ∷ qs) name → IsSome (rename_entry new (q ∷ qs) (entry name body nested after comma rest))
+keyed_there new q qs None body nested after comma rest u = absurd u
+keyed_there new q qs (Some name) body nested after comma rest u = entry_there new q qs name body nested after comma rest (inl u)
 
-further_there : (profile : Profile) (place : Place) (new : Written) (q : Part) (qs : List Part) (name : Option Name) (body : Body) (inside : Entries) (after : Gap) (comma : Option Gap) (rest : Entries)
-    → IsNamed profile place name → AreEntries profile place rest → IsSome (rename_entry new (q ∷ qs) rest) → IsSome (rename_entry new (q ∷ qs) (entry name body inside after comma rest))
-further_there profile place new q qs None body inside after comma rest named valid s = absurd (no_key_behind profile place new (q ∷ qs) rest named valid s)
-further_there profile place new q qs (Some name) body inside after comma rest named valid s = entry_there new q qs name body inside after comma rest (inr s)
+further_there : (profile : Profile) (place : Place) (new : Written) (q : Part) (qs : List Part) (name : Option Name) (body : Body) (nested : Entries) (after : Gap) (comma : Option Gap) (rest : Entries)
+    → IsNamed profile place name → AreEntries profile place rest → IsSome (rename_entry new (q ∷ qs) rest) → IsSome (rename_entry new (q ∷ qs) (entry name body nested after comma rest))
+further_there profile place new q qs None body nested after comma rest named valid s = absurd (no_key_after profile place new (q ∷ qs) rest named valid s)
+further_there profile place new q qs (Some name) body nested after comma rest named valid s = entry_there new q qs name body nested after comma rest (inr s)
 
-filled_by : (es : Entries) (more : List Part) → SomeOf (IsSolidAt more) (entries_said 0 es) → more ≡ [] → ⊥
-filled_by es more s e = entries_root 0 es (subst (λ (q : List Part). SomeOf (IsSolidAt q) (entries_said 0 es)) e s)
+filled_by : (es : Entries) (more : List Part) → SomeOf (IsSolidAt more) (entries_mentions 0 es) → more ≡ [] → ⊥
+filled_by es more s e = entries_root 0 es (subst (λ (q : List Part). SomeOf (IsSolidAt q) (entries_mentions 0 es)) e s)
 
-entries_there : (profile : Profile) (new : Written) (place : Place) (p : List Part) → EndsInKey p → (n : ℕ) (es : Entries) → AreEntries profile place es → Rules (entries_said n es) → SomeOf (IsSolidAt p) (entries_said n es)
+entries_there : (profile : Profile) (new : Written) (place : Place) (p : List Part) → EndsInKey p → (n : ℕ) (es : Entries) → AreEntries profile place es → Rules (entries_mentions n es) → SomeOf (IsSolidAt p) (entries_mentions n es)
     → IsThere new p n es
 entries_there profile new place p ends n none valid rules s = absurd s
-entries_there profile new place [] ends n (entry name body inside after comma rest) valid rules s = absurd (entries_root n (entry name body inside after comma rest) s)
-entries_there profile new place (q ∷ qs) ends n (entry name body inside after comma rest) (hn, hb, hi, ha, hc, hr) rules s =
+entries_there profile new place [] ends n (entry name body nested after comma rest) valid rules s = absurd (entries_root n (entry name body nested after comma rest) s)
+entries_there profile new place (q ∷ qs) ends n (entry name body nested after comma rest) (hn, hb, hi, ha, hc, hr) rules s =
     let p : List Part = q ∷ qs in
-    let first : List Mention = entry_mentions n name (body_fact body) (entries_said 0 inside) in
-    let split = pairs_split Allowed first (entries_said (n + 1) rest) rules in
-    let inner : Rules (entries_said 0 inside) = rules_named n name (body_fact body) (entries_said 0 inside) split.left in
-    elim (some_cases (IsSolidAt p) first (entries_said (n + 1) rest) s) [
-      | inl a ↦ elim (entry_cases p ends n name (body_fact body) (entries_said 0 inside) a) [
-        | inl u ↦ inr (keyed_there new q qs name body inside after comma rest u)
-        | inr b ↦ inl (deeper_there new p n name body inside after comma rest b
-            (λ more t e. entries_there profile new (place_in body) more (ends_later (step n name) more p e ends (filled_by inside more t)) 0 inside hi inner t))
+    let first : List Mention = entry_mentions n name (body_fact body) (entries_mentions 0 nested) in
+    let split = pairs_split Allowed first (entries_mentions (n + 1) rest) rules in
+    let inner : Rules (entries_mentions 0 nested) = rules_named n name (body_fact body) (entries_mentions 0 nested) split.left in
+    elim (some_cases (IsSolidAt p) first (entries_mentions (n + 1) rest) s) [
+      | inl a ↦ elim (entry_cases p ends n name (body_fact body) (entries_mentions 0 nested) a) [
+        | inl u ↦ inr (keyed_there new q qs name body nested after comma rest u)
+        | inr b ↦ inl (deeper_there new p n name body nested after comma rest b
+            (λ more t e. entries_there profile new (place_in body) more (ends_later (step n name) more p e ends (filled_by nested more t)) 0 nested hi inner t))
       ]
       | inr b ↦ elim (entries_there profile new place (q ∷ qs) ends (n + 1) rest hr split.right b) [
-        | inl h ↦ inl (behind_there new p n name body inside after comma rest rules b h)
-        | inr h ↦ inr (further_there profile place new q qs name body inside after comma rest hn hr h)
+        | inl h ↦ inl (after_there new p n name body nested after comma rest rules b h)
+        | inr h ↦ inr (further_there profile place new q qs name body nested after comma rest hn hr h)
       ]
     ]
 
@@ -73,19 +73,19 @@ record IsAtNumber (p d : List Part) (n : ℕ) (xs : List (List Part)) : Type 0 w
   within : n < length xs
   is : get_or xs n d ≡ p
 
-header_number : (p d : List Part) (tables : List (List Part)) (at : List Part) (n : ℕ) (keys : List (List ℕ)) → IsPart p tables at n keys → IsAtNumber p d n (map (header_path tables at) (key_fronts keys))
+header_number : (p d : List Part) (tables : List (List Part)) (at : List Part) (n : ℕ) (keys : List (List ℕ)) → IsPart p tables at n keys → IsAtNumber p d n (map (header_path tables at) (key_prefixes keys))
 header_number p d tables at n [] h = absurd h
 header_number p d tables at zero (k ∷ ks) h = record { within = omega arith; is = h }
 header_number p d tables at (suc n) (k ∷ ks) h =
-    let w = fronts_entered tables at k ks in
+    let w = prefixes_entered tables at k ks in
     let ih = header_number p d tables (entered_path tables (at ++ key k ∷ [])) n ks h in
     record { within = omega (arith, ih.within, ap length w); is = ap (λ (x : List (List Part)). get_or x n d) w ∙ ih.is }
 
-keyval_number : (p d at : List Part) (n : ℕ) (keys : List (List ℕ)) → IsPart p [] at n keys → IsAtNumber p d n (map (λ front. at ++ map key front) (key_fronts keys))
+keyval_number : (p d at : List Part) (n : ℕ) (keys : List (List ℕ)) → IsPart p [] at n keys → IsAtNumber p d n (map (λ prefix. at ++ map key prefix) (key_prefixes keys))
 keyval_number p d at n [] h = absurd h
 keyval_number p d at zero (k ∷ ks) h = record { within = omega arith; is = h }
 keyval_number p d at (suc n) (k ∷ ks) h =
-    let w = fronts_beyond at k (key_fronts ks) in
+    let w = prefixes_beyond at k (key_prefixes ks) in
     let ih = keyval_number p d (at ++ key k ∷ []) n ks h in
     record { within = omega (arith, ih.within, ap length w); is = ap (λ (x : List (List Part)). get_or x n d) w ∙ ih.is }
 
@@ -97,24 +97,24 @@ numbered p n xs h = position_there (same_path p) xs n [] h.within (ap (same_path
 passing_at : (p : List Part) (tables : List (List Part)) (q : List Part) → SomeOf (IsSolidAt p) (passing_mentions tables q) → q ≡ p
 passing_at p tables q s = by (entered_path tables q) (0 == elements_of q tables) s
   where
-    by : (e : List Part) (c : Bool) → SomeOf (IsSolidAt p) (cond c (record { path = q; says = through } ∷ []) (record { path = q; says = past } ∷ record { path = e; says = passed } ∷ [])) → q ≡ p
+    by : (e : List Part) (c : Bool) → SomeOf (IsSolidAt p) (cond c (record { path = q; kind = through } ∷ []) (record { path = q; kind = past } ∷ record { path = e; kind = passed } ∷ [])) → q ≡ p
     by e true (inl h) = h.path
     by e true (inr h) = absurd h
     by e false (inl h) = h.path
-    by e false (inr (inl h)) = absurd (let x = h.says in cc)
+    by e false (inr (inl h)) = absurd (let x = h.kind in cc)
     by e false (inr (inr h)) = absurd h
 
-header_cases : (p : List Part) (tables : List (List Part)) (at : List Part) (k : List ℕ) (ks : List (List ℕ)) (says : Saying) (more : List Mention) → (SomeOf (IsSolidAt p) more → ⊥)
-    → SomeOf (IsSolidAt p) (header_way tables at (k ∷ ks) ++ record { path = header_path tables at (k ∷ ks); says = says } ∷ more) → SomePart p tables at (k ∷ ks)
-header_cases p tables at k [] says more never (inl h) = (zero, h.path)
-header_cases p tables at k [] says more never (inr s) = absurd (never s)
-header_cases p tables at k (l ∷ ks) says more never s =
+header_cases : (p : List Part) (tables : List (List Part)) (at : List Part) (k : List ℕ) (ks : List (List ℕ)) (mention_kind : MentionKind) (more : List Mention) → (SomeOf (IsSolidAt p) more → ⊥)
+    → SomeOf (IsSolidAt p) (header_way tables at (k ∷ ks) ++ record { path = header_path tables at (k ∷ ks); kind = mention_kind } ∷ more) → SomePart p tables at (k ∷ ks)
+header_cases p tables at k [] mention_kind more never (inl h) = (zero, h.path)
+header_cases p tables at k [] mention_kind more never (inr s) = absurd (never s)
+header_cases p tables at k (l ∷ ks) mention_kind more never s =
     let q : List Part = at ++ key k ∷ [] in
     let way : List Mention = header_way tables (entered_path tables q) (l ∷ ks) in
-    let end : List Mention = record { path = header_path tables (entered_path tables q) (l ∷ ks); says = says } ∷ more in
+    let end : List Mention = record { path = header_path tables (entered_path tables q) (l ∷ ks); kind = mention_kind } ∷ more in
     elim (some_cases (IsSolidAt p) (passing_mentions tables q) (way ++ end) (subst (SomeOf (IsSolidAt p)) (append_assoc (passing_mentions tables q) way end) s)) [
       | inl a ↦ (zero, passing_at p tables q a)
-      | inr b ↦ (let h = header_cases p tables (entered_path tables q) l ks says more never b in (suc h.0, h.1))
+      | inr b ↦ (let h = header_cases p tables (entered_path tables q) l ks mention_kind more never b in (suc h.0, h.1))
     ]
 
 -- ---- in a line
@@ -145,31 +145,31 @@ value_in_content new body p name v more whole h =
     subst (λ (o : Option (List Part)). IsSome {A = Changed Content} (elim o [ None ↦ None | Some more ↦ within (keyval name) (text_of (name_leaves name)) [] (in_value (renaming new) more v) ])) (sym e)
     (some_within (keyval name) (text_of (name_leaves name)) [] (in_value (renaming new) more v) h)
 
-content_cases : (profile : Profile) (new : Written) (p : List Part) → EndsInKey p → (r : Reading) (c : Content) → IsContent profile c → Rules (content_said r c) → SomeOf (IsSolidAt p) (content_said r c)
+content_cases : (profile : Profile) (new : Written) (p : List Part) → EndsInKey p → (r : Reading) (c : Content) → IsContent profile c → Rules (content_mentions r c) → SomeOf (IsSolidAt p) (content_mentions r c)
     → IsSome (position (same_path p) (part_paths r c)) ⊎ IsSome (in_content (renaming new) r.body p c)
 content_cases profile new p ends r blank valid rules s = absurd s
 content_cases profile new p ends r (keyval name v) valid rules s =
     let keys : List (List ℕ) = keys_of name.key in
-    elim (keyed_cases p r.body (key_value name.key.first) (map further_value name.key.more) (value (body_fact v.body)) (entries_said 0 v.inside) s) [
-      | inl part ↦ inl (numbered p part.0 (map (λ front. r.body ++ map key front) (key_fronts keys)) (keyval_number p [] r.body part.0 keys part.1))
+    elim (keyed_cases p r.body (key_value name.key.first) (map further_value name.key.more) (value (body_fact v.body)) (entries_mentions 0 v.nested) s) [
+      | inl part ↦ inl (numbered p part.0 (map (λ prefix. r.body ++ map key prefix) (key_prefixes keys)) (keyval_number p [] r.body part.0 keys part.1))
       | inr b ↦
-          (let inner : Rules (entries_said 0 v.inside) = rules_named 0 (Some name) (body_fact v.body) (entries_said 0 v.inside) (rules_below r.body (keyval_said name v) rules) in
-          let ends_rest : EndsInKey b.rest = ends_later (r.body ++ map key keys) b.rest p b.whole ends (filled_by v.inside b.rest b.some) in
-          inr (value_in_content new r.body p name v b.rest b.whole (value_there new b.rest v.body v.inside b.some (entries_there profile new (place_in v.body) b.rest ends_rest 0 v.inside valid.1.inside inner b.some))))
+          (let inner : Rules (entries_mentions 0 v.nested) = rules_named 0 (Some name) (body_fact v.body) (entries_mentions 0 v.nested) (rules_below r.body (keyval_mentions name v) rules) in
+          let ends_rest : EndsInKey b.rest = ends_later (r.body ++ map key keys) b.rest p b.whole ends (filled_by v.nested b.rest b.some) in
+          inr (value_in_content new r.body p name v b.rest b.whole (value_there new b.rest v.body v.nested b.some (entries_there profile new (place_in v.body) b.rest ends_rest 0 v.nested valid.1.nested inner b.some))))
     ]
 content_cases profile new p ends r (header x k y) valid rules s =
     let part = header_cases p r.tables [] (key_value k.first) (map further_value k.more) define [] (λ t. t) s in
-    inl (numbered p part.0 (map (header_path r.tables []) (key_fronts (keys_of k))) (header_number p [] r.tables [] part.0 (keys_of k) part.1))
+    inl (numbered p part.0 (map (header_path r.tables []) (key_prefixes (keys_of k))) (header_number p [] r.tables [] part.0 (keys_of k) part.1))
 content_cases profile new p ends r (element x k y) valid rules s =
-    let part = header_cases p r.tables [] (key_value k.first) (map further_value k.more) says_element (record { path = header_path r.tables [] (keys_of k) ++ index (elements_of (header_path r.tables [] (keys_of k)) r.tables) ∷ []; says = begun } ∷ [])
+    let part = header_cases p r.tables [] (key_value k.first) (map further_value k.more) kinds_element (record { path = header_path r.tables [] (keys_of k) ++ index (elements_of (header_path r.tables [] (keys_of k)) r.tables) ∷ []; kind = begun } ∷ [])
     begun_never s in
-    inl (numbered p part.0 (map (header_path r.tables []) (key_fronts (keys_of k))) (header_number p [] r.tables [] part.0 (keys_of k) part.1))
+    inl (numbered p part.0 (map (header_path r.tables []) (key_prefixes (keys_of k))) (header_number p [] r.tables [] part.0 (keys_of k) part.1))
   where
-    begun_never : {path : List Part} → SomeOf (IsSolidAt p) (record { path = path; says = begun } ∷ []) → ⊥
-    begun_never (inl h) = let x = h.says in absurd cc
+    begun_never : {path : List Part} → SomeOf (IsSolidAt p) (record { path = path; kind = begun } ∷ []) → ⊥
+    begun_never (inl h) = let x = h.kind in absurd cc
     begun_never (inr h) = h
 
-line_there : (profile : Profile) (new : Written) (p : List Part) → EndsInKey p → (r : Reading) (l : Line) → IsLine profile l → Rules (line_said r l) → SomeOf (IsSolidAt p) (line_said r l)
+line_there : (profile : Profile) (new : Written) (p : List Part) → EndsInKey p → (r : Reading) (l : Line) → IsLine profile l → Rules (line_mentions r l) → SomeOf (IsSolidAt p) (line_mentions r l)
     → IsSome (rename_line new p r l) ⊎ IsSome (in_line (renaming new) p r l)
 line_there profile new p ends r l valid rules s = elim (content_cases profile new p ends r l.content valid.content rules s) [
   | inl h ↦ inl (renamed_there new p r l h)
@@ -181,44 +181,44 @@ line_there profile new p ends r l valid rules s = elim (content_cases profile ne
 some_line_first : (f : Reading → Line → Option (Changed Line)) (r : Reading) (e : Ended) (es : List Ended) (last : Line) → IsSome (f r e.line) → IsSome (in_lines f r (e ∷ es) last)
 some_line_first f r e es last h =
     let here : Option (Changed Page) = within (λ l. record { ended = record { line = l; newline = e.newline } ∷ es; last = last }) [] (e.newline.text ++ page_text (record { ended = es; last = last })) (f r e.line) in
-    some_first here (within (λ b. record { ended = e ∷ b.ended; last = b.last }) (text_of (ended_leaves e)) [] (in_lines f (behind_line r e.line) es last)) (some_within _ [] _ (f r e.line) h)
+    some_first here (within (λ b. record { ended = e ∷ b.ended; last = b.last }) (text_of (ended_leaves e)) [] (in_lines f (after_line r e.line) es last)) (some_within _ [] _ (f r e.line) h)
 
-some_line_later : (f : Reading → Line → Option (Changed Line)) (r : Reading) (e : Ended) (es : List Ended) (last : Line) → IsSome (in_lines f (behind_line r e.line) es last) → IsSome (in_lines f r (e ∷ es) last)
+some_line_later : (f : Reading → Line → Option (Changed Line)) (r : Reading) (e : Ended) (es : List Ended) (last : Line) → IsSome (in_lines f (after_line r e.line) es last) → IsSome (in_lines f r (e ∷ es) last)
 some_line_later f r e es last h =
-    let there : Option (Changed Page) = within (λ b. record { ended = e ∷ b.ended; last = b.last }) (text_of (ended_leaves e)) [] (in_lines f (behind_line r e.line) es last) in
+    let there : Option (Changed Page) = within (λ b. record { ended = e ∷ b.ended; last = b.last }) (text_of (ended_leaves e)) [] (in_lines f (after_line r e.line) es last) in
     some_second (within (λ l. record { ended = record { line = l; newline = e.newline } ∷ es; last = last }) [] (e.newline.text ++ page_text (record { ended = es; last = last })) (f r e.line)) there
-    (some_within (λ b. record { ended = e ∷ b.ended; last = b.last }) (text_of (ended_leaves e)) [] (in_lines f (behind_line r e.line) es last) h)
+    (some_within (λ b. record { ended = e ∷ b.ended; last = b.last }) (text_of (ended_leaves e)) [] (in_lines f (after_line r e.line) es last) h)
 
 lines_there : (profile : Profile) (new : Written) (p : List Part) → EndsInKey p → (r : Reading) (es : List Ended) (last : Line) → AllByRecursion (IsEnded profile) es → IsLine profile last
-    → Rules (lines_said r (map line_of es ++ last ∷ [])) → SomeOf (IsSolidAt p) (lines_said r (map line_of es ++ last ∷ []))
+    → Rules (lines_mentions r (map line_of es ++ last ∷ [])) → SomeOf (IsSolidAt p) (lines_mentions r (map line_of es ++ last ∷ []))
     → IsSome (in_lines (rename_line new p) r es last) ⊎ IsSome (in_lines (in_line (renaming new) p) r es last)
 lines_there profile new p ends r [] last each valid rules s =
     let outer : Line → Page = λ l. record { ended = []; last = l } in
-    let here : SomeOf (IsSolidAt p) (line_said r last) = elim (some_cases (IsSolidAt p) (line_said r last) [] s) [ inl a ↦ a | inr b ↦ absurd b ] in
-    elim (line_there profile new p ends r last valid (pairs_split Allowed (line_said r last) [] rules).left here) [
+    let here : SomeOf (IsSolidAt p) (line_mentions r last) = elim (some_cases (IsSolidAt p) (line_mentions r last) [] s) [ inl a ↦ a | inr b ↦ absurd b ] in
+    elim (line_there profile new p ends r last valid (pairs_split Allowed (line_mentions r last) [] rules).left here) [
       | inl h ↦ inl (some_within outer [] [] (rename_line new p r last) h)
       | inr h ↦ inr (some_within outer [] [] (in_line (renaming new) p r last) h)
     ]
 lines_there profile new p ends r (e ∷ es) last each valid rules s =
-    let rest : List Mention = lines_said (behind_line r e.line) (map line_of es ++ last ∷ []) in
-    let split = pairs_split Allowed (line_said r e.line) rest rules in
-    elim (some_cases (IsSolidAt p) (line_said r e.line) rest s) [
+    let rest : List Mention = lines_mentions (after_line r e.line) (map line_of es ++ last ∷ []) in
+    let split = pairs_split Allowed (line_mentions r e.line) rest rules in
+    elim (some_cases (IsSolidAt p) (line_mentions r e.line) rest s) [
       | inl a ↦ elim (line_there profile new p ends r e.line each.0.line split.left a) [
         | inl h ↦ inl (some_line_first (rename_line new p) r e es last h)
         | inr h ↦ inr (some_line_first (in_line (renaming new) p) r e es last h)
       ]
-      | inr b ↦ elim (lines_there profile new p ends (behind_line r e.line) es last each.1 valid split.right b) [
+      | inr b ↦ elim (lines_there profile new p ends (after_line r e.line) es last each.1 valid split.right b) [
         | inl h ↦ inl (some_line_later (rename_line new p) r e es last h)
         | inr h ↦ inr (some_line_later (in_line (renaming new) p) r e es last h)
       ]
     ]
 
 -- A key part names the path.
-pub some_rename : (profile : Profile) (s : Document) (p : List Part) (t : List ℕ) → IsDocument profile s → Rules (said_in s) → EndsInKey p → SomeOf (IsSolidAt p) (said_in s) → IsSome (change_rename s p t)
+pub some_rename : (profile : Profile) (s : Document) (p : List Part) (t : List ℕ) → IsDocument profile s → Rules (mentions_in s) → EndsInKey p → SomeOf (IsSolidAt p) (mentions_in s) → IsSome (change_rename s p t)
 some_rename profile s p t valid rules ends there =
     let new : Written = key_part t in
     let one = in_document s (in_lines (rename_line new p) start s.ended s.last) in
     elim (lines_there profile new p ends start s.ended s.last valid.ended valid.last rules there) [
-      | inl h ↦ some_first one (inside (renaming new) p s) (some_within (with_page s) (text_of (bom_leaves s.bom)) [] (in_lines (rename_line new p) start s.ended s.last) h)
-      | inr h ↦ some_second one (inside (renaming new) p s) (some_within (with_page s) (text_of (bom_leaves s.bom)) [] (in_lines (in_line (renaming new) p) start s.ended s.last) h)
+      | inl h ↦ some_first one (nested (renaming new) p s) (some_within (with_page s) (text_of (bom_leaves s.bom)) [] (in_lines (rename_line new p) start s.ended s.last) h)
+      | inr h ↦ some_second one (nested (renaming new) p s) (some_within (with_page s) (text_of (bom_leaves s.bom)) [] (in_lines (in_line (renaming new) p) start s.ended s.last) h)
     ]

@@ -7,12 +7,12 @@ use Rattle.keep_syntax.specs.Tree.{Content, blank, keyval, header, element, Line
 use Rattle.keep_syntax.specs.Grammar.{IsLine}
 use Rattle.keep_path.specs.Path.{Part, same_path}
 use Rattle.keep_meaning.specs.Marks.{Mention, Reading, header_path, header_way}
-use Rattle.keep_meaning.specs.Meaning.{keys_of, line_said, behind_line, lines_said, line_of}
+use Rattle.keep_meaning.specs.Meaning.{keys_of, line_mentions, after_line, lines_mentions, line_of}
 use Rattle.keep_law.specs.Look.{strip}
 use Rattle.keep_law.specs.Changed.{within}
 use Rattle.keep_law.specs.Lines.{Page, page_text, part_paths, rename_content, rename_line, in_lines}
 use Rattle.keep_law.specs.Edits.{key_part}
-use Rattle.keep_law.proofs.Common.Runs.{AllOf, SomeOf, all_left, all_right, all_join, some_left, some_right, IsApart}
+use Rattle.keep_law.proofs.Common.Runs.{AllOf, SomeOf, all_left, all_right, all_join, some_left, some_right, IsDisjoint}
 use Rattle.keep_law.proofs.Common.SetLaw.{IsSolidAt, EachTo, to_within, to_or_else}
 use Rattle.keep_law.proofs.Common.SetDocument.{page_lines}
 use Rattle.keep_law.proofs.Common.LineLaws.{EndsInKey}
@@ -20,31 +20,31 @@ use Rattle.keep_law.proofs.Common.Moves.{moved}
 use Rattle.keep_law.proofs.Common.NewLines.{IsKeyText}
 use Rattle.keep_law.proofs.Rename.RenamedPath.{IsBeside, ends_old, renamed_path}
 use Rattle.keep_law.proofs.Rename.RenamedKeys.{AreClear}
-use Rattle.keep_law.proofs.Rename.RenameOnce.{Once, once_behind, once_right}
-use Rattle.keep_law.proofs.Rename.RenameContent.{content_said, content_behind, moved_reading, content_kept, IsContentRenamed, content_renamed}
+use Rattle.keep_law.proofs.Rename.RenameOnce.{Once, once_after, once_right}
+use Rattle.keep_law.proofs.Rename.RenameContent.{content_mentions, content_after, moved_reading, content_preserved, IsContentRenamed, content_renamed}
 
 -- the full paths of the `[[..]]` lines are not at or under a path where nothing is said there
-clear_content : (b : List Part) (r : Reading) (c : Content) → AreClear b r.tables → AllOf (IsApart b) (content_said r c) → AreClear b (content_behind r c).tables
-clear_content b r blank clear apart = clear
-clear_content b r (keyval name v) clear apart = clear
-clear_content b r (header x k y) clear apart = clear
-clear_content b r (element x k y) clear apart =
-    all_join (λ t. strip b t ≡ None) r.tables (header_path r.tables [] (keys_of k) ∷ []) clear ((all_right (IsApart b) (header_way r.tables [] (keys_of k)) _ apart).0, tt)
+clear_content : (b : List Part) (r : Reading) (c : Content) → AreClear b r.tables → AllOf (IsDisjoint b) (content_mentions r c) → AreClear b (content_after r c).tables
+clear_content b r blank clear disjoint = clear
+clear_content b r (keyval name v) clear disjoint = clear
+clear_content b r (header x k y) clear disjoint = clear
+clear_content b r (element x k y) clear disjoint =
+    all_join (λ t. strip b t ≡ None) r.tables (header_path r.tables [] (keys_of k) ∷ []) clear ((all_right (IsDisjoint b) (header_way r.tables [] (keys_of k)) _ disjoint).0, tt)
 
 -- lines that say nothing of the path itself
-pub lines_kept : (p b : List Part) → EndsInKey p → (r : Reading) (ls : List Line) → AreClear b r.tables → AllOf (IsApart b) (lines_said r ls) → (SomeOf (IsSolidAt p) (lines_said r ls) → ⊥)
-    → lines_said (moved_reading (renamed_path p b) r) ls ≡ map (moved (renamed_path p b)) (lines_said r ls)
-lines_kept p b ends r [] clear apart never = refl
-lines_kept p b ends r (l ∷ ls) clear apart never =
+pub lines_preserved : (p b : List Part) → EndsInKey p → (r : Reading) (ls : List Line) → AreClear b r.tables → AllOf (IsDisjoint b) (lines_mentions r ls) → (SomeOf (IsSolidAt p) (lines_mentions r ls) → ⊥)
+    → lines_mentions (moved_reading (renamed_path p b) r) ls ≡ map (moved (renamed_path p b)) (lines_mentions r ls)
+lines_preserved p b ends r [] clear disjoint never = refl
+lines_preserved p b ends r (l ∷ ls) clear disjoint never =
     let f : List Part → List Part = renamed_path p b in
-    let first : List Mention = line_said r l in
-    let rest : List Mention = lines_said (behind_line r l) ls in
-    let apart_first = all_left (IsApart b) first rest apart in
-    let h = content_kept p b r ends clear l.content apart_first (λ s. never (some_left (IsSolidAt p) first rest s)) in
-    ap (λ x. x ++ lines_said (behind_line (moved_reading f r) l) ls) h.said
-    ∙ ap (λ (x : Reading). map (moved f) first ++ lines_said x ls) h.behind
+    let first : List Mention = line_mentions r l in
+    let rest : List Mention = lines_mentions (after_line r l) ls in
+    let disjoint_first = all_left (IsDisjoint b) first rest disjoint in
+    let h = content_preserved p b r ends clear l.content disjoint_first (λ s. never (some_left (IsSolidAt p) first rest s)) in
+    ap (λ x. x ++ lines_mentions (after_line (moved_reading f r) l) ls) h.mentioned
+    ∙ ap (λ (x : Reading). map (moved f) first ++ lines_mentions x ls) h.behind
     ∙ ap (λ x. map (moved f) first ++ x)
-    (lines_kept p b ends (behind_line r l) ls (clear_content b r l.content clear apart_first) (all_right (IsApart b) first rest apart) (λ s. never (some_right (IsSolidAt p) first rest s)))
+    (lines_preserved p b ends (after_line r l) ls (clear_content b r l.content clear disjoint_first) (all_right (IsDisjoint b) first rest disjoint) (λ s. never (some_right (IsSolidAt p) first rest s)))
     ∙ sym (map-append (moved f) first rest)
 
 -- ---- the line with the key
@@ -68,41 +68,41 @@ line_renamed profile t p b text beside r l = by (position (same_path p) (part_pa
 
 -- one line is renamed, and the others say nothing of the path
 pub record AreLinesRenamed (p b : List Part) (r : Reading) (from to : List Line) : Type 0 where
-  pub some : SomeOf (IsSolidAt p) (lines_said r from)
-  pub said : AreClear b r.tables → AllOf (IsApart b) (lines_said r from) → Once p (lines_said r from)
-      → lines_said (moved_reading (renamed_path p b) r) to ≡ map (moved (renamed_path p b)) (lines_said r from)
+  pub some : SomeOf (IsSolidAt p) (lines_mentions r from)
+  pub mentioned : AreClear b r.tables → AllOf (IsDisjoint b) (lines_mentions r from) → Once p (lines_mentions r from)
+      → lines_mentions (moved_reading (renamed_path p b) r) to ≡ map (moved (renamed_path p b)) (lines_mentions r from)
 
 here_renamed : (profile : Profile) (p b : List Part) → EndsInKey p → (r : Reading) (l l' : Line) (ls : List Line) → IsLineRenamed profile p b r l l' → AreLinesRenamed p b r (l ∷ ls) (l' ∷ ls)
 here_renamed profile p b ends r l l' ls h =
     let f : List Part → List Part = renamed_path p b in
-    let first : List Mention = line_said r l in
-    let rest : List Mention = lines_said (behind_line r l) ls in
+    let first : List Mention = line_mentions r l in
+    let rest : List Mention = lines_mentions (after_line r l) ls in
     record {
       some = some_left (IsSolidAt p) first rest h.content.some;
-      said = λ clear apart once.
-          (let apart_first = all_left (IsApart b) first rest apart in
-          let m = h.content.moves clear apart_first in
-          ap (λ x. x ++ lines_said (behind_line (moved_reading f r) l') ls) m.said
-          ∙ ap (λ (x : Reading). map (moved f) first ++ lines_said x ls) m.behind
+      mentioned = λ clear disjoint once.
+          (let disjoint_first = all_left (IsDisjoint b) first rest disjoint in
+          let m = h.content.moves clear disjoint_first in
+          ap (λ x. x ++ lines_mentions (after_line (moved_reading f r) l') ls) m.mentioned
+          ∙ ap (λ (x : Reading). map (moved f) first ++ lines_mentions x ls) m.behind
           ∙ ap (λ x. map (moved f) first ++ x)
-          (lines_kept p b ends (behind_line r l) ls (clear_content b r l.content clear apart_first) (all_right (IsApart b) first rest apart) (once_behind p first rest once h.content.some))
+          (lines_preserved p b ends (after_line r l) ls (clear_content b r l.content clear disjoint_first) (all_right (IsDisjoint b) first rest disjoint) (once_after p first rest once h.content.some))
           ∙ sym (map-append (moved f) first rest));
     }
 
-further_renamed : (p b : List Part) → EndsInKey p → (r : Reading) (l : Line) (ls ls' : List Line) → AreLinesRenamed p b (behind_line r l) ls ls' → AreLinesRenamed p b r (l ∷ ls) (l ∷ ls')
+further_renamed : (p b : List Part) → EndsInKey p → (r : Reading) (l : Line) (ls ls' : List Line) → AreLinesRenamed p b (after_line r l) ls ls' → AreLinesRenamed p b r (l ∷ ls) (l ∷ ls')
 further_renamed p b ends r l ls ls' h =
     let f : List Part → List Part = renamed_path p b in
-    let first : List Mention = line_said r l in
-    let rest : List Mention = lines_said (behind_line r l) ls in
+    let first : List Mention = line_mentions r l in
+    let rest : List Mention = lines_mentions (after_line r l) ls in
     record {
       some = some_right (IsSolidAt p) first rest h.some;
-      said = λ clear apart once.
-          (let apart_first = all_left (IsApart b) first rest apart in
-          let m = content_kept p b r ends clear l.content apart_first (λ s. once_behind p first rest once s h.some) in
-          ap (λ x. x ++ lines_said (behind_line (moved_reading f r) l) ls') m.said
-          ∙ ap (λ (x : Reading). map (moved f) first ++ lines_said x ls') m.behind
+      mentioned = λ clear disjoint once.
+          (let disjoint_first = all_left (IsDisjoint b) first rest disjoint in
+          let m = content_preserved p b r ends clear l.content disjoint_first (λ s. once_after p first rest once s h.some) in
+          ap (λ x. x ++ lines_mentions (after_line (moved_reading f r) l) ls') m.mentioned
+          ∙ ap (λ (x : Reading). map (moved f) first ++ lines_mentions x ls') m.behind
           ∙ ap (λ x. map (moved f) first ++ x)
-          (h.said (clear_content b r l.content clear apart_first) (all_right (IsApart b) first rest apart) (once_right p first rest once))
+          (h.mentioned (clear_content b r l.content clear disjoint_first) (all_right (IsDisjoint b) first rest disjoint) (once_right p first rest once))
           ∙ sym (map-append (moved f) first rest));
     }
 
@@ -116,5 +116,5 @@ lines_renamed profile t p b text beside r (e ∷ es) last =
     to_or_else P _ _
     (to_within (IsLineRenamed profile p b r e.line) P (λ l. record { ended = record { line = l; newline = e.newline } ∷ es; last = last }) [] (e.newline.text ++ page_text (record { ended = es; last = last })) (rename_line (key_part t) p r e.line)
     (λ l h. here_renamed profile p b (ends_old t p b beside) r e.line l (map line_of es ++ last ∷ []) h) (line_renamed profile t p b text beside r e.line))
-    (to_within (λ g. AreLinesRenamed p b (behind_line r e.line) (map line_of es ++ last ∷ []) (page_lines g)) P (λ g. record { ended = e ∷ g.ended; last = g.last }) (text_of (ended_leaves e)) [] (in_lines (rename_line (key_part t) p) (behind_line r e.line) es last)
-    (λ g h. further_renamed p b (ends_old t p b beside) r e.line (map line_of es ++ last ∷ []) (page_lines g) h) (lines_renamed profile t p b text beside (behind_line r e.line) es last))
+    (to_within (λ g. AreLinesRenamed p b (after_line r e.line) (map line_of es ++ last ∷ []) (page_lines g)) P (λ g. record { ended = e ∷ g.ended; last = g.last }) (text_of (ended_leaves e)) [] (in_lines (rename_line (key_part t) p) (after_line r e.line) es last)
+    (λ g h. further_renamed p b (ends_old t p b beside) r e.line (map line_of es ++ last ∷ []) (page_lines g) h) (lines_renamed profile t p b text beside (after_line r e.line) es last))

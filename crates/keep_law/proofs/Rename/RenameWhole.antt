@@ -9,38 +9,38 @@ use Rattle.keep_syntax.specs.Grammar.{IsLine, IsDocument}
 use Rattle.keep_path.specs.Path.{Part, key, index}
 use Rattle.keep_meaning.specs.Rules.{ObeysRules}
 use Rattle.keep_meaning.specs.Marks.{Mention, fact_of, start, marks}
-use Rattle.keep_meaning.specs.Meaning.{lines_said, lines, said_in}
+use Rattle.keep_meaning.specs.Meaning.{lines_mentions, lines, mentions_in}
 use Rattle.keep_meaning.specs.Nodes.{is_at, is_root, is_node, fact_at, first_of, mark_count}
 use Rattle.keep_law.specs.declared.fault.EditFault.TheVariants as fault
 use Rattle.keep_law.specs.Look.{strip, last_part, without_last, is_index}
 use Rattle.keep_law.specs.Changed.{Changed}
 use Rattle.keep_law.specs.Values.{renaming}
 use Rattle.keep_law.specs.Lines.{rename_line, in_line, in_lines, in_document, with_page}
-use Rattle.keep_law.specs.Edits.{rename, key_part, change, inside}
+use Rattle.keep_law.specs.Edits.{rename, key_part, change, nested}
 use Rattle.keep_law.specs.Refusals.{refusal, first_that_holds, ends_in_index, beside}
 use Rattle.keep_law.specs.Trees.{IsTreeOf, fact_from, from as from_path, nothing}
-use Rattle.keep_law.proofs.Common.Runs.{AllOf, IsApart, Rules, strip-sound, strip-append, none_or_some, says_at-apart}
+use Rattle.keep_law.proofs.Common.Runs.{AllOf, IsDisjoint, Rules, strip-sound, strip-append, none_or_some, kinds_at-disjoint}
 use Rattle.keep_law.proofs.Common.SetLaw.{EachTo, to_within, to_or_else}
 use Rattle.keep_law.proofs.Common.SetValid.{IsPage, valid_line, valid_lines}
 use Rattle.keep_law.proofs.Common.SetDocument.{IsLawful, page_lines, cancel, each_to}
 use Rattle.keep_law.proofs.Common.SetWhole.{IsSetWhole, EachChange, together}
 use Rattle.keep_law.proofs.Common.LineTexts.{change-is}
 use Rattle.keep_law.proofs.Common.LineLaws.{EndsInKey}
-use Rattle.keep_law.proofs.Common.InsertLaw.{fresh_apart}
+use Rattle.keep_law.proofs.Common.InsertLaw.{fresh_disjoint}
 use Rattle.keep_law.proofs.Common.Marks.{rules_of_document}
-use Rattle.keep_law.proofs.Common.Moves.{moved, rules_moved, says_moved}
+use Rattle.keep_law.proofs.Common.Moves.{moved, rules_moved, mentions_moved}
 use Rattle.keep_law.proofs.Common.Cuts.{last_part-snoc, without_last-snoc}
 use Rattle.keep_law.proofs.Common.InValue.{IsDone, done_document}
 use Rattle.keep_law.proofs.Common.ValueThere.{the_some}
 use Rattle.keep_law.proofs.Common.NewLines.{IsKeyText}
 use Rattle.keep_law.proofs.Rename.KeyTexts.{key_text}
 use Rattle.keep_law.proofs.Common.ActDepth.{NoDeeperLine, line_depths, pages_depth, in_document_depth}
-use Rattle.keep_law.proofs.Rename.RenamedPath.{IsBeside, ends_old, ends_new, renamed_path, under_renamed, apart_renamed, renamed_injective}
+use Rattle.keep_law.proofs.Rename.RenamedPath.{IsBeside, ends_old, ends_new, renamed_path, under_renamed, disjoint_renamed, renamed_injective}
 use Rattle.keep_law.proofs.Rename.RenameOnce.{Once, once_counted, some_counted}
 use Rattle.keep_law.proofs.Rename.RenameContent.{root_renamed}
 use Rattle.keep_law.proofs.Rename.RenameLines.{IsLineRenamed, line_renamed, AreLinesRenamed, lines_renamed}
 use Rattle.keep_law.proofs.Rename.RenameEntry.{IsRenamedTo, does_rename, valid_renaming, flat_renaming}
-use Rattle.keep_law.proofs.Rename.RenameInValue.{snoc_of, said_renamed}
+use Rattle.keep_law.proofs.Rename.RenameInValue.{snoc_of, mentions_renamed}
 use Rattle.keep_law.proofs.Rename.RenameFound.{some_rename}
 
 -- ---- what is not refused
@@ -52,61 +52,61 @@ pub record IsRenamable (path : List Part) (t : List ℕ) (ms : List Mention) : T
   pub fresh : is_node (beside path t) ms ≡ false
   pub marks : mark_count path ms ≡ 1
 
-pub renamable : (profile : Profile) (limit : ℕ) (s : Document) (path : List Part) (t : List ℕ) → refusal profile limit s (rename path t) ≡ None → IsRenamable path t (said_in s)
-renamable profile limit s path t h = by (is_node path (said_in s)) (is_root path) (ends_in_index path) (is_node (beside path t) (said_in s)) (mark_count path (said_in s) == 1) refl refl refl refl refl h
+pub renamable : (profile : Profile) (limit : ℕ) (s : Document) (path : List Part) (t : List ℕ) → refusal profile limit s (rename path t) ≡ None → IsRenamable path t (mentions_in s)
+renamable profile limit s path t h = by (is_node path (mentions_in s)) (is_root path) (ends_in_index path) (is_node (beside path t) (mentions_in s)) (mark_count path (mentions_in s) == 1) refl refl refl refl refl h
   where
-    by : (a r i x c : Bool) → is_node path (said_in s) ≡ a → is_root path ≡ r → ends_in_index path ≡ i → is_node (beside path t) (said_in s) ≡ x → (mark_count path (said_in s) == 1) ≡ c
-        → first_that_holds ((not a, fault.NotFound) ∷ ((not r && not i) && x, fault.Exists) ∷ (r || i, fault.NotKey) ∷ (not c, fault.Scattered) ∷ []) ≡ None → IsRenamable path t (said_in s)
+    by : (a r i x c : Bool) → is_node path (mentions_in s) ≡ a → is_root path ≡ r → ends_in_index path ≡ i → is_node (beside path t) (mentions_in s) ≡ x → (mark_count path (mentions_in s) == 1) ≡ c
+        → first_that_holds ((not a, fault.NotFound) ∷ ((not r && not i) && x, fault.Exists) ∷ (r || i, fault.NotKey) ∷ (not c, fault.Scattered) ∷ []) ≡ None → IsRenamable path t (mentions_in s)
     by false r i x c ea er ei ex ec h = absurd cc
     by true true i x c ea er ei ex ec h = absurd cc
     by true false true x c ea er ei ex ec h = absurd cc
     by true false false true c ea er ei ex ec h = absurd cc
     by true false false false false ea er ei ex ec h = absurd cc
-    by true false false false true ea er ei ex ec h = record { node = ea; below_root = er; by_key = ei; fresh = ex; marks = eqb-true (mark_count path (said_in s)) 1 ec }
+    by true false false false true ea er ei ex ec h = record { node = ea; below_root = er; by_key = ei; fresh = ex; marks = eqb-true (mark_count path (mentions_in s)) 1 ec }
 
-key_last : (front : List Part) (z : Part) (path : List Part) → path ≡ front ++ z ∷ [] → ends_in_index path ≡ false → EndsInKey path
-key_last front (key k) path e h = (front, k, e)
-key_last front (index n) path e h =
-    let k : true ≡ false = sym (ap (λ (o : Option Part). elim o [ None ↦ false | Some part ↦ is_index part ]) (ap last_part e ∙ last_part-snoc front (index n))) ∙ h in
+key_last : (prefix : List Part) (z : Part) (path : List Part) → path ≡ prefix ++ z ∷ [] → ends_in_index path ≡ false → EndsInKey path
+key_last prefix (key k) path e h = (prefix, k, e)
+key_last prefix (index n) path e h =
+    let k : true ≡ false = sym (ap (λ (o : Option Part). elim o [ None ↦ false | Some part ↦ is_index part ]) (ap last_part e ∙ last_part-snoc prefix (index n))) ∙ h in
     absurd cc
 
 ends_in_key : (path : List Part) → is_root path ≡ false → ends_in_index path ≡ false → EndsInKey path
 ends_in_key [] r i = absurd cc
-ends_in_key (q ∷ qs) r i = let (front, z, e) = snoc_of q qs in key_last front z (q ∷ qs) e i
+ends_in_key (q ∷ qs) r i = let (prefix, z, e) = snoc_of q qs in key_last prefix z (q ∷ qs) e i
 
 pub beside_is : (path : List Part) (t : List ℕ) (ms : List Mention) → IsRenamable path t ms → IsBeside t path (beside path t)
 beside_is path t ms h =
-    let (front, old, was) = ends_in_key path h.below_root h.by_key in
-    record { front = front; old = old; was = was; is = ap (λ q. q ++ key t ∷ []) (ap without_last was ∙ without_last-snoc front (key old)) }
+    let (prefix, old, was) = ends_in_key path h.below_root h.by_key in
+    record { prefix = prefix; old = old; was = was; is = ap (λ q. q ++ key t ∷ []) (ap without_last was ∙ without_last-snoc prefix (key old)) }
 
 either_false : (a b : Bool) → (a || b) ≡ false → b ≡ false
 either_false true b h = absurd cc
 either_false false b h = h
 
 -- nothing is said at or under the new path
-fresh_clear : (s : Document) (path : List Part) (t : List ℕ) → IsRenamable path t (said_in s) → AllOf (IsApart (beside path t)) (said_in s)
+fresh_clear : (s : Document) (path : List Part) (t : List ℕ) → IsRenamable path t (mentions_in s) → AllOf (IsDisjoint (beside path t)) (mentions_in s)
 fresh_clear s path t h =
     let b : List Part = beside path t in
-    fresh_apart b (lines s) (ends_new t path b (beside_is path t (said_in s) h)) (either_false (is_root b) (list_any (is_at b) (said_in s)) h.fresh)
+    fresh_disjoint b (lines s) (ends_new t path b (beside_is path t (mentions_in s) h)) (either_false (is_root b) (list_any (is_at b) (mentions_in s)) h.fresh)
 
 -- the two paths are not at or under one another
 other_keys : (t : List ℕ) (p b more r : List Part) → IsBeside t p b → p ++ more ≡ b ++ r → p ≡ b
 other_keys t p b more r h e =
     let rest : key h.old ∷ more ≡ key t ∷ r =
-    cancel h.front (key h.old ∷ more) (key t ∷ r) (sym (append_assoc h.front (key h.old ∷ []) more) ∙ ap (λ q. q ++ more) (sym h.was) ∙ e ∙ ap (λ q. q ++ r) h.is ∙ append_assoc h.front (key t ∷ []) r) in
+    cancel h.prefix (key h.old ∷ more) (key t ∷ r) (sym (append_assoc h.prefix (key h.old ∷ []) more) ∙ ap (λ q. q ++ more) (sym h.was) ∙ e ∙ ap (λ q. q ++ r) h.is ∙ append_assoc h.prefix (key t ∷ []) r) in
     let same : key h.old ≡ key t = cc in
-    h.was ∙ ap (λ x. h.front ++ x ∷ []) same ∙ sym h.is
+    h.was ∙ ap (λ x. h.prefix ++ x ∷ []) same ∙ sym h.is
 
 -- ---- rules and tree
 
-abbrev pub IsSaid : List Part → List Part → List Mention → List Mention → Type 0
-IsSaid p b from to = to ≡ map (moved (renamed_path p b)) from
+abbrev pub IsMentioned : List Part → List Part → List Mention → List Mention → Type 0
+IsMentioned p b from to = to ≡ map (moved (renamed_path p b)) from
 
-none_under : (t : List ℕ) (p b : List Part) → IsBeside t p b → (p ≡ b → ⊥) → (ms : List Mention) → AllOf (IsApart p) (map (moved (renamed_path p b)) ms)
+none_under : (t : List ℕ) (p b : List Part) → IsBeside t p b → (p ≡ b → ⊥) → (ms : List Mention) → AllOf (IsDisjoint p) (map (moved (renamed_path p b)) ms)
 none_under t p b h other [] = tt
 none_under t p b h other (m ∷ ms) = (
   elim (none_or_some (strip p m.path)) [
-    | inl e ↦ ap (strip p) (apart_renamed p b m.path e) ∙ e
+    | inl e ↦ ap (strip p) (disjoint_renamed p b m.path e) ∙ e
     | inr u ↦ elim (none_or_some (strip p (renamed_path p b m.path))) [
       | inl e ↦ e
       | inr v ↦ absurd (other (other_keys t p b v.0 u.0 h (sym (strip-sound p (renamed_path p b m.path) v.0 v.1) ∙ under_renamed p b m.path u.0 u.1)))
@@ -115,14 +115,14 @@ none_under t p b h other (m ∷ ms) = (
   none_under t p b h other ms,
 )
 
-pub tree_renamed : (path : List Part) (t : List ℕ) (from to : List Mention) → IsBeside t path (beside path t) → (path ≡ beside path t → ⊥) → AllOf (IsApart (beside path t)) from → IsSaid path (beside path t) from to
+pub tree_renamed : (path : List Part) (t : List ℕ) (from to : List Mention) → IsBeside t path (beside path t) → (path ≡ beside path t → ⊥) → AllOf (IsDisjoint (beside path t)) from → IsMentioned path (beside path t) from to
     → IsTreeOf from (rename path t) to
-tree_renamed path t from to h other clear said q = by (strip (beside path t) q) (strip path q) refl refl
+tree_renamed path t from to h other clear mentioned q = by (strip (beside path t) q) (strip path q) refl refl
   where
     facts : (f : List Part) → strip (beside path t) f ≡ None → fact_at (renamed_path path (beside path t) f) to ≡ fact_at f from
     facts f e =
-        ap (λ l. fact_at (renamed_path path (beside path t) f) l) said
-        ∙ ap (λ l. first_of (filter_map fact_of l)) (says_moved (λ x. strip (beside path t) x ≡ None) (renamed_path path (beside path t)) (renamed_injective path (beside path t)) f e from clear)
+        ap (λ l. fact_at (renamed_path path (beside path t) f) l) mentioned
+        ∙ ap (λ l. first_of (filter_map fact_of l)) (mentions_moved (λ x. strip (beside path t) x ≡ None) (renamed_path path (beside path t)) (renamed_injective path (beside path t)) f e from clear)
 
     old_clear : (more : List Part) → strip (beside path t) (path ++ more) ≡ None
     old_clear more = elim (none_or_some (strip (beside path t) (path ++ more))) [
@@ -136,25 +136,25 @@ tree_renamed path t from to h other clear said q = by (strip (beside path t) q) 
         let there : renamed_path path (beside path t) (path ++ more) ≡ q = under_renamed path (beside path t) (path ++ more) more (strip-append path more) ∙ sym (strip-sound (beside path t) q more e) in
         ap (λ x. fact_at x to) (sym there) ∙ facts (path ++ more) (old_clear more)
     by None (Some more) e e' =
-        ap (fact_at q) said
-        ∙ ap (λ l. first_of (filter_map fact_of l)) (says_at-apart path q more (map (moved (renamed_path path (beside path t))) from) (none_under t path (beside path t) h other from) e')
-    by None None e e' = ap (λ x. fact_at x to) (sym (apart_renamed path (beside path t) q e')) ∙ facts q e
+        ap (fact_at q) mentioned
+        ∙ ap (λ l. first_of (filter_map fact_of l)) (kinds_at-disjoint path q more (map (moved (renamed_path path (beside path t))) from) (none_under t path (beside path t) h other from) e')
+    by None None e e' = ap (λ x. fact_at x to) (sym (disjoint_renamed path (beside path t) q e')) ∙ facts q e
 
 -- ---- the document
 
 -- the new document says the same, with the paths changed
-said_lines : (profile : Profile) (s : Document) (path b : List Part) (t : List ℕ) → IsKeyText profile t → IsBeside t path b → AllOf (IsApart b) (said_in s) → Once path (said_in s)
-    → EachTo (λ s'. IsSaid path b (said_in s) (said_in s')) (in_document s (in_lines (rename_line (key_part t) path) start s.ended s.last))
-said_lines profile s path b t text h clear once =
-    to_within (λ g. AreLinesRenamed path b start (lines s) (page_lines g)) (λ s'. IsSaid path b (said_in s) (said_in s')) (with_page s) _ [] (in_lines (rename_line (key_part t) path) start s.ended s.last)
-    (λ g k. ap (λ (x : List Part). lines_said (record { tables = []; body = x }) (page_lines g)) (sym (root_renamed path b (ends_old t path b h))) ∙ k.said tt clear once)
+mentions_lines : (profile : Profile) (s : Document) (path b : List Part) (t : List ℕ) → IsKeyText profile t → IsBeside t path b → AllOf (IsDisjoint b) (mentions_in s) → Once path (mentions_in s)
+    → EachTo (λ s'. IsMentioned path b (mentions_in s) (mentions_in s')) (in_document s (in_lines (rename_line (key_part t) path) start s.ended s.last))
+mentions_lines profile s path b t text h clear once =
+    to_within (λ g. AreLinesRenamed path b start (lines s) (page_lines g)) (λ s'. IsMentioned path b (mentions_in s) (mentions_in s')) (with_page s) _ [] (in_lines (rename_line (key_part t) path) start s.ended s.last)
+    (λ g k. ap (λ (x : List Part). lines_mentions (record { tables = []; body = x }) (page_lines g)) (sym (root_renamed path b (ends_old t path b h))) ∙ k.mentioned tt clear once)
     (lines_renamed profile t path b text h start s.ended s.last)
 
-said_inside : (profile : Profile) (s : Document) (path b : List Part) (t : List ℕ) → IsDocument profile s → Rules (said_in s) → IsKeyText profile t → IsBeside t path b → Once path (said_in s)
-    → EachTo (λ s'. IsSaid path b (said_in s) (said_in s')) (inside (renaming (key_part t)) path s)
-said_inside profile s path b t valid rules text h once =
-    each_to (λ s'. IsDone (IsRenamedTo t) path (said_in s) (said_in s')) (λ s'. IsSaid path b (said_in s) (said_in s')) (inside (renaming (key_part t)) path s)
-    (λ s' d. said_renamed t d.front path b (said_in s) (said_in s') h once d.at)
+mentioned_nested : (profile : Profile) (s : Document) (path b : List Part) (t : List ℕ) → IsDocument profile s → Rules (mentions_in s) → IsKeyText profile t → IsBeside t path b → Once path (mentions_in s)
+    → EachTo (λ s'. IsMentioned path b (mentions_in s) (mentions_in s')) (nested (renaming (key_part t)) path s)
+mentioned_nested profile s path b t valid rules text h once =
+    each_to (λ s'. IsDone (IsRenamedTo t) path (mentions_in s) (mentions_in s')) (λ s'. IsMentioned path b (mentions_in s) (mentions_in s')) (nested (renaming (key_part t)) path s)
+    (λ s' d. mentions_renamed t d.prefix path b (mentions_in s) (mentions_in s') h once d.at)
     (done_document profile (IsRenamedTo t) (renaming (key_part t)) (does_rename profile t text) s path valid rules)
 
 pub valid_rename : (profile : Profile) (s : Document) (path b : List Part) (t : List ℕ) → IsDocument profile s → IsKeyText profile t → IsBeside t path b → EachTo (IsDocument profile) (change s (rename path t))
@@ -181,27 +181,27 @@ pub record IsRenamedWhole (profile : Profile) (s : Document) (path : List Part) 
   pub whole : IsSetWhole profile s (rename path t) changed
   pub flat : depth changed.to ≤ depth s
 
-pub rename_whole : (profile : Profile) (limit : ℕ) (s : Document) (path : List Part) (t : List ℕ) → IsDocument profile s → ObeysRules (marks (said_in s)) → IsUtf8 t
+pub rename_whole : (profile : Profile) (limit : ℕ) (s : Document) (path : List Part) (t : List ℕ) → IsDocument profile s → ObeysRules (marks (mentions_in s)) → IsUtf8 t
     → refusal profile limit s (rename path t) ≡ None → IsRenamedWhole profile s path t
 rename_whole profile limit s path t valid obeys utf8 allowed =
-    let ms : List Mention = said_in s in
+    let ms : List Mention = mentions_in s in
     let b : List Part = beside path t in
     let e = rename path t in
     let rules : Rules ms = rules_of_document s obeys in
     let h = renamable profile limit s path t allowed in
     let text : IsKeyText profile t = key_text profile t utf8 in
     let two : IsBeside t path b = beside_is path t ms h in
-    let clear : AllOf (IsApart b) ms = fresh_clear s path t h in
+    let clear : AllOf (IsDisjoint b) ms = fresh_clear s path t h in
     let once : Once path ms = once_counted path ms rules (omega (arith, h.marks)) in
     let other : path ≡ b → ⊥ = λ same. (let x : is_node b ms ≡ true = subst (λ (q : List Part). is_node q ms ≡ true) same h.node in let y = h.fresh in absurd cc) in
-    let said : EachTo (λ s'. IsSaid path b ms (said_in s')) (change s e) =
-    to_or_else (λ s'. IsSaid path b ms (said_in s')) _ _ (said_lines profile s path b t text two clear once) (said_inside profile s path b t valid rules text two once) in
+    let mentioned : EachTo (λ s'. IsMentioned path b ms (mentions_in s')) (change s e) =
+    to_or_else (λ s'. IsMentioned path b ms (mentions_in s')) _ _ (mentions_lines profile s path b t text two clear once) (mentioned_nested profile s path b t valid rules text two once) in
     let lawful : EachTo (IsLawful s e) (change s e) =
-    each_to (λ s'. IsSaid path b ms (said_in s')) (IsLawful s e) (change s e)
+    each_to (λ s'. IsMentioned path b ms (mentions_in s')) (IsLawful s e) (change s e)
     (λ s' k. record {
       rules = subst Rules (sym k) (rules_moved (λ x. strip b x ≡ None) (renamed_path path b) (renamed_injective path b) ms clear rules);
-      tree = tree_renamed path t ms (said_in s') two other clear k;
-    }) said in
+      tree = tree_renamed path t ms (mentions_in s') two other clear k;
+    }) mentioned in
     let (c, is) = the_some (change s e) (some_rename profile s path t valid rules (ends_old t path b two) (some_counted path ms (omega (arith, h.marks)))) in
     record {
       changed = c;

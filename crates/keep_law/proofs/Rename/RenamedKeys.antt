@@ -5,7 +5,7 @@ use Rattle.std.proofs.lemmas.List.{map-append}
 use Rattle.keep_path.specs.Path.{Part, key, index, same_path}
 use Rattle.keep_meaning.specs.Marks.{through, past, passed, Mention, elements_of, entered_path, passing_mentions, header_path, header_way}
 use Rattle.keep_law.specs.Look.{strip}
-use Rattle.keep_law.proofs.Common.Runs.{AllOf, SomeOf, all_left, all_right, some_left, some_right, IsApart, same_path-sound, same_path-refl}
+use Rattle.keep_law.proofs.Common.Runs.{AllOf, SomeOf, all_left, all_right, some_left, some_right, IsDisjoint, same_path-sound, same_path-refl}
 use Rattle.keep_law.proofs.Common.SetLaw.{IsSolidAt}
 use Rattle.keep_law.proofs.Common.LineLaws.{EndsInKey}
 use Rattle.keep_law.proofs.Common.Moves.{moved}
@@ -61,23 +61,23 @@ entered_renamed p b tables q ends clear hq =
     ∙ entered_by p b q ends (elements_of q tables - 1) (0 == elements_of q tables)
 
 passing_by : (f : List Part → List Part) (q e e' : List Part) → e' ≡ f e → (c : Bool)
-    → cond c (record { path = f q; says = through } ∷ []) (record { path = f q; says = past } ∷ record { path = e'; says = passed } ∷ [])
-    ≡ map (moved f) (cond c (record { path = q; says = through } ∷ []) (record { path = q; says = past } ∷ record { path = e; says = passed } ∷ []))
+    → cond c (record { path = f q; kind = through } ∷ []) (record { path = f q; kind = past } ∷ record { path = e'; kind = passed } ∷ [])
+    ≡ map (moved f) (cond c (record { path = q; kind = through } ∷ []) (record { path = q; kind = past } ∷ record { path = e; kind = passed } ∷ []))
 passing_by f q e e' h true = refl
-passing_by f q e e' h false = ap (λ (x : List Part). record { path = f q; says = past } ∷ record { path = x; says = passed } ∷ []) h
+passing_by f q e e' h false = ap (λ (x : List Part). record { path = f q; kind = past } ∷ record { path = x; kind = passed } ∷ []) h
 
 passing_renamed : (p b : List Part) (tables : List (List Part)) (q : List Part) → EndsInKey p → AreClear b tables → strip b q ≡ None
     → passing_mentions (map (renamed_path p b) tables) (renamed_path p b q) ≡ map (moved (renamed_path p b)) (passing_mentions tables q)
 passing_renamed p b tables q ends clear hq =
     let f : List Part → List Part = renamed_path p b in
     let e' : List Part = entered_path (map f tables) (f q) in
-    ap (λ n. cond (0 == n) (record { path = f q; says = through } ∷ []) (record { path = f q; says = past } ∷ record { path = e'; says = passed } ∷ [])) (elements_renamed p b tables q clear hq)
+    ap (λ n. cond (0 == n) (record { path = f q; kind = through } ∷ []) (record { path = f q; kind = past } ∷ record { path = e'; kind = passed } ∷ [])) (elements_renamed p b tables q clear hq)
     ∙ passing_by f q (entered_path tables q) e' (entered_renamed p b tables q ends clear hq) (0 == elements_of q tables)
 
-passing_clear : (tables : List (List Part)) (b q : List Part) → AllOf (IsApart b) (passing_mentions tables q) → strip b q ≡ None
+passing_clear : (tables : List (List Part)) (b q : List Part) → AllOf (IsDisjoint b) (passing_mentions tables q) → strip b q ≡ None
 passing_clear tables b q h = by (entered_path tables q) (0 == elements_of q tables) h
   where
-    by : (e : List Part) (c : Bool) → AllOf (IsApart b) (cond c (record { path = q; says = through } ∷ []) (record { path = q; says = past } ∷ record { path = e; says = passed } ∷ [])) → strip b q ≡ None
+    by : (e : List Part) (c : Bool) → AllOf (IsDisjoint b) (cond c (record { path = q; kind = through } ∷ []) (record { path = q; kind = past } ∷ record { path = e; kind = passed } ∷ [])) → strip b q ≡ None
     by e true h = h.0
     by e false h = h.0
 
@@ -88,7 +88,7 @@ pub record IsHeaderRenamed (p b : List Part) (tables : List (List Part)) (at : L
   pub way : header_way (map (renamed_path p b) tables) (renamed_path p b at) keys' ≡ map (moved (renamed_path p b)) (header_way tables at keys)
 
 pub header_renamed : (p b : List Part) (tables : List (List Part)) (at : List Part) (keys keys' : List (List ℕ)) → EndsInKey p → AreClear b tables
-    → AllOf (IsApart b) (header_way tables at keys) → AreRenamed p b tables at keys keys' → IsHeaderRenamed p b tables at keys keys'
+    → AllOf (IsDisjoint b) (header_way tables at keys) → AreRenamed p b tables at keys keys' → IsHeaderRenamed p b tables at keys keys'
 header_renamed p b tables at [] [] ends clear way h = record { path = refl; way = refl }
 header_renamed p b tables at [] (k' ∷ ks') ends clear way h = absurd h
 header_renamed p b tables at (k ∷ ks) [] ends clear way h = absurd h
@@ -98,8 +98,8 @@ header_renamed p b tables at (k ∷ l ∷ ks) (k' ∷ []) ends clear way h = abs
 header_renamed p b tables at (k ∷ l ∷ ks) (k' ∷ l' ∷ ks') ends clear way h =
     let f : List Part → List Part = renamed_path p b in
     let q : List Part = at ++ key k ∷ [] in
-    let first = all_left (IsApart b) (passing_mentions tables q) (header_way tables (entered_path tables q) (l ∷ ks)) way in
-    let rest = all_right (IsApart b) (passing_mentions tables q) (header_way tables (entered_path tables q) (l ∷ ks)) way in
+    let first = all_left (IsDisjoint b) (passing_mentions tables q) (header_way tables (entered_path tables q) (l ∷ ks)) way in
+    let rest = all_right (IsDisjoint b) (passing_mentions tables q) (header_way tables (entered_path tables q) (l ∷ ks)) way in
     let hq : strip b q ≡ None = passing_clear tables b q first in
     let e : f at ++ key k' ∷ [] ≡ f q = sym h.0 in
     let entered : entered_path (map f tables) (f at ++ key k' ∷ []) ≡ f (entered_path tables q) = ap (entered_path (map f tables)) e ∙ entered_renamed p b tables q ends clear hq in
@@ -116,18 +116,18 @@ header_renamed p b tables at (k ∷ l ∷ ks) (k' ∷ l' ∷ ks') ends clear way
 pub passing_solid : (tables : List (List Part)) (q : List Part) → SomeOf (IsSolidAt q) (passing_mentions tables q)
 passing_solid tables q = by (entered_path tables q) (0 == elements_of q tables)
   where
-    by : (e : List Part) (c : Bool) → SomeOf (IsSolidAt q) (cond c (record { path = q; says = through } ∷ []) (record { path = q; says = past } ∷ record { path = e; says = passed } ∷ []))
-    by e true = inl (record { path = refl; says = refl })
-    by e false = inl (record { path = refl; says = refl })
+    by : (e : List Part) (c : Bool) → SomeOf (IsSolidAt q) (cond c (record { path = q; kind = through } ∷ []) (record { path = q; kind = past } ∷ record { path = e; kind = passed } ∷ []))
+    by e true = inl (record { path = refl; kind = refl })
+    by e false = inl (record { path = refl; kind = refl })
 
 -- the keys stay where nothing is said of the path itself
-pub keys_kept : (p b : List Part) (tables : List (List Part)) (at : List Part) (keys : List (List ℕ)) → (SomeOf (IsSolidAt p) (header_way tables at keys) → ⊥) → (header_path tables at keys ≡ p → ⊥)
+pub keys_preserved : (p b : List Part) (tables : List (List Part)) (at : List Part) (keys : List (List ℕ)) → (SomeOf (IsSolidAt p) (header_way tables at keys) → ⊥) → (header_path tables at keys ≡ p → ⊥)
     → AreRenamed p b tables at keys keys
-keys_kept p b tables at [] never end = tt
-keys_kept p b tables at (k ∷ []) never end = (renamed_step p b at (key k) end, tt)
-keys_kept p b tables at (k ∷ l ∷ ks) never end =
+keys_preserved p b tables at [] never end = tt
+keys_preserved p b tables at (k ∷ []) never end = (renamed_step p b at (key k) end, tt)
+keys_preserved p b tables at (k ∷ l ∷ ks) never end =
     let q : List Part = at ++ key k ∷ [] in
     let way : List Mention = header_way tables (entered_path tables q) (l ∷ ks) in (
       renamed_step p b at (key k) (λ e. never (some_left (IsSolidAt p) (passing_mentions tables q) way (subst (λ (x : List Part). SomeOf (IsSolidAt x) (passing_mentions tables q)) e (passing_solid tables q)))),
-      keys_kept p b tables (entered_path tables q) (l ∷ ks) (λ s. never (some_right (IsSolidAt p) (passing_mentions tables q) way s)) end,
+      keys_preserved p b tables (entered_path tables q) (l ∷ ks) (λ s. never (some_right (IsSolidAt p) (passing_mentions tables q) way s)) end,
     )

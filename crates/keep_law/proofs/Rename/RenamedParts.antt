@@ -4,25 +4,25 @@ use Rattle.std.specs.Prelude.{◌==◌, position}
 use Rattle.std.proofs.lemmas.List.{append-nil}
 use Rattle.std.proofs.lemmas.List.Quantifiers.{position-Some}
 use Rattle.keep_path.specs.Path.{Part, key, index, same_path}
-use Rattle.keep_meaning.specs.Marks.{Saying, dotted, Mention, below, elements_of, entered_path, passing_mentions, header_path, header_way}
+use Rattle.keep_meaning.specs.Marks.{MentionKind, dotted, Mention, below, elements_of, entered_path, passing_mentions, header_path, header_way}
 use Rattle.keep_meaning.specs.Meaning.{valued_mentions, keyed_mentions}
 use Rattle.keep_law.specs.Look.{strip, without_last}
-use Rattle.keep_law.specs.Lines.{key_fronts}
+use Rattle.keep_law.specs.Lines.{key_prefixes}
 use Rattle.keep_law.proofs.Common.Runs.{SomeOf, some_left, some_right, solid, same_path-sound, strip-append}
 use Rattle.keep_law.proofs.Common.SetLaw.{IsSolidAt, map_twice}
 use Rattle.keep_law.proofs.Common.LineLaws.{Reaches}
 use Rattle.keep_law.proofs.Common.Moves.{moved}
 use Rattle.keep_law.proofs.Common.Cuts.{without_last-snoc}
-use Rattle.keep_law.proofs.Rename.RenamedPath.{IsBeside, renamed_path, under_renamed, apart_renamed, strip_more, renamed_beyond, renamed_step, short_apart, moved_under}
+use Rattle.keep_law.proofs.Rename.RenamedPath.{IsBeside, renamed_path, under_renamed, disjoint_renamed, strip_more, renamed_beyond, renamed_step, short_disjoint, moved_under}
 use Rattle.keep_law.proofs.Rename.RenamedKeys.{AreRenamed, passing_solid}
 
--- the key of that number leads to the path
+-- the key with that number leads to the path
 abbrev pub IsPart : List Part → List (List Part) → List Part → ℕ → List (List ℕ) → Type 0
 IsPart p tables at n [] = ⊥
 IsPart p tables at zero (k ∷ ks) = at ++ key k ∷ [] ≡ p
 IsPart p tables at (suc n) (k ∷ ks) = IsPart p tables (entered_path tables (at ++ key k ∷ [])) n ks
 
--- the keys with the one of that number replaced
+-- the keys with the one with that number replaced
 abbrev pub replaced_key : List ℕ → ℕ → List (List ℕ) → List (List ℕ)
 replaced_key t n [] = []
 replaced_key t zero (k ∷ ks) = t ∷ ks
@@ -50,7 +50,7 @@ entered_under : (p q : List Part) (x : Part) (c : Bool) → Reaches p q → Reac
 entered_under p q x true u = u
 entered_under p q x false u = (u.0 ++ x ∷ [], strip_more p q (x ∷ []) u.0 u.1)
 
--- behind the path the keys stay
+-- after the path the keys stay
 keys_beyond : (p b : List Part) (tables : List (List Part)) (at : List Part) (ks : List (List ℕ)) → Reaches p at → AreRenamed p b tables at ks ks
 keys_beyond p b tables at [] u = tt
 keys_beyond p b tables at (k ∷ ks) u =
@@ -66,11 +66,11 @@ pub keys_renamed : (t : List ℕ) (p b : List Part) (tables : List (List Part)) 
 keys_renamed t p b tables at n [] beside h = absurd h
 keys_renamed t p b tables at zero (k ∷ ks) beside h =
     let q : List Part = at ++ key k ∷ [] in
-    let same : at ≡ beside.front = sym (without_last-snoc at (key k)) ∙ ap without_last (h ∙ beside.was) ∙ without_last-snoc beside.front (key beside.old) in
+    let same : at ≡ beside.prefix = sym (without_last-snoc at (key k)) ∙ ap without_last (h ∙ beside.was) ∙ without_last-snoc beside.prefix (key beside.old) in
     let short : length at < length p = omega (arith, ap length h, length-append at (key k ∷ [])) in
     let v : Reaches p q = ([], ap (strip p) h ∙ strip_self p) in (
       ap (renamed_path p b) h ∙ under_renamed p b p [] (strip_self p) ∙ append-nil b
-          ∙ beside.is ∙ ap (λ (x : List Part). x ++ key t ∷ []) (sym same ∙ sym (apart_renamed p b at (short_apart p at short))),
+          ∙ beside.is ∙ ap (λ (x : List Part). x ++ key t ∷ []) (sym same ∙ sym (disjoint_renamed p b at (short_disjoint p at short))),
       keys_beyond p b tables (entered_path tables q) ks (entered_under p q (index (elements_of q tables - 1)) (0 == elements_of q tables) v),
     )
 keys_renamed t p b tables at (suc n) (k ∷ ks) beside h =
@@ -81,34 +81,34 @@ keys_renamed t p b tables at (suc n) (k ∷ ks) beside h =
 
 -- ---- something is said of the path there
 
-pub part_solid : (p : List Part) (tables : List (List Part)) (at : List Part) (n : ℕ) (keys : List (List ℕ)) (says : Saying) → solid says ≡ true → IsPart p tables at n keys
-    → SomeOf (IsSolidAt p) (header_way tables at keys ++ record { path = header_path tables at keys; says = says } ∷ [])
-part_solid p tables at n [] says s h = absurd h
-part_solid p tables at zero (k ∷ []) says s h = inl (record { path = h; says = s })
-part_solid p tables at (suc n) (k ∷ []) says s h = absurd h
-part_solid p tables at zero (k ∷ l ∷ ks) says s h =
+pub part_solid : (p : List Part) (tables : List (List Part)) (at : List Part) (n : ℕ) (keys : List (List ℕ)) (mention_kind : MentionKind) → solid mention_kind ≡ true → IsPart p tables at n keys
+    → SomeOf (IsSolidAt p) (header_way tables at keys ++ record { path = header_path tables at keys; kind = mention_kind } ∷ [])
+part_solid p tables at n [] mention_kind s h = absurd h
+part_solid p tables at zero (k ∷ []) mention_kind s h = inl (record { path = h; kind = s })
+part_solid p tables at (suc n) (k ∷ []) mention_kind s h = absurd h
+part_solid p tables at zero (k ∷ l ∷ ks) mention_kind s h =
     let q : List Part = at ++ key k ∷ [] in
     let rest : List Mention = header_way tables (entered_path tables q) (l ∷ ks) in
     some_left (IsSolidAt p) (passing_mentions tables q ++ rest) _
     (some_left (IsSolidAt p) (passing_mentions tables q) rest (subst (λ (x : List Part). SomeOf (IsSolidAt x) (passing_mentions tables q)) h (passing_solid tables q)))
-part_solid p tables at (suc n) (k ∷ l ∷ ks) says s h =
+part_solid p tables at (suc n) (k ∷ l ∷ ks) mention_kind s h =
     let q : List Part = at ++ key k ∷ [] in
     let rest : List Mention = header_way tables (entered_path tables q) (l ∷ ks) in
-    let end : List Mention = record { path = header_path tables (entered_path tables q) (l ∷ ks); says = says } ∷ [] in
+    let end : List Mention = record { path = header_path tables (entered_path tables q) (l ∷ ks); kind = mention_kind } ∷ [] in
     subst (SomeOf (IsSolidAt p)) (sym (append_assoc (passing_mentions tables q) rest end))
-    (some_right (IsSolidAt p) (passing_mentions tables q) (rest ++ end) (part_solid p tables (entered_path tables q) n (l ∷ ks) says s h))
+    (some_right (IsSolidAt p) (passing_mentions tables q) (rest ++ end) (part_solid p tables (entered_path tables q) n (l ∷ ks) mention_kind s h))
 
-pub keyed_solid : (p at : List Part) (n : ℕ) (keys : List (List ℕ)) (says : Saying) (ms : List Mention) → solid says ≡ true → IsPart p [] at n keys
-    → SomeOf (IsSolidAt p) (map (below at) (keyed_mentions keys (valued_mentions says ms)))
-keyed_solid p at n [] says ms s h = absurd h
-keyed_solid p at zero (k ∷ []) says ms s h = inl (record { path = h; says = s })
-keyed_solid p at (suc n) (k ∷ []) says ms s h = absurd h
-keyed_solid p at zero (k ∷ l ∷ ks) says ms s h = inl (record { path = h; says = refl })
-keyed_solid p at (suc n) (k ∷ l ∷ ks) says ms s h =
-    inr (subst (SomeOf (IsSolidAt p)) (sym (map_twice at (key k ∷ []) (keyed_mentions (l ∷ ks) (valued_mentions says ms))))
-    (keyed_solid p (at ++ key k ∷ []) n (l ∷ ks) says ms s h))
+pub keyed_solid : (p at : List Part) (n : ℕ) (keys : List (List ℕ)) (mention_kind : MentionKind) (ms : List Mention) → solid mention_kind ≡ true → IsPart p [] at n keys
+    → SomeOf (IsSolidAt p) (map (below at) (keyed_mentions keys (valued_mentions mention_kind ms)))
+keyed_solid p at n [] mention_kind ms s h = absurd h
+keyed_solid p at zero (k ∷ []) mention_kind ms s h = inl (record { path = h; kind = s })
+keyed_solid p at (suc n) (k ∷ []) mention_kind ms s h = absurd h
+keyed_solid p at zero (k ∷ l ∷ ks) mention_kind ms s h = inl (record { path = h; kind = refl })
+keyed_solid p at (suc n) (k ∷ l ∷ ks) mention_kind ms s h =
+    inr (subst (SomeOf (IsSolidAt p)) (sym (map_twice at (key k ∷ []) (keyed_mentions (l ∷ ks) (valued_mentions mention_kind ms))))
+    (keyed_solid p (at ++ key k ∷ []) n (l ∷ ks) mention_kind ms s h))
 
--- the path is a front of the keys' path
+-- the path is a prefix of the keys' path
 pub part_reaches : (p at : List Part) (n : ℕ) (keys : List (List ℕ)) → IsPart p [] at n keys → Reaches p (at ++ map key keys)
 part_reaches p at n [] h = absurd h
 part_reaches p at zero (k ∷ ks) h =
@@ -142,50 +142,50 @@ keyed_renamed p b at (k ∷ l ∷ ks) (k' ∷ l' ∷ ks') ms h u =
     ∙ keyed_renamed p b q (l ∷ ks) (l' ∷ ks') ms h.1 v
     ∙ ap (λ (x : List Part). map (below x) inner') h.0
     ∙ sym (map_twice (f at) (key k' ∷ []) inner') in
-    ap (λ (x : List Part). record { path = x; says = dotted } ∷ map (moved f) (map (below at) (map (below (key k ∷ [])) inner))) h.0
-    ∙ ap (λ (l : List Mention). record { path = f at ++ key k' ∷ []; says = dotted } ∷ l) rest
+    ap (λ (x : List Part). record { path = x; kind = dotted } ∷ map (moved f) (map (below at) (map (below (key k ∷ [])) inner))) h.0
+    ∙ ap (λ (l : List Mention). record { path = f at ++ key k' ∷ []; kind = dotted } ∷ l) rest
 
 -- ---- the number is found
 
 headed : (tables : List (List Part)) (at : List Part) (k l : List ℕ) (xs : List (List (List ℕ)))
-    → map (header_path tables at) (map (λ front. k ∷ front) (map (λ front. l ∷ front) xs)) ≡ map (header_path tables (entered_path tables (at ++ key k ∷ []))) (map (λ front. l ∷ front) xs)
+    → map (header_path tables at) (map (λ prefix. k ∷ prefix) (map (λ prefix. l ∷ prefix) xs)) ≡ map (header_path tables (entered_path tables (at ++ key k ∷ []))) (map (λ prefix. l ∷ prefix) xs)
 headed tables at k l [] = refl
 headed tables at k l (x ∷ xs) = ap (λ (r : List (List Part)). header_path tables (entered_path tables (at ++ key k ∷ [])) (l ∷ x) ∷ r) (headed tables at k l xs)
 
-pub fronts_entered : (tables : List (List Part)) (at : List Part) (k : List ℕ) (ks : List (List ℕ))
-    → map (header_path tables at) (map (λ front. k ∷ front) (key_fronts ks)) ≡ map (header_path tables (entered_path tables (at ++ key k ∷ []))) (key_fronts ks)
-fronts_entered tables at k [] = refl
-fronts_entered tables at k (l ∷ ks) = ap (λ (r : List (List Part)). header_path tables (entered_path tables (at ++ key k ∷ [])) (l ∷ []) ∷ r) (headed tables at k l (key_fronts ks))
+pub prefixes_entered : (tables : List (List Part)) (at : List Part) (k : List ℕ) (ks : List (List ℕ))
+    → map (header_path tables at) (map (λ prefix. k ∷ prefix) (key_prefixes ks)) ≡ map (header_path tables (entered_path tables (at ++ key k ∷ []))) (key_prefixes ks)
+prefixes_entered tables at k [] = refl
+prefixes_entered tables at k (l ∷ ks) = ap (λ (r : List (List Part)). header_path tables (entered_path tables (at ++ key k ∷ [])) (l ∷ []) ∷ r) (headed tables at k l (key_prefixes ks))
 
-header_part : (p : List Part) (tables : List (List Part)) (at d : List Part) (n : ℕ) (keys : List (List ℕ)) → n < length (map (header_path tables at) (key_fronts keys))
-    → get_or (map (header_path tables at) (key_fronts keys)) n d ≡ p → IsPart p tables at n keys
+header_part : (p : List Part) (tables : List (List Part)) (at d : List Part) (n : ℕ) (keys : List (List ℕ)) → n < length (map (header_path tables at) (key_prefixes keys))
+    → get_or (map (header_path tables at) (key_prefixes keys)) n d ≡ p → IsPart p tables at n keys
 header_part p tables at d n [] lt e = absurd (omega arith)
 header_part p tables at d zero (k ∷ ks) lt e = e
 header_part p tables at d (suc n) (k ∷ ks) lt e =
-    let w = fronts_entered tables at k ks in
+    let w = prefixes_entered tables at k ks in
     header_part p tables (entered_path tables (at ++ key k ∷ [])) d n ks (omega (arith, ap length w)) (ap (λ (x : List (List Part)). get_or x n d) (sym w) ∙ e)
 
-pub header_position : (p : List Part) (tables : List (List Part)) (n : ℕ) (keys : List (List ℕ)) → position (same_path p) (map (header_path tables []) (key_fronts keys)) ≡ Some n → IsPart p tables [] n keys
+pub header_position : (p : List Part) (tables : List (List Part)) (n : ℕ) (keys : List (List ℕ)) → position (same_path p) (map (header_path tables []) (key_prefixes keys)) ≡ Some n → IsPart p tables [] n keys
 header_position p tables n keys e =
-    let (lt, here, first) = position-Some (same_path p) (map (header_path tables []) (key_fronts keys)) n [] e in
-    header_part p tables [] [] n keys lt (sym (same_path-sound p (get_or (map (header_path tables []) (key_fronts keys)) n []) here))
+    let (lt, here, first) = position-Some (same_path p) (map (header_path tables []) (key_prefixes keys)) n [] e in
+    header_part p tables [] [] n keys lt (sym (same_path-sound p (get_or (map (header_path tables []) (key_prefixes keys)) n []) here))
 
-pub fronts_beyond : (at : List Part) (k : List ℕ) (xs : List (List (List ℕ)))
-    → map (λ front. at ++ map key front) (map (λ front. k ∷ front) xs) ≡ map (λ front. (at ++ key k ∷ []) ++ map key front) xs
-fronts_beyond at k [] = refl
-fronts_beyond at k (x ∷ xs) =
-    ap (λ (q : List Part). q ∷ map (λ front. at ++ map key front) (map (λ front. k ∷ front) xs)) (sym (append_assoc at (key k ∷ []) (map key x)))
-    ∙ ap (λ (r : List (List Part)). ((at ++ key k ∷ []) ++ map key x) ∷ r) (fronts_beyond at k xs)
+pub prefixes_beyond : (at : List Part) (k : List ℕ) (xs : List (List (List ℕ)))
+    → map (λ prefix. at ++ map key prefix) (map (λ prefix. k ∷ prefix) xs) ≡ map (λ prefix. (at ++ key k ∷ []) ++ map key prefix) xs
+prefixes_beyond at k [] = refl
+prefixes_beyond at k (x ∷ xs) =
+    ap (λ (q : List Part). q ∷ map (λ prefix. at ++ map key prefix) (map (λ prefix. k ∷ prefix) xs)) (sym (append_assoc at (key k ∷ []) (map key x)))
+    ∙ ap (λ (r : List (List Part)). ((at ++ key k ∷ []) ++ map key x) ∷ r) (prefixes_beyond at k xs)
 
-keyval_part : (p at d : List Part) (n : ℕ) (keys : List (List ℕ)) → n < length (map (λ front. at ++ map key front) (key_fronts keys))
-    → get_or (map (λ front. at ++ map key front) (key_fronts keys)) n d ≡ p → IsPart p [] at n keys
+keyval_part : (p at d : List Part) (n : ℕ) (keys : List (List ℕ)) → n < length (map (λ prefix. at ++ map key prefix) (key_prefixes keys))
+    → get_or (map (λ prefix. at ++ map key prefix) (key_prefixes keys)) n d ≡ p → IsPart p [] at n keys
 keyval_part p at d n [] lt e = absurd (omega arith)
 keyval_part p at d zero (k ∷ ks) lt e = e
 keyval_part p at d (suc n) (k ∷ ks) lt e =
-    let w = fronts_beyond at k (key_fronts ks) in
+    let w = prefixes_beyond at k (key_prefixes ks) in
     keyval_part p (at ++ key k ∷ []) d n ks (omega (arith, ap length w)) (ap (λ (x : List (List Part)). get_or x n d) (sym w) ∙ e)
 
-pub keyval_position : (p at : List Part) (n : ℕ) (keys : List (List ℕ)) → position (same_path p) (map (λ front. at ++ map key front) (key_fronts keys)) ≡ Some n → IsPart p [] at n keys
+pub keyval_position : (p at : List Part) (n : ℕ) (keys : List (List ℕ)) → position (same_path p) (map (λ prefix. at ++ map key prefix) (key_prefixes keys)) ≡ Some n → IsPart p [] at n keys
 keyval_position p at n keys e =
-    let (lt, here, first) = position-Some (same_path p) (map (λ front. at ++ map key front) (key_fronts keys)) n [] e in
-    keyval_part p at [] n keys lt (sym (same_path-sound p (get_or (map (λ front. at ++ map key front) (key_fronts keys)) n []) here))
+    let (lt, here, first) = position-Some (same_path p) (map (λ prefix. at ++ map key prefix) (key_prefixes keys)) n [] e in
+    keyval_part p at [] n keys lt (sym (same_path-sound p (get_or (map (λ prefix. at ++ map key prefix) (key_prefixes keys)) n []) here))

@@ -3,25 +3,25 @@ use Rattle.std.proofs.Common.{◌≡◌, ℕ, ◌<◌, List, [], ◌∷◌, ◌+
 use Rattle.keep_path.specs.Path.{Part, key, index}
 use Rattle.keep_meaning.specs.Marks.{Mention, below}
 use Rattle.keep_law.specs.Look.{strip}
-use Rattle.keep_law.proofs.Common.Runs.{AllOf, IsApart, strip-sound, strip-append, strip_both, none_or_some}
-use Rattle.keep_law.proofs.Common.LineLaws.{Reaches, EndsInKey, front_cases, within_first, beyond, one_part, last_from, last_snoc}
+use Rattle.keep_law.proofs.Common.Runs.{AllOf, IsDisjoint, strip-sound, strip-append, strip_both, none_or_some}
+use Rattle.keep_law.proofs.Common.LineLaws.{Reaches, EndsInKey, prefix_cases, within_first, beyond, one_part, last_from, last_snoc}
 use Rattle.keep_law.proofs.Common.SetDocument.{cancel}
 use Rattle.keep_law.proofs.Common.Moves.{moved, IsInjectiveOn}
 
 -- the second path is the first with another last key
 pub record IsBeside (t : List ℕ) (p b : List Part) : Type 0 where
-  pub front : List Part
+  pub prefix : List Part
   pub old : List ℕ
-  pub was : p ≡ front ++ key old ∷ []
-  pub is : b ≡ front ++ key t ∷ []
+  pub was : p ≡ prefix ++ key old ∷ []
+  pub is : b ≡ prefix ++ key t ∷ []
 
 pub ends_old : (t : List ℕ) (p b : List Part) → IsBeside t p b → EndsInKey p
-ends_old t p b h = (h.front, h.old, h.was)
+ends_old t p b h = (h.prefix, h.old, h.was)
 
 pub ends_new : (t : List ℕ) (p b : List Part) → IsBeside t p b → EndsInKey b
-ends_new t p b h = (h.front, t, h.is)
+ends_new t p b h = (h.prefix, t, h.is)
 
--- where the path goes to, by what is left of it behind the old path
+-- where the path goes to, by what is left of it after the old path
 abbrev pub replaced : List Part → List Part → Option (List Part) → List Part
 replaced b q None = q
 replaced b q (Some more) = b ++ more
@@ -32,8 +32,8 @@ renamed_path p b q = replaced b q (strip p q)
 pub under_renamed : (p b q r : List Part) → strip p q ≡ Some r → renamed_path p b q ≡ b ++ r
 under_renamed p b q r e = ap (replaced b q) e
 
-pub apart_renamed : (p b q : List Part) → strip p q ≡ None → renamed_path p b q ≡ q
-apart_renamed p b q e = ap (replaced b q) e
+pub disjoint_renamed : (p b q : List Part) → strip p q ≡ None → renamed_path p b q ≡ q
+disjoint_renamed p b q e = ap (replaced b q) e
 
 -- paths that are not at or under the new one stay different
 pub renamed_injective : (p b : List Part) → IsInjectiveOn (λ q. strip b q ≡ None) (renamed_path p b)
@@ -59,8 +59,8 @@ renamed_step p b q x never = by (none_or_some (strip p q)) (none_or_some (strip 
   where
     by : (strip p q ≡ None) ⊎ Reaches p q → (strip p (q ++ x ∷ []) ≡ None) ⊎ Reaches p (q ++ x ∷ []) → renamed_path p b (q ++ x ∷ []) ≡ renamed_path p b q ++ x ∷ []
     by (inr h) o = renamed_beyond p b q (x ∷ []) h
-    by (inl e) (inl e') = apart_renamed p b (q ++ x ∷ []) e' ∙ ap (λ l. l ++ x ∷ []) (sym (apart_renamed p b q e))
-    by (inl e) (inr u) = elim (front_cases p q (x ∷ []) u.0 u.1) [
+    by (inl e) (inl e') = disjoint_renamed p b (q ++ x ∷ []) e' ∙ ap (λ l. l ++ x ∷ []) (sym (disjoint_renamed p b q e))
+    by (inl e) (inr u) = elim (prefix_cases p q (x ∷ []) u.0 u.1) [
       | within_first v ↦ (let k : None ≡ Some v.0 = sym e ∙ v.1 in absurd cc)
       | beyond c cs w v ↦
           (let (one, none) = one_part c x cs v.0 v.1 in
@@ -76,27 +76,27 @@ not_index p q n ends e =
 pub renamed_index : (p b q : List Part) (n : ℕ) → EndsInKey p → renamed_path p b (q ++ index n ∷ []) ≡ renamed_path p b q ++ index n ∷ []
 renamed_index p b q n ends = renamed_step p b q (index n) (λ e. not_index p q n ends e)
 
--- what is shorter than a path is apart from it
-pub short_apart : (p q : List Part) → length q < length p → strip p q ≡ None
-short_apart p q h = elim (none_or_some (strip p q)) [
+-- what is shorter than a path is disjoint from it
+pub short_disjoint : (p q : List Part) → length q < length p → strip p q ≡ None
+short_disjoint p q h = elim (none_or_some (strip p q)) [
   | inl e ↦ e
   | inr u ↦ (let k : length q ≡ length (p ++ u.0) = ap length (strip-sound p q u.0 u.1) in absurd (omega (arith, k, length-append p u.0)))
 ]
 
 -- ---- mentions
 
-pub moved_apart : (p b : List Part) (ms : List Mention) → AllOf (IsApart p) ms → map (moved (renamed_path p b)) ms ≡ ms
-moved_apart p b [] h = refl
-moved_apart p b (m ∷ ms) h =
-    ap (λ (q : List Part). record { path = q; says = m.says } ∷ map (moved (renamed_path p b)) ms) (apart_renamed p b m.path h.0) ∙ ap (λ l. m ∷ l) (moved_apart p b ms h.1)
+pub moved_disjoint : (p b : List Part) (ms : List Mention) → AllOf (IsDisjoint p) ms → map (moved (renamed_path p b)) ms ≡ ms
+moved_disjoint p b [] h = refl
+moved_disjoint p b (m ∷ ms) h =
+    ap (λ (q : List Part). record { path = q; kind = m.kind } ∷ map (moved (renamed_path p b)) ms) (disjoint_renamed p b m.path h.0) ∙ ap (λ l. m ∷ l) (moved_disjoint p b ms h.1)
 
 pub moved_under : (p b at : List Part) (ms : List Mention) → Reaches p at → map (moved (renamed_path p b)) (map (below at) ms) ≡ map (below (renamed_path p b at)) ms
 moved_under p b at [] h = refl
 moved_under p b at (m ∷ ms) h =
-    ap (λ (q : List Part). record { path = q; says = m.says } ∷ map (moved (renamed_path p b)) (map (below at) ms)) (renamed_beyond p b at m.path h)
+    ap (λ (q : List Part). record { path = q; kind = m.kind } ∷ map (moved (renamed_path p b)) (map (below at) ms)) (renamed_beyond p b at m.path h)
     ∙ ap (λ l. below (renamed_path p b at) m ∷ l) (moved_under p b at ms h)
 
--- seen from outside, the path goes on from a front
+-- seen from outside, the path continues from a prefix
 renamed_both : (s p b q : List Part) → renamed_path (s ++ p) (s ++ b) (s ++ q) ≡ s ++ renamed_path p b q
 renamed_both s p b q = ap (replaced (s ++ b) (s ++ q)) (strip_both s p q) ∙ by (strip p q)
   where
@@ -107,5 +107,5 @@ renamed_both s p b q = ap (replaced (s ++ b) (s ++ q)) (strip_both s p q) ∙ by
 pub moved_below : (s p b : List Part) (ms : List Mention) → map (moved (renamed_path (s ++ p) (s ++ b))) (map (below s) ms) ≡ map (below s) (map (moved (renamed_path p b)) ms)
 moved_below s p b [] = refl
 moved_below s p b (m ∷ ms) =
-    ap (λ (q : List Part). record { path = q; says = m.says } ∷ map (moved (renamed_path (s ++ p) (s ++ b))) (map (below s) ms)) (renamed_both s p b m.path)
+    ap (λ (q : List Part). record { path = q; kind = m.kind } ∷ map (moved (renamed_path (s ++ p) (s ++ b))) (map (below s) ms)) (renamed_both s p b m.path)
     ∙ ap (λ l. below s (moved (renamed_path p b) m) ∷ l) (moved_below s p b ms)

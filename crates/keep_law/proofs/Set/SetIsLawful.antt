@@ -12,14 +12,14 @@ use Rattle.keep_meaning.specs.Fact.{Fact, is_value_fact}
 use Rattle.keep_path.specs.Path.{Part}
 use Rattle.keep_meaning.specs.Rules.{ObeysRules}
 use Rattle.keep_meaning.specs.Marks.{Mention, marks}
-use Rattle.keep_meaning.specs.Meaning.{said_in, value_said, body_fact}
+use Rattle.keep_meaning.specs.Meaning.{mentions_in, mentions_of_value, body_fact}
 use Rattle.keep_meaning.specs.Nodes.{is_node, fact_at}
 use Rattle.keep_path.specs.PathText.{encoded_path}
 use Rattle.keep_law.specs.declared.fault.EditFault.TheVariants as fault
 use Rattle.keep_law.specs.Look.{enclosing}
 use Rattle.keep_law.specs.Changed.{Changed, IsChangeOf, place_of, put}
 use Rattle.keep_law.specs.Values.{Act, replacement, text_of_value}
-use Rattle.keep_law.specs.Edits.{Edit, set, change, changed_or_same, inside}
+use Rattle.keep_law.specs.Edits.{Edit, set, change, changed_or_same, nested}
 use Rattle.keep_law.specs.Refusals.{refusal, refusal_by, has_value, first_that_holds}
 use Rattle.keep_law.specs.Answers.{value_at}
 use Rattle.keep_law.specs.Laws.{GivesText}
@@ -27,13 +27,13 @@ use Rattle.keep_law.proofs.Common.Runs.{Rules}
 use Rattle.std.proofs.lemmas.Bool.{ltb-false}
 use Rattle.std.proofs.lemmas.List.{append-nil}
 use Rattle.keep_law.proofs.Common.Texts.{EachIs, IsAct, replacement-is}
-use Rattle.keep_law.proofs.Common.LineTexts.{change-is, inside-is}
+use Rattle.keep_law.proofs.Common.LineTexts.{change-is, nested-is}
 use Rattle.keep_law.proofs.Common.SetWhole.{IsSetWhole, EachChange}
 use Rattle.keep_law.proofs.Common.Marks.{set_is_right, rules_of_document}
-use Rattle.keep_law.proofs.Common.ValueThere.{IsSome, the_some, some_inside, alone_of_has}
+use Rattle.keep_law.proofs.Common.ValueThere.{IsSome, the_some, some_nested, alone_of_has}
 use Rattle.keep_law.proofs.Common.DoneAtValue.{EachOf, IsDoneAt, IsAtEnd, value_fact-body}
-use Rattle.keep_law.proofs.Common.DoneInDocument.{done_inside}
-use Rattle.keep_law.proofs.Set.SameCuts.{SameCut, AreSameActs, cut_inside}
+use Rattle.keep_law.proofs.Common.DoneInDocument.{done_nested}
+use Rattle.keep_law.proofs.Set.SameCuts.{SameCut, AreSameActs, cut_nested}
 
 pub ends_replacement : (new : Value) → IsAtEnd (replacement new)
 ends_replacement new p ps v = refl
@@ -64,13 +64,13 @@ settable profile limit path new ms h =
 -- ---- set
 
 -- A change exists.
-pub set_exists : (path : List Part) (new : Value) (s : Document) → Rules (said_in s) → has_value path (said_in s) ≡ true → IsSome (change s (set path new))
-set_exists path new s rules h = some_inside (replacement new) (λ v. tt) path s rules (alone_of_has path (said_in s) h)
+pub set_exists : (path : List Part) (new : Value) (s : Document) → Rules (mentions_in s) → has_value path (mentions_in s) ≡ true → IsSome (change s (set path new))
+set_exists path new s rules h = some_nested (replacement new) (λ v. tt) path s rules (alone_of_has path (mentions_in s) h)
 
-pub set_changes : (profile : Profile) (limit : ℕ) (s : Document) (path : List Part) (new : Value) → ObeysRules (marks (said_in s)) → refusal profile limit s (set path new) ≡ None
+pub set_changes : (profile : Profile) (limit : ℕ) (s : Document) (path : List Part) (new : Value) → ObeysRules (marks (mentions_in s)) → refusal profile limit s (set path new) ≡ None
     → (c : Changed Document) × (change s (set path new) ≡ Some c)
 set_changes profile limit s path new obeys h =
-    the_some (change s (set path new)) (set_exists path new s (rules_of_document s obeys) (settable profile limit path new (said_in s) h).valued)
+    the_some (change s (set path new)) (set_exists path new s (rules_of_document s obeys) (settable profile limit path new (mentions_in s) h).valued)
 
 the_of : {A : Type 0} (P : Changed A → Type 0) (o : Option (Changed A)) (c : Changed A) → o ≡ Some c → EachOf P o → P c
 the_of P o c e h = subst (λ o. EachOf P o) e h
@@ -82,8 +82,8 @@ whole_of : (profile : Profile) (s : Document) (e : Edit) (o : Option (Changed Do
 whole_of profile s e o c k h = subst (λ o. EachChange (IsSetWhole profile s e) o) k h
 
 -- What is done with `set` is done at the value of the path.
-pub set_done : (path : List Part) (new : Value) (s : Document) (c : Changed Document) → Rules (said_in s) → change s (set path new) ≡ Some c → IsDoneAt (replacement new) path (said_in s) depth s c
-set_done path new s c rules e = the_of (IsDoneAt (replacement new) path (said_in s) depth s) (change s (set path new)) c e (done_inside (replacement new) (ends_replacement new) path s rules)
+pub set_done : (path : List Part) (new : Value) (s : Document) (c : Changed Document) → Rules (mentions_in s) → change s (set path new) ≡ Some c → IsDoneAt (replacement new) path (mentions_in s) depth s c
+set_done path new s c rules e = the_of (IsDoneAt (replacement new) path (mentions_in s) depth s) (change s (set path new)) c e (done_nested (replacement new) (ends_replacement new) path s rules)
 
 the_done : (new v : Value) (d : Changed Value) → replacement new [] v ≡ Some d → (d.to ≡ new) × (d.old ≡ text_of_value v) × (d.new ≡ text_of_value new)
 the_done new v d e =
@@ -95,17 +95,17 @@ the_done new v d e =
     some_is x y e = cc
 
 -- The new document is no deeper than the limit.
-pub set_depth : (profile : Profile) (limit : ℕ) (path : List Part) (new : Value) (s : Document) (c : Changed Document) → Rules (said_in s) → depth s ≤ limit → refusal profile limit s (set path new) ≡ None
+pub set_depth : (profile : Profile) (limit : ℕ) (path : List Part) (new : Value) (s : Document) (c : Changed Document) → Rules (mentions_in s) → depth s ≤ limit → refusal profile limit s (set path new) ≡ None
     → change s (set path new) ≡ Some c → depth c.to ≤ limit
 set_depth profile limit path new s c rules shallow h e =
     let k = set_done path new s c rules e in
     let (to, old, fresh) = the_done new k.value k.done k.by in
     let d : value_depth k.done.to ≡ value_depth new = ap value_depth to in
-    let m = settable profile limit path new (said_in s) h in
+    let m = settable profile limit path new (mentions_in s) h in
     omega (arith, k.depth, d, m.shallow, shallow)
 
 -- The text grows by no more than the text of the value.
-pub set_growth : (path : List Part) (new : Value) (s : Document) (c : Changed Document) → Rules (said_in s) → change s (set path new) ≡ Some c
+pub set_growth : (path : List Part) (new : Value) (s : Document) (c : Changed Document) → Rules (mentions_in s) → change s (set path new) ≡ Some c
     → length (text c.to) ≤ length (text s) + length (value_text new)
 set_growth path new s c rules e =
     let k = set_done path new s c rules e in
@@ -122,12 +122,12 @@ pub record IsSetLawful (profile : Profile) (limit : ℕ) (s : Document) (path : 
   pub reads : Reads profile limit (put (text s) (place_of c)) c.to
   pub growth : length (text c.to) ≤ length (text s) + length (encoded_path path) + length (value_text new) + 12
 
-pub set_is_lawful : (profile : Profile) (limit : ℕ) (s : Document) (path : List Part) (new : Value) → IsDocument profile s → depth s ≤ limit → ObeysRules (marks (said_in s))
-    → IsValue Wide new → ObeysRules (marks (value_said new)) → refusal profile limit s (set path new) ≡ None
+pub set_is_lawful : (profile : Profile) (limit : ℕ) (s : Document) (path : List Part) (new : Value) → IsDocument profile s → depth s ≤ limit → ObeysRules (marks (mentions_in s))
+    → IsValue Wide new → ObeysRules (marks (mentions_of_value new)) → refusal profile limit s (set path new) ≡ None
     → (c : Changed Document) × IsSetLawful profile limit s path new c
 set_is_lawful profile limit s path new valid shallow obeys value_wide value_obeys h =
-    let rules : Rules (said_in s) = rules_of_document s obeys in
-    let value_valid : IsValue profile new = allowed_value profile new value_wide (settable profile limit path new (said_in s) h).suits in
+    let rules : Rules (mentions_in s) = rules_of_document s obeys in
+    let value_valid : IsValue profile new = allowed_value profile new value_wide (settable profile limit path new (mentions_in s) h).suits in
     let (c, e) = set_changes profile limit s path new obeys h in
     let whole : IsSetWhole profile s (set path new) c = whole_of profile s (set path new) (change s (set path new)) c e (set_is_right profile s path new valid obeys value_valid value_obeys) in
     let low : depth c.to ≤ limit = set_depth profile limit path new s c rules shallow h e in
@@ -141,7 +141,7 @@ own_text more v = replacement v more v
 own_text-is : IsAct own_text
 own_text-is path v = replacement-is v path v
 
-has_of : (path : List Part) (ms : List Mention) (v : Value) → fact_at (path ++ []) ms ≡ fact_at [] (value_said v) → has_value path ms ≡ true
+has_of : (path : List Part) (ms : List Mention) (v : Value) → fact_at (path ++ []) ms ≡ fact_at [] (mentions_of_value v) → has_value path ms ≡ true
 has_of path ms v h =
     let e : fact_at path ms ≡ Some (body_fact v.body) = ap (λ (x : List Part). fact_at x ms) (sym (append-nil path)) ∙ h in
     ap (λ (o : Option Fact). elim o [ None ↦ false | Some f ↦ is_value_fact f ]) e ∙ value_fact-body v.body
@@ -150,8 +150,8 @@ own_cut : (new : Value) → AreSameActs own_text (replacement new)
 own_cut new [] v = (refl, refl)
 own_cut new (p ∷ ps) v = tt
 
--- a value is set where the text stands
-placed : (path : List Part) (s : Document) (new : Value) (c : Changed Document) (o : Option (Changed Document)) → SameCut (Some c) o → EachOf (IsDoneAt (replacement new) path (said_in s) depth s) o
+-- a value is set where the text is
+placed : (path : List Part) (s : Document) (new : Value) (c : Changed Document) (o : Option (Changed Document)) → SameCut (Some c) o → EachOf (IsDoneAt (replacement new) path (mentions_in s) depth s) o
     → place_of (changed_or_same s o) ≡ record { start = length c.before; end = length c.before + length c.old; new = value_text new }
 placed path s new c None h d = absurd h
 placed path s new c (Some x) h d =
@@ -160,13 +160,13 @@ placed path s new c (Some x) h d =
     ∙ ap (λ (z : List ℕ). record { start = length c.before; end = length c.before + length z; new = x.new }) (sym h.1)
     ∙ ap (λ (z : List ℕ). record { start = length c.before; end = length c.before + length c.old; new = z }) (d.new ∙ fresh)
 
-gives_by : (path : List Part) (s : Document) (b : Bool) (o : Option (Changed Document)) → has_value path (said_in s) ≡ b → (b ≡ true → IsSome o)
-    → EachOf (IsDoneAt own_text path (said_in s) depth s) o → EachIs text s o
-    → ((new : Value) → SameCut o (change s (set path new))) → ((new : Value) → EachOf (IsDoneAt (replacement new) path (said_in s) depth s) (change s (set path new)))
+gives_by : (path : List Part) (s : Document) (b : Bool) (o : Option (Changed Document)) → has_value path (mentions_in s) ≡ b → (b ≡ true → IsSome o)
+    → EachOf (IsDoneAt own_text path (mentions_in s) depth s) o → EachIs text s o
+    → ((new : Value) → SameCut o (change s (set path new))) → ((new : Value) → EachOf (IsDoneAt (replacement new) path (mentions_in s) depth s) (change s (set path new)))
     → GivesText path s b (option_map (λ c. c.old) o)
 gives_by path s true None e f d i cuts done = absurd (f refl)
 gives_by path s false None e f d i cuts done = refl
-gives_by path s false (Some c) e f d i cuts done = let k : false ≡ true = sym e ∙ has_of path (said_in s) d.value (d.facts []) in absurd cc
+gives_by path s false (Some c) e f d i cuts done = let k : false ≡ true = sym e ∙ has_of path (mentions_in s) d.value (d.facts []) in absurd cc
 gives_by path s true (Some c) e f d i cuts done =
     let (to, old, fresh) = the_done d.value d.value d.done d.by in (
       c.old,
@@ -182,12 +182,12 @@ gives_by path s true (Some c) e f d i cuts done =
       },
     )
 
-pub get_is_right : (path : List Part) (s : Document) → ObeysRules (marks (said_in s)) → GivesText path s (has_value path (said_in s)) (value_at path s)
+pub get_is_right : (path : List Part) (s : Document) → ObeysRules (marks (mentions_in s)) → GivesText path s (has_value path (mentions_in s)) (value_at path s)
 get_is_right path s obeys =
-    let rules : Rules (said_in s) = rules_of_document s obeys in
-    gives_by path s (has_value path (said_in s)) (inside own_text path s) refl
-    (λ h. some_inside own_text (λ v. tt) path s rules (alone_of_has path (said_in s) h))
-    (done_inside own_text (λ p ps v. refl) path s rules)
-    (inside-is own_text own_text-is path s)
-    (λ new. cut_inside own_text (replacement new) (own_cut new) path s)
-    (λ new. done_inside (replacement new) (ends_replacement new) path s rules)
+    let rules : Rules (mentions_in s) = rules_of_document s obeys in
+    gives_by path s (has_value path (mentions_in s)) (nested own_text path s) refl
+    (λ h. some_nested own_text (λ v. tt) path s rules (alone_of_has path (mentions_in s) h))
+    (done_nested own_text (λ p ps v. refl) path s rules)
+    (nested-is own_text own_text-is path s)
+    (λ new. cut_nested own_text (replacement new) (own_cut new) path s)
+    (λ new. done_nested (replacement new) (ends_replacement new) path s rules)

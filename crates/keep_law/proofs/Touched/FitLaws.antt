@@ -1,8 +1,8 @@
 -- The touched lines of an edit are lines of their own: `touched_lines_are_lines`.
 --
--- A text is cut where its touched lines begin (`fronts`) and where they end (`backs`). So the new text is the old one's front, the
--- text of the new lines, and the old one's end (`pieces`). The new lines are valid and within the limit, since the new document
--- is; and the last of them is empty, or is the last line of the new document.
+-- A text is cut where its touched lines begin (`prefixes`) and where they end (`backs`). So the new text is the old
+-- one's prefix, the text of the new lines, and the old one's end (`pieces`). The new lines are valid and within the
+-- limit, since the new document is; and the last of them is empty, or is the last line of the new document.
 use Rattle.std.proofs.Common.{◌≡◌, ℕ, ◌+◌, ◌-◌, ◌<◌, ◌≤◌, Bool, true, false, List, [], ◌∷◌, ◌++◌, length, take, drop, refl, sym, ap, subst, ◌∙◌, arith, append_assoc, inl, inr, ◌⊎◌}
 use Rattle.std.specs.Prelude.{ltb, leb, if◌then◌else◌, slice_range}
 use Rattle.std.proofs.Common.{le-leb, le-ltb, leb-true, ltb-true, ltb-false}
@@ -28,9 +28,9 @@ use Rattle.keep_law.proofs.Touched.SwapLaws.{FillPage, have_bytes, page_cons, fi
 
 -- ---- lists that all are so
 
-pub all_front : {A : Type 0} (P : A → Type 0) (xs ys : List A) → AllByRecursion P (xs ++ ys) → AllByRecursion P xs
-all_front P [] ys h = tt
-all_front P (x ∷ xs) ys h = (h.0, all_front P xs ys h.1)
+pub all_prefix : {A : Type 0} (P : A → Type 0) (xs ys : List A) → AllByRecursion P (xs ++ ys) → AllByRecursion P xs
+all_prefix P [] ys h = tt
+all_prefix P (x ∷ xs) ys h = (h.0, all_prefix P xs ys h.1)
 
 pub all_back : {A : Type 0} (P : A → Type 0) (xs ys : List A) → AllByRecursion P (xs ++ ys) → AllByRecursion P ys
 all_back P [] ys h = h
@@ -38,11 +38,11 @@ all_back P (x ∷ xs) ys h = all_back P xs ys h.1
 
 -- ---- depth
 
-depth_front : (n : ℕ) (xs ys : List Ended) → lines_depth (xs ++ ys) ≤ n → lines_depth xs ≤ n
-depth_front n [] ys h = omega arith
-depth_front n (x ∷ xs) ys h =
+depth_prefix : (n : ℕ) (xs ys : List Ended) → lines_depth (xs ++ ys) ≤ n → lines_depth xs ≤ n
+depth_prefix n [] ys h = omega arith
+depth_prefix n (x ∷ xs) ys h =
     let k : lines_depth (xs ++ ys) ≤ n = omega (arith, h) in
-    omega (arith, h, depth_front n xs ys k)
+    omega (arith, h, depth_prefix n xs ys k)
 
 depth_back : (n : ℕ) (xs ys : List Ended) → lines_depth (xs ++ ys) ≤ n → lines_depth ys ≤ n
 depth_back n [] ys h = h
@@ -57,37 +57,37 @@ ended_append (x ∷ xs) ys =
     ∙ sym (ap (λ t. t ++ ended_text ys) (text_of-append (ended_leaves x) (flat_map ended_leaves xs)) ∙ append_assoc (text_of (ended_leaves x)) (ended_text xs) (ended_text ys))
 
 -- the lines before the line of a place end where it begins
-pub record Fronts (at : ℕ) (es : List Ended) (p : ℕ) : Type 0 where
+pub record Prefixes (at : ℕ) (es : List Ended) (p : ℕ) : Type 0 where
   pub here : p ≡ at + length (ended_text (lines_before p at es))
   pub behind : List Ended
   pub all : es ≡ lines_before p at es ++ behind
 
-fronts_here : (at : ℕ) (es : List Ended) → Fronts at es at
-fronts_here at es = record {
+prefixes_here : (at : ℕ) (es : List Ended) → Prefixes at es at
+prefixes_here at es = record {
   here = omega (arith, ap (λ xs. length (ended_text xs)) (none_before at es));
   behind = es;
   all = sym (ap (λ xs. xs ++ es) (none_before at es));
 }
 
-pub fronts : (start at : ℕ) (es : List Ended) → HaveBytes es → at ≤ start → Fronts at es (line_of start at es)
-fronts start at [] h low = subst (λ n. Fronts at [] n) (sym (if_true (leb at start) at at (le-leb at start low))) (fronts_here at [])
-fronts start at (e ∷ es) h low = by (leb (at + width (ended_leaves e)) start) refl (λ k. fronts start (at + width (ended_leaves e)) es h.1 k)
+pub prefixes : (start at : ℕ) (es : List Ended) → HaveBytes es → at ≤ start → Prefixes at es (line_of start at es)
+prefixes start at [] h low = subst (λ n. Prefixes at [] n) (sym (if_true (leb at start) at at (le-leb at start low))) (prefixes_here at [])
+prefixes start at (e ∷ es) h low = by (leb (at + width (ended_leaves e)) start) refl (λ k. prefixes start (at + width (ended_leaves e)) es h.1 k)
   where
-    by : (b : Bool) → leb (at + width (ended_leaves e)) start ≡ b → (at + width (ended_leaves e) ≤ start → Fronts (at + width (ended_leaves e)) es (line_of start (at + width (ended_leaves e)) es)) → Fronts at (e ∷ es) (line_of start at (e ∷ es))
+    by : (b : Bool) → leb (at + width (ended_leaves e)) start ≡ b → (at + width (ended_leaves e) ≤ start → Prefixes (at + width (ended_leaves e)) es (line_of start (at + width (ended_leaves e)) es)) → Prefixes at (e ∷ es) (line_of start at (e ∷ es))
     by true t rest =
         let b : ℕ = at + width (ended_leaves e) in
         let k : b ≤ start = leb-true b start t in
         let f = rest k in
         let p : ℕ = line_of start b es in
         let lp : at < p = omega (arith, h.0, line_low start b b es (omega arith)) in
-        let front : lines_before p at (e ∷ es) ≡ e ∷ lines_before p b es = before_step p at e es lp in
-        subst (λ n. Fronts at (e ∷ es) n) (sym (line_step start at e es k))
+        let prefix : lines_before p at (e ∷ es) ≡ e ∷ lines_before p b es = before_step p at e es lp in
+        subst (λ n. Prefixes at (e ∷ es) n) (sym (line_step start at e es k))
         (record {
-          here = omega (arith, f.here, ap (λ xs. length (ended_text xs)) front, ap length (text_of-append (ended_leaves e) (flat_map ended_leaves (lines_before p b es))), length-append (text_of (ended_leaves e)) (ended_text (lines_before p b es)));
+          here = omega (arith, f.here, ap (λ xs. length (ended_text xs)) prefix, ap length (text_of-append (ended_leaves e) (flat_map ended_leaves (lines_before p b es))), length-append (text_of (ended_leaves e)) (ended_text (lines_before p b es)));
           behind = f.behind;
-          all = ap (λ xs. e ∷ xs) f.all ∙ sym (ap (λ xs. xs ++ f.behind) front);
+          all = ap (λ xs. e ∷ xs) f.all ∙ sym (ap (λ xs. xs ++ f.behind) prefix);
         })
-    by false t rest = subst (λ n. Fronts at (e ∷ es) n) (sym (if_true (leb at start) _ at (le-leb at start low) ∙ stop es)) (fronts_here at (e ∷ es))
+    by false t rest = subst (λ n. Prefixes at (e ∷ es) n) (sym (if_true (leb at start) _ at (le-leb at start low) ∙ stop es)) (prefixes_here at (e ∷ es))
       where
         stop : (es : List Ended) → last_to start at (line_starts (at + width (ended_leaves e)) es) ≡ at
         stop [] = if_false (leb (at + width (ended_leaves e)) start) _ at t
@@ -175,8 +175,8 @@ middle a m r from to f t =
     ∙ take-append_seam m r
 
 -- the text of the new document, cut at the touched lines
-cut_again : (x front new back line last : List ℕ) → x ++ ((front ++ (new ++ back)) ++ last) ≡ (x ++ front) ++ (new ++ (back ++ last))
-cut_again x front new back line last = simp append_assoc refl
+cut_again : (x prefix new back line last : List ℕ) → x ++ ((prefix ++ (new ++ back)) ++ last) ≡ (x ++ prefix) ++ (new ++ (back ++ last))
+cut_again x prefix new back line last = simp append_assoc refl
 
 pub record Pieces (s t m : Document) (whole : Span) : Type 0 where
   pub before : List ℕ
@@ -192,30 +192,30 @@ pieces profile s start end t valid low within h =
     let total : ℕ = length (text s) in
     let some : HaveBytes es = have_bytes es (have_newlines profile es valid.ended) in
     let fills = document_fills s in
-    let f = fronts start b es some low in
+    let f = prefixes start b es some low in
     let k = backs end total b es s.last some fills within in
     let p : ℕ = line_of start b es in
     let o : ℕ = next_of end total b es in
     let m : Document = h.lines in
-    let front : List ℕ = ended_text (lines_before p b es) in
+    let prefix : List ℕ = ended_text (lines_before p b es) in
     let back : List ℕ = ended_text (lines_from o b es) in
     let rest : List ℕ = back_text total b es s.last o in
     let size : length (text s) ≡ o + length rest =
     omega (arith, ap length (document_text s), length-append (bom_text s) (page_text (record { ended = es; last = s.last })), ap length k.all, length-append k.before rest, k.here) in
     let text_m : text m ≡ ended_text m.ended ++ line_text m.last = document_text m ∙ ap (λ (x : Bool). text_of (bom_leaves x) ++ page_text (record { ended = m.ended; last = m.last })) h.bom in
-    let lines : ended_text (lines_before p b es ++ (m.ended ++ lines_from o b es)) ≡ front ++ (ended_text m.ended ++ back) =
-    ended_append (lines_before p b es) (m.ended ++ lines_from o b es) ∙ ap (λ x. front ++ x) (ended_append m.ended (lines_from o b es)) in
+    let lines : ended_text (lines_before p b es ++ (m.ended ++ lines_from o b es)) ≡ prefix ++ (ended_text m.ended ++ back) =
+    ended_append (lines_before p b es) (m.ended ++ lines_from o b es) ∙ ap (λ x. prefix ++ x) (ended_append m.ended (lines_from o b es)) in
     let tail : back ++ line_text (if ltb o total then s.last else m.last) ≡ line_text m.last ++ rest = ends (ltb o total) refl h.closed size in
     record {
-      before = bom_text s ++ front;
+      before = bom_text s ++ prefix;
       behind = rest;
       is = ap text h.is ∙ document_text (replaced s (touched s (span start end)) m)
           ∙ ap (λ x. bom_text s ++ (x ++ line_text (if ltb o total then s.last else m.last))) lines
-          ∙ cut_again (bom_text s) front (ended_text m.ended) back (line_text m.last) (line_text (if ltb o total then s.last else m.last))
-          ∙ ap (λ x. (bom_text s ++ front) ++ (ended_text m.ended ++ x)) tail
-          ∙ ap (λ x. (bom_text s ++ front) ++ x) (sym (append_assoc (ended_text m.ended) (line_text m.last) rest))
-          ∙ ap (λ x. (bom_text s ++ front) ++ (x ++ rest)) (sym text_m);
-      start = omega (arith, f.here, length-append (bom_text s) front);
+          ∙ cut_again (bom_text s) prefix (ended_text m.ended) back (line_text m.last) (line_text (if ltb o total then s.last else m.last))
+          ∙ ap (λ x. (bom_text s ++ prefix) ++ (ended_text m.ended ++ x)) tail
+          ∙ ap (λ x. (bom_text s ++ prefix) ++ x) (sym (append_assoc (ended_text m.ended) (line_text m.last) rest))
+          ∙ ap (λ x. (bom_text s ++ prefix) ++ (x ++ rest)) (sym text_m);
+      start = omega (arith, f.here, length-append (bom_text s) prefix);
       end = size;
     }
   where
@@ -261,10 +261,10 @@ touches_lines profile limit s c valid new shallow is h =
       lines = m;
       bom = h.bom;
       reads = record {
-        valid = record { ended = all_front (IsEnded profile) m.ended bs (all_back (IsEnded profile) es (m.ended ++ bs) all); last = last_valid h.closed (ltb whole.end (length (text s))) refl (subst (λ (x : Document). IsLine profile x.last) h.is new.last) };
+        valid = record { ended = all_prefix (IsEnded profile) m.ended bs (all_back (IsEnded profile) es (m.ended ++ bs) all); last = last_valid h.closed (ltb whole.end (length (text s))) refl (subst (λ (x : Document). IsLine profile x.last) h.is new.last) };
         spelled = ap (λ x. slice_range x whole.start (whole.end + length c.new - (end - start))) k.is
             ∙ middle k.before (text m) k.behind whole.start (whole.end + length c.new - (end - start)) k.start (omega (arith, was, now, size, k.end, k.start));
-        shallow = omega (arith, depth_front limit m.ended bs (depth_back limit es (m.ended ++ bs) lines_deep), last_deep h.closed (ltb whole.end (length (text s))) refl (omega (arith, deep)));
+        shallow = omega (arith, depth_prefix limit m.ended bs (depth_back limit es (m.ended ++ bs) lines_deep), last_deep h.closed (ltb whole.end (length (text s))) refl (omega (arith, deep)));
       };
       closed = h.closed;
       is = h.is;

@@ -1,10 +1,11 @@
 -- A change of lines replaces the lines that it touches.
 --
--- `Swaps` says so of a page, the lines of a document, by the places where the change begins and ends. If it holds of a page,
--- it holds of that page with one more line in front (`swaps_step`, `swaps_framed`): the touched lines stay the same ones. So each
--- change comes down to the first line that it touches: lines put in (`swaps_put`), lines taken out (`swaps_drop`, by `Goes`, which
--- says what is left after them), one line changed (`swaps_lines`). A line's change has to begin after the line's first byte or to
--- take a byte (`IsSolid`). Else the first line start at or after its end would be the start of that line.
+-- `Swaps` says so of a page, the lines of a document, by the places where the change begins and ends. If it holds of a
+-- page, it holds of that page with one more line before it (`swaps_step`, `swaps_framed`): the touched lines stay the
+-- same ones. So each change comes down to the first line that it touches: lines put in (`swaps_put`), lines taken out
+-- (`swaps_drop`, by `Leads`, which says what is left after them), one line changed (`swaps_lines`). A line's change has
+-- to begin after the line's first byte or to take a byte (`IsSolid`). Else the first line start at or after its end
+-- would be the start of that line.
 use Rattle.std.proofs.Common.{◌≡◌, ℕ, zero, suc, ◌+◌, ◌<◌, ◌≤◌, Bool, true, false, List, [], ◌∷◌, ◌++◌, length, refl, sym, ap, subst, ◌∙◌, arith, append_assoc, Option, Some, None, inl, inr, ◌⊎◌}
 use Rattle.std.specs.Prelude.{⊤, ltb, leb, if◌then◌else◌}
 use Rattle.std.proofs.Common.{le-leb, le-ltb, ltb-false}
@@ -18,9 +19,9 @@ use Rattle.keep_parts.proofs.Shared.{if_true, if_false}
 use Rattle.keep_law.specs.Changed.{Changed, IsChangeOf, framed_change, within, or_else}
 use Rattle.keep_law.proofs.Common.Texts.{EachIs}
 use Rattle.keep_meaning.specs.Marks.{Reading}
-use Rattle.keep_meaning.specs.Meaning.{behind_line}
-use Rattle.keep_law.proofs.Common.LineTexts.{put_lines-is, drop_front-is, drop_lines-is, in_lines-is}
-use Rattle.keep_law.specs.Lines.{Page, page_text, line_text, ended_text, put_lines, drop_front, drop_lines, in_lines}
+use Rattle.keep_meaning.specs.Meaning.{after_line}
+use Rattle.keep_law.proofs.Common.LineTexts.{put_lines-is, drop_prefix-is, drop_lines-is, in_lines-is}
+use Rattle.keep_law.specs.Lines.{Page, page_text, line_text, ended_text, put_lines, drop_prefix, drop_lines, in_lines}
 use Rattle.keep_syntax.specs.WholeLines.{empty_line, line_starts, last_to, lines_before, lines_from}
 
 -- The page is that of these lines with those that start..end touches replaced: by lines that have newlines, and by another last
@@ -44,12 +45,12 @@ swaps_step total at e es last start end to some there order within s =
     let eo : next_of end total at (e ∷ es) ≡ o = next_step end total at e es (omega (arith, there, order, some)) in
     let lp : at < p = omega (arith, some, line_low start b b es (omega arith)) in
     let lo : at < o = omega (arith, some, there, order, next_high end total b es within) in
-    let front : lines_before (line_of start at (e ∷ es)) at (e ∷ es) ≡ e ∷ lines_before p b es = ap (λ n. lines_before n at (e ∷ es)) ep ∙ before_step p at e es lp in
+    let prefix : lines_before (line_of start at (e ∷ es)) at (e ∷ es) ≡ e ∷ lines_before p b es = ap (λ n. lines_before n at (e ∷ es)) ep ∙ before_step p at e es lp in
     let back : lines_from (next_of end total at (e ∷ es)) at (e ∷ es) ≡ lines_from o b es = ap (λ n. lines_from n at (e ∷ es)) eo ∙ from_step o at e es lo in
     record {
       new = s.new;
       line = s.line;
-      ended = ap (λ xs. e ∷ xs) s.ended ∙ sym (ap (λ xs. xs ++ (s.new ++ lines_from (next_of end total at (e ∷ es)) at (e ∷ es))) front ∙ ap (λ xs. e ∷ (lines_before p b es ++ (s.new ++ xs))) back);
+      ended = ap (λ xs. e ∷ xs) s.ended ∙ sym (ap (λ xs. xs ++ (s.new ++ lines_from (next_of end total at (e ∷ es)) at (e ∷ es))) prefix ∙ ap (λ xs. e ∷ (lines_before p b es ++ (s.new ++ xs))) back);
       last_is = s.last_is ∙ sym (ap (λ n. if ltb n total then last else s.line) eo);
       closed = elim s.closed [ inl h ↦ inl h | inr h ↦ inr (eo ∙ h) ];
     }
@@ -149,17 +150,17 @@ swaps_put total at (suc m) new newline (e ∷ es) last h fills =
 -- ---- lines gone
 
 -- what is left after lines that are taken out, the last of which ended at `end`
-record Goes (total at : ℕ) (es : List Ended) (last : Line) (end : ℕ) (to : Page) : Type 0 where
+record Leads (total at : ℕ) (es : List Ended) (last : Line) (end : ℕ) (to : Page) : Type 0 where
   line : Line
   ended : to.ended ≡ lines_from (next_of end total at es) at es
   last_is : to.last ≡ (if ltb (next_of end total at es) total then last else line)
   closed : (line ≡ empty_line) ⊎ (next_of end total at es ≡ total)
 
-goes_at : (total at : ℕ) (es : List Ended) (last : Line) (to : Page) (t t' : ℕ) → t ≡ t' → Goes total at es last t to → Goes total at es last t' to
-goes_at total at es last to t t' b h = subst (λ n. Goes total at es last n to) b h
+leads_at : (total at : ℕ) (es : List Ended) (last : Line) (to : Page) (t t' : ℕ) → t ≡ t' → Leads total at es last t to → Leads total at es last t' to
+leads_at total at es last to t t' b h = subst (λ n. Leads total at es last n to) b h
 
-goes_here : (total at : ℕ) (es : List Ended) (last : Line) → at ≤ total → Goes total at es last at (record { ended = es; last = last })
-goes_here total at es last within =
+leads_here : (total at : ℕ) (es : List Ended) (last : Line) → at ≤ total → Leads total at es last at (record { ended = es; last = last })
+leads_here total at es last within =
     let s : Stays total at last = stays total at last within in
     let o : next_of at total at es ≡ at = next_here total at es in
     record {
@@ -169,27 +170,27 @@ goes_here total at es last within =
       closed = elim s.closed [ inl k ↦ inl k | inr k ↦ inr (o ∙ k) ];
     }
 
-goes_front : (total at n : ℕ) (es : List Ended) (last : Line) → HaveBytes es → FillPage total at es last → Goes total at es last (at + length (drop_front n es last).old) (drop_front n es last).to
-goes_front total at zero [] last h fills = goes_at total at [] last _ at (at + 0) (omega arith) (goes_here total at [] last (omega (arith, fills)))
-goes_front total at (suc m) [] last h fills =
-    goes_at total at [] last _ total (at + length (line_text last)) (omega (arith, fills))
+leads_prefix : (total at n : ℕ) (es : List Ended) (last : Line) → HaveBytes es → FillPage total at es last → Leads total at es last (at + length (drop_prefix n es last).old) (drop_prefix n es last).to
+leads_prefix total at zero [] last h fills = leads_at total at [] last _ at (at + 0) (omega arith) (leads_here total at [] last (omega (arith, fills)))
+leads_prefix total at (suc m) [] last h fills =
+    leads_at total at [] last _ total (at + length (line_text last)) (omega (arith, fills))
     (record {
       line = empty_line;
       ended = refl;
       last_is = sym (if_false (ltb (next_of total total at []) total) last empty_line (le-ltb (next_of total total at []) total (next_high total total at [] (omega arith))));
       closed = inl refl;
     })
-goes_front total at zero (e ∷ es) last h fills = goes_at total at (e ∷ es) last _ at (at + 0) (omega arith) (goes_here total at (e ∷ es) last (omega (arith, fills)))
-goes_front total at (suc m) (e ∷ es) last h fills =
+leads_prefix total at zero (e ∷ es) last h fills = leads_at total at (e ∷ es) last _ at (at + 0) (omega arith) (leads_here total at (e ∷ es) last (omega (arith, fills)))
+leads_prefix total at (suc m) (e ∷ es) last h fills =
     let b : ℕ = at + width (ended_leaves e) in
-    let c : Changed Page = drop_front m es last in
+    let c : Changed Page = drop_prefix m es last in
     let end : ℕ = b + length c.old in
-    let g : Goes total b es last end c.to = goes_front total b m es last h.1 (fill_rest total at e es last fills) in
-    let was : page_text (record { ended = es; last = last }) ≡ c.before ++ (c.old ++ c.behind) = (drop_front-is m es last).0.was in
+    let g : Leads total b es last end c.to = leads_prefix total b m es last h.1 (fill_rest total at e es last fills) in
+    let was : page_text (record { ended = es; last = last }) ≡ c.before ++ (c.old ++ c.behind) = (drop_prefix-is m es last).0.was in
     let within : end ≤ total = omega (arith, fill_rest total at e es last fills, ap length was, length-append c.before (c.old ++ c.behind), length-append c.old c.behind) in
     let o : next_of end total at (e ∷ es) ≡ next_of end total b es = next_step end total at e es (omega (arith, h.0)) in
     let high : at < next_of end total b es = omega (arith, h.0, next_high end total b es within) in
-    goes_at total at (e ∷ es) last _ end (at + length (text_of (ended_leaves e) ++ c.old)) (omega (arith, length-append (text_of (ended_leaves e)) c.old))
+    leads_at total at (e ∷ es) last _ end (at + length (text_of (ended_leaves e) ++ c.old)) (omega (arith, length-append (text_of (ended_leaves e)) c.old))
     (record {
       line = g.line;
       ended = g.ended ∙ sym (ap (λ n. lines_from n at (e ∷ es)) o ∙ from_step (next_of end total b es) at e es high);
@@ -197,12 +198,12 @@ goes_front total at (suc m) (e ∷ es) last h fills =
       closed = elim g.closed [ inl k ↦ inl k | inr k ↦ inr (o ∙ k) ];
     })
 
-swaps_front : (total at n : ℕ) (es : List Ended) (last : Line) → HaveBytes es → FillPage total at es last → SwapsBy total at es last (drop_front n es last)
-swaps_front total at n es last h fills =
-    let c : Changed Page = drop_front n es last in
-    let g = goes_front total at n es last h fills in
-    let s : at ≡ at + length c.before = omega (arith, ap length (drop_front-is n es last).1) in
-    swaps_at total at es last c.to at (at + length c.before) (at + length c.old) (at + length c.before + length c.old) s (omega (arith, ap length (drop_front-is n es last).1))
+swaps_prefix : (total at n : ℕ) (es : List Ended) (last : Line) → HaveBytes es → FillPage total at es last → SwapsBy total at es last (drop_prefix n es last)
+swaps_prefix total at n es last h fills =
+    let c : Changed Page = drop_prefix n es last in
+    let g = leads_prefix total at n es last h fills in
+    let s : at ≡ at + length c.before = omega (arith, ap length (drop_prefix-is n es last).1) in
+    swaps_at total at es last c.to at (at + length c.before) (at + length c.old) (at + length c.before + length c.old) s (omega (arith, ap length (drop_prefix-is n es last).1))
     (record {
       new = [];
       line = g.line;
@@ -212,8 +213,8 @@ swaps_front total at n es last h fills =
     })
 
 pub swaps_drop : (total at i n : ℕ) (es : List Ended) (last : Line) → HaveBytes es → FillPage total at es last → SwapsBy total at es last (drop_lines i n es last)
-swaps_drop total at i n [] last h fills = swaps_front total at n [] last h fills
-swaps_drop total at zero n (e ∷ es) last h fills = swaps_front total at n (e ∷ es) last h fills
+swaps_drop total at i n [] last h fills = swaps_prefix total at n [] last h fills
+swaps_drop total at zero n (e ∷ es) last h fills = swaps_prefix total at n (e ∷ es) last h fills
 swaps_drop total at (suc j) n (e ∷ es) last h fills =
     swaps_framed total at e es last (drop_lines j n es last) h.0 fills (drop_lines-is j n es last)
     (swaps_drop total (at + width (ended_leaves e)) j n es last h.1 (fill_rest total at e es last fills))
@@ -303,8 +304,8 @@ swaps_lines Good f is solid total at r [] last good good_last h fills = by (f r 
     by None s = tt
     by (Some c) s = swaps_last total at last c fills s
 swaps_lines Good f is solid total at r (e ∷ es) last good good_last h fills =
-    by (f r e.line) (solid r e.line good.0) (in_lines f (behind_line r e.line) es last) (in_lines-is f is (behind_line r e.line) es last)
-    (swaps_lines Good f is solid total (at + width (ended_leaves e)) (behind_line r e.line) es last good.1 good_last h.1 (fill_rest total at e es last fills))
+    by (f r e.line) (solid r e.line good.0) (in_lines f (after_line r e.line) es last) (in_lines-is f is (after_line r e.line) es last)
+    (swaps_lines Good f is solid total (at + width (ended_leaves e)) (after_line r e.line) es last good.1 good_last h.1 (fill_rest total at e es last fills))
   where
     rest : (o : Option (Changed Page)) → EachIs page_text (record { ended = es; last = last }) o → EachSwaps total (at + width (ended_leaves e)) es last o
         → EachSwaps total at (e ∷ es) last (within (λ b. record { ended = e ∷ b.ended; last = b.last }) (text_of (ended_leaves e)) [] o)

@@ -17,12 +17,12 @@ use Rattle.keep_syntax.specs.Numbered.{span}
 use Rattle.keep_syntax.proofs.Shared.{text_of-append, part_begins}
 use Rattle.keep_path.specs.Path.{Part, same_path}
 use Rattle.keep_meaning.specs.Marks.{Reading, start}
-use Rattle.keep_meaning.specs.Meaning.{step, lines, said_in}
+use Rattle.keep_meaning.specs.Meaning.{step, lines, mentions_in}
 use Rattle.keep_law.specs.Look.{strip, holder, item_number, keys_in}
 use Rattle.keep_law.specs.Changed.{Changed, within, or_else, place_of}
 use Rattle.keep_law.specs.Values.{Act, in_value, text_of_value, replacement, put_item, put_named, removal, renaming, rename_part, rename_further, rename_name}
-use Rattle.keep_law.specs.Lines.{line_text, ended_text, Page, with_page, in_document, in_lines, in_content, in_line, rename_content, rename_line, part_paths, put_lines, drop_lines, last_line, begins, goes_dotted, goes_through, body_length, body_end, reading_at, new_line, newline_of, content_text, is_empty}
-use Rattle.keep_law.specs.Edits.{Edit, set, insert, rename, remove, append_table, append_element, inside, at_line, without_lines, end_of, insert_line, change_insert, is_own, clear_line, change_remove, change_rename, change, key_with, name_with, new_keyval, new_header, key_part}
+use Rattle.keep_law.specs.Lines.{line_text, ended_text, Page, with_page, in_document, in_lines, in_content, in_line, rename_content, rename_line, part_paths, put_lines, drop_lines, last_line, begins, leads_dotted, leads_through, body_length, body_end, reading_at, new_line, newline_of, content_text, is_empty}
+use Rattle.keep_law.specs.Edits.{Edit, set, insert, rename, remove, append_table, append_element, nested, at_line, without_lines, end_of, insert_line, change_insert, is_own, clear_line, change_remove, change_rename, change, key_with, name_with, new_keyval, new_header, key_part}
 use Rattle.keep_law.proofs.Common.Texts.{EachIs, IsAct, replacement-is, put_item-is, put_named-is, removal-is, renaming-is}
 use Rattle.keep_law.proofs.Common.LineTexts.{in_line-is, rename_line-is, clear_line-is}
 use Rattle.keep_syntax.specs.WholeLines.{empty_line, begin, touched, replaced}
@@ -82,7 +82,7 @@ document_fills s =
 
 -- ---- solid changes of a line
 
--- bytes stand before what is changed, or what is changed has bytes
+-- bytes come before what is changed, or what is changed has bytes
 frame_solid : (b o n : ℕ) → 0 < n → 0 < n + b + o
 frame_solid b o n h = omega arith
 
@@ -218,8 +218,8 @@ touches_in_lines profile s f h is solid =
     of_page s (in_lines f start s.ended s.last)
     (swaps_lines (IsLine profile) f is solid (length (text s)) (begin s) start s.ended s.last (all_lines profile s.ended h.ended) h.last (have_newlines profile s.ended h.ended) (document_fills s))
 
-touches_inside : (profile : Profile) (act : Act) → IsAct act → (path : List Part) (s : Document) → IsDocument profile s → EachTouches s (inside act path s)
-touches_inside profile act a path s h = touches_in_lines profile s (in_line act path) h (λ r l. in_line-is act a path r l) (λ r l k. solid_in_line act a path r l)
+touches_nested : (profile : Profile) (act : Act) → IsAct act → (path : List Part) (s : Document) → IsDocument profile s → EachTouches s (nested act path s)
+touches_nested profile act a path s h = touches_in_lines profile s (in_line act path) h (λ r l. in_line-is act a path r l) (λ r l k. solid_in_line act a path r l)
 
 touches_at_line : (profile : Profile) (s : Document) (n : ℕ) (contents : List Content) → IsDocument profile s → EachTouches s (at_line s n contents)
 touches_at_line profile s n contents h =
@@ -243,30 +243,30 @@ touches_insert_line profile s a rest value h =
     (λ i. touches_at_line profile s (suc i) (new_keyval (drop (length (reading_at i (lines s)).body) (a ++ rest)) value ∷ []) h) _
     (with_number s (λ i. at_line s (body_end i (lines s)) (blank ∷ new_header (keys_in a) ∷ new_keyval rest value ∷ []))
     (λ i. touches_at_line profile s (body_end i (lines s)) (blank ∷ new_header (keys_in a) ∷ new_keyval rest value ∷ []) h) None tt
-    (last_line (goes_through a) start (lines s)))
-    (last_line (goes_dotted a) start (lines s)))
+    (last_line (leads_through a) start (lines s)))
+    (last_line (leads_dotted a) start (lines s)))
     (end_of s a)
 
 touches_insert : (profile : Profile) (s : Document) (path : List Part) (value : Value) → IsDocument profile s → EachTouches s (change_insert s path value)
 touches_insert profile s path value h =
-    let a : List Part = holder path (said_in s) in
+    let a : List Part = holder path (mentions_in s) in
     let rest : List Part = drop (length a) path in
-    with_number s (λ n. inside (put_item value) path s) (λ n. touches_inside profile (put_item value) (put_item-is value) path s h)
-    (or_else (insert_line s a rest value) (inside (put_named name_with (length rest) value) path s))
-    (touches_or s _ _ (touches_insert_line profile s a rest value h) (touches_inside profile (put_named name_with (length rest) value) (put_named-is name_with (length rest) value) path s h))
-    (item_number path (said_in s))
+    with_number s (λ n. nested (put_item value) path s) (λ n. touches_nested profile (put_item value) (put_item-is value) path s h)
+    (or_else (insert_line s a rest value) (nested (put_named name_with (length rest) value) path s))
+    (touches_or s _ _ (touches_insert_line profile s a rest value h) (touches_nested profile (put_named name_with (length rest) value) (put_named-is name_with (length rest) value) path s h))
+    (item_number path (mentions_in s))
 
 touches_remove : (profile : Profile) (s : Document) (path : List Part) → IsDocument profile s → EachTouches s (change_remove s path)
 touches_remove profile s path h =
     touches_or s _ _ (touches_in_lines profile s (clear_line path) h (λ r l. clear_line-is path r l) (λ r l k. solid_clear path r l))
     (touches_or s _ _ (with_number s (λ i. without_lines s i 1) (λ i. touches_without profile s i 1 h) None tt (last_line (λ r l. is_own path r l.content) start (lines s)))
     (touches_or s _ _ (with_number s (λ i. without_lines s i (suc (body_length (drop (suc i) (lines s))))) (λ i. touches_without profile s i (suc (body_length (drop (suc i) (lines s)))) h) None tt (last_line (begins path) start (lines s)))
-    (touches_inside profile removal removal-is path s h)))
+    (touches_nested profile removal removal-is path s h)))
 
 touches_rename : (profile : Profile) (s : Document) (path : List Part) (name : List ℕ) → IsDocument profile s → EachTouches s (change_rename s path name)
 touches_rename profile s path name h =
     touches_or s _ _ (touches_in_lines profile s (rename_line (key_part name) path) h (λ r l. rename_line-is (key_part name) path r l) (λ r l k. solid_rename profile (key_part name) path r l k))
-    (touches_inside profile (renaming (key_part name)) (renaming-is (key_part name)) path s h)
+    (touches_nested profile (renaming (key_part name)) (renaming-is (key_part name)) path s h)
 
 if_empty : (profile : Profile) (s : Document) (b : Bool) (n m : ℕ) (xs ys : List Content) → IsDocument profile s → EachTouches s (cond b (at_line s n xs) (at_line s m ys))
 if_empty profile s true n m xs ys h = touches_at_line profile s n xs h
@@ -281,7 +281,7 @@ append_by profile s content h (e ∷ es) = if_empty profile s (is_empty s.last) 
 
 -- Every edit replaces the lines that its place touches.
 pub change_touches : (profile : Profile) (s : Document) (e : Edit) → IsDocument profile s → EachTouches s (change s e)
-change_touches profile s (set path value) h = touches_inside profile (replacement value) (replacement-is value) path s h
+change_touches profile s (set path value) h = touches_nested profile (replacement value) (replacement-is value) path s h
 change_touches profile s (insert path value) h = touches_insert profile s path value h
 change_touches profile s (rename path name) h = touches_rename profile s path name h
 change_touches profile s (remove path) h = touches_remove profile s path h

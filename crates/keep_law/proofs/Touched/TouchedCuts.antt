@@ -29,7 +29,7 @@ use Rattle.keep_law.proofs.Common.LineTexts.{change-is}
 use Rattle.keep_law.proofs.Common.Texts.{EachIs}
 use Rattle.keep_law.proofs.Touched.SwapLaws.{have_bytes}
 use Rattle.keep_law.proofs.Touched.TouchLaws.{Touches, EachTouches, have_newlines, change_touches}
-use Rattle.keep_law.proofs.Touched.FitLaws.{all_front, ended_append, bom_text, document_text, Fronts, fronts}
+use Rattle.keep_law.proofs.Touched.FitLaws.{all_prefix, ended_append, bom_text, document_text, Prefixes, prefixes}
 
 -- a part of a text, from character to character
 pub record IsCut (bytes : List ℕ) (part : Span) : Type 0 where
@@ -62,16 +62,16 @@ after_bom true rest u = IsUtf8-past_char (0xEF ∷ 0xBB ∷ 0xBF ∷ rest) rest 
 -- ---- line starts
 
 -- the start of the lines after some of a document's
-start_cut : (profile : Profile) (s : Document) (front more : List Ended) → IsDocument profile s → IsUtf8 (text s) → s.ended ≡ front ++ more → IsCharBoundary (text s) (begin s + length (ended_text front))
-start_cut profile s front more valid utf8 is =
+start_cut : (profile : Profile) (s : Document) (prefix more : List Ended) → IsDocument profile s → IsUtf8 (text s) → s.ended ≡ prefix ++ more → IsCharBoundary (text s) (begin s + length (ended_text prefix))
+start_cut profile s prefix more valid utf8 is =
     let rest : List ℕ = ended_text more ++ line_text s.last in
-    let all : text s ≡ bom_text s ++ (ended_text front ++ rest) =
-    document_text s ∙ ap (λ es. bom_text s ++ (ended_text es ++ line_text s.last)) is ∙ ap (λ x. bom_text s ++ (x ++ line_text s.last)) (ended_append front more)
-    ∙ ap (λ x. bom_text s ++ x) (append_assoc (ended_text front) (ended_text more) (line_text s.last)) in
-    let lines : IsUtf8 (ended_text front ++ rest) = after_bom s.bom (ended_text front ++ rest) (subst IsUtf8 all utf8) in
-    let end : IsUtf8 rest = after_lines profile front rest (all_front (IsEnded profile) front more (subst (λ xs. AllByRecursion (IsEnded profile) xs) is valid.ended)) lines in
-    subst (λ n. IsCharBoundary (text s) n) (length-append (bom_text s) (ended_text front))
-    (IsCharBoundary-at_seam (text s) (bom_text s ++ ended_text front) rest (all ∙ sym (append_assoc (bom_text s) (ended_text front) rest)) end)
+    let all : text s ≡ bom_text s ++ (ended_text prefix ++ rest) =
+    document_text s ∙ ap (λ es. bom_text s ++ (ended_text es ++ line_text s.last)) is ∙ ap (λ x. bom_text s ++ (x ++ line_text s.last)) (ended_append prefix more)
+    ∙ ap (λ x. bom_text s ++ x) (append_assoc (ended_text prefix) (ended_text more) (line_text s.last)) in
+    let lines : IsUtf8 (ended_text prefix ++ rest) = after_bom s.bom (ended_text prefix ++ rest) (subst IsUtf8 all utf8) in
+    let end : IsUtf8 rest = after_lines profile prefix rest (all_prefix (IsEnded profile) prefix more (subst (λ xs. AllByRecursion (IsEnded profile) xs) is valid.ended)) lines in
+    subst (λ n. IsCharBoundary (text s) n) (length-append (bom_text s) (ended_text prefix))
+    (IsCharBoundary-at_seam (text s) (bom_text s ++ ended_text prefix) rest (all ∙ sym (append_assoc (bom_text s) (ended_text prefix) rest)) end)
 
 -- the start of the line of a place is at most that place
 line_most : (start low at : ℕ) (es : List Ended) → low ≤ start → last_to start low (line_starts at es) ≤ start
@@ -88,7 +88,7 @@ line_most start low at (e ∷ es) h = by (leb at start) refl (λ k. line_most st
 
 -- The place is the end of the text, or the start of the lines after some.
 abbrev IsNext : ℕ → ℕ → List Ended → ℕ → Type 0
-IsNext total at es o = (o ≡ total) ⊎ ((front : List Ended) × (more : List Ended) × (es ≡ front ++ more) × (o ≡ at + length (ended_text front)))
+IsNext total at es o = (o ≡ total) ⊎ ((prefix : List Ended) × (more : List Ended) × (es ≡ prefix ++ more) × (o ≡ at + length (ended_text prefix)))
 
 next_start : (end total at : ℕ) (es : List Ended) → IsNext total at es (next_of end total at es)
 next_start end total at [] = by (leb end at) refl
@@ -101,9 +101,9 @@ next_start end total at (e ∷ es) = by (leb end at) refl (next_start end total 
     by : (b : Bool) → leb end at ≡ b → IsNext total (at + width (ended_leaves e)) es (next_of end total (at + width (ended_leaves e)) es) → IsNext total at (e ∷ es) (next_of end total at (e ∷ es))
     by true t h = subst (λ n. IsNext total at (e ∷ es) n) (sym (if_true (leb end at) at _ t)) (inr ([], e ∷ es, refl, omega arith))
     by false t (inl h) = subst (λ n. IsNext total at (e ∷ es) n) (sym (if_false (leb end at) at _ t)) (inl h)
-    by false t (inr (front, more, is, o)) =
+    by false t (inr (prefix, more, is, o)) =
         subst (λ n. IsNext total at (e ∷ es) n) (sym (if_false (leb end at) at _ t))
-        (inr (e ∷ front, more, ap (λ xs. e ∷ xs) is, omega (arith, o, ap length (text_of-append (ended_leaves e) (flat_map ended_leaves front)), length-append (text_of (ended_leaves e)) (ended_text front))))
+        (inr (e ∷ prefix, more, ap (λ xs. e ∷ xs) is, omega (arith, o, ap length (text_of-append (ended_leaves e) (flat_map ended_leaves prefix)), length-append (text_of (ended_leaves e)) (ended_text prefix))))
 
 -- ---- in the old text
 
@@ -111,7 +111,7 @@ pub touched_cut : (profile : Profile) (s : Document) (start end : ℕ) → IsDoc
 touched_cut profile s start end valid utf8 low order within =
     let p : ℕ = line_of start (begin s) s.ended in
     let o : ℕ = next_of end (length (text s)) (begin s) s.ended in
-    let f : Fronts (begin s) s.ended p = fronts start (begin s) s.ended (have_bytes s.ended (have_newlines profile s.ended valid.ended)) low in
+    let f : Prefixes (begin s) s.ended p = prefixes start (begin s) s.ended (have_bytes s.ended (have_newlines profile s.ended valid.ended)) low in
     let starts : IsCharBoundary (text s) p = subst (λ n. IsCharBoundary (text s) n) (sym f.here) (start_cut profile s _ f.behind valid utf8 f.all) in
     let ends : IsCharBoundary (text s) o = end_cut (next_start end (length (text s)) (begin s) s.ended) in
     record {
@@ -123,7 +123,7 @@ touched_cut profile s start end valid utf8 low order within =
   where
     end_cut : IsNext (length (text s)) (begin s) s.ended (next_of end (length (text s)) (begin s) s.ended) → IsCharBoundary (text s) (next_of end (length (text s)) (begin s) s.ended)
     end_cut (inl e) = subst (λ n. IsCharBoundary (text s) n) (sym e) (IsCharBoundary-end (text s))
-    end_cut (inr (front, more, is, e)) = subst (λ n. IsCharBoundary (text s) n) (sym e) (start_cut profile s front more valid utf8 is)
+    end_cut (inr (prefix, more, is, e)) = subst (λ n. IsCharBoundary (text s) n) (sym e) (start_cut profile s prefix more valid utf8 is)
 
 -- ---- in the new text
 
@@ -141,7 +141,7 @@ touched_in_new_cut profile s e c valid utf8 made new =
     let high : length c.before + length c.old ≤ whole.end = next_high (place_of c).end (length (text s)) (begin s) s.ended within in
     let end : ℕ = (touched_in_new s (place_of c)).end in
     let past : ℕ = whole.end - (length c.before + length c.old) in
-    let front : take whole.start (text c.to) ≡ take whole.start (text s) =
+    let prefix : take whole.start (text c.to) ≡ take whole.start (text s) =
     ap (take whole.start) is.is ∙ take-append-le whole.start c.before (c.new ++ c.behind) low ∙ sym (ap (take whole.start) is.was ∙ take-append-le whole.start c.before (c.old ++ c.behind) low) in
     let back : drop end (text c.to) ≡ drop whole.end (text s) =
     after (text c.to) c.before c.new c.behind end past is.is (omega (arith, high)) ∙ sym (after (text s) c.before c.old c.behind whole.end past is.was (omega (arith, high))) in
@@ -149,11 +149,11 @@ touched_in_new_cut profile s e c valid utf8 made new =
     record {
       ordered = omega (arith, low, high);
       within = fits;
-      starts = IsCharBoundary-from_take (text c.to) whole.start new (omega (arith, low, now)) (subst IsUtf8 (sym front) (IsUtf8-take (text s) whole.start utf8 cut.starts));
+      starts = IsCharBoundary-from_take (text c.to) whole.start new (omega (arith, low, now)) (subst IsUtf8 (sym prefix) (IsUtf8-take (text s) whole.start utf8 cut.starts));
       ends = IsCharBoundary-from_drop (text c.to) end fits (subst IsUtf8 (sym back) (IsUtf8-drop (text s) whole.end utf8 cut.ends));
     }
   where
-    -- a text from behind two of its parts on
+    -- a text from after two of its parts on
     after : (bytes a b rest : List ℕ) (n m : ℕ) → bytes ≡ a ++ (b ++ rest) → n ≡ length a + length b + m → drop n bytes ≡ drop m rest
     after bytes a b rest n m e size =
         ap (λ k. drop k bytes) (let k : n ≡ length (a ++ b) + m = omega (arith, size, length-append a b) in k) ∙ ap (drop (length (a ++ b) + m)) (e ∙ sym (append_assoc a b rest)) ∙ drop-append-add (a ++ b) rest m

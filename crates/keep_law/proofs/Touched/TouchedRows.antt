@@ -47,23 +47,23 @@ reread profile s e p =
 abbrev outcome : Row → Document → Outcome
 outcome r s = let p : Place = place s r.edit in record { touched = touched_by s p; scanned = scanned s p; again = reread r.profile s r.edit p }
 
-abbrev told : Row → Result Document Fault → Result Outcome Fault
-told r (Ok s) = Ok (outcome r s)
-told r (Err f) = Err f
+abbrev computed : Row → Result Document Fault → Result Outcome Fault
+computed r (Ok s) = Ok (outcome r s)
+computed r (Err f) = Err f
 
 -- what the row states: the document that is read again is the one that the edit gives
 abbrev stated : Row → Result Document Fault → Result Outcome Fault
 stated r (Ok s) = Ok (record { touched = span r.from r.to; scanned = r.scanned; again = Ok (edited_document s r.edit) })
 stated r (Err f) = Ok (record { touched = span r.from r.to; scanned = r.scanned; again = Err f })
 
-abbrev is_told : Row → Result Outcome Fault
-is_told r = told r (read_document r.profile standard_depth r.old)
+abbrev is_computed : Row → Result Outcome Fault
+is_computed r = computed r (read_document r.profile standard_depth r.old)
 
 abbrev is_stated : Row → Result Outcome Fault
 is_stated r = stated r (read_document r.profile standard_depth r.old)
 
 abbrev AllHold : List Row → Type 0
-AllHold rows = map is_told rows ≡ map is_stated rows
+AllHold rows = map is_computed rows ≡ map is_stated rows
 
 rows : AllHold (
     -- set value before a comment

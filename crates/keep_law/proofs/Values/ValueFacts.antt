@@ -17,7 +17,7 @@ use Rattle.keep_meaning.specs.Fact.{Fact, is_value_fact}
 use Rattle.keep_meaning.specs.KeyText.{text_at}
 use Rattle.keep_path.specs.Path.{Part}
 use Rattle.keep_meaning.specs.Marks.{Mention}
-use Rattle.keep_meaning.specs.Meaning.{string_value, scalar_fact, body_fact, said_in}
+use Rattle.keep_meaning.specs.Meaning.{string_value, scalar_fact, body_fact, mentions_in}
 use Rattle.keep_meaning.specs.Nodes.{fact_at}
 use Rattle.keep_law.specs.Answers.{string_of}
 use Rattle.keep_law.specs.Refusals.{has_value}
@@ -35,21 +35,21 @@ scalar_leaf_fact leaf.InlineOpen t is = absurd (false≢true is)
 scalar_leaf_fact _ t is = refl
 
 -- a body, its leaf and its text tell the same
-body_leaf_fact : (profile : Profile) (body : Body) (inside : Entries) → IsBody profile body → AreEntries profile (place_in body) inside
-    → body_fact body ≡ leaf_fact (leaf_of body) (value_text (record { body = body; inside = inside }))
-body_leaf_fact profile (array first) inside is are = refl
-body_leaf_fact profile (inline first) inside is are = refl
+body_leaf_fact : (profile : Profile) (body : Body) (nested : Entries) → IsBody profile body → AreEntries profile (place_in body) nested
+    → body_fact body ≡ leaf_fact (leaf_of body) (value_text (record { body = body; nested = nested }))
+body_leaf_fact profile (array first) nested is are = refl
+body_leaf_fact profile (inline first) nested is are = refl
 body_leaf_fact profile (scalar w) none is are =
     sym (scalar_leaf_fact w.leaf w.text is.0) ∙ ap (leaf_fact w.leaf) (sym (append-nil w.text))
-body_leaf_fact profile (scalar w) (entry name body inside after comma rest) is are = absurd are.0
+body_leaf_fact profile (scalar w) (entry name body nested after comma rest) is are = absurd are.0
 
 -- The fact at a path is what the leaf and the text of its value mean.
 pub fact_of_leaf : (profile : Profile) (path : List Part) (s : Document) (v : ℕ) (i : ValueInfo) → IsValueOf profile path s v i
-    → fact_at path (said_in s) ≡ Some (leaf_fact i.leaf (text_at (text s) i.span))
+    → fact_at path (mentions_in s) ≡ Some (leaf_fact i.leaf (text_at (text s) i.span))
 fact_of_leaf profile path s v i h =
     let t : List ℕ = value_text h.value in
-    let told : body_fact h.value.body ≡ leaf_fact (leaf_of h.value.body) t = body_leaf_fact profile h.value.body h.value.inside h.valid.body h.valid.inside in
-    h.fact ∙ ap Some (told ∙ ap (λ (l : Leaf). leaf_fact l t) (sym h.leaf) ∙ ap (leaf_fact i.leaf) (sym h.spelled))
+    let stated : body_fact h.value.body ≡ leaf_fact (leaf_of h.value.body) t = body_leaf_fact profile h.value.body h.value.nested h.valid.body h.valid.nested in
+    h.fact ∙ ap Some (stated ∙ ap (λ (l : Leaf). leaf_fact l t) (sym h.leaf) ∙ ap (leaf_fact i.leaf) (sym h.spelled))
 
 -- ---- integers
 
@@ -85,11 +85,11 @@ integer_leaf leaf.End t n e = absurd cc
 
 -- An integer leaf is an integer, that of its text.
 pub integer_at_leaf : (profile : Profile) (path : List Part) (s : Document) (v : ℕ) (i : ValueInfo) → IsValueOf profile path s v i → i.leaf ≡ leaf.Integer
-    → fact_at path (said_in s) ≡ Some (fact.integer (integer_value (text_at (text s) i.span)))
+    → fact_at path (mentions_in s) ≡ Some (fact.integer (integer_value (text_at (text s) i.span)))
 integer_at_leaf profile path s v i h e = fact_of_leaf profile path s v i h ∙ ap (λ (l : Leaf). Some (leaf_fact l (text_at (text s) i.span))) e
 
 -- An integer has an integer leaf, and is that of its text.
-pub leaf_of_integer : (profile : Profile) (path : List Part) (s : Document) (v : ℕ) (i : ValueInfo) (n : ℤ) → IsValueOf profile path s v i → fact_at path (said_in s) ≡ Some (fact.integer n)
+pub leaf_of_integer : (profile : Profile) (path : List Part) (s : Document) (v : ℕ) (i : ValueInfo) (n : ℤ) → IsValueOf profile path s v i → fact_at path (mentions_in s) ≡ Some (fact.integer n)
     → (i.leaf ≡ leaf.Integer) × (n ≡ integer_value (text_at (text s) i.span))
 leaf_of_integer profile path s v i n h e =
     let k : Some (leaf_fact i.leaf (text_at (text s) i.span)) ≡ Some (fact.integer n) = sym (fact_of_leaf profile path s v i h) ∙ e in
@@ -140,7 +140,7 @@ string_leaf leaf.End t = refl
 
 -- The string at a path is what a string leaf there means, and none at another leaf.
 pub string_at_leaf : (profile : Profile) (path : List Part) (s : Document) (v : ℕ) (i : ValueInfo) → IsValueOf profile path s v i
-    → string_of (fact_at path (said_in s)) ≡ string_of_leaf i.leaf (text_at (text s) i.span)
+    → string_of (fact_at path (mentions_in s)) ≡ string_of_leaf i.leaf (text_at (text s) i.span)
 string_at_leaf profile path s v i h = ap string_of (fact_of_leaf profile path s v i h) ∙ string_leaf i.leaf (text_at (text s) i.span)
 
 -- ---- where there is no value
@@ -156,6 +156,6 @@ none_of_table g n t (Some (fact.moment k v)) h = absurd cc
 none_of_table g n t (Some fact.array) h = absurd cc
 none_of_table g n t (Some fact.inline) h = absurd cc
 
--- No string stands where there is no value.
+-- No string is where there is no value.
 pub no_string : (path : List Part) (ms : List Mention) → has_value path ms ≡ false → string_of (fact_at path ms) ≡ None
 no_string path ms h = none_of_table string_of refl refl (fact_at path ms) h

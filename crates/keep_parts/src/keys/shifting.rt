@@ -1,17 +1,17 @@
 //! Packed key parts whose places are moved.
 ghost use Rattle.keep_parts.specs.Shifting as spec;
 
-use super::NarrowKeyPart;
+use super::PackedKeyPart;
 use crate::moves::Counts;
 use crate::shift::{Shift, fits_u32, shifted_u32};
 
-impl Shift for NarrowKeyPart {
+impl Shift for PackedKeyPart {
     ghost shifted = { spec.shifted_key };
 
     ghost CanShift = { spec.CanShiftKey };
 
     fn shift(self, old: &Counts, new: &Counts) -> Self {
-        NarrowKeyPart {
+        PackedKeyPart {
             start: shifted_u32(self.start, old.at, new.at),
             len: self.len,
             leaf: self.leaf,

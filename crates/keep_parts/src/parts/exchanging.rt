@@ -36,7 +36,9 @@ pub fn allocator(parts: &Parts) -> Global {
 pub fn is_packed(parts: &Parts) -> bool
     ensures { IsTrue result → spec.IsPacked parts.now }
 {
-    parts.statements.wide.is_empty() && parts.keys.wide.is_empty() && parts.values.wide.is_empty()
+    parts.statements.unpacked.is_empty()
+        && parts.keys.unpacked.is_empty()
+        && parts.values.unpacked.is_empty()
 }
 
 /// Whether the numbers of all packed parts from a count on can be moved in place.
@@ -44,12 +46,12 @@ pub fn can_shift(parts: &Parts, from: &Counts, old: &Counts, new: &Counts) -> bo
     ensures { IsTrue result → spec.CanShift from.now old.now new.now parts.now }
 {
     all_can_shift(
-        parts.statements.narrow.as_slice(),
+        parts.statements.packed.as_slice(),
         from.statements,
         old,
         new,
-    ) && all_can_shift(parts.keys.narrow.as_slice(), from.keys, old, new)
-        && all_can_shift(parts.values.narrow.as_slice(), from.values, old, new)
+    ) && all_can_shift(parts.keys.packed.as_slice(), from.keys, old, new)
+        && all_can_shift(parts.values.packed.as_slice(), from.values, old, new)
 }
 
 // Whether it is a range of so many elements.
@@ -67,10 +69,10 @@ pub fn is_run(parts: &Parts, from: &Counts, to: &Counts) -> bool
         && is_range(
             from.statements,
             to.statements,
-            parts.statements.narrow.len(),
+            parts.statements.packed.len(),
         )
-        && is_range(from.keys, to.keys, parts.keys.narrow.len())
-        && is_range(from.values, to.values, parts.values.narrow.len())
+        && is_range(from.keys, to.keys, parts.keys.packed.len())
+        && is_range(from.values, to.values, parts.values.packed.len())
 }
 
 /// Moves all numbers, and puts other places of tokens there.
@@ -78,9 +80,9 @@ pub fn shift_all(parts: &mut Parts, old: &Counts, new: &Counts, starts: Starts)
     ensures shifted { spec.IsShifted old.now new.now parts.old parts.new }
     ensures starts { parts.new.starts ≡ starts }
 {
-    shift_from(&mut parts.statements.narrow, 0, old, new);
-    shift_from(&mut parts.keys.narrow, 0, old, new);
-    shift_from(&mut parts.values.narrow, 0, old, new);
+    shift_from(&mut parts.statements.packed, 0, old, new);
+    shift_from(&mut parts.keys.packed, 0, old, new);
+    shift_from(&mut parts.values.packed, 0, old, new);
     parts.starts = starts;
 }
 
@@ -111,18 +113,18 @@ pub fn reserve(
 {
     reserve_run(&mut parts.kinds, &mut run.kinds, to.tokens - from.tokens)?;
     reserve_run(
-        &mut parts.statements.narrow,
-        &mut run.statements.narrow,
+        &mut parts.statements.packed,
+        &mut run.statements.packed,
         to.statements - from.statements,
     )?;
     reserve_run(
-        &mut parts.keys.narrow,
-        &mut run.keys.narrow,
+        &mut parts.keys.packed,
+        &mut run.keys.packed,
         to.keys - from.keys,
     )?;
     reserve_run(
-        &mut parts.values.narrow,
-        &mut run.values.narrow,
+        &mut parts.values.packed,
+        &mut run.values.packed,
         to.values - from.values,
     )
 }
@@ -149,26 +151,26 @@ pub fn exchange_parts(
         new,
     );
     exchange_run(
-        &mut parts.statements.narrow,
+        &mut parts.statements.packed,
         from.statements,
         to.statements,
-        &mut run.statements.narrow,
+        &mut run.statements.packed,
         old,
         new,
     );
     exchange_run(
-        &mut parts.keys.narrow,
+        &mut parts.keys.packed,
         from.keys,
         to.keys,
-        &mut run.keys.narrow,
+        &mut run.keys.packed,
         old,
         new,
     );
     exchange_run(
-        &mut parts.values.narrow,
+        &mut parts.values.packed,
         from.values,
         to.values,
-        &mut run.values.narrow,
+        &mut run.values.packed,
         old,
         new,
     );

@@ -1,17 +1,17 @@
 //! Packed statements whose numbers are moved.
 ghost use Rattle.keep_parts.specs.Shifting as spec;
 
-use super::NarrowStatement;
+use super::PackedStatement;
 use crate::moves::Counts;
 use crate::shift::{Shift, fits_u32, shifted_u32};
 
-impl Shift for NarrowStatement {
+impl Shift for PackedStatement {
     ghost shifted = { spec.shifted_statement };
 
     ghost CanShift = { spec.CanShiftStatement };
 
     fn shift(self, old: &Counts, new: &Counts) -> Self {
-        NarrowStatement {
+        PackedStatement {
             kind: self.kind,
             has_value: self.has_value,
             keys: self.keys,

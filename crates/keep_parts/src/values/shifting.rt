@@ -2,7 +2,7 @@
 ghost use Rattle.std.specs.Prelude.{◌≡◌};
 ghost use Rattle.keep_parts.specs.Shifting as spec;
 
-use super::{NarrowValue, Within};
+use super::{PackedValue, Within};
 use crate::moves::Counts;
 use crate::shift::{Shift, fits_u32, fits_usize, shifted_u32, shifted_usize};
 
@@ -16,13 +16,13 @@ fn owners_of(within: Within, counts: &Counts) -> usize
     }
 }
 
-impl Shift for NarrowValue {
+impl Shift for PackedValue {
     ghost shifted = { spec.shifted_value };
 
     ghost CanShift = { spec.CanShiftValue };
 
     fn shift(self, old: &Counts, new: &Counts) -> Self {
-        NarrowValue {
+        PackedValue {
             leaf: self.leaf,
             within: self.within,
             depth: self.depth,

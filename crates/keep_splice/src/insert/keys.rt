@@ -34,7 +34,7 @@ pub(crate) fn push_keys(
     Ok(())
 }
 
-/// Adds a step if it is a key, behind a dot if it is a further one. Returns whether the next key is a further one.
+/// Adds a step if it is a key, after a dot if it is a further one. Returns whether the next key is a further one.
 fn push_step(alloc: Global, out: &mut String, dot: bool, step: &Step) -> Result<bool, AllocError>
     ensures { IfOk result (λ further. AddsStep dot further (part_of step.now) (string_bytes out.old) (string_bytes out.new)) }
 {

@@ -1,4 +1,4 @@
-//! Lines that are put in: behind which line, and with what around the keyval.
+//! Lines that are put in: after which line, and with what around the keyval.
 ghost use Rattle.std.specs.Prelude.{◌≡◌, ◌++◌, ◌∷◌, ◌≤◌, ◌<◌, ℕ, List, Some, false, length, take, drop, OnOk, string_bytes};
 ghost use Rattle.std.specs.List.{list_any};
 ghost use Rattle.keep_syntax.specs.Numbered as numbered;
@@ -65,9 +65,9 @@ impl<'a> DocumentRef<'a> {
         Ok(())
     }
 
-    /// Adds an empty line, a header and a line with a keyval, to be put in at a byte offset at which a line ends: a newline
-    /// comes first if that line has none. The keys before step number `from` of the path are the header's, those behind it the
-    /// keyval's. The only error is out of memory.
+    /// Adds an empty line, a header and a line with a keyval, to be put in at a byte offset at which a line ends: a
+    /// newline comes first if that line has none. The keys before step number `from` of the path are the header's,
+    /// those after it the keyval's. The only error is out of memory.
     pub(crate) fn push_section(
         &self,
         alloc: Global,
@@ -118,7 +118,7 @@ impl<'a> DocumentRef<'a> {
         at > self.lines_start() && self.text.as_bytes()[at - 1] != b'\n'
     }
 
-    /// The byte offset at which the first line begins: behind a byte order mark.
+    /// The byte offset at which the first line begins: after a byte order mark.
     fn lines_start(&self) -> usize
         requires { IsAccepted self.now }
         ensures { (s : tree.Document) → IsTextOfTree self.now s → result ≡ lines_start s }

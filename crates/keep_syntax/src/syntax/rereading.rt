@@ -52,7 +52,8 @@ impl Syntax {
         }
     }
 
-    /// The same. A number that no machine word holds is answered as out of memory: a text that memory holds has none.
+    /// Puts the parts of both syntaxes together. A number that no machine word holds is answered as out of memory: a
+    /// text that memory holds has none.
     fn put_lines(&mut self, whole: Span, lines: &str, limits: Limits) -> Result<Replaced, ReadFault>
         requires { spec.MayReread limits.profile limits.depth self.old whole lines.now }
         ensures read { (d m : Document) → spec.IsSyntaxOf self.old d → spec.CanReplace limits.profile limits.depth d whole lines.now m

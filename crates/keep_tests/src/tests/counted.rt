@@ -43,12 +43,12 @@ fn an_error_comes_through_as_the_inner_one_answered_it(rt: HostRuntime) {
         let mut input = Counted::new(Failing { code });
         let answer = input.read(&mut [0; 4]);
         assert!(rt; is_error(&answer, code, kind), "reading: {code}");
-        assert_eq!(rt; input.turns(), 1);
+        assert_eq!(rt; input.calls(), 1);
         assert!(rt; input.failed());
         let mut output = Counted::new(Failing { code });
         let answer = output.write(b"abc");
         assert!(rt; is_error(&answer, code, kind), "writing: {code}");
-        assert_eq!(rt; output.turns(), 1);
+        assert_eq!(rt; output.calls(), 1);
         assert!(rt; output.failed());
     }
 }
@@ -96,7 +96,10 @@ fn a_read_asks_the_inner_one_once_for_the_whole_buffer(rt: HostRuntime) {
         let mut input = Counted::new(make_remembering());
         let answer = input.read(&mut buffer[..size]);
         let count = size.saturating_sub(1);
-        assert!(rt; matches!(&answer, Ok(told) if *told == count), "of {size}");
+        assert!(rt;
+            matches!(&answer, Ok(stated) if *stated == count),
+            "of {size}"
+        );
         let given = buffer.iter().filter(|byte| **byte == b'x').count();
         assert_eq!(rt; given, count, "of {size}");
         let inner = input.into_inner();
@@ -111,7 +114,10 @@ fn a_write_gives_the_inner_one_the_whole_buffer_once(rt: HostRuntime) {
         let mut output = Counted::new(make_remembering());
         let answer = output.write(&b"abcd"[..size]);
         let count = size.saturating_sub(1);
-        assert!(rt; matches!(&answer, Ok(told) if *told == count), "of {size}");
+        assert!(rt;
+            matches!(&answer, Ok(stated) if *stated == count),
+            "of {size}"
+        );
         let inner = output.into_inner();
         assert_eq!(rt; inner.calls, 1, "of {size}");
         assert_eq!(rt; inner.asked, size);

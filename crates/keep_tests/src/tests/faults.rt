@@ -14,7 +14,7 @@ fn ends_with(alloc: Global, fault: &RunFault, wanted: &str) -> Result<(), Fail> 
 }
 
 #[test]
-fn a_refused_edit_is_told_with_its_number(rt: HostRuntime) -> Result<(), Fail> {
+fn a_refused_edit_is_reported_with_its_number(rt: HostRuntime) -> Result<(), Fail> {
     const CASES: &[(usize, EditFault, &str)] = &[
         (1, EditFault::NotValue, "edit 1: NotValue"),
         (2, EditFault::TooDeep, "edit 2: TooDeep"),

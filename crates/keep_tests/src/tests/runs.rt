@@ -8,7 +8,7 @@ use std::io;
 use std::io::{ErrorKind, Read, Write};
 use std::test::Fail;
 
-// A reader of these bytes, at most `step` a turn, which fails at the turn `fails_at`.
+// A reader of these bytes, at most `step` a call, which fails at the call `fails_at`.
 #[derive(Drop)]
 struct Steps<'a> {
     bytes: &'a [u8],
@@ -27,8 +27,8 @@ impl Read for Steps<'_> {
             return Err(io::Error::from(kind));
         }
         let count = self.step.min(buf.len()).min(self.bytes.len());
-        let (front, rest) = self.bytes.split_at(count);
-        buf[..count].copy_from_slice(front);
+        let (prefix, rest) = self.bytes.split_at(count);
+        buf[..count].copy_from_slice(prefix);
         self.bytes = rest;
         Ok(count)
     }
@@ -111,21 +111,21 @@ fn same(found: &str, wanted: &str) -> Result<(), Fail> {
     Err(Fail::new(format_args!("{found:?}, not {wanted:?}")))
 }
 
-// What came of a run: the bytes that it tells to have written or its fault, the turns of the input and the calls of the
+// What came of a run: the bytes that it tells to have written or its fault, the reads of the input and the calls of the
 // output and whether one of them failed, and what the output took.
-fn told_of(
+fn report_of(
     alloc: Global,
     ran: Result<Done, RunFault>,
     input: (u64, bool),
     output: Counted<Sink>,
 ) -> Result<String, Fail> {
-    let (turns, has_failed) = input;
-    let calls = (output.turns(), output.failed());
+    let (reads, has_failed) = input;
+    let calls = (output.calls(), output.failed());
     let taken = output.into_inner().taken;
     let text = str::from_utf8(taken.as_slice())?;
     let end = end_of(alloc, ran)?;
     let (calls, is_refused) = calls;
-    Ok(format!(in alloc; "{end}; {turns} {has_failed}; {calls} {is_refused}; {text}")?)
+    Ok(format!(in alloc; "{end}; {reads} {has_failed}; {calls} {is_refused}; {text}")?)
 }
 
 fn end_of(alloc: Global, ran: Result<Done, RunFault>) -> Result<String, AllocError> {
@@ -145,7 +145,7 @@ fn run_over<R: Read + Drop>(
     requires output { IsFresh output }
 {
     let ran = run(alloc, command, &mut input, &mut output);
-    told_of(alloc, ran, (input.turns(), input.failed()), output)
+    report_of(alloc, ran, (input.calls(), input.failed()), output)
 }
 
 // Fails unless a run of this command comes to what is wanted.
@@ -160,12 +160,12 @@ fn comes_to<R: Read + Drop>(
     requires output { IsFresh output }
 {
     let command = command?;
-    let told = run_over(alloc, &command, input, output)?;
-    same(told.as_str(), wanted)
+    let stated = run_over(alloc, &command, input, output)?;
+    same(stated.as_str(), wanted)
 }
 
 #[test]
-fn an_error_of_any_kind_at_any_turn_is_told(rt: HostRuntime) -> Result<(), Fail> {
+fn an_error_of_any_kind_at_any_call_is_reported(rt: HostRuntime) -> Result<(), Fail> {
     const KINDS: &[ErrorKind] = &[
         ErrorKind::Interrupted,
         ErrorKind::WouldBlock,
@@ -339,7 +339,7 @@ fn push_set(
 
 // The words of the program tell one edit alone, so these are no rows over it.
 #[test]
-fn edits_are_made_in_turn(rt: HostRuntime) -> Result<(), Fail> {
+fn edits_are_made_in_order(rt: HostRuntime) -> Result<(), Fail> {
     const CASES: &[(&str, &[(&str, &str)], &str)] = &[
         ("", &[], "wrote 0; 1 false; 0 false; "),
         (

@@ -1,4 +1,4 @@
--- A copy is what the part means, and where there is no escape, what stands between the marks is.
+-- A copy is what the part means, and where there is no escape, what is between the marks is.
 use Rattle.std.proofs.Common.{◌≡◌, ap, ◌∙◌, sym}
 use Rattle.std.specs.List.{list_any}
 use Rattle.keep_token.specs.declared.leaf.Leaf.TheVariants.{BareKey}

@@ -4,7 +4,7 @@ use Rattle.keep_nodes.specs.AllNodes.{Node, no_node, node_at}
 use Rattle.keep_nodes.specs.Stored.{IsStored, trie_of, infos_of}
 use Rattle.keep_nodes.specs.Facts.{joined_facts, info_of}
 use Rattle.keep_nodes.proofs.PackedLemmas.{info_joined}
-use Rattle.keep_nodes.proofs.StoredLemmas.{IsChanged, trie_of_kept, stored_kept, infos_changed}
+use Rattle.keep_nodes.proofs.StoredLemmas.{IsChanged, trie_of_preserved, stored_preserved, infos_changed}
 use Rattle.keep_nodes.proofs.nodes.add_facts.Goals as goal
 
 old : goal.After-join_facts → Node
@@ -19,11 +19,11 @@ is_changed c = record { stored = c.requires.stored; within = c.requires.within; 
 
 pub returns-clause-same : goal.returns-clause-same
 unfolding old changed
-returns-clause-same c = OnOk-map c.join_facts.result _ _ (λ is. ap trie_of is ∙ trie_of_kept c.args.nodes.now.items c.args.id no_node (changed c) (is_changed c) c.role-role.ensures) c.join_facts.ensures
+returns-clause-same c = OnOk-map c.join_facts.result _ _ (λ is. ap trie_of is ∙ trie_of_preserved c.args.nodes.now.items c.args.id no_node (changed c) (is_changed c) c.role-role.ensures) c.join_facts.ensures
 
 pub returns-clause-stored : goal.returns-clause-stored
 unfolding old changed
-returns-clause-stored c = OnOk-map c.join_facts.result _ _ (λ is. subst IsStored (sym is) (stored_kept c.args.nodes.now.items c.args.id no_node (changed c) (is_changed c) c.role-role.ensures)) c.join_facts.ensures
+returns-clause-stored c = OnOk-map c.join_facts.result _ _ (λ is. subst IsStored (sym is) (stored_preserved c.args.nodes.now.items c.args.id no_node (changed c) (is_changed c) c.role-role.ensures)) c.join_facts.ensures
 
 pub returns-clause-infos : goal.returns-clause-infos
 unfolding old changed

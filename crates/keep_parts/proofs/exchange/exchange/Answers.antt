@@ -1,6 +1,6 @@
 use Rattle.std.proofs.Common.{◌≡◌, ◌-◌, ◌++◌, length, take, drop, slice_range, ap, sym, ◌∙◌, arith, vec_len, append_assoc}
 use Rattle.std.proofs.lemmas.List.{length-append, length-drop, take_rest}
-use Rattle.keep_parts.proofs.ExchangeLaws.{three, take_front, drop_front, take_length, range_length}
+use Rattle.keep_parts.proofs.ExchangeLaws.{three, take_prefix, drop_prefix, take_length, range_length}
 use Rattle.keep_parts.proofs.exchange.exchange.Goals as goal
 
 -- all four runs, the one that leaves at the end
@@ -30,7 +30,7 @@ returns-clause-items g c =
     let d = drop to xs in
     let together : a ++ (ns ++ (d ++ b)) ≡ (a ++ (ns ++ d)) ++ b = ap (λ ys. a ++ ys) (sym (append_assoc ns d b)) ∙ sym (append_assoc a (ns ++ d) b) in
     c.truncate.ensures.items ∙ ap (take (c.len.result - (to - from))) (swapped g c ∙ together)
-    ∙ take_front (a ++ (ns ++ d)) b (c.len.result - (to - from))
+    ∙ take_prefix (a ++ (ns ++ d)) b (c.len.result - (to - from))
     (omega (arith, length-append a (ns ++ d), length-append ns d, take_length xs from (omega (arith, c.requires.order, c.requires.within, l)), length-drop to xs, l, m, c.len.ensures, c.swap_runs_in.ensures.len, c.in-Ok.ensures.len, c.requires.order, c.requires.within))
 
 pub returns-clause-gone : goal.returns-clause-gone
@@ -47,7 +47,7 @@ returns-clause-gone g c =
     let together : a ++ (ns ++ (d ++ b)) ≡ (a ++ (ns ++ d)) ++ b = ap (λ ys. a ++ ys) (sym (append_assoc ns d b)) ∙ sym (append_assoc a (ns ++ d) b) in
     let n : length (a ++ (ns ++ d)) ≡ c.len.result - (to - from) =
     omega (arith, length-append a (ns ++ d), length-append ns d, take_length xs from (omega (arith, c.requires.order, c.requires.within, l)), length-drop to xs, l, m, c.len.ensures, c.swap_runs_in.ensures.len, c.in-Ok.ensures.len, c.requires.order, c.requires.within) in
-    let rest : drop (c.len.result - (to - from)) c.swap_runs_in.new.items.items ≡ b = ap (drop (c.len.result - (to - from))) (swapped g c ∙ together) ∙ drop_front (a ++ (ns ++ d)) b (c.len.result - (to - from)) n in
+    let rest : drop (c.len.result - (to - from)) c.swap_runs_in.new.items.items ≡ b = ap (drop (c.len.result - (to - from))) (swapped g c ∙ together) ∙ drop_prefix (a ++ (ns ++ d)) b (c.len.result - (to - from)) n in
     let all : c.extend_from_slice.new.self.items ≡ drop (c.len.result - (to - from)) c.swap_runs_in.new.items.items =
     c.in-Ok-extend_from_slice.ensures.items ∙ ap (λ ys. ys ++ take (length c.deref.result.now - (c.len.result - (to - from))) (drop (c.len.result - (to - from)) c.deref.result.now)) c.in-Ok.ensures.other_items
     ∙ take_rest c.deref.result.now (c.len.result - (to - from)) ∙ ap (drop (c.len.result - (to - from))) c.deref.ensures.value in

@@ -4,8 +4,8 @@ use Rattle.keep_parts.proofs.ExchangeLaws.{first_to_end}
 use Rattle.keep_parts.proofs.exchange.swap_runs.Goals as goal
 
 pub returns : goal.returns
-returns g c = λ front mid back new is a b before.
-    c.to_end.ensures (front ++ new) mid back
-    (c.to_start.ensures (front ++ (mid ++ back)) new is (omega (arith, before, length-append front (mid ++ back), length-append mid back)) ∙ first_to_end front mid back new c.args.from a)
-    (omega (arith, a, before, length-append front new, ap length is, length-append (front ++ (mid ++ back)) new, length-append front (mid ++ back), length-append mid back)) b
-    ∙ append_assoc front new (back ++ mid)
+returns g c = λ prefix mid back new is a b before.
+    c.to_end.ensures (prefix ++ new) mid back
+    (c.to_start.ensures (prefix ++ (mid ++ back)) new is (omega (arith, before, length-append prefix (mid ++ back), length-append mid back)) ∙ first_to_end prefix mid back new c.args.from a)
+    (omega (arith, a, before, length-append prefix new, ap length is, length-append (prefix ++ (mid ++ back)) new, length-append prefix (mid ++ back), length-append mid back)) b
+    ∙ append_assoc prefix new (back ++ mid)

@@ -5,5 +5,5 @@ use Rattle.keep_parts.proofs.parts.set_comma.Goals as goal
 
 pub returns : goal.returns
 returns c = record {
-  change = λ front info back len is. ap (λ (x : List ValueInfo). record (flat c.args.out.now) { values = x }) (c.set_comma.ensures.change front info back len is);
+  change = λ prefix info back len is. ap (λ (x : List ValueInfo). record (flat c.args.out.now) { values = x }) (c.set_comma.ensures.change prefix info back len is);
 }

@@ -1,6 +1,6 @@
 use Rattle.std.proofs.Common.{◌≡◌, ◌+◌, ◌++◌, length, take, drop, map, vec_len, sym, ap, ◌∙◌, arith, append_assoc}
 use Rattle.std.proofs.lemmas.List.{length-append}
-use Rattle.keep_parts.proofs.ExchangeLaws.{take_front, drop_front, take_length}
+use Rattle.keep_parts.proofs.ExchangeLaws.{take_prefix, drop_prefix, take_length}
 use Rattle.keep_parts.proofs.shift.exchange_run.Goals as goal
 
 pub returns : goal.returns
@@ -12,15 +12,15 @@ returns g c =
     let f = g.T.Shift.shifted c.args.old.now c.args.new.now in
     let l : length xs ≡ vec_len c.args.items.now = omega (arith, c.args.items.now.ok.0) in
     let m : length ns ≡ vec_len c.args.run.now = omega (arith, c.args.run.now.ok.0) in
-    let front = take from xs ++ ns in
+    let prefix = take from xs ++ ns in
     let back = drop to xs in
-    let now : c.exchange.new.items.items ≡ front ++ back = c.exchange.ensures.items ∙ sym (append_assoc (take from xs) ns back) in
-    let n : length front ≡ from + c.len.result = omega (arith, length-append (take from xs) ns, take_length xs from (omega (arith, c.requires.order, c.requires.within, l)), m, c.len.ensures) in
+    let now : c.exchange.new.items.items ≡ prefix ++ back = c.exchange.ensures.items ∙ sym (append_assoc (take from xs) ns back) in
+    let n : length prefix ≡ from + c.len.result = omega (arith, length-append (take from xs) ns, take_length xs from (omega (arith, c.requires.order, c.requires.within, l)), m, c.len.ensures) in
     record {
       items_are = c.shift_from.ensures.items
           ∙ ap (λ ys. take (from + c.len.result) ys ++ map f (drop (from + c.len.result) ys)) now
-          ∙ ap (λ ys. ys ++ map f (drop (from + c.len.result) (front ++ back))) (take_front front back (from + c.len.result) n)
-          ∙ ap (λ ys. front ++ map f ys) (drop_front front back (from + c.len.result) n)
+          ∙ ap (λ ys. ys ++ map f (drop (from + c.len.result) (prefix ++ back))) (take_prefix prefix back (from + c.len.result) n)
+          ∙ ap (λ ys. prefix ++ map f ys) (drop_prefix prefix back (from + c.len.result) n)
           ∙ append_assoc (take from xs) ns (map f back);
       run_is = c.exchange.ensures.gone;
       len = omega (arith, c.shift_from.ensures.len, c.exchange.ensures.len);

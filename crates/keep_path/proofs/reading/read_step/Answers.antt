@@ -2,35 +2,35 @@
 use Rattle.std.proofs.Common.{◌≡◌, drop, rules, arith, refl, string_bytes}
 use Rattle.std.proofs.lemmas.Grind.{common_steps}
 use Rattle.keep_path.proofs.PathReadLaws.{dot_stuck, bracket_stuck}
-use Rattle.keep_path.proofs.ReadLaws.{front_of, dot_step, bracket_step, none_behind, other_step}
+use Rattle.keep_path.proofs.ReadLaws.{prefix_of, dot_step, bracket_step, none_after, other_step}
 use Rattle.keep_path.proofs.reading.read_step.Goals as goal
 
 pub range_from-requires : goal.range_from-requires
-range_from-requires c _ = (front_of c.args.text.now c.as_bytes.result.now c.byte_or_zero.result 0x2E c.as_bytes.ensures.value c.byte_or_zero.ensures c.utf8.text c.in-46.is (omega arith) (omega arith)).cut
+range_from-requires c _ = (prefix_of c.args.text.now c.as_bytes.result.now c.byte_or_zero.result 0x2E c.as_bytes.ensures.value c.byte_or_zero.ensures c.utf8.text c.in-46.is (omega arith) (omega arith)).cut
 
 pub range_from-requires-in-91 : goal.range_from-requires-in-91
-range_from-requires-in-91 c _ = (front_of c.args.text.now c.as_bytes.result.now c.byte_or_zero.result 0x5B c.as_bytes.ensures.value c.byte_or_zero.ensures c.utf8.text c.in-91.is (omega arith) (omega arith)).cut
+range_from-requires-in-91 c _ = (prefix_of c.args.text.now c.as_bytes.result.now c.byte_or_zero.result 0x5B c.as_bytes.ensures.value c.byte_or_zero.ensures c.utf8.text c.in-91.is (omega arith) (omega arith)).cut
 
 pub returns-in-Some-clause-found : goal.returns-in-Some-clause-found
 returns-in-Some-clause-found c =
     let behind : c.range_from.result.now ≡ drop 1 c.args.text.now = first_of (search rules, grind (arith, common_steps)) in
-    dot_step c.args.text.now c.range_from.result.now (string_bytes c.in-Some.key) c.in-Some.len (front_of c.args.text.now c.as_bytes.result.now c.byte_or_zero.result 0x2E c.as_bytes.ensures.value c.byte_or_zero.ensures c.utf8.text c.in-46.is (omega arith) (omega arith)) behind (rw c.in-Some.is at c.in_ok-key-in-46.ensures.found)
+    dot_step c.args.text.now c.range_from.result.now (string_bytes c.in-Some.key) c.in-Some.len (prefix_of c.args.text.now c.as_bytes.result.now c.byte_or_zero.result 0x2E c.as_bytes.ensures.value c.byte_or_zero.ensures c.utf8.text c.in-46.is (omega arith) (omega arith)) behind (rw c.in-Some.is at c.in_ok-key-in-46.ensures.found)
 
 pub returns-in-None-clause-none : goal.returns-in-None-clause-none
 returns-in-None-clause-none c _ =
     let behind : c.range_from.result.now ≡ drop 1 c.args.text.now = first_of (search rules, grind (arith, common_steps)) in
-    none_behind c.args.text.now c.range_from.result.now 0x2E (front_of c.args.text.now c.as_bytes.result.now c.byte_or_zero.result 0x2E c.as_bytes.ensures.value c.byte_or_zero.ensures c.utf8.text c.in-46.is (omega arith) (omega arith)) behind (dot_stuck c.range_from.result.now ((rw c.in-None.is at c.in_ok-key-in-46.ensures.none) refl))
+    none_after c.args.text.now c.range_from.result.now 0x2E (prefix_of c.args.text.now c.as_bytes.result.now c.byte_or_zero.result 0x2E c.as_bytes.ensures.value c.byte_or_zero.ensures c.utf8.text c.in-46.is (omega arith) (omega arith)) behind (dot_stuck c.range_from.result.now ((rw c.in-None.is at c.in_ok-key-in-46.ensures.none) refl))
 
 pub returns-in-Some-read_index-clause-found : goal.returns-in-Some-read_index-clause-found
 returns-in-Some-read_index-clause-found c =
     let behind : c.range_from-in-91.result.now ≡ drop 1 c.args.text.now = first_of (search rules, grind (arith, common_steps)) in
     let read = c.in-Some-read_index.ensures in
-    bracket_step c.args.text.now c.range_from-in-91.result.now c.in-Some-read_index.index c.in-Some-read_index.len (front_of c.args.text.now c.as_bytes.result.now c.byte_or_zero.result 0x5B c.as_bytes.ensures.value c.byte_or_zero.ensures c.utf8.text c.in-91.is (omega arith) (omega arith)) behind read.small read.found read.len
+    bracket_step c.args.text.now c.range_from-in-91.result.now c.in-Some-read_index.index c.in-Some-read_index.len (prefix_of c.args.text.now c.as_bytes.result.now c.byte_or_zero.result 0x5B c.as_bytes.ensures.value c.byte_or_zero.ensures c.utf8.text c.in-91.is (omega arith) (omega arith)) behind read.small read.found read.len
 
 pub returns-in-None-read_index-clause-none : goal.returns-in-None-read_index-clause-none
 returns-in-None-read_index-clause-none c _ =
     let behind : c.range_from-in-91.result.now ≡ drop 1 c.args.text.now = first_of (search rules, grind (arith, common_steps)) in
-    none_behind c.args.text.now c.range_from-in-91.result.now 0x5B (front_of c.args.text.now c.as_bytes.result.now c.byte_or_zero.result 0x5B c.as_bytes.ensures.value c.byte_or_zero.ensures c.utf8.text c.in-91.is (omega arith) (omega arith)) behind (bracket_stuck c.range_from-in-91.result.now (c.in-None-read_index.ensures.none refl))
+    none_after c.args.text.now c.range_from-in-91.result.now 0x5B (prefix_of c.args.text.now c.as_bytes.result.now c.byte_or_zero.result 0x5B c.as_bytes.ensures.value c.byte_or_zero.ensures c.utf8.text c.in-91.is (omega arith) (omega arith)) behind (bracket_stuck c.range_from-in-91.result.now (c.in-None-read_index.ensures.none refl))
 
 pub returns-in_default-clause-none : goal.returns-in_default-clause-none
 returns-in_default-clause-none c _ =

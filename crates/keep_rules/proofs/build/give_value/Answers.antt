@@ -41,7 +41,7 @@ pub returns-clause-define : goal.returns-clause-define
 returns-clause-define c =
     let old = trie_of c.args.nodes.now.items in
     let is : c.as_str.result.now ≡ last_text c.args.keys = c.as_str.ensures ∙ c.in_ok-name.ensures.text in
-    let Says : ℕ → Why → Type 0 = λ n w. (s : NestingState) (o : ℕ) (f : Fact) → path_at old c.args.from ≡ path_of_value s o → (ms : List Mention) (ts : List (List Part)) → Represents old ms ts → FaultIn ms (nested_mentions s (nested_keyed o (key_texts c.args.keys) f)) n w in
-    meets_fault c.in-Err.stop (c.args.keys.count - 1) c.why.result c.fault_of.result Says c.fault_of.ensures (λ stops.
-    subst (λ (w : Why). Says (c.args.keys.count - 1) w) (sym c.why.ensures)
+    let Mentions : ℕ → Why → Type 0 = λ n w. (s : NestingState) (o : ℕ) (f : Fact) → path_at old c.args.from ≡ path_of_value s o → (ms : List Mention) (ts : List (List Part)) → Represents old ms ts → FaultIn ms (nested_mentions s (nested_keyed o (key_texts c.args.keys) f)) n w in
+    meets_fault c.in-Err.stop (c.args.keys.count - 1) c.why.result c.fault_of.result Mentions c.fault_of.ensures (λ stops.
+    subst (λ (w : Why). Mentions (c.args.keys.count - 1) w) (sym c.why.ensures)
     (keyed_stops c.args.keys c.requires.keys c.as_str.result.now is old (trie_of c.walk_dotted.new.nodes.items) c.args.from c.in_ok-parent.parent c.in_ok-parent.ensures.ok (c.in-Err.ensures.refused (ap Err stops))))

@@ -21,9 +21,9 @@ read_nested-requires-clause-readable c = λ n p at.
 pub read_nested-requires-clause-next : goal.read_nested-requires-clause-next
 read_nested-requires-clause-next c = (
   value_nesting (body_fact c.requires.0.body),
-  nested_values 0 1 c.requires.0.inside,
+  nested_values 0 1 c.requires.0.nested,
   0,
-  subst (λ (ids : List ℕ). AreNext c.args.text.now (flat c.parts-parts.result.now) (trie_of c.in_ok-nodes.nodes.items) ids 1 1 0 (value_nesting (body_fact c.requires.0.body)) (nested_values 0 1 c.requires.0.inside)) (sym (c.in_ok-push_id.ensures ∙ ap (λ l. l ++ 0 ∷ []) c.new-ids.ensures.items))
+  subst (λ (ids : List ℕ). AreNext c.args.text.now (flat c.parts-parts.result.now) (trie_of c.in_ok-nodes.nodes.items) ids 1 1 0 (value_nesting (body_fact c.requires.0.body)) (nested_values 0 1 c.requires.0.nested)) (sym (c.in_ok-push_id.ensures ∙ ap (λ l. l ++ 0 ∷ []) c.new-ids.ensures.items))
       (alone_next c.args.text.now c.requires.1.profile c.requires.0 c.requires.1.reads.valid c.requires.1.reads.spelled (flat c.parts-parts.result.now) (ap (λ p. (flat p).keys) c.parts-parts.ensures ∙ c.requires.1.is.parts) (ap (λ p. (flat p).values) c.parts-parts.ensures ∙ c.requires.1.is.values) c.in_ok-nodes.nodes.items c.value.result (ap (λ p. slice_get (flat p).values 0) c.parts-parts.ensures ∙ c.value.ensures.stored) _ c.holds_of_leaf-holds.ensures c.in_ok-nodes.ensures),
 )
 

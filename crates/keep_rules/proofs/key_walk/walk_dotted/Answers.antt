@@ -17,7 +17,7 @@ pub loop-number-init : goal.loop-number-init
 loop-number-init c = record {
   stored = c.requires.stored;
   shaped = c.requires.shaped;
-  inside = c.requires.within;
+  nested = c.requires.within;
   gone = dots_none (trie_of c.args.nodes.now.items) c.args.from (omega (arith, c.requires.within, length-map c.args.nodes.now.items (trie_node_in c.args.nodes.now.items))) c.requires.keyed;
   facts = λ values d keys number. refl;
 }
@@ -32,7 +32,7 @@ loop-number-preserved c =
     record {
       stored = c.in-Ok.ensures.stored;
       shaped = c.in-Ok.ensures.ok.shaped;
-      inside = omega (arith, c.in-Ok.ensures.ok.inside, length-map new (trie_node_in new));
+      nested = omega (arith, c.in-Ok.ensures.ok.nested, length-map new (trie_node_in new));
       gone = dotted_more (trie_of old) (trie_of mid) (trie_of new) c.args.from c.loop-number.at c.in-Ok.to c.args.keys c.requires.keys c.loop-number.number text (omega arith) is c.loop-number.invariant.gone c.in-Ok.ensures.ok;
       facts = dotted_added old mid new c.args.keys c.requires.keys c.loop-number.number text c.in_ok-name.name.span c.args.from c.loop-number.at c.args.value (omega arith) is c.in_ok-name.ensures.span c.loop-number.invariant.gone
           c.loop-number.invariant.facts (subst (λ (i : NodeInfo). AddsInfo mid new (path_at (trie_of mid) c.loop-number.at ++ key text ∷ []) i) c.named-dotted.ensures c.in-Ok.ensures.facts);

@@ -12,7 +12,7 @@ abbrev pub invariant-loop-number : goal.invariant-loop-number
 invariant-loop-number l = record {
   stored : IsStored l.nodes.items;
   shaped : IsShaped (trie_of l.nodes.items);
-  inside : l.at < length l.nodes.items;
+  nested : l.at < length l.nodes.items;
   gone : Dots (trie_of l.fn.nodes.items) (trie_of l.nodes.items) l.fn.from l.at (take l.number (key_texts l.keys));
   facts : DottedAdds l.fn.nodes.items l.nodes.items (parts_of l.keys) l.keys.first l.fn.value (dotted_mentions (path_at (trie_of l.fn.nodes.items) l.fn.from) (take l.number (key_texts l.keys)));
 }

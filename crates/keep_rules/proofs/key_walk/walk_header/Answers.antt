@@ -15,7 +15,7 @@ pub loop-number-init : goal.loop-number-init
 loop-number-init c = record {
   stored = c.requires.stored;
   shaped = c.requires.shaped;
-  inside = omega (arith, c.requires.stored.trie.root, length-map c.args.nodes.now.items (trie_node_in c.args.nodes.now.items));
+  nested = omega (arith, c.requires.stored.trie.root, length-map c.args.nodes.now.items (trie_node_in c.args.nodes.now.items));
   keyed = c.requires.rooted;
   walked = walks_none (trie_of c.args.nodes.now.items) c.requires.stored.trie.root c.requires.rooted;
   facts = λ ms tables represents values d keys statements. refl;
@@ -31,7 +31,7 @@ loop-number-preserved c =
     record {
       stored = c.in-Ok.ensures.stored;
       shaped = c.in-Ok.ensures.shaped;
-      inside = c.in-Ok.ensures.inside;
+      nested = c.in-Ok.ensures.nested;
       keyed = c.in-Ok.ensures.keyed;
       walked = walked_more (trie_of old) (trie_of mid) (trie_of new) c.loop-number.at c.in-Ok.to c.args.keys c.requires.keys c.loop-number.number text (omega arith) is c.loop-number.invariant.walked c.in-Ok.ensures.ok;
       facts = walked_added old mid new c.args.keys c.requires.keys c.loop-number.number text c.in_ok-name.name.span c.loop-number.at c.args.statement (omega arith) is c.in_ok-name.ensures.span c.loop-number.invariant.walked

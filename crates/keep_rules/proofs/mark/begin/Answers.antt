@@ -14,14 +14,14 @@ use Rattle.keep_rules.proofs.mark.begin.Goals as goal
 pub add_item-requires-clause-listed : goal.add_item-requires-clause-listed
 add_item-requires-clause-listed c =
     let marked = c.in_ok-id.ensures.ok in
-    tables_listed (trie_of c.mark.new.nodes.items) marked.shaped c.in_ok-id.id marked.inside marked.kind
+    tables_listed (trie_of c.mark.new.nodes.items) marked.shaped c.in_ok-id.id marked.nested marked.kind
 
 pub add_item-requires-clause-fresh : goal.add_item-requires-clause-fresh
 add_item-requires-clause-fresh c =
     let mid = c.mark.new.nodes.items in
     let marked = c.in_ok-id.ensures.ok in
-    item_fresh mid c.in_ok-id.ensures.stored marked.shaped c.in_ok-id.id (omega (arith, marked.inside, length-map mid (trie_node_in mid)))
-    (tables_listed (trie_of mid) marked.shaped c.in_ok-id.id marked.inside marked.kind)
+    item_fresh mid c.in_ok-id.ensures.stored marked.shaped c.in_ok-id.id (omega (arith, marked.nested, length-map mid (trie_node_in mid)))
+    (tables_listed (trie_of mid) marked.shaped c.in_ok-id.id marked.nested marked.kind)
 
 pub returns-clause-ok : goal.returns-clause-ok
 returns-clause-ok c =

@@ -8,7 +8,7 @@ use Rattle.keep_nodes.specs.Facts.{info_of}
 use Rattle.keep_rules.specs.AddedInfos.{AddsInfo}
 use Rattle.keep_nodes.specs.Trie.{TrieNode, by_key, paths_of, path_at}
 use Rattle.keep_rules.specs.Represents.{IsMarked, IsLastElement, HasNoElement, Passes}
-use Rattle.keep_rules.proofs.PassLemmas.{none_unmet, passes_element, passes_marked, element_inside}
+use Rattle.keep_rules.proofs.PassLemmas.{none_unmet, passes_element, passes_marked, element_nested}
 use Rattle.keep_rules.proofs.OutcomeLemmas.{if_ok}
 use Rattle.keep_rules.proofs.AddedInfoLemmas.{added_at_existing}
 use Rattle.keep_rules.proofs.KeyWalkInfoLemmas.{past_added, through_added}
@@ -72,19 +72,19 @@ pub add_facts-requires-2-clause-within : goal.add_facts-requires-2-clause-within
 add_facts-requires-2-clause-within c =
     let old = c.args.nodes.now.items in
     let mid = c.add_facts.new.nodes.items in
-    omega (arith, element_inside (trie_of old) _ c.in-Some.child c.in-Some-last_element.last c.requires.stored.trie c.in-Some-last_element.ensures.some, ap length c.in_ok-add_facts.ensures.same, length-map mid (trie_node_in mid))
+    omega (arith, element_nested (trie_of old) _ c.in-Some.child c.in-Some-last_element.last c.requires.stored.trie c.in-Some-last_element.ensures.some, ap length c.in_ok-add_facts.ensures.same, length-map mid (trie_node_in mid))
 
 element : (c : goal.In_ok-add_facts-2) → IsLastElement (trie_of c.args.nodes.now.items) (path_at (trie_of c.args.nodes.now.items) c.args.parent ++ key c.args.text.now ∷ []) c.in-Some.child c.in-Some-last_element.last
 element c = subst (λ (p : List Part). IsLastElement (trie_of c.args.nodes.now.items) p c.in-Some.child c.in-Some-last_element.last) c.in-Some.ensures.found c.in-Some-last_element.ensures.some
 
 place : (c : goal.In_ok-add_facts-2) → c.in-Some-last_element.last < length (trie_of c.args.nodes.now.items)
-place c = element_inside (trie_of c.args.nodes.now.items) _ c.in-Some.child c.in-Some-last_element.last c.requires.stored.trie (element c)
+place c = element_nested (trie_of c.args.nodes.now.items) _ c.in-Some.child c.in-Some-last_element.last c.requires.stored.trie (element c)
 
 same : (c : goal.In_ok-add_facts-2) → trie_of c.add_facts-2.new.nodes.items ≡ trie_of c.args.nodes.now.items
 same c = c.in_ok-add_facts-2.ensures.same ∙ c.in_ok-add_facts.ensures.same
 
-pub returns-clause-inside : goal.returns-clause-inside
-returns-clause-inside c =
+pub returns-clause-nested : goal.returns-clause-nested
+returns-clause-nested c =
     let after = c.add_facts-2.new.nodes.items in
     omega (arith, place c, ap length (same c), length-map after (trie_node_in after))
 
@@ -101,10 +101,10 @@ returns-clause-facts c =
     let after = c.add_facts-2.new.nodes.items in
     let p = path_at (trie_of old) c.args.parent ++ key c.args.text.now ∷ [] in
     let to = c.in-Some-last_element.last in
-    let kept = c.in_ok-add_facts.ensures.same in
+    let preserved = c.in_ok-add_facts.ensures.same in
     past_added old mid after p c.in-Some.child to c.args.span c.args.statement (element c)
     (subst (λ (i : NodeInfo). AddsInfo old mid p i) c.named-past.ensures
-    (added_at_existing old mid c.in-Some.child p (info_of c.named-past.result) c.requires.stored.trie (element c).inside (element c).here (ap paths_of kept) c.in_ok-add_facts.ensures.infos))
+    (added_at_existing old mid c.in-Some.child p (info_of c.named-past.result) c.requires.stored.trie (element c).nested (element c).here (ap paths_of preserved) c.in_ok-add_facts.ensures.infos))
     (subst (λ (i : NodeInfo). AddsInfo mid after (path_at (trie_of old) to) i) c.passed.ensures
-    (added_at_existing mid after to (path_at (trie_of old) to) (info_of c.passed.result) c.in_ok-add_facts.ensures.stored.trie (omega (arith, place c, ap length kept)) (ap (λ (ts : List TrieNode). path_at ts to) kept)
+    (added_at_existing mid after to (path_at (trie_of old) to) (info_of c.passed.result) c.in_ok-add_facts.ensures.stored.trie (omega (arith, place c, ap length preserved)) (ap (λ (ts : List TrieNode). path_at ts to) preserved)
     (ap paths_of c.in_ok-add_facts-2.ensures.same) c.in_ok-add_facts-2.ensures.infos))

@@ -2,7 +2,7 @@
 use Rattle.std.proofs.Common.{◌+◌, [], ◌∷◌, length, ap, ◌∙◌, arith, length-append}
 use Rattle.std.proofs.lemmas.Result.{err_from_is_err_and}
 use Rattle.keep_parts.specs.Flat.{flat}
-use Rattle.keep_rules.proofs.UnderwayLemmas.{begin_underway, some_next_seen, some_shaped, represents_some, underway_more_seen, underway_ends, past_ends, line_ends, other_inside, underway_faults_seen, IsThere}
+use Rattle.keep_rules.proofs.UnderwayLemmas.{begin_underway, some_next_seen, some_shaped, represents_some, underway_more_seen, underway_ends, past_ends, line_ends, other_nested, underway_faults_seen, IsThere}
 use Rattle.keep_rules.proofs.nested_values.read_nested.Goals as goal
 
 pub loop-number-init : goal.loop-number-init
@@ -19,7 +19,7 @@ returns-in-Line-clause-was_read c =
 
 pub read_value-requires : goal.read_value-requires
 read_value-requires c =
-    let there : IsThere (flat c.args.parts.now).values c.loop-number.number c.value-value.result = record { listed = c.value-value.ensures; inside = other_inside c.value-value.result.owner c.in_default.not-Line } in
+    let there : IsThere (flat c.args.parts.now).values c.loop-number.number c.value-value.result = record { listed = c.value-value.ensures; nested = other_nested c.value-value.result.owner c.in_default.not-Line } in
     record {
       stored = c.loop-number.invariant.stored;
       shaped = some_shaped c.args.text.now (flat c.args.parts.now) c.args.base c.args.from _ _ c.loop-number.nodes.items c.loop-number.ids.items c.loop-number.number c.loop-number.invariant.underway c.requires.next;
@@ -34,7 +34,7 @@ read_value-requires c =
 pub returns-in_err-id : goal.returns-in_err-id
 returns-in_err-id c =
     let p = err_from_is_err_and c.from_residual.result c.from_residual.ensures.1 in
-    let there : IsThere (flat c.args.parts.now).values c.loop-number.number c.value-value.result = record { listed = c.value-value.ensures; inside = other_inside c.value-value.result.owner c.in_default.not-Line } in
+    let there : IsThere (flat c.args.parts.now).values c.loop-number.number c.value-value.result = record { listed = c.value-value.ensures; nested = other_nested c.value-value.result.owner c.in_default.not-Line } in
     rw (p.1, p.2) (record {
       stored = tt;
       was_read = tt;
@@ -44,7 +44,7 @@ returns-in_err-id c =
 
 pub loop-number-preserved : goal.loop-number-preserved
 loop-number-preserved c =
-    let there : IsThere (flat c.args.parts.now).values c.loop-number.number c.value-value.result = record { listed = c.value-value.ensures; inside = other_inside c.value-value.result.owner c.in_default.not-Line } in
+    let there : IsThere (flat c.args.parts.now).values c.loop-number.number c.value-value.result = record { listed = c.value-value.ensures; nested = other_nested c.value-value.result.owner c.in_default.not-Line } in
     record {
       stored = c.in_ok-id.ensures.stored;
       numbered = omega (arith, c.loop-number.invariant.numbered, ap length c.in_ok-push_id.ensures, length-append c.loop-number.ids.items (c.in_ok-id.id ∷ []));

@@ -14,7 +14,7 @@ push_step-requires-clause-later c =
 
 pub push_step-requires-clause-within : goal.push_step-requires-clause-within
 push_step-requires-clause-within c =
-    (ancestors_left c.args.nodes.now.items c.args.id c.loop-node.ancestors.items c.pop.new.self.items c.in-Some.node c.loop-node.invariant.0 c.in-Some.ensures.items c.loop-node.invariant.1).inside
+    (ancestors_left c.args.nodes.now.items c.args.id c.loop-node.ancestors.items c.pop.new.self.items c.in-Some.node c.loop-node.invariant.0 c.in-Some.ensures.items c.loop-node.invariant.1).nested
 
 pub push_step-requires-clause-above : goal.push_step-requires-clause-above
 push_step-requires-clause-above c =

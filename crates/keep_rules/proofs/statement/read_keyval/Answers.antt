@@ -7,7 +7,7 @@ use Rattle.keep_rules.specs.Plans.{AreNext, NestedValuesRead, NestedValuesFault}
 use Rattle.keep_rules.specs.Stops.{FaultMeets}
 use Rattle.keep_nodes.specs.Stored.{trie_of}
 use Rattle.keep_rules.proofs.HeaderLemmas.{statement_keys}
-use Rattle.keep_rules.proofs.KeyvalLemmas.{keys_fault_fits, keys_break_as_matched, some_inside_next, some_top_represents, keyval_is_read, inside_breaks_as_matched, two_ids}
+use Rattle.keep_rules.proofs.KeyvalLemmas.{keys_fault_fits, keys_break_as_matched, some_nested_next, some_top_represents, keyval_is_read, nested_breaks_as_matched, two_ids}
 use Rattle.keep_rules.proofs.PartLemmas.{few_keys}
 use Rattle.keep_rules.proofs.statement.read_keyval.Goals as goal
 
@@ -27,7 +27,7 @@ pub read_nested-requires-clause-next : goal.read_nested-requires-clause-next
 read_nested-requires-clause-next c =
     subst (λ (ids : List ℕ). (s : NestingState) × (ts : List NestedValue) × (first : ℕ) × AreNext c.args.text.now (flat c.args.parts.now) (trie_of c.give_value.new.nodes.items) ids c.args.number (c.args.number + 1) first s ts)
     (sym (two_ids c.clear.new.self.items c.push_id.new.ids.items c.push_id-2.new.ids.items c.args.body c.in-Ok.top c.clear.ensures.items c.in_ok-push_id.ensures c.in_ok-push_id-2.ensures))
-    (some_inside_next c.args.text.now (flat c.args.parts.now) c.args.statement c.args.nodes.now.items c.give_value.new.nodes.items c.args.body c.in-Ok.top c.args.number (record { text = c.args.text; parts = c.args.parts; first = c.args.statement.first_key; count = c.args.statement.keys }) c.value-value.result _ _ refl (statement_keys c.args.text.now (flat c.args.parts.now).keys (flat c.args.parts.now).values c.args.statement c.requires.matches.0 c.requires.readable c.requires.matches.1) c.value-value.ensures c.requires.valued c.kind_of-kind.ensures c.holds_of_leaf-holds.ensures c.in-Ok.ensures.ok c.in-Ok.ensures.facts c.requires.matches c.requires.reading)
+    (some_nested_next c.args.text.now (flat c.args.parts.now) c.args.statement c.args.nodes.now.items c.give_value.new.nodes.items c.args.body c.in-Ok.top c.args.number (record { text = c.args.text; parts = c.args.parts; first = c.args.statement.first_key; count = c.args.statement.keys }) c.value-value.result _ _ refl (statement_keys c.args.text.now (flat c.args.parts.now).keys (flat c.args.parts.now).values c.args.statement c.requires.matches.0 c.requires.readable c.requires.matches.1) c.value-value.ensures c.requires.valued c.kind_of-kind.ensures c.holds_of_leaf-holds.ensures c.in-Ok.ensures.ok c.in-Ok.ensures.facts c.requires.matches c.requires.reading)
 
 pub read_nested-requires-clause-represents : goal.read_nested-requires-clause-represents
 read_nested-requires-clause-represents c =
@@ -43,5 +43,5 @@ returns-clause-read c =
 pub returns-clause-define : goal.returns-clause-define
 returns-clause-define c =
     MatchResult-weaker c.read_nested.result c.read_nested.ensures.define (λ x done. done)
-    (λ fault meets. inside_breaks_as_matched c.args.text.now (flat c.args.parts.now) c.args.statement c.args.nodes.now.items c.give_value.new.nodes.items c.args.body c.in-Ok.top c.args.number (record { text = c.args.text; parts = c.args.parts; first = c.args.statement.first_key; count = c.args.statement.keys }) c.value-value.result _ _ refl (statement_keys c.args.text.now (flat c.args.parts.now).keys (flat c.args.parts.now).values c.args.statement c.requires.matches.0 c.requires.readable c.requires.matches.1) c.value-value.ensures c.requires.valued c.kind_of-kind.ensures c.holds_of_leaf-holds.ensures c.in-Ok.ensures.ok c.in-Ok.ensures.facts fault
+    (λ fault meets. nested_breaks_as_matched c.args.text.now (flat c.args.parts.now) c.args.statement c.args.nodes.now.items c.give_value.new.nodes.items c.args.body c.in-Ok.top c.args.number (record { text = c.args.text; parts = c.args.parts; first = c.args.statement.first_key; count = c.args.statement.keys }) c.value-value.result _ _ refl (statement_keys c.args.text.now (flat c.args.parts.now).keys (flat c.args.parts.now).values c.args.statement c.requires.matches.0 c.requires.readable c.requires.matches.1) c.value-value.ensures c.requires.valued c.kind_of-kind.ensures c.holds_of_leaf-holds.ensures c.in-Ok.ensures.ok c.in-Ok.ensures.facts fault
     (subst (λ (ids : List ℕ). FaultMeets fault (NestedValuesFault c.args.text.now (flat c.args.parts.now) c.args.number (c.args.number + 1) c.give_value.new.nodes.items ids)) (two_ids c.clear.new.self.items c.push_id.new.ids.items c.push_id-2.new.ids.items c.args.body c.in-Ok.top c.clear.ensures.items c.in_ok-push_id.ensures c.in_ok-push_id-2.ensures) meets))

@@ -16,12 +16,12 @@ pub returns-in-Apply : goal.returns-in-Apply
 returns-in-Apply c =
     let input : ProfiledText = text_in (profile_of c.args.command.now) c.args.bytes.items in
     let same : c.in-Ok.document ≡ input = c.in-Ok.ensures.text ∙ ap (λ (p : Profile). text_in p c.args.bytes.items) c.profile_for.ensures in
-    subst (λ (k : Command). MatchResult c.applied.result (λ text. IsText k input (string_bytes text)) (λ f. (f ≡ run.Memory) ⊎ IsRefusal k input f)) (sym c.in-Apply.is)
-    (apply_answer (Apply c.in-Apply.edits) input c.in-Ok.document c.as_slice.result.now c.in-Apply.edits c.applied.result (apply_applies c.in-Apply.edits) c.as_slice.ensures.value same c.in-Ok.ensures.accepted c.applied.ensures)
+    subst (λ (k : Command). MatchResult c.text_after_edits.result (λ text. IsText k input (string_bytes text)) (λ f. (f ≡ run.Memory) ⊎ IsRefusal k input f)) (sym c.in-Apply.is)
+    (apply_answer (Apply c.in-Apply.edits) input c.in-Ok.document c.as_slice.result.now c.in-Apply.edits c.text_after_edits.result (apply_applies c.in-Apply.edits) c.as_slice.ensures.value same c.in-Ok.ensures.accepted c.text_after_edits.ensures)
 
 pub returns-in-ApplyWide : goal.returns-in-ApplyWide
 returns-in-ApplyWide c =
     let input : ProfiledText = text_in (profile_of c.args.command.now) c.args.bytes.items in
     let same : c.in-Ok.document ≡ input = c.in-Ok.ensures.text ∙ ap (λ (p : Profile). text_in p c.args.bytes.items) c.profile_for.ensures in
-    subst (λ (k : Command). MatchResult c.applied-in-ApplyWide.result (λ text. IsText k input (string_bytes text)) (λ f. (f ≡ run.Memory) ⊎ IsRefusal k input f)) (sym c.in-ApplyWide.is)
-    (apply_answer (ApplyWide c.in-ApplyWide.edits) input c.in-Ok.document c.as_slice-in-ApplyWide.result.now c.in-ApplyWide.edits c.applied-in-ApplyWide.result (apply_wide_applies c.in-ApplyWide.edits) c.as_slice-in-ApplyWide.ensures.value same c.in-Ok.ensures.accepted c.applied-in-ApplyWide.ensures)
+    subst (λ (k : Command). MatchResult c.text_after_edits-in-ApplyWide.result (λ text. IsText k input (string_bytes text)) (λ f. (f ≡ run.Memory) ⊎ IsRefusal k input f)) (sym c.in-ApplyWide.is)
+    (apply_answer (ApplyWide c.in-ApplyWide.edits) input c.in-Ok.document c.as_slice-in-ApplyWide.result.now c.in-ApplyWide.edits c.text_after_edits-in-ApplyWide.result (apply_wide_applies c.in-ApplyWide.edits) c.as_slice-in-ApplyWide.ensures.value same c.in-Ok.ensures.accepted c.text_after_edits-in-ApplyWide.ensures)

@@ -1,11 +1,11 @@
 use Rattle.std.proofs.Common.{◌+◌, arith, ℕ, take, length-take, rules}
 use Rattle.keep_run.specs.declared.run.TheConstants.{LONGEST_INPUT}
-use Rattle.keep_run.proofs.Loses.{loses_kept, loses_more}
+use Rattle.keep_run.proofs.Loses.{loses_preserved, loses_more}
 use Rattle.keep_run.proofs.run.read_all.Goals as goal
 
 pub returns-in_default-clause-taken : goal.returns-in_default-clause-taken
 returns-in_default-clause-taken g c =
-    loses_kept (LONGEST_INPUT + 1) (g.R.Read.remaining c.args.input.now.inner) (g.R.Read.remaining c.loop.input.inner) (g.R.Read.remaining c.read.new.self.inner)
+    loses_preserved (LONGEST_INPUT + 1) (g.R.Read.remaining c.args.input.now.inner) (g.R.Read.remaining c.loop.input.inner) (g.R.Read.remaining c.read.new.self.inner)
     c.loop.bytes.items c.loop.invariant.taken c.in_default.ensures.bytes (omega arith)
 
 pub returns-then-count-eq0-clause-taken : goal.returns-then-count-eq0-clause-taken

@@ -6,7 +6,7 @@ use Rattle.keep_run.proofs.run.read_all.Given as goal
 abbrev pub invariant-loop : goal.invariant-loop
 invariant-loop g l = record {
   fresh : l.input.failed ≡ false;
-  turns : l.input.turns ≡ l.counter;
+  calls : l.input.calls ≡ l.counter;
   least : l.counter ≤ length l.bytes.items;
   most : length l.bytes.items ≤ LONGEST_INPUT;
   taken : Consumes (g.R.Read.remaining l.fn.input.inner) (g.R.Read.remaining l.input.inner) l.bytes.items;

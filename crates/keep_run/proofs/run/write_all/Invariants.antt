@@ -7,7 +7,7 @@ invariant-loop-at g l = record {
   fresh : l.output.failed ≡ false;
   most : l.at ≤ length l.bytes;
   written : Appends (g.W.Write.contents l.fn.output.inner) (g.W.Write.contents l.output.inner) (take l.at l.bytes);
-  silent : l.at ≡ 0 → l.output.turns ≡ 0;
+  silent : l.at ≡ 0 → l.output.calls ≡ 0;
 }
 
 abbrev pub decreases-loop-at : goal.decreases-loop-at

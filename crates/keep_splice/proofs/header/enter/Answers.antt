@@ -17,6 +17,6 @@ returns-in-Tables c = λ s h.
     enters_tables s c.args.index.now h (path_numbered c.args.index.now c.args.at.0) c.args.name.now c.in-Some.id c.node.result c.child.result c.in-Some.is c.child.ensures.found c.node.ensures c.in-Tables.is c.child_at.result
     (c.child_at.ensures.met ∙ ap (nth_child c.args.index.now c.in-Some.id.0) (c.saturating_sub.ensures ∙ ap (λ n. n - 1) c.child_count-count.ensures))
 
-pub returns-in_default-place : goal.returns-in_default-place
-returns-in_default-place c = λ s h.
-    enters_other s c.args.index.now h (path_numbered c.args.index.now c.args.at.0) c.args.name.now c.in-Some.id c.node.result c.child.result c.in-Some.is c.child.ensures.found c.node.ensures c.in_default-place.not-Value c.in_default-place.not-Tables
+pub returns-in_default-origin : goal.returns-in_default-origin
+returns-in_default-origin c = λ s h.
+    enters_other s c.args.index.now h (path_numbered c.args.index.now c.args.at.0) c.args.name.now c.in-Some.id c.node.result c.child.result c.in-Some.is c.child.ensures.found c.node.ensures c.in_default-origin.not-Value c.in_default-origin.not-Tables

@@ -10,11 +10,11 @@ returns-then-is_line_end c =
     line_blank c.args.limits.profile c.args.limits.depth c.args.text.now c.args.at c.in_ok-begin.begin c.in_ok-end.end (flat c.args.out.now) (flat c.space.new.out) (flat c.comment.new.out)
     c.in_ok-begin.ensures (rw c.byte_at.ensures at rw c.is_line_end.ensures at c.if-is_line_end.true) c.in_ok-end.ensures
 
-pub content-requires-clause-values : goal.content-requires-clause-values
-content-requires-clause-values c = c.value_count-values.ensures ∙ sym (space_grown c.args.text.now c.args.at c.in_ok-begin.begin (flat c.args.out.now) (flat c.space.new.out) c.in_ok-begin.ensures).0
+pub statement_head-requires-clause-values : goal.statement_head-requires-clause-values
+statement_head-requires-clause-values c = c.value_count-values.ensures ∙ sym (space_grown c.args.text.now c.args.at c.in_ok-begin.begin (flat c.args.out.now) (flat c.space.new.out) c.in_ok-begin.ensures).0
 
-pub content-requires-clause-parts : goal.content-requires-clause-parts
-content-requires-clause-parts c = c.key_count-first_key.ensures ∙ sym (space_grown c.args.text.now c.args.at c.in_ok-begin.begin (flat c.args.out.now) (flat c.space.new.out) c.in_ok-begin.ensures).1
+pub statement_head-requires-clause-parts : goal.statement_head-requires-clause-parts
+statement_head-requires-clause-parts c = c.key_count-first_key.ensures ∙ sym (space_grown c.args.text.now c.args.at c.in_ok-begin.begin (flat c.args.out.now) (flat c.space.new.out) c.in_ok-begin.ensures).1
 
 pub returns-in_err-close : goal.returns-in_err-close
 returns-in_err-close c =
@@ -23,6 +23,6 @@ returns-in_err-close c =
 
 pub returns : goal.returns
 returns c =
-    rw c.key_count-first_key.ensures (line_is c.args.limits.profile c.args.limits.depth c.args.text.now c.args.at c.in_ok-begin.begin c.in_ok-close.close c.in_ok-behind.behind c.in_ok-end-2.end (flat c.args.out.now) (flat c.space.new.out) (flat c.content.new.out) (flat c.space-2.new.out) (flat c.comment-2.new.out)
+    rw c.key_count-first_key.ensures (line_is c.args.limits.profile c.args.limits.depth c.args.text.now c.args.at c.in_ok-begin.begin c.in_ok-close.close c.in_ok-behind.behind c.in_ok-end-2.end (flat c.args.out.now) (flat c.space.new.out) (flat c.statement_head.new.out) (flat c.space-2.new.out) (flat c.comment-2.new.out)
     (record { at = c.in_ok-begin.begin; values = c.value_count-values.result; parts = c.key_count-first_key.result; owner = owner.Line c.statement_count-number.result; depth = 0; comma = None }) c.in_ok-close.head
     c.in_ok-begin.ensures (rw (c.value_count-values.ensures, c.key_count-first_key.ensures, c.statement_count-number.ensures) refl) c.in_ok-close.ensures c.in_ok-behind.ensures c.in_ok-end-2.ensures)

@@ -1,6 +1,6 @@
 use Rattle.std.proofs.lemmas.Result.{err_from_is_err_and}
 use Rattle.keep_parts.specs.Flat.{flat}
-use Rattle.keep_syntax.proofs.LineLoopLaws.{lines_none, lines_more, lines_told, lines_fail, lines_refuse}
+use Rattle.keep_syntax.proofs.LineLoopLaws.{lines_none, lines_more, lines_stated, lines_fail, lines_refuse}
 use Rattle.keep_syntax.proofs.line.lines.Goals as goal
 
 pub lines-init : goal.lines-init
@@ -13,7 +13,7 @@ returns-in_err-close c =
 
 pub returns-then-close-text : goal.returns-then-close-text
 returns-then-close-text c =
-    lines_told c.args.limits.profile c.args.limits.depth c.args.text.now c.args.begin c.lines.at c.in_ok-close.close c.in_ok-close.statement (flat c.args.out.now) (flat c.lines.out) (flat c.line.new.out) (flat c.tell.new.out)
+    lines_stated c.args.limits.profile c.args.limits.depth c.args.text.now c.args.begin c.lines.at c.in_ok-close.close c.in_ok-close.statement (flat c.args.out.now) (flat c.lines.out) (flat c.line.new.out) (flat c.tell.new.out)
     c.args.starts.now c.lines.starts c.tell.result c.lines.invariant c.in_ok-close.ensures c.tell.ensures.ok c.tell.ensures.err c.if-close-text.true
 
 pub returns-in_err-end : goal.returns-in_err-end

@@ -11,11 +11,11 @@ use Rattle.keep_syntax.proofs.value.+nesting.Goals as goal
 pub bracket-set_end-requires : goal.bracket-set_end-requires
 bracket-set_end-requires t c =
     let sg = rw c.open_leaf.ensures at c.in_ok-open.ensures in
-    let told = rw c.open_leaf-2.ensures at c.in_ok-push_value.ensures.ok in
+    let stated = rw c.open_leaf-2.ensures at c.in_ok-push_value.ensures.ok in
     let sg2 = rw c.close_leaf.ensures at c.in_ok-end.ensures in
     rw c.value_count-number.ensures
     (bracket_number c.args.text.now c.args.brackets c.args.limits.profile (c.args.limits.depth - 1) c.args.at c.args.keys c.in_ok-open.open c.in_ok-first.first c.in_ok-close.close c.in_ok-end.end c.args.start.now _
-    (flat c.args.out.now) (flat c.sign.new.out) (flat c.push_value.new.out) (flat c.gap_in.new.out) (flat c.entries.new.out) (flat c.sign-2.new.out) sg told c.in_ok-first.ensures c.in_ok-close.ensures sg2)
+    (flat c.args.out.now) (flat c.punctuation.new.out) (flat c.push_value.new.out) (flat c.gap_in.new.out) (flat c.entries.new.out) (flat c.punctuation-2.new.out) sg stated c.in_ok-first.ensures c.in_ok-close.ensures sg2)
 
 pub bracket-returns-in_err-close : goal.bracket-returns-in_err-close
 bracket-returns-in_err-close t c =
@@ -29,11 +29,11 @@ pub bracket-returns : goal.bracket-returns
 bracket-returns t c =
     let k : c.args.limits.depth ≡ suc (c.args.limits.depth - 1) = omega arith in
     let sg = rw c.open_leaf.ensures at c.in_ok-open.ensures in
-    let told = rw c.open_leaf-2.ensures at c.in_ok-push_value.ensures.ok in
+    let stated = rw c.open_leaf-2.ensures at c.in_ok-push_value.ensures.ok in
     let sg2 = rw c.close_leaf.ensures at c.in_ok-end.ensures in
     rw k (bracket_is c.args.text.now c.args.brackets c.args.limits.profile (c.args.limits.depth - 1) c.args.at c.args.keys c.in_ok-open.open c.in_ok-first.first c.in_ok-close.close c.in_ok-end.end c.value_count-number.result c.value_count.result c.key_count.result (c.args.start.now.depth + 1) c.owner_in.result c.args.start.now
-    (flat c.args.out.now) (flat c.sign.new.out) (flat c.push_value.new.out) (flat c.gap_in.new.out) (flat c.entries.new.out) (flat c.sign-2.new.out) (flat c.set_end.new.out)
-    sg told c.in_ok-first.ensures c.value_count.ensures c.key_count.ensures c.owner_in.ensures (omega arith) c.value_count-number.ensures c.requires.1.1.1.1.0 c.requires.1.1.1.1.1.0 c.in_ok-close.ensures sg2 c.set_end.ensures.change)
+    (flat c.args.out.now) (flat c.punctuation.new.out) (flat c.push_value.new.out) (flat c.gap_in.new.out) (flat c.entries.new.out) (flat c.punctuation-2.new.out) (flat c.set_end.new.out)
+    sg stated c.in_ok-first.ensures c.value_count.ensures c.key_count.ensures c.owner_in.ensures (omega arith) c.value_count-number.ensures c.requires.1.1.1.1.0 c.requires.1.1.1.1.1.0 c.in_ok-close.ensures sg2 c.set_end.ensures.change)
 
 pub entries-items-init : goal.entries-items-init
 entries-items-init t c = so_far_none c.args.brackets c.args.limits.profile c.args.limits.depth c.args.text.now c.args.start.now (flat c.args.out.now) c.requires.1.1.0 c.requires.1.1.1.0 c.requires.1.1.1.1.0
@@ -68,13 +68,13 @@ item-returns-in_err-begin t c =
 
 pub item-overflow_sub-keys : goal.item-overflow_sub-keys
 item-overflow_sub-keys t c =
-    omega (arith, name_keys c.args.limits.profile c.args.brackets c.args.text.now c.args.start.now c.in_ok-begin.begin (flat c.args.out.now) (flat c.named.new.out) c.requires.1.1.1.1.0 c.in_ok-begin.ensures, c.key_count.ensures)
+    omega (arith, name_keys c.args.limits.profile c.args.brackets c.args.text.now c.args.start.now c.in_ok-begin.begin (flat c.args.out.now) (flat c.entry_key.new.out) c.requires.1.1.1.1.0 c.in_ok-begin.ensures, c.key_count.ensures)
 
 pub item-value-requires : goal.item-value-requires
 item-value-requires t c =
-    let values : c.args.start.now.values ≡ length (flat c.named.new.out).values = name_values c.args.limits.profile c.args.brackets c.args.text.now c.args.start.now c.in_ok-begin.begin (flat c.args.out.now) (flat c.named.new.out) c.requires.1.1.1.0 c.in_ok-begin.ensures in
-    let more = name_keys c.args.limits.profile c.args.brackets c.args.text.now c.args.start.now c.in_ok-begin.begin (flat c.args.out.now) (flat c.named.new.out) c.requires.1.1.1.1.0 c.in_ok-begin.ensures in
-    let parts : c.args.start.now.parts + (c.key_count.result - c.args.start.now.parts) ≡ length (flat c.named.new.out).keys = omega (arith, more, c.key_count.ensures) in
+    let values : c.args.start.now.values ≡ length (flat c.entry_key.new.out).values = name_values c.args.limits.profile c.args.brackets c.args.text.now c.args.start.now c.in_ok-begin.begin (flat c.args.out.now) (flat c.entry_key.new.out) c.requires.1.1.1.0 c.in_ok-begin.ensures in
+    let more = name_keys c.args.limits.profile c.args.brackets c.args.text.now c.args.start.now c.in_ok-begin.begin (flat c.args.out.now) (flat c.entry_key.new.out) c.requires.1.1.1.1.0 c.in_ok-begin.ensures in
+    let parts : c.args.start.now.parts + (c.key_count.result - c.args.start.now.parts) ≡ length (flat c.entry_key.new.out).keys = omega (arith, more, c.key_count.ensures) in
     let bound = c.in_ok-begin.ensures.bound in
     let forward = c.in_ok-begin.ensures.forward in
     search rules
@@ -82,17 +82,17 @@ item-value-requires t c =
 pub item-returns-in_err-end : goal.item-returns-in_err-end
 item-returns-in_err-end t c =
     let p = err_from_is_err_and c.from_residual-in_err-end.result c.from_residual-in_err-end.ensures.1 in
-    rw (p.1, p.2) (item_fails_value c.args.limits.profile c.args.brackets c.args.limits.depth c.args.text.now c.args.start.now.at c.in_ok-begin.begin (flat c.args.out.now) (flat c.named.new.out) c.in_err-end.field-0.0 c.in_ok-begin.ensures c.in_err-end.ensures)
+    rw (p.1, p.2) (item_fails_value c.args.limits.profile c.args.brackets c.args.limits.depth c.args.text.now c.args.start.now.at c.in_ok-begin.begin (flat c.args.out.now) (flat c.entry_key.new.out) c.in_err-end.field-0.0 c.in_ok-begin.ensures c.in_err-end.ensures)
 
-pub item-after-requires-clause-number : goal.item-after-requires-clause-number
-item-after-requires-clause-number t c =
-    item_number c.args.limits.profile c.args.limits.depth c.args.text.now c.args.start.now c.in_ok-begin.begin _ c.in_ok-end.end (flat c.named.new.out) (flat c.value.new.out)
-    (name_values c.args.limits.profile c.args.brackets c.args.text.now c.args.start.now c.in_ok-begin.begin (flat c.args.out.now) (flat c.named.new.out) c.requires.1.1.1.0 c.in_ok-begin.ensures) c.in_ok-end.ensures
+pub item-after_entry-requires-clause-number : goal.item-after_entry-requires-clause-number
+item-after_entry-requires-clause-number t c =
+    item_number c.args.limits.profile c.args.limits.depth c.args.text.now c.args.start.now c.in_ok-begin.begin _ c.in_ok-end.end (flat c.entry_key.new.out) (flat c.value.new.out)
+    (name_values c.args.limits.profile c.args.brackets c.args.text.now c.args.start.now c.in_ok-begin.begin (flat c.args.out.now) (flat c.entry_key.new.out) c.requires.1.1.1.0 c.in_ok-begin.ensures) c.in_ok-end.ensures
 
 pub item-returns : goal.item-returns
 item-returns t c =
-    item_is c.args.limits.profile c.args.brackets c.args.limits.depth c.args.text.now c.args.start.now c.in_ok-begin.begin (c.key_count.result - c.args.start.now.parts) c.in_ok-end.end (flat c.args.out.now) (flat c.named.new.out) (flat c.value.new.out) (flat c.after.new.out) c.after.result
-    c.requires.1.1.1.0 c.requires.1.1.1.1.0 (ap (λ (n : ℕ). n - c.args.start.now.parts) c.key_count.ensures) c.in_ok-begin.ensures c.in_ok-end.ensures c.after.ensures
+    item_is c.args.limits.profile c.args.brackets c.args.limits.depth c.args.text.now c.args.start.now c.in_ok-begin.begin (c.key_count.result - c.args.start.now.parts) c.in_ok-end.end (flat c.args.out.now) (flat c.entry_key.new.out) (flat c.value.new.out) (flat c.after_entry.new.out) c.after_entry.result
+    c.requires.1.1.1.0 c.requires.1.1.1.1.0 (ap (λ (n : ℕ). n - c.args.start.now.parts) c.key_count.ensures) c.in_ok-begin.ensures c.in_ok-end.ensures c.after_entry.ensures
 
 pub value-returns-then-byte-eq91 : goal.value-returns-then-byte-eq91
 value-returns-then-byte-eq91 t c =

@@ -6,7 +6,7 @@ use Rattle.keep_token.proofs.basic.basic_len.Given as goal
 abbrev pub invariant-loop-profile : goal.invariant-loop-profile
 invariant-loop-profile l = record {
   within : l.at ≤ length l.bytes;
-  kept : basic_reach l.profile l.bytes 1 ≡ basic_reach l.profile l.bytes l.at;
+  preserved : basic_reach l.profile l.bytes 1 ≡ basic_reach l.profile l.bytes l.at;
 }
 
 abbrev pub decreases-loop-profile : goal.decreases-loop-profile

@@ -14,8 +14,8 @@ returns-then-marks-ge3-clause-found c =
     let n = c.basic_run-at.result in
     let len = c.basic_run-at.ensures.len ∙ ap (prefix_len is_basic) (take_rest c.args.bytes.now at) in
     let count = c.marks_run-marks.ensures.len ∙ ap (marks 0x22) (take_rest c.args.bytes.now (at + n)) in
-    let kept = c.loop-profile.invariant.kept ∙ ml_basic_run c.args.profile c.args.bytes.now at n len in
-    ml_basic_ends c.args.profile c.args.bytes.now (at + n) c.marks_run-marks.result count (omega arith) kept ∙ ap (λ m. Some (at + n + m)) (sym c.min.ensures)
+    let preserved = c.loop-profile.invariant.preserved ∙ ml_basic_run c.args.profile c.args.bytes.now at n len in
+    ml_basic_ends c.args.profile c.args.bytes.now (at + n) c.marks_run-marks.result count (omega arith) preserved ∙ ap (λ m. Some (at + n + m)) (sym c.min.ensures)
 
 pub loop-profile-preserved : goal.loop-profile-preserved
 loop-profile-preserved c =
@@ -23,11 +23,11 @@ loop-profile-preserved c =
     let n = c.basic_run-at.result in
     let len = c.basic_run-at.ensures.len ∙ ap (prefix_len is_basic) (take_rest c.args.bytes.now at) in
     let count = c.marks_run-marks.ensures.len ∙ ap (marks 0x22) (take_rest c.args.bytes.now (at + n)) in
-    let kept = c.loop-profile.invariant.kept ∙ ml_basic_run c.args.profile c.args.bytes.now at n len in
+    let preserved = c.loop-profile.invariant.preserved ∙ ml_basic_run c.args.profile c.args.bytes.now at n len in
     let found = ap (λ t. piece_len (ml_basic_piece c.args.profile t)) (sym (take_rest c.args.bytes.now (at + n))) ∙ sym c.in-Some.ensures.len in
     record {
       within = omega (arith, c.in-Some.ensures.within, length-rest c.args.bytes.now (at + n) (omega arith));
-      kept = kept ∙ ml_basic_more c.args.profile c.args.bytes.now (at + n) c.marks_run-marks.result c.in-Some.len count (omega arith) found;
+      preserved = preserved ∙ ml_basic_more c.args.profile c.args.bytes.now (at + n) c.marks_run-marks.result c.in-Some.len count (omega arith) found;
     }
 
 pub returns-in-None-clause-found : goal.returns-in-None-clause-found
@@ -36,6 +36,6 @@ returns-in-None-clause-found c =
     let n = c.basic_run-at.result in
     let len = c.basic_run-at.ensures.len ∙ ap (prefix_len is_basic) (take_rest c.args.bytes.now at) in
     let count = c.marks_run-marks.ensures.len ∙ ap (marks 0x22) (take_rest c.args.bytes.now (at + n)) in
-    let kept = c.loop-profile.invariant.kept ∙ ml_basic_run c.args.profile c.args.bytes.now at n len in
+    let preserved = c.loop-profile.invariant.preserved ∙ ml_basic_run c.args.profile c.args.bytes.now at n len in
     let none = ap (λ t. piece_len (ml_basic_piece c.args.profile t)) (sym (take_rest c.args.bytes.now (at + n))) ∙ sym c.in-None.ensures.len in
-    ml_basic_stops c.args.profile c.args.bytes.now (at + n) c.marks_run-marks.result count (omega arith) none kept
+    ml_basic_stops c.args.profile c.args.bytes.now (at + n) c.marks_run-marks.result count (omega arith) none preserved

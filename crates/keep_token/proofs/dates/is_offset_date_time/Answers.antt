@@ -1,4 +1,4 @@
--- A text too short for a date and a time has no offset behind them.
+-- A text too short for a date and a time has no offset after them.
 use Rattle.std.proofs.Common.{sym, arith}
 use Rattle.keep_token.proofs.DateShapes.{short_no_offset}
 use Rattle.keep_token.proofs.dates.is_offset_date_time.Goals as goal

@@ -1,4 +1,4 @@
--- The value is the text between the marks, behind a newline where one follows the opening.
+-- The value is the text between the marks, after a newline where one follows the opening.
 use Rattle.std.proofs.Common.{drop, arith, ap, ◌∙◌, sym}
 use Rattle.std.proofs.lemmas.List.{take_rest}
 use Rattle.std.proofs.lemmas.Result.{IfOk-weaker}

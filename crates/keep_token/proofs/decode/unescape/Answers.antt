@@ -1,4 +1,4 @@
--- Each turn takes a run, and then the piece at the backslash.
+-- Each iteration takes a run, and then the piece at the backslash.
 use Rattle.std.proofs.Common.{◌+◌, ◌<◌, List, length, arith, ap, ◌∙◌, sym, subst, drop}
 use Rattle.std.specs.List.{prefix_len}
 use Rattle.std.proofs.lemmas.List.{take_rest}
@@ -9,7 +9,7 @@ use Rattle.keep_token.specs.Strings.{Piece}
 use Rattle.keep_token.specs.Decoding.{IsBodyOf}
 use Rattle.keep_token.specs.Pieces.{escape_at, line_end_at}
 use Rattle.keep_token.specs.PieceLens.{piece_len}
-use Rattle.keep_token.proofs.DecodeLaws.{LeftOf, Turn, is_plain, left_all, left_none, stop_byte, cut_stop, after_run, turn_escape, turn_line_end, no_turn}
+use Rattle.keep_token.proofs.DecodeLaws.{LeftOf, Iteration, is_plain, left_all, left_none, stop_byte, cut_stop, after_run, iteration_escape, iteration_line_end, no_iteration}
 use Rattle.keep_token.proofs.decode.unescape.Goals as goal
 
 pub loop-value-init : goal.loop-value-init
@@ -40,15 +40,15 @@ loop-value-preserved-in-Some c =
     let n = c.plain_run.result in
     let same = c.as_bytes-bytes.ensures.value in
     let len = c.plain_run.ensures.len ∙ ap (prefix_len is_plain) (take_rest c.as_bytes-bytes.result.now at ∙ ap (drop at) same) in
-    let inside : at + n < length body = omega (arith, c.if-stop-body.false, c.range.ensures.len, ap length same) in
-    let byte = stop_byte body at n len inside in
-    let cut = cut_stop body at n len (omega (arith, inside)) in
+    let nested : at + n < length body = omega (arith, c.if-stop-body.false, c.range.ensures.len, ap length same) in
+    let byte = stop_byte body at n len nested in
+    let cut = cut_stop body at n len (omega (arith, nested)) in
     let behind = take_rest c.as_bytes-bytes.result.now (at + n + 1) ∙ ap (drop (at + n + 1)) same in
     let (q, found, size, given) = c.in-Some.ensures.escape in
     let found' = ap (escape_at Wide) (sym behind) ∙ found in
-    let again : (ps : List Piece) → IsBodyOf body ps → Turn ps body (string_bytes c.push.new.self) (at + n + c.in-Some.escape.len) = λ ps h.
+    let again : (ps : List Piece) → IsBodyOf body ps → Iteration ps body (string_bytes c.push.new.self) (at + n + c.in-Some.escape.len) = λ ps h.
     let left = after_run ps body _ _ _ at n (c.loop-value.invariant.left ps h) len c.range.ensures.value c.in_ok-push_str.ensures.bytes in
-    turn_escape ps body _ _ _ (at + n) c.in-Some.escape.len q left inside byte found' size given c.in_ok-push.ensures.bytes c.utf8.body cut
+    iteration_escape ps body _ _ _ (at + n) c.in-Some.escape.len q left nested byte found' size given c.in_ok-push.ensures.bytes c.utf8.body cut
     in
     record { cut = (again c.requires.0 c.requires.1).cut; left = λ ps h. (again ps h).left }
 
@@ -59,15 +59,15 @@ loop-value-preserved c =
     let n = c.plain_run.result in
     let same = c.as_bytes-bytes.ensures.value in
     let len = c.plain_run.ensures.len ∙ ap (prefix_len is_plain) (take_rest c.as_bytes-bytes.result.now at ∙ ap (drop at) same) in
-    let inside : at + n < length body = omega (arith, c.if-stop-body.false, c.range.ensures.len, ap length same) in
-    let byte = stop_byte body at n len inside in
-    let cut = cut_stop body at n len (omega (arith, inside)) in
+    let nested : at + n < length body = omega (arith, c.if-stop-body.false, c.range.ensures.len, ap length same) in
+    let byte = stop_byte body at n len nested in
+    let cut = cut_stop body at n len (omega (arith, nested)) in
     let behind = take_rest c.as_bytes-bytes.result.now (at + n + 1) ∙ ap (drop (at + n + 1)) same in
     let none = ap (escape_at Wide) (sym behind) ∙ c.in_default.ensures.escape in
     let found = ap (λ t. piece_len (line_end_at t)) (sym behind) ∙ sym c.in-Some-line_end_len.ensures.len in
-    let again : (ps : List Piece) → IsBodyOf body ps → Turn ps body (string_bytes c.push_str.new.self) (at + n + c.in-Some-line_end_len.len) = λ ps h.
+    let again : (ps : List Piece) → IsBodyOf body ps → Iteration ps body (string_bytes c.push_str.new.self) (at + n + c.in-Some-line_end_len.len) = λ ps h.
     let left = after_run ps body _ _ _ at n (c.loop-value.invariant.left ps h) len c.range.ensures.value c.in_ok-push_str.ensures.bytes in
-    turn_line_end ps body _ (at + n) c.in-Some-line_end_len.len left inside byte none found c.utf8.body cut
+    iteration_line_end ps body _ (at + n) c.in-Some-line_end_len.len left nested byte none found c.utf8.body cut
     in
     record { cut = (again c.requires.0 c.requires.1).cut; left = λ ps h. (again ps h).left }
 
@@ -78,10 +78,10 @@ unreachable-requires c =
     let n = c.plain_run.result in
     let same = c.as_bytes-bytes.ensures.value in
     let len = c.plain_run.ensures.len ∙ ap (prefix_len is_plain) (take_rest c.as_bytes-bytes.result.now at ∙ ap (drop at) same) in
-    let inside : at + n < length body = omega (arith, c.if-stop-body.false, c.range.ensures.len, ap length same) in
-    let byte = stop_byte body at n len inside in
+    let nested : at + n < length body = omega (arith, c.if-stop-body.false, c.range.ensures.len, ap length same) in
+    let byte = stop_byte body at n len nested in
     let behind = take_rest c.as_bytes-bytes.result.now (at + n + 1) ∙ ap (drop (at + n + 1)) same in
     let none = ap (escape_at Wide) (sym behind) ∙ c.in_default.ensures.escape in
     let missed = ap (λ t. piece_len (line_end_at t)) (sym behind) ∙ sym c.in_default-line_end_len.ensures.len in
     let left = after_run c.requires.0 body _ _ _ at n (c.loop-value.invariant.left c.requires.0 c.requires.1) len c.range.ensures.value c.in_ok-push_str.ensures.bytes in
-    no_turn c.requires.0 body _ (at + n) left inside byte none missed
+    no_iteration c.requires.0 body _ (at + n) left nested byte none missed

@@ -1,4 +1,4 @@
--- The run ends at an apostrophe, or nothing goes on there.
+-- The run ends at an apostrophe, or nothing continues there.
 use Rattle.std.proofs.Common.{ap, ◌∙◌}
 use Rattle.std.specs.List.{prefix_len}
 use Rattle.std.proofs.lemmas.List.{take_rest}

@@ -14,8 +14,8 @@ returns-then-marks-ge3-clause-found c =
     let n = c.literal_run-at.result in
     let len = c.literal_run-at.ensures.len ∙ ap (prefix_len is_literal) (take_rest c.args.bytes.now at) in
     let count = c.marks_run-marks.ensures.len ∙ ap (marks 0x27) (take_rest c.args.bytes.now (at + n)) in
-    let kept = c.loop-at.invariant.kept ∙ ml_literal_run c.args.bytes.now at n len in
-    ml_literal_ends c.args.bytes.now (at + n) c.marks_run-marks.result count (omega arith) kept ∙ ap (λ m. Some (at + n + m)) (sym c.min.ensures)
+    let preserved = c.loop-at.invariant.preserved ∙ ml_literal_run c.args.bytes.now at n len in
+    ml_literal_ends c.args.bytes.now (at + n) c.marks_run-marks.result count (omega arith) preserved ∙ ap (λ m. Some (at + n + m)) (sym c.min.ensures)
 
 pub loop-at-preserved : goal.loop-at-preserved
 loop-at-preserved c =
@@ -23,11 +23,11 @@ loop-at-preserved c =
     let n = c.literal_run-at.result in
     let len = c.literal_run-at.ensures.len ∙ ap (prefix_len is_literal) (take_rest c.args.bytes.now at) in
     let count = c.marks_run-marks.ensures.len ∙ ap (marks 0x27) (take_rest c.args.bytes.now (at + n)) in
-    let kept = c.loop-at.invariant.kept ∙ ml_literal_run c.args.bytes.now at n len in
+    let preserved = c.loop-at.invariant.preserved ∙ ml_literal_run c.args.bytes.now at n len in
     let found = ap (λ t. piece_len (ml_literal_piece t)) (sym (take_rest c.args.bytes.now (at + n))) ∙ sym c.in-Some.ensures.len in
     record {
       within = omega (arith, c.in-Some.ensures.within, length-rest c.args.bytes.now (at + n) (omega arith));
-      kept = kept ∙ ml_literal_more c.args.bytes.now (at + n) c.marks_run-marks.result c.in-Some.len count (omega arith) found;
+      preserved = preserved ∙ ml_literal_more c.args.bytes.now (at + n) c.marks_run-marks.result c.in-Some.len count (omega arith) found;
     }
 
 pub returns-in-None-clause-found : goal.returns-in-None-clause-found
@@ -36,6 +36,6 @@ returns-in-None-clause-found c =
     let n = c.literal_run-at.result in
     let len = c.literal_run-at.ensures.len ∙ ap (prefix_len is_literal) (take_rest c.args.bytes.now at) in
     let count = c.marks_run-marks.ensures.len ∙ ap (marks 0x27) (take_rest c.args.bytes.now (at + n)) in
-    let kept = c.loop-at.invariant.kept ∙ ml_literal_run c.args.bytes.now at n len in
+    let preserved = c.loop-at.invariant.preserved ∙ ml_literal_run c.args.bytes.now at n len in
     let none = ap (λ t. piece_len (ml_literal_piece t)) (sym (take_rest c.args.bytes.now (at + n))) ∙ sym c.in-None.ensures.len in
-    ml_literal_stops c.args.bytes.now (at + n) c.marks_run-marks.result count (omega arith) none kept
+    ml_literal_stops c.args.bytes.now (at + n) c.marks_run-marks.result count (omega arith) none preserved

@@ -6,7 +6,7 @@ use Rattle.keep_token.proofs.literal.ml_literal_len.Given as goal
 abbrev pub invariant-loop-at : goal.invariant-loop-at
 invariant-loop-at l = record {
   within : l.at ≤ length l.bytes;
-  kept : ml_literal_reach l.bytes 3 ≡ ml_literal_reach l.bytes l.at;
+  preserved : ml_literal_reach l.bytes 3 ≡ ml_literal_reach l.bytes l.at;
 }
 
 abbrev pub decreases-loop-at : goal.decreases-loop-at

@@ -1,4 +1,4 @@
--- Each sign with the digits behind it.
+-- Each sign with the digits after it.
 use Rattle.std.proofs.Common.{arith}
 use Rattle.std.proofs.lemmas.Bool.Decides.{nat_tests}
 use Rattle.keep_token.proofs.IntegerLaws.{IsPlain, minus_written, plus_written, plain_written, integer_none, integer_some, minus_is, plus_is, minus_fits, plus_fits, none_of}

@@ -1,4 +1,4 @@
--- Each turn reads one digit; past 64 bits, or at another byte, there is no value.
+-- Each iteration reads one digit; past 64 bits, or at another byte, there is no value.
 use Rattle.std.proofs.Common.{◌≡◌, ℕ, ◌+◌, ◌*◌, ◌<◌, ◌^◌, arith, sym, ◌∙◌}
 use Rattle.std.specs.Char.{digit_value}
 use Rattle.keep_token.proofs.ValueLaws.{Reads, none_if, so_far_large, so_far_last, so_far_passed, so_far_more}

@@ -1,4 +1,4 @@
--- The digits of a base are those of ten, and no 0 stands before another.
+-- The digits of a base are those of ten, and no 0 comes before another.
 use Rattle.std.proofs.Common.{arith}
 use Rattle.std.proofs.lemmas.Bool.Decides.{nat_tests}
 use Rattle.keep_token.proofs.IntegerLaws.{MayBeUnsigned, unsigned_value_is}

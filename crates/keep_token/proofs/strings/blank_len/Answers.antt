@@ -1,4 +1,4 @@
--- Each turn takes one tab, space or newline.
+-- Each iteration takes one tab, space or newline.
 use Rattle.std.proofs.Common.{arith, sym, ap, ◌∙◌}
 use Rattle.std.proofs.lemmas.List.{take_rest}
 use Rattle.keep_token.specs.Pieces.{newline_len}

@@ -1,6 +1,6 @@
 use Rattle.std.proofs.Common.{refl, ◌∙◌}
 use Rattle.std.proofs.lemmas.Result.{err_from_is_err_and}
-use Rattle.keep_splice.proofs.Shared.{text_seen, seen, value_inside, value_there}
+use Rattle.keep_splice.proofs.Shared.{text_seen, seen, value_nested, value_there}
 use Rattle.keep_edit.proofs.PathLaws.{got, not_got}
 use Rattle.keep_edit.proofs.document.Document.get.Goals as goal
 
@@ -12,7 +12,7 @@ returns-in_err-number-clause-got c = λ s read.
 pub value-requires : goal.value-requires
 value-requires c =
     let h = seen c.self.view_is c.self.invariant in
-    value_inside _ _ _ _ h.tree _ h h.read ((rw c.as_ref.ensures at c.in_ok-number.ensures) h.tree h.read)
+    value_nested _ _ _ _ h.tree _ h h.read ((rw c.as_ref.ensures at c.in_ok-number.ensures) h.tree h.read)
 
 pub part_at-requires : goal.part_at-requires
 part_at-requires c =

@@ -1,13 +1,13 @@
 use Rattle.std.proofs.Common.{◌∙◌, ap, string_bytes}
 use Rattle.keep_meaning.specs.KeyText.{text_at}
-use Rattle.keep_splice.proofs.Shared.{text_seen, seen, value_inside, value_there}
+use Rattle.keep_splice.proofs.Shared.{text_seen, seen, value_nested, value_there}
 use Rattle.keep_edit.proofs.ScalarLaws.{value_at, quoted_leaf, string_readable, string_found, no_string_found, no_string_leaf}
 use Rattle.keep_edit.proofs.document.Document.str_value.Goals as goal
 
 pub value-value-requires : goal.value-value-requires
 value-value-requires c =
     let h = seen c.self.view_is c.self.invariant in
-    value_inside _ _ _ c.args.path.now h.tree c.in-Ok.number h h.read ((rw c.as_ref.ensures at c.in-Ok.ensures) h.tree h.read)
+    value_nested _ _ _ c.args.path.now h.tree c.in-Ok.number h h.read ((rw c.as_ref.ensures at c.in-Ok.ensures) h.tree h.read)
 
 pub part_at-requires : goal.part_at-requires
 part_at-requires c =

@@ -1,12 +1,12 @@
 use Rattle.std.proofs.lemmas.Result.{err_from_is_err_and}
 use Rattle.keep_law.specs.Edits.{remove}
-use Rattle.keep_edit.proofs.EditedLaws.{made_of, told_of, untold_of}
+use Rattle.keep_edit.proofs.EditedLaws.{made_of, report_of, untold_of}
 use Rattle.keep_edit.proofs.document.Document.text_removed.Goals as goal
 
-pub returns-in_err-removed-clause-told : goal.returns-in_err-removed-clause-told
-returns-in_err-removed-clause-told c = λ s read.
+pub returns-in_err-removed-clause-stated : goal.returns-in_err-removed-clause-stated
+returns-in_err-removed-clause-stated c = λ s read.
     let p = err_from_is_err_and c.from_residual.result c.from_residual.ensures.1 in
     rw (p.1, p.2) (untold_of s (remove c.args.path.now) c.args.self.now _ (made_of s (remove c.args.path.now) _ c.as_ref.ensures (λ k. c.in_err-removed.ensures.made s k) read))
 
-pub returns-clause-told : goal.returns-clause-told
-returns-clause-told c = λ s read. told_of s (remove c.args.path.now) c.args.self.now c.in_ok-removed.removed _ (made_of s (remove c.args.path.now) _ c.as_ref.ensures (λ k. c.in_ok-removed.ensures.made s k) read) c.text_after.ensures
+pub returns-clause-stated : goal.returns-clause-stated
+returns-clause-stated c = λ s read. report_of s (remove c.args.path.now) c.args.self.now c.in_ok-removed.removed _ (made_of s (remove c.args.path.now) _ c.as_ref.ensures (λ k. c.in_ok-removed.ensures.made s k) read) c.text_after.ensures

@@ -1,13 +1,13 @@
 use Rattle.std.proofs.lemmas.Result.{err_from_is_err_and}
 use Rattle.keep_law.specs.Edits.{append_element}
 use Rattle.keep_edit.specs.Headers.{key_texts}
-use Rattle.keep_edit.proofs.EditedLaws.{made_of, told_of, untold_of}
+use Rattle.keep_edit.proofs.EditedLaws.{made_of, report_of, untold_of}
 use Rattle.keep_edit.proofs.document.Document.text_with_element.Goals as goal
 
-pub returns-in_err-header-clause-told : goal.returns-in_err-header-clause-told
-returns-in_err-header-clause-told c = λ s read.
+pub returns-in_err-header-clause-stated : goal.returns-in_err-header-clause-stated
+returns-in_err-header-clause-stated c = λ s read.
     let p = err_from_is_err_and c.from_residual.result c.from_residual.ensures.1 in
     rw (p.1, p.2) (untold_of s (append_element (key_texts c.args.keys.now)) c.args.self.now _ (made_of s (append_element (key_texts c.args.keys.now)) _ c.as_ref.ensures (λ k. c.in_err-header.ensures.made s k) read))
 
-pub returns-clause-told : goal.returns-clause-told
-returns-clause-told c = λ s read. told_of s (append_element (key_texts c.args.keys.now)) c.args.self.now c.in_ok-header.header _ (made_of s (append_element (key_texts c.args.keys.now)) _ c.as_ref.ensures (λ k. c.in_ok-header.ensures.made s k) read) c.text_after.ensures
+pub returns-clause-stated : goal.returns-clause-stated
+returns-clause-stated c = λ s read. report_of s (append_element (key_texts c.args.keys.now)) c.args.self.now c.in_ok-header.header _ (made_of s (append_element (key_texts c.args.keys.now)) _ c.as_ref.ensures (λ k. c.in_ok-header.ensures.made s k) read) c.text_after.ensures

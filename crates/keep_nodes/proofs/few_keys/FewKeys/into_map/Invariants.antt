@@ -1,4 +1,4 @@
--- The map has the entries that were moved; those that are left have other keys, and come behind them.
+-- The map has the entries that were moved; those that are left have other keys, and come after them.
 use Rattle.std.proofs.Common.{◌≡◌, ◌++◌, map}
 use Rattle.std.specs.Vec.Iter.{into_iter_items}
 use Rattle.keep_nodes.specs.KeyMaps.{named_pair, HasOwnKeys}

@@ -17,7 +17,7 @@ some_marks n h = grind (arith, nat_tests)
 abbrev old : goal.After-later_kind → NodeFacts
 old c =
     let own = c.in-Packed in
-    facts_in (Packed own.state own.kind own.passed own.place own.marks own.key_len own.value_len own.key_start own.value_start own.number)
+    facts_in (Packed own.state own.kind own.passed own.origin own.marks own.key_len own.value_len own.key_start own.value_start own.number)
 
 pub returns-clause-facts : goal.returns-clause-facts
 returns-clause-facts c =

@@ -1,9 +1,9 @@
 use Rattle.std.proofs.Common.{[], ◌∷◌, ◌++◌, ap, ◌∙◌, arith}
-use Rattle.keep_parts.proofs.StartLaws.{IsMore, near_more, far_more, kept_more}
+use Rattle.keep_parts.proofs.StartLaws.{IsMore, near_more, far_more, stored_more}
 use Rattle.keep_parts.proofs.starts.Starts.push.Goals.{then-step+in_default, else-step}
 use Rattle.keep_parts.proofs.starts.Starts.push.Goals as goal
 
--- one place more is kept
+-- one place more is stored
 more : (c : goal.After-self-1) → IsMore c.self.inside.steps.items c.self.inside.far.items c.if-step.self-inside.steps.items c.if-step.self-inside.far.items c.args.at
 more c =
     let old = c.self.inside in
@@ -19,7 +19,7 @@ pub invariant_of-self-2 : goal.invariant_of-self-2
 invariant_of-self-2 c =
     let old = c.self.inside in
     let new = c.if-step.self-inside in
-    kept_more old.steps.items old.far.items new.steps.items new.far.items old.last c.args.at c.self.invariant (more c) (omega arith)
+    stored_more old.steps.items old.far.items new.steps.items new.far.items old.last c.args.at c.self.invariant (more c) (omega arith)
 
 pub returns-clause-ok : goal.returns-clause-ok
 returns-clause-ok c = (more c).more ∙ ap (λ places. places ++ c.args.at ∷ []) c.self.view_is

@@ -1,4 +1,4 @@
--- Each turn passes a dot and a key part.
+-- Each iteration passes a dot and a key part.
 use Rattle.std.proofs.Common.{◌≡◌, ◌+◌, ◌∙◌, drop, sym, rules, arith, refl, add_assoc}
 use Rattle.std.proofs.lemmas.Grind.{common_steps}
 use Rattle.std.proofs.lemmas.Str.{IsCharBoundary-from_rest}
@@ -21,10 +21,10 @@ range_from-requires c _ =
     (byte_is c.args.text.now c.as_bytes.result.now c.loop-at.at c.byte_or_zero.result c.as_bytes.ensures.value c.byte_or_zero.ensures ∙ c.loop-at-test.true)
 
 pub returns-in_err-at-2-clause-none : goal.returns-in_err-at-2-clause-none
-returns-in_err-at-2-clause-none c _ path told =
+returns-in_err-at-2-clause-none c _ path stated =
     let dot = byte_is c.args.text.now c.as_bytes.result.now c.loop-at.at c.byte_or_zero.result c.as_bytes.ensures.value c.byte_or_zero.ensures ∙ c.loop-at-test.true in
     let behind : c.range_from.result.now ≡ drop (c.loop-at.at + 1) c.args.text.now = first_of (search rules, grind (arith, common_steps)) in
-    absurd (no_next_key c.args.text.now c.range_from.result.now c.loop-at.at dot behind (c.in_err-at-2.ensures.none refl) c.loop-at.invariant.so_far path told)
+    absurd (no_next_key c.args.text.now c.range_from.result.now c.loop-at.at dot behind (c.in_err-at-2.ensures.none refl) c.loop-at.invariant.so_far path stated)
 
 pub loop-at-preserved : goal.loop-at-preserved
 loop-at-preserved c =

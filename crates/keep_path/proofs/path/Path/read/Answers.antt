@@ -1,4 +1,4 @@
--- Each turn reads one step more.
+-- Each iteration reads one step more.
 use Rattle.std.proofs.Common.{◌≡◌, ◌++◌, ◌∷◌, [], map, drop, length, rules, arith, refl, string_bytes}
 use Rattle.std.proofs.lemmas.Grind.{common_steps}
 use Rattle.std.proofs.lemmas.Str.{IsCharBoundary-from_rest}
@@ -10,9 +10,9 @@ use Rattle.keep_path.proofs.ReadLaws.{so_far_first_read, so_far_next_read, one_r
 use Rattle.keep_path.proofs.path.Path.read.Goals as goal
 
 pub returns-in_default-clause-read : goal.returns-in_default-clause-read
-returns-in_default-clause-read c path told =
+returns-in_default-clause-read c path stated =
     let some : 0 < length c.args.text.now = first_of (search rules, grind (arith, common_steps)) in
-    absurd (first_stuck c.args.text.now some ((rw c.in_default.is at c.in_ok-key.ensures.none) refl) path told)
+    absurd (first_stuck c.args.text.now some ((rw c.in_default.is at c.in_ok-key.ensures.none) refl) path stated)
 
 pub loop-at-init : goal.loop-at-init
 loop-at-init c =
@@ -34,5 +34,5 @@ loop-at-preserved c =
     }
 
 pub returns-clause-one : goal.returns-clause-one
-returns-clause-one c path told =
-    one_read c.args.text.now (map part_of c.loop-at.steps.items) c.loop-at.at c.loop-at-test.false c.loop-at.invariant.so_far path told
+returns-clause-one c path stated =
+    one_read c.args.text.now (map part_of c.loop-at.steps.items) c.loop-at.at c.loop-at-test.false c.loop-at.invariant.so_far path stated

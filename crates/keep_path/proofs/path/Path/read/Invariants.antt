@@ -1,4 +1,4 @@
--- What is read so far tells the steps, and each path of the text goes on from there.
+-- What is read so far tells the steps, and each path of the text continues from there.
 use Rattle.std.proofs.Common.{map, length, ◌-◌}
 use Rattle.std.specs.Prelude.{IsCharBoundary}
 use Rattle.keep_path.specs.Step.{part_of}

@@ -2,7 +2,7 @@
 use Rattle.std.proofs.lemmas.Result.{err_from_is_err_and}
 use Rattle.keep_syntax.specs.Tree.{Document}
 use Rattle.keep_meaning.specs.Marks.{marks}
-use Rattle.keep_meaning.specs.Meaning.{said_in}
+use Rattle.keep_meaning.specs.Meaning.{mentions_in}
 use Rattle.keep_rules.specs.ReadDocuments.{WasRead}
 use Rattle.keep_meaning.specs.Rules.{ObeysRules}
 use Rattle.keep_nodes.specs.Stored.{node_infos}
@@ -11,7 +11,7 @@ use Rattle.keep_rules.proofs.RefusalLaws.{refused_memory}
 use Rattle.keep_rules.proofs.index.Index.build.Goals as goal
 
 pub returns-in_err-nodes-clause-read : goal.returns-in_err-nodes-clause-read
-returns-in_err-nodes-clause-read c = λ (d : Document) (was : WasRead c.args.text.now c.args.syntax.now d) (obeys : ObeysRules (marks (said_in d))).
+returns-in_err-nodes-clause-read c = λ (d : Document) (was : WasRead c.args.text.now c.args.syntax.now d) (obeys : ObeysRules (marks (mentions_in d))).
     let p = err_from_is_err_and c.from_residual.result c.from_residual.ensures.1 in
     rw (p.1, p.2) (refused_memory d c.in_err-nodes.field-0.0 (c.in_err-nodes.ensures.faults d was) obeys)
 

@@ -11,7 +11,7 @@ pub returns-clause-found : goal.returns-clause-found
 returns-clause-found c =
     let same : number_of c.map.result ≡ c.child.result = search rules in
     same ∙ c.child.ensures
-    ∙ child_answer c.self.inside.nodes.items c.args.self.now c.args.id.0 (key c.args.text.now) record { stored = c.self.invariant.0; view = c.self.view_is; inside = c.requires }
+    ∙ child_answer c.self.inside.nodes.items c.args.self.now c.args.id.0 (key c.args.text.now) record { stored = c.self.invariant.0; view = c.self.view_is; nested = c.requires }
 
 pub returns-clause-within : goal.returns-clause-within
 returns-clause-within c = number_within c.args.self.now (path_numbered c.args.self.now c.args.id.0 ++ key c.args.text.now ∷ []) c.map.result (returns-clause-found c)

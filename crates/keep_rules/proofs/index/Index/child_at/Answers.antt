@@ -9,12 +9,12 @@ child_at-requires c = omega (arith, count_paths c.self.inside.nodes.items c.args
 pub returns-clause-met : goal.returns-clause-met
 returns-clause-met c =
     let same : number_of c.map.result ≡ c.child_at.result = search rules in
-    same ∙ c.child_at.ensures ∙ nth_answer c.self.inside.nodes.items c.args.self.now c.args.id.0 c.args.n record { stored = c.self.invariant.0; view = c.self.view_is; inside = c.requires }
+    same ∙ c.child_at.ensures ∙ nth_answer c.self.inside.nodes.items c.args.self.now c.args.id.0 c.args.n record { stored = c.self.invariant.0; view = c.self.view_is; nested = c.requires }
 
 pub returns-clause-indexed : goal.returns-clause-indexed
 returns-clause-indexed c k is =
     let same : number_of c.map.result ≡ c.child_at.result = search rules in
-    same ∙ c.child_at.ensures ∙ indexed_answer c.self.inside.nodes.items c.args.self.now c.args.id.0 c.args.n k record { stored = c.self.invariant.0; view = c.self.view_is; inside = c.requires } is
+    same ∙ c.child_at.ensures ∙ indexed_answer c.self.inside.nodes.items c.args.self.now c.args.id.0 c.args.n k record { stored = c.self.invariant.0; view = c.self.view_is; nested = c.requires } is
 
 pub returns-clause-within : goal.returns-clause-within
 returns-clause-within c = nth_within c.args.self.now c.args.id.0 c.args.n c.map.result (returns-clause-met c)

@@ -6,4 +6,4 @@ pub child_count-requires : goal.child_count-requires
 child_count-requires c = omega (arith, count_paths c.self.inside.nodes.items c.args.self.now c.self.invariant.0 c.self.view_is)
 
 pub returns : goal.returns
-returns c = c.child_count.ensures ∙ count_answer c.self.inside.nodes.items c.args.self.now c.args.id.0 record { stored = c.self.invariant.0; view = c.self.view_is; inside = c.requires }
+returns c = c.child_count.ensures ∙ count_answer c.self.inside.nodes.items c.args.self.now c.args.id.0 record { stored = c.self.invariant.0; view = c.self.view_is; nested = c.requires }

@@ -14,7 +14,7 @@ returns-in_err-step c = absurd (step_there c.args.path.now c.loop-number.number 
 
 pub child_by-requires-clause-within : goal.child_by-requires-clause-within
 child_by-requires-clause-within c =
-    omega (arith, c.loop-number.invariant.inside, count_paths c.self.inside.nodes.items c.args.self.now c.self.invariant.0 c.self.view_is)
+    omega (arith, c.loop-number.invariant.nested, count_paths c.self.inside.nodes.items c.args.self.now c.self.invariant.0 c.self.view_is)
 
 pub returns-in_err-id-clause-found : goal.returns-in_err-id-clause-found
 returns-in_err-id-clause-found c =
@@ -33,4 +33,4 @@ returns-clause-found c =
     at_end c.self.inside.nodes.items c.args.self.now record { stored = c.self.invariant.0; view = c.self.view_is } c.args.path.now c.loop-number.number c.args.n c.loop-number.id c.loop-number.invariant (omega arith)
 
 pub returns-clause-within : goal.returns-clause-within
-returns-clause-within c = c.loop-number.invariant.inside
+returns-clause-within c = c.loop-number.invariant.nested

@@ -7,4 +7,4 @@ pub facts-requires : goal.facts-requires
 facts-requires c = omega (arith, count_paths c.self.inside.nodes.items c.args.self.now c.self.invariant.0 c.self.view_is)
 
 pub returns : goal.returns
-returns c = info_answer c.self.inside.nodes.items c.args.self.now c.args.id.0 record { stored = c.self.invariant.0; view = c.self.view_is; inside = c.requires } ∙ ap Some (ap info_of (sym c.facts.ensures) ∙ sym c.info.ensures)
+returns c = info_answer c.self.inside.nodes.items c.args.self.now c.args.id.0 record { stored = c.self.invariant.0; view = c.self.view_is; nested = c.requires } ∙ ap Some (ap info_of (sym c.facts.ensures) ∙ sym c.info.ensures)

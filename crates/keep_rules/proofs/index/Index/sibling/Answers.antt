@@ -25,7 +25,7 @@ returns-clause-found c =
     let here = number_is c.args.self.now.paths (take (length c.args.path.now - 1) c.args.path.now) c.in_ok-parent.parent.0 found in
     let same : number_of c.map.result ≡ c.child.result = search rules in
     same ∙ c.child.ensures
-    ∙ child_answer c.self.inside.nodes.items c.args.self.now c.in_ok-parent.parent.0 (key c.args.text.now) record { stored = c.self.invariant.0; view = c.self.view_is; inside = here.0 }
+    ∙ child_answer c.self.inside.nodes.items c.args.self.now c.in_ok-parent.parent.0 (key c.args.text.now) record { stored = c.self.invariant.0; view = c.self.view_is; nested = here.0 }
     ∙ ap (λ q. node_number c.args.self.now.paths (q ++ key c.args.text.now ∷ [])) here.1
 
 pub returns-clause-within : goal.returns-clause-within

@@ -1,7 +1,7 @@
 use Rattle.std.proofs.Common.{arith}
 use Rattle.keep_law.specs.Edits.{set}
 use Rattle.keep_splice.proofs.AnswerLaws.{seen}
-use Rattle.keep_splice.proofs.FoundLaws.{value_inside}
+use Rattle.keep_splice.proofs.FoundLaws.{value_nested}
 use Rattle.keep_splice.proofs.SetLaws.{setting, depth_low, deep_done, foreign_done, allowed_by, done_at, set_law}
 use Rattle.keep_splice.proofs.EditedLaws.{patch_made, patch_of_edit}
 use Rattle.keep_splice.proofs.document.DocumentRef.edited.Goals as goal
@@ -9,7 +9,7 @@ use Rattle.keep_splice.proofs.document.DocumentRef.edited.Goals as goal
 pub value-found-requires : goal.value-found-requires
 value-found-requires c =
     let h = seen c.self.view_is c.self.invariant in
-    value_inside _ _ _ c.args.path.now h.tree _ h h.read (c.in_ok-number.ensures h.tree h.read)
+    value_nested _ _ _ c.args.path.now h.tree _ h h.read (c.in_ok-number.ensures h.tree h.read)
 
 pub overflow_add-found : goal.overflow_add-found
 overflow_add-found c =

@@ -1,10 +1,10 @@
 use Rattle.std.proofs.Common.{refl, sym, arith}
 use Rattle.keep_splice.proofs.AnswerLaws.{seen}
-use Rattle.keep_splice.proofs.HolderLaws.{node_inside, none_further, by_dots, by_other}
+use Rattle.keep_splice.proofs.HolderLaws.{node_nested, none_further, by_dots, by_other}
 use Rattle.keep_splice.proofs.document.DocumentRef.further.Goals as goal
 
 pub step-requires-2 : goal.step-requires-2
-step-requires-2 c = let (s, read, way) = c.requires.way in node_inside _ _ _ _ s (seen c.self.view_is c.self.invariant) read _ way
+step-requires-2 c = let (s, read, way) = c.requires.way in node_nested _ _ _ _ s (seen c.self.view_is c.self.invariant) read _ way
 
 pub returns-in_err-id : goal.returns-in_err-id
 returns-in_err-id c = λ s read way.

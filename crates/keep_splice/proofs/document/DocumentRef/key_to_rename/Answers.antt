@@ -22,22 +22,22 @@ returns-then-is_some c = λ s read.
 
 pub returns-in-Some-key_span : goal.returns-in-Some-key_span
 returns-in-Some-key_span c = λ s read.
-    let told = one_found _ _ _ _ s (seen c.self.view_is c.self.invariant) read _ _ _ c.in-Some.is c.find.ensures.found c.node-node.ensures in
+    let stated = one_found _ _ _ _ s (seen c.self.view_is c.self.invariant) read _ _ _ c.in-Some.is c.find.ensures.found c.node-node.ensures in
     let there = beside_test _ _ _ c.args.path.now c.args.key.now s (seen c.self.view_is c.self.invariant) read c.sibling.result c.sibling.ensures.found in
-    let one : IsOneKey c.args.self.now c.args.key.now c.args.path.now s c.node-node.result = record { read = read; utf8 = c.utf8.key; told = told; by_key = sym c.ends_in_key.ensures ∙ c.if-not-ends_in_key.false; fresh = there ∙ sym c.is_some.ensures ∙ c.if-is_some.false } in
+    let one : IsOneKey c.args.self.now c.args.key.now c.args.path.now s c.node-node.result = record { read = read; utf8 = c.utf8.key; stated = stated; by_key = sym c.ends_in_key.ensures ∙ c.if-not-ends_in_key.false; fresh = there ∙ sym c.is_some.ensures ∙ c.if-is_some.false } in
     renamed_there c.args.self.now c.args.key.now c.args.path.now s c.node-node.result one c.in-Some-key_span.span c.if-node-eq1.true c.in-Some-key_span.is
 
 pub returns-in_default-key_span : goal.returns-in_default-key_span
 returns-in_default-key_span c = λ s read.
-    let told = one_found _ _ _ _ s (seen c.self.view_is c.self.invariant) read _ _ _ c.in-Some.is c.find.ensures.found c.node-node.ensures in
+    let stated = one_found _ _ _ _ s (seen c.self.view_is c.self.invariant) read _ _ _ c.in-Some.is c.find.ensures.found c.node-node.ensures in
     let there = beside_test _ _ _ c.args.path.now c.args.key.now s (seen c.self.view_is c.self.invariant) read c.sibling.result c.sibling.ensures.found in
-    let one : IsOneKey c.args.self.now c.args.key.now c.args.path.now s c.node-node.result = record { read = read; utf8 = c.utf8.key; told = told; by_key = sym c.ends_in_key.ensures ∙ c.if-not-ends_in_key.false; fresh = there ∙ sym c.is_some.ensures ∙ c.if-is_some.false } in
+    let one : IsOneKey c.args.self.now c.args.key.now c.args.path.now s c.node-node.result = record { read = read; utf8 = c.utf8.key; stated = stated; by_key = sym c.ends_in_key.ensures ∙ c.if-not-ends_in_key.false; fresh = there ∙ sym c.is_some.ensures ∙ c.if-is_some.false } in
     scattered c.args.self.now c.args.key.now c.args.path.now s c.node-node.result one c.if-node-eq1.false
 
 pub returns-in_default-key_span-2 : goal.returns-in_default-key_span-2
 returns-in_default-key_span-2 c = λ s read.
-    let told = one_found _ _ _ _ s (seen c.self.view_is c.self.invariant) read _ _ _ c.in-Some.is c.find.ensures.found c.node-node.ensures in
+    let stated = one_found _ _ _ _ s (seen c.self.view_is c.self.invariant) read _ _ _ c.in-Some.is c.find.ensures.found c.node-node.ensures in
     let there = beside_test _ _ _ c.args.path.now c.args.key.now s (seen c.self.view_is c.self.invariant) read c.sibling.result c.sibling.ensures.found in
-    let one : IsOneKey c.args.self.now c.args.key.now c.args.path.now s c.node-node.result = record { read = read; utf8 = c.utf8.key; told = told; by_key = sym c.ends_in_key.ensures ∙ c.if-not-ends_in_key.false; fresh = there ∙ sym c.is_some.ensures ∙ c.if-is_some.false } in
+    let one : IsOneKey c.args.self.now c.args.key.now c.args.path.now s c.node-node.result = record { read = read; utf8 = c.utf8.key; stated = stated; by_key = sym c.ends_in_key.ensures ∙ c.if-not-ends_in_key.false; fresh = there ∙ sym c.is_some.ensures ∙ c.if-is_some.false } in
     scattered c.args.self.now c.args.key.now c.args.path.now s c.node-node.result one
     (λ e. has_span c.args.self.now c.args.key.now c.args.path.now s c.node-node.result one e c.in_default-key_span.is)

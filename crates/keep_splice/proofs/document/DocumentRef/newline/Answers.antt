@@ -1,5 +1,5 @@
 use Rattle.std.proofs.Common.{sym, ap, ◌∙◌}
-use Rattle.keep_syntax.specs.Contract.{shown_token, left}
+use Rattle.keep_syntax.specs.Contract.{placed_token, left}
 use Rattle.keep_splice.specs.Newlines.{newline_among}
 use Rattle.keep_splice.proofs.AnswerLaws.{seen, text_seen, tokens_are}
 use Rattle.keep_splice.proofs.NewlineLaws.{newline_is, newline_here, newline_later}
@@ -10,10 +10,10 @@ loop-token-init c = (tt, tt, λ s read. newline_is s ∙ ap newline_among (sym (
 
 pub returns-in-Newline : goal.returns-in-Newline
 returns-in-Newline c = λ s read.
-    sym (c.loop-token.invariant.2 s read ∙ ap newline_among c.in-Some.ensures.steps ∙ newline_here (shown_token c.in-Some.token) (left c.next.new.self) c.in-Newline.is)
+    sym (c.loop-token.invariant.2 s read ∙ ap newline_among c.in-Some.ensures.steps ∙ newline_here (placed_token c.in-Some.token) (left c.next.new.self) c.in-Newline.is)
 
 pub loop-token-preserved : goal.loop-token-preserved
-loop-token-preserved c = (tt, tt, λ s read. c.loop-token.invariant.2 s read ∙ ap newline_among c.in-Some.ensures.steps ∙ newline_later (shown_token c.in-Some.token) (left c.next.new.self) c.in_default.not-Newline)
+loop-token-preserved c = (tt, tt, λ s read. c.loop-token.invariant.2 s read ∙ ap newline_among c.in-Some.ensures.steps ∙ newline_later (placed_token c.in-Some.token) (left c.next.new.self) c.in_default.not-Newline)
 
 pub returns : goal.returns
 returns c = λ s read. sym (c.loop-token.invariant.2 s read ∙ ap newline_among c.in-None.ensures.steps.0)

@@ -1,6 +1,6 @@
 use Rattle.std.proofs.Common.{refl, ◌∙◌, ap, arith, length, ◌++◌, string_bytes}
 use Rattle.keep_splice.proofs.AnswerLaws.{text_seen, seen}
-use Rattle.keep_splice.proofs.InsertedLaws.{before_within, before_put, behind_within, behind_keys, behind_put, empty_within, empty_keys, empty_inside, empty_put, body_there, body_within, body_put, line_there, line_within, line_put, section_there, section_header, section_within, section_put}
+use Rattle.keep_splice.proofs.InsertedLaws.{before_within, before_put, after_within, after_keys, after_put, empty_within, empty_keys, empty_nested, empty_put, body_there, body_within, body_put, line_there, line_within, line_put, section_there, section_header, section_within, section_put}
 use Rattle.keep_splice.proofs.document.DocumentRef.push_insertion.Goals as goal
 
 pub value-requires : goal.value-requires
@@ -11,12 +11,12 @@ value-requires c =
 pub push_keyed-requires : goal.push_keyed-requires
 push_keyed-requires c =
     let (s, read, (v, value, there)) = c.requires.aimed in
-    behind_keys _ _ _ c.args.path.now s v c.args.value.now c.args.insertion (seen c.self.view_is c.self.invariant) read value there c.requires.utf8 _ c.in-BehindEntry.is
+    after_keys _ _ _ c.args.path.now s v c.args.value.now c.args.insertion (seen c.self.view_is c.self.invariant) read value there c.requires.utf8 _ c.in-AfterEntry.is
 
-pub value-requires-in-BehindEntry : goal.value-requires-in-BehindEntry
-value-requires-in-BehindEntry c =
+pub value-requires-in-AfterEntry : goal.value-requires-in-AfterEntry
+value-requires-in-AfterEntry c =
     let (s, read, (v, value, there)) = c.requires.aimed in
-    behind_within _ _ _ c.args.path.now s v c.args.value.now c.args.insertion (seen c.self.view_is c.self.invariant) read value there c.requires.utf8 _ c.in-BehindEntry.is
+    after_within _ _ _ c.args.path.now s v c.args.value.now c.args.insertion (seen c.self.view_is c.self.invariant) read value there c.requires.utf8 _ c.in-AfterEntry.is
 
 pub push_keyed-requires-in-InEmpty : goal.push_keyed-requires-in-InEmpty
 push_keyed-requires-in-InEmpty c =
@@ -28,41 +28,41 @@ value-requires-in-InEmpty c =
     let (s, read, (v, value, there)) = c.requires.aimed in
     empty_within _ _ _ c.args.path.now s v c.args.value.now c.args.insertion (seen c.self.view_is c.self.invariant) read value there c.requires.utf8 _ c.in-InEmpty.is
 
-pub behind_bracket-requires : goal.behind_bracket-requires
-behind_bracket-requires c =
+pub after_bracket-requires : goal.after_bracket-requires
+after_bracket-requires c =
     let (s, read, (v, value, there)) = c.requires.aimed in
-    omega (arith, empty_inside _ _ _ c.args.path.now s v c.args.value.now c.args.insertion (seen c.self.view_is c.self.invariant) read value there c.requires.utf8 _ _ c.in-InEmpty.is c.value-in-InEmpty.ensures.stored, ap length (text_seen c.self.view_is))
+    omega (arith, empty_nested _ _ _ c.args.path.now s v c.args.value.now c.args.insertion (seen c.self.view_is c.self.invariant) read value there c.requires.utf8 _ _ c.in-InEmpty.is c.value-in-InEmpty.ensures.stored, ap length (text_seen c.self.view_is))
 
 pub body_end-at-requires : goal.body_end-at-requires
 body_end-at-requires c =
     let (s, read, (v, value, there)) = c.requires.aimed in
-    (s, read, (body_there _ _ _ c.args.path.now s v c.args.value.now c.args.insertion (seen c.self.view_is c.self.invariant) read value there c.requires.utf8 _ c.in-BehindBody.is).within)
+    (s, read, (body_there _ _ _ c.args.path.now s v c.args.value.now c.args.insertion (seen c.self.view_is c.self.invariant) read value there c.requires.utf8 _ c.in-AfterBody.is).within)
 
 pub push_line-requires-clause-within : goal.push_line-requires-clause-within
 push_line-requires-clause-within c =
     let (s, read, (v, value, there)) = c.requires.aimed in
-    body_within _ _ _ c.args.path.now s v c.args.value.now c.args.insertion (seen c.self.view_is c.self.invariant) read value there c.requires.utf8 _ _ c.in-BehindBody.is (c.body_end-at.ensures s read)
+    body_within _ _ _ c.args.path.now s v c.args.value.now c.args.insertion (seen c.self.view_is c.self.invariant) read value there c.requires.utf8 _ _ c.in-AfterBody.is (c.body_end-at.ensures s read)
 
 pub push_line-requires-clause-keys : goal.push_line-requires-clause-keys
 push_line-requires-clause-keys c =
     let (s, read, (v, value, there)) = c.requires.aimed in
-    (body_there _ _ _ c.args.path.now s v c.args.value.now c.args.insertion (seen c.self.view_is c.self.invariant) read value there c.requires.utf8 _ c.in-BehindBody.is).put.keys
+    (body_there _ _ _ c.args.path.now s v c.args.value.now c.args.insertion (seen c.self.view_is c.self.invariant) read value there c.requires.utf8 _ c.in-AfterBody.is).put.keys
 
 pub keyval_end-at-requires : goal.keyval_end-at-requires
 keyval_end-at-requires c =
     let (s, read, (v, value, there)) = c.requires.aimed in
-    let l = line_there _ _ _ c.args.path.now s v c.args.value.now c.args.insertion (seen c.self.view_is c.self.invariant) read value there c.requires.utf8 _ c.in-BehindLine.is in
+    let l = line_there _ _ _ c.args.path.now s v c.args.value.now c.args.insertion (seen c.self.view_is c.self.invariant) read value there c.requires.utf8 _ c.in-AfterLine.is in
     (s, read, (l.at, l.ends))
 
-pub push_line-requires-in-BehindLine-clause-within : goal.push_line-requires-in-BehindLine-clause-within
-push_line-requires-in-BehindLine-clause-within c =
+pub push_line-requires-in-AfterLine-clause-within : goal.push_line-requires-in-AfterLine-clause-within
+push_line-requires-in-AfterLine-clause-within c =
     let (s, read, (v, value, there)) = c.requires.aimed in
-    line_within _ _ _ c.args.path.now s v c.args.value.now c.args.insertion (seen c.self.view_is c.self.invariant) read value there c.requires.utf8 _ _ c.in-BehindLine.is (c.keyval_end-at.ensures s read)
+    line_within _ _ _ c.args.path.now s v c.args.value.now c.args.insertion (seen c.self.view_is c.self.invariant) read value there c.requires.utf8 _ _ c.in-AfterLine.is (c.keyval_end-at.ensures s read)
 
-pub push_line-requires-in-BehindLine-clause-keys : goal.push_line-requires-in-BehindLine-clause-keys
-push_line-requires-in-BehindLine-clause-keys c =
+pub push_line-requires-in-AfterLine-clause-keys : goal.push_line-requires-in-AfterLine-clause-keys
+push_line-requires-in-AfterLine-clause-keys c =
     let (s, read, (v, value, there)) = c.requires.aimed in
-    (line_there _ _ _ c.args.path.now s v c.args.value.now c.args.insertion (seen c.self.view_is c.self.invariant) read value there c.requires.utf8 _ c.in-BehindLine.is).put.keys
+    (line_there _ _ _ c.args.path.now s v c.args.value.now c.args.insertion (seen c.self.view_is c.self.invariant) read value there c.requires.utf8 _ c.in-AfterLine.is).put.keys
 
 pub body_end-at-requires-in-NewSection : goal.body_end-at-requires-in-NewSection
 body_end-at-requires-in-NewSection c =
@@ -89,21 +89,21 @@ pub returns-in_ok-push_str-in-BeforeItem-2 : goal.returns-in_ok-push_str-in-Befo
 returns-in_ok-push_str-in-BeforeItem-2 c = λ s read v value there.
     before_put _ _ _ c.args.path.now s v c.args.value.now c.args.insertion (seen c.self.view_is c.self.invariant) read value there c.requires.utf8 _ _ _ _ _ c.in-BeforeItem.is c.value.ensures.stored (c.in_ok-push_str-in-BeforeItem.ensures.bytes ∙ ap (λ t. string_bytes c.args.out.now ++ t) c.as_str.ensures.text) c.in_ok-push_str-in-BeforeItem-2.ensures.bytes
 
-pub returns-in_ok-push_keyed-in-BehindEntry : goal.returns-in_ok-push_keyed-in-BehindEntry
-returns-in_ok-push_keyed-in-BehindEntry c = λ s read v value there.
-    behind_put _ _ _ c.args.path.now s v c.args.value.now c.args.insertion (seen c.self.view_is c.self.invariant) read value there c.requires.utf8 _ _ _ _ _ c.in-BehindEntry.is c.value-in-BehindEntry.ensures.stored c.in_ok-push_str-in-BehindEntry.ensures.bytes (c.in_ok-push_keyed-in-BehindEntry.ensures v value)
+pub returns-in_ok-push_keyed-in-AfterEntry : goal.returns-in_ok-push_keyed-in-AfterEntry
+returns-in_ok-push_keyed-in-AfterEntry c = λ s read v value there.
+    after_put _ _ _ c.args.path.now s v c.args.value.now c.args.insertion (seen c.self.view_is c.self.invariant) read value there c.requires.utf8 _ _ _ _ _ c.in-AfterEntry.is c.value-in-AfterEntry.ensures.stored c.in_ok-push_str-in-AfterEntry.ensures.bytes (c.in_ok-push_keyed-in-AfterEntry.ensures v value)
 
 pub returns-in_ok-push_keyed-in-InEmpty : goal.returns-in_ok-push_keyed-in-InEmpty
 returns-in_ok-push_keyed-in-InEmpty c = λ s read v value there.
-    empty_put _ _ _ c.args.path.now s v c.args.value.now c.args.insertion (seen c.self.view_is c.self.invariant) read value there c.requires.utf8 _ _ _ _ _ c.in-InEmpty.is c.value-in-InEmpty.ensures.stored c.behind_bracket.ensures (c.in_ok-push_keyed-in-InEmpty.ensures v value)
+    empty_put _ _ _ c.args.path.now s v c.args.value.now c.args.insertion (seen c.self.view_is c.self.invariant) read value there c.requires.utf8 _ _ _ _ _ c.in-InEmpty.is c.value-in-InEmpty.ensures.stored c.after_bracket.ensures (c.in_ok-push_keyed-in-InEmpty.ensures v value)
 
-pub returns-in_ok-push_line-in-BehindBody : goal.returns-in_ok-push_line-in-BehindBody
-returns-in_ok-push_line-in-BehindBody c = λ s read v value there.
-    body_put _ _ _ c.args.path.now s v c.args.value.now c.args.insertion (seen c.self.view_is c.self.invariant) read value there c.requires.utf8 _ _ _ _ c.in-BehindBody.is (c.body_end-at.ensures s read) (c.in_ok-push_line-in-BehindBody.ensures s read v value)
+pub returns-in_ok-push_line-in-AfterBody : goal.returns-in_ok-push_line-in-AfterBody
+returns-in_ok-push_line-in-AfterBody c = λ s read v value there.
+    body_put _ _ _ c.args.path.now s v c.args.value.now c.args.insertion (seen c.self.view_is c.self.invariant) read value there c.requires.utf8 _ _ _ _ c.in-AfterBody.is (c.body_end-at.ensures s read) (c.in_ok-push_line-in-AfterBody.ensures s read v value)
 
-pub returns-in_ok-push_line-in-BehindLine : goal.returns-in_ok-push_line-in-BehindLine
-returns-in_ok-push_line-in-BehindLine c = λ s read v value there.
-    line_put _ _ _ c.args.path.now s v c.args.value.now c.args.insertion (seen c.self.view_is c.self.invariant) read value there c.requires.utf8 _ _ _ _ c.in-BehindLine.is (c.keyval_end-at.ensures s read) (c.in_ok-push_line-in-BehindLine.ensures s read v value)
+pub returns-in_ok-push_line-in-AfterLine : goal.returns-in_ok-push_line-in-AfterLine
+returns-in_ok-push_line-in-AfterLine c = λ s read v value there.
+    line_put _ _ _ c.args.path.now s v c.args.value.now c.args.insertion (seen c.self.view_is c.self.invariant) read value there c.requires.utf8 _ _ _ _ c.in-AfterLine.is (c.keyval_end-at.ensures s read) (c.in_ok-push_line-in-AfterLine.ensures s read v value)
 
 pub returns-in_ok-push_section-in-NewSection : goal.returns-in_ok-push_section-in-NewSection
 returns-in_ok-push_section-in-NewSection c = λ s read v value there.

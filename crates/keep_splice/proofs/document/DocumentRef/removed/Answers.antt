@@ -28,7 +28,7 @@ returns-clause-made c = λ s read.
     let piece = c.in_ok-piece.ensures s read in
     let at = c.cut-cut.ensures c.args.path.now s read piece in
     let is = rw (c.part_at.ensures, text_seen c.self.view_is) at c.edited_at.ensures in
-    patch_made c.args.self.now s (remove c.args.path.now) c.cut-cut.result.span (text_at c.args.self.now.text c.cut-cut.result.kept) read
+    patch_made c.args.self.now s (remove c.args.path.now) c.cut-cut.result.span (text_at c.args.self.now.text c.cut-cut.result.preserved) read
     (removal_done c.args.self.now c.args.path.now s c.in_ok-piece.piece c.cut-cut.result piece at) (removal_law c.args.self.now c.args.path.now s read piece.0) c.edited_at.result is
 
 pub returns-clause-of_edit : goal.returns-clause-of_edit
@@ -37,5 +37,5 @@ returns-clause-of_edit c =
     let piece = c.in_ok-piece.ensures h.tree h.read in
     let at = c.cut-cut.ensures c.args.path.now h.tree h.read piece in
     let is = rw (c.part_at.ensures, text_seen c.self.view_is) at c.edited_at.ensures in
-    patch_of_edit c.args.self.now h.tree (remove c.args.path.now) c.cut-cut.result.span (text_at c.args.self.now.text c.cut-cut.result.kept) h.read
+    patch_of_edit c.args.self.now h.tree (remove c.args.path.now) c.cut-cut.result.span (text_at c.args.self.now.text c.cut-cut.result.preserved) h.read
     (removal_done c.args.self.now c.args.path.now h.tree c.in_ok-piece.piece c.cut-cut.result piece at) (removal_law c.args.self.now c.args.path.now h.tree h.read piece.0) c.edited_at.result is

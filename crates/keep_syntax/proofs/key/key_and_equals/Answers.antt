@@ -4,7 +4,7 @@ use Rattle.std.proofs.lemmas.Result.{err_from_is_err_and}
 use Rattle.keep_parts.specs.Flat.{flat}
 use Rattle.keep_syntax.proofs.GapCodeLaws.{fails_bad}
 use Rattle.keep_syntax.proofs.KeyCodeLaws.{name_fails_key, name_bad, name_is}
-use Rattle.keep_syntax.proofs.key.name.Goals as goal
+use Rattle.keep_syntax.proofs.key.key_and_equals.Goals as goal
 
 pub returns-in_err-equals : goal.returns-in_err-equals
 returns-in_err-equals c =
@@ -18,5 +18,5 @@ returns-then-byte_at-ne61 c =
 
 pub returns : goal.returns
 returns c =
-    name_is c.args.profile c.args.text.now c.args.at c.in_ok-equals.equals c.in_ok-behind.behind (flat c.args.out.now) (flat c.key.new.out) (flat c.sign.new.out) (flat c.space.new.out) c.space.result
+    name_is c.args.profile c.args.text.now c.args.at c.in_ok-equals.equals c.in_ok-behind.behind (flat c.args.out.now) (flat c.key.new.out) (flat c.punctuation.new.out) (flat c.space.new.out) c.space.result
     c.in_ok-equals.ensures (omega (arith, c.byte_at.ensures)) c.in_ok-behind.ensures c.space.ensures

@@ -1,6 +1,6 @@
 use Rattle.std.proofs.Common.{◌∙◌, ap, inr, not}
 use Rattle.keep_run.proofs.AnswerLaws.{meant_text, no_node, no_string}
-use Rattle.keep_run.proofs.answer.meant.Goals as goal
+use Rattle.keep_run.proofs.answer.string_text.Goals as goal
 
 pub returns-in-Some : goal.returns-in-Some
 returns-in-Some c = meant_text c.args.document.now c.args.path.now c.in_ok-text.field-0 c.in-Some.text c.in-Some.is c.in_ok-text.ensures.accepted c.in_ok-text.ensures.string

@@ -1,8 +1,8 @@
 use Rattle.std.proofs.Common.{ℕ, ◌≡◌, ◌+◌, ◌-◌, suc, sym, take, length, refl, subst, arith}
 use Rattle.std.specs.Prelude.{string_bytes}
 use Rattle.keep_edit.specs.Reading.{text_in}
-use Rattle.keep_run.proofs.AnswerLaws.{IsAfter, all_applied, none_yet, no_edit, last_edit, after_edit, edit_refused, apply_done, text_told}
-use Rattle.keep_run.proofs.answer.applied.Goals as goal
+use Rattle.keep_run.proofs.AnswerLaws.{IsAfter, all_applied, none_yet, no_edit, last_edit, after_edit, edit_refused, apply_done, text_stated}
+use Rattle.keep_run.proofs.answer.text_after_edits.Goals as goal
 
 pub returns-then-is_empty : goal.returns-then-is_empty
 returns-then-is_empty c = λ s h.
@@ -27,13 +27,13 @@ pub returns-in-Ok-text : goal.returns-in-Ok-text
 returns-in-Ok-text c = λ s h.
     let last : c.loop-index.index ≡ length c.args.edits.now - 1 = omega (arith, c.loop-index-test.false, c.loop-index.auto.index-end) in
     let before = subst (λ (n : ℕ). IsAfter c.args.document.profile (take n c.args.edits.now) s c.loop-index.changed) last (c.loop-index.invariant s h) in
-    let after = after_edit (text_told c.loop-index.changed) c.args.document.profile c.args.edits.now (length c.args.edits.now - 1) _ c.index-edits-last.result c.loop-index.changed (text_in c.loop-index.changed.profile (string_bytes c.in-Ok-text.text)) s
-    (last_edit c.args.edits.now c.if-is_empty.ensures) (sym c.index-edits-last.is) c.in-Ok-text.ensures.edit before c.in-Ok-text.text (λ u e told. told) c.in-Ok-text.ensures.told in
+    let after = after_edit (text_stated c.loop-index.changed) c.args.document.profile c.args.edits.now (length c.args.edits.now - 1) _ c.index-edits-last.result c.loop-index.changed (text_in c.loop-index.changed.profile (string_bytes c.in-Ok-text.text)) s
+    (last_edit c.args.edits.now c.if-is_empty.ensures) (sym c.index-edits-last.is) c.in-Ok-text.ensures.edit before c.in-Ok-text.text (λ u e stated. stated) c.in-Ok-text.ensures.stated in
     all_applied c.args.document.profile c.args.edits.now (suc (length c.args.edits.now - 1)) s _ _ (omega arith) refl after
 
 pub returns-in-Err-text : goal.returns-in-Err-text
 returns-in-Err-text c = λ s h.
     let last : c.loop-index.index ≡ length c.args.edits.now - 1 = omega (arith, c.loop-index-test.false, c.loop-index.auto.index-end) in
     let before = subst (λ (n : ℕ). IsAfter c.args.document.profile (take n c.args.edits.now) s c.loop-index.changed) last (c.loop-index.invariant s h) in
-    rw (c.of_edit-in-Err-text.ensures) (edit_refused (text_told c.loop-index.changed) c.args.document.profile c.args.edits.now (length c.args.edits.now - 1) _ c.index-edits-last.result c.loop-index.changed c.loop-index.changed s
-    (last_edit c.args.edits.now c.if-is_empty.ensures) (sym c.index-edits-last.is) c.in-Err-text.ensures.edit before c.in-Err-text.fault c.in-Err-text.ensures.told)
+    rw (c.of_edit-in-Err-text.ensures) (edit_refused (text_stated c.loop-index.changed) c.args.document.profile c.args.edits.now (length c.args.edits.now - 1) _ c.index-edits-last.result c.loop-index.changed c.loop-index.changed s
+    (last_edit c.args.edits.now c.if-is_empty.ensures) (sym c.index-edits-last.is) c.in-Err-text.ensures.edit before c.in-Err-text.fault c.in-Err-text.ensures.stated)

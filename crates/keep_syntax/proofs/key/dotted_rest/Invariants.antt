@@ -1,7 +1,7 @@
 use Rattle.std.proofs.Common.{◌-◌, length}
 use Rattle.keep_parts.specs.Flat.{flat}
 use Rattle.keep_syntax.proofs.KeyCodeLaws.{FurtherSoFar}
-use Rattle.keep_syntax.proofs.key.further.Given as goal
+use Rattle.keep_syntax.proofs.key.dotted_rest.Given as goal
 
 abbrev pub invariant-parts : goal.invariant-parts
 invariant-parts l = FurtherSoFar l.profile l.text l.fn.at l.here (flat l.fn.out) (flat l.out)

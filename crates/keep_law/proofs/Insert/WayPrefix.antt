@@ -1,4 +1,4 @@
--- The front of a header's way, up to a path that the header goes through.
+-- The prefix of a header's way, up to a path that the header goes through.
 use Rattle.std.proofs.Common.{◌≡◌, ℕ, ◌-◌, Bool, true, false, cond, List, [], ◌∷◌, ◌++◌, length, refl, sym, ap, ◌∙◌, append_assoc, length-append, arith, inl, inr}
 use Rattle.std.specs.Prelude.{◌==◌}
 use Rattle.std.proofs.lemmas.List.{append-nil}
@@ -9,7 +9,7 @@ use Rattle.keep_meaning.specs.Marks.{through, past, passed, Mention, header_path
 use Rattle.keep_meaning.specs.Nodes.{is_through}
 use Rattle.keep_law.specs.Look.{keys_in, key_text}
 use Rattle.keep_law.proofs.Common.Runs.{AllOf, SomeOf, all_join, same_path-sound}
-use Rattle.keep_law.proofs.Common.Doubles.{IsSaid, repeatable}
+use Rattle.keep_law.proofs.Common.Doubles.{IsMentioned, repeatable}
 use Rattle.keep_law.proofs.Common.ValueThere.{some_cases}
 
 -- ---- a header's path is longer than where it begins
@@ -34,18 +34,18 @@ path_longer tables at k (l ∷ ks) =
     let q : List Part = at ++ key k ∷ [] in
     longer_by at [] (header_path tables (entered_path tables q) (l ∷ ks)) k (0 == elements_of q tables) (elements_of q tables - 1) (path_longer tables (entered_path tables q) l ks)
 
--- ---- the front
+-- ---- the prefix
 
-pub record GoesThrough (tables : List (List Part)) (at : List Part) (keys : List (List ℕ)) (a : List Part) : Type 0 where
+pub record LeadsThrough (tables : List (List Part)) (at : List Part) (keys : List (List ℕ)) (a : List Part) : Type 0 where
   pub first : List ℕ
-  pub front : List (List ℕ)
-  pub path : a ≡ header_path tables at (first ∷ front)
+  pub prefix : List (List ℕ)
+  pub path : a ≡ header_path tables at (first ∷ prefix)
   pub others : List Mention
-  pub way : header_way tables at keys ≡ header_way tables at (first ∷ front) ++ others
+  pub way : header_way tables at keys ≡ header_way tables at (first ∷ prefix) ++ others
   pub longer : IsLonger a (header_path tables at keys)
 
 passes_here : (tables : List (List Part)) (q a : List Part) (n : ℕ) (b : Bool)
-    → SomeOf (IsSaid is_through a) (cond b (record { path = q; says = through } ∷ []) (record { path = q; says = past } ∷ record { path = cond b q (q ++ index n ∷ []); says = passed } ∷ []))
+    → SomeOf (IsMentioned is_through a) (cond b (record { path = q; kind = through } ∷ []) (record { path = q; kind = past } ∷ record { path = cond b q (q ++ index n ∷ []); kind = passed } ∷ []))
     → (q ≡ a) × (b ≡ true)
 passes_here tables q a n true (inl h) = (h.0, refl)
 passes_here tables q a n true (inr h) = absurd h
@@ -53,25 +53,25 @@ passes_here tables q a n false (inl h) = let no : is_through past ≡ true = h.1
 passes_here tables q a n false (inr (inl h)) = let no : is_through passed ≡ true = h.1 in absurd cc
 passes_here tables q a n false (inr (inr h)) = absurd h
 
-pub through_front : (tables : List (List Part)) (at : List Part) (keys : List (List ℕ)) (a : List Part) → SomeOf (IsSaid is_through a) (header_way tables at keys) → GoesThrough tables at keys a
-through_front tables at [] a h = absurd h
-through_front tables at (k ∷ []) a h = absurd h
-through_front tables at (k ∷ l ∷ ks) a h =
+pub through_prefix : (tables : List (List Part)) (at : List Part) (keys : List (List ℕ)) (a : List Part) → SomeOf (IsMentioned is_through a) (header_way tables at keys) → LeadsThrough tables at keys a
+through_prefix tables at [] a h = absurd h
+through_prefix tables at (k ∷ []) a h = absurd h
+through_prefix tables at (k ∷ l ∷ ks) a h =
     let q : List Part = at ++ key k ∷ [] in
-    elim (some_cases (IsSaid is_through a) (passing_mentions tables q) (header_way tables (entered_path tables q) (l ∷ ks)) h) [
+    elim (some_cases (IsMentioned is_through a) (passing_mentions tables q) (header_way tables (entered_path tables q) (l ∷ ks)) h) [
       | inl p ↦
           (let (same, none) = passes_here tables q a (elements_of q tables - 1) (0 == elements_of q tables) p in
           let stays : entered_path tables q ≡ a = ap (λ (b : Bool). cond b q (q ++ index (elements_of q tables - 1) ∷ [])) none ∙ same in
           let g = path_longer tables (entered_path tables q) l ks in
-          record { first = k; front = []; path = sym same; others = header_way tables at (k ∷ l ∷ ks); way = refl; longer = record { part = g.part; more = g.more; is = g.is ∙ ap (λ (x : List Part). x ++ g.part ∷ g.more) stays } })
+          record { first = k; prefix = []; path = sym same; others = header_way tables at (k ∷ l ∷ ks); way = refl; longer = record { part = g.part; more = g.more; is = g.is ∙ ap (λ (x : List Part). x ++ g.part ∷ g.more) stays } })
       | inr r ↦
-          (let g = through_front tables (entered_path tables q) (l ∷ ks) a r in
+          (let g = through_prefix tables (entered_path tables q) (l ∷ ks) a r in
           record {
             first = k;
-            front = g.first ∷ g.front;
+            prefix = g.first ∷ g.prefix;
             path = g.path;
             others = g.others;
-            way = ap (λ (x : List Mention). passing_mentions tables q ++ x) g.way ∙ sym (append_assoc (passing_mentions tables q) (header_way tables (entered_path tables q) (g.first ∷ g.front)) g.others);
+            way = ap (λ (x : List Mention). passing_mentions tables q ++ x) g.way ∙ sym (append_assoc (passing_mentions tables q) (header_way tables (entered_path tables q) (g.first ∷ g.prefix)) g.others);
             longer = g.longer;
           })
     ]
@@ -92,7 +92,7 @@ abbrev entered_by : List Part → ℕ → List Part
 entered_by q n = cond (0 == n) q (q ++ index (n - 1) ∷ [])
 
 abbrev passing_by : List Part → ℕ → List Mention
-passing_by q n = cond (0 == n) (record { path = q; says = through } ∷ []) (record { path = q; says = past } ∷ record { path = entered_by q n; says = passed } ∷ [])
+passing_by q n = cond (0 == n) (record { path = q; kind = through } ∷ []) (record { path = q; kind = past } ∷ record { path = entered_by q n; kind = passed } ∷ [])
 
 entered_longer : (q path : List Part) (n : ℕ) (b : Bool) → IsLonger (cond b q (q ++ index n ∷ [])) path → IsLonger q path
 entered_longer q path n true h = h
@@ -138,13 +138,13 @@ path_keys tables at k (l ∷ ks) =
 -- ---- a way may be said again
 
 again_passing : (q : List Part) (n : ℕ) (b : Bool)
-    → AllOf (λ (m : Mention). repeatable m.says ≡ true) (cond b (record { path = q; says = through } ∷ []) (record { path = q; says = past } ∷ record { path = cond b q (q ++ index n ∷ []); says = passed } ∷ []))
+    → AllOf (λ (m : Mention). repeatable m.kind ≡ true) (cond b (record { path = q; kind = through } ∷ []) (record { path = q; kind = past } ∷ record { path = cond b q (q ++ index n ∷ []); kind = passed } ∷ []))
 again_passing q n true = (refl, tt)
 again_passing q n false = (refl, (refl, tt))
 
-pub way_again : (tables : List (List Part)) (at : List Part) (keys : List (List ℕ)) → AllOf (λ (m : Mention). repeatable m.says ≡ true) (header_way tables at keys)
+pub way_again : (tables : List (List Part)) (at : List Part) (keys : List (List ℕ)) → AllOf (λ (m : Mention). repeatable m.kind ≡ true) (header_way tables at keys)
 way_again tables at [] = tt
 way_again tables at (k ∷ []) = tt
 way_again tables at (k ∷ l ∷ ks) =
     let q : List Part = at ++ key k ∷ [] in
-    all_join (λ (m : Mention). repeatable m.says ≡ true) (passing_mentions tables q) (header_way tables (entered_path tables q) (l ∷ ks)) (again_passing q (elements_of q tables - 1) (0 == elements_of q tables)) (way_again tables (entered_path tables q) (l ∷ ks))
+    all_join (λ (m : Mention). repeatable m.kind ≡ true) (passing_mentions tables q) (header_way tables (entered_path tables q) (l ∷ ks)) (again_passing q (elements_of q tables - 1) (0 == elements_of q tables)) (way_again tables (entered_path tables q) (l ∷ ks))

@@ -1,5 +1,5 @@
 use Rattle.keep_run.proofs.AnswerLaws.{get_text, get_refusal}
-use Rattle.keep_run.proofs.answer.got.Goals as goal
+use Rattle.keep_run.proofs.answer.value_line.Goals as goal
 
 pub returns-in_ok-line_of-in-Ok : goal.returns-in_ok-line_of-in-Ok
 returns-in_ok-line_of-in-Ok c = get_text c.args.document.now c.args.path.now c.in-Ok.value.now _ c.in-Ok.ensures.accepted c.in-Ok.ensures.got c.in_ok-line_of-in-Ok.ensures

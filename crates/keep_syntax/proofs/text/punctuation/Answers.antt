@@ -1,6 +1,6 @@
 use Rattle.std.proofs.Common.{◌≡◌, ℕ, ◌+◌, ◌-◌, ◌<◌, length, refl, subst, arith, IsCharBoundary}
 use Rattle.std.proofs.lemmas.Str.{IsCharBoundary-after_ascii}
-use Rattle.keep_syntax.proofs.text.sign.Goals as goal
+use Rattle.keep_syntax.proofs.text.punctuation.Goals as goal
 
 pub returns : goal.returns
 returns c =
@@ -12,5 +12,5 @@ returns c =
       end_is = refl;
       bound = subst (λ (n : ℕ). IsCharBoundary c.args.text.now n) e (IsCharBoundary-after_ascii c.args.text.now last c.utf8.text within c.requires.ascii);
       start = c.requires.bound;
-      kept = c.in_ok-push_mark.ensures.ok;
+      stored = c.in_ok-push_token.ensures.ok;
     }
