@@ -97,8 +97,8 @@ def array(depth):
     return f"ValueInfo {{ leaf: ArrayOpen, span: {own}, whole: {whole}, owner: {owner}, depth: {depth}, {rest} }}\n"
 
 
-def node(kind, value_span, key_span, marks, place):
-    rest = f"key_span: Some({key_span}), marks: {marks}, passed: false, place: {place}"
+def node(kind, value_span, key_span, marks, origin):
+    rest = f"key_span: Some({key_span}), marks: {marks}, passed: false, origin: {origin}"
     return f"NodeInfo {{ kind: {kind}, value_span: {value_span}, {rest} }}"
 
 
