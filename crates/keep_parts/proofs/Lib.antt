@@ -1,4 +1,5 @@
 pub mod StartLaws
+pub mod RunLaws
 pub mod TestLaws
 pub mod FlatLaws
 pub mod MoveLaws

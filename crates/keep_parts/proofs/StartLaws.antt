@@ -8,10 +8,10 @@ use Rattle.keep_parts.specs.Starts.{places_at, last_of, AllSmall, fars, StepsAre
 
 -- ---- the next
 
-near_test : (step : ℕ) → (step ≡ FAR → ⊥) → (step == FAR) ≡ false
+pub near_test : (step : ℕ) → (step ≡ FAR → ⊥) → (step == FAR) ≡ false
 near_test step other = elim (eqb_tells step FAR) [ inl t ↦ absurd (other t.1) | inr t ↦ t.0 ]
 
-near_step : (at step : ℕ) (steps far : List ℕ) → (step == FAR) ≡ false → places_at at (step ∷ steps) far ≡ (at + step) ∷ places_at (at + step) steps far
+pub near_step : (at step : ℕ) (steps far : List ℕ) → (step == FAR) ≡ false → places_at at (step ∷ steps) far ≡ (at + step) ∷ places_at (at + step) steps far
 near_step at step steps [] is = rw is
 near_step at step steps (place ∷ far) is = rw is
 
@@ -40,14 +40,14 @@ far_rest at step place all steps all_far far is there first small =
 -- ---- one more
 
 -- how many of the steps lead to a far place, by the first step and by the last
-fars_after : (step : ℕ) (steps : List ℕ) (test : Bool) → (step == FAR) ≡ test → fars (step ∷ steps) ≡ cond test 1 0 + fars steps
+pub fars_after : (step : ℕ) (steps : List ℕ) (test : Bool) → (step == FAR) ≡ test → fars (step ∷ steps) ≡ cond test 1 0 + fars steps
 fars_after step steps test is = sum_by-cons (λ (s : ℕ). cond (s == FAR) 1 0) step steps ∙ ap (λ (b : Bool). cond b 1 0 + fars steps) is
 
 fars_more : (steps : List ℕ) (step : ℕ) → fars (steps ++ step ∷ []) ≡ fars steps + cond (step == FAR) 1 0
 fars_more steps step = sum_by_push (λ (s : ℕ). cond (s == FAR) 1 0) steps step
 
 -- places that are stored after others continue from the last of those
-behind : (at : ℕ) (steps far more beyond : List ℕ) → length far ≡ fars steps → places_at at (steps ++ more) (far ++ beyond) ≡ places_at at steps far ++ places_at (last_of at (places_at at steps far)) more beyond
+pub behind : (at : ℕ) (steps far more beyond : List ℕ) → length far ≡ fars steps → places_at at (steps ++ more) (far ++ beyond) ≡ places_at at steps far ++ places_at (last_of at (places_at at steps far)) more beyond
 behind at [] [] more beyond n = refl
 behind at [] (place ∷ far) more beyond n = absurd (omega arith)
 behind at (step ∷ steps) [] more beyond n = elim (eqb_tells step FAR) [

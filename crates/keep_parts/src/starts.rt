@@ -1,7 +1,7 @@
 //! Where each token begins, or each line, stored in one byte each.
-ghost use Rattle.std.specs.Prelude.{◌≡◌, ◌≢◌, ◌+◌, ◌++◌, [], ◌∷◌, length, map, slice_range, OnOk, OnErr};
+ghost use Rattle.std.specs.Prelude.{◌≡◌, ◌≢◌, ◌≤◌, ◌+◌, ◌++◌, [], ◌∷◌, length, map, sum, take, slice_range, IfSome, OnOk, OnErr};
 ghost use Rattle.keep_parts.specs.declared.starts.TheConstants.{FAR};
-ghost use Rattle.keep_parts.specs.Starts.{AllSmall, places_at};
+ghost use Rattle.keep_parts.specs.Starts.{AllSmall, fars, last_of, places_at};
 
 use crate::moves::moved;
 use std::alloc::{AllocError, Global};
@@ -38,6 +38,15 @@ pub struct Places<'a> {
     steps: &'a [u8],
     far: &'a [usize],
     ghost small: { AllSmall (places_at at steps.now far.now) },
+}
+
+/// Near steps, each told by its byte, and how far they lead together.
+#[derive(Clone, Copy, Debug)]
+struct Near<'a> {
+    steps: &'a [u8],
+    distance: usize,
+    ghost near: { fars steps.now ≡ 0 },
+    ghost leads: { distance ≡ sum steps.now },
 }
 
 // the step from a place to a place
@@ -145,7 +154,32 @@ impl Starts {
         number
     }
 
+    /// Stores one more place, moved from after `old` to after `new`. A place before `old` is refused.
+    fn push_moved(&mut self, at: usize, old: usize, new: usize) -> Result<(), AllocError>
+        ensures ok { OnOk result (self.new ≡ self.old ++ lifted.moved old new at ∷ []) }
+        ensures after { OnOk result (old ≤ at) }
+    {
+        match moved(at, old, new) {
+            Some(place) if old <= at => self.push(place),
+            _ => Err(AllocError),
+        }
+    }
+
+    /// Stores also the places that near steps lead to from the last place.
+    fn push_near(&mut self, near: Near<'_>) -> Result<(), AllocError>
+        ensures { OnOk result (self.new ≡ self.old ++ places_at (last_of 0 self.old) near.entry.steps.now []) }
+    {
+        let Some(last) = self.last.checked_add(near.distance) else {
+            return Err(AllocError);
+        };
+        self.steps.extend_from_slice(near.steps)?;
+        self.last = last;
+        Ok(())
+    }
+
     /// Stores also the places of another list from number `from` up to number `to`, moved from after `old` to after `new`.
+    /// A place that is not far from the one before is as far from it when both are moved, so the steps between are
+    /// stored as they are.
     pub fn append_moved(
         &mut self,
         other: &Starts,
@@ -156,20 +190,90 @@ impl Starts {
     ) -> Result<(), AllocError>
         ensures { OnOk result (self.new ≡ self.old ++ map (lifted.moved old new) (slice_range other.now from to)) }
     {
-        let mut number = 0;
-        'places: for at in other.iter() {
-            if number == to {
+        let mut left = other.iter();
+        left.skip_places(from);
+        let mut number = from;
+        'runs: while number < to {
+            let Some(at) = left.advance() else {
                 return Ok(());
-            }
-            if from <= number {
-                let Some(place) = moved(at, old, new) else {
-                    return Err(AllocError);
-                };
-                self.push(place)?;
-            }
+            };
+            self.push_moved(at, old, new)?;
             number += 1;
+            let near = left.take_near(to - number);
+            self.push_near(near)?;
+            number += near.steps.len();
         }
         Ok(())
+    }
+}
+
+impl<'a> Places<'a> {
+    ghost use Rattle.std.specs.Prelude.{drop};
+    ghost use Rattle.std.specs.Iterator.{YieldsFirst};
+    ghost use Rattle.keep_parts.specs.Left.{places_left};
+
+    /// The next place, from which the near steps after it are counted.
+    fn advance(&mut self) -> Option<usize>
+        ensures first { YieldsFirst places_left self.old result self.new }
+        ensures at { IfSome result (λ place. place ≡ self.new.at) }
+    {
+        let (step, steps) = self.steps.split_first()?;
+        if *step == FAR {
+            let (place, far) = self.far.split_first()?;
+            self.at = *place;
+            self.far = far;
+        } else {
+            self.at += *step as usize;
+        }
+        self.steps = steps;
+        Some(self.at)
+    }
+
+    /// Goes past `count` places, or all where there are fewer.
+    fn skip_places(&mut self, count: usize)
+        ensures { places_left self.new ≡ drop count (places_left self.old) }
+    {
+        let mut number = 0;
+        'runs: while number < count {
+            let Some(_) = self.advance() else {
+                return;
+            };
+            number += 1;
+            let near = self.take_near(count - number);
+            number += near.steps.len();
+        }
+    }
+
+    /// The next steps as far as each of them is near, at most `most`.
+    fn near(&self, most: usize) -> Near<'a>
+        ensures most { length result.steps.now ≤ most }
+        ensures first { result.steps.now ≡ take (length result.steps.now) self.now.steps.now }
+    {
+        let ahead = &self.steps[..self.steps.len().min(most)];
+        let mut number = 0;
+        let mut distance = 0;
+        'steps: for step in ahead {
+            if *step == FAR {
+                break;
+            }
+            distance += *step as usize;
+            number += 1;
+        }
+        Near {
+            steps: &ahead[..number],
+            distance,
+        }
+    }
+
+    /// Goes past the next steps as far as each of them is near, at most `most`, and returns them.
+    fn take_near(&mut self, most: usize) -> Near<'a>
+        ensures most { length result.steps.now ≤ most }
+        ensures left { places_left self.old ≡ places_at self.old.at result.steps.now [] ++ places_left self.new }
+    {
+        let near = self.near(most);
+        self.at += near.distance;
+        self.steps = &self.steps[near.steps.len()..];
+        near
     }
 }
 
@@ -184,15 +288,6 @@ impl<'a> Iterator for Places<'a> {
     ghost remaining = { item_count places_left };
 
     fn next(&mut self) -> Option<usize> {
-        let (step, steps) = self.steps.split_first()?;
-        if *step == FAR {
-            let (place, far) = self.far.split_first()?;
-            self.at = *place;
-            self.far = far;
-        } else {
-            self.at += *step as usize;
-        }
-        self.steps = steps;
-        Some(self.at)
+        self.advance()
     }
 }

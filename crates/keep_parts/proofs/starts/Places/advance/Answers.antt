@@ -1,7 +1,7 @@
 use Rattle.std.proofs.Common.{arith}
 use Rattle.keep_parts.proofs.StartLaws.{near_fits, near_rest, far_rest}
-use Rattle.keep_parts.proofs.starts.PlacesIterator.next.Goals.{then-step+in_ok-place, else-step}
-use Rattle.keep_parts.proofs.starts.PlacesIterator.next.Goals as goal
+use Rattle.keep_parts.proofs.starts.Places.advance.Goals.{then-step+in_ok-place, else-step}
+use Rattle.keep_parts.proofs.starts.Places.advance.Goals as goal
 
 pub overflow_add-self : goal.overflow_add-self
 overflow_add-self c =
