@@ -4,7 +4,7 @@ use Rattle.std.specs.List.{AllByRecursion}
 use Rattle.keep_parts.specs.declared.info.Span.{Span}
 use Rattle.keep_parts.specs.declared.moves.Counts.{Counts}
 use Rattle.keep_parts.specs.declared.parts.Parts.{Parts}
-use Rattle.keep_parts.specs.Flat.{Flat, flat}
+use Rattle.keep_parts.specs.Flat.{Flat}
 use Rattle.keep_parts.specs.Lifted.{origin, moved, moved_statement, moved_key, moved_value}
 use Rattle.keep_parts.specs.Rereading.{count_of, nothing, counts_before, counts_at}
 use Rattle.keep_parts.specs.Shifting.{shifted_statement, shifted_key, shifted_value, CanShiftStatement, CanShiftKey, CanShiftValue}

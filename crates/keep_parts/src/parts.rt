@@ -86,146 +86,146 @@ impl Parts {
     {
         self.values.get(number)
     }
-}
 
-/// Stores a token that begins at the byte `at`.
-#[inline(always)]
-pub fn push_token(out: &mut Parts, leaf: Leaf, at: usize) -> Result<(), AllocError>
-    ensures ok { OnOk result (spec.flat out.new ≡ spec.with_token leaf at (spec.flat out.old)) }
-{
-    out.kinds.push(leaf)?;
-    out.starts.push(at)?;
-    Ok(())
-}
+    /// Stores a token that begins at the byte `at`.
+    #[inline(always)]
+    pub fn push_token(&mut self, leaf: Leaf, at: usize) -> Result<(), AllocError>
+        ensures ok { OnOk result (spec.flat self.new ≡ spec.with_token leaf at (spec.flat self.old)) }
+    {
+        self.kinds.push(leaf)?;
+        self.starts.push(at)?;
+        Ok(())
+    }
 
-/// Stores a key part.
-pub fn push_key(out: &mut Parts, part: KeyPart) -> Result<(), AllocError>
-    ensures ok { OnOk result (spec.flat out.new ≡ spec.with_key part (spec.flat out.old)) }
-{
-    out.keys.push(part)?;
-    Ok(())
-}
+    /// Stores a key part.
+    pub fn push_key(&mut self, part: KeyPart) -> Result<(), AllocError>
+        ensures ok { OnOk result (spec.flat self.new ≡ spec.with_key part (spec.flat self.old)) }
+    {
+        self.keys.push(part)?;
+        Ok(())
+    }
 
-/// Stores a statement.
-pub fn push_statement(out: &mut Parts, statement: Statement) -> Result<(), AllocError>
-    ensures ok { OnOk result (spec.flat out.new ≡ spec.with_statement statement (spec.flat out.old)) }
-{
-    out.statements.push(statement)?;
-    Ok(())
-}
+    /// Stores a statement.
+    pub fn push_statement(&mut self, statement: Statement) -> Result<(), AllocError>
+        ensures ok { OnOk result (spec.flat self.new ≡ spec.with_statement statement (spec.flat self.old)) }
+    {
+        self.statements.push(statement)?;
+        Ok(())
+    }
 
-/// Stores a value of which all is known.
-pub fn push_info(out: &mut Parts, value: ValueInfo) -> Result<(), AllocError>
-    ensures { OnOk result (spec.flat out.new ≡ spec.with_value value (spec.flat out.old)) }
-{
-    out.values.push(value)
-}
+    /// Stores a value of which all is known.
+    pub fn push_info(&mut self, value: ValueInfo) -> Result<(), AllocError>
+        ensures { OnOk result (spec.flat self.new ≡ spec.with_value value (spec.flat self.old)) }
+    {
+        self.values.push(value)
+    }
 
-/// Stores the tokens of another list from one count to another, moved to begin at the byte `at`.
-pub fn append_tokens(
-    out: &mut Parts,
-    other: &Parts,
-    from: &Counts,
-    to: &Counts,
-    at: usize,
-) -> Result<(), AllocError>
-    requires order { from.now.tokens ≤ to.now.tokens }
-    requires within { to.now.tokens ≤ length (spec.flat other.now).kinds }
-    ensures { OnOk result (spec.flat out.new ≡ rereading.with_tokens (slice_range (spec.flat other.now).kinds from.now.tokens to.now.tokens)
-        (map (moved from.now.at at) (slice_range (spec.flat other.now).starts from.now.tokens to.now.tokens)) (spec.flat out.old)) }
-{
-    out.kinds
-        .extend_from_slice(&other.kinds[from.tokens..to.tokens])?;
-    out.starts
-        .append_moved(&other.starts, from.tokens, to.tokens, from.at, at)?;
-    Ok(())
-}
+    /// Stores the tokens of another list from one count to another, moved to begin at the byte `at`.
+    pub fn append_tokens(
+        &mut self,
+        other: &Parts,
+        from: &Counts,
+        to: &Counts,
+        at: usize,
+    ) -> Result<(), AllocError>
+        requires order { from.now.tokens ≤ to.now.tokens }
+        requires within { to.now.tokens ≤ length (spec.flat other.now).kinds }
+        ensures { OnOk result (spec.flat self.new ≡ rereading.with_tokens (slice_range (spec.flat other.now).kinds from.now.tokens to.now.tokens)
+            (map (moved from.now.at at) (slice_range (spec.flat other.now).starts from.now.tokens to.now.tokens)) (spec.flat self.old)) }
+    {
+        self.kinds
+            .extend_from_slice(&other.kinds[from.tokens..to.tokens])?;
+        self.starts
+            .append_moved(&other.starts, from.tokens, to.tokens, from.at, at)?;
+        Ok(())
+    }
 
-/// How many tokens begin before a place.
-pub fn tokens_before(out: &Parts, place: usize) -> usize
-    ensures { result ≡ rereading.places_before place (spec.flat out.now).starts }
-{
-    out.starts.count_before(place)
-}
+    /// How many tokens begin before a place.
+    pub fn tokens_before(&self, place: usize) -> usize
+        ensures { result ≡ rereading.places_before place (spec.flat self.now).starts }
+    {
+        self.starts.count_before(place)
+    }
 
-/// Stores a value that begins at the byte `at`, with so many key parts of its own before it, in entries that begin at
-/// `start`. The bytes `at..end` are known to be its own.
-pub fn push_value(
-    out: &mut Parts,
-    leaf: Leaf,
-    at: usize,
-    end: usize,
-    keys: usize,
-    start: &Start,
-) -> Result<(), AllocError>
-    ensures ok { OnOk result (spec.flat out.new
-        ≡ spec.with_value (spec.begun leaf at end keys start.now) (spec.flat out.old)) }
-{
-    out.values.push(ValueInfo {
-        leaf,
-        span: Span { start: at, end },
-        whole: Span {
-            start: start.at,
-            end,
-        },
-        owner: start.owner,
-        depth: start.depth,
-        first_key: start.parts,
-        keys,
-        comma_before: start.comma,
-        comma_after: None,
-    })
-}
+    /// Stores a value that begins at the byte `at`, with so many key parts of its own before it, in entries that begin at
+    /// `start`. The bytes `at..end` are known to be its own.
+    pub fn push_value(
+        &mut self,
+        leaf: Leaf,
+        at: usize,
+        end: usize,
+        keys: usize,
+        start: &Start,
+    ) -> Result<(), AllocError>
+        ensures ok { OnOk result (spec.flat self.new
+            ≡ spec.with_value (spec.begun leaf at end keys start.now) (spec.flat self.old)) }
+    {
+        self.values.push(ValueInfo {
+            leaf,
+            span: Span { start: at, end },
+            whole: Span {
+                start: start.at,
+                end,
+            },
+            owner: start.owner,
+            depth: start.depth,
+            first_key: start.parts,
+            keys,
+            comma_before: start.comma,
+            comma_after: None,
+        })
+    }
 
-/// Stores where the comma after a value is.
-pub fn set_comma(out: &mut Parts, number: usize, at: usize)
-    requires { number < length (spec.flat out.old).values }
-    ensures change { spec.ChangesValue (spec.with_comma at) number (spec.flat out.old) (spec.flat out.new) }
-{
-    out.values.set_comma(number, at);
-}
+    /// Stores where the comma after a value is.
+    pub fn set_comma(&mut self, number: usize, at: usize)
+        requires { number < length (spec.flat self.old).values }
+        ensures change { spec.ChangesValue (spec.with_comma at) number (spec.flat self.old) (spec.flat self.new) }
+    {
+        self.values.set_comma(number, at);
+    }
 
-/// Stores where a value ends.
-pub fn set_end(out: &mut Parts, number: usize, end: usize)
-    requires { number < length (spec.flat out.old).values }
-    ensures change { spec.ChangesValue (spec.with_end end) number (spec.flat out.old) (spec.flat out.new) }
-{
-    out.values.set_end(number, end);
-}
+    /// Stores where a value ends.
+    pub fn set_end(&mut self, number: usize, end: usize)
+        requires { number < length (spec.flat self.old).values }
+        ensures change { spec.ChangesValue (spec.with_end end) number (spec.flat self.old) (spec.flat self.new) }
+    {
+        self.values.set_end(number, end);
+    }
 
-/// How many tokens are stored.
-pub fn stored_token_count(out: &Parts) -> usize
-    ensures { result ≡ length (spec.flat out.now).kinds }
-{
-    out.kinds.len()
-}
+    /// How many tokens are stored.
+    pub fn stored_token_count(&self) -> usize
+        ensures { result ≡ length (spec.flat self.now).kinds }
+    {
+        self.kinds.len()
+    }
 
-/// How many statements are stored.
-pub fn statement_count(out: &Parts) -> usize
-    ensures { result ≡ length (spec.flat out.now).statements }
-{
-    out.statements.len()
-}
+    /// How many statements are stored.
+    pub fn statement_count(&self) -> usize
+        ensures { result ≡ length (spec.flat self.now).statements }
+    {
+        self.statements.len()
+    }
 
-/// The statement with this number.
-pub fn statement_at(out: &Parts, number: usize) -> Statement
-    requires { number < length (spec.flat out.now).statements }
-    ensures { slice_get (spec.flat out.now).statements number ≡ Some result }
-{
-    out.statements.get(number)
-}
+    /// The statement with this number.
+    pub fn statement_at(&self, number: usize) -> Statement
+        requires { number < length (spec.flat self.now).statements }
+        ensures { slice_get (spec.flat self.now).statements number ≡ Some result }
+    {
+        self.statements.get(number)
+    }
 
-/// The kind of the token with this number.
-pub fn token_at(out: &Parts, number: usize) -> Leaf
-    requires { number < length (spec.flat out.now).kinds }
-    ensures { slice_get (spec.flat out.now).kinds number ≡ Some result }
-{
-    out.kinds[number]
-}
+    /// The kind of the token with this number.
+    pub fn token_at(&self, number: usize) -> Leaf
+        requires { number < length (spec.flat self.now).kinds }
+        ensures { slice_get (spec.flat self.now).kinds number ≡ Some result }
+    {
+        self.kinds[number]
+    }
 
-/// Where the tokens begin, one after another.
-pub fn token_starts(out: &Parts) -> Places<'_>
-    ensures { places_left result ≡ (spec.flat out.now).starts }
-{
-    out.starts.iter()
+    /// Where the tokens begin, one after another.
+    pub fn token_starts(&self) -> Places<'_>
+        ensures { places_left result ≡ (spec.flat self.now).starts }
+    {
+        self.starts.iter()
+    }
 }

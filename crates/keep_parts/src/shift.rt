@@ -1,5 +1,6 @@
 //! Packed records whose numbers are moved in place.
-ghost use Rattle.std.specs.Prelude.{◌≡◌, ◌≤◌, ◌++◌, take, drop, map, IsTrue, vec_len, vec_capacity};
+ghost use Rattle.std.specs.Prelude.{◌≡◌, ◌≤◌, ◌++◌, take, drop, map, vec_len, vec_capacity};
+ghost use Rattle.std.specs.Bool.{Decides};
 ghost use Rattle.std.specs.List.{AllByRecursion};
 ghost use Rattle.keep_parts.specs.Exchanging.{HasRoom, Exchanged};
 ghost use Rattle.keep_parts.specs.Shifting.{FitsMoved, shifted_to, last_u32, last_usize};
@@ -21,12 +22,12 @@ pub trait Shift: Copy {
 
     /// Whether they fit where they are moved, and can be moved back.
     fn can_shift(self, old: &Counts, new: &Counts) -> bool
-        ensures { IsTrue result → CanShift old.now new.now self };
+        ensures { Decides result (CanShift old.now new.now self) };
 }
 
 /// Whether all from a number on can be moved.
 pub fn all_can_shift<T: Shift>(items: &[T], from: usize, old: &Counts, new: &Counts) -> bool
-    ensures { IsTrue result → AllByRecursion (T.CanShift old.now new.now) (drop from items.now) }
+    ensures { Decides result (AllByRecursion (T.CanShift old.now new.now) (drop from items.now)) }
 {
     'items: for number in from..items.len() {
         if !items[number].can_shift(old, new) {
@@ -79,7 +80,7 @@ pub fn shifted_u32(number: u32, old: usize, new: usize) -> u32
 
 /// Whether it fits, and comes after `old`.
 pub fn fits_u32(number: u32, old: usize, new: usize) -> bool
-    ensures { IsTrue result → FitsMoved last_u32 old new number }
+    ensures { Decides result (FitsMoved last_u32 old new number) }
 {
     let number = number as usize;
     old <= number && shifted_usize(number, old, new) <= u32::MAX as usize
@@ -94,7 +95,7 @@ pub fn shifted_usize(number: usize, old: usize, new: usize) -> usize
 
 /// Whether it fits, and comes after `old`.
 pub fn fits_usize(number: usize, old: usize, new: usize) -> bool
-    ensures { IsTrue result → FitsMoved last_usize old new number }
+    ensures { Decides result (FitsMoved last_usize old new number) }
 {
     old <= number && number - old <= usize::MAX - new
 }

@@ -5,7 +5,7 @@ ghost use Rattle.keep_syntax.specs.Reading.{is_free};
 
 use crate::fault::ReadFault;
 use crate::info::Brackets;
-use keep_parts::{Parts, push_token};
+use keep_parts::Parts;
 use keep_token::{Leaf, Profile, scan_gap};
 
 /// `ws`: white space from the byte `at` on, if there is some, and where it ends.
@@ -17,7 +17,7 @@ pub fn space(text: &str, at: usize, out: &mut Parts) -> Result<usize, ReadFault>
     match scan_gap(text, at) {
         Some((leaf, end)) => match leaf {
             Leaf::Ws => {
-                push_token(out, Leaf::Ws, at)?;
+                out.push_token(Leaf::Ws, at)?;
                 Ok(end)
             }
             _ => Ok(at),
@@ -33,7 +33,7 @@ fn blank(text: &str, at: usize, out: &mut Parts) -> Result<usize, ReadFault>
 {
     let mut here = at;
     'leaves: while let Some((leaf, end)) = scan_gap(text, here) {
-        push_token(out, leaf, here)?;
+        out.push_token(leaf, here)?;
         here = end;
     }
     Ok(here)

@@ -5,7 +5,7 @@ ghost use Rattle.keep_syntax.specs.Growth as spec;
 use crate::fault::ReadFault;
 use crate::gap::space;
 use crate::text::{byte_at, misplaced, punctuation};
-use keep_parts::{KeyPart, Parts, Span, push_key, push_token};
+use keep_parts::{KeyPart, Parts, Span};
 use keep_token::{Leaf, Profile, scan_key};
 
 /// `simple-key`: the key part at the byte `at`, and where it ends.
@@ -14,9 +14,9 @@ fn key_part(text: &str, at: usize, profile: Profile, out: &mut Parts) -> Result<
     ensures { spec.KeyPartRead profile text.now at (spec.flat out.old) (spec.flat out.new) result }
 {
     let (leaf, end) = scan_key(text, at, profile)?;
-    push_token(out, leaf, at)?;
+    out.push_token(leaf, at)?;
     let span = Span { start: at, end };
-    push_key(out, KeyPart { leaf, span })?;
+    out.push_key(KeyPart { leaf, span })?;
     Ok(end)
 }
 

@@ -12,10 +12,7 @@ use crate::info::Limits;
 use crate::key::{key, key_and_equals};
 use crate::text::{byte_at, misplaced, punctuation};
 use crate::value::value;
-use keep_parts::{
-    Owner, Parts, Span, Start, Starts, Statement, StatementKind, push_statement, push_token,
-    statement_count,
-};
+use keep_parts::{Owner, Parts, Span, Start, Starts, Statement, StatementKind};
 use keep_token::{Leaf, scan_gap};
 
 /// A statement but for its places: how many key parts it has, and the number of a keyval's value.
@@ -146,7 +143,7 @@ fn comment(text: &str, at: usize, out: &mut Parts) -> Result<usize, ReadFault>
     match scan_gap(text, at) {
         Some((leaf, end)) => match leaf {
             Leaf::Comment => {
-                push_token(out, Leaf::Comment, at)?;
+                out.push_token(Leaf::Comment, at)?;
                 Ok(end)
             }
             _ => Ok(at),
@@ -166,7 +163,7 @@ fn line(
     requires { IsCharBoundary text.now at }
     ensures { lines_spec.LineRead limits.profile limits.depth text.now at (spec.flat out.old) (spec.flat out.new) result }
 {
-    let number = statement_count(out);
+    let number = out.statement_count();
     let first_key = out.key_count();
     let values = out.value_count();
     let begin = space(text, at, out)?;
@@ -207,7 +204,7 @@ fn newline(text: &str, at: usize, out: &mut Parts) -> Result<usize, ReadFault>
     match scan_gap(text, at) {
         Some((leaf, end)) => match leaf {
             Leaf::Newline => {
-                push_token(out, Leaf::Newline, at)?;
+                out.push_token(Leaf::Newline, at)?;
                 Ok(end)
             }
             _ => Err(misplaced(text, at)),
@@ -227,7 +224,7 @@ fn tell(out: &mut Parts, statement: Option<Statement>, end: usize) -> Result<(),
                 start: found.line.start,
                 end,
             };
-            push_statement(out, Statement { line, ..found })?;
+            out.push_statement(Statement { line, ..found })?;
             Ok(())
         }
         None => Ok(()),

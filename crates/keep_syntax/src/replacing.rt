@@ -1,15 +1,13 @@
 //! Lines replaced in place: what is stored of them, and what was there before, to be put back.
-ghost use Rattle.std.specs.Prelude.{◌≡◌, ℕ, IsTrue, IfSome, OnOk, OnErr, IfOk};
+ghost use Rattle.std.specs.Prelude.{◌≡◌, ℕ, IfSome, OnOk, OnErr, IfOk};
+ghost use Rattle.std.specs.Bool.{Decides};
 ghost use Rattle.keep_parts.specs.Flat.{flat};
 ghost use Rattle.keep_parts.specs.Rereading as rereading;
 ghost use Rattle.keep_syntax.specs.Replacing as spec;
 
 use crate::fault::ReadFault;
 use crate::reread::{counts_at, counts_before, nothing, replaced_parts};
-use keep_parts::{
-    Counts, Parts, Span, can_shift, exchange_parts, is_packed, is_run, replaced_places, reserve,
-    shift_all,
-};
+use keep_parts::{Counts, Parts, Span};
 use std::alloc::{AllocError, Global};
 use std::mem;
 
@@ -53,14 +51,14 @@ fn counts_behind(parts: &Parts, whole: Span, len: usize) -> Counts
 
 /// Whether the run can be replaced in place: all is packed, also after it is moved.
 fn can_replace(parts: &Parts, fresh: &Parts, from: &Counts, to: &Counts, until: &Counts) -> bool
-    ensures { IsTrue result → spec.IsInPlace from.now to.now until.now parts.now fresh.now }
+    ensures { Decides result (spec.IsInPlace from.now to.now until.now parts.now fresh.now) }
 {
     let zero = nothing();
-    is_packed(parts)
-        && is_packed(fresh)
-        && is_run(parts, from, to)
-        && can_shift(parts, to, to, until)
-        && can_shift(fresh, &zero, &zero, from)
+    parts.is_packed()
+        && fresh.is_packed()
+        && parts.is_run(from, to)
+        && parts.can_shift(to, to, until)
+        && fresh.can_shift(&zero, &zero, from)
 }
 
 /// Puts other parts in place of a run, after which it ends at `until`.
@@ -78,10 +76,10 @@ fn replace_run(
     ensures undo { IfOk result (λ gone. spec.UndoesParts gone parts.old parts.new) }
     ensures refused { OnErr result (flat parts.new ≡ flat parts.old) }
 {
-    let places = replaced_places(alloc, parts, &fresh, &from, &to, until.at)?;
-    shift_all(&mut fresh, &nothing(), &from, places);
-    reserve(parts, &from, &to, &mut fresh)?;
-    exchange_parts(parts, &from, &to, &mut fresh, &to, &until);
+    let places = parts.replaced_places(alloc, &fresh, &from, &to, until.at)?;
+    fresh.shift_all(&nothing(), &from, places);
+    parts.reserve(&from, &to, &mut fresh)?;
+    parts.exchange(&from, &to, &mut fresh, &to, &until);
     Ok(Gone::Run {
         run: fresh,
         from,
@@ -128,7 +126,7 @@ pub fn restore_parts(parts: &mut Parts, gone: Gone)
             from,
             to,
             until,
-        } => exchange_parts(parts, &from, &until, &mut run, &until, &to),
+        } => parts.exchange(&from, &until, &mut run, &until, &to),
         Gone::Whole(all) => *parts = all,
     }
 }

@@ -6,19 +6,16 @@ ghost use Rattle.keep_parts.specs.Lifted as lifted;
 ghost use Rattle.keep_parts.specs.Rereading as spec;
 
 use crate::fault::ReadFault;
-use keep_parts::{
-    Counts, Parts, Span, Starts, append_tokens, moved_key, moved_statement, moved_value, push_info,
-    push_key, push_statement, statement_at, statement_count, stored_token_count, tokens_before,
-};
+use keep_parts::{Counts, Parts, Span, Starts, moved_key, moved_statement, moved_value};
 use std::alloc::Global;
 
 /// How many statements have a line that begins before a place.
 fn statements_before(parts: &Parts, place: usize) -> usize
     ensures { result ≡ spec.statements_before place (flat parts.now).statements }
 {
-    let count = statement_count(parts);
+    let count = parts.statement_count();
     'statements: for number in 0..count {
-        if place <= statement_at(parts, number).line.start {
+        if place <= parts.statement_at(number).line.start {
             return number;
         }
     }
@@ -30,9 +27,9 @@ fn first_value(parts: &Parts, from: usize) -> usize
     requires { from ≤ length (flat parts.now).statements }
     ensures { result ≡ spec.first_value (length (flat parts.now).values) (drop from (flat parts.now).statements) }
 {
-    let count = statement_count(parts);
+    let count = parts.statement_count();
     'statements: for number in from..count {
-        if let Some(value) = statement_at(parts, number).value {
+        if let Some(value) = parts.statement_at(number).value {
             return value;
         }
     }
@@ -44,8 +41,8 @@ fn first_key(parts: &Parts, from: usize) -> usize
     requires { from ≤ length (flat parts.now).statements }
     ensures { result ≡ spec.first_key (length (flat parts.now).keys) (drop from (flat parts.now).statements) }
 {
-    if from < statement_count(parts) {
-        statement_at(parts, from).first_key
+    if from < parts.statement_count() {
+        parts.statement_at(from).first_key
     } else {
         parts.key_count()
     }
@@ -58,7 +55,7 @@ pub fn counts_before(parts: &Parts, place: usize) -> Counts
     let statements = statements_before(parts, place);
     Counts {
         at: place,
-        tokens: tokens_before(parts, place),
+        tokens: parts.tokens_before(place),
         statements,
         keys: first_key(parts, statements),
         values: first_value(parts, statements),
@@ -71,8 +68,8 @@ pub fn counts_at(parts: &Parts, at: usize) -> Counts
 {
     Counts {
         at,
-        tokens: stored_token_count(parts),
-        statements: statement_count(parts),
+        tokens: parts.stored_token_count(),
+        statements: parts.statement_count(),
         keys: parts.key_count(),
         values: parts.value_count(),
     }
@@ -91,10 +88,10 @@ fn append_statements(
         (slice_range (flat other.now).statements from.now.statements to.now.statements)) (flat out.old)) }
 {
     'statements: for number in from.statements..to.statements {
-        let Some(statement) = moved_statement(statement_at(other, number), from, new) else {
+        let Some(statement) = moved_statement(other.statement_at(number), from, new) else {
             return Err(ReadFault::Memory);
         };
-        push_statement(out, statement)?;
+        out.push_statement(statement)?;
     }
     Ok(())
 }
@@ -115,7 +112,7 @@ fn append_keys(
         let Some(part) = moved_key(other.key_part(number), from, new) else {
             return Err(ReadFault::Memory);
         };
-        push_key(out, part)?;
+        out.push_key(part)?;
     }
     Ok(())
 }
@@ -136,7 +133,7 @@ fn append_values(
         let Some(value) = moved_value(other.value(number), from, new) else {
             return Err(ReadFault::Memory);
         };
-        push_info(out, value)?;
+        out.push_info(value)?;
     }
     Ok(())
 }
@@ -155,7 +152,7 @@ pub fn append_moved(
         (spec.moved_flat (spec.count_of from.now) (count_at at (flat out.old)) (spec.part_of from.now to.now (flat other.now)))) }
 {
     let new = counts_at(out, at);
-    append_tokens(out, other, from, to, at)?;
+    out.append_tokens(other, from, to, at)?;
     append_statements(out, other, from, to, &new)?;
     append_keys(out, other, from, to, &new)?;
     append_values(out, other, from, to, &new)

@@ -16,10 +16,7 @@ use crate::info::Limits;
 use crate::reread::{replaced_parts, replaced_starts};
 use crate::tokens::Tokens;
 use crate::whole::read_lines;
-use keep_parts::{
-    KeyPart, Parts, Span, Starts, Statement, ValueInfo, moved, statement_at, statement_count,
-    stored_token_count,
-};
+use keep_parts::{KeyPart, Parts, Span, Starts, Statement, ValueInfo, moved};
 pub use rereading::Replaced;
 use std::alloc::{AllocError, Global};
 
@@ -62,7 +59,7 @@ impl Syntax {
         ensures counted { (bytes : List ℕ) → result ≡ length (spec.tokens_of self.now bytes) }
         ensures few { (profile : Profile) (limit : ℕ) (bytes : List ℕ) → spec.IsReadOf profile limit bytes self.now → result ≤ length bytes + 1 }
     {
-        stored_token_count(&self.parts) + 1
+        self.parts.stored_token_count() + 1
     }
 
     /// The tokens of the text that was read.
@@ -77,7 +74,7 @@ impl Syntax {
     pub fn statement_count(&self) -> usize
         ensures { result ≡ length (spec.statements_of self.now) }
     {
-        statement_count(&self.parts)
+        self.parts.statement_count()
     }
 
     /// The statement with this number, from 0.
@@ -85,7 +82,7 @@ impl Syntax {
         requires { number < length (spec.statements_of self.now) }
         ensures { slice_get (spec.statements_of self.now) number ≡ Some result }
     {
-        statement_at(&self.parts, number)
+        self.parts.statement_at(number)
     }
 
     /// How many key parts there are.

@@ -3,7 +3,7 @@ ghost use Rattle.std.specs.Prelude.{◌≡◌, ℕ, ◌+◌, ◌-◌, ◌<◌, �
 ghost use Rattle.keep_syntax.specs.Growth as spec;
 
 use crate::fault::ReadFault;
-use keep_parts::{Parts, push_token};
+use keep_parts::Parts;
 use keep_token::{Leaf, What};
 
 /// The byte at a place, or 0 past the end.
@@ -31,7 +31,7 @@ pub fn punctuation(
     requires ascii { slice_index text.now (at + len - 1) < 128 }
     ensures { spec.PunctuationRead text.now at len leaf (spec.flat out.old) (spec.flat out.new) result }
 {
-    push_token(out, leaf, at)?;
+    out.push_token(leaf, at)?;
     Ok(at + len)
 }
 

@@ -5,7 +5,7 @@ ghost use Rattle.keep_syntax.specs.Cut.{start_in, all_kinds};
 ghost use Rattle.keep_parts.specs.Flat.{flat};
 
 use crate::info::Token;
-use keep_parts::{Parts, Places, stored_token_count, token_at, token_starts};
+use keep_parts::{Parts, Places};
 use keep_token::Leaf;
 
 /// The tokens of a document in text order, `End` the last. The result of [`crate::Syntax::tokens`].
@@ -29,9 +29,9 @@ fn kind_of(parts: &Parts, number: usize) -> Option<Leaf>
     ensures value { result ≡ slice_get (all_kinds (flat parts.now)) number }
     ensures small { IfSome result (λ _. number < 2 ^ 63) }
 {
-    let count = stored_token_count(parts);
+    let count = parts.stored_token_count();
     if number < count {
-        Some(token_at(parts, number))
+        Some(parts.token_at(number))
     } else if number == count {
         Some(Leaf::End)
     } else {
@@ -74,7 +74,7 @@ impl<'a> Tokens<'a> {
         requires forward { (n : ℕ) → start_in text.now (flat parts.now).starts n ≤ start_in text.now (flat parts.now).starts (n + 1) }
         ensures { left result ≡ cut_by (flat parts.now) text.now }
     {
-        let mut behind = token_starts(parts);
+        let mut behind = parts.token_starts();
         let start = behind.next().unwrap_or(text.len());
         Tokens {
             parts,

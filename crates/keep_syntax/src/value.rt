@@ -11,7 +11,7 @@ use crate::gap::{gap_in, is_free};
 use crate::info::{Brackets, Limits};
 use crate::key::key_and_equals;
 use crate::text::{byte_at, misplaced, punctuation};
-use keep_parts::{Owner, Parts, Start, push_token, push_value, set_comma, set_end};
+use keep_parts::{Owner, Parts, Start};
 use keep_token::{Leaf, Profile, What, scan_scalar};
 
 /// A string, a number, a date, a time or a truth value at the byte `at`, and where it ends.
@@ -27,8 +27,8 @@ fn scalar(
     ensures { spec.ScalarRead profile text.now at keys start.now (spec.flat out.old) (spec.flat out.new) result }
 {
     let (leaf, end) = scan_scalar(text, at, profile)?;
-    push_token(out, leaf, at)?;
-    push_value(out, leaf, at, end, keys, start)?;
+    out.push_token(leaf, at)?;
+    out.push_value(leaf, at, end, keys, start)?;
     Ok(end)
 }
 
@@ -104,7 +104,7 @@ fn after_entry(
     let byte = byte_at(text, end);
     if byte == b',' {
         let behind = punctuation(text, end, 1, Leaf::Comma, out)?;
-        set_comma(out, number, end);
+        out.set_comma(number, end);
         let next = gap_in(text, behind, profile, brackets, out)?;
         if !is_free(profile, brackets) && byte_at(text, next) == close_byte(brackets) {
             return Err(ReadFault::Syntax {
@@ -170,7 +170,7 @@ fn bracket(
     }
     let number = out.value_count();
     let open = punctuation(text, at, 1, open_leaf(brackets), out)?;
-    push_value(out, open_leaf(brackets), at, at, keys, start)?;
+    out.push_value(open_leaf(brackets), at, at, keys, start)?;
     let first = gap_in(text, open, limits.profile, brackets, out)?;
     let nested = Start {
         at: first,
@@ -186,7 +186,7 @@ fn bracket(
     };
     let close = entries(text, inner, brackets, &nested, out)?;
     let end = punctuation(text, close, 1, close_leaf(brackets), out)?;
-    set_end(out, number, end);
+    out.set_end(number, end);
     Ok(end)
 }
 

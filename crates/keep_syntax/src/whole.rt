@@ -9,7 +9,7 @@ use crate::info::Limits;
 use crate::line::lines;
 use crate::text::{byte_at, misplaced};
 use crate::value::value;
-use keep_parts::{Owner, Parts, Start, Starts, push_token};
+use keep_parts::{Owner, Parts, Start, Starts};
 use keep_token::Leaf;
 use std::alloc::Global;
 
@@ -25,7 +25,7 @@ fn bom(text: &str, out: &mut Parts) -> Result<usize, ReadFault>
     ensures { lines_spec.BomRead text.now (spec.flat out.old) (spec.flat out.new) result }
 {
     if has_bom(text) {
-        push_token(out, Leaf::Bom, 0)?;
+        out.push_token(Leaf::Bom, 0)?;
         Ok(3)
     } else {
         Ok(0)

@@ -11,7 +11,7 @@ use crate::info::Limits;
 use crate::replacing::{Gone, replace_parts, restore_parts};
 use crate::reread::replaced_starts;
 use crate::whole::read_lines;
-use keep_parts::{Span, Starts, allocator, moved};
+use keep_parts::{Span, Starts, moved};
 use std::alloc::AllocError;
 use std::mem;
 
@@ -61,7 +61,7 @@ impl Syntax {
         ensures refused { OnErr result (undoing.IsSame self.new self.old) }
         ensures undo { IfOk result (λ r. undoing.Undoes r self.old self.new) }
     {
-        let alloc = allocator(&self.parts);
+        let alloc = self.parts.allocator();
         let (fresh, starts) = read_lines(alloc, lines, limits)?;
         let size = lines.len();
         let Some(end) = whole.start.checked_add(size) else {

@@ -6,5 +6,5 @@ use Rattle.keep_syntax.proofs.replacing.restore_parts.Goals as goal
 
 pub returns-in-Run : goal.returns-in-Run
 returns-in-Run c = λ before u.
-    went_back c.in-Run.run' c.in-Run.from c.in-Run.to c.in-Run.until before c.args.parts.now c.exchange_parts.new.parts c.exchange_parts.new.run
-    (subst (λ (g : Gone). UndoesParts g before c.args.parts.now) c.in-Run.is u) c.exchange_parts.ensures
+    went_back c.in-Run.run' c.in-Run.from c.in-Run.to c.in-Run.until before c.args.parts.now c.exchange.new.self c.exchange.new.run
+    (subst (λ (g : Gone). UndoesParts g before c.args.parts.now) c.in-Run.is u) c.exchange.ensures

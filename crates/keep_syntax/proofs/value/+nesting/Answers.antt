@@ -15,7 +15,7 @@ bracket-set_end-requires t c =
     let sg2 = rw c.close_leaf.ensures at c.in_ok-end.ensures in
     rw c.value_count-number.ensures
     (bracket_number c.args.text.now c.args.brackets c.args.limits.profile (c.args.limits.depth - 1) c.args.at c.args.keys c.in_ok-open.open c.in_ok-first.first c.in_ok-close.close c.in_ok-end.end c.args.start.now _
-    (flat c.args.out.now) (flat c.punctuation.new.out) (flat c.push_value.new.out) (flat c.gap_in.new.out) (flat c.entries.new.out) (flat c.punctuation-2.new.out) sg stated c.in_ok-first.ensures c.in_ok-close.ensures sg2)
+    (flat c.args.out.now) (flat c.punctuation.new.out) (flat c.push_value.new.self) (flat c.gap_in.new.out) (flat c.entries.new.out) (flat c.punctuation-2.new.out) sg stated c.in_ok-first.ensures c.in_ok-close.ensures sg2)
 
 pub bracket-returns-in_err-close : goal.bracket-returns-in_err-close
 bracket-returns-in_err-close t c =
@@ -23,7 +23,7 @@ bracket-returns-in_err-close t c =
     let k : c.args.limits.depth ≡ suc (c.args.limits.depth - 1) = omega arith in
     let sg = rw c.open_leaf.ensures at c.in_ok-open.ensures in
     rw (p.1, p.2, k) (bracket_fails c.args.limits.profile c.args.brackets c.args.text.now c.args.at (c.args.limits.depth - 1) c.in_ok-open.open c.in_ok-first.first
-    (flat c.push_value.new.out) (flat c.gap_in.new.out) c.in_err-close.field-0.0 sg.end_is c.in_ok-first.ensures c.in_err-close.ensures)
+    (flat c.push_value.new.self) (flat c.gap_in.new.out) c.in_err-close.field-0.0 sg.end_is c.in_ok-first.ensures c.in_err-close.ensures)
 
 pub bracket-returns : goal.bracket-returns
 bracket-returns t c =
@@ -32,7 +32,7 @@ bracket-returns t c =
     let stated = rw c.open_leaf-2.ensures at c.in_ok-push_value.ensures.ok in
     let sg2 = rw c.close_leaf.ensures at c.in_ok-end.ensures in
     rw k (bracket_is c.args.text.now c.args.brackets c.args.limits.profile (c.args.limits.depth - 1) c.args.at c.args.keys c.in_ok-open.open c.in_ok-first.first c.in_ok-close.close c.in_ok-end.end c.value_count-number.result c.value_count.result c.key_count.result (c.args.start.now.depth + 1) c.owner_in.result c.args.start.now
-    (flat c.args.out.now) (flat c.punctuation.new.out) (flat c.push_value.new.out) (flat c.gap_in.new.out) (flat c.entries.new.out) (flat c.punctuation-2.new.out) (flat c.set_end.new.out)
+    (flat c.args.out.now) (flat c.punctuation.new.out) (flat c.push_value.new.self) (flat c.gap_in.new.out) (flat c.entries.new.out) (flat c.punctuation-2.new.out) (flat c.set_end.new.self)
     sg stated c.in_ok-first.ensures c.value_count.ensures c.key_count.ensures c.owner_in.ensures (omega arith) c.value_count-number.ensures c.requires.1.1.1.1.0 c.requires.1.1.1.1.1.0 c.in_ok-close.ensures sg2 c.set_end.ensures.change)
 
 pub entries-items-init : goal.entries-items-init

@@ -19,5 +19,5 @@ returns-else-not-is_free c =
           rw (← c.is_free.ensures, w.if-not-is_free.true, other) refl
       | else-not-is_free-via-else-not-is_free w ↦ rw (← c.is_free.ensures, w.if-not-is_free.false) refl
     ] in
-    after_comma c.args.profile c.args.brackets c.args.text.now c.args.at c.args.number c.in_ok-end.end c.in_ok-behind.behind c.in_ok-next.next (flat c.args.out.now) (flat c.gap_in.new.out) (flat c.punctuation.new.out) (flat c.set_comma.new.out) (flat c.gap_in-then-byte-eq44.new.out)
+    after_comma c.args.profile c.args.brackets c.args.text.now c.args.at c.args.number c.in_ok-end.end c.in_ok-behind.behind c.in_ok-next.next (flat c.args.out.now) (flat c.gap_in.new.out) (flat c.punctuation.new.out) (flat c.set_comma.new.self) (flat c.gap_in-then-byte-eq44.new.out)
     c.in_ok-end.ensures (omega (arith, c.byte_at-byte.ensures)) c.in_ok-behind.ensures c.set_comma.ensures.change c.in_ok-next.ensures may
