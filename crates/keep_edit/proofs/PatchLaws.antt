@@ -76,21 +76,21 @@ module _ (before new : List ℕ) (start end : ℕ) (ordered : start ≤ end) (wi
 
 -- ---- of an edit
 
-module _ (made : Edited) (before preserved : List ℕ) (text : String Global) (can : CanPutBack made before preserved text) where
+module _ (made : Edited) (before replaced_bytes : List ℕ) (text : String Global) (can : CanPutBack made before replaced_bytes text) where
   pub starts_there : IsCharBoundary (string_bytes text) made.place.start
   starts_there =
       subst (λ (x : List ℕ). IsCharBoundary x made.place.start) (sym can.put)
-      (start_cut before (string_bytes made.new) made.place.start made.place.end can.nested.ordered can.nested.within (IsUtf8-string_bytes made.new) can.utf8 can.nested.ends)
+      (start_cut before (string_bytes made.new) made.place.start made.place.end can.within.ordered can.within.within (IsUtf8-string_bytes made.new) can.utf8 can.within.ends)
 
   pub ends_there : IsCharBoundary (string_bytes text) (made.place.start + length (string_bytes made.new))
   ends_there =
       subst (λ (x : List ℕ). IsCharBoundary x (made.place.start + length (string_bytes made.new))) (sym can.put)
-      (end_cut before (string_bytes made.new) made.place.start made.place.end can.nested.ordered can.nested.within (IsUtf8-string_bytes made.new) can.utf8 can.nested.ends)
+      (end_cut before (string_bytes made.new) made.place.start made.place.end can.within.ordered can.within.within (IsUtf8-string_bytes made.new) can.utf8 can.within.ends)
 
-  pub is_back : (new : List ℕ) → new ≡ replace_range (string_bytes text) made.place.start (made.place.start + length (string_bytes made.new)) preserved → new ≡ before
+  pub is_back : (new : List ℕ) → new ≡ replace_range (string_bytes text) made.place.start (made.place.start + length (string_bytes made.new)) replaced_bytes → new ≡ before
   is_back new is =
       is ∙ ap₂ (λ (x y : List ℕ). replace_range x made.place.start (made.place.start + length (string_bytes made.new)) y) can.put can.was
-      ∙ back before (string_bytes made.new) made.place.start made.place.end can.nested.ordered can.nested.within
+      ∙ back before (string_bytes made.new) made.place.start made.place.end can.within.ordered can.within.within
 
 -- ---- of a document
 

@@ -7,14 +7,14 @@ use Rattle.keep_splice.specs.declared.edited.Edited.{Edited}
 
 -- The edit was written into this text, whose bytes were these before. The bytes that it replaced are kept, and the text has
 -- room to take them back.
-pub record CanPutBack (made : Edited) (before preserved : List ℕ) (text : String Global) : Type 0 where
+pub record CanPutBack (made : Edited) (before replaced_bytes : List ℕ) (text : String Global) : Type 0 where
   pub utf8 : IsUtf8 before
-  pub nested : IsSpanOf before made.place
-  pub was : preserved ≡ text_at before made.place
+  pub within : IsSpanOf before made.place
+  pub was : replaced_bytes ≡ text_at before made.place
   pub put : string_bytes text ≡ text_after before made
-  pub room : string_len text + length preserved ≤ string_capacity text
+  pub room : string_len text + length replaced_bytes ≤ string_capacity text
 
 -- The edit was written, and the replaced bytes are kept; or memory ran out, and the text is as before.
 abbrev pub IsPutIn : {E : Type 0} → Edited → String Global → String Global → Result (String Global) E → Type 0
-IsPutIn made old new (Ok preserved) = CanPutBack made (string_bytes old) (string_bytes preserved) new
+IsPutIn made old new (Ok replaced_bytes) = CanPutBack made (string_bytes old) (string_bytes replaced_bytes) new
 IsPutIn made old new (Err f) = string_bytes new ≡ string_bytes old

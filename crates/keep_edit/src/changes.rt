@@ -249,7 +249,7 @@ impl Document {
     {
         let alloc = *self.text.allocator();
         let profile = self.profile;
-        let Ok(preserved) = put_in(&mut self.text, &edited) else {
+        let Ok(replaced_bytes) = put_in(&mut self.text, &edited) else {
             return Err(EditFault::Memory);
         };
         match reread(
@@ -271,7 +271,7 @@ impl Document {
                 })
             }
             Err(fault) => {
-                put_back(&mut self.text, &edited, preserved.as_str());
+                put_back(&mut self.text, &edited, replaced_bytes.as_str());
                 Err(fault)
             }
         }

@@ -14,22 +14,22 @@ pub(crate) fn put_in(text: &mut String, edited: &Edited) -> Result<String, Alloc
     ensures { IsPutIn edited.now text.old text.new result }
 {
     let alloc = *text.allocator();
-    let preserved = String::from_str(alloc, part_at(text.as_str(), edited.place))?;
+    let replaced_bytes = String::from_str(alloc, part_at(text.as_str(), edited.place))?;
     let Span { start, end } = edited.place;
     let new = edited.new.as_str();
     text.reserve(new.len())?;
     text.replace_range(start..end, new)?;
-    Ok(preserved)
+    Ok(replaced_bytes)
 }
 
 /// Undoes `put_in`: writes the replaced bytes in the place of what the edit wrote. It takes no memory.
-pub(crate) fn put_back(text: &mut String, edited: &Edited, preserved: &str)
-    requires { (before : List ℕ) × CanPutBack edited.now before preserved.now text.old }
-    ensures { (before : List ℕ) → CanPutBack edited.now before preserved.now text.old → string_bytes text.new ≡ before }
+pub(crate) fn put_back(text: &mut String, edited: &Edited, replaced_bytes: &str)
+    requires { (before : List ℕ) × CanPutBack edited.now before replaced_bytes.now text.old }
+    ensures { (before : List ℕ) → CanPutBack edited.now before replaced_bytes.now text.old → string_bytes text.new ≡ before }
 {
     let start = edited.place.start;
     let end = start + edited.new.as_str().len();
-    if text.replace_range(start..end, preserved).is_err() {
+    if text.replace_range(start..end, replaced_bytes).is_err() {
         unreachable!();
     }
 }

@@ -48,12 +48,12 @@ module _ (d : ProfiledText) (s : Document) (e : Edit) (span : Span) (given : Lis
   pub full_made : EditMade s e d (Err fault.Memory)
   full_made = subst (λ (r : Option EditFault). IsDone (IsMade s e d) r (Err fault.Memory)) (sym at.0) refl
 
-  nested_of : (made : Edited) → IsMadeAt (place_at span given) made → IsSpanOf d.text made.place
-  nested_of made there = subst (λ (x : Span). IsSpanOf d.text x) (sym there.0) at.2
+  within_text : (made : Edited) → IsMadeAt (place_at span given) made → IsSpanOf d.text made.place
+  within_text made there = subst (λ (x : Span). IsSpanOf d.text x) (sym there.0) at.2
 
   after : (made : Edited) → IsMadeAt (place_at span given) made → IsTextAfter s e (text_in d.profile (text_after d.text made)) d
   after made there =
-      edited (text_after d.text made) (put_utf8 d.text made.place (string_bytes made.new) read.utf8 (nested_of made there) (IsUtf8-string_bytes made.new))
+      edited (text_after d.text made) (put_utf8 d.text made.place (string_bytes made.new) read.utf8 (within_text made there) (IsUtf8-string_bytes made.new))
       (ap₂ (λ (x : Span) (g : List ℕ). put d.text (place_at x g)) there.0 there.1)
 
   pub patch_made : (result : Result Edited EditFault) → IsPatchAt span given result → EditMade s e d result
@@ -71,7 +71,7 @@ module _ (d : ProfiledText) (s : Document) (e : Edit) (span : Span) (given : Lis
     is = law.is;
     new = subst (λ (c : Option (Changed Document)). IsTextOfTree (text_in d.profile (text_after d.text made)) (changed_or_same s c).to) law.is (after made there).tree;
     at = subst (λ (c : Option (Changed Document)). IsMadeAt (place_of (changed_or_same s c)) made) law.is (subst (λ (p : Place). IsMadeAt p made) (sym at.1) there);
-    nested = nested_of made there;
+    within = within_text made there;
   }
 
   pub patch_of_edit : (result : Result Edited EditFault) → IsPatchAt span given result → IfOk result (IsOfEdit d)

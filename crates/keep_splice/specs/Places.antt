@@ -33,4 +33,4 @@ pub record IsOfEdit (old : ProfiledText) (made : Edited) : Type 0 where
   pub is : change tree edit ≡ Some changed
   pub new : IsTextOfTree (text_in old.profile (text_after old.text made)) changed.to
   pub at : IsMadeAt (place_of changed) made
-  pub nested : IsSpanOf old.text made.place
+  pub within : IsSpanOf old.text made.place
