@@ -5,11 +5,8 @@ use Rattle.std.proofs.lemmas.Grind.{get_or_after_one}
 use Rattle.std.specs.Option.{option_map}
 use Rattle.std.proofs.lemmas.List.{map-append, length-map, length-take-le, drop-append-le, take_more, take_all}
 use Rattle.std.proofs.lemmas.Option.{slice_get-map, slice_get-get_or, slice_get_past}
-use Rattle.keep_parts.specs.declared.info.KeyPart.{KeyPart}
-use Rattle.keep_parts.specs.declared.info.ValueInfo.{ValueInfo}
 use Rattle.keep_syntax.specs.declared.syntax.Syntax.{Syntax}
 use Rattle.keep_syntax.specs.Tree.{Document}
-use Rattle.keep_syntax.specs.Numbered as syntax
 use Rattle.keep_meaning.specs.declared.node.Kind.{Kind}
 use Rattle.keep_meaning.specs.declared.node.NodeInfo.{NodeInfo}
 use Rattle.keep_meaning.specs.Counts.{numbered_in}
@@ -27,14 +24,14 @@ use Rattle.keep_splice.proofs.Shared.{stated_is, kind_stated}
 
 -- ---- what is at the nodes
 
-kinds-of : (s : Document) (values : List ValueInfo) (parts : List KeyPart) (paths : List (List Part))
-    → map (λ i. i.kind) (map (node_info values parts) (map (node_at (numbered_in s)) paths)) ≡ map (λ path. kind_at path (mentions_in s)) paths
-kinds-of s values parts [] = refl
-kinds-of s values parts (p ∷ ps) = ap (λ k. k ∷ map (λ i. i.kind) (map (node_info values parts) (map (node_at (numbered_in s)) ps))) (kind_stated p s) ∙ ap (λ ks. kind_at p (mentions_in s) ∷ ks) (kinds-of s values parts ps)
+kinds-of : (s : Document) (paths : List (List Part))
+    → map (λ i. i.kind) (map node_info (map (node_at (numbered_in s)) paths)) ≡ map (λ path. kind_at path (mentions_in s)) paths
+kinds-of s [] = refl
+kinds-of s (p ∷ ps) = ap (λ k. k ∷ map (λ i. i.kind) (map node_info (map (node_at (numbered_in s)) ps))) (kind_stated p s) ∙ ap (λ ks. kind_at p (mentions_in s) ∷ ks) (kinds-of s ps)
 
 kinds-infos_in : (s : Document) → map (λ i. i.kind) (infos_in s) ≡ map (λ path. kind_at path (mentions_in s)) (node_paths (mentions_in s))
 kinds-infos_in s =
-    kinds-of s (syntax.values s) (syntax.parts s) (node_paths (map mention_of (numbered_in s)))
+    kinds-of s (node_paths (map mention_of (numbered_in s)))
     ∙ ap (λ ms. map (λ path. kind_at path (mentions_in s)) (node_paths ms)) (mentions-numbered_in s)
 
 -- ---- the entry of a node

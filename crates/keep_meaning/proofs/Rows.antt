@@ -1,11 +1,12 @@
--- The definitions on small documents. Made by tools/rules_rows.py.
+-- The definitions on small documents.
 use Rattle.std.proofs.Common.{◌≡◌, ℕ, Bool, true, false, List, [], ◌∷◌, length, refl, Option, Some, None}
-use Rattle.std.specs.Prelude.{codes, take, slice_get}
+use Rattle.std.specs.Prelude.{codes, map, take, slice_get}
 use Rattle.keep_token.specs.declared.leaf.Leaf.{Leaf}
 use Rattle.keep_token.specs.declared.leaf.Leaf.TheVariants as leaf
 use Rattle.keep_syntax.specs.declared.fault.Why.{Why}
 use Rattle.keep_syntax.specs.declared.fault.Why.TheVariants as why
 use Rattle.keep_parts.specs.declared.info.Span.{Span}
+use Rattle.keep_syntax.specs.Numbered as syntax
 use Rattle.keep_syntax.specs.Tree.{Written, Gap, Further, Key, Name, Body, scalar, array, inline, Entries, none, entry, Value, Content, blank, keyval, header, element, Line, Ended, Document}
 use Rattle.keep_meaning.specs.declared.node.Kind.{Kind}
 use Rattle.keep_meaning.specs.declared.node.Kind.TheVariants as kind
@@ -14,7 +15,7 @@ use Rattle.keep_meaning.specs.declared.node.Origin.TheVariants as origin
 use Rattle.keep_meaning.specs.declared.node.NodeInfo.{NodeInfo}
 use Rattle.keep_path.specs.Path.{key, index}
 use Rattle.keep_meaning.specs.Meaning.{mentions_in}
-use Rattle.keep_meaning.specs.Nodes.{node_paths, infos_in, children, node_number}
+use Rattle.keep_meaning.specs.Nodes.{node_paths, nodes_in, infos_in, value_span_of, key_span_of, children, node_number}
 use Rattle.keep_meaning.specs.Faults.{FaultAt, fault_in, fault_in_value}
 
 abbrev w : Leaf → List ℕ → Written
@@ -44,8 +45,12 @@ adoc b e l = record { bom = b; ended = e; last = l }
 abbrev span : ℕ → ℕ → Option Span
 span s e = Some (record { start = s; end = e })
 
-abbrev info : Kind → Option Span → Option Span → ℕ → Bool → Origin → NodeInfo
-info k v n m p at = record { kind = k; value_span = v; key_span = n; marks = m; passed = p; origin = at }
+abbrev info : Kind → Option ℕ → ℕ → Bool → Origin → NodeInfo
+info k n m p at = record { kind = k; key = n; marks = m; passed = p; origin = at }
+
+-- where the value of each node is, and the first key part that names it
+abbrev spans_in : Document → List (Option Span × Option Span)
+spans_in s = map (λ n. (value_span_of (syntax.values s) n, key_span_of (syntax.parts s) n)) (nodes_in s)
 
 abbrev fault : ℕ → Why → Option FaultAt
 fault at why = Some (record { at = at; why = why })
@@ -60,14 +65,25 @@ below_element-paths = refl
 
 -- `[[a]]<LF>[a.s]<LF>x.y = 1<LF>`
 below_element-infos : infos_in (adoc false ((anended (aline [] (element [] (akey (w leaf.BareKey (codes "a")) []) []) [] None) (w leaf.Newline (10 ∷ []))) ∷ (anended (aline [] (header [] (akey (w leaf.BareKey (codes "a")) ((further [] [] (w leaf.BareKey (codes "s"))) ∷ [])) []) [] None) (w leaf.Newline (10 ∷ []))) ∷ (anended (aline [] (keyval (aname (akey (w leaf.BareKey (codes "x")) ((further [] [] (w leaf.BareKey (codes "y"))) ∷ [])) ((w leaf.Ws (codes " ")) ∷ []) ((w leaf.Ws (codes " ")) ∷ [])) (avalue (scalar (w leaf.Integer (codes "1"))) none)) [] None) (w leaf.Newline (10 ∷ []))) ∷ []) (aline [] blank [] None)) ≡
-    info kind.Table None None 0 false origin.Root
-    ∷ info kind.Tables None (span 2 3) 2 false origin.Tables
-    ∷ info kind.Table None None 0 true (origin.Element 0)
-    ∷ info kind.Table None (span 9 10) 1 false (origin.Header 1)
-    ∷ info kind.Table None (span 12 13) 1 false (origin.Dotted 0)
-    ∷ info kind.Integer (span 18 19) (span 14 15) 1 false (origin.Value 0)
+    info kind.Table None 0 false origin.Root
+    ∷ info kind.Tables (Some 0) 2 false origin.Tables
+    ∷ info kind.Table None 0 true (origin.Element 0)
+    ∷ info kind.Table (Some 2) 1 false (origin.Header 1)
+    ∷ info kind.Table (Some 3) 1 false (origin.Dotted 0)
+    ∷ info kind.Integer (Some 4) 1 false (origin.Value 0)
     ∷ []
 below_element-infos = refl
+
+-- `[[a]]<LF>[a.s]<LF>x.y = 1<LF>`
+below_element-spans : spans_in (adoc false ((anended (aline [] (element [] (akey (w leaf.BareKey (codes "a")) []) []) [] None) (w leaf.Newline (10 ∷ []))) ∷ (anended (aline [] (header [] (akey (w leaf.BareKey (codes "a")) ((further [] [] (w leaf.BareKey (codes "s"))) ∷ [])) []) [] None) (w leaf.Newline (10 ∷ []))) ∷ (anended (aline [] (keyval (aname (akey (w leaf.BareKey (codes "x")) ((further [] [] (w leaf.BareKey (codes "y"))) ∷ [])) ((w leaf.Ws (codes " ")) ∷ []) ((w leaf.Ws (codes " ")) ∷ [])) (avalue (scalar (w leaf.Integer (codes "1"))) none)) [] None) (w leaf.Newline (10 ∷ []))) ∷ []) (aline [] blank [] None)) ≡
+    (None, None)
+    ∷ (None, span 2 3)
+    ∷ (None, None)
+    ∷ (None, span 9 10)
+    ∷ (None, span 12 13)
+    ∷ (span 18 19, span 14 15)
+    ∷ []
+below_element-spans = refl
 
 -- `[[a]]<LF>[a.s]<LF>x.y = 1<LF>`
 below_element-children : children (key (codes "a") ∷ index 0 ∷ key (codes "s") ∷ []) (node_paths (mentions_in (adoc false ((anended (aline [] (element [] (akey (w leaf.BareKey (codes "a")) []) []) [] None) (w leaf.Newline (10 ∷ []))) ∷ (anended (aline [] (header [] (akey (w leaf.BareKey (codes "a")) ((further [] [] (w leaf.BareKey (codes "s"))) ∷ [])) []) [] None) (w leaf.Newline (10 ∷ []))) ∷ (anended (aline [] (keyval (aname (akey (w leaf.BareKey (codes "x")) ((further [] [] (w leaf.BareKey (codes "y"))) ∷ [])) ((w leaf.Ws (codes " ")) ∷ []) ((w leaf.Ws (codes " ")) ∷ [])) (avalue (scalar (w leaf.Integer (codes "1"))) none)) [] None) (w leaf.Newline (10 ∷ []))) ∷ []) (aline [] blank [] None)))) ≡ (key (codes "a") ∷ index 0 ∷ key (codes "s") ∷ key (codes "x") ∷ []) ∷ []
@@ -83,19 +99,35 @@ nested-paths = refl
 
 -- `a = [1, [2], {b.c = true}]<LF>d.e = "x"<LF>d.f = {}<LF>`
 nested-infos : infos_in (adoc false ((anended (aline [] (keyval (aname (akey (w leaf.BareKey (codes "a")) []) ((w leaf.Ws (codes " ")) ∷ []) ((w leaf.Ws (codes " ")) ∷ [])) (avalue (array []) (entry None (scalar (w leaf.Integer (codes "1"))) none [] (Some ((w leaf.Ws (codes " ")) ∷ [])) (entry None (array []) (entry None (scalar (w leaf.Integer (codes "2"))) none [] None none) [] (Some ((w leaf.Ws (codes " ")) ∷ [])) (entry None (inline []) (entry (Some (aname (akey (w leaf.BareKey (codes "b")) ((further [] [] (w leaf.BareKey (codes "c"))) ∷ [])) ((w leaf.Ws (codes " ")) ∷ []) ((w leaf.Ws (codes " ")) ∷ []))) (scalar (w leaf.Boolean (codes "true"))) none [] None none) [] None none))))) [] None) (w leaf.Newline (10 ∷ []))) ∷ (anended (aline [] (keyval (aname (akey (w leaf.BareKey (codes "d")) ((further [] [] (w leaf.BareKey (codes "e"))) ∷ [])) ((w leaf.Ws (codes " ")) ∷ []) ((w leaf.Ws (codes " ")) ∷ [])) (avalue (scalar (w leaf.Basic (34 ∷ 120 ∷ 34 ∷ []))) none)) [] None) (w leaf.Newline (10 ∷ []))) ∷ (anended (aline [] (keyval (aname (akey (w leaf.BareKey (codes "d")) ((further [] [] (w leaf.BareKey (codes "f"))) ∷ [])) ((w leaf.Ws (codes " ")) ∷ []) ((w leaf.Ws (codes " ")) ∷ [])) (avalue (inline []) none)) [] None) (w leaf.Newline (10 ∷ []))) ∷ []) (aline [] blank [] None)) ≡
-    info kind.Table None None 0 false origin.Root
-    ∷ info kind.Array (span 4 26) (span 0 1) 1 false (origin.Value 0)
-    ∷ info kind.Integer (span 5 6) None 0 false (origin.Value 1)
-    ∷ info kind.Array (span 8 11) None 0 false (origin.Value 2)
-    ∷ info kind.Integer (span 9 10) None 0 false (origin.Value 3)
-    ∷ info kind.Inline (span 13 25) None 0 false (origin.Value 4)
-    ∷ info kind.Table None (span 14 15) 1 false (origin.Dotted 5)
-    ∷ info kind.Boolean (span 20 24) (span 16 17) 1 false (origin.Value 5)
-    ∷ info kind.Table None (span 27 28) 2 false (origin.Dotted 7)
-    ∷ info kind.Str (span 33 36) (span 29 30) 1 false (origin.Value 6)
-    ∷ info kind.Inline (span 43 45) (span 39 40) 1 false (origin.Value 7)
+    info kind.Table None 0 false origin.Root
+    ∷ info kind.Array (Some 0) 1 false (origin.Value 0)
+    ∷ info kind.Integer None 0 false (origin.Value 1)
+    ∷ info kind.Array None 0 false (origin.Value 2)
+    ∷ info kind.Integer None 0 false (origin.Value 3)
+    ∷ info kind.Inline None 0 false (origin.Value 4)
+    ∷ info kind.Table (Some 1) 1 false (origin.Dotted 5)
+    ∷ info kind.Boolean (Some 2) 1 false (origin.Value 5)
+    ∷ info kind.Table (Some 3) 2 false (origin.Dotted 7)
+    ∷ info kind.Str (Some 4) 1 false (origin.Value 6)
+    ∷ info kind.Inline (Some 6) 1 false (origin.Value 7)
     ∷ []
 nested-infos = refl
+
+-- `a = [1, [2], {b.c = true}]<LF>d.e = "x"<LF>d.f = {}<LF>`
+nested-spans : spans_in (adoc false ((anended (aline [] (keyval (aname (akey (w leaf.BareKey (codes "a")) []) ((w leaf.Ws (codes " ")) ∷ []) ((w leaf.Ws (codes " ")) ∷ [])) (avalue (array []) (entry None (scalar (w leaf.Integer (codes "1"))) none [] (Some ((w leaf.Ws (codes " ")) ∷ [])) (entry None (array []) (entry None (scalar (w leaf.Integer (codes "2"))) none [] None none) [] (Some ((w leaf.Ws (codes " ")) ∷ [])) (entry None (inline []) (entry (Some (aname (akey (w leaf.BareKey (codes "b")) ((further [] [] (w leaf.BareKey (codes "c"))) ∷ [])) ((w leaf.Ws (codes " ")) ∷ []) ((w leaf.Ws (codes " ")) ∷ []))) (scalar (w leaf.Boolean (codes "true"))) none [] None none) [] None none))))) [] None) (w leaf.Newline (10 ∷ []))) ∷ (anended (aline [] (keyval (aname (akey (w leaf.BareKey (codes "d")) ((further [] [] (w leaf.BareKey (codes "e"))) ∷ [])) ((w leaf.Ws (codes " ")) ∷ []) ((w leaf.Ws (codes " ")) ∷ [])) (avalue (scalar (w leaf.Basic (34 ∷ 120 ∷ 34 ∷ []))) none)) [] None) (w leaf.Newline (10 ∷ []))) ∷ (anended (aline [] (keyval (aname (akey (w leaf.BareKey (codes "d")) ((further [] [] (w leaf.BareKey (codes "f"))) ∷ [])) ((w leaf.Ws (codes " ")) ∷ []) ((w leaf.Ws (codes " ")) ∷ [])) (avalue (inline []) none)) [] None) (w leaf.Newline (10 ∷ []))) ∷ []) (aline [] blank [] None)) ≡
+    (None, None)
+    ∷ (span 4 26, span 0 1)
+    ∷ (span 5 6, None)
+    ∷ (span 8 11, None)
+    ∷ (span 9 10, None)
+    ∷ (span 13 25, None)
+    ∷ (None, span 14 15)
+    ∷ (span 20 24, span 16 17)
+    ∷ (None, span 27 28)
+    ∷ (span 33 36, span 29 30)
+    ∷ (span 43 45, span 39 40)
+    ∷ []
+nested-spans = refl
 
 -- `[a.b]<LF><LF>x = 1<LF>[a.c]<LF>[a.c.e]<LF>[a]<LF>[a.d]<LF>`
 through-ok : fault_in (adoc false ((anended (aline [] (header [] (akey (w leaf.BareKey (codes "a")) ((further [] [] (w leaf.BareKey (codes "b"))) ∷ [])) []) [] None) (w leaf.Newline (10 ∷ []))) ∷ (anended (aline [] blank [] None) (w leaf.Newline (10 ∷ []))) ∷ (anended (aline [] (keyval (aname (akey (w leaf.BareKey (codes "x")) []) ((w leaf.Ws (codes " ")) ∷ []) ((w leaf.Ws (codes " ")) ∷ [])) (avalue (scalar (w leaf.Integer (codes "1"))) none)) [] None) (w leaf.Newline (10 ∷ []))) ∷ (anended (aline [] (header [] (akey (w leaf.BareKey (codes "a")) ((further [] [] (w leaf.BareKey (codes "c"))) ∷ [])) []) [] None) (w leaf.Newline (10 ∷ []))) ∷ (anended (aline [] (header [] (akey (w leaf.BareKey (codes "a")) ((further [] [] (w leaf.BareKey (codes "c"))) ∷ (further [] [] (w leaf.BareKey (codes "e"))) ∷ [])) []) [] None) (w leaf.Newline (10 ∷ []))) ∷ (anended (aline [] (header [] (akey (w leaf.BareKey (codes "a")) []) []) [] None) (w leaf.Newline (10 ∷ []))) ∷ (anended (aline [] (header [] (akey (w leaf.BareKey (codes "a")) ((further [] [] (w leaf.BareKey (codes "d"))) ∷ [])) []) [] None) (w leaf.Newline (10 ∷ []))) ∷ []) (aline [] blank [] None)) ≡ None
@@ -103,32 +135,61 @@ through-ok = refl
 
 -- `[a.b]<LF><LF>x = 1<LF>[a.c]<LF>[a.c.e]<LF>[a]<LF>[a.d]<LF>`
 through-infos : infos_in (adoc false ((anended (aline [] (header [] (akey (w leaf.BareKey (codes "a")) ((further [] [] (w leaf.BareKey (codes "b"))) ∷ [])) []) [] None) (w leaf.Newline (10 ∷ []))) ∷ (anended (aline [] blank [] None) (w leaf.Newline (10 ∷ []))) ∷ (anended (aline [] (keyval (aname (akey (w leaf.BareKey (codes "x")) []) ((w leaf.Ws (codes " ")) ∷ []) ((w leaf.Ws (codes " ")) ∷ [])) (avalue (scalar (w leaf.Integer (codes "1"))) none)) [] None) (w leaf.Newline (10 ∷ []))) ∷ (anended (aline [] (header [] (akey (w leaf.BareKey (codes "a")) ((further [] [] (w leaf.BareKey (codes "c"))) ∷ [])) []) [] None) (w leaf.Newline (10 ∷ []))) ∷ (anended (aline [] (header [] (akey (w leaf.BareKey (codes "a")) ((further [] [] (w leaf.BareKey (codes "c"))) ∷ (further [] [] (w leaf.BareKey (codes "e"))) ∷ [])) []) [] None) (w leaf.Newline (10 ∷ []))) ∷ (anended (aline [] (header [] (akey (w leaf.BareKey (codes "a")) []) []) [] None) (w leaf.Newline (10 ∷ []))) ∷ (anended (aline [] (header [] (akey (w leaf.BareKey (codes "a")) ((further [] [] (w leaf.BareKey (codes "d"))) ∷ [])) []) [] None) (w leaf.Newline (10 ∷ []))) ∷ []) (aline [] blank [] None)) ≡
-    info kind.Table None None 0 false origin.Root
-    ∷ info kind.Table None (span 1 2) 5 false (origin.Header 4)
-    ∷ info kind.Table None (span 3 4) 1 false (origin.Header 0)
-    ∷ info kind.Integer (span 11 12) (span 7 8) 1 false (origin.Value 0)
-    ∷ info kind.Table None (span 16 17) 2 false (origin.Header 2)
-    ∷ info kind.Table None (span 24 25) 1 false (origin.Header 3)
-    ∷ info kind.Table None (span 34 35) 1 false (origin.Header 5)
+    info kind.Table None 0 false origin.Root
+    ∷ info kind.Table (Some 0) 5 false (origin.Header 4)
+    ∷ info kind.Table (Some 1) 1 false (origin.Header 0)
+    ∷ info kind.Integer (Some 2) 1 false (origin.Value 0)
+    ∷ info kind.Table (Some 4) 2 false (origin.Header 2)
+    ∷ info kind.Table (Some 7) 1 false (origin.Header 3)
+    ∷ info kind.Table (Some 10) 1 false (origin.Header 5)
     ∷ []
 through-infos = refl
 
+-- `[a.b]<LF><LF>x = 1<LF>[a.c]<LF>[a.c.e]<LF>[a]<LF>[a.d]<LF>`
+through-spans : spans_in (adoc false ((anended (aline [] (header [] (akey (w leaf.BareKey (codes "a")) ((further [] [] (w leaf.BareKey (codes "b"))) ∷ [])) []) [] None) (w leaf.Newline (10 ∷ []))) ∷ (anended (aline [] blank [] None) (w leaf.Newline (10 ∷ []))) ∷ (anended (aline [] (keyval (aname (akey (w leaf.BareKey (codes "x")) []) ((w leaf.Ws (codes " ")) ∷ []) ((w leaf.Ws (codes " ")) ∷ [])) (avalue (scalar (w leaf.Integer (codes "1"))) none)) [] None) (w leaf.Newline (10 ∷ []))) ∷ (anended (aline [] (header [] (akey (w leaf.BareKey (codes "a")) ((further [] [] (w leaf.BareKey (codes "c"))) ∷ [])) []) [] None) (w leaf.Newline (10 ∷ []))) ∷ (anended (aline [] (header [] (akey (w leaf.BareKey (codes "a")) ((further [] [] (w leaf.BareKey (codes "c"))) ∷ (further [] [] (w leaf.BareKey (codes "e"))) ∷ [])) []) [] None) (w leaf.Newline (10 ∷ []))) ∷ (anended (aline [] (header [] (akey (w leaf.BareKey (codes "a")) []) []) [] None) (w leaf.Newline (10 ∷ []))) ∷ (anended (aline [] (header [] (akey (w leaf.BareKey (codes "a")) ((further [] [] (w leaf.BareKey (codes "d"))) ∷ [])) []) [] None) (w leaf.Newline (10 ∷ []))) ∷ []) (aline [] blank [] None)) ≡
+    (None, None)
+    ∷ (None, span 1 2)
+    ∷ (None, span 3 4)
+    ∷ (span 11 12, span 7 8)
+    ∷ (None, span 16 17)
+    ∷ (None, span 24 25)
+    ∷ (None, span 34 35)
+    ∷ []
+through-spans = refl
+
 -- `<LF>[a.b]<LF>[a.c]<LF>`
 through-alone : infos_in (adoc false ((anended (aline [] blank [] None) (w leaf.Newline (10 ∷ []))) ∷ (anended (aline [] (header [] (akey (w leaf.BareKey (codes "a")) ((further [] [] (w leaf.BareKey (codes "b"))) ∷ [])) []) [] None) (w leaf.Newline (10 ∷ []))) ∷ (anended (aline [] (header [] (akey (w leaf.BareKey (codes "a")) ((further [] [] (w leaf.BareKey (codes "c"))) ∷ [])) []) [] None) (w leaf.Newline (10 ∷ []))) ∷ []) (aline [] blank [] None)) ≡
-    info kind.Table None None 0 false origin.Root
-    ∷ info kind.Table None (span 2 3) 2 false (origin.Through 1)
-    ∷ info kind.Table None (span 4 5) 1 false (origin.Header 0)
-    ∷ info kind.Table None (span 10 11) 1 false (origin.Header 1)
+    info kind.Table None 0 false origin.Root
+    ∷ info kind.Table (Some 0) 2 false (origin.Through 1)
+    ∷ info kind.Table (Some 1) 1 false (origin.Header 0)
+    ∷ info kind.Table (Some 3) 1 false (origin.Header 1)
     ∷ []
 through-alone = refl
 
+-- `<LF>[a.b]<LF>[a.c]<LF>`
+through-alone-spans : spans_in (adoc false ((anended (aline [] blank [] None) (w leaf.Newline (10 ∷ []))) ∷ (anended (aline [] (header [] (akey (w leaf.BareKey (codes "a")) ((further [] [] (w leaf.BareKey (codes "b"))) ∷ [])) []) [] None) (w leaf.Newline (10 ∷ []))) ∷ (anended (aline [] (header [] (akey (w leaf.BareKey (codes "a")) ((further [] [] (w leaf.BareKey (codes "c"))) ∷ [])) []) [] None) (w leaf.Newline (10 ∷ []))) ∷ []) (aline [] blank [] None)) ≡
+    (None, None)
+    ∷ (None, span 2 3)
+    ∷ (None, span 4 5)
+    ∷ (None, span 10 11)
+    ∷ []
+through-alone-spans = refl
+
 -- `d = 1979-05-27<LF>f = 1.5<LF>`
 date-infos : infos_in (adoc false ((anended (aline [] (keyval (aname (akey (w leaf.BareKey (codes "d")) []) ((w leaf.Ws (codes " ")) ∷ []) ((w leaf.Ws (codes " ")) ∷ [])) (avalue (scalar (w leaf.LocalDate (codes "1979-05-27"))) none)) [] None) (w leaf.Newline (10 ∷ []))) ∷ (anended (aline [] (keyval (aname (akey (w leaf.BareKey (codes "f")) []) ((w leaf.Ws (codes " ")) ∷ []) ((w leaf.Ws (codes " ")) ∷ [])) (avalue (scalar (w leaf.Float (codes "1.5"))) none)) [] None) (w leaf.Newline (10 ∷ []))) ∷ []) (aline [] blank [] None)) ≡
-    info kind.Table None None 0 false origin.Root
-    ∷ info kind.LocalDate (span 4 14) (span 0 1) 1 false (origin.Value 0)
-    ∷ info kind.Float (span 19 22) (span 15 16) 1 false (origin.Value 1)
+    info kind.Table None 0 false origin.Root
+    ∷ info kind.LocalDate (Some 0) 1 false (origin.Value 0)
+    ∷ info kind.Float (Some 1) 1 false (origin.Value 1)
     ∷ []
 date-infos = refl
+
+-- `d = 1979-05-27<LF>f = 1.5<LF>`
+date-spans : spans_in (adoc false ((anended (aline [] (keyval (aname (akey (w leaf.BareKey (codes "d")) []) ((w leaf.Ws (codes " ")) ∷ []) ((w leaf.Ws (codes " ")) ∷ [])) (avalue (scalar (w leaf.LocalDate (codes "1979-05-27"))) none)) [] None) (w leaf.Newline (10 ∷ []))) ∷ (anended (aline [] (keyval (aname (akey (w leaf.BareKey (codes "f")) []) ((w leaf.Ws (codes " ")) ∷ []) ((w leaf.Ws (codes " ")) ∷ [])) (avalue (scalar (w leaf.Float (codes "1.5"))) none)) [] None) (w leaf.Newline (10 ∷ []))) ∷ []) (aline [] blank [] None)) ≡
+    (None, None)
+    ∷ (span 4 14, span 0 1)
+    ∷ (span 19 22, span 15 16)
+    ∷ []
+date-spans = refl
 
 -- `[b]<LF>[a]<LF>[b.c]<LF>`
 root-children : children [] (node_paths (mentions_in (adoc false ((anended (aline [] (header [] (akey (w leaf.BareKey (codes "b")) []) []) [] None) (w leaf.Newline (10 ∷ []))) ∷ (anended (aline [] (header [] (akey (w leaf.BareKey (codes "a")) []) []) [] None) (w leaf.Newline (10 ∷ []))) ∷ (anended (aline [] (header [] (akey (w leaf.BareKey (codes "b")) ((further [] [] (w leaf.BareKey (codes "c"))) ∷ [])) []) [] None) (w leaf.Newline (10 ∷ []))) ∷ []) (aline [] blank [] None)))) ≡ (key (codes "b") ∷ []) ∷ (key (codes "a") ∷ []) ∷ []
@@ -196,14 +257,25 @@ two_elements-find_none = refl
 
 -- `[[a]]<LF>[a.b]<LF>[[a]]<LF>[a.b]<LF>`
 two_elements-infos : infos_in (adoc false ((anended (aline [] (element [] (akey (w leaf.BareKey (codes "a")) []) []) [] None) (w leaf.Newline (10 ∷ []))) ∷ (anended (aline [] (header [] (akey (w leaf.BareKey (codes "a")) ((further [] [] (w leaf.BareKey (codes "b"))) ∷ [])) []) [] None) (w leaf.Newline (10 ∷ []))) ∷ (anended (aline [] (element [] (akey (w leaf.BareKey (codes "a")) []) []) [] None) (w leaf.Newline (10 ∷ []))) ∷ (anended (aline [] (header [] (akey (w leaf.BareKey (codes "a")) ((further [] [] (w leaf.BareKey (codes "b"))) ∷ [])) []) [] None) (w leaf.Newline (10 ∷ []))) ∷ []) (aline [] blank [] None)) ≡
-    info kind.Table None None 0 false origin.Root
-    ∷ info kind.Tables None (span 2 3) 4 false origin.Tables
-    ∷ info kind.Table None None 0 true (origin.Element 0)
-    ∷ info kind.Table None (span 9 10) 1 false (origin.Header 1)
-    ∷ info kind.Table None None 0 true (origin.Element 2)
-    ∷ info kind.Table None (span 21 22) 1 false (origin.Header 3)
+    info kind.Table None 0 false origin.Root
+    ∷ info kind.Tables (Some 0) 4 false origin.Tables
+    ∷ info kind.Table None 0 true (origin.Element 0)
+    ∷ info kind.Table (Some 2) 1 false (origin.Header 1)
+    ∷ info kind.Table None 0 true (origin.Element 2)
+    ∷ info kind.Table (Some 5) 1 false (origin.Header 3)
     ∷ []
 two_elements-infos = refl
+
+-- `[[a]]<LF>[a.b]<LF>[[a]]<LF>[a.b]<LF>`
+two_elements-spans : spans_in (adoc false ((anended (aline [] (element [] (akey (w leaf.BareKey (codes "a")) []) []) [] None) (w leaf.Newline (10 ∷ []))) ∷ (anended (aline [] (header [] (akey (w leaf.BareKey (codes "a")) ((further [] [] (w leaf.BareKey (codes "b"))) ∷ [])) []) [] None) (w leaf.Newline (10 ∷ []))) ∷ (anended (aline [] (element [] (akey (w leaf.BareKey (codes "a")) []) []) [] None) (w leaf.Newline (10 ∷ []))) ∷ (anended (aline [] (header [] (akey (w leaf.BareKey (codes "a")) ((further [] [] (w leaf.BareKey (codes "b"))) ∷ [])) []) [] None) (w leaf.Newline (10 ∷ []))) ∷ []) (aline [] blank [] None)) ≡
+    (None, None)
+    ∷ (None, span 2 3)
+    ∷ (None, None)
+    ∷ (None, span 9 10)
+    ∷ (None, None)
+    ∷ (None, span 21 22)
+    ∷ []
+two_elements-spans = refl
 
 -- `[a.b.c]<LF>[a]<LF>b.x = 1<LF>`
 dotted_passes_way : fault_in (adoc false ((anended (aline [] (header [] (akey (w leaf.BareKey (codes "a")) ((further [] [] (w leaf.BareKey (codes "b"))) ∷ (further [] [] (w leaf.BareKey (codes "c"))) ∷ [])) []) [] None) (w leaf.Newline (10 ∷ []))) ∷ (anended (aline [] (header [] (akey (w leaf.BareKey (codes "a")) []) []) [] None) (w leaf.Newline (10 ∷ []))) ∷ (anended (aline [] (keyval (aname (akey (w leaf.BareKey (codes "b")) ((further [] [] (w leaf.BareKey (codes "x"))) ∷ [])) ((w leaf.Ws (codes " ")) ∷ []) ((w leaf.Ws (codes " ")) ∷ [])) (avalue (scalar (w leaf.Integer (codes "1"))) none)) [] None) (w leaf.Newline (10 ∷ []))) ∷ []) (aline [] blank [] None)) ≡ None

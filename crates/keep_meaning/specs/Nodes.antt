@@ -8,7 +8,6 @@ use Rattle.keep_parts.specs.declared.info.Span.{Span}
 use Rattle.keep_parts.specs.declared.info.KeyPart.{KeyPart}
 use Rattle.keep_parts.specs.declared.info.ValueInfo.{ValueInfo}
 use Rattle.keep_syntax.specs.Tree.{Document}
-use Rattle.keep_syntax.specs.Numbered as syntax
 use Rattle.keep_meaning.specs.declared.node.Kind.{Kind}
 use Rattle.keep_meaning.specs.declared.node.Kind.TheVariants as kind
 use Rattle.keep_meaning.specs.declared.node.Origin.{Origin}
@@ -212,7 +211,16 @@ nodes_of ns = map (node_at ns) (node_paths (map mention_of ns))
 abbrev pub nodes_in : Document → List Node
 nodes_in s = nodes_of (numbered_in s)
 
--- ---- with places in the text
+-- ---- what the index tells: numbers
+
+abbrev pub node_info : Node → NodeInfo
+node_info n = record { kind = n.kind; key = n.key; marks = n.marks; passed = n.passed; origin = n.origin }
+
+-- what is known of each node of a document
+abbrev pub infos_in : Document → List NodeInfo
+infos_in s = map node_info (nodes_in s)
+
+-- ---- where it is in the text
 
 abbrev pub value_span : List ValueInfo → ℕ → Option Span
 value_span values v = option_map (λ i. i.span) (slice_get values v)
@@ -220,16 +228,9 @@ value_span values v = option_map (λ i. i.span) (slice_get values v)
 abbrev pub key_span : List KeyPart → ℕ → Option Span
 key_span parts k = option_map (λ p. p.span) (slice_get parts k)
 
-abbrev pub node_info : List ValueInfo → List KeyPart → Node → NodeInfo
-node_info values parts n = record {
-  kind = n.kind;
-  value_span = option_and_then (value_span values) n.value;
-  key_span = option_and_then (key_span parts) n.key;
-  marks = n.marks;
-  passed = n.passed;
-  origin = n.origin;
-}
+-- the text of a node's value, and the first key part that names it
+abbrev pub value_span_of : List ValueInfo → Node → Option Span
+value_span_of values n = option_and_then (value_span values) n.value
 
--- what is known of each node of a document
-abbrev pub infos_in : Document → List NodeInfo
-infos_in s = map (node_info (syntax.values s) (syntax.parts s)) (nodes_in s)
+abbrev pub key_span_of : List KeyPart → Node → Option Span
+key_span_of parts n = option_and_then (key_span parts) n.key

@@ -13,7 +13,7 @@ use Rattle.keep_nodes.specs.AllNodes.{Node, and_key}
 use Rattle.keep_meaning.specs.declared.node.NodeInfo.{NodeInfo}
 use Rattle.keep_meaning.specs.declared.role.Role.{Role}
 use Rattle.keep_path.specs.Path.{Part, key, index}
-use Rattle.keep_nodes.specs.Facts.{joined_info, info_of, no_info}
+use Rattle.keep_nodes.specs.Facts.{info_of, no_info}
 use Rattle.keep_nodes.specs.Children.{ChildList, Bare, Keyed, Listed, no_children, holds_of, named, child_ids, child_named}
 use Rattle.keep_nodes.specs.Trie.{TrieNode, Holding, nothing, by_key, by_index, IsTrie, state_at, holds_at, states_of, holdings_of, paths_of, path_at, children_of}
 use Rattle.keep_nodes.specs.Growth.{Grows, Restates}
@@ -549,9 +549,9 @@ stored_preserved nodes id d changed is role_is =
     let same = trie_of_preserved nodes id d changed is role_is in
     stored_as nodes id d changed is (subst IsTrie (sym same) is.stored.trie) (λ i. ap (λ ts. children_of ts i) same)
 
--- the facts of one node, joined with more
-pub infos_changed : (nodes : List Node) (id : ℕ) (d changed : Node) (more : NodeInfo) → id < length nodes → info_of changed.facts ≡ joined_info (info_of (get_or nodes id d).facts) more
-    → infos_of (set nodes id changed) ≡ set (infos_of nodes) id (joined_info (info_at nodes id) more)
-infos_changed nodes id d changed more h facts =
+-- the facts of one node, changed in one way
+pub infos_changed : (f : NodeInfo → NodeInfo) (nodes : List Node) (id : ℕ) (d changed : Node) → id < length nodes → info_of changed.facts ≡ f (info_of (get_or nodes id d).facts)
+    → infos_of (set nodes id changed) ≡ set (infos_of nodes) id (f (info_at nodes id))
+infos_changed f nodes id d changed h facts =
     map-set (λ (n : Node). info_of n.facts) nodes id changed
-    ∙ ap (λ i. set (infos_of nodes) id i) (facts ∙ ap (λ i. joined_info i more) (sym (get_or-map (λ (n : Node). info_of n.facts) nodes id d no_info h)))
+    ∙ ap (λ i. set (infos_of nodes) id i) (facts ∙ ap f (sym (get_or-map (λ (n : Node). info_of n.facts) nodes id d no_info h)))

@@ -27,8 +27,7 @@ no_node = record {
     passed = false;
     origin = origin_kind.Root;
     marks = 0;
-    key = record { start = 0; end = 0 };
-    value = record { start = 0; end = 0 };
+    key = 0;
     number = 0;
   };
 }

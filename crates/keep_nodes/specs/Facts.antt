@@ -1,8 +1,5 @@
 -- The facts about the nodes so far, and what one more mention changes in them.
-use Rattle.std.specs.Prelude.{◌≡◌, ℕ, Bool, ◌+◌, ◌==◌, true, false, ◌||◌, nat_le, min, ◌^◌, ◌-◌, if◌then◌else◌, List, [], ◌∷◌, ◌++◌, map, fold, Option, Some, None, Contains, slice_set, slice_index_or}
-use Rattle.keep_parts.specs.declared.info.Span.{Span}
-use Rattle.keep_parts.specs.declared.info.KeyPart.{KeyPart}
-use Rattle.keep_parts.specs.declared.info.ValueInfo.{ValueInfo}
+use Rattle.std.specs.Prelude.{◌≡◌, ℕ, ◌+◌, ◌==◌, true, false, ◌||◌, nat_le, min, ◌^◌, ◌-◌, if◌then◌else◌, List, [], ◌∷◌, ◌++◌, map, fold, Option, Some, None, Contains, slice_set, slice_index_or}
 use Rattle.keep_meaning.specs.declared.node.Kind.{Kind}
 use Rattle.keep_meaning.specs.declared.node.Kind.TheVariants as kind
 use Rattle.keep_meaning.specs.declared.node.Origin.{Origin}
@@ -34,44 +31,27 @@ abbrev pub later_kind : Kind → Kind → Kind
 later_kind old kind.Tables = kind.Tables
 later_kind old _ = old
 
--- the value's text goes with the place
-abbrev pub later_value : NodeInfo → NodeInfo → Option Span
-later_value old more = if nat_le (rank old.origin) (rank more.origin) then more.value_span else old.value_span
-
 -- the facts about a node, joined with those from one more mention of it, which gives it no value
 abbrev pub joined_info : NodeInfo → NodeInfo → NodeInfo
 joined_info old more = record {
   kind = later_kind old.kind more.kind;
-  value_span = later_value old more;
-  key_span = if old.marks == 0 then more.key_span else old.key_span;
+  key = if old.marks == 0 then more.key else old.key;
   marks = min (old.marks + more.marks) (2 ^ 64 - 1);
   passed = old.passed || more.passed;
   origin = later_origin old.origin more.origin;
 }
 
--- the facts from a key part that names a node, with the value it gives, if any
-abbrev pub named_info : Kind → Option Span → Span → Origin → NodeInfo
-named_info k v key p = record { kind = k; value_span = v; key_span = Some key; marks = 1; passed = false; origin = p }
+-- the facts from the key part with that number, which names a node
+abbrev pub named_info : Kind → ℕ → Origin → NodeInfo
+named_info k key p = record { kind = k; key = Some key; marks = 1; passed = false; origin = p }
 
 -- the facts from an item or an element, which no key part names
-abbrev pub unnamed_info : Kind → Option Span → Origin → NodeInfo
-unnamed_info k v p = record { kind = k; value_span = v; key_span = None; marks = 0; passed = false; origin = p }
+abbrev pub unnamed_info : Kind → Origin → NodeInfo
+unnamed_info k p = record { kind = k; key = None; marks = 0; passed = false; origin = p }
 
 -- the facts from a header that goes past an element
 abbrev pub passed_info : NodeInfo
-passed_info = record { kind = kind.Table; value_span = None; key_span = None; marks = 0; passed = true; origin = origin.Root }
-
--- there is a value's text exactly if the place is that of a value
-abbrev pub matches_origin : Option Span → Origin → Bool
-matches_origin (Some span) (origin.Value v) = true
-matches_origin None (origin.Value v) = false
-matches_origin (Some span) _ = false
-matches_origin None _ = true
-
--- the text of the value that a place names, if it names one
-abbrev pub origin_span : Origin → Span → Option Span
-origin_span (origin.Value v) span = Some span
-origin_span _ span = None
+passed_info = record { kind = kind.Table; key = None; marks = 0; passed = true; origin = origin.Root }
 
 -- the place of a kind, with the number that it names
 abbrev pub origin_of : OriginKind → ℕ → Origin
@@ -87,8 +67,7 @@ origin_of origin_kind.Tables number = origin.Tables
 abbrev pub info_of : NodeFacts → NodeInfo
 info_of t = record {
   kind = t.kind;
-  value_span = origin_span (origin_of t.origin t.number) t.value;
-  key_span = if t.marks == 0 then None else Some t.key;
+  key = if t.marks == 0 then None else Some t.key;
   marks = t.marks;
   passed = t.passed;
   origin = origin_of t.origin t.number;
@@ -107,7 +86,6 @@ joined_facts old more = record {
   origin = (later_facts old more).origin;
   marks = min (old.marks + more.marks) (2 ^ 64 - 1);
   key = if old.marks == 0 then more.key else old.key;
-  value = (later_facts old more).value;
   number = (later_facts old more).number;
 }
 
@@ -120,7 +98,7 @@ pub record NodeInfos : Type 0 where
 
 -- the facts about a root that is not mentioned yet
 abbrev pub no_info : NodeInfo
-no_info = record { kind = kind.Table; value_span = None; key_span = None; marks = 0; passed = false; origin = origin.Root }
+no_info = record { kind = kind.Table; key = None; marks = 0; passed = false; origin = origin.Root }
 
 abbrev pub root_infos : NodeInfos
 root_infos = record { paths = [] ∷ []; infos = no_info ∷ [] }
@@ -129,18 +107,22 @@ abbrev pub with_info_at : NodeInfos → Option ℕ → List Part → NodeInfo �
 with_info_at t None path more = record { paths = t.paths ++ path ∷ []; infos = t.infos ++ more ∷ [] }
 with_info_at t (Some i) path more = record t { infos = slice_set t.infos i (joined_info (slice_index_or t.infos i no_info) more) }
 
+-- with another kind of one node
+abbrev pub with_kind : NodeInfos → ℕ → Kind → NodeInfos
+with_kind t i k = record t { infos = slice_set t.infos i (record (slice_index_or t.infos i no_info) { kind = k }) }
+
 -- with the facts from one more mention of a path: a new node, or one that is there
 abbrev pub with_info : NodeInfos → List Part → NodeInfo → NodeInfos
 with_info t path more = with_info_at t (node_number t.paths path) path more
 
 -- the facts from one mention
-abbrev pub mention_info : List ValueInfo → List KeyPart → Numbered → NodeInfo
-mention_info values parts n = node_info values parts (mentioned_node n.mention.path (n ∷ []))
+abbrev pub mention_info : Numbered → NodeInfo
+mention_info n = node_info (mentioned_node n.mention.path (n ∷ []))
 
 -- with the facts from these mentions, one after another
-abbrev pub with_mentions : List ValueInfo → List KeyPart → NodeInfos → List Numbered → NodeInfos
-with_mentions values parts t [] = t
-with_mentions values parts t (n ∷ ns) = with_mentions values parts (with_info t n.mention.path (mention_info values parts n)) ns
+abbrev pub with_mentions : NodeInfos → List Numbered → NodeInfos
+with_mentions t [] = t
+with_mentions t (n ∷ ns) = with_mentions (with_info t n.mention.path (mention_info n)) ns
 
 -- the paths of the nodes after these mentions
 abbrev pub paths_after : List (List Part) → List Numbered → List (List Part)

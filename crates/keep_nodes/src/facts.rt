@@ -1,9 +1,8 @@
 //! The facts about a node.
-ghost use Rattle.std.specs.Prelude.{◌≡◌, ℕ, None, IsTrue, nat_le};
-ghost use Rattle.keep_nodes.specs.Facts.{joined_info, joined_facts, later_kind, matches_origin, info_of, origin_span, rank, named_info, unnamed_info, passed_info, origin_of};
+ghost use Rattle.std.specs.Prelude.{◌≡◌, ℕ, None, nat_le};
+ghost use Rattle.keep_nodes.specs.Facts.{joined_info, joined_facts, later_kind, info_of, rank, named_info, unnamed_info, passed_info, origin_of};
 
 use keep_meaning::{Kind, NodeInfo, Origin, Role};
-use keep_syntax::Span;
 
 /// Where a node comes from, without the number of the value or statement. In the order of their ranks, so that two are
 /// compared as they are.
@@ -30,22 +29,16 @@ pub struct NodeFacts {
     pub origin: OriginKind,
     /// How many key parts name it.
     pub marks: usize,
-    /// The first key part that names it, if any does.
-    pub key: Span,
-    /// The text of the value, where the place is that of a value.
-    pub value: Span,
+    /// The number of the first key part that names it, or 0 if none does.
+    pub key: usize,
     /// The number of the value or statement that the place names, if it names one.
     pub number: usize,
 }
 
-/// In place of a text that is not known.
-const NO_SPAN: Span = Span { start: 0, end: 0 };
-
 impl NodeFacts {
-    /// The facts from a key part that names a node, with the value that it gives, if any.
-    pub fn named(kind: Kind, value: Option<Span>, key: Span, origin: Origin) -> NodeFacts
-        requires { IsTrue (matches_origin value origin) }
-        ensures { info_of result ≡ named_info kind value key origin }
+    /// The facts from the key part with that number, which names a node.
+    pub fn named(kind: Kind, key: usize, origin: Origin) -> NodeFacts
+        ensures { info_of result ≡ named_info kind key origin }
     {
         let (origin, number) = origin_parts(origin);
         NodeFacts {
@@ -55,15 +48,13 @@ impl NodeFacts {
             origin,
             marks: 1,
             key,
-            value: value.unwrap_or(NO_SPAN),
             number,
         }
     }
 
     /// The facts from an item or an element, which no key part names.
-    pub fn unnamed(kind: Kind, value: Option<Span>, origin: Origin) -> NodeFacts
-        requires { IsTrue (matches_origin value origin) }
-        ensures info { info_of result ≡ unnamed_info kind value origin }
+    pub fn unnamed(kind: Kind, origin: Origin) -> NodeFacts
+        ensures info { info_of result ≡ unnamed_info kind origin }
         ensures role { result.role ≡ None }
     {
         let (origin, number) = origin_parts(origin);
@@ -73,8 +64,7 @@ impl NodeFacts {
             passed: false,
             origin,
             marks: 0,
-            key: NO_SPAN,
-            value: value.unwrap_or(NO_SPAN),
+            key: 0,
             number,
         }
     }
@@ -85,7 +75,7 @@ impl NodeFacts {
     {
         NodeFacts {
             passed: true,
-            ..NodeFacts::unnamed(Kind::Table, None, Origin::Root)
+            ..NodeFacts::unnamed(Kind::Table, Origin::Root)
         }
     }
 
@@ -93,18 +83,16 @@ impl NodeFacts {
     pub fn info(&self) -> NodeInfo
         ensures { result ≡ info_of self.now }
     {
-        let origin = origin_of(self.origin, self.number);
         NodeInfo {
             kind: self.kind,
-            value_span: value_at(origin, self.value),
-            key_span: if self.marks == 0 {
+            key: if self.marks == 0 {
                 None
             } else {
                 Some(self.key)
             },
             marks: self.marks,
             passed: self.passed,
-            origin,
+            origin: origin_of(self.origin, self.number),
         }
     }
 
@@ -127,7 +115,6 @@ impl NodeFacts {
             // No document has so many key parts that this is less than the sum.
             marks: self.marks.saturating_add(more.marks),
             key: if self.marks == 0 { more.key } else { self.key },
-            value: later.value,
             number: later.number,
         }
     }
@@ -160,16 +147,6 @@ fn origin_of(kind: OriginKind, number: usize) -> Origin
         OriginKind::Dotted => Origin::Dotted(number),
         OriginKind::Through => Origin::Through(number),
         OriginKind::Tables => Origin::Tables,
-    }
-}
-
-/// The text of the value that a place names, if it names one.
-fn value_at(origin: Origin, value: Span) -> Option<Span>
-    ensures { result ≡ origin_span origin value }
-{
-    match origin {
-        Origin::Value(_) => Some(value),
-        _ => None,
     }
 }
 

@@ -13,7 +13,7 @@ use crate::facts::NodeFacts;
 use crate::links::{ParentLink, ParentLinks};
 use crate::packed::PackedFacts;
 use crate::seed::Seed;
-use keep_meaning::Role;
+use keep_meaning::{Kind, Role};
 use std::alloc::{AllocError, Global};
 use std::marker::Model;
 
@@ -207,6 +207,15 @@ impl Nodes {
         let node = &mut self.list[id];
         node.facts.join(alloc, role, more)
     }
+
+    /// Gives a node another kind.
+    fn set_kind(&mut self, id: usize, kind: Kind)
+        requires { id < length self.old.items }
+        ensures { self.new.items ≡ with_facts self.old.items id (record (node_at self.old.items id).facts { kind = kind }) }
+    {
+        let node = &mut self.list[id];
+        node.facts.set_kind(kind);
+    }
 }
 
 /// The child of a table by a key.
@@ -292,4 +301,15 @@ pub fn add_facts(nodes: &mut Nodes, id: usize, more: NodeFacts) -> Result<(), Al
 {
     let role = nodes.role(id);
     nodes.join_facts(id, role, more)
+}
+
+/// Gives a node another kind, and leaves all else as it is. It takes no memory.
+pub fn set_kind(nodes: &mut Nodes, id: usize, kind: Kind)
+    requires stored { IsStored nodes.old.items }
+    requires within { id < length nodes.old.items }
+    ensures same { trie_of nodes.new.items ≡ trie_of nodes.old.items }
+    ensures stored { IsStored nodes.new.items }
+    ensures infos { infos_of nodes.new.items ≡ slice_set (infos_of nodes.old.items) id (record (info_at nodes.old.items id) { kind = kind }) }
+{
+    nodes.set_kind(id, kind);
 }

@@ -1,15 +1,14 @@
 //! The facts about a node, in as few bytes as its numbers allow.
 ghost use Rattle.std.specs.Prelude.{◌≡◌, IfNone, IfOk, IfSome, None, OnOk};
-ghost use Rattle.keep_nodes.specs.Packed.{Fits, FitsSpan, span_of, facts_in};
+ghost use Rattle.keep_nodes.specs.Packed.{Fits, facts_in};
 ghost use Rattle.keep_nodes.specs.Facts.{joined_facts};
 
 use crate::facts::{NodeFacts, OriginKind, later_kind, yields_to};
 use keep_meaning::{Kind, Role};
-use keep_syntax::Span;
 use std::alloc::{AllocError, Global};
 use std::marker::Model;
 
-/// The two forms of the facts. The packed one stores a text by its start and its length.
+/// The two forms of the facts. The packed one stores shorter numbers.
 #[derive(Drop)]
 pub enum Form {
     Packed {
@@ -18,17 +17,14 @@ pub enum Form {
         passed: bool,
         origin: OriginKind,
         marks: u16,
-        key_len: u16,
-        value_len: u16,
-        key_start: u32,
-        value_start: u32,
+        key: u32,
         number: u32,
     },
     Boxed(Box<NodeFacts>),
 }
 
-/// The facts about a node as they are stored: in 24 bytes while its marks and the lengths of its texts fit into 16
-/// bits, and its other numbers into 32.
+/// The facts about a node as they are stored: in 16 bytes while its marks fit into 16 bits, and its other numbers into
+/// 32. Otherwise the 16 bytes are those of a box, which holds them unpacked.
 #[derive(Drop)]
 pub struct PackedFacts {
     form: Form,
@@ -43,43 +39,18 @@ impl Model for PackedFacts {
     ghost view = { λ packed. facts_in packed.form };
 }
 
-/// The start and the length of a text, if they fit.
-fn packed_span(span: Span) -> Option<(u32, u16)>
-    ensures packed { IfSome result (λ text. span_of text.0 text.1 ≡ span) }
-    ensures large { result ≡ None → FitsSpan span → ⊥ }
-{
-    let len = span.end.checked_sub(span.start)?;
-    Some((u32::try_from(span.start).ok()?, u16::try_from(len).ok()?))
-}
-
-/// The text of that start and length.
-fn span_of(start: u32, len: u16) -> Span
-    ensures { result ≡ span_of start len }
-{
-    let start = start as usize;
-    Span {
-        start,
-        end: start + len as usize,
-    }
-}
-
 /// The packed form, if the numbers fit.
 fn packed_form(facts: &NodeFacts) -> Option<Form>
     ensures packed { IfSome result (λ form. facts_in form ≡ facts.now) }
     ensures large { result ≡ None → Fits facts.now → ⊥ }
 {
-    let (key_start, key_len) = packed_span(facts.key)?;
-    let (value_start, value_len) = packed_span(facts.value)?;
     Some(Form::Packed {
         role: facts.role,
         kind: facts.kind,
         passed: facts.passed,
         origin: facts.origin,
         marks: u16::try_from(facts.marks).ok()?,
-        key_len,
-        value_len,
-        key_start,
-        value_start,
+        key: u32::try_from(facts.key).ok()?,
         number: u32::try_from(facts.number).ok()?,
     })
 }
@@ -107,10 +78,7 @@ impl PackedFacts {
                 passed,
                 origin,
                 marks,
-                key_len,
-                value_len,
-                key_start,
-                value_start,
+                key,
                 number,
             } => NodeFacts {
                 role: *role,
@@ -118,8 +86,7 @@ impl PackedFacts {
                 passed: *passed,
                 origin: *origin,
                 marks: *marks as usize,
-                key: span_of(*key_start, *key_len),
-                value: span_of(*value_start, *value_len),
+                key: *key as usize,
                 number: *number as usize,
             },
             Form::Boxed(facts) => **facts,
@@ -154,28 +121,23 @@ impl PackedFacts {
             passed,
             origin,
             marks,
-            key_len,
-            value_len,
-            key_start,
-            value_start,
+            key,
             number,
         } = &mut self.form
         else {
             return None;
         };
         let sum = marks.checked_add(u16::try_from(more.marks).ok()?)?;
-        let key = if *marks == 0 {
-            packed_span(more.key)?
+        let first_key = if *marks == 0 {
+            u32::try_from(more.key).ok()?
         } else {
-            (*key_start, *key_len)
+            *key
         };
         if yields_to(*origin, more.origin) {
-            let value = packed_span(more.value)?;
             *number = u32::try_from(more.number).ok()?;
             *origin = more.origin;
-            (*value_start, *value_len) = value;
         }
-        (*key_start, *key_len) = key;
+        *key = first_key;
         *state = role;
         *kind = later_kind(*kind, more.kind);
         *passed |= more.passed;
@@ -204,6 +166,16 @@ impl PackedFacts {
             self.form = PackedFacts::of(alloc, facts)?.form;
         }
         Ok(())
+    }
+
+    /// Gives the node another kind, in the form that is there, so that it takes no memory.
+    pub fn set_kind(&mut self, kind: Kind)
+        ensures { self.new ≡ record self.old { kind = kind } }
+    {
+        match &mut self.form {
+            Form::Packed { kind: stored, .. } => *stored = kind,
+            Form::Boxed(facts) => facts.kind = kind,
+        }
     }
 
     /// The role that represents those of the marks at the node, if there are any.

@@ -1,8 +1,21 @@
 //! Questions about the nodes of a document by the definition rules.
+ghost use Rattle.std.specs.Prelude.{◌<◌, length};
+
 use crate::row::{Answer, Row, unknown};
-use keep_rules::{Index, NodeId, Path};
-use keep_syntax::{Limits, ReadFault, Syntax, ValueSyntax};
+use keep_rules::{Index, Kind, NodeId, Origin, Path};
+use keep_syntax::{Limits, ReadFault, Span, Syntax, ValueSyntax};
 use std::alloc::{AllocError, Global};
+
+/// What is known of a node, with its places in the text, as rows write it.
+#[derive(Clone, Copy, Debug)]
+struct NodeInfo {
+    kind: Kind,
+    value_span: Option<Span>,
+    key_span: Option<Span>,
+    marks: usize,
+    passed: bool,
+    origin: Origin,
+}
 
 /// The first word is the text of a document, or for `value` of a value. What the rules refuse is answered by its fault.
 pub fn answer(alloc: Global, row: &Row) -> Answer {
@@ -24,23 +37,24 @@ fn verdict(alloc: Global, checked: Result<(), ReadFault>) -> Answer {
     }
 }
 
-fn index_of(alloc: Global, text: &str) -> Result<Index, ReadFault> {
+fn index_of(alloc: Global, text: &str) -> Result<(Syntax, Index), ReadFault> {
     let syntax = Syntax::read(alloc, text, Limits::STANDARD)?;
-    Index::build(alloc, text, &syntax)
+    let index = Index::build(alloc, text, &syntax)?;
+    Ok((syntax, index))
 }
 
-fn document(alloc: Global, row: &Row, index: Result<Index, ReadFault>) -> Answer {
-    match index {
-        Ok(index) => report_of(alloc, &index, row),
+fn document(alloc: Global, row: &Row, read: Result<(Syntax, Index), ReadFault>) -> Answer {
+    match read {
+        Ok((syntax, index)) => report_of(alloc, &syntax, &index, row),
         Err(fault) => fault.to_string(alloc),
     }
 }
 
-fn report_of(alloc: Global, index: &Index, row: &Row) -> Answer {
+fn report_of(alloc: Global, syntax: &Syntax, index: &Index, row: &Row) -> Answer {
     match row.question() {
         "count" => format!(in alloc; "{}", index.node_count()),
         "paths" => paths(alloc, index),
-        "node" => node(alloc, index, row.text(1)),
+        "node" => node(alloc, syntax, index, row.text(1)),
         "first" => first(alloc, index, row.text(1), row.number(2)),
         question => report_of_node(alloc, index, question, row),
     }
@@ -91,13 +105,27 @@ fn push_line(out: &mut String, line: Answer) -> Result<(), AllocError> {
 }
 
 // What is known of the node at a path.
-fn node(alloc: Global, index: &Index, path: &str) -> Answer {
+fn node(alloc: Global, syntax: &Syntax, index: &Index, path: &str) -> Answer {
     let Ok(path) = Path::read(alloc, path) else {
         return String::from_str(alloc, "no path");
     };
     match index.find(&path) {
-        Some(id) => format!(in alloc; "{:?}", index.node(id)),
+        Some(id) => format!(in alloc; "{:?}", info(syntax, index, id)),
         None => String::from_str(alloc, "none"),
+    }
+}
+
+fn info(syntax: &Syntax, index: &Index, id: NodeId) -> NodeInfo
+    requires { id.0 < length index.now.paths }
+{
+    let node = index.node(id);
+    NodeInfo {
+        kind: node.kind,
+        value_span: index.value_span(id, syntax),
+        key_span: index.key_span(id, syntax),
+        marks: node.marks,
+        passed: node.passed,
+        origin: node.origin,
     }
 }
 

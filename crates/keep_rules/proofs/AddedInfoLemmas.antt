@@ -5,8 +5,6 @@ use Rattle.std.specs.List.{list_any, position_or_len}
 use Rattle.std.proofs.lemmas.List.Elements.{Contains-get_or}
 use Rattle.std.proofs.lemmas.List.Sums.{position_or_len_is}
 use Rattle.std.proofs.lemmas.Bool.Decides.{nat_tests}
-use Rattle.keep_parts.specs.declared.info.KeyPart.{KeyPart}
-use Rattle.keep_parts.specs.declared.info.ValueInfo.{ValueInfo}
 use Rattle.keep_meaning.specs.declared.node.NodeInfo.{NodeInfo}
 use Rattle.keep_nodes.specs.AllNodes.{Node}
 use Rattle.keep_meaning.specs.declared.role.Role.{Role}
@@ -87,7 +85,7 @@ with_info-paths t p more =
     ])
     ∙ ap (λ b. cond b t.paths (t.paths ++ p ∷ [])) (some_lower (same_path p) t.paths)
 
-pub with_mentions-paths : (values : List ValueInfo) (parts : List KeyPart) (t : NodeInfos) (ns : List Numbered) → (with_mentions values parts t ns).paths ≡ paths_after t.paths ns
-with_mentions-paths values parts t [] = refl
-with_mentions-paths values parts t (n ∷ ns) =
-    with_mentions-paths values parts (with_info t n.mention.path (mention_info values parts n)) ns ∙ ap (λ ps. paths_after ps ns) (with_info-paths t n.mention.path (mention_info values parts n))
+pub with_mentions-paths : (t : NodeInfos) (ns : List Numbered) → (with_mentions t ns).paths ≡ paths_after t.paths ns
+with_mentions-paths t [] = refl
+with_mentions-paths t (n ∷ ns) =
+    with_mentions-paths (with_info t n.mention.path (mention_info n)) ns ∙ ap (λ ps. paths_after ps ns) (with_info-paths t n.mention.path (mention_info n))

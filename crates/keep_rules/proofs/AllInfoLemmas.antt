@@ -8,10 +8,7 @@ use Rattle.std.proofs.lemmas.List.Folds.{list_any-append, list_any_at, list_any_
 use Rattle.std.proofs.lemmas.List.Sums.{sum_by-cons, sum_by-append, passes_at_first, fails_before_first}
 use Rattle.std.proofs.lemmas.List.Quantifiers.{all_pairs_push}
 use Rattle.std.proofs.lemmas.Bool.{cases_lt, cases_eq, cases_Bool, lt-ltb, le-ltb}
-use Rattle.keep_parts.specs.declared.info.KeyPart.{KeyPart}
-use Rattle.keep_parts.specs.declared.info.ValueInfo.{ValueInfo}
 use Rattle.keep_syntax.specs.Tree.{Document}
-use Rattle.keep_syntax.specs.Numbered as syntax
 use Rattle.keep_meaning.specs.declared.node.NodeInfo.{NodeInfo}
 use Rattle.keep_path.specs.Path.{Part, same_path}
 use Rattle.keep_meaning.specs.Marks.{marks}
@@ -123,8 +120,8 @@ not_same_path p q differ = elim (cases_Bool (same_path p q)) [ inl same ↦ absu
 -- ---- all nodes
 
 -- the facts by the definitions
-abbrev pub infos_of_mentions : List ValueInfo → List KeyPart → List Numbered → NodeInfos
-infos_of_mentions values parts ns = record { paths = node_paths (map mention_of ns); infos = map (λ n. node_info values parts n) (nodes_of ns) }
+abbrev pub infos_of_mentions : List Numbered → NodeInfos
+infos_of_mentions ns = record { paths = node_paths (map mention_of ns); infos = map node_info (nodes_of ns) }
 
 same_infos : (a b : NodeInfos) → a.paths ≡ b.paths → a.infos ≡ b.infos → a ≡ b
 same_infos a b p i = let fields : record { paths = a.paths; infos = a.infos } ≡ record { paths = b.paths; infos = b.infos } = cc in fields
@@ -146,7 +143,7 @@ module _ (old new : List Part → NodeInfo) (paths : List (List Part)) where
       let nested : k < length paths = omega (arith, length-map paths old) in
       get_or-map old paths k [] d nested ∙ sym (preserved k nested) ∙ sym (get_or-map new paths k [] d nested))
 
-  infos_set : (i : ℕ) (x : NodeInfo) → i < length paths → x ≡ new (get_or paths i []) → ((k : ℕ) → k < length paths → (k ≡ i → ⊥) → new (get_or paths k []) ≡ old (get_or paths k []))
+  pub infos_set : (i : ℕ) (x : NodeInfo) → i < length paths → x ≡ new (get_or paths i []) → ((k : ℕ) → k < length paths → (k ≡ i → ⊥) → new (get_or paths k []) ≡ old (get_or paths k []))
       → set (map old paths) i x ≡ map new paths
   infos_set i x within here preserved = same_lists (set (map old paths) i x) (map new paths) (length-set (map old paths) i x ∙ length-map paths old ∙ sym (length-map paths new)) (λ k d h.
       let nested : k < length paths = omega (arith, length-map paths old, length-set (map old paths) i x) in
@@ -160,76 +157,75 @@ module _ (old new : List Part → NodeInfo) (paths : List (List Part)) where
         | inr other ↦ get_or-set_other (map old paths) i k x d other ∙ get_or-map old paths k [] d nested ∙ sym (preserved k nested other) ∙ sym (get_or-map new paths k [] d nested)
       ])
 
-infos_of : (f : Node → NodeInfo) (g : List Part → Node) (paths : List (List Part)) → map f (map g paths) ≡ map (λ q. f (g q)) paths
+pub infos_of : (f : Node → NodeInfo) (g : List Part → Node) (paths : List (List Part)) → map f (map g paths) ≡ map (λ q. f (g q)) paths
 infos_of f g [] = refl
 infos_of f g (p ∷ paths) = ap (λ xs. f (g p) ∷ xs) (infos_of f g paths)
 
-module _ (values : List ValueInfo) (parts : List KeyPart) where
-  abbrev info_at : List Numbered → List Part → NodeInfo
-  info_at ns q = node_info values parts (node_at ns q)
+abbrev info_at : List Numbered → List Part → NodeInfo
+info_at ns q = node_info (node_at ns q)
 
-  infos : (ns : List Numbered) → (infos_of_mentions values parts ns).infos ≡ map (info_at ns) (node_paths (map mention_of ns))
-  infos ns = infos_of (λ x. node_info values parts x) (node_at ns) (node_paths (map mention_of ns))
+infos : (ns : List Numbered) → (infos_of_mentions ns).infos ≡ map (info_at ns) (node_paths (map mention_of ns))
+infos ns = infos_of node_info (node_at ns) (node_paths (map mention_of ns))
 
-module _ (values : List ValueInfo) (parts : List KeyPart) (ns : List Numbered) (n : Numbered) where
-  elsewhere : (q : List Part) → (n.mention.path ≡ q → ⊥) → info_at values parts (ns ++ n ∷ []) q ≡ info_at values parts ns q
-  elsewhere q differ = ap (λ x. node_info values parts x) (node_at-elsewhere q ns n (not_same_path n.mention.path q differ))
+module _ (ns : List Numbered) (n : Numbered) where
+  elsewhere : (q : List Part) → (n.mention.path ≡ q → ⊥) → info_at (ns ++ n ∷ []) q ≡ info_at ns q
+  elsewhere q differ = ap node_info (node_at-elsewhere q ns n (not_same_path n.mention.path q differ))
 
-  info_new : numbered_at n.mention.path ns ≡ [] → info_at values parts (ns ++ n ∷ []) n.mention.path ≡ mention_info values parts n
-  info_new none = ap (λ ms. node_info values parts (mentioned_node n.mention.path ms)) (numbered_at-here ns n ∙ ap (λ ms. ms ++ n ∷ []) none)
+  info_new : numbered_at n.mention.path ns ≡ [] → info_at (ns ++ n ∷ []) n.mention.path ≡ mention_info n
+  info_new none = ap (λ ms. node_info (mentioned_node n.mention.path ms)) (numbered_at-here ns n ∙ ap (λ ms. ms ++ n ∷ []) none)
 
   info_joined : is_value n.mention.kind ≡ false → (node_at (ns ++ n ∷ []) n.mention.path).marks < 2 ^ 64
-      → info_at values parts (ns ++ n ∷ []) n.mention.path ≡ joined_info (info_at values parts ns n.mention.path) (mention_info values parts n)
+      → info_at (ns ++ n ∷ []) n.mention.path ≡ joined_info (info_at ns n.mention.path) (mention_info n)
   info_joined given few =
       let here = numbered_at-here ns n in
-      ap (λ ms. node_info values parts (mentioned_node n.mention.path ms)) here
-      ∙ node_joined values parts n.mention.path (numbered_at n.mention.path ns) n given (subst (λ (ms : List Numbered). (mentioned_node n.mention.path ms).marks < 2 ^ 64) here few)
+      ap (λ ms. node_info (mentioned_node n.mention.path ms)) here
+      ∙ node_joined n.mention.path (numbered_at n.mention.path ns) n given (subst (λ (ms : List Numbered). (mentioned_node n.mention.path ms).marks < 2 ^ 64) here few)
 
   paths_more : node_paths (map mention_of (ns ++ n ∷ [])) ≡ paths_with (node_paths (map mention_of ns)) n.mention.path
   paths_more = paths_after-append ([] ∷ []) ns (n ∷ [])
 
-  added_new : IsUnmet (node_paths (map mention_of ns)) n.mention.path → with_info (infos_of_mentions values parts ns) n.mention.path (mention_info values parts n) ≡ infos_of_mentions values parts (ns ++ n ∷ [])
+  added_new : IsUnmet (node_paths (map mention_of ns)) n.mention.path → with_info (infos_of_mentions ns) n.mention.path (mention_info n) ≡ infos_of_mentions (ns ++ n ∷ [])
   added_new u =
-      let t : NodeInfos = infos_of_mentions values parts ns in
+      let t : NodeInfos = infos_of_mentions ns in
       let p : List Part = n.mention.path in
-      let mentioned : NodeInfo = mention_info values parts n in
+      let mentioned : NodeInfo = mention_info n in
       let longer : t.paths ++ p ∷ [] ≡ node_paths (map mention_of (ns ++ n ∷ [])) = ap (λ b. cond b t.paths (t.paths ++ p ∷ [])) (sym u.unmet) ∙ sym paths_more in
-      let old : List Part → NodeInfo = info_at values parts ns in
-      let new : List Part → NodeInfo = info_at values parts (ns ++ n ∷ []) in
+      let old : List Part → NodeInfo = info_at ns in
+      let new : List Part → NodeInfo = info_at (ns ++ n ∷ []) in
       let preserved : map old t.paths ≡ map new t.paths = infos_preserved old new t.paths (λ k h. elsewhere (get_or t.paths k []) (λ e.
       let met : list_any (same_path p) t.paths ≡ true = list_any_at (same_path p) t.paths k [] h ((path_decides p (get_or t.paths k [])).1 e) in
       let unmet = u.unmet in cc)) in
       ap (λ o. with_info_at t o p mentioned) u.is
-      ∙ same_infos (with_info_at t None p mentioned) (infos_of_mentions values parts (ns ++ n ∷ [])) longer (
-      ap (λ xs. xs ++ mentioned ∷ []) (infos values parts ns ∙ preserved)
+      ∙ same_infos (with_info_at t None p mentioned) (infos_of_mentions (ns ++ n ∷ [])) longer (
+      ap (λ xs. xs ++ mentioned ∷ []) (infos ns ∙ preserved)
       ∙ ap (λ x. map new t.paths ++ x ∷ []) (sym (info_new (silent ([] ∷ []) ns p u.unmet)))
       ∙ sym (map-append new t.paths (p ∷ []))
       ∙ ap (map new) longer
-      ∙ sym (infos values parts (ns ++ n ∷ [])))
+      ∙ sym (infos (ns ++ n ∷ [])))
 
   added_at_existing : IsMet (node_paths (map mention_of ns)) n.mention.path → is_value n.mention.kind ≡ false → (node_at (ns ++ n ∷ []) n.mention.path).marks < 2 ^ 64
-      → with_info (infos_of_mentions values parts ns) n.mention.path (mention_info values parts n) ≡ infos_of_mentions values parts (ns ++ n ∷ [])
+      → with_info (infos_of_mentions ns) n.mention.path (mention_info n) ≡ infos_of_mentions (ns ++ n ∷ [])
   added_at_existing m given few =
-      let t : NodeInfos = infos_of_mentions values parts ns in
+      let t : NodeInfos = infos_of_mentions ns in
       let p : List Part = n.mention.path in
-      let mentioned : NodeInfo = mention_info values parts n in
+      let mentioned : NodeInfo = mention_info n in
       let i : ℕ = m.number in
       let same : t.paths ≡ node_paths (map mention_of (ns ++ n ∷ [])) = ap (λ b. cond b t.paths (t.paths ++ p ∷ [])) (sym m.met) ∙ sym paths_more in
-      let old : List Part → NodeInfo = info_at values parts ns in
-      let new : List Part → NodeInfo = info_at values parts (ns ++ n ∷ []) in
+      let old : List Part → NodeInfo = info_at ns in
+      let new : List Part → NodeInfo = info_at (ns ++ n ∷ []) in
       let here : joined_info (get_or (map old t.paths) i no_info) mentioned ≡ new (get_or t.paths i []) =
       ap (λ x. joined_info x mentioned) (get_or-map old t.paths i [] no_info m.nested ∙ ap old m.here) ∙ sym (info_joined given few) ∙ ap new (sym m.here) in
       ap (λ o. with_info_at t o p mentioned) m.is
-      ∙ same_infos (with_info_at t (Some i) p mentioned) (infos_of_mentions values parts (ns ++ n ∷ [])) same (
-      ap (λ xs. set xs i (joined_info (get_or xs i no_info) mentioned)) (infos values parts ns)
+      ∙ same_infos (with_info_at t (Some i) p mentioned) (infos_of_mentions (ns ++ n ∷ [])) same (
+      ap (λ xs. set xs i (joined_info (get_or xs i no_info) mentioned)) (infos ns)
       ∙ infos_set old new t.paths i (joined_info (get_or (map old t.paths) i no_info) mentioned) m.nested here (λ k h other.
       elsewhere (get_or t.paths k []) (λ e. other (one_place t.paths (node_paths-distinct ns) k i h m.nested (sym e ∙ sym m.here))))
       ∙ ap (map new) same
-      ∙ sym (infos values parts (ns ++ n ∷ [])))
+      ∙ sym (infos (ns ++ n ∷ [])))
 
   -- one mention more
   pub added_more : (is_value n.mention.kind ≡ true → Contains (node_paths (map mention_of ns)) n.mention.path → ⊥) → count_by (λ m. is_mark m.mention.kind) (ns ++ n ∷ []) < 2 ^ 64
-      → with_info (infos_of_mentions values parts ns) n.mention.path (mention_info values parts n) ≡ infos_of_mentions values parts (ns ++ n ∷ [])
+      → with_info (infos_of_mentions ns) n.mention.path (mention_info n) ≡ infos_of_mentions (ns ++ n ∷ [])
   added_more new few =
       elim (met_or_unmet (node_paths (map mention_of ns)) n.mention.path) [
         | inl m ↦
@@ -240,24 +236,23 @@ module _ (values : List ValueInfo) (parts : List KeyPart) (ns : List Numbered) (
         | inr u ↦ added_new u
       ]
 
-module _ (values : List ValueInfo) (parts : List KeyPart) where
-  -- further mentions
-  pub added_further : (ns more : List Numbered) → count_by (λ m. is_mark m.mention.kind) (ns ++ more) < 2 ^ 64 → ValuesAreNew (node_paths (map mention_of ns)) more
-      → with_mentions values parts (infos_of_mentions values parts ns) more ≡ infos_of_mentions values parts (ns ++ more)
-  added_further ns [] few new = ap (infos_of_mentions values parts) (sym (append-nil ns))
-  added_further ns (n ∷ more) few new =
-      let marked : Numbered → ℕ = λ m. cond (is_mark m.mention.kind) 1 0 in
-      let all : (ns ++ n ∷ []) ++ more ≡ ns ++ n ∷ more = append_assoc ns (n ∷ []) more in
-      ap (λ t. with_mentions values parts t more) (added_more values parts ns n new.0 (omega (arith, sum_by-append marked (ns ++ n ∷ []) more, ap (λ ms. count_by (λ m. is_mark m.mention.kind) ms) all)))
-      ∙ added_further (ns ++ n ∷ []) more
-      (omega (arith, ap (λ ms. count_by (λ m. is_mark m.mention.kind) ms) all))
-      (subst (λ (paths : List (List Part)). ValuesAreNew paths more) (sym (paths_more values parts ns n)) new.1)
-      ∙ ap (infos_of_mentions values parts) all
+-- further mentions
+pub added_further : (ns more : List Numbered) → count_by (λ m. is_mark m.mention.kind) (ns ++ more) < 2 ^ 64 → ValuesAreNew (node_paths (map mention_of ns)) more
+    → with_mentions (infos_of_mentions ns) more ≡ infos_of_mentions (ns ++ more)
+added_further ns [] few new = ap infos_of_mentions (sym (append-nil ns))
+added_further ns (n ∷ more) few new =
+    let marked : Numbered → ℕ = λ m. cond (is_mark m.mention.kind) 1 0 in
+    let all : (ns ++ n ∷ []) ++ more ≡ ns ++ n ∷ more = append_assoc ns (n ∷ []) more in
+    ap (λ t. with_mentions t more) (added_more ns n new.0 (omega (arith, sum_by-append marked (ns ++ n ∷ []) more, ap (λ ms. count_by (λ m. is_mark m.mention.kind) ms) all)))
+    ∙ added_further (ns ++ n ∷ []) more
+    (omega (arith, ap (λ ms. count_by (λ m. is_mark m.mention.kind) ms) all))
+    (subst (λ (paths : List (List Part)). ValuesAreNew paths more) (sym (paths_more ns n)) new.1)
+    ∙ ap infos_of_mentions all
 
-  -- all mentions
-  pub all_infos : (ns : List Numbered) → count_by (λ m. is_mark m.mention.kind) ns < 2 ^ 64 → ValuesAreNew ([] ∷ []) ns
-      → with_mentions values parts root_infos ns ≡ record { paths = node_paths (map mention_of ns); infos = map (λ n. node_info values parts n) (nodes_of ns) }
-  all_infos ns few new = added_further [] ns few new
+-- all mentions
+pub all_infos : (ns : List Numbered) → count_by (λ m. is_mark m.mention.kind) ns < 2 ^ 64 → ValuesAreNew ([] ∷ []) ns
+    → with_mentions root_infos ns ≡ record { paths = node_paths (map mention_of ns); infos = map node_info (nodes_of ns) }
+all_infos ns few new = added_further [] ns few new
 
 -- ---- of a document
 
@@ -272,8 +267,8 @@ count-marks (n ∷ ns) =
     omega (arith, sum_by-cons (λ (m : Numbered). cond (is_mark m.mention.kind) 1 0) n ns, count-marks ns, one_mark n.mention.kind n.mention.path (marks (map mention_of ns)), one_if-cond (is_mark n.mention.kind))
 
 pub values_new_in : (s : Document) → length (marks (mentions_in s)) < 2 ^ 64 → ValuesAreNew ([] ∷ []) (numbered_in s)
-    → with_mentions (syntax.values s) (syntax.parts s) root_infos (numbered_in s) ≡ record { paths = node_paths (mentions_in s); infos = infos_in s }
+    → with_mentions root_infos (numbered_in s) ≡ record { paths = node_paths (mentions_in s); infos = infos_in s }
 values_new_in s few new =
     let mentioned : map mention_of (numbered_in s) ≡ mentions_in s = mentions-numbered_in s in
-    all_infos (syntax.values s) (syntax.parts s) (numbered_in s) (omega (arith, count-marks (numbered_in s), ap (λ ms. length (marks ms)) mentioned)) new
+    all_infos (numbered_in s) (omega (arith, count-marks (numbered_in s), ap (λ ms. length (marks ms)) mentioned)) new
     ∙ ap (λ ms. record { paths = node_paths ms; infos = infos_in s }) mentioned

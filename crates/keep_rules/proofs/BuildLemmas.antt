@@ -1,6 +1,5 @@
 -- Statements and values by their keys: the leading ones, and the last.
-use Rattle.std.proofs.Common.{◌≡◌, ℕ, ◌+◌, ◌-◌, List, [], ◌∷◌, ◌++◌, length, refl, sym, subst, Some}
-use Rattle.keep_parts.specs.declared.info.Span.{Span}
+use Rattle.std.proofs.Common.{◌≡◌, ℕ, ◌+◌, ◌-◌, List, [], ◌∷◌, ◌++◌, length, refl, sym, subst}
 use Rattle.keep_syntax.specs.declared.fault.Why.{Why}
 use Rattle.keep_syntax.specs.declared.fault.Why.TheVariants.{DefinedTwice, NotAnArray, DuplicateKey}
 use Rattle.keep_rules.specs.declared.keys.Keys.{Keys}
@@ -14,9 +13,8 @@ use Rattle.keep_meaning.specs.declared.node.Origin.TheVariants as origin
 use Rattle.keep_nodes.specs.AllNodes.{Node}
 use Rattle.keep_meaning.specs.Fact.{Fact}
 use Rattle.keep_path.specs.Path.{Part, key}
-use Rattle.keep_rules.specs.Keys.{AreKeys, parts_of, key_texts, leading_texts, last_text}
+use Rattle.keep_rules.specs.Keys.{AreKeys, key_texts, leading_texts, last_text}
 use Rattle.keep_meaning.specs.Marks.{Mention, define, header, element_header}
-use Rattle.keep_meaning.specs.Nodes.{key_span}
 use Rattle.keep_nodes.specs.Facts.{named_info}
 use Rattle.keep_nodes.specs.Trie.{TrieNode, Holding, by_key, path_at}
 use Rattle.keep_nodes.specs.Stored.{trie_of}
@@ -26,7 +24,7 @@ use Rattle.keep_rules.specs.KeyWalks.{walk_mentions, dotted_mentions}
 use Rattle.keep_rules.specs.Reads.{Reads, FaultsIn}
 use Rattle.keep_rules.specs.Stops.{FaultMeets, fault_of_key}
 use Rattle.keep_rules.specs.NestedValues.{NestingState, path_of_value, nested_mentions, nested_keyed}
-use Rattle.keep_rules.specs.AddedInfos.{AddsInfo, HeaderAdds, KeyAdds, DottedAdds, StatementAdds, KeyedAdds, begin_mentions}
+use Rattle.keep_rules.specs.AddedInfos.{AddsInfo, HeaderAdds, DottedAdds, StatementAdds, KeyedAdds, begin_mentions}
 use Rattle.keep_rules.proofs.StepLemmas.{gives}
 use Rattle.keep_rules.proofs.StopLemmas.{header_faults, header_walk_faults, element_faults, element_walk_faults, keyed_fault, keyed_walk_fault}
 use Rattle.keep_rules.proofs.ReadLemmas.{header_reads, element_reads}
@@ -101,34 +99,38 @@ module _ (k : Keys) (are : AreKeys k) (text : List ℕ) (is : text ≡ last_text
 
   -- ---- the facts that are added
 
-  last_named : (span : Span) → key_span (parts_of k) (k.first + (k.count - 1)) ≡ Some span → key_span (parts_of k) (k.first + length (leading_texts k)) ≡ Some span
-  last_named span named = subst (λ (n : ℕ). key_span (parts_of k) (k.first + n) ≡ Some span) (sym (length-leading_texts k are)) named
+  -- by the number of the last key
+  last_adds : (mid new : List Node) (statement : ℕ) (mentioned : List (List Part) → List Mention) → HeaderAdds mid new (k.first + (k.count - 1)) statement mentioned → HeaderAdds mid new (k.first + length (leading_texts k)) statement mentioned
+  last_adds mid new statement mentioned last = subst (λ (n : ℕ). HeaderAdds mid new (k.first + n) statement mentioned) (sym (length-leading_texts k are)) last
 
-  pub header_all_added : (old mid new : List Node) (at statement : ℕ) (span : Span) → key_span (parts_of k) (k.first + (k.count - 1)) ≡ Some span → Walks (trie_of old) (trie_of mid) at (leading_texts k)
-      → HeaderAdds old mid (parts_of k) k.first statement (λ tables. walk_mentions tables [] (leading_texts k))
-      → KeyAdds mid new span statement (λ tables. record { path = path_at (trie_of mid) at ++ key text ∷ []; kind = define } ∷ [])
-      → StatementAdds old new (parts_of k) k.first statement (header (key_texts k))
-  header_all_added old mid new at statement span named walked leading last =
-      subst (λ (ks : List (List ℕ)). StatementAdds old new (parts_of k) k.first statement (header ks)) (texts_split k are)
-      (header_added old new (leading_texts k) (last_text k) (parts_of k) k.first statement
-      (header_adds old mid new at (leading_texts k) (last_text k) (parts_of k) k.first statement span (λ tables p. record { path = p; kind = define } ∷ []) walked leading (last_named span named)
-      (subst (λ (t : List ℕ). KeyAdds mid new span statement (λ tables. record { path = path_at (trie_of mid) at ++ key t ∷ []; kind = define } ∷ [])) is last)))
+  pub header_all_added : (old mid new : List Node) (at statement : ℕ) → Walks (trie_of old) (trie_of mid) at (leading_texts k)
+      → HeaderAdds old mid k.first statement (λ tables. walk_mentions tables [] (leading_texts k))
+      → HeaderAdds mid new (k.first + (k.count - 1)) statement (λ tables. record { path = path_at (trie_of mid) at ++ key text ∷ []; kind = define } ∷ [])
+      → StatementAdds old new k.first statement (header (key_texts k))
+  header_all_added old mid new at statement walked leading last =
+      subst (λ (ks : List (List ℕ)). StatementAdds old new k.first statement (header ks)) (texts_split k are)
+      (header_added old new (leading_texts k) (last_text k) k.first statement
+      (header_adds old mid new at (leading_texts k) (last_text k) k.first statement (λ tables p. record { path = p; kind = define } ∷ []) walked leading
+      (subst (λ (t : List ℕ). HeaderAdds mid new (k.first + length (leading_texts k)) statement (λ tables. record { path = path_at (trie_of mid) at ++ key t ∷ []; kind = define } ∷ [])) is
+      (last_adds mid new statement (λ tables. record { path = path_at (trie_of mid) at ++ key text ∷ []; kind = define } ∷ []) last))))
 
-  pub element_all_added : (old mid new : List Node) (at statement : ℕ) (span : Span) → key_span (parts_of k) (k.first + (k.count - 1)) ≡ Some span → Walks (trie_of old) (trie_of mid) at (leading_texts k)
-      → HeaderAdds old mid (parts_of k) k.first statement (λ tables. walk_mentions tables [] (leading_texts k))
-      → KeyAdds mid new span statement (begin_mentions (path_at (trie_of mid) at ++ key text ∷ []))
-      → StatementAdds old new (parts_of k) k.first statement (element_header (key_texts k))
-  element_all_added old mid new at statement span named walked leading last =
-      subst (λ (ks : List (List ℕ)). StatementAdds old new (parts_of k) k.first statement (element_header ks)) (texts_split k are)
-      (element_added old new (leading_texts k) (last_text k) (parts_of k) k.first statement
-      (header_adds old mid new at (leading_texts k) (last_text k) (parts_of k) k.first statement span (λ tables p. begin_mentions p tables) walked leading (last_named span named)
-      (subst (λ (t : List ℕ). KeyAdds mid new span statement (begin_mentions (path_at (trie_of mid) at ++ key t ∷ []))) is last)))
+  pub element_all_added : (old mid new : List Node) (at statement : ℕ) → Walks (trie_of old) (trie_of mid) at (leading_texts k)
+      → HeaderAdds old mid k.first statement (λ tables. walk_mentions tables [] (leading_texts k))
+      → HeaderAdds mid new (k.first + (k.count - 1)) statement (begin_mentions (path_at (trie_of mid) at ++ key text ∷ []))
+      → StatementAdds old new k.first statement (element_header (key_texts k))
+  element_all_added old mid new at statement walked leading last =
+      subst (λ (ks : List (List ℕ)). StatementAdds old new k.first statement (element_header ks)) (texts_split k are)
+      (element_added old new (leading_texts k) (last_text k) k.first statement
+      (header_adds old mid new at (leading_texts k) (last_text k) k.first statement (λ tables p. begin_mentions p tables) walked leading
+      (subst (λ (t : List ℕ). HeaderAdds mid new (k.first + length (leading_texts k)) statement (begin_mentions (path_at (trie_of mid) at ++ key t ∷ []))) is
+      (last_adds mid new statement (begin_mentions (path_at (trie_of mid) at ++ key text ∷ [])) last))))
 
-  pub keyed_all_added : (old mid new : List Node) (from at id number : ℕ) (what : Kind) (span name : Span) (holds : Holding) → key_span (parts_of k) (k.first + (k.count - 1)) ≡ Some name → Dots (trie_of old) (trie_of mid) from at (leading_texts k)
-      → DottedAdds old mid (parts_of k) k.first number (dotted_mentions (path_at (trie_of old) from) (leading_texts k)) → IsMarked (trie_of mid) (trie_of new) (path_at (trie_of mid) at ++ key text ∷ []) Value holds id
-      → AddsInfo mid new (path_at (trie_of mid) at ++ key text ∷ []) (named_info what (Some span) name (origin.Value number)) → KeyedAdds old new from (parts_of k) k.first (key_texts k) number what span
-  keyed_all_added old mid new from at id number what span name holds named gone leading marked one =
-      subst (λ (ks : List (List ℕ)). KeyedAdds old new from (parts_of k) k.first ks number what span) (texts_split k are)
-      (keyed_added old mid new from at id (leading_texts k) (last_text k) (parts_of k) k.first number what span name holds gone leading (last_named name named)
+  pub keyed_all_added : (old mid new : List Node) (from at id number : ℕ) (what : Kind) (holds : Holding) → Dots (trie_of old) (trie_of mid) from at (leading_texts k)
+      → DottedAdds old mid k.first number (dotted_mentions (path_at (trie_of old) from) (leading_texts k)) → IsMarked (trie_of mid) (trie_of new) (path_at (trie_of mid) at ++ key text ∷ []) Value holds id
+      → AddsInfo mid new (path_at (trie_of mid) at ++ key text ∷ []) (named_info what (k.first + (k.count - 1)) (origin.Value number)) → KeyedAdds old new from k.first (key_texts k) number what
+  keyed_all_added old mid new from at id number what holds gone leading marked one =
+      subst (λ (ks : List (List ℕ)). KeyedAdds old new from k.first ks number what) (texts_split k are)
+      (keyed_added old mid new from at id (leading_texts k) (last_text k) k.first number what holds gone leading
       (subst (λ (t : List ℕ). IsMarked (trie_of mid) (trie_of new) (path_at (trie_of mid) at ++ key t ∷ []) Value holds id) is marked)
-      (subst (λ (t : List ℕ). AddsInfo mid new (path_at (trie_of mid) at ++ key t ∷ []) (named_info what (Some span) name (origin.Value number))) is one))
+      (subst (λ (n : ℕ). AddsInfo mid new (path_at (trie_of mid) at ++ key (last_text k) ∷ []) (named_info what (k.first + n) (origin.Value number))) (sym (length-leading_texts k are))
+      (subst (λ (t : List ℕ). AddsInfo mid new (path_at (trie_of mid) at ++ key t ∷ []) (named_info what (k.first + (k.count - 1)) (origin.Value number))) is one)))

@@ -54,7 +54,7 @@ numbered_before d number = numbered_from no_count start (before d number)
 -- The nodes represent so many statements of the document, and have the facts from these.
 pub record IsReadUpTo (d : Document) (nodes : List Node) (body number : ℕ) : Type 0 where
   pub reading : IsReadTo (trie_of nodes) body (before d number)
-  pub facts : node_infos nodes ≡ with_mentions (syntax.values d) (syntax.parts d) root_infos (numbered_before d number)
+  pub facts : node_infos nodes ≡ with_mentions root_infos (numbered_before d number)
   pub fresh : ValuesAreNew ([] ∷ []) (numbered_before d number)
 
 pub begin_read : (d : Document) (nodes : List Node) → IsRoot nodes by_key → IsReadUpTo d nodes 0 0
@@ -100,18 +100,17 @@ module _ (bytes : List ℕ) (s : Syntax) (d : Document) (was : WasRead bytes s d
       let c : Count = count_from no_count start (before d number) in
       let r : Reading = reading_after start (before d number) in
       let more : List Numbered = numbered_mentions c (statement_mentions r next) in
-      let one : IsRead f number st old body new to next = read next mentions_at in
-      let added : AddsValue f.values f.keys old new c (statement_mentions r next) = one.joined (mentions_from start (before d number)) r up.reading c (document_counts d number st listed) in
+      let one : IsRead number st old body new to next = read next mentions_at in
+      let added : AddsValue old new c (statement_mentions r next) = one.joined (mentions_from start (before d number)) r up.reading c (document_counts d number st listed) in
       record {
         reading = subst (λ (ss : List marks.Statement). IsReadTo (trie_of new) to ss) (sym next_before) (read_more (trie_of old) (trie_of new) body to (before d number) next up.reading one.reads);
         facts = added.joined
-            ∙ ap (λ vs. with_mentions vs f.keys (node_infos old) more) values ∙ ap (λ ks. with_mentions (syntax.values d) ks (node_infos old) more) keys
-            ∙ ap (λ t. with_mentions (syntax.values d) (syntax.parts d) t more) up.facts
-            ∙ sym (with_mentions-append (syntax.values d) (syntax.parts d) root_infos (numbered_before d number) more)
-            ∙ ap (with_mentions (syntax.values d) (syntax.parts d) root_infos) (sym next_numbered);
+            ∙ ap (λ t. with_mentions t more) up.facts
+            ∙ sym (with_mentions-append root_infos (numbered_before d number) more)
+            ∙ ap (with_mentions root_infos) (sym next_numbered);
         fresh = subst (ValuesAreNew ([] ∷ [])) (sym next_numbered)
             (values_new-append ([] ∷ []) (numbered_before d number) more up.fresh
-            (subst (λ (ps : List (List Part)). ValuesAreNew ps more) (ap (λ t. t.paths) up.facts ∙ with_mentions-paths (syntax.values d) (syntax.parts d) root_infos (numbered_before d number)) added.fresh));
+            (subst (λ (ps : List (List Part)). ValuesAreNew ps more) (ap (λ t. t.paths) up.facts ∙ with_mentions-paths root_infos (numbered_before d number)) added.fresh));
       }
 
   -- a fault in it is the document's first
@@ -153,7 +152,7 @@ whole_read d nodes body number past few up =
       nested = subst (λ (ms : List Mention). AreNested ms (reading_after start (statements_in d)).tables) mentioned
           (subst (λ (ss : List marks.Statement). AreNested (mentions_from start (before d number)) (reading_after start ss).tables) all nested);
       obeys = subst (λ (ms : List Mention). ObeysRules (marks.marks ms)) (ap mentions all ∙ sym (mentions_in-statements d)) (read_obeys (trie_of nodes) body (before d number) up.reading);
-      facts = up.facts ∙ ap (λ ss. with_mentions (syntax.values d) (syntax.parts d) root_infos (numbered_from no_count start ss)) all ∙ values_new_in d (omega (arith, few, marked-parts d)) fresh
+      facts = up.facts ∙ ap (λ ss. with_mentions root_infos (numbered_from no_count start ss)) all ∙ values_new_in d (omega (arith, few, marked-parts d)) fresh
           ∙ ap (λ ps. let t : NodeInfos = record { paths = ps; infos = infos_in d } in t) (sym (paths-nodes_in d));
     }
 

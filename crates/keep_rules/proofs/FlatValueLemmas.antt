@@ -16,8 +16,9 @@ use Rattle.keep_syntax.specs.Contract.{alone, parts_alone, values_alone}
 use Rattle.keep_syntax.specs.Numbered.{width, key_parts, named_parts, key_count, name_count, value_start, entries_parts, value_count, leaf_of, info, owner_in, nested_of, rest_of, entries_values, content_parts, content_values}
 use Rattle.keep_meaning.specs.Fact.{Fact}
 use Rattle.keep_meaning.specs.Meaning.{scalar_fact, body_fact}
+use Rattle.keep_meaning.specs.Nodes.{fact_kind}
 use Rattle.keep_rules.specs.NestedValues.{nested_fact, entry_nested, nested_values}
-use Rattle.keep_rules.specs.FlatValues.{LeafMatches, MatchesNested, IsOwned, OwnsEntries, IsNested, MatchKeyval, MatchAlone}
+use Rattle.keep_rules.specs.FlatValues.{leaf_kind, LeafMatches, MatchesNested, IsOwned, OwnsEntries, IsNested, MatchKeyval, MatchAlone}
 use Rattle.keep_rules.proofs.NestedValueLemmas.{fact_is}
 use Rattle.keep_meaning.proofs.Shared.{length-named, length-entries_parts, IsPart, part_whole, part_left, part_right, part_placed, Spelled, spelled_left, spelled_right, keys_mention, keys_within, length-key_parts}
 
@@ -48,6 +49,10 @@ pub body_matches : (profile : Profile) (body : Body) → IsBody profile body →
 body_matches profile (scalar w) is = scalar_matches w.leaf w.text is.0
 body_matches profile (array first) is = record { kind = refl; holds = refl }
 body_matches profile (inline first) is = record { kind = refl; holds = refl }
+
+-- so its kind is that of its first leaf
+pub kind_of_body : (profile : Profile) (body : Body) → IsBody profile body → leaf_kind (leaf_of body) ≡ fact_kind (body_fact body)
+kind_of_body profile body is = sym (body_matches profile body is).kind
 
 nested_leaf_matches : (l : Leaf) (o : ℕ) (name : Option Name) (f : Fact) → LeafMatches l f → LeafMatches l (nested_fact (entry_nested o name f))
 nested_leaf_matches l o name f h = subst (LeafMatches l) (sym (fact_is o name f)) h

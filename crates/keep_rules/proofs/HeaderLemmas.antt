@@ -89,13 +89,13 @@ head_none Element k r = none-append (header_way r.tables [] (key_texts k)) _ (le
 -- ---- read, with its facts added
 
 pub head_is_read : (bytes : List ℕ) (f : Flat) (number : ℕ) (st : Statement) (k : Keys) (old new : List Node) (to : ℕ) → key_texts k ≡ keys_in bytes f.keys st.first_key st.keys → st.value ≡ None
-    → ((body : ℕ) → Reads (trie_of old) body (trie_of new) to (head_of st.kind k)) → StatementAdds old new f.keys st.first_key number (head_of st.kind k)
+    → ((body : ℕ) → Reads (trie_of old) body (trie_of new) to (head_of st.kind k)) → StatementAdds old new st.first_key number (head_of st.kind k)
     → (body : ℕ) → IsReadAsMatched bytes f number st old body new to
 head_is_read bytes f number st k old new to texts none reads joined body s matches =
-    subst (IsRead f number st old body new to) (mentions_head bytes f st k s texts none matches) (record {
+    subst (IsRead number st old body new to) (mentions_head bytes f st k s texts none matches) (record {
       reads = reads body;
       joined = λ ms r reading c counted. record {
-        joined = joined ms r body reading f.values c counted.keys counted.statements;
+        joined = joined ms r body reading c counted.keys counted.statements;
         fresh = no_values _ c (statement_mentions r (head_of st.kind k)) (head_none st.kind k r);
       };
     })

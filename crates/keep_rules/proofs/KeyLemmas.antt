@@ -1,9 +1,8 @@
 -- The texts of a key, and the walks of headers and keyvals along them.
-use Rattle.std.proofs.Common.{◌≡◌, ℕ, zero, suc, ◌+◌, ◌-◌, ◌<◌, ◌≤◌, List, [], ◌∷◌, ◌++◌, length, get_or, take, drop, refl, sym, ◌∙◌, ap, subst, arith, Some, None}
+use Rattle.std.proofs.Common.{◌≡◌, ℕ, zero, suc, ◌+◌, ◌-◌, ◌<◌, ◌≤◌, List, [], ◌∷◌, ◌++◌, length, get_or, take, drop, refl, sym, ◌∙◌, ap, subst, arith, Some}
 use Rattle.std.specs.Prelude.{slice_get}
 use Rattle.std.proofs.lemmas.List.{get_or-map, get_or-take, get_or-drop, take_more, take_all, take-append-drop, drop_more, length-map, length-take, length-take-le, length-drop}
 use Rattle.std.proofs.lemmas.Option.{slice_get_within, get_or_from_slice_get}
-use Rattle.keep_parts.specs.declared.info.Span.{Span}
 use Rattle.keep_parts.specs.declared.info.KeyPart.{KeyPart}
 use Rattle.keep_syntax.specs.declared.fault.Why.TheVariants.{NotATable, NotByDots}
 use Rattle.keep_rules.specs.declared.keys.Keys.{Keys}
@@ -16,10 +15,9 @@ use Rattle.keep_meaning.specs.declared.node.Kind.TheVariants as kind
 use Rattle.keep_meaning.specs.declared.node.Origin.TheVariants as origin
 use Rattle.keep_nodes.specs.AllNodes.{Node}
 use Rattle.keep_meaning.specs.Marks.{Mention, passing_mentions}
-use Rattle.keep_meaning.specs.Nodes.{key_span}
 use Rattle.keep_nodes.specs.Facts.{named_info}
 use Rattle.keep_nodes.specs.Stored.{trie_of}
-use Rattle.keep_rules.specs.AddedInfos.{AddsInfo, HeaderAdds, KeyAdds, DottedAdds}
+use Rattle.keep_rules.specs.AddedInfos.{AddsInfo, HeaderAdds, DottedAdds}
 use Rattle.keep_nodes.specs.Trie.{TrieNode, by_key, path_at}
 use Rattle.keep_rules.specs.Represents.{Represents, IsMarked, Passes, WasRefused, HasNoElement, FaultIn}
 use Rattle.keep_rules.specs.Steps.{Walks, Dots}
@@ -108,22 +106,21 @@ dots_stop old mid at by k are i text h is gone was ms ts represents =
 
 -- ---- the facts from the leading keys
 
-module _ (old mid new : List Node) (k : Keys) (are : AreKeys k) (i : ℕ) (text : List ℕ) (span : Span) where
-  named_there : i < k.count → key_span (parts_of k) (k.first + i) ≡ Some span → key_span (parts_of k) (k.first + length (take i (key_texts k))) ≡ Some span
-  named_there h named = subst (λ (n : ℕ). key_span (parts_of k) (k.first + n) ≡ Some span) (sym (so_many k are i h)) named
+module _ (old mid new : List Node) (k : Keys) (are : AreKeys k) (i : ℕ) (text : List ℕ) where
+  pub walked_added : (at statement : ℕ) → i < k.count → text ≡ key_text_at k i → Walks (trie_of old) (trie_of mid) at (take i (key_texts k))
+      → HeaderAdds old mid k.first statement (λ tables. walk_mentions tables [] (take i (key_texts k)))
+      → HeaderAdds mid new (k.first + i) statement (λ tables. passing_mentions tables (path_at (trie_of mid) at ++ key text ∷ []))
+      → HeaderAdds old new k.first statement (λ tables. walk_mentions tables [] (take (i + 1) (key_texts k)))
+  walked_added at statement h is walked facts last =
+      subst (λ (ks : List (List ℕ)). HeaderAdds old new k.first statement (λ tables. walk_mentions tables [] ks)) (sym (leading_more k are i text h is))
+      (walk_adds old mid new at (take i (key_texts k)) text k.first statement walked facts
+      (subst (λ (n : ℕ). HeaderAdds mid new (k.first + n) statement (λ tables. passing_mentions tables (path_at (trie_of mid) at ++ key text ∷ []))) (sym (so_many k are i h)) last))
 
-  pub walked_added : (at statement : ℕ) → i < k.count → text ≡ key_text_at k i → key_span (parts_of k) (k.first + i) ≡ Some span → Walks (trie_of old) (trie_of mid) at (take i (key_texts k))
-      → HeaderAdds old mid (parts_of k) k.first statement (λ tables. walk_mentions tables [] (take i (key_texts k)))
-      → KeyAdds mid new span statement (λ tables. passing_mentions tables (path_at (trie_of mid) at ++ key text ∷ []))
-      → HeaderAdds old new (parts_of k) k.first statement (λ tables. walk_mentions tables [] (take (i + 1) (key_texts k)))
-  walked_added at statement h is named walked facts last =
-      subst (λ (ks : List (List ℕ)). HeaderAdds old new (parts_of k) k.first statement (λ tables. walk_mentions tables [] ks)) (sym (leading_more k are i text h is))
-      (walk_adds old mid new at (take i (key_texts k)) text (parts_of k) k.first statement span walked facts (named_there h named) last)
-
-  pub dotted_added : (from at number : ℕ) → i < k.count → text ≡ key_text_at k i → key_span (parts_of k) (k.first + i) ≡ Some span → Dots (trie_of old) (trie_of mid) from at (take i (key_texts k))
-      → DottedAdds old mid (parts_of k) k.first number (dotted_mentions (path_at (trie_of old) from) (take i (key_texts k)))
-      → AddsInfo mid new (path_at (trie_of mid) at ++ key text ∷ []) (named_info kind.Table None span (origin.Dotted number))
-      → DottedAdds old new (parts_of k) k.first number (dotted_mentions (path_at (trie_of old) from) (take (i + 1) (key_texts k)))
-  dotted_added from at number h is named gone facts one =
-      subst (λ (ks : List (List ℕ)). DottedAdds old new (parts_of k) k.first number (dotted_mentions (path_at (trie_of old) from) ks)) (sym (leading_more k are i text h is))
-      (dot_adds old mid new from at (take i (key_texts k)) text (parts_of k) k.first number span gone facts (named_there h named) one)
+  pub dotted_added : (from at number : ℕ) → i < k.count → text ≡ key_text_at k i → Dots (trie_of old) (trie_of mid) from at (take i (key_texts k))
+      → DottedAdds old mid k.first number (dotted_mentions (path_at (trie_of old) from) (take i (key_texts k)))
+      → AddsInfo mid new (path_at (trie_of mid) at ++ key text ∷ []) (named_info kind.Table (k.first + i) (origin.Dotted number))
+      → DottedAdds old new k.first number (dotted_mentions (path_at (trie_of old) from) (take (i + 1) (key_texts k)))
+  dotted_added from at number h is gone facts one =
+      subst (λ (ks : List (List ℕ)). DottedAdds old new k.first number (dotted_mentions (path_at (trie_of old) from) ks)) (sym (leading_more k are i text h is))
+      (dot_adds old mid new from at (take i (key_texts k)) text k.first number gone facts
+      (subst (λ (n : ℕ). AddsInfo mid new (path_at (trie_of mid) at ++ key text ∷ []) (named_info kind.Table (k.first + n) (origin.Dotted number))) (sym (so_many k are i h)) one))

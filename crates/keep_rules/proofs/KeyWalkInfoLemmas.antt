@@ -1,11 +1,8 @@
 -- The facts that headers and values add, key by key.
-use Rattle.std.proofs.Common.{◌≡◌, ℕ, ◌+◌, ◌<◌, true, false, cond, List, [], ◌∷◌, ◌++◌, length, map, refl, sym, ◌∙◌, ap, subst, arith, Some, None, Result, Ok, Err}
+use Rattle.std.proofs.Common.{◌≡◌, ℕ, ◌+◌, ◌<◌, true, false, cond, List, [], ◌∷◌, ◌++◌, length, map, refl, sym, ◌∙◌, ap, subst, arith, None, Result, Ok, Err}
 use Rattle.std.specs.Prelude.{Contains, ◌==◌, OnOk, IfOk}
 use Rattle.std.proofs.lemmas.List.{append-nil, get_or_default}
 use Rattle.std.proofs.lemmas.List.Sums.{fold-append}
-use Rattle.keep_parts.specs.declared.info.Span.{Span}
-use Rattle.keep_parts.specs.declared.info.KeyPart.{KeyPart}
-use Rattle.keep_parts.specs.declared.info.ValueInfo.{ValueInfo}
 use Rattle.keep_meaning.specs.declared.node.Kind.{Kind}
 use Rattle.keep_meaning.specs.declared.node.Kind.TheVariants as kind
 use Rattle.keep_meaning.specs.declared.node.Origin.TheVariants as origin
@@ -16,7 +13,7 @@ use Rattle.keep_path.specs.Path.{Part, key, index}
 use Rattle.keep_meaning.specs.Marks as marks
 use Rattle.keep_meaning.specs.Marks.{Mention, through, past, passed, define, element, begun, dotted, value, item, elements_of, passing_mentions, entered_path, statement_mentions, header, element_header}
 use Rattle.keep_meaning.specs.Counts.{Count, Numbered, is_value, count_with_mention, numbered_mentions, count_after}
-use Rattle.keep_meaning.specs.Nodes.{fact_kind, value_span, key_span}
+use Rattle.keep_meaning.specs.Nodes.{fact_kind}
 use Rattle.keep_nodes.specs.Facts.{with_info, with_mentions, named_info, unnamed_info, passed_info, mention_info, paths_after, ValuesAreNew}
 use Rattle.keep_nodes.specs.Trie.{Holding, by_key, by_index, paths_of, path_at, children_of}
 use Rattle.keep_nodes.specs.Growth.{Grows}
@@ -25,7 +22,7 @@ use Rattle.keep_rules.specs.Represents.{IsMarked, IsLastElement, HasNoElement}
 use Rattle.keep_rules.specs.Steps.{Walks, Dots}
 use Rattle.keep_rules.specs.KeyWalks.{walk_path, walk_mentions, dotted_mentions}
 use Rattle.keep_rules.specs.NestedValues.{path_of_value, entries_of_value}
-use Rattle.keep_rules.specs.AddedInfos.{AddsInfo, AddsMentions, HeaderAdds, KeyAdds, DottedAdds, StatementAdds, AddsValue, KeyedAdds, ItemAdds, begin_mentions}
+use Rattle.keep_rules.specs.AddedInfos.{AddsInfo, AddsMentions, HeaderAdds, DottedAdds, StatementAdds, AddsValue, KeyedAdds, ItemAdds, begin_mentions}
 use Rattle.keep_meaning.proofs.Shared.{numbered_mentions-append}
 use Rattle.keep_nodes.proofs.Shared.{length-paths_of, one_node}
 use Rattle.keep_rules.proofs.PassLemmas.{passing-none, passing-some, element_place, elements_there}
@@ -40,9 +37,9 @@ two_added : (old mid new : List Node) (p q : List Part) (i j : NodeInfo) → Add
 two_added old mid new p q i j one two = two ∙ ap (λ t. with_info t q j) one
 
 -- a header goes past an array of tables
-pub past_added : (old mid new : List Node) (p : List Part) (child to : ℕ) (span : Span) (statement : ℕ) → IsLastElement (trie_of old) p child to
-    → AddsInfo old mid p (named_info kind.Table None span origin.Root) → AddsInfo mid new (path_at (trie_of old) to) passed_info → KeyAdds old new span statement (λ tables. passing_mentions tables p)
-past_added old mid new p child to span statement last one two parts k named ms tables represents values c keys statements =
+pub past_added : (old mid new : List Node) (p : List Part) (child to number statement : ℕ) → IsLastElement (trie_of old) p child to
+    → AddsInfo old mid p (named_info kind.Table number origin.Root) → AddsInfo mid new (path_at (trie_of old) to) passed_info → HeaderAdds old new number statement (λ tables. passing_mentions tables p)
+past_added old mid new p child to number statement last one two ms tables represents c keys statements =
     let e : List Part = entered_path tables p in
     let m : Mention = record { path = p; kind = past } in
     let m' : Mention = record { path = e; kind = passed } in
@@ -50,33 +47,33 @@ past_added old mid new p child to span statement last one two parts k named ms t
     let n' : Numbered = record { mention = m'; before = count_with_mention c m } in
     let some : 0 < elements_of p tables = omega (arith, last.some, elements_there (trie_of old) p child to last ms tables represents) in
     two_added old mid new p (path_at (trie_of old) to) _ _ one two
-    ∙ ap (λ q. with_info (with_info (node_infos old) p (named_info kind.Table None span origin.Root)) q passed_info) (element_place (trie_of old) p child to last ms tables represents)
-    ∙ ap (λ i. with_info (with_info (node_infos old) p i) e passed_info) (sym (past_info values parts n span refl (ap (key_span parts) keys ∙ named)))
-    ∙ ap (λ i. with_info (with_info (node_infos old) p (mention_info values parts n)) e i) (sym (passed_is_info values parts n' refl))
-    ∙ ap (λ w. with_mentions values parts (node_infos old) (numbered_mentions c w)) (sym (passing-some tables p some))
+    ∙ ap (λ q. with_info (with_info (node_infos old) p (named_info kind.Table number origin.Root)) q passed_info) (element_place (trie_of old) p child to last ms tables represents)
+    ∙ ap (λ i. with_info (with_info (node_infos old) p i) e passed_info) (sym (past_info n number refl keys))
+    ∙ ap (λ i. with_info (with_info (node_infos old) p (mention_info n)) e i) (sym (passed_is_info n' refl))
+    ∙ ap (λ w. with_mentions (node_infos old) (numbered_mentions c w)) (sym (passing-some tables p some))
 
 -- a header marks a key that is not its last
-pub through_added : (old new : List Node) (p : List Part) (span : Span) (statement : ℕ) → HasNoElement (trie_of old) p → AddsInfo old new p (named_info kind.Table None span (origin.Through statement))
-    → KeyAdds old new span statement (λ tables. passing_mentions tables p)
-through_added old new p span statement none one parts k named ms tables represents values c keys statements =
+pub through_added : (old new : List Node) (p : List Part) (number statement : ℕ) → HasNoElement (trie_of old) p → AddsInfo old new p (named_info kind.Table number (origin.Through statement))
+    → HeaderAdds old new number statement (λ tables. passing_mentions tables p)
+through_added old new p number statement none one ms tables represents c keys statements =
     let n : Numbered = record { mention = record { path = p; kind = through }; before = c } in
-    one ∙ ap (λ s. with_info (node_infos old) p (named_info kind.Table None span (origin.Through s))) (sym statements)
-    ∙ ap (λ i. with_info (node_infos old) p i) (sym (through_info values parts n span refl (ap (key_span parts) keys ∙ named)))
-    ∙ ap (λ w. with_mentions values parts (node_infos old) (numbered_mentions c w)) (sym (passing-none tables p (none tables represents.tables_are represents.begun)))
+    one ∙ ap (λ s. with_info (node_infos old) p (named_info kind.Table number (origin.Through s))) (sym statements)
+    ∙ ap (λ i. with_info (node_infos old) p i) (sym (through_info n number refl keys))
+    ∙ ap (λ w. with_mentions (node_infos old) (numbered_mentions c w)) (sym (passing-none tables p (none tables represents.tables_are represents.begun)))
 
 -- `[..]` defines a table
-pub define_added : (old new : List Node) (p : List Part) (span : Span) (statement : ℕ) → AddsInfo old new p (named_info kind.Table None span (origin.Header statement))
-    → KeyAdds old new span statement (λ tables. record { path = p; kind = define } ∷ [])
-define_added old new p span statement one parts k named ms tables represents values c keys statements =
+pub define_added : (old new : List Node) (p : List Part) (number statement : ℕ) → AddsInfo old new p (named_info kind.Table number (origin.Header statement))
+    → HeaderAdds old new number statement (λ tables. record { path = p; kind = define } ∷ [])
+define_added old new p number statement one ms tables represents c keys statements =
     let n : Numbered = record { mention = record { path = p; kind = define }; before = c } in
-    one ∙ ap (λ s. with_info (node_infos old) p (named_info kind.Table None span (origin.Header s))) (sym statements)
-    ∙ ap (λ i. with_info (node_infos old) p i) (sym (define_info values parts n span refl (ap (key_span parts) keys ∙ named)))
+    one ∙ ap (λ s. with_info (node_infos old) p (named_info kind.Table number (origin.Header s))) (sym statements)
+    ∙ ap (λ i. with_info (node_infos old) p i) (sym (define_info n number refl keys))
 
 -- `[[..]]` begins an element
-pub begin_added : (old mid new : List Node) (p : List Part) (id : ℕ) (span : Span) (statement : ℕ) → IsMarked (trie_of old) (trie_of mid) p Element by_index id
-    → AddsInfo old mid p (named_info kind.Tables None span origin.Tables) → Grows (trie_of mid) (trie_of new) id (path_at (trie_of mid) id ++ index (length (children_of (trie_of mid) id)) ∷ []) None by_key
-    → infos_of new ≡ infos_of mid ++ unnamed_info kind.Table None (origin.Element statement) ∷ [] → KeyAdds old new span statement (begin_mentions p)
-begin_added old mid new p id span statement marked one grows infos parts k named ms tables represents values c keys statements =
+pub begin_added : (old mid new : List Node) (p : List Part) (id number statement : ℕ) → IsMarked (trie_of old) (trie_of mid) p Element by_index id
+    → AddsInfo old mid p (named_info kind.Tables number origin.Tables) → Grows (trie_of mid) (trie_of new) id (path_at (trie_of mid) id ++ index (length (children_of (trie_of mid) id)) ∷ []) None by_key
+    → infos_of new ≡ infos_of mid ++ unnamed_info kind.Table (origin.Element statement) ∷ [] → HeaderAdds old new number statement (begin_mentions p)
+begin_added old mid new p id number statement marked one grows infos ms tables represents c keys statements =
     let q : List Part = p ++ index (elements_of p tables) ∷ [] in
     let m : Mention = record { path = p; kind = element } in
     let m' : Mention = record { path = q; kind = begun } in
@@ -86,27 +83,27 @@ begin_added old mid new p id span statement marked one grows infos parts k named
     let counted : elements_of p tables ≡ length (children_of (trie_of mid) id) =
     ap (λ q. elements_of q tables) (sym marked.here) ∙ (marked.tables tables represents.tables_are).counts id marked.nested ∙ ap (λ t. cond t (length (children_of (trie_of mid) id)) 0) marked.kind in
     let there : own ≡ q = ap (λ r. r ++ index (length (children_of (trie_of mid) id)) ∷ []) marked.here ∙ ap (λ x. p ++ index x ∷ []) (sym counted) in
-    let begins : NodeInfo = unnamed_info kind.Table None (origin.Element statement) in
-    let tables_info : NodeInfo = named_info kind.Tables None span origin.Tables in
+    let begins : NodeInfo = unnamed_info kind.Table (origin.Element statement) in
+    let tables_info : NodeInfo = named_info kind.Tables number origin.Tables in
     two_added old mid new p own tables_info begins one (added_at_new mid new id own None by_key begins grows infos)
     ∙ ap (λ r. with_info (with_info (node_infos old) p tables_info) r begins) there
-    ∙ ap (λ i. with_info (with_info (node_infos old) p i) q begins) (sym (element_info values parts n span refl (ap (key_span parts) keys ∙ named)))
-    ∙ ap (λ s. with_info (with_info (node_infos old) p (mention_info values parts n)) q (unnamed_info kind.Table None (origin.Element s))) (sym statements)
-    ∙ ap (λ i. with_info (with_info (node_infos old) p (mention_info values parts n)) q i) (sym (begun_info values parts n' refl))
+    ∙ ap (λ i. with_info (with_info (node_infos old) p i) q begins) (sym (element_info n number refl keys))
+    ∙ ap (λ s. with_info (with_info (node_infos old) p (mention_info n)) q (unnamed_info kind.Table (origin.Element s))) (sym statements)
+    ∙ ap (λ i. with_info (with_info (node_infos old) p (mention_info n)) q i) (sym (begun_info n' refl))
 
 -- an item of an array
-pub item_added : (old new : List Node) (array number : ℕ) (k : Kind) (span : Span) (holds : Holding)
+pub item_added : (old new : List Node) (array number : ℕ) (k : Kind) (holds : Holding)
     → Grows (trie_of old) (trie_of new) array (path_at (trie_of old) array ++ index (length (children_of (trie_of old) array)) ∷ []) None holds
-    → infos_of new ≡ infos_of old ++ unnamed_info k (Some span) (origin.Value number) ∷ [] → ItemAdds old new array number k span
-item_added old new array number k span holds grows infos s o f here count is values parts c valued number_is =
+    → infos_of new ≡ infos_of old ++ unnamed_info k (origin.Value number) ∷ [] → ItemAdds old new array number k
+item_added old new array number k holds grows infos s o f here count is c number_is =
     let own : List Part = path_at (trie_of old) array ++ index (length (children_of (trie_of old) array)) ∷ [] in
     let q : List Part = path_of_value s o ++ index (entries_of_value s o) ∷ [] in
     let there : own ≡ q = ap (λ r. r ++ index (length (children_of (trie_of old) array)) ∷ []) here ∙ ap (λ x. path_of_value s o ++ index x ∷ []) (sym count) in
     let n : Numbered = record { mention = record { path = q; kind = item f }; before = c } in
     record {
-      joined = added_at_new old new array own None holds _ grows infos ∙ ap (λ r. with_info (node_infos old) r (unnamed_info k (Some span) (origin.Value number))) there
-          ∙ ap (λ x. with_info (node_infos old) q (unnamed_info x (Some span) (origin.Value number))) (sym is) ∙ ap (λ v. with_info (node_infos old) q (unnamed_info (fact_kind f) (Some span) (origin.Value v))) (sym number_is)
-          ∙ ap (λ i. with_info (node_infos old) q i) (sym (item_info values parts n f span refl (ap (value_span values) number_is ∙ valued)));
+      joined = added_at_new old new array own None holds _ grows infos ∙ ap (λ r. with_info (node_infos old) r (unnamed_info k (origin.Value number))) there
+          ∙ ap (λ x. with_info (node_infos old) q (unnamed_info x (origin.Value number))) (sym is) ∙ ap (λ v. with_info (node_infos old) q (unnamed_info (fact_kind f) (origin.Value v))) (sym number_is)
+          ∙ ap (λ i. with_info (node_infos old) q i) (sym (item_info n f refl));
       fresh = (λ t met. grows.fresh (subst (Contains (paths_of (trie_of old))) (sym there) met), tt);
     }
 
@@ -116,13 +113,13 @@ both_on (Err e) P Q R f p q = p
 
 -- ---- one operation after another
 
-pub adds_none : (values : List ValueInfo) (parts : List KeyPart) (nodes : List Node) (c : Count) → AddsMentions values parts nodes nodes c []
-adds_none values parts nodes c = refl
+pub adds_none : (nodes : List Node) (c : Count) → AddsMentions nodes nodes c []
+adds_none nodes c = refl
 
-pub adds_then : (values : List ValueInfo) (parts : List KeyPart) (old mid new : List Node) (c : Count) (ms ns : List Mention) → AddsMentions values parts old mid c ms → AddsMentions values parts mid new (count_after c ms) ns → AddsMentions values parts old new c (ms ++ ns)
-adds_then values parts old mid new c ms ns one two =
-    two ∙ ap (λ t. with_mentions values parts t (numbered_mentions (count_after c ms) ns)) one
-    ∙ sym (with_mentions-append values parts (node_infos old) (numbered_mentions c ms) (numbered_mentions (count_after c ms) ns)) ∙ ap (with_mentions values parts (node_infos old)) (sym (numbered_mentions-append c ms ns))
+pub adds_then : (old mid new : List Node) (c : Count) (ms ns : List Mention) → AddsMentions old mid c ms → AddsMentions mid new (count_after c ms) ns → AddsMentions old new c (ms ++ ns)
+adds_then old mid new c ms ns one two =
+    two ∙ ap (λ t. with_mentions t (numbered_mentions (count_after c ms) ns)) one
+    ∙ sym (with_mentions-append (node_infos old) (numbered_mentions c ms) (numbered_mentions (count_after c ms) ns)) ∙ ap (with_mentions (node_infos old)) (sym (numbered_mentions-append c ms ns))
 
 -- ---- the numbers after the leading keys
 
@@ -166,65 +163,65 @@ dotted_counts at (k ∷ ks) c =
 -- ---- headers
 
 -- one key more, with these mentions at its path
-pub header_adds : (old mid new : List Node) (at : ℕ) (ks : List (List ℕ)) (x : List ℕ) (parts : List KeyPart) (first statement : ℕ) (span : Span) (mentioned : List (List Part) → List Part → List Mention)
-    → Walks (trie_of old) (trie_of mid) at ks → HeaderAdds old mid parts first statement (λ tables. walk_mentions tables [] ks) → key_span parts (first + length ks) ≡ Some span
-    → KeyAdds mid new span statement (λ tables. mentioned tables (path_at (trie_of mid) at ++ key x ∷ []))
-    → HeaderAdds old new parts first statement (λ tables. walk_mentions tables [] ks ++ mentioned tables (walk_path tables [] ks ++ key x ∷ []))
-header_adds old mid new at ks x parts first statement span mentioned walked leading named last ms tables represents values c keys statements =
+pub header_adds : (old mid new : List Node) (at : ℕ) (ks : List (List ℕ)) (x : List ℕ) (first statement : ℕ) (mentioned : List (List Part) → List Part → List Mention)
+    → Walks (trie_of old) (trie_of mid) at ks → HeaderAdds old mid first statement (λ tables. walk_mentions tables [] ks)
+    → HeaderAdds mid new (first + length ks) statement (λ tables. mentioned tables (path_at (trie_of mid) at ++ key x ∷ []))
+    → HeaderAdds old new first statement (λ tables. walk_mentions tables [] ks ++ mentioned tables (walk_path tables [] ks ++ key x ∷ []))
+header_adds old mid new at ks x first statement mentioned walked leading last ms tables represents c keys statements =
     let d : Count = count_after c (walk_mentions tables [] ks) in
     let counts = header_counts tables [] ks c in
-    adds_then values parts old mid new c (walk_mentions tables [] ks) (mentioned tables (walk_path tables [] ks ++ key x ∷ [])) (leading ms tables represents values c keys statements)
-    (subst (λ (q : List Part). AddsMentions values parts mid new d (mentioned tables (q ++ key x ∷ []))) (walked.is_open ms tables represents).here
-    (last parts (first + length ks) named (ms ++ walk_mentions tables [] ks) tables (walked.represents ms tables represents) values d (counts.keys ∙ ap (λ k. k + length ks) keys) (counts.statements ∙ statements)))
+    adds_then old mid new c (walk_mentions tables [] ks) (mentioned tables (walk_path tables [] ks ++ key x ∷ [])) (leading ms tables represents c keys statements)
+    (subst (λ (q : List Part). AddsMentions mid new d (mentioned tables (q ++ key x ∷ []))) (walked.is_open ms tables represents).here
+    (last (ms ++ walk_mentions tables [] ks) tables (walked.represents ms tables represents) d (counts.keys ∙ ap (λ k. k + length ks) keys) (counts.statements ∙ statements)))
 
-pub walk_adds : (old mid new : List Node) (at : ℕ) (ks : List (List ℕ)) (x : List ℕ) (parts : List KeyPart) (first statement : ℕ) (span : Span)
-    → Walks (trie_of old) (trie_of mid) at ks → HeaderAdds old mid parts first statement (λ tables. walk_mentions tables [] ks) → key_span parts (first + length ks) ≡ Some span
-    → KeyAdds mid new span statement (λ tables. passing_mentions tables (path_at (trie_of mid) at ++ key x ∷ []))
-    → HeaderAdds old new parts first statement (λ tables. walk_mentions tables [] (ks ++ x ∷ []))
-walk_adds old mid new at ks x parts first statement span walked leading named last ms tables represents values c keys statements =
+pub walk_adds : (old mid new : List Node) (at : ℕ) (ks : List (List ℕ)) (x : List ℕ) (first statement : ℕ)
+    → Walks (trie_of old) (trie_of mid) at ks → HeaderAdds old mid first statement (λ tables. walk_mentions tables [] ks)
+    → HeaderAdds mid new (first + length ks) statement (λ tables. passing_mentions tables (path_at (trie_of mid) at ++ key x ∷ []))
+    → HeaderAdds old new first statement (λ tables. walk_mentions tables [] (ks ++ x ∷ []))
+walk_adds old mid new at ks x first statement walked leading last ms tables represents c keys statements =
     let p : List Part = walk_path tables [] ks ++ key x ∷ [] in
-    subst (λ (w : List Mention). AddsMentions values parts old new c w) (ap (λ w. walk_mentions tables [] ks ++ w) (sym (append-nil (passing_mentions tables p))) ∙ sym (walk_mentions-append tables [] ks (x ∷ [])))
-    (header_adds old mid new at ks x parts first statement span passing_mentions walked leading named last ms tables represents values c keys statements)
+    subst (λ (w : List Mention). AddsMentions old new c w) (ap (λ w. walk_mentions tables [] ks ++ w) (sym (append-nil (passing_mentions tables p))) ∙ sym (walk_mentions-append tables [] ks (x ∷ [])))
+    (header_adds old mid new at ks x first statement passing_mentions walked leading last ms tables represents c keys statements)
 
 -- a header with all its keys
-pub header_added : (old new : List Node) (ks : List (List ℕ)) (x : List ℕ) (parts : List KeyPart) (first statement : ℕ)
-    → HeaderAdds old new parts first statement (λ tables. walk_mentions tables [] ks ++ record { path = walk_path tables [] ks ++ key x ∷ []; kind = define } ∷ [])
-    → StatementAdds old new parts first statement (header (ks ++ x ∷ []))
-header_added old new ks x parts first statement joined ms r body reading values c keys statements =
+pub header_added : (old new : List Node) (ks : List (List ℕ)) (x : List ℕ) (first statement : ℕ)
+    → HeaderAdds old new first statement (λ tables. walk_mentions tables [] ks ++ record { path = walk_path tables [] ks ++ key x ∷ []; kind = define } ∷ [])
+    → StatementAdds old new first statement (header (ks ++ x ∷ []))
+header_added old new ks x first statement joined ms r body reading c keys statements =
     let ts : List (List Part) = r.tables in
-    subst (λ (w : List Mention). AddsMentions values parts old new c w)
+    subst (λ (w : List Mention). AddsMentions old new c w)
     (ap (λ w. w ++ record { path = walk_path ts [] ks ++ key x ∷ []; kind = define } ∷ []) (sym (header_way-split ts [] ks x))
     ∙ ap (λ p. marks.header_way ts [] (ks ++ x ∷ []) ++ record { path = p; kind = define } ∷ []) (sym (header_path-split ts [] ks x)))
-    (joined ms ts reading.represents values c keys statements)
+    (joined ms ts reading.represents c keys statements)
 
-pub element_added : (old new : List Node) (ks : List (List ℕ)) (x : List ℕ) (parts : List KeyPart) (first statement : ℕ)
-    → HeaderAdds old new parts first statement (λ tables. walk_mentions tables [] ks ++ begin_mentions (walk_path tables [] ks ++ key x ∷ []) tables)
-    → StatementAdds old new parts first statement (element_header (ks ++ x ∷ []))
-element_added old new ks x parts first statement joined ms r body reading values c keys statements =
+pub element_added : (old new : List Node) (ks : List (List ℕ)) (x : List ℕ) (first statement : ℕ)
+    → HeaderAdds old new first statement (λ tables. walk_mentions tables [] ks ++ begin_mentions (walk_path tables [] ks ++ key x ∷ []) tables)
+    → StatementAdds old new first statement (element_header (ks ++ x ∷ []))
+element_added old new ks x first statement joined ms r body reading c keys statements =
     let ts : List (List Part) = r.tables in
-    subst (λ (w : List Mention). AddsMentions values parts old new c w)
+    subst (λ (w : List Mention). AddsMentions old new c w)
     (ap (λ w. w ++ begin_mentions (walk_path ts [] ks ++ key x ∷ []) ts) (sym (header_way-split ts [] ks x))
     ∙ ap (λ p. marks.header_way ts [] (ks ++ x ∷ []) ++ begin_mentions p ts) (sym (header_path-split ts [] ks x)))
-    (joined ms ts reading.represents values c keys statements)
+    (joined ms ts reading.represents c keys statements)
 
 -- ---- values with keys
 
-pub dot_adds : (old mid new : List Node) (from at : ℕ) (ks : List (List ℕ)) (x : List ℕ) (parts : List KeyPart) (first number : ℕ) (span : Span)
-    → Dots (trie_of old) (trie_of mid) from at ks → DottedAdds old mid parts first number (dotted_mentions (path_at (trie_of old) from) ks) → key_span parts (first + length ks) ≡ Some span
-    → AddsInfo mid new (path_at (trie_of mid) at ++ key x ∷ []) (named_info kind.Table None span (origin.Dotted number))
-    → DottedAdds old new parts first number (dotted_mentions (path_at (trie_of old) from) (ks ++ x ∷ []))
-dot_adds old mid new from at ks x parts first number span gone leading named one values c keys number_is =
+pub dot_adds : (old mid new : List Node) (from at : ℕ) (ks : List (List ℕ)) (x : List ℕ) (first number : ℕ)
+    → Dots (trie_of old) (trie_of mid) from at ks → DottedAdds old mid first number (dotted_mentions (path_at (trie_of old) from) ks)
+    → AddsInfo mid new (path_at (trie_of mid) at ++ key x ∷ []) (named_info kind.Table (first + length ks) (origin.Dotted number))
+    → DottedAdds old new first number (dotted_mentions (path_at (trie_of old) from) (ks ++ x ∷ []))
+dot_adds old mid new from at ks x first number gone leading one c keys number_is =
     let p : List Part = path_at (trie_of old) from in
     let q : List Part = (p ++ map key ks) ++ key x ∷ [] in
     let d : Count = count_after c (dotted_mentions p ks) in
     let counts = dotted_counts p ks c in
     let n : Numbered = record { mention = record { path = q; kind = dotted }; before = d } in
-    let last : AddsMentions values parts mid new d (record { path = q; kind = dotted } ∷ []) =
-    one ∙ ap (λ r. with_info (node_infos mid) (r ++ key x ∷ []) (named_info kind.Table None span (origin.Dotted number))) gone.is_open.here
-    ∙ ap (λ v. with_info (node_infos mid) q (named_info kind.Table None span (origin.Dotted v))) (sym (counts.values ∙ number_is))
-    ∙ ap (λ i. with_info (node_infos mid) q i) (sym (dotted_info values parts n span refl (ap (key_span parts) (counts.keys ∙ ap (λ k. k + length ks) keys) ∙ named))) in
-    subst (λ (w : List Mention). AddsMentions values parts old new c w) (sym (dotted_mentions-append p ks (x ∷ [])))
-    (adds_then values parts old mid new c (dotted_mentions p ks) (record { path = q; kind = dotted } ∷ []) (leading values c keys number_is) last)
+    let last : AddsMentions mid new d (record { path = q; kind = dotted } ∷ []) =
+    one ∙ ap (λ r. with_info (node_infos mid) (r ++ key x ∷ []) (named_info kind.Table (first + length ks) (origin.Dotted number))) gone.is_open.here
+    ∙ ap (λ v. with_info (node_infos mid) q (named_info kind.Table (first + length ks) (origin.Dotted v))) (sym (counts.values ∙ number_is))
+    ∙ ap (λ i. with_info (node_infos mid) q i) (sym (dotted_info n (first + length ks) refl (counts.keys ∙ ap (λ k. k + length ks) keys))) in
+    subst (λ (w : List Mention). AddsMentions old new c w) (sym (dotted_mentions-append p ks (x ∷ [])))
+    (adds_then old mid new c (dotted_mentions p ks) (record { path = q; kind = dotted } ∷ []) (leading c keys number_is) last)
 
 -- leading keys give no values
 leading_new : (ks : List (List ℕ)) (paths : List (List Part)) (at : List Part) (c : Count) → ValuesAreNew paths (numbered_mentions c (dotted_mentions at ks))
@@ -240,12 +237,12 @@ value_fresh old new p holds id marked root there =
     let one : j ≡ id = one_node (trie_of new) marked.trie j id (omega (arith, low, marked.keeps.longer)) marked.nested (marked.keeps.paths j low ∙ is ∙ sym marked.here) in
     omega (arith, one, low, (marked.valued refl).2)
 
-pub keyed_added : (old mid new : List Node) (from at id : ℕ) (ks : List (List ℕ)) (x : List ℕ) (parts : List KeyPart) (first number : ℕ) (k : Kind) (span name : Span) (holds : Holding)
-    → Dots (trie_of old) (trie_of mid) from at ks → DottedAdds old mid parts first number (dotted_mentions (path_at (trie_of old) from) ks) → key_span parts (first + length ks) ≡ Some name
+pub keyed_added : (old mid new : List Node) (from at id : ℕ) (ks : List (List ℕ)) (x : List ℕ) (first number : ℕ) (k : Kind) (holds : Holding)
+    → Dots (trie_of old) (trie_of mid) from at ks → DottedAdds old mid first number (dotted_mentions (path_at (trie_of old) from) ks)
     → IsMarked (trie_of mid) (trie_of new) (path_at (trie_of mid) at ++ key x ∷ []) Value holds id
-    → AddsInfo mid new (path_at (trie_of mid) at ++ key x ∷ []) (named_info k (Some span) name (origin.Value number))
-    → KeyedAdds old new from parts first (ks ++ x ∷ []) number k span
-keyed_added old mid new from at id ks x parts first number k span name holds gone leading named marked one s o f here is values c valued number_is keys =
+    → AddsInfo mid new (path_at (trie_of mid) at ++ key x ∷ []) (named_info k (first + length ks) (origin.Value number))
+    → KeyedAdds old new from first (ks ++ x ∷ []) number k
+keyed_added old mid new from at id ks x first number k holds gone leading marked one s o f here is c number_is keys =
     let p : List Part = path_at (trie_of old) from in
     let q : List Part = (p ++ map key ks) ++ key x ∷ [] in
     let d : Count = count_after c (dotted_mentions p ks) in
@@ -254,23 +251,23 @@ keyed_added old mid new from at id ks x parts first number k span name holds gon
     let m : Mention = record { path = q; kind = value f } in
     let n : Numbered = record { mention = m; before = d } in
     let numbered : d.values ≡ number = counts.values ∙ number_is in
-    let before : AddsMentions values parts old mid c (dotted_mentions p ks) = leading values c keys number_is in
-    let last : AddsMentions values parts mid new d (m ∷ []) =
-    one ∙ ap (λ r. with_info (node_infos mid) r (named_info k (Some span) name (origin.Value number))) full
-    ∙ ap (λ y. with_info (node_infos mid) q (named_info y (Some span) name (origin.Value number))) (sym is)
-    ∙ ap (λ v. with_info (node_infos mid) q (named_info (fact_kind f) (Some span) name (origin.Value v))) (sym numbered)
-    ∙ ap (λ i. with_info (node_infos mid) q i) (sym (value_info values parts n f span name refl (ap (key_span parts) (counts.keys ∙ ap (λ k. k + length ks) keys) ∙ named) (ap (value_span values) numbered ∙ valued))) in
+    let before : AddsMentions old mid c (dotted_mentions p ks) = leading c keys number_is in
+    let last : AddsMentions mid new d (m ∷ []) =
+    one ∙ ap (λ r. with_info (node_infos mid) r (named_info k (first + length ks) (origin.Value number))) full
+    ∙ ap (λ y. with_info (node_infos mid) q (named_info y (first + length ks) (origin.Value number))) (sym is)
+    ∙ ap (λ v. with_info (node_infos mid) q (named_info (fact_kind f) (first + length ks) (origin.Value v))) (sym numbered)
+    ∙ ap (λ i. with_info (node_infos mid) q i) (sym (value_info n f (first + length ks) refl (counts.keys ∙ ap (λ k. k + length ks) keys))) in
     let paths : paths_of (trie_of mid) ≡ paths_after (paths_of (trie_of old)) (numbered_mentions c (dotted_mentions p ks)) =
-    ap (λ t. t.paths) before ∙ with_mentions-paths values parts (node_infos old) (numbered_mentions c (dotted_mentions p ks)) in
+    ap (λ t. t.paths) before ∙ with_mentions-paths (node_infos old) (numbered_mentions c (dotted_mentions p ks)) in
     let root : 0 < length (trie_of mid) = omega (arith, gone.is_open.nested) in
     let fresh : Contains (paths_of (trie_of mid)) q → ⊥ = λ there. value_fresh mid new (path_at (trie_of mid) at ++ key x ∷ []) holds id marked root (subst (Contains (paths_of (trie_of mid))) (sym full) there) in
-    let all : AddsValue values parts old new c (dotted_mentions p ks ++ m ∷ []) = record {
-      joined = adds_then values parts old mid new c (dotted_mentions p ks) (m ∷ []) before last;
+    let all : AddsValue old new c (dotted_mentions p ks ++ m ∷ []) = record {
+      joined = adds_then old mid new c (dotted_mentions p ks) (m ∷ []) before last;
       fresh = subst (ValuesAreNew (paths_of (trie_of old))) (sym (numbered_mentions-append c (dotted_mentions p ks) (m ∷ [])))
           (values_new-append (paths_of (trie_of old)) (numbered_mentions c (dotted_mentions p ks)) (numbered_mentions d (m ∷ [])) (leading_new ks (paths_of (trie_of old)) p c)
           (λ t there. fresh (subst (λ (ps : List (List Part)). Contains ps q) (sym paths) there), tt));
     } in
-    subst (λ (w : List Mention). AddsValue values parts old new c w)
+    subst (λ (w : List Mention). AddsValue old new c w)
     (sym (keyed_mentions_are (path_of_value s o) ks x f ∙ ap (λ p. dotted_mentions p ks ++ record { path = (p ++ map key ks) ++ key x ∷ []; kind = value f } ∷ []) (sym here))) all
 
 -- ---- headers give no values

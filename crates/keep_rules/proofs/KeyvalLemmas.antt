@@ -1,6 +1,5 @@
 -- Reading a keyval of the flat list as the statement that it is.
 use Rattle.std.proofs.Common.{◌≡◌, ℕ, zero, suc, ◌+◌, ◌<◌, ◌≤◌, false, List, [], ◌∷◌, ◌++◌, length, get_or, map, take, drop, slice_get, refl, sym, ◌∙◌, ap, subst, arith, inl, inr, Option, Some, None}
-use Rattle.std.specs.Option.{option_map}
 use Rattle.std.proofs.lemmas.Bool.{cases_Bool}
 use Rattle.std.proofs.lemmas.List.{append-nil}
 use Rattle.keep_syntax.specs.declared.fault.Why.{Why}
@@ -91,19 +90,19 @@ mentions_in_body r path name v e = ap (λ q. all_nested_mentions (body_nesting q
 module _ (bytes : List ℕ) (f : Flat) (st : Statement) (old mid : List Node) (body top number : ℕ) (k : Keys) (info : ValueInfo) (kind : Kind) (holds : Holding)
     (texts : key_texts k ≡ keys_in bytes f.keys st.first_key st.keys) (are : AreKeys k) (listed : slice_get f.values number ≡ Some info) (valued : st.value ≡ Some number)
     (kind_is : kind ≡ leaf_kind info.leaf) (holds_is : holds ≡ leaf_holding info.leaf)
-    (gives : Gives (trie_of old) (trie_of mid) body top (leading_texts k) (last_text k) holds) (joined : KeyedAdds old mid body f.keys st.first_key (key_texts k) number kind info.span) where
+    (gives : Gives (trie_of old) (trie_of mid) body top (leading_texts k) (last_text k) holds) (joined : KeyedAdds old mid body st.first_key (key_texts k) number kind) where
   -- the keyval's own value was read
   pub top_read : (mentioned : List Mention) (path : List Part) (matches : MatchesKeyvalOf bytes f.keys f.values st mentioned) → IsShaped (trie_of old) → IsOpen (trie_of old) body path
-      → NestedRead f.values f.keys (nodes_so_far old (body ∷ [])) (nodes_so_far mid (body ∷ top ∷ [])) number st.first_key (body_nesting path) (nested_keyed 0 (keys_of matches.name.key) (body_fact matches.value.body) ∷ [])
+      → NestedRead (nodes_so_far old (body ∷ [])) (nodes_so_far mid (body ∷ top ∷ [])) number st.first_key (body_nesting path) (nested_keyed 0 (keys_of matches.name.key) (body_fact matches.value.body) ∷ [])
   top_read mentioned path matches shaped open_ =
       let fact : Fact = body_fact matches.value.body in
       let s : NestingState = body_nesting path in
       let same : matches.valued.own ≡ info = some_info matches.valued.own info (sym matches.valued.here ∙ ap (slice_get f.values) (some_value matches.valued.first number (sym matches.valued.valued ∙ valued)) ∙ listed) in
-      let facts : (c : Count) → c.values ≡ number → c.keys ≡ st.first_key → AddsValue f.values f.keys old mid c (nested_mentions s (nested_keyed 0 (leading_texts k ++ last_text k ∷ []) fact)) = λ c v first.
-      subst (λ (x : List (List ℕ)). AddsValue f.values f.keys old mid c (nested_mentions s (nested_keyed 0 x fact))) (sym (texts_split k are))
-      (joined s 0 fact open_.here (matches.valued.kind ∙ ap (λ (i : ValueInfo). leaf_kind i.leaf) same ∙ sym kind_is) f.values c (ap (option_map (λ (i : ValueInfo). i.span)) listed) v first) in
-      subst (λ (x : List (List ℕ)). NestedRead f.values f.keys (nodes_so_far old (body ∷ [])) (nodes_so_far mid (body ∷ top ∷ [])) number st.first_key s (nested_keyed 0 x fact ∷ [])) (texts_split k are ∙ texts ∙ matches.keys.keys)
-      (nested_read_keyed f.values f.keys (nodes_so_far old (body ∷ [])) (trie_of mid) (node_infos mid) top number st.first_key s 0 (leading_texts k) (last_text k) fact (open_nesting (trie_of old) body path shaped open_) (omega arith) refl
+      let facts : (c : Count) → c.values ≡ number → c.keys ≡ st.first_key → AddsValue old mid c (nested_mentions s (nested_keyed 0 (leading_texts k ++ last_text k ∷ []) fact)) = λ c v first.
+      subst (λ (x : List (List ℕ)). AddsValue old mid c (nested_mentions s (nested_keyed 0 x fact))) (sym (texts_split k are))
+      (joined s 0 fact open_.here (matches.valued.kind ∙ ap (λ (i : ValueInfo). leaf_kind i.leaf) same ∙ sym kind_is) c v first) in
+      subst (λ (x : List (List ℕ)). NestedRead (nodes_so_far old (body ∷ [])) (nodes_so_far mid (body ∷ top ∷ [])) number st.first_key s (nested_keyed 0 x fact ∷ [])) (texts_split k are ∙ texts ∙ matches.keys.keys)
+      (nested_read_keyed (nodes_so_far old (body ∷ [])) (trie_of mid) (node_infos mid) top number st.first_key s 0 (leading_texts k) (last_text k) fact (open_nesting (trie_of old) body path shaped open_) (omega arith) refl
       (subst (λ (x : Holding). Gives (trie_of old) (trie_of mid) body top (leading_texts k) (last_text k) x) (holds_is ∙ ap (λ (i : ValueInfo). leaf_holding i.leaf) (sym same) ∙ sym matches.valued.holds) gives)
       (λ c v first. (facts c v first).joined)
       (λ c v first. (facts c v first).fresh))
@@ -135,26 +134,26 @@ module _ (bytes : List ℕ) (f : Flat) (st : Statement) (old mid : List Node) (b
 
   -- all its values were read
   pub keyval_all_read : (new : List Node) (ids : List ℕ) → NestedValuesRead bytes f number (number + 1) mid (body ∷ top ∷ []) new ids → (mentioned : List Mention) (path : List Part) (matches : MatchesKeyvalOf bytes f.keys f.values st mentioned) → IsShaped (trie_of old) → IsOpen (trie_of old) body path
-      → NestedRead f.values f.keys (nodes_so_far old (body ∷ [])) (nodes_so_far new ids) number st.first_key (body_nesting path) (keyval_nested matches.name matches.value)
+      → NestedRead (nodes_so_far old (body ∷ [])) (nodes_so_far new ids) number st.first_key (body_nesting path) (keyval_nested matches.name matches.value)
   keyval_all_read new ids was_read mentioned path matches shaped open_ =
       let t : NestedValue = nested_keyed 0 (keys_of matches.name.key) (body_fact matches.value.body) in
       let s : NestingState = body_nesting path in
-      let rest : NestedRead f.values f.keys (nodes_so_far mid (body ∷ top ∷ [])) (nodes_so_far new ids) (number + 1) (st.first_key + st.keys) (next_nesting s t) (nested_values 1 2 matches.value.nested) = was_read (next_nesting s t) (nested_values 1 2 matches.value.nested) (st.first_key + st.keys) (nested_next mentioned path matches shaped open_) in
-      nested_read_then f.values f.keys (nodes_so_far old (body ∷ [])) (nodes_so_far mid (body ∷ top ∷ [])) (nodes_so_far new ids) number st.first_key s (t ∷ []) (nested_values 1 2 matches.value.nested) (top_read mentioned path matches shaped open_)
-      (subst (λ (n : ℕ). NestedRead f.values f.keys (nodes_so_far mid (body ∷ top ∷ [])) (nodes_so_far new ids) (number + 1) (st.first_key + n) (next_nesting s t) (nested_values 1 2 matches.value.nested)) (sym (own_marks mentioned path matches)) rest)
+      let rest : NestedRead (nodes_so_far mid (body ∷ top ∷ [])) (nodes_so_far new ids) (number + 1) (st.first_key + st.keys) (next_nesting s t) (nested_values 1 2 matches.value.nested) = was_read (next_nesting s t) (nested_values 1 2 matches.value.nested) (st.first_key + st.keys) (nested_next mentioned path matches shaped open_) in
+      nested_read_then (nodes_so_far old (body ∷ [])) (nodes_so_far mid (body ∷ top ∷ [])) (nodes_so_far new ids) number st.first_key s (t ∷ []) (nested_values 1 2 matches.value.nested) (top_read mentioned path matches shaped open_)
+      (subst (λ (n : ℕ). NestedRead (nodes_so_far mid (body ∷ top ∷ [])) (nodes_so_far new ids) (number + 1) (st.first_key + n) (next_nesting s t) (nested_values 1 2 matches.value.nested)) (sym (own_marks mentioned path matches)) rest)
 
   -- so the keyval was read
-  keyval_read : (new : List Node) (ids : List ℕ) → NestedValuesRead bytes f number (number + 1) mid (body ∷ top ∷ []) new ids → HasReading (trie_of old) body → (n : ℕ) (mentioned : List Mention) → MatchesKeyvalOf bytes f.keys f.values st mentioned → IsRead f n st old body new body (marks.keyval mentioned)
+  keyval_read : (new : List Node) (ids : List ℕ) → NestedValuesRead bytes f number (number + 1) mid (body ∷ top ∷ []) new ids → HasReading (trie_of old) body → (n : ℕ) (mentioned : List Mention) → MatchesKeyvalOf bytes f.keys f.values st mentioned → IsRead n st old body new body (marks.keyval mentioned)
   keyval_read new ids was_read reading n mentioned matches =
       let path : List Part = path_at (trie_of old) body in
       let open_ : IsOpen (trie_of old) body path = record { nested = reading.2.is_open.nested; here = refl; open_to = reading.2.is_open.open_to } in
       let all = keyval_all_read new ids was_read mentioned path matches reading.2.represents.shaped open_ in
       let ts : List NestedValue = keyval_nested matches.name matches.value in
-      subst (λ (l : List Mention). IsRead f n st old body new body (marks.keyval l)) (sym matches.mentions) (record {
+      subst (λ (l : List Mention). IsRead n st old body new body (marks.keyval l)) (sym matches.mentions) (record {
         reads = keyval_reads (trie_of old) (trie_of new) body matches.name matches.value all.keeps
             (λ ms r now. subst (λ (q : List Part). Represents (trie_of new) (ms ++ all_nested_mentions (body_nesting q) ts) r.tables) now.is_open.here (all.represents ms r.tables now.represents));
         joined = λ ms r now c counted. record {
-          joined = all.facts c (counted.values number valued) counted.keys ∙ ap (λ w. with_mentions f.values f.keys (node_infos old) (numbered_mentions c w)) (mentions_in_body r path matches.name matches.value now.is_open.here);
+          joined = all.facts c (counted.values number valued) counted.keys ∙ ap (λ w. with_mentions (node_infos old) (numbered_mentions c w)) (mentions_in_body r path matches.name matches.value now.is_open.here);
           fresh = subst (λ (w : List Mention). ValuesAreNew (node_infos old).paths (numbered_mentions c w)) (mentions_in_body r path matches.name matches.value now.is_open.here) (all.fresh c (counted.values number valued) counted.keys);
         };
       })

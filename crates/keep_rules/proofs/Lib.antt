@@ -20,6 +20,7 @@ mod SuitLemmas
 mod MentionInfoLemmas
 mod NodeInfoLemmas
 mod AllInfoLemmas
+mod SpanLemmas
 mod FlatValueLemmas
 mod NestedReadLemmas
 mod FlatCountLemmas

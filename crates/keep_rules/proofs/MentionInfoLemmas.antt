@@ -1,22 +1,19 @@
 -- The facts from mentions, part by part, and those from one mention.
-use Rattle.std.proofs.Common.{◌≡◌, List, [], ◌∷◌, ◌++◌, refl, Some, None}
-use Rattle.keep_parts.specs.declared.info.Span.{Span}
-use Rattle.keep_parts.specs.declared.info.KeyPart.{KeyPart}
-use Rattle.keep_parts.specs.declared.info.ValueInfo.{ValueInfo}
+use Rattle.std.proofs.Common.{◌≡◌, List, [], ◌∷◌, ◌++◌, ℕ, refl}
 use Rattle.keep_meaning.specs.declared.node.Kind.TheVariants as kind
 use Rattle.keep_meaning.specs.declared.node.Origin.TheVariants as origin
 use Rattle.keep_meaning.specs.Fact.{Fact}
 use Rattle.keep_path.specs.Path.{Part}
 use Rattle.keep_meaning.specs.Marks.{through, past, define, element, dotted, value, begun, passed, item}
 use Rattle.keep_meaning.specs.Counts.{Numbered}
-use Rattle.keep_meaning.specs.Nodes.{fact_kind, key_span, value_span, paths_with}
+use Rattle.keep_meaning.specs.Nodes.{fact_kind, paths_with}
 use Rattle.keep_nodes.specs.Facts.{NodeInfos, with_info, with_mentions, named_info, unnamed_info, passed_info, mention_info, paths_after, ValuesAreNew}
 
 -- ---- part by part
 
-pub with_mentions-append : (values : List ValueInfo) (parts : List KeyPart) (t : NodeInfos) (xs ys : List Numbered) → with_mentions values parts t (xs ++ ys) ≡ with_mentions values parts (with_mentions values parts t xs) ys
-with_mentions-append values parts t [] ys = refl
-with_mentions-append values parts t (x ∷ xs) ys = with_mentions-append values parts (with_info t x.mention.path (mention_info values parts x)) xs ys
+pub with_mentions-append : (t : NodeInfos) (xs ys : List Numbered) → with_mentions t (xs ++ ys) ≡ with_mentions (with_mentions t xs) ys
+with_mentions-append t [] ys = refl
+with_mentions-append t (x ∷ xs) ys = with_mentions-append (with_info t x.mention.path (mention_info x)) xs ys
 
 pub paths_after-append : (paths : List (List Part)) (xs ys : List Numbered) → paths_after paths (xs ++ ys) ≡ paths_after (paths_after paths xs) ys
 paths_after-append paths [] ys = refl
@@ -36,31 +33,30 @@ values_new-rest paths (x ∷ xs) ys h = values_new-rest (paths_with paths x.ment
 
 -- ---- the facts from one mention
 
-module _ (values : List ValueInfo) (parts : List KeyPart) (n : Numbered) where
-  pub through_info : (key : Span) → n.mention.kind ≡ through → key_span parts n.before.keys ≡ Some key → mention_info values parts n ≡ named_info kind.Table None key (origin.Through n.before.statements)
+module _ (n : Numbered) where
+  pub through_info : (key : ℕ) → n.mention.kind ≡ through → n.before.keys ≡ key → mention_info n ≡ named_info kind.Table key (origin.Through n.before.statements)
   through_info key is named = rw (is, named)
 
-  pub past_info : (key : Span) → n.mention.kind ≡ past → key_span parts n.before.keys ≡ Some key → mention_info values parts n ≡ named_info kind.Table None key origin.Root
+  pub past_info : (key : ℕ) → n.mention.kind ≡ past → n.before.keys ≡ key → mention_info n ≡ named_info kind.Table key origin.Root
   past_info key is named = rw (is, named)
 
-  pub define_info : (key : Span) → n.mention.kind ≡ define → key_span parts n.before.keys ≡ Some key → mention_info values parts n ≡ named_info kind.Table None key (origin.Header n.before.statements)
+  pub define_info : (key : ℕ) → n.mention.kind ≡ define → n.before.keys ≡ key → mention_info n ≡ named_info kind.Table key (origin.Header n.before.statements)
   define_info key is named = rw (is, named)
 
-  pub element_info : (key : Span) → n.mention.kind ≡ element → key_span parts n.before.keys ≡ Some key → mention_info values parts n ≡ named_info kind.Tables None key origin.Tables
+  pub element_info : (key : ℕ) → n.mention.kind ≡ element → n.before.keys ≡ key → mention_info n ≡ named_info kind.Tables key origin.Tables
   element_info key is named = rw (is, named)
 
-  pub dotted_info : (key : Span) → n.mention.kind ≡ dotted → key_span parts n.before.keys ≡ Some key → mention_info values parts n ≡ named_info kind.Table None key (origin.Dotted n.before.values)
+  pub dotted_info : (key : ℕ) → n.mention.kind ≡ dotted → n.before.keys ≡ key → mention_info n ≡ named_info kind.Table key (origin.Dotted n.before.values)
   dotted_info key is named = rw (is, named)
 
-  pub value_info : (f : Fact) (span key : Span) → n.mention.kind ≡ value f → key_span parts n.before.keys ≡ Some key → value_span values n.before.values ≡ Some span
-      → mention_info values parts n ≡ named_info (fact_kind f) (Some span) key (origin.Value n.before.values)
-  value_info f span key is named valued = rw (is, named, valued)
+  pub value_info : (f : Fact) (key : ℕ) → n.mention.kind ≡ value f → n.before.keys ≡ key → mention_info n ≡ named_info (fact_kind f) key (origin.Value n.before.values)
+  value_info f key is named = rw (is, named)
 
-  pub begun_info : n.mention.kind ≡ begun → mention_info values parts n ≡ unnamed_info kind.Table None (origin.Element n.before.statements)
+  pub begun_info : n.mention.kind ≡ begun → mention_info n ≡ unnamed_info kind.Table (origin.Element n.before.statements)
   begun_info is = rw is
 
-  pub passed_is_info : n.mention.kind ≡ passed → mention_info values parts n ≡ passed_info
+  pub passed_is_info : n.mention.kind ≡ passed → mention_info n ≡ passed_info
   passed_is_info is = rw is
 
-  pub item_info : (f : Fact) (span : Span) → n.mention.kind ≡ item f → value_span values n.before.values ≡ Some span → mention_info values parts n ≡ unnamed_info (fact_kind f) (Some span) (origin.Value n.before.values)
-  item_info f span is valued = rw (is, valued)
+  pub item_info : (f : Fact) → n.mention.kind ≡ item f → mention_info n ≡ unnamed_info (fact_kind f) (origin.Value n.before.values)
+  item_info f is = rw is

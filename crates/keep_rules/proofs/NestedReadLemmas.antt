@@ -1,8 +1,6 @@
 -- Nested values, read one after another.
 use Rattle.std.proofs.Common.{◌≡◌, ℕ, ◌+◌, ◌<◌, List, [], ◌∷◌, ◌++◌, length, map, get_or, refl, sym, ◌∙◌, ap, subst, arith, if◌then◌else◌, inl, inr}
 use Rattle.std.proofs.lemmas.List.{append_assoc, append-nil}
-use Rattle.keep_parts.specs.declared.info.KeyPart.{KeyPart}
-use Rattle.keep_parts.specs.declared.info.ValueInfo.{ValueInfo}
 use Rattle.keep_meaning.specs.declared.node.NodeInfo.{NodeInfo}
 use Rattle.keep_meaning.specs.Fact.{Fact}
 use Rattle.keep_path.specs.Path.{Part}
@@ -33,10 +31,10 @@ with_info-paths t path more = elim (met_or_unmet t.paths path) [
   | inr unmet ↦ ap (λ o. (with_info_at t o path more).paths) unmet.is ∙ sym (ap (λ b. if b then t.paths else t.paths ++ path ∷ []) unmet.unmet)
 ]
 
-pub with_mentions-paths : (values : List ValueInfo) (parts : List KeyPart) (t : NodeInfos) (ns : List Numbered) → (with_mentions values parts t ns).paths ≡ paths_after t.paths ns
-with_mentions-paths values parts t [] = refl
-with_mentions-paths values parts t (n ∷ ns) =
-    with_mentions-paths values parts (with_info t n.mention.path (mention_info values parts n)) ns ∙ ap (λ ps. paths_after ps ns) (with_info-paths t n.mention.path (mention_info values parts n))
+pub with_mentions-paths : (t : NodeInfos) (ns : List Numbered) → (with_mentions t ns).paths ≡ paths_after t.paths ns
+with_mentions-paths t [] = refl
+with_mentions-paths t (n ∷ ns) =
+    with_mentions-paths (with_info t n.mention.path (mention_info n)) ns ∙ ap (λ ps. paths_after ps ns) (with_info-paths t n.mention.path (mention_info n))
 
 -- ---- how many values and key parts there are
 
@@ -61,8 +59,8 @@ nested_marks s (nested_keyed o (k ∷ ks) f) has =
 
 -- ---- one part after another
 
-pub nested_read_none : (values : List ValueInfo) (parts : List KeyPart) (a : NodesSoFar) (from first : ℕ) (s : NestingState) → IsShaped a.trie → Keeps a.trie a.trie → AreValueNodes a.trie a.ids s → NestedRead values parts a a from first s []
-nested_read_none values parts a from first s shaped keeps are = record {
+pub nested_read_none : (a : NodesSoFar) (from first : ℕ) (s : NestingState) → IsShaped a.trie → Keeps a.trie a.trie → AreValueNodes a.trie a.ids s → NestedRead a a from first s []
+nested_read_none a from first s shaped keeps are = record {
   keeps = keeps;
   shaped = shaped;
   nested = are;
@@ -75,11 +73,11 @@ numbered_parts : (n : Count) (s : NestingState) (xs ys : List NestedValue)
     → numbered_mentions n (all_nested_mentions s (xs ++ ys)) ≡ numbered_mentions n (all_nested_mentions s xs) ++ numbered_mentions (count_after n (all_nested_mentions s xs)) (all_nested_mentions (nesting_after s xs) ys)
 numbered_parts n s xs ys = ap (numbered_mentions n) (all_nested_mentions-append s xs ys) ∙ numbered_mentions-append n (all_nested_mentions s xs) (all_nested_mentions (nesting_after s xs) ys)
 
-pub nested_read_then : (values : List ValueInfo) (parts : List KeyPart) (a b c : NodesSoFar) (from first : ℕ) (s : NestingState) (xs ys : List NestedValue)
-    → NestedRead values parts a b from first s xs
-    → NestedRead values parts b c (from + length xs) (first + length (marks.marks (all_nested_mentions s xs))) (nesting_after s xs) ys
-    → NestedRead values parts a c from first s (xs ++ ys)
-nested_read_then values parts a b c from first s xs ys one two = record {
+pub nested_read_then : (a b c : NodesSoFar) (from first : ℕ) (s : NestingState) (xs ys : List NestedValue)
+    → NestedRead a b from first s xs
+    → NestedRead b c (from + length xs) (first + length (marks.marks (all_nested_mentions s xs))) (nesting_after s xs) ys
+    → NestedRead a c from first s (xs ++ ys)
+nested_read_then a b c from first s xs ys one two = record {
   keeps = keeps_then one.keeps two.keeps;
   shaped = two.shaped;
   nested = subst (AreValueNodes c.trie c.ids) (sym (nesting_after-append s xs ys)) two.nested;
@@ -88,48 +86,48 @@ nested_read_then values parts a b c from first s xs ys one two = record {
       (two.represents (ms ++ all_nested_mentions s xs) tables (one.represents ms tables w));
   facts = λ n v k.
       two.facts (count_after n (all_nested_mentions s xs)) (count_after-values n (all_nested_mentions s xs) ∙ omega (arith, v, all_nested_valued s xs)) (count_after-keys n (all_nested_mentions s xs) ∙ omega (arith, k))
-      ∙ ap (λ t. with_mentions values parts t (numbered_mentions (count_after n (all_nested_mentions s xs)) (all_nested_mentions (nesting_after s xs) ys))) (one.facts n v k)
-      ∙ sym (with_mentions-append values parts a.node_infos (numbered_mentions n (all_nested_mentions s xs)) (numbered_mentions (count_after n (all_nested_mentions s xs)) (all_nested_mentions (nesting_after s xs) ys)))
-      ∙ ap (with_mentions values parts a.node_infos) (sym (numbered_parts n s xs ys));
+      ∙ ap (λ t. with_mentions t (numbered_mentions (count_after n (all_nested_mentions s xs)) (all_nested_mentions (nesting_after s xs) ys))) (one.facts n v k)
+      ∙ sym (with_mentions-append a.node_infos (numbered_mentions n (all_nested_mentions s xs)) (numbered_mentions (count_after n (all_nested_mentions s xs)) (all_nested_mentions (nesting_after s xs) ys)))
+      ∙ ap (with_mentions a.node_infos) (sym (numbered_parts n s xs ys));
   fresh = λ n v k.
       subst (ValuesAreNew a.node_infos.paths) (sym (numbered_parts n s xs ys))
       (values_new-append a.node_infos.paths (numbered_mentions n (all_nested_mentions s xs)) (numbered_mentions (count_after n (all_nested_mentions s xs)) (all_nested_mentions (nesting_after s xs) ys)) (one.fresh n v k)
       (subst (λ (ps : List (List Part)). ValuesAreNew ps (numbered_mentions (count_after n (all_nested_mentions s xs)) (all_nested_mentions (nesting_after s xs) ys)))
-      (ap (λ t. t.paths) (one.facts n v k) ∙ with_mentions-paths values parts a.node_infos (numbered_mentions n (all_nested_mentions s xs)))
+      (ap (λ t. t.paths) (one.facts n v k) ∙ with_mentions-paths a.node_infos (numbered_mentions n (all_nested_mentions s xs)))
       (two.fresh (count_after n (all_nested_mentions s xs)) (count_after-values n (all_nested_mentions s xs) ∙ omega (arith, v, all_nested_valued s xs)) (count_after-keys n (all_nested_mentions s xs) ∙ omega (arith, k)))));
 }
 
 -- ---- one value
 
-pub nested_read_item : (values : List ValueInfo) (parts : List KeyPart) (a : NodesSoFar) (new : List TrieNode) (node_infos : NodeInfos) (to from first : ℕ) (s : NestingState) (o : ℕ) (f : Fact)
+pub nested_read_item : (a : NodesSoFar) (new : List TrieNode) (node_infos : NodeInfos) (to from first : ℕ) (s : NestingState) (o : ℕ) (f : Fact)
     → AreValueNodes a.trie a.ids s → o < length a.ids → holding_of_value s o ≡ by_index
     → AddsItem a.trie new (get_or a.ids o 0) to (holding_of f)
-    → ((c : Count) → c.values ≡ from → c.keys ≡ first → node_infos ≡ with_mentions values parts a.node_infos (numbered_mentions c (nested_mentions s (nested_item o f))))
+    → ((c : Count) → c.values ≡ from → c.keys ≡ first → node_infos ≡ with_mentions a.node_infos (numbered_mentions c (nested_mentions s (nested_item o f))))
     → ((c : Count) → c.values ≡ from → c.keys ≡ first → ValuesAreNew a.node_infos.paths (numbered_mentions c (nested_mentions s (nested_item o f))))
-    → NestedRead values parts a (record { trie = new; node_infos = node_infos; ids = a.ids ++ to ∷ [] }) from first s (nested_item o f ∷ [])
-nested_read_item values parts a new node_infos to from first s o f are low listed added facts fresh = record {
+    → NestedRead a (record { trie = new; node_infos = node_infos; ids = a.ids ++ to ∷ [] }) from first s (nested_item o f ∷ [])
+nested_read_item a new node_infos to from first s o f are low listed added facts fresh = record {
   keeps = added.keeps;
   shaped = added.shaped;
   nested = item_taken a.trie new a.ids to s o f are low listed added;
   represents = λ ms tables w.
       subst (λ (l : List Mention). Represents new (ms ++ l) tables) (sym (append-nil (nested_mentions s (nested_item o f)))) (item_represents a.trie new a.ids to s o f are low listed added ms tables w);
-  facts = λ c v k. facts c v k ∙ ap (λ l. with_mentions values parts a.node_infos (numbered_mentions c l)) (sym (append-nil (nested_mentions s (nested_item o f))));
+  facts = λ c v k. facts c v k ∙ ap (λ l. with_mentions a.node_infos (numbered_mentions c l)) (sym (append-nil (nested_mentions s (nested_item o f))));
   fresh = λ c v k. subst (λ (l : List Mention). ValuesAreNew a.node_infos.paths (numbered_mentions c l)) (sym (append-nil (nested_mentions s (nested_item o f)))) (fresh c v k);
 }
 
-pub nested_read_keyed : (values : List ValueInfo) (parts : List KeyPart) (a : NodesSoFar) (new : List TrieNode) (node_infos : NodeInfos) (to from first : ℕ) (s : NestingState) (o : ℕ) (leading : List (List ℕ)) (last : List ℕ) (f : Fact)
+pub nested_read_keyed : (a : NodesSoFar) (new : List TrieNode) (node_infos : NodeInfos) (to from first : ℕ) (s : NestingState) (o : ℕ) (leading : List (List ℕ)) (last : List ℕ) (f : Fact)
     → AreValueNodes a.trie a.ids s → o < length a.ids → holding_of_value s o ≡ by_key
     → Gives a.trie new (get_or a.ids o 0) to leading last (holding_of f)
-    → ((c : Count) → c.values ≡ from → c.keys ≡ first → node_infos ≡ with_mentions values parts a.node_infos (numbered_mentions c (nested_mentions s (nested_keyed o (leading ++ last ∷ []) f))))
+    → ((c : Count) → c.values ≡ from → c.keys ≡ first → node_infos ≡ with_mentions a.node_infos (numbered_mentions c (nested_mentions s (nested_keyed o (leading ++ last ∷ []) f))))
     → ((c : Count) → c.values ≡ from → c.keys ≡ first → ValuesAreNew a.node_infos.paths (numbered_mentions c (nested_mentions s (nested_keyed o (leading ++ last ∷ []) f))))
-    → NestedRead values parts a (record { trie = new; node_infos = node_infos; ids = a.ids ++ to ∷ [] }) from first s (nested_keyed o (leading ++ last ∷ []) f ∷ [])
-nested_read_keyed values parts a new node_infos to from first s o leading last f are low keyed given facts fresh =
+    → NestedRead a (record { trie = new; node_infos = node_infos; ids = a.ids ++ to ∷ [] }) from first s (nested_keyed o (leading ++ last ∷ []) f ∷ [])
+nested_read_keyed a new node_infos to from first s o leading last f are low keyed given facts fresh =
     let t : NestedValue = nested_keyed o (leading ++ last ∷ []) f in
     record {
       keeps = given.keeps;
       shaped = given.shaped;
       nested = keyed_taken a.trie new a.ids to s o leading last f are low keyed given;
       represents = λ ms tables w. subst (λ (l : List Mention). Represents new (ms ++ l) tables) (sym (append-nil (nested_mentions s t))) (keyed_represents a.trie new a.ids to s o leading last f are low given ms tables w);
-      facts = λ c v k. facts c v k ∙ ap (λ l. with_mentions values parts a.node_infos (numbered_mentions c l)) (sym (append-nil (nested_mentions s t)));
+      facts = λ c v k. facts c v k ∙ ap (λ l. with_mentions a.node_infos (numbered_mentions c l)) (sym (append-nil (nested_mentions s t)));
       fresh = λ c v k. subst (λ (l : List Mention). ValuesAreNew a.node_infos.paths (numbered_mentions c l)) (sym (append-nil (nested_mentions s t))) (fresh c v k);
     }

@@ -1,17 +1,14 @@
 -- The facts about a node after one more mention are the facts before, joined with those from that mention.
 use Rattle.std.proofs.Common.{◌≡◌, ℕ, ◌+◌, ◌<◌, ◌-◌, Bool, true, false, cond, ◌||◌, List, [], ◌∷◌, ◌++◌, map, refl, sym, ap, ◌∙◌, arith, Option, Some, None}
-use Rattle.std.specs.Prelude.{◌==◌, ◌^◌, min, nat_le}
+use Rattle.std.specs.Prelude.{◌==◌, ◌^◌, min}
 use Rattle.std.specs.List.{list_any, filter_map, count_by}
-use Rattle.std.specs.Option.{option_map, option_and_then}
+use Rattle.std.specs.Option.{option_map}
 use Rattle.std.proofs.lemmas.List.{map-append, append-nil}
 use Rattle.std.proofs.lemmas.List.Elements.{filter_map-append}
 use Rattle.std.proofs.lemmas.List.Folds.{list_any-append}
 use Rattle.std.proofs.lemmas.List.Sums.{sum_by-cons}
 use Rattle.std.proofs.lemmas.Bool.Decides.{nat_tests}
 use Rattle.std.proofs.Math.Bool.{or-false}
-use Rattle.keep_parts.specs.declared.info.Span.{Span}
-use Rattle.keep_parts.specs.declared.info.KeyPart.{KeyPart}
-use Rattle.keep_parts.specs.declared.info.ValueInfo.{ValueInfo}
 use Rattle.keep_meaning.specs.declared.node.Kind.{Kind}
 use Rattle.keep_meaning.specs.declared.node.Kind.TheVariants as kind
 use Rattle.keep_meaning.specs.declared.node.Origin.{Origin}
@@ -21,8 +18,8 @@ use Rattle.keep_meaning.specs.Fact.{Fact, table}
 use Rattle.keep_path.specs.Path.{Part}
 use Rattle.keep_meaning.specs.Marks.{MentionKind, through, past, define, element, dotted, value, begun, passed, item, fact_of}
 use Rattle.keep_meaning.specs.Counts.{Count, Numbered, is_value, is_mark}
-use Rattle.keep_meaning.specs.Nodes.{first_of, is_through, is_define, is_element, is_dotted, is_begun, is_passed, kind_or_table, mentioned_kind, mention_kind_of, last_number, first_number, statement_number, value_number, key_number, first_that_fits, mentioned_origin, mentioned_node, key_span, value_span, node_info}
-use Rattle.keep_nodes.specs.Facts.{rank, later_kind, later_origin, later_value, joined_info, mention_info}
+use Rattle.keep_meaning.specs.Nodes.{first_of, is_through, is_define, is_element, is_dotted, is_begun, is_passed, kind_or_table, mentioned_kind, mention_kind_of, last_number, first_number, statement_number, value_number, key_number, first_that_fits, mentioned_origin, mentioned_node, node_info}
+use Rattle.keep_nodes.specs.Facts.{later_kind, later_origin, joined_info, mention_info}
 use Rattle.keep_meaning.proofs.Shared.{marks-more, last_number-more, or_number, first_number-more, passed-more}
 
 -- ---- the kind
@@ -82,13 +79,13 @@ unmarked (n ∷ ns) =
       | false ↦ ap (λ k. k == 0) (no_more (count_by (λ n. is_mark n.mention.kind) ns)) ∙ unmarked ns
     ]
 
-first_span : (parts : List KeyPart) (a b : Option ℕ) (t : Bool) → t ≡ is_missing a → option_and_then (key_span parts) (or_number a b) ≡ cond t (option_and_then (key_span parts) b) (option_and_then (key_span parts) a)
-first_span parts None b t is = rw is
-first_span parts (Some k) b t is = rw is
+first_key : (a b : Option ℕ) (t : Bool) → t ≡ is_missing a → or_number a b ≡ cond t b a
+first_key None b t is = rw is
+first_key (Some k) b t is = rw is
 
 -- ---- the place
 
-abbrev placed : Option ℕ → Option ℕ → Option ℕ → Option ℕ → Option ℕ → Option ℕ → Origin
+abbrev pub placed : Option ℕ → Option ℕ → Option ℕ → Option ℕ → Option ℕ → Option ℕ → Origin
 placed a b c d e f = first_that_fits (
     option_map origin.Value a
     ∷ option_map (λ i. origin.Tables) b
@@ -179,63 +176,30 @@ mentioned_origin-more ns n h = rw (
   last_number-more is_through statement_number ns n,
 ) (place_more n.before (last_number is_value value_number ns) (last_number is_element statement_number ns) (last_number is_begun statement_number ns) (last_number is_define statement_number ns) (last_number is_dotted value_number ns) (last_number is_through statement_number ns) n.mention.kind h)
 
--- ---- the text of the value, which goes with the place
-
-under_value : (v : ℕ) (b c d e f : Option ℕ) → nat_le (rank (origin.Value v)) (rank (placed None b c d e f)) ≡ false
-under_value v (Some j) c d e f = refl
-under_value v None (Some j) d e f = refl
-under_value v None None (Some j) e f = refl
-under_value v None None None (Some j) f = refl
-under_value v None None None None (Some j) = refl
-under_value v None None None None None = refl
-
-same_either : (t : Bool) (x : Option Span) → x ≡ cond t x x
-same_either true x = refl
-same_either false x = refl
-
-span_more : (spans : ℕ → Option Span) (a b c d e f x y z u w : Option ℕ)
-    → option_and_then spans a ≡ cond (nat_le (rank (placed a b c d e f)) (rank (placed None x y z u w))) None (option_and_then spans a)
-span_more spans None b c d e f x y z u w = same_either (nat_le (rank (placed None b c d e f)) (rank (placed None x y z u w))) None
-span_more spans (Some v) b c d e f x y z u w = ap (λ t. cond t None (spans v)) (sym (under_value v x y z u w))
-
 -- ---- all of it
 
-same_info : (a b : NodeInfo) → a.kind ≡ b.kind → a.value_span ≡ b.value_span → a.key_span ≡ b.key_span → a.marks ≡ b.marks → a.passed ≡ b.passed → a.origin ≡ b.origin → a ≡ b
-same_info a b k v s m p q =
-    let fields : record { kind = a.kind; value_span = a.value_span; key_span = a.key_span; marks = a.marks; passed = a.passed; origin = a.origin }
-    ≡ record { kind = b.kind; value_span = b.value_span; key_span = b.key_span; marks = b.marks; passed = b.passed; origin = b.origin } = cc in
+same_info : (a b : NodeInfo) → a.kind ≡ b.kind → a.key ≡ b.key → a.marks ≡ b.marks → a.passed ≡ b.passed → a.origin ≡ b.origin → a ≡ b
+same_info a b k n m p q =
+    let fields : record { kind = a.kind; key = a.key; marks = a.marks; passed = a.passed; origin = a.origin }
+    ≡ record { kind = b.kind; key = b.key; marks = b.marks; passed = b.passed; origin = b.origin } = cc in
     fields
 
-module _ (values : List ValueInfo) (parts : List KeyPart) (p : List Part) (ns : List Numbered) (n : Numbered) (given : is_value n.mention.kind ≡ false) where
-  value_joined : (node_info values parts (mentioned_node p (ns ++ n ∷ []))).value_span ≡ later_value (node_info values parts (mentioned_node p ns)) (mention_info values parts n)
-  value_joined =
-      let known : Option ℕ = last_number is_value value_number ns in
-      let one : List Numbered = n ∷ [] in
-      ap (option_and_then (value_span values)) (last_number-more is_value value_number ns n ∙ ap (λ b. cond b (Some (value_number n.before)) known) given)
-      ∙ span_more (value_span values) known
-      (last_number is_element statement_number ns) (last_number is_begun statement_number ns) (last_number is_define statement_number ns) (last_number is_dotted value_number ns) (last_number is_through statement_number ns)
-      (last_number is_element statement_number one) (last_number is_begun statement_number one) (last_number is_define statement_number one) (last_number is_dotted value_number one) (last_number is_through statement_number one)
-      ∙ ap (λ b.
-      let mentioned : Option ℕ = cond b (Some (value_number n.before)) None in
-      let more : Origin = placed mentioned (last_number is_element statement_number one) (last_number is_begun statement_number one) (last_number is_define statement_number one) (last_number is_dotted value_number one) (last_number is_through statement_number one) in
-      cond (nat_le (rank (mentioned_origin ns)) (rank more)) (option_and_then (value_span values) mentioned) (option_and_then (value_span values) known)) (sym given)
-
-  key_joined : (node_info values parts (mentioned_node p (ns ++ n ∷ []))).key_span ≡ (joined_info (node_info values parts (mentioned_node p ns)) (mention_info values parts n)).key_span
+module _ (p : List Part) (ns : List Numbered) (n : Numbered) (given : is_value n.mention.kind ≡ false) where
+  key_joined : (mentioned_node p (ns ++ n ∷ [])).key ≡ (joined_info (node_info (mentioned_node p ns)) (mention_info n)).key
   key_joined =
-      ap (option_and_then (key_span parts)) (first_number-more is_mark key_number ns n)
-      ∙ first_span parts (first_number is_mark key_number ns) (first_number is_mark key_number (n ∷ [])) (count_by (λ n. is_mark n.mention.kind) ns == 0) (unmarked ns)
+      first_number-more is_mark key_number ns n
+      ∙ first_key (first_number is_mark key_number ns) (first_number is_mark key_number (n ∷ [])) (count_by (λ n. is_mark n.mention.kind) ns == 0) (unmarked ns)
 
-  marks_joined : (mentioned_node p (ns ++ n ∷ [])).marks < 2 ^ 64 → (mentioned_node p (ns ++ n ∷ [])).marks ≡ min ((mentioned_node p ns).marks + (mention_info values parts n).marks) (2 ^ 64 - 1)
+  marks_joined : (mentioned_node p (ns ++ n ∷ [])).marks < 2 ^ 64 → (mentioned_node p (ns ++ n ∷ [])).marks ≡ min ((mentioned_node p ns).marks + (mention_info n).marks) (2 ^ 64 - 1)
   marks_joined h = omega (arith, marks-more p ns n)
 
-  passed_joined : (mentioned_node p (ns ++ n ∷ [])).passed ≡ ((mentioned_node p ns).passed || (mention_info values parts n).passed)
+  passed_joined : (mentioned_node p (ns ++ n ∷ [])).passed ≡ ((mentioned_node p ns).passed || (mention_info n).passed)
   passed_joined = passed-more p ns n ∙ ap (λ b. (mentioned_node p ns).passed || b) (sym (or-false (is_passed n.mention.kind)))
 
-  pub node_joined : (mentioned_node p (ns ++ n ∷ [])).marks < 2 ^ 64 → node_info values parts (mentioned_node p (ns ++ n ∷ [])) ≡ joined_info (node_info values parts (mentioned_node p ns)) (mention_info values parts n)
+  pub node_joined : (mentioned_node p (ns ++ n ∷ [])).marks < 2 ^ 64 → node_info (mentioned_node p (ns ++ n ∷ [])) ≡ joined_info (node_info (mentioned_node p ns)) (mention_info n)
   node_joined h =
       same_info _ _
       (ap mentioned_kind (map-append mention_kind_of ns (n ∷ [])) ∙ mentioned_kind-more (map mention_kind_of ns) n.mention.kind given)
-      value_joined
       key_joined
       (marks_joined h)
       passed_joined

@@ -1,7 +1,5 @@
 -- Reading one value of the flat list as the nested value that it is.
-use Rattle.std.proofs.Common.{◌≡◌, ℕ, ◌+◌, ◌-◌, ◌<◌, ◌≤◌, List, [], ◌∷◌, ◌++◌, length, get_or, refl, sym, ◌∙◌, ap, subst, arith, length-append, Some}
-use Rattle.std.specs.Prelude.{slice_get}
-use Rattle.std.specs.Option.{option_map}
+use Rattle.std.proofs.Common.{◌≡◌, ℕ, ◌+◌, ◌-◌, ◌<◌, ◌≤◌, List, [], ◌∷◌, ◌++◌, length, get_or, refl, sym, ◌∙◌, ap, subst, arith, length-append}
 use Rattle.std.proofs.lemmas.List.Elements.{filter_map-append}
 use Rattle.keep_syntax.specs.declared.fault.Why.{Why}
 use Rattle.keep_parts.specs.declared.info.KeyPart.{KeyPart}
@@ -77,31 +75,31 @@ inline_number g h e = cc
 -- ---- items
 
 item_read : (bytes : List ℕ) (f : Flat) (base : ℕ) (info : ValueInfo) (old new : List Node) (ids : List ℕ) (number array at to : ℕ) (kind : Kind) (holds : Holding) (s : NestingState) (t : NestedValue)
-    → info.owner ≡ owner.Item array → at ≡ get_or ids (array + 1 - base) 0 → kind ≡ leaf_kind info.leaf → holds ≡ leaf_holding info.leaf → slice_get f.values number ≡ Some info
-    → AddsItem (trie_of old) (trie_of new) at to holds → ItemAdds old new at number kind info.span
+    → info.owner ≡ owner.Item array → at ≡ get_or ids (array + 1 - base) 0 → kind ≡ leaf_kind info.leaf → holds ≡ leaf_holding info.leaf
+    → AddsItem (trie_of old) (trie_of new) at to holds → ItemAdds old new at number kind
     → IsNext bytes f.keys (trie_of old) ids base info s t
-    → NestedRead f.values f.keys (nodes_so_far old ids) (nodes_so_far new (ids ++ to ∷ [])) number info.first_key s (t ∷ [])
-item_read bytes f base info old new ids number array at to kind holds s (nested_keyed o ks fact) is here k h listed adds joined next =
+    → NestedRead (nodes_so_far old ids) (nodes_so_far new (ids ++ to ∷ [])) number info.first_key s (t ∷ [])
+item_read bytes f base info old new ids number array at to kind holds s (nested_keyed o ks fact) is here k h adds joined next =
     let no : owner.Item array ≡ owner.Inline next.matches.owned.0 = sym is ∙ next.matches.owned.1 in
     absurd (cc)
-item_read bytes f base info old new ids number array at to kind holds s (nested_item o fact) is here k h listed adds joined next =
+item_read bytes f base info old new ids number array at to kind holds s (nested_item o fact) is here k h adds joined next =
     let own = owner_of (trie_of old) ids base array next.matches.owned.0 s o next.nested next.suits.0 (item_number next.matches.owned.0 array (sym next.matches.owned.1 ∙ is)) next.matches.owned.2 in
     let there : at ≡ get_or ids o 0 = here ∙ ap (λ i. get_or ids i 0) own.place in
-    let facts : (c : Count) → c.values ≡ number → AddsValue f.values f.keys old new c (nested_mentions s (nested_item o fact)) = λ c v.
+    let facts : (c : Count) → c.values ≡ number → AddsValue old new c (nested_mentions s (nested_item o fact)) = λ c v.
     joined s o fact (ap (path_at (trie_of old)) there ∙ own.node.here)
     (sym (ap (λ i. length (children_of (trie_of old) i)) there ∙ own.node.listed next.suits.1)) (next.matches.kind ∙ sym k)
-    f.values f.keys c (ap (option_map (λ (i : ValueInfo). i.span)) listed) v in
-    nested_read_item f.values f.keys (nodes_so_far old ids) (trie_of new) (node_infos new) to number info.first_key s o fact next.nested own.low next.suits.1
+    c v in
+    nested_read_item (nodes_so_far old ids) (trie_of new) (node_infos new) to number info.first_key s o fact next.nested own.low next.suits.1
     (subst (λ (x : Holding). AddsItem (trie_of old) (trie_of new) (get_or ids o 0) to x) (h ∙ sym next.matches.holds) (subst (λ (x : ℕ). AddsItem (trie_of old) (trie_of new) x to holds) there adds))
     (λ c v first. (facts c v).joined)
     (λ c v first. (facts c v).fresh)
 
 pub item_read_all : (bytes : List ℕ) (f : Flat) (base : ℕ) (info : ValueInfo) (old new : List Node) (ids : List ℕ) (number array at to : ℕ) (kind : Kind) (holds : Holding)
-    → info.owner ≡ owner.Item array → at ≡ get_or ids (array + 1 - base) 0 → kind ≡ leaf_kind info.leaf → holds ≡ leaf_holding info.leaf → slice_get f.values number ≡ Some info
-    → AddsItem (trie_of old) (trie_of new) at to holds → ItemAdds old new at number kind info.span
+    → info.owner ≡ owner.Item array → at ≡ get_or ids (array + 1 - base) 0 → kind ≡ leaf_kind info.leaf → holds ≡ leaf_holding info.leaf
+    → AddsItem (trie_of old) (trie_of new) at to holds → ItemAdds old new at number kind
     → NestedValueRead bytes f base info old ids new (ids ++ to ∷ []) number
-item_read_all bytes f base info old new ids number array at to kind holds is here k h listed adds joined s t next =
-    item_read bytes f base info old new ids number array at to kind holds s t is here k h listed adds joined next
+item_read_all bytes f base info old new ids number array at to kind holds is here k h adds joined s t next =
+    item_read bytes f base info old new ids number array at to kind holds s t is here k h adds joined next
 
 -- ---- values with keys
 
@@ -122,36 +120,36 @@ pub some_next_keys : (bytes : List ℕ) (parts : List KeyPart) (nodes : List Tri
 some_next_keys bytes parts nodes ids base info table readable is next = next_keys bytes parts nodes ids base info table next.0 next.1 readable is next.2
 
 keyed_read : (bytes : List ℕ) (f : Flat) (base : ℕ) (info : ValueInfo) (old new : List Node) (ids : List ℕ) (k : Keys) (number table at to : ℕ) (kind : Kind) (holds : Holding) (s : NestingState) (t : NestedValue)
-    → info.owner ≡ owner.Inline table → at ≡ get_or ids (table + 1 - base) 0 → kind ≡ leaf_kind info.leaf → holds ≡ leaf_holding info.leaf → slice_get f.values number ≡ Some info
+    → info.owner ≡ owner.Inline table → at ≡ get_or ids (table + 1 - base) 0 → kind ≡ leaf_kind info.leaf → holds ≡ leaf_holding info.leaf
     → AreKeys k → key_texts k ≡ keys_in bytes f.keys info.first_key info.keys
-    → Gives (trie_of old) (trie_of new) at to (leading_texts k) (last_text k) holds → KeyedAdds old new at f.keys info.first_key (key_texts k) number kind info.span
+    → Gives (trie_of old) (trie_of new) at to (leading_texts k) (last_text k) holds → KeyedAdds old new at info.first_key (key_texts k) number kind
     → IsNext bytes f.keys (trie_of old) ids base info s t
-    → NestedRead f.values f.keys (nodes_so_far old ids) (nodes_so_far new (ids ++ to ∷ [])) number info.first_key s (t ∷ [])
-keyed_read bytes f base info old new ids k number table at to kind holds s (nested_item o fact) is here kd h listed are texts gives joined next =
+    → NestedRead (nodes_so_far old ids) (nodes_so_far new (ids ++ to ∷ [])) number info.first_key s (t ∷ [])
+keyed_read bytes f base info old new ids k number table at to kind holds s (nested_item o fact) is here kd h are texts gives joined next =
     let no : owner.Inline table ≡ owner.Item next.matches.owned.0 = sym is ∙ next.matches.owned.1 in
     absurd (cc)
-keyed_read bytes f base info old new ids k number table at to kind holds s (nested_keyed o ks fact) is here kd h listed are texts gives joined next =
+keyed_read bytes f base info old new ids k number table at to kind holds s (nested_keyed o ks fact) is here kd h are texts gives joined next =
     let own = owner_of (trie_of old) ids base table next.matches.owned.0 s o next.nested next.suits.0 (inline_number next.matches.owned.0 table (sym next.matches.owned.1 ∙ is)) next.matches.owned.2 in
     let there : at ≡ get_or ids o 0 = here ∙ ap (λ i. get_or ids i 0) own.place in
     let whole : leading_texts k ++ last_text k ∷ [] ≡ ks = texts_split k are ∙ texts ∙ next.matches.owned.3 in
     let split : key_texts k ≡ leading_texts k ++ last_text k ∷ [] = sym (texts_split k are) in
-    let facts : (c : Count) → c.values ≡ number → c.keys ≡ info.first_key → AddsValue f.values f.keys old new c (nested_mentions s (nested_keyed o (leading_texts k ++ last_text k ∷ []) fact)) = λ c v first.
-    subst (λ (x : List (List ℕ)). AddsValue f.values f.keys old new c (nested_mentions s (nested_keyed o x fact))) split
-    (joined s o fact (ap (path_at (trie_of old)) there ∙ own.node.here) (next.matches.kind ∙ sym kd) f.values c (ap (option_map (λ (i : ValueInfo). i.span)) listed) v first) in
-    subst (λ (x : List (List ℕ)). NestedRead f.values f.keys (nodes_so_far old ids) (nodes_so_far new (ids ++ to ∷ [])) number info.first_key s (nested_keyed o x fact ∷ [])) whole
-    (nested_read_keyed f.values f.keys (nodes_so_far old ids) (trie_of new) (node_infos new) to number info.first_key s o (leading_texts k) (last_text k) fact next.nested own.low next.suits.1
+    let facts : (c : Count) → c.values ≡ number → c.keys ≡ info.first_key → AddsValue old new c (nested_mentions s (nested_keyed o (leading_texts k ++ last_text k ∷ []) fact)) = λ c v first.
+    subst (λ (x : List (List ℕ)). AddsValue old new c (nested_mentions s (nested_keyed o x fact))) split
+    (joined s o fact (ap (path_at (trie_of old)) there ∙ own.node.here) (next.matches.kind ∙ sym kd) c v first) in
+    subst (λ (x : List (List ℕ)). NestedRead (nodes_so_far old ids) (nodes_so_far new (ids ++ to ∷ [])) number info.first_key s (nested_keyed o x fact ∷ [])) whole
+    (nested_read_keyed (nodes_so_far old ids) (trie_of new) (node_infos new) to number info.first_key s o (leading_texts k) (last_text k) fact next.nested own.low next.suits.1
     (subst (λ (x : Holding). Gives (trie_of old) (trie_of new) (get_or ids o 0) to (leading_texts k) (last_text k) x) (h ∙ sym next.matches.holds)
     (subst (λ (x : ℕ). Gives (trie_of old) (trie_of new) x to (leading_texts k) (last_text k) holds) there gives))
     (λ c v first. (facts c v first).joined)
     (λ c v first. (facts c v first).fresh))
 
 pub keyed_read_all : (bytes : List ℕ) (f : Flat) (base : ℕ) (info : ValueInfo) (old new : List Node) (ids : List ℕ) (k : Keys) (number table at to : ℕ) (kind : Kind) (holds : Holding)
-    → info.owner ≡ owner.Inline table → at ≡ get_or ids (table + 1 - base) 0 → kind ≡ leaf_kind info.leaf → holds ≡ leaf_holding info.leaf → slice_get f.values number ≡ Some info
+    → info.owner ≡ owner.Inline table → at ≡ get_or ids (table + 1 - base) 0 → kind ≡ leaf_kind info.leaf → holds ≡ leaf_holding info.leaf
     → AreKeys k → key_texts k ≡ keys_in bytes f.keys info.first_key info.keys
-    → Gives (trie_of old) (trie_of new) at to (leading_texts k) (last_text k) holds → KeyedAdds old new at f.keys info.first_key (key_texts k) number kind info.span
+    → Gives (trie_of old) (trie_of new) at to (leading_texts k) (last_text k) holds → KeyedAdds old new at info.first_key (key_texts k) number kind
     → NestedValueRead bytes f base info old ids new (ids ++ to ∷ []) number
-keyed_read_all bytes f base info old new ids k number table at to kind holds is here kd h listed are texts gives joined s t next =
-    keyed_read bytes f base info old new ids k number table at to kind holds s t is here kd h listed are texts gives joined next
+keyed_read_all bytes f base info old new ids k number table at to kind holds is here kd h are texts gives joined s t next =
+    keyed_read bytes f base info old new ids k number table at to kind holds s t is here kd h are texts gives joined next
 
 -- ---- a fault among them
 

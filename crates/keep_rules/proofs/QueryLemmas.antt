@@ -1,5 +1,5 @@
 -- The answers of the stored nodes, by the paths of the nodes and the facts about them.
-use Rattle.std.proofs.Common.{◌≡◌, ℕ, suc, ◌+◌, ◌<◌, ◌≤◌, true, false, if◌then◌else◌, List, [], ◌∷◌, ◌++◌, length, take, drop, take-take, refl, sym, ◌∙◌, ap, arith, Option, Some, None}
+use Rattle.std.proofs.Common.{◌≡◌, ℕ, suc, ◌+◌, ◌<◌, ◌≤◌, true, false, if◌then◌else◌, List, [], ◌∷◌, ◌++◌, length, set, take, drop, take-take, refl, sym, ◌∙◌, ap, arith, Option, Some, None}
 use Rattle.std.specs.Prelude.{IfSome, IsNone, slice_get, nat_lt, min}
 use Rattle.std.proofs.lemmas.Bool.Decides.{Decides-ltb}
 use Rattle.std.proofs.lemmas.List.{length-map, get_or-map, take-append-drop, take_min}
@@ -7,13 +7,15 @@ use Rattle.std.proofs.lemmas.Option.{slice_get-get_or, slice_get_within, get_or_
 use Rattle.std.proofs.Math.Seq.{take-suc}
 use Rattle.keep_rules.specs.declared.index.NodeId.{NodeId}
 use Rattle.keep_nodes.specs.AllNodes.{Node, no_node, node_at}
+use Rattle.keep_meaning.specs.declared.node.Kind.{Kind}
 use Rattle.keep_meaning.specs.declared.node.NodeInfo.{NodeInfo}
 use Rattle.keep_path.specs.Path.{Part, index}
 use Rattle.keep_meaning.specs.Nodes.{node_number}
 use Rattle.keep_nodes.specs.Children.{child_ids}
 use Rattle.keep_rules.specs.Lookup.{number_of, path_numbered, children_numbered, nth_child}
-use Rattle.keep_nodes.specs.Stored.{trie_node_in, trie_of, node_infos, infos_of, IsStored}
-use Rattle.keep_nodes.specs.Facts.{NodeInfos, info_of}
+use Rattle.keep_nodes.specs.Stored.{trie_node_in, trie_of, node_infos, infos_of, info_at, IsStored}
+use Rattle.keep_nodes.specs.Facts.{NodeInfos, info_of, with_kind}
+use Rattle.keep_nodes.specs.Trie.{TrieNode, paths_of}
 use Rattle.keep_nodes.proofs.Shared.{length-paths_of, path_at-root, length_trie_of}
 use Rattle.keep_rules.proofs.LookupLemmas.{number_is, number_some, none_longer, nth_is, count_is}
 use Rattle.keep_rules.proofs.ChildLemmas.{child_by, stepped, index_is_place}
@@ -130,3 +132,11 @@ step_there path done h is = let there = slice_get-get_or path done (index 0) h i
 pub at_end : (nodes : List Node) (t : NodeInfos) → IsSeen nodes t → (path : List Part) (done n id : ℕ) → IsAt t path done id → done ≡ min n (length path) → Some id ≡ node_number t.paths (take n path)
 at_end nodes t s path done n id at is =
     sym (seen_number nodes t s id at.nested) ∙ ap (node_number t.paths) (at.led ∙ ap (λ k. take k path) is ∙ take_min n path)
+
+-- ---- another kind
+
+pub kind_set : (old new : List Node) (t : NodeInfos) (i : ℕ) (k : Kind) → node_infos old ≡ t → trie_of new ≡ trie_of old → infos_of new ≡ set (infos_of old) i (record (info_at old i) { kind = k }) → node_infos new ≡ with_kind t i k
+kind_set old new t i k view same infos =
+    ap (λ (ts : List TrieNode). let changed : NodeInfos = record { paths = paths_of ts; infos = infos_of new } in changed) same
+    ∙ ap (λ is. let changed : NodeInfos = record { paths = paths_of (trie_of old); infos = is } in changed) infos
+    ∙ ap (λ (x : NodeInfos). with_kind x i k) view

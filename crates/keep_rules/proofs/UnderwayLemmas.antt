@@ -34,7 +34,7 @@ pub record Underway (bytes : List ℕ) (f : Flat) (base from first : ℕ) (old :
   pub left : List NestedValue
   pub whole : ts ≡ done ++ left
   pub here : number ≡ from + length done
-  pub was_read : NestedRead f.values f.keys (nodes_so_far old ids) (nodes_so_far now ids') from first s done
+  pub was_read : NestedRead (nodes_so_far old ids) (nodes_so_far now ids') from first s done
   pub keys : length (marks.marks (all_nested_mentions s done)) ≡ all_nested_keys done
   pub suit : AllSuit (nesting_after s done) left
   pub matches : MatchNested bytes f base number (first + all_nested_keys done) left
@@ -50,7 +50,7 @@ begin_underway bytes f base from old ids shaped s ts first next = record {
   left = ts;
   whole = refl;
   here = omega arith;
-  was_read = nested_read_none f.values f.keys (nodes_so_far old ids) from first s shaped (keeps_same (trie_of old)) next.nested;
+  was_read = nested_read_none (nodes_so_far old ids) from first s shaped (keeps_same (trie_of old)) next.nested;
   keys = refl;
   suit = next.suit;
   matches = subst (λ (n : ℕ). MatchNested bytes f base from n ts) (let e : first ≡ first + 0 = omega arith in e) next.matches;
@@ -131,16 +131,16 @@ pub underway_more : (bytes : List ℕ) (f : Flat) (base from : ℕ) (old : List 
 underway_more bytes f base from old ids now ids' new ids'' number info there under was_read s ts first next =
     let u = under s ts first next in
     let n = underway_next bytes f base from first old ids now ids' number info s ts there u in
-    let one : NestedRead f.values f.keys (nodes_so_far now ids') (nodes_so_far new ids'') number info.first_key (nesting_after s u.done) (n.nested ∷ []) = was_read (nesting_after s u.done) n.nested n.next in
-    let two : NestedRead f.values f.keys (nodes_so_far now ids') (nodes_so_far new ids'') (from + length u.done) (first + length (marks.marks (all_nested_mentions s u.done))) (nesting_after s u.done) (n.nested ∷ []) =
-    subst (λ (k : ℕ). NestedRead f.values f.keys (nodes_so_far now ids') (nodes_so_far new ids'') k (first + length (marks.marks (all_nested_mentions s u.done))) (nesting_after s u.done) (n.nested ∷ [])) u.here
-    (subst (λ (k : ℕ). NestedRead f.values f.keys (nodes_so_far now ids') (nodes_so_far new ids'') number k (nesting_after s u.done) (n.nested ∷ [])) (n.first_is ∙ ap (λ k. first + k) (sym u.keys)) one) in
+    let one : NestedRead (nodes_so_far now ids') (nodes_so_far new ids'') number info.first_key (nesting_after s u.done) (n.nested ∷ []) = was_read (nesting_after s u.done) n.nested n.next in
+    let two : NestedRead (nodes_so_far now ids') (nodes_so_far new ids'') (from + length u.done) (first + length (marks.marks (all_nested_mentions s u.done))) (nesting_after s u.done) (n.nested ∷ []) =
+    subst (λ (k : ℕ). NestedRead (nodes_so_far now ids') (nodes_so_far new ids'') k (first + length (marks.marks (all_nested_mentions s u.done))) (nesting_after s u.done) (n.nested ∷ [])) u.here
+    (subst (λ (k : ℕ). NestedRead (nodes_so_far now ids') (nodes_so_far new ids'') number k (nesting_after s u.done) (n.nested ∷ [])) (n.first_is ∙ ap (λ k. first + k) (sym u.keys)) one) in
     record {
       done = u.done ++ n.nested ∷ [];
       left = n.rest;
       whole = u.whole ∙ ap (λ l. u.done ++ l) n.split ∙ sym (append_assoc u.done (n.nested ∷ []) n.rest);
       here = omega (arith, u.here, length-append u.done (n.nested ∷ []));
-      was_read = nested_read_then f.values f.keys (nodes_so_far old ids) (nodes_so_far now ids') (nodes_so_far new ids'') from first s u.done (n.nested ∷ []) u.was_read two;
+      was_read = nested_read_then (nodes_so_far old ids) (nodes_so_far now ids') (nodes_so_far new ids'') from first s u.done (n.nested ∷ []) u.was_read two;
       keys = marks-push s u.done n.nested n.next.keys u.keys;
       suit = subst (λ (x : NestingState). AllSuit x n.rest) (sym (nesting_after-append s u.done (n.nested ∷ []))) n.suit;
       matches = subst (λ (k : ℕ). MatchNested bytes f base (number + 1) k n.rest) (let e : (first + all_nested_keys u.done) + nested_keys n.nested ≡ first + all_nested_keys (u.done ++ n.nested ∷ []) = omega (arith, all_nested_keys-push u.done n.nested) in e) n.matches;
@@ -162,7 +162,7 @@ pub underway_ends : (bytes : List ℕ) (f : Flat) (base from : ℕ) (old : List 
 underway_ends bytes f base from old ids now ids' number ends under s ts first next =
     let u = under s ts first next in
     let all : ts ≡ u.done = u.whole ∙ ap (λ l. u.done ++ l) (none_left bytes f base (first + all_nested_keys u.done) number u.left ends u.matches) ∙ append-nil u.done in
-    subst (λ (l : List NestedValue). NestedRead f.values f.keys (nodes_so_far old ids) (nodes_so_far now ids') from first s l) (sym all) u.was_read
+    subst (λ (l : List NestedValue). NestedRead (nodes_so_far old ids) (nodes_so_far now ids') from first s l) (sym all) u.was_read
 
 -- after the last value
 pub past_ends : (values : List ValueInfo) (number : ℕ) → length values ≤ number → EndsAt values number

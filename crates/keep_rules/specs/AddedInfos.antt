@@ -1,8 +1,5 @@
 -- The facts that reading a part of the document adds to the nodes.
-use Rattle.std.specs.Prelude.{◌≡◌, ℕ, List, [], ◌∷◌, ◌++◌, length, Some}
-use Rattle.keep_parts.specs.declared.info.Span.{Span}
-use Rattle.keep_parts.specs.declared.info.KeyPart.{KeyPart}
-use Rattle.keep_parts.specs.declared.info.ValueInfo.{ValueInfo}
+use Rattle.std.specs.Prelude.{◌≡◌, ℕ, List, [], ◌∷◌, ◌++◌, length}
 use Rattle.keep_meaning.specs.declared.node.Kind.{Kind}
 use Rattle.keep_meaning.specs.declared.node.NodeInfo.{NodeInfo}
 use Rattle.keep_nodes.specs.AllNodes.{Node}
@@ -10,7 +7,7 @@ use Rattle.keep_meaning.specs.Fact.{Fact}
 use Rattle.keep_path.specs.Path.{Part, index}
 use Rattle.keep_meaning.specs.Marks.{Mention, element, begun, elements_of, Reading, Statement, statement_mentions}
 use Rattle.keep_meaning.specs.Counts.{Count, numbered_mentions}
-use Rattle.keep_meaning.specs.Nodes.{fact_kind, value_span, key_span}
+use Rattle.keep_meaning.specs.Nodes.{fact_kind}
 use Rattle.keep_nodes.specs.Facts.{with_info, with_mentions, ValuesAreNew}
 use Rattle.keep_nodes.specs.Trie.{paths_of, path_at, children_of}
 use Rattle.keep_nodes.specs.Stored.{trie_of, node_infos}
@@ -23,48 +20,44 @@ abbrev pub AddsInfo : List Node → List Node → List Part → NodeInfo → Typ
 AddsInfo old new path more = node_infos new ≡ with_info (node_infos old) path more
 
 -- the facts from these mentions were added, with the numbers from c on
-abbrev pub AddsMentions : List ValueInfo → List KeyPart → List Node → List Node → Count → List Mention → Type 0
-AddsMentions values parts old new c ms = node_infos new ≡ with_mentions values parts (node_infos old) (numbered_mentions c ms)
+abbrev pub AddsMentions : List Node → List Node → Count → List Mention → Type 0
+AddsMentions old new c ms = node_infos new ≡ with_mentions (node_infos old) (numbered_mentions c ms)
 
 -- the facts from these mentions of a header were added, from the key part number k on
-abbrev pub HeaderAdds : List Node → List Node → List KeyPart → ℕ → ℕ → (List (List Part) → List Mention) → Type 0
-HeaderAdds old new parts k statement mentioned =
+abbrev pub HeaderAdds : List Node → List Node → ℕ → ℕ → (List (List Part) → List Mention) → Type 0
+HeaderAdds old new k statement mentioned =
     (ms : List Mention) (tables : List (List Part)) → Represents (trie_of old) ms tables
-    → (values : List ValueInfo) (c : Count) → c.keys ≡ k → c.statements ≡ statement → AddsMentions values parts old new c (mentioned tables)
-
--- the facts from the mentions of a header's one key part were added
-abbrev pub KeyAdds : List Node → List Node → Span → ℕ → (List (List Part) → List Mention) → Type 0
-KeyAdds old new span statement mentioned = (parts : List KeyPart) (k : ℕ) → key_span parts k ≡ Some span → HeaderAdds old new parts k statement mentioned
+    → (c : Count) → c.keys ≡ k → c.statements ≡ statement → AddsMentions old new c (mentioned tables)
 
 -- a `[[..]]` with this full path begins an element
 abbrev pub begin_mentions : List Part → List (List Part) → List Mention
 begin_mentions path tables = record { path = path; kind = element } ∷ record { path = path ++ index (elements_of path tables) ∷ []; kind = begun } ∷ []
 
 -- the facts from a statement were added
-abbrev pub StatementAdds : List Node → List Node → List KeyPart → ℕ → ℕ → Statement → Type 0
-StatementAdds old new parts k statement s =
+abbrev pub StatementAdds : List Node → List Node → ℕ → ℕ → Statement → Type 0
+StatementAdds old new k statement s =
     (ms : List Mention) (r : Reading) (body : ℕ) → IsReading (trie_of old) body ms r
-    → (values : List ValueInfo) (c : Count) → c.keys ≡ k → c.statements ≡ statement → AddsMentions values parts old new c (statement_mentions r s)
+    → (c : Count) → c.keys ≡ k → c.statements ≡ statement → AddsMentions old new c (statement_mentions r s)
 
 -- the facts from a keyval's keys but the last were added, from the key part number k on
-abbrev pub DottedAdds : List Node → List Node → List KeyPart → ℕ → ℕ → List Mention → Type 0
-DottedAdds old new parts k value mentioned = (values : List ValueInfo) (c : Count) → c.keys ≡ k → c.values ≡ value → AddsMentions values parts old new c mentioned
+abbrev pub DottedAdds : List Node → List Node → ℕ → ℕ → List Mention → Type 0
+DottedAdds old new k value mentioned = (c : Count) → c.keys ≡ k → c.values ≡ value → AddsMentions old new c mentioned
 
 -- The facts about the node of a value and those that its keys pass were added; no path is given two values.
-pub record AddsValue (values : List ValueInfo) (parts : List KeyPart) (old new : List Node) (c : Count) (mentioned : List Mention) : Type 0 where
-  pub joined : AddsMentions values parts old new c mentioned
+pub record AddsValue (old new : List Node) (c : Count) (mentioned : List Mention) : Type 0 where
+  pub joined : AddsMentions old new c mentioned
   pub fresh : ValuesAreNew (paths_of (trie_of old)) (numbered_mentions c mentioned)
 
 -- a value with a key, in the value at a node
-abbrev pub KeyedAdds : List Node → List Node → ℕ → List KeyPart → ℕ → List (List ℕ) → ℕ → Kind → Span → Type 0
-KeyedAdds old new from parts k keys number kind span =
+abbrev pub KeyedAdds : List Node → List Node → ℕ → ℕ → List (List ℕ) → ℕ → Kind → Type 0
+KeyedAdds old new from k keys number kind =
     (s : NestingState) (o : ℕ) (f : Fact) → path_at (trie_of old) from ≡ path_of_value s o → fact_kind f ≡ kind
-    → (values : List ValueInfo) (c : Count) → value_span values number ≡ Some span → c.values ≡ number → c.keys ≡ k
-    → AddsValue values parts old new c (nested_mentions s (nested_keyed o keys f))
+    → (c : Count) → c.values ≡ number → c.keys ≡ k
+    → AddsValue old new c (nested_mentions s (nested_keyed o keys f))
 
 -- an item, in the array at a node
-abbrev pub ItemAdds : List Node → List Node → ℕ → ℕ → Kind → Span → Type 0
-ItemAdds old new array number kind span =
+abbrev pub ItemAdds : List Node → List Node → ℕ → ℕ → Kind → Type 0
+ItemAdds old new array number kind =
     (s : NestingState) (o : ℕ) (f : Fact) → path_at (trie_of old) array ≡ path_of_value s o → entries_of_value s o ≡ length (children_of (trie_of old) array) → fact_kind f ≡ kind
-    → (values : List ValueInfo) (parts : List KeyPart) (c : Count) → value_span values number ≡ Some span → c.values ≡ number
-    → AddsValue values parts old new c (nested_mentions s (nested_item o f))
+    → (c : Count) → c.values ≡ number
+    → AddsValue old new c (nested_mentions s (nested_item o f))

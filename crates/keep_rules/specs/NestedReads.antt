@@ -1,7 +1,5 @@
 -- What reading nested values does to the nodes and to the facts about them.
 use Rattle.std.specs.Prelude.{◌≡◌, ℕ, ◌+◌, ◌<◌, List, [], ◌∷◌, ◌++◌, length}
-use Rattle.keep_parts.specs.declared.info.KeyPart.{KeyPart}
-use Rattle.keep_parts.specs.declared.info.ValueInfo.{ValueInfo}
 use Rattle.keep_path.specs.Path.{Part}
 use Rattle.keep_meaning.specs.Marks.{Mention}
 use Rattle.keep_meaning.specs.Counts.{Count, numbered_mentions}
@@ -33,10 +31,10 @@ pub record NodesSoFar : Type 0 where
   pub ids : List ℕ
 
 -- These nested values were read, the first of them with that number and with the key parts from `first` on.
-pub record NestedRead (values : List ValueInfo) (parts : List KeyPart) (old new : NodesSoFar) (from first : ℕ) (s : NestingState) (ts : List NestedValue) : Type 0 where
+pub record NestedRead (old new : NodesSoFar) (from first : ℕ) (s : NestingState) (ts : List NestedValue) : Type 0 where
   pub keeps : Keeps old.trie new.trie
   pub shaped : IsShaped new.trie
   pub nested : AreValueNodes new.trie new.ids (nesting_after s ts)
   pub represents : (ms : List Mention) (tables : List (List Part)) → Represents old.trie ms tables → Represents new.trie (ms ++ all_nested_mentions s ts) tables
-  pub facts : (c : Count) → c.values ≡ from → c.keys ≡ first → new.node_infos ≡ with_mentions values parts old.node_infos (numbered_mentions c (all_nested_mentions s ts))
+  pub facts : (c : Count) → c.values ≡ from → c.keys ≡ first → new.node_infos ≡ with_mentions old.node_infos (numbered_mentions c (all_nested_mentions s ts))
   pub fresh : (c : Count) → c.values ≡ from → c.keys ≡ first → ValuesAreNew old.node_infos.paths (numbered_mentions c (all_nested_mentions s ts))

@@ -63,7 +63,7 @@ pub record FaultFrom (ms more : List Mention) (first number : ℕ) (why : Why) :
 -- the value was read as each nested value that it may be
 abbrev pub NestedValueRead : List ℕ → Flat → ℕ → ValueInfo → List Node → List ℕ → List Node → List ℕ → ℕ → Type 0
 NestedValueRead bytes f base info old ids new ids' number =
-    (s : NestingState) (t : NestedValue) → IsNext bytes f.keys (trie_of old) ids base info s t → NestedRead f.values f.keys (nodes_so_far old ids) (nodes_so_far new ids') number info.first_key s (t ∷ [])
+    (s : NestingState) (t : NestedValue) → IsNext bytes f.keys (trie_of old) ids base info s t → NestedRead (nodes_so_far old ids) (nodes_so_far new ids') number info.first_key s (t ∷ [])
 
 -- it breaks the rules there
 abbrev pub NestedValueFaults : List ℕ → Flat → ℕ → ValueInfo → List Node → List ℕ → ℕ → Why → Type 0
@@ -74,7 +74,7 @@ NestedValueFaults bytes f base info old ids number why =
 -- the values from a number on were read as all nested values that they may be
 abbrev pub NestedValuesRead : List ℕ → Flat → ℕ → ℕ → List Node → List ℕ → List Node → List ℕ → Type 0
 NestedValuesRead bytes f base from old ids new ids' =
-    (s : NestingState) (ts : List NestedValue) (first : ℕ) → AreNext bytes f (trie_of old) ids base from first s ts → NestedRead f.values f.keys (nodes_so_far old ids) (nodes_so_far new ids') from first s ts
+    (s : NestingState) (ts : List NestedValue) (first : ℕ) → AreNext bytes f (trie_of old) ids base from first s ts → NestedRead (nodes_so_far old ids) (nodes_so_far new ids') from first s ts
 
 -- one of them breaks the rules there
 abbrev pub NestedValuesFault : List ℕ → Flat → ℕ → ℕ → List Node → List ℕ → ℕ → Why → Type 0

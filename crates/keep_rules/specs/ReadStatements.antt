@@ -28,9 +28,9 @@ abbrev pub HasReading : List TrieNode → ℕ → Type 0
 HasReading nodes body = (ms : List Mention) × (r : Reading) × IsReading nodes body ms r
 
 -- the statement was read, and its facts were added
-pub record IsRead (f : Flat) (number : ℕ) (st : Statement) (old : List Node) (body : ℕ) (new : List Node) (to : ℕ) (s : marks.Statement) : Type 0 where
+pub record IsRead (number : ℕ) (st : Statement) (old : List Node) (body : ℕ) (new : List Node) (to : ℕ) (s : marks.Statement) : Type 0 where
   pub reads : Reads (trie_of old) body (trie_of new) to s
-  pub joined : (ms : List Mention) (r : Reading) → IsReading (trie_of old) body ms r → (c : Count) → IsCountBefore number st c → AddsValue f.values f.keys old new c (statement_mentions r s)
+  pub joined : (ms : List Mention) (r : Reading) → IsReading (trie_of old) body ms r → (c : Count) → IsCountBefore number st c → AddsValue old new c (statement_mentions r s)
 
 -- it breaks the rules there
 abbrev pub Breaks : Statement → List Node → ℕ → marks.Statement → ℕ → Why → Type 0
@@ -38,7 +38,7 @@ Breaks st old body s number why = (ms : List Mention) (r : Reading) → IsReadin
 
 -- the statement of the flat list was read as each statement that it may be
 abbrev pub IsReadAsMatched : List ℕ → Flat → ℕ → Statement → List Node → ℕ → List Node → ℕ → Type 0
-IsReadAsMatched bytes f number st old body new to = (s : marks.Statement) → MatchesStatement bytes f.keys f.values st s → IsRead f number st old body new to s
+IsReadAsMatched bytes f number st old body new to = (s : marks.Statement) → MatchesStatement bytes f.keys f.values st s → IsRead number st old body new to s
 
 abbrev pub BreaksAsMatched : List ℕ → Flat → Statement → List Node → ℕ → ℕ → Why → Type 0
 BreaksAsMatched bytes f st old body number why = (s : marks.Statement) → MatchesStatement bytes f.keys f.values st s → Breaks st old body s number why

@@ -3,7 +3,7 @@ ghost use Rattle.std.specs.Prelude.{◌≡◌, ◌<◌, ℕ, length, List, IfOk,
 ghost use Rattle.keep_nodes.specs.Children.{holding};
 ghost use Rattle.keep_meaning.specs.Fact.{Fact};
 ghost use Rattle.keep_rules.specs.NestedValues.{NestingState, path_of_value, nested_mentions, nested_keyed};
-ghost use Rattle.keep_rules.specs.Keys.{AreKeys, parts_of, key_texts, last_text, leading_texts};
+ghost use Rattle.keep_rules.specs.Keys.{AreKeys, key_texts, last_text, leading_texts};
 ghost use Rattle.keep_meaning.specs.Marks.{Mention};
 ghost use Rattle.keep_path.specs.Path.{Part};
 ghost use Rattle.keep_rules.specs.Reads.{Reads, FaultsIn};
@@ -21,7 +21,7 @@ use crate::keys::Keys;
 use crate::mark::{Stop, begin, mark};
 use keep_meaning::{Kind, Origin, Role};
 use keep_nodes::{Holds, NodeFacts, Nodes};
-use keep_syntax::{Span, Why};
+use keep_syntax::Why;
 
 /// The fault of the key with that number.
 fn fault_of(stop: Stop, number: usize, why: Why) -> Fault
@@ -41,17 +41,18 @@ pub fn header(nodes: &mut Nodes, keys: Keys<'_>, statement: usize) -> Result<usi
     requires keys { AreKeys keys }
     ensures stored { OnOk result (IsStored nodes.new.items) }
     ensures ok { IfOk result (λ to. (body : ℕ) → Reads (trie_of nodes.old.items) body (trie_of nodes.new.items) to (header_of keys.entry)) }
-    ensures facts { IfOk result (λ to. StatementAdds nodes.old.items nodes.new.items (parts_of keys.entry) keys.entry.first statement (header_of keys.entry)) }
+    ensures facts { IfOk result (λ to. StatementAdds nodes.old.items nodes.new.items keys.entry.first statement (header_of keys.entry)) }
     ensures define { IfErr result (λ fault. FaultMeets fault (λ number why. (body : ℕ) → FaultsIn (trie_of nodes.old.items) body (header_of keys.entry) number why)) }
 {
     let parent = walk_header(nodes, keys, statement)?;
     let number = keys.count - 1;
-    let name = keys.name(nodes.allocator(), number)?;
-    let facts = NodeFacts::named(Kind::Table, None, name.span, Origin::Header(statement));
+    let text = keys.part_text(nodes.allocator(), number)?;
+    let part = keys.part_number(number);
+    let facts = NodeFacts::named(Kind::Table, part, Origin::Header(statement));
     match mark(
         nodes,
         parent,
-        name.text.as_str(),
+        text.as_str(),
         Role::Define,
         facts,
         Holds::Keys,
@@ -69,27 +70,26 @@ pub fn element(nodes: &mut Nodes, keys: Keys<'_>, statement: usize) -> Result<us
     requires keys { AreKeys keys }
     ensures stored { OnOk result (IsStored nodes.new.items) }
     ensures ok { IfOk result (λ to. (body : ℕ) → Reads (trie_of nodes.old.items) body (trie_of nodes.new.items) to (element_of keys.entry)) }
-    ensures facts { IfOk result (λ to. StatementAdds nodes.old.items nodes.new.items (parts_of keys.entry) keys.entry.first statement (element_of keys.entry)) }
+    ensures facts { IfOk result (λ to. StatementAdds nodes.old.items nodes.new.items keys.entry.first statement (element_of keys.entry)) }
     ensures define { IfErr result (λ fault. FaultMeets fault (λ number why. (body : ℕ) → FaultsIn (trie_of nodes.old.items) body (element_of keys.entry) number why)) }
 {
     let parent = walk_header(nodes, keys, statement)?;
     let number = keys.count - 1;
-    let name = keys.name(nodes.allocator(), number)?;
-    match begin(nodes, parent, name.text.as_str(), name.span, statement) {
+    let text = keys.part_text(nodes.allocator(), number)?;
+    let part = keys.part_number(number);
+    match begin(nodes, parent, text.as_str(), part, statement) {
         Ok(to) => Ok(to),
         Err(stop) => Err(fault_of(stop, number, Role::Element.why())),
     }
 }
 
-/// Gives a value with a key to the table at a node: the value with that number, kind and origin, which may have these
-/// children.
+/// Gives a value with a key to the table at a node: the value with that number and kind, which may have these children.
 pub fn give_value(
     nodes: &mut Nodes,
     from: usize,
     keys: Keys<'_>,
     value: usize,
     kind: Kind,
-    span: Span,
     holds: Holds,
 ) -> Result<usize, Fault>
     requires stored { IsStored nodes.old.items }
@@ -99,14 +99,15 @@ pub fn give_value(
     requires keys { AreKeys keys }
     ensures stored { OnOk result (IsStored nodes.new.items) }
     ensures ok { IfOk result (λ to. Gives (trie_of nodes.old.items) (trie_of nodes.new.items) from to (leading_texts keys.entry) (last_text keys.entry) (holding holds)) }
-    ensures facts { IfOk result (λ to. KeyedAdds nodes.old.items nodes.new.items from (parts_of keys.entry) keys.entry.first (key_texts keys.entry) value kind span) }
+    ensures facts { IfOk result (λ to. KeyedAdds nodes.old.items nodes.new.items from keys.entry.first (key_texts keys.entry) value kind) }
     ensures define { IfErr result (λ fault. FaultMeets fault (λ number why. (s : NestingState) (o : ℕ) (f : Fact) → path_at (trie_of nodes.old.items) from ≡ path_of_value s o → (ms : List Mention) (tables : List (List Part)) → Represents (trie_of nodes.old.items) ms tables → FaultIn ms (nested_mentions s (nested_keyed o (key_texts keys.entry) f)) number why)) }
 {
     let parent = walk_dotted(nodes, from, keys, value)?;
     let number = keys.count - 1;
-    let name = keys.name(nodes.allocator(), number)?;
-    let facts = NodeFacts::named(kind, Some(span), name.span, Origin::Value(value));
-    match mark(nodes, parent, name.text.as_str(), Role::Value, facts, holds) {
+    let text = keys.part_text(nodes.allocator(), number)?;
+    let part = keys.part_number(number);
+    let facts = NodeFacts::named(kind, part, Origin::Value(value));
+    match mark(nodes, parent, text.as_str(), Role::Value, facts, holds) {
         Ok(to) => Ok(to),
         Err(stop) => Err(fault_of(stop, number, Role::Value.why())),
     }

@@ -22,7 +22,7 @@ use std::alloc::{AllocError, Global};
 fn root(alloc: Global, text: &str, holds: Holds) -> Result<Nodes, AllocError>
     ensures { IfOk result (λ nodes. IsRoot nodes.items (holding holds)) }
 {
-    let facts = NodeFacts::unnamed(Kind::Table, None, Origin::Root);
+    let facts = NodeFacts::unnamed(Kind::Table, Origin::Root);
     let mut nodes = Nodes::new(alloc, text);
     nodes.push(0, 0, facts, holds)?;
     Ok(nodes)

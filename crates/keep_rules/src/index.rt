@@ -1,12 +1,16 @@
 //! The nodes of a document, and what can be asked of them.
 ghost use Rattle.std.specs.Prelude.{◌≡◌, ℕ, ◌+◌, ◌-◌, ◌<◌, ◌≤◌, ◌∷◌, ◌++◌, [], None, Some, IfOk, IfErr, IfSome, IsNone, IsOkUnless, OnOk, if◌then◌else◌, List, length, nat_lt, slice_get, string_bytes, take};
+ghost use Rattle.std.specs.Option.{option_and_then};
 ghost use Rattle.keep_syntax.specs.declared.syntax.Syntax as syntax;
+ghost use Rattle.keep_syntax.specs.Contract.{IsSyntaxOf};
+ghost use Rattle.keep_syntax.specs.Numbered as numbered;
 ghost use Rattle.keep_syntax.specs.Tree.{Document, Value};
 ghost use Rattle.keep_syntax.specs.declared.fault.ReadFault.TheVariants.{Memory};
 ghost use Rattle.keep_rules.specs.Lookup.{number_of, path_numbered, children_numbered, nth_child};
 ghost use Rattle.keep_meaning.specs.Marks.{marks};
 ghost use Rattle.keep_meaning.specs.Meaning.{mentions_in};
-ghost use Rattle.keep_meaning.specs.Nodes.{node_number};
+ghost use Rattle.keep_meaning.specs.Nodes.{node_number, nodes_in, key_span_of, value_span_of};
+ghost use Rattle.keep_nodes.specs.Facts.{with_kind};
 ghost use Rattle.keep_path.specs.Path.{Part, key, index};
 ghost use Rattle.keep_path.specs.Step.{part_of};
 ghost use Rattle.keep_path.specs.PathText.{encoded_path};
@@ -16,10 +20,11 @@ ghost use Rattle.keep_meaning.specs.Rules.{ObeysRules};
 use crate::document::{read_alone, read_document};
 use crate::path_text::push_path;
 use crate::queries::{child_by, path_to};
-use keep_meaning::NodeInfo;
-use keep_nodes::Nodes;
+use crate::spans::{key_span_at, value_span_at};
+use keep_meaning::{Kind, NodeInfo, Origin};
+use keep_nodes::{Nodes, set_kind};
 use keep_path::{Path, Step};
-use keep_syntax::{ReadFault, Syntax, ValueSyntax};
+use keep_syntax::{ReadFault, Span, Syntax, ValueSyntax};
 use std::alloc::{AllocError, Global};
 use std::marker::Model;
 
@@ -203,5 +208,36 @@ impl Index {
         ensures { slice_get self.now.infos id.0 ≡ Some result }
     {
         self.nodes.facts(id.0).info()
+    }
+
+    /// Where the first key part that names the node is, in bytes from the start of the text; None for the root, an item
+    /// and an element, which no key part names. `syntax` is what was read of the document.
+    pub fn key_span(&self, id: NodeId, syntax: &Syntax) -> Option<Span>
+        requires within { id.0 < length self.now.paths }
+        ensures { (d : Document) → IsSyntaxOf syntax.now d → IsIndexOf d self.now → result ≡ option_and_then (key_span_of (numbered.parts d)) (slice_get (nodes_in d) id.0) }
+    {
+        key_span_at(syntax, self.node(id).key?)
+    }
+
+    /// Where the node's value is, in bytes from the start of the text; None for a node that is no value: the root, the
+    /// table of a header or of dotted keys, an array of tables and an element. `syntax` is what was read of the
+    /// document.
+    pub fn value_span(&self, id: NodeId, syntax: &Syntax) -> Option<Span>
+        requires within { id.0 < length self.now.paths }
+        ensures { (d : Document) → IsSyntaxOf syntax.now d → IsIndexOf d self.now → result ≡ option_and_then (value_span_of (numbered.values d)) (slice_get (nodes_in d) id.0) }
+    {
+        let Origin::Value(number) = self.node(id).origin else {
+            return None;
+        };
+        value_span_at(syntax, number)
+    }
+
+    /// The node is of another kind from now on: that of a value in place of one, where neither has a value in it. It
+    /// takes no memory.
+    pub fn set_kind(&mut self, id: NodeId, kind: Kind)
+        requires within { id.0 < length self.old.paths }
+        ensures { self.new ≡ with_kind self.old id.0 kind }
+    {
+        set_kind(&mut self.nodes, id.0, kind);
     }
 }

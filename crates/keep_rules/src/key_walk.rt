@@ -1,6 +1,6 @@
 //! Walks along the keys of headers and keyvals.
 ghost use Rattle.std.specs.Prelude.{◌≡◌, ◌<◌, length, List, [], IfOk, OnOk, IfErr};
-ghost use Rattle.keep_rules.specs.Keys.{AreKeys, parts_of, leading_texts};
+ghost use Rattle.keep_rules.specs.Keys.{AreKeys, leading_texts};
 ghost use Rattle.keep_meaning.specs.Marks.{Mention};
 ghost use Rattle.keep_path.specs.Path.{Part};
 ghost use Rattle.keep_rules.specs.Represents.{Represents, FaultIn};
@@ -51,13 +51,14 @@ pub fn walk_header(nodes: &mut Nodes, keys: Keys<'_>, statement: usize) -> Resul
     ensures nested { IfOk result (λ to. to < length nodes.new.items) }
     ensures keyed { IfOk result (λ to. holds_at (trie_of nodes.new.items) to ≡ by_key) }
     ensures ok { IfOk result (λ to. Walks (trie_of nodes.old.items) (trie_of nodes.new.items) to (leading_texts keys.entry)) }
-    ensures facts { IfOk result (λ to. HeaderAdds nodes.old.items nodes.new.items (parts_of keys.entry) keys.entry.first statement (λ tables. walk_mentions tables [] (leading_texts keys.entry))) }
+    ensures facts { IfOk result (λ to. HeaderAdds nodes.old.items nodes.new.items keys.entry.first statement (λ tables. walk_mentions tables [] (leading_texts keys.entry))) }
     ensures define { IfErr result (λ fault. FaultMeets fault (λ number why. (ms : List Mention) (tables : List (List Part)) → Represents (trie_of nodes.old.items) ms tables → FaultIn ms (walk_mentions tables [] (leading_texts keys.entry)) number why)) }
 {
     let mut at = 0;
     for number in 0..keys.count - 1 {
-        let name = keys.name(nodes.allocator(), number)?;
-        at = match pass(nodes, at, name.text.as_str(), name.span, statement) {
+        let text = keys.part_text(nodes.allocator(), number)?;
+        let part = keys.part_number(number);
+        at = match pass(nodes, at, text.as_str(), part, statement) {
             Ok(to) => to,
             Err(Stop::Refused) => {
                 return Err(Fault::Define {
@@ -87,21 +88,15 @@ pub fn walk_dotted(
     ensures shaped { OnOk result (IsShaped (trie_of nodes.new.items)) }
     ensures nested { IfOk result (λ to. to < length nodes.new.items) }
     ensures ok { IfOk result (λ to. Dots (trie_of nodes.old.items) (trie_of nodes.new.items) from to (leading_texts keys.entry)) }
-    ensures facts { IfOk result (λ to. DottedAdds nodes.old.items nodes.new.items (parts_of keys.entry) keys.entry.first value (dotted_mentions (path_at (trie_of nodes.old.items) from) (leading_texts keys.entry))) }
+    ensures facts { IfOk result (λ to. DottedAdds nodes.old.items nodes.new.items keys.entry.first value (dotted_mentions (path_at (trie_of nodes.old.items) from) (leading_texts keys.entry))) }
     ensures define { IfErr result (λ fault. FaultMeets fault (λ number why. (ms : List Mention) (tables : List (List Part)) → Represents (trie_of nodes.old.items) ms tables → FaultIn ms (dotted_mentions (path_at (trie_of nodes.old.items) from) (leading_texts keys.entry)) number why)) }
 {
     let mut at = from;
     for number in 0..keys.count - 1 {
-        let name = keys.name(nodes.allocator(), number)?;
-        let dotted = NodeFacts::named(Kind::Table, None, name.span, Origin::Dotted(value));
-        at = match mark(
-            nodes,
-            at,
-            name.text.as_str(),
-            Role::Dotted,
-            dotted,
-            Holds::Keys,
-        ) {
+        let text = keys.part_text(nodes.allocator(), number)?;
+        let part = keys.part_number(number);
+        let dotted = NodeFacts::named(Kind::Table, part, Origin::Dotted(value));
+        at = match mark(nodes, at, text.as_str(), Role::Dotted, dotted, Holds::Keys) {
             Ok(to) => to,
             Err(Stop::Refused) => {
                 return Err(Fault::Define {

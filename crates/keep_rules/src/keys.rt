@@ -2,10 +2,9 @@
 ghost use Rattle.std.specs.Prelude.{◌≡◌, ◌+◌, ◌<◌, Some, slice_get, IfOk};
 ghost use Rattle.keep_meaning.specs.KeyText.{text_of_key};
 ghost use Rattle.keep_rules.specs.Keys.{AreKeys, parts_of, key_text_at};
-ghost use Rattle.keep_meaning.specs.Nodes.{key_span};
 
 use keep_meaning::key_text::{KeyText, key_text};
-use keep_syntax::{KeyPart, Parts, Span};
+use keep_syntax::{KeyPart, Parts};
 use std::alloc::{AllocError, Global};
 
 /// A key as it is written in the document: `count` of its key parts, from the one number `first` on.
@@ -15,13 +14,6 @@ pub struct Keys<'a> {
     pub parts: &'a Parts,
     pub first: usize,
     pub count: usize,
-}
-
-/// A part of a key: its decoded text, and its place.
-#[derive(Drop)]
-pub struct Name<'a> {
-    pub text: KeyText<'a>,
-    pub span: Span,
 }
 
 impl<'a> Keys<'a> {
@@ -34,19 +26,22 @@ impl<'a> Keys<'a> {
         self.parts.key_part(self.first + number)
     }
 
-    /// The key part with that number within the key, decoded. The only error is out of memory.
-    #[inline(always)]
-    pub fn name(&self, alloc: Global, number: usize) -> Result<Name<'a>, AllocError>
+    /// The number in the document of the key part with that number within the key, from 0.
+    pub fn part_number(&self, number: usize) -> usize
         requires keys { AreKeys self.now }
         requires within { number < self.now.count }
-        ensures text { IfOk result (λ name. text_of_key name.text ≡ key_text_at self.now number) }
-        ensures span { IfOk result (λ name. key_span (parts_of self.now) (self.now.first + number) ≡ Some name.span) }
+        ensures { result ≡ self.now.first + number }
     {
-        let part = self.part(number);
-        let text = key_text(alloc, self.text, part)?;
-        Ok(Name {
-            text,
-            span: part.span,
-        })
+        self.first + number
+    }
+
+    /// The key part with that number within the key, decoded. The only error is out of memory.
+    #[inline(always)]
+    pub fn part_text(&self, alloc: Global, number: usize) -> Result<KeyText<'a>, AllocError>
+        requires keys { AreKeys self.now }
+        requires within { number < self.now.count }
+        ensures { IfOk result (λ text. text_of_key text ≡ key_text_at self.now number) }
+    {
+        key_text(alloc, self.text, self.part(number))
     }
 }

@@ -7,7 +7,7 @@ use keep_meaning::Kind;
 use keep_nodes::Holds;
 use keep_token::Leaf;
 
-/// The kind of a value.
+/// The kind of the value that begins with this leaf.
 pub fn kind_of(leaf: Leaf) -> Kind
     ensures { result ≡ leaf_kind leaf }
 {

@@ -12,9 +12,11 @@ mod mark;
 mod nested_values;
 mod path_text;
 mod queries;
+mod spans;
 mod statement;
 
 pub use index::{Index, NodeId};
 pub use keep_meaning::{Kind, NodeInfo, Origin, Role};
 pub use keep_path::{Path, PathFault, Step};
 pub use keep_syntax::Why;
+pub use kinds::kind_of;

@@ -7,13 +7,12 @@ ghost use Rattle.keep_rules.specs.Represents.{IsMarked, WasRefused, IsLastElemen
 ghost use Rattle.keep_rules.specs.Steps.{AddsItem};
 ghost use Rattle.keep_nodes.specs.Stored.{IsStored, trie_of};
 ghost use Rattle.keep_rules.specs.Tables.{Fits, IsShaped, is_tables};
-ghost use Rattle.keep_rules.specs.AddedInfos.{AddsInfo, KeyAdds, ItemAdds, begin_mentions};
+ghost use Rattle.keep_rules.specs.AddedInfos.{AddsInfo, HeaderAdds, ItemAdds, begin_mentions};
 ghost use Rattle.keep_nodes.specs.Facts.{info_of};
 ghost use Rattle.keep_nodes.specs.Trie.{Holding, by_key, by_index, holds_at, path_at, state_at};
 
 use keep_meaning::{Kind, Origin, Role, state_after};
 use keep_nodes::{Holds, NodeFacts, Nodes, add_facts, add_item, add_key, child_of, set_role};
-use keep_syntax::Span;
 use std::alloc::AllocError;
 
 /// Why a mark was not made.
@@ -97,12 +96,13 @@ fn last_element(nodes: &Nodes, id: usize) -> Option<usize>
     nodes.last_item(id)
 }
 
-/// Goes past a key of a header that is not the last: to the last element of an array of tables, else with a mark.
+/// Goes past a key of a header that is not the last, the key part with that number: to the last element of an array of
+/// tables, else with a mark.
 pub fn pass(
     nodes: &mut Nodes,
     parent: usize,
     text: &str,
-    span: Span,
+    number: usize,
     statement: usize,
 ) -> Result<usize, Stop>
     requires stored { IsStored nodes.old.items }
@@ -114,11 +114,11 @@ pub fn pass(
     ensures nested { IfOk result (λ to. to < length nodes.new.items) }
     ensures keyed { IfOk result (λ to. holds_at (trie_of nodes.new.items) to ≡ by_key) }
     ensures ok { IfOk result (λ to. Passes (trie_of nodes.old.items) (trie_of nodes.new.items) parent to text.now) }
-    ensures facts { IfOk result (λ to. KeyAdds nodes.old.items nodes.new.items span statement (λ tables. passing_mentions tables (path_at (trie_of nodes.old.items) parent ++ key text.now ∷ []))) }
+    ensures facts { IfOk result (λ to. HeaderAdds nodes.old.items nodes.new.items number statement (λ tables. passing_mentions tables (path_at (trie_of nodes.old.items) parent ++ key text.now ∷ []))) }
     ensures refused { result ≡ Err Stop.Refused → WasRefused (trie_of nodes.old.items) (path_at (trie_of nodes.old.items) parent ++ key text.now ∷ []) Role.Through }
     ensures plain { result ≡ Err Stop.Refused → HasNoElement (trie_of nodes.old.items) (path_at (trie_of nodes.old.items) parent ++ key text.now ∷ []) }
 {
-    let through = NodeFacts::named(Kind::Table, None, span, Origin::Through(statement));
+    let through = NodeFacts::named(Kind::Table, number, Origin::Through(statement));
     let Some(child) = child_of(nodes, parent, text) else {
         return mark(nodes, parent, text, Role::Through, through, Holds::Keys);
     };
@@ -126,18 +126,18 @@ pub fn pass(
         mark_existing(nodes, child, Role::Through, through)?;
         return Ok(child);
     };
-    let past = NodeFacts::named(Kind::Table, None, span, Origin::Root);
+    let past = NodeFacts::named(Kind::Table, number, Origin::Root);
     add_facts(nodes, child, past)?;
     add_facts(nodes, last, NodeFacts::passed())?;
     Ok(last)
 }
 
-/// Begins an element of the array of tables that a key names.
+/// Begins an element of the array of tables that a key names, the key part with that number.
 pub fn begin(
     nodes: &mut Nodes,
     parent: usize,
     text: &str,
-    span: Span,
+    number: usize,
     statement: usize,
 ) -> Result<usize, Stop>
     requires stored { IsStored nodes.old.items }
@@ -146,21 +146,20 @@ pub fn begin(
     requires keyed { holds_at (trie_of nodes.old.items) parent ≡ by_key }
     ensures stored { OnOk result (IsStored nodes.new.items) }
     ensures ok { IfOk result (λ to. Begins (trie_of nodes.old.items) (trie_of nodes.new.items) parent to text.now) }
-    ensures facts { IfOk result (λ to. KeyAdds nodes.old.items nodes.new.items span statement (begin_mentions (path_at (trie_of nodes.old.items) parent ++ key text.now ∷ []))) }
+    ensures facts { IfOk result (λ to. HeaderAdds nodes.old.items nodes.new.items number statement (begin_mentions (path_at (trie_of nodes.old.items) parent ++ key text.now ∷ []))) }
     ensures refused { result ≡ Err Stop.Refused → WasRefused (trie_of nodes.old.items) (path_at (trie_of nodes.old.items) parent ++ key text.now ∷ []) Role.Element }
 {
-    let tables = NodeFacts::named(Kind::Tables, None, span, Origin::Tables);
+    let tables = NodeFacts::named(Kind::Tables, number, Origin::Tables);
     let id = mark(nodes, parent, text, Role::Element, tables, Holds::Items)?;
-    let element = NodeFacts::unnamed(Kind::Table, None, Origin::Element(statement));
+    let element = NodeFacts::unnamed(Kind::Table, Origin::Element(statement));
     Ok(add_item(nodes, id, element, Holds::Keys)?)
 }
 
-/// Adds an item to an array: the value with that number, kind and origin, which may have these children.
+/// Adds an item to an array: the value with that number and kind, which may have these children.
 pub fn give_item(
     nodes: &mut Nodes,
     array: usize,
     kind: Kind,
-    span: Span,
     value: usize,
     holds: Holds,
 ) -> Result<usize, AllocError>
@@ -171,9 +170,9 @@ pub fn give_item(
     requires plain { is_tables (state_at (trie_of nodes.old.items) array) ≡ false }
     ensures ok { IfOk result (λ to. AddsItem (trie_of nodes.old.items) (trie_of nodes.new.items) array to (holding holds)) }
     ensures stored { OnOk result (IsStored nodes.new.items) }
-    ensures facts { IfOk result (λ to. ItemAdds nodes.old.items nodes.new.items array value kind span) }
+    ensures facts { IfOk result (λ to. ItemAdds nodes.old.items nodes.new.items array value kind) }
 {
-    let facts = NodeFacts::unnamed(kind, Some(span), Origin::Value(value));
+    let facts = NodeFacts::unnamed(kind, Origin::Value(value));
     add_item(nodes, array, facts, holds)
 }
 

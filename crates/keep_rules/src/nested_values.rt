@@ -1,5 +1,5 @@
 //! Reading the values that are nested in a value, one after another.
-ghost use Rattle.std.specs.Prelude.{◌≡◌, ◌+◌, ◌≤◌, ◌∷◌, ◌++◌, ℕ, [], List, Some, length, slice_get, IfOk, OnOk, IfErr};
+ghost use Rattle.std.specs.Prelude.{◌≡◌, ◌+◌, ◌≤◌, ◌∷◌, ◌++◌, ℕ, [], List, length, IfOk, OnOk, IfErr};
 ghost use Rattle.keep_parts.specs.Flat.{flat};
 ghost use Rattle.keep_rules.specs.NestedValues.{NestingState, NestedValue};
 ghost use Rattle.keep_rules.specs.Plans.{AreReadable, IsNext, AreNext, RepresentsSome, NestedValueRead, NestedValueFaults, NestedValuesRead, NestedValuesFault, fault_from};
@@ -53,7 +53,6 @@ fn read_value(
     requires shaped { IsShaped (trie_of nodes.old.items) }
     requires readable { AreReadable text.now (flat parts.now).keys }
     requires numbered { base + length ids.now ≡ number + 1 }
-    requires listed { slice_get (flat parts.now).values number ≡ Some value }
     requires next { (s : NestingState) × (t : NestedValue) × IsNext text.now (flat parts.now).keys (trie_of nodes.old.items) ids.now base value s t }
     requires represents { RepresentsSome (trie_of nodes.old.items) }
     ensures stored { OnOk result (IsStored nodes.new.items) }
@@ -65,7 +64,7 @@ fn read_value(
     match value.owner {
         Owner::Item(array) => {
             let at = ids[array + 1 - base];
-            Ok(give_item(nodes, at, kind, value.span, number, holds)?)
+            Ok(give_item(nodes, at, kind, number, holds)?)
         }
         Owner::Inline(table) => {
             let at = ids[table + 1 - base];
@@ -75,7 +74,7 @@ fn read_value(
                 first: value.first_key,
                 count: value.keys,
             };
-            match give_value(nodes, at, keys, number, kind, value.span, holds) {
+            match give_value(nodes, at, keys, number, kind, holds) {
                 Ok(id) => Ok(id),
                 Err(fault) => Err(fault_from(fault, value.first_key)),
             }

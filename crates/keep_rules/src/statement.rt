@@ -2,7 +2,7 @@
 ghost use Rattle.std.specs.Prelude.{◌≡◌, ℕ, List, Some, None, IfOk, OnOk, IfErr};
 ghost use Rattle.keep_parts.specs.Flat.{flat};
 ghost use Rattle.keep_rules.specs.FlatStatements.{MatchesStatement};
-ghost use Rattle.keep_rules.specs.Keys.{AreKeys, parts_of};
+ghost use Rattle.keep_rules.specs.Keys.{AreKeys};
 ghost use Rattle.keep_meaning.specs.Marks as marks;
 ghost use Rattle.keep_rules.specs.Plans.{AreReadable};
 ghost use Rattle.keep_rules.specs.ReadStatements.{HasReading, IsReadAsMatched, BreaksAsMatched, head_of};
@@ -34,7 +34,7 @@ fn read_head(
     requires keys { AreKeys keys }
     ensures stored { OnOk result (IsStored nodes.new.items) }
     ensures ok { IfOk result (λ to. (body : ℕ) → Reads (trie_of nodes.old.items) body (trie_of nodes.new.items) to (head_of kind keys.entry)) }
-    ensures facts { IfOk result (λ to. StatementAdds nodes.old.items nodes.new.items (parts_of keys.entry) keys.entry.first number (head_of kind keys.entry)) }
+    ensures facts { IfOk result (λ to. StatementAdds nodes.old.items nodes.new.items keys.entry.first number (head_of kind keys.entry)) }
     ensures define { IfErr result (λ fault. FaultMeets fault (λ at why. (body : ℕ) → FaultsIn (trie_of nodes.old.items) body (head_of kind keys.entry) at why)) }
 {
     match kind {
@@ -101,7 +101,7 @@ fn read_keyval(
     };
     let kind = kind_of(value.leaf);
     let holds = holds_of_leaf(value.leaf);
-    let top = match give_value(nodes, body, keys, number, kind, value.span, holds) {
+    let top = match give_value(nodes, body, keys, number, kind, holds) {
         Ok(top) => top,
         Err(fault) => return Err(fault_from(fault, statement.first_key)),
     };

@@ -5,7 +5,12 @@ use Rattle.keep_syntax.specs.declared.syntax.Syntax.{Syntax}
 use Rattle.keep_syntax.specs.Tree.{Document}
 use Rattle.keep_syntax.specs.Numbered.{tokens}
 use Rattle.keep_syntax.specs.Contract.{tokens_of}
+use Rattle.keep_meaning.specs.Counts.{statements_in}
+use Rattle.keep_meaning.specs.Marks.{start, reading_after}
+use Rattle.keep_meaning.specs.Meaning.{mentions_in}
 use Rattle.keep_nodes.specs.Facts.{NodeInfos}
+use Rattle.keep_rules.specs.Nested.{AreNested}
+use Rattle.keep_rules.specs.ReadDocuments.{IsIndexOf}
 use Rattle.keep_splice.specs.Reading.{ProfiledText, text_in, IsTextOfTree, telling_in, Holds}
 use Rattle.keep_splice.proofs.ReadLaws.{one_tree}
 
@@ -26,3 +31,11 @@ tokens_are t syntax index s h read = ap (tokens_of syntax) h.read.reads.spelled 
 
 pub stated_is : (t : ProfiledText) (syntax : Syntax) (index : NodeInfos) (s : Document) → Holds t syntax index → IsTextOfTree t s → index ≡ telling_in s
 stated_is t syntax index s h read = h.stated ∙ ap telling_in (tree_is t syntax index s h read)
+
+-- the index is the document's
+pub index_of : (d : ProfiledText) (syntax : Syntax) (index : NodeInfos) (s : Document) → Holds d syntax index → IsTextOfTree d s → IsIndexOf s index
+index_of d syntax index s holds read = record {
+  obeys = read.obeys;
+  nested = subst (λ (u : Document). AreNested (mentions_in u) (reading_after start (statements_in u)).tables) (tree_is d syntax index s holds read) holds.nested;
+  facts = stated_is d syntax index s holds read;
+}

@@ -15,12 +15,8 @@ use Rattle.keep_parts.specs.declared.info.Span.{Span}
 use Rattle.keep_syntax.specs.Numbered.{span}
 use Rattle.keep_syntax.specs.Tree as tree
 use Rattle.keep_syntax.specs.Tree.{Written, Document, Content, token, key_leaves, further_leaves, text_of, text}
-use Rattle.keep_meaning.specs.Counts.{statements_in}
-use Rattle.keep_meaning.specs.Marks.{start, reading_after}
+use Rattle.keep_meaning.specs.Marks.{start}
 use Rattle.keep_meaning.specs.Meaning.{mentions_in}
-use Rattle.keep_nodes.specs.Facts.{NodeInfos}
-use Rattle.keep_rules.specs.Nested.{AreNested}
-use Rattle.keep_rules.specs.ReadDocuments.{IsIndexOf}
 use Rattle.keep_law.specs.declared.fault.EditFault.TheVariants as fault
 use Rattle.keep_law.specs.Edits.{place, key_with, further_part}
 use Rattle.keep_law.specs.Laws.{IsLawfulEdit}
@@ -33,18 +29,8 @@ use Rattle.keep_splice.specs.declared.header.Header.{Header}
 use Rattle.keep_splice.specs.declared.header.Header.TheVariants.{Table, Element}
 use Rattle.keep_splice.specs.Places.{place_at, IsDoneAt, IsPatchAt}
 use Rattle.keep_splice.specs.Reading.{limit, ProfiledText, Holds, IsTextOfTree}
-use Rattle.keep_splice.proofs.AnswerLaws.{tree_is, stated_is}
 use Rattle.keep_splice.proofs.AppendLaws.{further_key}
 use Rattle.keep_splice.proofs.EditedLaws.{editable}
-
--- ---- the index is the document's
-
-pub index_of : (d : ProfiledText) (syntax : Syntax) (index : NodeInfos) (s : Document) → Holds d syntax index → IsTextOfTree d s → IsIndexOf s index
-index_of d syntax index s holds read = record {
-  obeys = read.obeys;
-  nested = subst (λ (u : Document). AreNested (mentions_in u) (reading_after start (statements_in u)).tables) (tree_is d syntax index s holds read) holds.nested;
-  facts = stated_is d syntax index s holds read;
-}
 
 -- ---- the refusal
 

@@ -19,7 +19,7 @@ use Rattle.keep_meaning.specs.KeyText.{text_at}
 use Rattle.keep_rules.specs.Lookup.{number_of}
 use Rattle.keep_meaning.specs.Marks.{Mention, marks}
 use Rattle.keep_meaning.specs.Meaning.{body_fact, mentions_in}
-use Rattle.keep_meaning.specs.Nodes.{is_at, is_root, is_node, fact_at, node_number, node_paths, is_element, is_begun, is_define, is_dotted, is_through, numbered_at, last_number, value_number, statement_number, first_that_fits, mentioned_origin}
+use Rattle.keep_meaning.specs.Nodes.{is_at, is_root, is_node, fact_at, node_at, node_number, node_paths, nodes_in, is_element, is_begun, is_define, is_dotted, is_through, numbered_at, last_number, value_number, statement_number, first_that_fits, mentioned_origin}
 use Rattle.keep_path.specs.Path.{Part}
 use Rattle.keep_meaning.specs.Rules.{ObeysRules}
 use Rattle.keep_nodes.specs.Facts.{NodeInfos}
@@ -33,7 +33,7 @@ use Rattle.keep_law.proofs.Shared.{get_is_right, IsValueOf, value_of_number, non
 use Rattle.keep_splice.specs.Reading.{ProfiledText, IsTextOfTree, Holds}
 use Rattle.keep_splice.specs.Answers.{value_number_of, HasNoValue, IsSpanOf}
 use Rattle.keep_splice.proofs.AnswerLaws.{tree_is, stated_is}
-use Rattle.keep_splice.proofs.NodeLaws.{info_at, info_of_number, no_node, a_node, kind_stated}
+use Rattle.keep_splice.proofs.NodeLaws.{info_at, info_of_number, node_of_number, no_node, a_node, kind_stated}
 use Rattle.keep_splice.proofs.ValueEnds.{value_ends, starts_between, ends_between}
 
 -- ---- the node
@@ -56,6 +56,10 @@ module _ (d : ProfiledText) (syntax : Syntax) (index : NodeInfos) (path : List P
       let same : Some info ≡ Some (info_at path s) =
       sym there ∙ ap (λ (t : NodeInfos). slice_get t.infos id.0) (stated_is d syntax index s holds read) ∙ info_of_number path s id.0 number in
       record { node = a_node path (mentions_in s) id.0 number; is = cc }
+
+  -- the node itself
+  pub node_found : (id : NodeId) (o : Option NodeId) → o ≡ Some id → number_of o ≡ node_number index.paths path → slice_get (nodes_in s) id.0 ≡ Some (node_at (numbered_in s) path)
+  node_found id o one found = node_of_number path s id.0 (ap (λ (ps : List (List Part)). node_number ps path) (sym paths_are) ∙ sym found ∙ ap number_of one)
 
 -- ---- its value
 

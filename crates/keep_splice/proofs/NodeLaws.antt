@@ -7,7 +7,6 @@ use Rattle.std.proofs.Math.Bool.{or-false}
 use Rattle.std.proofs.lemmas.List.Folds.{list_any-append}
 use Rattle.std.proofs.lemmas.Option.{slice_get-map, slice_get-get_or}
 use Rattle.keep_syntax.specs.Tree.{Document}
-use Rattle.keep_syntax.specs.Numbered as syntax
 use Rattle.keep_meaning.specs.declared.node.NodeInfo.{NodeInfo}
 use Rattle.keep_path.specs.Path.{Part, same_path}
 use Rattle.keep_meaning.specs.Marks.{Mention}
@@ -71,16 +70,18 @@ a_node path ms i e = elim (met_or_unmet (node_paths ms) path) [
 -- ---- what is known of it
 
 abbrev pub info_at : List Part → Document → NodeInfo
-info_at path s = node_info (syntax.values s) (syntax.parts s) (node_at (numbered_in s) path)
+info_at path s = node_info (node_at (numbered_in s) path)
 
-pub info_of_number : (path : List Part) (s : Document) (i : ℕ) → node_number (node_paths (mentions_in s)) path ≡ Some i → slice_get (infos_in s) i ≡ Some (info_at path s)
-info_of_number path s i e =
+pub node_of_number : (path : List Part) (s : Document) (i : ℕ) → node_number (node_paths (mentions_in s)) path ≡ Some i → slice_get (nodes_in s) i ≡ Some (node_at (numbered_in s) path)
+node_of_number path s i e =
     let paths : List (List Part) = node_paths (map mention_of (numbered_in s)) in
     let same : node_paths (mentions_in s) ≡ paths = ap node_paths (sym (mentions-numbered_in s)) in
     let (within, here) = number_is paths path i (ap (λ (ps : List (List Part)). node_number ps path) (sym same) ∙ e) in
     let there : slice_get paths i ≡ Some path = slice_get-get_or paths i [] within ∙ ap Some here in
-    slice_get-map (node_info (syntax.values s) (syntax.parts s)) (nodes_in s) i
-    ∙ ap (option_map (node_info (syntax.values s) (syntax.parts s))) (slice_get-map (node_at (numbered_in s)) paths i ∙ ap (option_map (node_at (numbered_in s))) there)
+    slice_get-map (node_at (numbered_in s)) paths i ∙ ap (option_map (node_at (numbered_in s))) there
+
+pub info_of_number : (path : List Part) (s : Document) (i : ℕ) → node_number (node_paths (mentions_in s)) path ≡ Some i → slice_get (infos_in s) i ≡ Some (info_at path s)
+info_of_number path s i e = slice_get-map node_info (nodes_in s) i ∙ ap (option_map node_info) (node_of_number path s i e)
 
 -- ---- its kind
 

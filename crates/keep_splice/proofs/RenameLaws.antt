@@ -1,6 +1,7 @@
 -- Renaming a key: when it is refused, and where the key is.
 use Rattle.std.proofs.Common.{◌≡◌, ℕ, suc, ◌-◌, Bool, true, false, List, [], ◌∷◌, ◌++◌, length, take, slice_get, refl, sym, ap, subst, ◌∙◌, arith, Option, Some, None, Ok}
 use Rattle.std.specs.Prelude.{not, ◌&&◌, ◌||◌, ◌==◌, ◌++◌, IsUtf8, is_some}
+use Rattle.std.specs.Option.{option_and_then}
 use Rattle.std.proofs.lemmas.Bool.{eqb-true}
 use Rattle.keep_syntax.specs.declared.syntax.Syntax.{Syntax}
 use Rattle.keep_token.specs.declared.leaf.Profile.{Profile}
@@ -11,7 +12,11 @@ use Rattle.keep_meaning.specs.declared.node.NodeInfo.{NodeInfo}
 use Rattle.keep_meaning.specs.Meaning.{mentions_in}
 use Rattle.keep_rules.specs.declared.index.NodeId.{NodeId}
 use Rattle.keep_rules.specs.Lookup.{number_of}
-use Rattle.keep_meaning.specs.Nodes.{is_root, is_node, mark_count, node_number, node_paths}
+use Rattle.keep_meaning.specs.Nodes.{is_root, is_node, mark_count, node_at, node_number, node_paths, nodes_in, key_span_of}
+use Rattle.keep_rules.specs.ReadDocuments.{IsIndexOf}
+use Rattle.keep_meaning.specs.Counts.{numbered_in}
+use Rattle.keep_syntax.specs.Numbered as numbered
+use Rattle.keep_syntax.specs.Contract.{IsSyntaxOf}
 use Rattle.keep_nodes.specs.Facts.{NodeInfos}
 use Rattle.keep_meaning.proofs.Shared.{paths-nodes_in, parts_readable}
 use Rattle.keep_path.specs.Path.{Part, key, index as index_part}
@@ -24,9 +29,9 @@ use Rattle.keep_law.specs.Refusals.{refusal, first_that_holds, ends_in_index, be
 use Rattle.keep_law.proofs.Shared.{rename_lawful, false_unless, IsKeyRenamed, marks_stated, rename_placed, rename_place_is}
 use Rattle.keep_splice.specs.Reading.{limit, ProfiledText, Holds, IsTextOfTree}
 use Rattle.keep_splice.specs.Places.{IsDoneAt}
-use Rattle.keep_splice.proofs.AnswerLaws.{stated_is}
+use Rattle.keep_splice.proofs.AnswerLaws.{index_of, stated_is, tree_is}
 use Rattle.keep_splice.proofs.NodeLaws.{a_node}
-use Rattle.keep_splice.proofs.FoundLaws.{IsStated, none_found}
+use Rattle.keep_splice.proofs.FoundLaws.{IsStated, node_found, none_found}
 use Rattle.keep_splice.proofs.EditedLaws.{editable}
 
 -- ---- the refusal
@@ -132,14 +137,23 @@ beside_test d syntax index path t s holds read o found =
 -- ---- where the key is
 
 -- what was looked up of the path's node, where it ends in a key and the new key is free
-pub record IsOneKey (d : ProfiledText) (t : List ℕ) (path : List Part) (s : Document) (info : NodeInfo) : Type 0 where
+pub record IsOneKey (d : ProfiledText) (t : List ℕ) (path : List Part) (s : Document) (info : NodeInfo) (key_span : Option Span) : Type 0 where
   pub read : IsTextOfTree d s
   pub utf8 : IsUtf8 t
   pub stated : IsStated path s info
+  pub key_is : key_span ≡ key_span_of (numbered.parts s) (node_at (numbered_in s) path)
   pub by_key : ends_in_key path ≡ true
   pub fresh : is_node (beside path t) (mentions_in s) ≡ false
 
-module _ (d : ProfiledText) (t : List ℕ) (path : List Part) (s : Document) (info : NodeInfo) (at : IsOneKey d t path s info) where
+-- the span that the index gives of the node's key
+pub key_found : (d : ProfiledText) (syntax : Syntax) (index : NodeInfos) (path : List Part) (s : Document) → Holds d syntax index → IsTextOfTree d s → (id : NodeId) (o : Option NodeId) → o ≡ Some id → number_of o ≡ node_number index.paths path
+    → (key_span : Option Span) → ((u : Document) → IsSyntaxOf syntax u → IsIndexOf u index → key_span ≡ option_and_then (key_span_of (numbered.parts u)) (slice_get (nodes_in u) id.0))
+    → key_span ≡ key_span_of (numbered.parts s) (node_at (numbered_in s) path)
+key_found d syntax index path s holds read id o one found key_span is =
+    is s (subst (λ (u : Document). IsSyntaxOf syntax u) (tree_is d syntax index s holds read) holds.is) (index_of d syntax index s holds read)
+    ∙ ap (option_and_then (key_span_of (numbered.parts s))) (node_found d syntax index path s holds read id o one found)
+
+module _ (d : ProfiledText) (t : List ℕ) (path : List Part) (s : Document) (info : NodeInfo) (key_span : Option Span) (at : IsOneKey d t path s info key_span) where
   marks_are : info.marks ≡ mark_count path (mentions_in s)
   marks_are = ap (λ (i : NodeInfo). i.marks) at.stated.is ∙ marks_stated path s
 
@@ -159,17 +173,17 @@ module _ (d : ProfiledText) (t : List ℕ) (path : List Part) (s : Document) (in
   lawful e = rename_lawful d.profile limit s path t (editable d s at.read) at.utf8 (allowed e)
 
   -- one key part has a place
-  pub has_span : info.marks ≡ 1 → info.key_span ≡ None → ⊥
+  pub has_span : info.marks ≡ 1 → key_span ≡ None → ⊥
   has_span e none =
       let h = renamed e (lawful e) in
-      let k : None ≡ Some h.own.span = sym none ∙ ap (λ (i : NodeInfo). i.key_span) at.stated.is ∙ h.span in
+      let k : None ≡ Some h.own.span = sym none ∙ at.key_is ∙ h.span in
       absurd cc
 
-  pub renamed_there : (span : Span) → info.marks ≡ 1 → info.key_span ≡ Some span → IsDoneAt s (rename path t) d (encoded_key t) (Ok span)
+  pub renamed_there : (span : Span) → info.marks ≡ 1 → key_span ≡ Some span → IsDoneAt s (rename path t) d (encoded_key t) (Ok span)
   renamed_there span e here =
       let law = lawful e in
       let h = renamed e law in
-      let same : Some h.own.span ≡ Some span = sym h.span ∙ ap (λ (i : NodeInfo). i.key_span) (sym at.stated.is) ∙ here in
+      let same : Some h.own.span ≡ Some span = sym h.span ∙ sym at.key_is ∙ here in
       let own : h.own.span ≡ span = (let k : h.own.span ≡ span = cc in k) in
       let part = parts_readable d.text d.profile s at.read.utf8 at.read.reads.valid at.read.reads.spelled h.number h.own h.here in
       subst (λ (x : Span). IsDoneAt s (rename path t) d (encoded_key t) (Ok x)) own (

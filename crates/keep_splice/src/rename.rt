@@ -51,7 +51,7 @@ impl<'a> DocumentRef<'a> {
             return Err(EditFault::Exists);
         }
         let node = self.index.node(id);
-        match node.key_span {
+        match self.index.key_span(id, self.syntax) {
             Some(span) if node.marks == 1 => Ok(span),
             _ => Err(EditFault::Scattered),
         }

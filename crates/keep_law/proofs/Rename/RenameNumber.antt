@@ -17,7 +17,7 @@ use Rattle.keep_meaning.specs.Rules.{Mark}
 use Rattle.keep_meaning.specs.Marks.{MentionKind, through, past, define, element, dotted, value, begun, passed, item, Mention, Statement, mark_of, role_of, marks, Reading, statement_mentions, next_reading, start}
 use Rattle.keep_meaning.specs.Meaning.{mentions_in}
 use Rattle.keep_meaning.specs.Counts.{Count, Numbered, is_mark, one_if, count_with_mention, next_count, no_count, numbered_mentions, numbered_from, numbered_in, statements_in}
-use Rattle.keep_meaning.specs.Nodes.{is_at, mark_count, mention_of, numbered_at, first_number, key_number, key_span, node_at, node_info}
+use Rattle.keep_meaning.specs.Nodes.{is_at, mark_count, mention_of, numbered_at, first_number, key_number, key_span, key_span_of, node_at}
 use Rattle.keep_meaning.proofs.Shared.{mentions-numbered_mentions, mentions-numbered_in, one_mark, count_after-keys, marked}
 use Rattle.keep_law.specs.Changed.{Changed, Place, place_of}
 use Rattle.keep_law.specs.Edits.{rename, change, changed_or_same, place, key_part}
@@ -171,7 +171,7 @@ pub record IsKeyRenamed (p : List Part) (t : List ℕ) (s : Document) (c : Chang
   pub number : ℕ
   pub own : KeyPart
   pub here : slice_get (syntax.parts s) number ≡ Some own
-  pub span : (node_info (syntax.values s) (syntax.parts s) (node_at (numbered_in s) p)).key_span ≡ Some own.span
+  pub span : key_span_of (syntax.parts s) (node_at (numbered_in s) p) ≡ Some own.span
   pub place : place_of c ≡ record { start = own.span.start; end = own.span.end; new = encoded_key t }
 
 same_place : (a a' b b' : ℕ) (t t' : List ℕ) → a ≡ a' → b ≡ b' → t ≡ t' → (let x : Place = record { start = a; end = b; new = t } in let y : Place = record { start = a'; end = b'; new = t' } in x ≡ y)

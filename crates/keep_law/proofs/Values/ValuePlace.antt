@@ -18,7 +18,7 @@ use Rattle.keep_meaning.specs.Rules.{ObeysRules}
 use Rattle.keep_meaning.specs.Marks.{MentionKind, Mention, marks, fact_of}
 use Rattle.keep_meaning.specs.Meaning.{body_fact, mentions_in}
 use Rattle.keep_meaning.specs.Counts.{is_value, numbered_in}
-use Rattle.keep_meaning.specs.Nodes.{fact_at, numbered_at, last_number, value_number, value_span, node_at, node_info}
+use Rattle.keep_meaning.specs.Nodes.{fact_at, numbered_at, last_number, value_number, value_span, value_span_of, node_at}
 use Rattle.keep_meaning.proofs.Shared.{IsPart, part_taken, valued}
 use Rattle.keep_law.specs.Changed.{Changed, Place, IsChangeOf, place_of}
 use Rattle.keep_law.specs.Values.{Act, replacement}
@@ -239,7 +239,7 @@ none_of_number path s obeys number = by (has_value path (mentions_in s)) (number
 
 -- the span that is known of the node
 pub span_of_node : (profile : Profile) (path : List Part) (s : Document) (v : ℕ) (i : ValueInfo) → IsValueOf profile path s v i
-    → (node_info (syntax.values s) (syntax.parts s) (node_at (numbered_in s) path)).value_span ≡ Some i.span
+    → value_span_of (syntax.values s) (node_at (numbered_in s) path) ≡ Some i.span
 span_of_node profile path s v i h =
     ap (option_and_then (value_span (syntax.values s))) h.number ∙ ap (option_map (λ (j : ValueInfo). j.span)) h.info
 

@@ -1,9 +1,10 @@
 use Rattle.std.proofs.Common.{List, ap, sym, refl, ◌∙◌, subst, Some}
 use Rattle.indexmap.proofs.MapLemmas.{OnOk-map}
+use Rattle.keep_meaning.specs.declared.node.NodeInfo.{NodeInfo}
 use Rattle.keep_nodes.specs.AllNodes.{Node, no_node, node_at}
 use Rattle.keep_nodes.specs.Growth.{Restates}
 use Rattle.keep_nodes.specs.Stored.{IsStored, trie_of, infos_of}
-use Rattle.keep_nodes.specs.Facts.{joined_facts, info_of}
+use Rattle.keep_nodes.specs.Facts.{joined_facts, joined_info, info_of}
 use Rattle.keep_nodes.proofs.PackedLemmas.{info_joined}
 use Rattle.keep_nodes.proofs.StoredLemmas.{IsChanged, restates_changed, stored_changed, infos_changed}
 use Rattle.keep_nodes.proofs.nodes.set_role.Goals as goal
@@ -33,4 +34,4 @@ returns-clause-stored c =
 pub returns-clause-infos : goal.returns-clause-infos
 unfolding old changed
 returns-clause-infos c =
-    OnOk-map c.join_facts.result _ _ (λ is. ap infos_of is ∙ infos_changed c.args.nodes.now.items c.args.id no_node (changed c) (info_of c.args.more) c.requires.within (info_joined (old c).facts c.args.more)) c.join_facts.ensures
+    OnOk-map c.join_facts.result _ _ (λ is. ap infos_of is ∙ infos_changed (λ (i : NodeInfo). joined_info i (info_of c.args.more)) c.args.nodes.now.items c.args.id no_node (changed c) c.requires.within (info_joined (old c).facts c.args.more)) c.join_facts.ensures

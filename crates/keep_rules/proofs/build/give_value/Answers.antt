@@ -2,6 +2,8 @@ use Rattle.std.proofs.Common.{◌≡◌, ℕ, ◌-◌, List, [], ◌∷◌, ◌+
 use Rattle.std.proofs.lemmas.Result.{err_from_is_err_and}
 use Rattle.keep_syntax.specs.declared.fault.Why.{Why}
 use Rattle.keep_meaning.specs.declared.node.NodeInfo.{NodeInfo}
+use Rattle.keep_meaning.specs.declared.node.Origin.TheVariants as origin
+use Rattle.keep_nodes.specs.Facts.{named_info}
 use Rattle.keep_nodes.specs.Children.{holding}
 use Rattle.keep_meaning.specs.Fact.{Fact}
 use Rattle.keep_rules.specs.NestedValues.{NestingState, path_of_value, nested_mentions, nested_keyed}
@@ -22,7 +24,7 @@ returns-in_err-parent-clause-define c =
 
 pub returns-in-Ok-clause-ok : goal.returns-in-Ok-clause-ok
 returns-in-Ok-clause-ok c =
-    let is : c.as_str.result.now ≡ last_text c.args.keys = c.as_str.ensures ∙ c.in_ok-name.ensures.text in
+    let is : c.as_str.result.now ≡ last_text c.args.keys = c.as_str.ensures ∙ c.in_ok-text.ensures in
     value_given c.args.keys c.requires.keys c.as_str.result.now is (trie_of c.args.nodes.now.items) (trie_of c.walk_dotted.new.nodes.items) (trie_of c.mark.new.nodes.items) c.args.from c.in_ok-parent.parent c.in-Ok.to (holding c.args.holds)
     c.in_ok-parent.ensures.ok c.in-Ok.ensures.ok
 
@@ -33,14 +35,15 @@ returns-in-Ok-clause-facts c =
     let new = c.mark.new.nodes.items in
     let text = c.as_str.result.now in
     let p = path_at (trie_of mid) c.in_ok-parent.parent ++ key text ∷ [] in
-    let is : text ≡ last_text c.args.keys = c.as_str.ensures ∙ c.in_ok-name.ensures.text in
-    keyed_all_added c.args.keys c.requires.keys text is old mid new c.args.from c.in_ok-parent.parent c.in-Ok.to c.args.value c.args.kind c.args.span c.in_ok-name.name.span (holding c.args.holds) c.in_ok-name.ensures.span
-    c.in_ok-parent.ensures.ok c.in_ok-parent.ensures.facts c.in-Ok.ensures.ok (subst (λ (i : NodeInfo). AddsInfo mid new p i) c.named-facts.ensures c.in-Ok.ensures.facts)
+    let is : text ≡ last_text c.args.keys = c.as_str.ensures ∙ c.in_ok-text.ensures in
+    keyed_all_added c.args.keys c.requires.keys text is old mid new c.args.from c.in_ok-parent.parent c.in-Ok.to c.args.value c.args.kind (holding c.args.holds)
+    c.in_ok-parent.ensures.ok c.in_ok-parent.ensures.facts c.in-Ok.ensures.ok
+    (subst (λ (i : NodeInfo). AddsInfo mid new p i) (c.named-facts.ensures ∙ ap (λ n. named_info c.args.kind n (origin.Value c.args.value)) c.part_number-part.ensures) c.in-Ok.ensures.facts)
 
 pub returns-clause-define : goal.returns-clause-define
 returns-clause-define c =
     let old = trie_of c.args.nodes.now.items in
-    let is : c.as_str.result.now ≡ last_text c.args.keys = c.as_str.ensures ∙ c.in_ok-name.ensures.text in
+    let is : c.as_str.result.now ≡ last_text c.args.keys = c.as_str.ensures ∙ c.in_ok-text.ensures in
     let Mentions : ℕ → Why → Type 0 = λ n w. (s : NestingState) (o : ℕ) (f : Fact) → path_at old c.args.from ≡ path_of_value s o → (ms : List Mention) (ts : List (List Part)) → Represents old ms ts → FaultIn ms (nested_mentions s (nested_keyed o (key_texts c.args.keys) f)) n w in
     meets_fault c.in-Err.stop (c.args.keys.count - 1) c.why.result c.fault_of.result Mentions c.fault_of.ensures (λ stops.
     subst (λ (w : Why). Mentions (c.args.keys.count - 1) w) (sym c.why.ensures)

@@ -1,7 +1,10 @@
 use Rattle.std.proofs.Common.{◌≡◌, ◌∷◌, ◌++◌, [], ap, sym, ◌∙◌, subst, arith, refl, Err}
 use Rattle.std.proofs.lemmas.List.{length-map}
 use Rattle.keep_syntax.specs.declared.fault.Why.{Why}
+use Rattle.keep_meaning.specs.declared.node.Kind.TheVariants as kind
 use Rattle.keep_meaning.specs.declared.node.NodeInfo.{NodeInfo}
+use Rattle.keep_meaning.specs.declared.node.Origin.TheVariants as origin
+use Rattle.keep_nodes.specs.Facts.{named_info}
 use Rattle.keep_rules.specs.Keys.{key_text_at, leading_texts}
 use Rattle.keep_path.specs.Path.{key}
 use Rattle.keep_nodes.specs.Stored.{trie_node_in, trie_of}
@@ -19,7 +22,7 @@ loop-number-init c = record {
   shaped = c.requires.shaped;
   nested = c.requires.within;
   gone = dots_none (trie_of c.args.nodes.now.items) c.args.from (omega (arith, c.requires.within, length-map c.args.nodes.now.items (trie_node_in c.args.nodes.now.items))) c.requires.keyed;
-  facts = λ values d keys number. refl;
+  facts = λ d keys number. refl;
 }
 
 pub loop-number-preserved : goal.loop-number-preserved
@@ -28,19 +31,19 @@ loop-number-preserved c =
     let mid = c.loop-number.nodes.items in
     let new = c.mark.new.nodes.items in
     let text = c.as_str.result.now in
-    let is : text ≡ key_text_at c.args.keys c.loop-number.number = c.as_str.ensures ∙ c.in_ok-name.ensures.text in
+    let is : text ≡ key_text_at c.args.keys c.loop-number.number = c.as_str.ensures ∙ c.in_ok-text.ensures in
     record {
       stored = c.in-Ok.ensures.stored;
       shaped = c.in-Ok.ensures.ok.shaped;
       nested = omega (arith, c.in-Ok.ensures.ok.nested, length-map new (trie_node_in new));
       gone = dotted_more (trie_of old) (trie_of mid) (trie_of new) c.args.from c.loop-number.at c.in-Ok.to c.args.keys c.requires.keys c.loop-number.number text (omega arith) is c.loop-number.invariant.gone c.in-Ok.ensures.ok;
-      facts = dotted_added old mid new c.args.keys c.requires.keys c.loop-number.number text c.in_ok-name.name.span c.args.from c.loop-number.at c.args.value (omega arith) is c.in_ok-name.ensures.span c.loop-number.invariant.gone
-          c.loop-number.invariant.facts (subst (λ (i : NodeInfo). AddsInfo mid new (path_at (trie_of mid) c.loop-number.at ++ key text ∷ []) i) c.named-dotted.ensures c.in-Ok.ensures.facts);
+      facts = dotted_added old mid new c.args.keys c.requires.keys c.loop-number.number text c.args.from c.loop-number.at c.args.value (omega arith) is c.loop-number.invariant.gone c.loop-number.invariant.facts
+          (subst (λ (i : NodeInfo). AddsInfo mid new (path_at (trie_of mid) c.loop-number.at ++ key text ∷ []) i) (c.named-dotted.ensures ∙ ap (λ n. named_info kind.Table n (origin.Dotted c.args.value)) c.part_number-part.ensures) c.in-Ok.ensures.facts);
     }
 
 pub returns-in-Err-Refused-clause-define : goal.returns-in-Err-Refused-clause-define
 returns-in-Err-Refused-clause-define c = λ ms tables represents.
-    let is : c.as_str.result.now ≡ key_text_at c.args.keys c.loop-number.number = c.as_str.ensures ∙ c.in_ok-name.ensures.text in
+    let is : c.as_str.result.now ≡ key_text_at c.args.keys c.loop-number.number = c.as_str.ensures ∙ c.in_ok-text.ensures in
     subst (λ (w : Why). FaultIn ms (dotted_mentions (path_at (trie_of c.args.nodes.now.items) c.args.from) (leading_texts c.args.keys)) c.loop-number.number w) (sym c.why.ensures)
     (dots_stop (trie_of c.args.nodes.now.items) (trie_of c.loop-number.nodes.items) c.args.from c.loop-number.at c.args.keys c.requires.keys c.loop-number.number c.as_str.result.now (omega arith) is c.loop-number.invariant.gone
     (c.in-Err-Refused.ensures.refused (ap Err c.in-Err-Refused.field-0-is)) ms tables represents)

@@ -1,5 +1,5 @@
 use Rattle.std.proofs.Common.{◌<◌, length, take}
-use Rattle.keep_rules.specs.Keys.{key_texts, parts_of}
+use Rattle.keep_rules.specs.Keys.{key_texts}
 use Rattle.keep_rules.specs.Steps.{Dots}
 use Rattle.keep_nodes.specs.Stored.{IsStored, trie_of}
 use Rattle.keep_rules.specs.Tables.{IsShaped}
@@ -14,5 +14,5 @@ invariant-loop-number l = record {
   shaped : IsShaped (trie_of l.nodes.items);
   nested : l.at < length l.nodes.items;
   gone : Dots (trie_of l.fn.nodes.items) (trie_of l.nodes.items) l.fn.from l.at (take l.number (key_texts l.keys));
-  facts : DottedAdds l.fn.nodes.items l.nodes.items (parts_of l.keys) l.keys.first l.fn.value (dotted_mentions (path_at (trie_of l.fn.nodes.items) l.fn.from) (take l.number (key_texts l.keys)));
+  facts : DottedAdds l.fn.nodes.items l.nodes.items l.keys.first l.fn.value (dotted_mentions (path_at (trie_of l.fn.nodes.items) l.fn.from) (take l.number (key_texts l.keys)));
 }

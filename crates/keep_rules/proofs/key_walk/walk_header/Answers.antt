@@ -1,7 +1,10 @@
-use Rattle.std.proofs.Common.{◌≡◌, ℕ, ◌-◌, [], take, ap, sym, ◌∙◌, subst, arith, refl, Err}
+use Rattle.std.proofs.Common.{◌≡◌, ℕ, ◌-◌, [], ◌∷◌, ◌++◌, take, ap, sym, ◌∙◌, subst, arith, refl, Err}
 use Rattle.std.proofs.lemmas.List.{length-map}
 use Rattle.keep_syntax.specs.declared.fault.Why.{Why}
-use Rattle.keep_rules.specs.Keys.{parts_of, key_texts, key_text_at, leading_texts}
+use Rattle.keep_rules.specs.Keys.{key_texts, key_text_at, leading_texts}
+use Rattle.keep_path.specs.Path.{key}
+use Rattle.keep_meaning.specs.Marks.{passing_mentions}
+use Rattle.keep_nodes.specs.Trie.{path_at}
 use Rattle.keep_nodes.specs.Stored.{trie_node_in, trie_of}
 use Rattle.keep_rules.specs.Represents.{FaultIn}
 use Rattle.keep_rules.specs.Steps.{Walks}
@@ -18,7 +21,7 @@ loop-number-init c = record {
   nested = omega (arith, c.requires.stored.trie.root, length-map c.args.nodes.now.items (trie_node_in c.args.nodes.now.items));
   keyed = c.requires.rooted;
   walked = walks_none (trie_of c.args.nodes.now.items) c.requires.stored.trie.root c.requires.rooted;
-  facts = λ ms tables represents values d keys statements. refl;
+  facts = λ ms tables represents d keys statements. refl;
 }
 
 pub loop-number-preserved : goal.loop-number-preserved
@@ -27,20 +30,20 @@ loop-number-preserved c =
     let mid = c.loop-number.nodes.items in
     let new = c.pass.new.nodes.items in
     let text = c.as_str.result.now in
-    let is : text ≡ key_text_at c.args.keys c.loop-number.number = c.as_str.ensures ∙ c.in_ok-name.ensures.text in
+    let is : text ≡ key_text_at c.args.keys c.loop-number.number = c.as_str.ensures ∙ c.in_ok-text.ensures in
     record {
       stored = c.in-Ok.ensures.stored;
       shaped = c.in-Ok.ensures.shaped;
       nested = c.in-Ok.ensures.nested;
       keyed = c.in-Ok.ensures.keyed;
       walked = walked_more (trie_of old) (trie_of mid) (trie_of new) c.loop-number.at c.in-Ok.to c.args.keys c.requires.keys c.loop-number.number text (omega arith) is c.loop-number.invariant.walked c.in-Ok.ensures.ok;
-      facts = walked_added old mid new c.args.keys c.requires.keys c.loop-number.number text c.in_ok-name.name.span c.loop-number.at c.args.statement (omega arith) is c.in_ok-name.ensures.span c.loop-number.invariant.walked
-          c.loop-number.invariant.facts c.in-Ok.ensures.facts;
+      facts = walked_added old mid new c.args.keys c.requires.keys c.loop-number.number text c.loop-number.at c.args.statement (omega arith) is c.loop-number.invariant.walked c.loop-number.invariant.facts
+          (subst (λ (n : ℕ). HeaderAdds mid new n c.args.statement (λ tables. passing_mentions tables (path_at (trie_of mid) c.loop-number.at ++ key text ∷ []))) c.part_number-part.ensures c.in-Ok.ensures.facts);
     }
 
 pub returns-in-Err-Refused-clause-define : goal.returns-in-Err-Refused-clause-define
 returns-in-Err-Refused-clause-define c = λ ms tables represents.
-    let is : c.as_str.result.now ≡ key_text_at c.args.keys c.loop-number.number = c.as_str.ensures ∙ c.in_ok-name.ensures.text in
+    let is : c.as_str.result.now ≡ key_text_at c.args.keys c.loop-number.number = c.as_str.ensures ∙ c.in_ok-text.ensures in
     subst (λ (w : Why). FaultIn ms (walk_mentions tables [] (leading_texts c.args.keys)) c.loop-number.number w) (sym c.why.ensures)
     (walk_stops (trie_of c.args.nodes.now.items) (trie_of c.loop-number.nodes.items) c.loop-number.at c.args.keys c.requires.keys c.loop-number.number c.as_str.result.now (omega arith) is c.loop-number.invariant.walked
     (c.in-Err-Refused.ensures.refused (ap Err c.in-Err-Refused.field-0-is)) (c.in-Err-Refused.ensures.plain (ap Err c.in-Err-Refused.field-0-is)) ms tables represents)
@@ -53,4 +56,4 @@ returns-clause-ok c =
 pub returns-clause-facts : goal.returns-clause-facts
 returns-clause-facts c =
     let all : c.loop-number.number ≡ c.args.keys.count - 1 = omega arith in
-    subst (λ (n : ℕ). HeaderAdds c.args.nodes.now.items c.loop-number.nodes.items (parts_of c.args.keys) c.args.keys.first c.args.statement (λ tables. walk_mentions tables [] (take n (key_texts c.args.keys)))) all c.loop-number.invariant.facts
+    subst (λ (n : ℕ). HeaderAdds c.args.nodes.now.items c.loop-number.nodes.items c.args.keys.first c.args.statement (λ tables. walk_mentions tables [] (take n (key_texts c.args.keys)))) all c.loop-number.invariant.facts

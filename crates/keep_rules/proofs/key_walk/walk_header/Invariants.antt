@@ -1,5 +1,5 @@
 use Rattle.std.proofs.Common.{◌≡◌, ◌<◌, [], length, take}
-use Rattle.keep_rules.specs.Keys.{key_texts, parts_of}
+use Rattle.keep_rules.specs.Keys.{key_texts}
 use Rattle.keep_rules.specs.Steps.{Walks}
 use Rattle.keep_nodes.specs.Stored.{IsStored, trie_of}
 use Rattle.keep_rules.specs.Tables.{IsShaped}
@@ -15,5 +15,5 @@ invariant-loop-number l = record {
   nested : l.at < length l.nodes.items;
   keyed : holds_at (trie_of l.nodes.items) l.at ≡ by_key;
   walked : Walks (trie_of l.fn.nodes.items) (trie_of l.nodes.items) l.at (take l.number (key_texts l.keys));
-  facts : HeaderAdds l.fn.nodes.items l.nodes.items (parts_of l.keys) l.keys.first l.fn.statement (λ tables. walk_mentions tables [] (take l.number (key_texts l.keys)));
+  facts : HeaderAdds l.fn.nodes.items l.nodes.items l.keys.first l.fn.statement (λ tables. walk_mentions tables [] (take l.number (key_texts l.keys)));
 }

@@ -34,6 +34,6 @@ returns-clause-facts c =
     let old = c.args.nodes.now.items in
     let mid = c.mark.new.nodes.items in
     let new = c.add_item.new.nodes.items in
-    begin_added old mid new (path_at (trie_of old) c.args.parent ++ key c.args.text.now ∷ []) c.in_ok-id.id c.args.span c.args.statement c.in_ok-id.ensures.ok
+    begin_added old mid new (path_at (trie_of old) c.args.parent ++ key c.args.text.now ∷ []) c.in_ok-id.id c.args.number c.args.statement c.in_ok-id.ensures.ok
     (subst (λ (i : NodeInfo). AddsInfo old mid (path_at (trie_of old) c.args.parent ++ key c.args.text.now ∷ []) i) c.named-tables.ensures c.in_ok-id.ensures.facts) c.in_ok-add_item.ensures.grows
     (subst (λ (i : NodeInfo). infos_of new ≡ infos_of mid ++ i ∷ []) c.unnamed-element.ensures.info c.in_ok-add_item.ensures.infos)

@@ -22,5 +22,5 @@ pub returns-clause-facts : goal.returns-clause-facts
 returns-clause-facts c =
     let old = c.args.nodes.now.items in
     let new = c.add_item.new.nodes.items in
-    both_on _ _ _ _ (λ grows infos. item_added old new c.args.array c.args.value c.args.kind c.args.span (holding c.args.holds) grows
+    both_on _ _ _ _ (λ grows infos. item_added old new c.args.array c.args.value c.args.kind (holding c.args.holds) grows
     (subst (λ (i : NodeInfo). infos_of new ≡ infos_of old ++ i ∷ []) c.unnamed-facts.ensures.info infos)) c.add_item.ensures.grows c.add_item.ensures.infos

@@ -29,7 +29,7 @@ returns-in_default-clause-facts c =
     let old = c.args.nodes.now.items in
     let after = c.mark.new.nodes.items in
     let p = path_at (trie_of old) c.args.parent ++ key c.args.text.now ∷ [] in
-    if_ok _ _ _ (λ id one. through_added old after p c.args.span c.args.statement (new c) (subst (λ (i : NodeInfo). AddsInfo old after p i) c.named-through.ensures one)) c.mark.ensures.facts
+    if_ok _ _ _ (λ id one. through_added old after p c.args.number c.args.statement (new c) (subst (λ (i : NodeInfo). AddsInfo old after p i) c.named-through.ensures one)) c.mark.ensures.facts
 
 pub returns-in_default-clause-plain : goal.returns-in_default-clause-plain
 returns-in_default-clause-plain c = λ refused. new c
@@ -62,7 +62,7 @@ returns-in_default-last_element-clause-facts c =
     let old = c.args.nodes.now.items in
     let after = c.mark_existing.new.nodes.items in
     let p = path_at (trie_of old) c.args.parent ++ key c.args.text.now ∷ [] in
-    through_added old after p c.args.span c.args.statement (plain c)
+    through_added old after p c.args.number c.args.statement (plain c)
     (subst (λ (i : NodeInfo). AddsInfo old after p i) c.named-through.ensures
     (subst (λ (q : List Part). AddsInfo old after q (info_of c.named-through.result)) (here c) c.in_ok-mark_existing.ensures.facts))
 
@@ -102,7 +102,7 @@ returns-clause-facts c =
     let p = path_at (trie_of old) c.args.parent ++ key c.args.text.now ∷ [] in
     let to = c.in-Some-last_element.last in
     let preserved = c.in_ok-add_facts.ensures.same in
-    past_added old mid after p c.in-Some.child to c.args.span c.args.statement (element c)
+    past_added old mid after p c.in-Some.child to c.args.number c.args.statement (element c)
     (subst (λ (i : NodeInfo). AddsInfo old mid p i) c.named-past.ensures
     (added_at_existing old mid c.in-Some.child p (info_of c.named-past.result) c.requires.stored.trie (element c).nested (element c).here (ap paths_of preserved) c.in_ok-add_facts.ensures.infos))
     (subst (λ (i : NodeInfo). AddsInfo mid after (path_at (trie_of old) to) i) c.passed.ensures

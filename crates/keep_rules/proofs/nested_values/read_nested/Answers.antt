@@ -25,7 +25,6 @@ read_value-requires c =
       shaped = some_shaped c.args.text.now (flat c.args.parts.now) c.args.base c.args.from _ _ c.loop-number.nodes.items c.loop-number.ids.items c.loop-number.number c.loop-number.invariant.underway c.requires.next;
       readable = c.requires.readable;
       numbered = ap (λ l. c.args.base + length l) c.as_slice.ensures.value ∙ c.loop-number.invariant.numbered;
-      listed = c.value-value.ensures;
       next = some_next_seen c.args.text.now (flat c.args.parts.now) c.args.base c.args.from _ _ c.loop-number.nodes.items c.loop-number.ids.items c.as_slice.result.now c.loop-number.number c.value-value.result c.as_slice.ensures.value there
           c.loop-number.invariant.underway c.requires.next;
       represents = represents_some c.args.text.now (flat c.args.parts.now) c.args.base c.args.from _ _ c.loop-number.nodes.items c.loop-number.ids.items c.loop-number.number c.loop-number.invariant.underway c.requires.next c.requires.represents;

@@ -23,7 +23,7 @@ fault_from-requires c =
 
 pub returns-in_ok-give_item-in-Item-clause-was_read : goal.returns-in_ok-give_item-in-Item-clause-was_read
 returns-in_ok-give_item-in-Item-clause-was_read c =
-    item_read_all c.args.text.now (flat c.args.parts.now) c.args.base c.args.value _ _ c.args.ids.now c.args.number c.in-Item.array _ _ _ _ c.in-Item.is refl c.kind_of-kind.ensures c.holds_of_leaf-holds.ensures c.requires.listed
+    item_read_all c.args.text.now (flat c.args.parts.now) c.args.base c.args.value _ _ c.args.ids.now c.args.number c.in-Item.array _ _ _ _ c.in-Item.is refl c.kind_of-kind.ensures c.holds_of_leaf-holds.ensures
     c.in_ok-give_item-in-Item.ensures.ok c.in_ok-give_item-in-Item.ensures.facts
 
 pub returns-in-Ok-clause-was_read : goal.returns-in-Ok-clause-was_read
@@ -31,7 +31,7 @@ unfolding own_keys
 returns-in-Ok-clause-was_read c =
     let listed = (goal.at.returns-in-Ok-clause-was_read c).In-Inline in
     let keys = some_next_keys c.args.text.now (flat c.args.parts.now).keys _ _ c.args.base c.args.value c.in-Inline.table c.requires.readable c.in-Inline.is c.requires.next in
-    keyed_read_all c.args.text.now (flat c.args.parts.now) c.args.base c.args.value _ _ c.args.ids.now (own_keys listed) c.args.number c.in-Inline.table _ _ _ _ c.in-Inline.is refl c.kind_of-kind.ensures c.holds_of_leaf-holds.ensures c.requires.listed
+    keyed_read_all c.args.text.now (flat c.args.parts.now) c.args.base c.args.value _ _ c.args.ids.now (own_keys listed) c.args.number c.in-Inline.table _ _ _ _ c.in-Inline.is refl c.kind_of-kind.ensures c.holds_of_leaf-holds.ensures
     keys refl c.in-Ok.ensures.ok c.in-Ok.ensures.facts
 
 pub returns-in-Err-clause-define : goal.returns-in-Err-clause-define

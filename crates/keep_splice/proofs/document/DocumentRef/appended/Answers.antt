@@ -2,8 +2,8 @@ use Rattle.std.proofs.Common.{◌∙◌, ap, refl, sym}
 use Rattle.std.specs.Option.{option_map}
 use Rattle.keep_law.specs.declared.fault.EditFault.TheVariants as fault
 use Rattle.keep_splice.specs.Headers.{edit_of, key_texts}
-use Rattle.keep_splice.proofs.AnswerLaws.{text_seen, seen}
-use Rattle.keep_splice.proofs.AppendDone.{index_of, refused_as, some_keys, done_there, law_of, end_span, given_text, given_as, patch_as}
+use Rattle.keep_splice.proofs.AnswerLaws.{text_seen, seen, index_of}
+use Rattle.keep_splice.proofs.AppendDone.{refused_as, some_keys, done_there, law_of, end_span, given_text, given_as, patch_as}
 use Rattle.keep_splice.proofs.EditedLaws.{refused_made, full_made, patch_made, of_edit}
 use Rattle.keep_splice.proofs.document.DocumentRef.appended.Goals as goal
 
