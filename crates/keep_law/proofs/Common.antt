@@ -4,6 +4,7 @@ pub mod LineTexts
 pub mod Runs
 pub mod SetLaw
 pub mod LineLaws
+pub mod StatementNumbers
 pub mod SetDocument
 pub mod SetValid
 pub mod Moves

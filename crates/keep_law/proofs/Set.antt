@@ -1,3 +1,6 @@
 -- The law of set.
 pub mod SetIsLawful
 pub mod SameCuts
+pub mod Childless
+pub mod SetNumbers
+pub mod SetNodes

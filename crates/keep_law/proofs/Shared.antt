@@ -15,6 +15,7 @@ pub use Rattle.keep_law.proofs.Remove.ElementThere.{begun_alone}
 pub use Rattle.keep_law.proofs.Common.TableThere.{defined_ends}
 pub use Rattle.keep_law.proofs.Common.ValueNumber.{false_unless}
 pub use Rattle.keep_law.proofs.Set.SetIsLawful.{get_is_right}
+pub use Rattle.keep_law.proofs.Set.SetNodes.{IsKindSet, kind_set}
 pub use Rattle.keep_law.proofs.Values.ValueFacts.{integer_at_leaf, leaf_of_integer, no_string, string_at_leaf, string_of_leaf}
 pub use Rattle.keep_law.proofs.Remove.RemoveRefusal.{lines_begun, never_begun, no_both}
 pub use Rattle.keep_law.proofs.Common.EntryDepths.{alone_of_bracket}

@@ -226,7 +226,7 @@ disjoint_longer s p m h = elim (none_or_some (strip (s ++ p) m.path)) [
 
 -- ---- what is said at a path
 
-is_at-disjoint : (p : List Part) (m : Mention) (q r : List Part) → IsDisjoint p m → strip p q ≡ Some r → (b : Bool) → is_at q m ≡ b → is_at q m ≡ false
+pub is_at-disjoint : (p : List Part) (m : Mention) (q r : List Part) → IsDisjoint p m → strip p q ≡ Some r → (b : Bool) → is_at q m ≡ b → is_at q m ≡ false
 is_at-disjoint p m q r h u true e = let x : m.path ≡ q = same_path-sound m.path q e in let k : None ≡ Some r = sym h ∙ ap (strip p) x ∙ u in absurd cc
 is_at-disjoint p m q r h u false e = e
 

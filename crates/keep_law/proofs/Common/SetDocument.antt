@@ -16,7 +16,7 @@ use Rattle.keep_law.specs.Edits.{Edit, set, change}
 use Rattle.keep_law.specs.Trees.{IsTreeOf, fact_from, given, from as from_path}
 use Rattle.keep_meaning.specs.Meaning.{mentions_of_value}
 use Rattle.keep_law.proofs.Common.Runs.{kinds_allow, solid, AllOf, SomeOf, pairs_split, all_map, some_left, some_right, Allowed, Rules, exclusive, IsDisjoint, IsUnder, strip-sound, strip-append, rules_replaced, kinds_at-below, fact_under, fact_elsewhere}
-use Rattle.keep_law.proofs.Common.SetLaw.{IsSolidAt, IsAloneAt, IsSet, run, set_below, set_beside, set_named, rules_below, rules_named, tag_of, ValueSet, set_value, EachTo, to_within, to_or_else, clash_before, clash_after, disjoint_closed, all_longer, keyed_split, some_alone_below}
+use Rattle.keep_law.proofs.Common.SetLaw.{IsSolidAt, IsAloneAt, IsSet, run, set_below, set_beside, set_named, rules_below, rules_named, tag_of, tag_stated, tag_alone, ValueSet, set_value, EachTo, to_within, to_or_else, clash_before, clash_after, disjoint_closed, all_longer, keyed_split, some_alone_below}
 use Rattle.keep_law.proofs.Common.LineLaws.{Reaches, EndsInKey, ClosedFrom, lines_closed, lines_mentions-append, never_root}
 
 pub record ContentSet (body path : List Part) (new : Value) (from to : Content) : Type 0 where
@@ -27,7 +27,7 @@ pub record ContentSet (body path : List Part) (new : Value) (from to : Content) 
   pub was : from ≡ keyval name old
   pub is : to ≡ keyval name now
   pub place : path ≡ (body ++ step 0 (Some name)) ++ more
-  pub changed : Rules (entries_mentions 0 old.nested) → ValueSet (tag_of (Some name)) more new old.body old.nested now
+  pub changed : Rules (entries_mentions 0 old.nested) → ValueSet (Some name) more new old.body old.nested now
 
 later : {A : Type 0} (R : Type 0) (P : A → Type 0) (o : Option (Changed A)) → (R → EachTo P o) → EachTo (λ x. R → P x) o
 later R P None h = tt
@@ -40,10 +40,10 @@ content_set-by : (body path : List Part) (new : Value) (name : Name) (v : Value)
     ])
 content_set-by body path new name v None e = tt
 content_set-by body path new name v (Some more) e =
-    to_within (λ now. Rules (entries_mentions 0 v.nested) → ValueSet (tag_of (Some name)) more new v.body v.nested now) (ContentSet body path new (keyval name v))
+    to_within (λ now. Rules (entries_mentions 0 v.nested) → ValueSet (Some name) more new v.body v.nested now) (ContentSet body path new (keyval name v))
     (keyval name) (text_of (name_leaves name)) [] (in_value (replacement new) more v)
     (λ now h. record { name = name; old = v; now = now; more = more; was = refl; is = refl; place = strip-sound (body ++ step 0 (Some name)) path more e; changed = h })
-    (later (Rules (entries_mentions 0 v.nested)) (ValueSet (tag_of (Some name)) more new v.body v.nested) (in_value (replacement new) more v) (λ rules. set_value (Some name) new more v rules))
+    (later (Rules (entries_mentions 0 v.nested)) (ValueSet (Some name) more new v.body v.nested) (in_value (replacement new) more v) (λ rules. set_value (Some name) new more v rules))
 
 content_set : (body path : List Part) (new : Value) (c : Content) → EachTo (ContentSet body path new c) (in_content (replacement new) body path c)
 content_set body path new blank = tt
@@ -121,8 +121,16 @@ whole_mentions pre post l name v e =
     ∙ ap (λ x. lines_mentions start pre ++ (x ++ lines_mentions (after_line r l) post)) (mentions_of r l name v e)
     ∙ ap (λ (x : Reading). lines_mentions start pre ++ (map (below r.body) (keyval_mentions name v) ++ lines_mentions x post)) (reading_of r l name v e)
 
-mentions_set : (path : List Part) (new : Value) (from to : List Line) → Rules (lines_mentions start from) → LinesSet start path new from to → IsSet path new (lines_mentions start from) (lines_mentions start to)
-mentions_set path new from to rules h =
+-- What one line says before and after; what is said to its left and to its right is elsewhere.
+pub record IsLineSet (path : List Part) (new : Value) (left mid now right : List Mention) : Type 0 where
+  pub set : IsSet path new mid now
+  pub disjoint_left : AllOf (IsDisjoint path) left
+  pub disjoint_right : AllOf (IsDisjoint path) right
+
+pub line_set : (path : List Part) (new : Value) (from to : List Line) → Rules (lines_mentions start from) → (h : LinesSet start path new from to)
+    → (let r : Reading = reading_after_lines start h.pre in
+    IsLineSet path new (lines_mentions start h.pre) (map (below r.body) (keyval_mentions h.content.name h.content.old)) (map (below r.body) (keyval_mentions h.content.name h.content.now)) (lines_mentions r h.post))
+line_set path new from to rules h =
     let c = h.content in
     let r : Reading = reading_after_lines start h.pre in
     let p : List Part = r.body ++ step 0 (Some c.name) in
@@ -131,7 +139,6 @@ mentions_set path new from to rules h =
     let mid : List Mention = map (below r.body) (keyval_mentions c.name c.old) in
     let mid' : List Mention = map (below r.body) (keyval_mentions c.name c.now) in
     let old_mentioned : lines_mentions start from ≡ left ++ (mid ++ right) = ap (lines_mentions start) h.was ∙ whole_mentions h.pre h.post h.old c.name c.old c.was in
-    let new_mentions : lines_mentions start to ≡ left ++ (mid' ++ right) = ap (lines_mentions start) h.is ∙ whole_mentions h.pre h.post h.now c.name c.now c.is in
     let all_rules : Rules (left ++ (mid ++ right)) = subst Rules old_mentioned rules in
     let outer = pairs_split Allowed left (mid ++ right) all_rules in
     let inner = pairs_split Allowed mid right outer.right in
@@ -146,17 +153,39 @@ mentions_set path new from to rules h =
     set_named 0 (Some c.name) (body_fact c.old.body) (body_fact c.now.body) (entries_mentions 0 c.old.nested) (entries_mentions 0 c.now.nested) c.more new (c.changed nested_rules) in
     let two : IsSet (p ++ c.more) new mid mid' = subst (λ (q : List Part). IsSet q new mid mid') (sym (append_assoc r.body (step 0 (Some c.name)) c.more))
     (set_below r.body (step 0 (Some c.name) ++ c.more) new (keyval_mentions c.name c.old) (keyval_mentions c.name c.now) one) in
-    let three : IsSet (p ++ c.more) new (left ++ (mid ++ right)) (left ++ (mid' ++ right)) =
-    set_beside (p ++ c.more) new mid mid' left right (all_longer p c.more left disjoint_left) (all_longer p c.more right disjoint_right) two in
-    subst (λ (q : List Part). IsSet q new (lines_mentions start from) (lines_mentions start to)) (sym c.place)
-    (subst (λ (l : List Mention). IsSet (p ++ c.more) new l (lines_mentions start to)) (sym old_mentioned)
-    (subst (λ (l : List Mention). IsSet (p ++ c.more) new (left ++ (mid ++ right)) l) (sym new_mentions) three))
+    subst (λ (q : List Part). IsLineSet q new left mid mid' right) (sym c.place)
+    (record { set = two; disjoint_left = all_longer p c.more left disjoint_left; disjoint_right = all_longer p c.more right disjoint_right })
+
+mentions_set : (path : List Part) (new : Value) (from to : List Line) → Rules (lines_mentions start from) → LinesSet start path new from to → IsSet path new (lines_mentions start from) (lines_mentions start to)
+mentions_set path new from to rules h =
+    let c = h.content in
+    let r : Reading = reading_after_lines start h.pre in
+    let left : List Mention = lines_mentions start h.pre in
+    let right : List Mention = lines_mentions r h.post in
+    let mid : List Mention = map (below r.body) (keyval_mentions c.name c.old) in
+    let mid' : List Mention = map (below r.body) (keyval_mentions c.name c.now) in
+    let old_mentioned : lines_mentions start from ≡ left ++ (mid ++ right) = ap (lines_mentions start) h.was ∙ whole_mentions h.pre h.post h.old c.name c.old c.was in
+    let new_mentions : lines_mentions start to ≡ left ++ (mid' ++ right) = ap (lines_mentions start) h.is ∙ whole_mentions h.pre h.post h.now c.name c.now c.is in
+    let one = line_set path new from to rules h in
+    let all : IsSet path new (left ++ (mid ++ right)) (left ++ (mid' ++ right)) = set_beside path new mid mid' left right one.disjoint_left one.disjoint_right one.set in
+    subst (λ (l : List Mention). IsSet path new l (lines_mentions start to)) (sym old_mentioned)
+    (subst (λ (l : List Mention). IsSet path new (left ++ (mid ++ right)) l) (sym new_mentions) all)
+
+pub each_to : {A : Type 0} (P Q : A → Type 0) (o : Option (Changed A)) → ((x : A) → P x → Q x) → EachTo P o → EachTo Q o
+each_to P Q None f h = tt
+each_to P Q (Some c) f h = f c.to h
+
+-- Setting changes one line.
+pub one_line_set : (s : Document) (path : List Part) (new : Value) → EachTo (λ s'. LinesSet start path new (lines s) (lines s')) (change s (set path new))
+one_line_set s path new =
+    to_within (λ p. LinesSet start path new (lines s) (page_lines p)) (λ s'. LinesSet start path new (lines s) (lines s')) (with_page s) _ [] (in_lines (in_line (replacement new) path) start s.ended s.last)
+    (λ p h. h) (lines_set path new start s.ended s.last)
 
 -- Setting replaces the run of mentions of the value at the path.
 pub document_set : (s : Document) (path : List Part) (new : Value) → Rules (mentions_in s) → EachTo (λ s'. IsSet path new (mentions_in s) (mentions_in s')) (change s (set path new))
 document_set s path new rules =
-    to_within (λ p. LinesSet start path new (lines s) (page_lines p)) (λ s'. IsSet path new (mentions_in s) (mentions_in s')) (with_page s) _ [] (in_lines (in_line (replacement new) path) start s.ended s.last)
-    (λ p h. mentions_set path new (lines s) (page_lines p) rules h) (lines_set path new start s.ended s.last)
+    each_to (λ s'. LinesSet start path new (lines s) (lines s')) (λ s'. IsSet path new (mentions_in s) (mentions_in s')) (change s (set path new))
+    (λ s' h. mentions_set path new (lines s) (lines s') rules h) (one_line_set s path new)
 
 -- ---- its rules
 
@@ -193,14 +222,14 @@ head_allowed p a b (x ∷ ms) ha hb h = (
 
 pub rules_set : (path : List Part) (new : Value) (from to : List Mention) → IsSet path new from to → Rules from → Rules (mentions_of_value new) → Rules to
 rules_set path new from to h rules value_rules =
-    let now : List Mention = run path (h.tag (body_fact new.body)) (entries_mentions 0 new.nested) in
+    let now : List Mention = run path (tag_of h.name (body_fact new.body)) (entries_mentions 0 new.nested) in
     let run_rules : Rules now = (
-      head_allowed path (item (body_fact new.body)) (h.tag (body_fact new.body)) (entries_mentions 0 new.nested) refl (h.alone (body_fact new.body)) value_rules.0,
+      head_allowed path (item (body_fact new.body)) (tag_of h.name (body_fact new.body)) (entries_mentions 0 new.nested) refl (tag_alone h.name (body_fact new.body)) value_rules.0,
       rules_outside path (entries_mentions 0 new.nested) value_rules.1,
     ) in
     subst Rules (sym h.is)
-    (rules_replaced path h.before (run path (h.tag h.fact) h.nested) now h.behind (subst Rules h.was rules) h.disjoint_before h.disjoint_after
-    (under_run path (h.tag (body_fact new.body)) (entries_mentions 0 new.nested)) run_rules)
+    (rules_replaced path h.before (run path (tag_of h.name h.fact) (entries_mentions 0 h.entries)) now h.behind (subst Rules h.was rules) h.disjoint_before h.disjoint_after
+    (under_run path (tag_of h.name (body_fact new.body)) (entries_mentions 0 new.nested)) run_rules)
 
 -- ---- its tree
 
@@ -226,16 +255,16 @@ run_facts path q r tag f ms stated e =
 tree_by : (path : List Part) (new : Value) (from to : List Mention) → IsSet path new from to → (q : List Part) (o : Option (List Part)) → strip path q ≡ o
     → fact_at q to ≡ fact_from from (mentions_of_value new) (elim o [ Some more ↦ given more | None ↦ from_path q ])
 tree_by path new from to h q None e =
-    let now : List Mention = run path (h.tag (body_fact new.body)) (entries_mentions 0 new.nested) in
-    let old : List Mention = run path (h.tag h.fact) h.nested in
+    let now : List Mention = run path (tag_of h.name (body_fact new.body)) (entries_mentions 0 new.nested) in
+    let old : List Mention = run path (tag_of h.name h.fact) (entries_mentions 0 h.entries) in
     ap (fact_at q) h.is
-    ∙ fact_elsewhere path q h.before old now h.behind (under_run path (h.tag h.fact) h.nested) (under_run path (h.tag (body_fact new.body)) (entries_mentions 0 new.nested)) e
+    ∙ fact_elsewhere path q h.before old now h.behind (under_run path (tag_of h.name h.fact) (entries_mentions 0 h.entries)) (under_run path (tag_of h.name (body_fact new.body)) (entries_mentions 0 new.nested)) e
     ∙ ap (fact_at q) (sym h.was)
 tree_by path new from to h q (Some r) e =
-    let now : List Mention = run path (h.tag (body_fact new.body)) (entries_mentions 0 new.nested) in
+    let now : List Mention = run path (tag_of h.name (body_fact new.body)) (entries_mentions 0 new.nested) in
     ap (fact_at q) h.is
     ∙ fact_under path q r h.before now h.behind h.disjoint_before h.disjoint_after e
-    ∙ run_facts path q r (h.tag (body_fact new.body)) (body_fact new.body) (entries_mentions 0 new.nested) (h.stated (body_fact new.body)) e
+    ∙ run_facts path q r (tag_of h.name (body_fact new.body)) (body_fact new.body) (entries_mentions 0 new.nested) (tag_stated h.name (body_fact new.body)) e
 
 pub tree_set : (path : List Part) (new : Value) (from to : List Mention) → IsSet path new from to → IsTreeOf from (set path new) to
 tree_set path new from to h q = tree_by path new from to h q (strip path q) refl
@@ -244,10 +273,6 @@ tree_set path new from to h q = tree_by path new from to h q (strip path q) refl
 pub record IsLawful (s : Document) (e : Edit) (s' : Document) : Type 0 where
   pub rules : Rules (mentions_in s')
   pub tree : IsTreeOf (mentions_in s) e (mentions_in s')
-
-pub each_to : {A : Type 0} (P Q : A → Type 0) (o : Option (Changed A)) → ((x : A) → P x → Q x) → EachTo P o → EachTo Q o
-each_to P Q None f h = tt
-each_to P Q (Some c) f h = f c.to h
 
 pub set_law : (s : Document) (path : List Part) (new : Value) → Rules (mentions_in s) → Rules (mentions_of_value new) → EachTo (IsLawful s (set path new)) (change s (set path new))
 set_law s path new rules value_rules =

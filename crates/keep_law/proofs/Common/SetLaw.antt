@@ -122,17 +122,29 @@ closed_entries n (entry name body nested after comma rest) =
 abbrev pub run : List Part → MentionKind → List Mention → List Mention
 run path mention_kind nested = record { path = path; kind = mention_kind } ∷ map (below path) nested
 
+-- how a value is mentioned: as an item or as a keyval
+abbrev pub tag_of : Option Name → Fact → MentionKind
+tag_of None f = item f
+tag_of (Some name) f = value f
+
+pub tag_stated : (name : Option Name) (f : Fact) → fact_of (tag_of name f) ≡ Some f
+tag_stated None f = refl
+tag_stated (Some name) f = refl
+
+pub tag_alone : (name : Option Name) (f : Fact) → exclusive (tag_of name f) ≡ true
+tag_alone None f = refl
+tag_alone (Some name) f = refl
+
 -- The mentions of the new tree are those of the old one, with the run at the path replaced; there is nothing else at or under it.
+-- The value has that name, or is an item; `fact` and `entries` are those of the value before.
 pub record IsSet (path : List Part) (new : Value) (from to : List Mention) : Type 0 where
-  pub tag : Fact → MentionKind
-  pub stated : (f : Fact) → fact_of (tag f) ≡ Some f
-  pub alone : (f : Fact) → exclusive (tag f) ≡ true
+  pub name : Option Name
   pub fact : Fact
-  pub nested : List Mention
+  pub entries : Entries
   pub before : List Mention
   pub behind : List Mention
-  pub was : from ≡ before ++ (run path (tag fact) nested ++ behind)
-  pub is : to ≡ before ++ (run path (tag (body_fact new.body)) (entries_mentions 0 new.nested) ++ behind)
+  pub was : from ≡ before ++ (run path (tag_of name fact) (entries_mentions 0 entries) ++ behind)
+  pub is : to ≡ before ++ (run path (tag_of name (body_fact new.body)) (entries_mentions 0 new.nested) ++ behind)
   pub disjoint_before : AllOf (IsDisjoint path) before
   pub disjoint_after : AllOf (IsDisjoint path) behind
 
@@ -158,15 +170,13 @@ disjoint_below s p (m ∷ ms) h = (strip_both s p m.path ∙ h.0, disjoint_below
 
 pub set_below : (s path : List Part) (new : Value) (from to : List Mention) → IsSet path new from to → IsSet (s ++ path) new (map (below s) from) (map (below s) to)
 set_below s path new from to h = record {
-  tag = h.tag;
-  stated = h.stated;
-  alone = h.alone;
+  name = h.name;
   fact = h.fact;
-  nested = h.nested;
+  entries = h.entries;
   before = map (below s) h.before;
   behind = map (below s) h.behind;
-  was = ap (map (below s)) h.was ∙ map_parts s path h.before h.nested h.behind (h.tag h.fact);
-  is = ap (map (below s)) h.is ∙ map_parts s path h.before (entries_mentions 0 new.nested) h.behind (h.tag (body_fact new.body));
+  was = ap (map (below s)) h.was ∙ map_parts s path h.before (entries_mentions 0 h.entries) h.behind (tag_of h.name h.fact);
+  is = ap (map (below s)) h.is ∙ map_parts s path h.before (entries_mentions 0 new.nested) h.behind (tag_of h.name (body_fact new.body));
   disjoint_before = disjoint_below s path h.before h.disjoint_before;
   disjoint_after = disjoint_below s path h.behind h.disjoint_after;
 }
@@ -177,15 +187,13 @@ around left before mid behind right = simp append_assoc refl
 pub set_beside : (path : List Part) (new : Value) (from to left right : List Mention) → AllOf (IsDisjoint path) left → AllOf (IsDisjoint path) right
     → IsSet path new from to → IsSet path new (left ++ (from ++ right)) (left ++ (to ++ right))
 set_beside path new from to left right hl hr h = record {
-  tag = h.tag;
-  stated = h.stated;
-  alone = h.alone;
+  name = h.name;
   fact = h.fact;
-  nested = h.nested;
+  entries = h.entries;
   before = left ++ h.before;
   behind = h.behind ++ right;
-  was = ap (λ l. left ++ (l ++ right)) h.was ∙ around left h.before (run path (h.tag h.fact) h.nested) h.behind right;
-  is = ap (λ l. left ++ (l ++ right)) h.is ∙ around left h.before (run path (h.tag (body_fact new.body)) (entries_mentions 0 new.nested)) h.behind right;
+  was = ap (λ l. left ++ (l ++ right)) h.was ∙ around left h.before (run path (tag_of h.name h.fact) (entries_mentions 0 h.entries)) h.behind right;
+  is = ap (λ l. left ++ (l ++ right)) h.is ∙ around left h.before (run path (tag_of h.name (body_fact new.body)) (entries_mentions 0 new.nested)) h.behind right;
   disjoint_before = all_join (IsDisjoint path) left h.before hl h.disjoint_before;
   disjoint_after = all_join (IsDisjoint path) h.behind right h.disjoint_after hr;
 }
@@ -338,19 +346,6 @@ rules_named n (Some name) f nested h =
     subst Rules (keyed_split (keys_of name.key) (valued_mentions (value f) nested)) h in
     (rules_below (map key (keys_of name.key)) (valued_mentions (value f) nested) (pairs_split Allowed (keyed_mentions (keys_of name.key) []) (map (below (map key (keys_of name.key))) (valued_mentions (value f) nested)) both).right).1
 
--- how a value is mentioned: as an item or as a keyval
-abbrev pub tag_of : Option Name → Fact → MentionKind
-tag_of None f = item f
-tag_of (Some name) f = value f
-
-pub tag_stated : (name : Option Name) (f : Fact) → fact_of (tag_of name f) ≡ Some f
-tag_stated None f = refl
-tag_stated (Some name) f = refl
-
-pub tag_alone : (name : Option Name) (f : Fact) → exclusive (tag_of name f) ≡ true
-tag_alone None f = refl
-tag_alone (Some name) f = refl
-
 -- the keys on the way, and the value after them
 named_split : (n : ℕ) (name : Option Name) (f : Fact) (nested : List Mention) → List Mention
 named_split n None f nested = []
@@ -383,18 +378,16 @@ held_further n path first rest (by_key j js tail e alone) = by_key j js tail e (
 held_further n path first rest (by_index k tail h e) = by_index k tail (omega arith) e
 
 -- the value itself
-set_here : (tag : Fact → MentionKind) → ((f : Fact) → fact_of (tag f) ≡ Some f) → ((f : Fact) → exclusive (tag f) ≡ true) → (f : Fact) (nested : List Mention) (new : Value)
-    → IsSet [] new (valued_mentions (tag f) nested) (valued_mentions (tag (body_fact new.body)) (entries_mentions 0 new.nested))
-set_here tag stated alone f nested new = record {
-  tag = tag;
-  stated = stated;
-  alone = alone;
+set_here : (name : Option Name) (f : Fact) (entries : Entries) (new : Value)
+    → IsSet [] new (valued_mentions (tag_of name f) (entries_mentions 0 entries)) (valued_mentions (tag_of name (body_fact new.body)) (entries_mentions 0 new.nested))
+set_here name f entries new = record {
+  name = name;
   fact = f;
-  nested = nested;
+  entries = entries;
   before = [];
   behind = [];
-  was = ap (λ l. record { path = []; kind = tag f } ∷ l) (sym (map_none nested) ∙ sym (append-nil (map (below []) nested)));
-  is = ap (λ l. record { path = []; kind = tag (body_fact new.body) } ∷ l) (sym (map_none (entries_mentions 0 new.nested)) ∙ sym (append-nil (map (below []) (entries_mentions 0 new.nested))));
+  was = ap (λ l. record { path = []; kind = tag_of name f } ∷ l) (sym (map_none (entries_mentions 0 entries)) ∙ sym (append-nil (map (below []) (entries_mentions 0 entries))));
+  is = ap (λ l. record { path = []; kind = tag_of name (body_fact new.body) } ∷ l) (sym (map_none (entries_mentions 0 new.nested)) ∙ sym (append-nil (map (below []) (entries_mentions 0 new.nested))));
   disjoint_before = tt;
   disjoint_after = tt;
 }
@@ -420,23 +413,22 @@ no_entry act n none = refl
 no_entry act n (entry None body nested after comma rest) = within_none _ _ _ (in_entries act [] (n + 1) rest) (no_entry act (n + 1) rest)
 no_entry act n (entry (Some name) body nested after comma rest) = within_none _ _ _ (in_entries act [] (n + 1) rest) (no_entry act (n + 1) rest)
 
-abbrev pub ValueSet : (Fact → MentionKind) → List Part → Value → Body → Entries → Value → Type 0
-ValueSet tag more new body nested v =
-    IsSet more new (valued_mentions (tag (body_fact body)) (entries_mentions 0 nested)) (valued_mentions (tag (body_fact v.body)) (entries_mentions 0 v.nested))
+abbrev pub ValueSet : Option Name → List Part → Value → Body → Entries → Value → Type 0
+ValueSet name more new body nested v =
+    IsSet more new (valued_mentions (tag_of name (body_fact body)) (entries_mentions 0 nested)) (valued_mentions (tag_of name (body_fact v.body)) (entries_mentions 0 v.nested))
 
-pub set_value-by : (tag : Fact → MentionKind) → ((f : Fact) → fact_of (tag f) ≡ Some f) → ((f : Fact) → exclusive (tag f) ≡ true)
-    → (new : Value) (more : List Part) (body : Body) (nested : Entries) (left right : List ℕ)
+set_value-by : (name : Option Name) (new : Value) (more : List Part) (body : Body) (nested : Entries) (left right : List ℕ)
     → EachTo (λ es. IsSetIn 0 more new (entries_mentions 0 nested) (entries_mentions 0 es)) (in_entries (replacement new) more 0 nested)
-    → EachTo (ValueSet tag more new body nested)
+    → EachTo (ValueSet name more new body nested)
     (or_else (within (λ es. record { body = body; nested = es }) left right (in_entries (replacement new) more 0 nested)) (replacement new more (record { body = body; nested = nested })))
-set_value-by tag stated alone new [] body nested left right ih =
-    subst (λ (o : Option (Changed Entries)). EachTo (ValueSet tag [] new body nested) (or_else (within (λ es. record { body = body; nested = es }) left right o) (replacement new [] (record { body = body; nested = nested }))))
-    (sym (no_entry (replacement new) 0 nested)) (set_here tag stated alone (body_fact body) (entries_mentions 0 nested) new)
-set_value-by tag stated alone new (q ∷ qs) body nested left right ih =
-    to_or_else (ValueSet tag (q ∷ qs) new body nested) _ None
-    (to_within (λ es. IsSetIn 0 (q ∷ qs) new (entries_mentions 0 nested) (entries_mentions 0 es)) (ValueSet tag (q ∷ qs) new body nested) (λ es. record { body = body; nested = es }) left right
+set_value-by name new [] body nested left right ih =
+    subst (λ (o : Option (Changed Entries)). EachTo (ValueSet name [] new body nested) (or_else (within (λ es. record { body = body; nested = es }) left right o) (replacement new [] (record { body = body; nested = nested }))))
+    (sym (no_entry (replacement new) 0 nested)) (set_here name (body_fact body) nested new)
+set_value-by name new (q ∷ qs) body nested left right ih =
+    to_or_else (ValueSet name (q ∷ qs) new body nested) _ None
+    (to_within (λ es. IsSetIn 0 (q ∷ qs) new (entries_mentions 0 nested) (entries_mentions 0 es)) (ValueSet name (q ∷ qs) new body nested) (λ es. record { body = body; nested = es }) left right
     (in_entries (replacement new) (q ∷ qs) 0 nested)
-    (λ es h. set_deeper (tag (body_fact body)) q qs new (entries_mentions 0 nested) (entries_mentions 0 es) h.set) ih) tt
+    (λ es h. set_deeper (tag_of name (body_fact body)) q qs new (entries_mentions 0 nested) (entries_mentions 0 es) h.set) ih) tt
 
 set_entries-by : (new : Value) (path : List Part) (n : ℕ) (name : Option Name) (body : Body) (nested : Entries) (after : Gap) (comma : Option Gap) (rest : Entries)
     → Rules (entries_mentions n (entry name body nested after comma rest))
@@ -466,7 +458,7 @@ set_entries-by new path n name body nested after comma rest rules further deeper
 set_entries-by new path n name body nested after comma rest rules further deeper (Some more) e =
     let first : List Mention = entry_mentions n name (body_fact body) (entries_mentions 0 nested) in
     let whole : path ≡ step n name ++ more = strip-sound (step n name) path more e in
-    to_within (ValueSet (tag_of name) more new body nested)
+    to_within (ValueSet name more new body nested)
     (λ es. IsSetIn n path new (entries_mentions n (entry name body nested after comma rest)) (entries_mentions n es))
     (λ v. entry name v.body v.nested after comma rest) _ _ _
     (λ v h. subst (λ (q : List Part). IsSetIn n q new (entries_mentions n (entry name body nested after comma rest)) (entries_mentions n (entry name v.body v.nested after comma rest))) (sym whole) (record {
@@ -475,7 +467,7 @@ set_entries-by new path n name body nested after comma rest rules further deeper
           (set_named n name (body_fact body) (body_fact v.body) (entries_mentions 0 nested) (entries_mentions 0 v.nested) more new h);
       held = held_entry n name (body_fact body) (entries_mentions 0 nested) (entries_mentions (n + 1) rest) more;
     }))
-    (set_value-by (tag_of name) (tag_stated name) (tag_alone name) new more body nested (text_of (opening body)) (text_of (closing body)) (deeper more))
+    (set_value-by name new more body nested (text_of (opening body)) (text_of (closing body)) (deeper more))
 
 pub set_entries : (new : Value) (path : List Part) (n : ℕ) (es : Entries) → Rules (entries_mentions n es)
     → EachTo (λ es'. IsSetIn n path new (entries_mentions n es) (entries_mentions n es')) (in_entries (replacement new) path n es)
@@ -490,6 +482,6 @@ set_entries new path n (entry name body nested after comma rest) rules =
 
 -- in the value of a keyval or an item
 pub set_value : (name : Option Name) (new : Value) (more : List Part) (v : Value) → Rules (entries_mentions 0 v.nested)
-    → EachTo (ValueSet (tag_of name) more new v.body v.nested) (in_value (replacement new) more v)
+    → EachTo (ValueSet name more new v.body v.nested) (in_value (replacement new) more v)
 set_value name new more v rules =
-    set_value-by (tag_of name) (tag_stated name) (tag_alone name) new more v.body v.nested (text_of (opening v.body)) (text_of (closing v.body)) (set_entries new more 0 v.nested rules)
+    set_value-by name new more v.body v.nested (text_of (opening v.body)) (text_of (closing v.body)) (set_entries new more 0 v.nested rules)

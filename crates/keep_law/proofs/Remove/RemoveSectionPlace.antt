@@ -30,6 +30,7 @@ use Rattle.keep_law.specs.Removal.{body_end, section_place}
 use Rattle.keep_law.proofs.Common.Runs.{AllOf, SomeOf, some_right, same_path-sound, same_path-refl}
 use Rattle.keep_law.proofs.Common.Doubles.{IsMentioned}
 use Rattle.keep_law.proofs.Common.BodyEnd.{drop_after}
+use Rattle.keep_law.proofs.Common.StatementNumbers.{reading_lines}
 use Rattle.keep_law.proofs.Common.ValueThere.{IsSome}
 use Rattle.keep_law.proofs.Common.ValueNumber.{false_unless}
 use Rattle.keep_law.proofs.Common.TableThere.{some_begins}
@@ -111,15 +112,6 @@ module _ (is : MentionKind → Bool) (path : List Part) where
 one_statement : (c : counts.Count) (ms : List Mention) → AllOf (λ (n : Numbered). n.before.statements ≡ c.statements) (numbered_mentions c ms)
 one_statement c [] = tt
 one_statement c (m ∷ ms) = (refl, one_statement (count_with_mention c m) ms)
-
-reading_lines : (r : Reading) (ls : List Line) → reading_after r (filter_map line_statement ls) ≡ reading_after_lines r ls
-reading_lines r [] = refl
-reading_lines r (l ∷ ls) = by (statement_of l.content) (λ q. reading_lines q ls)
-  where
-    by : (o : Option marks_of.Statement) → ((q : Reading) → reading_after q (filter_map line_statement ls) ≡ reading_after_lines q ls)
-        → reading_after r (cons_option o (filter_map line_statement ls)) ≡ reading_after_lines (elim o [ None ↦ r | Some s ↦ next_reading r s ]) ls
-    by None more = more r
-    by (Some s) more = more (next_reading r s)
 
 line_counts : (c : Count) (l : Line) (line_end : ℕ) (x : Content) (ss : List marks_of.Statement) → length (cons_option (statement_of x) ss) ≡ length (content_statements c l line_end x) + length ss
 line_counts c l line_end blank ss = omega arith
