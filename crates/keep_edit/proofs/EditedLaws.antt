@@ -1,17 +1,19 @@
 -- What an edit answers, by the text that was made: the document after it, or that text alone.
 use Rattle.std.proofs.Common.{◌≡◌, ℕ, List, sym, subst, refl, Option, Some, None, Result, Ok, Err, String, Global}
-use Rattle.std.specs.Prelude.{MatchResult, string_bytes}
+use Rattle.std.specs.Prelude.{IfSome, MatchResult, string_bytes}
 use Rattle.keep_syntax.specs.Tree.{Document}
 use Rattle.keep_law.specs.declared.fault.EditFault.{EditFault}
 use Rattle.keep_law.specs.declared.fault.EditFault.TheVariants as fault
 use Rattle.keep_law.specs.declared.splice.Splice.{Splice}
 use Rattle.keep_law.specs.Changed.{Place}
-use Rattle.keep_law.specs.Edits.{Edit, place}
+use Rattle.keep_law.specs.Edits.{Edit, edited_document, place}
+use Rattle.keep_splice.specs.Kinds.{IsKindChange}
 use Rattle.keep_splice.specs.declared.edited.Edited.{Edited}
+use Rattle.keep_splice.specs.declared.set.KindChange.{KindChange}
 use Rattle.keep_edit.specs.Reading.{ProfiledText, text_in, IsTextOfTree}
 use Rattle.keep_splice.specs.Answers.{IsMadeAt, splice_of, text_after}
 use Rattle.keep_edit.specs.Answers.{IsEdited, IsMade, IsTextAfter, IsDone, EditMade, EditDone, EditReported, refusal_in}
-use Rattle.keep_edit.specs.Places.{IsMovedIn, after}
+use Rattle.keep_edit.specs.Places.{IsKindChanged, IsMovedIn, after}
 
 -- ---- what an edit answers, by what was made of it
 
@@ -57,6 +59,25 @@ module _ (s : Document) (e : Edit) (old : ProfiledText) where
 pub moved_done : (s : Document) (e : Edit) (old new : ProfiledText) (made : Edited) (result : Result Splice EditFault) → IsTextOfTree old s → EditMade s e old (Ok made) → IsMovedIn made old new result → EditDone s e old new result
 moved_done s e old new made (Ok splice) read h (there, is) = done_of s e old new made splice is (λ p m. there s p read m) h
 moved_done s e old new made (Err f) read h (full, preserved) = subst (λ (g : EditFault). EditDone s e old new (Err g)) (sym full) (full_of s e old new made h)
+
+-- ---- where `set` changes one kind in the index and no more
+
+-- what is known of an edit that is not refused
+when_made : {T : Type 0} (good : T → Type 0) (r : Option EditFault) (x : T) → IsDone good r (Ok x) → (r ≡ None) × good x
+when_made good None x h = (refl, h)
+when_made good (Some f) x h = absurd cc
+
+kind_of_made : (s : Document) (e : Edit) (old : ProfiledText) (made : Edited) (change : Option KindChange) → IsTextOfTree old s → IsMade s e old made → IfSome change (IsKindChange s (edited_document s e)) → IfSome change (IsKindChanged old made)
+kind_of_made s e old made None read h is = tt
+kind_of_made s e old made (Some k) read h is = record { from = s; to = edited_document s e; read = read; new = h.1.tree; is = is }
+
+pub kind_changed : {seen_as old : ProfiledText} (s : Document) (e : Edit) (made : Edited) (change : Option KindChange) → seen_as ≡ old → IsTextOfTree old s → EditMade s e old (Ok made)
+    → (IsTextOfTree seen_as s → refusal_in seen_as s e ≡ None → IfSome change (IsKindChange s (edited_document s e))) → IfSome change (IsKindChanged old made)
+kind_changed {seen_as} {old} s e made change same read h is =
+    let there : IsTextOfTree old s → refusal_in old s e ≡ None → IfSome change (IsKindChange s (edited_document s e)) =
+    subst (λ (d : ProfiledText). IsTextOfTree d s → refusal_in d s e ≡ None → IfSome change (IsKindChange s (edited_document s e))) same is in
+    let (allowed, good) = when_made (IsMade s e old) (refusal_in old s e) made h in
+    kind_of_made s e old made change read good (there read allowed)
 
 -- what was made for a document that is seen as this one
 pub made_of : {seen_as old : ProfiledText} (s : Document) (e : Edit) (result : Result Edited EditFault) → seen_as ≡ old → (IsTextOfTree seen_as s → EditMade s e seen_as result) → IsTextOfTree old s

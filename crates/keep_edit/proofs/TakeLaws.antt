@@ -2,8 +2,8 @@
 --
 -- The law of the touched lines gives a document m of the new lines that can replace the touched ones (`can`). With these replaced
 -- the document is the one after the edit, so the syntax that is reread for it is that of the new text (`reread_is`).
-use Rattle.std.proofs.Common.{◌≡◌, ◌∙◌, ℕ, ◌+◌, ◌-◌, ◌≤◌, ◌⊎◌, List, length, sym, ap, subst, arith, IsUtf8}
-use Rattle.std.specs.Prelude.{slice_range, string_bytes}
+use Rattle.std.proofs.Common.{◌≡◌, ◌∙◌, ℕ, ◌+◌, ◌-◌, ◌<◌, ◌≤◌, ◌⊎◌, List, length, sym, ap, subst, arith, IsUtf8, Option, Some, None}
+use Rattle.std.specs.Prelude.{IfSome, slice_range, string_bytes}
 use Rattle.keep_token.specs.declared.leaf.Profile.{Profile}
 use Rattle.keep_parts.specs.declared.info.Span.{Span}
 use Rattle.keep_syntax.specs.declared.syntax.Syntax.{Syntax}
@@ -17,14 +17,19 @@ use Rattle.keep_syntax.specs.Undoing.{IsSame}
 use Rattle.keep_law.specs.Changed.{Place, place_of}
 use Rattle.keep_law.specs.TouchedLines.{scanned, touched_by, touched_in_new, TouchesLines}
 use Rattle.keep_law.proofs.Shared.{touched_lines_are_lines, IsCut, touched_in_new_cut}
-use Rattle.keep_nodes.specs.Facts.{NodeInfos}
+use Rattle.keep_meaning.specs.Counts.{statements_in}
+use Rattle.keep_meaning.specs.Marks.{start, reading_after}
+use Rattle.keep_meaning.specs.Meaning.{mentions_in}
+use Rattle.keep_nodes.specs.Facts.{NodeInfos, with_kind}
 use Rattle.keep_splice.specs.Answers.{IsMadeAt, text_after}
 use Rattle.keep_splice.specs.declared.edited.Edited.{Edited}
-use Rattle.keep_splice.proofs.Shared.{one_tree}
+use Rattle.keep_splice.specs.declared.set.KindChange.{KindChange}
+use Rattle.keep_splice.proofs.Shared.{one_tree, stated_is}
+use Rattle.keep_rules.specs.Nested.{AreNested}
 use Rattle.keep_rules.specs.ReadDocuments.{WasRead, IsIndexOf}
-use Rattle.keep_edit.specs.Places.{after, IsOfEdit, IsReread}
-use Rattle.keep_edit.specs.Reading.{limit, ProfiledText, Holds, IsSyntaxIn, IsTextOfTree}
-use Rattle.keep_edit.proofs.ReadLaws.{holds, read_once}
+use Rattle.keep_edit.specs.Places.{after, IsOfEdit, IsKindChanged, IsReread}
+use Rattle.keep_edit.specs.Reading.{limit, ProfiledText, Holds, IsSyntaxIn, IsTextOfTree, telling_in}
+use Rattle.keep_edit.proofs.ReadLaws.{read_once}
 
 -- the end of the new lines
 abbrev pub end_by : Span → Edited → ℕ
@@ -142,13 +147,31 @@ module _ (old : ProfiledText) (made : Edited) (syntax : Syntax) (index : NodeInf
         let is : IsSyntaxOf syntax o.tree = is_syntax o.tree o.read in
         reread_is s (reads o.tree m is k) (subst (λ (t : List ℕ). IsTextOf s t) (replaced_text k) (texts o.tree m is k))
 
-  -- the index that is built of it
-  pub holds_after : (s : Syntax) (fresh : NodeInfos) → IsSyntaxIn (after old made) s → ((d : Document) → WasRead (text_after old.text made) s d → IsIndexOf d fresh) → Holds (after old made) s fresh
-  holds_after s fresh is built = holds old.profile (text_after old.text made) s fresh o.new.utf8 is built
-
   -- it is the syntax of a document that obeys the rules
   pub read_after : (s : Syntax) → IsSyntaxIn (after old made) s → WasRead (text_after old.text made) s o.changed.to
   read_after s is = read_once is o.new
+
+  -- with the index of the new document
+  pub holds_after : (s : Syntax) (fresh : NodeInfos) → IsSyntaxIn (after old made) s → IsIndexOf o.changed.to fresh → Holds (after old made) s fresh
+  holds_after s fresh is told = record { tree = o.changed.to; read = o.new; is = (read_after s is).is; of_text = is.of_text; stated = told.facts; nested = told.nested }
+
+  -- the index where one kind is all that changes in it
+  kind_told_by : (k : KindChange) → IsKindChanged old made k → IsIndexOf o.changed.to (with_kind index k.node.0 k.kind)
+  kind_told_by k c =
+      let same : c.to ≡ o.changed.to = one_tree (after old made) c.to o.changed.to c.new o.new in
+      record {
+        obeys = o.new.obeys;
+        nested = subst (λ (d : Document). AreNested (mentions_in d) (reading_after start (statements_in d)).tables) same c.is.nested;
+        facts = ap (λ (t : NodeInfos). with_kind t k.node.0 k.kind) (stated_is old syntax index c.from h c.read) ∙ sym c.is.told ∙ ap telling_in same;
+      }
+
+  pub kind_told : (change : Option KindChange) → IfSome change (IsKindChanged old made) → IfSome change (λ k. IsIndexOf o.changed.to (with_kind index k.node.0 k.kind))
+  kind_told None c = tt
+  kind_told (Some k) c = kind_told_by k c
+
+  pub kind_within : (change : Option KindChange) → IfSome change (IsKindChanged old made) → IfSome change (λ k. k.node.0 < length index.paths)
+  kind_within None c = tt
+  kind_within (Some k) c = subst (λ (t : NodeInfos). k.node.0 < length t.paths) (sym (stated_is old syntax index c.from h c.read)) c.is.within
 
 -- what stores the same is of the same text
 pub holds_same : (t : ProfiledText) (a b : Syntax) (index : NodeInfos) → IsSame a b → Holds t b index → Holds t a index

@@ -9,7 +9,9 @@ use Rattle.keep_law.specs.Changed.{Place}
 use Rattle.keep_law.specs.TouchedLines as touched
 use Rattle.keep_nodes.specs.Facts.{NodeInfos}
 use Rattle.keep_splice.specs.Answers.{IsMadeAt, splice_of, text_after}
+use Rattle.keep_splice.specs.Kinds.{IsKindChange}
 use Rattle.keep_splice.specs.declared.edited.Edited.{Edited}
+use Rattle.keep_splice.specs.declared.set.KindChange.{KindChange}
 use Rattle.keep_edit.specs.Reading.{ProfiledText, Holds, IsSyntaxIn, IsTextOfTree, text_in}
 pub use Rattle.keep_splice.specs.Places.{IsOfEdit}
 
@@ -28,11 +30,19 @@ pub record IsReread (old : ProfiledText) (made : Edited) (read : Syntax × ℕ) 
   pub syntax : IsSyntaxIn (after old made) read.0
   pub scanned : (s : Document) (p : Place) → IsTextOfTree old s → IsMadeAt p made → read.1 ≡ touched.scanned s p
 
--- The syntax is that of the text after the edit, with this index and so many bytes scanned; or memory ran out, and it still is
--- that of the old text.
-abbrev pub IsTaken : ProfiledText → Edited → NodeInfos → Syntax → Result (NodeInfos × ℕ) EditFault → Type 0
-IsTaken old made index syntax (Ok read) = Holds (after old made) syntax read.0 × ((s : Document) (p : Place) → IsTextOfTree old s → IsMadeAt p made → read.1 ≡ touched.scanned s p)
-IsTaken old made index syntax (Err f) = (f ≡ Memory) × Holds old syntax index
+-- Syntax and index are those of the text after the edit, with so many bytes scanned; or memory ran out, and they still are those
+-- of the old text.
+abbrev pub IsTaken : ProfiledText → Edited → Syntax → NodeInfos → Result ℕ EditFault → Type 0
+IsTaken old made syntax index (Ok scanned) = Holds (after old made) syntax index × ((s : Document) (p : Place) → IsTextOfTree old s → IsMadeAt p made → scanned ≡ touched.scanned s p)
+IsTaken old made syntax index (Err f) = (f ≡ Memory) × Holds old syntax index
+
+-- All that the edit changes of the index is this kind.
+pub record IsKindChanged (old : ProfiledText) (made : Edited) (change : KindChange) : Type 0 where
+  pub from : Document
+  pub to : Document
+  pub read : IsTextOfTree old from
+  pub new : IsTextOfTree (after old made) to
+  pub is : IsKindChange from to change
 
 -- The document has the text after the edit, and the splice is that of its place; or memory ran out and it is as before.
 abbrev pub IsMovedIn : Edited → ProfiledText → ProfiledText → Result Splice EditFault → Type 0

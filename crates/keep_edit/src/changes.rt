@@ -1,23 +1,27 @@
 //! The edits of a document: keep_splice decides each, and it is made in the document's own text and syntax.
-ghost use Rattle.std.specs.Prelude.{◌≡◌, OnErr, MatchResult, string_bytes};
+ghost use Rattle.std.specs.Prelude.{◌≡◌, ◌<◌, length, IfErr, IfSome, OnErr, OnOk, MatchResult, string_bytes};
 ghost use Rattle.keep_token.specs.declared.leaf.Profile.TheVariants.{Wide};
 ghost use Rattle.keep_syntax.specs.declared.fault.ReadFault.TheVariants.{Memory};
 ghost use Rattle.keep_syntax.specs.Tree as tree;
 ghost use Rattle.keep_syntax.specs.Tree.{Value};
 ghost use Rattle.keep_law.specs.Edits.{set, insert, rename, remove, append_table, append_element};
 ghost use Rattle.keep_law.specs.declared.fault.EditFault.TheVariants as law;
-ghost use Rattle.keep_nodes.specs.Facts.{NodeInfos};
+ghost use Rattle.keep_meaning.specs.Marks.{marks};
+ghost use Rattle.keep_meaning.specs.Meaning.{mentions_in};
+ghost use Rattle.keep_meaning.specs.Rules.{ObeysRules};
+ghost use Rattle.keep_nodes.specs.Facts.{with_kind};
+ghost use Rattle.keep_rules.specs.ReadDocuments.{IsIndexOf, WasRead};
 ghost use Rattle.keep_splice.specs.Answers.{text_after};
 ghost use Rattle.keep_edit.specs.Reading.{IsAccepted, IsAcceptedValue, IsTextOfTree, IsTextOfValue, ProfiledText, text_in};
 ghost use Rattle.keep_edit.specs.Answers.{EditDone, EditReported};
 ghost use Rattle.keep_edit.specs.Headers.{key_texts};
-ghost use Rattle.keep_edit.specs.Places.{IsMovedIn, IsOfEdit, IsPatched, IsTaken};
+ghost use Rattle.keep_edit.specs.Places.{IsKindChanged, IsMovedIn, IsOfEdit, IsPatched, IsTaken};
 
 use crate::document::Document;
 use crate::patch::{put_back, put_in};
 use keep_law::{EditFault, Splice};
 use keep_rules::{Index, Path};
-use keep_splice::{DocumentRef, Edited, Header};
+use keep_splice::{DocumentRef, Edited, Header, KindChange};
 use keep_syntax::{Limits, ReadFault, STANDARD_DEPTH, Span, Syntax};
 use keep_token::Profile;
 use keep_value::ValueText;
@@ -42,7 +46,8 @@ impl Document {
     {
         let alloc = *self.text.allocator();
         let edited = self.as_ref().edited(alloc, path, value)?;
-        self.replaced(edited)
+        let change = self.as_ref().kind_change(path, value);
+        self.replaced(edited, change)
     }
 
     /// The text that the document has after `set`. The document stays as it is, and nothing is read anew.
@@ -81,7 +86,7 @@ impl Document {
     {
         let alloc = *self.text.allocator();
         let inserted = self.as_ref().inserted(alloc, path, value)?;
-        self.replaced(inserted)
+        self.replaced(inserted, None)
     }
 
     /// The text that the document has after `insert`. The document stays as it is, and nothing is read anew.
@@ -115,7 +120,7 @@ impl Document {
     {
         let alloc = *self.text.allocator();
         let renamed = self.as_ref().renamed(alloc, path, key)?;
-        self.replaced(renamed)
+        self.replaced(renamed, None)
     }
 
     /// The text that the document has after `rename`. The document stays as it is, and nothing is read anew.
@@ -149,7 +154,7 @@ impl Document {
     {
         let alloc = *self.text.allocator();
         let removed = self.as_ref().removed(alloc, path)?;
-        self.replaced(removed)
+        self.replaced(removed, None)
     }
 
     /// The text that the document has after `remove`. The document stays as it is, and nothing is read anew.
@@ -181,7 +186,7 @@ impl Document {
     {
         let alloc = *self.text.allocator();
         let appended = self.as_ref().appended(alloc, keys, Header::Table)?;
-        self.replaced(appended)
+        self.replaced(appended, None)
     }
 
     /// The text that the document has after `append_table`. The document stays as it is, and nothing is read anew.
@@ -212,7 +217,7 @@ impl Document {
     {
         let alloc = *self.text.allocator();
         let appended = self.as_ref().appended(alloc, keys, Header::Element)?;
-        self.replaced(appended)
+        self.replaced(appended, None)
     }
 
     /// The text that the document has after `append_element`. The document stays as it is, and nothing is read anew.
@@ -241,9 +246,15 @@ impl Document {
     }
 
     /// Makes an edit that was decided for the document, in place. Of the text after it only the lines are scanned that the edit
-    /// touches. The only error is out of memory, and then the document is as before.
-    pub(crate) fn replaced(&mut self, edited: Edited) -> Result<Splice, EditFault>
-        requires { IsOfEdit self.old edited }
+    /// touches. The index is built anew, unless the edit changes a kind in it and no more. The only error is out of memory,
+    /// and then the document is as before.
+    pub(crate) fn replaced(
+        &mut self,
+        edited: Edited,
+        change: Option<KindChange>,
+    ) -> Result<Splice, EditFault>
+        requires of { IsOfEdit self.old edited }
+        requires change { IfSome change (IsKindChanged self.old edited) }
         ensures moved { IsMovedIn edited self.old self.new result }
         ensures read { IsAccepted self.new }
     {
@@ -252,15 +263,10 @@ impl Document {
         let Ok(replaced_bytes) = put_in(&mut self.text, &edited) else {
             return Err(EditFault::Memory);
         };
-        match reread(
-            alloc,
-            self.text.as_str(),
-            profile,
-            &mut self.syntax,
-            &edited,
-        ) {
-            Ok((index, scanned)) => {
-                self.index = index;
+        let text = self.text.as_str();
+        let (syntax, index) = (&mut self.syntax, &mut self.index);
+        match reread(alloc, text, profile, syntax, index, &edited, change) {
+            Ok(scanned) => {
                 let Span { start, end } = edited.place;
                 let added = edited.new.as_str().len();
                 Ok(Splice {
@@ -293,18 +299,20 @@ impl Document {
     }
 }
 
-/// Makes of the syntax of a document that of the text after an edit, builds the index of it, and tells how many bytes are
-/// scanned: those of the lines that the edit touches. The only error is out of memory, and then the syntax is restored.
+/// Makes of the syntax and the index of a document those of the text after an edit, and tells how many bytes are scanned:
+/// those of the lines that the edit touches. The only error is out of memory, and then both are as before.
 fn reread(
     alloc: Global,
     text: &str,
     profile: Profile,
     syntax: &mut Syntax,
+    index: &mut Index,
     edited: &Edited,
-) -> Result<(Index, usize), EditFault>
-    requires { (old : ProfiledText) × (index : NodeInfos) × IsPatched old edited.now syntax.old index (text_in profile text.now) }
-    ensures { (old : ProfiledText) (index : NodeInfos) → IsPatched old edited.now syntax.old index (text_in profile text.now)
-        → IsTaken old edited.now index syntax.new result }
+    change: Option<KindChange>,
+) -> Result<usize, EditFault>
+    requires { (old : ProfiledText) × IsPatched old edited.now syntax.old index.old (text_in profile text.now) × IfSome change (IsKindChanged old edited.now) }
+    ensures { (old : ProfiledText) → IsPatched old edited.now syntax.old index.old (text_in profile text.now) → IfSome change (IsKindChanged old edited.now)
+        → IsTaken old edited.now syntax.new index.new result }
 {
     let Span { start, end } = edited.place;
     let whole = syntax.lines(edited.place);
@@ -316,12 +324,41 @@ fn reread(
     let Ok(replaced) = syntax.replace(whole, &text[whole.start..last], limits) else {
         return Err(EditFault::Memory);
     };
-    match Index::build(alloc, text, syntax) {
-        Ok(index) => Ok((index, last - whole.start)),
+    match renew(alloc, text, syntax, index, change) {
+        Ok(()) => Ok(last - whole.start),
         Err(fault) => {
             syntax.restore(replaced);
-            Err(growth_refused(fault))
+            Err(fault)
         }
+    }
+}
+
+/// Makes of the index of a document that of the text after an edit, by the new syntax: it is built anew, or one kind in it
+/// changes. The only error is out of memory, and then it is as before.
+fn renew(
+    alloc: Global,
+    text: &str,
+    syntax: &Syntax,
+    index: &mut Index,
+    change: Option<KindChange>,
+) -> Result<(), EditFault>
+    requires read { (d : tree.Document) × WasRead text.now syntax.now d × ObeysRules (marks (mentions_in d)) }
+    requires within { IfSome change (λ k. k.node.0 < length index.old.paths) }
+    ensures new { (d : tree.Document) → WasRead text.now syntax.now d → IfSome change (λ k. IsIndexOf d (with_kind index.old k.node.0 k.kind))
+        → OnOk result (IsIndexOf d index.new) }
+    ensures old { OnErr result (index.new ≡ index.old) }
+    ensures memory { IfErr result (λ fault. fault ≡ law.Memory) }
+{
+    if let Some(KindChange { node, kind }) = change {
+        index.set_kind(node, kind);
+        return Ok(());
+    }
+    match Index::build(alloc, text, syntax) {
+        Ok(built) => {
+            *index = built;
+            Ok(())
+        }
+        Err(fault) => Err(growth_refused(fault)),
     }
 }
 

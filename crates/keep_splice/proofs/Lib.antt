@@ -4,6 +4,7 @@ pub mod ValueEnds
 pub mod NodeLaws
 pub mod FoundLaws
 pub mod SetLaws
+pub mod KindLaws
 pub mod EditedLaws
 pub mod RenameLaws
 pub mod NewlineLaws

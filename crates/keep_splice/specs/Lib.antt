@@ -6,6 +6,7 @@ pub mod Inserting
 pub mod Holding
 pub mod Newlines
 pub mod Headers
+pub mod Kinds
 pub mod Writing
 pub mod Aiming
 pub mod PutLines

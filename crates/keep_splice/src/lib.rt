@@ -17,3 +17,4 @@ mod set;
 pub use document::DocumentRef;
 pub use edited::{Edited, part_at};
 pub use header::Header;
+pub use set::KindChange;

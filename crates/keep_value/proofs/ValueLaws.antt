@@ -1,5 +1,5 @@
 -- Reading a value alone: what is known of it then, and why it is refused.
-use Rattle.std.proofs.Common.{◌≡◌, ℕ, ℤ, Bool, true, false, List, refl, sym, subst, ◌∙◌, ap, inl, inr, arith}
+use Rattle.std.proofs.Common.{◌≡◌, ℕ, ℤ, Bool, true, false, List, refl, sym, subst, ◌∙◌, ap, inl, inr, arith, slice_get, Some, None}
 use Rattle.std.specs.Prelude.{◌↔◌, IsTrue, codes}
 use Rattle.std.proofs.lemmas.List.{append-nil}
 use Rattle.keep_token.specs.declared.leaf.Leaf.{Leaf}
@@ -14,11 +14,18 @@ use Rattle.keep_syntax.specs.declared.fault.ReadFault.{ReadFault}
 use Rattle.keep_syntax.specs.declared.fault.ReadFault.TheVariants as fault
 use Rattle.keep_syntax.specs.Tree.{scalar, none, Value, value_depth}
 use Rattle.keep_syntax.specs.Grammar.{IsValue, ReadsValue}
-use Rattle.keep_syntax.specs.Contract.{IsValueSyntaxOf}
+use Rattle.keep_syntax.specs.Contract.{IsValueSyntaxOf, value_values_of, alone}
+use Rattle.keep_syntax.specs.Numbered.{info}
+use Rattle.keep_parts.specs.declared.info.ValueInfo.{ValueInfo}
+use Rattle.keep_meaning.specs.declared.node.Kind.{Kind}
+use Rattle.keep_meaning.specs.declared.node.Kind.TheVariants as kind
+use Rattle.keep_meaning.specs.Nodes.{fact_kind}
+use Rattle.keep_rules.specs.FlatValues.{leaf_kind}
+use Rattle.keep_rules.proofs.Shared.{kind_of_body}
 use Rattle.keep_syntax.specs.Profiles.{is_allowed_in}
 use Rattle.keep_syntax.proofs.Shared.{allowed_value, value_allowed, reads_value_wider, one_value}
 use Rattle.keep_meaning.specs.Fact as fact
-use Rattle.keep_meaning.specs.Meaning.{scalar_fact}
+use Rattle.keep_meaning.specs.Meaning.{scalar_fact, body_fact}
 use Rattle.keep_rules.specs.ReadDocuments.{WasReadAlone, ValueObeys, IsValueRefusal}
 use Rattle.keep_meaning.specs.ReadText.{IsValueText}
 use Rattle.keep_meaning.proofs.Shared.{means_value}
@@ -45,6 +52,10 @@ was_read_alone (v, reads, is) = (v, was_read reads is)
 
 -- ---- what is read
 
+-- what is stored of the value itself
+abbrev own_info : Value → ValueInfo
+own_info v = info alone 0 0 v.body v.nested None
+
 -- A text is read in Wide where Strict refuses it, so its value is none of Strict's grammar.
 strict_is : (profile : Profile) (bytes : List ℕ) (v : Value) → IsValueText profile limit bytes v → (profile ≡ Wide → IsAcceptedValue Strict bytes → ⊥) → (profile ≡ Strict) ↔ IsValue Strict v
 strict_is Strict bytes v h refused = ((λ e. h.reads.valid), (λ valid. refl))
@@ -53,18 +64,25 @@ strict_is Wide bytes v h refused = (
   (λ valid. absurd (refused refl (v, record { reads = record { valid = valid; spelled = h.reads.spelled; shallow = h.reads.shallow }; obeys = h.obeys }))),
 )
 
-pub holds : (profile : Profile) (bytes : List ℕ) (syntax : ValueSyntax) (depth : ℕ) → (profile ≡ Wide → IsAcceptedValue Strict bytes → ⊥) → ReadOf profile bytes syntax
-    → ((v : Value) → WasReadAlone bytes syntax v → ValueObeys v) → ((v : Value) → IsValueSyntaxOf syntax v → depth ≡ value_depth v) → HoldsValue bytes depth profile
-holds profile bytes syntax depth refused (v, reads, is) obeys deep =
+pub holds : (profile : Profile) (bytes : List ℕ) (syntax : ValueSyntax) (kind : Kind) (depth : ℕ) → (profile ≡ Wide → IsAcceptedValue Strict bytes → ⊥) → ReadOf profile bytes syntax
+    → ((v : Value) → WasReadAlone bytes syntax v → ValueObeys v) → (info : ValueInfo) → slice_get (value_values_of syntax) 0 ≡ Some info → kind ≡ leaf_kind info.leaf
+    → ((v : Value) → IsValueSyntaxOf syntax v → depth ≡ value_depth v) → HoldsValue bytes kind depth profile
+holds profile bytes syntax kind depth refused (v, reads, is) obeys info here kind_is deep =
     let read : IsValueText profile limit bytes v = record { reads = reads; obeys = obeys v (was_read reads is) } in
-    record { value = v; read = in_wide profile bytes v read; deep = deep v is; strict = strict_is profile bytes v read refused }
+    let same : Some (own_info v) ≡ Some info = ap (λ (l : List ValueInfo). slice_get l 0) (sym is.values) ∙ here in
+    let own : own_info v ≡ info = (let k : own_info v ≡ info = cc in k) in
+    let named : kind ≡ fact_kind (body_fact v.body) = kind_is ∙ ap (λ (i : ValueInfo). leaf_kind i.leaf) (sym own) ∙ kind_of_body profile v.body reads.valid.body in
+    record { value = v; read = in_wide profile bytes v read; is = named; deep = deep v is; strict = strict_is profile bytes v read refused }
 
 -- ---- what is known of what was read
 
-pub value_seen : {a b : List ℕ} {depth : ℕ} {profile : Profile} → a ≡ b → HoldsValue a depth profile → HoldsValue b depth profile
-value_seen {depth} {profile} e h = subst (λ (x : List ℕ). HoldsValue x depth profile) e h
+pub value_seen : {a b : List ℕ} {kind : Kind} {depth : ℕ} {profile : Profile} → a ≡ b → HoldsValue a kind depth profile → HoldsValue b kind depth profile
+value_seen {kind} {depth} {profile} e h = subst (λ (x : List ℕ). HoldsValue x kind depth profile) e h
 
-module _ (bytes : List ℕ) (depth : ℕ) (profile : Profile) (h : HoldsValue bytes depth profile) where
+module _ (bytes : List ℕ) (kind : Kind) (depth : ℕ) (profile : Profile) (h : HoldsValue bytes kind depth profile) where
+  pub kind_is : (v : Value) → IsTextOfValue bytes v → kind ≡ fact_kind (body_fact v.body)
+  kind_is v read = h.is ∙ ap (λ (x : Value). fact_kind (body_fact x.body)) (one_tree Wide bytes h.value v h.read read)
+
   pub depth_is : (v : Value) → IsTextOfValue bytes v → depth ≡ value_depth v
   depth_is v read = h.deep ∙ ap value_depth (one_tree Wide bytes h.value v h.read read)
 
@@ -112,18 +130,19 @@ scalar_read l bytes kind is =
       obeys = λ i j d lt within. absurd (omega (arith, within));
     }
 
-pub scalar_holds : (l : Leaf) (bytes : List ℕ) → IsTrue (is_scalar_leaf l) → IsLeaf Strict l bytes → HoldsValue bytes 0 Strict
+pub scalar_holds : (l : Leaf) (bytes : List ℕ) → IsTrue (is_scalar_leaf l) → IsLeaf Strict l bytes → HoldsValue bytes (fact_kind (scalar_fact l bytes)) 0 Strict
 scalar_holds l bytes kind is = record {
   value = a_scalar l bytes;
   read = in_wide Strict bytes (a_scalar l bytes) (scalar_read l bytes kind is);
+  is = refl;
   deep = refl;
   strict = ((λ e. (scalar_read l bytes kind is).reads.valid), (λ valid. refl));
 }
 
-pub true_holds : HoldsValue (codes "true") 0 Strict
+pub true_holds : HoldsValue (codes "true") kind.Boolean 0 Strict
 true_holds = scalar_holds leaf.Boolean (codes "true") refl (inl refl)
 
-pub false_holds : HoldsValue (codes "false") 0 Strict
+pub false_holds : HoldsValue (codes "false") kind.Boolean 0 Strict
 false_holds = scalar_holds leaf.Boolean (codes "false") refl (inr refl)
 
 -- ---- what a scalar means

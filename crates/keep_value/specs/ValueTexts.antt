@@ -7,9 +7,10 @@ use Rattle.keep_syntax.specs.declared.fault.ReadFault.TheVariants.{Memory}
 use Rattle.keep_syntax.specs.Limit.{standard_depth}
 use Rattle.keep_syntax.specs.Tree.{Value, value_depth}
 use Rattle.keep_syntax.specs.Grammar.{IsValue}
+use Rattle.keep_meaning.specs.declared.node.Kind.{Kind}
 use Rattle.keep_meaning.specs.Fact.{Fact}
-use Rattle.keep_meaning.specs.Meaning.{mentions_of_value}
-use Rattle.keep_meaning.specs.Nodes.{fact_at}
+use Rattle.keep_meaning.specs.Meaning.{mentions_of_value, body_fact}
+use Rattle.keep_meaning.specs.Nodes.{fact_at, fact_kind}
 use Rattle.keep_meaning.specs.ReadText.{IsValueText, IsValueFault}
 
 -- how many arrays and inline tables may enclose one another
@@ -32,9 +33,10 @@ IsTextOfFact bytes fact = (v : Value) × IsTextOfValue bytes v × (fact_at [] (m
 abbrev pub IsRefusedValue : Profile → List ℕ → ReadFault → Type 0
 IsRefusedValue profile bytes fault = (fault ≡ Memory) ⊎ IsValueFault profile limit bytes fault
 
--- Of this text some value was read. This is its depth, and the profile is Strict exactly if Strict's grammar has it.
-pub record HoldsValue (bytes : List ℕ) (depth : ℕ) (profile : Profile) : Type 0 where
+-- Of this text some value was read. These are its kind and its depth, and the profile is Strict exactly if Strict's grammar has it.
+pub record HoldsValue (bytes : List ℕ) (kind : Kind) (depth : ℕ) (profile : Profile) : Type 0 where
   pub value : Value
   pub read : IsTextOfValue bytes value
+  pub is : kind ≡ fact_kind (body_fact value.body)
   pub deep : depth ≡ value_depth value
   pub strict : (profile ≡ Strict) ↔ IsValue Strict value

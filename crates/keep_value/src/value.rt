@@ -10,9 +10,11 @@ ghost use Rattle.keep_token.specs.Encoded.{encoded_string};
 ghost use Rattle.keep_token.specs.Leaves.{Means};
 ghost use Rattle.keep_token.specs.Numbers.{integer_value};
 ghost use Rattle.keep_meaning.specs.Fact as fact;
+ghost use Rattle.keep_meaning.specs.Meaning.{body_fact};
+ghost use Rattle.keep_meaning.specs.Nodes.{fact_kind};
 ghost use Rattle.keep_value.specs.ValueTexts.{IsAcceptedValue, IsRefusedValue, IsTextOfFact, IsTextOfValue};
 
-use keep_rules::Index;
+use keep_rules::{Index, Kind, kind_of};
 use keep_syntax::{Limits, ReadFault, STANDARD_DEPTH, ValueSyntax};
 use keep_token::{Profile, encode_int, encode_string};
 use std::alloc::{AllocError, Global};
@@ -23,6 +25,7 @@ use std::marker::Model;
 #[derive(Debug, Drop)]
 pub struct ValueText {
     text: String,
+    kind: Kind,
     depth: u16,
     profile: Profile,
 }
@@ -35,7 +38,7 @@ impl Model for ValueText {
 
     ghost view = { λ v. string_bytes v.text };
 
-    ghost invariant = { λ v. HoldsValue (string_bytes v.text) v.depth v.profile };
+    ghost invariant = { λ v. HoldsValue (string_bytes v.text) v.kind v.depth v.profile };
 }
 
 impl ValueText {
@@ -90,10 +93,12 @@ impl ValueText {
         };
         let syntax = ValueSyntax::read(alloc, text, limits)?;
         Index::check_value(alloc, text, &syntax)?;
+        let kind = kind_of(syntax.value(0).leaf);
         let depth = syntax.depth();
         let text = String::from_str(alloc, text)?;
         Ok(ValueText {
             text,
+            kind,
             depth,
             profile,
         })
@@ -124,6 +129,7 @@ impl ValueText {
         let text = encode_string(alloc, value)?;
         Ok(ValueText {
             text,
+            kind: Kind::Str,
             depth: 0,
             profile: Profile::Strict,
         })
@@ -138,6 +144,7 @@ impl ValueText {
         let text = encode_int(alloc, value)?;
         Ok(ValueText {
             text,
+            kind: Kind::Integer,
             depth: 0,
             profile: Profile::Strict,
         })
@@ -151,9 +158,17 @@ impl ValueText {
         let text = String::from_str(alloc, if value { "true" } else { "false" })?;
         Ok(ValueText {
             text,
+            kind: Kind::Boolean,
             depth: 0,
             profile: Profile::Strict,
         })
+    }
+
+    /// What it is: a string, an integer, .., an array or an inline table.
+    pub fn kind(&self) -> Kind
+        ensures { (v : Value) → IsTextOfValue self.now v → result ≡ fact_kind (body_fact v.body) }
+    {
+        self.kind
     }
 
     /// How many arrays and inline tables enclose one another, the value itself counted.

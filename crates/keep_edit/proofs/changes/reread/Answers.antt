@@ -1,67 +1,67 @@
 use Rattle.std.proofs.Common.{ap, arith, length, refl}
 use Rattle.keep_splice.proofs.Shared.{text_seen, profile_seen}
-use Rattle.keep_edit.proofs.TakeLaws.{touches, is_syntax, in_text, high, cut, can_as, is_reread, holds_after, read_after, holds_same}
+use Rattle.keep_edit.proofs.TakeLaws.{touches, is_syntax, in_text, high, cut, can_as, is_reread, holds_after, read_after, kind_told, kind_within, holds_same}
 use Rattle.keep_edit.proofs.changes.reread.Goals as goal
 
 pub lines-whole-requires : goal.lines-whole-requires
 lines-whole-requires c =
-    let (old, index, p) = c.requires in
-    in_text old c.args.edited.now _ index p.holds p.edit
+    let (old, p, change) = c.requires in
+    in_text old c.args.edited.now _ _ p.holds p.edit
 
 pub overflow_sub-last-2 : goal.overflow_sub-last-2
 overflow_sub-last-2 c =
-    let (old, index, p) = c.requires in
-    let low = high old c.args.edited.now _ index p.holds p.edit c.lines-whole.result c.lines-whole.ensures in
+    let (old, p, change) = c.requires in
+    let low = high old c.args.edited.now _ _ p.holds p.edit c.lines-whole.result c.lines-whole.ensures in
     omega (arith, low)
 
 pub overflow_add-last : goal.overflow_add-last
 overflow_add-last c =
-    let (old, index, p) = c.requires in
-    let within = (cut old c.args.edited.now _ index p.holds p.edit c.lines-whole.result c.lines-whole.ensures).within in
+    let (old, p, change) = c.requires in
+    let within = (cut old c.args.edited.now _ _ p.holds p.edit c.lines-whole.result c.lines-whole.ensures).within in
     let size = ap length (text_seen p.is) in
     let added = ap length c.as_str.ensures.value in
     omega (arith, within, size, added, c.type_inv.text)
 
 pub range-requires-clause-start_le_end : goal.range-requires-clause-start_le_end
 range-requires-clause-start_le_end c =
-    let (old, index, p) = c.requires in
-    rw c.as_str.ensures.value (cut old c.args.edited.now _ index p.holds p.edit c.lines-whole.result c.lines-whole.ensures).ordered
+    let (old, p, change) = c.requires in
+    rw c.as_str.ensures.value (cut old c.args.edited.now _ _ p.holds p.edit c.lines-whole.result c.lines-whole.ensures).ordered
 
 pub range-requires-clause-start_boundary : goal.range-requires-clause-start_boundary
 range-requires-clause-start_boundary c = λ some.
-    let (old, index, p) = c.requires in
-    rw (text_seen p.is) (cut old c.args.edited.now _ index p.holds p.edit c.lines-whole.result c.lines-whole.ensures).starts
+    let (old, p, change) = c.requires in
+    rw (text_seen p.is) (cut old c.args.edited.now _ _ p.holds p.edit c.lines-whole.result c.lines-whole.ensures).starts
 
 pub range-requires-clause-end_boundary : goal.range-requires-clause-end_boundary
 range-requires-clause-end_boundary c =
-    let (old, index, p) = c.requires in
-    rw (c.as_str.ensures.value, text_seen p.is) (cut old c.args.edited.now _ index p.holds p.edit c.lines-whole.result c.lines-whole.ensures).ends
+    let (old, p, change) = c.requires in
+    rw (c.as_str.ensures.value, text_seen p.is) (cut old c.args.edited.now _ _ p.holds p.edit c.lines-whole.result c.lines-whole.ensures).ends
 
 pub replace-requires : goal.replace-requires
 replace-requires c =
-    let (old, index, p) = c.requires in
-    let k = can_as old c.args.edited.now _ index p.holds p.edit c.lines-whole.result c.lines-whole.ensures c.args.profile c.range.result.now (profile_seen p.is) (rw (c.range.ensures.value, c.as_str.ensures.value, text_seen p.is) refl) in
-    record { document = p.edit.tree; is = is_syntax old c.args.edited.now _ index p.holds p.edit p.edit.tree p.edit.read; new = (touches old c.args.edited.now _ index p.holds p.edit).lines; can = k }
+    let (old, p, change) = c.requires in
+    let k = can_as old c.args.edited.now _ _ p.holds p.edit c.lines-whole.result c.lines-whole.ensures c.args.profile c.range.result.now (profile_seen p.is) (rw (c.range.ensures.value, c.as_str.ensures.value, text_seen p.is) refl) in
+    record { document = p.edit.tree; is = is_syntax old c.args.edited.now _ _ p.holds p.edit p.edit.tree p.edit.read; new = (touches old c.args.edited.now _ _ p.holds p.edit).lines; can = k }
 
-pub build-requires : goal.build-requires
-build-requires c =
-    let (old, index, p) = c.requires in
-    let r = is_reread old c.args.edited.now _ index p.holds p.edit c.lines-whole.result c.lines-whole.ensures c.args.profile c.range.result.now c.replace.new.self (profile_seen p.is) (rw (c.range.ensures.value, c.as_str.ensures.value, text_seen p.is) refl) c.in-Ok.ensures.read c.in-Ok.ensures.of_text in
-    rw (text_seen p.is) (p.edit.changed.to, read_after old c.args.edited.now _ index p.holds p.edit c.replace.new.self r.syntax)
+pub renew-requires-clause-read : goal.renew-requires-clause-read
+renew-requires-clause-read c =
+    let (old, p, change) = c.requires in
+    let r = is_reread old c.args.edited.now _ _ p.holds p.edit c.lines-whole.result c.lines-whole.ensures c.args.profile c.range.result.now c.replace.new.self (profile_seen p.is) (rw (c.range.ensures.value, c.as_str.ensures.value, text_seen p.is) refl) c.in-Ok.ensures.read c.in-Ok.ensures.of_text in
+    rw (text_seen p.is) (p.edit.changed.to, read_after old c.args.edited.now _ _ p.holds p.edit c.replace.new.self r.syntax, p.edit.new.obeys)
 
-pub growth_refused-requires : goal.growth_refused-requires
-growth_refused-requires c =
-    let (old, index, p) = c.requires in
-    let r = is_reread old c.args.edited.now _ index p.holds p.edit c.lines-whole.result c.lines-whole.ensures c.args.profile c.range.result.now c.replace.new.self (profile_seen p.is) (rw (c.range.ensures.value, c.as_str.ensures.value, text_seen p.is) refl) c.in-Ok.ensures.read c.in-Ok.ensures.of_text in
-    c.in-Err.ensures.read p.edit.changed.to (rw (text_seen p.is) (read_after old c.args.edited.now _ index p.holds p.edit c.replace.new.self r.syntax)) p.edit.new.obeys
+pub renew-requires-clause-within : goal.renew-requires-clause-within
+renew-requires-clause-within c =
+    let (old, p, change) = c.requires in
+    kind_within old c.args.edited.now _ _ p.holds p.edit c.args.change change
 
-pub returns-in-Ok-build : goal.returns-in-Ok-build
-returns-in-Ok-build c = λ old index p.
-    let r = is_reread old c.args.edited.now _ index p.holds p.edit c.lines-whole.result c.lines-whole.ensures c.args.profile c.range.result.now c.replace.new.self (profile_seen p.is) (rw (c.range.ensures.value, c.as_str.ensures.value, text_seen p.is) refl) c.in-Ok.ensures.read c.in-Ok.ensures.of_text in
-    (holds_after old c.args.edited.now _ index p.holds p.edit c.replace.new.self c.in-Ok-build.index r.syntax (λ d w. c.in-Ok-build.ensures.ok d (rw (text_seen p.is) w)), λ s q read at. rw c.as_str.ensures.value (r.scanned s q read at))
+pub returns-in-Ok-renew : goal.returns-in-Ok-renew
+returns-in-Ok-renew c = λ old p change.
+    let r = is_reread old c.args.edited.now _ _ p.holds p.edit c.lines-whole.result c.lines-whole.ensures c.args.profile c.range.result.now c.replace.new.self (profile_seen p.is) (rw (c.range.ensures.value, c.as_str.ensures.value, text_seen p.is) refl) c.in-Ok.ensures.read c.in-Ok.ensures.of_text in
+    let told = c.in-Ok-renew.ensures.new p.edit.changed.to (rw (text_seen p.is) (read_after old c.args.edited.now _ _ p.holds p.edit c.replace.new.self r.syntax)) (kind_told old c.args.edited.now _ _ p.holds p.edit c.args.change change) in
+    (holds_after old c.args.edited.now _ _ p.holds p.edit c.replace.new.self _ r.syntax told, λ s q read at. rw c.as_str.ensures.value (r.scanned s q read at))
 
 pub returns-in_default : goal.returns-in_default
-returns-in_default c = λ old index p. (refl, holds_same old _ _ index c.in_default.ensures.refused p.holds)
+returns-in_default c = λ old p change. (refl, holds_same old _ _ _ c.in_default.ensures.refused p.holds)
 
 pub returns-in-Err : goal.returns-in-Err
-returns-in-Err c = λ old index p. (c.growth_refused.ensures, holds_same old _ _ index (c.restore.ensures c.args.syntax.now c.in-Ok.ensures.undo) p.holds)
+returns-in-Err c = λ old p change. (c.in-Err.ensures.memory, rw c.in-Err.ensures.old (holds_same old _ _ _ (c.restore.ensures c.args.syntax.now c.in-Ok.ensures.undo) p.holds))

@@ -13,4 +13,4 @@ returns-in_err-check_value-clause-faults c =
     rw (p.1, p.2) (no_value c.args.profile _ _ _ c.in_ok-syntax.ensures.found c.in_err-check_value.ensures.faults)
 
 pub invariant_of-result : goal.invariant_of-result
-invariant_of-result c = rw c.in_ok-text.ensures.ok (holds c.args.profile _ _ _ c.requires c.in_ok-syntax.ensures.found c.in_ok-check_value.ensures.ok c.depth-depth.ensures)
+invariant_of-result c = rw c.in_ok-text.ensures.ok (holds c.args.profile _ _ _ _ c.requires c.in_ok-syntax.ensures.found c.in_ok-check_value.ensures.ok _ c.value.ensures.stored c.kind_of-kind.ensures c.depth-depth.ensures)
