@@ -1,4 +1,4 @@
-//! The table of subcommands: what `clap` is told, what the words ask for, and what help shows. By `row_at` of `words.rt` it is
+//! The table of subcommands: what `clap` is told, what the words ask for, and what help shows. By `rows` of `words.rt` it is
 //! the list of the definitions (`specs/Table`).
 use crate::help;
 use crate::help::Help;
@@ -43,7 +43,7 @@ pub enum Word {
 pub type Subcommand = (&'static str, Ask, &'static [Word], Help);
 
 /// All subcommands.
-pub const SUBCOMMANDS: [Subcommand; 13] = [
+pub static SUBCOMMANDS: [Subcommand; 13] = [
     ("check", Ask::Check, &[], help::CHECK),
     ("check-wide", Ask::CheckWide, &[], help::CHECK_WIDE),
     ("list", Ask::List, &[], help::LIST),

@@ -56,26 +56,25 @@ fn keep_command<'a>(alloc: Global) -> Result<Command<'a>, AllocError>
     ensures { IfOk result (λ c. app_of c ≡ program_app) }
 {
     let mut command = top_command(alloc)?;
-    for number in 0..SUBCOMMANDS.len() {
+    for number in 0..rows().len() {
         command = with_row(alloc, command, row_at(number))?;
     }
     Ok(command)
 }
 
-// The row of a number.
-fn row_at(number: usize) -> Subcommand
-    requires { number < length table }
-    ensures { row_of result ≡ get_or table number first_row }
+// The rows of all subcommands. No other function names the table: a check goes through all of it for each one that does.
+fn rows() -> &'static [Subcommand]
+    ensures { map row_of result.now ≡ table }
 {
-    row_in(&SUBCOMMANDS, number)
+    &SUBCOMMANDS
 }
 
-// The row of a number in a table.
-fn row_in(rows: &[Subcommand], number: usize) -> Subcommand
-    requires { number < length rows.now }
-    ensures { row_of result ≡ get_or (map row_of rows.now) number first_row }
+// The row of a number.
+fn row_at(number: usize) -> &'static Subcommand
+    requires { number < length table }
+    ensures { row_of result.now ≡ get_or table number first_row }
 {
-    rows[number]
+    &rows()[number]
 }
 
 // The program without its subcommands.
@@ -95,20 +94,20 @@ fn top_command<'a>(alloc: Global) -> Result<Command<'a>, AllocError>
 fn with_row<'a>(
     alloc: Global,
     command: Command<'a>,
-    row: Subcommand,
+    row: &Subcommand,
 ) -> Result<Command<'a>, AllocError>
-    ensures { IfOk result (λ c. app_of c ≡ with_subcommand (app_of command.entry) (leaf_of (row_of row.entry))) }
+    ensures { IfOk result (λ c. app_of c ≡ with_subcommand (app_of command.entry) (leaf_of (row_of row.now))) }
 {
     let inner = row_command(alloc, row)?;
     command.subcommand(inner)
 }
 
 // The command of a row.
-fn row_command<'a>(alloc: Global, row: Subcommand) -> Result<Command<'a>, AllocError>
-    ensures shape { IfOk result (λ c. (app_of c).top ≡ leaf_of (row_of row.entry)) }
+fn row_command<'a>(alloc: Global, row: &Subcommand) -> Result<Command<'a>, AllocError>
+    ensures shape { IfOk result (λ c. (app_of c).top ≡ leaf_of (row_of row.now)) }
     ensures local { IfOk result (λ c. (fields_of c).has_globals ≡ false) }
 {
-    let (name, _, words, (about, examples)) = row;
+    let (name, _, words, (about, examples)) = *row;
     let mut inner = Command::new(alloc, name).about(about).after_help(examples);
     for place in 0..words.len().min(PLACES.len()) {
         inner = inner.arg(word(alloc, PLACES[place], words[place]))?;
@@ -141,16 +140,17 @@ fn chosen_in(alloc: Global, matches: &ArgMatches<'_>) -> Result<Chosen, AllocErr
 fn chosen_first(alloc: Global) -> Result<Chosen, AllocError>
     ensures { IfOk result (λ c. wanted_of_chosen c ≡ wanted_with [] first_row) }
 {
-    let row = SUBCOMMANDS[0];
-    let words = Vec::new(alloc);
-    Ok(Chosen { row, words })
+    Ok(Chosen {
+        row: *row_at(0),
+        words: Vec::new(alloc),
+    })
 }
 
 // The row of a name. A name that was taken has one.
-fn row_named(name: &str) -> Subcommand
-    ensures { row_of result ≡ row_or_first name.now }
+fn row_named(name: &str) -> &'static Subcommand
+    ensures { row_of result.now ≡ row_or_first name.now }
 {
-    for number in 0..SUBCOMMANDS.len() {
+    for number in 0..rows().len() {
         let row = row_at(number);
         if row.0 == name {
             return row;
@@ -161,16 +161,16 @@ fn row_named(name: &str) -> Subcommand
 
 fn chosen_with(
     alloc: Global,
-    row: Subcommand,
+    row: &Subcommand,
     matches: &ArgMatches<'_>,
 ) -> Result<Chosen, AllocError>
-    ensures { IfOk result (λ c. wanted_of_chosen c ≡ wanted_with (rows_of (found_of matches.now)) (row_of row.entry)) }
+    ensures { IfOk result (λ c. wanted_of_chosen c ≡ wanted_with (rows_of (found_of matches.now)) (row_of row.now)) }
 {
     let mut words = Vec::new(alloc);
     for place in 0..row.2.len().min(PLACES.len()) {
         words.push(String::from_str(alloc, word_of(matches, PLACES[place]))?)?;
     }
-    Ok(Chosen { row, words })
+    Ok(Chosen { row: *row, words })
 }
 
 // The word of an argument. A command that was taken has all of its words.
