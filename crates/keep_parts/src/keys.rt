@@ -10,7 +10,7 @@ use keep_token::Leaf;
 use std::alloc::{AllocError, Global};
 
 /// A key part in 8 bytes: where it starts, and how many bytes it has.
-#[derive(Clone, Copy, Debug)]
+#[derive(Clone, Copy)]
 pub struct PackedKeyPart {
     start: u32,
     len: u16,
@@ -18,7 +18,7 @@ pub struct PackedKeyPart {
 }
 
 /// The key parts of a text, in text order: those before the first whose numbers do not fit into 8 bytes, then the others.
-#[derive(Debug, Drop)]
+#[derive(Drop)]
 pub struct KeyParts {
     pub(super) packed: Vec<PackedKeyPart>,
     pub(super) unpacked: Vec<KeyPart>,

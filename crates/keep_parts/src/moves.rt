@@ -7,7 +7,7 @@ ghost use Rattle.keep_parts.specs.Rereading.{count_of};
 use crate::info::{KeyPart, Owner, Span, Statement, ValueInfo};
 
 /// What comes before a place: bytes, tokens, statements, key parts and values.
-#[derive(Clone, Copy, Debug, PartialEq, Eq)]
+#[derive(Clone, Copy)]
 pub struct Counts {
     pub at: usize,
     pub tokens: usize,

@@ -17,7 +17,7 @@ use keep_token::Leaf;
 use std::alloc::{AllocError, Global};
 
 /// The tokens but `End`, the statements, the key parts and the values of a text. A token ends where the next begins.
-#[derive(Debug, Drop)]
+#[derive(Drop)]
 pub struct Parts {
     kinds: Vec<Leaf>,
     starts: Starts,

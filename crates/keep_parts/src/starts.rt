@@ -13,7 +13,7 @@ const FAR: u8 = 255;
 /// Places in a text, as byte offsets. Each is stored as its step: how far it comes after the one before, the first
 /// after 0. Where that is 255 bytes or more, or back, the step is `FAR`, and the place itself is in `far`. `last` is
 /// the last place, or 0.
-#[derive(Debug, Drop)]
+#[derive(Drop)]
 pub struct Starts {
     steps: Vec<u8>,
     far: Vec<usize>,
@@ -32,7 +32,7 @@ impl Model for Starts {
 }
 
 /// Stored places one after another; `at` is the one before them. The result of [`Starts::iter`].
-#[derive(Clone, Copy, Debug)]
+#[derive(Clone, Copy)]
 pub struct Places<'a> {
     at: usize,
     steps: &'a [u8],
@@ -41,7 +41,7 @@ pub struct Places<'a> {
 }
 
 /// Near steps, each told by its byte, and how far they lead together.
-#[derive(Clone, Copy, Debug)]
+#[derive(Clone, Copy)]
 struct Near<'a> {
     steps: &'a [u8],
     distance: usize,

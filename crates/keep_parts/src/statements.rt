@@ -11,7 +11,7 @@ use std::alloc::{AllocError, Global};
 
 /// A statement in 24 bytes. Of its line `before` bytes come before it and `behind` after it, and `end` is its own end.
 /// The number of its value is stored apart from what tells whether it is there.
-#[derive(Clone, Copy, Debug)]
+#[derive(Clone, Copy)]
 pub struct PackedStatement {
     kind: StatementKind,
     has_value: bool,
@@ -25,7 +25,7 @@ pub struct PackedStatement {
 }
 
 /// The statements of a text, in text order: those before the first whose numbers do not fit into 24 bytes, then the others.
-#[derive(Debug, Drop)]
+#[derive(Drop)]
 pub struct Statements {
     pub(super) packed: Vec<PackedStatement>,
     pub(super) unpacked: Vec<Statement>,

@@ -11,7 +11,7 @@ use keep_token::Leaf;
 use std::alloc::{AllocError, Global};
 
 /// What a value is in, without its number.
-#[derive(Clone, Copy, Debug)]
+#[derive(Clone, Copy)]
 pub enum Within {
     Line,
     Inline,
@@ -22,7 +22,7 @@ pub enum Within {
 /// keyval starts `gap` bytes after the anchor, and the value `lead` bytes after that. What becomes known later has a
 /// word of its own: `end`, which is the end of its keyval too, and `after`. Numbers are stored apart from what tells
 /// whether they are there and of what they are, so that all of that shares one word with the number of its keys.
-#[derive(Clone, Copy, Debug)]
+#[derive(Clone, Copy)]
 pub struct PackedValue {
     leaf: Leaf,
     within: Within,
@@ -40,7 +40,7 @@ pub struct PackedValue {
 }
 
 /// The values of a text, in text order: those before the first that does not fit into 40 bytes, then the others.
-#[derive(Debug, Drop)]
+#[derive(Drop)]
 pub struct Values {
     pub(super) packed: Vec<PackedValue>,
     pub(super) unpacked: Vec<ValueInfo>,

@@ -17,7 +17,7 @@ use std::alloc::Global;
 
 /// What was read of one value: its key parts and values, each in text order. The value itself has the number 0, and
 /// places are bytes from its start.
-#[derive(Debug, Drop)]
+#[derive(Drop)]
 pub struct ValueSyntax {
     parts: Parts,
     depth: u16,

@@ -16,7 +16,7 @@ use keep_parts::{Owner, Parts, Span, Start, Starts, Statement, StatementKind};
 use keep_token::{Leaf, scan_gap};
 
 /// A statement but for its places: how many key parts it has, and the number of a keyval's value.
-#[derive(Clone, Copy, Debug)]
+#[derive(Clone, Copy)]
 pub struct Head {
     kind: StatementKind,
     keys: usize,

@@ -12,7 +12,7 @@ use std::alloc::{AllocError, Global};
 use std::mem;
 
 /// What was stored of lines that others replaced.
-#[derive(Debug, Drop)]
+#[derive(Drop)]
 pub enum Gone {
     /// It was there between the counts `from` and `to`; what replaced it ends at `until`.
     Run {

@@ -21,7 +21,7 @@ pub use rereading::Replaced;
 use std::alloc::{AllocError, Global};
 
 /// What was read of a document: its tokens, statements, key parts and values, each in text order.
-#[derive(Debug, Drop)]
+#[derive(Drop)]
 pub struct Syntax {
     parts: Parts,
     /// Where each line begins.

@@ -9,7 +9,7 @@ use keep_parts::{Parts, Places};
 use keep_token::Leaf;
 
 /// The tokens of a document in text order, `End` the last. The result of [`crate::Syntax::tokens`].
-#[derive(Clone, Copy, Debug)]
+#[derive(Clone, Copy)]
 pub struct Tokens<'a> {
     parts: &'a Parts,
     text: &'a str,

@@ -16,7 +16,7 @@ use std::alloc::AllocError;
 use std::mem;
 
 /// What [`Syntax::replace`] replaced, for [`Syntax::restore`].
-#[derive(Debug, Drop)]
+#[derive(Drop)]
 pub struct Replaced {
     parts: Gone,
     lines: Starts,
