@@ -219,13 +219,12 @@ leaf_again leaf.Newline t more x k i g h solid = newline_again t (text_of more +
 leaf_again leaf.Comment t more x k i g h solid = comment_again t (text_of more ++ x) i (after_comment more x g h)
 leaf_again _ t more x k i g h solid = absurd cc
 
+solid_no_gap : (c : ℕ) → is_solid c ≡ true → (is_ws c ≡ false) × ((c == 0x0A) ≡ false) × ((c == 0x0D) ≡ false) × ((c == 0x23) ≡ false)
+solid_no_gap c h = (solid_no_ws c h, grind (arith, nat_tests), grind (arith, nat_tests), grind (arith, nat_tests))
+
 gap_none : (text : List ℕ) → is_solid (first text) ≡ true → gap_at text ≡ None
 unfolding gap_at
-gap_none text solid =
-    let (a, b, c, d) = by (first text) solid in rw (a, b, c, d) refl
-  where
-    by : (c : ℕ) → is_solid c ≡ true → (is_ws c ≡ false) × ((c == 0x0A) ≡ false) × ((c == 0x0D) ≡ false) × ((c == 0x23) ≡ false)
-    by c h = (grind (arith, nat_tests), grind (arith, nat_tests), grind (arith, nat_tests), grind (arith, nat_tests))
+gap_none text solid = let (a, b, c, d) = solid_no_gap (first text) solid in rw (a, b, c, d) refl
 
 -- a leaf of a gap is not empty
 pub gap_leaf_some : (l : Leaf) (t : List ℕ) → IsTrue (is_gap_leaf l) → IsLeaf Strict l t → 0 < length t
@@ -290,34 +289,35 @@ gap_blank Wide brackets.Inline g h = h
 abbrev pub is_stop : ℕ → Bool
 is_stop c = not (((is_word c || c == 0x22) || c == 0x27) || c == 0x20)
 
--- a gap and then a byte of no scalar may follow a scalar
+-- of one byte, or of two
+stop_follows : (c d : ℕ) → is_stop c ≡ true → (not ((is_word c || c == 0x22) || c == 0x27) && not (c == 0x20 && is_ascii_digit d)) ≡ true
+stop_follows c d k = grind (arith, nat_tests)
+
+ws_follows : (c d : ℕ) → is_ws c ≡ true → is_ascii_digit d ≡ false → (not ((is_word c || c == 0x22) || c == 0x27) && not (c == 0x20 && is_ascii_digit d)) ≡ true
+ws_follows c d k no_digit = grind (arith, nat_tests)
+
+ws_no_digit : (c : ℕ) → is_ws c ≡ true → is_ascii_digit c ≡ false
+ws_no_digit c k = grind (arith, nat_tests)
+
+stop_no_digit : (c : ℕ) → is_stop c ≡ true → is_ascii_digit c ≡ false
+stop_no_digit c k = grind (arith, nat_tests)
+
+-- a leaf of a gap and then no digit
+white_follows : (t more : List ℕ) → IsLeaf Strict leaf.Ws t → is_ascii_digit (first more) ≡ false → may_follow_scalar (t ++ more) ≡ true
+white_follows [] more i e = absurd (omega (arith, i.0))
+white_follows (c ∷ []) more i e = ws_follows c (first more) (and_parts (is_ws c) _ i.1).0 e
+white_follows (c ∷ d ∷ cs) more i e = let p = and_parts (is_ws c) _ i.1 in ws_follows c d p.0 (ws_no_digit d (and_parts (is_ws d) _ p.1).0)
+
+leaf_follows : (l : Leaf) (t more : List ℕ) → IsTrue (is_gap_leaf l) → IsLeaf Strict l t → is_ascii_digit (first more) ≡ false → may_follow_scalar (t ++ more) ≡ true
+leaf_follows leaf.Ws t more k i e = white_follows t more i e
+leaf_follows leaf.Newline t more k (inl n) e = rw n refl
+leaf_follows leaf.Newline t more k (inr n) e = rw n refl
+leaf_follows leaf.Comment t more k (a, b, spelled, hash, all) e = rw (spelled, hash) refl
+leaf_follows _ t more k i e = absurd cc
+
+-- a gap and then a byte of no scalar may follow a scalar (`rw` in place of the `subst` takes many seconds)
 pub may_follow : (g : Gap) (x : List ℕ) → IsBlank g → is_stop (first x) ≡ true → may_follow_scalar (text_of g ++ x) ≡ true
-may_follow g x h stop = by g h
-  where
-    one : (c d : ℕ) → is_stop c ≡ true → (not ((is_word c || c == 0x22) || c == 0x27) && not (c == 0x20 && is_ascii_digit d)) ≡ true
-    one c d k = grind (arith, nat_tests)
-
-    two : (c d : ℕ) → is_ws c ≡ true → is_ascii_digit d ≡ false → (not ((is_word c || c == 0x22) || c == 0x27) && not (c == 0x20 && is_ascii_digit d)) ≡ true
-    two c d k no_digit = grind (arith, nat_tests)
-
-    ws_no_digit : (c : ℕ) → is_ws c ≡ true → is_ascii_digit c ≡ false
-    ws_no_digit c k = grind (arith, nat_tests)
-
-    stop_no_digit : (c : ℕ) → is_stop c ≡ true → is_ascii_digit c ≡ false
-    stop_no_digit c k = grind (arith, nat_tests)
-
-    of_ws : (t more : List ℕ) → IsLeaf Strict leaf.Ws t → is_ascii_digit (first more) ≡ false → may_follow_scalar (t ++ more) ≡ true
-    of_ws [] more k e = absurd (omega (arith, k.0))
-    of_ws (c ∷ []) more k e = two c (first more) (and_parts (is_ws c) _ k.1).0 e
-    of_ws (c ∷ d ∷ cs) more k e = let p = and_parts (is_ws c) _ k.1 in two c d p.0 (ws_no_digit d (and_parts (is_ws d) _ p.1).0)
-
-    leaf_by : (l : Leaf) (t more : List ℕ) → IsTrue (is_gap_leaf l) → IsLeaf Strict l t → is_ascii_digit (first more) ≡ false → may_follow_scalar (t ++ more) ≡ true
-    leaf_by leaf.Ws t more k i e = of_ws t more i e
-    leaf_by leaf.Newline t more k (inl n) e = rw n refl
-    leaf_by leaf.Newline t more k (inr n) e = rw n refl
-    leaf_by leaf.Comment t more k (a, b, spelled, hash, all) e = rw (spelled, hash) refl
-    leaf_by _ t more k i e = absurd cc
-
-    by : (g : Gap) → IsBlank g → may_follow_scalar (text_of g ++ x) ≡ true
-    by [] h = one (first x) (slice_index x 1) stop
-    by (w ∷ more) h = rw (append_assoc w.text (text_of more) x) (leaf_by w.leaf w.text (text_of more ++ x) h.0 h.1 (blank_class is_ascii_digit more x ws_no_digit refl refl refl h.3 (stop_no_digit (first x) stop)))
+may_follow [] x h stop = stop_follows (first x) (slice_index x 1) stop
+may_follow (w ∷ more) x h stop =
+    let no_digit = blank_class is_ascii_digit more x ws_no_digit refl refl refl h.3 (stop_no_digit (first x) stop) in
+    subst (λ (text : List ℕ). may_follow_scalar text ≡ true) (sym (append_assoc w.text (text_of more) x)) (leaf_follows w.leaf w.text (text_of more ++ x) h.0 h.1 no_digit)
