@@ -22,6 +22,8 @@ use Rattle.keep_parts.specs.Rereading.{count_at, nothing, counts_at, counts_befo
 use Rattle.keep_syntax.specs.FlatLines.{flat_of, DocumentIs}
 use Rattle.keep_syntax.specs.WholeLines.{empty_line, line_starts, lines_from, begin, starts_of, replaced}
 use Rattle.keep_parts.specs.Lifted.{origin, moved, moved_there, moved_span, moved_owner, moved_key, moved_statement, moved_value}
+use Rattle.keep_syntax.specs.declared.reread.NewLines.{NewLines}
+use Rattle.keep_syntax.specs.Replacing.{AreNewLines}
 use Rattle.keep_syntax.specs.Contract.{IsSyntaxOf, CanReplace, MayReread}
 use Rattle.keep_syntax.proofs.LoopLaws.{ok_is}
 use Rattle.keep_syntax.proofs.DocumentLaws.{document_read}
@@ -439,17 +441,20 @@ can_move {profile} {limit} {d} {whole} {bytes} {m} h len long =
 fresh_is : {profile : Profile} {limit : ℕ} {bytes : List ℕ} {g : Flat} {ms : List ℕ} {m : Document} (h : DocumentIs profile limit bytes g ms) → Reads profile limit bytes m → h.document ≡ m
 fresh_is {profile} {limit} {bytes} {g} {ms} {m} h r = ok_is h.document m (sym h.is_read ∙ document_read profile limit bytes m r)
 
-pub reread_is : {profile : Profile} {limit : ℕ} {d : Document} {whole : Span} {bytes : List ℕ} {m : Document} (s : Syntax) (g : Flat) (ms : List ℕ) (p : Parts) (ls : List ℕ) (len size end : ℕ) → IsSyntaxOf s d
-    → CanReplace profile limit d whole bytes m → DocumentIs profile limit bytes g ms → size ≡ length bytes → end ≡ whole.start + size → len ≡ moved whole.end end s.len
-    → flat p ≡ replaced_flat (flat s.parts) g whole s.len size end → ls ≡ replaced_starts s.lines ms whole s.len size end → IsSyntaxOf (syntax_of p ls len) (replaced d whole m)
-reread_is {profile} {limit} {d} {whole} {bytes} {m} s g ms p ls len size end is h fresh wide after long parts lines =
-    let same : fresh.document ≡ m = fresh_is fresh h.reads in
-    let g_is : g ≡ flat_of m = fresh.grows.stored ∙ ap flat_of same in
-    let ms_is : ms ≡ starts_of m = fresh.lines ∙ ap starts_of same in
+pub reread_is : {profile : Profile} {limit : ℕ} {d : Document} {whole : Span} {bytes : List ℕ} {m : Document} (s : Syntax) (new : NewLines) (p : Parts) (ls : List ℕ) (len : ℕ) → IsSyntaxOf s d
+    → CanReplace profile limit d whole bytes m → AreNewLines profile limit bytes s.lines s.len whole new
+    → flat p ≡ replaced_flat (flat s.parts) (flat new.parts) whole s.len new.size new.end → ls ≡ new.starts → len ≡ new.len → IsSyntaxOf (syntax_of p ls len) (replaced d whole m)
+reread_is {profile} {limit} {d} {whole} {bytes} {m} s new p ls len is h are parts lines long =
+    let size = new.size in
+    let end = new.end in
+    let same : are.read.document ≡ m = fresh_is are.read h.reads in
+    let g_is : flat new.parts ≡ flat_of m = are.read.grows.stored ∙ ap flat_of same in
+    let begins_are : are.begins ≡ starts_of m = are.read.lines ∙ ap starts_of same in
     syntax_is (syntax_of p ls len) (replaced d whole m)
-    (parts ∙ ap (λ (f : Flat). replaced_flat f g whole s.len size end) is.stored ∙ ap (λ (f : Flat). replaced_flat (flat_of d) f whole s.len size end) g_is ∙ reread_flat h s.len size end is.len wide after)
-    (lines ∙ ap (λ (ns : List ℕ). replaced_starts ns ms whole s.len size end) is.lines ∙ ap (λ (ns : List ℕ). replaced_starts (starts_of d) ns whole s.len size end) ms_is ∙ reread_starts h s.len size end is.len wide after)
-    (long ∙ reread_length h s.len size end is.len wide after)
+    (parts ∙ ap (λ (f : Flat). replaced_flat f (flat new.parts) whole s.len size end) is.stored ∙ ap (λ (f : Flat). replaced_flat (flat_of d) f whole s.len size end) g_is ∙ reread_flat h s.len size end is.len are.size are.end)
+    (lines ∙ are.starts_are ∙ ap (λ (ns : List ℕ). replaced_starts ns are.begins whole s.len size end) is.lines ∙ ap (λ (ns : List ℕ). replaced_starts (starts_of d) ns whole s.len size end) begins_are
+    ∙ reread_starts h s.len size end is.len are.size are.end)
+    (long ∙ are.len_is ∙ reread_length h s.len size end is.len are.size are.end)
 
 pub may_move : {profile : Profile} {limit : ℕ} {s : Syntax} {whole : Span} {bytes : List ℕ} → MayReread profile limit s whole bytes → CanMove (flat s.parts) whole s.len
 may_move {s = s} {whole = whole} h = subst (λ (f : Flat). CanMove f whole s.len) (sym h.is.stored) (can_move h.can s.len h.is.len)

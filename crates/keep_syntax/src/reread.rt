@@ -4,10 +4,28 @@ ghost use Rattle.keep_parts.specs.Flat.{flat};
 ghost use Rattle.keep_parts.specs.Rereading.{count_at, with_statements};
 ghost use Rattle.keep_parts.specs.Lifted as lifted;
 ghost use Rattle.keep_parts.specs.Rereading as spec;
+ghost use Rattle.keep_syntax.specs.Replacing.{AreNewLines};
 
 use crate::fault::ReadFault;
-use keep_parts::{Counts, Parts, Span, Starts, moved_key, moved_statement, moved_value};
+use crate::info::Limits;
+use crate::whole::read_lines;
+use keep_parts::{Counts, Parts, Span, Starts, moved, moved_key, moved_statement, moved_value};
 use std::alloc::Global;
+
+/// Lines that are put in the place of others, and what the text has then.
+#[derive(Drop)]
+pub struct NewLines {
+    /// What was read of them.
+    pub parts: Parts,
+    /// How many bytes they have.
+    pub size: usize,
+    /// Where they end in the text.
+    pub end: usize,
+    /// Where each line of the text begins.
+    pub starts: Starts,
+    /// How many bytes the text has.
+    pub len: usize,
+}
 
 /// How many statements have a line that begins before a place.
 fn statements_before(parts: &Parts, place: usize) -> usize
@@ -213,7 +231,7 @@ pub fn replaced_parts(
 }
 
 /// Where the lines of that text begin.
-pub fn replaced_starts(
+fn replaced_starts(
     alloc: Global,
     starts: &Starts,
     whole: Span,
@@ -239,4 +257,34 @@ pub fn replaced_starts(
         out.append_moved(fresh, 0, fresh.len(), 0, whole.start)?;
     }
     Ok(out)
+}
+
+/// Reads lines that are to be put in the place of whole lines, in a text of `len` bytes in which lines begin at `starts`. A
+/// number that no machine word holds is answered as out of memory: a text that memory holds has none.
+pub fn new_lines(
+    alloc: Global,
+    starts: &Starts,
+    len: usize,
+    whole: Span,
+    lines: &str,
+    limits: Limits,
+) -> Result<NewLines, ReadFault>
+    ensures { IfOk result (AreNewLines limits.profile limits.depth lines.now starts.now len whole) }
+{
+    let (parts, begins) = read_lines(alloc, lines, limits)?;
+    let size = lines.len();
+    let Some(end) = whole.start.checked_add(size) else {
+        return Err(ReadFault::Memory);
+    };
+    let Some(new_len) = moved(len, whole.end, end) else {
+        return Err(ReadFault::Memory);
+    };
+    let starts = replaced_starts(alloc, starts, whole, len, &begins, size, end)?;
+    Ok(NewLines {
+        parts,
+        size,
+        end,
+        starts,
+        len: new_len,
+    })
 }

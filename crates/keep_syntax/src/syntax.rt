@@ -13,10 +13,10 @@ mod rereading;
 
 use crate::fault::ReadFault;
 use crate::info::Limits;
-use crate::reread::{replaced_parts, replaced_starts};
+use crate::reread::{new_lines, replaced_parts};
 use crate::tokens::Tokens;
 use crate::whole::read_lines;
-use keep_parts::{KeyPart, Parts, Span, Starts, Statement, ValueInfo, moved};
+use keep_parts::{KeyPart, Parts, Span, Starts, Statement, ValueInfo};
 pub use rereading::Replaced;
 use std::alloc::{AllocError, Global};
 
@@ -154,8 +154,7 @@ impl Syntax {
         }
     }
 
-    /// Puts the parts of both syntaxes together. A number that no machine word holds is answered as out of memory: a
-    /// text that memory holds has none.
+    /// Puts the parts of both syntaxes together.
     fn with_lines(
         &self,
         alloc: Global,
@@ -167,17 +166,21 @@ impl Syntax {
         ensures { (d m : Document) → spec.IsSyntaxOf self.now d → spec.CanReplace limits.profile limits.depth d whole lines.now m
             → IfOk result (λ s. spec.IsSyntaxOf s (replaced d whole m)) }
     {
-        let (fresh, starts) = read_lines(alloc, lines, limits)?;
-        let size = lines.len();
-        let Some(end) = whole.start.checked_add(size) else {
-            return Err(ReadFault::Memory);
-        };
-        let Some(len) = moved(self.len, whole.end, end) else {
-            return Err(ReadFault::Memory);
-        };
-        let parts = replaced_parts(alloc, &self.parts, whole, self.len, &fresh, size, end)?;
-        let lines = replaced_starts(alloc, &self.lines, whole, self.len, &starts, size, end)?;
-        Ok(Syntax { parts, lines, len })
+        let new = new_lines(alloc, &self.lines, self.len, whole, lines, limits)?;
+        let parts = replaced_parts(
+            alloc,
+            &self.parts,
+            whole,
+            self.len,
+            &new.parts,
+            new.size,
+            new.end,
+        )?;
+        Ok(Syntax {
+            parts,
+            lines: new.starts,
+            len: new.len,
+        })
     }
 
     /// What is stored of the text, each part by its number.

@@ -9,9 +9,8 @@ use super::Syntax;
 use crate::fault::ReadFault;
 use crate::info::Limits;
 use crate::replacing::{Gone, replace_parts, restore_parts};
-use crate::reread::replaced_starts;
-use crate::whole::read_lines;
-use keep_parts::{Span, Starts, moved};
+use crate::reread::new_lines;
+use keep_parts::{Span, Starts};
 use std::alloc::AllocError;
 use std::mem;
 
@@ -52,8 +51,7 @@ impl Syntax {
         }
     }
 
-    /// Puts the parts of both syntaxes together. A number that no machine word holds is answered as out of memory: a
-    /// text that memory holds has none.
+    /// Puts the parts of both syntaxes together.
     fn put_lines(&mut self, whole: Span, lines: &str, limits: Limits) -> Result<Replaced, ReadFault>
         requires { spec.MayReread limits.profile limits.depth self.old whole lines.now }
         ensures read { (d m : Document) → spec.IsSyntaxOf self.old d → spec.CanReplace limits.profile limits.depth d whole lines.now m
@@ -62,20 +60,20 @@ impl Syntax {
         ensures undo { IfOk result (λ r. undoing.Undoes r self.old self.new) }
     {
         let alloc = self.parts.allocator();
-        let (fresh, starts) = read_lines(alloc, lines, limits)?;
-        let size = lines.len();
-        let Some(end) = whole.start.checked_add(size) else {
-            return Err(ReadFault::Memory);
-        };
-        let Some(len) = moved(self.len, whole.end, end) else {
-            return Err(ReadFault::Memory);
-        };
-        let line_starts = replaced_starts(alloc, &self.lines, whole, self.len, &starts, size, end)?;
-        let parts = replace_parts(alloc, &mut self.parts, fresh, whole, self.len, size, end)?;
+        let new = new_lines(alloc, &self.lines, self.len, whole, lines, limits)?;
+        let parts = replace_parts(
+            alloc,
+            &mut self.parts,
+            new.parts,
+            whole,
+            self.len,
+            new.size,
+            new.end,
+        )?;
         Ok(Replaced {
             parts,
-            lines: mem::replace(&mut self.lines, line_starts),
-            len: mem::replace(&mut self.len, len),
+            lines: mem::replace(&mut self.lines, new.starts),
+            len: mem::replace(&mut self.len, new.len),
         })
     }
 
