@@ -94,7 +94,7 @@ minus_cons ds = record { ten = refl; decimal = refl; value = refl }
 plus_cons : (ds : List ℕ) → IsWritten (0x2B ∷ ds) ds (pos (digits_value 10 ds))
 plus_cons ds = record { ten = refl; decimal = refl; value = refl }
 
-after_one : (c : ℕ) (cs : List ℕ) → take (length (c ∷ cs) - 1) cs ≡ cs
+pub after_one : (c : ℕ) (cs : List ℕ) → take (length (c ∷ cs) - 1) cs ≡ cs
 after_one c cs = let n : length (c ∷ cs) - 1 ≡ length cs = omega arith in rw n (take_all cs)
 
 pub minus_written : (t : List ℕ) → 1 ≤ length t → get_or t 0 0 ≡ 0x2D → IsWritten t (take (length t - 1) (drop 1 t)) (negated (digits_value 10 (take (length t - 1) (drop 1 t))))
@@ -122,11 +122,69 @@ integer_none t ds z w fits never i =
     let decimal : is_unsigned ds ≡ true = sym w.decimal ∙ sym (base_ten t w.ten) ∙ integer_text_to t i.0 in
     never (decimal, fits (rw w.value at i.1))
 
+pub integer_same : (r : Option ℤ) (t ds : List ℕ) (z : ℤ) → IsWritten t ds z → SomeIff r (IsTrue (is_unsigned ds) × FitsSigned w64 z) z → SomeIff r (Integer t) (integer_value t)
+integer_same r t ds z w h =
+    let decimal : is_integer_text t ≡ is_unsigned ds = base_ten t w.ten ∙ w.decimal in
+    same_if r (IsTrue (is_unsigned ds) × FitsSigned w64 z) (Integer t) z (integer_value t) (λ p. (integer_text_from t (decimal ∙ p.0), rw w.value p.1)) (λ i. (sym decimal ∙ integer_text_to t i.0, rw w.value at i.1)) (sym w.value) h
+
 pub integer_some : (r : Option ℤ) (t ds : List ℕ) (z y : ℤ) → IsWritten t ds z → IsTrue (is_unsigned ds) → y ≡ z → SomeIff r (FitsSigned w64 y) y → SomeIff r (Integer t) (integer_value t)
 integer_some r t ds z y w u e h =
     let same : y ≡ integer_value t = e ∙ sym w.value in
     let text = integer_text_from t (base_ten t w.ten ∙ w.decimal ∙ u) in
     same_if r (FitsSigned w64 y) (Integer t) y (integer_value t) (λ f. (text, rw same at f)) (λ i. rw same i.1) same h
+
+-- ---- integers after the prefix of a base
+
+-- the text has these digits in this base after its prefix
+pub record IsPrefixed (base : ℕ) (t ds : List ℕ) : Type 0 where
+  pub text : is_integer_text t ≡ is_digits (is_in_base base) ds
+  pub value : integer_value t ≡ pos (digits_value base ds)
+
+and_none : (b : Bool) → (b && false) ≡ false
+and_none true = refl
+and_none false = refl
+
+-- no 0 comes before another byte of a decimal integer
+zero_first : (x : ℕ) (ds : List ℕ) → is_decimal (0x30 ∷ x ∷ ds) ≡ false
+zero_first x ds =
+    let more : (length (0x30 ∷ x ∷ ds) == 1 || not (0x30 == 0x30)) ≡ false = grind (arith, nat_tests) in
+    rw more (and_none (is_digits is_ascii_digit (0x30 ∷ x ∷ ds)))
+
+pub hex_digits : (ds : List ℕ) → IsPrefixed 16 (0x30 ∷ 0x78 ∷ ds) ds
+hex_digits ds = record { text = rw (zero_first 0x78 ds) (or_none (is_digits (is_in_base 16) ds)); value = refl }
+
+pub octal_digits : (ds : List ℕ) → IsPrefixed 8 (0x30 ∷ 0x6F ∷ ds) ds
+octal_digits ds = record { text = rw (zero_first 0x6F ds) (or_none (is_digits (is_in_base 8) ds)); value = refl }
+
+pub binary_digits : (ds : List ℕ) → IsPrefixed 2 (0x30 ∷ 0x62 ∷ ds) ds
+binary_digits ds = record { text = rw (zero_first 0x62 ds) refl; value = refl }
+
+after_two : (a b : ℕ) (cs : List ℕ) → take (length (a ∷ b ∷ cs) - 2) cs ≡ cs
+after_two a b cs = let n : length (a ∷ b ∷ cs) - 2 ≡ length cs = omega arith in rw n (take_all cs)
+
+pub prefixed : (base letter : ℕ) → ((ds : List ℕ) → IsPrefixed base (0x30 ∷ letter ∷ ds) ds) → (t : List ℕ) → 2 ≤ length t → get_or t 0 0 ≡ 0x30 → get_or t 1 0 ≡ letter → IsPrefixed base t (take (length t - 2) (drop 2 t))
+prefixed base letter digits [] some nought is = absurd (omega arith)
+prefixed base letter digits (z ∷ []) some nought is = absurd (omega arith)
+prefixed base letter digits (z ∷ x ∷ ds) some nought is = rw (after_two z x ds, nought, is) (digits ds)
+
+pub prefixed_same : (r : Option ℤ) (base : ℕ) (t ds : List ℕ) → IsPrefixed base t ds → SomeIff r (IsTrue (is_digits (is_in_base base) ds) × FitsSigned w64 (pos (digits_value base ds))) (pos (digits_value base ds)) → SomeIff r (Integer t) (integer_value t)
+prefixed_same r base t ds w h =
+    same_if r (IsTrue (is_digits (is_in_base base) ds) × FitsSigned w64 (pos (digits_value base ds))) (Integer t) (pos (digits_value base ds)) (integer_value t) (λ p. (integer_text_from t (w.text ∙ p.0), rw w.value p.1)) (λ i. (sym w.text ∙ integer_text_to t i.0, rw w.value at i.1)) (sym w.value) h
+
+-- no prefix comes first
+abbrev pub NoPrefix : List ℕ → Type 0
+NoPrefix t = (length t < 2) ⊎ ((get_or t 0 0 ≡ 0x30 → ⊥) ⊎ ((get_or t 1 0 ≡ 0x78 → ⊥) × ((get_or t 1 0 ≡ 0x6F → ⊥) × (get_or t 1 0 ≡ 0x62 → ⊥))))
+
+pub no_prefix : (t : List ℕ) → NoPrefix t → base_of t ≡ 10
+no_prefix [] h = refl
+no_prefix (z ∷ []) h = elim (tested (z == 0x30)) [ inl e ↦ rw e refl | inr e ↦ rw e refl ]
+no_prefix (z ∷ x ∷ ds) (inl h) = absurd (omega arith)
+no_prefix (z ∷ x ∷ ds) (inr (inl h)) = let e : (z == 0x30) ≡ false = grind (arith, nat_tests) in rw e refl
+no_prefix (z ∷ x ∷ ds) (inr (inr (hex, (octal, binary)))) =
+    let e : (x == 0x78) ≡ false = grind (arith, nat_tests) in
+    let f : (x == 0x6F) ≡ false = grind (arith, nat_tests) in
+    let g : (x == 0x62) ≡ false = grind (arith, nat_tests) in
+    elim (tested (z == 0x30)) [ inl h ↦ rw (h, e, f, g) refl | inr h ↦ rw h refl ]
 
 -- ---- what the signs make of a number
 
@@ -147,8 +205,17 @@ minus_fits (suc v) h = let k = h.sfits in omega (arith, k)
 pub plus_fits : (v : ℕ) → FitsSigned w64 (pos v) → v < 2 ^ 64
 plus_fits v h = let k = h.sfits in omega (arith, k)
 
+-- a sum with 0 that fits is the number itself
+pub fits_some : (r : Option ℤ) (P : Type 0) (m v : ℕ) → P → m ≡ v → SomeIff r (FitsSigned w64 (pos 0 +ℤ pos m)) (pos 0 +ℤ pos m) → SomeIff r (P × FitsSigned w64 (pos v)) (pos v)
+fits_some r P m v p e h =
+    let same : (pos 0 +ℤ pos m) ≡ pos v = plus_is m v e in
+    same_if r (FitsSigned w64 (pos 0 +ℤ pos m)) (P × FitsSigned w64 (pos v)) (pos 0 +ℤ pos m) (pos v) (λ f. (p, rw same at f)) (λ f. rw same f.1) same h
+
 pub none_of : (r : Option ℤ) (P : Type 0) (v : ℤ) → r ≡ None → (P → ⊥) → SomeIff r P v
 none_of r P v e never = rw e never
+
+pub fits_none : (r : Option ℤ) (P : Type 0) (v : ℕ) → r ≡ None → (P × (v < 2 ^ 64) → ⊥) → SomeIff r (P × FitsSigned w64 (pos v)) (pos v)
+fits_none r P v e never = none_of r (P × FitsSigned w64 (pos v)) (pos v) e (λ p. never (p.0, plus_fits v p.1))
 
 pub is_integer_some : (r : Option ℤ) (t : List ℕ) → SomeIff r (Integer t) (integer_value t) → is_some r ≡ is_integer t
 is_integer_some None t h =

@@ -1,5 +1,6 @@
 //! Integers, floats and truth values: what is one, and an integer's value.
-ghost use Rattle.std.specs.Prelude.{◌≡◌, ◌<◌, ◌≤◌, ◌↔◌, ◌^◌, SomeIff, IsSome, IfSome, IsTrue, length};
+ghost use Rattle.std.specs.Prelude.{◌≡◌, ◌<◌, ◌≤◌, ◌↔◌, ◌^◌, pos, FitsSigned, SomeIff, IsSome, IfSome, IsTrue, length};
+ghost use Rattle.std.specs.Int.{w64};
 ghost use Rattle.std.specs.List.{prefix_len};
 ghost use Rattle.std.specs.Char.{is_ascii_digit};
 ghost use Rattle.keep_token.specs.Numbers as numbers;
@@ -43,6 +44,15 @@ fn unsigned_value(digits: &[u8]) -> Option<u64>
     }
 }
 
+/// `unsigned-dec-int`, in 64 bits with a sign.
+fn positive_value(digits: &[u8]) -> Option<i64>
+    ensures { SomeIff result
+        (IsTrue (numbers.is_unsigned digits.now) × FitsSigned w64 (pos (numbers.digits_value 10 digits.now)))
+        (pos (numbers.digits_value 10 digits.now)) }
+{
+    0i64.checked_add_unsigned(unsigned_value(digits)?)
+}
+
 /// `dec-int`, in 64 bits.
 fn decimal_value(bytes: &[u8]) -> Option<i64>
     requires { numbers.base_of bytes.now ≡ 10 }
@@ -50,9 +60,20 @@ fn decimal_value(bytes: &[u8]) -> Option<i64>
 {
     match bytes {
         [b'-', digits @ ..] => 0i64.checked_sub_unsigned(unsigned_value(digits)?),
-        [b'+', digits @ ..] => 0i64.checked_add_unsigned(unsigned_value(digits)?),
-        digits => 0i64.checked_add_unsigned(unsigned_value(digits)?),
+        [b'+', digits @ ..] => positive_value(digits),
+        digits => positive_value(digits),
     }
+}
+
+/// The number that digits of a base write, in 64 bits with a sign.
+fn based_value(digits: &[u8], base: u32) -> Option<i64>
+    requires low { 2 ≤ base }
+    requires high { base ≤ 16 }
+    ensures { SomeIff result
+        (IsTrue (numbers.is_digits (numbers.is_in_base base) digits.now) × FitsSigned w64 (pos (numbers.digits_value base digits.now)))
+        (pos (numbers.digits_value base digits.now)) }
+{
+    0i64.checked_add_unsigned(digits_value(digits, base)?)
 }
 
 /// `integer`, in 64 bits with a sign.
@@ -60,9 +81,9 @@ fn integer_value(bytes: &[u8]) -> Option<i64>
     ensures { SomeIff result (numbers.Integer bytes.now) (numbers.integer_value bytes.now) }
 {
     match bytes {
-        [b'0', b'x', digits @ ..] => 0i64.checked_add_unsigned(digits_value(digits, 16)?),
-        [b'0', b'o', digits @ ..] => 0i64.checked_add_unsigned(digits_value(digits, 8)?),
-        [b'0', b'b', digits @ ..] => 0i64.checked_add_unsigned(digits_value(digits, 2)?),
+        [b'0', b'x', digits @ ..] => based_value(digits, 16),
+        [b'0', b'o', digits @ ..] => based_value(digits, 8),
+        [b'0', b'b', digits @ ..] => based_value(digits, 2),
         decimal => decimal_value(decimal),
     }
 }
