@@ -25,6 +25,7 @@ pub mod NumberLaws
 pub mod FloatLaws
 pub mod ValueLaws
 pub mod IntegerLaws
+pub mod FirstBytes
 pub mod DateLaws
 pub mod DateShapes
 pub mod DateWords
