@@ -159,7 +159,7 @@ octal_digits ds = record { text = rw (zero_first 0x6F ds) (or_none (is_digits (i
 pub binary_digits : (ds : List ℕ) → IsPrefixed 2 (0x30 ∷ 0x62 ∷ ds) ds
 binary_digits ds = record { text = rw (zero_first 0x62 ds) refl; value = refl }
 
-after_two : (a b : ℕ) (cs : List ℕ) → take (length (a ∷ b ∷ cs) - 2) cs ≡ cs
+pub after_two : (a b : ℕ) (cs : List ℕ) → take (length (a ∷ b ∷ cs) - 2) cs ≡ cs
 after_two a b cs = let n : length (a ∷ b ∷ cs) - 2 ≡ length cs = omega arith in rw n (take_all cs)
 
 pub prefixed : (base letter : ℕ) → ((ds : List ℕ) → IsPrefixed base (0x30 ∷ letter ∷ ds) ds) → (t : List ℕ) → 2 ≤ length t → get_or t 0 0 ≡ 0x30 → get_or t 1 0 ≡ letter → IsPrefixed base t (take (length t - 2) (drop 2 t))

@@ -26,6 +26,7 @@ pub mod FloatLaws
 pub mod ValueLaws
 pub mod IntegerLaws
 pub mod FirstBytes
+pub mod TestChains
 pub mod DateLaws
 pub mod DateShapes
 pub mod DateWords
