@@ -27,6 +27,10 @@ so_far_none base digits = record { same = refl; sum = omega arith }
 pub so_far_empty : (base : ℕ) (digits : List ℕ) (value : ℕ) → SoFar base digits value [] → IsBelow base digits → ⊥
 so_far_empty base digits value s p = let h = s.same in let k = p.0 in cc
 
+pub so_far_over : (base : ℕ) (digits : List ℕ) (value : ℕ) (rest : List ℕ) → length rest ≡ 0 → SoFar base digits value rest → IsBelow base digits → ⊥
+so_far_over base digits value [] e s = so_far_empty base digits value s
+so_far_over base digits value (c ∷ cs) e s = absurd (omega arith)
+
 -- a text of digits begins with one
 pub digits_prefix : (digit : ℕ → Bool) (d : ℕ) (ds : List ℕ) → is_digits digit (d ∷ ds) ≡ true → digit d ≡ true
 digits_prefix digit d [] h = h

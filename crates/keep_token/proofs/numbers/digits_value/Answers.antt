@@ -1,11 +1,20 @@
 -- Each iteration reads one digit; past 64 bits, or at another byte, there is no value.
 use Rattle.std.proofs.Common.{◌≡◌, ℕ, ◌+◌, ◌*◌, ◌<◌, ◌^◌, arith, sym, ◌∙◌}
 use Rattle.std.specs.Char.{digit_value}
-use Rattle.keep_token.proofs.ValueLaws.{Reads, none_if, so_far_large, so_far_last, so_far_passed, so_far_more}
+use Rattle.keep_token.proofs.ValueLaws.{Reads, none_if, so_far_none, so_far_over, so_far_bad, so_far_large, so_far_last, so_far_passed, so_far_more}
 use Rattle.keep_token.proofs.numbers.digits_value.Goals as goal
 
 sum_is : (product value factor base digit read code b : ℕ) → product ≡ value * factor → factor ≡ base → digit ≡ read → read ≡ digit_value code → code ≡ b → product + digit ≡ value * base + digit_value b
 sum_is product value factor base digit read code b e f g h k = rw (e, f, g, h, k)
+
+pub loop-digit-init : goal.loop-digit-init
+loop-digit-init c = so_far_none _ _
+
+pub returns-in_err-digit : goal.returns-in_err-digit
+returns-in_err-digit c = none_if _ _ _ c.from_residual.ensures (so_far_over _ _ _ _ c.in_err-digit.ensures.cases c.loop-digit.invariant)
+
+pub returns-in_err-digit-2 : goal.returns-in_err-digit-2
+returns-in_err-digit-2 c = none_if _ _ _ c.from_residual-in_err-digit-2.ensures (so_far_bad _ _ _ _ _ (rw c.in_ok-digit.ensures.cases.0 at c.loop-digit.invariant) (rw c.from.ensures at c.in_err-digit-2.ensures.value))
 
 pub returns-in_err-checked_mul : goal.returns-in_err-checked_mul
 returns-in_err-checked_mul c =
