@@ -1,5 +1,5 @@
 -- What a chain of tests gives, from the tests in the order in which they are made.
-use Rattle.std.proofs.Common.{◌≡◌, Bool, true, false, ◌&&◌, ◌||◌, sym, ◌∙◌, refl}
+use Rattle.std.proofs.Common.{◌≡◌, Bool, true, false, ◌&&◌, ◌||◌, sym, ◌∙◌}
 
 pub and_fails : (r a b : Bool) → r ≡ a → r ≡ false → r ≡ (a && b)
 and_fails r a b e f = let g : a ≡ false = sym e ∙ f in rw g f
