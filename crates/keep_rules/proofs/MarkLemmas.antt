@@ -1,6 +1,6 @@
 -- A mark at a new node and at one that is there.
-use Rattle.std.proofs.Common.{◌≡◌, ℕ, ◌<◌, Bool, true, false, ◌&&◌, List, [], ◌∷◌, ◌++◌, length, get_or, refl, sym, ◌∙◌, ap, subst, arith, Option, Some, None}
-use Rattle.std.specs.Prelude.{IsSome}
+use Rattle.std.proofs.Common.{◌≡◌, ℕ, ◌<◌, Bool, true, false, ◌&&◌, List, [], ◌∷◌, ◌++◌, length, get_or, refl, sym, ◌∙◌, ap, subst, arith, Option, Some, None, Ok, Err}
+use Rattle.std.specs.Prelude.{IsSome, IfOk, Result}
 use Rattle.std.specs.List.{list_all, cons_option}
 use Rattle.keep_meaning.specs.declared.role.Role.{Role}
 use Rattle.keep_meaning.specs.declared.role.Role.TheVariants.{Through, Past, Define, Element, Dotted, Value}
@@ -10,6 +10,7 @@ use Rattle.keep_meaning.specs.Marks.{Mention}
 use Rattle.keep_nodes.specs.Trie.{TrieNode, Holding, by_key, by_index, paths_of, path_at, states_of, state_at, holds_at, children_of}
 use Rattle.keep_nodes.specs.Growth.{Grows, Restates}
 use Rattle.keep_meaning.specs.State.{IsState}
+use Rattle.keep_rules.specs.declared.mark.Stop.{Stop}
 use Rattle.keep_rules.specs.RoleStates.{mention_roles, StatesRepresent, IsIndexOf}
 use Rattle.keep_rules.specs.Tables.{is_tables, Fits, IsShaped}
 use Rattle.keep_rules.specs.Represents.{Keeps, KeepsItems, IsMarked, WasRefused}
@@ -196,3 +197,9 @@ pub was_refused : (old : List TrieNode) (path : List Part) (role : Role) (id : �
     → ((roles : List Role) → IsState (state_at old id) roles → list_all (λ e. allows e role) roles ≡ false) → WasRefused old path role
 was_refused old path role id h here none =
     λ ms known. refused ms path role (none (mention_roles path ms) (state_represents old ms known id path h here))
+
+-- a mark at a node that is there is one at its path
+pub marked_at : (r : Result ℕ Stop) (old new : List TrieNode) (id : ℕ) (role : Role) (before : List Part) (k : List ℕ) (holds : Holding) → path_at old id ≡ before ++ key k ∷ []
+    → IfOk r (λ to. (b : List Part) (l : List ℕ) (h : Holding) → path_at old id ≡ b ++ key l ∷ [] → IsMarked old new (b ++ key l ∷ []) role h to) → IfOk r (IsMarked old new (before ++ key k ∷ []) role holds)
+marked_at (Ok to) old new id role before k holds here marked = marked before k holds here
+marked_at (Err stop) old new id role before k holds here marked = tt

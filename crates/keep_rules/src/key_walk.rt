@@ -20,7 +20,7 @@ use keep_syntax::Why;
 use std::alloc::AllocError;
 
 /// Why a walk along keys ended early.
-#[derive(Clone, Copy, Debug, PartialEq, Eq)]
+#[derive(Clone, Copy)]
 pub enum Fault {
     /// The key with that number, from 0, is not allowed.
     Define { number: usize, why: Why },

@@ -16,7 +16,7 @@ use keep_nodes::{Holds, NodeFacts, Nodes, add_facts, add_item, add_key, child_of
 use std::alloc::AllocError;
 
 /// Why a mark was not made.
-#[derive(Clone, Copy, Debug, PartialEq, Eq)]
+#[derive(Clone, Copy)]
 pub enum Stop {
     /// Some earlier mark does not allow it.
     Refused,
@@ -58,19 +58,16 @@ pub fn mark(
 {
     match child_of(nodes, parent, text) {
         None => Ok(add_key(nodes, parent, text, role, facts, holds)?),
-        Some(child) => {
-            mark_existing(nodes, child, role, facts)?;
-            Ok(child)
-        }
+        Some(child) => mark_existing(nodes, child, role, facts),
     }
 }
 
-/// Makes a mark of that role at a node that is there, and adds these facts to it.
-fn mark_existing(nodes: &mut Nodes, id: usize, role: Role, facts: NodeFacts) -> Result<(), Stop>
+/// Makes a mark of that role at a node that is there, adds these facts to it, and gives the node.
+fn mark_existing(nodes: &mut Nodes, id: usize, role: Role, facts: NodeFacts) -> Result<usize, Stop>
     requires stored { IsStored nodes.old.items }
     requires shaped { IsShaped (trie_of nodes.old.items) }
     requires within { id < length nodes.old.items }
-    ensures ok { OnOk result ((before : List Part) (k : List ℕ) (holds : Holding) → path_at (trie_of nodes.old.items) id ≡ before ++ key k ∷ [] → IsMarked (trie_of nodes.old.items) (trie_of nodes.new.items) (before ++ key k ∷ []) role holds id) }
+    ensures ok { IfOk result (λ to. (before : List Part) (k : List ℕ) (holds : Holding) → path_at (trie_of nodes.old.items) id ≡ before ++ key k ∷ [] → IsMarked (trie_of nodes.old.items) (trie_of nodes.new.items) (before ++ key k ∷ []) role holds to) }
     ensures stored { OnOk result (IsStored nodes.new.items) }
     ensures facts { OnOk result (AddsInfo nodes.old.items nodes.new.items (path_at (trie_of nodes.old.items) id) (info_of facts)) }
     ensures refused { result ≡ Err Stop.Refused → WasRefused (trie_of nodes.old.items) (path_at (trie_of nodes.old.items) id) role }
@@ -79,7 +76,7 @@ fn mark_existing(nodes: &mut Nodes, id: usize, role: Role, facts: NodeFacts) -> 
         return Err(Stop::Refused);
     };
     set_role(nodes, id, next, facts)?;
-    Ok(())
+    Ok(id)
 }
 
 /// The last element of the array of tables at a node, if it is one.
@@ -94,6 +91,25 @@ fn last_element(nodes: &Nodes, id: usize) -> Option<usize>
         return None;
     }
     nodes.last_item(id)
+}
+
+/// Adds what a header that goes past an array of tables says of its node and of that of its last element: the key is the
+/// key part with that number.
+fn pass_tables(
+    nodes: &mut Nodes,
+    tables: usize,
+    last: usize,
+    number: usize,
+) -> Result<(), AllocError>
+    requires stored { IsStored nodes.old.items }
+    requires last { IsLastElement (trie_of nodes.old.items) (path_at (trie_of nodes.old.items) tables) tables last }
+    ensures stored { OnOk result (IsStored nodes.new.items) }
+    ensures same { OnOk result (trie_of nodes.new.items ≡ trie_of nodes.old.items) }
+    ensures facts { OnOk result ((statement : ℕ) → HeaderAdds nodes.old.items nodes.new.items number statement (λ headers. passing_mentions headers (path_at (trie_of nodes.old.items) tables))) }
+{
+    let past = NodeFacts::named(Kind::Table, number, Origin::Root);
+    add_facts(nodes, tables, past)?;
+    add_facts(nodes, last, NodeFacts::passed())
 }
 
 /// Goes past a key of a header that is not the last, the key part with that number: to the last element of an array of
@@ -123,12 +139,9 @@ pub fn pass(
         return mark(nodes, parent, text, Role::Through, through, Holds::Keys);
     };
     let Some(last) = last_element(nodes, child) else {
-        mark_existing(nodes, child, Role::Through, through)?;
-        return Ok(child);
+        return mark_existing(nodes, child, Role::Through, through);
     };
-    let past = NodeFacts::named(Kind::Table, number, Origin::Root);
-    add_facts(nodes, child, past)?;
-    add_facts(nodes, last, NodeFacts::passed())?;
+    pass_tables(nodes, child, last, number)?;
     Ok(last)
 }
 

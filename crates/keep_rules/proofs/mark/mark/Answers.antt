@@ -5,7 +5,7 @@ use Rattle.keep_nodes.specs.Trie.{path_at}
 use Rattle.keep_nodes.specs.Children.{holding}
 use Rattle.keep_nodes.specs.Stored.{trie_node_in, trie_of}
 use Rattle.keep_nodes.specs.Facts.{info_of}
-use Rattle.keep_rules.proofs.MarkLemmas.{marked_new}
+use Rattle.keep_rules.proofs.MarkLemmas.{marked_new, marked_at}
 use Rattle.keep_rules.proofs.AddedInfoLemmas.{added_at_new}
 use Rattle.keep_rules.proofs.mark.mark.Goals as goal
 
@@ -21,6 +21,7 @@ returns-in_ok-add_key-in-None-clause-facts c =
     added_at_new nodes c.add_key.new.nodes.items c.args.parent (path_at (trie_of nodes) c.args.parent ++ key c.args.text.now ∷ []) (Some c.args.role) (holding c.args.holds) (info_of c.args.facts)
     c.in_ok-add_key-in-None.ensures.grows c.in_ok-add_key-in-None.ensures.infos
 
-pub returns-in_ok-mark_existing-in-Some-clause-ok : goal.returns-in_ok-mark_existing-in-Some-clause-ok
-returns-in_ok-mark_existing-in-Some-clause-ok c =
-    c.in_ok-mark_existing-in-Some.ensures.ok (path_at (trie_of c.args.nodes.now.items) c.args.parent) c.args.text.now (holding c.args.holds) c.in-Some.ensures.found
+pub returns-in-Some-clause-ok : goal.returns-in-Some-clause-ok
+returns-in-Some-clause-ok c =
+    let nodes = c.args.nodes.now.items in
+    marked_at c.mark_existing.result (trie_of nodes) (trie_of c.mark_existing.new.nodes.items) c.in-Some.child c.args.role (path_at (trie_of nodes) c.args.parent) c.args.text.now (holding c.args.holds) c.in-Some.ensures.found c.mark_existing.ensures.ok
