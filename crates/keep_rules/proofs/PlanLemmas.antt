@@ -1,5 +1,6 @@
 -- Reading one value of the flat list as the nested value that it is.
-use Rattle.std.proofs.Common.{◌≡◌, ℕ, ◌+◌, ◌-◌, ◌<◌, ◌≤◌, List, [], ◌∷◌, ◌++◌, length, get_or, refl, sym, ◌∙◌, ap, subst, arith, length-append}
+use Rattle.std.proofs.Common.{◌≡◌, ℕ, ◌+◌, ◌-◌, ◌<◌, ◌≤◌, false, List, [], ◌∷◌, ◌++◌, length, get_or, refl, sym, ◌∙◌, ap, subst, arith, length-append}
+use Rattle.std.proofs.lemmas.List.{length-map}
 use Rattle.std.proofs.lemmas.List.Elements.{filter_map-append}
 use Rattle.keep_syntax.specs.declared.fault.Why.{Why}
 use Rattle.keep_parts.specs.declared.info.KeyPart.{KeyPart}
@@ -18,9 +19,10 @@ use Rattle.keep_meaning.specs.KeyText.{keys_in}
 use Rattle.keep_meaning.specs.Marks as marks
 use Rattle.keep_meaning.specs.Marks.{Mention, mark_of}
 use Rattle.keep_meaning.specs.Counts.{Count}
-use Rattle.keep_rules.specs.NestedValues.{NestingState, NestedValue, nested_item, nested_keyed, path_of_value, nested_mentions}
-use Rattle.keep_nodes.specs.Trie.{TrieNode, Holding, path_at, children_of}
-use Rattle.keep_nodes.specs.Stored.{trie_of, node_infos}
+use Rattle.keep_rules.specs.NestedValues.{NestingState, NestedValue, nested_item, nested_keyed, path_of_value, holding_of_value, nested_mentions}
+use Rattle.keep_nodes.specs.Trie.{TrieNode, Holding, by_key, by_index, path_at, state_at, holds_at, children_of}
+use Rattle.keep_nodes.specs.Stored.{trie_node_in, trie_of, node_infos}
+use Rattle.keep_rules.specs.Tables.{is_tables}
 use Rattle.keep_rules.specs.Represents.{Represents, FaultIn}
 use Rattle.keep_rules.specs.Steps.{AddsItem, Gives}
 use Rattle.keep_rules.specs.Reads.{IsValueNode, AreValueNodes}
@@ -72,7 +74,40 @@ item_number g h e = cc
 inline_number : (g h : ℕ) → owner.Inline g ≡ owner.Inline h → g ≡ h
 inline_number g h e = cc
 
+-- the node of the value of the number `owner`, which may have these children and is no array of tables
+pub record IsPlace (nodes : List Node) (ids : List ℕ) (base owner : ℕ) (holds : Holding) : Type 0 where
+  pub low : base ≤ owner + 1
+  pub high : owner + 1 < base + length ids
+  pub within : get_or ids (owner + 1 - base) 0 < length nodes
+  pub held : holds_at (trie_of nodes) (get_or ids (owner + 1 - base) 0) ≡ holds
+  pub plain : is_tables (state_at (trie_of nodes) (get_or ids (owner + 1 - base) 0)) ≡ false
+
+place_of : (nodes : List Node) (ids : List ℕ) (base g h : ℕ) (s : NestingState) (o : ℕ) (holds : Holding) → AreValueNodes (trie_of nodes) ids s → (o < length s.paths) × (holding_of_value s o ≡ holds) → h ≡ g → h + 1 ≡ base + o
+    → IsPlace nodes ids base g holds
+place_of nodes ids base g h s o holds are suits same at =
+    let own = owner_of (trie_of nodes) ids base g h s o are suits.0 same at in
+    let there : get_or ids (g + 1 - base) 0 ≡ get_or ids o 0 = ap (λ i. get_or ids i 0) own.place in
+    record {
+      low = omega (arith, same, at);
+      high = omega (arith, same, at, own.low);
+      within = omega (arith, there, own.node.nested, length-map nodes (trie_node_in nodes));
+      held = ap (holds_at (trie_of nodes)) there ∙ own.node.held ∙ suits.1;
+      plain = ap (λ i. is_tables (state_at (trie_of nodes) i)) there ∙ own.node.plain;
+    }
+
 -- ---- items
+
+item_place : (bytes : List ℕ) (parts : List KeyPart) (nodes : List Node) (ids : List ℕ) (base : ℕ) (info : ValueInfo) (array : ℕ) (s : NestingState) (t : NestedValue)
+    → info.owner ≡ owner.Item array → IsNext bytes parts (trie_of nodes) ids base info s t → IsPlace nodes ids base array by_index
+item_place bytes parts nodes ids base info array s (nested_keyed o ks fact) is next =
+    let no : owner.Item array ≡ owner.Inline next.matches.owned.0 = sym is ∙ next.matches.owned.1 in
+    absurd (cc)
+item_place bytes parts nodes ids base info array s (nested_item o fact) is next =
+    place_of nodes ids base array next.matches.owned.0 s o by_index next.nested next.suits (item_number next.matches.owned.0 array (sym next.matches.owned.1 ∙ is)) next.matches.owned.2
+
+pub some_item_place : (bytes : List ℕ) (parts : List KeyPart) (nodes : List Node) (ids : List ℕ) (base : ℕ) (info : ValueInfo) (array : ℕ)
+    → info.owner ≡ owner.Item array → (s : NestingState) × (t : NestedValue) × IsNext bytes parts (trie_of nodes) ids base info s t → IsPlace nodes ids base array by_index
+some_item_place bytes parts nodes ids base info array is next = item_place bytes parts nodes ids base info array next.0 next.1 is next.2
 
 item_read : (bytes : List ℕ) (f : Flat) (base : ℕ) (info : ValueInfo) (old new : List Node) (ids : List ℕ) (number array at to : ℕ) (kind : Kind) (holds : Holding) (s : NestingState) (t : NestedValue)
     → info.owner ≡ owner.Item array → at ≡ get_or ids (array + 1 - base) 0 → kind ≡ leaf_kind info.leaf → holds ≡ leaf_holding info.leaf
@@ -102,6 +137,18 @@ item_read_all bytes f base info old new ids number array at to kind holds is her
     item_read bytes f base info old new ids number array at to kind holds s t is here k h adds joined next
 
 -- ---- values with keys
+
+keyed_place : (bytes : List ℕ) (parts : List KeyPart) (nodes : List Node) (ids : List ℕ) (base : ℕ) (info : ValueInfo) (table : ℕ) (s : NestingState) (t : NestedValue)
+    → info.owner ≡ owner.Inline table → IsNext bytes parts (trie_of nodes) ids base info s t → IsPlace nodes ids base table by_key
+keyed_place bytes parts nodes ids base info table s (nested_item o fact) is next =
+    let no : owner.Inline table ≡ owner.Item next.matches.owned.0 = sym is ∙ next.matches.owned.1 in
+    absurd (cc)
+keyed_place bytes parts nodes ids base info table s (nested_keyed o ks fact) is next =
+    place_of nodes ids base table next.matches.owned.0 s o by_key next.nested next.suits (inline_number next.matches.owned.0 table (sym next.matches.owned.1 ∙ is)) next.matches.owned.2
+
+pub some_keyed_place : (bytes : List ℕ) (parts : List KeyPart) (nodes : List Node) (ids : List ℕ) (base : ℕ) (info : ValueInfo) (table : ℕ)
+    → info.owner ≡ owner.Inline table → (s : NestingState) × (t : NestedValue) × IsNext bytes parts (trie_of nodes) ids base info s t → IsPlace nodes ids base table by_key
+some_keyed_place bytes parts nodes ids base info table is next = keyed_place bytes parts nodes ids base info table next.0 next.1 is next.2
 
 -- the key parts of a value can be read
 next_keys : (bytes : List ℕ) (parts : List KeyPart) (nodes : List TrieNode) (ids : List ℕ) (base : ℕ) (info : ValueInfo) (table : ℕ) (s : NestingState) (t : NestedValue)

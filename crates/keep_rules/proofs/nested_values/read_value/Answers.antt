@@ -1,16 +1,65 @@
 -- What the callees ensure of one value is what holds of it as a nested value.
-use Rattle.std.proofs.Common.{◌-◌, ◌^◌, refl}
+use Rattle.std.proofs.Common.{◌-◌, ◌^◌, refl, arith}
+use Rattle.std.proofs.lemmas.Result.{err_from_is_err_and}
 use Rattle.keep_parts.specs.Flat.{flat}
 use Rattle.keep_rules.specs.declared.keys.Keys.{Keys}
 use Rattle.keep_rules.specs.Keys.{key_texts}
-use Rattle.keep_rules.proofs.PlanLemmas.{item_read_all, some_next_keys, keyed_read_all, keyed_fault_fits, keyed_fault_meets}
+use Rattle.keep_rules.proofs.PlanLemmas.{IsPlace, some_item_place, some_keyed_place, item_read_all, some_next_keys, keyed_read_all, keyed_fault_fits, keyed_fault_meets}
+use Rattle.keep_nodes.specs.Trie.{by_key, by_index}
 use Rattle.keep_rules.proofs.PartLemmas.{few_keys}
 use Rattle.keep_rules.proofs.nested_values.read_value.Goals as goal
-use Rattle.keep_rules.proofs.nested_values.read_value.Goals.{In-Inline}
+use Rattle.keep_rules.proofs.nested_values.read_value.Goals.{In-Item, In-Inline}
 
-pub give_value-requires-clause-keys : goal.give_value-requires-clause-keys
-give_value-requires-clause-keys c =
-    some_next_keys c.args.text.now (flat c.args.parts.now).keys _ _ c.args.base c.args.value c.in-Inline.table c.requires.readable c.in-Inline.is c.requires.next
+-- the node that the value is in
+
+array_place : (c : In-Item) → IsPlace c.args.nodes.now.items c.args.ids.now c.args.base c.in-Item.array by_index
+array_place c =
+    some_item_place c.args.text.now (flat c.args.parts.now).keys c.args.nodes.now.items c.args.ids.now c.args.base c.args.value c.in-Item.array c.in-Item.is c.requires.next
+
+pub overflow_add-at : goal.overflow_add-at
+overflow_add-at c = let place = array_place (goal.at.overflow_add-at c).In-Item in omega (arith, place.high, c.requires.numbered)
+
+pub overflow_sub-at : goal.overflow_sub-at
+overflow_sub-at c = (array_place (goal.at.overflow_sub-at c).In-Item).low
+
+pub bounds-ids-array : goal.bounds-ids-array
+bounds-ids-array c = let place = array_place (goal.at.bounds-ids-array c).In-Item in omega (arith, place.low, place.high)
+
+pub give_item-requires : goal.give_item-requires
+give_item-requires c =
+    let place = array_place (goal.at.give_item-requires c).In-Item in
+    record { stored = c.requires.stored; shaped = c.requires.shaped; within = place.within; listed = place.held; plain = place.plain }
+
+table_place : (c : In-Inline) → IsPlace c.args.nodes.now.items c.args.ids.now c.args.base c.in-Inline.table by_key
+table_place c =
+    some_keyed_place c.args.text.now (flat c.args.parts.now).keys c.args.nodes.now.items c.args.ids.now c.args.base c.args.value c.in-Inline.table c.in-Inline.is c.requires.next
+
+pub overflow_add-at-in-Inline : goal.overflow_add-at-in-Inline
+overflow_add-at-in-Inline c = let place = table_place (goal.at.overflow_add-at-in-Inline c).In-Inline in omega (arith, place.high, c.requires.numbered)
+
+pub overflow_sub-at-in-Inline : goal.overflow_sub-at-in-Inline
+overflow_sub-at-in-Inline c = (table_place (goal.at.overflow_sub-at-in-Inline c).In-Inline).low
+
+pub bounds-ids-table : goal.bounds-ids-table
+bounds-ids-table c = let place = table_place (goal.at.bounds-ids-table c).In-Inline in omega (arith, place.low, place.high)
+
+pub give_value-requires : goal.give_value-requires
+give_value-requires c =
+    let place = table_place (goal.at.give_value-requires c).In-Inline in
+    record {
+      stored = c.requires.stored;
+      shaped = c.requires.shaped;
+      within = place.within;
+      keyed = place.held;
+      keys = some_next_keys c.args.text.now (flat c.args.parts.now).keys _ _ c.args.base c.args.value c.in-Inline.table c.requires.readable c.in-Inline.is c.requires.next;
+    }
+
+-- what was read
+
+pub returns-in_err-give_item-in-Item : goal.returns-in_err-give_item-in-Item
+returns-in_err-give_item-in-Item c =
+    let p = err_from_is_err_and c.from_residual.result c.from_residual.ensures.1 in
+    rw (p.1, p.2) (record { stored = tt; was_read = tt; define = tt })
 
 own_keys : In-Inline → Keys
 own_keys c = record { text = c.args.text; parts = c.args.parts; first = c.args.value.first_key; count = c.args.value.keys }
