@@ -7,7 +7,9 @@ use Rattle.keep_rules.specs.declared.mark.Stop.{Stop}
 use Rattle.keep_rules.specs.declared.mark.Stop.TheVariants as stop
 use Rattle.keep_rules.specs.declared.key_walk.Fault.{Fault}
 use Rattle.keep_rules.specs.declared.key_walk.Fault.TheVariants as fault
+use Rattle.keep_meaning.specs.declared.role.Role.{Role}
 use Rattle.keep_meaning.specs.declared.role.Role.TheVariants.{Define, Element, Value}
+use Rattle.keep_meaning.specs.Rules.{why_of}
 use Rattle.keep_meaning.specs.declared.node.Kind.{Kind}
 use Rattle.keep_meaning.specs.declared.node.Origin.TheVariants as origin
 use Rattle.keep_nodes.specs.AllNodes.{Node}
@@ -18,7 +20,7 @@ use Rattle.keep_meaning.specs.Marks.{Mention, define, header, element_header}
 use Rattle.keep_nodes.specs.Facts.{named_info}
 use Rattle.keep_nodes.specs.Trie.{TrieNode, Holding, by_key, path_at}
 use Rattle.keep_nodes.specs.Stored.{trie_of}
-use Rattle.keep_rules.specs.Represents.{Represents, IsMarked, Begins, FaultIn, WasRefused}
+use Rattle.keep_rules.specs.Represents.{Represents, IsMarked, Begins, StopsAt, FaultIn, WasRefused}
 use Rattle.keep_rules.specs.Steps.{Walks, Dots, Gives}
 use Rattle.keep_rules.specs.KeyWalks.{walk_mentions, dotted_mentions}
 use Rattle.keep_rules.specs.Reads.{Reads, FaultsIn}
@@ -40,6 +42,11 @@ meets_fault stop.Memory n why f P is h = rw is (tt)
 pub meets_weaker : (f : Fault) (P Q : ℕ → Why → Type 0) → ((n : ℕ) (w : Why) → P n w → Q n w) → FaultMeets f P → FaultMeets f Q
 meets_weaker (fault.Define n w) P Q h p = h n w p
 meets_weaker fault.Memory P Q h p = p
+
+-- what follows where the key of that number stops
+pub stops_weaker : (f : Fault) (nodes : List TrieNode) (path : List Part) (role : Role) (at : ℕ) (P : ℕ → Why → Type 0) → (WasRefused nodes path role → P at (why_of role)) → FaultMeets f (StopsAt nodes path role at) → FaultMeets f P
+stops_weaker (fault.Define n w) nodes path role at P h stop = subst (λ (m : ℕ). P m w) (sym stop.place) (subst (λ (y : Why). P at y) (sym stop.reason) (h stop.refused))
+stops_weaker fault.Memory nodes path role at P h stop = tt
 
 module _ (k : Keys) (are : AreKeys k) where
   pub header_walk_stops : (old : List TrieNode) (f : Fault) → FaultMeets f (λ n w. (ms : List Mention) (ts : List (List Part)) → Represents old ms ts → FaultIn ms (walk_mentions ts [] (leading_texts k)) n w)

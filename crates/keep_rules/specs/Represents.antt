@@ -41,6 +41,12 @@ pub record IsMarked (old new : List TrieNode) (path : List Part) (role : Role) (
 abbrev pub WasRefused : List TrieNode → List Part → Role → Type 0
 WasRefused nodes path role = (ms : List Mention) → IsIndexOf nodes ms → IsRefused (marks ms) (record { role = role; path = path })
 
+-- the key of the number `at` is the one that stops, as a mark of this role at this path
+pub record StopsAt (nodes : List TrieNode) (path : List Part) (role : Role) (at number : ℕ) (why : Why) : Type 0 where
+  pub place : number ≡ at
+  pub reason : why ≡ why_of role
+  pub refused : WasRefused nodes path role
+
 -- the nodes represent these mentions, with these `[[..]]` lines
 pub record Represents (nodes : List TrieNode) (ms : List Mention) (tables : List (List Part)) : Type 0 where
   pub index : IsIndexOf nodes ms

@@ -1,37 +1,25 @@
 //! Reading the headers and keyvals of a document into its nodes.
-ghost use Rattle.std.specs.Prelude.{◌≡◌, ◌<◌, ℕ, length, List, IfOk, OnOk, IfErr};
+ghost use Rattle.std.specs.Prelude.{◌≡◌, ◌<◌, ◌+◌, ◌-◌, ◌∷◌, ◌++◌, [], ℕ, length, List, IfOk, OnOk, IfErr};
 ghost use Rattle.keep_nodes.specs.Children.{holding};
 ghost use Rattle.keep_meaning.specs.Fact.{Fact};
 ghost use Rattle.keep_rules.specs.NestedValues.{NestingState, path_of_value, nested_mentions, nested_keyed};
 ghost use Rattle.keep_rules.specs.Keys.{AreKeys, key_texts, last_text, leading_texts};
 ghost use Rattle.keep_meaning.specs.Marks.{Mention};
-ghost use Rattle.keep_path.specs.Path.{Part};
+ghost use Rattle.keep_path.specs.Path.{Part, key};
 ghost use Rattle.keep_rules.specs.Reads.{Reads, FaultsIn};
-ghost use Rattle.keep_rules.specs.Represents.{Represents, FaultIn};
+ghost use Rattle.keep_rules.specs.Represents.{Begins, Represents, StopsAt, FaultIn};
 ghost use Rattle.keep_rules.specs.Statements.{header_of, element_of};
 ghost use Rattle.keep_rules.specs.Steps.{Gives};
-ghost use Rattle.keep_rules.specs.Stops.{FaultMeets, fault_of_key};
+ghost use Rattle.keep_rules.specs.Stops.{FaultMeets};
 ghost use Rattle.keep_nodes.specs.Stored.{IsStored, trie_of};
 ghost use Rattle.keep_rules.specs.Tables.{IsShaped};
-ghost use Rattle.keep_rules.specs.AddedInfos.{StatementAdds, KeyedAdds};
+ghost use Rattle.keep_rules.specs.AddedInfos.{HeaderAdds, StatementAdds, KeyedAdds, begin_mentions};
 ghost use Rattle.keep_nodes.specs.Trie.{by_key, holds_at, path_at};
 
-use crate::key_walk::{Fault, walk_dotted, walk_header};
+use crate::key_walk::{Fault, mark_key, walk_dotted, walk_header};
 use crate::keys::Keys;
-use crate::mark::{Stop, begin, mark};
 use keep_meaning::{Kind, Origin, Role};
-use keep_nodes::{Holds, NodeFacts, Nodes};
-use keep_syntax::Why;
-
-/// The fault of the key with that number.
-fn fault_of(stop: Stop, number: usize, why: Why) -> Fault
-    ensures { result ≡ fault_of_key stop number why }
-{
-    match stop {
-        Stop::Refused => Fault::Define { number, why },
-        Stop::Memory => Fault::Memory,
-    }
-}
+use keep_nodes::{Holds, NodeFacts, Nodes, add_item};
 
 /// Reads the header `[..]` of that statement, and gives the node of the table that it defines.
 pub fn header(nodes: &mut Nodes, keys: Keys<'_>, statement: usize) -> Result<usize, Fault>
@@ -46,20 +34,34 @@ pub fn header(nodes: &mut Nodes, keys: Keys<'_>, statement: usize) -> Result<usi
 {
     let parent = walk_header(nodes, keys, statement)?;
     let number = keys.count - 1;
-    let text = keys.part_text(nodes.allocator(), number)?;
     let part = keys.part_number(number);
     let facts = NodeFacts::named(Kind::Table, part, Origin::Header(statement));
-    match mark(
-        nodes,
-        parent,
-        text.as_str(),
-        Role::Define,
-        facts,
-        Holds::Keys,
-    ) {
-        Ok(to) => Ok(to),
-        Err(stop) => Err(fault_of(stop, number, Role::Define.why())),
-    }
+    mark_key(nodes, parent, keys, number, Role::Define, facts, Holds::Keys)
+}
+
+/// Begins an element of the array of tables that the last of the keys names in a table.
+fn begin(
+    nodes: &mut Nodes,
+    parent: usize,
+    keys: Keys<'_>,
+    statement: usize,
+) -> Result<usize, Fault>
+    requires stored { IsStored nodes.old.items }
+    requires shaped { IsShaped (trie_of nodes.old.items) }
+    requires within { parent < length nodes.old.items }
+    requires keyed { holds_at (trie_of nodes.old.items) parent ≡ by_key }
+    requires keys { AreKeys keys }
+    ensures stored { OnOk result (IsStored nodes.new.items) }
+    ensures ok { IfOk result (λ to. Begins (trie_of nodes.old.items) (trie_of nodes.new.items) parent to (last_text keys.entry)) }
+    ensures facts { OnOk result (HeaderAdds nodes.old.items nodes.new.items (keys.entry.first + (keys.entry.count - 1)) statement (begin_mentions (path_at (trie_of nodes.old.items) parent ++ key (last_text keys.entry) ∷ []))) }
+    ensures define { IfErr result (λ fault. FaultMeets fault (StopsAt (trie_of nodes.old.items) (path_at (trie_of nodes.old.items) parent ++ key (last_text keys.entry) ∷ []) Role.Element (keys.entry.count - 1))) }
+{
+    let number = keys.count - 1;
+    let part = keys.part_number(number);
+    let tables = NodeFacts::named(Kind::Tables, part, Origin::Tables);
+    let id = mark_key(nodes, parent, keys, number, Role::Element, tables, Holds::Items)?;
+    let element = NodeFacts::unnamed(Kind::Table, Origin::Element(statement));
+    Ok(add_item(nodes, id, element, Holds::Keys)?)
 }
 
 /// Reads the element header `[[..]]` of that statement, and gives the node of the element that it begins.
@@ -74,13 +76,7 @@ pub fn element(nodes: &mut Nodes, keys: Keys<'_>, statement: usize) -> Result<us
     ensures define { IfErr result (λ fault. FaultMeets fault (λ number why. (body : ℕ) → FaultsIn (trie_of nodes.old.items) body (element_of keys.entry) number why)) }
 {
     let parent = walk_header(nodes, keys, statement)?;
-    let number = keys.count - 1;
-    let text = keys.part_text(nodes.allocator(), number)?;
-    let part = keys.part_number(number);
-    match begin(nodes, parent, text.as_str(), part, statement) {
-        Ok(to) => Ok(to),
-        Err(stop) => Err(fault_of(stop, number, Role::Element.why())),
-    }
+    begin(nodes, parent, keys, statement)
 }
 
 /// Gives a value with a key to the table at a node: the value with that number and kind, which may have these children.
@@ -104,11 +100,7 @@ pub fn give_value(
 {
     let parent = walk_dotted(nodes, from, keys, value)?;
     let number = keys.count - 1;
-    let text = keys.part_text(nodes.allocator(), number)?;
     let part = keys.part_number(number);
     let facts = NodeFacts::named(kind, part, Origin::Value(value));
-    match mark(nodes, parent, text.as_str(), Role::Value, facts, holds) {
-        Ok(to) => Ok(to),
-        Err(stop) => Err(fault_of(stop, number, Role::Value.why())),
-    }
+    mark_key(nodes, parent, keys, number, Role::Value, facts, holds)
 }

@@ -1,14 +1,16 @@
 //! Walks along the keys of headers and keyvals.
-ghost use Rattle.std.specs.Prelude.{◌≡◌, ◌<◌, length, List, [], IfOk, OnOk, IfErr};
-ghost use Rattle.keep_rules.specs.Keys.{AreKeys, leading_texts};
+ghost use Rattle.std.specs.Prelude.{◌≡◌, ◌<◌, ◌∷◌, ◌++◌, length, List, [], IfOk, OnOk, IfErr};
+ghost use Rattle.keep_rules.specs.Keys.{AreKeys, key_text_at, leading_texts};
 ghost use Rattle.keep_meaning.specs.Marks.{Mention};
-ghost use Rattle.keep_path.specs.Path.{Part};
-ghost use Rattle.keep_rules.specs.Represents.{Represents, FaultIn};
+ghost use Rattle.keep_path.specs.Path.{Part, key};
+ghost use Rattle.keep_rules.specs.Represents.{IsMarked, Represents, StopsAt, FaultIn};
 ghost use Rattle.keep_rules.specs.Steps.{Walks, Dots};
-ghost use Rattle.keep_rules.specs.Stops.{FaultMeets};
+ghost use Rattle.keep_rules.specs.Stops.{FaultMeets, fault_of_key};
 ghost use Rattle.keep_nodes.specs.Stored.{IsStored, trie_of};
-ghost use Rattle.keep_rules.specs.Tables.{IsShaped};
-ghost use Rattle.keep_rules.specs.AddedInfos.{HeaderAdds, DottedAdds};
+ghost use Rattle.keep_rules.specs.Tables.{Fits, IsShaped};
+ghost use Rattle.keep_rules.specs.AddedInfos.{AddsInfo, HeaderAdds, DottedAdds};
+ghost use Rattle.keep_nodes.specs.Children.{holding};
+ghost use Rattle.keep_nodes.specs.Facts.{info_of};
 ghost use Rattle.keep_nodes.specs.Trie.{by_key, holds_at, path_at};
 ghost use Rattle.keep_rules.specs.KeyWalks.{walk_mentions, dotted_mentions};
 
@@ -40,6 +42,47 @@ impl From<AllocError> for Fault {
     }
 }
 
+/// The fault of the key with that number.
+fn fault_of(stop: Stop, number: usize, why: Why) -> Fault
+    ensures { result ≡ fault_of_key stop number why }
+{
+    match stop {
+        Stop::Refused => Fault::Define { number, why },
+        Stop::Memory => Fault::Memory,
+    }
+}
+
+/// Makes a mark of that role at the key of that number in a table, and adds these facts to its node, which may have
+/// these children if it is new.
+#[inline(always)]
+pub fn mark_key(
+    nodes: &mut Nodes,
+    parent: usize,
+    keys: Keys<'_>,
+    number: usize,
+    role: Role,
+    facts: NodeFacts,
+    holds: Holds,
+) -> Result<usize, Fault>
+    requires stored { IsStored nodes.old.items }
+    requires shaped { IsShaped (trie_of nodes.old.items) }
+    requires within { parent < length nodes.old.items }
+    requires keyed { holds_at (trie_of nodes.old.items) parent ≡ by_key }
+    requires keys { AreKeys keys }
+    requires low { number < keys.count }
+    requires fits { Fits role (holding holds) }
+    ensures stored { OnOk result (IsStored nodes.new.items) }
+    ensures ok { IfOk result (λ to. IsMarked (trie_of nodes.old.items) (trie_of nodes.new.items) (path_at (trie_of nodes.old.items) parent ++ key (key_text_at keys.entry number) ∷ []) role (holding holds) to) }
+    ensures facts { OnOk result (AddsInfo nodes.old.items nodes.new.items (path_at (trie_of nodes.old.items) parent ++ key (key_text_at keys.entry number) ∷ []) (info_of facts)) }
+    ensures define { IfErr result (λ fault. FaultMeets fault (StopsAt (trie_of nodes.old.items) (path_at (trie_of nodes.old.items) parent ++ key (key_text_at keys.entry number) ∷ []) role number)) }
+{
+    let text = keys.part_text(nodes.allocator(), number)?;
+    match mark(nodes, parent, text.as_str(), role, facts, holds) {
+        Ok(to) => Ok(to),
+        Err(stop) => Err(fault_of(stop, number, role.why())),
+    }
+}
+
 /// Goes along a header's keys but the last, from the root.
 pub fn walk_header(nodes: &mut Nodes, keys: Keys<'_>, statement: usize) -> Result<usize, Fault>
     requires stored { IsStored nodes.old.items }
@@ -60,13 +103,7 @@ pub fn walk_header(nodes: &mut Nodes, keys: Keys<'_>, statement: usize) -> Resul
         let part = keys.part_number(number);
         at = match pass(nodes, at, text.as_str(), part, statement) {
             Ok(to) => to,
-            Err(Stop::Refused) => {
-                return Err(Fault::Define {
-                    number,
-                    why: Role::Through.why(),
-                });
-            }
-            Err(Stop::Memory) => return Err(Fault::Memory),
+            Err(stop) => return Err(fault_of(stop, number, Role::Through.why())),
         };
     }
     Ok(at)
@@ -93,19 +130,9 @@ pub fn walk_dotted(
 {
     let mut at = from;
     for number in 0..keys.count - 1 {
-        let text = keys.part_text(nodes.allocator(), number)?;
         let part = keys.part_number(number);
         let dotted = NodeFacts::named(Kind::Table, part, Origin::Dotted(value));
-        at = match mark(nodes, at, text.as_str(), Role::Dotted, dotted, Holds::Keys) {
-            Ok(to) => to,
-            Err(Stop::Refused) => {
-                return Err(Fault::Define {
-                    number,
-                    why: Role::Dotted.why(),
-                });
-            }
-            Err(Stop::Memory) => return Err(Fault::Memory),
-        };
+        at = mark_key(nodes, at, keys, number, Role::Dotted, dotted, Holds::Keys)?;
     }
     Ok(at)
 }

@@ -3,11 +3,11 @@ ghost use Rattle.std.specs.Prelude.{◌≡◌, ℕ, List, ◌<◌, ◌∷◌, �
 ghost use Rattle.keep_nodes.specs.Children.{holding};
 ghost use Rattle.keep_meaning.specs.Marks.{passing_mentions};
 ghost use Rattle.keep_path.specs.Path.{Part, key};
-ghost use Rattle.keep_rules.specs.Represents.{IsMarked, WasRefused, IsLastElement, HasNoElement, Passes, Begins};
+ghost use Rattle.keep_rules.specs.Represents.{IsMarked, WasRefused, IsLastElement, HasNoElement, Passes};
 ghost use Rattle.keep_rules.specs.Steps.{AddsItem};
 ghost use Rattle.keep_nodes.specs.Stored.{IsStored, trie_of};
 ghost use Rattle.keep_rules.specs.Tables.{Fits, IsShaped, is_tables};
-ghost use Rattle.keep_rules.specs.AddedInfos.{AddsInfo, HeaderAdds, ItemAdds, begin_mentions};
+ghost use Rattle.keep_rules.specs.AddedInfos.{AddsInfo, HeaderAdds, ItemAdds};
 ghost use Rattle.keep_nodes.specs.Facts.{info_of};
 ghost use Rattle.keep_nodes.specs.Trie.{Holding, by_key, by_index, holds_at, path_at, state_at};
 
@@ -143,29 +143,6 @@ pub fn pass(
     };
     pass_tables(nodes, child, last, number)?;
     Ok(last)
-}
-
-/// Begins an element of the array of tables that a key names, the key part with that number.
-pub fn begin(
-    nodes: &mut Nodes,
-    parent: usize,
-    text: &str,
-    number: usize,
-    statement: usize,
-) -> Result<usize, Stop>
-    requires stored { IsStored nodes.old.items }
-    requires shaped { IsShaped (trie_of nodes.old.items) }
-    requires within { parent < length nodes.old.items }
-    requires keyed { holds_at (trie_of nodes.old.items) parent ≡ by_key }
-    ensures stored { OnOk result (IsStored nodes.new.items) }
-    ensures ok { IfOk result (λ to. Begins (trie_of nodes.old.items) (trie_of nodes.new.items) parent to text.now) }
-    ensures facts { IfOk result (λ to. HeaderAdds nodes.old.items nodes.new.items number statement (begin_mentions (path_at (trie_of nodes.old.items) parent ++ key text.now ∷ []))) }
-    ensures refused { result ≡ Err Stop.Refused → WasRefused (trie_of nodes.old.items) (path_at (trie_of nodes.old.items) parent ++ key text.now ∷ []) Role.Element }
-{
-    let tables = NodeFacts::named(Kind::Tables, number, Origin::Tables);
-    let id = mark(nodes, parent, text, Role::Element, tables, Holds::Items)?;
-    let element = NodeFacts::unnamed(Kind::Table, Origin::Element(statement));
-    Ok(add_item(nodes, id, element, Holds::Keys)?)
 }
 
 /// Adds an item to an array: the value with that number and kind, which may have these children.

@@ -1,47 +1,56 @@
-use Rattle.std.proofs.Common.{◌≡◌, ℕ, ◌+◌, ◌-◌, [], ◌∷◌, ◌++◌, ap, sym, ◌∙◌, subst, Err}
-use Rattle.std.proofs.lemmas.Result.{err_from_is_err_and}
-use Rattle.keep_syntax.specs.declared.fault.Why.{Why}
+use Rattle.std.proofs.Common.{◌≡◌, ℕ, ◌+◌, ◌-◌, [], ◌∷◌, ◌++◌, ap, ◌∙◌, subst, refl, arith}
+use Rattle.std.proofs.lemmas.Result.{err_from_is_err_and, IfOk-weaker, IfErr-weaker, on_ok_weaker}
 use Rattle.keep_meaning.specs.declared.node.Kind.TheVariants as kind
 use Rattle.keep_meaning.specs.declared.node.NodeInfo.{NodeInfo}
 use Rattle.keep_meaning.specs.declared.node.Origin.TheVariants as origin
-use Rattle.keep_nodes.specs.Facts.{named_info}
+use Rattle.keep_meaning.specs.declared.role.Role.TheVariants.{Define}
+use Rattle.keep_nodes.specs.Facts.{info_of, named_info}
 use Rattle.keep_rules.specs.Keys.{last_text}
 use Rattle.keep_path.specs.Path.{key}
-use Rattle.keep_rules.specs.Reads.{FaultsIn}
+use Rattle.keep_rules.specs.Reads.{Reads, FaultsIn}
+use Rattle.keep_rules.specs.Represents.{IsMarked, StopsAt}
 use Rattle.keep_rules.specs.Statements.{header_of}
+use Rattle.keep_rules.specs.Stops.{FaultMeets}
 use Rattle.keep_nodes.specs.Stored.{trie_of}
 use Rattle.keep_rules.specs.AddedInfos.{AddsInfo}
-use Rattle.keep_nodes.specs.Trie.{path_at}
-use Rattle.keep_rules.proofs.BuildLemmas.{meets_fault, header_walk_stops, header_read, header_stops, header_all_added}
+use Rattle.keep_nodes.specs.Trie.{by_key, path_at}
+use Rattle.keep_rules.proofs.BuildLemmas.{stops_weaker, header_walk_stops, header_read, header_stops, header_all_added}
 use Rattle.keep_rules.proofs.KeyWalkInfoLemmas.{define_added}
+use Rattle.keep_rules.proofs.PassLemmas.{fits_define}
 use Rattle.keep_rules.proofs.build.header.Goals as goal
 
-pub returns-in_err-parent-clause-define : goal.returns-in_err-parent-clause-define
-returns-in_err-parent-clause-define c =
+pub returns-in_err-parent : goal.returns-in_err-parent
+returns-in_err-parent c =
     let p = err_from_is_err_and c.from_residual.result c.from_residual.ensures.1 in
-    rw (p.1, p.2) (header_walk_stops c.args.keys c.requires.keys (trie_of c.args.nodes.now.items) _ c.in_err-parent.ensures.define)
+    rw (p.1, p.2) (record { stored = tt; ok = tt; facts = tt; define = header_walk_stops c.args.keys c.requires.keys (trie_of c.args.nodes.now.items) _ c.in_err-parent.ensures.define })
 
-pub returns-in-Ok-clause-ok : goal.returns-in-Ok-clause-ok
-returns-in-Ok-clause-ok c =
-    let is : c.as_str.result.now ≡ last_text c.args.keys = c.as_str.ensures ∙ c.in_ok-text.ensures in
-    header_read c.args.keys c.requires.keys c.as_str.result.now is (trie_of c.args.nodes.now.items) (trie_of c.walk_header.new.nodes.items) (trie_of c.mark.new.nodes.items) c.in_ok-parent.parent c.in-Ok.to c.in_ok-parent.ensures.ok c.in-Ok.ensures.ok
+pub mark_key-requires : goal.mark_key-requires
+mark_key-requires c = record {
+  stored = c.in_ok-parent.ensures.stored;
+  shaped = c.in_ok-parent.ensures.shaped;
+  within = c.in_ok-parent.ensures.nested;
+  keyed = c.in_ok-parent.ensures.keyed;
+  keys = c.requires.keys;
+  low = omega (arith, c.requires.keys.some);
+  fits = fits_define _ refl;
+}
 
-pub returns-in-Ok-clause-facts : goal.returns-in-Ok-clause-facts
-returns-in-Ok-clause-facts c =
+pub returns : goal.returns
+returns c =
     let old = c.args.nodes.now.items in
     let mid = c.walk_header.new.nodes.items in
-    let new = c.mark.new.nodes.items in
-    let text = c.as_str.result.now in
-    let p = path_at (trie_of mid) c.in_ok-parent.parent ++ key text ∷ [] in
-    let is : text ≡ last_text c.args.keys = c.as_str.ensures ∙ c.in_ok-text.ensures in
-    header_all_added c.args.keys c.requires.keys text is old mid new c.in_ok-parent.parent c.args.statement c.in_ok-parent.ensures.ok c.in_ok-parent.ensures.facts
-    (define_added mid new p (c.args.keys.first + (c.args.keys.count - 1)) c.args.statement
-    (subst (λ (i : NodeInfo). AddsInfo mid new p i) (c.named-facts.ensures ∙ ap (λ n. named_info kind.Table n (origin.Header c.args.statement)) c.part_number-part.ensures) c.in-Ok.ensures.facts))
-
-pub returns-clause-define : goal.returns-clause-define
-returns-clause-define c =
-    let old = trie_of c.args.nodes.now.items in
-    let is : c.as_str.result.now ≡ last_text c.args.keys = c.as_str.ensures ∙ c.in_ok-text.ensures in
-    meets_fault c.in-Err.stop (c.args.keys.count - 1) c.why.result c.fault_of.result (λ n w. (body : ℕ) → FaultsIn old body (header_of c.args.keys) n w) c.fault_of.ensures (λ stops.
-    subst (λ (w : Why). (body : ℕ) → FaultsIn old body (header_of c.args.keys) (c.args.keys.count - 1) w) (sym c.why.ensures)
-    (header_stops c.args.keys c.requires.keys c.as_str.result.now is old (trie_of c.walk_header.new.nodes.items) c.in_ok-parent.parent c.in_ok-parent.ensures.ok (c.in-Err.ensures.refused (ap Err stops))))
+    let new = c.mark_key.new.nodes.items in
+    let keys = c.args.keys in
+    let parent = c.in_ok-parent.parent in
+    let p = path_at (trie_of mid) parent ++ key (last_text keys) ∷ [] in
+    record {
+      stored = c.mark_key.ensures.stored;
+      ok = IfOk-weaker c.mark_key.result (λ to. IsMarked (trie_of mid) (trie_of new) p Define by_key to) (λ to. (body : ℕ) → Reads (trie_of old) body (trie_of new) to (header_of keys))
+          (λ to marked. header_read keys c.requires.keys (last_text keys) refl (trie_of old) (trie_of mid) (trie_of new) parent to c.in_ok-parent.ensures.ok marked) c.mark_key.ensures.ok;
+      facts = on_ok_weaker c.mark_key.result (λ (one : AddsInfo mid new p (info_of c.named-facts.result)). header_all_added keys c.requires.keys (last_text keys) refl old mid new parent c.args.statement c.in_ok-parent.ensures.ok c.in_ok-parent.ensures.facts
+          (define_added mid new p (keys.first + (keys.count - 1)) c.args.statement
+          (subst (λ (i : NodeInfo). AddsInfo mid new p i) (c.named-facts.ensures ∙ ap (λ n. named_info kind.Table n (origin.Header c.args.statement)) c.part_number-part.ensures) one))) c.mark_key.ensures.facts;
+      define = IfErr-weaker c.mark_key.result (λ fault. FaultMeets fault (StopsAt (trie_of mid) p Define (keys.count - 1))) (λ fault. FaultMeets fault (λ n w. (body : ℕ) → FaultsIn (trie_of old) body (header_of keys) n w))
+          (λ fault stop. stops_weaker fault (trie_of mid) p Define (keys.count - 1) (λ n w. (body : ℕ) → FaultsIn (trie_of old) body (header_of keys) n w)
+          (λ was. header_stops keys c.requires.keys (last_text keys) refl (trie_of old) (trie_of mid) parent c.in_ok-parent.ensures.ok was) stop) c.mark_key.ensures.define;
+    }

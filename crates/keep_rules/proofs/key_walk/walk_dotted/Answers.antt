@@ -1,17 +1,21 @@
-use Rattle.std.proofs.Common.{◌≡◌, ◌∷◌, ◌++◌, [], ap, sym, ◌∙◌, subst, arith, refl, Err}
+use Rattle.std.proofs.Common.{◌≡◌, ℕ, List, ◌∷◌, ◌++◌, [], ap, ◌∙◌, subst, arith, refl}
 use Rattle.std.proofs.lemmas.List.{length-map}
-use Rattle.keep_syntax.specs.declared.fault.Why.{Why}
+use Rattle.std.proofs.lemmas.Result.{err_from_is_err_and}
+use Rattle.keep_meaning.specs.declared.role.Role.TheVariants.{Dotted}
+use Rattle.keep_meaning.specs.Marks.{Mention}
 use Rattle.keep_meaning.specs.declared.node.Kind.TheVariants as kind
 use Rattle.keep_meaning.specs.declared.node.NodeInfo.{NodeInfo}
 use Rattle.keep_meaning.specs.declared.node.Origin.TheVariants as origin
 use Rattle.keep_nodes.specs.Facts.{named_info}
 use Rattle.keep_rules.specs.Keys.{key_text_at, leading_texts}
-use Rattle.keep_path.specs.Path.{key}
+use Rattle.keep_path.specs.Path.{Part, key}
 use Rattle.keep_nodes.specs.Stored.{trie_node_in, trie_of}
-use Rattle.keep_rules.specs.Represents.{FaultIn}
+use Rattle.keep_rules.specs.Represents.{Represents, FaultIn}
 use Rattle.keep_rules.specs.AddedInfos.{AddsInfo}
 use Rattle.keep_nodes.specs.Trie.{path_at}
 use Rattle.keep_rules.specs.KeyWalks.{dotted_mentions}
+use Rattle.keep_rules.proofs.BuildLemmas.{stops_weaker}
+use Rattle.keep_rules.proofs.PassLemmas.{fits_dotted}
 use Rattle.keep_rules.proofs.StepLemmas.{dots_none}
 use Rattle.keep_rules.proofs.KeyLemmas.{dotted_more, dots_stop, dotted_added}
 use Rattle.keep_rules.proofs.key_walk.walk_dotted.Goals as goal
@@ -25,25 +29,46 @@ loop-number-init c = record {
   facts = λ d keys number. refl;
 }
 
+pub mark_key-requires : goal.mark_key-requires
+mark_key-requires c = record {
+  stored = c.loop-number.invariant.stored;
+  shaped = c.loop-number.invariant.shaped;
+  within = c.loop-number.invariant.nested;
+  keyed = c.loop-number.invariant.gone.is_open.open_to;
+  keys = c.requires.keys;
+  low = omega arith;
+  fits = fits_dotted _ refl;
+}
+
 pub loop-number-preserved : goal.loop-number-preserved
 loop-number-preserved c =
     let old = c.args.nodes.now.items in
     let mid = c.loop-number.nodes.items in
-    let new = c.mark.new.nodes.items in
-    let text = c.as_str.result.now in
-    let is : text ≡ key_text_at c.args.keys c.loop-number.number = c.as_str.ensures ∙ c.in_ok-text.ensures in
+    let new = c.mark_key.new.nodes.items in
+    let text = key_text_at c.args.keys c.loop-number.number in
+    let marked = c.in_ok-at.ensures.ok in
     record {
-      stored = c.in-Ok.ensures.stored;
-      shaped = c.in-Ok.ensures.ok.shaped;
-      nested = omega (arith, c.in-Ok.ensures.ok.nested, length-map new (trie_node_in new));
-      gone = dotted_more (trie_of old) (trie_of mid) (trie_of new) c.args.from c.loop-number.at c.in-Ok.to c.args.keys c.requires.keys c.loop-number.number text (omega arith) is c.loop-number.invariant.gone c.in-Ok.ensures.ok;
-      facts = dotted_added old mid new c.args.keys c.requires.keys c.loop-number.number text c.args.from c.loop-number.at c.args.value (omega arith) is c.loop-number.invariant.gone c.loop-number.invariant.facts
-          (subst (λ (i : NodeInfo). AddsInfo mid new (path_at (trie_of mid) c.loop-number.at ++ key text ∷ []) i) (c.named-dotted.ensures ∙ ap (λ n. named_info kind.Table n (origin.Dotted c.args.value)) c.part_number-part.ensures) c.in-Ok.ensures.facts);
+      stored = c.in_ok-at.ensures.stored;
+      shaped = marked.shaped;
+      nested = omega (arith, marked.nested, length-map new (trie_node_in new));
+      gone = dotted_more (trie_of old) (trie_of mid) (trie_of new) c.args.from c.loop-number.at c.in_ok-at.at c.args.keys c.requires.keys c.loop-number.number text (omega arith) refl c.loop-number.invariant.gone marked;
+      facts = dotted_added old mid new c.args.keys c.requires.keys c.loop-number.number text c.args.from c.loop-number.at c.args.value (omega arith) refl c.loop-number.invariant.gone c.loop-number.invariant.facts
+          (subst (λ (i : NodeInfo). AddsInfo mid new (path_at (trie_of mid) c.loop-number.at ++ key text ∷ []) i) (c.named-dotted.ensures ∙ ap (λ n. named_info kind.Table n (origin.Dotted c.args.value)) c.part_number-part.ensures) c.in_ok-at.ensures.facts);
     }
 
-pub returns-in-Err-Refused-clause-define : goal.returns-in-Err-Refused-clause-define
-returns-in-Err-Refused-clause-define c = λ ms tables represents.
-    let is : c.as_str.result.now ≡ key_text_at c.args.keys c.loop-number.number = c.as_str.ensures ∙ c.in_ok-text.ensures in
-    subst (λ (w : Why). FaultIn ms (dotted_mentions (path_at (trie_of c.args.nodes.now.items) c.args.from) (leading_texts c.args.keys)) c.loop-number.number w) (sym c.why.ensures)
-    (dots_stop (trie_of c.args.nodes.now.items) (trie_of c.loop-number.nodes.items) c.args.from c.loop-number.at c.args.keys c.requires.keys c.loop-number.number c.as_str.result.now (omega arith) is c.loop-number.invariant.gone
-    (c.in-Err-Refused.ensures.refused (ap Err c.in-Err-Refused.field-0-is)) ms tables represents)
+pub returns-in_err-at : goal.returns-in_err-at
+returns-in_err-at c =
+    let old = trie_of c.args.nodes.now.items in
+    let mid = trie_of c.loop-number.nodes.items in
+    let keys = c.args.keys in
+    let text = key_text_at keys c.loop-number.number in
+    let p = err_from_is_err_and c.from_residual.result c.from_residual.ensures.1 in
+    rw (p.1, p.2) (record {
+      stored = tt;
+      shaped = tt;
+      nested = tt;
+      ok = tt;
+      facts = tt;
+      define = stops_weaker _ mid (path_at mid c.loop-number.at ++ key text ∷ []) Dotted c.loop-number.number (λ n w. (ms : List Mention) (tables : List (List Part)) → Represents old ms tables → FaultIn ms (dotted_mentions (path_at old c.args.from) (leading_texts keys)) n w)
+          (λ was. dots_stop old mid c.args.from c.loop-number.at keys c.requires.keys c.loop-number.number text (omega arith) refl c.loop-number.invariant.gone was) c.in_err-at.ensures.define;
+    })

@@ -1,15 +1,17 @@
-use Rattle.std.proofs.Common.{◌≡◌, ℕ, ◌-◌, [], ◌∷◌, ◌++◌, take, ap, sym, ◌∙◌, subst, arith, refl, Err}
+use Rattle.std.proofs.Common.{◌≡◌, ℕ, ◌-◌, List, [], ◌∷◌, ◌++◌, take, ap, sym, ◌∙◌, subst, arith, refl, Err}
 use Rattle.std.proofs.lemmas.List.{length-map}
+use Rattle.std.proofs.lemmas.Result.{err_from_is_err_and}
 use Rattle.keep_syntax.specs.declared.fault.Why.{Why}
 use Rattle.keep_rules.specs.Keys.{key_texts, key_text_at, leading_texts}
-use Rattle.keep_path.specs.Path.{key}
-use Rattle.keep_meaning.specs.Marks.{passing_mentions}
+use Rattle.keep_path.specs.Path.{Part, key}
+use Rattle.keep_meaning.specs.Marks.{Mention, passing_mentions}
 use Rattle.keep_nodes.specs.Trie.{path_at}
 use Rattle.keep_nodes.specs.Stored.{trie_node_in, trie_of}
-use Rattle.keep_rules.specs.Represents.{FaultIn}
+use Rattle.keep_rules.specs.Represents.{Represents, FaultIn}
 use Rattle.keep_rules.specs.Steps.{Walks}
 use Rattle.keep_rules.specs.AddedInfos.{HeaderAdds}
 use Rattle.keep_rules.specs.KeyWalks.{walk_mentions}
+use Rattle.keep_rules.proofs.BuildLemmas.{meets_fault}
 use Rattle.keep_rules.proofs.StepLemmas.{walks_none}
 use Rattle.keep_rules.proofs.KeyLemmas.{walked_more, walk_stops, walked_added}
 use Rattle.keep_rules.proofs.key_walk.walk_header.Goals as goal
@@ -41,12 +43,38 @@ loop-number-preserved c =
           (subst (λ (n : ℕ). HeaderAdds mid new n c.args.statement (λ tables. passing_mentions tables (path_at (trie_of mid) c.loop-number.at ++ key text ∷ []))) c.part_number-part.ensures c.in-Ok.ensures.facts);
     }
 
-pub returns-in-Err-Refused-clause-define : goal.returns-in-Err-Refused-clause-define
-returns-in-Err-Refused-clause-define c = λ ms tables represents.
-    let is : c.as_str.result.now ≡ key_text_at c.args.keys c.loop-number.number = c.as_str.ensures ∙ c.in_ok-text.ensures in
-    subst (λ (w : Why). FaultIn ms (walk_mentions tables [] (leading_texts c.args.keys)) c.loop-number.number w) (sym c.why.ensures)
-    (walk_stops (trie_of c.args.nodes.now.items) (trie_of c.loop-number.nodes.items) c.loop-number.at c.args.keys c.requires.keys c.loop-number.number c.as_str.result.now (omega arith) is c.loop-number.invariant.walked
-    (c.in-Err-Refused.ensures.refused (ap Err c.in-Err-Refused.field-0-is)) (c.in-Err-Refused.ensures.plain (ap Err c.in-Err-Refused.field-0-is)) ms tables represents)
+pub returns-in-Err : goal.returns-in-Err
+returns-in-Err c =
+    let old = trie_of c.args.nodes.now.items in
+    let keys = c.args.keys in
+    let number = c.loop-number.number in
+    let Mentions : ℕ → Why → Type 0 = λ n w. (ms : List Mention) (tables : List (List Part)) → Represents old ms tables → FaultIn ms (walk_mentions tables [] (leading_texts keys)) n w in
+    let is : c.as_str.result.now ≡ key_text_at keys number = c.as_str.ensures ∙ c.in_ok-text.ensures in
+    record {
+      stored = tt;
+      shaped = tt;
+      nested = tt;
+      keyed = tt;
+      ok = tt;
+      facts = tt;
+      define = meets_fault c.in-Err.stop number c.why.result c.fault_of.result Mentions c.fault_of.ensures (λ stops.
+          subst (λ (w : Why). Mentions number w) (sym c.why.ensures)
+          (walk_stops old (trie_of c.loop-number.nodes.items) c.loop-number.at keys c.requires.keys number c.as_str.result.now (omega arith) is c.loop-number.invariant.walked
+          (c.in-Err.ensures.refused (ap Err stops)) (c.in-Err.ensures.plain (ap Err stops))));
+    }
+
+pub returns-in_err-text : goal.returns-in_err-text
+returns-in_err-text c =
+    let p = err_from_is_err_and c.from_residual.result c.from_residual.ensures.1 in
+    rw (p.1, p.2) (record { stored = tt; shaped = tt; nested = tt; keyed = tt; ok = tt; facts = tt; define = tt })
+
+pub pass-requires : goal.pass-requires
+pass-requires c = record {
+  stored = c.loop-number.invariant.stored;
+  shaped = c.loop-number.invariant.shaped;
+  within = c.loop-number.invariant.nested;
+  keyed = c.loop-number.invariant.keyed;
+}
 
 pub returns-clause-ok : goal.returns-clause-ok
 returns-clause-ok c =
