@@ -1,11 +1,14 @@
 //! Reading all definitions of a document, or of a value alone.
-ghost use Rattle.std.specs.Prelude.{◌≡◌, ◌<◌, length, IfOk, IfErr};
+ghost use Rattle.std.specs.Prelude.{◌≡◌, ◌<◌, ◌∷◌, ℕ, [], List, length, IfOk, OnOk, IfErr};
 ghost use Rattle.keep_parts.specs.Flat.{flat};
 ghost use Rattle.keep_syntax.specs.Tree.{Document, Value};
 ghost use Rattle.keep_nodes.specs.Children.{holding};
+ghost use Rattle.keep_rules.specs.NestedValues.{NestingState, NestedValue};
+ghost use Rattle.keep_rules.specs.Plans.{AreReadable, AreNext, RepresentsSome, NestedValuesRead, NestedValuesFault};
 ghost use Rattle.keep_rules.specs.ReadDocuments.{WasRead, WasReadAlone, IsIndexOf, ValueObeys, IsRefusal, IsValueRefusal, IsFaultAt};
 ghost use Rattle.keep_rules.specs.Roots.{IsRoot};
 ghost use Rattle.keep_rules.specs.Stops.{FaultMeets};
+ghost use Rattle.keep_rules.specs.Tables.{IsShaped};
 ghost use Rattle.keep_nodes.specs.Stored.{IsStored, node_infos, trie_of};
 ghost use Rattle.keep_nodes.specs.Trie.{by_key, holds_at};
 
@@ -64,6 +67,21 @@ pub fn read_document(alloc: Global, text: &str, syntax: &Syntax) -> Result<Nodes
     Ok(nodes)
 }
 
+/// Reads the values in a value alone, of which the root is the only node so far.
+fn read_inside(nodes: &mut Nodes, text: &str, parts: &Parts) -> Result<(), Fault>
+    requires stored { IsStored nodes.old.items }
+    requires shaped { IsShaped (trie_of nodes.old.items) }
+    requires readable { AreReadable text.now (flat parts.now).keys }
+    requires next { (s : NestingState) × (ts : List NestedValue) × (first : ℕ) × AreNext text.now (flat parts.now) (trie_of nodes.old.items) (0 ∷ []) 1 1 first s ts }
+    requires represents { RepresentsSome (trie_of nodes.old.items) }
+    ensures was_read { OnOk result ((ids : List ℕ) × NestedValuesRead text.now (flat parts.now) 1 1 nodes.old.items (0 ∷ []) nodes.new.items ids) }
+    ensures define { IfErr result (λ fault. FaultMeets fault (NestedValuesFault text.now (flat parts.now) 1 1 nodes.old.items (0 ∷ []))) }
+{
+    let mut ids = Vec::new(nodes.allocator());
+    push_id(&mut ids, 0)?;
+    read_nested(nodes, &mut ids, text, parts, 1, 1)
+}
+
 /// Reads the values in a value alone.
 pub fn read_alone(alloc: Global, text: &str, syntax: &ValueSyntax) -> Result<(), ReadFault>
     requires { (v : Value) × WasReadAlone text.now syntax.now v }
@@ -73,9 +91,7 @@ pub fn read_alone(alloc: Global, text: &str, syntax: &ValueSyntax) -> Result<(),
     let parts = syntax.parts();
     let holds = holds_of_leaf(syntax.value(0).leaf);
     let mut nodes = root(alloc, text, holds)?;
-    let mut ids = Vec::new(alloc);
-    push_id(&mut ids, 0)?;
-    match read_nested(&mut nodes, &mut ids, text, parts, 1, 1) {
+    match read_inside(&mut nodes, text, parts) {
         Ok(()) => Ok(()),
         Err(fault) => Err(read_fault(parts, fault)),
     }

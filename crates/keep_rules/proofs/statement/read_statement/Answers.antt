@@ -1,13 +1,21 @@
 -- A statement with a value is a keyval, and any other a header.
 use Rattle.std.proofs.Common.{ℕ}
-use Rattle.std.proofs.lemmas.Result.{IfOk-weaker}
+use Rattle.std.proofs.lemmas.Result.{err_from_is_err_and, IfOk-weaker}
 use Rattle.keep_parts.specs.Flat.{flat}
 use Rattle.keep_rules.specs.ReadStatements.{IsReadAsMatched}
 use Rattle.keep_rules.proofs.statement.read_statement.Goals as goal
 
-pub returns-in_ok-read_keyval-in-Some-clause-read :
-    goal.returns-in_ok-read_keyval-in-Some-clause-read
-returns-in_ok-read_keyval-in-Some-clause-read c = c.in_ok-read_keyval-in-Some.ensures.read c.args.number
+pub returns-in_ok-read_keyval-in-Some : goal.returns-in_ok-read_keyval-in-Some
+returns-in_ok-read_keyval-in-Some c = record {
+  stored = c.in_ok-read_keyval-in-Some.ensures.stored;
+  read = c.in_ok-read_keyval-in-Some.ensures.read c.args.number;
+  define = tt;
+}
+
+pub returns-in_err-read_keyval-in-Some : goal.returns-in_err-read_keyval-in-Some
+returns-in_err-read_keyval-in-Some c =
+    let p = err_from_is_err_and c.from_residual.result c.from_residual.ensures.1 in
+    rw (p.1, p.2) (record { stored = tt; read = tt; define = c.in_err-read_keyval-in-Some.ensures.define })
 
 pub returns-in-None-clause-read : goal.returns-in-None-clause-read
 returns-in-None-clause-read c =
