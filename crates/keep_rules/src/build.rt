@@ -36,16 +36,19 @@ pub fn header(nodes: &mut Nodes, keys: Keys<'_>, statement: usize) -> Result<usi
     let number = keys.count - 1;
     let part = keys.part_number(number);
     let facts = NodeFacts::named(Kind::Table, part, Origin::Header(statement));
-    mark_key(nodes, parent, keys, number, Role::Define, facts, Holds::Keys)
+    mark_key(
+        nodes,
+        parent,
+        keys,
+        number,
+        Role::Define,
+        facts,
+        Holds::Keys,
+    )
 }
 
 /// Begins an element of the array of tables that the last of the keys names in a table.
-fn begin(
-    nodes: &mut Nodes,
-    parent: usize,
-    keys: Keys<'_>,
-    statement: usize,
-) -> Result<usize, Fault>
+fn begin(nodes: &mut Nodes, parent: usize, keys: Keys<'_>, statement: usize) -> Result<usize, Fault>
     requires stored { IsStored nodes.old.items }
     requires shaped { IsShaped (trie_of nodes.old.items) }
     requires within { parent < length nodes.old.items }
@@ -59,7 +62,15 @@ fn begin(
     let number = keys.count - 1;
     let part = keys.part_number(number);
     let tables = NodeFacts::named(Kind::Tables, part, Origin::Tables);
-    let id = mark_key(nodes, parent, keys, number, Role::Element, tables, Holds::Items)?;
+    let id = mark_key(
+        nodes,
+        parent,
+        keys,
+        number,
+        Role::Element,
+        tables,
+        Holds::Items,
+    )?;
     let element = NodeFacts::unnamed(Kind::Table, Origin::Element(statement));
     Ok(add_item(nodes, id, element, Holds::Keys)?)
 }

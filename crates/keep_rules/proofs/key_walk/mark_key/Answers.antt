@@ -1,6 +1,5 @@
 -- The key's text is decoded, and then marked.
 use Rattle.std.proofs.Common.{◌≡◌, ℕ, List, [], ◌∷◌, ◌++◌, ap, ◌∙◌, subst, refl, Err}
-use Rattle.std.specs.Prelude.{OnOk}
 use Rattle.std.proofs.lemmas.Result.{err_from_is_err_and}
 use Rattle.keep_path.specs.Path.{key}
 use Rattle.keep_nodes.specs.Children.{holding}
