@@ -1,5 +1,5 @@
 //! Scalars: the four kinds of strings, and words. (toml.abnf: `val` but for `array` and `inline-table`)
-ghost use Rattle.std.specs.Prelude.{◌≡◌, ℕ, ◌+◌, ◌-◌, ◌<◌, ◌≤◌, length, drop, IfOk, IfErr, IsCharBoundary, MatchResult, Some, None};
+ghost use Rattle.std.specs.Prelude.{◌≡◌, ℕ, ◌+◌, ◌-◌, ◌<◌, ◌≤◌, length, drop, IfOk, IfErr, IsCharBoundary, MatchResult, Some, None, Ok, Err};
 ghost use Rattle.keep_token.specs.declared.leaf.Leaf.{Leaf};
 ghost use Rattle.keep_token.specs.Leaves.{ScalarLeaf};
 ghost use Rattle.keep_token.specs.Scanning.{Scans, scalar_at, moved, are_three};
@@ -19,6 +19,14 @@ fn begins_with_three(bytes: &[u8], mark: u8) -> bool
     byte_at(bytes, 0) == mark && byte_at(bytes, 1) == mark && byte_at(bytes, 2) == mark
 }
 
+// A string of this kind, where its length is found.
+#[inline(always)]
+fn string_of(leaf: Leaf, found: Result<usize, LeafFault>) -> Result<(Leaf, usize), LeafFault>
+    ensures { MatchResult found (λ len. result ≡ Ok (leaf, len)) (λ fault. result ≡ Err fault) }
+{
+    Ok((leaf, found?))
+}
+
 // The scalar at the start, and its length.
 #[tactic(auto, unfolding(crate::specs::Scanning::scalar_at))]
 fn scalar_of(bytes: &[u8], profile: Profile) -> Result<(Leaf, usize), LeafFault>
@@ -29,21 +37,17 @@ fn scalar_of(bytes: &[u8], profile: Profile) -> Result<(Leaf, usize), LeafFault>
     ensures place { IfErr result (λ fault. fault.at ≤ length bytes.now) }
 {
     if begins_with_three(bytes, b'"') {
-        let len = ml_basic_len(bytes, profile)?;
-        return Ok((Leaf::MlBasic, len));
+        return string_of(Leaf::MlBasic, ml_basic_len(bytes, profile));
     }
     if begins_with_three(bytes, b'\'') {
-        let len = ml_literal_len(bytes)?;
-        return Ok((Leaf::MlLiteral, len));
+        return string_of(Leaf::MlLiteral, ml_literal_len(bytes));
     }
     let first = byte_at(bytes, 0);
     if first == b'"' {
-        let len = basic_len(bytes, profile)?;
-        return Ok((Leaf::Basic, len));
+        return string_of(Leaf::Basic, basic_len(bytes, profile));
     }
     if first == b'\'' {
-        let len = literal_len(bytes)?;
-        return Ok((Leaf::Literal, len));
+        return string_of(Leaf::Literal, literal_len(bytes));
     }
     let len = word_len(bytes);
     match word_leaf(&bytes[..len], profile) {
