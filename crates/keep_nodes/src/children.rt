@@ -12,7 +12,7 @@ use std::marker::Model;
 use std::mem;
 
 /// What children a node may have.
-#[derive(Clone, Copy, Debug, PartialEq, Eq)]
+#[derive(Clone, Copy)]
 pub enum Holds {
     /// A scalar: none.
     Nothing,

@@ -6,7 +6,7 @@ use keep_meaning::{Kind, NodeInfo, Origin, Role};
 
 /// Where a node comes from, without the number of the value or statement. In the order of their ranks, so that two are
 /// compared as they are.
-#[derive(Clone, Copy, Debug)]
+#[derive(Clone, Copy)]
 pub enum OriginKind {
     Root,
     Through,
@@ -19,7 +19,7 @@ pub enum OriginKind {
 
 /// The facts about a node so far, beside its path and its children. The number of its place is a field of its own, so
 /// that all fields that are no numbers share one word.
-#[derive(Clone, Copy, Debug)]
+#[derive(Clone, Copy)]
 pub struct NodeFacts {
     /// The role that represents those of the marks here, if there are any.
     pub role: Option<Role>,
