@@ -1,7 +1,9 @@
 //! The children of a node.
-ghost use Rattle.std.specs.Prelude.{◌≡◌, ◌<◌, ◌-◌, ◌∷◌, ◌++◌, [], None, OnOk, IfOk, IfSome, IfNone, length, option_copied, option_map, slice_get, slice_index_or};
+ghost use Rattle.std.specs.Prelude.{◌≡◌, ◌<◌, ◌-◌, ◌∷◌, ◌++◌, [], None, OnOk, IfOk, IfSome, IfNone, bytes_eq, false, length, option_copied, option_map, slice_get, slice_index_or, string_bytes};
+ghost use Rattle.std.specs.Map.{lookup};
 ghost use Rattle.keep_nodes.specs.AllNodes.{and_key, and_item};
-ghost use Rattle.keep_nodes.specs.Children.{holding, no_children, holds_of, named, child_ids, child_named, child_numbered};
+ghost use Rattle.keep_nodes.specs.ChildForms.{children_in};
+ghost use Rattle.keep_nodes.specs.Children.{Keyed, holding, no_children, holds_of, named, child_ids, child_named, child_numbered};
 ghost use Rattle.keep_nodes.specs.Trie.{by_key, by_index};
 
 use crate::few_keys::{FewKeys, MOST_KEYS};
@@ -44,6 +46,84 @@ pub enum Form {
     Keys(Box<KeyMap>),
     /// At an array or an array of tables.
     Items(Box<Vec<usize>>),
+}
+
+impl Form {
+    /// A table's children and one more, by a key that has none yet.
+    fn with_key(
+        self,
+        alloc: Global,
+        seed: Seed,
+        key: String,
+        child: usize,
+    ) -> Result<Form, AllocError>
+        requires holds { holds_of (children_in self) ≡ by_key }
+        requires fresh { child_named (children_in self) (string_bytes key) ≡ None }
+        ensures { IfOk result (λ form. children_in form ≡ and_key (children_in self) (string_bytes key) child) }
+    {
+        match self {
+            Form::NoKeys => Form::one_key(alloc, key, child),
+            Form::OneKey(only) => Form::two_keys(alloc, Box::into_inner(only), key, child),
+            Form::FewKeys(keys) => Form::more_keys(alloc, seed, keys, key, child),
+            Form::Keys(keys) => Form::many_keys(keys, key, child),
+            _ => unreachable!(),
+        }
+    }
+
+    /// One key and its child.
+    fn one_key(alloc: Global, key: String, child: usize) -> Result<Form, AllocError>
+        ensures { IfOk result (λ form. children_in form ≡ Keyed ((string_bytes key, child) ∷ [])) }
+    {
+        let only = OnlyKey { key, child };
+        Ok(Form::OneKey(Box::new(alloc, only)?))
+    }
+
+    /// The only key so far and another one, each with its child.
+    fn two_keys(alloc: Global, only: OnlyKey, key: String, child: usize) -> Result<Form, AllocError>
+        requires { bytes_eq (string_bytes key) (string_bytes only.key) ≡ false }
+        ensures { IfOk result (λ form. children_in form ≡ Keyed ((string_bytes only.key, only.child) ∷ (string_bytes key, child) ∷ [])) }
+    {
+        let keys = FewKeys::two(alloc, (only.key, only.child), (key, child))?;
+        Ok(Form::FewKeys(Box::new(alloc, keys)?))
+    }
+
+    /// A few keys and another one: if they are then too many to compare one after another, in a map.
+    fn more_keys(
+        alloc: Global,
+        seed: Seed,
+        keys: Box<FewKeys>,
+        key: String,
+        child: usize,
+    ) -> Result<Form, AllocError>
+        requires { lookup (bytes_eq (string_bytes key)) keys.value ≡ None }
+        ensures { IfOk result (λ form. children_in form ≡ Keyed (keys.value ++ (string_bytes key, child) ∷ [])) }
+    {
+        if keys.len() < MOST_KEYS {
+            return Form::few_keys(keys, key, child);
+        }
+        let mut map = Box::new(alloc, KeyMap::new(alloc, seed))?;
+        Box::into_inner(keys).move_into(&mut map)?;
+        Form::many_keys(map, key, child)
+    }
+
+    /// A few keys and another one, which are still few.
+    fn few_keys(mut keys: Box<FewKeys>, key: String, child: usize) -> Result<Form, AllocError>
+        requires few { length keys.value < MOST_KEYS }
+        requires fresh { lookup (bytes_eq (string_bytes key)) keys.value ≡ None }
+        ensures { IfOk result (λ form. children_in form ≡ Keyed (keys.value ++ (string_bytes key, child) ∷ [])) }
+    {
+        keys.add(key, child)?;
+        Ok(Form::FewKeys(keys))
+    }
+
+    /// The keys of a map and another one.
+    fn many_keys(mut map: Box<KeyMap>, key: String, child: usize) -> Result<Form, AllocError>
+        requires { lookup (bytes_eq (string_bytes key)) map.value ≡ None }
+        ensures { IfOk result (λ form. children_in form ≡ Keyed (map.value ++ (string_bytes key, child) ∷ [])) }
+    {
+        map.add(key, child)?;
+        Ok(Form::Keys(map))
+    }
 }
 
 /// The children of a node, each by the number of its node, in the order of first meeting.
@@ -100,30 +180,8 @@ impl Children {
         ensures { OnOk result (self.new ≡ and_key self.old text.now child) }
     {
         let key = String::from_str(alloc, text)?;
-        let form = match mem::replace(&mut self.form, Form::NoKeys) {
-            Form::NoKeys => Form::OneKey(Box::new(alloc, OnlyKey { key, child })?),
-            Form::OneKey(only) => {
-                let only = Box::into_inner(only);
-                let keys = FewKeys::two(alloc, (only.key, only.child), (key, child))?;
-                Form::FewKeys(Box::new(alloc, keys)?)
-            }
-            Form::FewKeys(mut keys) => {
-                if keys.len() < MOST_KEYS {
-                    keys.add(key, child)?;
-                    Form::FewKeys(keys)
-                } else {
-                    let mut keys = Box::into_inner(keys).into_map(alloc, seed)?;
-                    keys.add(key, child)?;
-                    Form::Keys(Box::new(alloc, keys)?)
-                }
-            }
-            Form::Keys(mut keys) => {
-                keys.add(key, child)?;
-                Form::Keys(keys)
-            }
-            _ => unreachable!(),
-        };
-        self.form = form;
+        let form = mem::replace(&mut self.form, Form::NoKeys);
+        self.form = form.with_key(alloc, seed, key, child)?;
         Ok(())
     }
 

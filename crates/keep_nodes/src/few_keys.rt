@@ -3,7 +3,6 @@ ghost use Rattle.std.specs.Prelude.{◌≡◌, ◌<◌, ◌≤◌, ◌∷◌, �
 ghost use Rattle.std.specs.Map.{lookup};
 
 use crate::key_map::KeyMap;
-use crate::seed::Seed;
 use std::alloc::{AllocError, Global};
 use std::marker::Model;
 
@@ -89,15 +88,15 @@ impl FewKeys {
         Ok(())
     }
 
-    /// These children as a map.
-    pub fn into_map(self, alloc: Global, seed: Seed) -> Result<KeyMap, AllocError>
-        ensures { IfOk result (λ keys. keys ≡ self) }
+    /// Moves these children into a map that has none yet. If memory runs out, some are lost.
+    pub fn move_into(self, map: &mut KeyMap) -> Result<(), AllocError>
+        requires { map.old ≡ [] }
+        ensures { OnOk result (map.new ≡ self) }
     {
-        let mut keys = KeyMap::new(alloc, seed);
         for (key, child) in self.entries {
-            keys.add(key, child)?;
+            map.add(key, child)?;
         }
-        Ok(keys)
+        Ok(())
     }
 }
 
