@@ -1,20 +1,26 @@
 -- Joining facts in place gives the joined facts.
-use Rattle.std.proofs.Common.{◌≡◌, ℕ, ◌+◌, ◌-◌, ◌^◌, Bool, true, false, cond, ◌||◌, ◌&&◌, ◌==◌, Option, Some, None, refl, arith}
+use Rattle.std.proofs.Common.{◌≡◌, ℕ, ◌+◌, ◌-◌, ◌^◌, Bool, true, false, cond, ◌&&◌, ◌==◌, Option, Some, None, refl, arith}
 use Rattle.std.proofs.lemmas.Bool.Decides.{nat_tests}
 use Rattle.std.specs.Prelude.{min, nat_le}
-use Rattle.keep_meaning.specs.declared.node.Kind.{Kind}
 use Rattle.keep_meaning.specs.declared.role.Role.{Role}
-use Rattle.keep_nodes.specs.declared.facts.OriginKind.{OriginKind}
 use Rattle.keep_nodes.specs.declared.facts.NodeFacts.{NodeFacts}
+use Rattle.keep_nodes.specs.declared.packed.Form.TheVariants.{Packed}
+use Rattle.keep_nodes.specs.Packed.{facts_in, short_facts, joined_short}
 use Rattle.keep_nodes.specs.Facts.{later_kind, rank, origin_of, joined_facts, joined_info, info_of}
 
--- the joined facts, where two tests say whether no key part named the node yet, and whether the later place is stored
-pub joined_in_place : (old more : NodeFacts) (role : Option Role) (kind : Kind) (marks : ℕ) → kind ≡ later_kind old.kind more.kind → marks ≡ min (old.marks + more.marks) (2 ^ 64 - 1)
-    → (origin : OriginKind) (key number : ℕ) (first later : Bool) → (old.marks == 0) ≡ first → nat_le (rank (origin_of old.origin old.number)) (rank (origin_of more.origin more.number)) ≡ later
-    → origin ≡ cond later more.origin old.origin → key ≡ cond first more.key old.key → number ≡ cond later more.number old.number
-    → record { role = role; kind = kind; passed = old.passed || more.passed; origin = origin; marks = marks; key = key; number = number } ≡ record (joined_facts old more) { role = role }
-joined_in_place old more role kind marks kinds sum origin key number first true is_first is_later places keys numbers = rw (is_first, is_later, kinds, sum, places, keys, numbers) refl
-joined_in_place old more role kind marks kinds sum origin key number first false is_first is_later places keys numbers = rw (is_first, is_later, kinds, sum, places, keys, numbers) refl
+later_origin : (old more : NodeFacts) (later : Bool) → (cond later (short_facts more) (short_facts old)).origin ≡ (cond later more old).origin
+later_origin old more true = refl
+later_origin old more false = refl
+
+later_number : (old more : NodeFacts) (later : Bool) → (cond later (short_facts more) (short_facts old)).number ≡ (cond later more old).number
+later_number old more true = refl
+later_number old more false = refl
+
+-- the form that is written in place holds the joined facts
+pub joined_in_place : (old more : NodeFacts) (role : Option Role) → facts_in (Packed role (later_kind old.kind more.kind) (joined_short (short_facts old) (short_facts more))) ≡ record (joined_facts old more) { role = role }
+joined_in_place old more role =
+    let later : Bool = nat_le (rank (origin_of old.origin old.number)) (rank (origin_of more.origin more.number)) in
+    rw (later_origin old more later, later_number old more later) refl
 
 -- ---- the joined facts as the callers of the library see them
 

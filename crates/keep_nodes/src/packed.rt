@@ -1,6 +1,6 @@
 //! The facts about a node, in as few bytes as its numbers allow.
 ghost use Rattle.std.specs.Prelude.{◌≡◌, IfNone, IfOk, IfSome, None, OnOk};
-ghost use Rattle.keep_nodes.specs.Packed.{Fits, facts_in};
+ghost use Rattle.keep_nodes.specs.Packed.{Fits, facts_in, short_facts, joined_short};
 ghost use Rattle.keep_nodes.specs.Facts.{joined_facts};
 
 use crate::facts::{NodeFacts, OriginKind, later_kind, yields_to};
@@ -8,17 +8,24 @@ use keep_meaning::{Kind, Role};
 use std::alloc::{AllocError, Global};
 use std::marker::Model;
 
+/// The facts about a node but for its role and kind, with shorter numbers: in 12 bytes, so that the role and the kind
+/// fit beside them into 16.
+#[derive(Clone, Copy)]
+pub struct ShortFacts {
+    passed: bool,
+    origin: OriginKind,
+    marks: u16,
+    key: u32,
+    number: u32,
+}
+
 /// The two forms of the facts. The packed one stores shorter numbers.
 #[derive(Drop)]
 pub enum Form {
     Packed {
         role: Option<Role>,
         kind: Kind,
-        passed: bool,
-        origin: OriginKind,
-        marks: u16,
-        key: u32,
-        number: u32,
+        short: ShortFacts,
     },
     Boxed(Box<NodeFacts>),
 }
@@ -39,19 +46,59 @@ impl Model for PackedFacts {
     ghost view = { λ packed. facts_in packed.form };
 }
 
+impl ShortFacts {
+    /// These facts, if their numbers fit.
+    fn of(facts: &NodeFacts) -> Option<ShortFacts>
+        ensures short { IfSome result (λ short. short ≡ short_facts facts.now) }
+        ensures large { result ≡ None → Fits facts.now → ⊥ }
+    {
+        let Ok(marks) = u16::try_from(facts.marks) else {
+            return None;
+        };
+        let Ok(key) = u32::try_from(facts.key) else {
+            return None;
+        };
+        let Ok(number) = u32::try_from(facts.number) else {
+            return None;
+        };
+        Some(ShortFacts {
+            passed: facts.passed,
+            origin: facts.origin,
+            marks,
+            key,
+            number,
+        })
+    }
+
+    /// These facts joined with those from one more mention of the node, if the number of marks still fits.
+    fn joined_with(self, more: ShortFacts) -> Option<ShortFacts>
+        ensures { IfSome result (λ short. short ≡ joined_short self more) }
+    {
+        let later = if yields_to(self.origin, more.origin) {
+            more
+        } else {
+            self
+        };
+        Some(ShortFacts {
+            passed: self.passed || more.passed,
+            origin: later.origin,
+            marks: self.marks.checked_add(more.marks)?,
+            key: if self.marks == 0 { more.key } else { self.key },
+            number: later.number,
+        })
+    }
+}
+
 /// The packed form, if the numbers fit.
 fn packed_form(facts: &NodeFacts) -> Option<Form>
     ensures packed { IfSome result (λ form. facts_in form ≡ facts.now) }
     ensures large { result ≡ None → Fits facts.now → ⊥ }
 {
+    let short = ShortFacts::of(facts)?;
     Some(Form::Packed {
         role: facts.role,
         kind: facts.kind,
-        passed: facts.passed,
-        origin: facts.origin,
-        marks: u16::try_from(facts.marks).ok()?,
-        key: u32::try_from(facts.key).ok()?,
-        number: u32::try_from(facts.number).ok()?,
+        short,
     })
 }
 
@@ -72,22 +119,14 @@ impl PackedFacts {
         ensures { result ≡ self.now }
     {
         match &self.form {
-            Form::Packed {
-                role,
-                kind,
-                passed,
-                origin,
-                marks,
-                key,
-                number,
-            } => NodeFacts {
+            Form::Packed { role, kind, short } => NodeFacts {
                 role: *role,
                 kind: *kind,
-                passed: *passed,
-                origin: *origin,
-                marks: *marks as usize,
-                key: *key as usize,
-                number: *number as usize,
+                passed: short.passed,
+                origin: short.origin,
+                marks: short.marks as usize,
+                key: short.key as usize,
+                number: short.number as usize,
             },
             Form::Boxed(facts) => **facts,
         }
@@ -109,44 +148,27 @@ impl PackedFacts {
         }
     }
 
-    /// Joins further facts in the packed form, of which only the fields that change are written; None, if a number does
-    /// not fit: then nothing is changed.
+    /// Joins further facts in the packed form, in place; None, if a number does not fit: then nothing is changed.
     fn join_packed(&mut self, role: Option<Role>, more: &NodeFacts) -> Option<()>
         ensures facts { IfSome result (λ _. self.new ≡ record (joined_facts self.old more.now) { role = role }) }
         ensures unchanged { IfNone result (self.new ≡ self.old) }
     {
+        let more_short = ShortFacts::of(more)?;
         let Form::Packed {
             role: state,
             kind,
-            passed,
-            origin,
-            marks,
-            key,
-            number,
+            short,
         } = &mut self.form
         else {
             return None;
         };
-        let sum = marks.checked_add(u16::try_from(more.marks).ok()?)?;
-        let first_key = if *marks == 0 {
-            u32::try_from(more.key).ok()?
-        } else {
-            *key
-        };
-        if yields_to(*origin, more.origin) {
-            *number = u32::try_from(more.number).ok()?;
-            *origin = more.origin;
-        }
-        *key = first_key;
+        *short = short.joined_with(more_short)?;
         *state = role;
         *kind = later_kind(*kind, more.kind);
-        *passed |= more.passed;
-        *marks = sum;
         Some(())
     }
 
-    /// Joins further facts by unpacking these, and writes them into the box if there is one. A function of its own,
-    /// since it is rare.
+    /// Joins further facts by unpacking these. A function of its own, since it is rare.
     #[inline(never)]
     fn join_unpacked(
         &mut self,
@@ -156,14 +178,18 @@ impl PackedFacts {
     ) -> Result<(), AllocError>
         ensures { OnOk result (self.new ≡ record (joined_facts self.old more) { role = role }) }
     {
-        let facts = NodeFacts {
-            role,
-            ..self.unpack().joined_with(more)
-        };
-        if let Form::Boxed(packed) = &mut self.form {
-            **packed = facts;
+        let joined = self.unpack().joined_with(more);
+        self.set(alloc, NodeFacts { role, ..joined })
+    }
+
+    /// Stores these facts in place of the old ones, in the box if there is one.
+    fn set(&mut self, alloc: Global, facts: NodeFacts) -> Result<(), AllocError>
+        ensures { OnOk result (self.new ≡ facts) }
+    {
+        if let Form::Boxed(old) = &mut self.form {
+            **old = facts;
         } else {
-            self.form = PackedFacts::of(alloc, facts)?.form;
+            *self = PackedFacts::of(alloc, facts)?;
         }
         Ok(())
     }
