@@ -24,6 +24,19 @@ pub struct Node {
     facts: PackedFacts,
 }
 
+impl Node {
+    /// A node with no children.
+    #[inline(always)]
+    fn new(alloc: Global, facts: NodeFacts, holds: Holds) -> Result<Node, AllocError>
+        ensures children { IfOk result (λ node. node.children ≡ no_children (holding holds)) }
+        ensures facts { IfOk result (λ node. node.facts ≡ facts) }
+    {
+        let facts = PackedFacts::of(alloc, facts)?;
+        let children = Children::none(alloc, holds)?;
+        Ok(Node { children, facts })
+    }
+}
+
 /// All nodes. Their parent links are stored in a separate vector, since marks and look-ups never ask for them; the
 /// root's link is never followed.
 #[derive(Drop)]
@@ -163,11 +176,10 @@ impl Nodes {
         ensures { OnOk result (self.new.items ≡ self.old.items ++ record { parent = parent; number = number; children = no_children (holding holds); facts = facts } ∷ []) }
     {
         let alloc = self.allocator();
-        let children = Children::none(alloc, holds)?;
-        let facts = PackedFacts::of(alloc, facts)?;
         self.list.reserve(1)?;
+        let node = Node::new(alloc, facts, holds)?;
         self.links.push(ParentLink { parent, number })?;
-        self.list.push_reserved(Node { children, facts });
+        self.list.push_reserved(node);
         Ok(())
     }
 
