@@ -1,5 +1,4 @@
 use Rattle.std.proofs.Common.{◌∙◌, ap, arith}
-use Rattle.std.proofs.lemmas.List.{length-set}
 use Rattle.indexmap.proofs.MapLemmas.{OnOk-map}
 use Rattle.keep_nodes.specs.AllNodes.{with_facts}
 use Rattle.keep_nodes.specs.declared.facts.NodeFacts.{NodeFacts}
