@@ -3,24 +3,44 @@
 
     tests/gate.py REPORT rt ci
 
+Where there is memory for it, the gate is made shorter in two ways. Neither changes what it proves and tries, and its
+status alone counts:
+
+- `rt ci` reckons that a check takes 3 to 10 GB, and leaves processors idle where these do not fit: with 24 GB and four
+  processors mostly one of them. No check takes 3 GB here, so RT_JOBS tells it to give each processor a task.
+- A crate is proved over those below it, so no run is shorter than that chain of proofs, and in it each proof gets one
+  processor, since edits take the others. So a second `rt ci` begins at the same time, over a copy of the crates without
+  edits: it proves the chain, by two processors. The gate itself steps back behind it. It takes each proof from there as
+  soon as it is made (rt keeps what a run proved on this machine, by the checksums of all that it read), and tries the
+  edits meanwhile.
+
 The report tells for each task (the proof, the tests and the edits of a crate) the minutes of processor and of the
 clock, the five dearest edits, and the minutes of the whole. `rt ci` tells no times, so they are sampled: each process
-of the prover is known by the folder that it works in, that of its crate or that of an edited copy. The status is that
-of the gate; a sampling that fails changes nothing of it.
+of the prover is known by the folder that it works in, that of its crate or that of an edited copy. A sampling that
+fails changes nothing of the status.
 """
+import contextlib
 import hashlib
 import os
 import re
+import shutil
+import signal
 import subprocess
 import sys
 import threading
 import time
 from collections import defaultdict
 from pathlib import Path
+from tempfile import TemporaryDirectory
 
 ROOT = Path(__file__).resolve().parent.parent
 TICKS = os.sysconf("SC_CLK_TCK")
 STEP = 0.25
+# The free memory, in bytes, with which a check surely ends; how many checks the second run makes at once; and how far
+# the gate steps back behind it.
+MEMORY_OF_A_CHECK = 3_000_000_000
+CHECKS_AHEAD = 2
+NICE = 10
 
 
 def edit_texts():
@@ -42,11 +62,11 @@ def edit_texts():
 
 
 class Sampler(threading.Thread):
-    """Looks at the processes below one, and sums the time of each prover under the task that it works for."""
+    """Looks at the processes below some, and sums the time of each prover under the task that it works for."""
 
-    def __init__(self, top):
+    def __init__(self, tops):
         super().__init__(daemon=True)
-        self.top, self.texts, self.seen, self.known = top, edit_texts(), {}, {}
+        self.tops, self.texts, self.seen, self.known = tops, edit_texts(), {}, {}
         self.is_over = threading.Event()
 
     def run(self):
@@ -66,7 +86,7 @@ class Sampler(threading.Thread):
                     continue
                 parents[int(name)] = int(fields[1])
                 times[int(name)] = (fields[19], (int(fields[11]) + int(fields[12])) / TICKS)
-        below = {self.top}
+        below = set(self.tops)
         while more := {pid for pid, parent in parents.items() if parent in below} - below:
             below |= more
         for pid in below & parents.keys():
@@ -130,14 +150,60 @@ def count_of(line):
     return (int(found[1]), int(found[2])) if found else (0, 1)
 
 
+def has_memory_for(checks):
+    found = re.search(r"^MemAvailable:\s+(\d+) kB$", Path("/proc/meminfo").read_text(), re.M)
+    return bool(found) and 1024 * int(found[1]) >= checks * MEMORY_OF_A_CHECK
+
+
+def in_all_lanes(processors):
+    """The environment in which `rt ci` gives each processor a task."""
+    return {**os.environ, "RT_JOBS": os.environ.get("RT_JOBS", str(processors))}
+
+
+@contextlib.contextmanager
+def proving_ahead(command):
+    """Has the crates proved over a copy without their edits, and gives the process. It ends with the gate, which tries
+    again, and tells, what fails there."""
+    with TemporaryDirectory(prefix="keep-toml-proofs-") as copy, contextlib.ExitStack() as over:
+        shutil.copytree(ROOT / "crates", f"{copy}/crates", ignore=shutil.ignore_patterns("must-fail", "out"))
+        for name in ("crates.txt", "HANDLES"):
+            shutil.copy(ROOT / name, copy)
+        nowhere = dict.fromkeys(("stdin", "stdout", "stderr"), subprocess.DEVNULL)
+        ahead = over.enter_context(subprocess.Popen(command, cwd=copy, start_new_session=True, **nowhere))
+        over.callback(end, ahead)
+        yield ahead
+
+
+def end(ran):
+    """Ends a process and all that it began, if it still runs."""
+    if ran.poll() is None:
+        with contextlib.suppress(OSError):
+            os.killpg(ran.pid, signal.SIGTERM)
+
+
+def begun(command, over):
+    """The gate, and the runs beside it."""
+    processors = len(os.sched_getaffinity(0))
+    how = {"cwd": ROOT, "stdout": subprocess.PIPE, "text": True, "errors": "replace"}
+    if not has_memory_for(processors + CHECKS_AHEAD):
+        return subprocess.Popen(command, **how), []
+    ahead = over.enter_context(proving_ahead(command))
+    print("the crates are proved ahead, over a copy without their edits, and taken from there as kept", flush=True)
+    how["env"], how["preexec_fn"] = in_all_lanes(processors), lambda: os.nice(NICE)
+    return subprocess.Popen(command, **how), [ahead]
+
+
 def main(report, *command):
     start, line = time.time(), ""
-    ran = subprocess.Popen(command, cwd=ROOT, stdout=subprocess.PIPE, text=True, errors="replace")
-    sampler = Sampler(ran.pid)
-    sampler.start()
-    for line in ran.stdout:
-        print(f"[{(time.time() - start) / 60:5.1f}] {line}", end="", flush=True)
-    status = ran.wait()
+    # (an exit ends what was begun; a signal's own end would not)
+    signal.signal(signal.SIGTERM, lambda number, _: sys.exit(128 + number))
+    with contextlib.ExitStack() as over:
+        ran, ahead = begun(command, over)
+        sampler = Sampler([it.pid for it in (ran, *ahead)])
+        sampler.start()
+        for line in ran.stdout:
+            print(f"[{(time.time() - start) / 60:5.1f}] {line}", end="", flush=True)
+        status = ran.wait()
     sampler.is_over.set()
     sampler.join(timeout=10)
     text = report_of(dict(sampler.seen), time.time() - start)
