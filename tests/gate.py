@@ -36,10 +36,11 @@ from tempfile import TemporaryDirectory
 ROOT = Path(__file__).resolve().parent.parent
 TICKS = os.sysconf("SC_CLK_TCK")
 STEP = 0.25
-# The free memory, in bytes, with which a check surely ends; how many checks the second run makes at once; and how far
-# the gate steps back behind it.
+# The free memory, in bytes, with which a check surely ends; how many checks the second run makes at once; how many
+# seconds it has to begin; and how far the gate steps back behind it.
 MEMORY_OF_A_CHECK = 3_000_000_000
 CHECKS_AHEAD = 2
+SECONDS_TO_BEGIN = 10
 NICE = 10
 
 
@@ -171,6 +172,8 @@ def proving_ahead(command):
         nowhere = dict.fromkeys(("stdin", "stdout", "stderr"), subprocess.DEVNULL)
         ahead = over.enter_context(subprocess.Popen(command, cwd=copy, start_new_session=True, **nowhere))
         over.callback(end, ahead)
+        # of two runs the one that comes first to a crate proves it
+        time.sleep(SECONDS_TO_BEGIN)
         yield ahead
 
 
