@@ -6,8 +6,8 @@
 Where there is memory for it, the gate is made shorter in two ways. Neither changes what it proves and tries, and its
 status alone counts:
 
-- `rt ci` reckons that a check takes 3 to 10 GB, and leaves processors idle where these do not fit: with 24 GB and four
-  processors mostly one of them. No check takes 3 GB here, so RT_JOBS tells it to give each processor a task.
+- `rt ci` reckons that a check takes 3 to 10 GB, and leaves processors idle where these do not fit. Four edits of
+  keep_syntax do not fit into 24 GB so. No check took 3 GB here, so RT_JOBS tells it to give each processor a task.
 - A crate is proved over those below it, so no run is shorter than that chain of proofs, and in it each proof gets one
   processor, since edits take the others. So a second `rt ci` begins at the same time, over a copy of the crates without
   edits: it proves the chain, by two processors. The gate itself steps back behind it. It takes each proof from there as
