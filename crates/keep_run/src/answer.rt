@@ -138,11 +138,14 @@ fn text_after_edits(document: Document, edits: &[Edit]) -> Result<String, RunFau
     for index in 0..last {
         match changed.apply(&edits[index]) {
             Ok(_) => {}
-            Err(fault) => return Err(of_edit(index, fault)),
+            Err(fault) => {
+                mem::forget(changed);
+                return Err(of_edit(index, fault));
+            }
         }
     }
     let text = changed.text_applied(&edits[last]);
-    // As in `answer`: the program ends with its answer.
+    // As in `answer`, here and above: the program ends with its answer.
     mem::forget(changed);
     match text {
         Ok(text) => Ok(text),
