@@ -1,0 +1,240 @@
+#!/usr/bin/env python3
+"""Tries the must-fail edits, wrong bodies and wrong definitions that the prover has to refuse, many in one check.
+
+    tests/edits.py [NAME..]         the edits of these crates (none: of all), over the libraries that `rt check` built here
+
+An edit is a file with the lines that `rt must-fail` reads, and a line `# refused in: FUNCTION`: the function, by its path in
+the crate, whose contract the edit breaks. A function is proved by the contracts of those that it calls, whatever their
+bodies. So edits of the bodies of different functions are made in one copy of the crate, one for each function, and one
+check proves these functions alone (`rattle check --only`). An edit is refused there if a goal of its function is. Where all
+that is said of a function is that it calls another which is not proved, its edit is tried again, without that other's. An
+edit outside of its function's body (a table, a constant) has a check of its own.
+
+An edit without that line is of a definition or a proof, on which much may rest. It is made alone, and the whole crate is
+checked.
+
+The checks of a crate begin with what those before them kept of the same texts, and the first with nothing. That each
+crate is proved as it stands is shown by the gate.
+"""
+import os
+import re
+import shutil
+import subprocess
+import sys
+import time
+from concurrent.futures import ThreadPoolExecutor
+from dataclasses import dataclass
+from pathlib import Path
+from tempfile import TemporaryDirectory
+
+from quick import crates
+
+ROOT = Path(__file__).resolve().parent.parent
+PARTS = ("src", "specs", "proofs")
+FUNCTION = "# refused in: "
+# A function's name, or the end of an item.
+FN_OR_END = re.compile(r"^ *(?:pub(?:\([a-z ]+\))? )?(?:const )?(?:unsafe )?fn (\w+)|^}", re.M)
+# What the prover says of a function that calls one which it refused, of one of which it could not prove a goal, and where a
+# proof names what is no longer there.
+CALLS = re.compile(r"it calls .*not proved")
+UNPROVED = re.compile(r"^no proof: expected answers in .*`search` did not prove `")
+NO_NAME = re.compile(r"\./proofs/.*(has no field|is not in scope|has no `|was not admitted)")
+
+
+@dataclass(frozen=True)
+class Edit:
+    """The changes that an edit makes to texts of its crate: of each file's text, what stands there once and what instead."""
+
+    crate: str
+    name: str
+    changes: tuple
+    function: str
+
+    def made_in(self, folder, texts):
+        """These texts, by path, with the edit's made in them too; None where it can't be made beside them."""
+        texts = dict(texts)
+        for path, old, new in self.changes:
+            text = texts[path] if path in texts else (folder / path).read_text(encoding="utf-8")
+            if text.count(old) != 1:
+                return None
+            texts[path] = text.replace(old, new)
+        return texts
+
+    def is_of_the_body(self, folder):
+        """Whether all that is changed stands in the body of the function."""
+        name = self.function.rpartition("::")[2]
+        for path, old, _ in self.changes:
+            before = (folder / path).read_text(encoding="utf-8").partition(old)[0]
+            *_, found = [None, *FN_OR_END.finditer(before)]
+            # (a body begins at the first line that ends with a bracket; no clause of a contract has one)
+            if not found or found[1] != name or not re.search(r"\{$", before[found.end() :], re.M):
+                return False
+        return True
+
+
+def read_edit(file):
+    changes, path, old, function = [], "", "", ""
+    for line in file.read_text(encoding="utf-8").split("\n"):
+        if line.startswith("file: "):
+            path = line[6:].strip()
+        elif line.startswith("old: "):
+            old = line[5:]
+        elif line.startswith("new:"):
+            changes.append((path, old, line[4:].removeprefix(" ")))
+        elif line.startswith(FUNCTION):
+            function = line.removeprefix(FUNCTION).strip()
+    return Edit(file.parent.parent.name, file.stem, tuple(changes), function)
+
+
+def edits_of(crate):
+    return [read_edit(it) for it in sorted((ROOT / "crates" / crate / "must-fail").glob("*.edit"))]
+
+
+@dataclass
+class Tried:
+    """What became of an edit: whether the prover refused it, and what it said."""
+
+    edit: Edit
+    is_refused: bool
+    why: str
+
+    def __str__(self):
+        where = f" in {self.edit.function}" if self.edit.function else ""
+        what = f"refused{where}: " if self.is_refused else "NOT REFUSED: "
+        return f"must-fail {self.edit.crate}/{self.edit.name}: {what}{self.why[:200]}"
+
+
+class Checks:
+    """The checks of one crate with edits, over the libraries that are built below a folder."""
+
+    def __init__(self, crate, built, room):
+        self.crate, self.folder, self.room = crate, ROOT / "crates" / crate, Path(room)
+        self.words, self.count, self.seconds = words_for(crate, built), 0, 0.0
+
+    def run(self, texts, *words):
+        """The status and the lines of a check of the crate with these texts."""
+        with TemporaryDirectory(prefix="copy-", dir=self.room) as copy:
+            for part in PARTS:
+                if (self.folder / part).is_dir():
+                    shutil.copytree(self.folder / part, f"{copy}/{part}")
+            for path, text in texts.items():
+                Path(copy, path).write_text(text, encoding="utf-8")
+            how = {"cwd": copy, "stdin": subprocess.DEVNULL, "stdout": subprocess.PIPE, "stderr": subprocess.STDOUT}
+            ran = subprocess.Popen([*self.words, "--incremental", f"{self.room}/kept", *words], text=True, errors="replace", **how)
+            said = ran.stdout.read().rstrip("\n").split("\n")
+            _, status, used = os.wait4(ran.pid, 0)
+        ran.returncode = os.waitstatus_to_exitcode(status)
+        self.count, self.seconds = self.count + 1, self.seconds + used.ru_utime + used.ru_stime
+        return ran.returncode, said
+
+    def together(self, edits):
+        """Of each edit of a body what became of it; None where another edit keeps it from being told."""
+        texts = {}
+        for edit in edits:
+            texts = edit.made_in(self.folder, texts)
+        asked = [word for edit in edits for word in ("--only", edit.function)]
+        _, said = self.run(texts, *asked)
+        return [self.told(edit, said, len(edits) == 1) for edit in edits]
+
+    def told(self, edit, said, is_alone):
+        """What a check says of an edit's function."""
+        begin = f"fn {self.crate}::{edit.function}: "
+        line = next((it.removeprefix(begin) for it in said if it.startswith(begin)), None)
+        if line is None or not said[-1].startswith("only="):
+            return Tried(edit, False, f"no check of its function: {first_error(said)}") if is_alone else None
+        if line == "proved":
+            return Tried(edit, False, "its function is proved with it")
+        place = f"./proofs/{edit.function.replace('::', '/')}/"
+        errors = [it for it in said if ": error: `" in it and (is_alone or it.startswith(place))]
+        own = next((it for it in errors if not NO_NAME.match(it)), line if UNPROVED.match(line) else None)
+        if own and not (is_alone and CALLS.search(line)):
+            return Tried(edit, True, own)
+        if not is_alone and CALLS.search(line):
+            return None
+        if errors and line.startswith("not proved"):
+            return Tried(edit, True, f"(only because a proof names what the edit took away) {errors[0]}")
+        return Tried(edit, False, line) if is_alone else None
+
+    def alone(self, edit):
+        """What becomes of the crate with an edit."""
+        texts = edit.made_in(self.folder, {})
+        if texts is None:
+            return Tried(edit, False, "it can't be made")
+        if edit.function:
+            return self.together([edit])[0]
+        status, said = self.run(texts)
+        is_refused = status == 1 and said[-1].startswith("logic=not-proved")
+        return Tried(edit, is_refused, first_error(said) if status else "the crate is proved with it")
+
+
+def first_error(said):
+    return next((it for it in said if re.match(r"\S+:\d+:\d+: error", it)), said[-1])
+
+
+def words_for(crate, built):
+    """The words of a check of a crate over the libraries below a folder, as `rt` gives them."""
+    kit = Path(os.path.realpath(shutil.which("rt"))).parent.parent
+    own, below = crates(), []
+    ways = [crate]
+    while ways:
+        more = [it for it in own[ways.pop()] if it not in below]
+        below, ways = below + more, ways + more
+    named = re.search(rf"^{crate}:([^#\n]*)", (ROOT / "crates.txt").read_text(), re.M)[1].split()
+    words = ["setpriv", "--pdeathsig", "TERM", "nice", "-n", "10", f"{kit}/bin/rattle", "check", "--crate-name", crate, "src/lib.rt"]
+    for name in ["std", *(it for it in named if it not in own)]:
+        words += ["--extern", f"{name}={kit}/rlibs/{name}.rlib"]
+    words += ["-L", f"dependency={kit}/rlibs"]
+    for name in below:
+        rlib = Path(built, "crates", name, "out/rlib")
+        words += ["--extern", f"{name}={rlib}/{name}.rlib"] if name in own[crate] else []
+        words += ["-L", f"dependency={rlib}"]
+    words += ["--antt-project", f"{kit}/rattle/logic/antt-project.json", "--logic-built", f"{kit}/logic_built"]
+    return [*words, "--links", f"{crate}=", "--jobs", "1"]
+
+
+def picked(folder, left):
+    """Of the edits that are left those for the next check: one for each function, as many as can be made in one copy."""
+    chosen, texts = [], {}
+    for edit in left:
+        if edit.function in [it.function for it in chosen] or not edit.is_of_the_body(folder):
+            continue
+        made = edit.made_in(folder, texts)
+        if made is not None:
+            chosen, texts = [*chosen, edit], made
+    return chosen
+
+
+def tried(crate, built):
+    """Tries the edits of a crate, and gives what became of each, the number of checks, and their seconds of processor."""
+    with TemporaryDirectory(prefix="keep-toml-edits-") as room:
+        checks, results = Checks(crate, built, room), {}
+        left = [it for it in edits_of(crate) if it.function]
+        while chosen := picked(checks.folder, left):
+            told = {it.edit: it for it in checks.together(chosen) if it}
+            results.update(told or {chosen[0]: checks.alone(chosen[0])})
+            left = [it for it in left if it not in results]
+        for edit in [*left, *(it for it in edits_of(crate) if not it.function)]:
+            results[edit] = checks.alone(edit)
+        return [results[it] for it in edits_of(crate)], checks.count, checks.seconds
+
+
+def say_tried(crate, built):
+    """Tries the edits of a crate and says what became of them; gives what was refused, what was not, and the seconds."""
+    start = time.time()
+    results, checks, seconds = tried(crate, built)
+    refused = sum(it.is_refused for it in results)
+    minutes = f"{(time.time() - start) / 60:.1f} minutes, {seconds / 60:.1f} of processor"
+    print(*results, f"{crate}: {refused} of its {len(results)} edits refused, in {checks} checks, {minutes}", sep="\n", flush=True)
+    return refused, len(results) - refused, seconds, time.time() - start
+
+
+def main(*names):
+    with ThreadPoolExecutor(len(os.sched_getaffinity(0))) as pool:
+        done = list(pool.map(lambda it: say_tried(it, ROOT), names or [it for it in crates() if edits_of(it)]))
+    refused, missed = sum(it[0] for it in done), sum(it[1] for it in done)
+    print(f"edits: {refused} passed, {missed} failed")
+    return missed > 0
+
+
+if __name__ == "__main__":
+    sys.exit(main(*sys.argv[1:]))
