@@ -1,0 +1,50 @@
+//! Answers rows about reading, from tokens to the index: a line of standard input has a name, the answer that is
+//! wanted, a question and its words. A row with another answer is printed, and then how many rows passed and failed; the
+//! status is 1 if one failed. The rows in the file `stdin` come from outside: no answer in them was taken from this program.
+#![tactic(auto)]
+
+mod index;
+mod leaves;
+mod lines;
+mod syntax;
+
+use keep_row::{Answer, Row, Verdict, unknown, verdict_of};
+use std::alloc::Global;
+use std::io;
+use std::io::{BufRead, BufReader};
+use std::process::ExitCode;
+
+fn main(rt: HostRuntime) -> io::Result<ExitCode> {
+    let mut passed = 0u64;
+    let mut failed = 0u64;
+    for line in BufReader::new(rt.alloc(), rt.stdin())?.lines(rt.alloc()) {
+        match failure_of(rt.alloc(), line?.as_str())? {
+            Verdict::NoRow => {}
+            Verdict::Passed => passed = passed.saturating_add(1),
+            Verdict::Failed(text) => {
+                failed = failed.saturating_add(1);
+                println!(rt; "{text}")?;
+            }
+        }
+    }
+    println!(rt; "{passed} passed, {failed} failed")?;
+    Ok(ExitCode::from(u8::from(failed > 0)))
+}
+
+fn failure_of(alloc: Global, line: &str) -> io::Result<Verdict> {
+    if line.is_empty() || line.starts_with('#') {
+        return Ok(Verdict::NoRow);
+    }
+    let row = Row::read(alloc, line)?;
+    Ok(verdict_of(alloc, &row, answer(alloc, &row))?)
+}
+
+fn answer(alloc: Global, row: &Row) -> Answer {
+    match row.group() {
+        "leaf" => leaves::answer(alloc, row),
+        "syntax" => syntax::answer(alloc, row),
+        "lines" => lines::answer(alloc, row),
+        "index" => index::answer(alloc, row),
+        _ => unknown(alloc),
+    }
+}
