@@ -180,7 +180,7 @@ def words_for(crate, built):
         more = [it for it in own[ways.pop()] if it not in below]
         below, ways = below + more, ways + more
     named = re.search(rf"^{crate}:([^#\n]*)", (ROOT / "crates.txt").read_text(), re.M)[1].split()
-    words = ["setpriv", "--pdeathsig", "TERM", "nice", "-n", "10", f"{kit}/bin/rattle", "check", "--crate-name", crate, "src/lib.rt"]
+    words = ["setpriv", "--pdeathsig", "TERM", "nice", "-n", "19", f"{kit}/bin/rattle", "check", "--crate-name", crate, "src/lib.rt"]
     for name in ["std", *(it for it in named if it not in own)]:
         words += ["--extern", f"{name}={kit}/rlibs/{name}.rlib"]
     words += ["-L", f"dependency={kit}/rlibs"]
