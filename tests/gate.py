@@ -13,6 +13,7 @@ edits of a crate) the minutes of processor and of the clock, and the minutes of 
 are sampled: each process of the prover is known by the folder that it works in. A sampling that fails changes nothing of
 the status.
 """
+import contextlib
 import os
 import re
 import shutil
@@ -153,13 +154,19 @@ def count_of(line):
     return (int(found[1]), int(found[2])) if found else (0, 1)
 
 
+def stopped(ran, number):
+    """Ends `rt ci` and the gate with it; the checks of edits end with the gate."""
+    with contextlib.suppress(ProcessLookupError):
+        os.killpg(ran.pid, signal.SIGTERM)
+    os._exit(128 + number)
+
+
 def run(command, copy, start):
     """Runs `rt ci` over the copy, and the edits beside it; gives its status and last line, the edits' results, and the tasks."""
     line, edits = "", Edits(copy)
     how = {"stdout": subprocess.PIPE, "stderr": subprocess.STDOUT, "text": True, "errors": "replace"}
     with subprocess.Popen(command, cwd=copy, start_new_session=True, **how) as ran:
-        # (an exit ends what was begun; a signal's own end would not)
-        signal.signal(signal.SIGTERM, lambda number, _: (os.killpg(ran.pid, signal.SIGTERM), os._exit(128 + number)))
+        signal.signal(signal.SIGTERM, lambda number, _: stopped(ran, number))
         sampler = Sampler(ran.pid)
         sampler.start()
         edits.begin()
