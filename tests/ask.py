@@ -1,5 +1,4 @@
-"""How the tests ask the programs that were built: the program itself by words and an input, and keep_rows by rows; those about
-reading, from tokens to the index, are answered by keep_reading_rows beside it.
+"""How the tests ask the programs that were built: the program itself by words and an input, and keep_rows by rows.
 
 In a cell of a file of rows \\n, \\r, \\t and \\\\ stand for those bytes, \\xHH for a byte by two hexadecimal digits,
 and \\e for nothing (an empty word).
@@ -10,16 +9,12 @@ import subprocess
 import sys
 from concurrent.futures import ThreadPoolExecutor
 from dataclasses import dataclass
-from pathlib import Path
 
 ESCAPES = {b"n": b"\n", b"r": b"\r", b"t": b"\t", b"\\": b"\\", b"e": b""}
 WRITTEN = {byte: b"\\" + letter for letter, byte in ESCAPES.items() if byte}
 # How keep_rows prints an answer: Rust's form of a text between quotation marks.
 PRINTED = {"n": "\n", "r": "\r", "t": "\t", "0": "\0", "\\": "\\", '"': '"', "'": "'"}
 PROCESSORS = len(os.sched_getaffinity(0))
-# The program that answers rows about reading, from tokens to the index, and its groups.
-READING_ROWS = str(Path(__file__).resolve().parent.parent / "crates/keep_reading_rows/out/keep_reading_rows")
-READING_GROUPS = (b"leaf", b"syntax", b"lines", b"index")
 # No answer of keep_rows is this, since an answer is UTF-8: so a row that wants it always prints what it answered.
 NO_ANSWER = b"\xff"
 
@@ -136,19 +131,10 @@ def printed(text):
     return re.sub(r"\\(u\{([0-9a-f]+)\}|[nrt0\\\"'])", character, text)
 
 
-def of_group(keep_rows, group):
-    """The program that answers the rows of a group."""
-    return READING_ROWS if group in READING_GROUPS else keep_rows
-
-
 def answers(keep_rows, questions):
-    """What is answered to questions, as bytes; a question is a group, a name in it, and words."""
-    questions, found = list(questions), {}
-    for program in {of_group(keep_rows, it[0]) for it in questions}:
-        asked = [(number, it) for number, it in enumerate(questions) if of_group(keep_rows, it[0]) == program]
-        given = b"".join(row_line(b"%d" % number, NO_ANSWER, *it) for number, it in asked)
-        lines = answer(program, [], given).stdout.decode().split("\n")[:-2]
-        if len(lines) != len(asked):
-            raise RuntimeError(f"{program} answered {len(lines)} of {len(asked)} rows: {asked[len(lines)][1]}")
-        found.update((number, printed(line[line.index('"') + 1 : -1]).encode()) for (number, _), line in zip(asked, lines))
-    return [found[number] for number in range(len(questions))]
+    """What keep_rows answers to questions, as bytes; a question is a group, a name in it, and words."""
+    given = b"".join(row_line(b"%d" % number, NO_ANSWER, *it) for number, it in enumerate(questions))
+    lines = answer(keep_rows, [], given).stdout.decode().split("\n")[:-2]
+    if len(lines) != len(questions):
+        raise RuntimeError(f"keep_rows answered {len(lines)} of {len(questions)} rows: {questions[len(lines)]}")
+    return [printed(line[line.index('"') + 1 : -1]).encode() for line in lines]

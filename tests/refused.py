@@ -10,7 +10,7 @@ first growth refused, with the second, and so on up to the last.
 The program (subcommands.tsv): each of these runs ends with status 4, one line on standard error and nothing on
 standard output, also where the answer with ample memory is a refusal.
 
-The libraries (calls.tsv, asked of keep_rows and keep_reading_rows): each of these runs ends out of memory, or answers that the call
+The libraries (calls.tsv, asked of keep_rows): each of these runs ends out of memory, or answers that the call
 was out of memory. keep_rows makes an edit twice, first for the text alone and then in the document, and prints a doubt
 where the two differ. So more is shown of edits:
 - where a growth of an edit is refused, the same edit, made again, has the wanted answer;
@@ -28,7 +28,7 @@ import sys
 from pathlib import Path
 
 sys.dont_write_bytecode = True
-from ask import NO_ANSWER, Count, Row, answer, cells_of, failure, in_parallel, of_group, plain, printed, row_line, rows_of, short
+from ask import NO_ANSWER, Count, Row, answer, cells_of, failure, in_parallel, plain, printed, row_line, rows_of, short
 
 HERE = Path(__file__).resolve().parent
 STORED = HERE.parent / "crates/keep_rows/stdin"
@@ -98,7 +98,7 @@ class Question:
     """A question to keep_rows, and what it answers where growths are refused."""
 
     def __init__(self, program, refuse, cells):
-        self.asked = Asked(of_group(program, cells[0]), refuse, [], row_line(b"row", NO_ANSWER, *cells))
+        self.asked = Asked(program, refuse, [], row_line(b"row", NO_ANSWER, *cells))
         ran, self.growths = self.asked.ample()
         self.ample = answer_of(ran)
 

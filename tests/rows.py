@@ -1,10 +1,10 @@
 #!/usr/bin/env python3
-"""Runs the rows of the tests over the built programs, prints each row that fails, and how many passed and failed.
+"""Runs the rows of the tests over the two built programs, prints each row that fails, and how many passed and failed.
 
     tests/rows.py KEEP_TOML KEEP_ROWS
 
-KEEP_TOML is the program and KEEP_ROWS the one that answers rows about the libraries, each as it was built (those about
-reading are answered by keep_reading_rows, in its crate); with KEEP_ROWS as '-', what needs these is left out.
+KEEP_TOML is the program and KEEP_ROWS the one that answers rows about the libraries, each as it was built; with
+KEEP_ROWS as '-', what needs it is left out.
 
 A row of rows/*.tsv is a line of cells with tabs between them: its name, the status, the line on standard error, the
 standard input, the standard output, and then the words. A cell is written as ask.py says. A line on standard error that
@@ -21,7 +21,7 @@ from pathlib import Path
 
 # (no folder of compiled modules is left in the repository)
 sys.dont_write_bytecode = True
-from ask import READING_ROWS, Count, Row, answer, cells_of, failure, in_parallel, of_group, plain, row_line, rows_of, short
+from ask import Count, Row, answer, cells_of, failure, in_parallel, plain, row_line, rows_of, short
 from made import large_questions, large_rows
 
 HERE = Path(__file__).resolve().parent
@@ -41,33 +41,26 @@ def run_rows(count, program, rows):
         count.add(row.name, failure(row, ran))
 
 
-def run_questions(count, keep_rows, rows):
-    """Answers rows by keep_rows or keep_reading_rows, which print those that fail and a count."""
-    for program in (keep_rows, READING_ROWS):
-        run_questions_of(count, program, [it for it in rows if of_group(keep_rows, it[2].encode()) == program])
-
-
-def run_questions_of(count, program, rows):
+def run_questions(count, program, rows):
+    """Answers rows by keep_rows, which prints those that fail and a count."""
     given = b"".join(row_line(*map(str.encode, row)) for row in rows)
     ran = answer(program, [], given)
     said = ran.stdout.decode(errors="replace").splitlines() or ["nothing"]
     for line in said[:-1]:
-        print(f"FAILED {program}, {line[:400]}")
+        print(f"FAILED keep_rows, {line[:400]}")
     counts = re.fullmatch(r"(\d+) passed, (\d+) failed", said[-1])
     if not counts or int(counts[1]) + int(counts[2]) != len(rows):
-        count.add(program, f"{said[-1][:200]!r} for {len(rows)} rows; {short(ran.stderr)}")
+        count.add("keep_rows", f"{said[-1][:200]!r} for {len(rows)} rows; {short(ran.stderr)}")
         return
     count.passed += int(counts[1])
     count.failed += int(counts[2])
 
 
-def run_false_rows(count, keep_rows):
-    """Shows that the two programs print a row that fails."""
-    rows = ((READING_ROWS, b"syntax\tdepth\t[1]\tstrict", b"1"), (keep_rows, b"path\tbuilt\ta", b"<a> a 1"))
-    for program, asked, found in rows:
-        ran = answer(program, [], b"a false row\t2\t" + asked + b"\n")
-        row = Row("a false row is printed", [], b"", 1, b'a false row: "' + found + b'"\n0 passed, 1 failed\n')
-        count.add(row.name, failure(row, ran))
+def run_false_row(count, program):
+    """Shows that keep_rows prints a row that fails."""
+    ran = answer(program, [], b"a false row\t2\tsyntax\tdepth\t[1]\tstrict\n")
+    row = Row("a false row is printed", [], b"", 1, b'a false row: "1"\n0 passed, 1 failed\n')
+    count.add(row.name, failure(row, ran))
 
 
 def main(keep_toml, keep_rows):
@@ -78,7 +71,7 @@ def main(keep_toml, keep_rows):
     run_rows(count, keep_toml, list(large_rows()))
     if keep_rows != "-":
         run_questions(count, keep_rows, list(large_questions()))
-        run_false_rows(count, keep_rows)
+        run_false_row(count, keep_rows)
     return count.close("rows")
 
 

@@ -1,18 +1,23 @@
-//! Answers rows about paths, values, documents and edits: a line of standard input has a name, the answer that is
-//! wanted, a question and its words. A row with another answer is printed, and then how many rows passed and failed; the
-//! status is 1 if one failed. The rows in the file `stdin` come from outside: no answer in them was taken from this program.
+//! Answers rows about the libraries below: a line of standard input has a name, the answer that is wanted, a question
+//! and its words. A row with another answer is printed, and then how many rows passed and failed; the status is 1 if
+//! one failed. The rows in the file `stdin` come from outside: no answer in them was taken from this program.
 #![tactic(auto)]
 
 mod documents;
 mod edits;
 mod growths;
+mod index;
+mod leaves;
+mod lines;
 mod lists;
 mod paths;
+mod row;
+mod syntax;
 mod values;
 
 use keep_edit::Profile;
-use keep_row::{Answer, Row, Verdict, unknown, verdict_of};
-use std::alloc::Global;
+use row::{Answer, Row};
+use std::alloc::{AllocError, Global};
 use std::io;
 use std::io::{BufRead, BufReader};
 use std::process::ExitCode;
@@ -34,6 +39,16 @@ fn main(rt: HostRuntime) -> io::Result<ExitCode> {
     Ok(ExitCode::from(u8::from(failed > 0)))
 }
 
+/// What is found of a line.
+#[derive(Debug, Drop)]
+enum Verdict {
+    /// It is empty or a comment.
+    NoRow,
+    Passed,
+    /// With what is printed.
+    Failed(String),
+}
+
 fn failure_of(alloc: Global, line: &str) -> io::Result<Verdict> {
     if line.is_empty() || line.starts_with('#') {
         return Ok(Verdict::NoRow);
@@ -42,11 +57,24 @@ fn failure_of(alloc: Global, line: &str) -> io::Result<Verdict> {
     Ok(verdict_of(alloc, &row, answer(alloc, &row))?)
 }
 
+fn verdict_of(alloc: Global, row: &Row, found: Answer) -> Result<Verdict, AllocError> {
+    let found = found?;
+    if found.as_bytes() == row.wanted() {
+        return Ok(Verdict::Passed);
+    }
+    let text = format!(in alloc; "{}: {found:?}", row.name())?;
+    Ok(Verdict::Failed(text))
+}
+
 fn answer(alloc: Global, row: &Row) -> Answer {
     match row.group() {
+        "leaf" => leaves::answer(alloc, row),
+        "syntax" => syntax::answer(alloc, row),
+        "lines" => lines::answer(alloc, row),
         "value" => values::answer(alloc, row, Profile::Strict),
         "wide value" => values::answer(alloc, row, Profile::Wide),
         "path" => paths::answer(alloc, row),
+        "index" => index::answer(alloc, row),
         "document" => documents::answer(alloc, row, Profile::Strict),
         "wide document" => documents::answer(alloc, row, Profile::Wide),
         "edit" => edits::answer(alloc, row, Profile::Strict),
@@ -54,6 +82,6 @@ fn answer(alloc: Global, row: &Row) -> Answer {
         "edits" => lists::answer(alloc, row, Profile::Strict),
         "wide edits" => lists::answer(alloc, row, Profile::Wide),
         "quiet" => growths::answer(alloc, row),
-        _ => unknown(alloc),
+        _ => row::unknown(alloc),
     }
 }

@@ -1,5 +1,5 @@
 //! Questions about paths.
-use keep_row::{Answer, Row, unknown};
+use crate::row::{Answer, Row, unknown};
 use keep_rules::{Path, PathFault, Step};
 use std::alloc::{AllocError, Global};
 use std::fmt::Write;

@@ -1,5 +1,5 @@
 //! Questions about the syntax of a document, or of a value alone.
-use keep_row::{Answer, Row, push_tokens, unknown};
+use crate::row::{Answer, Row, unknown};
 use keep_syntax::{Limits, ReadFault, Syntax, Tokens, ValueSyntax};
 use std::alloc::{AllocError, Global};
 use std::fmt::Write;
@@ -28,6 +28,14 @@ fn token_lines(alloc: Global, tokens: Tokens<'_>) -> Answer {
     let mut out = String::new(alloc);
     push_tokens(&mut out, tokens)?;
     Ok(out)
+}
+
+/// Writes tokens, each on its line: its kind, its place and its text.
+pub fn push_tokens(out: &mut String, tokens: Tokens<'_>) -> Result<(), AllocError> {
+    for token in tokens {
+        writeln!(out, "{:?} {} {}", token.leaf, token.at, token.text)?;
+    }
+    Ok(())
 }
 
 fn document(alloc: Global, question: &str, syntax: Result<Syntax, ReadFault>) -> Answer {

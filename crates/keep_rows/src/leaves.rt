@@ -1,5 +1,5 @@
 //! Questions about leaves.
-use keep_row::{Answer, Row, unknown};
+use crate::row::{Answer, Row, unknown};
 use keep_syntax::Limits;
 use keep_token::{
     Leaf, LeafFault, Profile, decode_string, encode_int, encode_key, encode_string,

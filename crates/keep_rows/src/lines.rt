@@ -5,8 +5,8 @@ ghost use Rattle.keep_syntax.specs.Grammar.{Reads};
 ghost use Rattle.keep_syntax.specs.WholeLines.{empty_line};
 ghost use Rattle.keep_syntax.specs.Contract as spec;
 
+use crate::row::{Answer, Row};
 use crate::syntax::report_of;
-use keep_row::{Answer, Row};
 use keep_syntax::{Limits, Span, Syntax};
 use std::alloc::{AllocError, Global};
 
