@@ -7,8 +7,8 @@ use Rattle.keep_token.specs.declared.leaf.Profile.TheVariants.{Strict}
 use Rattle.keep_syntax.specs.Tree.{Document}
 use Rattle.keep_path.specs.Path.{Part, key, index}
 use Rattle.keep_path.specs.PathText.{IsPathText}
-use Rattle.keep_meaning.specs.declared.node.Kind.{Kind}
-use Rattle.keep_meaning.specs.declared.node.Kind.TheVariants.{Tables}
+use Rattle.keep_facts.specs.declared.node.Kind.{Kind}
+use Rattle.keep_facts.specs.declared.node.Kind.TheVariants.{Tables}
 use Rattle.keep_meaning.specs.ReadText.{IsReadFault}
 use Rattle.keep_edit.specs.Answers.{kind_of, str_value_of}
 use Rattle.keep_edit.specs.Children.{child_count_of}

@@ -7,8 +7,8 @@ use Rattle.std.proofs.lemmas.List.{map-append, length-map, length-take-le, drop-
 use Rattle.std.proofs.lemmas.Option.{slice_get-map, slice_get-get_or, slice_get_past}
 use Rattle.keep_syntax.specs.declared.syntax.Syntax.{Syntax}
 use Rattle.keep_syntax.specs.Tree.{Document}
-use Rattle.keep_meaning.specs.declared.node.Kind.{Kind}
-use Rattle.keep_meaning.specs.declared.node.NodeInfo.{NodeInfo}
+use Rattle.keep_facts.specs.declared.node.Kind.{Kind}
+use Rattle.keep_facts.specs.declared.node.NodeInfo.{NodeInfo}
 use Rattle.keep_meaning.specs.Counts.{numbered_in}
 use Rattle.keep_rules.specs.Lookup.{path_numbered}
 use Rattle.keep_meaning.specs.Meaning.{mentions_in}

@@ -3,7 +3,7 @@ use Rattle.std.specs.Prelude.{◌≡◌, ℕ, ℤ, if◌then◌else◌, List, �
 use Rattle.std.specs.Global.{Global}
 use Rattle.keep_syntax.specs.Tree.{Document}
 use Rattle.keep_syntax.specs.Numbered.{tokens}
-use Rattle.keep_meaning.specs.declared.node.Kind.{Kind}
+use Rattle.keep_facts.specs.declared.node.Kind.{Kind}
 use Rattle.keep_meaning.specs.Fact as fact
 use Rattle.keep_meaning.specs.Fact.{Fact}
 use Rattle.keep_meaning.specs.Marks.{Mention}

@@ -7,8 +7,8 @@ use Rattle.keep_token.specs.Words.{word_leaf}
 use Rattle.keep_syntax.specs.Limit.{standard_depth}
 use Rattle.keep_syntax.specs.Tree.{Document, leaves, text}
 use Rattle.keep_syntax.specs.Reading.{Fault, repeat, space_at, blank_from, further_at, key_of, name_of, item_by, entry_by, value_of, content_at, comment_at, line_at, ended_at, read_document, read_one_value}
-use Rattle.keep_meaning.specs.declared.node.Kind.{Kind}
-use Rattle.keep_meaning.specs.declared.node.Kind.TheVariants as kind
+use Rattle.keep_facts.specs.declared.node.Kind.{Kind}
+use Rattle.keep_facts.specs.declared.node.Kind.TheVariants as kind
 use Rattle.keep_path.specs.Path.{Part, key, index}
 use Rattle.keep_meaning.specs.Meaning.{mentions_in}
 use Rattle.keep_meaning.specs.Nodes.{node_paths, kind_at}

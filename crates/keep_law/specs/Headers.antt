@@ -2,8 +2,8 @@
 use Rattle.std.specs.Prelude.{ℕ, Bool, ◌&&◌, ◌==◌, if◌then◌else◌, List, [], ◌∷◌, ◌++◌, Option, Some, None}
 use Rattle.std.specs.List.{list_any}
 use Rattle.keep_syntax.specs.declared.fault.Why.{Why}
-use Rattle.keep_meaning.specs.declared.role.Role.{Role}
-use Rattle.keep_meaning.specs.declared.role.Role.TheVariants.{Through}
+use Rattle.keep_facts.specs.declared.role.Role.{Role}
+use Rattle.keep_facts.specs.declared.role.Role.TheVariants.{Through}
 use Rattle.keep_meaning.specs.Faults.{refuses}
 use Rattle.keep_meaning.specs.Marks.{elements_of, entered_path}
 use Rattle.keep_meaning.specs.Rules.{Mark, why_of}

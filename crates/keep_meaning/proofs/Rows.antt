@@ -8,11 +8,11 @@ use Rattle.keep_syntax.specs.declared.fault.Why.TheVariants as why
 use Rattle.keep_parts.specs.declared.info.Span.{Span}
 use Rattle.keep_syntax.specs.Numbered as syntax
 use Rattle.keep_syntax.specs.Tree.{Written, Gap, Further, Key, Name, Body, scalar, array, inline, Entries, none, entry, Value, Content, blank, keyval, header, element, Line, Ended, Document}
-use Rattle.keep_meaning.specs.declared.node.Kind.{Kind}
-use Rattle.keep_meaning.specs.declared.node.Kind.TheVariants as kind
-use Rattle.keep_meaning.specs.declared.node.Origin.{Origin}
-use Rattle.keep_meaning.specs.declared.node.Origin.TheVariants as origin
-use Rattle.keep_meaning.specs.declared.node.NodeInfo.{NodeInfo}
+use Rattle.keep_facts.specs.declared.node.Kind.{Kind}
+use Rattle.keep_facts.specs.declared.node.Kind.TheVariants as kind
+use Rattle.keep_facts.specs.declared.node.Origin.{Origin}
+use Rattle.keep_facts.specs.declared.node.Origin.TheVariants as origin
+use Rattle.keep_facts.specs.declared.node.NodeInfo.{NodeInfo}
 use Rattle.keep_path.specs.Path.{key, index}
 use Rattle.keep_meaning.specs.Meaning.{mentions_in}
 use Rattle.keep_meaning.specs.Nodes.{node_paths, nodes_in, infos_in, value_span_of, key_span_of, children, node_number}

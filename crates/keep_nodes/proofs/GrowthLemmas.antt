@@ -7,7 +7,7 @@ use Rattle.std.proofs.lemmas.Bool.{cases_lt, cases_eq}
 use Rattle.std.proofs.Math.Seq.{map-set_same}
 use Rattle.std.proofs.lemmas.List.Sums.{fold-append}
 use Rattle.std.proofs.lemmas.List.Quantifiers.{all_pairs_push}
-use Rattle.keep_meaning.specs.declared.role.Role.{Role}
+use Rattle.keep_facts.specs.declared.role.Role.{Role}
 use Rattle.keep_path.specs.Path.{Part}
 use Rattle.keep_nodes.specs.Trie.{TrieNode, Holding, link, path_after, paths_of, path_at, states_of, holdings_of, children_from, children_of, IsTrie}
 use Rattle.keep_nodes.specs.Growth.{Grows, Restates}

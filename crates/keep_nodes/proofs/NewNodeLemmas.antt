@@ -3,7 +3,7 @@ use Rattle.std.proofs.Common.{◌≡◌, ℕ, ◌+◌, ◌<◌, true, false, con
 use Rattle.std.specs.Prelude.{◌==◌}
 use Rattle.std.proofs.lemmas.List.{get_or_append_left, get_or_push, append-nil, length-map}
 use Rattle.std.proofs.lemmas.Bool.Decides.{Decides-eqb}
-use Rattle.keep_meaning.specs.declared.role.Role.{Role}
+use Rattle.keep_facts.specs.declared.role.Role.{Role}
 use Rattle.keep_path.specs.Path.{Part}
 use Rattle.keep_nodes.specs.Trie.{TrieNode, Holding, nothing, IsTrie, paths_of, path_at, states_of, state_at, holdings_of, holds_at, children_of}
 use Rattle.keep_nodes.specs.Growth.{Grows}

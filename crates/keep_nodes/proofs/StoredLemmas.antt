@@ -10,8 +10,8 @@ use Rattle.std.proofs.lemmas.Simd.{map-map}
 use Rattle.std.proofs.lemmas.Slice.Eq.{bytes_eq-Decides}
 use Rattle.std.proofs.Math.Seq.{map-set_same}
 use Rattle.keep_nodes.specs.AllNodes.{Node, and_key}
-use Rattle.keep_meaning.specs.declared.node.NodeInfo.{NodeInfo}
-use Rattle.keep_meaning.specs.declared.role.Role.{Role}
+use Rattle.keep_facts.specs.declared.node.NodeInfo.{NodeInfo}
+use Rattle.keep_facts.specs.declared.role.Role.{Role}
 use Rattle.keep_path.specs.Path.{Part, key, index}
 use Rattle.keep_nodes.specs.Facts.{info_of, no_info}
 use Rattle.keep_nodes.specs.Children.{ChildList, Bare, Keyed, Listed, no_children, holds_of, named, child_ids, child_named}

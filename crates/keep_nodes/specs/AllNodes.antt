@@ -1,6 +1,6 @@
 -- The nodes, as contracts see them.
 use Rattle.std.specs.Prelude.{ℕ, List, ◌∷◌, ◌++◌, [], false, None, slice_index_or, slice_set}
-use Rattle.keep_meaning.specs.declared.node.Kind.TheVariants as kind
+use Rattle.keep_facts.specs.declared.node.Kind.TheVariants as kind
 use Rattle.keep_nodes.specs.declared.facts.OriginKind.TheVariants as origin_kind
 use Rattle.keep_nodes.specs.declared.facts.NodeFacts.{NodeFacts}
 use Rattle.keep_nodes.specs.Children.{ChildList, Bare, Keyed, Listed, named, child_ids}

@@ -1,6 +1,6 @@
 -- The two ways in which the nodes change: one more, or another state.
 use Rattle.std.specs.Prelude.{◌≡◌, ℕ, ◌<◌, ◌==◌, if◌then◌else◌, List, [], ◌∷◌, ◌++◌, length, Option, Some, Contains, slice_set}
-use Rattle.keep_meaning.specs.declared.role.Role.{Role}
+use Rattle.keep_facts.specs.declared.role.Role.{Role}
 use Rattle.keep_path.specs.Path.{Part}
 use Rattle.keep_nodes.specs.Trie.{TrieNode, Holding, IsTrie, paths_of, states_of, holdings_of, children_of}
 

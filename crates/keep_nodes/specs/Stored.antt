@@ -1,7 +1,7 @@
 -- The tree of steps that the stored nodes represent.
 use Rattle.std.specs.Prelude.{◌≡◌, ℕ, ◌<◌, List, [], length, map, slice_index_or, Option, Some, None, slice_get}
 use Rattle.keep_nodes.specs.AllNodes.{Node}
-use Rattle.keep_meaning.specs.declared.node.NodeInfo.{NodeInfo}
+use Rattle.keep_facts.specs.declared.node.NodeInfo.{NodeInfo}
 use Rattle.keep_path.specs.Path.{Part, key, index}
 use Rattle.keep_nodes.specs.Children.{holds_of, named, child_ids}
 use Rattle.keep_nodes.specs.Trie.{TrieNode, Holding, by_key, IsTrie, paths_of, children_of}

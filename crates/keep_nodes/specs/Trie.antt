@@ -1,7 +1,7 @@
 -- The nodes as a tree: of each its parent, its step there, the role that represents those at it, and what children it
 -- may have.
 use Rattle.std.specs.Prelude.{◌≢◌, ℕ, ◌+◌, ◌<◌, ◌==◌, if◌then◌else◌, List, [], ◌∷◌, ◌++◌, length, drop, map, fold, slice_index_or, AllPairs, Option, None}
-use Rattle.keep_meaning.specs.declared.role.Role.{Role}
+use Rattle.keep_facts.specs.declared.role.Role.{Role}
 use Rattle.keep_path.specs.Path.{Part}
 
 -- what children a node may have: none at a scalar, by keys at a table, by numbers at an array and an array of tables

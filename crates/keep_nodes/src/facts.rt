@@ -2,7 +2,7 @@
 ghost use Rattle.std.specs.Prelude.{◌≡◌, ℕ, None, nat_le};
 ghost use Rattle.keep_nodes.specs.Facts.{joined_info, joined_facts, later_kind, info_of, rank, named_info, unnamed_info, passed_info, origin_of};
 
-use keep_meaning::{Kind, NodeInfo, Origin, Role};
+use keep_facts::{Kind, NodeInfo, Origin, Role};
 
 /// Where a node comes from, without the number of the value or statement. In the order of their ranks, so that two are
 /// compared as they are.

@@ -13,7 +13,7 @@ use crate::facts::NodeFacts;
 use crate::links::{ParentLink, ParentLinks};
 use crate::packed::PackedFacts;
 use crate::seed::Seed;
-use keep_meaning::{Kind, Role};
+use keep_facts::{Kind, Role};
 use std::alloc::{AllocError, Global};
 use std::marker::Model;
 

@@ -4,7 +4,7 @@ ghost use Rattle.keep_nodes.specs.Packed.{Fits, facts_in, short_facts, joined_sh
 ghost use Rattle.keep_nodes.specs.Facts.{joined_facts};
 
 use crate::facts::{NodeFacts, OriginKind, later_kind, yields_to};
-use keep_meaning::{Kind, Role};
+use keep_facts::{Kind, Role};
 use std::alloc::{AllocError, Global};
 use std::marker::Model;
 

@@ -40,7 +40,7 @@ fn main(rt: HostRuntime) -> io::Result<ExitCode> {
 }
 
 /// What is found of a line.
-#[derive(Debug, Drop)]
+#[derive(Drop)]
 enum Verdict {
     /// It is empty or a comment.
     NoRow,

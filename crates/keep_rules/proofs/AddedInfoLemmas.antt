@@ -5,13 +5,14 @@ use Rattle.std.specs.List.{list_any, position_or_len}
 use Rattle.std.proofs.lemmas.List.Elements.{Contains-get_or}
 use Rattle.std.proofs.lemmas.List.Sums.{position_or_len_is}
 use Rattle.std.proofs.lemmas.Bool.Decides.{nat_tests}
-use Rattle.keep_meaning.specs.declared.node.NodeInfo.{NodeInfo}
+use Rattle.keep_facts.specs.declared.node.NodeInfo.{NodeInfo}
 use Rattle.keep_nodes.specs.AllNodes.{Node}
-use Rattle.keep_meaning.specs.declared.role.Role.{Role}
+use Rattle.keep_facts.specs.declared.role.Role.{Role}
 use Rattle.keep_path.specs.Path.{Part, same_path}
 use Rattle.keep_meaning.specs.Counts.{Numbered}
 use Rattle.keep_meaning.specs.Nodes.{node_number, paths_with}
-use Rattle.keep_nodes.specs.Facts.{joined_info, no_info, NodeInfos, with_info, with_info_at, with_mentions, mention_info, paths_after}
+use Rattle.keep_nodes.specs.Facts.{joined_info, no_info, NodeInfos}
+use Rattle.keep_rules.specs.MentionInfos.{with_info, with_info_at, with_mentions, mention_info, paths_after}
 use Rattle.keep_nodes.specs.Trie.{Holding, IsTrie, paths_of, path_at}
 use Rattle.keep_nodes.specs.Growth.{Grows}
 use Rattle.keep_nodes.specs.Stored.{trie_of, infos_of, info_at, node_infos}

@@ -7,11 +7,11 @@ use Rattle.keep_rules.specs.declared.mark.Stop.{Stop}
 use Rattle.keep_rules.specs.declared.mark.Stop.TheVariants as stop
 use Rattle.keep_rules.specs.declared.key_walk.Fault.{Fault}
 use Rattle.keep_rules.specs.declared.key_walk.Fault.TheVariants as fault
-use Rattle.keep_meaning.specs.declared.role.Role.{Role}
-use Rattle.keep_meaning.specs.declared.role.Role.TheVariants.{Define, Element, Value}
+use Rattle.keep_facts.specs.declared.role.Role.{Role}
+use Rattle.keep_facts.specs.declared.role.Role.TheVariants.{Define, Element, Value}
 use Rattle.keep_meaning.specs.Rules.{why_of}
-use Rattle.keep_meaning.specs.declared.node.Kind.{Kind}
-use Rattle.keep_meaning.specs.declared.node.Origin.TheVariants as origin
+use Rattle.keep_facts.specs.declared.node.Kind.{Kind}
+use Rattle.keep_facts.specs.declared.node.Origin.TheVariants as origin
 use Rattle.keep_nodes.specs.AllNodes.{Node}
 use Rattle.keep_meaning.specs.Fact.{Fact}
 use Rattle.keep_path.specs.Path.{Part, key}

@@ -23,7 +23,8 @@ use Rattle.keep_meaning.specs.Counts.{Count, Numbered, numbered_mentions, number
 use Rattle.keep_meaning.specs.Nodes.{node_path, nodes_in, infos_in}
 use Rattle.keep_nodes.specs.Trie.{TrieNode, by_key}
 use Rattle.keep_nodes.specs.Stored.{trie_node_in, trie_of, node_infos}
-use Rattle.keep_nodes.specs.Facts.{NodeInfos, root_infos, with_mentions, ValuesAreNew}
+use Rattle.keep_nodes.specs.Facts.{NodeInfos, root_infos}
+use Rattle.keep_rules.specs.MentionInfos.{with_mentions, ValuesAreNew}
 use Rattle.keep_rules.specs.AddedInfos.{AddsValue}
 use Rattle.keep_rules.specs.Reads.{IsReading}
 use Rattle.keep_rules.specs.Roots.{IsRoot}

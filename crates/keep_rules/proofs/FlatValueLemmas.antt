@@ -18,7 +18,8 @@ use Rattle.keep_meaning.specs.Fact.{Fact}
 use Rattle.keep_meaning.specs.Meaning.{scalar_fact, body_fact}
 use Rattle.keep_meaning.specs.Nodes.{fact_kind}
 use Rattle.keep_rules.specs.NestedValues.{nested_fact, entry_nested, nested_values}
-use Rattle.keep_rules.specs.FlatValues.{leaf_kind, LeafMatches, MatchesNested, IsOwned, OwnsEntries, IsNested, MatchKeyval, MatchAlone}
+use Rattle.keep_facts.specs.Kinds.{leaf_kind}
+use Rattle.keep_rules.specs.FlatValues.{LeafMatches, MatchesNested, IsOwned, OwnsEntries, IsNested, MatchKeyval, MatchAlone}
 use Rattle.keep_rules.proofs.NestedValueLemmas.{fact_is}
 use Rattle.keep_meaning.proofs.Shared.{length-named, length-entries_parts, IsPart, part_whole, part_left, part_right, part_placed, Spelled, spelled_left, spelled_right, keys_mention, keys_within, length-key_parts}
 

@@ -23,7 +23,7 @@ use Rattle.keep_rules.specs.Represents.{FaultIn}
 use Rattle.keep_rules.specs.Statements.{header_of}
 use Rattle.keep_rules.specs.Stops.{FaultMeets}
 use Rattle.keep_rules.specs.AddedInfos.{StatementAdds}
-use Rattle.keep_nodes.specs.Facts.{ValuesAreNew}
+use Rattle.keep_rules.specs.MentionInfos.{ValuesAreNew}
 use Rattle.keep_rules.specs.FlatStatements.{MatchesKeys, MatchesStatement}
 use Rattle.keep_rules.specs.Plans.{AreReadable, fault_from}
 use Rattle.keep_rules.specs.ReadStatements.{head_of, HasReading, IsRead, IsReadAsMatched, BreaksAsMatched}

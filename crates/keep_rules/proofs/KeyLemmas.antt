@@ -6,13 +6,13 @@ use Rattle.std.proofs.lemmas.Option.{slice_get_within, get_or_from_slice_get}
 use Rattle.keep_parts.specs.declared.info.KeyPart.{KeyPart}
 use Rattle.keep_syntax.specs.declared.fault.Why.TheVariants.{NotATable, NotByDots}
 use Rattle.keep_rules.specs.declared.keys.Keys.{Keys}
-use Rattle.keep_meaning.specs.declared.role.Role.TheVariants.{Through, Dotted}
+use Rattle.keep_facts.specs.declared.role.Role.TheVariants.{Through, Dotted}
 use Rattle.keep_path.specs.Path.{Part, key}
 use Rattle.keep_meaning.specs.KeyText.{part_text}
 use Rattle.keep_rules.specs.Keys.{AreKeys, parts_of, key_texts, key_text_at, leading_texts, last_text}
 use Rattle.keep_meaning.specs.KeyText.{keys_in}
-use Rattle.keep_meaning.specs.declared.node.Kind.TheVariants as kind
-use Rattle.keep_meaning.specs.declared.node.Origin.TheVariants as origin
+use Rattle.keep_facts.specs.declared.node.Kind.TheVariants as kind
+use Rattle.keep_facts.specs.declared.node.Origin.TheVariants as origin
 use Rattle.keep_nodes.specs.AllNodes.{Node}
 use Rattle.keep_meaning.specs.Marks.{Mention, passing_mentions}
 use Rattle.keep_nodes.specs.Facts.{named_info}

@@ -3,18 +3,19 @@ use Rattle.std.proofs.Common.{◌≡◌, ℕ, ◌+◌, ◌<◌, true, false, con
 use Rattle.std.specs.Prelude.{Contains, ◌==◌, OnOk, IfOk}
 use Rattle.std.proofs.lemmas.List.{append-nil, get_or_default}
 use Rattle.std.proofs.lemmas.List.Sums.{fold-append}
-use Rattle.keep_meaning.specs.declared.node.Kind.{Kind}
-use Rattle.keep_meaning.specs.declared.node.Kind.TheVariants as kind
-use Rattle.keep_meaning.specs.declared.node.Origin.TheVariants as origin
-use Rattle.keep_meaning.specs.declared.node.NodeInfo.{NodeInfo}
+use Rattle.keep_facts.specs.declared.node.Kind.{Kind}
+use Rattle.keep_facts.specs.declared.node.Kind.TheVariants as kind
+use Rattle.keep_facts.specs.declared.node.Origin.TheVariants as origin
+use Rattle.keep_facts.specs.declared.node.NodeInfo.{NodeInfo}
 use Rattle.keep_nodes.specs.AllNodes.{Node}
-use Rattle.keep_meaning.specs.declared.role.Role.TheVariants.{Element, Value}
+use Rattle.keep_facts.specs.declared.role.Role.TheVariants.{Element, Value}
 use Rattle.keep_path.specs.Path.{Part, key, index}
 use Rattle.keep_meaning.specs.Marks as marks
 use Rattle.keep_meaning.specs.Marks.{Mention, through, past, passed, define, element, begun, dotted, value, item, elements_of, passing_mentions, entered_path, statement_mentions, header, element_header}
 use Rattle.keep_meaning.specs.Counts.{Count, Numbered, is_value, count_with_mention, numbered_mentions, count_after}
 use Rattle.keep_meaning.specs.Nodes.{fact_kind}
-use Rattle.keep_nodes.specs.Facts.{with_info, with_mentions, named_info, unnamed_info, passed_info, mention_info, paths_after, ValuesAreNew}
+use Rattle.keep_nodes.specs.Facts.{named_info, unnamed_info, passed_info}
+use Rattle.keep_rules.specs.MentionInfos.{with_info, with_mentions, mention_info, paths_after, ValuesAreNew}
 use Rattle.keep_nodes.specs.Trie.{Holding, by_key, by_index, paths_of, path_at, children_of}
 use Rattle.keep_nodes.specs.Growth.{Grows}
 use Rattle.keep_nodes.specs.Stored.{trie_of, infos_of, node_infos}

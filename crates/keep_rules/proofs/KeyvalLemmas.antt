@@ -9,10 +9,10 @@ use Rattle.keep_parts.specs.Flat.{Flat}
 use Rattle.keep_syntax.specs.Tree.{Name, Value}
 use Rattle.keep_syntax.specs.Numbered.{value_count}
 use Rattle.keep_rules.specs.declared.keys.Keys.{Keys}
-use Rattle.keep_meaning.specs.declared.node.Kind.{Kind}
+use Rattle.keep_facts.specs.declared.node.Kind.{Kind}
 use Rattle.keep_nodes.specs.AllNodes.{Node}
-use Rattle.keep_meaning.specs.declared.role.Role.{Role}
-use Rattle.keep_meaning.specs.declared.role.Role.TheVariants.{Element}
+use Rattle.keep_facts.specs.declared.role.Role.{Role}
+use Rattle.keep_facts.specs.declared.role.Role.TheVariants.{Element}
 use Rattle.keep_rules.specs.declared.key_walk.Fault.{Fault}
 use Rattle.keep_meaning.specs.Fact.{Fact, array}
 use Rattle.keep_path.specs.Path.{Part}
@@ -32,9 +32,10 @@ use Rattle.keep_rules.specs.Steps.{Gives}
 use Rattle.keep_rules.specs.Reads.{IsValueNode, AreValueNodes}
 use Rattle.keep_rules.specs.Stops.{FaultMeets}
 use Rattle.keep_rules.specs.AddedInfos.{KeyedAdds, AddsValue}
-use Rattle.keep_nodes.specs.Facts.{with_mentions, ValuesAreNew}
+use Rattle.keep_rules.specs.MentionInfos.{with_mentions, ValuesAreNew}
 use Rattle.keep_rules.specs.NestedReads.{NestedRead}
-use Rattle.keep_rules.specs.FlatValues.{leaf_kind, leaf_holding}
+use Rattle.keep_facts.specs.Kinds.{leaf_kind}
+use Rattle.keep_rules.specs.FlatValues.{leaf_holding}
 use Rattle.keep_rules.specs.FlatStatements.{MatchesKeyvalOf, MatchesStatement}
 use Rattle.keep_rules.specs.Plans.{nodes_so_far, EndsAt, MatchNested, AreNext, RepresentsSome, NestedValuesRead, NestedValuesFault, fault_from}
 use Rattle.keep_rules.specs.ReadStatements.{HasReading, IsRead, Breaks, IsReadAsMatched, BreaksAsMatched}

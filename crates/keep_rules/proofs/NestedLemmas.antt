@@ -5,8 +5,8 @@ use Rattle.std.specs.List.{list_all}
 use Rattle.std.specs.Option.{option_and_then}
 use Rattle.std.proofs.lemmas.Bool.Decides.{nat_tests}
 use Rattle.std.proofs.lemmas.Option.{slice_get-get_or}
-use Rattle.keep_meaning.specs.declared.role.Role.{Role}
-use Rattle.keep_meaning.specs.declared.role.Role.TheVariants.{Element}
+use Rattle.keep_facts.specs.declared.role.Role.{Role}
+use Rattle.keep_facts.specs.declared.role.Role.TheVariants.{Element}
 use Rattle.keep_meaning.specs.Rules.{allows}
 use Rattle.keep_meaning.specs.Marks.{Mention, elements_of, entered_path}
 use Rattle.keep_meaning.specs.Nodes.{node_paths, node_number, children}

@@ -1,7 +1,7 @@
 -- Nested values, read one after another.
 use Rattle.std.proofs.Common.{◌≡◌, ℕ, ◌+◌, ◌<◌, List, [], ◌∷◌, ◌++◌, length, map, get_or, refl, sym, ◌∙◌, ap, subst, arith, if◌then◌else◌, inl, inr}
 use Rattle.std.proofs.lemmas.List.{append_assoc, append-nil}
-use Rattle.keep_meaning.specs.declared.node.NodeInfo.{NodeInfo}
+use Rattle.keep_facts.specs.declared.node.NodeInfo.{NodeInfo}
 use Rattle.keep_meaning.specs.Fact.{Fact}
 use Rattle.keep_path.specs.Path.{Part}
 use Rattle.keep_meaning.specs.Marks as marks
@@ -14,7 +14,8 @@ use Rattle.keep_rules.specs.Tables.{IsShaped}
 use Rattle.keep_rules.specs.Represents.{Represents, Keeps}
 use Rattle.keep_rules.specs.Steps.{Gives, AddsItem}
 use Rattle.keep_rules.specs.Reads.{AreValueNodes}
-use Rattle.keep_nodes.specs.Facts.{NodeInfos, with_info, with_info_at, with_mentions, mention_info, paths_after, ValuesAreNew}
+use Rattle.keep_nodes.specs.Facts.{NodeInfos}
+use Rattle.keep_rules.specs.MentionInfos.{with_info, with_info_at, with_mentions, mention_info, paths_after, ValuesAreNew}
 use Rattle.keep_rules.specs.NestedReads.{HasKeys, nested_keys, NodesSoFar, NestedRead}
 use Rattle.keep_meaning.proofs.Shared.{numbered_mentions-append, count_after-keys, count_after-values, valued, valued-append, valued-keyed, valued-below, marked-keyed, marked-below}
 use Rattle.keep_rules.proofs.NestedValueLemmas.{all_nested_mentions-append, nesting_after-append}

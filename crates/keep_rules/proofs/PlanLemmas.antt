@@ -7,7 +7,7 @@ use Rattle.keep_parts.specs.declared.info.KeyPart.{KeyPart}
 use Rattle.keep_parts.specs.declared.info.Owner.TheVariants as owner
 use Rattle.keep_parts.specs.declared.info.ValueInfo.{ValueInfo}
 use Rattle.keep_parts.specs.Flat.{Flat}
-use Rattle.keep_meaning.specs.declared.node.Kind.{Kind}
+use Rattle.keep_facts.specs.declared.node.Kind.{Kind}
 use Rattle.keep_nodes.specs.AllNodes.{Node}
 use Rattle.keep_rules.specs.declared.keys.Keys.{Keys}
 use Rattle.keep_rules.specs.declared.key_walk.Fault.{Fault}
@@ -29,7 +29,8 @@ use Rattle.keep_rules.specs.Reads.{IsValueNode, AreValueNodes}
 use Rattle.keep_rules.specs.Stops.{FaultMeets}
 use Rattle.keep_rules.specs.AddedInfos.{ItemAdds, KeyedAdds, AddsValue}
 use Rattle.keep_rules.specs.NestedReads.{NestedRead}
-use Rattle.keep_rules.specs.FlatValues.{leaf_kind, leaf_holding}
+use Rattle.keep_facts.specs.Kinds.{leaf_kind}
+use Rattle.keep_rules.specs.FlatValues.{leaf_holding}
 use Rattle.keep_rules.specs.Plans.{AreReadable, nodes_so_far, IsNext, RepresentsSome, FaultFrom, NestedValueRead, NestedValueFaults, fault_from}
 use Rattle.keep_rules.proofs.KeyLemmas.{texts_split, length-keys_in}
 use Rattle.keep_rules.proofs.NestedReadLemmas.{nested_read_item, nested_read_keyed, nested_marks}

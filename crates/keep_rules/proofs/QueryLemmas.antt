@@ -7,8 +7,8 @@ use Rattle.std.proofs.lemmas.Option.{slice_get-get_or, slice_get_within, get_or_
 use Rattle.std.proofs.Math.Seq.{take-suc}
 use Rattle.keep_rules.specs.declared.index.NodeId.{NodeId}
 use Rattle.keep_nodes.specs.AllNodes.{Node, no_node, node_at}
-use Rattle.keep_meaning.specs.declared.node.Kind.{Kind}
-use Rattle.keep_meaning.specs.declared.node.NodeInfo.{NodeInfo}
+use Rattle.keep_facts.specs.declared.node.Kind.{Kind}
+use Rattle.keep_facts.specs.declared.node.NodeInfo.{NodeInfo}
 use Rattle.keep_path.specs.Path.{Part, index}
 use Rattle.keep_meaning.specs.Nodes.{node_number}
 use Rattle.keep_nodes.specs.Children.{child_ids}

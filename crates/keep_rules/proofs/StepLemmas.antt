@@ -2,7 +2,7 @@
 use Rattle.std.proofs.Common.{◌≡◌, ℕ, ◌<◌, true, false, cond, List, [], ◌∷◌, ◌++◌, length, map, refl, sym, ◌∙◌, ap, subst, arith, None}
 use Rattle.std.specs.Prelude.{Contains}
 use Rattle.std.proofs.lemmas.List.{append_assoc, append-nil, map-append}
-use Rattle.keep_meaning.specs.declared.role.Role.TheVariants.{Element, Dotted, Value}
+use Rattle.keep_facts.specs.declared.role.Role.TheVariants.{Element, Dotted, Value}
 use Rattle.keep_path.specs.Path.{Part, key, index}
 use Rattle.keep_meaning.specs.Marks.{Mention, elements_of, element, begun, dotted, value, item, passing_mentions, entered_path}
 use Rattle.keep_nodes.specs.Trie.{TrieNode, Holding, by_key, by_index, paths_of, path_at, states_of, state_at, holds_at, children_of}

@@ -5,8 +5,8 @@ use Rattle.std.proofs.lemmas.List.{append_assoc, append-nil}
 use Rattle.std.proofs.lemmas.List.Elements.{filter_map-append}
 use Rattle.keep_syntax.specs.declared.fault.Why.{Why}
 use Rattle.keep_syntax.specs.declared.fault.Why.TheVariants.{NotATable, DefinedTwice, NotAnArray, NotByDots, DuplicateKey}
-use Rattle.keep_meaning.specs.declared.role.Role.{Role}
-use Rattle.keep_meaning.specs.declared.role.Role.TheVariants.{Through, Define, Element, Dotted, Value}
+use Rattle.keep_facts.specs.declared.role.Role.{Role}
+use Rattle.keep_facts.specs.declared.role.Role.TheVariants.{Through, Define, Element, Dotted, Value}
 use Rattle.keep_meaning.specs.Fact.{Fact}
 use Rattle.keep_path.specs.Path.{Part, key, index}
 use Rattle.keep_meaning.specs.Rules.{Mark, ObeysRules, IsRefused, IsFirstFaulty, why_of}

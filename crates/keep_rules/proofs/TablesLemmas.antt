@@ -6,8 +6,8 @@ use Rattle.std.proofs.lemmas.List.{get_or_append_left, get_or_push, get_or-set_s
 use Rattle.std.proofs.lemmas.List.Elements.{Contains-append_left, Contains-get_or}
 use Rattle.std.proofs.lemmas.List.Sums.{fold-append}
 use Rattle.std.proofs.lemmas.Bool.{cases_lt, cases_eq, cases_Bool, cond-false}
-use Rattle.keep_meaning.specs.declared.role.Role.{Role}
-use Rattle.keep_meaning.specs.declared.role.Role.TheVariants.{Through, Past, Define, Element, Dotted, Value}
+use Rattle.keep_facts.specs.declared.role.Role.{Role}
+use Rattle.keep_facts.specs.declared.role.Role.TheVariants.{Through, Past, Define, Element, Dotted, Value}
 use Rattle.keep_path.specs.Path.{Part, key, index, same_path}
 use Rattle.keep_meaning.specs.Rules.{allows}
 use Rattle.keep_meaning.specs.Marks.{elements_of}

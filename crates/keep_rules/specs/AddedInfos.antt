@@ -1,14 +1,14 @@
 -- The facts that reading a part of the document adds to the nodes.
 use Rattle.std.specs.Prelude.{◌≡◌, ℕ, List, [], ◌∷◌, ◌++◌, length}
-use Rattle.keep_meaning.specs.declared.node.Kind.{Kind}
-use Rattle.keep_meaning.specs.declared.node.NodeInfo.{NodeInfo}
+use Rattle.keep_facts.specs.declared.node.Kind.{Kind}
+use Rattle.keep_facts.specs.declared.node.NodeInfo.{NodeInfo}
 use Rattle.keep_nodes.specs.AllNodes.{Node}
 use Rattle.keep_meaning.specs.Fact.{Fact}
 use Rattle.keep_path.specs.Path.{Part, index}
 use Rattle.keep_meaning.specs.Marks.{Mention, element, begun, elements_of, Reading, Statement, statement_mentions}
 use Rattle.keep_meaning.specs.Counts.{Count, numbered_mentions}
 use Rattle.keep_meaning.specs.Nodes.{fact_kind}
-use Rattle.keep_nodes.specs.Facts.{with_info, with_mentions, ValuesAreNew}
+use Rattle.keep_rules.specs.MentionInfos.{with_info, with_mentions, ValuesAreNew}
 use Rattle.keep_nodes.specs.Trie.{paths_of, path_at, children_of}
 use Rattle.keep_nodes.specs.Stored.{trie_of, node_infos}
 use Rattle.keep_rules.specs.Represents.{Represents}

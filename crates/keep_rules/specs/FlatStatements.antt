@@ -11,7 +11,8 @@ use Rattle.keep_syntax.specs.Tree.{Name, Value}
 use Rattle.keep_syntax.specs.Grammar.{IsValue}
 use Rattle.keep_syntax.specs.Numbered.{value_count}
 use Rattle.keep_meaning.specs.Counts.{Count}
-use Rattle.keep_rules.specs.FlatValues.{leaf_kind, leaf_holding, MatchesNested}
+use Rattle.keep_facts.specs.Kinds.{leaf_kind}
+use Rattle.keep_rules.specs.FlatValues.{leaf_holding, MatchesNested}
 use Rattle.keep_rules.specs.FirstKeys.{FirstKeys}
 use Rattle.keep_rules.specs.NestedValues.{holding_of, nested_values}
 use Rattle.keep_meaning.specs.KeyText.{keys_in}

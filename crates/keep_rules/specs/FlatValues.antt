@@ -9,32 +9,13 @@ use Rattle.keep_parts.specs.declared.info.Owner.TheVariants as owner
 use Rattle.keep_parts.specs.declared.info.ValueInfo.{ValueInfo}
 use Rattle.keep_syntax.specs.Tree.{Name, Value}
 use Rattle.keep_syntax.specs.Grammar.{Place, in_scalar, in_array, in_inline}
-use Rattle.keep_meaning.specs.declared.node.Kind.{Kind}
-use Rattle.keep_meaning.specs.declared.node.Kind.TheVariants as kind
+use Rattle.keep_facts.specs.Kinds.{leaf_kind}
 use Rattle.keep_meaning.specs.Fact.{Fact}
 use Rattle.keep_rules.specs.NestedValues.{NestedValue, nested_item, nested_keyed, holding_of, nested_fact, nested_values}
 use Rattle.keep_meaning.specs.KeyText.{keys_in}
 use Rattle.keep_meaning.specs.Meaning.{keys_of, body_fact}
 use Rattle.keep_meaning.specs.Nodes.{fact_kind}
 use Rattle.keep_nodes.specs.Trie.{Holding, nothing, by_key, by_index}
-
--- ---- the kind of a value, by its leaf
-
-abbrev pub leaf_kind : Leaf → Kind
-leaf_kind leaf.Basic = kind.Str
-leaf_kind leaf.Literal = kind.Str
-leaf_kind leaf.MlBasic = kind.Str
-leaf_kind leaf.MlLiteral = kind.Str
-leaf_kind leaf.Integer = kind.Integer
-leaf_kind leaf.Float = kind.Float
-leaf_kind leaf.Boolean = kind.Boolean
-leaf_kind leaf.OffsetDateTime = kind.OffsetDateTime
-leaf_kind leaf.LocalDateTime = kind.LocalDateTime
-leaf_kind leaf.LocalDate = kind.LocalDate
-leaf_kind leaf.LocalTime = kind.LocalTime
-leaf_kind leaf.ArrayOpen = kind.Array
-leaf_kind leaf.InlineOpen = kind.Inline
-leaf_kind _ = kind.Table
 
 -- what children it may have
 abbrev pub leaf_holding : Leaf → Holding

@@ -5,6 +5,7 @@ pub mod KeyWalks
 pub mod Steps
 pub mod NestedValues
 pub mod Reads
+pub mod MentionInfos
 pub mod AddedInfos
 pub mod Stops
 pub mod Statements

@@ -2,7 +2,7 @@
 use Rattle.std.specs.Prelude.{◌≡◌, ℕ, ◌-◌, ◌<◌, true, List, [], ◌∷◌, ◌++◌, length, Some, None, slice_get}
 use Rattle.std.specs.List.{list_all}
 use Rattle.std.specs.Option.{option_and_then}
-use Rattle.keep_meaning.specs.declared.role.Role.TheVariants.{Element}
+use Rattle.keep_facts.specs.declared.role.Role.TheVariants.{Element}
 use Rattle.keep_meaning.specs.Rules.{allows}
 use Rattle.keep_meaning.specs.Marks.{Mention, elements_of, entered_path}
 use Rattle.keep_meaning.specs.Nodes.{node_paths, node_number, children}

@@ -8,7 +8,8 @@ use Rattle.keep_nodes.specs.Trie.{TrieNode}
 use Rattle.keep_rules.specs.Tables.{IsShaped}
 use Rattle.keep_rules.specs.Represents.{Keeps, Represents}
 use Rattle.keep_rules.specs.Reads.{AreValueNodes}
-use Rattle.keep_nodes.specs.Facts.{NodeInfos, with_mentions, ValuesAreNew}
+use Rattle.keep_nodes.specs.Facts.{NodeInfos}
+use Rattle.keep_rules.specs.MentionInfos.{with_mentions, ValuesAreNew}
 
 -- how many key parts a value has
 abbrev pub nested_keys : NestedValue → ℕ

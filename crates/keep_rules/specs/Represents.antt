@@ -1,8 +1,8 @@
 -- How the nodes represent the mentions so far, and what a key part, an element and an item do to them.
 use Rattle.std.specs.Prelude.{◌≡◌, ℕ, ◌<◌, ◌≤◌, ◌-◌, List, [], ◌∷◌, ◌++◌, length, Some, slice_index_or, true, false}
 use Rattle.keep_syntax.specs.declared.fault.Why.{Why}
-use Rattle.keep_meaning.specs.declared.role.Role.{Role}
-use Rattle.keep_meaning.specs.declared.role.Role.TheVariants.{Element, Through, Value}
+use Rattle.keep_facts.specs.declared.role.Role.{Role}
+use Rattle.keep_facts.specs.declared.role.Role.TheVariants.{Element, Through, Value}
 use Rattle.keep_path.specs.Path.{Part, key, index}
 use Rattle.keep_meaning.specs.Rules.{allows, ObeysRules, IsRefused, why_of}
 use Rattle.keep_meaning.specs.Marks.{MentionKind, Mention, marks, role_of, passing_mentions, entered_path, elements_of, element, begun}

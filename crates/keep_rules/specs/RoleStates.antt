@@ -1,7 +1,7 @@
 -- How paths and states represent the mentions so far.
 use Rattle.std.specs.Prelude.{◌≡◌, ℕ, ◌<◌, List, [], length, Option, None, slice_index_or, Contains}
 use Rattle.std.specs.List.{filter_map}
-use Rattle.keep_meaning.specs.declared.role.Role.{Role}
+use Rattle.keep_facts.specs.declared.role.Role.{Role}
 use Rattle.keep_path.specs.Path.{Part}
 use Rattle.keep_meaning.specs.Rules.{ObeysRules}
 use Rattle.keep_meaning.specs.Marks.{Mention, marks, role_of}

@@ -18,7 +18,7 @@ ghost use Rattle.keep_nodes.specs.Trie.{by_key, holds_at, path_at};
 
 use crate::key_walk::{Fault, mark_key, walk_dotted, walk_header};
 use crate::keys::Keys;
-use keep_meaning::{Kind, Origin, Role};
+use keep_facts::{Kind, Origin, Role};
 use keep_nodes::{Holds, NodeFacts, Nodes, add_item};
 
 /// Reads the header `[..]` of that statement, and gives the node of the table that it defines.

@@ -16,7 +16,7 @@ use crate::key_walk::Fault;
 use crate::kinds::holds_of_leaf;
 use crate::nested_values::{push_id, read_nested};
 use crate::statement::read_statement;
-use keep_meaning::{Kind, Origin};
+use keep_facts::{Kind, Origin};
 use keep_nodes::{Holds, NodeFacts, Nodes};
 use keep_syntax::{Parts, ReadFault, Syntax, ValueSyntax};
 use std::alloc::{AllocError, Global};

@@ -21,7 +21,7 @@ use crate::document::{read_alone, read_document};
 use crate::path_text::push_path;
 use crate::queries::{child_by, path_to};
 use crate::spans::{key_span_at, value_span_at};
-use keep_meaning::{Kind, NodeInfo, Origin};
+use keep_facts::{Kind, NodeInfo, Origin};
 use keep_nodes::{Nodes, set_kind};
 use keep_path::{Path, Step};
 use keep_syntax::{ReadFault, Span, Syntax, ValueSyntax};

@@ -16,7 +16,8 @@ ghost use Rattle.keep_rules.specs.KeyWalks.{walk_mentions, dotted_mentions};
 
 use crate::keys::Keys;
 use crate::mark::{Stop, mark, pass};
-use keep_meaning::{Kind, Origin, Role};
+use keep_facts::{Kind, Origin, Role};
+use keep_meaning::why_of;
 use keep_nodes::{Holds, NodeFacts, Nodes};
 use keep_syntax::Why;
 use std::alloc::AllocError;
@@ -79,7 +80,7 @@ pub fn mark_key(
     let text = keys.part_text(nodes.allocator(), number)?;
     match mark(nodes, parent, text.as_str(), role, facts, holds) {
         Ok(to) => Ok(to),
-        Err(stop) => Err(fault_of(stop, number, role.why())),
+        Err(stop) => Err(fault_of(stop, number, why_of(role))),
     }
 }
 
@@ -103,7 +104,7 @@ pub fn walk_header(nodes: &mut Nodes, keys: Keys<'_>, statement: usize) -> Resul
         let part = keys.part_number(number);
         at = match pass(nodes, at, text.as_str(), part, statement) {
             Ok(to) => to,
-            Err(stop) => return Err(fault_of(stop, number, Role::Through.why())),
+            Err(stop) => return Err(fault_of(stop, number, why_of(Role::Through))),
         };
     }
     Ok(at)

@@ -16,7 +16,6 @@ mod spans;
 mod statement;
 
 pub use index::{Index, NodeId};
-pub use keep_meaning::{Kind, NodeInfo, Origin, Role};
+pub use keep_facts::{Kind, NodeInfo, Origin, Role, kind_of};
 pub use keep_path::{Path, PathFault, Step};
 pub use keep_syntax::Why;
-pub use kinds::kind_of;

@@ -11,7 +11,8 @@ ghost use Rattle.keep_rules.specs.AddedInfos.{AddsInfo, HeaderAdds, ItemAdds};
 ghost use Rattle.keep_nodes.specs.Facts.{info_of};
 ghost use Rattle.keep_nodes.specs.Trie.{Holding, by_key, by_index, holds_at, path_at, state_at};
 
-use keep_meaning::{Kind, Origin, Role, state_after};
+use keep_facts::{Kind, Origin, Role};
+use keep_meaning::state_after;
 use keep_nodes::{Holds, NodeFacts, Nodes, add_facts, add_item, add_key, child_of, set_role};
 use std::alloc::AllocError;
 

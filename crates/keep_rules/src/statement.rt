@@ -16,8 +16,9 @@ ghost use Rattle.keep_nodes.specs.Trie.{by_key, holds_at};
 use crate::build::{element, give_value, header};
 use crate::key_walk::Fault;
 use crate::keys::Keys;
-use crate::kinds::{holds_of_leaf, kind_of};
+use crate::kinds::holds_of_leaf;
 use crate::nested_values::{fault_from, push_id, read_nested};
+use keep_facts::kind_of;
 use keep_nodes::Nodes;
 use keep_syntax::{Parts, Statement, StatementKind};
 

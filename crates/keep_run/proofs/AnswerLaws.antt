@@ -18,7 +18,7 @@ use Rattle.keep_meaning.specs.Marks.{Mention, fact_of}
 use Rattle.keep_meaning.specs.Meaning.{mentions_in}
 use Rattle.keep_meaning.specs.Nodes.{is_at, is_node, fact_at, first_of, kind_at}
 use Rattle.keep_path.specs.Path.{Part}
-use Rattle.keep_meaning.specs.declared.node.Kind.{Kind}
+use Rattle.keep_facts.specs.declared.node.Kind.{Kind}
 use Rattle.keep_law.specs.declared.fault.EditFault.{EditFault}
 use Rattle.keep_law.specs.declared.fault.EditFault.TheVariants as fault
 use Rattle.keep_law.specs.Answers as answers

@@ -6,8 +6,8 @@ use Rattle.keep_token.specs.declared.leaf.Profile.TheVariants.{Strict, Wide}
 use Rattle.keep_syntax.specs.declared.fault.ReadFault.{ReadFault}
 use Rattle.keep_syntax.specs.declared.fault.ReadFault.TheVariants as read
 use Rattle.keep_syntax.specs.Tree.{Document, text}
-use Rattle.keep_meaning.specs.declared.node.Kind.{Kind}
-use Rattle.keep_meaning.specs.declared.node.Kind.TheVariants as kind
+use Rattle.keep_facts.specs.declared.node.Kind.{Kind}
+use Rattle.keep_facts.specs.declared.node.Kind.TheVariants as kind
 use Rattle.keep_path.specs.PathText.{encoded_path}
 use Rattle.keep_meaning.specs.ReadText.{IsReadFault}
 use Rattle.keep_law.specs.declared.fault.EditFault.{EditFault}

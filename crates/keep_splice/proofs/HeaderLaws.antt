@@ -16,11 +16,11 @@ use Rattle.std.proofs.lemmas.List.{map-append, drop_more, at_drop_all}
 use Rattle.std.proofs.lemmas.Bool.Decides.{nat_tests}
 use Rattle.keep_syntax.specs.Tree.{Line, Document}
 use Rattle.keep_syntax.specs.declared.fault.Why.{Why}
-use Rattle.keep_meaning.specs.declared.node.NodeInfo.{NodeInfo}
-use Rattle.keep_meaning.specs.declared.node.Origin.{Origin}
-use Rattle.keep_meaning.specs.declared.node.Origin.TheVariants as origin
-use Rattle.keep_meaning.specs.declared.role.Role.{Role}
-use Rattle.keep_meaning.specs.declared.role.Role.TheVariants as role
+use Rattle.keep_facts.specs.declared.node.NodeInfo.{NodeInfo}
+use Rattle.keep_facts.specs.declared.node.Origin.{Origin}
+use Rattle.keep_facts.specs.declared.node.Origin.TheVariants as origin
+use Rattle.keep_facts.specs.declared.role.Role.{Role}
+use Rattle.keep_facts.specs.declared.role.Role.TheVariants as role
 use Rattle.keep_meaning.specs.Counts.{Numbered, is_value, line_statement, statements_in, numbered_in}
 use Rattle.keep_meaning.specs.Marks.{Mention, Reading, Statement, start, reading_after, next_reading, marks, elements_of}
 use Rattle.keep_meaning.specs.Meaning.{statement_of, reading_after_lines, lines, mentions_in}

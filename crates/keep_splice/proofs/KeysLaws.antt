@@ -6,8 +6,8 @@ use Rattle.std.proofs.lemmas.List.{take-append-drop}
 use Rattle.std.proofs.lemmas.List.Folds.{list_any-append}
 use Rattle.keep_syntax.specs.Tree.{Document}
 use Rattle.keep_path.specs.Path.{Part, key, index, AreUtf8}
-use Rattle.keep_meaning.specs.declared.node.Origin.{Origin}
-use Rattle.keep_meaning.specs.declared.node.Origin.TheVariants as origin
+use Rattle.keep_facts.specs.declared.node.Origin.{Origin}
+use Rattle.keep_facts.specs.declared.node.Origin.TheVariants as origin
 use Rattle.keep_meaning.specs.Nodes.{is_dotted, value_number}
 use Rattle.keep_law.specs.Look.{is_index, keys_in, last_part}
 use Rattle.keep_law.proofs.Shared.{EndsInKey, IsDottedNode, dotted_ends, dotted_node, mention_with_number}

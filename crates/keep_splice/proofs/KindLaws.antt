@@ -15,10 +15,10 @@ use Rattle.keep_syntax.specs.Profiles.{is_allowed_in}
 use Rattle.keep_syntax.specs.Grammar.{place_in, AreEntries, IsValue}
 use Rattle.keep_path.specs.Path.{Part, key, same_path}
 use Rattle.keep_path.proofs.Shared.{path_decides}
-use Rattle.keep_meaning.specs.declared.node.Kind.{Kind}
-use Rattle.keep_meaning.specs.declared.node.NodeInfo.{NodeInfo}
-use Rattle.keep_meaning.specs.declared.role.Role.{Role}
-use Rattle.keep_meaning.specs.declared.role.Role.TheVariants.{Element}
+use Rattle.keep_facts.specs.declared.node.Kind.{Kind}
+use Rattle.keep_facts.specs.declared.node.NodeInfo.{NodeInfo}
+use Rattle.keep_facts.specs.declared.role.Role.{Role}
+use Rattle.keep_facts.specs.declared.role.Role.TheVariants.{Element}
 use Rattle.keep_meaning.specs.Counts.{Numbered, numbered_in, statements_in}
 use Rattle.keep_meaning.specs.Marks.{Mention, role_of, start, reading_after, elements_of, entered_path}
 use Rattle.keep_meaning.specs.Meaning.{body_fact, mentions_in}

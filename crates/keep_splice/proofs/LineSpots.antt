@@ -12,8 +12,8 @@ use Rattle.keep_parts.specs.declared.info.Statement.{Statement}
 use Rattle.keep_syntax.specs.Tree.{Value, Document, text}
 use Rattle.keep_syntax.specs.Numbered as syntax
 use Rattle.keep_path.specs.Path.{Part}
-use Rattle.keep_meaning.specs.declared.node.Origin.{Origin}
-use Rattle.keep_meaning.specs.declared.node.Origin.TheVariants as origin
+use Rattle.keep_facts.specs.declared.node.Origin.{Origin}
+use Rattle.keep_facts.specs.declared.node.Origin.TheVariants as origin
 use Rattle.keep_meaning.specs.Meaning.{mentions_in}
 use Rattle.keep_law.specs.Changed as changed
 use Rattle.keep_law.specs.Edits.{insert, place}

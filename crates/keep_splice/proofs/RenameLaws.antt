@@ -8,7 +8,7 @@ use Rattle.keep_token.specs.declared.leaf.Profile.{Profile}
 use Rattle.keep_token.specs.Encoded.{encoded_key}
 use Rattle.keep_parts.specs.declared.info.Span.{Span}
 use Rattle.keep_syntax.specs.Tree.{Document}
-use Rattle.keep_meaning.specs.declared.node.NodeInfo.{NodeInfo}
+use Rattle.keep_facts.specs.declared.node.NodeInfo.{NodeInfo}
 use Rattle.keep_meaning.specs.Meaning.{mentions_in}
 use Rattle.keep_rules.specs.declared.index.NodeId.{NodeId}
 use Rattle.keep_rules.specs.Lookup.{number_of}

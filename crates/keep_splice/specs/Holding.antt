@@ -2,10 +2,10 @@
 use Rattle.std.specs.Prelude.{◌≡◌, ◌⊎◌, ℕ, ◌+◌, suc, ◌≤◌, ◌<◌, Bool, true, false, List, [], length, take, Option, Some, None}
 use Rattle.keep_syntax.specs.Tree.{Document}
 use Rattle.keep_path.specs.Path.{Part}
-use Rattle.keep_meaning.specs.declared.node.Kind.{Kind}
-use Rattle.keep_meaning.specs.declared.node.Kind.TheVariants as kind
-use Rattle.keep_meaning.specs.declared.node.Origin.{Origin}
-use Rattle.keep_meaning.specs.declared.node.Origin.TheVariants as origin
+use Rattle.keep_facts.specs.declared.node.Kind.{Kind}
+use Rattle.keep_facts.specs.declared.node.Kind.TheVariants as kind
+use Rattle.keep_facts.specs.declared.node.Origin.{Origin}
+use Rattle.keep_facts.specs.declared.node.Origin.TheVariants as origin
 use Rattle.keep_meaning.specs.Counts.{one_if}
 use Rattle.keep_meaning.specs.Meaning.{mentions_in}
 use Rattle.keep_meaning.specs.Nodes.{is_node, node_number, node_paths}

@@ -6,7 +6,8 @@ ghost use Rattle.keep_rules.specs.ReadDocuments.{IsIndexOf};
 ghost use Rattle.keep_path.specs.Path.{key};
 ghost use Rattle.keep_splice.specs.Headers.{role_of, may_follow, opening, closing, key_texts, conflict_from, ConflictIs, EntersAt};
 
-use keep_meaning::Role;
+use keep_facts::Role;
+use keep_meaning::why_of;
 use keep_rules::{Index, NodeId, Origin, Why};
 
 /// The header of a table, or of an element of an array of tables.
@@ -92,7 +93,7 @@ fn enter(index: &Index, at: NodeId, name: &str) -> Result<Option<NodeId>, Why>
         return Ok(None);
     };
     match index.node(id).origin {
-        Origin::Value(_) => Err(Role::Through.why()),
+        Origin::Value(_) => Err(why_of(Role::Through)),
         Origin::Tables => {
             let count = index.child_count(id);
             Ok(index.child_at(id, count.saturating_sub(1)))
@@ -112,6 +113,6 @@ fn check_last(index: &Index, at: NodeId, name: &str, header: Header) -> Result<(
     if header.may_follow(index.node(id).origin) {
         Ok(())
     } else {
-        Err(header.role().why())
+        Err(why_of(header.role()))
     }
 }

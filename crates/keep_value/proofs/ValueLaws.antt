@@ -17,10 +17,10 @@ use Rattle.keep_syntax.specs.Grammar.{IsValue, ReadsValue}
 use Rattle.keep_syntax.specs.Contract.{IsValueSyntaxOf, value_values_of, alone}
 use Rattle.keep_syntax.specs.Numbered.{info}
 use Rattle.keep_parts.specs.declared.info.ValueInfo.{ValueInfo}
-use Rattle.keep_meaning.specs.declared.node.Kind.{Kind}
-use Rattle.keep_meaning.specs.declared.node.Kind.TheVariants as kind
+use Rattle.keep_facts.specs.declared.node.Kind.{Kind}
+use Rattle.keep_facts.specs.declared.node.Kind.TheVariants as kind
 use Rattle.keep_meaning.specs.Nodes.{fact_kind}
-use Rattle.keep_rules.specs.FlatValues.{leaf_kind}
+use Rattle.keep_facts.specs.Kinds.{leaf_kind}
 use Rattle.keep_rules.proofs.Shared.{kind_of_body}
 use Rattle.keep_syntax.specs.Profiles.{is_allowed_in}
 use Rattle.keep_syntax.proofs.Shared.{allowed_value, value_allowed, reads_value_wider, one_value}

@@ -7,7 +7,7 @@ use Rattle.keep_syntax.specs.declared.fault.ReadFault.TheVariants.{Memory}
 use Rattle.keep_syntax.specs.Limit.{standard_depth}
 use Rattle.keep_syntax.specs.Tree.{Value, value_depth}
 use Rattle.keep_syntax.specs.Grammar.{IsValue}
-use Rattle.keep_meaning.specs.declared.node.Kind.{Kind}
+use Rattle.keep_facts.specs.declared.node.Kind.{Kind}
 use Rattle.keep_meaning.specs.Fact.{Fact}
 use Rattle.keep_meaning.specs.Meaning.{mentions_of_value, body_fact}
 use Rattle.keep_meaning.specs.Nodes.{fact_at, fact_kind}

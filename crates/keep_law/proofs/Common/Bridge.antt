@@ -3,7 +3,7 @@ use Rattle.std.proofs.Common.{◌≡◌, ℕ, zero, suc, ◌<◌, Bool, true, Li
 use Rattle.std.specs.Prelude.{IsTrue, AllPairs}
 use Rattle.std.specs.List.{cons_option}
 use Rattle.std.proofs.lemmas.List.Kept.{AllPairs-cons}
-use Rattle.keep_meaning.specs.declared.role.Role.{Role}
+use Rattle.keep_facts.specs.declared.role.Role.{Role}
 use Rattle.keep_meaning.specs.Rules.{allows, Allows, ObeysRules}
 use Rattle.keep_meaning.specs.Marks.{MentionKind, through, past, define, element, dotted, value, begun, passed, item, Mention, role_of, with_path, marks}
 use Rattle.keep_law.proofs.Common.Runs.{AllOf, Pairs, Allowed, Rules, kinds_allow}

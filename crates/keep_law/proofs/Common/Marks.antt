@@ -5,7 +5,7 @@ use Rattle.std.specs.List.{cons_option}
 use Rattle.keep_token.specs.declared.leaf.Profile.{Profile}
 use Rattle.keep_syntax.specs.Tree.{Value, Document}
 use Rattle.keep_syntax.specs.Grammar.{IsValue, IsDocument}
-use Rattle.keep_meaning.specs.declared.role.Role.{Role}
+use Rattle.keep_facts.specs.declared.role.Role.{Role}
 use Rattle.keep_path.specs.Path.{Part}
 use Rattle.keep_meaning.specs.Rules.{Allows, ObeysRules}
 use Rattle.keep_meaning.specs.Marks.{Mention, role_of, with_path, marks}

@@ -18,7 +18,7 @@ use Rattle.keep_syntax.specs.Tree.{Value, keyval, Document, text}
 use Rattle.keep_syntax.specs.Grammar.{IsDocument}
 use Rattle.keep_syntax.specs.Numbered as syntax
 use Rattle.keep_path.specs.Path.{Part, key}
-use Rattle.keep_meaning.specs.declared.node.Origin.TheVariants as origin
+use Rattle.keep_facts.specs.declared.node.Origin.TheVariants as origin
 use Rattle.keep_meaning.specs.Marks.{start}
 use Rattle.keep_meaning.specs.Meaning.{lines, mentions_in}
 use Rattle.keep_meaning.specs.Counts.{is_value, numbered_in}

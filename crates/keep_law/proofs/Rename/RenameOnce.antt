@@ -2,7 +2,7 @@
 use Rattle.std.proofs.Common.{◌≡◌, ℕ, ◌+◌, ◌≤◌, Bool, true, false, cond, List, [], ◌∷◌, ◌++◌, map, refl, sym, ap, subst, ◌∙◌, arith, Option, Some, None, inl, inr}
 use Rattle.std.specs.List.{count_by, cons_option}
 use Rattle.std.proofs.lemmas.List.Sums.{sum_by-append}
-use Rattle.keep_meaning.specs.declared.role.Role.{Role}
+use Rattle.keep_facts.specs.declared.role.Role.{Role}
 use Rattle.keep_path.specs.Path.{Part, same_path}
 use Rattle.keep_meaning.specs.Rules.{Mark}
 use Rattle.keep_meaning.specs.Marks.{MentionKind, through, past, define, element, dotted, value, begun, passed, item, Mention, below, role_of, with_path, marks}

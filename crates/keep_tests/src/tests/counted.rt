@@ -1,5 +1,5 @@
 //! A `Counted` hands on the errors of the inner one: no clause can say so.
-use keep_app::Counted;
+use keep_run::counted::Counted;
 use std::io;
 use std::io::{ErrorKind, Read, Write};
 

@@ -1,5 +1,5 @@
 //! The words of a command line that a fake environment gives.
-use keep_app::{GivenFault, given_words};
+use keep_words::{GivenFault, given_words};
 use std::alloc::Global;
 use std::env::{Env, FillError};
 use std::test::Fail;

@@ -1,8 +1,11 @@
 //! Runs over readers and writers that answer little at a time, fail, or never end. tests/rows shows the answers.
 ghost use Rattle.keep_run.specs.Counted.{IsFresh};
 
-use keep_app::{Command, Counted, Done, RunFault, run};
 use keep_edit::{Edit, Path, PathFault, ReadFault, ValueText};
+use keep_run::command::Command;
+use keep_run::counted::Counted;
+use keep_run::fault::RunFault;
+use keep_run::run::{Done, run};
 use std::alloc::{AllocError, Global};
 use std::io;
 use std::io::{ErrorKind, Read, Write};

@@ -1,5 +1,5 @@
 use Rattle.std.proofs.Common.{ap, sym, refl, ◌∙◌, subst}
-use Rattle.keep_meaning.specs.declared.node.NodeInfo.{NodeInfo}
+use Rattle.keep_facts.specs.declared.node.NodeInfo.{NodeInfo}
 use Rattle.keep_nodes.specs.AllNodes.{Node, no_node, node_at}
 use Rattle.keep_nodes.specs.Stored.{IsStored, trie_of, infos_of}
 use Rattle.keep_nodes.proofs.StoredLemmas.{IsChanged, trie_of_preserved, stored_preserved, infos_changed}

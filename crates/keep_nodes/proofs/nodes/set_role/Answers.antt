@@ -1,6 +1,6 @@
 use Rattle.std.proofs.Common.{List, ap, sym, refl, ◌∙◌, subst, Some}
 use Rattle.indexmap.proofs.MapLemmas.{OnOk-map}
-use Rattle.keep_meaning.specs.declared.node.NodeInfo.{NodeInfo}
+use Rattle.keep_facts.specs.declared.node.NodeInfo.{NodeInfo}
 use Rattle.keep_nodes.specs.AllNodes.{Node, no_node, node_at}
 use Rattle.keep_nodes.specs.Growth.{Restates}
 use Rattle.keep_nodes.specs.Stored.{IsStored, trie_of, infos_of}

@@ -2,9 +2,9 @@
 use Rattle.std.proofs.Common.{◌≡◌, ◌+◌, ◌-◌, ◌<◌, length, [], ◌∷◌, ◌++◌, ap, sym, ◌∙◌, subst, refl, arith}
 use Rattle.std.proofs.lemmas.List.{length-map}
 use Rattle.std.proofs.lemmas.Result.{err_from_is_err_and}
-use Rattle.keep_meaning.specs.declared.node.Kind.TheVariants as kind
-use Rattle.keep_meaning.specs.declared.node.NodeInfo.{NodeInfo}
-use Rattle.keep_meaning.specs.declared.node.Origin.TheVariants as origin
+use Rattle.keep_facts.specs.declared.node.Kind.TheVariants as kind
+use Rattle.keep_facts.specs.declared.node.NodeInfo.{NodeInfo}
+use Rattle.keep_facts.specs.declared.node.Origin.TheVariants as origin
 use Rattle.keep_path.specs.Path.{key}
 use Rattle.keep_nodes.specs.Facts.{named_info}
 use Rattle.keep_nodes.specs.Stored.{trie_node_in, trie_of, infos_of}

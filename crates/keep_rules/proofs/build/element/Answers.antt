@@ -1,6 +1,6 @@
 use Rattle.std.proofs.Common.{ℕ, ◌+◌, ◌-◌, [], ◌∷◌, ◌++◌, refl}
 use Rattle.std.proofs.lemmas.Result.{err_from_is_err_and, IfOk-weaker, IfErr-weaker, on_ok_weaker}
-use Rattle.keep_meaning.specs.declared.role.Role.TheVariants.{Element}
+use Rattle.keep_facts.specs.declared.role.Role.TheVariants.{Element}
 use Rattle.keep_path.specs.Path.{key}
 use Rattle.keep_rules.specs.AddedInfos.{HeaderAdds, begin_mentions}
 use Rattle.keep_nodes.specs.Trie.{path_at}

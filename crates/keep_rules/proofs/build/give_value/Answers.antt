@@ -1,9 +1,9 @@
 use Rattle.std.proofs.Common.{◌≡◌, ℕ, ◌-◌, List, [], ◌∷◌, ◌++◌, ap, ◌∙◌, subst, refl, arith}
 use Rattle.std.proofs.lemmas.Result.{err_from_is_err_and, IfOk-weaker, IfErr-weaker}
 use Rattle.keep_syntax.specs.declared.fault.Why.{Why}
-use Rattle.keep_meaning.specs.declared.node.NodeInfo.{NodeInfo}
-use Rattle.keep_meaning.specs.declared.node.Origin.TheVariants as origin
-use Rattle.keep_meaning.specs.declared.role.Role.TheVariants.{Value}
+use Rattle.keep_facts.specs.declared.node.NodeInfo.{NodeInfo}
+use Rattle.keep_facts.specs.declared.node.Origin.TheVariants as origin
+use Rattle.keep_facts.specs.declared.role.Role.TheVariants.{Value}
 use Rattle.keep_nodes.specs.Facts.{info_of, named_info}
 use Rattle.keep_nodes.specs.Children.{holding}
 use Rattle.keep_meaning.specs.Fact.{Fact}

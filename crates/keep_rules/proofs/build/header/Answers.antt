@@ -1,9 +1,9 @@
 use Rattle.std.proofs.Common.{ℕ, ◌+◌, ◌-◌, [], ◌∷◌, ◌++◌, ap, ◌∙◌, subst, refl, arith}
 use Rattle.std.proofs.lemmas.Result.{err_from_is_err_and, IfOk-weaker, IfErr-weaker, on_ok_weaker}
-use Rattle.keep_meaning.specs.declared.node.Kind.TheVariants as kind
-use Rattle.keep_meaning.specs.declared.node.NodeInfo.{NodeInfo}
-use Rattle.keep_meaning.specs.declared.node.Origin.TheVariants as origin
-use Rattle.keep_meaning.specs.declared.role.Role.TheVariants.{Define}
+use Rattle.keep_facts.specs.declared.node.Kind.TheVariants as kind
+use Rattle.keep_facts.specs.declared.node.NodeInfo.{NodeInfo}
+use Rattle.keep_facts.specs.declared.node.Origin.TheVariants as origin
+use Rattle.keep_facts.specs.declared.role.Role.TheVariants.{Define}
 use Rattle.keep_nodes.specs.Facts.{info_of, named_info}
 use Rattle.keep_rules.specs.Keys.{last_text}
 use Rattle.keep_path.specs.Path.{key}

@@ -41,9 +41,9 @@ returns c =
       stored = tt;
       ok = tt;
       facts = tt;
-      define = meets_fault c.in-Err.stop c.args.number c.why.result c.fault_of.result (StopsAt old p c.args.role c.args.number) c.fault_of.ensures (λ stops. record {
+      define = meets_fault c.in-Err.stop c.args.number c.why_of.result c.fault_of.result (StopsAt old p c.args.role c.args.number) c.fault_of.ensures (λ stops. record {
         place = refl;
-        reason = c.why.ensures;
+        reason = c.why_of.ensures;
         refused = subst (λ (t : List ℕ). WasRefused old (path_at old c.args.parent ++ key t ∷ []) c.args.role) is (c.in-Err.ensures.refused (ap Err stops));
       });
     }

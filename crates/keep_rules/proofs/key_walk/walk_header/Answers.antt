@@ -57,8 +57,8 @@ returns-in-Err c =
       keyed = tt;
       ok = tt;
       facts = tt;
-      define = meets_fault c.in-Err.stop number c.why.result c.fault_of.result Mentions c.fault_of.ensures (λ stops.
-          subst (λ (w : Why). Mentions number w) (sym c.why.ensures)
+      define = meets_fault c.in-Err.stop number c.why_of.result c.fault_of.result Mentions c.fault_of.ensures (λ stops.
+          subst (λ (w : Why). Mentions number w) (sym c.why_of.ensures)
           (walk_stops old (trie_of c.loop-number.nodes.items) c.loop-number.at keys c.requires.keys number c.as_str.result.now (omega arith) is c.loop-number.invariant.walked
           (c.in-Err.ensures.refused (ap Err stops)) (c.in-Err.ensures.plain (ap Err stops))));
     }

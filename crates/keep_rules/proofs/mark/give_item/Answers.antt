@@ -1,6 +1,6 @@
 use Rattle.std.proofs.Common.{◌≡◌, ◌∷◌, ◌++◌, [], sym, ◌∙◌, subst}
 use Rattle.std.proofs.lemmas.List.{length-map}
-use Rattle.keep_meaning.specs.declared.node.NodeInfo.{NodeInfo}
+use Rattle.keep_facts.specs.declared.node.NodeInfo.{NodeInfo}
 use Rattle.keep_nodes.specs.Children.{holding}
 use Rattle.keep_nodes.specs.Stored.{trie_node_in, trie_of, infos_of}
 use Rattle.keep_rules.proofs.StepLemmas.{adds_item}

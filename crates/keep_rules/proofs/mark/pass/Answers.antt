@@ -1,8 +1,8 @@
 use Rattle.std.proofs.Common.{◌≡◌, List, ◌∷◌, ◌++◌, [], length, subst, ap, sym, arith}
 use Rattle.std.proofs.lemmas.List.{length-map}
 use Rattle.std.proofs.lemmas.Result.{on_ok_weaker}
-use Rattle.keep_meaning.specs.declared.node.NodeInfo.{NodeInfo}
-use Rattle.keep_meaning.specs.declared.role.Role.TheVariants.{Through}
+use Rattle.keep_facts.specs.declared.node.NodeInfo.{NodeInfo}
+use Rattle.keep_facts.specs.declared.role.Role.TheVariants.{Through}
 use Rattle.keep_path.specs.Path.{Part, key}
 use Rattle.keep_nodes.specs.Stored.{trie_node_in, trie_of}
 use Rattle.keep_nodes.specs.Facts.{info_of}

@@ -1,7 +1,7 @@
 -- The facts go to the node of the array of tables, and then to that of its last element.
 use Rattle.std.proofs.Common.{◌≡◌, ℕ, length, slice_set, subst, ap, refl, ◌∙◌, arith, List}
 use Rattle.std.proofs.lemmas.List.{length-map}
-use Rattle.keep_meaning.specs.declared.node.NodeInfo.{NodeInfo}
+use Rattle.keep_facts.specs.declared.node.NodeInfo.{NodeInfo}
 use Rattle.keep_nodes.specs.Stored.{trie_node_in, trie_of, infos_of, info_at}
 use Rattle.keep_nodes.specs.Facts.{info_of, joined_info}
 use Rattle.keep_nodes.specs.Trie.{TrieNode, paths_of, path_at}

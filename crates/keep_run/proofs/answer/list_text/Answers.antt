@@ -1,5 +1,5 @@
 use Rattle.std.proofs.Common.{◌≤◌, ◌∙◌, ap, subst, slice_get, string_bytes, Option}
-use Rattle.keep_meaning.specs.declared.node.Kind.{Kind}
+use Rattle.keep_facts.specs.declared.node.Kind.{Kind}
 use Rattle.keep_edit.specs.Answers.{entries_of, AddsEntryPath}
 use Rattle.keep_edit.specs.declared.document.Counts.{Counts}
 use Rattle.keep_run.specs.Answer.{lines_of}

@@ -14,4 +14,4 @@ returns-then-may_follow c = λ s h. last_met s c.args.index.now h (path_numbered
 pub returns-else-may_follow : goal.returns-else-may_follow
 returns-else-may_follow c = λ s h.
     last_met s c.args.index.now h (path_numbered c.args.index.now c.args.at.0) c.args.name.now c.in-Some.id c.node.result c.args.header false c.child.result c.in-Some.is c.child.ensures.found c.node.ensures (sym c.may_follow.ensures ∙ c.if-may_follow.false)
-    ∙ ap Some (ap why_of (sym c.role.ensures) ∙ sym c.why.ensures)
+    ∙ ap Some (ap why_of (sym c.role.ensures) ∙ sym c.why_of.ensures)

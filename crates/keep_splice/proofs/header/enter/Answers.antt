@@ -9,7 +9,7 @@ returns-in_default c = λ s h. enters_none s c.args.index.now h _ (sym c.child.e
 pub returns-in-Value : goal.returns-in-Value
 returns-in-Value c = λ s h. (
   (enters_refused s c.args.index.now h (path_numbered c.args.index.now c.args.at.0) c.args.name.now c.in-Some.id c.node.result c.child.result c.in-Some.is c.child.ensures.found c.node.ensures c.in-Value.field-0 c.in-Value.is).0,
-  c.why.ensures,
+  c.why_of.ensures,
 )
 
 pub returns-in-Tables : goal.returns-in-Tables
