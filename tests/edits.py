@@ -13,6 +13,9 @@ edit outside of its function's body (a table, a constant) has a check of its own
 An edit without that line is of a definition or a proof, on which much may rest. It is made alone, and the whole crate is
 checked.
 
+What counts is that a statement is refused: not that the prover cannot read the edit, and not that a proof names what the edit
+takes away. Each file of must-fail/ is an edit, but for those that end in .md.
+
 The checks of a crate begin with what those before them kept of the same texts, and the first with nothing. That each
 crate is proved as it stands is shown by the gate.
 """
@@ -34,9 +37,10 @@ PARTS = ("src", "specs", "proofs")
 FUNCTION = "# refused in: "
 # A function's name, or the end of an item.
 FN_OR_END = re.compile(r"^ *(?:pub(?:\([a-z ]+\))? )?(?:const )?(?:unsafe )?fn (\w+)|^}", re.M)
-# What the prover says of a function that calls one which it refused, of one of which it could not prove a goal, and where a
-# proof names what is no longer there.
+# What the prover says of a function that calls one which it refused, of a text that it could not read, of a function of which
+# it could not prove a goal, and where a proof names what is no longer there.
 CALLS = re.compile(r"it calls .*not proved")
+NO_TERM = re.compile(r"is not in scope|has no field|is no name|operand is missing|expected the end|cannot continue")
 UNPROVED = re.compile(r"^no proof: expected answers in .*`search` did not prove `")
 NO_NAME = re.compile(r"\./proofs/.*(has no field|is not in scope|has no `|was not admitted)")
 
@@ -73,6 +77,7 @@ class Edit:
 
 
 def read_edit(file):
+    """The edit of a file crates/CRATE/must-fail/NAME.edit."""
     changes, path, old, function = [], "", "", ""
     for line in file.read_text(encoding="utf-8").split("\n"):
         if line.startswith("file: "):
@@ -87,7 +92,8 @@ def read_edit(file):
 
 
 def edits_of(crate):
-    return [read_edit(it) for it in sorted((ROOT / "crates" / crate / "must-fail").glob("*.edit"))]
+    files = (ROOT / "crates" / crate / "must-fail").glob("*")
+    return [read_edit(it) for it in sorted(files) if it.suffix != ".md"]
 
 
 @dataclass
@@ -137,11 +143,12 @@ class Checks:
         return [self.told(edit, said, len(edits) == 1) for edit in edits]
 
     def told(self, edit, said, is_alone):
-        """What a check says of an edit's function."""
+        """What a check says of an edit's function. A table or a definition may break a goal anywhere."""
         begin = f"fn {self.crate}::{edit.function}: "
         line = next((it.removeprefix(begin) for it in said if it.startswith(begin)), None)
-        if line is None or not said[-1].startswith("only="):
-            return Tried(edit, False, f"no check of its function: {first_error(said)}") if is_alone else None
+        unread = next((it for it in said if is_unread(it, edit)), None)
+        if line is None or unread or not said[-1].startswith("only="):
+            return Tried(edit, False, f"no check of its function: {unread or first_error(said)}") if is_alone else None
         if line == "proved":
             return Tried(edit, False, "its function is proved with it")
         place = f"./proofs/{edit.function.replace('::', '/')}/"
@@ -149,11 +156,7 @@ class Checks:
         own = next((it for it in errors if not NO_NAME.match(it)), line if UNPROVED.match(line) else None)
         if own and not (is_alone and CALLS.search(line)):
             return Tried(edit, True, own)
-        if not is_alone and CALLS.search(line):
-            return None
-        if errors and line.startswith("not proved"):
-            return Tried(edit, True, f"(only because a proof names what the edit took away) {errors[0]}")
-        return Tried(edit, False, line) if is_alone else None
+        return Tried(edit, False, f"no goal says so: {first_error(errors or [line])}") if is_alone else None
 
     def alone(self, edit):
         """What becomes of the crate with an edit."""
@@ -163,8 +166,19 @@ class Checks:
         if edit.function:
             return self.together([edit])[0]
         status, said = self.run(texts)
-        is_refused = status == 1 and said[-1].startswith("logic=not-proved")
-        return Tried(edit, is_refused, first_error(said) if status else "the crate is proved with it")
+        if status == 0:
+            return Tried(edit, False, "the crate is proved with it")
+        unread = next((it for it in said if is_unread(it, edit)), None)
+        is_refused = status == 1 and said[-1].startswith("logic=not-proved") and not unread
+        return Tried(edit, is_refused, unread or first_error(said))
+
+
+def is_unread(line, edit):
+    """Whether the prover could not read a text of src/, of specs/ or of the edit, where a false statement reads well."""
+    found = re.match(r"(?:\./)?(\S+?):\d+:\d+: error: (`[^`]*`: )?(.*)", line)
+    if not found or not found[1].startswith(("src/", "specs/")) and found[1] not in [path for path, *_ in edit.changes]:
+        return False
+    return not found[2] or bool(NO_TERM.search(re.sub(r"`[^`]*`", "", found[3])))
 
 
 def first_error(said):
