@@ -1,5 +1,5 @@
 -- The facts about the nodes so far, and how more facts are joined with them.
-use Rattle.std.specs.Prelude.{ℕ, ◌+◌, ◌==◌, true, false, ◌||◌, nat_le, min, ◌^◌, ◌-◌, if◌then◌else◌, List, [], ◌∷◌, Some, None, slice_set, slice_index_or}
+use Rattle.std.specs.Prelude.{ℕ, ◌+◌, ◌==◌, true, false, ◌||◌, nat_le, min, ◌^◌, ◌-◌, if◌then◌else◌, List, [], ◌∷◌, map, Some, None, slice_set, slice_index_or}
 use Rattle.keep_facts.specs.declared.node.Kind.{Kind}
 use Rattle.keep_facts.specs.declared.node.Kind.TheVariants as kind
 use Rattle.keep_facts.specs.declared.node.Origin.{Origin}
@@ -8,7 +8,7 @@ use Rattle.keep_facts.specs.declared.node.NodeInfo.{NodeInfo}
 use Rattle.keep_nodes.specs.declared.facts.OriginKind.{OriginKind}
 use Rattle.keep_nodes.specs.declared.facts.OriginKind.TheVariants as origin_kind
 use Rattle.keep_nodes.specs.declared.facts.NodeFacts.{NodeFacts}
-use Rattle.keep_path.specs.Path.{Part}
+use Rattle.keep_path.specs.Path.{Part, moved_path}
 
 -- ---- one node
 
@@ -104,3 +104,7 @@ root_infos = record { paths = [] ∷ []; infos = no_info ∷ [] }
 -- with another kind of one node
 abbrev pub with_kind : NodeInfos → ℕ → Kind → NodeInfos
 with_kind t i k = record t { infos = slice_set t.infos i (record (slice_index_or t.infos i no_info) { kind = k }) }
+
+-- with another path of one node, and so of all below it
+abbrev pub with_path : NodeInfos → List Part → List Part → NodeInfos
+with_path t from to = record t { paths = map (moved_path from to) t.paths }

@@ -1,5 +1,5 @@
 -- Paths: lists of keys and indexes, from the root, or from a value. (TOML 1.0.0: Keys, Array, Array of Tables)
-use Rattle.std.specs.Prelude.{ℕ, Bool, false, ◌==◌, List, [], ◌∷◌, IsUtf8}
+use Rattle.std.specs.Prelude.{ℕ, Bool, true, false, ◌==◌, List, [], ◌∷◌, ◌++◌, Option, Some, None, IsUtf8}
 use Rattle.std.specs.Str.{bytes_eq}
 use Rattle.std.specs.Cmp.Lexicographic.{pointwise}
 
@@ -28,3 +28,15 @@ abbrev pub AreUtf8 : List Part → Type 0
 AreUtf8 [] = Unit {0}
 AreUtf8 (key text ∷ parts) = IsUtf8 text × AreUtf8 parts
 AreUtf8 (index n ∷ parts) = AreUtf8 parts
+
+-- ---- prefixes
+
+-- what is left of a path after a prefix of it
+abbrev pub strip : List Part → List Part → Option (List Part)
+strip [] path = Some path
+strip (p ∷ ps) [] = None
+strip (p ∷ ps) (q ∷ qs) = elim (same_part p q) [ true ↦ strip ps qs | false ↦ None ]
+
+-- a path at or below `from`, with `to` in place of that; any other path as it is
+abbrev pub moved_path : List Part → List Part → List Part → List Part
+moved_path from to path = elim (strip from path) [ None ↦ path | Some more ↦ to ++ more ]
