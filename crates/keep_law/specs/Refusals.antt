@@ -1,5 +1,5 @@
 -- The refusals of an edit, in their order, by what the document says.
-use Rattle.std.specs.Prelude.{ℕ, ◌+◌, Bool, true, false, not, ◌&&◌, ◌||◌, nat_lt, ◌==◌, if◌then◌else◌, List, [], ◌∷◌, ◌++◌, length, drop, Option, Some, None}
+use Rattle.std.specs.Prelude.{ℕ, ◌+◌, Bool, true, false, not, ◌&&◌, ◌||◌, nat_lt, ◌==◌, if◌then◌else◌, List, [], ◌∷◌, length, drop, Option, Some, None}
 use Rattle.std.specs.List.{list_any, filter_map}
 use Rattle.std.specs.Option.{option_map}
 use Rattle.keep_token.specs.declared.leaf.Profile.{Profile}
@@ -8,7 +8,8 @@ use Rattle.keep_syntax.specs.Profiles.{is_allowed_in}
 use Rattle.keep_syntax.specs.declared.fault.Why.{Why}
 use Rattle.keep_law.specs.declared.fault.EditFault.{EditFault}
 use Rattle.keep_law.specs.declared.fault.EditFault.TheVariants as fault
-use Rattle.keep_path.specs.Path.{Part, key}
+use Rattle.keep_path.specs.Path.{Part}
+pub use Rattle.keep_path.specs.Path.{beside}
 use Rattle.keep_meaning.specs.Rules.{Mark}
 use Rattle.keep_meaning.specs.Faults.{first_fault_after}
 use Rattle.keep_meaning.specs.Marks.{Mention, Statement, header, element_header, statement_mentions, Reading, marks}
@@ -35,10 +36,6 @@ is_foreign profile value = not (is_allowed_in profile value)
 
 abbrev pub ends_in_index : List Part → Bool
 ends_in_index path = elim (last_part path) [ None ↦ false | Some part ↦ is_index part ]
-
--- the name of a new sibling
-abbrev pub beside : List Part → List ℕ → List Part
-beside path text = without_last path ++ key text ∷ []
 
 -- a keyval, an item, a table that is written once, or an element that no header goes past
 abbrev pub is_one_piece : List Part → List Mention → Bool

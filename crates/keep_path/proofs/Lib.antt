@@ -1,5 +1,6 @@
 mod ByteLaws
 mod PathLemmas
+mod MovedLemmas
 mod PathTextLaws
 mod PathReadLaws
 mod FirstIndexLaws

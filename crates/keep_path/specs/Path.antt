@@ -1,5 +1,5 @@
 -- Paths: lists of keys and indexes, from the root, or from a value. (TOML 1.0.0: Keys, Array, Array of Tables)
-use Rattle.std.specs.Prelude.{ℕ, Bool, true, false, ◌==◌, List, [], ◌∷◌, ◌++◌, Option, Some, None, IsUtf8}
+use Rattle.std.specs.Prelude.{◌≡◌, ℕ, Bool, true, false, ◌==◌, List, [], ◌∷◌, ◌++◌, Option, Some, None, IsUtf8}
 use Rattle.std.specs.Str.{bytes_eq}
 use Rattle.std.specs.Cmp.Lexicographic.{pointwise}
 
@@ -28,6 +28,27 @@ abbrev pub AreUtf8 : List Part → Type 0
 AreUtf8 [] = Unit {0}
 AreUtf8 (key text ∷ parts) = IsUtf8 text × AreUtf8 parts
 AreUtf8 (index n ∷ parts) = AreUtf8 parts
+
+-- ---- the last step
+
+-- the last part, and what comes before it
+abbrev pub last_part : List Part → Option Part
+last_part [] = None
+last_part (p ∷ []) = Some p
+last_part (p ∷ q ∷ ps) = last_part (q ∷ ps)
+
+abbrev pub without_last : List Part → List Part
+without_last [] = []
+without_last (p ∷ []) = []
+without_last (p ∷ q ∷ ps) = p ∷ without_last (q ∷ ps)
+
+-- its last step is a key
+abbrev pub EndsInKey : List Part → Type 0
+EndsInKey path = (text : List ℕ) × (last_part path ≡ Some (key text))
+
+-- the path with this key in place of its last step: the name of a new sibling
+abbrev pub beside : List Part → List ℕ → List Part
+beside path text = without_last path ++ key text ∷ []
 
 -- ---- prefixes
 
