@@ -1,6 +1,8 @@
 pub mod TrieLemmas
 pub mod GrowthLemmas
 pub mod NewNodeLemmas
+pub mod NewKeyLemmas
+pub mod StoredKeyLemmas
 pub mod KeyMapLemmas
 pub mod NodeRowLemmas
 pub mod StoredLemmas

@@ -59,7 +59,7 @@ by_names Bare text h = cc
 by_names (Keyed pairs) text h = refl
 by_names (Listed ids) text h = cc
 
-ids_named : (c : ChildList) → holds_of c ≡ by_key → child_ids c ≡ map (λ e. e.1) (named c)
+pub ids_named : (c : ChildList) → holds_of c ≡ by_key → child_ids c ≡ map (λ e. e.1) (named c)
 ids_named Bare h = cc
 ids_named (Keyed pairs) h = refl
 ids_named (Listed ids) h = cc
@@ -93,7 +93,7 @@ key_missing c text k keyed is low same = missing text (named c) (sym (by_names c
 pub length_trie_of : (nodes : List Node) → length (trie_of nodes) ≡ length nodes
 length_trie_of nodes = length-map nodes (trie_node_in nodes)
 
-here : (nodes : List Node) (i : ℕ) (d : Node) (u : TrieNode) → i < length nodes → get_or (trie_of nodes) i u ≡ trie_node_in nodes (get_or nodes i d)
+pub here : (nodes : List Node) (i : ℕ) (d : Node) (u : TrieNode) → i < length nodes → get_or (trie_of nodes) i u ≡ trie_node_in nodes (get_or nodes i d)
 here nodes i d u h = get_or-map (trie_node_in nodes) nodes i d u h
 
 pub keyed_node : (nodes : List Node) (i : ℕ) (d : Node) → i < length nodes → holds_at (trie_of nodes) i ≡ holds_of (get_or nodes i d).children
@@ -111,7 +111,7 @@ role_read nodes id d h =
     get_or-map (λ (t : TrieNode). t.state) (trie_of nodes) id u None (omega (arith, h, length_trie_of nodes)) ∙ ap (λ (t : TrieNode). t.state) (here nodes id d u h)
 
 -- a step below a node that is there
-step_below : (nodes : List Node) (p : ℕ) (d : Node) (n : ℕ) → p < length nodes → step_in (slice_get nodes p) n ≡ step_at (named (get_or nodes p d).children) (holds_of (get_or nodes p d).children) n
+pub step_below : (nodes : List Node) (p : ℕ) (d : Node) (n : ℕ) → p < length nodes → step_in (slice_get nodes p) n ≡ step_at (named (get_or nodes p d).children) (holds_of (get_or nodes p d).children) n
 step_below nodes p d n h = ap (λ o. step_in o n) (slice_get-get_or nodes p d h)
 
 -- the k-th child of a node
@@ -332,7 +332,7 @@ trie_node_last nodes parent d kids new part added =
 states_are : (nodes : List Node) → states_of (trie_of nodes) ≡ map (λ (n : Node). n.facts.role) nodes
 states_are nodes = map-map (λ (t : TrieNode). t.state) (trie_node_in nodes) nodes
 
-holdings_are : (nodes : List Node) → holdings_of (trie_of nodes) ≡ map (λ (n : Node). holds_of n.children) nodes
+pub holdings_are : (nodes : List Node) → holdings_of (trie_of nodes) ≡ map (λ (n : Node). holds_of n.children) nodes
 holdings_are nodes = map-map (λ (t : TrieNode). t.holds) (trie_node_in nodes) nodes
 
 -- of all nodes, where the changed one is as it was
@@ -477,7 +477,7 @@ pub record IsChanged (nodes : List Node) (id : ℕ) (d changed : Node) : Type 0 
   pub children : changed.children ≡ (get_or nodes id d).children
 
 -- what the change leaves as it was
-preserved_changed : {X : Type 0} (f : Node → X) (nodes : List Node) (id : ℕ) (d changed : Node) → id < length nodes → f changed ≡ f (get_or nodes id d) → (i : ℕ) (e : Node) → f (get_or (set nodes id changed) i e) ≡ f (get_or nodes i e)
+pub preserved_changed : {X : Type 0} (f : Node → X) (nodes : List Node) (id : ℕ) (d changed : Node) → id < length nodes → f changed ≡ f (get_or nodes id d) → (i : ℕ) (e : Node) → f (get_or (set nodes id changed) i e) ≡ f (get_or nodes i e)
 preserved_changed f nodes id d changed within same i e = elim (cases_eq i id) [
   | inl at ↦ ap (λ k. f (get_or (set nodes id changed) k e)) at ∙ ap f (get_or-set_same nodes id changed e within) ∙ same ∙ ap f (get_or_default nodes id d e within) ∙ ap (λ k. f (get_or nodes k e)) (sym at)
   | inr other ↦ ap f (get_or-set_other nodes id i changed e other)

@@ -82,16 +82,20 @@ children_all n i (l ∷ ls) (suc j) e h is =
 pub length-paths_of : (nodes : List TrieNode) → 0 < length nodes → length (paths_of nodes) ≡ length nodes
 length-paths_of nodes h = omega (arith, length-paths ([] ∷ []) (drop 1 (map link nodes)), length-drop 1 (map link nodes), length-map nodes link)
 
-pub path_at-link : (nodes : List TrieNode) → IsTrie nodes → (i : ℕ) (d : TrieNode) → 0 < i → i < length nodes
+-- a node's path is that of its parent and its own step
+pub path_at-below : (nodes : List TrieNode) (i : ℕ) (d : TrieNode) → 0 < i → i < length nodes → (get_or nodes i d).parent < i
     → path_at nodes i ≡ path_at nodes (get_or nodes i d).parent ++ (link (get_or nodes i d)).1 ∷ []
-path_at-link nodes trie i d low h =
+path_at-below nodes i d low h up =
     let ls : List (ℕ × Part) = drop 1 (map link nodes) in
     let many : length ls ≡ length nodes - 1 = omega (arith, length-drop 1 (map link nodes), length-map nodes link) in
     let same : get_or ls (i - 1) (link d) ≡ link (get_or nodes i d) =
     get_or-drop 1 (map link nodes) (i - 1) (link d) ∙ ap (λ k. get_or (map link nodes) k (link d)) (let k : 1 + (i - 1) ≡ i = omega arith in k) ∙ get_or-map link nodes i d (link d) h in
-    let up : (get_or nodes i d).parent < i = trie.parents i d low h in
     let below : (get_or ls (i - 1) (link d)).0 < i = subst (λ (l : ℕ × Part). l.0 < i) (sym same) up in
     at_link ([] ∷ []) ls (i - 1) i (link d) [] (omega arith) (omega arith) below ∙ ap (λ (l : ℕ × Part). path_at nodes l.0 ++ l.1 ∷ []) same
+
+pub path_at-link : (nodes : List TrieNode) → IsTrie nodes → (i : ℕ) (d : TrieNode) → 0 < i → i < length nodes
+    → path_at nodes i ≡ path_at nodes (get_or nodes i d).parent ++ (link (get_or nodes i d)).1 ∷ []
+path_at-link nodes trie i d low h = path_at-below nodes i d low h (trie.parents i d low h)
 
 pub record IsChildOf (nodes : List TrieNode) (i c : ℕ) : Type 0 where
   pub later : 0 < c
@@ -235,3 +239,22 @@ closed nodes trie (x ∷ q) p there = closed_once nodes trie p x (closed nodes t
 -- a node's path is among the paths
 pub path_met : (nodes : List TrieNode) → IsTrie nodes → (i : ℕ) → i < length nodes → Contains (paths_of nodes) (path_at nodes i)
 path_met nodes trie i h = Contains-get_or (paths_of nodes) i [] (omega (arith, length-paths_of nodes trie.root))
+
+-- the children are told by the parents alone
+children_alike : (n i : ℕ) (ls ks : List (ℕ × Part)) → length ls ≡ length ks → ((j : ℕ) (e : ℕ × Part) → j < length ls → (get_or ls j e).0 ≡ (get_or ks j e).0) → children_from n i ls ≡ children_from n i ks
+children_alike n i [] [] many same = refl
+children_alike n i [] (k ∷ ks) many same = absurd (omega arith)
+children_alike n i (l ∷ ls) [] many same = absurd (omega arith)
+children_alike n i (l ∷ ls) (k ∷ ks) many same =
+    let more = children_alike (n + 1) i ls ks (omega arith) (λ j e h. same (suc j) e (omega arith)) in
+    ap (λ p. cond (p == i) (n ∷ children_from (n + 1) i ls) (children_from (n + 1) i ls)) (same 0 l (omega arith)) ∙ ap (λ rest. cond (k.0 == i) (n ∷ rest) rest) more
+
+pub children_of-alike : (us ts : List TrieNode) (d : TrieNode) → length us ≡ length ts → ((i : ℕ) (d : TrieNode) → 0 < i → i < length us → (get_or us i d).parent ≡ (get_or ts i d).parent)
+    → (i : ℕ) → children_of us i ≡ children_of ts i
+children_of-alike us ts d many same i =
+    let few : length (drop 1 (map link us)) ≡ length us - 1 = omega (arith, length-drop 1 (map link us), length-map us link) in
+    let few' : length (drop 1 (map link ts)) ≡ length ts - 1 = omega (arith, length-drop 1 (map link ts), length-map ts link) in
+    children_alike 1 i (drop 1 (map link us)) (drop 1 (map link ts)) (omega (arith, few, few', many)) (λ j e h.
+    ap (λ (l : ℕ × Part). l.0) (get_or-drop 1 (map link us) j e ∙ get_or-map link us (1 + j) d e (omega (arith, h, few)))
+    ∙ same (1 + j) d (omega arith) (omega (arith, h, few))
+    ∙ ap (λ (l : ℕ × Part). l.0) (sym (get_or-drop 1 (map link ts) j e ∙ get_or-map link ts (1 + j) d e (omega (arith, h, few, many)))))

@@ -4,6 +4,7 @@ use Rattle.keep_facts.specs.declared.node.Kind.TheVariants as kind
 use Rattle.keep_nodes.specs.declared.facts.OriginKind.TheVariants as origin_kind
 use Rattle.keep_nodes.specs.declared.facts.NodeFacts.{NodeFacts}
 use Rattle.keep_nodes.specs.Children.{ChildList, Bare, Keyed, Listed, named, child_ids}
+use Rattle.keep_nodes.specs.KeyMaps.{with_key_at}
 
 -- the parent of a node, its number among the children there, its own children, and the facts about it
 pub record Node : Type 0 where
@@ -50,3 +51,7 @@ and_key children text child = Keyed (named children ++ (text, child) ∷ [])
 -- an item or element more
 abbrev pub and_item : ChildList → ℕ → ChildList
 and_item children child = Listed (child_ids children ++ child ∷ [])
+
+-- the children, where that one has this key
+abbrev pub with_key : ChildList → ℕ → List ℕ → ChildList
+with_key children n text = Keyed (with_key_at (named children) n text)

@@ -1,5 +1,5 @@
 -- The entries of a map from keys to children.
-use Rattle.std.specs.Prelude.{◌≡◌, ℕ, List, [], ◌∷◌, ◌++◌, None, String, string_bytes, bytes_eq}
+use Rattle.std.specs.Prelude.{◌≡◌, ℕ, List, [], ◌∷◌, ◌++◌, None, String, string_bytes, bytes_eq, slice_set, slice_index_or}
 use Rattle.std.specs.Map.{lookup}
 use Rattle.std.specs.Global.{Global}
 
@@ -11,3 +11,7 @@ named_pair e = (string_bytes e.0, e.1)
 abbrev pub HasOwnKeys : List (List ℕ × ℕ) → List (List ℕ × ℕ) → Type 0
 HasOwnKeys there [] = Unit {0}
 HasOwnKeys there (e ∷ es) = (lookup (bytes_eq e.0) there ≡ None) × HasOwnKeys (there ++ e ∷ []) es
+
+-- the entries, where that one has this key, and its child as before
+abbrev pub with_key_at : List (List ℕ × ℕ) → ℕ → List ℕ → List (List ℕ × ℕ)
+with_key_at entries n text = slice_set entries n (text, (slice_index_or entries n ([], 0)).1)

@@ -1,7 +1,7 @@
 //! The children of a node.
-ghost use Rattle.std.specs.Prelude.{◌≡◌, ◌<◌, ◌-◌, ◌∷◌, ◌++◌, [], None, OnOk, IfOk, IfSome, IfNone, bytes_eq, false, length, option_copied, option_map, slice_get, slice_index_or, string_bytes};
+ghost use Rattle.std.specs.Prelude.{◌≡◌, ◌<◌, ◌-◌, ◌∷◌, ◌++◌, [], None, OnErr, OnOk, IfOk, IfSome, IfNone, bytes_eq, false, length, option_copied, option_map, slice_get, slice_index_or, string_bytes};
 ghost use Rattle.std.specs.Map.{lookup};
-ghost use Rattle.keep_nodes.specs.AllNodes.{and_key, and_item};
+ghost use Rattle.keep_nodes.specs.AllNodes.{and_key, and_item, with_key};
 ghost use Rattle.keep_nodes.specs.ChildForms.{children_in};
 ghost use Rattle.keep_nodes.specs.Children.{Keyed, holding, no_children, holds_of, named, child_ids, child_named, child_numbered};
 ghost use Rattle.keep_nodes.specs.Trie.{by_key, by_index};
@@ -182,6 +182,24 @@ impl Children {
         let key = String::from_str(alloc, text)?;
         let form = mem::replace(&mut self.form, Form::NoKeys);
         self.form = form.with_key(alloc, seed, key, child)?;
+        Ok(())
+    }
+
+    /// Gives a child another key, which no child has yet. If memory runs out, nothing is changed.
+    pub fn set_key(&mut self, alloc: Global, number: usize, text: &str) -> Result<(), AllocError>
+        requires holds { holds_of self.old ≡ by_key }
+        requires within { number < length (named self.old) }
+        requires fresh { child_named self.old text.now ≡ None }
+        ensures ok { OnOk result (self.new ≡ with_key self.old number text.now) }
+        ensures err { OnErr result (self.new ≡ self.old) }
+    {
+        let key = String::from_str(alloc, text)?;
+        match &mut self.form {
+            Form::OneKey(only) => only.key = key,
+            Form::FewKeys(keys) => keys.set_key(number, key),
+            Form::Keys(keys) => keys.set_key(number, key)?,
+            _ => unreachable!(),
+        }
         Ok(())
     }
 

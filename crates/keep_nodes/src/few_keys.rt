@@ -1,6 +1,7 @@
 //! The children of a table of few keys.
 ghost use Rattle.std.specs.Prelude.{◌≡◌, ◌<◌, ◌≤◌, ◌∷◌, ◌++◌, [], None, IfOk, OnOk, bytes_eq, false, length, map, option_copied, option_map, slice_get, string_bytes};
 ghost use Rattle.std.specs.Map.{lookup};
+ghost use Rattle.keep_nodes.specs.KeyMaps.{with_key_at};
 
 use crate::key_map::KeyMap;
 use std::alloc::{AllocError, Global};
@@ -86,6 +87,16 @@ impl FewKeys {
     {
         self.entries.push((key, child))?;
         Ok(())
+    }
+
+    /// Gives a child another key, which no child has yet. It takes no memory.
+    pub fn set_key(&mut self, number: usize, key: String)
+        requires within { number < length self.old }
+        requires fresh { lookup (bytes_eq (string_bytes key)) self.old ≡ None }
+        ensures { self.new ≡ with_key_at self.old number (string_bytes key) }
+    {
+        let entry = &mut self.entries[number];
+        entry.0 = key;
     }
 
     /// Moves these children into a map that has none yet. If memory runs out, some are lost.

@@ -1,6 +1,7 @@
 //! The children of a table by their keys.
-ghost use Rattle.std.specs.Prelude.{◌≡◌, ◌∷◌, ◌++◌, [], None, OnOk, bytes_eq, length, map, option_copied, option_map, slice_get, string_bytes};
+ghost use Rattle.std.specs.Prelude.{◌≡◌, ◌<◌, ◌∷◌, ◌++◌, [], None, OnErr, OnOk, bytes_eq, length, map, option_copied, option_map, slice_get, string_bytes};
 ghost use Rattle.std.specs.Map.{lookup};
+ghost use Rattle.keep_nodes.specs.KeyMaps.{with_key_at};
 
 use crate::seed::Seed;
 use indexmap::IndexMap;
@@ -66,6 +67,22 @@ impl KeyMap {
         ensures { OnOk result (self.new ≡ self.old ++ (string_bytes key, child) ∷ []) }
     {
         self.table.insert(key, child)?;
+        Ok(())
+    }
+
+    /// Gives a child another key, which no child has yet. The new entry goes last, and from there to the place of the
+    /// old one, so that all others keep theirs. If memory runs out, the map is unchanged.
+    pub fn set_key(&mut self, number: usize, key: String) -> Result<(), AllocError>
+        requires within { number < length self.old }
+        requires fresh { lookup (bytes_eq (string_bytes key)) self.old ≡ None }
+        ensures ok { OnOk result (self.new ≡ with_key_at self.old number (string_bytes key)) }
+        ensures err { OnErr result (self.new ≡ self.old) }
+    {
+        let Some(child) = self.child_at(number) else {
+            unreachable!()
+        };
+        self.table.insert(key, child)?;
+        self.table.swap_remove_index(number);
         Ok(())
     }
 }

@@ -12,4 +12,4 @@ mod seed;
 
 pub use children::Holds;
 pub use facts::{NodeFacts, OriginKind};
-pub use nodes::{Nodes, add_facts, add_item, add_key, child_of, set_kind, set_role};
+pub use nodes::{Nodes, add_facts, add_item, add_key, child_of, set_key, set_kind, set_role};

@@ -1,12 +1,12 @@
 //! The nodes, in the order in which they are first met.
-ghost use Rattle.std.specs.Prelude.{◌≡◌, ◌<◌, ◌-◌, ◌∷◌, ◌++◌, [], length, None, Some, IfNone, IfSome, IfOk, OnOk, Contains, slice_get, slice_index_or, slice_set, option_copied, option_map};
-ghost use Rattle.keep_nodes.specs.AllNodes.{node_at, with_children, with_facts, and_key, and_item};
+ghost use Rattle.std.specs.Prelude.{◌≡◌, ◌<◌, ◌-◌, ◌∷◌, ◌++◌, [], length, None, Some, IfNone, IfSome, IfOk, OnErr, OnOk, Contains, slice_get, slice_index_or, slice_set, option_copied, option_map};
+ghost use Rattle.keep_nodes.specs.AllNodes.{node_at, with_children, with_facts, and_key, and_item, with_key};
 ghost use Rattle.keep_nodes.specs.Children.{holding, no_children, holds_of, named, child_ids, child_named, child_numbered};
 ghost use Rattle.keep_nodes.specs.Growth.{Grows, Restates};
-ghost use Rattle.keep_path.specs.Path.{key, index};
-ghost use Rattle.keep_nodes.specs.Stored.{IsStored, trie_of, infos_of, info_at};
-ghost use Rattle.keep_nodes.specs.Facts.{joined_info, joined_facts, info_of};
-ghost use Rattle.keep_nodes.specs.Trie.{by_key, by_index, children_of, holds_at, paths_of, path_at};
+ghost use Rattle.keep_path.specs.Path.{EndsInKey, beside, key, index};
+ghost use Rattle.keep_nodes.specs.Stored.{IsStored, trie_of, infos_of, info_at, node_infos};
+ghost use Rattle.keep_nodes.specs.Facts.{joined_info, joined_facts, info_of, with_path};
+ghost use Rattle.keep_nodes.specs.Trie.{by_key, by_index, children_of, holds_at, holdings_of, paths_of, path_at};
 
 use crate::children::{Children, Holds};
 use crate::facts::NodeFacts;
@@ -195,6 +195,20 @@ impl Nodes {
         above.children.add_key(alloc, self.seed, text, child)
     }
 
+    /// Gives a child of a table another key, which no child there has yet.
+    fn set_child_key(&mut self, id: usize, number: usize, text: &str) -> Result<(), AllocError>
+        requires within { id < length self.old.items }
+        requires holds { holds_of (node_at self.old.items id).children ≡ by_key }
+        requires counted { number < length (named (node_at self.old.items id).children) }
+        requires fresh { child_named (node_at self.old.items id).children text.now ≡ None }
+        ensures ok { OnOk result (self.new.items ≡ with_children self.old.items id (with_key (node_at self.old.items id).children number text.now)) }
+        ensures err { OnErr result (self.new.items ≡ self.old.items) }
+    {
+        let alloc = self.allocator();
+        let above = &mut self.list[id];
+        above.children.set_key(alloc, number, text)
+    }
+
     /// Adds a node to the children of an array or an array of tables.
     fn link_item(&mut self, id: usize, child: usize) -> Result<(), AllocError>
         requires within { id < length self.old.items }
@@ -324,4 +338,22 @@ pub fn set_kind(nodes: &mut Nodes, id: usize, kind: Kind)
     ensures infos { infos_of nodes.new.items ≡ slice_set (infos_of nodes.old.items) id (record (info_at nodes.old.items id) { kind = kind }) }
 {
     nodes.set_kind(id, kind);
+}
+
+/// Gives a node another key in place of its last one, where no node has that path yet: so the path of each node below
+/// it changes too, and nothing else does. It takes memory for the key, and a map may grow as for one key more; if
+/// memory runs out, nothing is changed.
+pub fn set_key(nodes: &mut Nodes, id: usize, text: &str) -> Result<(), AllocError>
+    requires stored { IsStored nodes.old.items }
+    requires within { id < length nodes.old.items }
+    requires keyed { EndsInKey (path_at (trie_of nodes.old.items) id) }
+    requires fresh { Contains (paths_of (trie_of nodes.old.items)) (beside (path_at (trie_of nodes.old.items) id) text.now) → ⊥ }
+    ensures moved { OnOk result (node_infos nodes.new.items ≡ with_path (node_infos nodes.old.items) (path_at (trie_of nodes.old.items) id) (beside (path_at (trie_of nodes.old.items) id) text.now)) }
+    ensures stored { OnOk result (IsStored nodes.new.items) }
+    ensures holdings { OnOk result (holdings_of (trie_of nodes.new.items) ≡ holdings_of (trie_of nodes.old.items)) }
+    ensures refused { OnErr result (nodes.new.items ≡ nodes.old.items) }
+{
+    let parent = nodes.parent(id);
+    let number = nodes.number(id);
+    nodes.set_child_key(parent, number, text)
 }
