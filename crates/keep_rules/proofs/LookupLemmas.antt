@@ -52,7 +52,7 @@ number_is paths path i is =
     let r = position-Some (same_path path) paths i [] is in
     (r.0, sym ((path_decides path (get_or paths i [])).0 r.1))
 
-none_there : (paths : List (List Part)) (path : List Part) → node_number paths path ≡ None → Contains paths path → ⊥
+pub none_there : (paths : List (List Part)) (path : List Part) → node_number paths path ≡ None → Contains paths path → ⊥
 none_there paths path is there =
     let no : same_path path (get_or paths there.0 path) ≡ false = position_none (same_path path) paths there.0 path is there.1 in
     let yes : same_path path (get_or paths there.0 path) ≡ true = (path_decides path (get_or paths there.0 path)).1 (sym there.2) in

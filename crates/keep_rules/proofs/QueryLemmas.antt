@@ -1,6 +1,6 @@
 -- The answers of the stored nodes, by the paths of the nodes and the facts about them.
 use Rattle.std.proofs.Common.{◌≡◌, ℕ, suc, ◌+◌, ◌<◌, ◌≤◌, true, false, if◌then◌else◌, List, [], ◌∷◌, ◌++◌, length, set, take, drop, take-take, refl, sym, ◌∙◌, ap, arith, Option, Some, None}
-use Rattle.std.specs.Prelude.{IfSome, IsNone, slice_get, nat_lt, min}
+use Rattle.std.specs.Prelude.{Contains, IfSome, IsNone, slice_get, nat_lt, min}
 use Rattle.std.proofs.lemmas.Bool.Decides.{Decides-ltb}
 use Rattle.std.proofs.lemmas.List.{length-map, get_or-map, take-append-drop, take_min}
 use Rattle.std.proofs.lemmas.Option.{slice_get-get_or, slice_get_within, get_or_from_slice_get, option_and_then_some}
@@ -9,15 +9,15 @@ use Rattle.keep_rules.specs.declared.index.NodeId.{NodeId}
 use Rattle.keep_nodes.specs.AllNodes.{Node, no_node, node_at}
 use Rattle.keep_facts.specs.declared.node.Kind.{Kind}
 use Rattle.keep_facts.specs.declared.node.NodeInfo.{NodeInfo}
-use Rattle.keep_path.specs.Path.{Part, index}
+use Rattle.keep_path.specs.Path.{EndsInKey, Part, beside, index, last_part}
 use Rattle.keep_meaning.specs.Nodes.{node_number}
 use Rattle.keep_nodes.specs.Children.{child_ids}
 use Rattle.keep_rules.specs.Lookup.{number_of, path_numbered, children_numbered, nth_child}
 use Rattle.keep_nodes.specs.Stored.{trie_node_in, trie_of, node_infos, infos_of, info_at, IsStored}
 use Rattle.keep_nodes.specs.Facts.{NodeInfos, info_of, with_kind}
-use Rattle.keep_nodes.specs.Trie.{TrieNode, paths_of}
+use Rattle.keep_nodes.specs.Trie.{TrieNode, path_at, paths_of}
 use Rattle.keep_nodes.proofs.Shared.{length-paths_of, path_at-root, length_trie_of}
-use Rattle.keep_rules.proofs.LookupLemmas.{number_is, number_some, none_longer, nth_is, count_is}
+use Rattle.keep_rules.proofs.LookupLemmas.{number_is, number_some, none_longer, none_there, nth_is, count_is}
 use Rattle.keep_rules.proofs.ChildLemmas.{child_by, stepped, index_is_place}
 
 -- a node, and the facts about all
@@ -140,3 +140,13 @@ kind_set old new t i k view same infos =
     ap (λ (ts : List TrieNode). let changed : NodeInfos = record { paths = paths_of ts; infos = infos_of new } in changed) same
     ∙ ap (λ is. let changed : NodeInfos = record { paths = paths_of (trie_of old); infos = is } in changed) infos
     ∙ ap (λ (x : NodeInfos). with_kind x i k) view
+
+-- ---- another key
+
+pub ends_seen : (nodes : List Node) (t : NodeInfos) (i : ℕ) → node_infos nodes ≡ t → EndsInKey (path_numbered t i) → EndsInKey (path_at (trie_of nodes) i)
+ends_seen nodes t i view ends = (ends.0, ap (λ (x : NodeInfos). last_part (path_numbered x i)) view ∙ ends.1)
+
+pub fresh_seen : (nodes : List Node) (t : NodeInfos) (i : ℕ) (text : List ℕ) → node_infos nodes ≡ t → node_number t.paths (beside (path_numbered t i) text) ≡ None
+    → Contains (paths_of (trie_of nodes)) (beside (path_at (trie_of nodes) i) text) → ⊥
+fresh_seen nodes t i text view is =
+    none_there (paths_of (trie_of nodes)) (beside (path_at (trie_of nodes) i) text) (ap (λ (x : NodeInfos). node_number x.paths (beside (path_numbered x i) text)) view ∙ is)

@@ -1,5 +1,5 @@
 //! The nodes of a document, and what can be asked of them.
-ghost use Rattle.std.specs.Prelude.{◌≡◌, ℕ, ◌+◌, ◌-◌, ◌<◌, ◌≤◌, ◌∷◌, ◌++◌, [], None, Some, IfOk, IfErr, IfSome, IsNone, IsOkUnless, OnOk, if◌then◌else◌, List, length, nat_lt, slice_get, string_bytes, take};
+ghost use Rattle.std.specs.Prelude.{◌≡◌, ℕ, ◌+◌, ◌-◌, ◌<◌, ◌≤◌, ◌∷◌, ◌++◌, [], None, Some, IfOk, IfErr, IfSome, IsNone, IsOkUnless, OnErr, OnOk, if◌then◌else◌, List, length, nat_lt, slice_get, string_bytes, take};
 ghost use Rattle.std.specs.Option.{option_and_then};
 ghost use Rattle.keep_syntax.specs.declared.syntax.Syntax as syntax;
 ghost use Rattle.keep_syntax.specs.Contract.{IsSyntaxOf};
@@ -10,8 +10,8 @@ ghost use Rattle.keep_rules.specs.Lookup.{number_of, path_numbered, children_num
 ghost use Rattle.keep_meaning.specs.Marks.{marks};
 ghost use Rattle.keep_meaning.specs.Meaning.{mentions_in};
 ghost use Rattle.keep_meaning.specs.Nodes.{node_number, nodes_in, key_span_of, value_span_of};
-ghost use Rattle.keep_nodes.specs.Facts.{with_kind};
-ghost use Rattle.keep_path.specs.Path.{Part, key, index};
+ghost use Rattle.keep_nodes.specs.Facts.{with_kind, with_path};
+ghost use Rattle.keep_path.specs.Path.{EndsInKey, Part, beside, key, index};
 ghost use Rattle.keep_path.specs.Step.{part_of};
 ghost use Rattle.keep_path.specs.PathText.{encoded_path};
 ghost use Rattle.keep_rules.specs.ReadDocuments.{WasRead, WasReadAlone, IsIndexOf, ValueObeys, IsRefusal, IsValueRefusal};
@@ -22,7 +22,7 @@ use crate::path_text::push_path;
 use crate::queries::{child_by, path_to};
 use crate::spans::{key_span_at, value_span_at};
 use keep_facts::{Kind, NodeInfo, Origin};
-use keep_nodes::{Nodes, set_kind};
+use keep_nodes::{Nodes, set_key, set_kind};
 use keep_path::{Path, Step};
 use keep_syntax::{ReadFault, Span, Syntax, ValueSyntax};
 use std::alloc::{AllocError, Global};
@@ -239,5 +239,22 @@ impl Index {
         ensures { self.new ≡ with_kind self.old id.0 kind }
     {
         set_kind(&mut self.nodes, id.0, kind);
+    }
+
+    /// The last key of the node's path is this one from now on, decoded. The paths of the nodes below it change too;
+    /// all other paths, the numbers of the nodes and the facts about them stay. It takes the memory of the key, and
+    /// what the map of a table with many keys takes for one key more; no node is made.
+    ///
+    /// # Errors
+    ///
+    /// The only error is that memory was refused; then nothing has changed.
+    pub fn set_key(&mut self, id: NodeId, text: &str) -> Result<(), AllocError>
+        requires within { id.0 < length self.old.paths }
+        requires keyed { EndsInKey (path_numbered self.old id.0) }
+        requires fresh { node_number self.old.paths (beside (path_numbered self.old id.0) text.now) ≡ None }
+        ensures moved { OnOk result (self.new ≡ with_path self.old (path_numbered self.old id.0) (beside (path_numbered self.old id.0) text.now)) }
+        ensures refused { OnErr result (self.new ≡ self.old) }
+    {
+        set_key(&mut self.nodes, id.0, text)
     }
 }
