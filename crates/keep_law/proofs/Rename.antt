@@ -1,5 +1,6 @@
 -- The law of rename.
 pub mod KeyTexts
+pub mod MovedLines
 pub mod RenamedPath
 pub mod RenamedKeys
 pub mod RenamedParts

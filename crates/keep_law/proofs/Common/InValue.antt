@@ -277,7 +277,7 @@ pub record LinesDone (D : List Part → Value → Value → Type 0) (r : Reading
   pub is : to ≡ pre ++ now ∷ post
   pub content : ContentDone D (reading_after_lines r pre).body path old.content now.content
 
-done_lines : (profile : Profile) (D : List Part → Value → Value → Type 0) (act : Act) → Does profile D act
+pub done_lines : (profile : Profile) (D : List Part → Value → Value → Type 0) (act : Act) → Does profile D act
     → (path : List Part) (r : Reading) (es : List Ended) (last : Line) → AllByRecursion (IsEnded profile) es → IsLine profile last
     → EachTo (λ p. LinesDone D r path (map line_of es ++ last ∷ []) (page_lines p)) (in_lines (in_line act path) r es last)
 done_lines profile D act does path r [] last he hl =
@@ -323,7 +323,7 @@ beside_keyval pre post name v rules =
       rules = inner.left;
     }
 
-mentions_done : (D : List Part → Value → Value → Type 0) (path : List Part) (from to : List Line) → Rules (lines_mentions start from) → LinesDone D start path from to
+pub mentions_done : (D : List Part → Value → Value → Type 0) (path : List Part) (from to : List Line) → Rules (lines_mentions start from) → LinesDone D start path from to
     → IsDone D path (lines_mentions start from) (lines_mentions start to)
 mentions_done D path from to rules h =
     let c = h.content in

@@ -1,6 +1,7 @@
 -- What a line says where a key is renamed: the same, with the paths changed.
 use Rattle.std.proofs.Common.{◌≡◌, ℕ, List, [], ◌∷◌, ◌++◌, length, map, refl, sym, ap, subst, ◌∙◌, length-append, arith, Some, None, ◌⊎◌, inl, inr}
 use Rattle.std.specs.Prelude.{codes, position}
+use Rattle.std.specs.Option.{is_some}
 use Rattle.std.proofs.lemmas.List.{map-append}
 use Rattle.keep_token.specs.declared.leaf.Profile.{Profile}
 use Rattle.keep_syntax.specs.Tree.{Gap, Key, Content, blank, keyval, header, element, content_depth, text_of}
@@ -34,6 +35,7 @@ abbrev pub moved_reading : (List Part → List Part) → Reading → Reading
 moved_reading f r = record { tables = map f r.tables; body = f r.body }
 
 pub record IsContentMoved (p b : List Part) (r : Reading) (c c' : Content) : Type 0 where
+  pub stated : is_some (statement_of c') ≡ is_some (statement_of c)
   pub mentioned : content_mentions (moved_reading (renamed_path p b) r) c' ≡ map (moved (renamed_path p b)) (content_mentions r c)
   pub behind : content_after (moved_reading (renamed_path p b) r) c' ≡ moved_reading (renamed_path p b) (content_after r c)
 
@@ -65,6 +67,7 @@ header_moved p b r x y k k' ends clear disjoint h =
     let way : List Mention = header_way r.tables [] (keys_of k) in
     let m = way_moved p b r.tables (keys_of k) (keys_of k') ends clear (all_left (IsDisjoint b) way (record { path = path; kind = define } ∷ []) disjoint) h in
     record {
+      stated = refl;
       mentioned = ap (λ (q : List Part). header_way (map f r.tables) [] (keys_of k') ++ record { path = q; kind = define } ∷ []) m.path
           ∙ ap (λ (l : List Mention). l ++ record { path = f path; kind = define } ∷ []) m.way
           ∙ sym (map-append (moved f) way (record { path = path; kind = define } ∷ []));
@@ -85,6 +88,7 @@ element_moved p b r x y k k' ends clear disjoint h =
     let begins : path' ++ index (elements_of path' (map f r.tables)) ∷ [] ≡ f (path ++ index n ∷ []) =
     ap (λ i. path' ++ index i ∷ []) number ∙ ap (λ q. q ++ index n ∷ []) m.path ∙ sym (renamed_index p b path n ends) in
     record {
+      stated = refl;
       mentioned = ap (λ (q : List Part). header_way (map f r.tables) [] (keys_of k') ++ record { path = path'; kind = kinds_element } ∷ record { path = q; kind = begun } ∷ []) begins
           ∙ ap (λ (q : List Part). header_way (map f r.tables) [] (keys_of k') ++ record { path = q; kind = kinds_element } ∷ record { path = f (path ++ index n ∷ []); kind = begun } ∷ []) m.path
           ∙ ap (λ (l : List Mention). l ++ map (moved f) end) m.way
@@ -104,8 +108,8 @@ header_never p tables keys mention_kind more self never e =
 
 pub content_preserved : (p b : List Part) (r : Reading) → EndsInKey p → AreClear b r.tables → (c : Content) → AllOf (IsDisjoint b) (content_mentions r c) → (SomeOf (IsSolidAt p) (content_mentions r c) → ⊥)
     → IsContentMoved p b r c c
-content_preserved p b r ends clear blank disjoint never = record { mentioned = refl; behind = refl }
-content_preserved p b r ends clear (keyval name v) disjoint never = record { mentioned = by (none_or_some (strip p r.body)); behind = refl }
+content_preserved p b r ends clear blank disjoint never = record { stated = refl; mentioned = refl; behind = refl }
+content_preserved p b r ends clear (keyval name v) disjoint never = record { stated = refl; mentioned = by (none_or_some (strip p r.body)); behind = refl }
   where
     by : (strip p r.body ≡ None) ⊎ ((u : List Part) × (strip p r.body ≡ Some u))
         → map (below (renamed_path p b r.body)) (keyval_mentions name v) ≡ map (moved (renamed_path p b)) (map (below r.body) (keyval_mentions name v))
@@ -142,6 +146,7 @@ content_renamed profile t p b r text beside n (keyval name v) e =
     (λ nm h. record {
       some = keyed_solid p r.body n (keys_of name.key) (value (body_fact v.body)) (entries_mentions 0 v.nested) refl part;
       moves = λ clear disjoint. record {
+        stated = refl;
         mentioned = sym (keyed_renamed p b r.body (keys_of name.key) (keys_of nm.key) _
             (subst (AreRenamed p b [] r.body (keys_of name.key)) (sym h.keys) (keys_renamed t p b [] r.body n (keys_of name.key) beside part)) reach);
         behind = refl;

@@ -1,7 +1,6 @@
--- Lines of which one has a key part renamed: they say the same, with the paths changed.
-use Rattle.std.proofs.Common.{◌≡◌, ℕ, List, [], ◌∷◌, ◌++◌, map, refl, sym, ap, ◌∙◌, Option, Some, None}
+-- Lines of which one has a key part renamed: they say the same line by line, with the paths changed.
+use Rattle.std.proofs.Common.{◌≡◌, ℕ, List, [], ◌∷◌, ◌++◌, map, refl, sym, subst, Option, Some, None}
 use Rattle.std.specs.Prelude.{position}
-use Rattle.std.proofs.lemmas.List.{map-append}
 use Rattle.keep_token.specs.declared.leaf.Profile.{Profile}
 use Rattle.keep_syntax.specs.Tree.{Content, blank, keyval, header, element, Line, Ended, comment_leaves, ended_leaves, text_of}
 use Rattle.keep_syntax.specs.Grammar.{IsLine}
@@ -16,12 +15,12 @@ use Rattle.keep_law.proofs.Common.Runs.{AllOf, SomeOf, all_left, all_right, all_
 use Rattle.keep_law.proofs.Common.SetLaw.{IsSolidAt, EachTo, to_within, to_or_else}
 use Rattle.keep_law.proofs.Common.SetDocument.{page_lines}
 use Rattle.keep_law.proofs.Common.LineLaws.{EndsInKey}
-use Rattle.keep_law.proofs.Common.Moves.{moved}
+use Rattle.keep_law.proofs.Rename.MovedLines.{AreLinesMoved}
 use Rattle.keep_law.proofs.Common.NewLines.{IsKeyText}
 use Rattle.keep_law.proofs.Rename.RenamedPath.{IsBeside, ends_old, renamed_path}
 use Rattle.keep_law.proofs.Rename.RenamedKeys.{AreClear}
 use Rattle.keep_law.proofs.Rename.RenameOnce.{Once, once_after, once_right}
-use Rattle.keep_law.proofs.Rename.RenameContent.{content_mentions, content_after, moved_reading, content_preserved, IsContentRenamed, content_renamed}
+use Rattle.keep_law.proofs.Rename.RenameContent.{content_mentions, content_after, moved_reading, IsContentMoved, content_preserved, IsContentRenamed, content_renamed}
 
 -- the full paths of the `[[..]]` lines are not at or under a path where nothing is said there
 clear_content : (b : List Part) (r : Reading) (c : Content) → AreClear b r.tables → AllOf (IsDisjoint b) (content_mentions r c) → AreClear b (content_after r c).tables
@@ -31,21 +30,24 @@ clear_content b r (header x k y) clear disjoint = clear
 clear_content b r (element x k y) clear disjoint =
     all_join (λ t. strip b t ≡ None) r.tables (header_path r.tables [] (keys_of k) ∷ []) clear ((all_right (IsDisjoint b) (header_way r.tables [] (keys_of k)) _ disjoint).0, tt)
 
+-- the first line says the same, and so do those after it
+one_more : (p b : List Part) (r : Reading) (l l' : Line) (ls ls' : List Line) → IsContentMoved p b r l.content l'.content
+    → (let f : List Part → List Part = renamed_path p b in
+    AreLinesMoved f (after_line r l) (moved_reading f (after_line r l)) ls ls' → AreLinesMoved f r (moved_reading f r) (l ∷ ls) (l' ∷ ls'))
+one_more p b r l l' ls ls' m more =
+    let f : List Part → List Part = renamed_path p b in
+    (record { stated = m.stated; mentioned = m.mentioned }, subst (λ (x : Reading). AreLinesMoved f (after_line r l) x ls ls') (sym m.behind) more)
+
 -- lines that say nothing of the path itself
 pub lines_preserved : (p b : List Part) → EndsInKey p → (r : Reading) (ls : List Line) → AreClear b r.tables → AllOf (IsDisjoint b) (lines_mentions r ls) → (SomeOf (IsSolidAt p) (lines_mentions r ls) → ⊥)
-    → lines_mentions (moved_reading (renamed_path p b) r) ls ≡ map (moved (renamed_path p b)) (lines_mentions r ls)
-lines_preserved p b ends r [] clear disjoint never = refl
+    → AreLinesMoved (renamed_path p b) r (moved_reading (renamed_path p b) r) ls ls
+lines_preserved p b ends r [] clear disjoint never = tt
 lines_preserved p b ends r (l ∷ ls) clear disjoint never =
-    let f : List Part → List Part = renamed_path p b in
     let first : List Mention = line_mentions r l in
     let rest : List Mention = lines_mentions (after_line r l) ls in
     let disjoint_first = all_left (IsDisjoint b) first rest disjoint in
-    let h = content_preserved p b r ends clear l.content disjoint_first (λ s. never (some_left (IsSolidAt p) first rest s)) in
-    ap (λ x. x ++ lines_mentions (after_line (moved_reading f r) l) ls) h.mentioned
-    ∙ ap (λ (x : Reading). map (moved f) first ++ lines_mentions x ls) h.behind
-    ∙ ap (λ x. map (moved f) first ++ x)
+    one_more p b r l l ls ls (content_preserved p b r ends clear l.content disjoint_first (λ s. never (some_left (IsSolidAt p) first rest s)))
     (lines_preserved p b ends (after_line r l) ls (clear_content b r l.content clear disjoint_first) (all_right (IsDisjoint b) first rest disjoint) (λ s. never (some_right (IsSolidAt p) first rest s)))
-    ∙ sym (map-append (moved f) first rest)
 
 -- ---- the line with the key
 
@@ -69,41 +71,31 @@ line_renamed profile t p b text beside r l = by (position (same_path p) (part_pa
 -- one line is renamed, and the others say nothing of the path
 pub record AreLinesRenamed (p b : List Part) (r : Reading) (from to : List Line) : Type 0 where
   pub some : SomeOf (IsSolidAt p) (lines_mentions r from)
-  pub mentioned : AreClear b r.tables → AllOf (IsDisjoint b) (lines_mentions r from) → Once p (lines_mentions r from)
-      → lines_mentions (moved_reading (renamed_path p b) r) to ≡ map (moved (renamed_path p b)) (lines_mentions r from)
+  pub moves : AreClear b r.tables → AllOf (IsDisjoint b) (lines_mentions r from) → Once p (lines_mentions r from)
+      → AreLinesMoved (renamed_path p b) r (moved_reading (renamed_path p b) r) from to
 
 here_renamed : (profile : Profile) (p b : List Part) → EndsInKey p → (r : Reading) (l l' : Line) (ls : List Line) → IsLineRenamed profile p b r l l' → AreLinesRenamed p b r (l ∷ ls) (l' ∷ ls)
 here_renamed profile p b ends r l l' ls h =
-    let f : List Part → List Part = renamed_path p b in
     let first : List Mention = line_mentions r l in
     let rest : List Mention = lines_mentions (after_line r l) ls in
     record {
       some = some_left (IsSolidAt p) first rest h.content.some;
-      mentioned = λ clear disjoint once.
+      moves = λ clear disjoint once.
           (let disjoint_first = all_left (IsDisjoint b) first rest disjoint in
-          let m = h.content.moves clear disjoint_first in
-          ap (λ x. x ++ lines_mentions (after_line (moved_reading f r) l') ls) m.mentioned
-          ∙ ap (λ (x : Reading). map (moved f) first ++ lines_mentions x ls) m.behind
-          ∙ ap (λ x. map (moved f) first ++ x)
-          (lines_preserved p b ends (after_line r l) ls (clear_content b r l.content clear disjoint_first) (all_right (IsDisjoint b) first rest disjoint) (once_after p first rest once h.content.some))
-          ∙ sym (map-append (moved f) first rest));
+          one_more p b r l l' ls ls (h.content.moves clear disjoint_first)
+          (lines_preserved p b ends (after_line r l) ls (clear_content b r l.content clear disjoint_first) (all_right (IsDisjoint b) first rest disjoint) (once_after p first rest once h.content.some)));
     }
 
 further_renamed : (p b : List Part) → EndsInKey p → (r : Reading) (l : Line) (ls ls' : List Line) → AreLinesRenamed p b (after_line r l) ls ls' → AreLinesRenamed p b r (l ∷ ls) (l ∷ ls')
 further_renamed p b ends r l ls ls' h =
-    let f : List Part → List Part = renamed_path p b in
     let first : List Mention = line_mentions r l in
     let rest : List Mention = lines_mentions (after_line r l) ls in
     record {
       some = some_right (IsSolidAt p) first rest h.some;
-      mentioned = λ clear disjoint once.
+      moves = λ clear disjoint once.
           (let disjoint_first = all_left (IsDisjoint b) first rest disjoint in
-          let m = content_preserved p b r ends clear l.content disjoint_first (λ s. once_after p first rest once s h.some) in
-          ap (λ x. x ++ lines_mentions (after_line (moved_reading f r) l) ls') m.mentioned
-          ∙ ap (λ (x : Reading). map (moved f) first ++ lines_mentions x ls') m.behind
-          ∙ ap (λ x. map (moved f) first ++ x)
-          (h.mentioned (clear_content b r l.content clear disjoint_first) (all_right (IsDisjoint b) first rest disjoint) (once_right p first rest once))
-          ∙ sym (map-append (moved f) first rest));
+          one_more p b r l l ls ls' (content_preserved p b r ends clear l.content disjoint_first (λ s. once_after p first rest once s h.some))
+          (h.moves (clear_content b r l.content clear disjoint_first) (all_right (IsDisjoint b) first rest disjoint) (once_right p first rest once)));
     }
 
 pub lines_renamed : (profile : Profile) (t : List ℕ) (p b : List Part) → IsKeyText profile t → IsBeside t p b → (r : Reading) (es : List Ended) (last : Line)

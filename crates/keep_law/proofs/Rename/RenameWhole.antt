@@ -4,12 +4,12 @@ use Rattle.std.specs.Prelude.{not, ◌&&◌, ◌||◌, ◌==◌}
 use Rattle.std.specs.List.{filter_map, list_any}
 use Rattle.std.proofs.lemmas.Bool.{eqb-true}
 use Rattle.keep_token.specs.declared.leaf.Profile.{Profile}
-use Rattle.keep_syntax.specs.Tree.{Document, text, depth}
+use Rattle.keep_syntax.specs.Tree.{Line, Document, text, depth}
 use Rattle.keep_syntax.specs.Grammar.{IsLine, IsDocument}
 use Rattle.keep_path.specs.Path.{Part, key, index}
 use Rattle.keep_meaning.specs.Rules.{ObeysRules}
 use Rattle.keep_meaning.specs.Marks.{Mention, fact_of, start, marks}
-use Rattle.keep_meaning.specs.Meaning.{lines_mentions, lines, mentions_in}
+use Rattle.keep_meaning.specs.Meaning.{statement_of, keyval_mentions, lines_mentions, lines, mentions_in}
 use Rattle.keep_meaning.specs.Nodes.{is_at, is_root, is_node, fact_at, first_of, mark_count}
 use Rattle.keep_law.specs.declared.fault.EditFault.TheVariants as fault
 use Rattle.keep_law.specs.Look.{strip, last_part, without_last, is_index}
@@ -29,8 +29,9 @@ use Rattle.keep_law.proofs.Common.LineLaws.{EndsInKey}
 use Rattle.keep_law.proofs.Common.InsertLaw.{fresh_disjoint}
 use Rattle.keep_law.proofs.Common.Marks.{rules_of_document}
 use Rattle.keep_law.proofs.Common.Moves.{moved, rules_moved, mentions_moved}
+use Rattle.keep_law.proofs.Rename.MovedLines.{AreLinesMoved, mentions_of_moved, IsDocumentMoved, moved_document, lines_around}
 use Rattle.keep_law.proofs.Common.Cuts.{last_part-snoc, without_last-snoc}
-use Rattle.keep_law.proofs.Common.InValue.{IsDone, done_document}
+use Rattle.keep_law.proofs.Common.InValue.{LinesDone, done_lines, mentions_done}
 use Rattle.keep_law.proofs.Common.ValueThere.{the_some}
 use Rattle.keep_law.proofs.Common.NewLines.{IsKeyText}
 use Rattle.keep_law.proofs.Rename.KeyTexts.{key_text}
@@ -102,6 +103,10 @@ other_keys t p b more r h e =
 abbrev pub IsMentioned : List Part → List Part → List Mention → List Mention → Type 0
 IsMentioned p b from to = to ≡ map (moved (renamed_path p b)) from
 
+-- line by line
+abbrev IsMovedTo : List Part → List Part → Document → Document → Type 0
+IsMovedTo p b s s' = AreLinesMoved (renamed_path p b) start start (lines s) (lines s')
+
 none_under : (t : List ℕ) (p b : List Part) → IsBeside t p b → (p ≡ b → ⊥) → (ms : List Mention) → AllOf (IsDisjoint p) (map (moved (renamed_path p b)) ms)
 none_under t p b h other [] = tt
 none_under t p b h other (m ∷ ms) = (
@@ -142,20 +147,32 @@ tree_renamed path t from to h other clear mentioned q = by (strip (beside path t
 
 -- ---- the document
 
--- the new document says the same, with the paths changed
-mentions_lines : (profile : Profile) (s : Document) (path b : List Part) (t : List ℕ) → IsKeyText profile t → IsBeside t path b → AllOf (IsDisjoint b) (mentions_in s) → Once path (mentions_in s)
-    → EachTo (λ s'. IsMentioned path b (mentions_in s) (mentions_in s')) (in_document s (in_lines (rename_line (key_part t) path) start s.ended s.last))
-mentions_lines profile s path b t text h clear once =
-    to_within (λ g. AreLinesRenamed path b start (lines s) (page_lines g)) (λ s'. IsMentioned path b (mentions_in s) (mentions_in s')) (with_page s) _ [] (in_lines (rename_line (key_part t) path) start s.ended s.last)
-    (λ g k. ap (λ (x : List Part). lines_mentions (record { tables = []; body = x }) (page_lines g)) (sym (root_renamed path b (ends_old t path b h))) ∙ k.mentioned tt clear once)
+-- line by line the new document says the same, with the paths changed
+moved_lines : (profile : Profile) (s : Document) (path b : List Part) (t : List ℕ) → IsKeyText profile t → IsBeside t path b → AllOf (IsDisjoint b) (mentions_in s) → Once path (mentions_in s)
+    → EachTo (IsMovedTo path b s) (in_document s (in_lines (rename_line (key_part t) path) start s.ended s.last))
+moved_lines profile s path b t text h clear once =
+    to_within (λ g. AreLinesRenamed path b start (lines s) (page_lines g)) (IsMovedTo path b s) (with_page s) _ [] (in_lines (rename_line (key_part t) path) start s.ended s.last)
+    (λ g k. subst (λ (x : List Part). AreLinesMoved (renamed_path path b) start (record { tables = []; body = x }) (lines s) (page_lines g)) (root_renamed path b (ends_old t path b h)) (k.moves tt clear once))
     (lines_renamed profile t path b text h start s.ended s.last)
 
-mentioned_nested : (profile : Profile) (s : Document) (path b : List Part) (t : List ℕ) → IsDocument profile s → Rules (mentions_in s) → IsKeyText profile t → IsBeside t path b → Once path (mentions_in s)
-    → EachTo (λ s'. IsMentioned path b (mentions_in s) (mentions_in s')) (nested (renaming (key_part t)) path s)
-mentioned_nested profile s path b t valid rules text h once =
-    each_to (λ s'. IsDone (IsRenamedTo t) path (mentions_in s) (mentions_in s')) (λ s'. IsMentioned path b (mentions_in s) (mentions_in s')) (nested (renaming (key_part t)) path s)
-    (λ s' d. mentions_renamed t d.prefix path b (mentions_in s) (mentions_in s') h once d.at)
-    (done_document profile (IsRenamedTo t) (renaming (key_part t)) (does_rename profile t text) s path valid rules)
+-- one keyval's line is another, where all that is said is the same with the paths changed
+one_keyval : (f : List Part → List Part) (from to : List Line) (path : List Part) (t : List ℕ) → (h : LinesDone (IsRenamedTo t) start path from to) → lines_mentions start to ≡ map (moved f) (lines_mentions start from)
+    → AreLinesMoved f start start from to
+one_keyval f from to path t h e =
+    let was : map (moved f) (lines_mentions start (h.pre ++ h.old ∷ h.post)) ≡ map (moved f) (lines_mentions start from) = ap (λ (ls : List Line). map (moved f) (lines_mentions start ls)) (sym h.was) in
+    let k : AreLinesMoved f start start (h.pre ++ h.old ∷ h.post) (h.pre ++ h.now ∷ h.post) =
+    lines_around f start h.pre h.post h.old h.now (keyval_mentions h.content.name h.content.old) (keyval_mentions h.content.name h.content.now) (ap statement_of h.content.was) (ap statement_of h.content.is)
+    (ap (lines_mentions start) (sym h.is) ∙ e ∙ sym was) in
+    subst (λ (ls : List Line). AreLinesMoved f start start ls to) (sym h.was) (subst (λ (ls : List Line). AreLinesMoved f start start (h.pre ++ h.old ∷ h.post) ls) (sym h.is) k)
+
+moved_nested : (profile : Profile) (s : Document) (path b : List Part) (t : List ℕ) → IsDocument profile s → Rules (mentions_in s) → IsKeyText profile t → IsBeside t path b → Once path (mentions_in s)
+    → EachTo (IsMovedTo path b s) (nested (renaming (key_part t)) path s)
+moved_nested profile s path b t valid rules text h once =
+    to_within (λ g. LinesDone (IsRenamedTo t) start path (lines s) (page_lines g)) (IsMovedTo path b s) (with_page s) _ [] (in_lines (in_line (renaming (key_part t)) path) start s.ended s.last)
+    (λ g k.
+    (let d = mentions_done (IsRenamedTo t) path (lines s) (page_lines g) rules k in
+    one_keyval (renamed_path path b) (lines s) (page_lines g) path t k (mentions_renamed t d.prefix path b (mentions_in s) (lines_mentions start (page_lines g)) h once d.at)))
+    (done_lines profile (IsRenamedTo t) (renaming (key_part t)) (does_rename profile t text) path start s.ended s.last valid.ended valid.last)
 
 pub valid_rename : (profile : Profile) (s : Document) (path b : List Part) (t : List ℕ) → IsDocument profile s → IsKeyText profile t → IsBeside t path b → EachTo (IsDocument profile) (change s (rename path t))
 valid_rename profile s path b t valid text h =
@@ -180,6 +197,10 @@ pub record IsRenamedWhole (profile : Profile) (s : Document) (path : List Part) 
   pub is : change s (rename path t) ≡ Some changed
   pub whole : IsSetWhole profile s (rename path t) changed
   pub flat : depth changed.to ≤ depth s
+  pub moved : IsDocumentMoved (renamed_path path (beside path t)) s changed.to
+  pub two : IsBeside t path (beside path t)
+  pub other : path ≡ beside path t → ⊥
+  pub clear : AllOf (IsDisjoint (beside path t)) (mentions_in s)
 
 pub rename_whole : (profile : Profile) (limit : ℕ) (s : Document) (path : List Part) (t : List ℕ) → IsDocument profile s → ObeysRules (marks (mentions_in s)) → IsUtf8 t
     → refusal profile limit s (rename path t) ≡ None → IsRenamedWhole profile s path t
@@ -194,8 +215,11 @@ rename_whole profile limit s path t valid obeys utf8 allowed =
     let clear : AllOf (IsDisjoint b) ms = fresh_clear s path t h in
     let once : Once path ms = once_counted path ms rules (omega (arith, h.marks)) in
     let other : path ≡ b → ⊥ = λ same. (let x : is_node b ms ≡ true = subst (λ (q : List Part). is_node q ms ≡ true) same h.node in let y = h.fresh in absurd cc) in
+    let moves : EachTo (IsMovedTo path b s) (change s e) =
+    to_or_else (IsMovedTo path b s) _ _ (moved_lines profile s path b t text two clear once) (moved_nested profile s path b t valid rules text two once) in
     let mentioned : EachTo (λ s'. IsMentioned path b ms (mentions_in s')) (change s e) =
-    to_or_else (λ s'. IsMentioned path b ms (mentions_in s')) _ _ (mentions_lines profile s path b t text two clear once) (mentioned_nested profile s path b t valid rules text two once) in
+    each_to (IsMovedTo path b s) (λ s'. IsMentioned path b ms (mentions_in s')) (change s e)
+    (λ s' k. mentions_of_moved (renamed_path path b) start start (lines s) (lines s') k) moves in
     let lawful : EachTo (IsLawful s e) (change s e) =
     each_to (λ s'. IsMentioned path b ms (mentions_in s')) (IsLawful s e) (change s e)
     (λ s' k. record {
@@ -208,4 +232,8 @@ rename_whole profile limit s path t valid obeys utf8 allowed =
       is = is;
       whole = subst (EachChange (IsSetWhole profile s e)) is (together profile s e (change s e) (valid_rename profile s path b t valid text two) (change-is s e) lawful);
       flat = subst (EachTo (λ s'. depth s' ≤ depth s)) is (rename_depth profile s path b t text two);
+      moved = moved_document (renamed_path path b) s c.to (subst (EachTo (IsMovedTo path b s)) is moves);
+      two = two;
+      other = other;
+      clear = clear;
     }
