@@ -16,3 +16,4 @@ pub mod RenameInValue
 pub mod RenameThere
 pub mod RenameFound
 pub mod RenameWhole
+pub mod RenameNodes

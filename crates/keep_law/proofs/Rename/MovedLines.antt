@@ -4,14 +4,14 @@
 -- with the paths changed (`numbered_of_moved`), and so are the full paths of the `[[..]]` lines (`moved_document`).
 -- Where all that lines say is the same with the paths changed, and only one keyval is another, it is so line by line
 -- (`lines_around`).
-use Rattle.std.proofs.Common.{◌≡◌, ℕ, ◌+◌, Bool, true, false, cond, List, [], ◌∷◌, ◌++◌, length, map, refl, sym, ap, ap₂, subst, ◌∙◌, arith, length-append, Option, Some, None}
+use Rattle.std.proofs.Common.{◌≡◌, ◌+◌, Bool, true, false, cond, List, [], ◌∷◌, ◌++◌, length, map, refl, sym, ap, ap₂, subst, ◌∙◌, arith, length-append, Option, Some, None}
 use Rattle.std.specs.Prelude.{⊤}
 use Rattle.std.specs.List.{filter_map, cons_option}
 use Rattle.std.specs.Option.{is_some}
 use Rattle.std.proofs.lemmas.List.{map-append, length-map}
 use Rattle.keep_syntax.specs.Tree.{Line, Document}
 use Rattle.keep_path.specs.Path.{Part}
-use Rattle.keep_meaning.specs.Marks.{Mention, Statement, keyval, Reading, statement_mentions, next_reading, reading_after, start, below}
+use Rattle.keep_meaning.specs.Marks.{Mention, Statement, keyval, Reading, statement_mentions, next_reading, reading_after, start}
 use Rattle.keep_meaning.specs.Meaning.{statement_of, line_mentions, after_line, lines_mentions, lines, mentions_in}
 use Rattle.keep_meaning.specs.Counts.{Count, Numbered, count_with_mention, count_after, next_count, no_count, numbered_mentions, numbered_from, line_statement, statements_in, numbered_in}
 use Rattle.keep_meaning.specs.Nodes.{is_element}
@@ -103,7 +103,7 @@ pub record IsDocumentMoved (f : List Part → List Part) (s s' : Document) : Typ
   pub mentioned : mentions_in s' ≡ map (moved f) (mentions_in s)
   pub tables : (reading_after start (statements_in s')).tables ≡ map f (reading_after start (statements_in s)).tables
 
-tables_at_end : (s : Document) → (reading_after start (statements_in s)).tables ≡ tables_in (mentions_in s)
+pub tables_at_end : (s : Document) → (reading_after start (statements_in s)).tables ≡ tables_in (mentions_in s)
 tables_at_end s = ap (λ (r : Reading). r.tables) (reading_lines start (lines s)) ∙ tables_stated start (lines s)
 
 pub moved_document : (f : List Part → List Part) (s s' : Document) → AreLinesMoved f start start (lines s) (lines s') → IsDocumentMoved f s s'

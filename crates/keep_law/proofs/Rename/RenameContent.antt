@@ -6,7 +6,7 @@ use Rattle.std.proofs.lemmas.List.{map-append}
 use Rattle.keep_token.specs.declared.leaf.Profile.{Profile}
 use Rattle.keep_syntax.specs.Tree.{Gap, Key, Content, blank, keyval, header, element, content_depth, text_of}
 use Rattle.keep_syntax.specs.Grammar.{IsContent, IsAfter}
-use Rattle.keep_path.specs.Path.{Part, key, index, same_path}
+use Rattle.keep_path.specs.Path.{Part, key, index, same_path, moved_path}
 use Rattle.keep_meaning.specs.Marks.{MentionKind, define, element as kinds_element, begun, value, Mention, below, Reading, elements_of, header_path, header_way, statement_mentions, next_reading}
 use Rattle.keep_meaning.specs.Meaning.{keys_of, body_fact, entries_mentions, keyval_mentions, statement_of}
 use Rattle.keep_law.specs.Look.{strip}
@@ -19,7 +19,7 @@ use Rattle.keep_law.proofs.Common.SetDocument.{from_closed}
 use Rattle.keep_law.proofs.Common.LineLaws.{EndsInKey, line_closed}
 use Rattle.keep_law.proofs.Common.Moves.{moved}
 use Rattle.keep_law.proofs.Common.NewLines.{IsKeyText}
-use Rattle.keep_law.proofs.Rename.RenamedPath.{IsBeside, ends_old, renamed_path, disjoint_renamed, renamed_index, short_disjoint, moved_disjoint, moved_under}
+use Rattle.keep_law.proofs.Rename.RenamedPath.{IsBeside, ends_old, disjoint_renamed, renamed_index, short_disjoint, moved_disjoint, moved_under}
 use Rattle.keep_law.proofs.Rename.RenamedKeys.{AreClear, AreRenamed, elements_renamed, header_renamed, keys_preserved}
 use Rattle.keep_law.proofs.Rename.RenamedParts.{keys_renamed, part_solid, keyed_solid, part_reaches, keyed_renamed, header_position, keyval_position}
 use Rattle.keep_law.proofs.Rename.RenameKey.{IsKeyRenamed, IsNameRenamed, key_renamed, name_renamed}
@@ -36,22 +36,22 @@ moved_reading f r = record { tables = map f r.tables; body = f r.body }
 
 pub record IsContentMoved (p b : List Part) (r : Reading) (c c' : Content) : Type 0 where
   pub stated : is_some (statement_of c') ≡ is_some (statement_of c)
-  pub mentioned : content_mentions (moved_reading (renamed_path p b) r) c' ≡ map (moved (renamed_path p b)) (content_mentions r c)
-  pub behind : content_after (moved_reading (renamed_path p b) r) c' ≡ moved_reading (renamed_path p b) (content_after r c)
+  pub mentioned : content_mentions (moved_reading (moved_path p b) r) c' ≡ map (moved (moved_path p b)) (content_mentions r c)
+  pub behind : content_after (moved_reading (moved_path p b) r) c' ≡ moved_reading (moved_path p b) (content_after r c)
 
 -- ---- a header
 
-pub root_renamed : (p b : List Part) → EndsInKey p → renamed_path p b [] ≡ []
+pub root_renamed : (p b : List Part) → EndsInKey p → moved_path p b [] ≡ []
 root_renamed p b ends = disjoint_renamed p b [] (short_disjoint p [] (omega (arith, ap length ends.2, length-append ends.0 (key ends.1 ∷ []))))
 
 record IsWayMoved (p b : List Part) (tables : List (List Part)) (keys keys' : List (List ℕ)) : Type 0 where
-  path : header_path (map (renamed_path p b) tables) [] keys' ≡ renamed_path p b (header_path tables [] keys)
-  way : header_way (map (renamed_path p b) tables) [] keys' ≡ map (moved (renamed_path p b)) (header_way tables [] keys)
+  path : header_path (map (moved_path p b) tables) [] keys' ≡ moved_path p b (header_path tables [] keys)
+  way : header_way (map (moved_path p b) tables) [] keys' ≡ map (moved (moved_path p b)) (header_way tables [] keys)
 
 way_moved : (p b : List Part) (tables : List (List Part)) (keys keys' : List (List ℕ)) → EndsInKey p → AreClear b tables → AllOf (IsDisjoint b) (header_way tables [] keys)
     → AreRenamed p b tables [] keys keys' → IsWayMoved p b tables keys keys'
 way_moved p b tables keys keys' ends clear way h =
-    let f : List Part → List Part = renamed_path p b in
+    let f : List Part → List Part = moved_path p b in
     let m = header_renamed p b tables [] keys keys' ends clear way h in
     let root : [] ≡ f [] = sym (root_renamed p b ends) in
     record {
@@ -62,7 +62,7 @@ way_moved p b tables keys keys' ends clear way h =
 header_moved : (p b : List Part) (r : Reading) (x y : Gap) (k k' : Key) → EndsInKey p → AreClear b r.tables → AllOf (IsDisjoint b) (content_mentions r (header x k y))
     → AreRenamed p b r.tables [] (keys_of k) (keys_of k') → IsContentMoved p b r (header x k y) (header x k' y)
 header_moved p b r x y k k' ends clear disjoint h =
-    let f : List Part → List Part = renamed_path p b in
+    let f : List Part → List Part = moved_path p b in
     let path : List Part = header_path r.tables [] (keys_of k) in
     let way : List Mention = header_way r.tables [] (keys_of k) in
     let m = way_moved p b r.tables (keys_of k) (keys_of k') ends clear (all_left (IsDisjoint b) way (record { path = path; kind = define } ∷ []) disjoint) h in
@@ -77,7 +77,7 @@ header_moved p b r x y k k' ends clear disjoint h =
 element_moved : (p b : List Part) (r : Reading) (x y : Gap) (k k' : Key) → EndsInKey p → AreClear b r.tables → AllOf (IsDisjoint b) (content_mentions r (element x k y))
     → AreRenamed p b r.tables [] (keys_of k) (keys_of k') → IsContentMoved p b r (element x k y) (element x k' y)
 element_moved p b r x y k k' ends clear disjoint h =
-    let f : List Part → List Part = renamed_path p b in
+    let f : List Part → List Part = moved_path p b in
     let path : List Part = header_path r.tables [] (keys_of k) in
     let path' : List Part = header_path (map f r.tables) [] (keys_of k') in
     let n : ℕ = elements_of path r.tables in
@@ -112,7 +112,7 @@ content_preserved p b r ends clear blank disjoint never = record { stated = refl
 content_preserved p b r ends clear (keyval name v) disjoint never = record { stated = refl; mentioned = by (none_or_some (strip p r.body)); behind = refl }
   where
     by : (strip p r.body ≡ None) ⊎ ((u : List Part) × (strip p r.body ≡ Some u))
-        → map (below (renamed_path p b r.body)) (keyval_mentions name v) ≡ map (moved (renamed_path p b)) (map (below r.body) (keyval_mentions name v))
+        → map (below (moved_path p b r.body)) (keyval_mentions name v) ≡ map (moved (moved_path p b)) (map (below r.body) (keyval_mentions name v))
     by (inr u) = sym (moved_under p b r.body (keyval_mentions name v) u)
     by (inl e) =
         let ms : List Mention = map (below r.body) (keyval_mentions name v) in

@@ -4,7 +4,7 @@ use Rattle.std.proofs.lemmas.List.{map-append}
 use Rattle.keep_token.specs.declared.leaf.Profile.{Profile}
 use Rattle.keep_syntax.specs.Tree.{Gap, Name, Body, Entries, none, entry, Value, opening, closing, comma_leaves, entries_depth, text_of}
 use Rattle.keep_syntax.specs.Grammar.{IsName, IsNamed, AreEntries, IsValue, Place, in_scalar, in_array, in_inline}
-use Rattle.keep_path.specs.Path.{Part, key, same_part}
+use Rattle.keep_path.specs.Path.{Part, key, same_part, moved_path}
 use Rattle.keep_meaning.specs.Marks.{value, Mention, below}
 use Rattle.keep_meaning.specs.Meaning.{keys_of, body_fact, valued_mentions, keyed_mentions, entry_mentions, entries_mentions, step}
 use Rattle.keep_law.specs.Look.{strip}
@@ -18,7 +18,7 @@ use Rattle.keep_law.proofs.Common.Moves.{moved}
 use Rattle.keep_law.proofs.Common.NewLines.{IsKeyText}
 use Rattle.keep_law.proofs.Common.InValue.{Does}
 use Rattle.keep_law.proofs.Common.ActDepth.{NoDeeper, IsActFlat, around_less}
-use Rattle.keep_law.proofs.Rename.RenamedPath.{IsBeside, ends_old, renamed_path, moved_disjoint}
+use Rattle.keep_law.proofs.Rename.RenamedPath.{IsBeside, ends_old, moved_disjoint}
 use Rattle.keep_law.proofs.Rename.RenamedKeys.{AreRenamed}
 use Rattle.keep_law.proofs.Rename.RenamedParts.{IsPart, keys_renamed, keyed_solid, part_reaches, keyed_renamed}
 use Rattle.keep_law.proofs.Rename.RenameKey.{IsNameRenamed, name_renamed}
@@ -45,7 +45,7 @@ prefix_part at q qs (k ∷ ks) more e =
 
 pub record AreEntriesRenamed (profile : Profile) (t : List ℕ) (p : List Part) (n : ℕ) (from to : Entries) : Type 0 where
   pub some : SomeOf (IsSolidAt p) (entries_mentions n from)
-  pub mentioned : (b : List Part) → IsBeside t p b → Once p (entries_mentions n from) → entries_mentions n to ≡ map (moved (renamed_path p b)) (entries_mentions n from)
+  pub mentioned : (b : List Part) → IsBeside t p b → Once p (entries_mentions n from) → entries_mentions n to ≡ map (moved (moved_path p b)) (entries_mentions n from)
   pub valid : (place : Place) → AreEntries profile place from → AreEntries profile place to
   pub end : SameEnd from to
   pub deep : entries_depth to ≡ entries_depth from
@@ -69,7 +69,7 @@ here_renamed profile t q qs n name name' body nested after comma rest more e h =
     record {
       some = some_left (IsSolidAt p) first (entries_mentions (n + 1) rest) solid_first;
       mentioned = λ b beside once.
-          (let f : List Part → List Part = renamed_path p b in
+          (let f : List Part → List Part = moved_path p b in
           let both : AreRenamed p b [] [] keys (keys_of name'.key) = subst (AreRenamed p b [] [] keys) (sym h.keys) (keys_renamed t p b [] [] (length qs) keys beside part) in
           let moves : map (moved f) first ≡ keyed_mentions (keys_of name'.key) vs =
           ap (map (moved f)) (sym (map_none first)) ∙ keyed_renamed p b [] keys (keys_of name'.key) vs both (part_reaches p [] (length qs) keys part)
@@ -91,7 +91,7 @@ later_renamed profile t q qs n name body nested after comma rest rest' h =
     record {
       some = some_right (IsSolidAt p) first (entries_mentions (n + 1) rest) h.some;
       mentioned = λ b beside once.
-          (let f : List Part → List Part = renamed_path p b in
+          (let f : List Part → List Part = moved_path p b in
           let stays : map (moved f) first ≡ first =
           moved_disjoint p b first (disjoint_closed p first first (closed_named n (Some name) (body_fact body) (entries_mentions 0 nested) (closed_entries 0 nested) q qs) (λ s. once_after p first (entries_mentions (n + 1) rest) once s h.some)) in
           ap (λ x. first ++ x) (h.mentioned b beside (once_right p first (entries_mentions (n + 1) rest) once)) ∙ ap (λ x. x ++ map (moved f) (entries_mentions (n + 1) rest)) (sym stays) ∙ sym (map-append (moved f) first (entries_mentions (n + 1) rest)));
@@ -128,7 +128,7 @@ pub record IsRenamedTo (t : List ℕ) (more : List Part) (old now : Value) : Typ
   pub head : Part
   pub tail : List Part
   pub filled : more ≡ head ∷ tail
-  pub mentioned : (b : List Part) → IsBeside t more b → Once more (entries_mentions 0 old.nested) → entries_mentions 0 now.nested ≡ map (moved (renamed_path more b)) (entries_mentions 0 old.nested)
+  pub mentioned : (b : List Part) → IsBeside t more b → Once more (entries_mentions 0 old.nested) → entries_mentions 0 now.nested ≡ map (moved (moved_path more b)) (entries_mentions 0 old.nested)
 
 pub does_rename : (profile : Profile) (t : List ℕ) → IsKeyText profile t → Does profile (IsRenamedTo t) (renaming (key_part t))
 does_rename profile t text [] v valid = tt

@@ -3,7 +3,7 @@ use Rattle.std.proofs.Common.{◌≡◌, ℕ, List, [], ◌∷◌, ◌++◌, map
 use Rattle.std.proofs.lemmas.List.{map-append}
 use Rattle.keep_syntax.specs.Tree.{Value}
 use Rattle.keep_meaning.specs.Fact.{Fact}
-use Rattle.keep_path.specs.Path.{Part, key}
+use Rattle.keep_path.specs.Path.{Part, key, moved_path}
 use Rattle.keep_meaning.specs.Marks.{MentionKind, Mention, below}
 use Rattle.keep_meaning.specs.Meaning.{body_fact, entries_mentions}
 use Rattle.keep_law.specs.Look.{without_last}
@@ -13,7 +13,7 @@ use Rattle.keep_law.proofs.Common.LineLaws.{EndsInKey, last_from, last_snoc}
 use Rattle.keep_law.proofs.Common.Moves.{moved}
 use Rattle.keep_law.proofs.Common.Cuts.{without_last-snoc}
 use Rattle.keep_law.proofs.Common.InValue.{tagged, IsDoneAt}
-use Rattle.keep_law.proofs.Rename.RenamedPath.{IsBeside, ends_old, renamed_path, moved_disjoint, moved_below}
+use Rattle.keep_law.proofs.Rename.RenamedPath.{IsBeside, ends_old, moved_disjoint, moved_below}
 use Rattle.keep_law.proofs.Rename.RenameOnce.{Once, once_left, once_right, once_below}
 use Rattle.keep_law.proofs.Rename.RenameContent.{root_renamed}
 use Rattle.keep_law.proofs.Rename.RenameEntry.{IsRenamedTo}
@@ -52,26 +52,26 @@ rest_beside t prefix rest p b q qs h whole filled =
     }
 
 tagged_mentions : (t : List ℕ) (tag : Fact → MentionKind) (rest other : List Part) (from to : Value) → IsBeside t rest other → body_fact to.body ≡ body_fact from.body
-    → entries_mentions 0 to.nested ≡ map (moved (renamed_path rest other)) (entries_mentions 0 from.nested) → map (moved (renamed_path rest other)) (tagged tag from) ≡ tagged tag to
+    → entries_mentions 0 to.nested ≡ map (moved (moved_path rest other)) (entries_mentions 0 from.nested) → map (moved (moved_path rest other)) (tagged tag from) ≡ tagged tag to
 tagged_mentions t tag rest other from to beside fact mentioned =
-    ap (λ (q : List Part). record { path = q; kind = tag (body_fact from.body) } ∷ map (moved (renamed_path rest other)) (entries_mentions 0 from.nested)) (root_renamed rest other (ends_old t rest other beside))
-    ∙ ap (λ f. record { path = []; kind = tag f } ∷ map (moved (renamed_path rest other)) (entries_mentions 0 from.nested)) (sym fact)
+    ap (λ (q : List Part). record { path = q; kind = tag (body_fact from.body) } ∷ map (moved (moved_path rest other)) (entries_mentions 0 from.nested)) (root_renamed rest other (ends_old t rest other beside))
+    ∙ ap (λ f. record { path = []; kind = tag f } ∷ map (moved (moved_path rest other)) (entries_mentions 0 from.nested)) (sym fact)
     ∙ ap (λ l. record { path = []; kind = tag (body_fact to.body) } ∷ l) (sym mentioned)
 
 pub mentions_renamed : (t : List ℕ) (prefix p b : List Part) (from to : List Mention) → IsBeside t p b → Once p from → (h : IsDoneAt (IsRenamedTo t) prefix p from to)
-    → to ≡ map (moved (renamed_path p b)) from
+    → to ≡ map (moved (moved_path p b)) from
 mentions_renamed t prefix p b from to beside once h =
     let r = rest_beside t prefix h.rest p b h.done.head h.done.tail beside h.whole h.done.filled in
-    let f : List Part → List Part = renamed_path p b in
+    let f : List Part → List Part = moved_path p b in
     let old : List Mention = tagged h.tag h.old in
     let now : List Mention = tagged h.tag h.now in
     let all : Once p (h.before ++ (map (below prefix) old ++ h.behind)) = subst (Once p) h.was once in
     let mid : Once p (map (below prefix) old) = once_left p (map (below prefix) old) h.behind (once_right p h.before (map (below prefix) old ++ h.behind) all) in
     let inner : Once h.rest old = once_below prefix h.rest old (subst (λ x. Once x (map (below prefix) old)) h.whole mid) in
-    let moves : map (moved (renamed_path (prefix ++ h.rest) (prefix ++ r.other))) (map (below prefix) old) ≡ map (below prefix) now =
+    let moves : map (moved (moved_path (prefix ++ h.rest) (prefix ++ r.other))) (map (below prefix) old) ≡ map (below prefix) now =
     moved_below prefix h.rest r.other old ∙ ap (map (below prefix)) (tagged_mentions t h.tag h.rest r.other h.old h.now r.beside h.done.fact (h.done.mentioned r.other r.beside inner.1)) in
     let moves_all : map (moved f) (map (below prefix) old) ≡ map (below prefix) now =
-    ap (λ x. map (moved (renamed_path x b)) (map (below prefix) old)) h.whole ∙ ap (λ x. map (moved (renamed_path (prefix ++ h.rest) x)) (map (below prefix) old)) r.whole ∙ moves in
+    ap (λ x. map (moved (moved_path x b)) (map (below prefix) old)) h.whole ∙ ap (λ x. map (moved (moved_path (prefix ++ h.rest) x)) (map (below prefix) old)) r.whole ∙ moves in
     let before : map (moved f) h.before ≡ h.before = moved_disjoint p b h.before (subst (λ x. AllOf (IsDisjoint x) h.before) (sym h.whole) (all_longer prefix h.rest h.before h.disjoint_before)) in
     let behind : map (moved f) h.behind ≡ h.behind = moved_disjoint p b h.behind (subst (λ x. AllOf (IsDisjoint x) h.behind) (sym h.whole) (all_longer prefix h.rest h.behind h.disjoint_after)) in
     h.is

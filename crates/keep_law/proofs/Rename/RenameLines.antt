@@ -4,7 +4,7 @@ use Rattle.std.specs.Prelude.{position}
 use Rattle.keep_token.specs.declared.leaf.Profile.{Profile}
 use Rattle.keep_syntax.specs.Tree.{Content, blank, keyval, header, element, Line, Ended, comment_leaves, ended_leaves, text_of}
 use Rattle.keep_syntax.specs.Grammar.{IsLine}
-use Rattle.keep_path.specs.Path.{Part, same_path}
+use Rattle.keep_path.specs.Path.{Part, same_path, moved_path}
 use Rattle.keep_meaning.specs.Marks.{Mention, Reading, header_path, header_way}
 use Rattle.keep_meaning.specs.Meaning.{keys_of, line_mentions, after_line, lines_mentions, line_of}
 use Rattle.keep_law.specs.Look.{strip}
@@ -17,7 +17,7 @@ use Rattle.keep_law.proofs.Common.SetDocument.{page_lines}
 use Rattle.keep_law.proofs.Common.LineLaws.{EndsInKey}
 use Rattle.keep_law.proofs.Rename.MovedLines.{AreLinesMoved}
 use Rattle.keep_law.proofs.Common.NewLines.{IsKeyText}
-use Rattle.keep_law.proofs.Rename.RenamedPath.{IsBeside, ends_old, renamed_path}
+use Rattle.keep_law.proofs.Rename.RenamedPath.{IsBeside, ends_old}
 use Rattle.keep_law.proofs.Rename.RenamedKeys.{AreClear}
 use Rattle.keep_law.proofs.Rename.RenameOnce.{Once, once_after, once_right}
 use Rattle.keep_law.proofs.Rename.RenameContent.{content_mentions, content_after, moved_reading, IsContentMoved, content_preserved, IsContentRenamed, content_renamed}
@@ -32,15 +32,15 @@ clear_content b r (element x k y) clear disjoint =
 
 -- the first line says the same, and so do those after it
 one_more : (p b : List Part) (r : Reading) (l l' : Line) (ls ls' : List Line) → IsContentMoved p b r l.content l'.content
-    → (let f : List Part → List Part = renamed_path p b in
+    → (let f : List Part → List Part = moved_path p b in
     AreLinesMoved f (after_line r l) (moved_reading f (after_line r l)) ls ls' → AreLinesMoved f r (moved_reading f r) (l ∷ ls) (l' ∷ ls'))
 one_more p b r l l' ls ls' m more =
-    let f : List Part → List Part = renamed_path p b in
+    let f : List Part → List Part = moved_path p b in
     (record { stated = m.stated; mentioned = m.mentioned }, subst (λ (x : Reading). AreLinesMoved f (after_line r l) x ls ls') (sym m.behind) more)
 
 -- lines that say nothing of the path itself
 pub lines_preserved : (p b : List Part) → EndsInKey p → (r : Reading) (ls : List Line) → AreClear b r.tables → AllOf (IsDisjoint b) (lines_mentions r ls) → (SomeOf (IsSolidAt p) (lines_mentions r ls) → ⊥)
-    → AreLinesMoved (renamed_path p b) r (moved_reading (renamed_path p b) r) ls ls
+    → AreLinesMoved (moved_path p b) r (moved_reading (moved_path p b) r) ls ls
 lines_preserved p b ends r [] clear disjoint never = tt
 lines_preserved p b ends r (l ∷ ls) clear disjoint never =
     let first : List Mention = line_mentions r l in
@@ -72,7 +72,7 @@ line_renamed profile t p b text beside r l = by (position (same_path p) (part_pa
 pub record AreLinesRenamed (p b : List Part) (r : Reading) (from to : List Line) : Type 0 where
   pub some : SomeOf (IsSolidAt p) (lines_mentions r from)
   pub moves : AreClear b r.tables → AllOf (IsDisjoint b) (lines_mentions r from) → Once p (lines_mentions r from)
-      → AreLinesMoved (renamed_path p b) r (moved_reading (renamed_path p b) r) from to
+      → AreLinesMoved (moved_path p b) r (moved_reading (moved_path p b) r) from to
 
 here_renamed : (profile : Profile) (p b : List Part) → EndsInKey p → (r : Reading) (l l' : Line) (ls : List Line) → IsLineRenamed profile p b r l l' → AreLinesRenamed p b r (l ∷ ls) (l' ∷ ls)
 here_renamed profile p b ends r l l' ls h =

@@ -6,7 +6,7 @@ use Rattle.std.proofs.lemmas.Bool.{eqb-true}
 use Rattle.keep_token.specs.declared.leaf.Profile.{Profile}
 use Rattle.keep_syntax.specs.Tree.{Line, Document, text, depth}
 use Rattle.keep_syntax.specs.Grammar.{IsLine, IsDocument}
-use Rattle.keep_path.specs.Path.{Part, key, index}
+use Rattle.keep_path.specs.Path.{Part, key, index, moved_path}
 use Rattle.keep_meaning.specs.Rules.{ObeysRules}
 use Rattle.keep_meaning.specs.Marks.{Mention, fact_of, start, marks}
 use Rattle.keep_meaning.specs.Meaning.{statement_of, keyval_mentions, lines_mentions, lines, mentions_in}
@@ -36,7 +36,7 @@ use Rattle.keep_law.proofs.Common.ValueThere.{the_some}
 use Rattle.keep_law.proofs.Common.NewLines.{IsKeyText}
 use Rattle.keep_law.proofs.Rename.KeyTexts.{key_text}
 use Rattle.keep_law.proofs.Common.ActDepth.{NoDeeperLine, line_depths, pages_depth, in_document_depth}
-use Rattle.keep_law.proofs.Rename.RenamedPath.{IsBeside, ends_old, ends_new, renamed_path, under_renamed, disjoint_renamed, renamed_injective}
+use Rattle.keep_law.proofs.Rename.RenamedPath.{IsBeside, ends_old, ends_new, under_renamed, disjoint_renamed, renamed_injective}
 use Rattle.keep_law.proofs.Rename.RenameOnce.{Once, once_counted, some_counted}
 use Rattle.keep_law.proofs.Rename.RenameContent.{root_renamed}
 use Rattle.keep_law.proofs.Rename.RenameLines.{IsLineRenamed, line_renamed, AreLinesRenamed, lines_renamed}
@@ -101,20 +101,20 @@ other_keys t p b more r h e =
 -- ---- rules and tree
 
 abbrev pub IsMentioned : List Part → List Part → List Mention → List Mention → Type 0
-IsMentioned p b from to = to ≡ map (moved (renamed_path p b)) from
+IsMentioned p b from to = to ≡ map (moved (moved_path p b)) from
 
 -- line by line
 abbrev IsMovedTo : List Part → List Part → Document → Document → Type 0
-IsMovedTo p b s s' = AreLinesMoved (renamed_path p b) start start (lines s) (lines s')
+IsMovedTo p b s s' = AreLinesMoved (moved_path p b) start start (lines s) (lines s')
 
-none_under : (t : List ℕ) (p b : List Part) → IsBeside t p b → (p ≡ b → ⊥) → (ms : List Mention) → AllOf (IsDisjoint p) (map (moved (renamed_path p b)) ms)
+none_under : (t : List ℕ) (p b : List Part) → IsBeside t p b → (p ≡ b → ⊥) → (ms : List Mention) → AllOf (IsDisjoint p) (map (moved (moved_path p b)) ms)
 none_under t p b h other [] = tt
 none_under t p b h other (m ∷ ms) = (
   elim (none_or_some (strip p m.path)) [
     | inl e ↦ ap (strip p) (disjoint_renamed p b m.path e) ∙ e
-    | inr u ↦ elim (none_or_some (strip p (renamed_path p b m.path))) [
+    | inr u ↦ elim (none_or_some (strip p (moved_path p b m.path))) [
       | inl e ↦ e
-      | inr v ↦ absurd (other (other_keys t p b v.0 u.0 h (sym (strip-sound p (renamed_path p b m.path) v.0 v.1) ∙ under_renamed p b m.path u.0 u.1)))
+      | inr v ↦ absurd (other (other_keys t p b v.0 u.0 h (sym (strip-sound p (moved_path p b m.path) v.0 v.1) ∙ under_renamed p b m.path u.0 u.1)))
     ]
   ],
   none_under t p b h other ms,
@@ -124,10 +124,10 @@ pub tree_renamed : (path : List Part) (t : List ℕ) (from to : List Mention) �
     → IsTreeOf from (rename path t) to
 tree_renamed path t from to h other clear mentioned q = by (strip (beside path t) q) (strip path q) refl refl
   where
-    facts : (f : List Part) → strip (beside path t) f ≡ None → fact_at (renamed_path path (beside path t) f) to ≡ fact_at f from
+    facts : (f : List Part) → strip (beside path t) f ≡ None → fact_at (moved_path path (beside path t) f) to ≡ fact_at f from
     facts f e =
-        ap (λ l. fact_at (renamed_path path (beside path t) f) l) mentioned
-        ∙ ap (λ l. first_of (filter_map fact_of l)) (mentions_moved (λ x. strip (beside path t) x ≡ None) (renamed_path path (beside path t)) (renamed_injective path (beside path t)) f e from clear)
+        ap (λ l. fact_at (moved_path path (beside path t) f) l) mentioned
+        ∙ ap (λ l. first_of (filter_map fact_of l)) (mentions_moved (λ x. strip (beside path t) x ≡ None) (moved_path path (beside path t)) (renamed_injective path (beside path t)) f e from clear)
 
     old_clear : (more : List Part) → strip (beside path t) (path ++ more) ≡ None
     old_clear more = elim (none_or_some (strip (beside path t) (path ++ more))) [
@@ -138,11 +138,11 @@ tree_renamed path t from to h other clear mentioned q = by (strip (beside path t
     by : (o o' : Option (List Part)) → strip (beside path t) q ≡ o → strip path q ≡ o'
         → fact_at q to ≡ fact_from from [] (elim o [ Some more ↦ from_path (path ++ more) | None ↦ elim o' [ Some more ↦ nothing | None ↦ from_path q ] ])
     by (Some more) o' e e' =
-        let there : renamed_path path (beside path t) (path ++ more) ≡ q = under_renamed path (beside path t) (path ++ more) more (strip-append path more) ∙ sym (strip-sound (beside path t) q more e) in
+        let there : moved_path path (beside path t) (path ++ more) ≡ q = under_renamed path (beside path t) (path ++ more) more (strip-append path more) ∙ sym (strip-sound (beside path t) q more e) in
         ap (λ x. fact_at x to) (sym there) ∙ facts (path ++ more) (old_clear more)
     by None (Some more) e e' =
         ap (fact_at q) mentioned
-        ∙ ap (λ l. first_of (filter_map fact_of l)) (kinds_at-disjoint path q more (map (moved (renamed_path path (beside path t))) from) (none_under t path (beside path t) h other from) e')
+        ∙ ap (λ l. first_of (filter_map fact_of l)) (kinds_at-disjoint path q more (map (moved (moved_path path (beside path t))) from) (none_under t path (beside path t) h other from) e')
     by None None e e' = ap (λ x. fact_at x to) (sym (disjoint_renamed path (beside path t) q e')) ∙ facts q e
 
 -- ---- the document
@@ -152,7 +152,7 @@ moved_lines : (profile : Profile) (s : Document) (path b : List Part) (t : List 
     → EachTo (IsMovedTo path b s) (in_document s (in_lines (rename_line (key_part t) path) start s.ended s.last))
 moved_lines profile s path b t text h clear once =
     to_within (λ g. AreLinesRenamed path b start (lines s) (page_lines g)) (IsMovedTo path b s) (with_page s) _ [] (in_lines (rename_line (key_part t) path) start s.ended s.last)
-    (λ g k. subst (λ (x : List Part). AreLinesMoved (renamed_path path b) start (record { tables = []; body = x }) (lines s) (page_lines g)) (root_renamed path b (ends_old t path b h)) (k.moves tt clear once))
+    (λ g k. subst (λ (x : List Part). AreLinesMoved (moved_path path b) start (record { tables = []; body = x }) (lines s) (page_lines g)) (root_renamed path b (ends_old t path b h)) (k.moves tt clear once))
     (lines_renamed profile t path b text h start s.ended s.last)
 
 -- one keyval's line is another, where all that is said is the same with the paths changed
@@ -171,7 +171,7 @@ moved_nested profile s path b t valid rules text h once =
     to_within (λ g. LinesDone (IsRenamedTo t) start path (lines s) (page_lines g)) (IsMovedTo path b s) (with_page s) _ [] (in_lines (in_line (renaming (key_part t)) path) start s.ended s.last)
     (λ g k.
     (let d = mentions_done (IsRenamedTo t) path (lines s) (page_lines g) rules k in
-    one_keyval (renamed_path path b) (lines s) (page_lines g) path t k (mentions_renamed t d.prefix path b (mentions_in s) (lines_mentions start (page_lines g)) h once d.at)))
+    one_keyval (moved_path path b) (lines s) (page_lines g) path t k (mentions_renamed t d.prefix path b (mentions_in s) (lines_mentions start (page_lines g)) h once d.at)))
     (done_lines profile (IsRenamedTo t) (renaming (key_part t)) (does_rename profile t text) path start s.ended s.last valid.ended valid.last)
 
 pub valid_rename : (profile : Profile) (s : Document) (path b : List Part) (t : List ℕ) → IsDocument profile s → IsKeyText profile t → IsBeside t path b → EachTo (IsDocument profile) (change s (rename path t))
@@ -197,9 +197,8 @@ pub record IsRenamedWhole (profile : Profile) (s : Document) (path : List Part) 
   pub is : change s (rename path t) ≡ Some changed
   pub whole : IsSetWhole profile s (rename path t) changed
   pub flat : depth changed.to ≤ depth s
-  pub moved : IsDocumentMoved (renamed_path path (beside path t)) s changed.to
+  pub moved : IsDocumentMoved (moved_path path (beside path t)) s changed.to
   pub two : IsBeside t path (beside path t)
-  pub other : path ≡ beside path t → ⊥
   pub clear : AllOf (IsDisjoint (beside path t)) (mentions_in s)
 
 pub rename_whole : (profile : Profile) (limit : ℕ) (s : Document) (path : List Part) (t : List ℕ) → IsDocument profile s → ObeysRules (marks (mentions_in s)) → IsUtf8 t
@@ -219,11 +218,11 @@ rename_whole profile limit s path t valid obeys utf8 allowed =
     to_or_else (IsMovedTo path b s) _ _ (moved_lines profile s path b t text two clear once) (moved_nested profile s path b t valid rules text two once) in
     let mentioned : EachTo (λ s'. IsMentioned path b ms (mentions_in s')) (change s e) =
     each_to (IsMovedTo path b s) (λ s'. IsMentioned path b ms (mentions_in s')) (change s e)
-    (λ s' k. mentions_of_moved (renamed_path path b) start start (lines s) (lines s') k) moves in
+    (λ s' k. mentions_of_moved (moved_path path b) start start (lines s) (lines s') k) moves in
     let lawful : EachTo (IsLawful s e) (change s e) =
     each_to (λ s'. IsMentioned path b ms (mentions_in s')) (IsLawful s e) (change s e)
     (λ s' k. record {
-      rules = subst Rules (sym k) (rules_moved (λ x. strip b x ≡ None) (renamed_path path b) (renamed_injective path b) ms clear rules);
+      rules = subst Rules (sym k) (rules_moved (λ x. strip b x ≡ None) (moved_path path b) (renamed_injective path b) ms clear rules);
       tree = tree_renamed path t ms (mentions_in s') two other clear k;
     }) mentioned in
     let (c, is) = the_some (change s e) (some_rename profile s path t valid rules (ends_old t path b two) (some_counted path ms (omega (arith, h.marks)))) in
@@ -232,8 +231,7 @@ rename_whole profile limit s path t valid obeys utf8 allowed =
       is = is;
       whole = subst (EachChange (IsSetWhole profile s e)) is (together profile s e (change s e) (valid_rename profile s path b t valid text two) (change-is s e) lawful);
       flat = subst (EachTo (λ s'. depth s' ≤ depth s)) is (rename_depth profile s path b t text two);
-      moved = moved_document (renamed_path path b) s c.to (subst (EachTo (IsMovedTo path b s)) is moves);
+      moved = moved_document (moved_path path b) s c.to (subst (EachTo (IsMovedTo path b s)) is moves);
       two = two;
-      other = other;
       clear = clear;
     }

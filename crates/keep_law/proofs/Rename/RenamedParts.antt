@@ -3,7 +3,7 @@ use Rattle.std.proofs.Common.{◌≡◌, ℕ, zero, suc, ◌-◌, ◌<◌, ◌�
 use Rattle.std.specs.Prelude.{◌==◌, position}
 use Rattle.std.proofs.lemmas.List.{append-nil}
 use Rattle.std.proofs.lemmas.List.Quantifiers.{position-Some}
-use Rattle.keep_path.specs.Path.{Part, key, index, same_path}
+use Rattle.keep_path.specs.Path.{Part, key, index, same_path, moved_path}
 use Rattle.keep_meaning.specs.Marks.{MentionKind, dotted, Mention, below, elements_of, entered_path, passing_mentions, header_path, header_way}
 use Rattle.keep_meaning.specs.Meaning.{valued_mentions, keyed_mentions}
 use Rattle.keep_law.specs.Look.{strip, without_last}
@@ -13,7 +13,7 @@ use Rattle.keep_law.proofs.Common.SetLaw.{IsSolidAt, map_twice}
 use Rattle.keep_law.proofs.Common.LineLaws.{Reaches}
 use Rattle.keep_law.proofs.Common.Moves.{moved}
 use Rattle.keep_law.proofs.Common.Cuts.{without_last-snoc}
-use Rattle.keep_law.proofs.Rename.RenamedPath.{IsBeside, renamed_path, under_renamed, disjoint_renamed, strip_more, renamed_beyond, renamed_step, short_disjoint, moved_under}
+use Rattle.keep_law.proofs.Rename.RenamedPath.{IsBeside, under_renamed, disjoint_renamed, strip_more, renamed_beyond, renamed_step, short_disjoint, moved_under}
 use Rattle.keep_law.proofs.Rename.RenamedKeys.{AreRenamed, passing_solid}
 
 -- the key with that number leads to the path
@@ -69,7 +69,7 @@ keys_renamed t p b tables at zero (k ∷ ks) beside h =
     let same : at ≡ beside.prefix = sym (without_last-snoc at (key k)) ∙ ap without_last (h ∙ beside.was) ∙ without_last-snoc beside.prefix (key beside.old) in
     let short : length at < length p = omega (arith, ap length h, length-append at (key k ∷ [])) in
     let v : Reaches p q = ([], ap (strip p) h ∙ strip_self p) in (
-      ap (renamed_path p b) h ∙ under_renamed p b p [] (strip_self p) ∙ append-nil b
+      ap (moved_path p b) h ∙ under_renamed p b p [] (strip_self p) ∙ append-nil b
           ∙ beside.is ∙ ap (λ (x : List Part). x ++ key t ∷ []) (sym same ∙ sym (disjoint_renamed p b at (short_disjoint p at short))),
       keys_beyond p b tables (entered_path tables q) ks (entered_under p q (index (elements_of q tables - 1)) (0 == elements_of q tables) v),
     )
@@ -119,20 +119,20 @@ part_reaches p at (suc n) (k ∷ ks) h =
 -- ---- what a keyval says, with its keys replaced
 
 pub keyed_renamed : (p b at : List Part) (keys keys' : List (List ℕ)) (ms : List Mention) → AreRenamed p b [] at keys keys' → Reaches p (at ++ map key keys)
-    → map (moved (renamed_path p b)) (map (below at) (keyed_mentions keys ms)) ≡ map (below (renamed_path p b at)) (keyed_mentions keys' ms)
+    → map (moved (moved_path p b)) (map (below at) (keyed_mentions keys ms)) ≡ map (below (moved_path p b at)) (keyed_mentions keys' ms)
 keyed_renamed p b at [] [] ms h u = moved_under p b at ms (subst (λ (x : List Part). Reaches p x) (append-nil at) u)
 keyed_renamed p b at [] (k' ∷ ks') ms h u = absurd h
 keyed_renamed p b at (k ∷ ks) [] ms h u = absurd h
 keyed_renamed p b at (k ∷ []) (k' ∷ l' ∷ ks') ms h u = absurd h.1
 keyed_renamed p b at (k ∷ l ∷ ks) (k' ∷ []) ms h u = absurd h.1
 keyed_renamed p b at (k ∷ []) (k' ∷ []) ms h u =
-    let f : List Part → List Part = renamed_path p b in
+    let f : List Part → List Part = moved_path p b in
     ap (map (moved f)) (map_twice at (key k ∷ []) ms)
     ∙ moved_under p b (at ++ key k ∷ []) ms u
     ∙ ap (λ (x : List Part). map (below x) ms) h.0
     ∙ sym (map_twice (f at) (key k' ∷ []) ms)
 keyed_renamed p b at (k ∷ l ∷ ks) (k' ∷ l' ∷ ks') ms h u =
-    let f : List Part → List Part = renamed_path p b in
+    let f : List Part → List Part = moved_path p b in
     let q : List Part = at ++ key k ∷ [] in
     let inner : List Mention = keyed_mentions (l ∷ ks) ms in
     let inner' : List Mention = keyed_mentions (l' ∷ ks') ms in
