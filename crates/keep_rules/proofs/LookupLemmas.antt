@@ -65,7 +65,7 @@ none_longer nodes trie path more is = number_none (paths_of nodes) (path ++ more
 -- ---- the paths one step below
 
 -- one step more
-child_push : (p q : List Part) (x : Part) → is_child p (q ++ x ∷ []) ≡ same_path p q
+pub child_push : (p q : List Part) (x : Part) → is_child p (q ++ x ∷ []) ≡ same_path p q
 child_push [] [] x = refl
 child_push [] (b ∷ []) x = refl
 child_push [] (b ∷ c ∷ q) x = refl
@@ -73,7 +73,7 @@ child_push (a ∷ []) [] x = (elim (same_part a x) as (λ s. s && false ≡ fals
 child_push (a ∷ c ∷ p) [] x = (elim (same_part a x) as (λ s. s && false ≡ false) [ true ↦ refl | false ↦ refl ])
 child_push (a ∷ p) (b ∷ q) x = ap (λ s. same_part a b && s) (child_push p q x)
 
-no_child_root : (p : List Part) → is_child p [] ≡ false
+pub no_child_root : (p : List Part) → is_child p [] ≡ false
 no_child_root [] = refl
 no_child_root (a ∷ p) = refl
 
