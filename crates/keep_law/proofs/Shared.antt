@@ -5,7 +5,9 @@ pub use Rattle.keep_law.proofs.Common.SetLaw.{IsAloneAt}
 pub use Rattle.keep_law.proofs.Remove.RemovePlace.{IsComma, IsEdged, IsNested, IsValueAt, same_place}
 pub use Rattle.keep_law.proofs.Common.LineEnds.{IsClosed, ended_ends, ends_at, ends_after, line_quiet, line_some, quiet_append, value_closed}
 pub use Rattle.keep_law.proofs.Rename.RenameNumber.{IsKeyRenamed, marks_stated, rename_place_is, rename_placed}
+pub use Rattle.keep_law.proofs.Common.Cuts.{last_part-snoc, without_last-snoc}
 pub use Rattle.keep_law.proofs.Common.Moves.{IsInjectiveOn, mentions_moved, moved}
+pub use Rattle.keep_law.proofs.Rename.RenameInValue.{snoc_of}
 pub use Rattle.keep_law.proofs.Rename.MovedLines.{IsDocumentMoved, moved_numbered}
 pub use Rattle.keep_law.proofs.Rename.RenameNodes.{IsClear, IsNodeRenamed, KeepsSteps, nodes_renamed}
 pub use Rattle.keep_law.proofs.Remove.RemoveLinePlace.{IsLow, is_high}

@@ -1,5 +1,5 @@
 -- Appending a header: when it is refused, and where it is written.
-use Rattle.std.proofs.Common.{◌≡◌, ℕ, true, false, ◌==◌, List, [], ◌∷◌, ◌++◌, length, map, refl, sym, ap, subst, ◌∙◌, arith, Some, None, Ok}
+use Rattle.std.proofs.Common.{◌≡◌, ℕ, true, false, ◌==◌, List, [], ◌∷◌, ◌++◌, length, map, refl, sym, ap, ◌∙◌, arith, Some, None, Ok}
 use Rattle.std.specs.Prelude.{String, string_bytes, codes, IsUtf8}
 use Rattle.std.specs.Global.{Global}
 use Rattle.std.specs.List.{flat_map, AllByRecursion}
@@ -10,12 +10,10 @@ use Rattle.std.proofs.lemmas.Str.{IsUtf8-string_bytes, IsCharBoundary-end}
 use Rattle.keep_token.specs.declared.leaf.Leaf.TheVariants as leaf
 use Rattle.keep_token.specs.declared.leaf.Profile.{Profile}
 use Rattle.keep_token.specs.Encoded.{encoded_key}
-use Rattle.keep_syntax.specs.declared.syntax.Syntax.{Syntax}
 use Rattle.keep_parts.specs.declared.info.Span.{Span}
 use Rattle.keep_syntax.specs.Numbered.{span}
 use Rattle.keep_syntax.specs.Tree as tree
 use Rattle.keep_syntax.specs.Tree.{Written, Document, Content, token, key_leaves, further_leaves, text_of, text}
-use Rattle.keep_meaning.specs.Marks.{start}
 use Rattle.keep_meaning.specs.Meaning.{mentions_in}
 use Rattle.keep_law.specs.declared.fault.EditFault.TheVariants as fault
 use Rattle.keep_law.specs.Edits.{place, key_with, further_part}
@@ -28,7 +26,7 @@ use Rattle.keep_splice.specs.Headers.{role_of, edit_of, key_texts, conflict_from
 use Rattle.keep_splice.specs.declared.header.Header.{Header}
 use Rattle.keep_splice.specs.declared.header.Header.TheVariants.{Table, Element}
 use Rattle.keep_splice.specs.Places.{place_at, IsDoneAt, IsPatchAt}
-use Rattle.keep_splice.specs.Reading.{limit, ProfiledText, Holds, IsTextOfTree}
+use Rattle.keep_splice.specs.Reading.{limit, ProfiledText, IsTextOfTree}
 use Rattle.keep_splice.proofs.AppendLaws.{further_key}
 use Rattle.keep_splice.proofs.EditedLaws.{editable}
 

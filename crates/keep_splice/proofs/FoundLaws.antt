@@ -1,10 +1,9 @@
 -- What is found at a path: the number of its value, and where the value is.
-use Rattle.std.proofs.Common.{◌≡◌, ℕ, ◌<◌, Bool, true, false, ◌||◌, List, [], ◌∷◌, length, slice_get, refl, sym, ap, subst, ◌∙◌, arith, Option, Some, None, Result, Ok, Err}
+use Rattle.std.proofs.Common.{◌≡◌, ℕ, ◌<◌, Bool, true, false, ◌||◌, List, [], ◌∷◌, length, slice_get, refl, sym, ap, subst, ◌∙◌, arith, Option, Some, None}
 use Rattle.std.specs.Prelude.{IsCharBoundary}
 use Rattle.std.specs.List.{list_any}
 use Rattle.std.specs.Option.{option_map}
 use Rattle.std.proofs.lemmas.Option.{slice_get_within}
-use Rattle.keep_token.specs.declared.leaf.Profile.{Profile}
 use Rattle.keep_parts.specs.declared.info.ValueInfo.{ValueInfo}
 use Rattle.keep_syntax.specs.declared.syntax.Syntax.{Syntax}
 use Rattle.keep_syntax.specs.Tree.{Document, text, value_text}
@@ -15,25 +14,19 @@ use Rattle.keep_facts.specs.declared.node.NodeInfo.{NodeInfo}
 use Rattle.keep_facts.specs.declared.node.Origin.TheVariants as origin
 use Rattle.keep_meaning.specs.Counts.{Numbered, is_value, numbered_in}
 use Rattle.keep_meaning.specs.Fact.{Fact}
-use Rattle.keep_meaning.specs.KeyText.{text_at}
 use Rattle.keep_rules.specs.Lookup.{number_of}
-use Rattle.keep_meaning.specs.Marks.{Mention, marks}
-use Rattle.keep_meaning.specs.Meaning.{body_fact, mentions_in}
+use Rattle.keep_meaning.specs.Marks.{Mention}
+use Rattle.keep_meaning.specs.Meaning.{mentions_in}
 use Rattle.keep_meaning.specs.Nodes.{is_at, is_root, is_node, fact_at, node_at, node_number, node_paths, nodes_in, is_element, is_begun, is_define, is_dotted, is_through, numbered_at, last_number, value_number, statement_number, first_that_fits, mentioned_origin}
 use Rattle.keep_path.specs.Path.{Part}
-use Rattle.keep_meaning.specs.Rules.{ObeysRules}
 use Rattle.keep_nodes.specs.Facts.{NodeInfos}
 use Rattle.keep_meaning.proofs.Shared.{paths-nodes_in, IsPart, part_ends}
-use Rattle.keep_law.specs.declared.fault.EditFault.{EditFault}
 use Rattle.keep_law.specs.declared.fault.EditFault.TheVariants as fault
-use Rattle.keep_law.specs.Answers.{get, or_not_value, value_at}
-use Rattle.keep_law.specs.Laws.{GivesText}
-use Rattle.keep_law.specs.Refusals.{has_value}
-use Rattle.keep_law.proofs.Shared.{get_is_right, IsValueOf, value_of_number, none_of_number, fact_past}
+use Rattle.keep_law.proofs.Shared.{IsValueOf, value_of_number, none_of_number, fact_past}
 use Rattle.keep_splice.specs.Reading.{ProfiledText, IsTextOfTree, Holds}
 use Rattle.keep_splice.specs.Answers.{value_number_of, HasNoValue, IsSpanOf}
 use Rattle.keep_splice.proofs.AnswerLaws.{tree_is, stated_is}
-use Rattle.keep_splice.proofs.NodeLaws.{info_at, info_of_number, node_of_number, no_node, a_node, kind_stated}
+use Rattle.keep_splice.proofs.NodeLaws.{info_at, info_of_number, node_of_number, no_node, a_node}
 use Rattle.keep_splice.proofs.ValueEnds.{value_ends, starts_between, ends_between}
 
 -- ---- the node

@@ -4,40 +4,38 @@
 -- (`told_again`), and the nodes are nested as before (`nested_again`).
 use Rattle.std.proofs.Common.{◌≡◌, ◌≢◌, ℕ, ◌-◌, ◌<◌, ◌≤◌, Bool, true, false, List, [], ◌∷◌, ◌++◌, length, get_or, map, refl, sym, ap, ap₂, subst, ◌∙◌, arith, inl, inr, Option, Some, None, slice_get, set}
 use Rattle.std.specs.Prelude.{fold, not, AllPairs}
-use Rattle.std.specs.List.{list_all, filter_map}
+use Rattle.std.specs.List.{list_all}
 use Rattle.std.specs.Option.{option_and_then}
-use Rattle.std.proofs.lemmas.List.{length-map, get_or-map}
+use Rattle.std.proofs.lemmas.List.{get_or-map}
 use Rattle.std.proofs.lemmas.Bool.{cases_Bool}
 use Rattle.keep_token.specs.declared.leaf.Profile.TheVariants.{Wide}
 use Rattle.keep_syntax.specs.declared.syntax.Syntax.{Syntax}
 use Rattle.keep_syntax.specs.Tree.{Body, scalar, array, inline, Entries, none, entry, Value, Document, value_depth}
 use Rattle.keep_syntax.specs.Profiles.{is_allowed_in}
-use Rattle.keep_syntax.specs.Grammar.{place_in, AreEntries, IsValue}
+use Rattle.keep_syntax.specs.Grammar.{place_in, AreEntries}
 use Rattle.keep_path.specs.Path.{Part, key, same_path}
 use Rattle.keep_path.proofs.Shared.{path_decides}
 use Rattle.keep_facts.specs.declared.node.Kind.{Kind}
 use Rattle.keep_facts.specs.declared.node.NodeInfo.{NodeInfo}
-use Rattle.keep_facts.specs.declared.role.Role.{Role}
 use Rattle.keep_facts.specs.declared.role.Role.TheVariants.{Element}
-use Rattle.keep_meaning.specs.Counts.{Numbered, numbered_in, statements_in}
-use Rattle.keep_meaning.specs.Marks.{Mention, role_of, start, reading_after, elements_of, entered_path}
+use Rattle.keep_meaning.specs.Counts.{numbered_in, statements_in}
+use Rattle.keep_meaning.specs.Marks.{Mention, start, reading_after, elements_of, entered_path}
 use Rattle.keep_meaning.specs.Meaning.{body_fact, mentions_in}
-use Rattle.keep_meaning.specs.Nodes.{children, fact_kind, is_node, kinds_at, Node, node_at, node_info, node_number, node_paths, nodes_in, infos_in, mention_of, paths_with}
+use Rattle.keep_meaning.specs.Nodes.{children, fact_kind, is_node, node_at, node_info, node_number, node_paths, infos_in, mention_of, paths_with}
 use Rattle.keep_meaning.specs.Rules.{allows}
 use Rattle.keep_meaning.proofs.Shared.{mentions-numbered_in, paths-nodes_in}
 use Rattle.keep_nodes.specs.Facts.{NodeInfos, no_info, with_kind}
 use Rattle.keep_rules.specs.declared.index.NodeId.{NodeId}
-use Rattle.keep_rules.specs.Lookup.{number_of, path_numbered, children_numbered}
+use Rattle.keep_rules.specs.Lookup.{number_of, children_numbered}
 use Rattle.keep_rules.specs.Nested.{AreNested}
 use Rattle.keep_rules.specs.RoleStates.{mention_roles}
 use Rattle.keep_rules.proofs.Shared.{number_is, node_paths-distinct, infos_set, infos_of, one_place}
 use Rattle.keep_law.specs.declared.fault.EditFault.TheVariants as fault
 use Rattle.keep_law.specs.Changed.{Changed}
 use Rattle.keep_law.specs.Refusals.{first_that_holds, has_value, is_too_deep}
-use Rattle.keep_law.specs.Edits.{set as set_edit, change, changed_or_same, edited_document}
+use Rattle.keep_law.specs.Edits.{set as set_edit, changed_or_same, edited_document}
 use Rattle.keep_law.specs.Laws.{IsLawfulEdit}
 use Rattle.keep_law.proofs.Shared.{set_lawful, rules_of_document, IsKindSet, kind_set}
-use Rattle.keep_splice.specs.declared.set.KindChange.{KindChange}
 use Rattle.keep_splice.specs.Answers.{refusal_in}
 use Rattle.keep_splice.specs.Kinds.{IsKindChange}
 use Rattle.keep_splice.specs.Reading.{limit, ProfiledText, Holds, IsTextOfTree, IsTextOfValue, telling_in}
@@ -69,10 +67,10 @@ module _ (old new : List Mention) (tables tables' : List (List Part)) (paths : n
 
 -- ---- what is told of them
 
-abbrev info_in : Document → List Part → NodeInfo
+abbrev pub info_in : Document → List Part → NodeInfo
 info_in s p = node_info (node_at (numbered_in s) p)
 
-infos_by_path : (s : Document) → infos_in s ≡ map (info_in s) (node_paths (mentions_in s))
+pub infos_by_path : (s : Document) → infos_in s ≡ map (info_in s) (node_paths (mentions_in s))
 infos_by_path s = infos_of node_info (node_at (numbered_in s)) (node_paths (map mention_of (numbered_in s))) ∙ ap (λ ms. map (info_in s) (node_paths ms)) (mentions-numbered_in s)
 
 not_same : (p q : List Part) → (p ≡ q → ⊥) → same_path p q ≡ false

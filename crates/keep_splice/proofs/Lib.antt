@@ -5,6 +5,9 @@ pub mod NodeLaws
 pub mod FoundLaws
 pub mod SetLaws
 pub mod KindLaws
+pub mod MovedNodes
+pub mod MovedNested
+pub mod KeyLaws
 pub mod EditedLaws
 pub mod RenameLaws
 pub mod NewlineLaws

@@ -7,6 +7,7 @@ pub mod Holding
 pub mod Newlines
 pub mod Headers
 pub mod Kinds
+pub mod Keys
 pub mod Writing
 pub mod Aiming
 pub mod PutLines

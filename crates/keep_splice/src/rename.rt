@@ -1,18 +1,19 @@
 //! Renaming keys.
-ghost use Rattle.std.specs.Prelude.{◌≡◌, not, ◌&&◌, IfOk};
+ghost use Rattle.std.specs.Prelude.{◌≡◌, ℕ, List, not, ◌&&◌, IfOk, IfSome, IsUtf8, None, is_some, true};
 ghost use Rattle.keep_syntax.specs.Tree as tree;
 ghost use Rattle.keep_token.specs.Encoded.{encoded_key};
 ghost use Rattle.keep_meaning.specs.Nodes.{is_root};
-ghost use Rattle.keep_law.specs.Edits.{rename};
+ghost use Rattle.keep_law.specs.Edits.{rename, edited_document};
 ghost use Rattle.keep_law.specs.Refusals.{ends_in_index};
 ghost use Rattle.keep_splice.specs.Reading.{IsAccepted, IsTextOfTree};
-ghost use Rattle.keep_splice.specs.Answers.{EditMade};
+ghost use Rattle.keep_splice.specs.Answers.{EditMade, refusal_in};
+ghost use Rattle.keep_splice.specs.Keys.{IsKeyChange};
 ghost use Rattle.keep_splice.specs.Places.{IsDoneAt, IsOfEdit};
 
 use crate::document::DocumentRef;
 use crate::edited::Edited;
 use keep_law::EditFault;
-use keep_rules::{Path, Step};
+use keep_rules::{NodeId, Path, Step};
 use keep_syntax::Span;
 use keep_token::encode_key;
 use std::alloc::Global;
@@ -35,6 +36,18 @@ impl<'a> DocumentRef<'a> {
             return Err(EditFault::Memory);
         };
         Ok(Edited { place: span, new })
+    }
+
+    /// The node whose path, and the paths below it, are all that a new last key of this path changes of the index. It takes no
+    /// memory.
+    pub fn key_change(&self, path: &Path) -> Option<NodeId>
+        ensures change { (s : tree.Document) → IsTextOfTree self.now s → (text : List ℕ) → IsUtf8 text → refusal_in self.now s (rename path.now text) ≡ None
+            → IfSome result (IsKeyChange s (edited_document s (rename path.now text)) path.now text) }
+        ensures some { (s : tree.Document) → IsTextOfTree self.now s → (text : List ℕ) → refusal_in self.now s (rename path.now text) ≡ None → is_some result ≡ true }
+    {
+        // The invariant of a document is known to the proof from where a field of it is looked at.
+        let _text = self.text;
+        self.index.find(path)
     }
 
     /// Where the key is that a new one replaces. It takes no memory.
