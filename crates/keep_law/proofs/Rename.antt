@@ -15,5 +15,6 @@ pub mod RenameEntry
 pub mod RenameInValue
 pub mod RenameThere
 pub mod RenameFound
+pub mod RenameMoves
 pub mod RenameWhole
 pub mod RenameNodes

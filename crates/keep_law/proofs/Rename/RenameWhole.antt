@@ -4,44 +4,43 @@ use Rattle.std.specs.Prelude.{not, ◌&&◌, ◌||◌, ◌==◌}
 use Rattle.std.specs.List.{filter_map, list_any}
 use Rattle.std.proofs.lemmas.Bool.{eqb-true}
 use Rattle.keep_token.specs.declared.leaf.Profile.{Profile}
-use Rattle.keep_syntax.specs.Tree.{Line, Document, text, depth}
+use Rattle.keep_syntax.specs.Tree.{Document, text, depth}
 use Rattle.keep_syntax.specs.Grammar.{IsLine, IsDocument}
 use Rattle.keep_path.specs.Path.{Part, key, index, moved_path}
 use Rattle.keep_meaning.specs.Rules.{ObeysRules}
 use Rattle.keep_meaning.specs.Marks.{Mention, fact_of, start, marks}
-use Rattle.keep_meaning.specs.Meaning.{statement_of, keyval_mentions, lines_mentions, lines, mentions_in}
+use Rattle.keep_meaning.specs.Meaning.{lines, mentions_in}
 use Rattle.keep_meaning.specs.Nodes.{is_at, is_root, is_node, fact_at, first_of, mark_count}
 use Rattle.keep_law.specs.declared.fault.EditFault.TheVariants as fault
 use Rattle.keep_law.specs.Look.{strip, last_part, without_last, is_index}
 use Rattle.keep_law.specs.Changed.{Changed}
 use Rattle.keep_law.specs.Values.{renaming}
-use Rattle.keep_law.specs.Lines.{rename_line, in_line, in_lines, in_document, with_page}
-use Rattle.keep_law.specs.Edits.{rename, key_part, change, nested}
+use Rattle.keep_law.specs.Lines.{rename_line, in_line, in_lines, with_page}
+use Rattle.keep_law.specs.Edits.{rename, key_part, change}
 use Rattle.keep_law.specs.Refusals.{refusal, first_that_holds, ends_in_index, beside}
 use Rattle.keep_law.specs.Trees.{IsTreeOf, fact_from, from as from_path, nothing}
 use Rattle.keep_law.proofs.Common.Runs.{AllOf, IsDisjoint, Rules, strip-sound, strip-append, none_or_some, kinds_at-disjoint}
 use Rattle.keep_law.proofs.Common.SetLaw.{EachTo, to_within, to_or_else}
 use Rattle.keep_law.proofs.Common.SetValid.{IsPage, valid_line, valid_lines}
-use Rattle.keep_law.proofs.Common.SetDocument.{IsLawful, page_lines, cancel, each_to}
+use Rattle.keep_law.proofs.Common.SetDocument.{IsLawful, cancel, each_to}
 use Rattle.keep_law.proofs.Common.SetWhole.{IsSetWhole, EachChange, together}
 use Rattle.keep_law.proofs.Common.LineTexts.{change-is}
 use Rattle.keep_law.proofs.Common.LineLaws.{EndsInKey}
 use Rattle.keep_law.proofs.Common.InsertLaw.{fresh_disjoint}
 use Rattle.keep_law.proofs.Common.Marks.{rules_of_document}
 use Rattle.keep_law.proofs.Common.Moves.{moved, rules_moved, mentions_moved}
-use Rattle.keep_law.proofs.Rename.MovedLines.{AreLinesMoved, mentions_of_moved, IsDocumentMoved, moved_document, lines_around}
+use Rattle.keep_law.proofs.Rename.MovedLines.{mentions_of_moved, IsDocumentMoved, moved_document}
 use Rattle.keep_law.proofs.Common.Cuts.{last_part-snoc, without_last-snoc}
-use Rattle.keep_law.proofs.Common.InValue.{LinesDone, done_lines, mentions_done}
 use Rattle.keep_law.proofs.Common.ValueThere.{the_some}
 use Rattle.keep_law.proofs.Common.NewLines.{IsKeyText}
 use Rattle.keep_law.proofs.Rename.KeyTexts.{key_text}
 use Rattle.keep_law.proofs.Common.ActDepth.{NoDeeperLine, line_depths, pages_depth, in_document_depth}
 use Rattle.keep_law.proofs.Rename.RenamedPath.{IsBeside, ends_old, ends_new, under_renamed, disjoint_renamed, renamed_injective}
 use Rattle.keep_law.proofs.Rename.RenameOnce.{Once, once_counted, some_counted}
-use Rattle.keep_law.proofs.Rename.RenameContent.{root_renamed}
-use Rattle.keep_law.proofs.Rename.RenameLines.{IsLineRenamed, line_renamed, AreLinesRenamed, lines_renamed}
-use Rattle.keep_law.proofs.Rename.RenameEntry.{IsRenamedTo, does_rename, valid_renaming, flat_renaming}
-use Rattle.keep_law.proofs.Rename.RenameInValue.{snoc_of, mentions_renamed}
+use Rattle.keep_law.proofs.Rename.RenameMoves.{IsMovedTo, moved_lines, moved_nested}
+use Rattle.keep_law.proofs.Rename.RenameLines.{IsLineRenamed, line_renamed}
+use Rattle.keep_law.proofs.Rename.RenameEntry.{valid_renaming, flat_renaming}
+use Rattle.keep_law.proofs.Rename.RenameInValue.{snoc_of}
 use Rattle.keep_law.proofs.Rename.RenameFound.{some_rename}
 
 -- ---- what is not refused
@@ -103,10 +102,6 @@ other_keys t p b more r h e =
 abbrev pub IsMentioned : List Part → List Part → List Mention → List Mention → Type 0
 IsMentioned p b from to = to ≡ map (moved (moved_path p b)) from
 
--- line by line
-abbrev IsMovedTo : List Part → List Part → Document → Document → Type 0
-IsMovedTo p b s s' = AreLinesMoved (moved_path p b) start start (lines s) (lines s')
-
 none_under : (t : List ℕ) (p b : List Part) → IsBeside t p b → (p ≡ b → ⊥) → (ms : List Mention) → AllOf (IsDisjoint p) (map (moved (moved_path p b)) ms)
 none_under t p b h other [] = tt
 none_under t p b h other (m ∷ ms) = (
@@ -146,33 +141,6 @@ tree_renamed path t from to h other clear mentioned q = by (strip (beside path t
     by None None e e' = ap (λ x. fact_at x to) (sym (disjoint_renamed path (beside path t) q e')) ∙ facts q e
 
 -- ---- the document
-
--- line by line the new document says the same, with the paths changed
-moved_lines : (profile : Profile) (s : Document) (path b : List Part) (t : List ℕ) → IsKeyText profile t → IsBeside t path b → AllOf (IsDisjoint b) (mentions_in s) → Once path (mentions_in s)
-    → EachTo (IsMovedTo path b s) (in_document s (in_lines (rename_line (key_part t) path) start s.ended s.last))
-moved_lines profile s path b t text h clear once =
-    to_within (λ g. AreLinesRenamed path b start (lines s) (page_lines g)) (IsMovedTo path b s) (with_page s) _ [] (in_lines (rename_line (key_part t) path) start s.ended s.last)
-    (λ g k. subst (λ (x : List Part). AreLinesMoved (moved_path path b) start (record { tables = []; body = x }) (lines s) (page_lines g)) (root_renamed path b (ends_old t path b h)) (k.moves tt clear once))
-    (lines_renamed profile t path b text h start s.ended s.last)
-
--- one keyval's line is another, where all that is said is the same with the paths changed
-one_keyval : (f : List Part → List Part) (from to : List Line) (path : List Part) (t : List ℕ) → (h : LinesDone (IsRenamedTo t) start path from to) → lines_mentions start to ≡ map (moved f) (lines_mentions start from)
-    → AreLinesMoved f start start from to
-one_keyval f from to path t h e =
-    let was : map (moved f) (lines_mentions start (h.pre ++ h.old ∷ h.post)) ≡ map (moved f) (lines_mentions start from) = ap (λ (ls : List Line). map (moved f) (lines_mentions start ls)) (sym h.was) in
-    let k : AreLinesMoved f start start (h.pre ++ h.old ∷ h.post) (h.pre ++ h.now ∷ h.post) =
-    lines_around f start h.pre h.post h.old h.now (keyval_mentions h.content.name h.content.old) (keyval_mentions h.content.name h.content.now) (ap statement_of h.content.was) (ap statement_of h.content.is)
-    (ap (lines_mentions start) (sym h.is) ∙ e ∙ sym was) in
-    subst (λ (ls : List Line). AreLinesMoved f start start ls to) (sym h.was) (subst (λ (ls : List Line). AreLinesMoved f start start (h.pre ++ h.old ∷ h.post) ls) (sym h.is) k)
-
-moved_nested : (profile : Profile) (s : Document) (path b : List Part) (t : List ℕ) → IsDocument profile s → Rules (mentions_in s) → IsKeyText profile t → IsBeside t path b → Once path (mentions_in s)
-    → EachTo (IsMovedTo path b s) (nested (renaming (key_part t)) path s)
-moved_nested profile s path b t valid rules text h once =
-    to_within (λ g. LinesDone (IsRenamedTo t) start path (lines s) (page_lines g)) (IsMovedTo path b s) (with_page s) _ [] (in_lines (in_line (renaming (key_part t)) path) start s.ended s.last)
-    (λ g k.
-    (let d = mentions_done (IsRenamedTo t) path (lines s) (page_lines g) rules k in
-    one_keyval (moved_path path b) (lines s) (page_lines g) path t k (mentions_renamed t d.prefix path b (mentions_in s) (lines_mentions start (page_lines g)) h once d.at)))
-    (done_lines profile (IsRenamedTo t) (renaming (key_part t)) (does_rename profile t text) path start s.ended s.last valid.ended valid.last)
 
 pub valid_rename : (profile : Profile) (s : Document) (path b : List Part) (t : List ℕ) → IsDocument profile s → IsKeyText profile t → IsBeside t path b → EachTo (IsDocument profile) (change s (rename path t))
 valid_rename profile s path b t valid text h =
