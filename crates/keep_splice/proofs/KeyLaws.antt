@@ -10,7 +10,8 @@ use Rattle.std.proofs.lemmas.List.Folds.{fold-map}
 use Rattle.std.proofs.lemmas.List.Sums.{sum_by-cons}
 use Rattle.keep_syntax.specs.declared.syntax.Syntax.{Syntax}
 use Rattle.keep_syntax.specs.Tree.{Document}
-use Rattle.keep_path.specs.Path.{Part, key, moved_path, same_path}
+use Rattle.keep_path.specs.Path as path_of
+use Rattle.keep_path.specs.Path.{beside, last_part, Part, key, moved_path, same_path}
 use Rattle.keep_facts.specs.declared.node.Kind.{Kind}
 use Rattle.keep_facts.specs.declared.node.Origin.{Origin}
 use Rattle.keep_facts.specs.declared.node.NodeInfo.{NodeInfo}
@@ -25,8 +26,6 @@ use Rattle.keep_rules.specs.Lookup.{number_of}
 use Rattle.keep_rules.specs.Nested.{AreNested}
 use Rattle.keep_law.specs.declared.fault.EditFault.TheVariants as fault
 use Rattle.keep_law.specs.Edits.{rename, edited_document}
-use Rattle.keep_law.specs.Look.{last_part}
-use Rattle.keep_law.specs.Refusals.{beside}
 use Rattle.keep_law.proofs.Shared.{AllOf, EndsInKey, IsClear, IsNodeRenamed, KeepsSteps, last_part-snoc, moved, moved_numbered, nodes_renamed}
 use Rattle.keep_splice.specs.Answers.{refusal_in}
 use Rattle.keep_splice.specs.Keys.{IsKeyChange}
@@ -137,7 +136,7 @@ no_number path ms none = by (node_number (node_paths ms) path) refl
     by None e = refl
     by (Some i) e = let there : is_node path ms ≡ true = a_node path ms i e in absurd cc
 
-last_key : (path : List Part) → EndsInKey path → (last : List ℕ) × (last_part path ≡ Some (key last))
+last_key : (path : List Part) → EndsInKey path → path_of.EndsInKey path
 last_key path (prefix, last, e) = (last, ap last_part e ∙ last_part-snoc prefix (key last))
 
 module _ (d : ProfiledText) (syntax : Syntax) (index : NodeInfos) (path : List Part) (s : Document) (holds : Holds d syntax index) (read : IsTextOfTree d s) where
