@@ -7,6 +7,7 @@ use Rattle.std.specs.List.{filter_map, list_all}
 use Rattle.std.specs.Option.{option_and_then}
 use Rattle.std.proofs.lemmas.List.{append-nil, length-map, get_or-map}
 use Rattle.std.proofs.lemmas.Option.{slice_get-map}
+use Rattle.keep_facts.specs.declared.role.Role.{Role}
 use Rattle.keep_facts.specs.declared.role.Role.TheVariants.{Element}
 use Rattle.keep_path.specs.Path.{Part, key, index}
 use Rattle.keep_meaning.specs.Marks.{Mention, role_of, elements_of, entered_path}
@@ -58,10 +59,10 @@ module _ (P : List Part → Type 0) (f : List Part → List Part) (keeps : Keeps
       }
 
   -- a step by a key was one by a key
-  key_step : (path above : List Part) (k : List ℕ) (last : Part) → path ++ key k ∷ [] ≡ f (above ++ last ∷ []) → (old : List ℕ) × (last ≡ key old)
-  key_step path above k (key old) e = (old, refl)
-  key_step path above k (index n) e =
-      let same : Some (key k) ≡ Some (index n) = sym (last_part-snoc path (key k)) ∙ ap last_part (e ∙ keeps.numbered above n) ∙ last_part-snoc (f above) (index n) in
+  key_step : (path above : List Part) (k : List ℕ) (last : Part) (z : List Part) → z ≡ above ++ last ∷ [] → path ++ key k ∷ [] ≡ f z → (old : List ℕ) × (z ≡ above ++ key old ∷ [])
+  key_step path above k (key old) z was e = (old, was)
+  key_step path above k (index n) z was e =
+      let same : Some (key k) ≡ Some (index n) = sym (last_part-snoc path (key k)) ∙ ap last_part (e ∙ ap f was ∙ keeps.numbered above n) ∙ last_part-snoc (f above) (index n) in
       absurd cc
 
   -- ---- they are nested as before
@@ -89,20 +90,27 @@ module _ (P : List Part → Type 0) (f : List Part → List Part) (keeps : Keeps
     closed_moved [] path none = ap (node_number (map f ps)) (append-nil path) ∙ none
     closed_moved (m ∷ more) path none = ap (node_number (map f ps)) (sym (append_assoc path (m ∷ []) more)) ∙ closed_moved more (path ++ m ∷ []) (closed_step path m none)
 
+    roles_moved : (q z : List Part) → P z → q ≡ f z → mention_roles q (map (moved f) ms) ≡ mention_roles z ms
+    roles_moved q z hz is =
+        ap (λ (x : List Part). mention_roles x (map (moved f) ms)) is ∙ ap (filter_map role_of) (mentions_moved P f keeps.different z hz ms all)
+
+    listed_at : (z above : List Part) (old : List ℕ) (i : ℕ) → z ≡ above ++ key old ∷ [] → node_number ps z ≡ Some i → list_all (λ role. allows role Element) (mention_roles z ms) ≡ true
+        → 0 < elements_of z tables
+    listed_at z above old i was =
+        subst (λ (x : List Part). node_number ps x ≡ Some i → list_all (λ role. allows role Element) (mention_roles x ms) ≡ true → 0 < elements_of x tables) (sym was) (nested.listed above old i)
+
+    elements_at : (q z : List Part) → P z → q ≡ f z → elements_of q (map f tables) ≡ elements_of z tables
+    elements_at q z hz is = ap (λ (x : List Part). elements_of x (map f tables)) is ∙ elements_moved P f keeps z tables hz tables_fit
+
     listed_moved : (path : List Part) (k : List ℕ) (i : ℕ) → node_number (map f ps) (path ++ key k ∷ []) ≡ Some i
         → list_all (λ role. allows role Element) (mention_roles (path ++ key k ∷ []) (map (moved f) ms)) ≡ true → 0 < elements_of (path ++ key k ∷ []) (map f tables)
     listed_moved path k i e open_to =
         let n = old_node ps (path ++ key k ∷ []) i fit e in
         let b = step_back path (key k) n.old n.fits n.is in
-        let (old, last) = key_step path b.above k b.last (n.is ∙ ap f b.was) in
-        let was : n.old ≡ b.above ++ key old ∷ [] = b.was ∙ ap (λ (x : Part). b.above ++ x ∷ []) last in
-        let roles : mention_roles (path ++ key k ∷ []) (map (moved f) ms) ≡ mention_roles n.old ms =
-        ap (λ (q : List Part). mention_roles q (map (moved f) ms)) n.is ∙ ap (filter_map role_of) (mentions_moved P f keeps.different n.old n.fits ms all) in
-        let some : 0 < elements_of (b.above ++ key old ∷ []) tables =
-        nested.listed b.above old i (ap (node_number ps) (sym was) ∙ n.number)
-        (ap (λ (q : List Part). list_all (λ role. allows role Element) (mention_roles q ms)) (sym was) ∙ ap (list_all (λ role. allows role Element)) (sym roles) ∙ open_to) in
-        subst (λ (many : ℕ). 0 < many)
-        (ap (λ (q : List Part). elements_of q tables) (sym was) ∙ sym (elements_moved P f keeps n.old tables n.fits tables_fit) ∙ ap (λ (q : List Part). elements_of q (map f tables)) (sym n.is)) some
+        let (old, was) = key_step path b.above k b.last n.old b.was n.is in
+        let open_then : list_all (λ role. allows role Element) (mention_roles n.old ms) ≡ true =
+        subst (λ (roles : List Role). list_all (λ role. allows role Element) roles ≡ true) (roles_moved (path ++ key k ∷ []) n.old n.fits n.is) open_to in
+        subst (λ (many : ℕ). 0 < many) (sym (elements_at (path ++ key k ∷ []) n.old n.fits n.is)) (listed_at n.old b.above old i was n.number open_then)
 
     entered_nested : (path : List Part) (i : ℕ) → node_number (map f ps) path ≡ Some i → 0 < elements_of path (map f tables)
         → option_and_then (node_number (map f ps)) (slice_get (children path (map f ps)) (length (children path (map f ps)) - 1)) ≡ node_number (map f ps) (entered_path (map f tables) path)
@@ -110,7 +118,7 @@ module _ (P : List Part → Type 0) (f : List Part → List Part) (keeps : Keeps
         let n = old_node ps path i fit e in
         let z : List Part = n.old in
         let cs : List (List Part) = children z ps in
-        let many : 0 < elements_of z tables = subst (λ (many : ℕ). 0 < many) (ap (λ (q : List Part). elements_of q (map f tables)) n.is ∙ elements_moved P f keeps z tables n.fits tables_fit) some in
+        let many : 0 < elements_of z tables = subst (λ (many : ℕ). 0 < many) (elements_at path z n.fits n.is) some in
         ap (λ (q : List Part). option_and_then (node_number (map f ps)) (slice_get (children q (map f ps)) (length (children q (map f ps)) - 1))) n.is
         ∙ ap (λ (l : List (List Part)). option_and_then (node_number (map f ps)) (slice_get l (length l - 1))) (children_moved P f keeps z ps n.fits fit)
         ∙ ap (λ (m : ℕ). option_and_then (node_number (map f ps)) (slice_get (map f cs) (m - 1))) (length-map cs f)
