@@ -1,14 +1,17 @@
 #!/usr/bin/env python3
 """Tries the must-fail edits, wrong bodies and wrong definitions that the prover has to refuse, many in one check.
 
-    tests/edits.py [NAME..]         the edits of these crates (none: of all), over the libraries that `rt check` built here
+    tests/edits.py [NAME..]              the edits of these crates (none: of all), over the libraries that `rt check` built here
+    tests/edits.py --unedited [NAME..]   the same checks without the edits: what is refused there is the fault of this script
 
 An edit is a file with the lines that `rt must-fail` reads, and a line `# refused in: FUNCTION`: the function, by its path in
 the crate, whose contract the edit breaks. A function is proved by the contracts of those that it calls, whatever their
 bodies. So edits of the bodies of different functions are made in one copy of the crate, one for each function, and one
-check proves these functions alone (`rattle check --only`). An edit is refused there if a goal of its function is. Where all
-that is said of a function is that it calls another which is not proved, its edit is tried again, without that other's. An
-edit outside of its function's body (a table, a constant) has a check of its own.
+check proves these functions alone (`rattle check --only`). The bodies of the others are left out of it, and a hole stands for
+the proof of each (tests/bodies.py): else the check would prove all that these functions call once more, as the gate has done.
+An edit is refused there if a goal of its function is. Where all that is said of a function is that it calls another which is
+not proved, its edit is tried again, without that other's. An edit outside of its function's body (a table, a constant) has a
+check of its own, with all bodies.
 
 An edit without that line is of a definition or a proof, on which much may rest. It is made alone, and the whole crate is
 checked.
@@ -30,17 +33,17 @@ from dataclasses import dataclass
 from pathlib import Path
 from tempfile import TemporaryDirectory
 
+from bodies import functions_of, hole_for, types_in, without_bodies
 from quick import crates
 
 ROOT = Path(__file__).resolve().parent.parent
 PARTS = ("src", "specs", "proofs")
 FUNCTION = "# refused in: "
-# A function's name, or the end of an item.
-FN_OR_END = re.compile(r"^ *(?:pub(?:\([a-z ]+\))? )?(?:const )?(?:unsafe )?fn (\w+)|^}", re.M)
-# What the prover says of a function that calls one which it refused, of a text that it could not read, of a function of which
-# it could not prove a goal, and where a proof names what is no longer there.
-CALLS = re.compile(r"it calls .*not proved")
+# What the prover says of a text that it could not read, of a function that it proved, by holes or not, of one that calls another
+# which it refused, of one of which it could not prove a goal, and where a proof names what is no longer there.
 NO_TERM = re.compile(r"is not in scope|has no field|is no name|operand is missing|expected the end|cannot continue")
+PROVED = re.compile(r"proved$|no holes$|depends on a hole in ")
+CALLS = re.compile(r"it calls .*not proved")
 UNPROVED = re.compile(r"^no proof: expected answers in .*`search` did not prove `")
 NO_NAME = re.compile(r"\./proofs/.*(has no field|is not in scope|has no `|was not admitted)")
 
@@ -64,16 +67,24 @@ class Edit:
             texts[path] = text.replace(old, new)
         return texts
 
-    def is_of_the_body(self, folder):
-        """Whether all that is changed stands in the body of the function."""
-        name = self.function.rpartition("::")[2]
-        for path, old, _ in self.changes:
-            before = (folder / path).read_text(encoding="utf-8").partition(old)[0]
-            *_, found = [None, *FN_OR_END.finditer(before)]
-            # (a body begins at the first line that ends with a bracket; no clause of a contract has one)
-            if not found or found[1] != name or not re.search(r"\{$", before[found.end() :], re.M):
-                return False
-        return True
+    def own_body(self, sources):
+        """The function that the edit names, if all that is changed stands in its body: of these texts of src/, by their paths."""
+        found = {path in sources and body_around(sources, path, old) for path, old, _ in self.changes}
+        body = found.pop() if len(found) == 1 else None
+        return body if body and body.path == self.function else None
+
+
+def body_around(sources, path, old):
+    """The function in whose body a part of a file stands, that stands there once."""
+    line = sources[path].partition(old)[0].count("\n")
+    functions = functions_of(path, sources[path], types_in(sources))
+    return next((it for it in functions if it.start <= line < it.end), None)
+
+
+def sources_of(folder):
+    """The texts of the files of a crate's src/, by their paths in the crate."""
+    files = sorted((folder / "src").rglob("*.rt"))
+    return {it.relative_to(folder).as_posix(): it.read_text(encoding="utf-8") for it in files}
 
 
 def read_edit(file):
@@ -115,16 +126,19 @@ class Checks:
 
     def __init__(self, crate, built, room):
         self.crate, self.folder, self.room = crate, ROOT / "crates" / crate, Path(room)
+        self.sources = sources_of(self.folder)
         self.words, self.count, self.seconds = words_for(crate, built), 0, 0.0
 
-    def run(self, texts, *words):
-        """The status and the lines of a check of the crate with these texts."""
+    def run(self, texts, *words, bodies=None):
+        """The status and the lines of a check of the crate with these texts, and with the bodies of these functions alone."""
         with TemporaryDirectory(prefix="copy-", dir=self.room) as copy:
             for part in PARTS:
                 if (self.folder / part).is_dir():
                     shutil.copytree(self.folder / part, f"{copy}/{part}")
             for path, text in texts.items():
                 Path(copy, path).write_text(text, encoding="utf-8")
+            if bodies:
+                leave_out(self.crate, Path(copy), bodies)
             how = {"cwd": copy, "stdin": subprocess.DEVNULL, "stdout": subprocess.PIPE, "stderr": subprocess.STDOUT}
             ran = subprocess.Popen([*self.words, "--incremental", f"{self.room}/kept", *words], text=True, errors="replace", **how)
             said = ran.stdout.read().rstrip("\n").split("\n")
@@ -138,23 +152,34 @@ class Checks:
         texts = {}
         for edit in edits:
             texts = edit.made_in(self.folder, texts)
-        asked = [word for edit in edits for word in ("--only", edit.function)]
-        _, said = self.run(texts, *asked)
+        has_others = not edits[0].own_body(self.sources)
+        said = self.run_only([it.function for it in edits], texts, has_others)
         return [self.told(edit, said, len(edits) == 1) for edit in edits]
+
+    def run_only(self, functions, texts, has_others):
+        """What a check of these functions alone says, with these texts, and with or without the bodies of the others."""
+        words = [word for it in functions for word in ("--only", it)]
+        if has_others:
+            return self.run(texts, *words)[1]
+        return self.run(texts, "--allow-holes", *words, bodies=functions)[1]
+
+    def line_of(self, function, said):
+        """What a check says of a function; None if nothing."""
+        begin = f"fn {self.crate}::{function}: "
+        return next((it.removeprefix(begin) for it in said if it.startswith(begin)), None)
 
     def told(self, edit, said, is_alone):
         """What a check says of an edit's function. A table or a definition may break a goal anywhere."""
-        begin = f"fn {self.crate}::{edit.function}: "
-        line = next((it.removeprefix(begin) for it in said if it.startswith(begin)), None)
+        line = self.line_of(edit.function, said)
         unread = next((it for it in said if is_unread(it, edit)), None)
         if line is None or unread or not said[-1].startswith("only="):
             return Tried(edit, False, f"no check of its function: {unread or first_error(said)}") if is_alone else None
-        if line == "proved":
+        if PROVED.match(line):
             return Tried(edit, False, "its function is proved with it")
-        place = f"./proofs/{edit.function.replace('::', '/')}/"
-        errors = [it for it in said if ": error: `" in it and (is_alone or it.startswith(place))]
+        body = edit.own_body(self.sources)
+        errors = [it for it in said if ": error: `" in it and (not body or it.startswith(f"./{body.proof}/"))]
         own = next((it for it in errors if not NO_NAME.match(it)), line if UNPROVED.match(line) else None)
-        if own and not (is_alone and CALLS.search(line)):
+        if own and (body or not CALLS.search(line)):
             return Tried(edit, True, own)
         return Tried(edit, False, f"no goal says so: {first_error(errors or [line])}") if is_alone else None
 
@@ -171,6 +196,20 @@ class Checks:
         unread = next((it for it in said if is_unread(it, edit)), None)
         is_refused = status == 1 and said[-1].startswith("logic=not-proved") and not unread
         return Tried(edit, is_refused, unread or first_error(said))
+
+
+def leave_out(crate, copy, kept):
+    """Leaves the bodies of all plain functions of a copy of a crate out of it but those of these, with a hole for the proof of each."""
+    sources = sources_of(copy)
+    for path, text in sources.items():
+        rest, left_out = without_bodies(path, text, types_in(sources), kept)
+        (copy / path).write_text(rest, encoding="utf-8")
+        for function in left_out:
+            proof = copy / function.proof
+            proof.mkdir(parents=True, exist_ok=True)
+            for name in ("Answers.antt", "Invariants.antt"):
+                (proof / name).unlink(missing_ok=True)
+            (proof / "Proof.antt").write_text(hole_for(crate, function), encoding="utf-8")
 
 
 def is_unread(line, edit):
@@ -206,13 +245,13 @@ def words_for(crate, built):
     return [*words, "--links", f"{crate}=", "--jobs", "1"]
 
 
-def picked(folder, left):
+def picked(checks, left):
     """Of the edits that are left those for the next check: one for each function, as many as can be made in one copy."""
     chosen, texts = [], {}
     for edit in left:
-        if edit.function in [it.function for it in chosen] or not edit.is_of_the_body(folder):
+        if edit.function in [it.function for it in chosen] or not edit.own_body(checks.sources):
             continue
-        made = edit.made_in(folder, texts)
+        made = edit.made_in(checks.folder, texts)
         if made is not None:
             chosen, texts = [*chosen, edit], made
     return chosen
@@ -223,7 +262,7 @@ def tried(crate, built):
     with TemporaryDirectory(prefix="keep-toml-edits-") as room:
         checks, results = Checks(crate, built, room), {}
         left = [it for it in edits_of(crate) if it.function]
-        while chosen := picked(checks.folder, left):
+        while chosen := picked(checks, left):
             told = {it.edit: it for it in checks.together(chosen) if it}
             results.update(told or {chosen[0]: checks.alone(chosen[0])})
             left = [it for it in left if it not in results]
@@ -242,9 +281,23 @@ def say_tried(crate, built):
     return refused, len(results) - refused, seconds, time.time() - start
 
 
+def say_unedited(crate, built):
+    """Says which functions that the edits of a crate name are not proved by the same check without any edit; gives the counts."""
+    with TemporaryDirectory(prefix="keep-toml-edits-") as room:
+        checks = Checks(crate, built, room)
+        functions = sorted({it.function for it in edits_of(crate) if it.own_body(checks.sources)})
+        said = checks.run_only(functions, {}, False) if functions else []
+    lines = {it: checks.line_of(it, said) or first_error(said) for it in functions}
+    missed = [f"{crate}: {it} is not proved: {line[:200]}" for it, line in lines.items() if not PROVED.match(line)]
+    print(*missed, f"{crate}: {len(functions) - len(missed)} of {len(functions)} functions proved without an edit", sep="\n", flush=True)
+    return len(functions) - len(missed), len(missed)
+
+
 def main(*names):
+    say = say_unedited if names[:1] == ("--unedited",) else say_tried
+    names = names[int(say is say_unedited) :] or [it for it in crates() if edits_of(it)]
     with ThreadPoolExecutor(len(os.sched_getaffinity(0))) as pool:
-        done = list(pool.map(lambda it: say_tried(it, ROOT), names or [it for it in crates() if edits_of(it)]))
+        done = list(pool.map(lambda it: say(it, ROOT), names))
     refused, missed = sum(it[0] for it in done), sum(it[1] for it in done)
     print(f"edits: {refused} passed, {missed} failed")
     return missed > 0
