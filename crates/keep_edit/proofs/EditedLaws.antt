@@ -1,5 +1,5 @@
 -- What an edit answers, by the text that was made: the document after it, or that text alone.
-use Rattle.std.proofs.Common.{◌≡◌, ℕ, List, sym, subst, refl, Option, Some, None, Result, Ok, Err, String, Global}
+use Rattle.std.proofs.Common.{◌≡◌, ◌∙◌, ℕ, Bor, List, sym, ap, subst, refl, Option, Some, None, Result, Ok, Err, String, Global}
 use Rattle.std.specs.Prelude.{IfSome, MatchResult, string_bytes}
 use Rattle.keep_syntax.specs.Tree.{Document}
 use Rattle.keep_law.specs.declared.fault.EditFault.{EditFault}
@@ -7,13 +7,23 @@ use Rattle.keep_law.specs.declared.fault.EditFault.TheVariants as fault
 use Rattle.keep_law.specs.declared.splice.Splice.{Splice}
 use Rattle.keep_law.specs.Changed.{Place}
 use Rattle.keep_law.specs.Edits.{Edit, edited_document, place}
+use Rattle.keep_splice.specs.Keys.{IsKeyChange}
 use Rattle.keep_splice.specs.Kinds.{IsKindChange}
+use Rattle.keep_meaning.specs.Nodes.{node_number}
+use Rattle.keep_nodes.specs.Facts.{with_path}
+use Rattle.keep_path.specs.Path.{Part, EndsInKey, beside}
+use Rattle.keep_rules.specs.declared.index.NodeId.{NodeId}
+use Rattle.keep_rules.proofs.Shared.{number_is}
+use Rattle.keep_splice.specs.Reading.{telling_in}
 use Rattle.keep_splice.specs.declared.edited.Edited.{Edited}
 use Rattle.keep_splice.specs.declared.set.KindChange.{KindChange}
 use Rattle.keep_edit.specs.Reading.{ProfiledText, text_in, IsTextOfTree}
 use Rattle.keep_splice.specs.Answers.{IsMadeAt, splice_of, text_after}
 use Rattle.keep_edit.specs.Answers.{IsEdited, IsMade, IsTextAfter, IsDone, EditMade, EditDone, EditReported, refusal_in}
-use Rattle.keep_edit.specs.Places.{IsKindChanged, IsMovedIn, after}
+use Rattle.keep_edit.specs.IndexChanges.{IsIndexChange}
+use Rattle.keep_edit.specs.declared.index_change.IndexChange.{IndexChange}
+use Rattle.keep_edit.specs.declared.index_change.IndexChange.TheVariants.{Kind, Key}
+use Rattle.keep_edit.specs.Places.{IsIndexChanged, IsMovedIn, after}
 
 -- ---- what an edit answers, by what was made of it
 
@@ -60,24 +70,39 @@ pub moved_done : (s : Document) (e : Edit) (old new : ProfiledText) (made : Edit
 moved_done s e old new made (Ok splice) read h (there, is) = done_of s e old new made splice is (λ p m. there s p read m) h
 moved_done s e old new made (Err f) read h (full, preserved) = subst (λ (g : EditFault). EditDone s e old new (Err g)) (sym full) (full_of s e old new made h)
 
--- ---- where `set` changes one kind in the index and no more
+-- ---- where an edit changes a kind or a key in the index and no more
 
 -- what is known of an edit that is not refused
 when_made : {T : Type 0} (good : T → Type 0) (r : Option EditFault) (x : T) → IsDone good r (Ok x) → (r ≡ None) × good x
 when_made good None x h = (refl, h)
 when_made good (Some f) x h = absurd cc
 
-kind_of_made : (s : Document) (e : Edit) (old : ProfiledText) (made : Edited) (change : Option KindChange) → IsTextOfTree old s → IsMade s e old made → IfSome change (IsKindChange s (edited_document s e)) → IfSome change (IsKindChanged old made)
-kind_of_made s e old made None read h is = tt
-kind_of_made s e old made (Some k) read h is = record { from = s; to = edited_document s e; read = read; new = h.1.tree; is = is }
+change_of_made : (s : Document) (e : Edit) (old : ProfiledText) (made : Edited) (change : Option IndexChange) → IsTextOfTree old s → IsMade s e old made → IfSome change (IsIndexChange s (edited_document s e))
+    → IfSome change (IsIndexChanged old made)
+change_of_made s e old made None read h is = tt
+change_of_made s e old made (Some k) read h is = record { from = s; to = edited_document s e; read = read; new = h.1.tree; is = is }
 
-pub kind_changed : {seen_as old : ProfiledText} (s : Document) (e : Edit) (made : Edited) (change : Option KindChange) → seen_as ≡ old → IsTextOfTree old s → EditMade s e old (Ok made)
-    → (IsTextOfTree seen_as s → refusal_in seen_as s e ≡ None → IfSome change (IsKindChange s (edited_document s e))) → IfSome change (IsKindChanged old made)
-kind_changed {seen_as} {old} s e made change same read h is =
-    let there : IsTextOfTree old s → refusal_in old s e ≡ None → IfSome change (IsKindChange s (edited_document s e)) =
-    subst (λ (d : ProfiledText). IsTextOfTree d s → refusal_in d s e ≡ None → IfSome change (IsKindChange s (edited_document s e))) same is in
+pub index_changed : {seen_as old : ProfiledText} (s : Document) (e : Edit) (made : Edited) (change : Option IndexChange) → seen_as ≡ old → IsTextOfTree old s → EditMade s e old (Ok made)
+    → (IsTextOfTree seen_as s → refusal_in seen_as s e ≡ None → IfSome change (IsIndexChange s (edited_document s e))) → IfSome change (IsIndexChanged old made)
+index_changed {seen_as} {old} s e made change same read h is =
+    let there : IsTextOfTree old s → refusal_in old s e ≡ None → IfSome change (IsIndexChange s (edited_document s e)) =
+    subst (λ (d : ProfiledText). IsTextOfTree d s → refusal_in d s e ≡ None → IfSome change (IsIndexChange s (edited_document s e))) same is in
     let (allowed, good) = when_made (IsMade s e old) (refusal_in old s e) made h in
-    kind_of_made s e old made change read good (there read allowed)
+    change_of_made s e old made change read good (there read allowed)
+
+-- another kind
+pub kind_is : (s s' : Document) (k : KindChange) → IsKindChange s s' k → IsIndexChange s s' (Kind k)
+kind_is s s' k h = record { can = h.within; told = h.told; nested = h.nested }
+
+-- another key
+pub key_is : (s s' : Document) (path : List Part) (text : Bor (List ℕ)) (node : NodeId) → IsKeyChange s s' path text.now node → IsIndexChange s s' (Key node text)
+key_is s s' path text node h =
+    let (within, here) = number_is (telling_in s).paths path node.0 h.here in
+    record {
+      can = (within, subst EndsInKey (sym here) h.keyed, ap (λ (p : List Part). node_number (telling_in s).paths (beside p text.now)) here ∙ h.free);
+      told = h.told ∙ ap (λ (p : List Part). with_path (telling_in s) p (beside p text.now)) (sym here);
+      nested = h.nested;
+    }
 
 -- what was made for a document that is seen as this one
 pub made_of : {seen_as old : ProfiledText} (s : Document) (e : Edit) (result : Result Edited EditFault) → seen_as ≡ old → (IsTextOfTree seen_as s → EditMade s e seen_as result) → IsTextOfTree old s

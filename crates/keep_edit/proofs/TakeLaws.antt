@@ -20,14 +20,15 @@ use Rattle.keep_law.proofs.Shared.{touched_lines_are_lines, IsCut, touched_in_ne
 use Rattle.keep_meaning.specs.Counts.{statements_in}
 use Rattle.keep_meaning.specs.Marks.{start, reading_after}
 use Rattle.keep_meaning.specs.Meaning.{mentions_in}
-use Rattle.keep_nodes.specs.Facts.{NodeInfos, with_kind}
+use Rattle.keep_nodes.specs.Facts.{NodeInfos}
 use Rattle.keep_splice.specs.Answers.{IsMadeAt, text_after}
 use Rattle.keep_splice.specs.declared.edited.Edited.{Edited}
-use Rattle.keep_splice.specs.declared.set.KindChange.{KindChange}
+use Rattle.keep_edit.specs.IndexChanges.{CanChange, changed_index}
+use Rattle.keep_edit.specs.declared.index_change.IndexChange.{IndexChange}
 use Rattle.keep_splice.proofs.Shared.{one_tree, stated_is}
 use Rattle.keep_rules.specs.Nested.{AreNested}
 use Rattle.keep_rules.specs.ReadDocuments.{WasRead, IsIndexOf}
-use Rattle.keep_edit.specs.Places.{after, IsOfEdit, IsKindChanged, IsReread}
+use Rattle.keep_edit.specs.Places.{after, IsOfEdit, IsIndexChanged, IsReread}
 use Rattle.keep_edit.specs.Reading.{limit, ProfiledText, Holds, IsSyntaxIn, IsTextOfTree, telling_in}
 use Rattle.keep_edit.proofs.ReadLaws.{read_once}
 
@@ -155,23 +156,23 @@ module _ (old : ProfiledText) (made : Edited) (syntax : Syntax) (index : NodeInf
   pub holds_after : (s : Syntax) (fresh : NodeInfos) → IsSyntaxIn (after old made) s → IsIndexOf o.changed.to fresh → Holds (after old made) s fresh
   holds_after s fresh is told = record { tree = o.changed.to; read = o.new; is = (read_after s is).is; of_text = is.of_text; stated = told.facts; nested = told.nested }
 
-  -- the index where one kind is all that changes in it
-  kind_told_by : (k : KindChange) → IsKindChanged old made k → IsIndexOf o.changed.to (with_kind index k.node.0 k.kind)
-  kind_told_by k c =
+  -- the index where it is all that changes in it
+  told_by : (k : IndexChange) → IsIndexChanged old made k → IsIndexOf o.changed.to (changed_index index k)
+  told_by k c =
       let same : c.to ≡ o.changed.to = one_tree (after old made) c.to o.changed.to c.new o.new in
       record {
         obeys = o.new.obeys;
         nested = subst (λ (d : Document). AreNested (mentions_in d) (reading_after start (statements_in d)).tables) same c.is.nested;
-        facts = ap (λ (t : NodeInfos). with_kind t k.node.0 k.kind) (stated_is old syntax index c.from h c.read) ∙ sym c.is.told ∙ ap telling_in same;
+        facts = ap (λ (t : NodeInfos). changed_index t k) (stated_is old syntax index c.from h c.read) ∙ sym c.is.told ∙ ap telling_in same;
       }
 
-  pub kind_told : (change : Option KindChange) → IfSome change (IsKindChanged old made) → IfSome change (λ k. IsIndexOf o.changed.to (with_kind index k.node.0 k.kind))
-  kind_told None c = tt
-  kind_told (Some k) c = kind_told_by k c
+  pub change_told : (change : Option IndexChange) → IfSome change (IsIndexChanged old made) → IfSome change (λ k. IsIndexOf o.changed.to (changed_index index k))
+  change_told None c = tt
+  change_told (Some k) c = told_by k c
 
-  pub kind_within : (change : Option KindChange) → IfSome change (IsKindChanged old made) → IfSome change (λ k. k.node.0 < length index.paths)
-  kind_within None c = tt
-  kind_within (Some k) c = subst (λ (t : NodeInfos). k.node.0 < length t.paths) (sym (stated_is old syntax index c.from h c.read)) c.is.within
+  pub change_can : (change : Option IndexChange) → IfSome change (IsIndexChanged old made) → IfSome change (CanChange index)
+  change_can None c = tt
+  change_can (Some k) c = subst (λ (t : NodeInfos). CanChange t k) (sym (stated_is old syntax index c.from h c.read)) c.is.can
 
 -- what stores the same is of the same text
 pub holds_same : (t : ProfiledText) (a b : Syntax) (index : NodeInfos) → IsSame a b → Holds t b index → Holds t a index

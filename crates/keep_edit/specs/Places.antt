@@ -9,9 +9,9 @@ use Rattle.keep_law.specs.Changed.{Place}
 use Rattle.keep_law.specs.TouchedLines as touched
 use Rattle.keep_nodes.specs.Facts.{NodeInfos}
 use Rattle.keep_splice.specs.Answers.{IsMadeAt, splice_of, text_after}
-use Rattle.keep_splice.specs.Kinds.{IsKindChange}
 use Rattle.keep_splice.specs.declared.edited.Edited.{Edited}
-use Rattle.keep_splice.specs.declared.set.KindChange.{KindChange}
+use Rattle.keep_edit.specs.IndexChanges.{IsIndexChange}
+use Rattle.keep_edit.specs.declared.index_change.IndexChange.{IndexChange}
 use Rattle.keep_edit.specs.Reading.{ProfiledText, Holds, IsSyntaxIn, IsTextOfTree, text_in}
 pub use Rattle.keep_splice.specs.Places.{IsOfEdit}
 
@@ -36,13 +36,13 @@ abbrev pub IsTaken : ProfiledText → Edited → Syntax → NodeInfos → Result
 IsTaken old made syntax index (Ok scanned) = Holds (after old made) syntax index × ((s : Document) (p : Place) → IsTextOfTree old s → IsMadeAt p made → scanned ≡ touched.scanned s p)
 IsTaken old made syntax index (Err f) = (f ≡ Memory) × Holds old syntax index
 
--- All that the edit changes of the index is this kind.
-pub record IsKindChanged (old : ProfiledText) (made : Edited) (change : KindChange) : Type 0 where
+-- All that the edit changes of the index is this.
+pub record IsIndexChanged (old : ProfiledText) (made : Edited) (change : IndexChange) : Type 0 where
   pub from : Document
   pub to : Document
   pub read : IsTextOfTree old from
   pub new : IsTextOfTree (after old made) to
-  pub is : IsKindChange from to change
+  pub is : IsIndexChange from to change
 
 -- The document has the text after the edit, and the splice is that of its place; or memory ran out and it is as before.
 abbrev pub IsMovedIn : Edited → ProfiledText → ProfiledText → Result Splice EditFault → Type 0

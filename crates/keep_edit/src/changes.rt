@@ -9,19 +9,20 @@ ghost use Rattle.keep_law.specs.declared.fault.EditFault.TheVariants as law;
 ghost use Rattle.keep_meaning.specs.Marks.{marks};
 ghost use Rattle.keep_meaning.specs.Meaning.{mentions_in};
 ghost use Rattle.keep_meaning.specs.Rules.{ObeysRules};
-ghost use Rattle.keep_nodes.specs.Facts.{with_kind};
 ghost use Rattle.keep_rules.specs.ReadDocuments.{IsIndexOf, WasRead};
 ghost use Rattle.keep_splice.specs.Answers.{text_after};
 ghost use Rattle.keep_edit.specs.Reading.{IsAccepted, IsAcceptedValue, IsTextOfTree, IsTextOfValue, ProfiledText, text_in};
 ghost use Rattle.keep_edit.specs.Answers.{EditDone, EditReported};
 ghost use Rattle.keep_edit.specs.Headers.{key_texts};
-ghost use Rattle.keep_edit.specs.Places.{IsKindChanged, IsMovedIn, IsOfEdit, IsPatched, IsTaken};
+ghost use Rattle.keep_edit.specs.IndexChanges.{CanChange, changed_index};
+ghost use Rattle.keep_edit.specs.Places.{IsIndexChanged, IsMovedIn, IsOfEdit, IsPatched, IsTaken};
 
 use crate::document::Document;
+use crate::index_change::{IndexChange, change_index};
 use crate::patch::{put_back, put_in};
 use keep_law::{EditFault, Splice};
 use keep_rules::{Index, Path};
-use keep_splice::{DocumentRef, Edited, Header, KindChange};
+use keep_splice::{DocumentRef, Edited, Header};
 use keep_syntax::{Limits, ReadFault, STANDARD_DEPTH, Span, Syntax};
 use keep_token::Profile;
 use keep_value::ValueText;
@@ -46,7 +47,10 @@ impl Document {
     {
         let alloc = *self.text.allocator();
         let edited = self.as_ref().edited(alloc, path, value)?;
-        let change = self.as_ref().kind_change(path, value);
+        let change = match self.as_ref().kind_change(path, value) {
+            Some(change) => Some(IndexChange::Kind(change)),
+            None => None,
+        };
         self.replaced(edited, change)
     }
 
@@ -120,7 +124,11 @@ impl Document {
     {
         let alloc = *self.text.allocator();
         let renamed = self.as_ref().renamed(alloc, path, key)?;
-        self.replaced(renamed, None)
+        let change = match self.as_ref().key_change(path) {
+            Some(node) => Some(IndexChange::Key { node, key }),
+            None => None,
+        };
+        self.replaced(renamed, change)
     }
 
     /// The text that the document has after `rename`. The document stays as it is, and nothing is read anew.
@@ -246,15 +254,15 @@ impl Document {
     }
 
     /// Makes an edit that was decided for the document, in place. Of the text after it only the lines are scanned that the edit
-    /// touches. The index is built anew, unless the edit changes a kind in it and no more. The only error is out of memory,
-    /// and then the document is as before.
+    /// touches. The index is built anew, unless the edit changes a kind or a key in it and no more. The only error is out of
+    /// memory, and then the document is as before.
     pub(crate) fn replaced(
         &mut self,
         edited: Edited,
-        change: Option<KindChange>,
+        change: Option<IndexChange<'_>>,
     ) -> Result<Splice, EditFault>
         requires of { IsOfEdit self.old edited }
-        requires change { IfSome change (IsKindChanged self.old edited) }
+        requires change { IfSome change (IsIndexChanged self.old edited) }
         ensures moved { IsMovedIn edited self.old self.new result }
         ensures read { IsAccepted self.new }
     {
@@ -308,10 +316,10 @@ fn reread(
     syntax: &mut Syntax,
     index: &mut Index,
     edited: &Edited,
-    change: Option<KindChange>,
+    change: Option<IndexChange<'_>>,
 ) -> Result<usize, EditFault>
-    requires { (old : ProfiledText) × IsPatched old edited.now syntax.old index.old (text_in profile text.now) × IfSome change (IsKindChanged old edited.now) }
-    ensures { (old : ProfiledText) → IsPatched old edited.now syntax.old index.old (text_in profile text.now) → IfSome change (IsKindChanged old edited.now)
+    requires { (old : ProfiledText) × IsPatched old edited.now syntax.old index.old (text_in profile text.now) × IfSome change (IsIndexChanged old edited.now) }
+    ensures { (old : ProfiledText) → IsPatched old edited.now syntax.old index.old (text_in profile text.now) → IfSome change.entry (IsIndexChanged old edited.now)
         → IsTaken old edited.now syntax.new index.new result }
 {
     let Span { start, end } = edited.place;
@@ -333,25 +341,27 @@ fn reread(
     }
 }
 
-/// Makes of the index of a document that of the text after an edit, by the new syntax: it is built anew, or one kind in it
-/// changes. The only error is out of memory, and then it is as before.
+/// Makes of the index of a document that of the text after an edit, by the new syntax: by the change if there is one, else
+/// it is built anew. The only error is out of memory, and then it is as before.
 fn renew(
     alloc: Global,
     text: &str,
     syntax: &Syntax,
     index: &mut Index,
-    change: Option<KindChange>,
+    change: Option<IndexChange<'_>>,
 ) -> Result<(), EditFault>
     requires read { (d : tree.Document) × WasRead text.now syntax.now d × ObeysRules (marks (mentions_in d)) }
-    requires within { IfSome change (λ k. k.node.0 < length index.old.paths) }
-    ensures new { (d : tree.Document) → WasRead text.now syntax.now d → IfSome change (λ k. IsIndexOf d (with_kind index.old k.node.0 k.kind))
+    requires can { IfSome change (CanChange index.old) }
+    ensures new { (d : tree.Document) → WasRead text.now syntax.now d → IfSome change.entry (λ c. IsIndexOf d (changed_index index.old c))
         → OnOk result (IsIndexOf d index.new) }
     ensures old { OnErr result (index.new ≡ index.old) }
     ensures memory { IfErr result (λ fault. fault ≡ law.Memory) }
 {
-    if let Some(KindChange { node, kind }) = change {
-        index.set_kind(node, kind);
-        return Ok(());
+    if let Some(change) = change {
+        return match change_index(index, change) {
+            Ok(()) => Ok(()),
+            Err(_) => Err(EditFault::Memory),
+        };
     }
     match Index::build(alloc, text, syntax) {
         Ok(built) => {

@@ -4,6 +4,7 @@
 mod changes;
 mod document;
 mod edits;
+mod index_change;
 mod patch;
 
 pub use document::{Counts, Document, Entry};

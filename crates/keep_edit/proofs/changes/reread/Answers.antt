@@ -1,6 +1,6 @@
 use Rattle.std.proofs.Common.{ap, arith, length, refl}
 use Rattle.keep_splice.proofs.Shared.{text_seen, profile_seen}
-use Rattle.keep_edit.proofs.TakeLaws.{touches, is_syntax, in_text, high, cut, can_as, is_reread, holds_after, read_after, kind_told, kind_within, holds_same}
+use Rattle.keep_edit.proofs.TakeLaws.{touches, is_syntax, in_text, high, cut, can_as, is_reread, holds_after, read_after, change_told, change_can, holds_same}
 use Rattle.keep_edit.proofs.changes.reread.Goals as goal
 
 pub lines-whole-requires : goal.lines-whole-requires
@@ -49,15 +49,15 @@ renew-requires-clause-read c =
     let r = is_reread old c.args.edited.now _ _ p.holds p.edit c.lines-whole.result c.lines-whole.ensures c.args.profile c.range.result.now c.replace.new.self (profile_seen p.is) (rw (c.range.ensures.value, c.as_str.ensures.value, text_seen p.is) refl) c.in-Ok.ensures.read c.in-Ok.ensures.of_text in
     rw (text_seen p.is) (p.edit.changed.to, read_after old c.args.edited.now _ _ p.holds p.edit c.replace.new.self r.syntax, p.edit.new.obeys)
 
-pub renew-requires-clause-within : goal.renew-requires-clause-within
-renew-requires-clause-within c =
+pub renew-requires-clause-can : goal.renew-requires-clause-can
+renew-requires-clause-can c =
     let (old, p, change) = c.requires in
-    kind_within old c.args.edited.now _ _ p.holds p.edit c.args.change change
+    change_can old c.args.edited.now _ _ p.holds p.edit c.args.change change
 
 pub returns-in-Ok-renew : goal.returns-in-Ok-renew
 returns-in-Ok-renew c = λ old p change.
     let r = is_reread old c.args.edited.now _ _ p.holds p.edit c.lines-whole.result c.lines-whole.ensures c.args.profile c.range.result.now c.replace.new.self (profile_seen p.is) (rw (c.range.ensures.value, c.as_str.ensures.value, text_seen p.is) refl) c.in-Ok.ensures.read c.in-Ok.ensures.of_text in
-    let told = c.in-Ok-renew.ensures.new p.edit.changed.to (rw (text_seen p.is) (read_after old c.args.edited.now _ _ p.holds p.edit c.replace.new.self r.syntax)) (kind_told old c.args.edited.now _ _ p.holds p.edit c.args.change change) in
+    let told = c.in-Ok-renew.ensures.new p.edit.changed.to (rw (text_seen p.is) (read_after old c.args.edited.now _ _ p.holds p.edit c.replace.new.self r.syntax)) (change_told old c.args.edited.now _ _ p.holds p.edit c.args.change change) in
     (holds_after old c.args.edited.now _ _ p.holds p.edit c.replace.new.self _ r.syntax told, λ s q read at. rw c.as_str.ensures.value (r.scanned s q read at))
 
 pub returns-in_default : goal.returns-in_default

@@ -1,8 +1,9 @@
 use Rattle.std.proofs.Common.{subst}
 use Rattle.std.proofs.lemmas.Result.{err_from_is_err_and}
-use Rattle.keep_law.specs.Edits.{set}
+use Rattle.keep_law.specs.Edits.{set, edited_document}
 use Rattle.keep_edit.specs.Reading.{ProfiledText, IsTextOfTree}
-use Rattle.keep_edit.proofs.EditedLaws.{kind_changed, made_of, moved_done, undone_of}
+use Rattle.keep_edit.proofs.EditedLaws.{index_changed, made_of, moved_done, undone_of, kind_is}
+use Rattle.keep_edit.proofs.document.Document.set.Goals.{in-Some, in-None}
 use Rattle.keep_edit.proofs.document.Document.set.Goals as goal
 
 pub returns-in_err-edited-clause-done : goal.returns-in_err-edited-clause-done
@@ -19,5 +20,9 @@ replaced-requires-clause-change c =
     let (v, value) = c.in_ok-edited.ensures.value in
     let (s, read) = c.in_ok-edited.ensures.of in
     let here = subst (λ (d : ProfiledText). IsTextOfTree d s) c.as_ref.ensures read in
-    kind_changed s (set c.args.path.now v) c.in_ok-edited.edited _ c.as_ref-2.ensures here (made_of s (set c.args.path.now v) _ c.as_ref.ensures (λ k. c.in_ok-edited.ensures.made s k v value) here)
-    (λ k allowed. c.kind_change-change.ensures.change s k v value allowed)
+    let e = set c.args.path.now v in
+    index_changed s e c.in_ok-edited.edited _ c.as_ref-2.ensures here (made_of s e _ c.as_ref.ensures (λ k. c.in_ok-edited.ensures.made s k v value) here)
+    (λ k allowed. elim c.match-kind_change.branch [
+      | in-Some w ↦ rw w.change-is (kind_is s (edited_document s e) w.in-Some.change (w.in-Some.ensures.change s k v value allowed))
+      | in-None w ↦ rw w.change-is tt
+    ])
