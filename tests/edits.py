@@ -69,13 +69,15 @@ class Edit:
 
     def own_body(self, sources):
         """The function that the edit names, if all that is changed stands in its body: of these texts of src/, by their paths."""
-        found = {path in sources and body_around(sources, path, old) for path, old, _ in self.changes}
-        body = found.pop() if len(found) == 1 else None
-        return body if body and body.path == self.function else None
+        bodies = {body_around(sources, path, old) for path, old, _ in self.changes}
+        own = next(iter(bodies), None)
+        return own if len(bodies) == 1 and own and own.path == self.function else None
 
 
 def body_around(sources, path, old):
-    """The function in whose body a part of a file stands, that stands there once."""
+    """The function in whose body a part of a file stands, that stands there once; None where it is in no body of src/."""
+    if path not in sources:
+        return None
     line = sources[path].partition(old)[0].count("\n")
     functions = functions_of(path, sources[path], types_in(sources))
     return next((it for it in functions if it.start <= line < it.end), None)
@@ -152,14 +154,14 @@ class Checks:
         texts = {}
         for edit in edits:
             texts = edit.made_in(self.folder, texts)
-        has_others = not edits[0].own_body(self.sources)
-        said = self.run_only([it.function for it in edits], texts, has_others)
+        has_all_bodies = not edits[0].own_body(self.sources)
+        said = self.run_only([it.function for it in edits], texts, has_all_bodies)
         return [self.told(edit, said, len(edits) == 1) for edit in edits]
 
-    def run_only(self, functions, texts, has_others):
-        """What a check of these functions alone says, with these texts, and with or without the bodies of the others."""
+    def run_only(self, functions, texts, has_all_bodies):
+        """What a check of these functions alone says, with these texts, and with all bodies or theirs alone."""
         words = [word for it in functions for word in ("--only", it)]
-        if has_others:
+        if has_all_bodies:
             return self.run(texts, *words)[1]
         return self.run(texts, "--allow-holes", *words, bodies=functions)[1]
 
@@ -294,8 +296,8 @@ def say_unedited(crate, built):
 
 
 def main(*names):
-    say = say_unedited if names[:1] == ("--unedited",) else say_tried
-    names = names[int(say is say_unedited) :] or [it for it in crates() if edits_of(it)]
+    say = say_unedited if "--unedited" in names else say_tried
+    names = [it for it in names if it != "--unedited"] or [it for it in crates() if edits_of(it)]
     with ThreadPoolExecutor(len(os.sched_getaffinity(0))) as pool:
         done = list(pool.map(lambda it: say(it, ROOT), names))
     refused, missed = sum(it[0] for it in done), sum(it[1] for it in done)
