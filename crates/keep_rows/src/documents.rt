@@ -1,8 +1,8 @@
 //! Questions about documents.
-use crate::paths::path_of;
-use crate::row::{Answer, Row, unknown};
-use crate::syntax::push_tokens;
 use keep_edit::{Document, Entry, Path, Profile, ReadFault};
+use keep_row::paths::path_of;
+use keep_row::syntax::push_tokens;
+use keep_row::{Answer, Row, unknown};
 use std::alloc::{AllocError, Global};
 use std::fmt::Write;
 

@@ -1,7 +1,7 @@
 //! Edits of documents.
 use crate::documents::{facts_of, has_facts, has_facts_of, read};
-use crate::row::{Answer, Row, unknown};
 use keep_edit::{Document, EditFault, Path, Profile, ReadFault, Splice, Step, ValueText};
+use keep_row::{Answer, Row, unknown};
 use std::alloc::{AllocError, Global};
 
 /// The words are the bytes of a document, then paths in turn with values (keys for `rename`, nothing for `remove`, `table` and

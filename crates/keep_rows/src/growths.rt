@@ -1,7 +1,7 @@
 //! Questions that take no memory: what each asks is between two marks, which a heap that counts its growths reads.
 use crate::edits::keys_of;
-use crate::row::{Answer, Row};
 use keep_edit::{Document, EditFault, Path, ValueText};
+use keep_row::{Answer, Row};
 use std::alloc::{AllocError, Global};
 use std::fmt::Write;
 

@@ -1,7 +1,7 @@
 //! Questions about the nodes of a document by the definition rules.
 ghost use Rattle.std.specs.Prelude.{◌<◌, length};
 
-use crate::row::{Answer, Row, unknown};
+use keep_row::{Answer, Row, unknown};
 use keep_rules::{Index, Kind, NodeId, Origin, Path};
 use keep_syntax::{Limits, ReadFault, Span, Syntax, ValueSyntax};
 use std::alloc::{AllocError, Global};

@@ -1,8 +1,8 @@
 //! Lists of edits.
 use crate::documents::read;
 use crate::edits::{is_as_read, keys_of};
-use crate::row::{Answer, Row, unknown};
 use keep_edit::{Document, Edit, EditFault, Path, Profile, ReadFault, Splice, ValueText};
+use keep_row::{Answer, Row, unknown};
 use std::alloc::{AllocError, Global};
 use std::fmt::Write;
 

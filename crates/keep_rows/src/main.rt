@@ -7,16 +7,11 @@ mod documents;
 mod edits;
 mod growths;
 mod index;
-mod leaves;
-mod lines;
 mod lists;
-mod paths;
-mod row;
-mod syntax;
 mod values;
 
 use keep_edit::Profile;
-use row::{Answer, Row};
+use keep_row::{Answer, Row, leaves, lines, paths, syntax, unknown};
 use std::alloc::{AllocError, Global};
 use std::io;
 use std::io::{BufRead, BufReader};
@@ -82,6 +77,6 @@ fn answer(alloc: Global, row: &Row) -> Answer {
         "edits" => lists::answer(alloc, row, Profile::Strict),
         "wide edits" => lists::answer(alloc, row, Profile::Wide),
         "quiet" => growths::answer(alloc, row),
-        _ => row::unknown(alloc),
+        _ => unknown(alloc),
     }
 }

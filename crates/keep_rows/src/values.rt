@@ -1,7 +1,7 @@
 //! Questions about the texts of values.
 use crate::edits::set;
-use crate::row::{Answer, Row, unknown};
 use keep_edit::{Document, Path, PathFault, Profile, ReadFault, ValueText};
+use keep_row::{Answer, Row, unknown};
 use std::alloc::{AllocError, Global};
 
 /// The word is a text. A text that is no value of the profile is answered by its fault.

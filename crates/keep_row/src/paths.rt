@@ -1,6 +1,6 @@
 //! Questions about paths.
 use crate::row::{Answer, Row, unknown};
-use keep_rules::{Path, PathFault, Step};
+use keep_path::{Path, PathFault, Step};
 use std::alloc::{AllocError, Global};
 use std::fmt::Write;
 

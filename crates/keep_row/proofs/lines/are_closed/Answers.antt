@@ -1,7 +1,7 @@
 use Rattle.std.proofs.Common.{ap, length, sym, ◌∙◌, eqb-true}
 use Rattle.keep_parts.specs.declared.info.Span.{Span}
-use Rattle.keep_rows.proofs.LineLaws.{last_is_empty}
-use Rattle.keep_rows.proofs.lines.are_closed.Goals as goal
+use Rattle.keep_row.proofs.LineLaws.{last_is_empty}
+use Rattle.keep_row.proofs.lines.are_closed.Goals as goal
 
 pub returns : goal.returns
 returns c = λ ends m reads is.

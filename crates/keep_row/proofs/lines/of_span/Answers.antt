@@ -1,5 +1,5 @@
-use Rattle.keep_rows.proofs.LineLaws.{span_in}
-use Rattle.keep_rows.proofs.lines.of_span.Goals as goal
+use Rattle.keep_row.proofs.LineLaws.{span_in}
+use Rattle.keep_row.proofs.lines.of_span.Goals as goal
 
 pub lines-requires : goal.lines-requires
 lines-requires c =

@@ -2,9 +2,9 @@ use Rattle.std.proofs.Common.{◌≡◌, Bool, false, IsTrue, length, sym, ap, �
 use Rattle.keep_syntax.specs.Tree.{Document}
 use Rattle.keep_syntax.specs.WholeLines.{begin}
 use Rattle.keep_syntax.proofs.Shared.{same_begin}
-use Rattle.keep_rows.proofs.LineLaws.{no_mark}
-use Rattle.keep_rows.proofs.lines.replaced.Goals as goal
-use Rattle.keep_rows.proofs.lines.replaced.Goals.{else-whole-text-via-then-whole-text+else-not-are_closed, else-whole-text-via-else-whole-text}
+use Rattle.keep_row.proofs.LineLaws.{no_mark}
+use Rattle.keep_row.proofs.lines.replaced.Goals as goal
+use Rattle.keep_row.proofs.lines.replaced.Goals.{else-whole-text-via-then-whole-text+else-not-are_closed, else-whole-text-via-else-whole-text}
 
 clash : (b : Bool) → IsTrue b → b ≡ false → ⊥
 clash b h k = cc
