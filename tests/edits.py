@@ -129,9 +129,10 @@ class Checks:
     def __init__(self, crate, built, room):
         self.crate, self.folder, self.room = crate, ROOT / "crates" / crate, Path(room)
         self.sources = sources_of(self.folder)
-        self.words, self.count, self.seconds = words_for(crate, built), 0, 0.0
+        # of each check its seconds of processor, and the names of its edits
+        self.words, self.spent = words_for(crate, built), []
 
-    def run(self, texts, *words, bodies=None):
+    def run(self, texts, *words, bodies=None, edits=()):
         """The status and the lines of a check of the crate with these texts, and with the bodies of these functions alone."""
         with TemporaryDirectory(prefix="copy-", dir=self.room) as copy:
             for part in PARTS:
@@ -146,7 +147,7 @@ class Checks:
             said = ran.stdout.read().rstrip("\n").split("\n")
             _, status, used = os.wait4(ran.pid, 0)
         ran.returncode = os.waitstatus_to_exitcode(status)
-        self.count, self.seconds = self.count + 1, self.seconds + used.ru_utime + used.ru_stime
+        self.spent.append((used.ru_utime + used.ru_stime, [it.name for it in edits]))
         return ran.returncode, said
 
     def together(self, edits):
@@ -155,15 +156,15 @@ class Checks:
         for edit in edits:
             texts = edit.made_in(self.folder, texts)
         has_all_bodies = not edits[0].own_body(self.sources)
-        said = self.run_only([it.function for it in edits], texts, has_all_bodies)
+        said = self.run_only([it.function for it in edits], texts, has_all_bodies, edits)
         return [self.told(edit, said, len(edits) == 1) for edit in edits]
 
-    def run_only(self, functions, texts, has_all_bodies):
+    def run_only(self, functions, texts, has_all_bodies, edits=()):
         """What a check of these functions alone says, with these texts, and with all bodies or theirs alone."""
         words = [word for it in functions for word in ("--only", it)]
         if has_all_bodies:
-            return self.run(texts, *words)[1]
-        return self.run(texts, "--allow-holes", *words, bodies=functions)[1]
+            return self.run(texts, *words, edits=edits)[1]
+        return self.run(texts, "--allow-holes", *words, bodies=functions, edits=edits)[1]
 
     def line_of(self, function, said):
         """What a check says of a function; None if nothing."""
@@ -192,7 +193,7 @@ class Checks:
             return Tried(edit, False, "it can't be made")
         if edit.function:
             return self.together([edit])[0]
-        status, said = self.run(texts)
+        status, said = self.run(texts, edits=[edit])
         if status == 0:
             return Tried(edit, False, "the crate is proved with it")
         unread = next((it for it in said if is_unread(it, edit)), None)
@@ -260,7 +261,7 @@ def picked(checks, left):
 
 
 def tried(crate, built):
-    """Tries the edits of a crate, and gives what became of each, the number of checks, and their seconds of processor."""
+    """Tries the edits of a crate, and gives what became of each, and of each check its seconds of processor and its edits."""
     with TemporaryDirectory(prefix="keep-toml-edits-") as room:
         checks, results = Checks(crate, built, room), {}
         left = [it for it in edits_of(crate) if it.function]
@@ -270,17 +271,18 @@ def tried(crate, built):
             left = [it for it in left if it not in results]
         for edit in [*left, *(it for it in edits_of(crate) if not it.function)]:
             results[edit] = checks.alone(edit)
-        return [results[it] for it in edits_of(crate)], checks.count, checks.seconds
+        return [results[it] for it in edits_of(crate)], checks.spent
 
 
 def say_tried(crate, built):
-    """Tries the edits of a crate and says what became of them; gives what was refused, what was not, and the seconds."""
+    """Tries the edits of a crate and says what became of them; gives what was refused, what was not, the seconds of the clock, and
+    of each check its seconds of processor and its edits."""
     start = time.time()
-    results, checks, seconds = tried(crate, built)
+    results, spent = tried(crate, built)
     refused = sum(it.is_refused for it in results)
-    minutes = f"{(time.time() - start) / 60:.1f} minutes, {seconds / 60:.1f} of processor"
-    print(*results, f"{crate}: {refused} of its {len(results)} edits refused, in {checks} checks, {minutes}", sep="\n", flush=True)
-    return refused, len(results) - refused, seconds, time.time() - start
+    minutes = f"{(time.time() - start) / 60:.1f} minutes, {sum(it for it, _ in spent) / 60:.1f} of processor"
+    print(*results, f"{crate}: {refused} of its {len(results)} edits refused, in {len(spent)} checks, {minutes}", sep="\n", flush=True)
+    return refused, len(results) - refused, time.time() - start, spent
 
 
 def say_unedited(crate, built):

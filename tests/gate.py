@@ -35,6 +35,8 @@ TICKS = os.sysconf("SC_CLK_TCK")
 STEP = 0.25
 # The free memory, in bytes, with which a check surely ends: none took 3 GB here.
 MEMORY_OF_A_CHECK = 3_000_000_000
+# How many checks of edits are told by their names.
+DEAREST = 5
 
 
 class Sampler(threading.Thread):
@@ -114,14 +116,15 @@ class Edits:
                 self.tries[crate] = self.pool.submit(say_tried, crate, self.built)
 
     def results(self):
-        """Of each crate that has edits how many were refused, how many were not, and the seconds of processor and of the clock."""
+        """Of each crate that has edits how many were refused, how many were not, the seconds of the clock, and of each check its
+        seconds of processor and its edits."""
         results = {}
         for crate in crates():
             if crate in self.tries:
                 results[crate] = self.tries[crate].result()
             elif edits := edits_of(crate):
                 print(f"{crate}: its edits were not tried, since a crate below it is not proved")
-                results[crate] = (0, len(edits), 0.0, 0.0)
+                results[crate] = (0, len(edits), 0.0, [])
         return results
 
 
@@ -139,8 +142,16 @@ def put_back(copy):
             shutil.copy(file, to)
 
 
-def report_of(tasks, whole):
-    lines = ["minutes of processor and of the clock, by task:"]
+def dearest(results):
+    """Lines about the checks of edits that took most."""
+    spent = [(seconds, crate, names) for crate, it in results.items() for seconds, names in it[3]]
+    named = lambda names: ", ".join(names[:3]) + (f" and {len(names) - 3} more" if len(names) > 3 else "")
+    return [f"  {seconds / 60:6.1f}  {crate}: {named(names)}" for seconds, crate, names in sorted(spent, reverse=True)[:DEAREST]]
+
+
+def report_of(tasks, results, whole):
+    lines = ["minutes of processor of the dearest checks of edits:", *dearest(results)]
+    lines.append("minutes of processor and of the clock, by task:")
     for (crate, kind), (spent, clock) in sorted(tasks.items(), key=lambda it: -it[1][0]):
         lines.append(f"  {spent / 60:6.1f} {clock / 60:6.1f}  {crate}: {kind}")
     total = sum(spent for spent, _ in tasks.values())
@@ -177,7 +188,8 @@ def run(command, copy, start):
         status = ran.wait()
     results = edits.results()
     sampler.is_over.set()
-    tasks = sampler.tasks() | {(crate, "edits"): it[2:] for crate, it in results.items()}
+    edits_tasks = {(crate, "edits"): (sum(it for it, _ in spent), clock) for crate, (_, _, clock, spent) in results.items()}
+    tasks = sampler.tasks() | edits_tasks
     return status, line, results, tasks
 
 
@@ -187,7 +199,7 @@ def main(report, *command):
         copied_to(f"{room}/copy")
         status, line, results, tasks = run(command, f"{room}/copy", start)
         put_back(f"{room}/copy")
-    Path(report).write_text(report_of(tasks, time.time() - start))
+    Path(report).write_text(report_of(tasks, results, time.time() - start))
     refused, missed = sum(it[0] for it in results.values()), sum(it[1] for it in results.values())
     passed, failed = count_of(line)
     failed = max(failed, int(status != 0))
