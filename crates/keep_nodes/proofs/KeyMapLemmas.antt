@@ -1,24 +1,13 @@
--- Entries read with the bytes of their keys: look-ups and children are the same; keys stay different with one more, and
--- with another in place of one.
-use Rattle.std.proofs.Common.{◌≡◌, ◌∙◌, ℕ, zero, suc, ◌-◌, ◌<◌, Bool, true, false, List, [], ◌∷◌, ◌++◌, length, get_or, set, take, map, refl, sym, ap, arith, append-nil, append_assoc, length-append, cond, Option, None, Some, String}
+-- Entries of keys and children: keys stay different with one more, and with another in place of one.
+use Rattle.std.proofs.Common.{◌≡◌, ◌∙◌, ℕ, zero, suc, ◌-◌, ◌<◌, Bool, true, false, List, [], ◌∷◌, ◌++◌, length, get_or, set, take, map, refl, sym, ap, arith, append-nil, append_assoc, length-append, cond, Option, None, Some}
 use Rattle.std.specs.Prelude.{IfSome, slice_get, swap_remove}
-use Rattle.std.specs.Global.{Global}
 use Rattle.std.specs.Str.{bytes_eq}
-use Rattle.std.specs.String.{string_bytes}
 use Rattle.std.specs.Map.{lookup}
-use Rattle.std.proofs.lemmas.List.{get_or-map, get_or_push, length-map, length-set, map-set, set-append_left}
+use Rattle.std.proofs.lemmas.List.{get_or-map, get_or_push, get_or_read_under, length-map, length-set, set-append_left}
 use Rattle.std.proofs.lemmas.Option.{slice_get-get_or, slice_get_within, get_or_from_slice_get}
 use Rattle.std.proofs.lemmas.Slice.Eq.{bytes_eq-Decides}
 use Rattle.std.proofs.Math.Seq.{take-append_seam}
-use Rattle.keep_nodes.specs.KeyMaps.{named_pair, HasOwnKeys, with_key_at}
-
-pub lookup_named : (text : List ℕ) (es : List (String Global × ℕ)) → lookup (λ k. bytes_eq text (string_bytes k)) es ≡ lookup (bytes_eq text) (map named_pair es)
-lookup_named text [] = refl
-lookup_named text (e ∷ es) = ap (λ o. cond (bytes_eq text (string_bytes e.0)) (Some e.1) o) (lookup_named text es)
-
-pub numbers_named : (es : List (String Global × ℕ)) → map (λ e. e.1) es ≡ map (λ e. e.1) (map named_pair es)
-numbers_named [] = refl
-numbers_named (e ∷ es) = ap (λ ns. e.1 ∷ ns) (numbers_named es)
+use Rattle.keep_nodes.specs.KeyMaps.{HasOwnKeys, with_key_at}
 
 -- one entry more, whose key none of the others has
 pub own_push : (there es : List (List ℕ × ℕ)) (e : List ℕ × ℕ) → HasOwnKeys there es
@@ -36,17 +25,11 @@ entry_child now n child is =
     let low : n < length now = omega (arith, slice_get_within (map (λ e. e.1) now) n child is, length-map now (λ (e : List ℕ × ℕ). e.1)) in
     sym (get_or-map (λ (e : List ℕ × ℕ). e.1) now n ([], 0) 0 low) ∙ get_or_from_slice_get (map (λ e. e.1) now) n child 0 is
 
-pub key_set_at : (es : List (String Global × ℕ)) (now : List (List ℕ × ℕ)) (n : ℕ) (key : String Global) (child : ℕ) → map named_pair es ≡ now → slice_get (map (λ e. e.1) now) n ≡ Some child
-    → map named_pair (set es n (key, child)) ≡ with_key_at now n (string_bytes key)
-key_set_at es now n key child view is =
-    map-set named_pair es n (key, child) ∙ ap (λ ps. set ps n (string_bytes key, child)) view ∙ ap (λ k. set now n (string_bytes key, k)) (sym (entry_child now n child is))
+pub key_set_at : (now : List (List ℕ × ℕ)) (n : ℕ) (key : List ℕ) (child : ℕ) → slice_get (map (λ e. e.1) now) n ≡ Some child → set now n (key, child) ≡ with_key_at now n key
+key_set_at now n key child is = ap (λ k. set now n (key, k)) (sym (entry_child now n child is))
 
-pub key_set : (es : List (String Global × ℕ)) (now : List (List ℕ × ℕ)) (n : ℕ) (key : String Global) (e : String Global × ℕ) → map named_pair es ≡ now → n < length now → e ≡ get_or es n e
-    → map named_pair (set es n (key, e.1)) ≡ with_key_at now n (string_bytes key)
-key_set es now n key e view low is =
-    let own : get_or now n ([], 0) ≡ named_pair e =
-    ap (λ (ps : List (List ℕ × ℕ)). get_or ps n ([], 0)) (sym view) ∙ get_or-map named_pair es n e ([], 0) (omega (arith, low, ap length view, length-map es named_pair)) ∙ ap named_pair (sym is) in
-    map-set named_pair es n (key, e.1) ∙ ap (λ ps. set ps n (string_bytes key, e.1)) view ∙ ap (λ (p : List ℕ × ℕ). set now n (string_bytes key, p.1)) (sym own)
+pub key_set : (now : List (List ℕ × ℕ)) (n : ℕ) (key : List ℕ) (e : List ℕ × ℕ) → n < length now → e ≡ get_or now n e → set now n (key, e.1) ≡ with_key_at now n key
+key_set now n key e low is = ap (λ (p : List ℕ × ℕ). set now n (key, p.1)) (get_or_read_under now n (length now) e ([], 0) is low refl)
 
 -- the last of a list, which goes to the place of another
 swap_pushed : {X : Type 0} (es : List X) (x p : X) (n : ℕ) → n < length es → swap_remove (es ++ x ∷ []) n p ≡ set es n x

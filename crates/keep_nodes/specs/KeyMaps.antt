@@ -1,11 +1,6 @@
 -- The entries of a map from keys to children.
-use Rattle.std.specs.Prelude.{◌≡◌, ℕ, List, [], ◌∷◌, ◌++◌, None, String, string_bytes, bytes_eq, slice_set, slice_index_or}
+use Rattle.std.specs.Prelude.{◌≡◌, ℕ, List, [], ◌∷◌, ◌++◌, None, bytes_eq, slice_set, slice_index_or}
 use Rattle.std.specs.Map.{lookup}
-use Rattle.std.specs.Global.{Global}
-
--- a key's bytes, and its child
-abbrev pub named_pair : String Global × ℕ → List ℕ × ℕ
-named_pair e = (string_bytes e.0, e.1)
 
 -- each key differs from those before it: from those of the entries that were there, and from those before it
 abbrev pub HasOwnKeys : List (List ℕ × ℕ) → List (List ℕ × ℕ) → Type 0

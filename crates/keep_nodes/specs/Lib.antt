@@ -2,6 +2,7 @@ pub mod Trie
 pub mod Growth
 pub mod Children
 pub mod Seeds
+pub mod StoredKeys
 pub mod KeyMaps
 pub mod ChildForms
 pub mod AllNodes

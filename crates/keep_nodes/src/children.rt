@@ -1,5 +1,5 @@
 //! The children of a node.
-ghost use Rattle.std.specs.Prelude.{◌≡◌, ◌<◌, ◌-◌, ◌∷◌, ◌++◌, [], None, OnErr, OnOk, IfOk, IfSome, IfNone, bytes_eq, false, length, option_copied, option_map, slice_get, slice_index_or, string_bytes};
+ghost use Rattle.std.specs.Prelude.{◌≡◌, ◌<◌, ◌-◌, ◌∷◌, ◌++◌, [], None, OnErr, OnOk, IfOk, IfSome, IfNone, bytes_eq, false, length, option_copied, option_map, slice_get, slice_index_or};
 ghost use Rattle.std.specs.Map.{lookup};
 ghost use Rattle.keep_nodes.specs.AllNodes.{and_key, and_item, with_key};
 ghost use Rattle.keep_nodes.specs.ChildForms.{children_in};
@@ -9,6 +9,7 @@ ghost use Rattle.keep_nodes.specs.Trie.{by_key, by_index};
 use crate::few_keys::{FewKeys, MOST_KEYS};
 use crate::key_map::KeyMap;
 use crate::seed::Seed;
+use crate::stored_key::StoredKey;
 use std::alloc::{AllocError, Global};
 use std::marker::Model;
 use std::mem;
@@ -27,7 +28,7 @@ pub enum Holds {
 /// The only key of a table, decoded, and its child.
 #[derive(Drop)]
 pub struct OnlyKey {
-    key: String,
+    key: StoredKey,
     child: usize,
 }
 
@@ -54,12 +55,12 @@ impl Form {
         self,
         alloc: Global,
         seed: Seed,
-        key: String,
+        key: StoredKey,
         child: usize,
     ) -> Result<Form, AllocError>
         requires holds { holds_of (children_in self) ≡ by_key }
-        requires fresh { child_named (children_in self) (string_bytes key) ≡ None }
-        ensures { IfOk result (λ form. children_in form ≡ and_key (children_in self) (string_bytes key) child) }
+        requires fresh { child_named (children_in self) key ≡ None }
+        ensures { IfOk result (λ form. children_in form ≡ and_key (children_in self) key child) }
     {
         match self {
             Form::NoKeys => Form::one_key(alloc, key, child),
@@ -71,17 +72,22 @@ impl Form {
     }
 
     /// One key and its child.
-    fn one_key(alloc: Global, key: String, child: usize) -> Result<Form, AllocError>
-        ensures { IfOk result (λ form. children_in form ≡ Keyed ((string_bytes key, child) ∷ [])) }
+    fn one_key(alloc: Global, key: StoredKey, child: usize) -> Result<Form, AllocError>
+        ensures { IfOk result (λ form. children_in form ≡ Keyed ((key, child) ∷ [])) }
     {
         let only = OnlyKey { key, child };
         Ok(Form::OneKey(Box::new(alloc, only)?))
     }
 
     /// The only key so far and another one, each with its child.
-    fn two_keys(alloc: Global, only: OnlyKey, key: String, child: usize) -> Result<Form, AllocError>
-        requires { bytes_eq (string_bytes key) (string_bytes only.key) ≡ false }
-        ensures { IfOk result (λ form. children_in form ≡ Keyed ((string_bytes only.key, only.child) ∷ (string_bytes key, child) ∷ [])) }
+    fn two_keys(
+        alloc: Global,
+        only: OnlyKey,
+        key: StoredKey,
+        child: usize,
+    ) -> Result<Form, AllocError>
+        requires { bytes_eq key only.key ≡ false }
+        ensures { IfOk result (λ form. children_in form ≡ Keyed ((only.key, only.child) ∷ (key, child) ∷ [])) }
     {
         let keys = FewKeys::two(alloc, (only.key, only.child), (key, child))?;
         Ok(Form::FewKeys(Box::new(alloc, keys)?))
@@ -92,11 +98,11 @@ impl Form {
         alloc: Global,
         seed: Seed,
         keys: Box<FewKeys>,
-        key: String,
+        key: StoredKey,
         child: usize,
     ) -> Result<Form, AllocError>
-        requires { lookup (bytes_eq (string_bytes key)) keys.value ≡ None }
-        ensures { IfOk result (λ form. children_in form ≡ Keyed (keys.value ++ (string_bytes key, child) ∷ [])) }
+        requires { lookup (bytes_eq key) keys.value ≡ None }
+        ensures { IfOk result (λ form. children_in form ≡ Keyed (keys.value ++ (key, child) ∷ [])) }
     {
         if keys.len() < MOST_KEYS {
             return Form::few_keys(keys, key, child);
@@ -107,19 +113,19 @@ impl Form {
     }
 
     /// A few keys and another one, which are still few.
-    fn few_keys(mut keys: Box<FewKeys>, key: String, child: usize) -> Result<Form, AllocError>
+    fn few_keys(mut keys: Box<FewKeys>, key: StoredKey, child: usize) -> Result<Form, AllocError>
         requires few { length keys.value < MOST_KEYS }
-        requires fresh { lookup (bytes_eq (string_bytes key)) keys.value ≡ None }
-        ensures { IfOk result (λ form. children_in form ≡ Keyed (keys.value ++ (string_bytes key, child) ∷ [])) }
+        requires fresh { lookup (bytes_eq key) keys.value ≡ None }
+        ensures { IfOk result (λ form. children_in form ≡ Keyed (keys.value ++ (key, child) ∷ [])) }
     {
         keys.add(key, child)?;
         Ok(Form::FewKeys(keys))
     }
 
     /// The keys of a map and another one.
-    fn many_keys(mut map: Box<KeyMap>, key: String, child: usize) -> Result<Form, AllocError>
-        requires { lookup (bytes_eq (string_bytes key)) map.value ≡ None }
-        ensures { IfOk result (λ form. children_in form ≡ Keyed (map.value ++ (string_bytes key, child) ∷ [])) }
+    fn many_keys(mut map: Box<KeyMap>, key: StoredKey, child: usize) -> Result<Form, AllocError>
+        requires { lookup (bytes_eq key) map.value ≡ None }
+        ensures { IfOk result (λ form. children_in form ≡ Keyed (map.value ++ (key, child) ∷ [])) }
     {
         map.add(key, child)?;
         Ok(Form::Keys(map))
@@ -179,7 +185,7 @@ impl Children {
         requires fresh { child_named self.old text.now ≡ None }
         ensures { OnOk result (self.new ≡ and_key self.old text.now child) }
     {
-        let key = String::from_str(alloc, text)?;
+        let key = StoredKey::of(alloc, text)?;
         let form = mem::replace(&mut self.form, Form::NoKeys);
         self.form = form.with_key(alloc, seed, key, child)?;
         Ok(())
@@ -193,7 +199,7 @@ impl Children {
         ensures ok { OnOk result (self.new ≡ with_key self.old number text.now) }
         ensures err { OnErr result (self.new ≡ self.old) }
     {
-        let key = String::from_str(alloc, text)?;
+        let key = StoredKey::of(alloc, text)?;
         match &mut self.form {
             Form::OneKey(only) => only.key = key,
             Form::FewKeys(keys) => keys.set_key(number, key),

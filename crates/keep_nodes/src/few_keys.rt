@@ -1,9 +1,10 @@
 //! The children of a table of few keys.
-ghost use Rattle.std.specs.Prelude.{◌≡◌, ◌<◌, ◌≤◌, ◌∷◌, ◌++◌, [], None, IfOk, OnOk, bytes_eq, false, length, map, option_copied, option_map, slice_get, string_bytes};
+ghost use Rattle.std.specs.Prelude.{◌≡◌, ◌<◌, ◌≤◌, ◌∷◌, ◌++◌, [], None, IfOk, OnOk, bytes_eq, false, length, map, option_copied, option_map, slice_get};
 ghost use Rattle.std.specs.Map.{lookup};
 ghost use Rattle.keep_nodes.specs.KeyMaps.{with_key_at};
 
 use crate::key_map::KeyMap;
+use crate::stored_key::StoredKey;
 use std::alloc::{AllocError, Global};
 use std::marker::Model;
 
@@ -14,30 +15,30 @@ pub const MOST_KEYS: usize = 8;
 /// compares one key after another.
 #[derive(Drop)]
 pub struct FewKeys {
-    entries: Vec<(String, usize)>,
+    entries: Vec<(StoredKey, usize)>,
 }
 
 impl Model for FewKeys {
-    ghost use Rattle.std.specs.Prelude.{ℕ, ◌≤◌, List, [], length, map};
+    ghost use Rattle.std.specs.Prelude.{ℕ, ◌≤◌, List, [], length};
     ghost use Rattle.keep_nodes.specs.declared.few_keys.TheConstants.{MOST_KEYS};
-    ghost use Rattle.keep_nodes.specs.KeyMaps.{named_pair, HasOwnKeys};
+    ghost use Rattle.keep_nodes.specs.KeyMaps.{HasOwnKeys};
 
     ghost Value = { List (List ℕ × ℕ) };
 
-    ghost view = { λ keys. map named_pair keys.entries.items };
+    ghost view = { λ keys. keys.entries.items };
 
-    ghost invariant = { λ keys. (length keys.entries.items ≤ MOST_KEYS) × HasOwnKeys [] (map named_pair keys.entries.items) };
+    ghost invariant = { λ keys. (length keys.entries.items ≤ MOST_KEYS) × HasOwnKeys [] keys.entries.items };
 }
 
 impl FewKeys {
     /// The children of two keys.
     pub fn two(
         alloc: Global,
-        first: (String, usize),
-        second: (String, usize),
+        first: (StoredKey, usize),
+        second: (StoredKey, usize),
     ) -> Result<FewKeys, AllocError>
-        requires { bytes_eq (string_bytes second.0) (string_bytes first.0) ≡ false }
-        ensures { IfOk result (λ keys. keys ≡ (string_bytes first.0, first.1) ∷ (string_bytes second.0, second.1) ∷ []) }
+        requires { bytes_eq second.0 first.0 ≡ false }
+        ensures { IfOk result (λ keys. keys ≡ first ∷ second ∷ []) }
     {
         let mut entries = Vec::with_capacity(alloc, 2)?;
         entries.push_reserved(first);
@@ -80,20 +81,20 @@ impl FewKeys {
     }
 
     /// Adds a child by a key that has none yet. If memory runs out, nothing is changed.
-    pub fn add(&mut self, key: String, child: usize) -> Result<(), AllocError>
+    pub fn add(&mut self, key: StoredKey, child: usize) -> Result<(), AllocError>
         requires few { length self.old < MOST_KEYS }
-        requires fresh { lookup (bytes_eq (string_bytes key)) self.old ≡ None }
-        ensures { OnOk result (self.new ≡ self.old ++ (string_bytes key, child) ∷ []) }
+        requires fresh { lookup (bytes_eq key) self.old ≡ None }
+        ensures { OnOk result (self.new ≡ self.old ++ (key, child) ∷ []) }
     {
         self.entries.push((key, child))?;
         Ok(())
     }
 
     /// Gives a child another key, which no child has yet. It takes no memory.
-    pub fn set_key(&mut self, number: usize, key: String)
+    pub fn set_key(&mut self, number: usize, key: StoredKey)
         requires within { number < length self.old }
-        requires fresh { lookup (bytes_eq (string_bytes key)) self.old ≡ None }
-        ensures { self.new ≡ with_key_at self.old number (string_bytes key) }
+        requires fresh { lookup (bytes_eq key) self.old ≡ None }
+        ensures { self.new ≡ with_key_at self.old number key }
     {
         let entry = &mut self.entries[number];
         entry.0 = key;
@@ -112,7 +113,7 @@ impl FewKeys {
 }
 
 /// The child of the entry with that number.
-fn child_in(entries: &[(String, usize)], number: usize) -> Option<usize>
+fn child_in(entries: &[(StoredKey, usize)], number: usize) -> Option<usize>
     ensures { result ≡ slice_get (map (λ e. e.1) entries.now) number }
 {
     entries.get(number).map(|(_, child)| *child)

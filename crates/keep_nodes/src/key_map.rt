@@ -1,9 +1,10 @@
 //! The children of a table by their keys.
-ghost use Rattle.std.specs.Prelude.{◌≡◌, ◌<◌, ◌∷◌, ◌++◌, [], None, OnErr, OnOk, bytes_eq, length, map, option_copied, option_map, slice_get, string_bytes};
+ghost use Rattle.std.specs.Prelude.{◌≡◌, ◌<◌, ◌∷◌, ◌++◌, [], None, OnErr, OnOk, bytes_eq, length, map, option_copied, option_map, slice_get};
 ghost use Rattle.std.specs.Map.{lookup};
 ghost use Rattle.keep_nodes.specs.KeyMaps.{with_key_at};
 
 use crate::seed::Seed;
+use crate::stored_key::StoredKey;
 use indexmap::IndexMap;
 use std::alloc::{AllocError, Global};
 use std::marker::Model;
@@ -11,16 +12,15 @@ use std::marker::Model;
 /// The children of a table by their keys, decoded, in the order in which they were added.
 #[derive(Drop)]
 pub struct KeyMap {
-    table: IndexMap<String, usize, Seed>,
+    table: IndexMap<StoredKey, usize, Seed>,
 }
 
 impl Model for KeyMap {
-    ghost use Rattle.std.specs.Prelude.{ℕ, List, map};
-    ghost use Rattle.keep_nodes.specs.KeyMaps.{named_pair};
+    ghost use Rattle.std.specs.Prelude.{ℕ, List};
 
     ghost Value = { List (List ℕ × ℕ) };
 
-    ghost view = { λ keys. map named_pair keys.table.entries };
+    ghost view = { λ keys. keys.table.entries };
 }
 
 impl KeyMap {
@@ -62,9 +62,9 @@ impl KeyMap {
     }
 
     /// Adds a child by a key that has none yet. If memory runs out, the map is unchanged.
-    pub fn add(&mut self, key: String, child: usize) -> Result<(), AllocError>
-        requires { lookup (bytes_eq (string_bytes key)) self.old ≡ None }
-        ensures { OnOk result (self.new ≡ self.old ++ (string_bytes key, child) ∷ []) }
+    pub fn add(&mut self, key: StoredKey, child: usize) -> Result<(), AllocError>
+        requires { lookup (bytes_eq key) self.old ≡ None }
+        ensures { OnOk result (self.new ≡ self.old ++ (key, child) ∷ []) }
     {
         self.table.insert(key, child)?;
         Ok(())
@@ -72,10 +72,10 @@ impl KeyMap {
 
     /// Gives a child another key, which no child has yet. The new entry goes last, and from there to the place of the
     /// old one, so that all others keep theirs. If memory runs out, the map is unchanged.
-    pub fn set_key(&mut self, number: usize, key: String) -> Result<(), AllocError>
+    pub fn set_key(&mut self, number: usize, key: StoredKey) -> Result<(), AllocError>
         requires within { number < length self.old }
-        requires fresh { lookup (bytes_eq (string_bytes key)) self.old ≡ None }
-        ensures ok { OnOk result (self.new ≡ with_key_at self.old number (string_bytes key)) }
+        requires fresh { lookup (bytes_eq key) self.old ≡ None }
+        ensures ok { OnOk result (self.new ≡ with_key_at self.old number key) }
         ensures err { OnErr result (self.new ≡ self.old) }
     {
         let Some(child) = self.child_at(number) else {
@@ -88,7 +88,7 @@ impl KeyMap {
 }
 
 /// The child of the key with that number.
-fn child_in(table: &IndexMap<String, usize, Seed>, number: usize) -> Option<usize>
+fn child_in(table: &IndexMap<StoredKey, usize, Seed>, number: usize) -> Option<usize>
     ensures { result ≡ slice_get (map (λ e. e.1) table.now.entries) number }
 {
     table.get_index(number).map(|(_, child)| *child)

@@ -9,6 +9,7 @@ mod links;
 mod nodes;
 mod packed;
 mod seed;
+mod stored_key;
 
 pub use children::Holds;
 pub use facts::{NodeFacts, OriginKind};
