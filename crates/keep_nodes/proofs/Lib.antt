@@ -2,9 +2,10 @@ pub mod TrieLemmas
 pub mod GrowthLemmas
 pub mod NewNodeLemmas
 pub mod NewKeyLemmas
-pub mod StoredKeyLemmas
+pub mod SetKeyLemmas
 pub mod KeyMapLemmas
 pub mod NodeRowLemmas
 pub mod StoredLemmas
 pub mod PackedLemmas
+pub mod RunLemmas
 pub mod Shared

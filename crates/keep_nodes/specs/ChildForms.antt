@@ -1,8 +1,9 @@
 -- The children of a node, as they are stored.
-use Rattle.std.specs.Prelude.{[], ◌∷◌}
+use Rattle.std.specs.Prelude.{◌+◌, ◌≤◌, ◌^◌, [], ◌∷◌}
 use Rattle.keep_nodes.specs.declared.children.Form.{Form}
-use Rattle.keep_nodes.specs.declared.children.Form.TheVariants.{Nothing, NoKeys, OneKey, FewKeys, Keys, Items}
+use Rattle.keep_nodes.specs.declared.children.Form.TheVariants.{Nothing, NoKeys, OneKey, FewKeys, Keys, Run, Items}
 use Rattle.keep_nodes.specs.Children.{ChildList, Bare, Keyed, Listed}
+use Rattle.keep_nodes.specs.Runs.{consecutive}
 
 -- the children that a form stores
 abbrev pub children_in : Form → ChildList
@@ -11,4 +12,10 @@ children_in NoKeys = Keyed []
 children_in (OneKey one) = Keyed ((one.value.key, one.value.child) ∷ [])
 children_in (FewKeys keys) = Keyed keys.value
 children_in (Keys keys) = Keyed keys.value
+children_in (Run len first) = Listed (consecutive first len)
 children_in (Items items) = Listed items.value.items
+
+-- the numbers of the nodes of a run fit into 64 bits
+abbrev pub FitsIn64Bits : Form → Type 0
+FitsIn64Bits (Run len first) = first + len ≤ 2 ^ 64
+FitsIn64Bits form = Unit {0}

@@ -4,6 +4,7 @@ pub mod Children
 pub mod Seeds
 pub mod StoredKeys
 pub mod KeyMaps
+pub mod Runs
 pub mod ChildForms
 pub mod AllNodes
 pub mod Links

@@ -8,6 +8,7 @@ ghost use Rattle.keep_nodes.specs.Trie.{by_key, by_index};
 
 use crate::few_keys::{FewKeys, MOST_KEYS};
 use crate::key_map::KeyMap;
+use crate::run;
 use crate::seed::Seed;
 use crate::stored_key::StoredKey;
 use std::alloc::{AllocError, Global};
@@ -45,7 +46,10 @@ pub enum Form {
     FewKeys(Box<FewKeys>),
     /// At a table with more keys.
     Keys(Box<KeyMap>),
-    /// At an array or an array of tables.
+    /// At an array or an array of tables whose items are consecutive nodes, as they are while none but the last has a
+    /// value in it: `len` of them from `first` on.
+    Run { len: u32, first: usize },
+    /// At another array or array of tables.
     Items(Box<Vec<usize>>),
 }
 
@@ -143,22 +147,24 @@ impl Model for Children {
 
     ghost Value = { ChildList };
 
-    ghost use Rattle.keep_nodes.specs.ChildForms.{children_in};
+    ghost use Rattle.keep_nodes.specs.ChildForms.{children_in, FitsIn64Bits};
 
     ghost view = { λ children. children_in children.form };
+
+    ghost invariant = { λ children. FitsIn64Bits children.form };
 }
 
 impl Children {
-    /// None yet.
-    pub fn none(alloc: Global, holds: Holds) -> Result<Children, AllocError>
-        ensures { IfOk result (λ children. children ≡ no_children (holding holds)) }
+    /// None yet. It takes no memory.
+    pub fn none(holds: Holds) -> Children
+        ensures { result ≡ no_children (holding holds) }
     {
         let form = match holds {
             Holds::Nothing => Form::Nothing,
             Holds::Keys => Form::NoKeys,
-            Holds::Items => Form::Items(Box::new(alloc, Vec::new(alloc))?),
+            Holds::Items => Form::Run { len: 0, first: 0 },
         };
-        Ok(Children { form })
+        Children { form }
     }
 
     /// The child of that key.
@@ -210,17 +216,23 @@ impl Children {
     }
 
     /// Adds an item or an element.
-    pub fn add_item(&mut self, child: usize) -> Result<(), AllocError>
+    pub fn add_item(&mut self, alloc: Global, child: usize) -> Result<(), AllocError>
         requires { holds_of self.old ≡ by_index }
         ensures { OnOk result (self.new ≡ and_item self.old child) }
     {
         match &mut self.form {
-            Form::Items(items) => {
-                items.push(child)?;
-                Ok(())
+            Form::Run { len, first } => {
+                if let Some(run) = run::longer(*len, *first, child) {
+                    (*len, *first) = run;
+                } else {
+                    let items = run::with_child(alloc, *len, *first, child)?;
+                    self.form = Form::Items(Box::new(alloc, items)?);
+                }
             }
+            Form::Items(items) => items.push(child)?,
             _ => unreachable!(),
         }
+        Ok(())
     }
 
     /// How many there are.
@@ -232,6 +244,7 @@ impl Children {
             Form::OneKey(_) => 1,
             Form::FewKeys(keys) => keys.len(),
             Form::Keys(keys) => keys.len(),
+            Form::Run { len, .. } => *len as usize,
             Form::Items(items) => items.len(),
         }
     }
@@ -242,6 +255,7 @@ impl Children {
         ensures none { IfNone result (holds_of self.now ≡ by_index → length (child_ids self.now) ≡ 0) }
     {
         match &self.form {
+            Form::Run { len, first } => run::last_child(*len, *first),
             Form::Items(items) => items.last().copied(),
             _ => None,
         }
@@ -252,6 +266,7 @@ impl Children {
         ensures { result ≡ child_numbered self.now number }
     {
         match &self.form {
+            Form::Run { len, first } => run::child_at(*len, *first, number),
             Form::Items(items) => items.get(number).copied(),
             _ => None,
         }
@@ -266,6 +281,7 @@ impl Children {
             Form::OneKey(only) => (number == 0).then_some(only.child),
             Form::FewKeys(keys) => keys.child_at(number),
             Form::Keys(keys) => keys.child_at(number),
+            Form::Run { len, first } => run::child_at(*len, *first, number),
             Form::Items(items) => items.get(number).copied(),
         }
     }

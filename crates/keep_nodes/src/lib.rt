@@ -8,6 +8,7 @@ mod key_map;
 mod links;
 mod nodes;
 mod packed;
+mod run;
 mod seed;
 mod stored_key;
 

@@ -31,9 +31,10 @@ impl Node {
         ensures children { IfOk result (λ node. node.children ≡ no_children (holding holds)) }
         ensures facts { IfOk result (λ node. node.facts ≡ facts) }
     {
-        let facts = PackedFacts::of(alloc, facts)?;
-        let children = Children::none(alloc, holds)?;
-        Ok(Node { children, facts })
+        Ok(Node {
+            children: Children::none(holds),
+            facts: PackedFacts::of(alloc, facts)?,
+        })
     }
 }
 
@@ -215,8 +216,9 @@ impl Nodes {
         requires holds { holds_of (node_at self.old.items id).children ≡ by_index }
         ensures { OnOk result (self.new.items ≡ with_children self.old.items id (and_item (node_at self.old.items id).children child)) }
     {
+        let alloc = self.allocator();
         let above = &mut self.list[id];
-        above.children.add_item(child)
+        above.children.add_item(alloc, child)
     }
 
     /// Joins the facts from one more mention of a node to its own; its role is now this one.

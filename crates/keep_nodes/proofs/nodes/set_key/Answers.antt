@@ -3,7 +3,7 @@ use Rattle.indexmap.proofs.MapLemmas.{OnOk-map}
 use Rattle.keep_nodes.specs.AllNodes.{Node, no_node}
 use Rattle.keep_nodes.specs.Trie.{holdings_of}
 use Rattle.keep_nodes.specs.Stored.{IsStored, trie_of, node_infos}
-use Rattle.keep_nodes.proofs.StoredKeyLemmas.{IsKeyed, as_written, holdings_stay, infos_moved, key_fresh, number_low, parent_keyed, parent_low, stored_moved}
+use Rattle.keep_nodes.proofs.SetKeyLemmas.{IsKeyed, as_written, holdings_stay, infos_moved, key_fresh, number_low, parent_keyed, parent_low, stored_moved}
 use Rattle.keep_nodes.proofs.nodes.set_key.Goals as goal
 
 node : (c : goal.After-set_child_key-arg-1) → IsKeyed c.args.nodes.now.items c.args.id
