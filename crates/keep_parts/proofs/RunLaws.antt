@@ -2,12 +2,12 @@
 use Rattle.std.proofs.Common.{◌≡◌, ℕ, zero, suc, ◌+◌, ◌-◌, ◌<◌, ◌≤◌, ◌^◌, ◌==◌, true, false, cond, List, [], ◌∷◌, ◌++◌, length, get_or, map, take, drop, refl, sym, ap, ◌∙◌, subst, inl, inr, arith, append_assoc}
 use Rattle.std.specs.Prelude.{sum, slice_range}
 use Rattle.std.proofs.lemmas.List.{append-nil, length-append, length-drop, length-take-le, take-append-drop, take_at, drop_at, drop-drop, map-append}
-use Rattle.std.proofs.lemmas.List.Sums.{sum_by-cons, sum_by-append, sum_by_more, count_by_more_no}
+use Rattle.std.proofs.lemmas.List.Sums.{sum_by-cons, sum_by-append, count_by_more_no}
 use Rattle.std.proofs.lemmas.Bool.Decides.{eqb_tells}
 use Rattle.keep_parts.specs.declared.starts.TheConstants.{FAR}
 use Rattle.keep_parts.specs.Starts.{places_at, last_of, AllSmall, fars, StepsAreStored}
 use Rattle.keep_parts.specs.Lifted.{moved}
-use Rattle.keep_parts.proofs.StartLaws.{near_test, near_step, fars_after, behind, places_all}
+use Rattle.keep_parts.proofs.StartLaws.{near_step, fars_after, behind, places_all}
 
 -- ---- the places that near steps lead to
 
@@ -42,6 +42,15 @@ near_moved old new at (step ∷ steps) after none =
     ∙ ap (λ (place : ℕ). place ∷ places_at place steps []) e
     ∙ ap (λ (ps : List ℕ). moved old new (at + step) ∷ ps) (near_moved old new (at + step) steps (omega (arith, after)) n.others)
     ∙ sym (ap (map (moved old new)) (near_step at step steps [] n.first))
+
+-- steps of which none is far
+pub none_far : (steps : List ℕ) (n : ℕ) → n ≤ length steps → ((k : ℕ) → k < n → (get_or steps k 0 == FAR) ≡ true → ⊥) → fars (take n steps) ≡ 0
+none_far steps zero within none = refl
+none_far steps (suc n) within none =
+    let last : (get_or steps n 0 == FAR) ≡ false = elim (eqb_tells (get_or steps n 0) FAR) [ inl t ↦ absurd (none n (omega arith) t.0) | inr t ↦ t.0 ] in
+    ap (λ (m : ℕ). fars (take m steps)) (let e : suc n ≡ n + 1 = omega arith in e)
+    ∙ count_by_more_no (λ (s : ℕ). s == FAR) steps n 0 (omega arith) last
+    ∙ none_far steps n (omega arith) (λ k before. none k (omega arith))
 
 -- ---- small places
 
@@ -94,20 +103,6 @@ past_near at all near more far is none le small =
       small = small_behind there rest both;
       left = split;
     }
-
--- one near step more: the places that the near steps lead to stay within a word of the machine
-pub step_fits : (at most i : ℕ) (steps far : List ℕ) → AllSmall (places_at at steps far) → i < length (take most steps) → fars (take i (take most steps)) ≡ 0 → (get_or (take most steps) i 0 ≡ FAR → ⊥)
-    → sum (take i (take most steps)) + get_or (take most steps) i 0 < 2 ^ 64
-step_fits at most i steps far small within none other =
-    let ahead : List ℕ = take most steps in
-    let near : List ℕ = take (i + 1) ahead in
-    let rest : List ℕ = drop (i + 1) ahead ++ drop most steps in
-    let e : steps ≡ near ++ rest =
-    sym (take-append-drop most steps) ∙ ap (λ (ys : List ℕ). ys ++ drop most steps) (sym (take-append-drop (i + 1) ahead)) ∙ append_assoc near (drop (i + 1) ahead) (drop most steps) in
-    let none' : fars near ≡ 0 = count_by_more_no (λ (s : ℕ). s == FAR) ahead i 0 within (near_test (get_or ahead i 0) other) ∙ none in
-    let long : length near ≡ i + 1 = length-take-le (i + 1) ahead (omega (arith, within)) in
-    let past : IsPast at steps near rest far = past_near at steps near rest far e none' (λ h. absurd (omega (arith, h, long))) small in
-    omega (arith, past.fits, sum_by_more (λ (s : ℕ). s) ahead i 0 within)
 
 -- ---- stored after others
 

@@ -8,7 +8,7 @@ use Rattle.keep_parts.specs.Starts.{places_at, last_of, AllSmall, fars, StepsAre
 
 -- ---- the next
 
-pub near_test : (step : ℕ) → (step ≡ FAR → ⊥) → (step == FAR) ≡ false
+near_test : (step : ℕ) → (step ≡ FAR → ⊥) → (step == FAR) ≡ false
 near_test step other = elim (eqb_tells step FAR) [ inl t ↦ absurd (other t.1) | inr t ↦ t.0 ]
 
 pub near_step : (at step : ℕ) (steps far : List ℕ) → (step == FAR) ≡ false → places_at at (step ∷ steps) far ≡ (at + step) ∷ places_at (at + step) steps far

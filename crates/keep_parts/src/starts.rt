@@ -4,11 +4,15 @@ ghost use Rattle.keep_parts.specs.declared.starts.TheConstants.{FAR};
 ghost use Rattle.keep_parts.specs.Starts.{AllSmall, fars, last_of, places_at};
 
 use crate::moves::moved;
+use memchr::memchr;
 use std::alloc::{AllocError, Global};
 use std::marker::Model;
 
 /// The step of a place that a byte cannot tell.
 const FAR: u8 = 255;
+
+/// How many near steps are taken at once. So few lead less far than 2 ^ 16, and numbers of 16 bits are summed fastest.
+const MOST_NEAR: usize = 256;
 
 /// Places in a text, as byte offsets. Each is stored as its step: how far it comes after the one before, the first
 /// after 0. Where that is 255 bytes or more, or back, the step is `FAR`, and the place itself is in `far`. `last` is
@@ -47,6 +51,26 @@ struct Near<'a> {
     distance: usize,
     ghost near: { fars steps.now ≡ 0 },
     ghost leads: { distance ≡ sum steps.now },
+}
+
+// how many steps stand before the first that is far
+fn count_near(steps: &[u8]) -> usize
+    ensures within { result ≤ length steps.now }
+    ensures near { fars (take result steps.now) ≡ 0 }
+{
+    memchr(FAR, steps).unwrap_or(steps.len())
+}
+
+// how far so few steps lead together
+fn sum_of(steps: &[u8]) -> u16
+    requires { length steps.now ≤ MOST_NEAR }
+    ensures { result ≡ sum steps.now }
+{
+    let mut distance = 0;
+    'steps: for step in steps {
+        distance += *step as u16;
+    }
+    distance
 }
 
 // the step from a place to a place
@@ -244,28 +268,20 @@ impl<'a> Places<'a> {
         }
     }
 
-    /// The next steps as far as each of them is near, at most `most`.
+    /// The next steps as far as each of them is near, at most `most` and at most `MOST_NEAR`.
     fn near(&self, most: usize) -> Near<'a>
         ensures most { length result.steps.now ≤ most }
         ensures first { result.steps.now ≡ take (length result.steps.now) self.now.steps.now }
     {
-        let ahead = &self.steps[..self.steps.len().min(most)];
-        let mut number = 0;
-        let mut distance = 0;
-        'steps: for step in ahead {
-            if *step == FAR {
-                break;
-            }
-            distance += *step as usize;
-            number += 1;
-        }
+        let ahead = &self.steps[..self.steps.len().min(most).min(MOST_NEAR)];
+        let steps = &ahead[..count_near(ahead)];
         Near {
-            steps: &ahead[..number],
-            distance,
+            steps,
+            distance: sum_of(steps) as usize,
         }
     }
 
-    /// Goes past the next steps as far as each of them is near, at most `most`, and returns them.
+    /// Goes past the next steps as far as each of them is near, at most `most` and at most `MOST_NEAR`, and returns them.
     fn take_near(&mut self, most: usize) -> Near<'a>
         ensures most { length result.steps.now ≤ most }
         ensures left { places_left self.old ≡ places_at self.old.at result.steps.now [] ++ places_left self.new }
