@@ -1,5 +1,6 @@
 pub mod StartLaws
 pub mod RunLaws
+pub mod CountLaws
 pub mod TestLaws
 pub mod FlatLaws
 pub mod MoveLaws

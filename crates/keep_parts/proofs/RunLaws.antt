@@ -12,12 +12,12 @@ use Rattle.keep_parts.proofs.StartLaws.{near_step, fars_after, behind, places_al
 -- ---- the places that near steps lead to
 
 -- the first of near steps, and the others
-record IsNear (step : ℕ) (steps : List ℕ) : Type 0 where
+pub record IsNear (step : ℕ) (steps : List ℕ) : Type 0 where
   pub first : (step == FAR) ≡ false
   pub others : fars steps ≡ 0
   pub whole : sum (step ∷ steps) ≡ step + sum steps
 
-is_near : (step : ℕ) (steps : List ℕ) → fars (step ∷ steps) ≡ 0 → IsNear step steps
+pub is_near : (step : ℕ) (steps : List ℕ) → fars (step ∷ steps) ≡ 0 → IsNear step steps
 is_near step steps none = elim (eqb_tells step FAR) [
   | inl t ↦ absurd (omega (arith, none, fars_after step steps true t.0))
   | inr t ↦ record { first = t.0; others = omega (arith, none, fars_after step steps false t.0); whole = sum_by-cons (λ (s : ℕ). s) step steps }

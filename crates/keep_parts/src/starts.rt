@@ -162,18 +162,25 @@ impl Starts {
         self.steps.len()
     }
 
-    /// How many of ascending places are before `place`.
+    /// How many of ascending places are before `place`. Near places are counted together where the last of them is before it.
     pub fn count_before(&self, place: usize) -> usize
         ensures { result ≡ places_before place self.now }
     {
         let count = self.len();
+        let mut left = self.iter();
         let mut number = 0;
-        'places: for at in self.iter() {
+        'runs: while let Some(at) = left.advance() {
             if place <= at {
                 return number;
             }
             number += 1;
-            prove!(number <= count);
+            let after = left;
+            let near = left.take_near(count);
+            if place - at <= near.distance {
+                // among these: each is looked at
+                return number + after.count_before(place);
+            }
+            number += near.steps.len();
         }
         number
     }
@@ -235,6 +242,7 @@ impl<'a> Places<'a> {
     ghost use Rattle.std.specs.Prelude.{drop};
     ghost use Rattle.std.specs.Iterator.{YieldsFirst};
     ghost use Rattle.keep_parts.specs.Left.{places_left};
+    ghost use Rattle.keep_parts.specs.Rereading.{places_before};
 
     /// The next place, from which the near steps after it are counted.
     fn advance(&mut self) -> Option<usize>
@@ -266,6 +274,22 @@ impl<'a> Places<'a> {
             let near = self.take_near(count - number);
             number += near.steps.len();
         }
+    }
+
+    /// How many of ascending places are before `place`, one place after another.
+    fn count_before(&self, place: usize) -> usize
+        ensures { result ≡ places_before place (places_left self.now) }
+    {
+        let count = self.steps.len();
+        let mut number = 0;
+        'places: for at in *self {
+            if place <= at {
+                return number;
+            }
+            number += 1;
+            prove!(number <= count);
+        }
+        number
     }
 
     /// The next steps as far as each of them is near, at most `most` and at most `MOST_NEAR`.
