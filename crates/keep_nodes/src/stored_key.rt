@@ -1,5 +1,5 @@
 //! The text of a key as it is stored.
-ghost use Rattle.std.specs.Prelude.{◌≡◌, IfOk, bytes_eq};
+ghost use Rattle.std.specs.Prelude.{◌≡◌, ◌≤◌, IfOk, IsOk, bytes_eq, length};
 ghost use Rattle.std.specs.Cmp.{partial_equiv_from_equiv};
 ghost use Rattle.std.specs.Cmp.Lexicographic.{bytes_decides, nat_list_eq_equiv};
 ghost use Rattle.std.specs.Hash as fed;
@@ -39,9 +39,10 @@ impl Model for StoredKey {
 }
 
 impl StoredKey {
-    /// Stores a text. The only error is out of memory.
+    /// Stores a text. The only error is out of memory, and a short text takes none.
     pub fn of(alloc: Global, text: &str) -> Result<StoredKey, AllocError>
-        ensures { IfOk result (λ key. key ≡ text.now) }
+        ensures stored { IfOk result (λ key. key ≡ text.now) }
+        ensures short { length text.now ≤ 16 → IsOk result }
     {
         let form = match ArrayString::from(text) {
             Ok(short) => Form::Short(short),
