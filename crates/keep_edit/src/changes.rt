@@ -325,14 +325,15 @@ fn reread(
     let Span { start, end } = edited.place;
     let whole = syntax.lines(edited.place);
     let last = whole.end - (end - start) + edited.new.as_str().len();
+    let lines = &text[whole.start..last];
     let limits = Limits {
         depth: STANDARD_DEPTH,
         profile,
     };
-    let Ok(replaced) = syntax.replace(whole, &text[whole.start..last], limits) else {
+    let Ok(replaced) = syntax.replace(whole, lines, limits) else {
         return Err(EditFault::Memory);
     };
-    match renew(alloc, text, syntax, index, change) {
+    match renew(alloc, text, lines, syntax, index, change) {
         Ok(()) => Ok(last - whole.start),
         Err(fault) => {
             syntax.restore(replaced);
@@ -342,10 +343,11 @@ fn reread(
 }
 
 /// Makes of the index of a document that of the text after an edit, by the new syntax: by the change if there is one, else
-/// it is built anew. The only error is out of memory, and then it is as before.
+/// it is built anew. `lines` are the lines of the text that are new. The only error is out of memory, and then it is as before.
 fn renew(
     alloc: Global,
     text: &str,
+    lines: &str,
     syntax: &Syntax,
     index: &mut Index,
     change: Option<IndexChange<'_>>,
@@ -363,7 +365,7 @@ fn renew(
             Err(_) => Err(EditFault::Memory),
         };
     }
-    match Index::build(alloc, text, syntax) {
+    match index.rebuilt(alloc, text, lines, syntax) {
         Ok(built) => {
             *index = built;
             Ok(())

@@ -72,6 +72,18 @@ impl Nodes {
         }
     }
 
+    /// No node yet, for the text of these with other lines. The seed comes of theirs and of the lines, so the rest of the text
+    /// is not hashed once more.
+    pub fn renewed(&self, alloc: Global, lines: &str) -> Nodes
+        ensures { result.items ≡ [] }
+    {
+        Nodes {
+            list: Vec::new(alloc),
+            links: ParentLinks::new(alloc),
+            seed: self.seed.after(lines),
+        }
+    }
+
     /// How many nodes there are.
     pub fn len(&self) -> usize
         ensures { result ≡ length self.now.items }

@@ -1,6 +1,6 @@
 //! The seed of the hashers of a document's maps.
 ghost use Rattle.std.specs.Prelude.{◌≡◌};
-ghost use Rattle.keep_nodes.specs.Seeds.{seed_of};
+ghost use Rattle.keep_nodes.specs.Seeds.{seed_after, seed_of};
 
 use std::hash::{BuildHasher, DefaultHasher, FoldHasher, Hasher};
 
@@ -16,10 +16,21 @@ impl Seed {
     pub fn of(text: &str) -> Seed
         ensures { result ≡ seed_of text.now }
     {
-        let mut whole = DefaultHasher::new();
-        whole.write(text.as_bytes());
-        let mut start = FoldHasher::default();
-        start.write_u64(whole.finish());
+        let none = Seed {
+            start: FoldHasher::default(),
+        };
+        none.after(text)
+    }
+
+    /// The seed that a text gives in which these lines are new, where this one is that of the text before: this one, and
+    /// the SipHash-1-3 of the lines.
+    pub fn after(self, lines: &str) -> Seed
+        ensures { result ≡ seed_after self lines.now }
+    {
+        let mut hash = DefaultHasher::new();
+        hash.write(lines.as_bytes());
+        let mut start = self.start;
+        start.write_u64(hash.finish());
         Seed { start }
     }
 }

@@ -21,12 +21,12 @@ use keep_nodes::{Holds, NodeFacts, Nodes};
 use keep_syntax::{Parts, ReadFault, Syntax, ValueSyntax};
 use std::alloc::{AllocError, Global};
 
-/// The root of a document or of a value alone, which may have these children.
-fn root(alloc: Global, text: &str, holds: Holds) -> Result<Nodes, AllocError>
+/// Adds the root of a document or of a value alone, which may have these children, where there is no node yet.
+fn root(mut nodes: Nodes, holds: Holds) -> Result<Nodes, AllocError>
+    requires { nodes.items ≡ [] }
     ensures { IfOk result (λ nodes. IsRoot nodes.items (holding holds)) }
 {
     let facts = NodeFacts::unnamed(Kind::Table, Origin::Root);
-    let mut nodes = Nodes::new(alloc, text);
     nodes.push(0, 0, facts, holds)?;
     Ok(nodes)
 }
@@ -45,17 +45,18 @@ fn read_fault(parts: &Parts, fault: Fault) -> ReadFault
     }
 }
 
-/// Reads the statements of a document, and gives its nodes.
-pub fn read_document(alloc: Global, text: &str, syntax: &Syntax) -> Result<Nodes, ReadFault>
-    requires { (d : Document) × WasRead text.now syntax.now d }
+/// Reads the statements of a document, and gives its nodes, where there is no node yet.
+pub fn read_document(empty: Nodes, text: &str, syntax: &Syntax) -> Result<Nodes, ReadFault>
+    requires read { (d : Document) × WasRead text.now syntax.now d }
+    requires empty { empty.items ≡ [] }
     ensures stored { IfOk result (λ nodes. IsStored nodes.items) }
     ensures rooted { IfOk result (λ nodes. holds_at (trie_of nodes.items) 0 ≡ by_key) }
     ensures ok { IfOk result (λ nodes. (d : Document) → WasRead text.now syntax.now d → IsIndexOf d (node_infos nodes.items)) }
     ensures faults { IfErr result (λ fault. (d : Document) → WasRead text.now syntax.now d → IsRefusal d fault) }
 {
     let parts = syntax.parts();
-    let mut nodes = root(alloc, text, Holds::Keys)?;
-    let mut ids = Vec::new(alloc);
+    let mut nodes = root(empty, Holds::Keys)?;
+    let mut ids = Vec::new(nodes.allocator());
     let mut body = 0;
     for number in 0..syntax.statement_count() {
         let statement = syntax.statement(number);
@@ -90,7 +91,7 @@ pub fn read_alone(alloc: Global, text: &str, syntax: &ValueSyntax) -> Result<(),
 {
     let parts = syntax.parts();
     let holds = holds_of_leaf(syntax.value(0).leaf);
-    let mut nodes = root(alloc, text, holds)?;
+    let mut nodes = root(Nodes::new(alloc, text), holds)?;
     match read_inside(&mut nodes, text, parts) {
         Ok(()) => Ok(()),
         Err(fault) => Err(read_fault(parts, fault)),

@@ -70,7 +70,42 @@ impl Index {
         ensures faults { (d : Document) → WasRead text.now syntax.now d → IfErr result (IsRefusal d) }
         ensures few { IfOk result (λ index. length index.paths ≤ length text.now + 1) }
     {
-        let nodes = read_document(alloc, text, syntax)?;
+        Index::read(Nodes::new(alloc, text), text, syntax)
+    }
+
+    /// Reads the definitions of a document as `build` does, where this is the index of the same document with other text in the
+    /// place of `lines`. The maps of the new index have a seed that comes of this one's and of the lines, so the rest of the
+    /// text is not hashed once more.
+    ///
+    /// # Errors
+    ///
+    /// Those of `build`.
+    pub fn rebuilt(
+        &self,
+        alloc: Global,
+        text: &str,
+        lines: &str,
+        syntax: &Syntax,
+    ) -> Result<Index, ReadFault>
+        requires { (d : Document) × WasRead text.now syntax.now d }
+        ensures ok { (d : Document) → WasRead text.now syntax.now d → IfOk result (IsIndexOf d) }
+        ensures read { (d : Document) → WasRead text.now syntax.now d → ObeysRules (marks (mentions_in d)) → IsOkUnless result Memory }
+        ensures faults { (d : Document) → WasRead text.now syntax.now d → IfErr result (IsRefusal d) }
+        ensures few { IfOk result (λ index. length index.paths ≤ length text.now + 1) }
+    {
+        Index::read(self.nodes.renewed(alloc, lines), text, syntax)
+    }
+
+    /// Reads the definitions of a document as `build` tells, where there is no node yet.
+    fn read(empty: Nodes, text: &str, syntax: &Syntax) -> Result<Index, ReadFault>
+        requires read { (d : Document) × WasRead text.now syntax.now d }
+        requires empty { empty.items ≡ [] }
+        ensures ok { (d : Document) → WasRead text.now syntax.now d → IfOk result (IsIndexOf d) }
+        ensures read { (d : Document) → WasRead text.now syntax.now d → ObeysRules (marks (mentions_in d)) → IsOkUnless result Memory }
+        ensures faults { (d : Document) → WasRead text.now syntax.now d → IfErr result (IsRefusal d) }
+        ensures few { IfOk result (λ index. length index.paths ≤ length text.now + 1) }
+    {
+        let nodes = read_document(empty, text, syntax)?;
         Ok(Index { nodes })
     }
 

@@ -22,31 +22,31 @@ overflow_add-last c =
     let added = ap length c.as_str.ensures.value in
     omega (arith, within, size, added, c.type_inv.text)
 
-pub range-requires-clause-start_le_end : goal.range-requires-clause-start_le_end
-range-requires-clause-start_le_end c =
+pub range-lines-requires-clause-start_le_end : goal.range-lines-requires-clause-start_le_end
+range-lines-requires-clause-start_le_end c =
     let (old, p, change) = c.requires in
     rw c.as_str.ensures.value (cut old c.args.edited.now _ _ p.holds p.edit c.lines-whole.result c.lines-whole.ensures).ordered
 
-pub range-requires-clause-start_boundary : goal.range-requires-clause-start_boundary
-range-requires-clause-start_boundary c = λ some.
+pub range-lines-requires-clause-start_boundary : goal.range-lines-requires-clause-start_boundary
+range-lines-requires-clause-start_boundary c = λ some.
     let (old, p, change) = c.requires in
     rw (text_seen p.is) (cut old c.args.edited.now _ _ p.holds p.edit c.lines-whole.result c.lines-whole.ensures).starts
 
-pub range-requires-clause-end_boundary : goal.range-requires-clause-end_boundary
-range-requires-clause-end_boundary c =
+pub range-lines-requires-clause-end_boundary : goal.range-lines-requires-clause-end_boundary
+range-lines-requires-clause-end_boundary c =
     let (old, p, change) = c.requires in
     rw (c.as_str.ensures.value, text_seen p.is) (cut old c.args.edited.now _ _ p.holds p.edit c.lines-whole.result c.lines-whole.ensures).ends
 
 pub replace-requires : goal.replace-requires
 replace-requires c =
     let (old, p, change) = c.requires in
-    let k = can_as old c.args.edited.now _ _ p.holds p.edit c.lines-whole.result c.lines-whole.ensures c.args.profile c.range.result.now (profile_seen p.is) (rw (c.range.ensures.value, c.as_str.ensures.value, text_seen p.is) refl) in
+    let k = can_as old c.args.edited.now _ _ p.holds p.edit c.lines-whole.result c.lines-whole.ensures c.args.profile c.range-lines.result.now (profile_seen p.is) (rw (c.range-lines.ensures.value, c.as_str.ensures.value, text_seen p.is) refl) in
     record { document = p.edit.tree; is = is_syntax old c.args.edited.now _ _ p.holds p.edit p.edit.tree p.edit.read; new = (touches old c.args.edited.now _ _ p.holds p.edit).lines; can = k }
 
 pub renew-requires-clause-read : goal.renew-requires-clause-read
 renew-requires-clause-read c =
     let (old, p, change) = c.requires in
-    let r = is_reread old c.args.edited.now _ _ p.holds p.edit c.lines-whole.result c.lines-whole.ensures c.args.profile c.range.result.now c.replace.new.self (profile_seen p.is) (rw (c.range.ensures.value, c.as_str.ensures.value, text_seen p.is) refl) c.in-Ok.ensures.read c.in-Ok.ensures.of_text in
+    let r = is_reread old c.args.edited.now _ _ p.holds p.edit c.lines-whole.result c.lines-whole.ensures c.args.profile c.range-lines.result.now c.replace.new.self (profile_seen p.is) (rw (c.range-lines.ensures.value, c.as_str.ensures.value, text_seen p.is) refl) c.in-Ok.ensures.read c.in-Ok.ensures.of_text in
     rw (text_seen p.is) (p.edit.changed.to, read_after old c.args.edited.now _ _ p.holds p.edit c.replace.new.self r.syntax, p.edit.new.obeys)
 
 pub renew-requires-clause-can : goal.renew-requires-clause-can
@@ -56,7 +56,7 @@ renew-requires-clause-can c =
 
 pub returns-in-Ok-renew : goal.returns-in-Ok-renew
 returns-in-Ok-renew c = λ old p change.
-    let r = is_reread old c.args.edited.now _ _ p.holds p.edit c.lines-whole.result c.lines-whole.ensures c.args.profile c.range.result.now c.replace.new.self (profile_seen p.is) (rw (c.range.ensures.value, c.as_str.ensures.value, text_seen p.is) refl) c.in-Ok.ensures.read c.in-Ok.ensures.of_text in
+    let r = is_reread old c.args.edited.now _ _ p.holds p.edit c.lines-whole.result c.lines-whole.ensures c.args.profile c.range-lines.result.now c.replace.new.self (profile_seen p.is) (rw (c.range-lines.ensures.value, c.as_str.ensures.value, text_seen p.is) refl) c.in-Ok.ensures.read c.in-Ok.ensures.of_text in
     let told = c.in-Ok-renew.ensures.new p.edit.changed.to (rw (text_seen p.is) (read_after old c.args.edited.now _ _ p.holds p.edit c.replace.new.self r.syntax)) (change_told old c.args.edited.now _ _ p.holds p.edit c.args.change change) in
     (holds_after old c.args.edited.now _ _ p.holds p.edit c.replace.new.self _ r.syntax told, λ s q read at. rw c.as_str.ensures.value (r.scanned s q read at))
 

@@ -15,19 +15,19 @@ loop-number-init c = record { stored = c.in_ok-nodes.ensures.stored; up = λ d w
 
 pub read_statement-requires-clause-readable : goal.read_statement-requires-clause-readable
 read_statement-requires-clause-readable c = λ n p at.
-    syntax_readable c.args.syntax.now c.args.text.now c.requires.1.profile c.requires.0 c.utf8.text c.requires.1.reads.valid c.requires.1.reads.spelled c.requires.1.is n p
+    syntax_readable c.args.syntax.now c.args.text.now c.requires.read.1.profile c.requires.read.0 c.utf8.text c.requires.read.1.reads.valid c.requires.read.1.reads.spelled c.requires.read.1.is n p
     (ap (λ q. slice_get (flat q).keys n) (sym c.parts-parts.ensures) ∙ at)
 
 pub read_statement-requires-clause-matches : goal.read_statement-requires-clause-matches
-read_statement-requires-clause-matches c = (statement_at c.requires.0 c.loop-number.number, mentions_at c.args.text.now c.args.syntax.now c.requires.0 c.requires.1 (flat c.parts-parts.result.now) (ap (λ p. (flat p).keys) c.parts-parts.ensures ∙ c.requires.1.is.parts) (ap (λ p. (flat p).values) c.parts-parts.ensures ∙ c.requires.1.is.values) c.loop-number.number c.statement-statement.result c.statement-statement.ensures)
+read_statement-requires-clause-matches c = (statement_at c.requires.read.0 c.loop-number.number, mentions_at c.args.text.now c.args.syntax.now c.requires.read.0 c.requires.read.1 (flat c.parts-parts.result.now) (ap (λ p. (flat p).keys) c.parts-parts.ensures ∙ c.requires.read.1.is.parts) (ap (λ p. (flat p).values) c.parts-parts.ensures ∙ c.requires.read.1.is.values) c.loop-number.number c.statement-statement.result c.statement-statement.ensures)
 
 pub read_statement-requires-clause-reading : goal.read_statement-requires-clause-reading
 read_statement-requires-clause-reading c =
-    (mentions_from start (before c.requires.0 c.loop-number.number), reading_after start (before c.requires.0 c.loop-number.number), (c.loop-number.invariant.up c.requires.0 c.requires.1).reading)
+    (mentions_from start (before c.requires.read.0 c.loop-number.number), reading_after start (before c.requires.read.0 c.loop-number.number), (c.loop-number.invariant.up c.requires.read.0 c.requires.read.1).reading)
 
 pub read_fault-requires : goal.read_fault-requires
 read_fault-requires c =
-    break_within c.args.text.now c.args.syntax.now c.requires.0 c.requires.1 (flat c.parts-parts.result.now) (ap (λ p. (flat p).keys) c.parts-parts.ensures ∙ c.requires.1.is.parts) (ap (λ p. (flat p).values) c.parts-parts.ensures ∙ c.requires.1.is.values) c.loop-number.number c.statement-statement.result c.statement-statement.ensures c.loop-number.nodes.items c.loop-number.body c.in-Err.fault (c.loop-number.invariant.up c.requires.0 c.requires.1) c.in-Err.ensures.define
+    break_within c.args.text.now c.args.syntax.now c.requires.read.0 c.requires.read.1 (flat c.parts-parts.result.now) (ap (λ p. (flat p).keys) c.parts-parts.ensures ∙ c.requires.read.1.is.parts) (ap (λ p. (flat p).values) c.parts-parts.ensures ∙ c.requires.read.1.is.values) c.loop-number.number c.statement-statement.result c.statement-statement.ensures c.loop-number.nodes.items c.loop-number.body c.in-Err.fault (c.loop-number.invariant.up c.requires.read.0 c.requires.read.1) c.in-Err.ensures.define
 
 pub returns-in-Err-clause-faults : goal.returns-in-Err-clause-faults
 returns-in-Err-clause-faults c = λ (d : Document) (was : WasRead c.args.text.now c.args.syntax.now d).
@@ -41,7 +41,7 @@ loop-number-preserved c = record {
 }
 
 pub returns-clause-rooted : goal.returns-clause-rooted
-returns-clause-rooted c = (c.loop-number.invariant.up c.requires.0 c.requires.1).reading.rooted
+returns-clause-rooted c = (c.loop-number.invariant.up c.requires.read.0 c.requires.read.1).reading.rooted
 
 pub returns-clause-ok : goal.returns-clause-ok
 returns-clause-ok c = λ (d : Document) (was : WasRead c.args.text.now c.args.syntax.now d).
