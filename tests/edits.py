@@ -34,7 +34,7 @@ from pathlib import Path
 from tempfile import TemporaryDirectory
 
 from bodies import functions_of, hole_for, types_in, without_bodies
-from quick import crates
+from quick import all_below, crates
 
 ROOT = Path(__file__).resolve().parent.parent
 PARTS = ("src", "specs", "proofs")
@@ -46,6 +46,9 @@ PROVED = re.compile(r"proved$|no holes$|depends on a hole in ")
 CALLS = re.compile(r"it calls .*not proved")
 UNPROVED = re.compile(r"^no proof: expected answers in .*`search` did not prove `")
 NO_NAME = re.compile(r"\./proofs/.*(has no field|is not in scope|has no `|was not admitted)")
+# How many edits are tried one check after the other at most: those of a crate with more are tried in several series at once, else
+# they might be the last of the gate, and alone.
+MOST = 24
 
 
 @dataclass(frozen=True)
@@ -124,7 +127,7 @@ class Tried:
 
 
 class Checks:
-    """The checks of one crate with edits, over the libraries that are built below a folder."""
+    """The checks of one crate with edits, over the libraries that it stands on: `built` gives the folder of each by its name."""
 
     def __init__(self, crate, built, room):
         self.crate, self.folder, self.room = crate, ROOT / "crates" / crate, Path(room)
@@ -143,7 +146,8 @@ class Checks:
             if bodies:
                 leave_out(self.crate, Path(copy), bodies)
             how = {"cwd": copy, "stdin": subprocess.DEVNULL, "stdout": subprocess.PIPE, "stderr": subprocess.STDOUT}
-            ran = subprocess.Popen([*self.words, "--incremental", f"{self.room}/kept", *words], text=True, errors="replace", **how)
+            words = [*self.words, "--incremental", f"{self.room}/kept", *words]
+            ran = subprocess.Popen(words, text=True, errors="replace", **how)
             said = ran.stdout.read().rstrip("\n").split("\n")
             _, status, used = os.wait4(ran.pid, 0)
         ran.returncode = os.waitstatus_to_exitcode(status)
@@ -227,21 +231,25 @@ def first_error(said):
     return next((it for it in said if re.match(r"\S+:\d+:\d+: error", it)), said[-1])
 
 
+def built_here(name):
+    """The folder of the library that `rt check` built here of a crate."""
+    return ROOT / "crates" / name / "out/rlib"
+
+
 def words_for(crate, built):
-    """The words of a check of a crate over the libraries below a folder, as `rt` gives them."""
+    """The words of a check of a crate, as `rt` gives them, over libraries each of which is built in a folder that is told by name."""
     kit = Path(os.path.realpath(shutil.which("rt"))).parent.parent
-    own, below = crates(), []
-    ways = [crate]
-    while ways:
-        more = [it for it in own[ways.pop()] if it not in below]
-        below, ways = below + more, ways + more
+    own = crates()
+    below = all_below(crate, own)
     named = re.search(rf"^{crate}:([^#\n]*)", (ROOT / "crates.txt").read_text(), re.M)[1].split()
-    words = ["setpriv", "--pdeathsig", "TERM", "nice", "-n", "19", f"{kit}/bin/rattle", "check", "--crate-name", crate, "src/lib.rt"]
+    # (the more crates are below it, the later its edits begin, and the less is there to run beside them at the end)
+    level = max(10, 19 - len(below))
+    words = ["setpriv", "--pdeathsig", "TERM", "nice", "-n", str(level), f"{kit}/bin/rattle", "check", "--crate-name", crate, "src/lib.rt"]
     for name in ["std", *(it for it in named if it not in own)]:
         words += ["--extern", f"{name}={kit}/rlibs/{name}.rlib"]
     words += ["-L", f"dependency={kit}/rlibs"]
     for name in below:
-        rlib = Path(built, "crates", name, "out/rlib")
+        rlib = built(name)
         words += ["--extern", f"{name}={rlib}/{name}.rlib"] if name in own[crate] else []
         words += ["-L", f"dependency={rlib}"]
     words += ["--antt-project", f"{kit}/rattle/logic/antt-project.json", "--logic-built", f"{kit}/logic_built"]
@@ -260,28 +268,35 @@ def picked(checks, left):
     return chosen
 
 
-def tried(crate, built):
-    """Tries the edits of a crate, and gives what became of each, and of each check its seconds of processor and its edits."""
+def series_of(crate):
+    """The edits of a crate in series of which each is tried one check after the other; those of one function are in different ones."""
+    edits = sorted(edits_of(crate), key=lambda it: it.function)
+    count = -(-len(edits) // MOST)
+    return [sorted(edits[number::count], key=lambda it: it.name) for number in range(count)]
+
+
+def tried(crate, edits, built):
+    """Tries edits of a crate, and gives what became of each, and of each check its seconds of processor and its edits."""
     with TemporaryDirectory(prefix="keep-toml-edits-") as room:
         checks, results = Checks(crate, built, room), {}
-        left = [it for it in edits_of(crate) if it.function]
+        left = [it for it in edits if it.function]
         while chosen := picked(checks, left):
             told = {it.edit: it for it in checks.together(chosen) if it}
             results.update(told or {chosen[0]: checks.alone(chosen[0])})
             left = [it for it in left if it not in results]
-        for edit in [*left, *(it for it in edits_of(crate) if not it.function)]:
+        for edit in [*left, *(it for it in edits if not it.function)]:
             results[edit] = checks.alone(edit)
-        return [results[it] for it in edits_of(crate)], checks.spent
+        return [results[it] for it in edits], checks.spent
 
 
-def say_tried(crate, built):
-    """Tries the edits of a crate and says what became of them; gives what was refused, what was not, the seconds of the clock, and
+def say_tried(crate, edits, built):
+    """Tries edits of a crate and says what became of them; gives what was refused, what was not, the seconds of the clock, and
     of each check its seconds of processor and its edits."""
     start = time.time()
-    results, spent = tried(crate, built)
+    results, spent = tried(crate, edits, built)
     refused = sum(it.is_refused for it in results)
     minutes = f"{(time.time() - start) / 60:.1f} minutes, {sum(it for it, _ in spent) / 60:.1f} of processor"
-    print(*results, f"{crate}: {refused} of its {len(results)} edits refused, in {len(spent)} checks, {minutes}", sep="\n", flush=True)
+    print(*results, f"{crate}: {refused} of {len(results)} edits refused, in {len(spent)} checks, {minutes}", sep="\n", flush=True)
     return refused, len(results) - refused, time.time() - start, spent
 
 
@@ -298,12 +313,16 @@ def say_unedited(crate, built):
 
 
 def main(*names):
-    say = say_unedited if "--unedited" in names else say_tried
+    is_unedited = "--unedited" in names
     names = [it for it in names if it != "--unedited"] or [it for it in crates() if edits_of(it)]
     with ThreadPoolExecutor(len(os.sched_getaffinity(0))) as pool:
-        done = list(pool.map(lambda it: say(it, ROOT), names))
-    refused, missed = sum(it[0] for it in done), sum(it[1] for it in done)
-    print(f"edits: {refused} passed, {missed} failed")
+        if is_unedited:
+            done = list(pool.map(lambda it: say_unedited(it, built_here), names))
+        else:
+            series = [(crate, edits) for crate in names for edits in series_of(crate)]
+            done = list(pool.map(lambda it: say_tried(*it, built_here), series))
+    passed, missed = sum(it[0] for it in done), sum(it[1] for it in done)
+    print(f"edits: {passed} passed, {missed} failed")
     return missed > 0
 
 

@@ -1,14 +1,19 @@
 #!/usr/bin/env python3
 """Runs the merge gate, passes on what it says with the minute in which it says it, and writes what the time went into.
 
-    tests/gate.py REPORT rt ci
+    tests/gate.py REPORT BUILT rt ci
 
 The gate is `rt ci` over a copy of the repository without its must-fail edits: it proves each crate from nothing, and runs
-the tests and the programs. Beside it, as soon as the crates below a crate are proved there, that crate's edits are tried
-over them, many in one check (tests/edits.py); `rt ci` would try each alone. The proofs go first, since each crate waits for
-those below it: the edits step back behind them.
+the tests and the programs. When several proofs are ready, it gives most of them one processor, and no more later: crates that
+many others wait for would take twice the time that they need. So each crate is first proved by an `rt ci` of its own, once
+those below it are; there it gets two. The kit keeps what such a run passed, by the sums of all that it read, so the run over
+all takes it from there. That run gives the verdict, and proves what was not kept.
 
-What was built is put into the crates' folders out/ here. The report tells for each task (the proof, the tests and the
+Beside them, as soon as the crates below a crate are proved, that crate's edits are tried over them, many in one check
+(tests/edits.py); `rt ci` would try each alone. The proofs go first, since each crate waits for those below it: the edits step
+back behind them.
+
+What was built is put into the crates' folders out/ here once all is proved, and then the file BUILT is made. The report tells for each task (the proof, the tests and the
 edits of a crate) the minutes of processor and of the clock, and the minutes of the whole. `rt ci` tells no times, so they
 are sampled: each process of the prover is known by the folder that it works in. A sampling that fails changes nothing of
 the status.
@@ -23,12 +28,12 @@ import sys
 import threading
 import time
 from collections import defaultdict
-from concurrent.futures import ThreadPoolExecutor
+from concurrent.futures import FIRST_COMPLETED, ThreadPoolExecutor, wait
 from pathlib import Path
 from tempfile import TemporaryDirectory
 
-from edits import edits_of, say_tried
-from quick import crates
+from edits import edits_of, say_tried, series_of
+from quick import all_below, crates
 
 ROOT = Path(__file__).resolve().parent.parent
 TICKS = os.sysconf("SC_CLK_TCK")
@@ -37,6 +42,17 @@ STEP = 0.25
 MEMORY_OF_A_CHECK = 3_000_000_000
 # How many checks of edits are told by their names.
 DEAREST = 5
+# What a crate takes by itself, in lines of code.
+LINES_OF_A_CRATE = 500
+# How far the proof of a crate steps back (`nice`) while crates with more behind them are not proved.
+BACK = 5
+# A group of processes of its own, in the same session: between sessions Linux shares the processors out whatever their `nice`.
+OF_ITS_OWN = {"process_group": 0} if sys.version_info >= (3, 11) else {"start_new_session": True}
+# What `rt ci` says of a crate that is proved now or was before, and where it keeps nothing or not all for later runs.
+PROVED = re.compile(r"rt: (\w+) (proved|is kept: .*)$")
+KEEPS_NOT = re.compile(r"rt: note: .*(\bkept\b|cannot be used)")
+# What the run over all says once more.
+TOLD_LATER = re.compile(r"rt: (\w+ is kept: |ok\b)|\d+ passed, \d+ failed$")
 
 
 class Sampler(threading.Thread):
@@ -45,6 +61,7 @@ class Sampler(threading.Thread):
     def __init__(self, top):
         super().__init__(daemon=True)
         self.top, self.seen, self.is_over = top, {}, threading.Event()
+        self.crates = crates()
 
     def run(self):
         while not self.is_over.wait(STEP):
@@ -78,12 +95,13 @@ class Sampler(threading.Thread):
                 self.seen[pid, started] = (task, first, time.time(), spent)
 
     def task_of(self, pid):
-        """What a process works for; None where it is no prover."""
+        """What a process works for; None where it is no prover, or in no crate's folder, as those of edits."""
         words = Path(f"/proc/{pid}/cmdline").read_bytes().split(b"\0")
         if not words[0].endswith(b"/rattle"):
             return None
         kind = "tests" if any(b"test" in it for it in words if it.startswith(b"--")) else "proof"
-        return (os.path.basename(os.readlink(f"/proc/{pid}/cwd")), kind)
+        crate = os.path.basename(os.readlink(f"/proc/{pid}/cwd"))
+        return (crate, kind) if crate in self.crates else None
 
     def tasks(self):
         """The seconds of processor and of the clock of each task."""
@@ -97,40 +115,58 @@ class Sampler(threading.Thread):
 class Edits:
     """The edits of each crate, tried once all crates below it are proved."""
 
-    def __init__(self, built):
-        self.built, self.proved, self.tries = built, set(), {}
+    def __init__(self):
+        # of each crate that is proved the folder of the repository's copy in which it is built
+        self.proved, self.tries = {}, {}
         available = re.search(r"^MemAvailable:\s+(\d+) kB$", Path("/proc/meminfo").read_text(), re.M)
         processors = len(os.sched_getaffinity(0))
-        # `rt ci` has as many checks of its own
+        # The proofs have as many checks of their own as there are processors. More edits than processors, so that the last to begin
+        # need not wait for those before them.
         fitting = int(available[1]) * 1024 // MEMORY_OF_A_CHECK - processors if available else 1
-        self.pool = ThreadPoolExecutor(max(1, min(processors, fitting)))
+        self.pool = ThreadPoolExecutor(max(1, min(2 * processors, fitting)))
 
-    def has_proved(self, crate):
-        self.proved.add(crate)
+    def has_proved(self, crate, folder):
+        self.proved[crate] = folder
         self.begin()
+
+    def built(self, crate):
+        return Path(self.proved[crate], "crates", crate, "out/rlib")
 
     def begin(self):
         below = crates()
         for crate in below:
-            if crate not in self.tries and edits_of(crate) and self.proved.issuperset(below[crate]):
-                self.tries[crate] = self.pool.submit(say_tried, crate, self.built)
+            if crate not in self.tries and self.proved.keys() >= {*below[crate]}:
+                self.tries[crate] = [self.pool.submit(say_tried, crate, it, self.built) for it in series_of(crate)]
 
     def results(self):
-        """Of each crate that has edits how many were refused, how many were not, the seconds of the clock, and of each check its
+        """Of each series of edits its crate, how many were refused, how many were not, the seconds of the clock, and of each check its
         seconds of processor and its edits."""
-        results = {}
+        results = []
         for crate in crates():
             if crate in self.tries:
-                results[crate] = self.tries[crate].result()
+                results += [(crate, *it.result()) for it in self.tries[crate]]
             elif edits := edits_of(crate):
                 print(f"{crate}: its edits were not tried, since a crate below it is not proved")
-                results[crate] = (0, len(edits), 0.0, [])
+                results.append((crate, 0, len(edits), 0.0, []))
         return results
+
+
+# What no copy of the repository, or of a crate, has.
+LEFT_OUT = shutil.ignore_patterns(".git", "must-fail", "out", "__pycache__")
 
 
 def copied_to(copy):
     """Copies the repository without its edits, and without what was built."""
-    shutil.copytree(ROOT, copy, symlinks=True, ignore=shutil.ignore_patterns(".git", "must-fail", "out", "__pycache__"))
+    shutil.copytree(ROOT, copy, symlinks=True, ignore=LEFT_OUT)
+
+
+def copied_alone(names, copy):
+    """Copies these crates alone, as copied_to copies all."""
+    for name in names:
+        shutil.copytree(ROOT / "crates" / name, f"{copy}/crates/{name}", symlinks=True, ignore=LEFT_OUT)
+    shutil.copy(ROOT / "HANDLES", copy)
+    lines = (ROOT / "crates.txt").read_text().splitlines(keepends=True)
+    Path(copy, "crates.txt").write_text("".join(it for it in lines if it.partition(":")[0] in names))
 
 
 def put_back(copy):
@@ -142,65 +178,133 @@ def put_back(copy):
             shutil.copy(file, to)
 
 
-def dearest(results):
-    """Lines about the checks of edits that took most."""
-    spent = [(seconds, crate, names) for crate, it in results.items() for seconds, names in it[3]]
-    named = lambda names: ", ".join(names[:3]) + (f" and {len(names) - 3} more" if len(names) > 3 else "")
-    return [f"  {seconds / 60:6.1f}  {crate}: {named(names)}" for seconds, crate, names in sorted(spent, reverse=True)[:DEAREST]]
+def lines_behind(below):
+    """Of each crate the lines of code, its own too, of the longest chain of crates that wait for it."""
+    behind = {}
+    for crate in reversed(below):
+        files = (ROOT / "crates" / crate / "src").rglob("*.rt")
+        above = [lines for it, lines in behind.items() if crate in below[it]]
+        behind[crate] = LINES_OF_A_CRATE + sum(it.read_bytes().count(b"\n") for it in files) + max(above, default=0)
+    return behind
 
 
-def report_of(tasks, results, whole):
-    lines = ["minutes of processor of the dearest checks of edits:", *dearest(results)]
-    lines.append("minutes of processor and of the clock, by task:")
-    for (crate, kind), (spent, clock) in sorted(tasks.items(), key=lambda it: -it[1][0]):
-        lines.append(f"  {spent / 60:6.1f} {clock / 60:6.1f}  {crate}: {kind}")
-    total = sum(spent for spent, _ in tasks.values())
-    lines.append(f"the gate: {whole / 60:.1f} minutes, {total / 60:.1f} of processor")
-    return "\n".join(lines) + "\n"
+class Proofs:
+    """The crates as they are proved, each by a run of its own, and by the one over all."""
+
+    def __init__(self, command, room, start):
+        self.command, self.room, self.start = command, room, start
+        self.below, self.behind = crates(), lines_behind(crates())
+        self.edits, self.running, self.runs, self.keeps = Edits(), set(), {}, True
+        self.lock, self.pool = threading.RLock(), ThreadPoolExecutor(len(os.sched_getaffinity(0)))
+
+    def ran(self, folder, level, heard):
+        """Runs the command in a folder, with each of its lines handed on, and gives its status."""
+        how = {"stdout": subprocess.PIPE, "stderr": subprocess.STDOUT, "text": True, "errors": "replace"}
+        words = ["nice", "-n", str(level), *self.command]
+        with subprocess.Popen(words, cwd=folder, **OF_ITS_OWN, **how) as ran:
+            self.running.add(ran.pid)
+            for line in ran.stdout:
+                heard(line)
+            status = ran.wait()
+        self.running.discard(ran.pid)
+        return status
+
+    def says(self, line):
+        print(f"[{(time.time() - self.start) / 60:5.1f}] {line}", end="", flush=True)
+
+    def has_proved(self, crate, folder):
+        """Tries the edits, and proves the crates, that waited for this one alone."""
+        with self.lock:
+            if crate not in self.edits.proved:
+                self.edits.has_proved(crate, folder)
+                self.begin()
+
+    def begin(self):
+        with self.lock:
+            proved = self.edits.proved.keys()
+            ready = [it for it in self.below if it not in self.runs and proved >= {*self.below[it]}]
+            for crate in sorted(ready, key=self.behind.get, reverse=True):
+                if self.keeps:
+                    self.runs[crate] = self.pool.submit(self.prove, crate)
+
+    def prove(self, crate):
+        """Proves a crate by a run of its own over it and the crates below it."""
+        folder = f"{self.room}/{crate}"
+        copied_alone([*all_below(crate, self.below), crate], folder)
+
+        def heard(line):
+            self.keeps = self.keeps and not KEEPS_NOT.match(line)
+            if not TOLD_LATER.match(line):
+                self.says(line)
+
+        first = max((it for it in self.below if it not in self.edits.proved), key=self.behind.get)
+        if self.ran(folder, 0 if crate == first else BACK, heard):
+            self.says(f"{crate}: its run failed\n")
+        elif self.keeps:
+            self.has_proved(crate, folder)
+
+    def prove_each(self):
+        """Proves each crate by a run of its own, as far as they are kept for later runs."""
+        self.begin()
+        while going := [it for it in self.runs.values() if not it.done()]:
+            wait(going, return_when=FIRST_COMPLETED)
+        for it in self.runs.values():
+            it.result()
+
+    def prove_all(self, copy):
+        """Runs the command over all crates, and gives its status and its last line."""
+        copied_to(copy)
+        lines = [""]
+
+        def heard(line):
+            lines.append(line)
+            self.says(line)
+            if found := PROVED.match(line):
+                self.has_proved(found[1], copy)
+
+        self.keeps = False
+        status = self.ran(copy, 0, heard)
+        return status, lines[-1]
+
+    def stopped(self, number, _):
+        """Ends all that runs, and the gate with it; the checks of edits end with the gate."""
+        for pid in [*self.running]:
+            with contextlib.suppress(ProcessLookupError):
+                os.killpg(pid, signal.SIGTERM)
+        os._exit(128 + number)
 
 
-def count_of(line):
-    """The last line of `rt ci`, which tells how much passed and failed."""
-    found = re.fullmatch(r"(\d+) passed, (\d+) failed", line.strip())
-    return (int(found[1]), int(found[2])) if found else (0, 1)
+def tasks_of(results):
+    """The seconds of processor and of the clock that each crate's edits took."""
+    tasks = {}
+    for crate, _, _, clock, checks in results:
+        spent, longest = tasks.get((crate, "edits"), (0.0, 0.0))
+        tasks[crate, "edits"] = (spent + sum(it for it, _ in checks), max(longest, clock))
+    return tasks
 
 
-def stopped(ran, number):
-    """Ends `rt ci` and the gate with it; the checks of edits end with the gate."""
-    with contextlib.suppress(ProcessLookupError):
-        os.killpg(ran.pid, signal.SIGTERM)
-    os._exit(128 + number)
-
-
-def run(command, copy, start):
-    """Runs `rt ci` over the copy, and the edits beside it; gives its status and last line, the edits' results, and the tasks."""
-    line, edits = "", Edits(copy)
-    how = {"stdout": subprocess.PIPE, "stderr": subprocess.STDOUT, "text": True, "errors": "replace"}
-    with subprocess.Popen(command, cwd=copy, start_new_session=True, **how) as ran:
-        signal.signal(signal.SIGTERM, lambda number, _: stopped(ran, number))
-        sampler = Sampler(ran.pid)
-        sampler.start()
-        edits.begin()
-        for line in ran.stdout:
-            print(f"[{(time.time() - start) / 60:5.1f}] {line}", end="", flush=True)
-            if found := re.match(r"rt: (\w+) (proved|is kept: .*)$", line):
-                edits.has_proved(found[1])
-        status = ran.wait()
-    results = edits.results()
+def run(command, built, room, start):
+    """Proves all, with the edits beside it; gives the status and last line of the run over all, the edits' results, and the tasks."""
+    proofs, sampler = Proofs(command, room, start), Sampler(os.getpid())
+    signal.signal(signal.SIGTERM, proofs.stopped)
+    sampler.start()
+    proofs.edits.begin()
+    proofs.prove_each()
+    status, line = proofs.prove_all(f"{room}/all")
+    put_back(f"{room}/all")
+    if status == 0:
+        Path(built).touch()
+    results = proofs.edits.results()
     sampler.is_over.set()
-    edits_tasks = {(crate, "edits"): (sum(it for it, _ in spent), clock) for crate, (_, _, clock, spent) in results.items()}
-    tasks = sampler.tasks() | edits_tasks
-    return status, line, results, tasks
+    return status, line, results, sampler.tasks() | tasks_of(results)
 
 
-def main(report, *command):
+def main(report, built, *command):
     start = time.time()
     with TemporaryDirectory(prefix="keep-toml-gate-") as room:
-        copied_to(f"{room}/copy")
-        status, line, results, tasks = run(command, f"{room}/copy", start)
-        put_back(f"{room}/copy")
+        status, line, results, tasks = run(command, built, room, start)
     Path(report).write_text(report_of(tasks, results, time.time() - start))
-    refused, missed = sum(it[0] for it in results.values()), sum(it[1] for it in results.values())
+    refused, missed = sum(it[1] for it in results), sum(it[2] for it in results)
     passed, failed = count_of(line)
     failed = max(failed, int(status != 0))
     print(f"[{(time.time() - start) / 60:5.1f}] edits refused: {refused}, not refused: {missed}")

@@ -29,6 +29,14 @@ def crates():
     return {name: below[name] for name in order}
 
 
+def all_below(name, below):
+    """The crates that one stands on, at once or by way of others, lowest first; `below` is what `crates` gives."""
+    found = set()
+    for dep in below[name]:
+        found |= {dep, *all_below(dep, below)}
+    return [it for it in below if it in found]
+
+
 def stamp(name):
     return ROOT / "crates" / name / "out" / "proved"
 
