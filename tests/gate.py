@@ -38,8 +38,8 @@ from quick import all_below, crates
 ROOT = Path(__file__).resolve().parent.parent
 TICKS = os.sysconf("SC_CLK_TCK")
 STEP = 0.25
-# The free memory, in bytes, with which a check surely ends: none took 3 GB here.
-MEMORY_OF_A_CHECK = 3_000_000_000
+# The free memory, in bytes, with which a check ends: none took 2 GB here.
+MEMORY_OF_A_CHECK = 2_000_000_000
 # How many checks of edits are told by their names.
 DEAREST = 5
 # What a crate takes by itself, in lines of code.
@@ -120,10 +120,10 @@ class Edits:
         self.proved, self.tries = {}, {}
         available = re.search(r"^MemAvailable:\s+(\d+) kB$", Path("/proc/meminfo").read_text(), re.M)
         processors = len(os.sched_getaffinity(0))
-        # The proofs have as many checks of their own as there are processors. More edits than processors, so that the last to begin
-        # need not wait for those before them.
+        # The proofs have as many checks of their own as there are processors. There are more series of edits than processors, so that
+        # the longest, which begin late, need not wait for those before them.
         fitting = int(available[1]) * 1024 // MEMORY_OF_A_CHECK - processors if available else 1
-        self.pool = ThreadPoolExecutor(max(1, min(2 * processors, fitting)))
+        self.pool = ThreadPoolExecutor(max(1, min(processors + 2, fitting)))
 
     def has_proved(self, crate, folder):
         self.proved[crate] = folder
@@ -272,6 +272,29 @@ class Proofs:
             with contextlib.suppress(ProcessLookupError):
                 os.killpg(pid, signal.SIGTERM)
         os._exit(128 + number)
+
+
+def dearest(results):
+    """Lines about the checks of edits that took most."""
+    spent = [(seconds, crate, names) for crate, *_, checks in results for seconds, names in checks]
+    named = lambda names: ", ".join(names[:3]) + (f" and {len(names) - 3} more" if len(names) > 3 else "")
+    return [f"  {seconds / 60:6.1f}  {crate}: {named(names)}" for seconds, crate, names in sorted(spent, reverse=True)[:DEAREST]]
+
+
+def report_of(tasks, results, whole):
+    lines = ["minutes of processor of the dearest checks of edits:", *dearest(results)]
+    lines.append("minutes of processor and of the clock, by task:")
+    for (crate, kind), (spent, clock) in sorted(tasks.items(), key=lambda it: -it[1][0]):
+        lines.append(f"  {spent / 60:6.1f} {clock / 60:6.1f}  {crate}: {kind}")
+    total = sum(spent for spent, _ in tasks.values())
+    lines.append(f"the gate: {whole / 60:.1f} minutes, {total / 60:.1f} of processor")
+    return "\n".join(lines) + "\n"
+
+
+def count_of(line):
+    """The last line of `rt ci`, which tells how much passed and failed."""
+    found = re.fullmatch(r"(\d+) passed, (\d+) failed", line.strip())
+    return (int(found[1]), int(found[2])) if found else (0, 1)
 
 
 def tasks_of(results):
