@@ -38,7 +38,7 @@ from quick import all_below, crates
 ROOT = Path(__file__).resolve().parent.parent
 TICKS = os.sysconf("SC_CLK_TCK")
 STEP = 0.25
-# The free memory, in bytes, with which a check ends: none took 2 GB here.
+# The memory, in bytes, that a check is taken to need. Those of edits that were looked at took up to 1.4 GB, proofs up to 2.1.
 MEMORY_OF_A_CHECK = 2_000_000_000
 # How many checks of edits are told by their names.
 DEAREST = 5
@@ -120,8 +120,8 @@ class Edits:
         self.proved, self.tries = {}, {}
         available = re.search(r"^MemAvailable:\s+(\d+) kB$", Path("/proc/meminfo").read_text(), re.M)
         processors = len(os.sched_getaffinity(0))
-        # The proofs have as many checks of their own as there are processors. There are more series of edits than processors, so that
-        # the longest, which begin late, need not wait for those before them.
+        # A check's memory is left to the proofs for each processor; they may have up to twice as many, and `rt ci` looks at what is free.
+        # There are more series of edits than processors, so that the longest, which begin late, wait less for those before them.
         fitting = int(available[1]) * 1024 // MEMORY_OF_A_CHECK - processors if available else 1
         self.pool = ThreadPoolExecutor(max(1, min(processors + 2, fitting)))
 
