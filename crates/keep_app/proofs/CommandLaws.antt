@@ -4,8 +4,8 @@ use Rattle.std.specs.Prelude.{Result, Ok, Err, MatchResult, IsErrAnd}
 use Rattle.keep_edit.specs.declared.edits.Edit.{Edit}
 use Rattle.keep_run.specs.declared.command.Command.{Command}
 use Rattle.keep_run.specs.declared.command.Command.TheVariants as command
-use Rattle.keep_words.specs.declared.fault.UseFault.{UseFault}
-use Rattle.keep_words.specs.declared.fault.UseFault.TheVariants.{Memory}
+use Rattle.keep_app.specs.declared.fault.UseFault.{UseFault}
+use Rattle.keep_app.specs.declared.fault.UseFault.TheVariants.{Memory}
 use Rattle.keep_app.specs.Uses.{IsApplied}
 
 -- the command of an edit is so where each list of this edit alone makes it so

@@ -9,8 +9,8 @@ use Rattle.keep_path.specs.Path.{Part, key}
 use Rattle.keep_path.specs.PathText.{AreKeys}
 use Rattle.keep_edit.specs.declared.edits.Edit.{Edit}
 use Rattle.keep_edit.specs.Reading.{ProfiledText, IsAccepted, IsAcceptedValue, IsTextOfTree, text_in}
-use Rattle.keep_words.specs.declared.fault.UseFault.{UseFault}
-use Rattle.keep_words.specs.declared.fault.UseFault.TheVariants as fault
+use Rattle.keep_app.specs.declared.fault.UseFault.{UseFault}
+use Rattle.keep_app.specs.declared.fault.UseFault.TheVariants as fault
 use Rattle.keep_app.specs.PathWords.{IsKeysText}
 use Rattle.keep_app.specs.declared.script.Op.{Op}
 use Rattle.keep_app.specs.declared.script.Op.TheVariants as op

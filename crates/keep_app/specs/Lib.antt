@@ -1,4 +1,5 @@
 pub mod PathWords
 pub mod Script
 pub mod Scripting
+pub mod Status
 pub mod Uses

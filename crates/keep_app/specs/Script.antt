@@ -16,10 +16,10 @@ use Rattle.keep_edit.specs.Headers.{key_texts}
 use Rattle.keep_edit.specs.Reading.{limit, text_in, IsAcceptedValue, IsTextOfTree}
 use Rattle.keep_edit.specs.declared.edits.Edit.{Edit}
 use Rattle.keep_edit.specs.declared.edits.Edit.TheVariants as edit
-use Rattle.keep_words.specs.declared.fault.EntryWhy.{EntryWhy}
-use Rattle.keep_words.specs.declared.fault.EntryWhy.TheVariants as why
-use Rattle.keep_words.specs.declared.fault.UseFault.{UseFault}
-use Rattle.keep_words.specs.declared.fault.UseFault.TheVariants as fault
+use Rattle.keep_app.specs.declared.fault.EntryWhy.{EntryWhy}
+use Rattle.keep_app.specs.declared.fault.EntryWhy.TheVariants as why
+use Rattle.keep_app.specs.declared.fault.UseFault.{UseFault}
+use Rattle.keep_app.specs.declared.fault.UseFault.TheVariants as fault
 use Rattle.keep_app.specs.declared.script.Op.{Op}
 use Rattle.keep_app.specs.declared.script.Op.TheVariants as op
 use Rattle.keep_app.specs.PathWords.{IsKeysText, IsPath}

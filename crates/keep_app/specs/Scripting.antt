@@ -8,10 +8,10 @@ use Rattle.keep_path.specs.PathText.{AreKeys, IsPathText}
 use Rattle.keep_edit.specs.Headers.{key_texts}
 use Rattle.keep_edit.specs.Reading.{IsAcceptedValue}
 use Rattle.keep_edit.specs.declared.edits.Edit.{Edit}
-use Rattle.keep_words.specs.declared.fault.EntryWhy.{EntryWhy}
-use Rattle.keep_words.specs.declared.fault.EntryWhy.TheVariants as why
-use Rattle.keep_words.specs.declared.fault.UseFault.{UseFault}
-use Rattle.keep_words.specs.declared.fault.UseFault.TheVariants.{Entry}
+use Rattle.keep_app.specs.declared.fault.EntryWhy.{EntryWhy}
+use Rattle.keep_app.specs.declared.fault.EntryWhy.TheVariants as why
+use Rattle.keep_app.specs.declared.fault.UseFault.{UseFault}
+use Rattle.keep_app.specs.declared.fault.UseFault.TheVariants.{Entry}
 use Rattle.keep_app.specs.declared.script.Op.{Op}
 use Rattle.keep_app.specs.declared.script.Texts.{Texts}
 use Rattle.keep_app.specs.Script.{element_count, AreEntries, HasKeys, IsNoEntry, MakesNone}

@@ -4,8 +4,8 @@ use Rattle.keep_run.specs.declared.command.Command.{Command}
 use Rattle.keep_run.specs.declared.command.Command.TheVariants as command
 use Rattle.keep_edit.specs.declared.edits.Edit.{Edit}
 use Rattle.keep_edit.specs.declared.edits.Edit.TheVariants as edit
-use Rattle.keep_words.specs.declared.fault.UseFault.{UseFault}
-use Rattle.keep_words.specs.declared.fault.UseFault.TheVariants as fault
+use Rattle.keep_app.specs.declared.fault.UseFault.{UseFault}
+use Rattle.keep_app.specs.declared.fault.UseFault.TheVariants as fault
 use Rattle.keep_words.specs.declared.subcommand.Ask.{Ask}
 use Rattle.keep_words.specs.declared.subcommand.Ask.TheVariants as ask
 use Rattle.keep_words.specs.declared.subcommand.Word.{Word}

@@ -8,10 +8,11 @@ ghost use Rattle.keep_run.specs.OwnValues.{HasOwnValues};
 ghost use Rattle.keep_app.specs.Uses.{key_in, kinds_of, Asks, IsApplied, IsCommand, IsKeysFault, IsKeysText, IsWordFault, IsGivenValue, IsPathFault, IsUseFault, IsValueFault};
 ghost use Rattle.keep_words.specs.Wanted.{IsWhole, has_plain_words, wanted_of};
 
+use crate::fault::UseFault;
 use crate::script::script_of;
 use keep_edit::{Edit, Path, PathFault, Profile, ReadFault, Step, ValueText};
 use keep_run::command::Command;
-use keep_words::{Ask, Chosen, UseFault, chosen_of};
+use keep_words::{Ask, Chosen, chosen_of};
 use std::alloc::{AllocError, Global};
 
 /// The command that the words ask for. The first word is the program's name.

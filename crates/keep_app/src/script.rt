@@ -9,8 +9,8 @@ ghost use Rattle.keep_app.specs.Scripting.{AreTexts, IsFaultAt, IsGiven, IsKeysI
 ghost use Rattle.keep_app.specs.PathWords.{IsKeysText};
 
 use crate::command::key_at;
+use crate::fault::{EntryWhy, UseFault};
 use keep_edit::{Document, Edit, Kind, Path, PathFault, Profile, ReadFault, ValueText};
-use keep_words::{EntryWhy, UseFault};
 use std::alloc::{AllocError, Global};
 
 /// What an element of a script asks.

@@ -4,8 +4,8 @@ use Rattle.clap.specs.Walk.{Row as Found, first_of}
 use Rattle.keep_words.specs.App.{word_ids}
 use Rattle.keep_words.specs.Table.{Row, first_row, row_of, table}
 use Rattle.keep_words.specs.Wanted.{Wanted, row_named}
-use Rattle.keep_words.specs.declared.fault.UseFault.{UseFault}
-use Rattle.keep_words.specs.declared.fault.UseFault.TheVariants.{Words}
+use Rattle.keep_words.specs.declared.fault.ChoiceFault.{ChoiceFault}
+use Rattle.keep_words.specs.declared.fault.ChoiceFault.TheVariants.{Words}
 use Rattle.keep_words.specs.declared.words.Chosen.{Chosen}
 
 -- the word of an argument
@@ -38,6 +38,6 @@ abbrev pub IsChosen : Option Wanted → Chosen → Type 0
 IsChosen wanted chosen = wanted ≡ Some (wanted_of_chosen chosen)
 
 -- the words ask for nothing
-abbrev pub IsUnchosen : Option Wanted → UseFault → Type 0
+abbrev pub IsUnchosen : Option Wanted → ChoiceFault → Type 0
 IsUnchosen wanted (Words error) = wanted ≡ None
 IsUnchosen wanted _ = ⊥

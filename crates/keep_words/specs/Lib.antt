@@ -1,5 +1,4 @@
 pub mod App
 pub mod Chosen
-pub mod Status
 pub mod Table
 pub mod Wanted

@@ -7,7 +7,7 @@ mod help;
 mod subcommand;
 mod words;
 
-pub use fault::{EntryWhy, UseFault};
+pub use fault::{ChoiceFault, ClapError};
 pub use given::{GivenFault, given_words};
 pub use subcommand::{Ask, SUBCOMMANDS, Subcommand, Word};
 pub use words::{Chosen, chosen_of};

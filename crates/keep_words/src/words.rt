@@ -8,7 +8,7 @@ ghost use Rattle.keep_words.specs.Table.{first_row, row_of, table};
 ghost use Rattle.keep_words.specs.Chosen.{IsChosen, IsUnchosen, read_rows, row_or_first, wanted_of_chosen, wanted_with, word_in, words_in};
 ghost use Rattle.keep_words.specs.Wanted.{IsWhole, has_plain_words, wanted_of};
 
-use crate::fault::UseFault;
+use crate::fault::ChoiceFault;
 use crate::help;
 use crate::help::PROGRAM;
 use crate::subcommand::{SUBCOMMANDS, Subcommand, Word};
@@ -31,23 +31,23 @@ const PLACES: [&str; 2] = ["first", "second"];
 /// # Errors
 ///
 /// `Words` with the answer of `clap`; `Memory` where a growth was refused.
-pub fn chosen_of<'a>(alloc: Global, words: &'a [String]) -> Result<Chosen, UseFault>
+pub fn chosen_of<'a>(alloc: Global, words: &'a [String]) -> Result<Chosen, ChoiceFault>
     ensures whole { IfOk result (λ chosen. IsWhole (wanted_of_chosen chosen)) }
     ensures asked { has_plain_words (map string_bytes words.now) ≡ true
         → MatchResult result (IsChosen (wanted_of (map string_bytes words.now)))
-        (λ fault. (fault ≡ UseFault.Memory) ⊎ IsUnchosen (wanted_of (map string_bytes words.now)) fault) }
+        (λ fault. (fault ≡ ChoiceFault.Memory) ⊎ IsUnchosen (wanted_of (map string_bytes words.now)) fault) }
 {
     let Ok(command) = keep_command(alloc) else {
-        return Err(UseFault::Memory);
+        return Err(ChoiceFault::Memory);
     };
     let matches = match command.try_get_matches_from(words) {
         Ok(matches) => matches,
-        Err(error) if error.kind() == ErrorKind::OutOfMemory => return Err(UseFault::Memory),
-        Err(error) => return Err(UseFault::Words(error)),
+        Err(error) if error.kind() == ErrorKind::OutOfMemory => return Err(ChoiceFault::Memory),
+        Err(error) => return Err(ChoiceFault::Words(error)),
     };
     match chosen_in(alloc, &matches) {
         Ok(chosen) => Ok(chosen),
-        Err(AllocError) => Err(UseFault::Memory),
+        Err(AllocError) => Err(ChoiceFault::Memory),
     }
 }
 

@@ -1,7 +1,7 @@
 //! Faults that no row over the program meets: those of later edits than the first, and of no words at all.
 use keep_edit::{EditFault, Why};
 use keep_run::fault::RunFault;
-use keep_words::{UseFault, chosen_of};
+use keep_words::{ChoiceFault, chosen_of};
 use std::alloc::Global;
 use std::test::Fail;
 
@@ -37,5 +37,5 @@ fn a_refused_edit_is_reported_with_its_number(rt: HostRuntime) -> Result<(), Fai
 fn no_words_at_all_are_refused_by_clap(rt: HostRuntime) {
     let words: Vec<String> = Vec::new(rt.alloc());
     let fault = chosen_of(rt.alloc(), words.as_slice());
-    assert!(rt; matches!(&fault, Err(UseFault::Words(_))));
+    assert!(rt; matches!(&fault, Err(ChoiceFault::Words(_))));
 }
