@@ -155,10 +155,6 @@ pub nothing_made : (s : Document) (edits : List Edit) (d : ProfiledText) → tru
 nothing_made s [] d e h = none_made s d h
 nothing_made s (x ∷ xs) d e h = absurd (omega (arith, eqb-true (length (x ∷ xs)) 0 (sym e)))
 
--- what stops the edits on the copy stops the list
-pub all_stopped : (s : Document) (edits : List Edit) (old copy : ProfiledText) (number : ℕ) (f : EditFault) → copy ≡ old → StopsAt s edits copy.profile number f → StopsAt s edits old.profile number f ⊎ IsNotCopied edits number f
-all_stopped s edits old copy number f same h = inl (subst (λ (d : ProfiledText). StopsAt s edits d.profile number f) same h)
-
 pub all_made : (s : Document) (edits : List Edit) (n : ℕ) (old new : ProfiledText) → length edits ≤ n → AreMade s (take n edits) old new → AreMade s edits old new
 all_made s edits n old new le h = subst (λ (x : List Edit). AreMade s x old new) (take_all n edits le) h
 

@@ -1,10 +1,10 @@
 //! Edits as values: one, and lists of them.
-ghost use Rattle.std.specs.Prelude.{◌≡◌, ◌+◌, ◌≤◌, length, IfOk, OnErr};
+ghost use Rattle.std.specs.Prelude.{◌≡◌, ◌⊎◌, ◌+◌, ◌<◌, ◌≤◌, length, IfOk, MatchResult, OnErr};
 ghost use Rattle.keep_syntax.specs.Tree as tree;
 ghost use Rattle.keep_law.specs.Edits as law;
 ghost use Rattle.keep_edit.specs.Reading.{IsAccepted, IsTextOfTree};
 ghost use Rattle.keep_edit.specs.Answers.{EditDone, EditReported};
-ghost use Rattle.keep_edit.specs.Lists.{IsEdit, AllDone, EachDone, growth_of};
+ghost use Rattle.keep_edit.specs.Lists.{IsEdit, AllDone, AreMade, EachDone, IsNotCopied, StopsAt, growth_of};
 
 use crate::document::Document;
 use keep_law::{EditFault, Splice};
@@ -92,13 +92,24 @@ impl Document {
         if edits.is_empty() {
             return Ok(());
         }
-        let mut changed = match self.copied() {
+        *self = self.after_each(edits)?;
+        Ok(())
+    }
+
+    /// The document after the edits in their order, made on a copy; or the first that is refused.
+    fn after_each(&self, edits: &[Edit]) -> Result<Document, (usize, EditFault)>
+        requires { 0 < length edits.now }
+        ensures done { (s : tree.Document) → IsTextOfTree self.now s → MatchResult result (AreMade s edits.now self.now)
+            (λ stop. StopsAt s edits.now self.now.profile stop.0 stop.1 ⊎ IsNotCopied edits.now stop.0 stop.1) }
+        ensures growth { IfOk result (λ new. length new.text ≤ length self.now.text + growth_of edits.now) }
+        ensures of { IsAccepted self.now }
+    {
+        let mut copy = match self.copied() {
             Ok(copy) => copy,
             Err(fault) => return Err((0, fault)),
         };
-        changed.apply_each(edits)?;
-        *self = changed;
-        Ok(())
+        copy.apply_each(edits)?;
+        Ok(copy)
     }
 
     /// Makes the edits in their order, up to the first that is refused.
