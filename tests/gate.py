@@ -6,8 +6,9 @@
 The gate is `rt ci` over a copy of the repository without its must-fail edits: it proves each crate from nothing, and runs
 the tests and the programs. When several proofs are ready, it gives most of them one processor, and no more later: crates that
 many others wait for would take twice the time that they need. So each crate is first proved by an `rt ci` of its own, once
-those below it are; there it gets two. The kit keeps what such a run passed, by the sums of all that it read, so the run over
-all takes it from there. That run gives the verdict, and proves what was not kept.
+those below it are. The crate that most others wait for gets two processors there; the others get one, since the same proof
+takes a fifth more work on two. The kit keeps what such a run passed, by the sums of all that it read, so the run over all takes
+it from there. That run gives the verdict, and proves what was not kept.
 
 Beside them, as soon as the crates below a crate are proved, that crate's edits are tried over them, many in one check
 (tests/edits.py); `rt ci` would try each alone. The proofs go first, since each crate waits for those below it: the edits step
@@ -29,6 +30,7 @@ import threading
 import time
 from collections import defaultdict
 from concurrent.futures import FIRST_COMPLETED, ThreadPoolExecutor, wait
+from heapq import heappop, heappush
 from pathlib import Path
 from tempfile import TemporaryDirectory
 
@@ -44,8 +46,10 @@ MEMORY_OF_A_CHECK = 2_000_000_000
 DEAREST = 5
 # What a crate takes by itself, in lines of code.
 LINES_OF_A_CRATE = 500
-# How far the proof of a crate steps back (`nice`) while crates with more behind them are not proved.
+# How far the proof of a crate steps back (`nice`) while crates with more behind them are not proved, and what has `rt ci` take one
+# processor for it.
 BACK = 5
+ON_ONE = {"RT_JOBS": "1"}
 # A group of processes of its own, in the same session: between sessions Linux shares the processors out whatever their `nice`.
 OF_ITS_OWN = {"process_group": 0} if sys.version_info >= (3, 11) else {"start_new_session": True}
 # What `rt ci` says of a crate that is proved now or was before, and where it keeps nothing or not all for later runs.
@@ -117,13 +121,14 @@ class Edits:
 
     def __init__(self):
         # of each crate that is proved the folder of the repository's copy in which it is built
-        self.proved, self.tries = {}, {}
+        self.proved, self.begun, self.tries = {}, set(), []
+        # series of edits that can be tried, the longest first
+        self.ready, self.lock = [], threading.Lock()
         available = re.search(r"^MemAvailable:\s+(\d+) kB$", Path("/proc/meminfo").read_text(), re.M)
         processors = len(os.sched_getaffinity(0))
         # A check's memory is left to the proofs for each processor; they may have up to twice as many, and `rt ci` looks at what is free.
-        # There are more series of edits than processors, so that the longest, which begin late, wait less for those before them.
         fitting = int(available[1]) * 1024 // MEMORY_OF_A_CHECK - processors if available else 1
-        self.pool = ThreadPoolExecutor(max(1, min(processors + 2, fitting)))
+        self.pool = ThreadPoolExecutor(max(1, min(processors, fitting)))
 
     def has_proved(self, crate, folder):
         self.proved[crate] = folder
@@ -135,17 +140,24 @@ class Edits:
     def begin(self):
         below = crates()
         for crate in below:
-            if crate not in self.tries and self.proved.keys() >= {*below[crate]}:
-                self.tries[crate] = [self.pool.submit(say_tried, crate, it, self.built) for it in series_of(crate)]
+            if crate not in self.begun and self.proved.keys() >= {*below[crate]}:
+                self.begun.add(crate)
+                for number, edits in enumerate(series_of(crate)):
+                    with self.lock:
+                        heappush(self.ready, (-len(edits), crate, number, edits))
+                    self.tries.append(self.pool.submit(self.try_longest))
+
+    def try_longest(self):
+        with self.lock:
+            _, crate, _, edits = heappop(self.ready)
+        return crate, *say_tried(crate, edits, self.built)
 
     def results(self):
         """Of each series of edits its crate, how many were refused, how many were not, the seconds of the clock, and of each check its
         seconds of processor and its edits."""
-        results = []
+        results = [it.result() for it in self.tries]
         for crate in crates():
-            if crate in self.tries:
-                results += [(crate, *it.result()) for it in self.tries[crate]]
-            elif edits := edits_of(crate):
+            if crate not in self.begun and (edits := edits_of(crate)):
                 print(f"{crate}: its edits were not tried, since a crate below it is not proved")
                 results.append((crate, 0, len(edits), 0.0, []))
         return results
@@ -197,11 +209,11 @@ class Proofs:
         self.edits, self.running, self.runs, self.keeps = Edits(), set(), {}, True
         self.lock, self.pool = threading.RLock(), ThreadPoolExecutor(len(os.sched_getaffinity(0)))
 
-    def ran(self, folder, level, heard):
-        """Runs the command in a folder, with each of its lines handed on, and gives its status."""
+    def ran(self, folder, heard, level=0, more=None):
+        """Runs the command in a folder, with more in its environment and each of its lines handed on, and gives its status."""
         how = {"stdout": subprocess.PIPE, "stderr": subprocess.STDOUT, "text": True, "errors": "replace"}
         words = ["nice", "-n", str(level), *self.command]
-        with subprocess.Popen(words, cwd=folder, **OF_ITS_OWN, **how) as ran:
+        with subprocess.Popen(words, cwd=folder, env=os.environ | (more or {}), **OF_ITS_OWN, **how) as ran:
             self.running.add(ran.pid)
             for line in ran.stdout:
                 heard(line)
@@ -238,7 +250,8 @@ class Proofs:
                 self.says(line)
 
         first = max((it for it in self.below if it not in self.edits.proved), key=self.behind.get)
-        if self.ran(folder, 0 if crate == first else BACK, heard):
+        how = {} if crate == first else {"level": BACK, "more": ON_ONE}
+        if self.ran(folder, heard, **how):
             self.says(f"{crate}: its run failed\n")
         elif self.keeps:
             self.has_proved(crate, folder)
@@ -263,7 +276,7 @@ class Proofs:
                 self.has_proved(found[1], copy)
 
         self.keeps = False
-        status = self.ran(copy, 0, heard)
+        status = self.ran(copy, heard)
         return status, lines[-1]
 
     def stopped(self, number, _):
