@@ -2,8 +2,8 @@
 use Rattle.std.proofs.Common.{◌≡◌, ◌+◌, ◌∙◌, ◌⊎◌, ℕ, suc, List, [], ◌∷◌, ◌++◌, map, length, Option, None, Some, ◌<◌, refl, sym, ap, subst, inl, inr, arith, Vec, Global, String}
 use Rattle.std.specs.Prelude.{Result, Ok, Err, IsErrAnd, MatchResult}
 use Rattle.std.proofs.Math.Nat.{add-zero}
-use Rattle.keep_token.specs.declared.leaf.Profile.{Profile}
-use Rattle.keep_token.specs.declared.leaf.Profile.TheVariants.{Strict}
+use Rattle.keep_leaf.specs.declared.leaf.Profile.{Profile}
+use Rattle.keep_leaf.specs.declared.leaf.Profile.TheVariants.{Strict}
 use Rattle.keep_syntax.specs.Tree.{Document}
 use Rattle.keep_path.specs.Path.{Part, key}
 use Rattle.keep_path.specs.PathText.{AreKeys}

@@ -1,7 +1,7 @@
 -- What the reading of a script finds, step by step.
 use Rattle.std.specs.Prelude.{◌≡◌, ℕ, List, length, map, Option, Some, None, String, string_bytes, Vec}
 use Rattle.std.specs.Global.{Global}
-use Rattle.keep_token.specs.declared.leaf.Profile.{Profile}
+use Rattle.keep_leaf.specs.declared.leaf.Profile.{Profile}
 use Rattle.keep_syntax.specs.Tree.{Document}
 use Rattle.keep_path.specs.Path.{Part, key}
 use Rattle.keep_path.specs.PathText.{AreKeys, IsPathText}

@@ -10,7 +10,7 @@ use Rattle.keep_words.specs.declared.subcommand.Ask.{Ask}
 use Rattle.keep_words.specs.declared.subcommand.Ask.TheVariants as ask
 use Rattle.keep_words.specs.declared.subcommand.Word.{Word}
 use Rattle.keep_words.specs.declared.subcommand.Word.TheVariants as word
-use Rattle.keep_token.specs.declared.leaf.Profile.TheVariants.{Strict, Wide}
+use Rattle.keep_leaf.specs.declared.leaf.Profile.TheVariants.{Strict, Wide}
 use Rattle.keep_path.specs.Path.{Part, key, index}
 use Rattle.keep_path.specs.PathText.{FirstIndex, IsPathText}
 use Rattle.keep_meaning.specs.ReadText as reading

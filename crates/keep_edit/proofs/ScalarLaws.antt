@@ -5,10 +5,10 @@ use Rattle.std.specs.List.{list_any, filter_map}
 use Rattle.std.specs.Result.{result_ok}
 use Rattle.std.proofs.lemmas.List.{append-nil}
 use Rattle.std.proofs.lemmas.Bool.{false≢true}
-use Rattle.keep_token.specs.declared.leaf.Leaf.{Leaf}
-use Rattle.keep_token.specs.declared.leaf.Leaf.TheVariants as leaf
-use Rattle.keep_token.specs.declared.leaf.Profile.{Profile}
-use Rattle.keep_token.specs.declared.leaf.Profile.TheVariants.{Strict, Wide}
+use Rattle.keep_leaf.specs.declared.leaf.Leaf.{Leaf}
+use Rattle.keep_leaf.specs.declared.leaf.Leaf.TheVariants as leaf
+use Rattle.keep_leaf.specs.declared.leaf.Profile.{Profile}
+use Rattle.keep_leaf.specs.declared.leaf.Profile.TheVariants.{Strict, Wide}
 use Rattle.keep_token.specs.Leaves.{IsLeaf, Means, is_scalar_leaf, is_one_line, is_many_lines}
 use Rattle.keep_token.specs.Numbers.{Integer, integer_value}
 use Rattle.keep_token.proofs.Shared.{leaf_wider}

@@ -4,7 +4,7 @@
 -- the document is the one after the edit, so the syntax that is reread for it is that of the new text (`reread_is`).
 use Rattle.std.proofs.Common.{◌≡◌, ◌∙◌, ℕ, ◌+◌, ◌-◌, ◌<◌, ◌≤◌, ◌⊎◌, List, length, sym, ap, subst, arith, IsUtf8, Option, Some, None}
 use Rattle.std.specs.Prelude.{IfSome, slice_range, string_bytes}
-use Rattle.keep_token.specs.declared.leaf.Profile.{Profile}
+use Rattle.keep_leaf.specs.declared.leaf.Profile.{Profile}
 use Rattle.keep_parts.specs.declared.info.Span.{Span}
 use Rattle.keep_syntax.specs.declared.syntax.Syntax.{Syntax}
 use Rattle.keep_syntax.specs.Tree.{Document, text}

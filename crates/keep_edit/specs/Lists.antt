@@ -1,7 +1,7 @@
 -- Edits that are given as values, and what a list of them answers.
 use Rattle.std.specs.Prelude.{◌≡◌, ◌⊎◌, ℕ, suc, ◌+◌, ◌<◌, List, [], ◌∷◌, length, map, take, Result, Ok, Err, string_bytes}
 use Rattle.std.specs.List.{AllZip}
-use Rattle.keep_token.specs.declared.leaf.Profile.{Profile}
+use Rattle.keep_leaf.specs.declared.leaf.Profile.{Profile}
 use Rattle.keep_token.specs.Encoded.{encoded_key}
 use Rattle.keep_syntax.specs.Tree.{Value, Document}
 use Rattle.keep_path.specs.Path.{key}

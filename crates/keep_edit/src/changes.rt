@@ -1,6 +1,6 @@
 //! The edits of a document: keep_splice decides each, and it is made in the document's own text and syntax.
 ghost use Rattle.std.specs.Prelude.{◌≡◌, ◌<◌, length, IfErr, IfSome, OnErr, OnOk, MatchResult, string_bytes};
-ghost use Rattle.keep_token.specs.declared.leaf.Profile.TheVariants.{Wide};
+ghost use Rattle.keep_leaf.specs.declared.leaf.Profile.TheVariants.{Wide};
 ghost use Rattle.keep_syntax.specs.declared.fault.ReadFault.TheVariants.{Memory};
 ghost use Rattle.keep_syntax.specs.Tree as tree;
 ghost use Rattle.keep_syntax.specs.Tree.{Value};

@@ -1,7 +1,7 @@
 //! Documents, and what can be asked of them.
 ghost use Rattle.std.specs.Prelude.{◌≡◌, ◌≤◌, ◌+◌, length, string_bytes, IfOk, IfErr, IsOkUnless, MatchResult, Ok, Err};
 ghost use Rattle.std.specs.Option.{option_map};
-ghost use Rattle.keep_token.specs.declared.leaf.Profile.TheVariants.{Strict};
+ghost use Rattle.keep_leaf.specs.declared.leaf.Profile.TheVariants.{Strict};
 ghost use Rattle.keep_syntax.specs.declared.fault.ReadFault.TheVariants.{Memory};
 ghost use Rattle.keep_syntax.specs.Tree as tree;
 ghost use Rattle.keep_syntax.specs.Contract.{left};

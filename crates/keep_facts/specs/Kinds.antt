@@ -1,6 +1,6 @@
 -- The kinds of values. (TOML 1.0.0: the values of `val`.)
-use Rattle.keep_token.specs.declared.leaf.Leaf.{Leaf}
-use Rattle.keep_token.specs.declared.leaf.Leaf.TheVariants as leaf
+use Rattle.keep_leaf.specs.declared.leaf.Leaf.{Leaf}
+use Rattle.keep_leaf.specs.declared.leaf.Leaf.TheVariants as leaf
 use Rattle.keep_facts.specs.declared.node.Kind.{Kind}
 use Rattle.keep_facts.specs.declared.node.Kind.TheVariants as kind
 

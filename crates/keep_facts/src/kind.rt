@@ -3,7 +3,7 @@ ghost use Rattle.std.specs.Prelude.{◌≡◌};
 ghost use Rattle.keep_facts.specs.Kinds.{leaf_kind};
 
 use crate::node::Kind;
-use keep_token::Leaf;
+use keep_leaf::Leaf;
 
 /// The kind of the value that begins with this leaf.
 pub fn kind_of(leaf: Leaf) -> Kind

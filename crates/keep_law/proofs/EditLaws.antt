@@ -1,6 +1,6 @@
 -- The laws of the edits, as they are promised.
 use Rattle.std.proofs.Common.{◌≡◌, ℕ, ◌+◌, ◌≤◌, Bool, true, false, List, [], length, refl, sym, ap, subst, ◌∙◌, arith, Option, Some, None}
-use Rattle.keep_token.specs.declared.leaf.Profile.{Profile}
+use Rattle.keep_leaf.specs.declared.leaf.Profile.{Profile}
 use Rattle.keep_syntax.specs.Tree.{Value, Content, header, element, Document, text, content_depth, depth}
 use Rattle.keep_syntax.specs.Grammar.{IsValue, Reads}
 use Rattle.keep_syntax.specs.Profiles.{is_allowed_in}

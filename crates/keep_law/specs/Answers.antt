@@ -1,7 +1,7 @@
 -- What is known of a document's nodes, and what comes of a list of edits.
 use Rattle.std.specs.Prelude.{ℕ, suc, true, false, List, [], ◌∷◌, map, drop, Option, Some, None, Result, Ok, Err}
 use Rattle.std.specs.Option.{option_map}
-use Rattle.keep_token.specs.declared.leaf.Profile.{Profile}
+use Rattle.keep_leaf.specs.declared.leaf.Profile.{Profile}
 use Rattle.keep_syntax.specs.Tree.{Document}
 use Rattle.keep_facts.specs.declared.node.Kind.{Kind}
 use Rattle.keep_path.specs.Path.{Part}

@@ -1,7 +1,7 @@
 -- Changes of lines: where in the document, and what there.
 use Rattle.std.specs.Prelude.{ℕ, zero, suc, ◌+◌, Bool, true, false, ◌&&◌, if◌then◌else◌, List, [], ◌∷◌, ◌++◌, map, take, drop, codes, position, Option, Some, None}
 use Rattle.std.specs.List.{flat_map}
-use Rattle.keep_token.specs.declared.leaf.Leaf.TheVariants as leaf
+use Rattle.keep_leaf.specs.declared.leaf.Leaf.TheVariants as leaf
 use Rattle.keep_syntax.specs.Tree.{Written, Content, blank, keyval, header, element, Line, Ended, Document, name_leaves, content_leaves, comment_leaves, line_leaves, ended_leaves, bom_leaves, leaves, text_of}
 use Rattle.keep_syntax.specs.WholeLines.{empty_line}
 use Rattle.keep_path.specs.Path.{Part, key, same_path}

@@ -1,6 +1,6 @@
 -- The lines that an edit touches, and those that replace them: only the new ones are scanned.
 use Rattle.std.specs.Prelude.{◌≡◌, ℕ, ◌+◌, ◌-◌, ◌≤◌, ◌⊎◌, false, length, Some, slice_range}
-use Rattle.keep_token.specs.declared.leaf.Profile.{Profile}
+use Rattle.keep_leaf.specs.declared.leaf.Profile.{Profile}
 use Rattle.keep_parts.specs.declared.info.Span.{Span}
 use Rattle.keep_syntax.specs.Tree.{Document, text, depth}
 use Rattle.keep_syntax.specs.Grammar.{IsDocument, Reads}

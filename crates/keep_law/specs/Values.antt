@@ -1,8 +1,8 @@
 -- Changes inside a value: where in it, and what there.
 use Rattle.std.specs.Prelude.{ℕ, zero, suc, ◌+◌, ◌-◌, Bool, true, false, ◌&&◌, if◌then◌else◌, List, [], ◌∷◌, ◌++◌, length, take, codes, Option, Some, None}
 use Rattle.std.specs.List.{list_any, flat_map}
-use Rattle.keep_token.specs.declared.leaf.Leaf.{Leaf}
-use Rattle.keep_token.specs.declared.leaf.Leaf.TheVariants as leaf
+use Rattle.keep_leaf.specs.declared.leaf.Leaf.{Leaf}
+use Rattle.keep_leaf.specs.declared.leaf.Leaf.TheVariants as leaf
 use Rattle.keep_syntax.specs.Tree.{Written, Gap, Further, Key, Name, Body, scalar, array, inline, Entries, none, entry, Value, further_leaves, named_leaves, opening, closing, comma_leaves, entries_leaves, value_leaves, text_of, token}
 use Rattle.keep_syntax.specs.Grammar.{is_ws_leaf}
 use Rattle.keep_path.specs.Path.{Part, key, index, same_path}

@@ -5,10 +5,10 @@ use Rattle.std.proofs.Math.Seq.{get_or-append_seam}
 use Rattle.std.proofs.lemmas.Bool.Decides.{nat_tests}
 use Rattle.std.proofs.lemmas.List.{length-append, get_or-append-add, get_or_append_left}
 use Rattle.std.proofs.lemmas.Str.{IsCharBoundary-before_ascii, IsCharBoundary-after_ascii}
-use Rattle.keep_token.specs.declared.leaf.Profile.{Profile}
-use Rattle.keep_token.specs.declared.leaf.Profile.TheVariants.{Strict, Wide}
-use Rattle.keep_token.specs.declared.leaf.Leaf.{Leaf}
-use Rattle.keep_token.specs.declared.leaf.Leaf.TheVariants as leaf
+use Rattle.keep_leaf.specs.declared.leaf.Profile.{Profile}
+use Rattle.keep_leaf.specs.declared.leaf.Profile.TheVariants.{Strict, Wide}
+use Rattle.keep_leaf.specs.declared.leaf.Leaf.{Leaf}
+use Rattle.keep_leaf.specs.declared.leaf.Leaf.TheVariants as leaf
 use Rattle.keep_token.specs.Abnf.{Some1, is_bare}
 use Rattle.keep_token.specs.Leaves.{IsLeaf, is_key_leaf}
 use Rattle.keep_token.specs.Strings as strings

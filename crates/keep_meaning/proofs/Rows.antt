@@ -1,8 +1,8 @@
 -- The definitions on small documents.
 use Rattle.std.proofs.Common.{◌≡◌, ℕ, Bool, true, false, List, [], ◌∷◌, length, refl, Option, Some, None}
 use Rattle.std.specs.Prelude.{codes, map, take, slice_get}
-use Rattle.keep_token.specs.declared.leaf.Leaf.{Leaf}
-use Rattle.keep_token.specs.declared.leaf.Leaf.TheVariants as leaf
+use Rattle.keep_leaf.specs.declared.leaf.Leaf.{Leaf}
+use Rattle.keep_leaf.specs.declared.leaf.Leaf.TheVariants as leaf
 use Rattle.keep_syntax.specs.declared.fault.Why.{Why}
 use Rattle.keep_syntax.specs.declared.fault.Why.TheVariants as why
 use Rattle.keep_parts.specs.declared.info.Span.{Span}

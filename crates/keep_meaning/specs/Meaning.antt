@@ -1,9 +1,9 @@
 -- From a document's tree to its statements: what its keys and scalars mean.
 use Rattle.std.specs.Prelude.{ℕ, zero, suc, ◌+◌, ◌-◌, Bool, ◌||◌, ◌==◌, if◌then◌else◌, List, [], ◌∷◌, ◌++◌, length, map, take, drop, encode_utf8, slice_index, Option, Some, None}
 use Rattle.std.specs.List.{prefix_len}
-use Rattle.keep_token.specs.declared.leaf.Leaf.{Leaf}
-use Rattle.keep_token.specs.declared.leaf.Leaf.TheVariants as leaf
-use Rattle.keep_token.specs.declared.leaf.Profile.TheVariants.{Wide}
+use Rattle.keep_leaf.specs.declared.leaf.Leaf.{Leaf}
+use Rattle.keep_leaf.specs.declared.leaf.Leaf.TheVariants as leaf
+use Rattle.keep_leaf.specs.declared.leaf.Profile.TheVariants.{Wide}
 use Rattle.keep_token.specs.Abnf.{is_ws}
 use Rattle.keep_token.specs.Numbers.{sum_of_digits, integer_value}
 use Rattle.keep_token.specs.Strings.{letter_value, digit_count}

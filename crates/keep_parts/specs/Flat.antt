@@ -1,6 +1,6 @@
 -- What is stored of a text, as lists.
 use Rattle.std.specs.Prelude.{◌≡◌, ℕ, ◌+◌, List, [], ◌∷◌, ◌++◌, length, map, Bool, if◌then◌else◌, Option, Some, None}
-use Rattle.keep_token.specs.declared.leaf.Leaf.{Leaf}
+use Rattle.keep_leaf.specs.declared.leaf.Leaf.{Leaf}
 use Rattle.keep_parts.specs.declared.info.Statement.{Statement}
 use Rattle.keep_parts.specs.declared.info.KeyPart.{KeyPart}
 use Rattle.keep_parts.specs.declared.info.ValueInfo.{ValueInfo}

@@ -1,6 +1,6 @@
 -- What rereading lines stores: that of the lines before unchanged, that of the new lines lifted, that of the lines after moved.
 use Rattle.std.specs.Prelude.{ℕ, suc, ◌<◌, ◌≤◌, ltb, if◌then◌else◌, List, [], ◌∷◌, ◌++◌, length, map, drop, slice_range, Option, Some, None}
-use Rattle.keep_token.specs.declared.leaf.Leaf.{Leaf}
+use Rattle.keep_leaf.specs.declared.leaf.Leaf.{Leaf}
 use Rattle.keep_parts.specs.declared.info.KeyPart.{KeyPart}
 use Rattle.keep_parts.specs.declared.info.Span.{Span}
 use Rattle.keep_parts.specs.declared.info.Statement.{Statement}

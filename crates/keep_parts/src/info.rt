@@ -1,5 +1,5 @@
 //! What is known of a text: spans, statements, key parts, values, and where entries begin.
-use keep_token::Leaf;
+use keep_leaf::Leaf;
 
 /// The bytes `start..end` of the text.
 #[derive(Clone, Copy, Debug, PartialEq, Eq)]

@@ -6,7 +6,7 @@ ghost use Rattle.keep_parts.specs.Flat as spec;
 mod shifting;
 
 use crate::info::{KeyPart, Span};
-use keep_token::Leaf;
+use keep_leaf::Leaf;
 use std::alloc::{AllocError, Global};
 
 /// A key part in 8 bytes: where it starts, and how many bytes it has.

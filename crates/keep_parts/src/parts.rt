@@ -13,7 +13,7 @@ use crate::moves::Counts;
 use crate::starts::{Places, Starts};
 use crate::statements::Statements;
 use crate::values::Values;
-use keep_token::Leaf;
+use keep_leaf::Leaf;
 use std::alloc::{AllocError, Global};
 
 /// The tokens but `End`, the statements, the key parts and the values of a text. A token ends where the next begins.

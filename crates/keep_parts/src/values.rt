@@ -7,7 +7,7 @@ mod shifting;
 
 use crate::info::{Owner, Span, ValueInfo};
 use crate::parts::{flag_and_number, if_there};
-use keep_token::Leaf;
+use keep_leaf::Leaf;
 use std::alloc::{AllocError, Global};
 
 /// What a value is in, without its number.

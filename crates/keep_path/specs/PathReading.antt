@@ -1,7 +1,7 @@
 -- What is found at the start of a path's text. The laws in proofs/ tie it to the texts of paths.
 use Rattle.std.specs.Prelude.{◌≡◌, ℕ, ◌<◌, ◌≤◌, List, ◌∷◌, length, take, drop, Some}
-use Rattle.keep_token.specs.declared.leaf.Leaf.{Leaf}
-use Rattle.keep_token.specs.declared.leaf.Profile.TheVariants.{Strict, Wide}
+use Rattle.keep_leaf.specs.declared.leaf.Leaf.{Leaf}
+use Rattle.keep_leaf.specs.declared.leaf.Profile.TheVariants.{Strict, Wide}
 use Rattle.keep_token.specs.Leaves.{Means}
 use Rattle.keep_token.specs.Scanning.{key_at}
 use Rattle.keep_path.specs.Path.{Part}

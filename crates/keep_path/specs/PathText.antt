@@ -1,8 +1,8 @@
 -- The texts of paths: a key part, then dots with key parts and indexes in brackets, with no spaces. The root's text is empty.
 use Rattle.std.specs.Prelude.{◌≡◌, ℕ, ◌<◌, IsTrue, List, [], ◌∷◌, ◌++◌, take, drop, decimal}
 use Rattle.std.specs.List.{flat_map}
-use Rattle.keep_token.specs.declared.leaf.Leaf.{Leaf}
-use Rattle.keep_token.specs.declared.leaf.Profile.TheVariants.{Strict}
+use Rattle.keep_leaf.specs.declared.leaf.Leaf.{Leaf}
+use Rattle.keep_leaf.specs.declared.leaf.Profile.TheVariants.{Strict}
 use Rattle.keep_token.specs.Abnf.{Language, Just, ◌⨾◌}
 use Rattle.keep_token.specs.Encoded.{encoded_key}
 use Rattle.keep_token.specs.Leaves.{IsLeaf, is_key_leaf, Means}

@@ -1,6 +1,6 @@
 //! The key parts and the steps that begin texts of paths.
 ghost use Rattle.std.specs.Prelude.{◌≡◌, List, [], IfOk, IfSome, IsNone, None, IsCharBoundary, string_bytes};
-ghost use Rattle.keep_token.specs.declared.leaf.Profile.TheVariants.{Strict};
+ghost use Rattle.keep_leaf.specs.declared.leaf.Profile.TheVariants.{Strict};
 ghost use Rattle.keep_token.specs.Scanning.{key_at};
 ghost use Rattle.keep_path.specs.Path.{Part};
 ghost use Rattle.keep_path.specs.PathText.{StepsText};

@@ -4,7 +4,7 @@ use Rattle.std.proofs.Common.{◌≡◌, ℕ, ◌+◌, ◌≤◌, ◌⊎◌, Boo
 use Rattle.std.specs.Prelude.{slice_index, leb}
 use Rattle.std.specs.List.{flat_map}
 use Rattle.std.proofs.lemmas.List.{length-append}
-use Rattle.keep_token.specs.declared.leaf.Profile.{Profile}
+use Rattle.keep_leaf.specs.declared.leaf.Profile.{Profile}
 use Rattle.keep_parts.specs.declared.info.Span.{Span}
 use Rattle.keep_syntax.specs.declared.syntax.Syntax.{Syntax}
 use Rattle.keep_syntax.specs.Tree.{Written, Gap, Content, blank, keyval, header, element, Line, Ended, Document, line_leaves, ended_leaves, bom_leaves, text_of, text}

@@ -1,6 +1,6 @@
 -- The values of a document fit what they are in: items arrays, and what has a key inline tables and bodies.
 use Rattle.std.proofs.Common.{◌≡◌, ℕ, suc, ◌+◌, ◌<◌, List, [], ◌∷◌, ◌++◌, length, refl, sym, ◌∙◌, ap, subst, arith, Option, Some, None}
-use Rattle.keep_token.specs.declared.leaf.Profile.{Profile}
+use Rattle.keep_leaf.specs.declared.leaf.Profile.{Profile}
 use Rattle.keep_syntax.specs.Tree.{Name, Body, scalar, array, inline, Entries, none, entry, Value}
 use Rattle.std.proofs.lemmas.List.{append-nil}
 use Rattle.keep_syntax.specs.Grammar.{Place, in_scalar, in_array, in_inline, place_in, IsNamed, AreEntries, IsValue}

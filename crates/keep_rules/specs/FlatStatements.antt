@@ -1,7 +1,7 @@
 -- How the flat list of a document's statements matches its tree.
 use Rattle.std.specs.Prelude.{◌≡◌, ℕ, ◌+◌, ◌<◌, ◌≤◌, List, length, take, drop, slice_get, Some, None}
 use Rattle.std.specs.List.{AllZip}
-use Rattle.keep_token.specs.declared.leaf.Profile.{Profile}
+use Rattle.keep_leaf.specs.declared.leaf.Profile.{Profile}
 use Rattle.keep_parts.specs.declared.info.KeyPart.{KeyPart}
 use Rattle.keep_parts.specs.declared.info.Owner.TheVariants as owner
 use Rattle.keep_parts.specs.declared.info.Statement.{Statement}

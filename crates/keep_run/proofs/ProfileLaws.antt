@@ -2,8 +2,8 @@
 use Rattle.std.proofs.Common.{◌≡◌, ◌⊎◌, ◌∙◌, ◌&&◌, ◌||◌, ℕ, zero, suc, Bool, true, false, not, List, [], ◌∷◌, take, Option, Some, None, refl, sym, ap, subst, inl, inr, option_map}
 use Rattle.std.specs.Prelude.{◌==◌, drop, length, nat_lt, Result, Ok, Err, IfErr, IsErrAnd}
 use Rattle.std.specs.List.{AllZip, list_any}
-use Rattle.keep_token.specs.declared.leaf.Profile.{Profile}
-use Rattle.keep_token.specs.declared.leaf.Profile.TheVariants.{Strict, Wide}
+use Rattle.keep_leaf.specs.declared.leaf.Profile.{Profile}
+use Rattle.keep_leaf.specs.declared.leaf.Profile.TheVariants.{Strict, Wide}
 use Rattle.keep_syntax.specs.Tree.{Document, Value}
 use Rattle.keep_meaning.specs.Meaning.{mentions_in}
 use Rattle.keep_meaning.specs.Marks.{Mention, Statement, element_header, header, marks, statement_mentions}

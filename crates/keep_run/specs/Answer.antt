@@ -1,8 +1,8 @@
 -- What the program answers to a command and the bytes that were read.
 use Rattle.std.specs.Prelude.{◌≡◌, ℕ, List, ◌++◌, suc, take, codes, decimal, Ok, Err, ⊤}
 use Rattle.std.specs.List.{flat_map, AllZip}
-use Rattle.keep_token.specs.declared.leaf.Profile.{Profile}
-use Rattle.keep_token.specs.declared.leaf.Profile.TheVariants.{Strict, Wide}
+use Rattle.keep_leaf.specs.declared.leaf.Profile.{Profile}
+use Rattle.keep_leaf.specs.declared.leaf.Profile.TheVariants.{Strict, Wide}
 use Rattle.keep_syntax.specs.declared.fault.ReadFault.{ReadFault}
 use Rattle.keep_syntax.specs.declared.fault.ReadFault.TheVariants as read
 use Rattle.keep_syntax.specs.Tree.{Document, text}

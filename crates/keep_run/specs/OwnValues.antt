@@ -1,6 +1,6 @@
 -- The profile of a command's values.
 use Rattle.std.specs.Prelude.{⊤, List, [], ◌∷◌}
-use Rattle.keep_token.specs.declared.leaf.Profile.TheVariants.{Strict}
+use Rattle.keep_leaf.specs.declared.leaf.Profile.TheVariants.{Strict}
 use Rattle.keep_edit.specs.Reading.{IsAcceptedValue}
 use Rattle.keep_edit.specs.declared.edits.Edit.{Edit}
 use Rattle.keep_edit.specs.declared.edits.Edit.TheVariants as edit

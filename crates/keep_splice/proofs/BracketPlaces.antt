@@ -5,7 +5,7 @@ use Rattle.std.proofs.Common.{◌≡◌, ℕ, suc, true, List, [], ◌∷◌, �
 use Rattle.std.specs.Prelude.{IsUtf8, ⊤}
 use Rattle.std.specs.List.{AllByRecursion}
 use Rattle.std.specs.Option.{option_map, option_and_then}
-use Rattle.keep_token.specs.declared.leaf.Profile.TheVariants.{Wide}
+use Rattle.keep_leaf.specs.declared.leaf.Profile.TheVariants.{Wide}
 use Rattle.keep_parts.specs.declared.info.ValueInfo.{ValueInfo}
 use Rattle.keep_syntax.specs.Tree.{Value, Document}
 use Rattle.keep_syntax.specs.Numbered as syntax

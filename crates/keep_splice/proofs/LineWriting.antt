@@ -11,7 +11,7 @@ use Rattle.std.specs.Option.{option_map, option_and_then}
 use Rattle.std.proofs.lemmas.Bool.Decides.{nat_tests}
 use Rattle.std.proofs.lemmas.List.{append-nil}
 use Rattle.std.proofs.lemmas.Option.{slice_get_within}
-use Rattle.keep_token.specs.declared.leaf.Leaf.TheVariants as leaf
+use Rattle.keep_leaf.specs.declared.leaf.Leaf.TheVariants as leaf
 use Rattle.keep_token.specs.Pieces.{first}
 use Rattle.keep_parts.specs.declared.info.Owner.{Owner}
 use Rattle.keep_parts.specs.declared.info.Owner.TheVariants as owner

@@ -1,8 +1,8 @@
 -- The newline of a document is that of its first token that is one.
 use Rattle.std.proofs.Common.{◌≡◌, ℕ, ◌+◌, List, [], ◌∷◌, length, refl, sym, ap, Option, Some, None}
 use Rattle.std.specs.Prelude.{codes}
-use Rattle.keep_token.specs.declared.leaf.Leaf.{Leaf}
-use Rattle.keep_token.specs.declared.leaf.Leaf.TheVariants as leaf
+use Rattle.keep_leaf.specs.declared.leaf.Leaf.{Leaf}
+use Rattle.keep_leaf.specs.declared.leaf.Leaf.TheVariants as leaf
 use Rattle.keep_syntax.specs.Tree.{Written, Document, leaves}
 use Rattle.keep_syntax.specs.Numbered.{Placed, placed, tokens}
 use Rattle.keep_law.specs.Lines.{first_newline, newline_of}

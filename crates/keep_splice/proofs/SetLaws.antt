@@ -3,7 +3,7 @@ use Rattle.std.proofs.Common.{◌≡◌, ℕ, suc, ◌+◌, ◌<◌, ◌≤◌, 
 use Rattle.std.specs.Prelude.{not, ◌||◌, nat_lt, filter}
 use Rattle.std.specs.List.{list_any, filter_map}
 use Rattle.std.proofs.lemmas.Bool.{lt-ltb, le-ltb}
-use Rattle.keep_token.specs.declared.leaf.Profile.{Profile}
+use Rattle.keep_leaf.specs.declared.leaf.Profile.{Profile}
 use Rattle.keep_parts.specs.declared.info.ValueInfo.{ValueInfo}
 use Rattle.keep_syntax.specs.declared.syntax.Syntax.{Syntax}
 use Rattle.keep_syntax.specs.Tree.{Value, Document, value_depth}

@@ -1,7 +1,7 @@
 -- Where `insert` writes: what it takes hold of, and the place there.
 use Rattle.std.specs.Prelude.{◌≡◌, ◌⊎◌, ℕ, suc, ◌≤◌, ◌<◌, Bool, true, false, List, [], ◌∷◌, ◌++◌, length, take, drop, Option, Some, None, Result, Ok, Err, slice_get}
 use Rattle.std.specs.Option.{option_map, option_and_then}
-use Rattle.keep_token.specs.declared.leaf.Profile.{Profile}
+use Rattle.keep_leaf.specs.declared.leaf.Profile.{Profile}
 use Rattle.keep_parts.specs.declared.info.Owner.TheVariants as owner
 use Rattle.keep_parts.specs.declared.info.Statement.{Statement}
 use Rattle.keep_parts.specs.declared.info.ValueInfo.{ValueInfo}

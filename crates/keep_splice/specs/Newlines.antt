@@ -1,6 +1,6 @@
 -- The newline of a document, looked for among its tokens.
 use Rattle.std.specs.Prelude.{ℕ, List, [], ◌∷◌, codes}
-use Rattle.keep_token.specs.declared.leaf.Leaf.TheVariants as leaf
+use Rattle.keep_leaf.specs.declared.leaf.Leaf.TheVariants as leaf
 use Rattle.keep_syntax.specs.Numbered.{Placed}
 
 -- the text of the first newline, else a line feed

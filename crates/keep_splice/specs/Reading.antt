@@ -1,6 +1,6 @@
 -- Documents that were read: texts in a profile, to the standard depth. keep_value says what is read of single values.
 use Rattle.std.specs.Prelude.{◌≡◌, ℕ, List, map}
-use Rattle.keep_token.specs.declared.leaf.Profile.{Profile}
+use Rattle.keep_leaf.specs.declared.leaf.Profile.{Profile}
 use Rattle.keep_syntax.specs.declared.syntax.Syntax.{Syntax}
 use Rattle.keep_syntax.specs.Tree.{Document}
 use Rattle.keep_syntax.specs.Contract.{IsSyntaxOf, IsTextOf}

@@ -1,7 +1,7 @@
 //! Inserting values.
 ghost use Rattle.std.specs.Prelude.{◌≡◌, suc, ◌++◌, ◌∷◌, [], ◌<◌, List, Some, Ok, IfOk, length, drop, string_bytes};
 ghost use Rattle.std.specs.List.{list_any};
-ghost use Rattle.keep_token.specs.declared.leaf.Profile.TheVariants.{Wide};
+ghost use Rattle.keep_leaf.specs.declared.leaf.Profile.TheVariants.{Wide};
 ghost use Rattle.keep_syntax.specs.Contract.{values_of};
 ghost use Rattle.keep_syntax.specs.Tree as tree;
 ghost use Rattle.keep_path.specs.Path.{Part, index, AreUtf8};

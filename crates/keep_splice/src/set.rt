@@ -1,6 +1,6 @@
 //! Setting values.
 ghost use Rattle.std.specs.Prelude.{◌≡◌, [], IfOk, IfSome, None, is_some, true};
-ghost use Rattle.keep_token.specs.declared.leaf.Profile.TheVariants.{Wide};
+ghost use Rattle.keep_leaf.specs.declared.leaf.Profile.TheVariants.{Wide};
 ghost use Rattle.keep_syntax.specs.Tree as tree;
 ghost use Rattle.keep_syntax.specs.Tree.{value_depth};
 ghost use Rattle.keep_meaning.specs.Meaning.{mentions_in};

@@ -1,9 +1,9 @@
 -- The most brackets that are open in the values inside a value are its depth.
 use Rattle.std.proofs.Common.{◌≡◌, ℕ, zero, suc, ◌+◌, max, Bool, false, IsTrue, cond, List, [], ◌∷◌, ◌++◌, take, slice_get, Some, None, refl, ap, ◌∙◌, subst, arith, add-one}
 use Rattle.std.specs.List.{AllByRecursion}
-use Rattle.keep_token.specs.declared.leaf.Profile.{Profile}
-use Rattle.keep_token.specs.declared.leaf.Leaf.{Leaf}
-use Rattle.keep_token.specs.declared.leaf.Leaf.TheVariants as leaf
+use Rattle.keep_leaf.specs.declared.leaf.Profile.{Profile}
+use Rattle.keep_leaf.specs.declared.leaf.Leaf.{Leaf}
+use Rattle.keep_leaf.specs.declared.leaf.Leaf.TheVariants as leaf
 use Rattle.keep_token.specs.Leaves.{is_scalar_leaf}
 use Rattle.keep_parts.specs.declared.info.ValueInfo.{ValueInfo}
 use Rattle.keep_parts.specs.declared.info.Start.{Start}

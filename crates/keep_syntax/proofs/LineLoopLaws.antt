@@ -4,8 +4,8 @@ use Rattle.std.specs.Prelude.{OnOk, IsOkUnless}
 use Rattle.std.specs.List.{flat_map}
 use Rattle.std.proofs.lemmas.List.{append-nil, drop_all, length-drop}
 use Rattle.std.proofs.lemmas.Grind.{flat_map-append}
-use Rattle.keep_token.specs.declared.leaf.Leaf.TheVariants as leaf
-use Rattle.keep_token.specs.declared.leaf.Profile.{Profile}
+use Rattle.keep_leaf.specs.declared.leaf.Leaf.TheVariants as leaf
+use Rattle.keep_leaf.specs.declared.leaf.Profile.{Profile}
 use Rattle.keep_token.specs.Scanning.{gap_at}
 use Rattle.keep_token.proofs.Shared.{Gaps, white, line, comment, nothing, gap_cases}
 use Rattle.keep_syntax.specs.declared.fault.ReadFault.{ReadFault}

@@ -2,7 +2,7 @@
 use Rattle.std.proofs.Common.{◌≡◌, ℕ, ◌+◌, ◌-◌, ◌<◌, true, false, ◌==◌, List, [], ◌∷◌, ◌++◌, length, get_or, drop, Option, Some, None, Result, Ok, Err, refl, sym, ap, ◌∙◌, arith, append_assoc, IsCharBoundary}
 use Rattle.std.specs.Option.{is_some}
 use Rattle.std.proofs.lemmas.List.{append-nil}
-use Rattle.keep_token.specs.declared.leaf.Profile.{Profile}
+use Rattle.keep_leaf.specs.declared.leaf.Profile.{Profile}
 use Rattle.keep_syntax.specs.declared.fault.ReadFault.{ReadFault}
 use Rattle.keep_parts.specs.declared.info.Start.{Start}
 use Rattle.keep_syntax.specs.declared.info.Brackets.{Brackets}

@@ -1,7 +1,7 @@
 -- Documents and values whose trees are written out: their text, depth, tokens, statements, key parts and values compute to what an independent model answers.
 use Rattle.std.proofs.Common.{◌≡◌, true, false, [], ◌∷◌, Some, None, refl, inl, inr, arith}
-use Rattle.keep_token.specs.declared.leaf.Leaf.TheVariants as leaf
-use Rattle.keep_token.specs.declared.leaf.Profile.TheVariants.{Strict, Wide}
+use Rattle.keep_leaf.specs.declared.leaf.Leaf.TheVariants as leaf
+use Rattle.keep_leaf.specs.declared.leaf.Profile.TheVariants.{Strict, Wide}
 use Rattle.keep_token.specs.Strings.{Plain, Break}
 use Rattle.keep_token.proofs.Shared.{integer_text_from}
 use Rattle.keep_parts.specs.declared.info.Owner.TheVariants as owner

@@ -1,7 +1,7 @@
 -- What the parts that were read add to what is stored.
 use Rattle.std.specs.Prelude.{◌≡◌, ℕ, zero, suc, ◌+◌, ◌≤◌, slice_index, List, [], ◌∷◌, ◌++◌, length, drop, map, Option, Some, None, Result, Ok, Err, ⊤, IsCharBoundary}
 use Rattle.std.specs.List.{AllByRecursion, flat_map}
-use Rattle.keep_token.specs.declared.leaf.Leaf.{Leaf}
+use Rattle.keep_leaf.specs.declared.leaf.Leaf.{Leaf}
 use Rattle.keep_syntax.specs.declared.fault.ReadFault.{ReadFault}
 use Rattle.keep_syntax.specs.declared.fault.ReadFault.TheVariants as faults
 use Rattle.keep_parts.specs.declared.info.Statement.{Statement}
@@ -9,11 +9,11 @@ use Rattle.keep_parts.specs.declared.info.KeyPart.{KeyPart}
 use Rattle.keep_parts.specs.declared.info.ValueInfo.{ValueInfo}
 use Rattle.keep_parts.specs.declared.info.Start.{Start}
 use Rattle.keep_syntax.specs.declared.info.Brackets.{Brackets}
-use Rattle.keep_token.specs.declared.leaf.Profile.{Profile}
+use Rattle.keep_leaf.specs.declared.leaf.Profile.{Profile}
 use Rattle.keep_parts.specs.declared.info.Owner.{Owner}
 use Rattle.keep_parts.specs.declared.info.Owner.TheVariants as owner
 use Rattle.keep_syntax.specs.declared.info.Brackets.TheVariants as brackets
-use Rattle.keep_token.specs.declared.leaf.Leaf.TheVariants as leaf
+use Rattle.keep_leaf.specs.declared.leaf.Leaf.TheVariants as leaf
 use Rattle.keep_token.specs.Scanning.{scalar_at}
 use Rattle.keep_syntax.specs.Tree.{Written, Gap, Further, Key, Name, Entries, none, Value, token, further_leaves, key_leaves, name_leaves, named_leaves, entries_leaves, value_leaves}
 use Rattle.keep_syntax.specs.Numbered.{width, key_parts, further_parts, named_parts, entries_parts, entries_values, value_values, nested_start, comma_start, comma_place}

@@ -1,6 +1,6 @@
 -- What is read to replace lines, and what was stored of lines that others replaced, and that it can be put back.
 use Rattle.std.specs.Prelude.{◌≡◌, ℕ, ◌+◌, List, length}
-use Rattle.keep_token.specs.declared.leaf.Profile.{Profile}
+use Rattle.keep_leaf.specs.declared.leaf.Profile.{Profile}
 use Rattle.keep_parts.specs.declared.info.Span.{Span}
 use Rattle.keep_parts.specs.declared.parts.Parts.{Parts}
 use Rattle.keep_parts.specs.Flat.{flat}

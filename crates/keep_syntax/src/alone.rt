@@ -1,7 +1,7 @@
 //! Reading one value alone, and what is known of it then.
 ghost use Rattle.std.specs.Prelude.{◌≡◌, ℕ, ◌<◌, List, length, slice_get, IfOk, IfErr, MatchResult};
 ghost use Rattle.std.specs.List.{AllByRecursion};
-ghost use Rattle.keep_token.specs.declared.leaf.Profile.{Profile};
+ghost use Rattle.keep_leaf.specs.declared.leaf.Profile.{Profile};
 ghost use Rattle.keep_syntax.specs.declared.fault.ReadFault.TheVariants.{Memory};
 ghost use Rattle.keep_syntax.specs.Tree.{Value, value_depth};
 ghost use Rattle.keep_syntax.specs.Grammar.{ReadsValue};

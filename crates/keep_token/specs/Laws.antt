@@ -1,8 +1,8 @@
 -- Laws of leaves that public functions carry.
 use Rattle.std.specs.Prelude.{◌≡◌, ℕ, IsTrue, List}
-use Rattle.keep_token.specs.declared.leaf.Profile.{Profile}
-use Rattle.keep_token.specs.declared.leaf.Profile.TheVariants.{Strict, Wide}
-use Rattle.keep_token.specs.declared.leaf.Leaf.{Leaf}
+use Rattle.keep_leaf.specs.declared.leaf.Profile.{Profile}
+use Rattle.keep_leaf.specs.declared.leaf.Profile.TheVariants.{Strict, Wide}
+use Rattle.keep_leaf.specs.declared.leaf.Leaf.{Leaf}
 use Rattle.keep_token.specs.Leaves.{IsLeaf, Means, is_scalar_leaf, is_string_leaf}
 
 -- No text is of two kinds of scalars.

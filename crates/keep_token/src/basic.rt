@@ -6,8 +6,8 @@ ghost use Rattle.keep_token.specs.Pieces as pieces;
 use crate::bytes::{basic_run, byte_at, is_basic};
 use crate::escape::{line_end_len, read_escape};
 use crate::fault::LeafFault;
-use crate::leaf::Profile;
 use crate::strings::{fault_at, marks_run, newline_len};
+use keep_leaf::Profile;
 
 /// The length of the basic string that begins the bytes, with both quotation marks.
 ///

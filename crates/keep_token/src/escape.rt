@@ -8,8 +8,8 @@ ghost use Rattle.keep_token.specs.PieceLens.{IsEscape, piece_len};
 ghost use Rattle.keep_token.specs.Strings as strings;
 
 use crate::bytes::ws_run;
-use crate::leaf::Profile;
 use crate::strings::{blank_len, newline_len};
+use keep_leaf::Profile;
 
 /// An escape of a basic string.
 #[derive(Clone, Copy)]

@@ -1,16 +1,16 @@
 //! Scalars: the four kinds of strings, and words. (toml.abnf: `val` but for `array` and `inline-table`)
 ghost use Rattle.std.specs.Prelude.{◌≡◌, ℕ, ◌+◌, ◌-◌, ◌<◌, ◌≤◌, length, drop, IfOk, IfErr, IsCharBoundary, MatchResult, Some, None, Ok, Err};
-ghost use Rattle.keep_token.specs.declared.leaf.Leaf.{Leaf};
+ghost use Rattle.keep_leaf.specs.declared.leaf.Leaf.{Leaf};
 ghost use Rattle.keep_token.specs.Leaves.{ScalarLeaf};
 ghost use Rattle.keep_token.specs.Scanning.{Scans, scalar_at, moved, are_three};
 
 use crate::basic::{basic_len, ml_basic_len};
 use crate::bytes::byte_at;
 use crate::fault::LeafFault;
-use crate::leaf::{Leaf, Profile};
 use crate::literal::{literal_len, ml_literal_len};
 use crate::strings::fault_here;
 use crate::word::{word_fault, word_leaf, word_len};
+use keep_leaf::{Leaf, Profile};
 
 // Whether three of the mark come first.
 fn begins_with_three(bytes: &[u8], mark: u8) -> bool

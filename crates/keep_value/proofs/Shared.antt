@@ -1,6 +1,6 @@
 -- What upper crates import.
 use Rattle.std.proofs.Common.{◌≡◌, List, ℕ, true, subst}
-use Rattle.keep_token.specs.declared.leaf.Profile.TheVariants.{Strict, Wide}
+use Rattle.keep_leaf.specs.declared.leaf.Profile.TheVariants.{Strict, Wide}
 use Rattle.keep_syntax.specs.Tree.{Value}
 use Rattle.keep_syntax.specs.Grammar.{IsValue}
 use Rattle.keep_syntax.specs.Profiles.{is_allowed_in}

@@ -2,7 +2,7 @@
 use Rattle.std.proofs.Common.{◌≡◌, ℕ, ◌+◌, true, List, [], ◌∷◌, ◌++◌, map, refl, sym, ap, subst, ◌∙◌, append_assoc, Option, Some, None}
 use Rattle.std.specs.List.{AllByRecursion}
 use Rattle.std.proofs.lemmas.List.{map-append, append-nil}
-use Rattle.keep_token.specs.declared.leaf.Profile.{Profile}
+use Rattle.keep_leaf.specs.declared.leaf.Profile.{Profile}
 use Rattle.keep_syntax.specs.Tree.{Gap, Name, name_leaves, named_leaves, opening, closing, comma_leaves, Body, Entries, none, entry, Value, Content, blank, keyval, header, element, Line, Ended, Document, ended_leaves, text_of}
 use Rattle.keep_syntax.specs.Grammar.{AreEntries, IsValue, IsContent, IsLine, IsEnded, IsDocument, Place, place_in}
 use Rattle.keep_meaning.specs.Fact.{Fact}

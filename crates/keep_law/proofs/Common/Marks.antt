@@ -2,7 +2,7 @@
 use Rattle.std.proofs.Common.{◌≡◌, ℕ, zero, suc, ◌<◌, true, List, [], ◌∷◌, length, refl, sym, ap, subst, ◌∙◌, arith, get_or, Option, Some, None}
 use Rattle.std.specs.Prelude.{AllPairs}
 use Rattle.std.specs.List.{cons_option}
-use Rattle.keep_token.specs.declared.leaf.Profile.{Profile}
+use Rattle.keep_leaf.specs.declared.leaf.Profile.{Profile}
 use Rattle.keep_syntax.specs.Tree.{Value, Document}
 use Rattle.keep_syntax.specs.Grammar.{IsValue, IsDocument}
 use Rattle.keep_facts.specs.declared.role.Role.{Role}

@@ -2,10 +2,10 @@
 use Rattle.std.proofs.Common.{◌≡◌, ℕ, zero, suc, Bool, true, false, List, [], ◌∷◌, ◌++◌, map, refl, sym, ap, subst, ◌∙◌, arith, Option, Some, None, inl}
 use Rattle.std.specs.Prelude.{⊤, IsTrue}
 use Rattle.std.specs.List.{AllByRecursion, flat_map}
-use Rattle.keep_token.specs.declared.leaf.Profile.{Profile}
-use Rattle.keep_token.specs.declared.leaf.Profile.TheVariants.{Strict, Wide}
-use Rattle.keep_token.specs.declared.leaf.Leaf.{Leaf}
-use Rattle.keep_token.specs.declared.leaf.Leaf.TheVariants as leaf
+use Rattle.keep_leaf.specs.declared.leaf.Profile.{Profile}
+use Rattle.keep_leaf.specs.declared.leaf.Profile.TheVariants.{Strict, Wide}
+use Rattle.keep_leaf.specs.declared.leaf.Leaf.{Leaf}
+use Rattle.keep_leaf.specs.declared.leaf.Leaf.TheVariants as leaf
 use Rattle.keep_token.specs.Leaves.{IsLeaf, is_key_leaf, is_scalar_leaf}
 use Rattle.keep_token.specs.Encoded.{is_bare_text}
 use Rattle.keep_syntax.specs.Tree.{Written, Gap, Further, Key, Name, named_leaves, name_leaves, key_leaves, further_leaves, opening, closing, comma_leaves, Body, scalar, array, inline, Entries, none, entry, entries_leaves, Content, blank, keyval, header, element, content_leaves, comment_leaves, Line, line_leaves, Ended, ended_leaves, bom_leaves, Document, leaves}

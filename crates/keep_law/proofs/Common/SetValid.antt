@@ -2,7 +2,7 @@
 use Rattle.std.proofs.Common.{ℕ, ◌+◌, List, [], ◌∷◌, ◌++◌, Option, Some, None}
 use Rattle.std.specs.Prelude.{⊤}
 use Rattle.std.specs.List.{AllByRecursion}
-use Rattle.keep_token.specs.declared.leaf.Profile.{Profile}
+use Rattle.keep_leaf.specs.declared.leaf.Profile.{Profile}
 use Rattle.keep_syntax.specs.Tree.{Gap, Name, name_leaves, named_leaves, opening, closing, comma_leaves, Body, Entries, none, entry, Value, Content, blank, keyval, header, element, Line, Ended, Document, ended_leaves, text_of}
 use Rattle.keep_syntax.specs.Grammar.{IsComma, AreEntries, IsValue, IsContent, IsLine, IsEnded, IsDocument, IsAfter, Place, place_in}
 use Rattle.keep_path.specs.Path.{Part}

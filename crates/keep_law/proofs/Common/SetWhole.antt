@@ -1,7 +1,7 @@
 -- All that holds of `set` where it makes a change.
 use Rattle.std.proofs.Common.{◌≡◌, List, Option, Some, None}
 use Rattle.std.specs.Prelude.{⊤}
-use Rattle.keep_token.specs.declared.leaf.Profile.{Profile}
+use Rattle.keep_leaf.specs.declared.leaf.Profile.{Profile}
 use Rattle.keep_syntax.specs.Tree.{Value, Document, text}
 use Rattle.keep_syntax.specs.Grammar.{IsValue, IsDocument}
 use Rattle.keep_path.specs.Path.{Part}

@@ -5,7 +5,7 @@ use Rattle.std.specs.List.{flat_map}
 use Rattle.std.proofs.lemmas.Grind.{flat_map-append}
 use Rattle.std.proofs.lemmas.List.{append-nil}
 use Rattle.std.proofs.Math.Seq.{take-append_seam, drop-append_seam}
-use Rattle.keep_token.specs.declared.leaf.Leaf.TheVariants as leaf
+use Rattle.keep_leaf.specs.declared.leaf.Leaf.TheVariants as leaf
 use Rattle.keep_syntax.specs.Tree.{Written, Gap, Further, Key, Name, further_leaves, key_leaves, name_leaves, Body, scalar, array, inline, Entries, none, entry, Value, named_leaves, opening, closing, comma_leaves, text_of}
 use Rattle.keep_syntax.specs.Grammar.{is_ws_leaf}
 use Rattle.keep_path.specs.Path.{Part, key, index, same_path}

@@ -2,10 +2,10 @@
 use Rattle.std.proofs.Common.{◌≡◌, ℕ, ◌≤◌, Bool, true, false, List, [], ◌∷◌, length, refl, sym, ap, subst, ◌∙◌, arith, Option, Some, None, inl, inr}
 use Rattle.std.specs.Prelude.{IsTrue, codes}
 use Rattle.std.specs.List.{flat_map, AllByRecursion}
-use Rattle.keep_token.specs.declared.leaf.Leaf.{Leaf}
-use Rattle.keep_token.specs.declared.leaf.Leaf.TheVariants as leaf
-use Rattle.keep_token.specs.declared.leaf.Profile.{Profile}
-use Rattle.keep_token.specs.declared.leaf.Profile.TheVariants.{Strict, Wide}
+use Rattle.keep_leaf.specs.declared.leaf.Leaf.{Leaf}
+use Rattle.keep_leaf.specs.declared.leaf.Leaf.TheVariants as leaf
+use Rattle.keep_leaf.specs.declared.leaf.Profile.{Profile}
+use Rattle.keep_leaf.specs.declared.leaf.Profile.TheVariants.{Strict, Wide}
 use Rattle.keep_token.specs.Leaves.{IsLeaf, is_key_leaf, is_scalar_leaf}
 use Rattle.keep_syntax.specs.Tree.{Written, Gap, Further, further_leaves, Key, key_leaves, Name, name_leaves, named_leaves, Body, scalar, array, inline, opening, closing, comma_leaves, Entries, none, entry, entries_leaves, Value, value_leaves, Content, blank, keyval, header, element, content_leaves, Line, line_leaves, comment_leaves, Ended, ended_leaves, Document, bom_leaves, leaves}
 use Rattle.keep_syntax.specs.Grammar.{IsSpace, IsBlank, IsKeyPart, IsFurther, IsKey, IsName, Place, in_scalar, in_array, in_inline, place_in, IsGap, IsNamed, IsBody, IsComma, AreEntries, IsValue, IsContent, IsAfter, IsComment, IsLine, IsEnded, IsDocument}

@@ -3,8 +3,8 @@ use Rattle.std.proofs.Common.{◌≡◌, ℕ, suc, ◌+◌, ◌-◌, true, false
 use Rattle.std.specs.Prelude.{codes, IsUtf8}
 use Rattle.std.specs.List.{AllByRecursion, list_any}
 use Rattle.std.proofs.lemmas.List.Elements.{filter_map-append}
-use Rattle.keep_token.specs.declared.leaf.Profile.{Profile}
-use Rattle.keep_token.specs.declared.leaf.Profile.TheVariants.{Wide}
+use Rattle.keep_leaf.specs.declared.leaf.Profile.{Profile}
+use Rattle.keep_leaf.specs.declared.leaf.Profile.TheVariants.{Wide}
 use Rattle.keep_parts.specs.declared.info.Start.{Start}
 use Rattle.keep_parts.specs.declared.info.ValueInfo.{ValueInfo}
 use Rattle.keep_syntax.specs.Tree.{Name, named_leaves, Body, scalar, array, inline, Entries, none, entry, Value, Document, text_of}

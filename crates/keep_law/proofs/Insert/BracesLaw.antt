@@ -1,7 +1,7 @@
 -- A keyval put into braces: its rules and its tree.
 use Rattle.std.proofs.Common.{◌≡◌, ℕ, ◌+◌, Bool, true, false, not, ◌&&◌, ◌||◌, List, [], ◌∷◌, ◌++◌, length, map, refl, sym, ap, subst, ◌∙◌, append_assoc, Option, Some, None, ◌⊎◌, inl, inr}
 use Rattle.std.proofs.lemmas.List.{map-append, append-nil}
-use Rattle.keep_token.specs.declared.leaf.Profile.{Profile}
+use Rattle.keep_leaf.specs.declared.leaf.Profile.{Profile}
 use Rattle.keep_syntax.specs.Tree.{Name, Entries, none, entry, Value, Document}
 use Rattle.keep_syntax.specs.Grammar.{AreEntries, in_inline}
 use Rattle.keep_meaning.specs.Fact.{Fact}

@@ -1,7 +1,7 @@
 -- An entry of the value where an act is done, seen from the document: its number, and what is said before and after it.
 use Rattle.std.proofs.Common.{◌≡◌, ℕ, suc, ◌+◌, Bool, List, [], ◌∷◌, ◌++◌, length, map, slice_get, refl, ap, ◌∙◌, append_assoc, length-append, arith, Option, Some}
 use Rattle.std.proofs.lemmas.List.{map-append}
-use Rattle.keep_token.specs.declared.leaf.Profile.{Profile}
+use Rattle.keep_leaf.specs.declared.leaf.Profile.{Profile}
 use Rattle.keep_parts.specs.declared.info.Start.{Start}
 use Rattle.keep_parts.specs.declared.info.ValueInfo.{ValueInfo}
 use Rattle.keep_syntax.specs.Tree.{Name, Body, Document}

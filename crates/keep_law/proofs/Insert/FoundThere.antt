@@ -1,7 +1,7 @@
 -- An act that puts something in, where it is done: at the value of the path's number, and nothing else is said at or under the path.
 use Rattle.std.proofs.Common.{◌≡◌, ℕ, ◌+◌, Bool, true, false, List, [], ◌∷◌, ◌++◌, length, map, refl, sym, ap, subst, ◌∙◌, arith, Option, Some, None}
 use Rattle.std.proofs.lemmas.List.{append-nil}
-use Rattle.keep_token.specs.declared.leaf.Profile.{Profile}
+use Rattle.keep_leaf.specs.declared.leaf.Profile.{Profile}
 use Rattle.keep_token.specs.Pieces.{first}
 use Rattle.keep_syntax.specs.Tree.{Body, Value, Document, value_text}
 use Rattle.keep_syntax.specs.Grammar.{IsValue, IsDocument}

@@ -3,7 +3,7 @@ use Rattle.std.proofs.Common.{◌≡◌, ℕ, ◌+◌, true, List, [], ◌∷◌
 use Rattle.std.specs.Prelude.{⊤}
 use Rattle.std.specs.List.{filter_map}
 use Rattle.std.proofs.lemmas.List.{append-nil}
-use Rattle.keep_token.specs.declared.leaf.Profile.{Profile}
+use Rattle.keep_leaf.specs.declared.leaf.Profile.{Profile}
 use Rattle.keep_syntax.specs.Tree.{Gap, Name, named_leaves, opening, closing, comma_leaves, Body, Entries, none, entry, Value, text_of}
 use Rattle.keep_syntax.specs.Grammar.{Place, place_in, AreEntries, IsValue}
 use Rattle.keep_meaning.specs.Fact.{Fact, is_value_fact}

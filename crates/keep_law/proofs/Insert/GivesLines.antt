@@ -1,7 +1,7 @@
 -- What an act does beyond a path where there is a value is what is done at that value: in a document.
 use Rattle.std.proofs.Common.{◌≡◌, ℕ, true, List, [], ◌∷◌, ◌++◌, map, refl, sym, ap, subst, ◌∙◌, append_assoc, Option, Some, None, inl, inr}
 use Rattle.std.specs.List.{AllByRecursion}
-use Rattle.keep_token.specs.declared.leaf.Profile.{Profile}
+use Rattle.keep_leaf.specs.declared.leaf.Profile.{Profile}
 use Rattle.keep_syntax.specs.Tree.{Name, name_leaves, opening, closing, comment_leaves, Body, Entries, Value, Content, blank, keyval, header, element, Line, Ended, Document, ended_leaves, bom_leaves, text_of}
 use Rattle.keep_syntax.specs.Grammar.{IsValue, IsContent, IsLine, IsEnded, IsDocument}
 use Rattle.keep_meaning.specs.Fact.{Fact, is_value_fact}

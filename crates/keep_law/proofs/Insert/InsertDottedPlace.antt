@@ -10,7 +10,7 @@ use Rattle.std.proofs.Common.{◌≡◌, false, ℕ, zero, suc, ◌+◌, ◌-◌
 use Rattle.std.specs.List.{list_any}
 use Rattle.std.proofs.lemmas.Bool.{cases_lt}
 use Rattle.std.proofs.lemmas.List.{length-map, map-append, take-append-drop}
-use Rattle.keep_token.specs.declared.leaf.Profile.{Profile}
+use Rattle.keep_leaf.specs.declared.leaf.Profile.{Profile}
 use Rattle.keep_parts.specs.declared.info.Owner.TheVariants as owner
 use Rattle.keep_parts.specs.declared.info.Statement.{Statement}
 use Rattle.keep_parts.specs.declared.info.ValueInfo.{ValueInfo}

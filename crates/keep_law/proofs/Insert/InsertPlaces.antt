@@ -6,7 +6,7 @@
 -- Theorems: `root_placed`, `header_placed`, `element_placed`, `through_placed`.
 use Rattle.std.proofs.Common.{◌≡◌, ◌⊎◌, ◌<◌, ℕ, false, arith, List, [], ◌∷◌, ◌++◌, length, map, take, drop, refl, sym, ap, subst, ◌∙◌, Option, Some, None, inl, inr}
 use Rattle.std.specs.List.{list_any}
-use Rattle.keep_token.specs.declared.leaf.Profile.{Profile}
+use Rattle.keep_leaf.specs.declared.leaf.Profile.{Profile}
 use Rattle.keep_syntax.specs.Tree.{Value, blank, keyval, Document, text}
 use Rattle.keep_syntax.specs.Grammar.{IsDocument}
 use Rattle.keep_syntax.specs.Numbered as syntax

@@ -3,7 +3,7 @@ use Rattle.std.proofs.Common.{◌≡◌, ℕ, ◌+◌, ◌≤◌, Bool, true, fa
 use Rattle.std.specs.Prelude.{nat_lt}
 use Rattle.std.proofs.lemmas.List.{append-nil}
 use Rattle.std.proofs.lemmas.Bool.{ltb-false}
-use Rattle.keep_token.specs.declared.leaf.Profile.{Profile}
+use Rattle.keep_leaf.specs.declared.leaf.Profile.{Profile}
 use Rattle.keep_syntax.specs.Tree.{Name, named_leaves, opening, closing, comma_leaves, text_of, Body, scalar, array, inline, Entries, none, entry, Value, Document, value_depth}
 use Rattle.keep_syntax.specs.Profiles.{is_allowed_in}
 use Rattle.keep_syntax.specs.Grammar.{AreEntries, in_array, IsValue, IsDocument}
@@ -13,8 +13,8 @@ use Rattle.keep_path.specs.Path.{Part, key, index}
 use Rattle.keep_meaning.specs.Marks.{Mention, start}
 use Rattle.keep_meaning.specs.Meaning.{further_value, step, body_fact, scalar_fact, lines, mentions_in}
 use Rattle.keep_meaning.specs.Nodes.{fact_at}
-use Rattle.keep_token.specs.declared.leaf.Leaf.{Leaf}
-use Rattle.keep_token.specs.declared.leaf.Leaf.TheVariants as leaf
+use Rattle.keep_leaf.specs.declared.leaf.Leaf.{Leaf}
+use Rattle.keep_leaf.specs.declared.leaf.Leaf.TheVariants as leaf
 use Rattle.keep_law.specs.Changed.{Changed, within, or_else}
 use Rattle.keep_law.specs.declared.fault.EditFault.TheVariants as fault
 use Rattle.keep_law.specs.Look.{strip, enclosing, last_part, without_last, is_array_at, item_number, item_count}

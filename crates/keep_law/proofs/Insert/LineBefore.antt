@@ -9,7 +9,7 @@
 use Rattle.std.proofs.Common.{◌≡◌, ℕ, zero, suc, ◌+◌, ◌<◌, ◌≤◌, Bool, true, false, not, List, [], ◌∷◌, ◌++◌, length, map, take, drop, refl, sym, ap, subst, ◌∙◌, append_assoc, length-append, arith, cond, Option, take_at, drop_at}
 use Rattle.std.specs.List.{flat_map, AllByRecursion}
 use Rattle.std.proofs.lemmas.List.{append-nil}
-use Rattle.keep_token.specs.declared.leaf.Profile.{Profile}
+use Rattle.keep_leaf.specs.declared.leaf.Profile.{Profile}
 use Rattle.keep_token.specs.Pieces.{first}
 use Rattle.keep_syntax.specs.Tree.{Written, Value, Content, blank, keyval, header, element, Line, Ended, Document, name_leaves, value_leaves, content_leaves, line_leaves, ended_leaves, bom_leaves, text_of, text}
 use Rattle.keep_syntax.specs.Grammar.{IsLine, IsEnded, IsDocument}

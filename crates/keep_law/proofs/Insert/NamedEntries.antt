@@ -2,7 +2,7 @@
 use Rattle.std.proofs.Common.{◌≡◌, ℕ, ◌+◌, true, List, [], ◌∷◌, ◌++◌, map, refl, sym, ap, subst, ◌∙◌, Option, Some, None, ◌⊎◌, inl, inr}
 use Rattle.std.specs.Prelude.{⊤}
 use Rattle.std.proofs.lemmas.List.{map-append, append-nil}
-use Rattle.keep_token.specs.declared.leaf.Profile.{Profile}
+use Rattle.keep_leaf.specs.declared.leaf.Profile.{Profile}
 use Rattle.keep_syntax.specs.Tree.{Name, named_leaves, opening, closing, comma_leaves, text_of, Entries, none, entry}
 use Rattle.keep_syntax.specs.Grammar.{AreEntries, Place, in_scalar, in_array, in_inline}
 use Rattle.keep_meaning.specs.Fact.{Fact, is_value_fact}

@@ -1,7 +1,7 @@
 -- A path that is to be new: its longest prefix that names a node, and the keys after that.
 use Rattle.std.proofs.Common.{◌≡◌, ℕ, Bool, true, false, not, cond, ◌||◌, ◌&&◌, List, [], ◌∷◌, ◌++◌, length, map, drop, refl, sym, ap, subst, ◌∙◌, Option, Some, None, ◌⊎◌, inl, inr}
 use Rattle.std.specs.List.{list_any}
-use Rattle.keep_token.specs.declared.leaf.Profile.{Profile}
+use Rattle.keep_leaf.specs.declared.leaf.Profile.{Profile}
 use Rattle.keep_syntax.specs.Tree.{Value}
 use Rattle.keep_syntax.specs.Profiles.{is_allowed_in}
 use Rattle.keep_law.specs.declared.fault.EditFault.{EditFault}

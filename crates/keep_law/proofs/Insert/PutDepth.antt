@@ -1,6 +1,6 @@
 -- What is put into brackets is one deeper than they; and all that holds of a change, from its parts.
 use Rattle.std.proofs.Common.{◌≡◌, ℕ, suc, ◌≤◌, Bool, true, cond, List, [], ◌∷◌, ◌++◌, map, sym, ap, subst, arith, Some}
-use Rattle.keep_token.specs.declared.leaf.Profile.{Profile}
+use Rattle.keep_leaf.specs.declared.leaf.Profile.{Profile}
 use Rattle.keep_syntax.specs.Tree.{Value, Document}
 use Rattle.keep_syntax.specs.Grammar.{IsDocument}
 use Rattle.keep_meaning.specs.Fact.{is_bracket}

@@ -1,8 +1,8 @@
 -- What `put_item` does with an array, and `put_named` with braces: there is a change, the value is valid, and how deep it gets.
 use Rattle.std.proofs.Common.{◌≡◌, ℕ, zero, suc, ◌+◌, ◌-◌, ◌≤◌, Bool, true, false, List, [], ◌∷◌, ◌++◌, length, take, refl, subst, arith, Option, Some, None, ◌⊎◌, inl, inr}
 use Rattle.std.specs.Prelude.{codes, max}
-use Rattle.keep_token.specs.declared.leaf.Profile.{Profile}
-use Rattle.keep_token.specs.declared.leaf.Profile.TheVariants.{Strict, Wide}
+use Rattle.keep_leaf.specs.declared.leaf.Profile.{Profile}
+use Rattle.keep_leaf.specs.declared.leaf.Profile.TheVariants.{Strict, Wide}
 use Rattle.keep_syntax.specs.Tree.{Gap, Name, named_leaves, comma_leaves, array, inline, Entries, none, entry, Value, text_of, entries_depth, value_depth}
 use Rattle.keep_syntax.specs.Grammar.{AreEntries, IsValue, IsNamed, IsName, IsGap, Place, in_array, in_inline}
 use Rattle.keep_path.specs.Path.{Part, index}

@@ -4,7 +4,7 @@ use Rattle.std.specs.Prelude.{nat_lt}
 use Rattle.std.specs.List.{filter_map}
 use Rattle.std.proofs.lemmas.List.{map-append, append-nil}
 use Rattle.std.proofs.lemmas.Bool.{cases_lt, lt-ltb, le-ltb}
-use Rattle.keep_token.specs.declared.leaf.Profile.{Profile}
+use Rattle.keep_leaf.specs.declared.leaf.Profile.{Profile}
 use Rattle.keep_syntax.specs.Tree.{Name, Entries, none, entry, Document}
 use Rattle.keep_syntax.specs.Grammar.{IsNamed, AreEntries, IsDocument, Place, in_scalar, in_array, in_inline, place_in}
 use Rattle.keep_path.specs.Path.{Part, key, index}

@@ -1,6 +1,6 @@
 -- All that holds of `remove` where it makes a change.
 use Rattle.std.proofs.Common.{◌≡◌, ℕ, suc, false, List, drop, sym, subst, Option, Some, None}
-use Rattle.keep_token.specs.declared.leaf.Profile.{Profile}
+use Rattle.keep_leaf.specs.declared.leaf.Profile.{Profile}
 use Rattle.keep_syntax.specs.Tree.{Document}
 use Rattle.keep_syntax.specs.Grammar.{IsDocument}
 use Rattle.keep_path.specs.Path.{Part}

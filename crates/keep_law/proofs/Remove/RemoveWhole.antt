@@ -1,6 +1,6 @@
 -- `remove`, where it is not refused and no element of an array of tables begins at the path: there is a change, and it is right.
 use Rattle.std.proofs.Common.{◌≡◌, ℕ, Bool, true, false, not, ◌&&◌, ◌||◌, List, [], ◌∷◌, refl, ap, subst, Option, Some, None, ◌⊎◌, inl, inr}
-use Rattle.keep_token.specs.declared.leaf.Profile.{Profile}
+use Rattle.keep_leaf.specs.declared.leaf.Profile.{Profile}
 use Rattle.keep_syntax.specs.Tree.{Document}
 use Rattle.keep_syntax.specs.Grammar.{IsDocument}
 use Rattle.keep_path.specs.Path.{Part}

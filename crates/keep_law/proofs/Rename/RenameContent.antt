@@ -3,7 +3,7 @@ use Rattle.std.proofs.Common.{◌≡◌, ℕ, List, [], ◌∷◌, ◌++◌, len
 use Rattle.std.specs.Prelude.{codes, position}
 use Rattle.std.specs.Option.{is_some}
 use Rattle.std.proofs.lemmas.List.{map-append}
-use Rattle.keep_token.specs.declared.leaf.Profile.{Profile}
+use Rattle.keep_leaf.specs.declared.leaf.Profile.{Profile}
 use Rattle.keep_syntax.specs.Tree.{Gap, Key, Content, blank, keyval, header, element, content_depth, text_of}
 use Rattle.keep_syntax.specs.Grammar.{IsContent, IsAfter}
 use Rattle.keep_path.specs.Path.{Part, key, index, same_path, moved_path}

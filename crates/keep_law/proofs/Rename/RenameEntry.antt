@@ -1,7 +1,7 @@
 -- A key in braces renamed: what the entries say then, that they are still valid, and that they are as deep.
 use Rattle.std.proofs.Common.{◌≡◌, ℕ, ◌+◌, ◌-◌, List, [], ◌∷◌, ◌++◌, length, map, refl, sym, ap, subst, ◌∙◌, append_assoc, arith, Option, Some, None}
 use Rattle.std.proofs.lemmas.List.{map-append}
-use Rattle.keep_token.specs.declared.leaf.Profile.{Profile}
+use Rattle.keep_leaf.specs.declared.leaf.Profile.{Profile}
 use Rattle.keep_syntax.specs.Tree.{Gap, Name, Body, Entries, none, entry, Value, opening, closing, comma_leaves, entries_depth, text_of}
 use Rattle.keep_syntax.specs.Grammar.{IsName, IsNamed, AreEntries, IsValue, Place, in_scalar, in_array, in_inline}
 use Rattle.keep_path.specs.Path.{Part, key, same_part, moved_path}

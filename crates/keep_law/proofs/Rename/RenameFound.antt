@@ -4,7 +4,7 @@ use Rattle.std.specs.Prelude.{codes, position, ◌==◌}
 use Rattle.std.specs.List.{AllByRecursion, position_or_len}
 use Rattle.std.proofs.lemmas.Bool.{cases_lt, lt-ltb}
 use Rattle.std.proofs.lemmas.List.Sums.{fails_before_first}
-use Rattle.keep_token.specs.declared.leaf.Profile.{Profile}
+use Rattle.keep_leaf.specs.declared.leaf.Profile.{Profile}
 use Rattle.keep_syntax.specs.Tree.{Written, Gap, Name, Body, Entries, none, entry, Value, Content, blank, keyval, header, element, Line, Ended, Document, name_leaves, comment_leaves, ended_leaves, bom_leaves, text_of}
 use Rattle.keep_syntax.specs.Grammar.{IsNamed, AreEntries, IsContent, IsLine, IsEnded, IsDocument, Place, place_in}
 use Rattle.keep_path.specs.Path.{Part, key, index, same_path}

@@ -1,7 +1,7 @@
 -- Lines of which one has a key part renamed: they say the same line by line, with the paths changed.
 use Rattle.std.proofs.Common.{◌≡◌, ℕ, List, [], ◌∷◌, ◌++◌, map, refl, sym, subst, Option, Some, None}
 use Rattle.std.specs.Prelude.{position}
-use Rattle.keep_token.specs.declared.leaf.Profile.{Profile}
+use Rattle.keep_leaf.specs.declared.leaf.Profile.{Profile}
 use Rattle.keep_syntax.specs.Tree.{Content, blank, keyval, header, element, Line, Ended, comment_leaves, ended_leaves, text_of}
 use Rattle.keep_syntax.specs.Grammar.{IsLine}
 use Rattle.keep_path.specs.Path.{Part, same_path, moved_path}

@@ -1,7 +1,7 @@
 -- Renaming one part of a key: which of the key parts it is, where it is written, and which mention it makes.
 use Rattle.std.proofs.Common.{◌≡◌, ℕ, zero, suc, ◌+◌, Bool, true, false, cond, List, [], ◌∷◌, ◌++◌, length, map, refl, sym, ap, subst, ◌∙◌, append_assoc, length-append, arith}
 use Rattle.std.specs.Prelude.{codes, ◌==◌}
-use Rattle.keep_token.specs.declared.leaf.Leaf.TheVariants as leaf
+use Rattle.keep_leaf.specs.declared.leaf.Leaf.TheVariants as leaf
 use Rattle.keep_parts.specs.declared.info.KeyPart.{KeyPart}
 use Rattle.keep_syntax.specs.Tree.{Written, Further, Key, Name, token, further_leaves, text_of}
 use Rattle.keep_syntax.specs.Numbered.{width, part_at, further_parts, key_parts}

@@ -1,7 +1,7 @@
 -- The document where a key is renamed says the same line by line, with the paths changed: the key is one of a header or of a
 -- keyval's own (`moved_lines`), or is in braces (`moved_nested`).
 use Rattle.std.proofs.Common.{◌≡◌, ℕ, List, [], ◌∷◌, ◌++◌, map, sym, ap, subst, ◌∙◌}
-use Rattle.keep_token.specs.declared.leaf.Profile.{Profile}
+use Rattle.keep_leaf.specs.declared.leaf.Profile.{Profile}
 use Rattle.keep_syntax.specs.Tree.{Line, Document, text}
 use Rattle.keep_syntax.specs.Grammar.{IsDocument}
 use Rattle.keep_path.specs.Path.{Part, moved_path}

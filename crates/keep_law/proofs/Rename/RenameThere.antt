@@ -1,6 +1,6 @@
 -- Where a key in braces names a path, `rename` has a change there.
 use Rattle.std.proofs.Common.{◌≡◌, ℕ, zero, suc, ◌+◌, ◌-◌, List, [], ◌∷◌, ◌++◌, length, map, refl, sym, ap, subst, ◌∙◌, append_assoc, arith, Option, Some, None, ◌⊎◌, inl, inr}
-use Rattle.keep_token.specs.declared.leaf.Profile.{Profile}
+use Rattle.keep_leaf.specs.declared.leaf.Profile.{Profile}
 use Rattle.keep_syntax.specs.Tree.{Written, Gap, Name, Body, Entries, none, entry, named_leaves, opening, closing, comma_leaves, text_of}
 use Rattle.keep_syntax.specs.Grammar.{IsNamed, AreEntries, Place, in_scalar, in_array, in_inline}
 use Rattle.keep_meaning.specs.Fact.{Fact}

@@ -9,8 +9,8 @@ use Rattle.std.proofs.Common.{le-leb, le-ltb, leb-true, ltb-true, ltb-false}
 use Rattle.std.specs.List.{flat_map, AllByRecursion}
 use Rattle.std.proofs.lemmas.List.{append-nil, length-append}
 use Rattle.std.proofs.Math.Seq.{take-append_seam, drop-append_seam}
-use Rattle.keep_token.specs.declared.leaf.Profile.{Profile}
-use Rattle.keep_token.specs.declared.leaf.Leaf.TheVariants as leaf
+use Rattle.keep_leaf.specs.declared.leaf.Profile.{Profile}
+use Rattle.keep_leaf.specs.declared.leaf.Leaf.TheVariants as leaf
 use Rattle.keep_parts.specs.declared.info.Span.{Span}
 use Rattle.keep_law.specs.Changed.{Changed, IsChangeOf, place_of}
 use Rattle.keep_law.proofs.Common.LineTexts.{change-is}

@@ -1,8 +1,8 @@
 -- The lines that edits of small documents touch, computed: reading the new ones alone gives the new document.
 use Rattle.std.proofs.Common.{◌≡◌, ℕ, List, [], ◌∷◌, map, refl}
 use Rattle.std.specs.Prelude.{codes, slice_range, Result, Ok, Err}
-use Rattle.keep_token.specs.declared.leaf.Profile.{Profile}
-use Rattle.keep_token.specs.declared.leaf.Profile.TheVariants.{Strict, Wide}
+use Rattle.keep_leaf.specs.declared.leaf.Profile.{Profile}
+use Rattle.keep_leaf.specs.declared.leaf.Profile.TheVariants.{Strict, Wide}
 use Rattle.keep_token.specs.Scanning.{gap_at, key_at, scalar_at}
 use Rattle.keep_token.specs.Words.{word_leaf}
 use Rattle.keep_parts.specs.declared.info.Span.{Span}

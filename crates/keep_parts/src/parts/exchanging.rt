@@ -8,7 +8,7 @@ use super::Parts;
 use crate::moves::Counts;
 use crate::shift::{Shift, all_can_shift, exchange_run, shift_from};
 use crate::starts::Starts;
-use keep_token::Leaf;
+use keep_leaf::Leaf;
 use std::alloc::{AllocError, Global};
 use std::mem;
 

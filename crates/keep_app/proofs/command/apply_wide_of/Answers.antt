@@ -1,5 +1,5 @@
 use Rattle.std.proofs.Common.{◌∷◌, [], inl}
-use Rattle.keep_token.specs.declared.leaf.Profile.TheVariants.{Wide}
+use Rattle.keep_leaf.specs.declared.leaf.Profile.TheVariants.{Wide}
 use Rattle.keep_words.specs.declared.subcommand.Ask.TheVariants as ask
 use Rattle.keep_app.specs.Script.{IsScriptFault}
 use Rattle.keep_app.specs.Uses.{IsCommand}

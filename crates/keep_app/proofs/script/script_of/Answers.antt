@@ -1,5 +1,5 @@
 use Rattle.std.proofs.Common.{◌∙◌, ap}
-use Rattle.keep_token.specs.declared.leaf.Profile.TheVariants.{Strict}
+use Rattle.keep_leaf.specs.declared.leaf.Profile.TheVariants.{Strict}
 use Rattle.keep_edit.specs.Reading.{text_in}
 use Rattle.keep_app.proofs.ScriptLaws.{script_stated}
 use Rattle.keep_app.proofs.script.script_of.Goals as goal

@@ -1,6 +1,6 @@
 use Rattle.std.proofs.Common.{◌≡◌, ◌⊎◌, ◌∙◌, ap, sym, subst}
 use Rattle.std.specs.Prelude.{MatchResult, string_bytes}
-use Rattle.keep_token.specs.declared.leaf.Profile.{Profile}
+use Rattle.keep_leaf.specs.declared.leaf.Profile.{Profile}
 use Rattle.keep_edit.specs.Reading.{ProfiledText, text_in}
 use Rattle.keep_run.specs.Answer.{profile_of, IsRefusal, IsText}
 use Rattle.keep_run.specs.declared.command.Command.{Command}

@@ -1,6 +1,6 @@
 use Rattle.std.proofs.Common.{arith, [], ◌∷◌}
 use Rattle.std.proofs.lemmas.List.{length-append}
-use Rattle.keep_token.specs.declared.leaf.Leaf.TheVariants as leaf
+use Rattle.keep_leaf.specs.declared.leaf.Leaf.TheVariants as leaf
 use Rattle.keep_parts.specs.Flat.{flat}
 use Rattle.keep_syntax.specs.Cut.{all_kinds}
 use Rattle.keep_syntax.proofs.CutLaws.{cut_count}

@@ -1,5 +1,5 @@
 use Rattle.std.proofs.Common.{◌≡◌, refl, rules, string_bytes}
-use Rattle.keep_token.specs.declared.leaf.Leaf.TheVariants as leaf
+use Rattle.keep_leaf.specs.declared.leaf.Leaf.TheVariants as leaf
 use Rattle.keep_token.specs.Numbers.{integer_value}
 use Rattle.keep_value.proofs.ValueLaws.{scalar_holds, integer_means}
 use Rattle.keep_value.proofs.value.ValueText.of_int.Goals as goal
