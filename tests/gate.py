@@ -6,9 +6,9 @@
 The gate is `rt ci` over a copy of the repository without its must-fail edits: it proves each crate from nothing, and runs
 the tests and the programs. When several proofs are ready, it gives most of them one processor, and no more later: crates that
 many others wait for would take twice the time that they need. So each crate is first proved by an `rt ci` of its own, once
-those below it are. The crate that most others wait for gets two processors there; the others get one, since the same proof
-takes a fifth more work on two. The kit keeps what such a run passed, by the sums of all that it read, so the run over all takes
-it from there. That run gives the verdict, and proves what was not kept.
+those below it are. Those with most behind them get two processors there; the others get one, since the same proof takes a fifth
+more work on two. The kit keeps what such a run passed, by the sums of all that it read, so the run over all takes it from
+there. That run gives the verdict, and proves what was not kept.
 
 Beside them, as soon as the crates below a crate are proved, that crate's edits are tried over them, many in one check
 (tests/edits.py); `rt ci` would try each alone. The proofs go first, since each crate waits for those below it: the edits step
@@ -46,8 +46,9 @@ MEMORY_OF_A_CHECK = 2_000_000_000
 DEAREST = 5
 # What a crate takes by itself, in lines of code.
 LINES_OF_A_CRATE = 500
-# How far the proof of a crate steps back (`nice`) while crates with more behind them are not proved, and what has `rt ci` take one
-# processor for it.
+# How many of the crates that are not proved are the most pressing: those with most behind them. How far the proof of another
+# steps back (`nice`), and what has `rt ci` take one processor for it.
+PRESSING = 2
 BACK = 5
 ON_ONE = {"RT_JOBS": "1"}
 # A group of processes of its own, in the same session: between sessions Linux shares the processors out whatever their `nice`.
@@ -249,8 +250,8 @@ class Proofs:
             if not TOLD_LATER.match(line):
                 self.says(line)
 
-        first = max((it for it in self.below if it not in self.edits.proved), key=self.behind.get)
-        how = {} if crate == first else {"level": BACK, "more": ON_ONE}
+        left = sorted((it for it in self.below if it not in self.edits.proved), key=self.behind.get, reverse=True)
+        how = {} if crate in left[:PRESSING] else {"level": BACK, "more": ON_ONE}
         if self.ran(folder, heard, **how):
             self.says(f"{crate}: its run failed\n")
         elif self.keeps:
