@@ -285,6 +285,7 @@ class Proofs:
         for pid in [*self.running]:
             with contextlib.suppress(ProcessLookupError):
                 os.killpg(pid, signal.SIGTERM)
+        shutil.rmtree(self.room, ignore_errors=True)
         os._exit(128 + number)
 
 
