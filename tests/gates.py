@@ -1,5 +1,5 @@
 #!/usr/bin/env python3
-"""Shows that the gate passes where all is proved and refused, and nowhere else.
+"""Shows that the gate passes where all is proved and refused, and not in six cases where something is not.
 
     tests/gates.py
 
@@ -80,15 +80,19 @@ def fault_of_stop():
     """What is wrong where the gate is asked to end; None if nothing is."""
     with TemporaryDirectory() as room:
         ran = begun(room, TAKES="100")
-        while not (runs := [int(it.name) for it in Path(room, "store/running").glob("*")]):
+        runs = []
+        while not runs and ran.poll() is None:
             time.sleep(0.05)
-        ran.send_signal(signal.SIGTERM)
-        ran.communicate(timeout=20)
-        time.sleep(0.5)
+            runs = [int(it.name) for it in Path(room, "store/running").glob("*")]
+        ran.terminate()
+        ran.communicate(timeout=60)
         if ran.returncode != 128 + signal.SIGTERM:
             return f"the status is {ran.returncode}"
-        if any(map(is_running, runs)):
-            return "a run is left"
+        end = time.time() + 10
+        while any(map(is_running, runs)):
+            if time.time() > end:
+                return "a run is left"
+            time.sleep(0.05)
         return "its folder is left" if any(Path(room, "tmp").iterdir()) else None
 
 
