@@ -155,7 +155,7 @@ def unequal(growths, unchanged):
 
 
 def list_failure(ask, wanted, cells):
-    """Of a list of edits: one that is out of memory has changed nothing."""
+    """Of a list of edits: one that is out of memory has changed nothing, and tells at which edit."""
     question, text = ask(cells), cells[2]
     if question.ample != wanted:
         return f"with ample memory: {short(question.ample)}"
@@ -165,6 +165,11 @@ def list_failure(ask, wanted, cells):
     found = question.refused()
     if why := other(found, lambda it: is_well(it) or it == wanted + DOCUMENT_DOUBT):
         return why
+    # (as growths come later, so do the edits where memory is refused, after the copy, which is told as the first edit)
+    numbers = [int(it.partition(b" ")[0]) for it in found.values() if memory.fullmatch(it)]
+    edits = (len(cells) - 3) // 3 if wanted.startswith(b"done") else int(wanted.partition(b" ")[0])
+    if numbers != sorted(numbers) or set(numbers) != set(range(edits)):
+        return f"out of memory at the edits {numbers}, one after another"
     refusals = [it for it, answered in found.items() if answered == one_by_one_fails]
     as_many = False
     for refusal in (*refusals[::8], refusals[-1]):

@@ -1,12 +1,15 @@
 //! The words that ask for commands.
-ghost use Rattle.std.specs.Prelude.{◌≡◌, ◌⊎◌, ◌∷◌, [], true, Some, IfOk, MatchResult, length, map, option_map, slice_get, string_bytes};
+ghost use Rattle.std.specs.Prelude.{◌≡◌, ◌⊎◌, ◌∷◌, [], Some, IfOk, MatchResult};
+ghost use Rattle.std.specs.Prelude.{length, map, option_map, slice_get, string_bytes};
+ghost use Rattle.keep_leaf.specs.declared.leaf.Profile.TheVariants.{Strict};
 ghost use Rattle.keep_words.specs.declared.subcommand.Word.TheVariants as Word;
 ghost use Rattle.keep_words.specs.Chosen.{wanted_of_chosen};
 ghost use Rattle.keep_path.specs.Path.{key};
 ghost use Rattle.keep_path.specs.PathText.{AreKeys, IsPathText};
 ghost use Rattle.keep_run.specs.OwnValues.{HasOwnValues};
-ghost use Rattle.keep_app.specs.Uses.{key_in, kinds_of, Asks, IsApplied, IsCommand, IsKeysFault, IsKeysText, IsWordFault, IsGivenValue, IsPathFault, IsUseFault, IsValueFault};
-ghost use Rattle.keep_words.specs.Wanted.{IsWhole, has_plain_words, wanted_of};
+ghost use Rattle.keep_app.specs.Uses.{key_in, kinds_of, Asks, IsApplied, IsCommand, IsKeysFault, IsKeysText};
+ghost use Rattle.keep_app.specs.Uses.{IsWordFault, IsGivenValue, IsPathFault, IsUseFault, IsValueFault};
+ghost use Rattle.keep_words.specs.Wanted.{IsWhole, wanted_of};
 
 use crate::fault::UseFault;
 use crate::script::script_of;
@@ -22,8 +25,7 @@ use std::alloc::{AllocError, Global};
 /// `Words` where `clap` refuses the words; else the fault of the first word, from the left, that can't be read;
 /// `Memory` where a growth was refused.
 pub fn command_of(alloc: Global, words: &[String]) -> Result<Command, UseFault>
-    ensures asked { has_plain_words (map string_bytes words.now) ≡ true
-        → MatchResult result (Asks (wanted_of (map string_bytes words.now)))
+    ensures asked { MatchResult result (Asks (wanted_of (map string_bytes words.now)))
         (λ fault. (fault ≡ UseFault.Memory) ⊎ IsUseFault (wanted_of (map string_bytes words.now)) fault) }
     ensures values { IfOk result HasOwnValues }
 {
@@ -37,15 +39,29 @@ fn command_from(alloc: Global, chosen: &Chosen) -> Result<Command, UseFault>
         (λ fault. (fault ≡ UseFault.Memory) ⊎ IsUseFault (Some (wanted_of_chosen chosen.now)) fault) }
     ensures values { IfOk result HasOwnValues }
 {
-    command_by(alloc, chosen.row.1, chosen.words.as_slice())
+    command_by(
+        alloc,
+        Profile::Strict,
+        chosen.row.1,
+        chosen.words.as_slice(),
+    )
 }
 
-// The command of a subcommand and its words, which are as many as it has.
-fn command_by(alloc: Global, ask: Ask, words: &[String]) -> Result<Command, UseFault>
+/// The command of a subcommand and its words, which are as many as it has. A value is read by the profile.
+///
+/// # Errors
+///
+/// The fault of the first word, from the left, that can't be read; `Memory` where a growth was refused.
+pub fn command_by(
+    alloc: Global,
+    profile: Profile,
+    ask: Ask,
+    words: &[String],
+) -> Result<Command, UseFault>
     requires { length words.now ≡ length (kinds_of ask) }
-    ensures asked { MatchResult result (IsCommand ask (map string_bytes words.now))
-        (λ fault. (fault ≡ UseFault.Memory) ⊎ IsWordFault (kinds_of ask) (map string_bytes words.now) fault) }
-    ensures values { IfOk result HasOwnValues }
+    ensures asked { MatchResult result (IsCommand profile ask (map string_bytes words.now))
+        (λ fault. (fault ≡ UseFault.Memory) ⊎ IsWordFault profile (kinds_of ask) (map string_bytes words.now) fault) }
+    ensures values { profile ≡ Strict → IfOk result HasOwnValues }
 {
     match ask {
         Ask::Check => Ok(Command::Check),
@@ -53,8 +69,8 @@ fn command_by(alloc: Global, ask: Ask, words: &[String]) -> Result<Command, UseF
         Ask::List => Ok(Command::List),
         Ask::Get => get_of(alloc, words[0].as_str()),
         Ask::Text => text_of(alloc, words[0].as_str()),
-        Ask::Set => set_of(alloc, words[0].as_str(), words[1].as_str()),
-        Ask::Insert => insert_of(alloc, words[0].as_str(), words[1].as_str()),
+        Ask::Set => set_of(alloc, profile, words[0].as_str(), words[1].as_str()),
+        Ask::Insert => insert_of(alloc, profile, words[0].as_str(), words[1].as_str()),
         Ask::Rename => rename_of(alloc, words[0].as_str(), words[1].as_str()),
         Ask::Remove => remove_of(alloc, words[0].as_str()),
         Ask::Table => table_of(alloc, words[0].as_str()),
@@ -65,44 +81,47 @@ fn command_by(alloc: Global, ask: Ask, words: &[String]) -> Result<Command, UseF
 }
 
 fn get_of(alloc: Global, path: &str) -> Result<Command, UseFault>
-    ensures asked { MatchResult result (IsCommand Ask.Get (path.now ∷ []))
-        (λ fault. (fault ≡ UseFault.Memory) ⊎ IsWordFault (Word.Path ∷ []) (path.now ∷ []) fault) }
+    ensures asked { MatchResult result (IsCommand Strict Ask.Get (path.now ∷ []))
+        (λ fault. (fault ≡ UseFault.Memory) ⊎ IsWordFault Strict (Word.Path ∷ []) (path.now ∷ []) fault) }
     ensures values { IfOk result HasOwnValues }
 {
     Ok(Command::Get(path_of(alloc, path)?))
 }
 
 fn text_of(alloc: Global, path: &str) -> Result<Command, UseFault>
-    ensures asked { MatchResult result (IsCommand Ask.Text (path.now ∷ []))
-        (λ fault. (fault ≡ UseFault.Memory) ⊎ IsWordFault (Word.Path ∷ []) (path.now ∷ []) fault) }
+    ensures asked { MatchResult result (IsCommand Strict Ask.Text (path.now ∷ []))
+        (λ fault. (fault ≡ UseFault.Memory) ⊎ IsWordFault Strict (Word.Path ∷ []) (path.now ∷ []) fault) }
     ensures values { IfOk result HasOwnValues }
 {
     Ok(Command::Text(path_of(alloc, path)?))
 }
 
-fn set_of(alloc: Global, path: &str, value: &str) -> Result<Command, UseFault>
-    ensures asked { MatchResult result (IsCommand Ask.Set (path.now ∷ value.now ∷ []))
-        (λ fault. (fault ≡ UseFault.Memory) ⊎ IsWordFault (Word.Path ∷ Word.Value ∷ []) (path.now ∷ value.now ∷ []) fault) }
-    ensures values { IfOk result HasOwnValues }
+fn set_of(alloc: Global, profile: Profile, path: &str, value: &str) -> Result<Command, UseFault>
+    ensures asked { MatchResult result (IsCommand profile Ask.Set (path.now ∷ value.now ∷ []))
+        (λ fault. (fault ≡ UseFault.Memory)
+        ⊎ IsWordFault profile (Word.Path ∷ Word.Value ∷ []) (path.now ∷ value.now ∷ []) fault) }
+    ensures values { profile ≡ Strict → IfOk result HasOwnValues }
 {
     let path = path_of(alloc, path)?;
-    let value = value_of(alloc, value)?;
+    let value = value_of(alloc, profile, value)?;
     one_edit(alloc, Edit::Set(path, value))
 }
 
-fn insert_of(alloc: Global, path: &str, value: &str) -> Result<Command, UseFault>
-    ensures asked { MatchResult result (IsCommand Ask.Insert (path.now ∷ value.now ∷ []))
-        (λ fault. (fault ≡ UseFault.Memory) ⊎ IsWordFault (Word.Path ∷ Word.Value ∷ []) (path.now ∷ value.now ∷ []) fault) }
-    ensures values { IfOk result HasOwnValues }
+fn insert_of(alloc: Global, profile: Profile, path: &str, value: &str) -> Result<Command, UseFault>
+    ensures asked { MatchResult result (IsCommand profile Ask.Insert (path.now ∷ value.now ∷ []))
+        (λ fault. (fault ≡ UseFault.Memory)
+        ⊎ IsWordFault profile (Word.Path ∷ Word.Value ∷ []) (path.now ∷ value.now ∷ []) fault) }
+    ensures values { profile ≡ Strict → IfOk result HasOwnValues }
 {
     let path = path_of(alloc, path)?;
-    let value = value_of(alloc, value)?;
+    let value = value_of(alloc, profile, value)?;
     one_edit(alloc, Edit::Insert(path, value))
 }
 
 fn rename_of(alloc: Global, path: &str, key: &str) -> Result<Command, UseFault>
-    ensures asked { MatchResult result (IsCommand Ask.Rename (path.now ∷ key.now ∷ []))
-        (λ fault. (fault ≡ UseFault.Memory) ⊎ IsWordFault (Word.Path ∷ Word.Key ∷ []) (path.now ∷ key.now ∷ []) fault) }
+    ensures asked { MatchResult result (IsCommand Strict Ask.Rename (path.now ∷ key.now ∷ []))
+        (λ fault. (fault ≡ UseFault.Memory)
+        ⊎ IsWordFault Strict (Word.Path ∷ Word.Key ∷ []) (path.now ∷ key.now ∷ []) fault) }
     ensures values { IfOk result HasOwnValues }
 {
     let from = path_of(alloc, path)?;
@@ -111,8 +130,8 @@ fn rename_of(alloc: Global, path: &str, key: &str) -> Result<Command, UseFault>
 }
 
 fn remove_of(alloc: Global, path: &str) -> Result<Command, UseFault>
-    ensures asked { MatchResult result (IsCommand Ask.Remove (path.now ∷ []))
-        (λ fault. (fault ≡ UseFault.Memory) ⊎ IsWordFault (Word.Path ∷ []) (path.now ∷ []) fault) }
+    ensures asked { MatchResult result (IsCommand Strict Ask.Remove (path.now ∷ []))
+        (λ fault. (fault ≡ UseFault.Memory) ⊎ IsWordFault Strict (Word.Path ∷ []) (path.now ∷ []) fault) }
     ensures values { IfOk result HasOwnValues }
 {
     let path = path_of(alloc, path)?;
@@ -120,8 +139,8 @@ fn remove_of(alloc: Global, path: &str) -> Result<Command, UseFault>
 }
 
 fn table_of(alloc: Global, keys: &str) -> Result<Command, UseFault>
-    ensures asked { MatchResult result (IsCommand Ask.Table (keys.now ∷ []))
-        (λ fault. (fault ≡ UseFault.Memory) ⊎ IsWordFault (Word.Keys ∷ []) (keys.now ∷ []) fault) }
+    ensures asked { MatchResult result (IsCommand Strict Ask.Table (keys.now ∷ []))
+        (λ fault. (fault ≡ UseFault.Memory) ⊎ IsWordFault Strict (Word.Keys ∷ []) (keys.now ∷ []) fault) }
     ensures values { IfOk result HasOwnValues }
 {
     let keys = keys_of(alloc, keys)?;
@@ -129,8 +148,8 @@ fn table_of(alloc: Global, keys: &str) -> Result<Command, UseFault>
 }
 
 fn element_of(alloc: Global, keys: &str) -> Result<Command, UseFault>
-    ensures asked { MatchResult result (IsCommand Ask.Element (keys.now ∷ []))
-        (λ fault. (fault ≡ UseFault.Memory) ⊎ IsWordFault (Word.Keys ∷ []) (keys.now ∷ []) fault) }
+    ensures asked { MatchResult result (IsCommand Strict Ask.Element (keys.now ∷ []))
+        (λ fault. (fault ≡ UseFault.Memory) ⊎ IsWordFault Strict (Word.Keys ∷ []) (keys.now ∷ []) fault) }
     ensures values { IfOk result HasOwnValues }
 {
     let keys = keys_of(alloc, keys)?;
@@ -138,8 +157,8 @@ fn element_of(alloc: Global, keys: &str) -> Result<Command, UseFault>
 }
 
 fn apply_of(alloc: Global, script: &str) -> Result<Command, UseFault>
-    ensures asked { MatchResult result (IsCommand Ask.Apply (script.now ∷ []))
-        (λ fault. (fault ≡ UseFault.Memory) ⊎ IsWordFault (Word.Script ∷ []) (script.now ∷ []) fault) }
+    ensures asked { MatchResult result (IsCommand Strict Ask.Apply (script.now ∷ []))
+        (λ fault. (fault ≡ UseFault.Memory) ⊎ IsWordFault Strict (Word.Script ∷ []) (script.now ∷ []) fault) }
     ensures values { IfOk result HasOwnValues }
 {
     let edits = script_of(alloc, script, Profile::Strict)?;
@@ -147,8 +166,8 @@ fn apply_of(alloc: Global, script: &str) -> Result<Command, UseFault>
 }
 
 fn apply_wide_of(alloc: Global, script: &str) -> Result<Command, UseFault>
-    ensures asked { MatchResult result (IsCommand Ask.ApplyWide (script.now ∷ []))
-        (λ fault. (fault ≡ UseFault.Memory) ⊎ IsWordFault (Word.WideScript ∷ []) (script.now ∷ []) fault) }
+    ensures asked { MatchResult result (IsCommand Strict Ask.ApplyWide (script.now ∷ []))
+        (λ fault. (fault ≡ UseFault.Memory) ⊎ IsWordFault Strict (Word.WideScript ∷ []) (script.now ∷ []) fault) }
     ensures values { IfOk result HasOwnValues }
 {
     let edits = script_of(alloc, script, Profile::Wide)?;
@@ -176,11 +195,11 @@ fn path_of(alloc: Global, text: &str) -> Result<Path, UseFault>
     }
 }
 
-fn value_of(alloc: Global, text: &str) -> Result<ValueText, UseFault>
-    ensures { MatchResult result (IsGivenValue text.now)
-        (λ fault. (fault ≡ UseFault.Memory) ⊎ IsValueFault text.now fault) }
+fn value_of(alloc: Global, profile: Profile, text: &str) -> Result<ValueText, UseFault>
+    ensures { MatchResult result (IsGivenValue profile text.now)
+        (λ fault. (fault ≡ UseFault.Memory) ⊎ IsValueFault profile text.now fault) }
 {
-    match ValueText::read(alloc, text) {
+    match ValueText::read_in(alloc, text, profile) {
         Ok(value) => Ok(value),
         Err(ReadFault::Memory) => Err(UseFault::Memory),
         Err(fault) => Err(UseFault::Value(fault)),

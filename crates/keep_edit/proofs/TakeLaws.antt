@@ -2,8 +2,8 @@
 --
 -- The law of the touched lines gives a document m of the new lines that can replace the touched ones (`can`). With these replaced
 -- the document is the one after the edit, so the syntax that is reread for it is that of the new text (`reread_is`).
-use Rattle.std.proofs.Common.{◌≡◌, ◌∙◌, ℕ, ◌+◌, ◌-◌, ◌<◌, ◌≤◌, ◌⊎◌, List, length, sym, ap, subst, arith, IsUtf8, Option, Some, None}
-use Rattle.std.specs.Prelude.{IfSome, slice_range, string_bytes}
+use Rattle.std.proofs.Common.{◌≡◌, ◌∙◌, ℕ, ◌-◌, ◌≤◌, ◌⊎◌, List, length, sym, ap, subst, arith, IsUtf8, Option, Some, None}
+use Rattle.std.specs.Prelude.{IfSome, OnOk, Result, Ok, Err, slice_range}
 use Rattle.keep_leaf.specs.declared.leaf.Profile.{Profile}
 use Rattle.keep_parts.specs.declared.info.Span.{Span}
 use Rattle.keep_syntax.specs.declared.syntax.Syntax.{Syntax}
@@ -25,16 +25,12 @@ use Rattle.keep_splice.specs.Answers.{IsMadeAt, text_after}
 use Rattle.keep_splice.specs.declared.edited.Edited.{Edited}
 use Rattle.keep_edit.specs.IndexChanges.{CanChange, changed_index}
 use Rattle.keep_edit.specs.declared.index_change.IndexChange.{IndexChange}
-use Rattle.keep_splice.proofs.Shared.{one_tree, stated_is}
+use Rattle.keep_splice.proofs.Shared.{one_tree, stated_is, text_seen, profile_seen}
 use Rattle.keep_rules.specs.Nested.{AreNested}
 use Rattle.keep_rules.specs.ReadDocuments.{WasRead, IsIndexOf}
-use Rattle.keep_edit.specs.Places.{after, IsOfEdit, IsIndexChanged, IsReread}
-use Rattle.keep_edit.specs.Reading.{limit, ProfiledText, Holds, IsSyntaxIn, IsTextOfTree, telling_in}
+use Rattle.keep_edit.specs.Places.{after, end_by, IsOfEdit, IsIndexChanged, IsPatched, IsScanned}
+use Rattle.keep_edit.specs.Reading.{limit, ProfiledText, Holds, IsSyntaxIn, IsTextOfTree, telling_in, text_in}
 use Rattle.keep_edit.proofs.ReadLaws.{read_once}
-
--- the end of the new lines
-abbrev pub end_by : Span → Edited → ℕ
-end_by whole made = whole.end - (made.place.end - made.place.start) + length (string_bytes made.new)
 
 module _ (old : ProfiledText) (made : Edited) (syntax : Syntax) (index : NodeInfos) (h : Holds old syntax index) (o : IsOfEdit old made) where
   pub is_syntax : (s : Document) → IsTextOfTree old s → IsSyntaxOf syntax s
@@ -117,36 +113,35 @@ module _ (old : ProfiledText) (made : Edited) (syntax : Syntax) (index : NodeInf
         subst (λ (p : Profile). CanReplace p limit o.tree whole lines touches.lines) (sym e)
         (subst (λ (x : List ℕ). CanReplace old.profile limit o.tree whole x touches.lines) (sym f) can)
 
-    -- The syntax of the document with the lines replaced is that of the new text, and the lines are those to be scanned.
-    pub reread_is : (s : Syntax) → IsSyntaxOf s (replaced o.tree whole touches.lines) → IsTextOf s (text (replaced o.tree whole touches.lines)) → IsReread old made (s, end_by whole made - whole.start)
+    -- The syntax of the document with the lines replaced is that of the new text.
+    reread_is : (s : Syntax) → IsSyntaxOf s (replaced o.tree whole touches.lines) → IsTextOf s (text (replaced o.tree whole touches.lines)) → IsSyntaxIn (after old made) s
     reread_is s is of_text =
         let same : replaced o.tree whole touches.lines ≡ o.changed.to =
         ap (λ (w : Span). replaced o.tree w touches.lines) (whole_at o.tree (place_of o.changed) o.read o.at) ∙ sym touches.is in
         record {
-          syntax = record {
-            tree = o.changed.to;
-            reads = o.new.reads;
-            is = subst (λ (d : Document). IsSyntaxOf s d) same is;
-            of_text = subst (λ (t : List ℕ). IsTextOf s t) (ap text same ∙ sym o.new.reads.spelled) of_text;
-          };
-          scanned = λ u p read m. count u p read m;
+          tree = o.changed.to;
+          reads = o.new.reads;
+          is = subst (λ (d : Document). IsSyntaxOf s d) same is;
+          of_text = subst (λ (t : List ℕ). IsTextOf s t) (ap text same ∙ sym o.new.reads.spelled) of_text;
         }
-      where
-        count : (u : Document) (p : Place) → IsTextOfTree old u → IsMadeAt p made → end_by whole made - whole.start ≡ scanned u p
-        count u p read m =
-            let first : whole.start ≡ (touched_by u p).start = ap (λ (x : Span). x.start) (whole_at u p read m) in
-            ap (λ (n : ℕ). n - whole.start) (end_at u p read m) ∙ ap (λ (n : ℕ). (touched_in_new u p).end - n) first
+
+    -- The new lines are those to be scanned.
+    pub scanned_is : (u : Document) (p : Place) → IsTextOfTree old u → IsMadeAt p made → end_by whole made - whole.start ≡ scanned u p
+    scanned_is u p read m =
+        let first : whole.start ≡ (touched_by u p).start = ap (λ (x : Span). x.start) (whole_at u p read m) in
+        ap (λ (n : ℕ). n - whole.start) (end_at u p read m) ∙ ap (λ (n : ℕ). (touched_in_new u p).end - n) first
 
     -- by what the call says that gave it, of the new lines as they are in the new text
-    pub is_reread : (profile : Profile) (lines : List ℕ) (s : Syntax) → profile ≡ old.profile → lines ≡ slice_range (text_after old.text made) whole.start (end_by whole made)
-        → ((d m : Document) → IsSyntaxOf syntax d → CanReplace profile limit d whole lines m → IsSyntaxOf s (replaced d whole m))
-        → ((d m : Document) → IsSyntaxOf syntax d → CanReplace profile limit d whole lines m → IsTextOf s (put_at whole lines (text d)))
-        → IsReread old made (s, end_by whole made - whole.start)
-    is_reread profile lines s e f reads texts =
+    pub is_reread : {T E : Type 0} (r : Result T E) (profile : Profile) (lines : List ℕ) (s : Syntax) → profile ≡ old.profile → lines ≡ slice_range (text_after old.text made) whole.start (end_by whole made)
+        → ((d m : Document) → IsSyntaxOf syntax d → CanReplace profile limit d whole lines m → OnOk r (IsSyntaxOf s (replaced d whole m)))
+        → ((d m : Document) → IsSyntaxOf syntax d → CanReplace profile limit d whole lines m → OnOk r (IsTextOf s (put_at whole lines (text d))))
+        → OnOk r (IsSyntaxIn (after old made) s)
+    is_reread (Ok x) profile lines s e f reads texts =
         let m : Document = touches.lines in
         let k : CanReplace profile limit o.tree whole lines m = can_as profile lines e f in
         let is : IsSyntaxOf syntax o.tree = is_syntax o.tree o.read in
         reread_is s (reads o.tree m is k) (subst (λ (t : List ℕ). IsTextOf s t) (replaced_text k) (texts o.tree m is k))
+    is_reread (Err x) profile lines s e f reads texts = tt
 
   -- it is the syntax of a document that obeys the rules
   pub read_after : (s : Syntax) → IsSyntaxIn (after old made) s → WasRead (text_after old.text made) s o.changed.to
@@ -173,6 +168,18 @@ module _ (old : ProfiledText) (made : Edited) (syntax : Syntax) (index : NodeInf
   pub change_can : (change : Option IndexChange) → IfSome change (IsIndexChanged old made) → IfSome change (CanChange index)
   change_can None c = tt
   change_can (Some k) c = subst (λ (t : NodeInfos). CanChange t k) (sym (stated_is old syntax index c.from h c.read)) c.is.can
+
+-- the lines that are cut out of the patched text
+pub scanned_as : (old : ProfiledText) (made : Edited) (syntax : Syntax) (index : NodeInfos) (profile : Profile) (bytes : List ℕ) (whole : Span) (lines : List ℕ)
+    → IsPatched old made syntax index (text_in profile bytes) → ((d : Document) → IsSyntaxOf syntax d → whole ≡ touched d made.place)
+    → lines ≡ slice_range bytes whole.start (end_by whole made) → IsScanned old made syntax index whole (text_in profile lines)
+scanned_as old made syntax index profile bytes whole lines p are e = record {
+  holds = p.holds;
+  edit = p.edit;
+  touched_are = are;
+  profile_is = profile_seen p.is;
+  lines_are = e ∙ ap (λ (t : List ℕ). slice_range t whole.start (end_by whole made)) (text_seen p.is);
+}
 
 -- what stores the same is of the same text
 pub holds_same : (t : ProfiledText) (a b : Syntax) (index : NodeInfos) → IsSame a b → Holds t b index → Holds t a index

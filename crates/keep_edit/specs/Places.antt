@@ -1,7 +1,10 @@
 -- What becomes of a document by an edit that was decided for it.
-use Rattle.std.specs.Prelude.{◌≡◌, ℕ, Result, Ok, Err}
+use Rattle.std.specs.Prelude.{◌≡◌, ℕ, ◌+◌, ◌-◌, length, slice_range, string_bytes, Result, Ok, Err}
+use Rattle.keep_parts.specs.declared.info.Span.{Span}
 use Rattle.keep_syntax.specs.declared.syntax.Syntax.{Syntax}
+use Rattle.keep_syntax.specs.Contract.{IsSyntaxOf}
 use Rattle.keep_syntax.specs.Tree.{Document}
+use Rattle.keep_syntax.specs.WholeLines as lines
 use Rattle.keep_law.specs.declared.fault.EditFault.{EditFault}
 use Rattle.keep_law.specs.declared.fault.EditFault.TheVariants.{Memory}
 use Rattle.keep_law.specs.declared.splice.Splice.{Splice}
@@ -12,7 +15,7 @@ use Rattle.keep_splice.specs.Answers.{IsMadeAt, splice_of, text_after}
 use Rattle.keep_splice.specs.declared.edited.Edited.{Edited}
 use Rattle.keep_edit.specs.IndexChanges.{IsIndexChange}
 use Rattle.keep_edit.specs.declared.index_change.IndexChange.{IndexChange}
-use Rattle.keep_edit.specs.Reading.{ProfiledText, Holds, IsSyntaxIn, IsTextOfTree, text_in}
+use Rattle.keep_edit.specs.Reading.{ProfiledText, Holds, IsTextOfTree, text_in}
 pub use Rattle.keep_splice.specs.Places.{IsOfEdit}
 
 -- the text after the edit, in the document's profile
@@ -25,10 +28,18 @@ pub record IsPatched (old : ProfiledText) (made : Edited) (syntax : Syntax) (ind
   pub edit : IsOfEdit old made
   pub is : new ≡ after old made
 
--- It is the syntax of the text after the edit, with how many bytes were scanned for it: those of the touched lines.
-pub record IsReread (old : ProfiledText) (made : Edited) (read : Syntax × ℕ) : Type 0 where
-  pub syntax : IsSyntaxIn (after old made) read.0
-  pub scanned : (s : Document) (p : Place) → IsTextOfTree old s → IsMadeAt p made → read.1 ≡ touched.scanned s p
+-- where the lines end that come in the place of a span of whole lines
+abbrev pub end_by : Span → Edited → ℕ
+end_by whole made = whole.end - (made.place.end - made.place.start) + length (string_bytes made.new)
+
+-- All that is scanned of the text after an edit: `new` are the lines of it that replace `whole`, the lines that the edit touches in
+-- the document of which syntax and index are.
+pub record IsScanned (old : ProfiledText) (made : Edited) (syntax : Syntax) (index : NodeInfos) (whole : Span) (new : ProfiledText) : Type 0 where
+  pub holds : Holds old syntax index
+  pub edit : IsOfEdit old made
+  pub touched_are : (d : Document) → IsSyntaxOf syntax d → whole ≡ lines.touched d made.place
+  pub profile_is : new.profile ≡ old.profile
+  pub lines_are : new.text ≡ slice_range (text_after old.text made) whole.start (end_by whole made)
 
 -- Syntax and index are those of the text after the edit, with so many bytes scanned; or memory ran out, and they still are those
 -- of the old text.

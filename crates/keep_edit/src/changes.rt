@@ -19,11 +19,12 @@ ghost use Rattle.keep_edit.specs.Places.{IsIndexChanged, IsMovedIn, IsOfEdit, Is
 
 use crate::document::Document;
 use crate::index_change::{IndexChange, change_index};
+use crate::lines::put_lines;
 use crate::patch::{put_back, put_in};
 use keep_law::{EditFault, Splice};
 use keep_rules::{Index, Path};
 use keep_splice::{DocumentRef, Edited, Header};
-use keep_syntax::{Limits, ReadFault, STANDARD_DEPTH, Span, Syntax};
+use keep_syntax::{ReadFault, Span, Syntax};
 use keep_token::Profile;
 use keep_value::ValueText;
 use std::alloc::Global;
@@ -326,11 +327,7 @@ fn reread(
     let whole = syntax.lines(edited.place);
     let last = whole.end - (end - start) + edited.new.as_str().len();
     let lines = &text[whole.start..last];
-    let limits = Limits {
-        depth: STANDARD_DEPTH,
-        profile,
-    };
-    let Ok(replaced) = syntax.replace(whole, lines, limits) else {
+    let Ok(replaced) = put_lines(syntax, whole, lines, profile) else {
         return Err(EditFault::Memory);
     };
     match renew(alloc, text, lines, syntax, index, change) {

@@ -1,5 +1,5 @@
 //! Edits as values: one, and lists of them.
-ghost use Rattle.std.specs.Prelude.{◌≡◌, ◌⊎◌, ◌+◌, ◌<◌, ◌≤◌, length, IfOk, MatchResult, OnErr};
+ghost use Rattle.std.specs.Prelude.{◌≡◌, ◌⊎◌, ◌+◌, ◌<◌, ◌≤◌, length, IfErr, IfOk, MatchResult, OnErr};
 ghost use Rattle.keep_syntax.specs.Tree as tree;
 ghost use Rattle.keep_law.specs.Edits as law;
 ghost use Rattle.keep_edit.specs.Reading.{IsAccepted, IsTextOfTree};
@@ -79,13 +79,14 @@ impl Document {
     ///
     /// The number, from 0, of the first edit that is refused, and why: as `apply` refuses it on the document after those
     /// before it. `Memory` comes with the number of the edit where memory was refused, or with 0 where it was refused for
-    /// the copy.
+    /// the copy. The number is less than the list's length, so an empty list is always made.
     pub fn apply_all(&mut self, edits: &[Edit]) -> Result<(), (usize, EditFault)>
         ensures done { (s : tree.Document) → IsTextOfTree self.old s → AllDone s edits.now self.old self.new result }
         ensures accepted { IsAccepted self.old }
         ensures read { IsAccepted self.new }
         ensures growth { IfOk result (λ done. length self.new.text ≤ length self.old.text + growth_of edits.now) }
         ensures refused { OnErr result (self.new ≡ self.old) }
+        ensures number { IfErr result (λ stop. stop.0 < length edits.now) }
     {
         // The invariant of a document is known to the proof from where a field of it is looked at.
         let _text = &self.text;
@@ -102,6 +103,7 @@ impl Document {
         ensures done { (s : tree.Document) → IsTextOfTree self.now s → MatchResult result (AreMade s edits.now self.now)
             (λ stop. StopsAt s edits.now self.now.profile stop.0 stop.1 ⊎ IsNotCopied edits.now stop.0 stop.1) }
         ensures growth { IfOk result (λ new. length new.text ≤ length self.now.text + growth_of edits.now) }
+        ensures number { IfErr result (λ stop. stop.0 < length edits.now) }
         ensures of { IsAccepted self.now }
     {
         let mut copy = match self.copied() {
@@ -116,6 +118,7 @@ impl Document {
     fn apply_each(&mut self, edits: &[Edit]) -> Result<(), (usize, EditFault)>
         ensures done { (s : tree.Document) → IsTextOfTree self.old s → EachDone s edits.now self.old self.new result }
         ensures growth { IfOk result (λ done. length self.new.text ≤ length self.old.text + growth_of edits.now) }
+        ensures number { IfErr result (λ stop. stop.0 < length edits.now) }
     {
         for index in 0..edits.len() {
             if let Err(fault) = self.apply(&edits[index]) {

@@ -1,10 +1,50 @@
 //! Documents: reading them, asking what they hold, and editing them in place.
+//!
+//! A [`Document`] is a text that was read as TOML. An edit changes one value, key or section of it and leaves every
+//! other byte; after a refusal the document is as before. A program that names this crate in `crates.txt` needs no
+//! crate below it by name, since all types that it meets are offered here:
+//!
+//! ```
+//! use keep_edit::{Document, EditFault, Path, ValueText};
+//! use std::alloc::Global;
+//!
+//! // Sets the version of a package, or inserts it where there is none.
+//! fn put_version(alloc: Global, document: &mut Document, version: &str) -> Result<(), EditFault> {
+//!     let Ok(path) = Path::read(alloc, "package.version") else {
+//!         return Err(EditFault::Memory);
+//!     };
+//!     let Ok(value) = ValueText::of_str(alloc, version) else {
+//!         return Err(EditFault::Memory);
+//!     };
+//!     match document.set(&path, &value) {
+//!         Err(EditFault::NotFound) => document.insert(&path, &value)?,
+//!         splice => splice?,
+//!     };
+//!     Ok(())
+//! }
+//! ```
+//!
+//! `Document::read(alloc, bytes)` gives the document, and `document.text()` its text. On a document whose last line is
+//! `name = "demo"` in `[package]`, the call with `1.0.0` adds the line `version = "1.0.0"` after it.
+//!
+//! **What a caller can promise.** `specs/Reading` says what is read (`IsAccepted`, `IsTextOfTree`), `specs/Answers`
+//! what is answered and what an edit makes of the text (`EditDone`), `specs/Lists` the same of a list of edits.
+//! keep_run shows how contracts cite them.
+//!
+//! **What it costs.** Reading goes over the text once. Of a new text an edit scans the lines that it touches: a `set`
+//! of a scalar by a scalar and a `rename` take some 7 % of a reading, other edits half of one. Who wants no more than
+//! the new text calls `text_with` and its like, which read nothing anew. A question that answers without an allocator
+//! takes no memory.
+//!
+//! **What it does not promise.** Time; how much memory is taken; that memory is there. Out of memory is a fault of its
+//! own (`Memory`, or `AllocError`), after which nothing that was borrowed has changed.
 #![tactic(auto)]
 
 mod changes;
 mod document;
 mod edits;
 mod index_change;
+mod lines;
 mod patch;
 
 pub use document::{Counts, Document, Entry};

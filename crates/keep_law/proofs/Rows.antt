@@ -1,4 +1,9 @@
 -- Edits of small documents, from text to text, computed.
+--
+-- A row has the text of a document, an edit, and the text that is wanted with the place of the change; or the fault
+-- that is wanted (`Row`). `computed` reads the text and applies the definitions to the document; `stated` is what the
+-- row says. That they are equal is computed for each group of rows (`AllHold`), so there is no induction and no lemma.
+-- Each edit has groups of its own, for what it does and for what it refuses.
 use Rattle.std.proofs.Common.{◌≡◌, ℕ, List, [], ◌∷◌, ◌++◌, length, map, refl, Option, Some, None}
 use Rattle.std.specs.Prelude.{codes, Result, Ok, Err}
 use Rattle.keep_leaf.specs.declared.leaf.Profile.{Profile}

@@ -4,6 +4,7 @@ use Rattle.std.specs.List.{AllByRecursion}
 use Rattle.keep_leaf.specs.declared.leaf.Profile.{Profile}
 use Rattle.keep_leaf.specs.declared.leaf.Profile.TheVariants.{Wide}
 use Rattle.keep_token.specs.Encoded.{encoded_key}
+use Rattle.keep_syntax.specs.Limit.{standard_depth}
 use Rattle.keep_syntax.specs.Tree.{Value, Document, text, value_text, depth}
 use Rattle.keep_syntax.specs.Grammar.{IsValue, IsDocument, Reads}
 use Rattle.keep_path.specs.Path.{Part, key}
@@ -115,6 +116,12 @@ GetIsRight = (path : List Part) (s : Document) → ObeysRules (marks (mentions_i
 abbrev pub GrowthIsBounded : Type 0
 GrowthIsBounded = (profile : Profile) (limit : ℕ) (s : Document) (e : Edit) → IsDocument profile s → ObeysRules (marks (mentions_in s)) → refusal profile limit s e ≡ None
     → length (text (edited_document s e)) ≤ length (text s) + given_size e + 12
+
+-- In either profile there are a document and an edit of it that is not refused, by which the text grows by as much.
+abbrev pub GrowthReachesBound : Type 0
+GrowthReachesBound = (profile : Profile) → (s : Document) × (path : List Part) × (new : Value) × IsEditable profile standard_depth s × IsGivenValue profile new
+    × (refusal profile standard_depth s (insert path new) ≡ None)
+    × (length (text (edited_document s (insert path new))) ≡ length (text s) + given_size (insert path new) + 12)
 
 -- A change replaces its place in the text, and nothing else.
 abbrev pub ChangeIsPut : Type 0

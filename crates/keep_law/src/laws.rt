@@ -47,6 +47,11 @@ pub fn growth_is_bounded()
     ensures { spec.GrowthIsBounded }
 {}
 
+/// Twelve is the least such number: by some edit the text grows by as much.
+pub fn growth_bound_is_reached()
+    ensures { spec.GrowthReachesBound }
+{}
+
 /// The touched lines of an edit, in the new text, are lines of their own, and all others stay as they are. So an edit needs
 /// to scan only those.
 pub fn touched_lines_are_lines()

@@ -1,4 +1,12 @@
 -- A document says at most as many things as it has leaves, so it has at most one node more than bytes.
+--
+-- Each node but the root comes from a mention (`node_paths_few`), so it is enough to count mentions against tokens. A
+-- key of n parts has n - 1 dots besides, which pays for the mentions of its prefixes; a header mentions at most two
+-- things for each key but the last, and has two tokens for each, and its brackets besides (`way_few`, `header_many`).
+-- Entries are by induction (`entries_few`), and so are lines (`lines_few`). The token `End` has no bytes, and pays for
+-- the root.
+--
+-- Theorems: `nodes_few`: at most one node more than bytes; `nodes_reach`: a document that has so many.
 use Rattle.std.proofs.Common.{◌≡◌, ℕ, suc, ◌+◌, ◌≤◌, Bool, true, false, if◌then◌else◌, List, [], ◌∷◌, ◌++◌, length, map, refl, ap, ◌∙◌, arith, Option, Some, None}
 use Rattle.std.specs.Prelude.{◌==◌, fold}
 use Rattle.std.specs.List.{flat_map, list_any}

@@ -1,4 +1,13 @@
 -- The key parts of a text are in it between characters, each spelled as a key.
+--
+-- A key part is bare or between marks, so its first and last bytes are ASCII (`key_ends`), and the text may be cut
+-- before and after it. One part is thereby readable at its place (`part_readable`). The rest brings this to all parts
+-- of a document, where the text of each part is at the place that its number says: keys, entries by induction
+-- (`entries_readable`), lines by induction (`lines_readable`). At last a part is taken by its number from the list of
+-- all (`all_at`).
+--
+-- Theorems: `parts_readable`: of a document; `syntax_readable` and `value_syntax_readable`: of what is stored of a
+-- text.
 use Rattle.std.proofs.Common.{◌≡◌, ℕ, zero, suc, ◌+◌, ◌-◌, ◌<◌, true, IsTrue, List, [], ◌∷◌, ◌++◌, length, get_or, take, drop, slice_get, sym, ◌∙◌, ap, subst, arith, append_assoc, Option, Some, None, IsUtf8, IsCharBoundary}
 use Rattle.std.specs.List.{flat_map, AllByRecursion}
 use Rattle.std.proofs.Math.Seq.{get_or-append_seam}

@@ -1,4 +1,10 @@
 -- The definitions on small documents.
+--
+-- Each document is written out as a tree, by the short names at the top; the comment above a row has its text. A row
+-- computes one definition on it: the first fault (`fault_in`), the paths of the nodes in their order (`node_paths`),
+-- what is known of each (`infos_in`), where their values and first key parts are (`spans_in`), or the children of one
+-- (`children`). There is no induction and no lemma. A change of a definition that shows on one of these documents makes
+-- a row fail.
 use Rattle.std.proofs.Common.{◌≡◌, ℕ, Bool, true, false, List, [], ◌∷◌, length, refl, Option, Some, None}
 use Rattle.std.specs.Prelude.{codes, map, take, slice_get}
 use Rattle.keep_leaf.specs.declared.leaf.Leaf.{Leaf}

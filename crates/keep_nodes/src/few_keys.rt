@@ -1,5 +1,5 @@
 //! The children of a table of few keys.
-ghost use Rattle.std.specs.Prelude.{◌≡◌, ◌<◌, ◌≤◌, ◌∷◌, ◌++◌, [], None, IfOk, OnOk, bytes_eq, false, length, map, option_copied, option_map, slice_get};
+ghost use Rattle.std.specs.Prelude.{◌≡◌, ◌<◌, ◌≤◌, ◌∷◌, ◌++◌, [], None, IfOk, OnErr, OnOk, bytes_eq, false, length, map, option_copied, option_map, slice_get};
 ghost use Rattle.std.specs.Map.{lookup};
 ghost use Rattle.keep_nodes.specs.KeyMaps.{with_key_at};
 
@@ -84,7 +84,8 @@ impl FewKeys {
     pub fn add(&mut self, key: StoredKey, child: usize) -> Result<(), AllocError>
         requires few { length self.old < MOST_KEYS }
         requires fresh { lookup (bytes_eq key) self.old ≡ None }
-        ensures { OnOk result (self.new ≡ self.old ++ (key, child) ∷ []) }
+        ensures ok { OnOk result (self.new ≡ self.old ++ (key, child) ∷ []) }
+        ensures err { OnErr result (self.new ≡ self.old) }
     {
         self.entries.push((key, child))?;
         Ok(())

@@ -64,7 +64,8 @@ impl KeyMap {
     /// Adds a child by a key that has none yet. If memory runs out, the map is unchanged.
     pub fn add(&mut self, key: StoredKey, child: usize) -> Result<(), AllocError>
         requires { lookup (bytes_eq key) self.old ≡ None }
-        ensures { OnOk result (self.new ≡ self.old ++ (key, child) ∷ []) }
+        ensures ok { OnOk result (self.new ≡ self.old ++ (key, child) ∷ []) }
+        ensures err { OnErr result (self.new ≡ self.old) }
     {
         self.table.insert(key, child)?;
         Ok(())
@@ -78,10 +79,10 @@ impl KeyMap {
         ensures ok { OnOk result (self.new ≡ with_key_at self.old number key) }
         ensures err { OnErr result (self.new ≡ self.old) }
     {
-        let Some(child) = self.child_at(number) else {
+        let Some(node) = self.child_at(number) else {
             unreachable!()
         };
-        self.table.insert(key, child)?;
+        self.table.insert(key, node)?;
         self.table.swap_remove_index(number);
         Ok(())
     }

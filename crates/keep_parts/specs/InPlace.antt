@@ -1,5 +1,5 @@
 -- What is stored of some lines changes places with what is stored of others, in place.
-use Rattle.std.specs.Prelude.{◌≡◌, ℕ, ◌+◌, ◌≤◌, ltb, if◌then◌else◌, List, [], ◌++◌, length, map, take, drop, slice_range, vec_len}
+use Rattle.std.specs.Prelude.{◌≡◌, ℕ, ◌+◌, ◌<◌, ◌≤◌, ◌^◌, ltb, if◌then◌else◌, List, [], ◌++◌, length, map, take, drop, slice_range, vec_len}
 use Rattle.std.specs.List.{AllByRecursion}
 use Rattle.keep_parts.specs.declared.info.Span.{Span}
 use Rattle.keep_parts.specs.declared.moves.Counts.{Counts}
@@ -103,6 +103,13 @@ counts_after from all end = record {
   keys = from.keys + all.keys;
   values = from.values + all.values;
 }
+
+-- machine words hold these counts
+pub record AreHeld (from all : Counts) : Type 0 where
+  pub tokens : from.tokens + all.tokens < 2 ^ 64
+  pub statements : from.statements + all.statements < 2 ^ 64
+  pub keys : from.keys + all.keys < 2 ^ 64
+  pub values : from.values + all.values < 2 ^ 64
 
 -- how much comes before what is after a span, in a text of `len` bytes
 abbrev pub counts_behind : Flat → Span → ℕ → Counts

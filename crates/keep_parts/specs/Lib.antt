@@ -4,6 +4,7 @@ pub mod Starts
 pub mod Left
 pub mod Flat
 pub mod Lifted
+pub mod Held
 pub mod Rereading
 pub mod Exchanging
 pub mod Shifting

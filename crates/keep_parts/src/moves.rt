@@ -1,6 +1,7 @@
-//! Numbers and places, moved from after one count to after another. A number that no machine word holds is refused; in a
-//! text that memory holds there is none.
-ghost use Rattle.std.specs.Prelude.{◌≡◌, IfSome};
+//! Numbers and places, moved from after one count to after another. None is answered exactly where a number is before the first
+//! count, or no machine word holds it after the other; in a text that memory holds there is no such number.
+ghost use Rattle.std.specs.Prelude.{SomeIff};
+ghost use Rattle.keep_parts.specs.Held as held;
 ghost use Rattle.keep_parts.specs.Lifted as spec;
 ghost use Rattle.keep_parts.specs.Rereading.{count_of};
 
@@ -18,13 +19,13 @@ pub struct Counts {
 
 /// A number after `old`, moved to after `new`.
 pub fn moved(number: usize, old: usize, new: usize) -> Option<usize>
-    ensures { IfSome result (λ n. n ≡ spec.moved old new number) }
+    ensures { SomeIff result (held.IsHeld old new number) (spec.moved old new number) }
 {
     number.checked_sub(old)?.checked_add(new)
 }
 
 fn moved_there(number: Option<usize>, old: usize, new: usize) -> Option<Option<usize>>
-    ensures { IfSome result (λ n. n ≡ spec.moved_there old new number) }
+    ensures { SomeIff result (held.IsHeldThere old new number) (spec.moved_there old new number) }
 {
     match number {
         Some(number) => Some(Some(moved(number, old, new)?)),
@@ -33,7 +34,7 @@ fn moved_there(number: Option<usize>, old: usize, new: usize) -> Option<Option<u
 }
 
 fn moved_span(span: Span, old: usize, new: usize) -> Option<Span>
-    ensures { IfSome result (λ s. s ≡ spec.moved_span old new span) }
+    ensures { SomeIff result (held.IsHeldSpan old new span) (spec.moved_span old new span) }
 {
     Some(Span {
         start: moved(span.start, old, new)?,
@@ -42,7 +43,8 @@ fn moved_span(span: Span, old: usize, new: usize) -> Option<Span>
 }
 
 fn moved_owner(owner: Owner, old: &Counts, new: &Counts) -> Option<Owner>
-    ensures { IfSome result (λ o. o ≡ spec.moved_owner (count_of old.now) (count_of new.now) owner) }
+    ensures { SomeIff result (held.IsHeldOwner (count_of old.now) (count_of new.now) owner)
+        (spec.moved_owner (count_of old.now) (count_of new.now) owner) }
 {
     Some(match owner {
         Owner::Line(number) => Owner::Line(moved(number, old.statements, new.statements)?),
@@ -52,7 +54,8 @@ fn moved_owner(owner: Owner, old: &Counts, new: &Counts) -> Option<Owner>
 }
 
 pub fn moved_key(part: KeyPart, old: &Counts, new: &Counts) -> Option<KeyPart>
-    ensures { IfSome result (λ k. k ≡ spec.moved_key (count_of old.now) (count_of new.now) part) }
+    ensures { SomeIff result (held.IsHeldKey (count_of old.now) (count_of new.now) part)
+        (spec.moved_key (count_of old.now) (count_of new.now) part) }
 {
     Some(KeyPart {
         leaf: part.leaf,
@@ -61,7 +64,8 @@ pub fn moved_key(part: KeyPart, old: &Counts, new: &Counts) -> Option<KeyPart>
 }
 
 pub fn moved_statement(statement: Statement, old: &Counts, new: &Counts) -> Option<Statement>
-    ensures { IfSome result (λ s. s ≡ spec.moved_statement (count_of old.now) (count_of new.now) statement) }
+    ensures { SomeIff result (held.IsHeldStatement (count_of old.now) (count_of new.now) statement)
+        (spec.moved_statement (count_of old.now) (count_of new.now) statement) }
 {
     Some(Statement {
         kind: statement.kind,
@@ -74,7 +78,8 @@ pub fn moved_statement(statement: Statement, old: &Counts, new: &Counts) -> Opti
 }
 
 pub fn moved_value(value: ValueInfo, old: &Counts, new: &Counts) -> Option<ValueInfo>
-    ensures { IfSome result (λ v. v ≡ spec.moved_value (count_of old.now) (count_of new.now) value) }
+    ensures { SomeIff result (held.IsHeldValue (count_of old.now) (count_of new.now) value)
+        (spec.moved_value (count_of old.now) (count_of new.now) value) }
 {
     Some(ValueInfo {
         leaf: value.leaf,

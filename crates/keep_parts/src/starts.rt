@@ -191,8 +191,8 @@ impl Starts {
         ensures after { OnOk result (old ≤ at) }
     {
         match moved(at, old, new) {
-            Some(place) if old <= at => self.push(place),
-            _ => Err(AllocError),
+            Some(place) => self.push(place),
+            None => Err(AllocError),
         }
     }
 

@@ -5,5 +5,6 @@ mod PathTextLaws
 mod PathReadLaws
 mod FirstIndexLaws
 mod IndexLaws
+mod StopLaws
 mod ReadLaws
 pub mod Shared

@@ -31,7 +31,7 @@ stated_more (index n ∷ parts) part prefix text h some s = absurd h
 
 -- ---- what may follow a key part
 
-steps_stop : (parts : List Part) (rest : List ℕ) → StepsText parts rest → is_bare (first rest) ≡ false
+pub steps_stop : (parts : List Part) (rest : List ℕ) → StepsText parts rest → is_bare (first rest) ≡ false
 steps_stop [] rest h = rw h refl
 steps_stop (key value ∷ parts) rest (a, b, e, (x, y, e2, dot, k), more) = rw (e, e2, dot) refl
 steps_stop (index n ∷ parts) rest (a, b, e, (small, is), more) = rw (e, is) refl
@@ -117,7 +117,7 @@ pub record IndexFirst (n : ℕ) (parts : List Part) (text : List ℕ) : Type 0 w
   pub spelled : text ≡ index_text n ++ behind
   pub more : StepsText parts behind
 
-index_first : (n : ℕ) (parts : List Part) (text : List ℕ) → StepsText (index n ∷ parts) text → IndexFirst n parts text
+pub index_first : (n : ℕ) (parts : List Part) (text : List ℕ) → StepsText (index n ∷ parts) text → IndexFirst n parts text
 index_first n parts text (a, b, e, (small, is), more) = record { behind = b; small = small; spelled = e ∙ ap (λ (t : List ℕ). t ++ b) is; more = more }
 
 -- the whole text is read
@@ -183,12 +183,6 @@ dot_stuck more none (key v ∷ parts) h =
     let never : ◌≡◌ {A = Option (Leaf × ℕ)} None (Some (found.0, length f.part)) = sym none ∙ found.1 in
     absurd cc
 
--- nor with any other byte than a dot and a bracket
-pub other_stuck : (text : List ℕ) → (first text ≡ 0x2E → ⊥) → (first text ≡ 0x5B → ⊥) → (rest : List Part) → StepsText rest text → rest ≡ []
-other_stuck text dot bracket [] h = refl
-other_stuck text dot bracket (key v ∷ parts) h = absurd (dot (ap (λ (t : List ℕ). first t) (key_first v parts text h).spelled))
-other_stuck text dot bracket (index i ∷ parts) h = absurd (bracket (ap (λ (t : List ℕ). first t) (index_first i parts text h).spelled))
-
 -- ---- the first key
 
 first_step : (text : List ℕ) (l : Leaf) (n : ℕ) (value : List ℕ) → key_at Strict text ≡ Some (l, n) → Means Wide l (take n text) value
@@ -212,18 +206,9 @@ so_far_first text l n value at m =
       all = λ q k. first_step text l n value at m q k;
     }
 
--- a text that is not empty tells no path where no key part comes first
-pub first_stuck : (text : List ℕ) → 0 < length text → key_at Strict text ≡ None → (q : List Part) → IsPathText text q → ⊥
-first_stuck text some none [] h = omega (arith, ap (λ (t : List ℕ). length t) h)
-first_stuck text some none (index i ∷ parts) h = h
-first_stuck text some none (key v ∷ parts) (a, b, e, k, more) =
-    let found = key_at_start v parts text a b e k more in
-    let never : ◌≡◌ {A = Option (Leaf × ℕ)} None (Some (found.0, length a)) = sym none ∙ found.1 in
-    cc
-
 -- ---- an index in brackets
 
-index_after : (more : List ℕ) (i : ℕ) (parts : List Part) → StepsText (index i ∷ parts) (0x5B ∷ more) → (behind : List ℕ) × (i < 1_000_000_000) × (more ≡ decimal i ++ 0x5D ∷ behind) × StepsText parts behind
+pub index_after : (more : List ℕ) (i : ℕ) (parts : List Part) → StepsText (index i ∷ parts) (0x5B ∷ more) → (behind : List ℕ) × (i < 1_000_000_000) × (more ≡ decimal i ++ 0x5D ∷ behind) × StepsText parts behind
 index_after more i parts h =
     let f = index_first i parts (0x5B ∷ more) h in
     (f.behind, f.small, ap (λ (t : List ℕ). drop 1 t) f.spelled ∙ append_assoc (decimal i) (0x5D ∷ []) f.behind, f.more)
@@ -251,12 +236,3 @@ bracket_read more n k small is count =
       step = (small, ap (λ (t : List ℕ). 0x5B ∷ t) prefix);
       first = λ rest s. index_step more (drop k more) n small (is ∙ append_assoc (decimal n) (0x5D ∷ []) (drop k more)) rest s;
     }
-
--- no step begins with a bracket where no index comes after it
-pub bracket_stuck : (more : List ℕ) → ((n : ℕ) (rest : List ℕ) → n < 1_000_000_000 → more ≡ decimal n ++ 0x5D ∷ rest → ⊥)
-    → (rest : List Part) → StepsText rest (0x5B ∷ more) → rest ≡ []
-bracket_stuck more none [] h = refl
-bracket_stuck more none (key v ∷ parts) h =
-    let never : ◌≡◌ {A = ℕ} 0x5B 0x2E = ap (λ (t : List ℕ). first t) (key_first v parts (0x5B ∷ more) h).spelled in
-    absurd (omega (arith, never))
-bracket_stuck more none (index i ∷ parts) h = let f = index_after more i parts h in absurd (none i f.0 f.1 f.2)

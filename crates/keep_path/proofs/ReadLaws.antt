@@ -8,9 +8,10 @@ use Rattle.keep_leaf.specs.declared.leaf.Profile.TheVariants.{Strict, Wide}
 use Rattle.keep_token.specs.Leaves.{IsLeaf, KeyLeaf}
 use Rattle.keep_token.proofs.Shared.{leaf_wider}
 use Rattle.keep_path.specs.Path.{Part, key, index}
-use Rattle.keep_path.specs.PathText.{StepsText, IsPathText}
-use Rattle.keep_path.specs.PathReading.{KeyRead, StepRead}
-use Rattle.keep_path.proofs.PathReadLaws.{SoFar, so_far_first, so_far_more, so_far_done, dot_read, bracket_read, other_stuck}
+use Rattle.keep_path.specs.PathText.{IsPathText}
+use Rattle.keep_path.specs.PathReading.{KeyRead, KeysWithin, NoSteps, StepRead, StepsGoOn}
+use Rattle.keep_path.proofs.StopLaws.{PathGoesOn, bracket_none, bracket_on, dot_none, dot_on, other_none, path_on_first, path_on_more}
+use Rattle.keep_path.proofs.PathReadLaws.{SoFar, so_far_first, so_far_more, so_far_done, dot_read, bracket_read}
 
 -- a key part of TOML is one with the additions
 pub wide_key : (text part : List ℕ) (l : Leaf) (n : ℕ) → part ≡ take n text → KeyLeaf Strict text l n → IsLeaf Wide l part
@@ -47,18 +48,42 @@ bracket_step text behind i n prefix e small is count =
     let Q : List ℕ → Type 0 = λ t. t ≡ (decimal i ++ 0x5D ∷ []) ++ drop n t in
     subst P prefix.spelled (rw (add-one n) (bracket_read (drop 1 text) i n small (subst Q e is) count))
 
--- no steps begin with a byte after which nothing fits
-pub none_after : (text behind : List ℕ) (byte : ℕ) → Prefix text byte → behind ≡ drop 1 text
-    → ((parts : List Part) → StepsText parts (byte ∷ behind) → parts ≡ []) → (parts : List Part) → StepsText parts text → parts ≡ []
-none_after text behind byte prefix e none parts h =
-    let P : List ℕ → Type 0 = λ t. StepsText parts t in
-    none parts (subst P (sym (ap (λ (t : List ℕ). byte ∷ t) e ∙ prefix.spelled)) h)
+-- ---- what a longer prefix of the text goes on with
 
-pub other_step : (text bytes : List ℕ) (read : ℕ) → bytes ≡ text → read ≡ slice_index bytes 0 → (read ≡ 0x2E → ⊥) → (read ≡ 0x5B → ⊥)
-    → (parts : List Part) → StepsText parts text → parts ≡ []
-other_step text bytes read same is dot bracket =
+pub dot_goes_on : (text behind value : List ℕ) (n : ℕ) → Prefix text 0x2E → behind ≡ drop 1 text → KeyRead behind value n → KeysWithin behind n → StepsGoOn text (n + 1)
+dot_goes_on text behind value n prefix e (l, found, m) within =
+    let P : List ℕ → Type 0 = λ t. StepsGoOn (0x2E ∷ t) (n + 1) in
+    let Q : List ℕ → Type 0 = λ t. StepsGoOn t (n + 1) in
+    subst Q prefix.spelled (subst P e (rw (add-one n) (dot_on behind l n found within)))
+
+pub bracket_goes_on : (text behind : List ℕ) (i n : ℕ) → Prefix text 0x5B → behind ≡ drop 1 text → i < 1_000_000_000
+    → behind ≡ (decimal i ++ 0x5D ∷ []) ++ drop n behind → n ≡ length (decimal i ++ 0x5D ∷ []) → StepsGoOn text (n + 1)
+bracket_goes_on text behind i n prefix e small is count =
+    let P : List ℕ → Type 0 = λ t. StepsGoOn (0x5B ∷ t) (n + 1) in
+    let Q : List ℕ → Type 0 = λ t. StepsGoOn t (n + 1) in
+    subst Q prefix.spelled (subst P e (rw (add-one n) (bracket_on behind i n small is count)))
+
+-- no step begins with a byte after which nothing fits
+no_steps_after : (text behind : List ℕ) (byte : ℕ) → Prefix text byte → behind ≡ drop 1 text → NoSteps (byte ∷ behind) → NoSteps text
+no_steps_after text behind byte prefix e none =
+    subst NoSteps (ap (λ (t : List ℕ). byte ∷ t) e ∙ prefix.spelled) none
+
+pub dot_stops : (text behind : List ℕ) → Prefix text 0x2E → behind ≡ drop 1 text → KeysWithin behind 0 → NoSteps text
+dot_stops text behind prefix e within = no_steps_after text behind 0x2E prefix e (dot_none behind within)
+
+pub bracket_stops : (text behind : List ℕ) → Prefix text 0x5B → behind ≡ drop 1 text → ((n : ℕ) (rest : List ℕ) → n < 1_000_000_000 → behind ≡ decimal n ++ 0x5D ∷ rest → ⊥) → NoSteps text
+bracket_stops text behind prefix e none = no_steps_after text behind 0x5B prefix e (bracket_none behind none)
+
+pub other_stops : (text bytes : List ℕ) (read : ℕ) → bytes ≡ text → read ≡ slice_index bytes 0 → (read ≡ 0x2E → ⊥) → (read ≡ 0x5B → ⊥) → NoSteps text
+other_stops text bytes read same is dot bracket =
     let e = first_of_bytes text bytes read same is in
-    other_stuck text (λ d. dot (sym e ∙ d)) (λ b. bracket (sym e ∙ b))
+    other_none text (λ d. dot (sym e ∙ d)) (λ b. bracket (sym e ∙ b))
+
+pub path_on_first_read : (text value : List ℕ) (n : ℕ) → KeyRead text value n → KeysWithin text n → PathGoesOn text n
+path_on_first_read text value n (l, found, m) within = path_on_first text l n found within
+
+pub path_on_next_read : (text rest : List ℕ) (at n : ℕ) → rest ≡ drop at text → PathGoesOn text at → StepsGoOn rest n → PathGoesOn text (at + n)
+path_on_next_read text rest at n is path steps = path_on_more text at n path (subst (λ t. StepsGoOn t n) is steps)
 
 -- ---- the path that is read
 

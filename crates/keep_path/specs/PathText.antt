@@ -1,9 +1,9 @@
 -- The texts of paths: a key part, then dots with key parts and indexes in brackets, with no spaces. The root's text is empty.
-use Rattle.std.specs.Prelude.{◌≡◌, ℕ, ◌<◌, IsTrue, List, [], ◌∷◌, ◌++◌, take, drop, decimal}
+use Rattle.std.specs.Prelude.{◌≡◌, ℕ, ◌<◌, IsTrue, List, [], ◌∷◌, ◌++◌, length, take, drop, decimal}
 use Rattle.std.specs.List.{flat_map}
 use Rattle.keep_leaf.specs.declared.leaf.Leaf.{Leaf}
 use Rattle.keep_leaf.specs.declared.leaf.Profile.TheVariants.{Strict}
-use Rattle.keep_token.specs.Abnf.{Language, Just, ◌⨾◌}
+use Rattle.keep_token.specs.Abnf.{Language, Just, Longest, ◌⨾◌}
 use Rattle.keep_token.specs.Encoded.{encoded_key}
 use Rattle.keep_token.specs.Leaves.{IsLeaf, is_key_leaf, Means}
 use Rattle.keep_path.specs.Path.{Part, key, index}
@@ -50,6 +50,15 @@ abbrev pub IsPathText : List ℕ → List Part → Type 0
 IsPathText text [] = text ≡ []
 IsPathText text (key value ∷ parts) = (KeyText value ⨾ StepsText parts) text
 IsPathText text (index n ∷ parts) = ⊥
+
+-- some path has the text
+abbrev pub SomePath : Language
+SomePath text = (path : List Part) × IsPathText text path
+
+-- The longest prefix that is a path's text has so many bytes, and it is not all of the text. So what comes after it
+-- does not begin with a step's text.
+abbrev pub StopsAt : List ℕ → ℕ → Type 0
+StopsAt text at = Longest SomePath text at × (at < length text)
 
 -- its indexes can be read again
 abbrev pub HasSmallIndexes : List Part → Type 0

@@ -1,8 +1,8 @@
 //! Paths.
-ghost use Rattle.std.specs.Prelude.{◌≡◌, ◌++◌, ◌≢◌, List, [], ◌∷◌, IfOk, IfSome, IsNone, IsOkUnless, OnOk, OnErr, length, map, min, option_copied, option_map, slice_get, string_bytes};
-ghost use Rattle.keep_path.specs.declared.fault.PathFault.TheVariants.{Memory};
+ghost use Rattle.std.specs.Prelude.{◌≡◌, ◌++◌, ◌≢◌, ℕ, List, [], ◌∷◌, IfOk, IfSome, IsNone, IsOkUnless, OnOk, OnErr, length, map, min, option_copied, option_map, slice_get, string_bytes};
+ghost use Rattle.keep_path.specs.declared.fault.PathFault.TheVariants.{BadPath, Memory};
 ghost use Rattle.keep_path.specs.Path.{Part, key, index, AreUtf8, IsRooted};
-ghost use Rattle.keep_path.specs.PathText.{encoded_path, AreKeys, FirstIndex, HasSmallIndexes, IsPathText};
+ghost use Rattle.keep_path.specs.PathText.{encoded_path, AreKeys, FirstIndex, HasSmallIndexes, IsPathText, StopsAt};
 ghost use Rattle.keep_path.specs.Step.{part_of};
 
 use crate::fault::PathFault;
@@ -46,11 +46,13 @@ impl Path {
     /// # Errors
     ///
     /// `BadPath` where the text is no path's: with the start of the first step that cannot be read, its dot or bracket
-    /// included, in bytes from the start of the text. `Memory` where memory was refused.
+    /// included, in bytes from the start of the text. It is the length of the longest prefix that is a path's text.
+    /// `Memory` where memory was refused.
     pub fn read(alloc: Global, text: &str) -> Result<Path, PathFault>
         ensures stated { IfOk result (λ path. IsPathText text.now path) }
         ensures one { (path : List Part) → IsPathText text.now path → IfOk result (λ read. read ≡ path) }
         ensures read { (path : List Part) → IsPathText text.now path → IsOkUnless result Memory }
+        ensures place { (at : ℕ) → result ≡ Err (BadPath at) → StopsAt text.now at }
     {
         let mut steps = Vec::new(alloc);
         if text.is_empty() {

@@ -1,10 +1,8 @@
 //! The key parts and the steps that begin texts of paths.
-ghost use Rattle.std.specs.Prelude.{◌≡◌, List, [], IfOk, IfSome, IsNone, None, IsCharBoundary, string_bytes};
+ghost use Rattle.std.specs.Prelude.{◌≡◌, IfOk, IfSome, IsNone, None, IsCharBoundary, string_bytes};
 ghost use Rattle.keep_leaf.specs.declared.leaf.Profile.TheVariants.{Strict};
 ghost use Rattle.keep_token.specs.Scanning.{key_at};
-ghost use Rattle.keep_path.specs.Path.{Part};
-ghost use Rattle.keep_path.specs.PathText.{StepsText};
-ghost use Rattle.keep_path.specs.PathReading.{KeyFound, KeyRead, StepRead};
+ghost use Rattle.keep_path.specs.PathReading.{KeyFound, KeyRead, KeysWithin, NoSteps, StepRead, StepsGoOn};
 ghost use Rattle.keep_path.specs.Step.{part_of};
 
 use crate::index_text::{byte_or_zero, read_index};
@@ -17,7 +15,8 @@ use std::alloc::{AllocError, Global};
 pub(crate) fn read_key(alloc: Global, text: &str) -> Result<Option<(String, usize)>, AllocError>
     ensures found { IfOk result (λ read. IfSome read (λ found. KeyRead text.now (string_bytes found.0) found.1)) }
     ensures ends { IfOk result (λ read. IfSome read (λ found. IsCharBoundary text.now found.1)) }
-    ensures none { IfOk result (λ read. IsNone read → key_at Strict text.now ≡ None) }
+    ensures longest { IfOk result (λ read. IfSome read (λ found. KeysWithin text.now found.1)) }
+    ensures none { IfOk result (λ read. IsNone read → KeysWithin text.now 0) }
 {
     let Ok((leaf, len)) = scan_key(text, 0, Profile::Strict) else {
         return Ok(None);
@@ -43,7 +42,8 @@ pub(crate) fn key_len(text: &str) -> Option<usize>
 pub(crate) fn read_step(alloc: Global, text: &str) -> Result<Option<(Step, usize)>, AllocError>
     ensures found { IfOk result (λ read. IfSome read (λ found. StepRead text.now (part_of found.0) found.1)) }
     ensures ends { IfOk result (λ read. IfSome read (λ found. IsCharBoundary text.now found.1)) }
-    ensures none { IfOk result (λ read. IsNone read → (parts : List Part) → StepsText parts text.now → parts ≡ []) }
+    ensures on { IfOk result (λ read. IfSome read (λ found. StepsGoOn text.now found.1)) }
+    ensures none { IfOk result (λ read. IsNone read → NoSteps text.now) }
 {
     match byte_or_zero(text.as_bytes(), 0) {
         b'.' => match read_key(alloc, &text[1..])? {

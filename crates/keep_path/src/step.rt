@@ -1,5 +1,5 @@
 //! The steps of paths, and their texts.
-ghost use Rattle.std.specs.Prelude.{◌≡◌, ◌++◌, ◌↔◌, IsTrue, OnOk, length, map, min, string_bytes};
+ghost use Rattle.std.specs.Prelude.{◌≡◌, ◌++◌, ◌↔◌, IsTrue, OnErr, OnOk, length, map, min, string_bytes};
 ghost use Rattle.std.specs.List.{flat_map};
 ghost use Rattle.keep_path.specs.Path.{key};
 ghost use Rattle.keep_path.specs.PathText.{first_text, index_text, part_text};
@@ -39,9 +39,11 @@ impl Step {
         }
     }
 
-    /// Adds the step as the first of a path's text: a key, or an index in brackets.
+    /// Adds the step as the first of a path's text: a key, or an index in brackets. If memory runs out, the only error,
+    /// the text is unchanged.
     pub fn push_first(&self, alloc: Global, out: &mut String) -> Result<(), AllocError>
-        ensures { OnOk result (string_bytes out.new ≡ string_bytes out.old ++ first_text (part_of self.now)) }
+        ensures pushed { OnOk result (string_bytes out.new ≡ string_bytes out.old ++ first_text (part_of self.now)) }
+        ensures preserved { OnErr result (string_bytes out.new ≡ string_bytes out.old) }
     {
         match self {
             Step::Key(text) => {
@@ -83,13 +85,16 @@ impl Step {
     }
 }
 
-/// Adds an index in brackets.
+/// Adds an index in brackets. All memory is taken before the text changes: if it runs out, the text is unchanged.
 fn push_index(out: &mut String, index: usize) -> Result<(), AllocError>
-    ensures { OnOk result (string_bytes out.new ≡ string_bytes out.old ++ index_text index) }
+    ensures pushed { OnOk result (string_bytes out.new ≡ string_bytes out.old ++ index_text index) }
+    ensures preserved { OnErr result (string_bytes out.new ≡ string_bytes out.old) }
 {
     let mut buffer = itoa::Buffer::new();
+    let digits = buffer.format(index);
+    out.reserve(digits.len() + 2)?;
     out.push_str("[")?;
-    out.push_str(buffer.format(index))?;
+    out.push_str(digits)?;
     out.push_str("]")
 }
 

@@ -2,6 +2,7 @@
 //! about the layers above.
 #![tactic(auto)]
 
+pub mod growths;
 pub mod leaves;
 pub mod lines;
 pub mod paths;

@@ -5,14 +5,16 @@ ghost use Rattle.keep_syntax.specs.Grammar.{Reads};
 ghost use Rattle.keep_syntax.specs.WholeLines.{empty_line};
 ghost use Rattle.keep_syntax.specs.Contract as spec;
 
+use crate::growths::{begin_count, end_count};
 use crate::row::{Answer, Row};
 use crate::syntax::report_of;
 use keep_syntax::{Limits, Span, Syntax};
 use std::alloc::{AllocError, Global};
 
 /// The words are a text, the limits, and the start and end of a span. `touched` is answered by the whole lines that the span
-/// touches. For `reread` two more words are the lines that replace these, and what is asked of the syntax of the text with
-/// these lines, as in the group `syntax`; for `reread again` it is read once more where memory was refused.
+/// touches, and its growths are counted. For `reread` two more words are the lines that replace these, and what is asked of the
+/// syntax of the text with these lines, as in the group `syntax`; for `reread again` it is read once more where memory was
+/// refused.
 pub fn answer(alloc: Global, row: &Row) -> Answer {
     let text = row.text(0);
     let limits = row.limits(1);
@@ -33,7 +35,12 @@ fn of_span(alloc: Global, row: &Row, text: &str, limits: Limits, syntax: &Syntax
         return String::from_str(alloc, "no such span");
     }
     match row.question() {
-        "touched" => touched(alloc, syntax.lines(span)),
+        "touched" => {
+            begin_count(alloc);
+            let whole = syntax.lines(span);
+            end_count(alloc);
+            touched(alloc, whole)
+        }
         _ => replaced(alloc, row, text, limits, syntax, span),
     }
 }

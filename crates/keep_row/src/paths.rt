@@ -42,7 +42,8 @@ fn report_of(alloc: Global, path: &Path) -> Answer {
     Ok(out)
 }
 
-fn push_step(out: &mut String, step: Option<&Step>) -> Result<(), AllocError> {
+/// Writes a step: a key in angle brackets, an index in parentheses.
+pub(crate) fn push_step(out: &mut String, step: Option<&Step>) -> Result<(), AllocError> {
     match step {
         Some(Step::Key(key)) => write!(out, "<{key}>"),
         Some(Step::Index(index)) => write!(out, "({index})"),

@@ -1,10 +1,12 @@
 //! Questions about the nodes of a document by the definition rules.
 ghost use Rattle.std.specs.Prelude.{◌<◌, length};
 
+use keep_row::growths::{begin_count, end_count, room};
 use keep_row::{Answer, Row, unknown};
-use keep_rules::{Index, Kind, NodeId, Origin, Path};
+use keep_rules::{Index, Kind, NodeId, Origin, Path, Step};
 use keep_syntax::{Limits, ReadFault, Span, Syntax, ValueSyntax};
 use std::alloc::{AllocError, Global};
+use std::fmt::Write;
 
 /// What is known of a node, with its places in the text, as rows write it.
 #[derive(Clone, Copy, Debug)]
@@ -55,6 +57,7 @@ fn report_of(alloc: Global, syntax: &Syntax, index: &Index, row: &Row) -> Answer
         "count" => format!(in alloc; "{}", index.node_count()),
         "paths" => paths(alloc, index),
         "node" => node(alloc, syntax, index, row.text(1)),
+        "index" => counted(alloc, syntax, index, row.text(1)),
         "first" => first(alloc, index, row.text(1), row.number(2)),
         question => report_of_node(alloc, index, question, row),
     }
@@ -135,4 +138,61 @@ fn first(alloc: Global, index: &Index, path: &str, count: usize) -> Answer {
         return String::from_str(alloc, "no path");
     };
     seen(alloc, index.find_first(&path, count))
+}
+
+// What takes no memory, between two marks.
+fn counted(alloc: Global, syntax: &Syntax, index: &Index, path: &str) -> Answer {
+    let Ok(path) = Path::read(alloc, path) else {
+        return String::from_str(alloc, "no path");
+    };
+    let mut out = room(alloc)?;
+    begin_count(alloc);
+    let stated = tell(&mut out, syntax, index, &path);
+    end_count(alloc);
+    stated?;
+    Ok(out)
+}
+
+// How many nodes there are; those of a path, of its first step, and with the key `k` in place of its last step.
+fn tell(out: &mut String, syntax: &Syntax, index: &Index, path: &Path) -> Result<(), AllocError> {
+    write!(out, "{};", index.node_count())?;
+    push_node(out, index.find(path))?;
+    push_node(out, index.find_first(path, 1))?;
+    push_node(out, index.sibling(path, "k"))?;
+    match index.find(path) {
+        Some(id) => tell_node(out, syntax, index, id, path.step(0)),
+        None => Ok(()),
+    }
+}
+
+// What is known of a node: its children, the last of them, those with the key `k` and at a step, and its kind and spans.
+fn tell_node(
+    out: &mut String,
+    syntax: &Syntax,
+    index: &Index,
+    id: NodeId,
+    step: Option<&Step>,
+) -> Result<(), AllocError>
+    requires { id.0 < length index.now.paths }
+{
+    let count = index.child_count(id);
+    write!(out, "; {count}")?;
+    push_node(out, index.child_at(id, count.saturating_sub(1)))?;
+    push_node(out, index.child(id, "k"))?;
+    if let Some(step) = step {
+        push_node(out, index.step(id, step))?;
+    }
+    let info = info(syntax, index, id);
+    write!(
+        out,
+        "; {:?} {:?} {:?}",
+        info.kind, info.value_span, info.key_span
+    )
+}
+
+fn push_node(out: &mut String, id: Option<NodeId>) -> Result<(), AllocError> {
+    match id {
+        Some(NodeId(number)) => write!(out, " {number}"),
+        None => out.push_str(" none"),
+    }
 }

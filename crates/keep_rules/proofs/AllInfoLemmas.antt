@@ -1,4 +1,13 @@
 -- Joining the facts from one mention after another gives the facts that the definitions have of all nodes.
+--
+-- The code adds the facts of one mention after another; the definition computes them at each path from all mentions
+-- there. The proof is an induction over the mentions (`added_further`). For one more mention there are two cases
+-- (`met_or_unmet`): its path has a node, and its facts are joined to those there (`added_at_existing`), or it has none,
+-- and a node is added at the end (`added_new`). In both the facts at all other paths are unchanged (`elsewhere`). A
+-- count of marks in a machine word does not overflow, as fewer than 2^64 marks are assumed, and a value's path has no
+-- node yet (`ValuesAreNew`).
+--
+-- Theorems: `all_infos`: the facts of all nodes; `values_new_in`: those of a document.
 use Rattle.std.proofs.Common.{◌≡◌, ◌≢◌, ℕ, ◌<◌, ◌≤◌, Bool, true, false, cond, ◌||◌, ◌⊎◌, List, [], ◌∷◌, ◌++◌, length, get_or, set, map, refl, sym, ap, subst, ◌∙◌, arith, inl, inr, Some, None}
 use Rattle.std.specs.Prelude.{◌^◌, Contains, AllPairs}
 use Rattle.std.specs.List.{list_any, count_by, position_or_len}

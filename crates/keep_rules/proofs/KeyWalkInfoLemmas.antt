@@ -1,4 +1,13 @@
 -- The facts that headers and values add, key by key.
+--
+-- The code walks along the keys of a header or a keyval and changes one node for each; the definitions list the
+-- mentions of the whole statement. For one key, the facts that the code adds are those of the mentions at its path
+-- (`past_added`, `through_added`, `define_added`, `begin_added`, `item_added`). Such additions are joined in their
+-- order (`adds_then`), along the leading keys of a header (`header_adds`, `walk_adds`) and those of a keyval
+-- (`dot_adds`). For that the numbers after the leading keys have to be known: `header_counts` and `dotted_counts`, by
+-- induction over the keys.
+--
+-- Theorems: `header_added`, `element_added` and `keyed_added`: a whole header, element header and keyval.
 use Rattle.std.proofs.Common.{◌≡◌, ℕ, ◌+◌, ◌<◌, true, false, cond, List, [], ◌∷◌, ◌++◌, length, map, refl, sym, ◌∙◌, ap, subst, arith, None, Result, Ok, Err}
 use Rattle.std.specs.Prelude.{Contains, ◌==◌, OnOk, IfOk}
 use Rattle.std.proofs.lemmas.List.{append-nil, get_or_default}

@@ -1,4 +1,13 @@
 -- Reading a keyval of the flat list as the statement that it is.
+--
+-- A keyval is read as its own value, which is a nested value of the body with keys (`top_read`), and then all values
+-- inside it. The body is seen as a nesting with nothing in it yet (`open_nesting`). The values inside are those of the
+-- flat list from the next number on (`nested_next`), and reading both one after the other is reading the statement
+-- (`keyval_all_read`, `keyval_read`). A fault is in the keyval's own keys (`keys_break`) or inside its value
+-- (`nested_breaks`), and is then the same fault of the statement.
+--
+-- Theorems: `keyval_is_read`: the keyval is read as its statement; `keys_break_as_matched` and
+-- `nested_breaks_as_matched`: its faults.
 use Rattle.std.proofs.Common.{◌≡◌, ℕ, zero, suc, ◌+◌, ◌<◌, ◌≤◌, false, List, [], ◌∷◌, ◌++◌, length, get_or, map, take, drop, slice_get, refl, sym, ◌∙◌, ap, subst, arith, inl, inr, Option, Some, None}
 use Rattle.std.proofs.lemmas.Bool.{cases_Bool}
 use Rattle.std.proofs.lemmas.List.{append-nil}

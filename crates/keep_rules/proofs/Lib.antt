@@ -13,6 +13,7 @@ mod LookupLemmas
 mod ChildLemmas
 mod ClimbLemmas
 mod PathStepLemmas
+mod AddedTexts
 mod QueryLemmas
 mod OutcomeLemmas
 mod ElementLemmas

@@ -1,4 +1,13 @@
 -- A mark at a new node and at one that is there.
+--
+-- A mark of a key is made in two ways. If the path has no node, one is added to its parent, which is a table
+-- (`marked_new`). If it has one, that node gets another state (`marked_existing`), or the mark is refused
+-- (`was_refused`). In both the invariants of the nodes have to hold again; `TablesLemmas` has most of them. For an
+-- existing node the new state must say what the old one and the new role say together (`one_then`), and must fit what
+-- the node holds: a state that lets headers pass comes from one that let them pass (`opens`, one case for each pair of
+-- roles).
+--
+-- Theorems: `marked_new` and `marked_existing`: the mark is in the nodes; `was_refused`: the rules refuse it.
 use Rattle.std.proofs.Common.{◌≡◌, ℕ, ◌<◌, Bool, true, false, ◌&&◌, List, [], ◌∷◌, ◌++◌, length, get_or, refl, sym, ◌∙◌, ap, subst, arith, Option, Some, None, Ok, Err}
 use Rattle.std.specs.Prelude.{IsSome, IfOk, Result}
 use Rattle.std.specs.List.{list_all, cons_option}

@@ -1,4 +1,12 @@
 -- The facts about a node after one more mention are the facts before, joined with those from that mention.
+--
+-- What is known of a node has five fields, and each is shown alone, for one mention more at its path: the kind
+-- (`kind_more`, by the mention's kind), the first key part (`key_joined`: the first one stays), the count of marks
+-- (`marks_joined`), whether a header passed it (`passed_joined`), and the origin (`place_more`). The origin is the hard
+-- one: it is the first known of several numbers in a fixed order, so there is a lemma for each kind of mention that a
+-- later one may be (`later_begun`, `later_define` and the others).
+--
+-- Theorem: `node_joined`: the facts after one more mention are the facts before, joined with its own.
 use Rattle.std.proofs.Common.{◌≡◌, ℕ, ◌+◌, ◌<◌, ◌-◌, Bool, true, false, cond, ◌||◌, List, [], ◌∷◌, ◌++◌, map, refl, sym, ap, ◌∙◌, arith, Option, Some, None}
 use Rattle.std.specs.Prelude.{◌==◌, ◌^◌, min}
 use Rattle.std.specs.List.{list_any, filter_map, count_by}

@@ -1,4 +1,13 @@
 -- A header goes past a key.
+--
+-- There are two cases, by whether the path has elements. If not, the key is marked as one that a header goes through,
+-- and the header goes on in its node (`passes_marked`). If it has, it is an array of tables, and the header goes on in
+-- the node of its last element (`passes_element`); then no node changes at all. For this the array has to stay what it
+-- is: a role that allows elements also allows `Past`, and allows the same with one `Past` more (`lets_past`, `as_past`,
+-- one case for each pair of roles). The node of the last element is at the path that the definition enters
+-- (`element_place`).
+--
+-- Theorems: `passes_marked` and `passes_element`: where the header goes on, and with which mentions.
 use Rattle.std.proofs.Common.{◌≡◌, ℕ, ◌-◌, ◌<◌, Bool, true, false, cond, ◌&&◌, List, [], ◌∷◌, ◌++◌, length, refl, sym, ◌∙◌, ap, subst, arith, Option, Some, None, Ok, Err, inl, inr}
 use Rattle.std.specs.Prelude.{Contains, ◌==◌, Result, IfOk, OnOk}
 use Rattle.std.specs.List.{list_all}

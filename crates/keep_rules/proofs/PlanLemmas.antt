@@ -1,4 +1,13 @@
 -- Reading one value of the flat list as the nested value that it is.
+--
+-- The flat list has each value with a number for its owner; the tree has it inside its owner. `IsNext` of another file
+-- says which nested value comes next. From it come what the code needs before it pushes (`some_item_place`,
+-- `some_keyed_place`: the owner has a node, and may have such children) and what holds after (`item_read_all`,
+-- `keyed_read_all`). An item's owner is an array and a keyval's an inline table, so each lemma splits by the nested
+-- value and drops the case that does not fit. A fault in its keys is one of the document, with the number of the first
+-- key added (`keyed_fault_meets`).
+--
+-- Theorems: `item_read_all` and `keyed_read_all`: one value is read; `keyed_fault_meets`: or a fault of its keys.
 use Rattle.std.proofs.Common.{◌≡◌, ℕ, ◌+◌, ◌-◌, ◌<◌, ◌≤◌, false, List, [], ◌∷◌, ◌++◌, length, get_or, refl, sym, ◌∙◌, ap, subst, arith, length-append}
 use Rattle.std.proofs.lemmas.List.{length-map}
 use Rattle.std.proofs.lemmas.List.Elements.{filter_map-append}

@@ -1,4 +1,12 @@
 -- What a new node, and another state of a node, do to arrays, tables and arrays of tables.
+--
+-- Two changes of the list of nodes are looked at: one node more (`Grows`, with `Joins` for how it joins its parent) and
+-- another state of one node (`Restates`). For each, every invariant is shown to hold after it: the shape of the nodes
+-- (`IsShaped`), the elements that each array of tables has (`AreTables`), and that each has one (`AllBegun`). A node is
+-- either the new one, its parent, or another, and the three cases are split by number. A new state must not turn a node
+-- into an array of tables, or back: `kind_preserved` and `kind_made` show this from the table of roles, case by case.
+--
+-- Theorems: `shaped_grown` and `shaped_restated`: the shape of the nodes holds after both changes.
 use Rattle.std.proofs.Common.{add-zero, ◌≡◌, ℕ, ◌+◌, ◌<◌, Bool, true, false, cond, ◌&&◌, List, [], ◌∷◌, ◌++◌, length, get_or, refl, sym, ◌∙◌, ap, subst, arith, length-append, Option, Some, None, inl, inr}
 use Rattle.std.specs.Prelude.{Contains, IsSome}
 use Rattle.std.specs.List.{list_all}

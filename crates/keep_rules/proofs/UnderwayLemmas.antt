@@ -1,4 +1,12 @@
 -- Nested values, of which some are read.
+--
+-- The nodes of nested values are made in a loop along the flat list. Its invariant is `AreUnderway`: some of the nested
+-- values are read, the others are left, and the next has this number. It holds at the start (`begin_underway`) and
+-- after one more value (`underway_more`), since the next value of the list is the first that is left (`has_next`). The
+-- loop ends at a value that is in no other value, or at the end of the list; then none is left (`none_left`,
+-- `underway_ends`). A fault in the next value is one of all (`underway_fault`).
+--
+-- Theorems: `begin_underway`, `underway_more`, `underway_ends`: the invariant, from the first value to the last.
 use Rattle.std.proofs.Common.{◌≡◌, ℕ, ◌+◌, ◌≤◌, List, [], ◌∷◌, ◌++◌, length, refl, sym, ◌∙◌, ap, subst, arith, length-append, Some}
 use Rattle.std.specs.Prelude.{slice_get}
 use Rattle.std.proofs.lemmas.List.{append_assoc, append-nil}

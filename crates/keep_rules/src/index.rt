@@ -156,10 +156,11 @@ impl Index {
 
     /// Adds the text of the node's path, as `Path::encode` writes it. No path is made: beside the text it takes the
     /// memory of the node numbers from the node up to the root. The only error is that memory was refused; then `out`
-    /// may have grown by a part of the text.
+    /// has the text that it had.
     pub fn push_path_text(&self, id: NodeId, out: &mut String) -> Result<(), AllocError>
         requires { id.0 < length self.now.paths }
-        ensures { OnOk result (string_bytes out.new ≡ string_bytes out.old ++ encoded_path (path_numbered self.now id.0)) }
+        ensures pushed { OnOk result (string_bytes out.new ≡ string_bytes out.old ++ encoded_path (path_numbered self.now id.0)) }
+        ensures refused { OnErr result (string_bytes out.new ≡ string_bytes out.old) }
     {
         push_path(out, &self.nodes, id.0)
     }

@@ -3,3 +3,4 @@ pub mod Loses
 pub mod AnswerLaws
 pub mod ProfileLaws
 pub mod ListLines
+pub mod RunLaws

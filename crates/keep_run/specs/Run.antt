@@ -16,6 +16,10 @@ IsWithinLimit bytes = length bytes ≤ LONGEST_INPUT
 abbrev pub IsTooLong : List ℕ → Type 0
 IsTooLong bytes = LONGEST_INPUT < length bytes
 
+-- These bytes were read: they are within the limit, and are those that the reader states, if it states them.
+abbrev pub IsInput : Option (List ℕ) → List ℕ → Type 0
+IsInput stated bytes = IsWithinLimit bytes × IfSome stated (λ known. bytes ≡ known)
+
 -- why reading stopped, where the input held these bytes and has failed or not
 abbrev pub StopsReading : Option (List ℕ) → RunFault → Bool → Type 0
 StopsReading input Read failed = failed ≡ true
@@ -26,7 +30,7 @@ StopsReading input _ failed = ⊥
 module _ {Z : Type 0} where
   -- all bytes of the input, which are within the limit, or why not
   abbrev pub ReadsAll : Option (List ℕ) → Result (Vec ℕ Z) RunFault → Bool → Type 0
-  ReadsAll input (Ok bytes) failed = (failed ≡ false) × IsWithinLimit bytes.items × IfSome input (λ known. bytes.items ≡ known)
+  ReadsAll input (Ok bytes) failed = (failed ≡ false) × IsInput input bytes.items
   ReadsAll input (Err fault) failed = StopsReading input fault failed
 
 -- why writing stopped
@@ -54,18 +58,18 @@ abbrev pub WritesPrefix : Command → List ℕ → Option (List ℕ) → Option 
 WritesPrefix command bytes old new written =
     (text : List ℕ) × IsText command (text_in (profile_of command) bytes) text × (written < length text) × Appends old new (take written text)
 
--- the input is within the limit, and the answer to the command and its bytes is written
+-- The answer to the command and the bytes that were read is written. Some bytes were read, whatever the reader states.
 abbrev pub HasWritten : Command → Option (List ℕ) → Option (List ℕ) → Option (List ℕ) → ℕ → Type 0
-HasWritten command input old new written = IfSome input (λ bytes. IsWithinLimit bytes × WritesAnswer command bytes old new written)
+HasWritten command input old new written = (bytes : List ℕ) × IsInput input bytes × WritesAnswer command bytes old new written
 
 -- Nothing is written but by a fault of writing, which leaves the first bytes of the answer. Faults of the document, of
--- an edit and of writing are about an input within the limit: too long an input is reported before it is looked at.
+-- an edit and of writing are about the bytes that were read: too long an input is reported before it is looked at.
 abbrev pub StopsRun : Command → Option (List ℕ) → Option (List ℕ) → Option (List ℕ) → RunFault → Type 0
 StopsRun command input old new Read = Keeps old new
 StopsRun command input old new TooLong = Keeps old new × IfSome input IsTooLong
-StopsRun command input old new (Write written) = IfSome input (λ bytes. IsWithinLimit bytes × WritesPrefix command bytes old new written)
+StopsRun command input old new (Write written) = (bytes : List ℕ) × IsInput input bytes × WritesPrefix command bytes old new written
 StopsRun command input old new Memory = Keeps old new
-StopsRun command input old new fault = Keeps old new × IfSome input (λ bytes. IsWithinLimit bytes × IsRefusal command (text_in (profile_of command) bytes) fault)
+StopsRun command input old new fault = Keeps old new × ((bytes : List ℕ) × IsInput input bytes × IsRefusal command (text_in (profile_of command) bytes) fault)
 
 -- at most so many known bytes went
 abbrev pub LosesAtMost : ℕ → Option (List ℕ) → Option (List ℕ) → Type 0

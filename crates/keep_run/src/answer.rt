@@ -124,9 +124,25 @@ fn string_text(alloc: Global, document: &Document, path: &Path) -> Result<String
     }
 }
 
+/// What becomes of a document's memory once the answer is made.
+#[derive(Clone, Copy)]
+pub enum Rest {
+    /// It is freed.
+    Freed,
+    /// It is left as it is. The program ends with its answer: to take the document apart piece by piece would only cost time.
+    Left,
+}
+
+fn put_away(document: Document, rest: Rest) {
+    match rest {
+        Rest::Freed => {}
+        Rest::Left => mem::forget(document),
+    }
+}
+
 // The text after the edits in order, or the first refusal. Nothing is asked of the document after the last of them, so
 // that one gives its text alone, and the text is not read once more.
-fn text_after_edits(document: Document, edits: &[Edit]) -> Result<String, RunFault>
+fn text_after_edits(document: Document, edits: &[Edit], rest: Rest) -> Result<String, RunFault>
     ensures { (s : tree.Document) → IsTextOfTree document s
         → MatchResult result (λ text. AppliesTo document.profile edits.now s (string_bytes text)) (spec.Refused document.profile edits.now s) }
 {
@@ -139,14 +155,13 @@ fn text_after_edits(document: Document, edits: &[Edit]) -> Result<String, RunFau
         match changed.apply(&edits[index]) {
             Ok(_) => {}
             Err(fault) => {
-                mem::forget(changed);
+                put_away(changed, rest);
                 return Err(of_edit(index, fault));
             }
         }
     }
     let text = changed.text_applied(&edits[last]);
-    // As in `answer`, here and above: the program ends with its answer.
-    mem::forget(changed);
+    put_away(changed, rest);
     match text {
         Ok(text) => Ok(text),
         Err(fault) => Err(of_edit(last, fault)),
@@ -163,12 +178,26 @@ fn profile_for(command: &Command) -> Profile
     }
 }
 
-/// What the program writes for a command and the bytes of its input.
+/// What the program writes for a command and the bytes of its input, and leaves the document's memory as it is.
 pub fn answer(alloc: Global, command: &Command, bytes: Vec<u8>) -> Result<String, RunFault>
     ensures { MatchResult result (λ text. IsText command.now (text_in (profile_of command.now) bytes.items) (string_bytes text))
         (λ fault. (fault ≡ RunFault.Memory) ⊎ IsRefusal command.now (text_in (profile_of command.now) bytes.items) fault) }
 {
-    let document = match Document::read_owned_in(alloc, bytes, profile_for(command)) {
+    answer_in(alloc, command, profile_for(command), bytes, Rest::Left)
+}
+
+/// The answer to a command and the bytes of a document in a profile.
+pub fn answer_in(
+    alloc: Global,
+    command: &Command,
+    profile: Profile,
+    bytes: Vec<u8>,
+    rest: Rest,
+) -> Result<String, RunFault>
+    ensures { MatchResult result (λ text. IsText command.now (text_in profile bytes.items) (string_bytes text))
+        (λ fault. (fault ≡ RunFault.Memory) ⊎ IsRefusal command.now (text_in profile bytes.items) fault) }
+{
+    let document = match Document::read_owned_in(alloc, bytes, profile) {
         Ok(document) => document,
         Err(fault) => return Err(of_read(fault)),
     };
@@ -177,10 +206,9 @@ pub fn answer(alloc: Global, command: &Command, bytes: Vec<u8>) -> Result<String
         Command::List => list_lines(alloc, &document),
         Command::Get(path) => value_line(alloc, &document, path),
         Command::Text(path) => string_text(alloc, &document, path),
-        Command::Apply(edits) => return text_after_edits(document, edits.as_slice()),
-        Command::ApplyWide(edits) => return text_after_edits(document, edits.as_slice()),
+        Command::Apply(edits) => return text_after_edits(document, edits.as_slice(), rest),
+        Command::ApplyWide(edits) => return text_after_edits(document, edits.as_slice(), rest),
     };
-    // The program ends with its answer: to take the document apart piece by piece would only cost time.
-    mem::forget(document);
+    put_away(document, rest);
     answer
 }

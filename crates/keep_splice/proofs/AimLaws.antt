@@ -1,4 +1,13 @@
 -- Where an insert goes: an item of an array or not, and the refusals in their order.
+--
+-- A path names an item of an array where its last step is an index and the rest is a value that is an array; else a
+-- keyval goes below the holder. The code asks the kind of the holder's node; that this decides is `key_item` and
+-- `far_item`, by cases of the fact at its path. For an item, the numbers of the values decide where it goes: an item
+-- with a number has a value, and one above the count has none (`below_of_some`, `above_of_none`). So the split is: the
+-- item is there, the one before it is, the array is empty, or the number is too large.
+--
+-- Theorems: `before_item`, `after_item`, `in_empty_array` and `no_item_there`: where an item is put in, or that it is
+-- refused.
 use Rattle.std.proofs.Common.{◌≡◌, ℕ, zero, suc, ◌-◌, ◌<◌, ◌≤◌, Bool, true, false, List, [], ◌∷◌, ◌++◌, length, take, slice_get, refl, sym, ap, subst, ◌∙◌, arith, Option, Some, None, Ok, Err, inl, inr}
 use Rattle.std.specs.Prelude.{if◌then◌else◌}
 use Rattle.std.proofs.lemmas.Bool.{cases_lt}

@@ -1,4 +1,13 @@
 -- The way along a path: one step further, and the longest prefix of the path that names a node.
+--
+-- The code steps along the path from node to node and counts the arrays and inline tables that it passes. `IsGoing` is
+-- its loop invariant: it holds at the root (`going`), and a step to the next node keeps it (`went`). The loop ends
+-- where no node is further on (`stopped`) or the path has no more steps but its last (`ended`). For both, `holder_at`
+-- shows that the node reached is the last prefix that is a node, as the definition asks: a prefix that is no node is no
+-- bracket either (`flat_unless`), so the count does not change after it (`enclosing_same`). The long case split is one
+-- step, `next_one`.
+--
+-- Theorems: `stopped` and `ended`: where the loop ends, the node that it is at is the holder of the path.
 use Rattle.std.proofs.Common.{◌≡◌, ℕ, zero, suc, ◌+◌, ◌-◌, ◌<◌, ◌≤◌, Bool, true, false, cond, List, [], ◌∷◌, ◌++◌, map, length, take, drop, slice_get, refl, sym, ap, subst, ◌∙◌, append_assoc, arith, Option, Some, None, ◌⊎◌, inl, inr}
 use Rattle.std.specs.Prelude.{fold, if◌then◌else◌}
 use Rattle.std.specs.List.{count_by, list_any}

@@ -1,4 +1,14 @@
 -- What is written where an insert goes is the edit's place.
+--
+-- There are six spots where an insert may go: before an item, after an entry, in empty brackets, after a body, after a
+-- line, and in a new section. For each the code needs three facts: what it looks up is there (`.._there`), the place is
+-- within the text (`.._within`), and the bytes that it writes there are those of the edit's place (`.._put`). In
+-- brackets the place comes from a stored value, and there is one value of a number (`one_info`); elsewhere it is an end
+-- that was found in the statements (`put_line`). A place is between characters, since an ASCII byte or nothing comes
+-- after it (`put_low`).
+--
+-- Theorems: `inserted_at`: what was written is the edit; `before_put`, `after_put`, `empty_put`, `body_put`,
+-- `line_put`, `section_put`: the place of each spot.
 use Rattle.std.proofs.Common.{◌≡◌, ℕ, suc, ◌<◌, ◌≤◌, false, List, [], ◌++◌, length, take, drop, slice_get, refl, sym, ap, subst, ◌∙◌, append_assoc, arith, Option, Some, None, Ok, Err, inl, inr}
 use Rattle.std.specs.Prelude.{IsCharBoundary, codes}
 use Rattle.std.specs.List.{list_any}

@@ -1,4 +1,14 @@
 -- Where a keyval goes below the holder of its path, by where the holder comes from.
+--
+-- The code decides by the origin of the holder's node; the definition asks what is mentioned at the holder's path. The
+-- origin is the first number that is known, in a fixed order, so it says which of them are not known (`table_fits`,
+-- `value_fits`, `root_fits`). There is one lemma for each origin. A table gets the keyval after its body, in a new
+-- section, after the last line or entry of its dotted keys, or in its braces. A value that is no inline table, and an
+-- array of tables, refuse it (`value_refused`, `tables_refused`). `own_base` and `base_is` say how much of the path is
+-- written.
+--
+-- Theorems: `root_spot`, `header_spot`, `element_spot`, `through_spot`, `line_dotted`, `braces_dotted`, `braces_aimed`:
+-- the spot by the origin.
 use Rattle.std.proofs.Common.{◌≡◌, ℕ, ◌≤◌, Bool, true, false, not, ◌&&◌, List, [], ◌∷◌, length, take, refl, sym, ap, subst, ◌∙◌, arith, Option, Some, None, Ok, Err, inl, inr}
 use Rattle.std.specs.Prelude.{if◌then◌else◌}
 use Rattle.std.specs.Option.{option_map}

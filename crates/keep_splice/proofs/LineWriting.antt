@@ -3,6 +3,9 @@
 --
 -- A text begins with a byte order mark exactly if the tree has one, since else its first byte is ASCII. What is pushed
 -- piece by piece is one text with the brackets moved (`line_pushed`, `section_pushed`).
+--
+-- Theorems: `line_pushed` and `section_pushed`: what is written; `header_ends`, `root_ends` and `line_ends`: where it
+-- is written.
 use Rattle.std.proofs.Common.{◌≡◌, ℕ, zero, suc, ◌-◌, ◌<◌, ◌≤◌, ◌==◌, Bool, true, false, cond, not, ◌&&◌, List, [], ◌∷◌, ◌++◌, length, take, drop, slice_get, slice_index_or, refl, sym, ap, ◌∙◌, append_assoc, arith, Option, Some, None}
 use Rattle.std.specs.Prelude.{codes, nat_lt}
 use Rattle.std.specs.List.{flat_map, starts_with}

@@ -1,4 +1,13 @@
 -- What `remove` takes hold of is cut where the edit's place is, between characters.
+--
+-- There are three arms, as in the code: a value on its own line (`line_arm`), a value in brackets (`entry_arm`), and a
+-- section (`section_arm`). In each the value or statement that the code looked up is the one of the definition, since
+-- the path has one number. Then the cut is at the same place. That its ends are between characters is shown from the
+-- bytes: before an ASCII byte or at the end of the text there is always a boundary (`low_boundary`). In brackets this
+-- takes a case for each comma (`entry_cut_at`), and the gap that is put back has such ends, too.
+--
+-- Theorems: `line_arm`, `entry_arm`, `section_arm`: the cut that each arm makes is the edit's; `removal_done` for the
+-- whole edit.
 use Rattle.std.proofs.Common.{◌≡◌, ℕ, zero, suc, ◌+◌, ◌<◌, ◌≤◌, true, false, List, [], ◌++◌, length, get_or, drop, slice_get, refl, sym, ap, subst, ◌∙◌, length-append, append_assoc, length-drop, get_or-drop, arith, Option, Some, None, Ok, inl, inr, drop_at}
 use Rattle.std.specs.Prelude.{IsUtf8, IsCharBoundary}
 use Rattle.std.specs.List.{prefix_len}

@@ -1,4 +1,14 @@
 -- What is known of a node tells whether `remove` is refused, and what it takes hold of.
+--
+-- The index says where a node comes from and how many marks name it; the refusal speaks of all mentions at its path. A
+-- number that is stated means that there is such a mention, and none means that there is not (`has_of`, `none_of`). So
+-- the origin decides by cases: a value is one piece, a table or an element is one piece where nothing else enters it,
+-- and every other node is scattered. The hard case is a table: it may be removed where its header is its only mark. For
+-- that, `beside_define` shows, over the kinds of mentions at one path, that all other marks there are headers through
+-- it.
+--
+-- Theorems: `value_piece`, `table_alone`, `table_shared`, `element_alone`, `element_shared`, `other_scattered`: the
+-- answer by the origin of the node; `no_removal` where there is no node.
 use Rattle.std.proofs.Common.{◌≡◌, ℕ, zero, suc, ◌+◌, Bool, true, false, cond, not, ◌&&◌, ◌||◌, ◌==◌, List, [], ◌∷◌, ◌++◌, map, length, refl, sym, ap, subst, ◌∙◌, arith, Option, Some, None, Ok, Err, ◌⊎◌, inl, inr}
 use Rattle.std.specs.Prelude.{filter, fold, if◌then◌else◌}
 use Rattle.std.specs.List.{list_any, count_by}

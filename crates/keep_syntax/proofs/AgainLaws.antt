@@ -1,4 +1,13 @@
 -- What is a value within the limit is read.
+--
+-- The other direction of `ValueLaws`, by induction over the depth that is left; all lemmas on entries assume that the
+-- values inside are read again (`ReadsAgain`). An entry is read again if what follows it may follow (`item_again`): its
+-- comma, or the closing bracket. The entries are an induction over the tree (`entries_again`), where the loop goes on
+-- after a comma and ends at the bracket. So for each part it has to be known which byte it begins with (`value_begins`,
+-- `entries_begin`). The hard case is a comma, after which the next entry comes or the closing bracket
+-- (`comma_follows`).
+--
+-- Theorem: `value_again`: a valid value within the limit is read, with what follows it left.
 use Rattle.std.proofs.Common.{◌≡◌, ℕ, zero, suc, ◌<◌, ◌≤◌, Bool, true, false, not, ◌&&◌, ◌==◌, List, [], ◌∷◌, ◌++◌, length, Option, Some, None, Ok, Err, refl, sym, ap, ◌∙◌, subst, arith, take_at, drop_at, eqb-true}
 use Rattle.std.proofs.lemmas.Bool.Decides.{nat_tests}
 use Rattle.std.proofs.lemmas.List.{append-nil}
@@ -43,13 +52,13 @@ value_begins profile v rest h = by v.body v.nested h.body h.nested
 abbrev pub EntryFirst : Brackets → ℕ → Type 0
 EntryFirst b c = (is_solid c ≡ true) × ((c == close_byte b) ≡ false)
 
-value_first_entry : (c : ℕ) → is_value_first c ≡ true → EntryFirst brackets.Array c
+pub value_first_entry : (c : ℕ) → is_value_first c ≡ true → EntryFirst brackets.Array c
 value_first_entry c h = (value_first_solid c h, no_close c h)
   where
     no_close : (c : ℕ) → is_value_first c ≡ true → (c == 0x5D) ≡ false
     no_close c h = grind (arith, nat_tests)
 
-key_first_entry : (c : ℕ) → is_key_first c ≡ true → EntryFirst brackets.Inline c
+pub key_first_entry : (c : ℕ) → is_key_first c ≡ true → EntryFirst brackets.Inline c
 key_first_entry c h = (key_first_solid c h, no_close c h)
   where
     no_close : (c : ℕ) → is_key_first c ≡ true → (c == 0x7D) ≡ false
@@ -104,7 +113,7 @@ after_again profile b name v after None x gap h =
 after_again profile b name v after (Some g) x gap h =
     rw (gap_again profile b after (0x2C ∷ (text_of g ++ x)) gap refl, gap_again profile b g x h.0 h.1, h.2) refl
 
-named_again : (profile : Profile) (b : Brackets) (n : Option Name) (x : List ℕ) → IsNamed profile (place_of b) n → is_ws (first x) ≡ false → named_in profile b (text_of (named_leaves n) ++ x) ≡ Ok (n, x)
+pub named_again : (profile : Profile) (b : Brackets) (n : Option Name) (x : List ℕ) → IsNamed profile (place_of b) n → is_ws (first x) ≡ false → named_in profile b (text_of (named_leaves n) ++ x) ≡ Ok (n, x)
 named_again profile brackets.Array None x h stop = refl
 named_again profile brackets.Array (Some n) x h stop = absurd h
 named_again profile brackets.Inline None x h stop = absurd h
@@ -147,7 +156,7 @@ comma_follows profile b room (Some g) (entry name body nested after comma more) 
     never true = refl
     never false = refl
 
-iteration_again : (profile : Profile) (b : Brackets) (room : ℕ) (value : List ℕ → Read Value) → ReadsAgain profile room value → (prefix : Entries) (i : Item) (x : List ℕ) → AnItem profile b room i → Follows profile b i.comma x
+pub iteration_again : (profile : Profile) (b : Brackets) (room : ℕ) (value : List ℕ → Read Value) → ReadsAgain profile room value → (prefix : Entries) (i : Item) (x : List ℕ) → AnItem profile b room i → Follows profile b i.comma x
     → entry_by profile b value prefix (text_of (item_leaves i) ++ x) ≡ Ok (iteration_of prefix i i.comma, x)
 unfolding entry_by
 iteration_again profile b room value again prefix i x h follows =

@@ -1,4 +1,13 @@
 -- No leaf but End is empty, so there are at most as many tokens as bytes, and End. And each begins a character.
+--
+-- Each part of a document is gone through, from gaps and key parts up to lines, and each token in it has bytes, of
+-- which the first is ASCII; the byte order mark alone begins with another first byte of a character (`AreSome`). What a
+-- part begins with is known from how it is read: a key part (`part_some`), a scalar (`body_some`), a gap (`gap_some`).
+-- Entries are an induction over the tree (`entries_some`), and lines one over the list (`ended_some`). A list of tokens
+-- that all have bytes is no longer than its text (`some_count`).
+--
+-- Theorems: `document_some`: every token but the last has bytes and begins a character; `leaves_count`: the number of
+-- tokens.
 use Rattle.std.proofs.Common.{◌≡◌, ℕ, ◌+◌, ◌<◌, ◌≤◌, Bool, true, false, List, [], ◌∷◌, ◌++◌, length, Option, Some, None, refl, sym, ap, subst, ◌∙◌, arith, append_assoc, inl, inr}
 use Rattle.std.specs.Prelude.{IsTrue}
 use Rattle.std.specs.List.{flat_map, list_all, AllByRecursion}

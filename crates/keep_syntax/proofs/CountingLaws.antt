@@ -1,4 +1,12 @@
 -- How much comes before a line is found in what is stored: by places that ascend, and by the first statement after it.
+--
+-- The code has a place and the stored lists; it counts the token places before it, and the statements that begin before
+-- it. Both ascend, so the count is the length of what is stored of the lines before (`places_found`,
+-- `statements_found`, by induction). How many key parts and values come before is read off the first statement and the
+-- first keyval from there on (`key_count`, `value_count`). A document's lists are those of the lines before, joined
+-- with those of the rest (`flat_before`), and a part of a joined list is one of the two (`part_prefix`, `part_back`).
+--
+-- Theorem: `counts_found`: the counts that the code finds are those of the lines before the place.
 use Rattle.std.proofs.Common.{◌≡◌, ℕ, suc, ◌+◌, ◌-◌, ◌<◌, ◌≤◌, List, [], ◌∷◌, ◌++◌, length, take, drop, refl, sym, ap, subst, ◌∙◌, arith, Option, Some, None, le-ltb, lt-ltb}
 use Rattle.std.specs.Prelude.{⊤, ltb, slice_range}
 use Rattle.std.specs.List.{flat_map, AllByRecursion}

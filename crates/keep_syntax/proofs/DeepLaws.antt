@@ -1,5 +1,5 @@
 -- Where a bracket is one too many, some value continues after it.
-use Rattle.std.proofs.Common.{◌≡◌, ℕ, zero, suc, ◌+◌, ◌≤◌, Bool, true, false, cond, not, ◌&&◌, ◌==◌, List, [], ◌∷◌, ◌++◌, length, drop, Option, Some, None, Ok, Err, refl, sym, ap, ◌∙◌, subst, inl, inr, arith, append_assoc}
+use Rattle.std.proofs.Common.{◌≡◌, ℕ, zero, suc, ◌+◌, ◌≤◌, max, Bool, true, false, cond, not, ◌&&◌, ◌==◌, List, [], ◌∷◌, ◌++◌, length, drop, Option, Some, None, Ok, Err, refl, sym, ap, ◌∙◌, subst, inl, inr, arith, append_assoc}
 use Rattle.std.specs.Prelude.{IsTrue}
 use Rattle.std.specs.List.{flat_map, AllByRecursion}
 use Rattle.std.proofs.lemmas.List.{append-nil, length-append, length-drop}
@@ -12,9 +12,9 @@ use Rattle.keep_token.specs.Scanning.{first, scalar_at}
 use Rattle.keep_token.proofs.Shared.{tested}
 use Rattle.keep_syntax.specs.declared.info.Brackets.{Brackets}
 use Rattle.keep_syntax.specs.declared.info.Brackets.TheVariants as brackets
-use Rattle.keep_syntax.specs.Tree.{Written, Gap, Further, Key, Name, Body, scalar, array, inline, Entries, none, entry, Value, text_of, token, further_leaves, key_leaves, name_leaves, named_leaves, opening, closing, comma_leaves, entries_leaves, value_leaves}
+use Rattle.keep_syntax.specs.Tree.{Written, Gap, Further, Key, Name, Body, scalar, array, inline, Entries, none, entry, Value, text_of, token, further_leaves, key_leaves, name_leaves, named_leaves, opening, closing, comma_leaves, entries_leaves, value_leaves, around, entries_depth, value_depth}
 use Rattle.keep_syntax.specs.Grammar.{IsSpace, IsBlank, IsKeyPart, IsFurther, IsKey, IsName, place_in, IsGap, IsNamed, IsBody, IsComma, AreEntries, IsValue, ReadsValue}
-use Rattle.keep_syntax.specs.Deep.{is_opening, open_by, open_after, IsDeepIn, IsValueTooDeep}
+use Rattle.keep_syntax.specs.Deep.{is_opening, open_by, open_after, most_open, IsDeepIn, IsValueTooDeep}
 use Rattle.keep_syntax.specs.Reading.{Bad, Deep, Read, ◌>>=◌, Iteration, continues, ready, open_byte, close_byte, body_in, is_free, gap_in, name_of, join, Item, entry_of, named_in, after_by, item_by, iteration_of, entry_by, entries_by, bracket_by, scalar_of, value_by, value_of, read_one_value}
 use Rattle.keep_syntax.proofs.LoopLaws.{bind_err, repeat_deep}
 use Rattle.keep_syntax.proofs.WholeLaws.{value_read}
@@ -24,26 +24,49 @@ use Rattle.keep_syntax.proofs.ValueLaws.{item_leaves, entry_leaves, is_value_fir
 
 -- ---- how many brackets leaves open
 
--- these leaves open so many more brackets than they close
-abbrev pub Opens : ℕ → List Written → Type 0
-Opens k ws = (n : ℕ) → open_after n ws ≡ n + k
+-- these leaves open so many more brackets than they close, and at the most so many
+abbrev pub Opens : ℕ → ℕ → List Written → Type 0
+Opens k m ws = (n : ℕ) → (open_after n ws ≡ n + k) × (most_open n ws ≡ n + m)
 
-open_after-append : (n : ℕ) (a b : List Written) → open_after n (a ++ b) ≡ open_after (open_after n a) b
+-- none
+abbrev pub Plain : List Written → Type 0
+Plain ws = Opens 0 0 ws
+
+pub open_after-append : (n : ℕ) (a b : List Written) → open_after n (a ++ b) ≡ open_after (open_after n a) b
 open_after-append n [] b = refl
 open_after-append n (w ∷ ws) b = open_after-append (open_by w.leaf n) ws b
 
-pub opens-append : (j k m : ℕ) (a b : List Written) → m ≡ j + k → Opens j a → Opens k b → Opens m (a ++ b)
-opens-append j k m a b e h g n = open_after-append n a b ∙ ap (λ (i : ℕ). open_after i b) (h n) ∙ g (n + j) ∙ omega arith
+pub most_open-least : (n : ℕ) (ws : List Written) → n ≤ most_open n ws
+most_open-least n [] = omega arith
+most_open-least n (w ∷ ws) = omega arith
 
--- none
-pub none-append : (a b : List Written) → Opens 0 a → Opens 0 b → Opens 0 (a ++ b)
-none-append a b h g = opens-append 0 0 0 a b refl h g
+pub most_open-append : (n : ℕ) (a b : List Written) → most_open n (a ++ b) ≡ max (most_open n a) (most_open (open_after n a) b)
+most_open-append n [] b = omega (arith, most_open-least n b)
+most_open-append n (w ∷ ws) b = omega (arith, most_open-append (open_by w.leaf n) ws b)
 
-pub opens-none : Opens 0 []
-opens-none n = omega arith
+pub opens-append : (j p k q m r : ℕ) (a b : List Written) → m ≡ j + k → r ≡ max p (j + q) → Opens j p a → Opens k q b → Opens m r (a ++ b)
+opens-append j p k q m r a b e f h g n =
+    let (ha, hm) = h n in
+    let (ga, gm) = g (n + j) in (
+      open_after-append n a b ∙ ap (λ (i : ℕ). open_after i b) ha ∙ ga ∙ omega arith,
+      most_open-append n a b ∙ omega (arith, hm, ap (λ (i : ℕ). most_open i b) ha, gm),
+    )
 
-opens-one : (l : Leaf) (text : List ℕ) → ((n : ℕ) → open_by l n ≡ n) → Opens 0 (token l text)
-opens-one l text h n = h n ∙ omega arith
+pub none-append : (a b : List Written) → Plain a → Plain b → Plain (a ++ b)
+none-append a b h g = opens-append 0 0 0 0 0 0 a b refl refl h g
+
+-- leaves that open none before and after others
+pub plain_first : (m : ℕ) (a b : List Written) → Plain a → Opens 0 m b → Opens 0 m (a ++ b)
+plain_first m a b h g = opens-append 0 0 0 m 0 m a b refl (omega arith) h g
+
+pub plain_last : (m : ℕ) (a b : List Written) → Opens 0 m a → Plain b → Opens 0 m (a ++ b)
+plain_last m a b h g = opens-append 0 m 0 0 0 m a b refl (omega arith) h g
+
+pub opens-none : Plain []
+opens-none n = (omega arith, omega arith)
+
+opens-one : (l : Leaf) (text : List ℕ) → ((n : ℕ) → open_by l n ≡ n) → Plain (token l text)
+opens-one l text h n = (h n ∙ omega arith, omega (arith, h n))
 
 gap_opens : (l : Leaf) → IsTrue (is_gap_leaf l) → (n : ℕ) → open_by l n ≡ n
 gap_opens leaf.Ws h n = refl
@@ -64,90 +87,104 @@ scalar_opens leaf.ArrayClose h n = absurd cc
 scalar_opens leaf.InlineClose h n = absurd cc
 scalar_opens _ h n = refl
 
-pub blank_opens : (g : Gap) → IsBlank g → Opens 0 g
+pub blank_opens : (g : Gap) → IsBlank g → Plain g
 blank_opens [] h = opens-none
 blank_opens (w ∷ more) h = none-append (w ∷ []) more (opens-one w.leaf w.text (gap_opens w.leaf h.0)) (blank_opens more h.3)
 
-pub space_opens : (g : Gap) → IsSpace g → Opens 0 g
+pub space_opens : (g : Gap) → IsSpace g → Plain g
 space_opens g h = blank_opens g (space_blank g h)
 
-part_opens : (profile : Profile) (w : Written) → IsKeyPart profile w → Opens 0 (w ∷ [])
+part_opens : (profile : Profile) (w : Written) → IsKeyPart profile w → Plain (w ∷ [])
 part_opens profile w h = opens-one w.leaf w.text (key_opens w.leaf h.0)
 
-further_opens : (profile : Profile) (f : Further) → IsFurther profile f → Opens 0 (further_leaves f)
+further_opens : (profile : Profile) (f : Further) → IsFurther profile f → Plain (further_leaves f)
 further_opens profile f h =
     none-append f.before (token leaf.Dot (0x2E ∷ []) ++ (f.behind ++ (f.part ∷ []))) (space_opens f.before h.before)
     (none-append (token leaf.Dot (0x2E ∷ [])) (f.behind ++ (f.part ∷ [])) (opens-one leaf.Dot (0x2E ∷ []) (λ n. refl)) (none-append f.behind (f.part ∷ []) (space_opens f.behind h.behind) (part_opens profile f.part h.part)))
 
-more_opens : (profile : Profile) (fs : List Further) → AllByRecursion (IsFurther profile) fs → Opens 0 (flat_map further_leaves fs)
+more_opens : (profile : Profile) (fs : List Further) → AllByRecursion (IsFurther profile) fs → Plain (flat_map further_leaves fs)
 more_opens profile [] h = opens-none
 more_opens profile (f ∷ fs) h = none-append (further_leaves f) (flat_map further_leaves fs) (further_opens profile f h.0) (more_opens profile fs h.1)
 
-pub keys_open : (profile : Profile) (k : Key) → IsKey profile k → Opens 0 (key_leaves k)
+pub keys_open : (profile : Profile) (k : Key) → IsKey profile k → Plain (key_leaves k)
 keys_open profile k h = none-append (k.first ∷ []) (flat_map further_leaves k.more) (part_opens profile k.first h.first) (more_opens profile k.more h.more)
 
-pub name_opens : (profile : Profile) (n : Name) → IsName profile n → Opens 0 (name_leaves n)
+pub name_opens : (profile : Profile) (n : Name) → IsName profile n → Plain (name_leaves n)
 name_opens profile n h =
     none-append (key_leaves n.key) (n.before ++ (token leaf.Equals (0x3D ∷ []) ++ n.behind)) (keys_open profile n.key h.key)
     (none-append n.before (token leaf.Equals (0x3D ∷ []) ++ n.behind) (space_opens n.before h.before) (none-append (token leaf.Equals (0x3D ∷ [])) n.behind (opens-one leaf.Equals (0x3D ∷ []) (λ n. refl)) (space_opens n.behind h.behind)))
 
-named_opens : (profile : Profile) (b : Brackets) (n : Option Name) → IsNamed profile (place_of b) n → Opens 0 (named_leaves n)
+pub named_opens : (profile : Profile) (b : Brackets) (n : Option Name) → IsNamed profile (place_of b) n → Plain (named_leaves n)
 named_opens profile b None h = opens-none
 named_opens profile brackets.Array (Some n) h = absurd h
 named_opens profile brackets.Inline (Some n) h = name_opens profile n h
 
-comma_opens : (profile : Profile) (b : Brackets) (comma : Option Gap) → ((g : Gap) → comma ≡ Some g → IsBlank g) → Opens 0 (comma_leaves comma)
+comma_opens : (profile : Profile) (b : Brackets) (comma : Option Gap) → ((g : Gap) → comma ≡ Some g → IsBlank g) → Plain (comma_leaves comma)
 comma_opens profile b None h = opens-none
 comma_opens profile b (Some g) h = none-append (token leaf.Comma (0x2C ∷ [])) g (opens-one leaf.Comma (0x2C ∷ []) (λ n. refl)) (blank_opens g (h g refl))
 
 -- a bracket with its gap opens one
-opening_opens : (b : Brackets) (g : Gap) → IsBlank g → Opens 1 (opening (body_in b g))
+opening_opens : (b : Brackets) (g : Gap) → IsBlank g → Opens 1 1 (opening (body_in b g))
 opening_opens b g h = by b
   where
-    one : (l : Leaf) (c : ℕ) → ((n : ℕ) → open_by l n ≡ suc n) → Opens 1 (token l (c ∷ []) ++ g)
-    one l c k = opens-append 1 0 1 (token l (c ∷ [])) g refl (λ n. k n ∙ omega arith) (blank_opens g h)
+    one : (l : Leaf) (c : ℕ) → ((n : ℕ) → open_by l n ≡ suc n) → Opens 1 1 (token l (c ∷ []) ++ g)
+    one l c k = opens-append 1 1 0 0 1 1 (token l (c ∷ [])) g refl refl (λ n. (k n ∙ omega arith, omega (arith, k n))) (blank_opens g h)
 
-    by : (b : Brackets) → Opens 1 (opening (body_in b g))
+    by : (b : Brackets) → Opens 1 1 (opening (body_in b g))
     by brackets.Array = one leaf.ArrayOpen 0x5B (λ n. refl)
     by brackets.Inline = one leaf.InlineOpen 0x7B (λ n. refl)
 
 -- a value closes what it opens
-bracket_closes : (b : Brackets) (g : Gap) (nested : Entries) → IsBlank g → Opens 0 (entries_leaves nested) → Opens 0 (value_leaves (record { body = body_in b g; nested = nested }))
-bracket_closes b g nested h k n =
-    open_after-append n (opening (body_in b g)) (entries_leaves nested ++ closing (body_in b g))
-    ∙ ap (λ (i : ℕ). open_after i (entries_leaves nested ++ closing (body_in b g))) (opening_opens b g h n)
-    ∙ open_after-append (n + 1) (entries_leaves nested) (closing (body_in b g))
-    ∙ ap (λ (i : ℕ). open_after i (closing (body_in b g))) (k (n + 1)) ∙ by b
+bracket_closes : (b : Brackets) (g : Gap) (nested : Entries) (d : ℕ) → IsBlank g → Opens 0 d (entries_leaves nested) → Opens 0 (suc d) (value_leaves (record { body = body_in b g; nested = nested }))
+bracket_closes b g nested d h k n =
+    let begin = opening (body_in b g) in
+    let es = entries_leaves nested in
+    let close = closing (body_in b g) in
+    let (oa, om) = opening_opens b g h n in
+    let (ea, em) = k (n + 1) in (
+      open_after-append n begin (es ++ close) ∙ ap (λ (i : ℕ). open_after i (es ++ close)) oa ∙ open_after-append (n + 1) es close ∙ ap (λ (i : ℕ). open_after i close) ea ∙ by b,
+      most_open-append n begin (es ++ close) ∙ omega (arith, om, ap (λ (i : ℕ). most_open i (es ++ close)) oa, most_open-append (n + 1) es close, em, ap (λ (i : ℕ). most_open i close) ea, most b),
+    )
   where
     by : (b : Brackets) → open_after ((n + 1) + 0) (closing (body_in b g)) ≡ n + 0
     by brackets.Array = omega arith
     by brackets.Inline = omega arith
 
-value_closes : (profile : Profile) (body : Body) (nested : Entries) → IsBody profile body → AreEntries profile (place_in body) nested → ((b : Brackets) → AreEntries profile (place_of b) nested → Opens 0 (entries_leaves nested)) → Opens 0 (value_leaves (record { body = body; nested = nested }))
+    most : (b : Brackets) → most_open ((n + 1) + 0) (closing (body_in b g)) ≡ n + 1
+    most brackets.Array = omega arith
+    most brackets.Inline = omega arith
+
+value_closes : (profile : Profile) (body : Body) (nested : Entries) → IsBody profile body → AreEntries profile (place_in body) nested → ((b : Brackets) → AreEntries profile (place_of b) nested → Opens 0 (entries_depth nested) (entries_leaves nested))
+    → Opens 0 (around body (entries_depth nested)) (value_leaves (record { body = body; nested = nested }))
 value_closes profile (scalar w) none h i ih = opens-one w.leaf w.text (scalar_opens w.leaf h.0)
 value_closes profile (scalar w) (entry name body nested after comma rest) h i ih = absurd i.0
-value_closes profile (array g) nested h i ih = bracket_closes brackets.Array g nested (gap_blank profile brackets.Array g h) (ih brackets.Array i)
-value_closes profile (inline g) nested h i ih = bracket_closes brackets.Inline g nested (gap_blank profile brackets.Inline g h) (ih brackets.Inline i)
+value_closes profile (array g) nested h i ih = bracket_closes brackets.Array g nested (entries_depth nested) (gap_blank profile brackets.Array g h) (ih brackets.Array i)
+value_closes profile (inline g) nested h i ih = bracket_closes brackets.Inline g nested (entries_depth nested) (gap_blank profile brackets.Inline g h) (ih brackets.Inline i)
 
 pub comma_blank : (profile : Profile) (b : Brackets) (comma : Option Gap) (rest : Entries) → IsComma profile (place_of b) comma rest → (g : Gap) → comma ≡ Some g → IsBlank g
 comma_blank profile b None rest h g e = absurd cc
 comma_blank profile b (Some k) none h g e = let same : k ≡ g = cc in gap_blank profile b g (subst (λ (x : Gap). IsGap profile (place_of b) x) same h.0)
 comma_blank profile b (Some k) (entry name body nested after comma rest) h g e = let same : k ≡ g = cc in gap_blank profile b g (subst (λ (x : Gap). IsGap profile (place_of b) x) same h)
 
-item_closes : (profile : Profile) (b : Brackets) (i : Item) → IsNamed profile (place_of b) i.name → Opens 0 (value_leaves i.value) → IsGap profile (place_of b) i.after → ((g : Gap) → i.comma ≡ Some g → IsBlank g) → Opens 0 (item_leaves i)
-item_closes profile b i named value gap comma =
-    none-append (named_leaves i.name) (value_leaves i.value ++ (i.after ++ comma_leaves i.comma)) (named_opens profile b i.name named)
-    (none-append (value_leaves i.value) (i.after ++ comma_leaves i.comma) value (none-append i.after (comma_leaves i.comma) (blank_opens i.after (gap_blank profile b i.after gap)) (comma_opens profile b i.comma comma)))
+-- what comes after the value of an item
+pub item_ends : (profile : Profile) (b : Brackets) (i : Item) → IsGap profile (place_of b) i.after → ((g : Gap) → i.comma ≡ Some g → IsBlank g) → Plain (i.after ++ comma_leaves i.comma)
+item_ends profile b i gap comma = none-append i.after (comma_leaves i.comma) (blank_opens i.after (gap_blank profile b i.after gap)) (comma_opens profile b i.comma comma)
 
-entries_close : (profile : Profile) (es : Entries) (b : Brackets) → AreEntries profile (place_of b) es → Opens 0 (entries_leaves es)
+pub item_closes : (profile : Profile) (b : Brackets) (i : Item) → IsNamed profile (place_of b) i.name → Opens 0 (value_depth i.value) (value_leaves i.value) → IsGap profile (place_of b) i.after → ((g : Gap) → i.comma ≡ Some g → IsBlank g) → Opens 0 (value_depth i.value) (item_leaves i)
+item_closes profile b i named value gap comma =
+    plain_first (value_depth i.value) (named_leaves i.name) (value_leaves i.value ++ (i.after ++ comma_leaves i.comma)) (named_opens profile b i.name named)
+    (plain_last (value_depth i.value) (value_leaves i.value) (i.after ++ comma_leaves i.comma) value (item_ends profile b i gap comma))
+
+pub entries_close : (profile : Profile) (es : Entries) (b : Brackets) → AreEntries profile (place_of b) es → Opens 0 (entries_depth es) (entries_leaves es)
 entries_close profile none b h = opens-none
 entries_close profile (entry name body nested after comma rest) b h =
     let i : Item = record { name = name; value = record { body = body; nested = nested }; after = after; comma = comma } in
-    subst (λ (ws : List Written). Opens 0 ws) (sym (entry_leaves i rest))
-    (none-append (item_leaves i) (entries_leaves rest) (item_closes profile b i h.0 (value_closes profile body nested h.1 h.2 (λ c k. entries_close profile nested c k)) h.3 (comma_blank profile b comma rest h.4)) (entries_close profile rest b h.5))
+    let d = entries_depth (entry name body nested after comma rest) in
+    subst (λ (ws : List Written). Opens 0 d ws) (sym (entry_leaves i rest))
+    (opens-append 0 (value_depth i.value) 0 (entries_depth rest) 0 d (item_leaves i) (entries_leaves rest) refl (omega arith) (item_closes profile b i h.0 (value_closes profile body nested h.1 h.2 (λ c k. entries_close profile nested c k)) h.3 (comma_blank profile b comma rest h.4)) (entries_close profile rest b h.5))
 
--- What a value opens it closes.
-pub value_opens : (profile : Profile) (v : Value) → IsValue profile v → Opens 0 (value_leaves v)
+-- What a value opens it closes, and its depth is the most that it opens.
+pub value_opens : (profile : Profile) (v : Value) → IsValue profile v → Opens 0 (value_depth v) (value_leaves v)
 value_opens profile v h = value_closes profile v.body v.nested h.body h.nested (λ b k. entries_close profile v.nested b k)
 
 -- ---- where reading stops at a bracket too many
@@ -162,11 +199,11 @@ pub record Leads (room : ℕ) (text rest : List ℕ) (all : List Written) : Type
   pub here : all ≡ before ++ (bracket ∷ after)
   pub spelled : text ≡ text_of before ++ rest
   pub occurs : rest ≡ bracket.text ++ tail
-  pub deep : Opens room before
+  pub deep : Opens room room before
 
 -- leaves before and after
-pub leads_in : (k room room' : ℕ) (text t rest : List ℕ) (prefix all back whole : List Written) → room' ≡ k + room → Opens k prefix → text ≡ text_of prefix ++ t → whole ≡ prefix ++ (all ++ back) → Leads room t rest all → Leads room' text rest whole
-leads_in k room room' text t rest prefix all back whole e opens spelled is g = record {
+pub leads_in : (k m room room' : ℕ) (text t rest : List ℕ) (prefix all back whole : List Written) → room' ≡ k + room → m ≤ room' → Opens k m prefix → text ≡ text_of prefix ++ t → whole ≡ prefix ++ (all ++ back) → Leads room t rest all → Leads room' text rest whole
+leads_in k m room room' text t rest prefix all back whole e le opens spelled is g = record {
   before = prefix ++ g.before;
   bracket = g.bracket;
   after = g.after ++ back;
@@ -175,7 +212,7 @@ leads_in k room room' text t rest prefix all back whole e opens spelled is g = r
   here = is ∙ ap (λ (ws : List Written). prefix ++ (ws ++ back)) g.here ∙ simp append_assoc;
   spelled = spelled ∙ ap (λ (x : List ℕ). text_of prefix ++ x) g.spelled ∙ sym (append_assoc (text_of prefix) (text_of g.before) rest) ∙ ap (λ (x : List ℕ). x ++ rest) (sym (text_of-append prefix g.before));
   occurs = g.occurs;
-  deep = opens-append k room room' prefix g.before e opens g.deep;
+  deep = opens-append k m room room room' room' prefix g.before e (omega arith) opens g.deep;
 }
 
 pub record DeepValue (profile : Profile) (room : ℕ) (text rest : List ℕ) : Type 0 where
@@ -234,7 +271,7 @@ item_deep profile b room value deep text rest h =
                 record {
                   entries = entry_of i none;
                   valid = (tn.valid, d.valid.body, d.valid.nested, empty_gap profile b, tt, tt);
-                  goes = leads_in 0 room room text n.1 rest (named_leaves n.0) (value_leaves d.value) [] (entries_leaves (entry_of i none)) (omega arith) (named_opens profile b n.0 tn.valid) tn.spelled (entry_leaves i none ∙ append-nil (item_leaves i)) d.goes;
+                  goes = leads_in 0 0 room room text n.1 rest (named_leaves n.0) (value_leaves d.value) [] (entries_leaves (entry_of i none)) (omega arith) (omega arith) (named_opens profile b n.0 tn.valid) tn.spelled (entry_leaves i none ∙ append-nil (item_leaves i)) d.goes;
                   begins = tn.begins (value_first_solid (first n.1) d.begins);
                 }
           ]
@@ -274,7 +311,7 @@ entries_deep profile b room value sound deep prefix text rest h =
         record {
           entries = entry_of i d.entries;
           valid = (ti.named, ti.valid.body, ti.valid.nested, ti.gap, subst (λ (c : Option Gap). IsComma profile (place_of b) c d.entries) (sym is) (comma_deep profile b g d.entries room text' rest gap d.goes), d.valid);
-          goes = leads_in 0 room room text text' rest (item_leaves i) (entries_leaves d.entries) [] (entries_leaves (entry_of i d.entries)) (omega arith) (item_closes profile b i ti.named (value_opens profile i.value ti.valid) ti.gap blank) ti.spelled
+          goes = leads_in 0 (value_depth i.value) room room text text' rest (item_leaves i) (entries_leaves d.entries) [] (entries_leaves (entry_of i d.entries)) (omega arith) ti.shallow (item_closes profile b i ti.named (value_opens profile i.value ti.valid) ti.gap blank) ti.spelled
               (entry_leaves i d.entries ∙ ap (λ (ws : List Written). item_leaves i ++ ws) (sym (append-nil (entries_leaves d.entries)))) d.goes;
           begins = ti.begins;
         }
@@ -305,7 +342,7 @@ bracket_deep profile room value sound deep b text rest opens h =
           record {
             value = v;
             valid = bracket_valid profile b g.0 d.entries gap d.valid;
-            goes = leads_in 1 room (suc room) text g.1 rest (opening (body_in b g.0)) (entries_leaves d.entries) (closing (body_in b g.0)) (value_leaves v) (omega arith) (opening_opens b g.0 (gap_blank profile b g.0 gap))
+            goes = leads_in 1 1 room (suc room) text g.1 rest (opening (body_in b g.0)) (entries_leaves d.entries) (closing (body_in b g.0)) (value_leaves v) (omega arith) (omega arith) (opening_opens b g.0 (gap_blank profile b g.0 gap))
                 (opened ∙ ap (λ (x : List ℕ). open_byte b ∷ x) gg.spelled ∙ opening_text b g.0 g.1) refl d.goes;
             begins = open_begins b text opens;
           }
@@ -359,7 +396,8 @@ leads_at limit text at all le g = record {
   here = g.here;
   spelled = g.spelled ∙ ap (λ (x : List ℕ). text_of g.before ++ x) g.occurs;
   at_is = omega (arith, ap length g.spelled, length-append (text_of g.before) (drop at text), length-drop at text);
-  deep = g.deep 0 ∙ omega arith;
+  deep = (g.deep 0).0 ∙ omega arith;
+  first = omega (arith, (g.deep 0).1);
 }
 
 -- Where a value is reported as too deep, some value continues so, and none within the limit has the text.

@@ -7,54 +7,59 @@ use Rattle.keep_leaf.specs.declared.leaf.Leaf.{Leaf}
 use Rattle.keep_leaf.specs.declared.leaf.Leaf.TheVariants as leaf
 use Rattle.keep_token.specs.Scanning.{first, gap_at}
 use Rattle.keep_token.proofs.Shared.{tested, white, line, comment, nothing, gap_cases}
-use Rattle.keep_syntax.specs.Tree.{Written, Gap, Key, Content, blank, keyval, header, element, Line, Ended, Document, token, key_leaves, name_leaves, value_leaves, content_leaves, comment_leaves, line_leaves, ended_leaves, bom_leaves, leaves, text}
+use Rattle.keep_syntax.specs.Tree.{Written, Gap, Key, Content, blank, keyval, header, element, Line, Ended, Document, token, key_leaves, name_leaves, value_leaves, content_leaves, comment_leaves, line_leaves, ended_leaves, bom_leaves, leaves, text, value_depth, content_depth}
 use Rattle.keep_syntax.specs.Grammar.{IsContent, IsAfter, IsComment, IsLine, IsEnded, IsDocument, Reads}
 use Rattle.keep_syntax.specs.Deep.{open_by, IsTooDeep}
 use Rattle.keep_syntax.specs.Reading.{Bad, Deep, ◌>>=◌, Iteration, continues, ready, space_at, key_of, name_of, value_of, is_line_end, keyval_of, header_by, element_by, content_at, after_of, line_by, line_at, Lines, newline_of, after_line, ended_at, lines_of, has_bom, after_bom, read_document}
 use Rattle.keep_syntax.proofs.LoopLaws.{bind_err, repeat_deep}
 use Rattle.keep_syntax.proofs.SpaceLaws.{space_takes}
 use Rattle.keep_syntax.proofs.KeyLaws.{key_not_deep, name_takes, name_not_deep}
-use Rattle.keep_syntax.proofs.DeepLaws.{Opens, none-append, opens-none, space_opens, keys_open, name_opens, value_opens, Leads, leads_in, value_deep_at, leads_at}
+use Rattle.keep_syntax.proofs.DeepLaws.{Opens, Plain, none-append, plain_first, plain_last, opens-none, space_opens, keys_open, name_opens, value_opens, Leads, leads_in, value_deep_at, leads_at}
 use Rattle.keep_syntax.proofs.DocumentLaws.{lines_leaves, bom_parts, at_last, at_line, line_cases, document_read}
 
 -- ---- lines close what they open
 
-plain : (l : Leaf) (t : List ℕ) → ((n : ℕ) → open_by l n ≡ n) → Opens 0 (token l t)
-plain l t h n = h n ∙ omega arith
+plain : (l : Leaf) (t : List ℕ) → ((n : ℕ) → open_by l n ≡ n) → Plain (token l t)
+plain l t h n = (h n ∙ omega arith, omega (arith, h n))
 
-header_opens : (profile : Profile) (l m : Leaf) (s t : List ℕ) (before : Gap) (k : Key) (behind : Gap) → ((n : ℕ) → open_by l n ≡ n) → ((n : ℕ) → open_by m n ≡ n) → IsContent profile (header before k behind) → Opens 0 (token l s ++ (before ++ (key_leaves k ++ (behind ++ token m t))))
+header_opens : (profile : Profile) (l m : Leaf) (s t : List ℕ) (before : Gap) (k : Key) (behind : Gap) → ((n : ℕ) → open_by l n ≡ n) → ((n : ℕ) → open_by m n ≡ n) → IsContent profile (header before k behind) → Plain (token l s ++ (before ++ (key_leaves k ++ (behind ++ token m t))))
 header_opens profile l m s t before k behind e f h =
     none-append (token l s) (before ++ (key_leaves k ++ (behind ++ token m t))) (plain l s e)
     (none-append before (key_leaves k ++ (behind ++ token m t)) (space_opens before h.0)
     (none-append (key_leaves k) (behind ++ token m t) (keys_open profile k h.1)
     (none-append behind (token m t) (space_opens behind h.2) (plain m t f))))
 
-content_opens : (profile : Profile) (c : Content) → IsContent profile c → Opens 0 (content_leaves c)
+pub content_opens : (profile : Profile) (c : Content) → IsContent profile c → Opens 0 (content_depth c) (content_leaves c)
 content_opens profile blank h = opens-none
-content_opens profile (keyval n v) h = none-append (name_leaves n) (value_leaves v) (name_opens profile n h.0) (value_opens profile v h.1)
+content_opens profile (keyval n v) h = plain_first (value_depth v) (name_leaves n) (value_leaves v) (name_opens profile n h.0) (value_opens profile v h.1)
 content_opens profile (header before k behind) h = header_opens profile leaf.HeadOpen leaf.HeadClose (0x5B ∷ []) (0x5D ∷ []) before k behind (λ n. refl) (λ n. refl) h
 content_opens profile (element before k behind) h = header_opens profile leaf.ElemOpen leaf.ElemClose (0x5B ∷ 0x5B ∷ []) (0x5D ∷ 0x5D ∷ []) before k behind (λ n. refl) (λ n. refl) h
 
-after_opens : (c : Content) (g : Gap) → IsAfter c g → Opens 0 g
-after_opens blank g h = subst (λ (ws : List Written). Opens 0 ws) (sym h) opens-none
+after_opens : (c : Content) (g : Gap) → IsAfter c g → Plain g
+after_opens blank g h = subst (λ (ws : List Written). Plain ws) (sym h) opens-none
 after_opens (keyval n v) g h = space_opens g h
 after_opens (header before k behind) g h = space_opens g h
 after_opens (element before k behind) g h = space_opens g h
 
-comment_opens : (o : Option Written) → IsComment o → Opens 0 (comment_leaves o)
+comment_opens : (o : Option Written) → IsComment o → Plain (comment_leaves o)
 comment_opens None h = opens-none
 comment_opens (Some w) h = plain w.leaf w.text (λ n. ap (λ (l : Leaf). open_by l n) h.0)
 
-line_opens : (profile : Profile) (l : Line) → IsLine profile l → Opens 0 (line_leaves l)
+-- what comes after the content of a line
+pub line_ends_open : (profile : Profile) (l : Line) → IsLine profile l → Plain (l.after ++ comment_leaves l.comment)
+line_ends_open profile l h = none-append l.after (comment_leaves l.comment) (after_opens l.content l.after h.after) (comment_opens l.comment h.comment)
+
+pub line_opens : (profile : Profile) (l : Line) → IsLine profile l → Opens 0 (content_depth l.content) (line_leaves l)
 line_opens profile l h =
-    none-append l.before (content_leaves l.content ++ (l.after ++ comment_leaves l.comment)) (space_opens l.before h.before)
-    (none-append (content_leaves l.content) (l.after ++ comment_leaves l.comment) (content_opens profile l.content h.content)
-    (none-append l.after (comment_leaves l.comment) (after_opens l.content l.after h.after) (comment_opens l.comment h.comment)))
+    let d = content_depth l.content in
+    plain_first d l.before (content_leaves l.content ++ (l.after ++ comment_leaves l.comment)) (space_opens l.before h.before)
+    (plain_last d (content_leaves l.content) (l.after ++ comment_leaves l.comment) (content_opens profile l.content h.content) (line_ends_open profile l h))
 
-ended_opens : (profile : Profile) (e : Ended) → IsEnded profile e → Opens 0 (ended_leaves e)
-ended_opens profile e h = none-append (line_leaves e.line) (e.newline ∷ []) (line_opens profile e.line h.line) (plain e.newline.leaf e.newline.text (λ n. ap (λ (l : Leaf). open_by l n) h.kind))
+pub ended_opens : (profile : Profile) (e : Ended) → IsEnded profile e → Opens 0 (content_depth e.line.content) (ended_leaves e)
+ended_opens profile e h =
+    plain_last (content_depth e.line.content) (line_leaves e.line) (e.newline ∷ []) (line_opens profile e.line h.line) (plain e.newline.leaf e.newline.text (λ n. ap (λ (l : Leaf). open_by l n) h.kind))
 
-bom_opens : (b : Bool) → Opens 0 (bom_leaves b)
+pub bom_opens : (b : Bool) → Plain (bom_leaves b)
 bom_opens true = plain leaf.Bom (0xEF ∷ 0xBB ∷ 0xBF ∷ []) (λ n. refl)
 bom_opens false = opens-none
 
@@ -103,7 +108,7 @@ keyval_deep profile room text rest h =
               content = keyval n.0 d.value;
               valid = (tn.valid, d.valid);
               after = tt;
-              goes = leads_in 0 room room text n.1 rest (name_leaves n.0) (value_leaves d.value) [] (content_leaves (keyval n.0 d.value)) (omega arith) (name_opens profile n.0 tn.valid) tn.spelled (ap (λ (ws : List Written). name_leaves n.0 ++ ws) (sym (append-nil (value_leaves d.value)))) d.goes;
+              goes = leads_in 0 0 room room text n.1 rest (name_leaves n.0) (value_leaves d.value) [] (content_leaves (keyval n.0 d.value)) (omega arith) (omega arith) (name_opens profile n.0 tn.valid) tn.spelled (ap (λ (ws : List Written). name_leaves n.0 ++ ws) (sym (append-nil (value_leaves d.value)))) d.goes;
             }
       ]
     ]
@@ -135,7 +140,7 @@ line_deep profile room text rest h =
           record {
             line = l;
             valid = record { before = s.valid; content = d.valid; after = d.after; comment = tt };
-            goes = leads_in 0 room room text g.1 rest g.0 (content_leaves d.content) [] (line_leaves l) (omega arith) (space_opens g.0 s.valid) s.spelled refl d.goes;
+            goes = leads_in 0 0 room room text g.1 rest g.0 (content_leaves d.content) [] (line_leaves l) (omega arith) (omega arith) (space_opens g.0 s.valid) s.spelled refl d.goes;
           }
     ]
 
@@ -188,7 +193,7 @@ lines_deep profile room prefix text rest h = repeat_deep (ended_at profile room)
             last = d.last;
             valid = (valid, d.valid);
             valid_last = d.valid_last;
-            goes = leads_in 0 room room text text' rest (ended_leaves w) (lines_leaves d.ended d.last) [] (lines_leaves (w ∷ d.ended) d.last) (omega arith) (ended_opens profile w valid) spelled
+            goes = leads_in 0 (content_depth w.line.content) room room text text' rest (ended_leaves w) (lines_leaves d.ended d.last) [] (lines_leaves (w ∷ d.ended) d.last) (omega arith) le (ended_opens profile w valid) spelled
                 (append_assoc (ended_leaves w) (flat_map ended_leaves d.ended) (line_leaves d.last) ∙ ap (λ (ws : List Written). ended_leaves w ++ ws) (sym (append-nil (lines_leaves d.ended d.last)))) d.goes;
           }
         ]
@@ -214,7 +219,7 @@ document_deep_at profile limit bytes rest h =
           record {
             document = s;
             valid = record { ended = d.valid; last = d.valid_last };
-            goes = leads_in 0 limit limit bytes t rest (bom_leaves b) (lines_leaves d.ended d.last) end (leaves s) (omega arith) (bom_opens b) (bom_parts bytes)
+            goes = leads_in 0 0 limit limit bytes t rest (bom_leaves b) (lines_leaves d.ended d.last) end (leaves s) (omega arith) (omega arith) (bom_opens b) (bom_parts bytes)
                 (ap (λ (ws : List Written). bom_leaves b ++ ws) (sym (append_assoc (flat_map ended_leaves d.ended) (line_leaves d.last) end))) d.goes;
           }
     ]

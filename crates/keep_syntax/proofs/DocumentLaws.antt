@@ -1,4 +1,14 @@
 -- A document is read exactly where there is one within the limit, and there is at most one.
+--
+-- A document is read as a loop over lines. `line_cases` says what an iteration does: it reads the last line, or a line
+-- with its newline. In one direction the loop's invariant is that the lines so far and the rest make up the text
+-- (`lines_take`); in the other, `lines_again` is an induction over the lines of the tree. A text may begin with a byte
+-- order mark: no line does, so the text is read in one way only (`bom_no_line`, `lines_no_bom`). That at most one
+-- document has a text follows, as both would be read. A larger limit reads the same, unless the smaller was passed
+-- (`document_room`), so a syntax error is one at every depth.
+--
+-- Theorems: `document_found` and `document_read`: read exactly where there is one; `one_document`: there is at most
+-- one.
 use Rattle.std.proofs.Common.{◌≡◌, ℕ, suc, ◌<◌, ◌≤◌, max, Bool, true, false, ◌&&◌, ◌==◌, List, [], ◌∷◌, ◌++◌, length, slice_index, take, drop, Some, Result, Ok, Err, refl, sym, ap, ◌∙◌, subst, inl, inr, arith, append_assoc, take_at, drop_at, eqb-true, ◌⊎◌}
 use Rattle.std.specs.List.{flat_map, AllByRecursion}
 use Rattle.std.proofs.lemmas.Bool.{and_parts}
@@ -139,7 +149,7 @@ lines_take profile room prefix text ls rest h = repeat_holds (ended_at profile r
 
 -- ---- what is spelled so is read
 
-after_again : (prefix : List Ended) (l : Line) (w : Written) (more : List ℕ) → w.leaf ≡ leaf.Newline → IsLeaf Strict leaf.Newline w.text → after_line prefix l (w.text ++ more) ≡ Ok (continues (prefix ++ (record { line = l; newline = w } ∷ [])), more)
+pub after_again : (prefix : List Ended) (l : Line) (w : Written) (more : List ℕ) → w.leaf ≡ leaf.Newline → IsLeaf Strict leaf.Newline w.text → after_line prefix l (w.text ++ more) ≡ Ok (continues (prefix ++ (record { line = l; newline = w } ∷ [])), more)
 after_again prefix l w more kind h = by w.text h refl
   where
     is_w : (t : List ℕ) → t ≡ w.text → record { leaf = leaf.Newline; text = t } ≡ w
@@ -173,7 +183,7 @@ lines_again profile room (e ∷ es) last prefix h k le le' =
 
 -- ---- the byte order mark
 
-bom_is : (text : List ℕ) → has_bom text ≡ true → text ≡ 0xEF ∷ 0xBB ∷ 0xBF ∷ drop 3 text
+pub bom_is : (text : List ℕ) → has_bom text ≡ true → text ≡ 0xEF ∷ 0xBB ∷ 0xBF ∷ drop 3 text
 bom_is text h =
     let (prefix, three) = and_parts (first text == 0xEF && slice_index text 1 == 0xBB) (slice_index text 2 == 0xBF) h in
     let (one, two) = and_parts (first text == 0xEF) (slice_index text 1 == 0xBB) prefix in
@@ -210,7 +220,7 @@ bom_no_line profile room text e =
     let c : is_ws (first text) ≡ false = rw e refl in
     rw (space_none text c, a, b, no_key profile text e) refl
 
-bom_no_lines : (profile : Profile) (room : ℕ) (text : List ℕ) → first text ≡ 0xEF → lines_of profile room [] text ≡ Err Bad
+pub bom_no_lines : (profile : Profile) (room : ℕ) (text : List ℕ) → first text ≡ 0xEF → lines_of profile room [] text ≡ Err Bad
 unfolding ended_at
 bom_no_lines profile room text e = let iteration : ended_at profile room [] text ≡ Err Bad = rw (bom_no_line profile room text e) refl in loop_err (ended_at profile room) [] text Bad iteration
 

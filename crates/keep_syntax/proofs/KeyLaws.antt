@@ -1,4 +1,13 @@
 -- Keys are read as they are written, and what is written as a key is read again.
+--
+-- A name is a key and its `=`; a key is a part and further parts after dots. For each of them there are two directions.
+-- What is read has the text that was read and is valid (`part_takes`, `key_takes`, `name_takes`): the further parts are
+-- read in a loop, so the invariant of the loop is split by what an iteration does (`further_cases`). What is written is
+-- read again (`part_again`, `key_reads`, `name_again`): an induction over the further parts (`more_again`), where the
+-- byte after a part has to be no byte of a key (`is_key_end`). No key is ever too deep (`key_not_deep`,
+-- `name_not_deep`).
+--
+-- Theorems: `name_takes` and `name_again` for keys with their equals sign; `key_takes` and `key_reads` for keys alone.
 use Rattle.std.proofs.Common.{◌≡◌, ℕ, suc, ◌<◌, ◌≤◌, Bool, true, false, not, ◌||◌, ◌==◌, List, [], ◌∷◌, ◌++◌, length, drop, Option, Some, None, Ok, Err, refl, sym, ap, ◌∙◌, subst, inl, inr, arith, append_assoc, take_at, drop_at, eqb-true, ◌⊎◌}
 use Rattle.std.specs.List.{flat_map, AllByRecursion}
 use Rattle.std.proofs.lemmas.Bool.Decides.{nat_tests}

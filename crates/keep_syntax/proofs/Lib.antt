@@ -9,6 +9,8 @@ pub mod GrowthLaws
 pub mod LineLaws
 pub mod DocumentLaws
 pub mod DeepLineLaws
+pub mod TooDeepLaws
+pub mod TooDeepLineLaws
 pub mod WiderLaws
 pub mod ProfileTest
 pub mod CountLaws

@@ -1,4 +1,13 @@
 -- Lines after a count are numbered as they are from 0, each place and number greater by what the count has.
+--
+-- Each function that numbers a part starts from a count, and adds to it. So with a greater count its answers are
+-- greater by the difference. This is shown for each function in turn, from key parts (`lifted_key`) over places and
+-- entries (`lifted_entries`, `lifted_values`, by induction) to the lists of one line (`lifted_line_parts`,
+-- `lifted_line_values`, `lifted_line_statements`) and to what comes before the next line (`lifted_next`). `lifted_over`
+-- is the induction over lines, for any of the three lists.
+--
+-- Theorems: `lifted_over`, with the laws of one line: `lifted_line_statements`, `lifted_line_parts`,
+-- `lifted_line_values`.
 use Rattle.std.proofs.Common.{◌≡◌, ℕ, suc, ◌+◌, List, [], ◌∷◌, ◌++◌, length, map, refl, sym, ap, ◌∙◌, arith, Option, Some, None}
 use Rattle.std.proofs.lemmas.List.{map-append, length-map}
 use Rattle.keep_parts.specs.declared.info.Start.{Start}

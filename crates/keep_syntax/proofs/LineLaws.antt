@@ -1,4 +1,12 @@
 -- What is read as a line is spelled so, and what is a line within the limit is read.
+--
+-- A line is white space, its content, white space and a comment. What is read: each part takes its text from the front
+-- (`content_takes`, `after_takes`, `comment_takes`), and the texts are joined (`line_text`). What is written is read
+-- again: the content is chosen by its first bytes (`content_again`), where a header must not be taken for an element:
+-- neither its gap nor its key begins with a bracket. Each part has to end where the next begins, so for each there is a
+-- lemma on the byte that may follow (`FollowsContent`, `after_follows`, `comment_ends`).
+--
+-- Theorems: `line_takes`: what is read is a line with that text; `line_again`: a line within the limit is read.
 use Rattle.std.proofs.Common.{◌≡◌, ℕ, ◌<◌, ◌≤◌, Bool, true, false, not, cond, ◌&&◌, ◌==◌, List, [], ◌∷◌, ◌++◌, length, slice_index, take, drop, Option, Some, None, Ok, Err, refl, sym, ap, ◌∙◌, subst, inl, inr, arith, append_assoc, take_at, drop_at, eqb-true}
 use Rattle.std.proofs.lemmas.Bool.{and_parts}
 use Rattle.std.proofs.lemmas.Bool.Decides.{nat_tests}
@@ -195,7 +203,7 @@ line_takes profile room text l rest h =
 
 -- ---- what is spelled so is read
 
-key_first_facts : (c : ℕ) → is_key_first c ≡ true → (is_line_end c ≡ false) × ((c == 0x5B) ≡ false)
+pub key_first_facts : (c : ℕ) → is_key_first c ≡ true → (is_line_end c ≡ false) × ((c == 0x5B) ≡ false)
 key_first_facts c h = (grind (arith, nat_tests), grind (arith, nat_tests))
 
 ws_no_bracket : (c : ℕ) → is_ws c ≡ true → (c == 0x5B) ≡ false

@@ -1,4 +1,14 @@
 -- What the code stores of lines, one after the other.
+--
+-- The invariant of the loop over lines is `LinesSoFar`: the lines so far are read, what they have is stored, and
+-- reading the rest of the text completes the reading of all. It holds before the first line (`lines_none`), and after
+-- one more (`lines_more`). A line's statement is pushed with the end of its line, which is known only after its newline
+-- (`ended_is`). What is stored says how much comes before the next line (`count_is`). The loop ends at the last line
+-- (`lines_stated`), or at a fault: in a line (`lines_fail`), or where neither a newline nor the end follows it
+-- (`lines_refuse`).
+--
+-- Theorems: `lines_none`, `lines_more`, `lines_stated`: the invariant holds, and at the end all lines are stored;
+-- `lines_fail` and `lines_refuse` for faults.
 use Rattle.std.proofs.Common.{◌≡◌, ℕ, ◌+◌, ◌<◌, List, [], ◌∷◌, ◌++◌, length, drop, Option, Some, None, Result, Ok, Err, refl, sym, ap, ◌∙◌, subst, arith, append_assoc, IsCharBoundary}
 use Rattle.std.specs.Prelude.{OnOk, IsOkUnless}
 use Rattle.std.specs.List.{flat_map}

@@ -1,4 +1,13 @@
 -- What the code stores of an entry, and of entries one after the other.
+--
+-- `SoFar` is the invariant of the loop over the entries of brackets: those before this place are read and stored, and
+-- reading the rest completes the reading of all. It holds before the first entry (`so_far_none`), and after one more
+-- that has a comma (`so_far_more`). The loop ends at the bracket (`so_far_done`), after an entry without a comma
+-- (`so_far_last`), or at a fault (`so_far_fails`). One entry is read in three parts, its name, its value and what
+-- follows it; what is stored of the three is what is stored of the entry (`entry_grows`).
+--
+-- Theorems: `item_is`: one entry is stored; `so_far_done` and `so_far_last`: all entries are stored where the loop
+-- ends.
 use Rattle.std.proofs.Common.{◌≡◌, ℕ, ◌+◌, ◌-◌, ◌<◌, true, false, ◌==◌, List, [], ◌∷◌, ◌++◌, length, get_or, drop, Option, Some, None, Result, Ok, Err, refl, sym, ap, ◌∙◌, arith, append_assoc, IsCharBoundary}
 use Rattle.std.specs.Option.{is_some}
 use Rattle.std.proofs.lemmas.List.{append-nil}

@@ -1,5 +1,5 @@
 -- What was stored of a text is the syntax of its document, or of its value, and a fault tells what the grammar says.
-use Rattle.std.proofs.Common.{◌≡◌, ℕ, ◌+◌, ◌≤◌, List, [], ◌∷◌, ◌++◌, length, slice_get, Some, Result, Ok, refl, sym, ap, ◌∙◌, subst, arith, add-one, IsCharBoundary}
+use Rattle.std.proofs.Common.{◌≡◌, ℕ, ◌+◌, ◌≤◌, List, [], ◌∷◌, ◌++◌, length, slice_get, Some, Result, Ok, Err, refl, sym, ap, ◌∙◌, subst, arith, add-one, IsCharBoundary}
 use Rattle.std.specs.List.{AllByRecursion}
 use Rattle.std.proofs.lemmas.List.{append-nil}
 use Rattle.std.proofs.lemmas.Str.{IsCharBoundary-end}
@@ -14,7 +14,7 @@ use Rattle.keep_syntax.specs.declared.alone.ValueSyntax.{ValueSyntax}
 use Rattle.keep_syntax.specs.Tree.{Document, Value, text_of, token, leaves, text}
 use Rattle.keep_syntax.specs.Grammar.{Reads, ReadsValue}
 use Rattle.keep_syntax.specs.Numbered.{placed, tokens}
-use Rattle.keep_syntax.specs.Reading.{Fault, read_document, read_one_value}
+use Rattle.keep_syntax.specs.Reading.{Fault, Bad, Deep, read_document, read_one_value}
 use Rattle.keep_parts.specs.Flat.{Flat, flat}
 use Rattle.keep_syntax.specs.Growth.{kinds, starts, add_at, Fails}
 use Rattle.keep_syntax.specs.Cut.{start_in, cut, cut_by}
@@ -28,6 +28,8 @@ use Rattle.keep_syntax.proofs.WholeLaws.{value_found, value_read, value_bad}
 use Rattle.keep_syntax.proofs.DocumentLaws.{document_found, document_read, document_bad}
 use Rattle.keep_syntax.proofs.DeepLaws.{value_deep}
 use Rattle.keep_syntax.proofs.DeepLineLaws.{document_deep}
+use Rattle.keep_syntax.proofs.TooDeepLaws.{too_deep_value}
+use Rattle.keep_syntax.proofs.TooDeepLineLaws.{too_deep_document}
 use Rattle.keep_syntax.proofs.CountLaws.{inner_leaves, leaves_end, leaves_count, tokens_count}
 use Rattle.keep_syntax.proofs.PlaceLaws.{tokens_placed}
 use Rattle.keep_syntax.proofs.DepthLaws.{values_within, value_values_within}
@@ -118,9 +120,13 @@ memory_only bytes (faults.Define at why) r x f k = absurd f
 pub only_memory : (profile : Profile) (limit : ℕ) (bytes : List ℕ) (e : ReadFault) → Fails bytes e (read_document profile limit bytes) → (d : Document) → Reads profile limit bytes d → e ≡ faults.Memory
 only_memory profile limit bytes e f d r = memory_only bytes e (read_document profile limit bytes) d f (document_read profile limit bytes d r)
 
+-- what stops at a bracket that is too deep is no syntax fault
+not_both : {A : Type 0} {r : Result A Fault} {rest : List ℕ} → r ≡ Err Bad → r ≡ Err (Deep rest) → ⊥
+not_both bad deep = let clash = sym bad ∙ deep in cc
+
 pub is_fault : (profile : Profile) (limit : ℕ) (bytes : List ℕ) (e : ReadFault) → Fails bytes e (read_document profile limit bytes) → IsFaultOf profile limit bytes e
 is_fault profile limit bytes faults.Memory f = tt
-is_fault profile limit bytes (faults.Syntax at what) f = λ d v e. document_bad profile limit bytes f d v e
+is_fault profile limit bytes (faults.Syntax at what) f = record { none = λ d v e. document_bad profile limit bytes f d v e; none_deep = λ p d. not_both f (too_deep_document profile limit bytes p d) }
 is_fault profile limit bytes (faults.TooDeep at) f = document_deep profile limit bytes at f.0 f.1
 is_fault profile limit bytes (faults.Utf8 at) f = absurd f
 is_fault profile limit bytes (faults.Define at why) f = absurd f
@@ -178,7 +184,7 @@ value_only_memory profile limit bytes e f v r = memory_only bytes e (read_one_va
 
 pub is_value_fault : (profile : Profile) (limit : ℕ) (bytes : List ℕ) (e : ReadFault) → Fails bytes e (read_one_value profile limit bytes) → IsValueFaultOf profile limit bytes e
 is_value_fault profile limit bytes faults.Memory f = tt
-is_value_fault profile limit bytes (faults.Syntax at what) f = λ v k e. value_bad profile limit bytes f v k e
+is_value_fault profile limit bytes (faults.Syntax at what) f = record { none = λ v k e. value_bad profile limit bytes f v k e; none_deep = λ p d. not_both f (too_deep_value profile limit bytes p d) }
 is_value_fault profile limit bytes (faults.TooDeep at) f = value_deep profile limit bytes at f.0 f.1
 is_value_fault profile limit bytes (faults.Utf8 at) f = absurd f
 is_value_fault profile limit bytes (faults.Define at why) f = absurd f

@@ -1,5 +1,13 @@
--- A document with lines replaced has the text with these bytes replaced, is one of the grammar, and is no deeper than both; and
--- the syntax of a document of the grammar is that of its text.
+-- A document with lines replaced has the text with these bytes replaced, is one of the grammar, and is no deeper than
+-- both; and the syntax of a document of the grammar is that of its text.
+--
+-- As for `RereadLaws`, the document is split into the lines before, the replaced ones, and those after, and there are
+-- two cases: lines follow or none do. The text is the join of the three texts, so replacing the middle one replaces
+-- those bytes (`replaced_text`). Lines of a valid document and lines that were read are valid, so those that are put
+-- together are (`replaced_valid`), and they are no deeper (`replaced_shallow`). Tokens begin characters, so each stored
+-- place is one where the text may be cut (`starts_cut`).
+--
+-- Theorems: `lines_are_replaced`: the new document; `reread_text`: its syntax is that of the new text.
 use Rattle.std.proofs.Common.{◌≡◌, ℕ, ◌+◌, ◌≤◌, Bool, true, false, List, [], ◌∷◌, ◌++◌, length, take, drop, slice_index, refl, sym, ap, subst, ◌∙◌, arith, add-one, append_assoc, ltb-true, ltb-false, IsCharBoundary}
 use Rattle.std.specs.Prelude.{ltb, if◌then◌else◌}
 use Rattle.std.specs.List.{flat_map, AllByRecursion}

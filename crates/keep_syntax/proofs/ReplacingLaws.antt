@@ -1,4 +1,14 @@
--- What is stored after lines were replaced in place is what rereading stores, and putting them back stores what was stored before.
+-- What is stored after lines were replaced in place is what rereading stores, and putting them back stores what was
+-- stored before.
+--
+-- All three are lists cut at the same counts: the entries before, the new ones, and those after, each moved. `placed`
+-- is that list. Rereading stores it (`replaced_placed`): by `three_moved` where lines follow, by `two_moved` where none
+-- do. Exchanging entries in place stores it too (`exchanged_flat`), where every entry is packed: then a packed entry
+-- that was moved is the moved entry. To go back is one more exchange. What it needs is known after the first
+-- (`run_undone`), and what it gives is what was there before (`went_back`). Taking memory changes no entry
+-- (`exchanged_before`).
+--
+-- Theorems: `replaced_placed` and `exchanged_flat`: both store the same; `went_back`: putting the lines back.
 use Rattle.std.proofs.Common.{◌≡◌, ℕ, zero, suc, ◌-◌, ◌≤◌, Bool, true, false, List, [], ◌∷◌, ◌++◌, length, map, take, drop, refl, sym, ap, ◌∙◌, arith, append_assoc}
 use Rattle.std.specs.Prelude.{ltb, slice_range}
 use Rattle.std.specs.List.{AllByRecursion}

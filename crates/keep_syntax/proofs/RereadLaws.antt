@@ -1,4 +1,12 @@
 -- What rereading stores is what is stored of the document with its lines replaced, and where the lines of that begin.
+--
+-- The document is split into the lines before the span, the lines in it, and those after it (`lines_of`). What is
+-- stored is a list of pieces, one for each of these runs of lines; a piece is moved by the counts that come before it.
+-- There are two cases: lines follow the span, and the new lines end with a newline (`flat_middle`, `starts_middle`), or
+-- none do (`flat_end`, `starts_end`). In both, the pieces that are put together are those of the new document
+-- (`reread_flat`), and so are the line starts (`reread_starts`) and the length (`reread_length`).
+--
+-- Theorem: `reread_is`: the syntax that rereading gives is that of the document with its lines replaced.
 use Rattle.std.proofs.Common.{◌≡◌, ℕ, ◌+◌, ◌<◌, ◌≤◌, Bool, true, false, List, [], ◌∷◌, ◌++◌, length, map, refl, sym, ap, subst, ◌∙◌, arith, append_assoc, inl, inr, Option, Some, None, lt-ltb, le-ltb, ltb-true, ltb-false}
 use Rattle.std.specs.Prelude.{ltb, slice_range}
 use Rattle.std.specs.List.{flat_map, AllByRecursion}

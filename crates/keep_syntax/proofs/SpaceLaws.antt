@@ -1,4 +1,13 @@
 -- Gaps are read as they are written, and what is written as a gap is read again.
+--
+-- A gap is white space alone, or white space, newlines and comments, by where it is. For both there are two directions:
+-- what is taken from a text is a gap with that text, and nothing of a gap is left (`space_takes`, `blank_takes`); a gap
+-- before a byte that begins a part is taken again (`space_again`, `blank_again`). `blank_takes_from` is an induction
+-- over a bound on the steps, and `blank_same` shows that the bound does not matter if it is more than the bytes.
+-- `gap_takes` and `gap_again` choose by the brackets. The lemmas on classes say which byte a gap or what follows it
+-- begins with (`space_class`, `blank_class`).
+--
+-- Theorems: `space_takes`, `gap_takes`: what is read is a gap; `space_again`, `gap_again`: a gap is read again.
 use Rattle.std.proofs.Common.{◌≡◌, ℕ, zero, suc, ◌<◌, ◌≤◌, Bool, true, false, not, ◌&&◌, ◌||◌, ◌==◌, List, [], ◌∷◌, ◌++◌, length, slice_index, take, drop, Some, None, refl, sym, ap, ◌∙◌, subst, inl, inr, arith, append_assoc, take_at, drop_at}
 use Rattle.std.specs.Prelude.{IsTrue}
 use Rattle.std.specs.List.{prefix_len, list_all}

@@ -1,4 +1,13 @@
 -- What the code stores of scalars, brackets, and what follows a value.
+--
+-- The code and the function on lists look at the same byte, so for each branch of the code there is a lemma that gives
+-- the branch of the function: by the first byte of a value (`value_array`, `value_inline`, `value_scalar`), and by the
+-- byte after a value (`after_none`, `after_comma`, `after_bad`, `after_last`). What is stored is what the parts store,
+-- one after the other (`scalar_is`, `after_comma`). The hard one is a bracket (`bracket_is`): its value is pushed
+-- before its entries, and its end is set after them, so the value with that number has to be still there
+-- (`bracket_number`).
+--
+-- Theorems: `scalar_is`, `bracket_is` and `after_comma`: what is stored is what the definition has.
 use Rattle.std.proofs.Common.{◌≡◌, ℕ, zero, suc, ◌+◌, ◌<◌, true, false, not, ◌&&◌, ◌==◌, List, [], ◌∷◌, ◌++◌, length, get_or, drop, Option, Some, None, Result, Ok, Err, refl, sym, ap, ◌∙◌, subst, arith, IsCharBoundary}
 use Rattle.std.proofs.lemmas.List.{append-nil, length-append}
 use Rattle.keep_leaf.specs.declared.leaf.Leaf.{Leaf}

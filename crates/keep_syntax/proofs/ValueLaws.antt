@@ -1,4 +1,13 @@
 -- What is read as a value is spelled so, within the limit.
+--
+-- `value_takes` is an induction over the depth that is left: the entries of a bracket are values of one level less. So
+-- all other lemmas assume that the values inside are read rightly (`ReadsValues`). One entry is a name, a value, and
+-- what follows it (`named_takes`, `after_takes`, `item_takes`). An iteration of the loop over entries ends in one of
+-- three ways: at the closing bracket, after the last entry, or after a comma (`entry_cases`). `entries_take` joins the
+-- iterations to a list of entries; there the hard case is a comma, which may end the list only where the profile allows
+-- it (`may_end`).
+--
+-- Theorem: `value_takes`: a value that is read is valid, no deeper than the limit, and has the text that was read.
 use Rattle.std.proofs.Common.{◌≡◌, ℕ, zero, suc, ◌<◌, ◌≤◌, Bool, true, false, not, ◌&&◌, ◌||◌, ◌==◌, List, [], ◌∷◌, ◌++◌, length, take, drop, Option, Some, None, Ok, Err, refl, sym, ap, ◌∙◌, subst, inl, inr, arith, append_assoc, eqb-true}
 use Rattle.std.specs.List.{prefix_len}
 use Rattle.std.proofs.lemmas.Bool.Decides.{nat_tests}

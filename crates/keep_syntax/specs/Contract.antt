@@ -13,10 +13,10 @@ use Rattle.keep_syntax.specs.declared.info.Token.{Token}
 use Rattle.keep_syntax.specs.declared.syntax.Syntax.{Syntax}
 use Rattle.keep_syntax.specs.declared.alone.ValueSyntax.{ValueSyntax}
 use Rattle.keep_syntax.specs.declared.tokens.Tokens.{Tokens}
-use Rattle.keep_syntax.specs.Tree.{Value, Document, text, value_text, value_depth}
-use Rattle.keep_syntax.specs.Grammar.{IsValue, IsDocument, Reads, ReadsValue}
+use Rattle.keep_syntax.specs.Tree.{Value, Document, text, value_depth}
+use Rattle.keep_syntax.specs.Grammar.{IsDocument, Reads, ReadsValue}
 use Rattle.keep_syntax.specs.Numbered.{Placed, tokens, statements, parts, values, nested_start, entries_parts, value_values}
-use Rattle.keep_syntax.specs.Deep.{IsTooDeep, IsValueTooDeep}
+use Rattle.keep_syntax.specs.Deep.{IsTooDeep, IsValueTooDeep, IsNoDocument, IsNoValue}
 use Rattle.keep_parts.specs.Flat.{flat}
 use Rattle.keep_syntax.specs.Cut.{start_in, cut_by}
 use Rattle.keep_syntax.specs.FlatLines.{flat_of}
@@ -123,18 +123,19 @@ IsReadAlone profile limit bytes s = (v : Value) × ReadsValue profile limit byte
 
 -- ---- faults
 
--- `Syntax` only where no document of any depth has the text, `TooDeep` only where no document within the limit has it, and up
--- to the bracket at that place a deeper document could begin so.
+-- `Syntax` only where no document of any depth has the text, and no bracket of it is too deep. `TooDeep` only where no
+-- document within the limit has it, and up to the bracket at that place, the first where so many are open, a deeper
+-- document could begin so.
 abbrev pub IsFaultOf : Profile → ℕ → List ℕ → ReadFault → Type 0
 IsFaultOf profile limit bytes faults.Memory = ⊤
-IsFaultOf profile limit bytes (faults.Syntax at what) = (d : Document) → IsDocument profile d → bytes ≡ text d → ⊥
+IsFaultOf profile limit bytes (faults.Syntax at what) = IsNoDocument profile limit bytes
 IsFaultOf profile limit bytes (faults.TooDeep at) = IsTooDeep profile limit bytes at
 IsFaultOf profile limit bytes _ = ⊥
 
 -- What a fault says of the text of one value.
 abbrev pub IsValueFaultOf : Profile → ℕ → List ℕ → ReadFault → Type 0
 IsValueFaultOf profile limit bytes faults.Memory = ⊤
-IsValueFaultOf profile limit bytes (faults.Syntax at what) = (v : Value) → IsValue profile v → bytes ≡ value_text v → ⊥
+IsValueFaultOf profile limit bytes (faults.Syntax at what) = IsNoValue profile limit bytes
 IsValueFaultOf profile limit bytes (faults.TooDeep at) = IsValueTooDeep profile limit bytes at
 IsValueFaultOf profile limit bytes _ = ⊥
 

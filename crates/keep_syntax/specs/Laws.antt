@@ -8,6 +8,7 @@ use Rattle.keep_parts.specs.declared.info.Span.{Span}
 use Rattle.keep_syntax.specs.Tree.{Document, Value, text, value_text, depth}
 use Rattle.keep_syntax.specs.Grammar.{IsDocument, IsValue, Reads, ReadsValue}
 use Rattle.keep_syntax.specs.Numbered.{Placed, tokens}
+use Rattle.keep_syntax.specs.Deep.{IsTooDeep, IsValueTooDeep}
 use Rattle.keep_syntax.specs.Profiles.{is_allowed_in}
 use Rattle.keep_syntax.specs.WholeLines.{replaced}
 use Rattle.keep_syntax.specs.Contract.{CanReplace, put_at}
@@ -19,6 +20,17 @@ OneDocument = (profile : Profile) (d e : Document) → IsDocument profile d → 
 -- At most one value has a given text.
 abbrev pub OneValue : Type 0
 OneValue = (profile : Profile) (v w : Value) → IsValue profile v → IsValue profile w → value_text v ≡ value_text w → v ≡ w
+
+-- At most one bracket of a text is too deep.
+abbrev pub OneTooDeep : Type 0
+OneTooDeep =
+    (profile : Profile) (limit : ℕ) (bytes : List ℕ) (at also : ℕ)
+    → IsTooDeep profile limit bytes at → IsTooDeep profile limit bytes also → at ≡ also
+
+abbrev pub OneTooDeepValue : Type 0
+OneTooDeepValue =
+    (profile : Profile) (limit : ℕ) (bytes : List ℕ) (at also : ℕ)
+    → IsValueTooDeep profile limit bytes at → IsValueTooDeep profile limit bytes also → at ≡ also
 
 -- What Strict accepts Wide accepts, with the same tree.
 abbrev pub WideReadsStrict : Type 0

@@ -16,6 +16,12 @@ pub fn one_value()
     ensures { spec.OneValue }
 {}
 
+/// At most one bracket of a text is too deep: the place that `TooDeep` gives is the only one.
+pub fn too_deep_is_one_place()
+    ensures document { spec.OneTooDeep }
+    ensures value { spec.OneTooDeepValue }
+{}
+
 /// What is read as TOML v1.0.0 is read as the same document with this project's own additions.
 pub fn wide_reads_strict()
     ensures documents { spec.WideReadsStrict }

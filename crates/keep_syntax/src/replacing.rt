@@ -1,5 +1,5 @@
 //! Lines replaced in place: what is stored of them, and what was there before, to be put back.
-ghost use Rattle.std.specs.Prelude.{◌≡◌, ℕ, IfSome, OnOk, OnErr, IfOk};
+ghost use Rattle.std.specs.Prelude.{◌≡◌, ℕ, SomeIff, OnOk, OnErr, IfOk};
 ghost use Rattle.std.specs.Bool.{Decides};
 ghost use Rattle.keep_parts.specs.Flat.{flat};
 ghost use Rattle.keep_parts.specs.Rereading as rereading;
@@ -25,9 +25,9 @@ pub enum Gone {
     Whole(Parts),
 }
 
-/// The counts after what replaces a run, if machine words hold them.
+/// The counts after what replaces a run; None exactly where machine words don't hold them.
 fn counts_after(from: &Counts, all: &Counts, end: usize) -> Option<Counts>
-    ensures { IfSome result (λ counts. counts ≡ spec.counts_after from.now all.now end) }
+    ensures { SomeIff result (spec.AreHeld from.now all.now) (spec.counts_after from.now all.now end) }
 {
     Some(Counts {
         at: end,

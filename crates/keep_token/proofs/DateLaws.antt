@@ -1,4 +1,13 @@
 -- The tests of dates and times decide their languages, both ways.
+--
+-- There is a pair of lemmas for each part of a text: from the language to the test (`.._to`) and back (`.._from`). The
+-- parts are two digits and their number (`pair_two`, `two_pair`), a date, hours and minutes, a time, a date with a
+-- time, and that with an offset. A test is a conjunction over the bytes at fixed places; `date_tests`, `minutes_tests`
+-- and `seconds_tests` take it apart. The parts of a longer text are found by their lengths, since a date has ten bytes
+-- (`date_ten`) and an offset is one byte or six (`zulu_from`, `minutes_offset_from`).
+--
+-- Theorems: `date_to` and `date_from`, `time_to` and `time_from`, `date_time_to` and `date_time_from`,
+-- `offset_date_time_to` and `offset_date_time_from`.
 use Rattle.std.proofs.Common.{◌≡◌, ℕ, suc, ◌+◌, ◌-◌, ◌*◌, ◌/◌, ◌%◌, ◌<◌, ◌≤◌, Bool, true, false, ◌&&◌, ◌||◌, ◌==◌, List, [], ◌∷◌, ◌++◌, length, take, drop, refl, sym, subst, ap, ◌∙◌, inl, inr, arith, eqb-true, take_at, drop_at, length-append, append_assoc, drop-cons}
 use Rattle.std.proofs.Math.ListN.{drop_of_length-le}
 use Rattle.std.specs.Prelude.{nat_lt, nat_le, slice_index}

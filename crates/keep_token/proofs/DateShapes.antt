@@ -1,4 +1,13 @@
 -- The bytes that show a date, a time and both together: no two kinds share a text.
+--
+-- Each kind is known by bytes at fixed places: a date has ten bytes and a dash at the fifth, a time has a colon at the
+-- third, and a date with a time has more than fifteen bytes (`ShowsDate`, `ShowsTime`, `ShowsDateTime`). The first part
+-- shows that texts of each kind have these; the second compares two kinds at a time, where the bytes or the lengths
+-- differ. The hard pair is a date with a time, with an offset and without: there the first byte of the offset is no
+-- byte of a time (`offset_no_clock`).
+--
+-- Theorems: `date_shows`, `time_shows`, `date_time_shows`, `offset_date_time_shows`: what each kind has; and for each
+-- two kinds that a text is not both, as `date_time_not_offset_date_time`.
 use Rattle.std.proofs.Common.{◌≡◌, ℕ, ◌<◌, ◌≤◌, Bool, true, false, ◌&&◌, ◌||◌, ◌==◌, List, [], ◌∷◌, ◌++◌, length, take, drop, refl, ap, ◌∙◌, inl, inr, arith, eqb-true, length-append}
 use Rattle.std.specs.Prelude.{slice_index}
 use Rattle.std.proofs.lemmas.Bool.{and_parts, or_cases}

@@ -1,4 +1,14 @@
 -- What is left of a body's pieces, while its text is read from the left.
+--
+-- The code copies runs of bytes that have no backslash and handles what comes after one. `LeftOf` is its loop
+-- invariant: the text that is left is that of some pieces, and the value so far with theirs is the value of all. A run
+-- goes over many pieces at once (`run`, by induction over the pieces); a piece with a backslash is one that the scan
+-- finds there again (`left_here`), so the code finds the escape or the line end that the string was read with. Cuts are
+-- between characters, as a run ends before an ASCII byte or at the end, and a piece with a backslash is ASCII
+-- (`cut_stop`, `cut_here`).
+--
+-- Theorems: `after_run`, `iteration_escape`, `iteration_line_end`: the invariant after each step; `left_none`: the
+-- value at the end.
 use Rattle.std.proofs.Common.{◌≡◌, ℕ, suc, ◌+◌, ◌<◌, ◌≤◌, Bool, true, false, not, ◌||◌, ◌==◌, List, [], ◌∷◌, ◌++◌, length, get_or, take, drop, Option, Some, None, refl, sym, ap, ◌∙◌, subst, arith, inl, inr, drop_at, append_assoc, append-nil, length-append, length-drop, get_or-drop}
 use Rattle.std.specs.List.{prefix_len, slice_range}
 use Rattle.std.specs.Str.{IsUtf8, IsAscii, IsCharBoundary}

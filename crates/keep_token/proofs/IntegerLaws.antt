@@ -1,4 +1,14 @@
 -- An integer's value, by the sign or the prefix that it begins with.
+--
+-- The code looks at the first bytes and then reads digits in one base; the definition tests the whole text. There is a
+-- case for a minus, a plus, no sign, and each prefix of a base. In each the test of the text comes down to a test of
+-- the digits (`IsWritten`, `IsPrefixed`), and the value to that of the digits. `base_ten` shows that without a prefix
+-- only the decimal test counts. That a number fits is answered by the checked arithmetic of the code: a sum or
+-- difference with 0 (`fits_some`, `minus_is`, `plus_is`), and a text whose digits do not fit in 64 bits is no integer
+-- (`integer_none`).
+--
+-- Theorems: `integer_same`, `integer_some`, `integer_none`: the answer of the code is that of the definition, for each
+-- case.
 use Rattle.std.proofs.Common.{◌≡◌, ℕ, ℤ, pos, negsuc, zero, suc, ◌-◌, ◌^◌, ◌<◌, ◌≤◌, Bool, true, false, not, ◌&&◌, ◌||◌, ◌==◌, List, [], ◌∷◌, length, get_or, take, drop, refl, sym, ◌∙◌, inl, inr, arith, ◌⊎◌}
 use Rattle.std.specs.Prelude.{IsTrue, FitsSigned, Option, Some, None, SomeIff, IsSome, ◌↔◌, is_some, ◌+ℤ◌, ◌-ℤ◌}
 use Rattle.std.specs.Int.{w64}

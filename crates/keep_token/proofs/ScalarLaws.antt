@@ -1,4 +1,13 @@
 -- What is found in the place of a scalar is the leaf there, and a scalar is found again before what may follow it.
+--
+-- A scalar is a word or one of four kinds of strings, and its first bytes decide which: three marks, one mark, or none.
+-- So each law is a split into these five cases, with the law of that kind from another file. In the first direction
+-- (`scalar_leaf`) the tests of `scalar_at` are gone through in their order. In the other (`scalar_at_prefix`) the
+-- text's own first bytes say which test holds. The hard case is a string over many lines, where the leaf is the longest
+-- of several: `scalar_one` has this from the definition of the leaf, and `scalar_again` from the byte that follows.
+--
+-- Theorems: `scalar_leaf` and `scalar_one`: what is found is the leaf, and the leaf is found; `scalar_again`: a scalar
+-- is found again before what may follow it.
 use Rattle.std.proofs.Common.{◌≡◌, ℕ, ◌+◌, ◌<◌, ◌≤◌, true, false, ◌&&◌, ◌==◌, List, [], ◌∷◌, ◌++◌, length, get_or, take, drop, Option, Some, None, refl, sym, ap, ◌∙◌, subst, inl, inr, arith, eqb-true, take_at}
 use Rattle.std.proofs.lemmas.Bool.{and_parts, cases_lt}
 use Rattle.std.proofs.lemmas.Bool.Decides.{nat_tests}

@@ -1,4 +1,14 @@
--- The string that is found at a text is the string of the definitions: sound, found again, the longest, with one list of pieces.
+-- The string that is found at a text is the string of the definitions: sound, found again, the longest, with one list
+-- of pieces.
+--
+-- For each kind of string the same laws are put together from those of pieces: what is found is a string of the
+-- definitions (`basic_found`), a string is found again (`basic_again`), with the same pieces (`basic_pieces_one`), and
+-- none that begins there is longer (`basic_longest`). Soundness needs what the pieces were found to be; that no string
+-- is longer follows from finding each again (`longest_from`). Over many lines a string is found again only where no
+-- mark follows it; elsewhere it or a longer one is found (`ml_basic_prefix`), which is enough for the longest.
+--
+-- Theorems: `basic_found`, `basic_again`, `basic_longest`, `basic_pieces_one`, and the same four of the other three
+-- kinds.
 use Rattle.std.proofs.Common.{◌≡◌, ℕ, ◌<◌, ◌≤◌, true, false, ◌&&◌, ◌==◌, List, [], ◌∷◌, ◌++◌, length, take, drop, Option, Some, None, refl, sym, ap, ◌∙◌, subst, arith, take_at, length-append, length-take, take-append-drop, eqb-true}
 use Rattle.std.proofs.lemmas.Bool.{and_parts}
 use Rattle.keep_leaf.specs.declared.leaf.Profile.{Profile}

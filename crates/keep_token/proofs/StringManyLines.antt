@@ -1,4 +1,13 @@
--- Strings over many lines, of either kind: the pieces found spell the text, and the pieces that spell it are found, or more of them where marks follow.
+-- Strings over many lines, of either kind: the pieces found spell the text, and the pieces that spell it are found, or
+-- more of them where marks follow.
+--
+-- All is shown once for both kinds, for any pieces with `PieceLaws` and any mark. What is found has the text, and its
+-- pieces are valid (`many_lines_found`, an induction over the bound of the search). In the other direction a body may
+-- end in one or two marks, and more marks may follow the closing ones. So what is found again may be longer than what
+-- was written; it is the same where no mark follows (`many_lines_again`). The hard part is the end of the body:
+-- `ending` splits it by how many marks come last, and shows that before that fewer than three are in a row.
+--
+-- Theorems: `prefix_many`: what is found is a string over many lines; `again_many`: it is found again, or a longer one.
 use Rattle.std.proofs.Common.{◌≡◌, ℕ, zero, suc, ◌+◌, ◌-◌, ◌<◌, ◌≤◌, min, true, false, not, ◌&&◌, ◌||◌, ◌==◌, nat_le, List, [], ◌∷◌, ◌++◌, length, drop, Option, Some, None, refl, sym, ap, ◌∙◌, subst, inl, inr, arith, ◌⊎◌, append_assoc, drop_at, length-append, eqb-true, eq-eqb, le-leb, leb-true}
 use Rattle.std.proofs.lemmas.Bool.{and_parts, cases_Bool, or_parts, or_from, not-true, lt-leb}
 use Rattle.std.proofs.lemmas.Bool.Decides.{nat_tests}

@@ -1,5 +1,15 @@
 -- In each kind of string: the piece that is found spells the text and may be there, and each piece that may be there is
 -- found again.
+--
+-- For each of the four kinds of strings there is one `PieceLaws`: what the function finds is a piece of that kind and
+-- has that text, and a piece of that kind is found again whatever follows it. Each is a split by the first byte: an
+-- escape, a newline, a line end after a backslash, or a plain byte. The shared parts are lemmas of both directions
+-- (`escape_found` and `letter_again`, `number_again`; `break_found` and `break_again`). The hard case is the backslash
+-- at the end of a line: the white space after it has to be taken to its end (`blank_found`, `blank_again`), and it must
+-- not be read as an escape (`line_end_no_escape`).
+--
+-- Theorems: `basic_laws`, `literal_laws`, `ml_basic_laws`, `ml_literal_laws`: the laws of the pieces of each kind of
+-- string.
 use Rattle.std.proofs.Common.{◌≡◌, ℕ, suc, ◌+◌, ◌<◌, Bool, true, false, ◌&&◌, ◌||◌, ◌==◌, nat_lt, List, [], ◌∷◌, ◌++◌, length, take, drop, Option, Some, None, refl, sym, ap, ◌∙◌, subst, inl, inr, arith, ◌⊎◌, append_assoc, take_at, drop_at, take-append-drop, eqb-true, eq-eqb, lt-ltb}
 use Rattle.std.proofs.lemmas.Bool.{and_parts, cases_Bool, ltb-true}
 use Rattle.std.proofs.lemmas.Bool.Decides.{nat_tests}

@@ -1,4 +1,14 @@
 -- What a scan of each kind of string meets on its way: runs, marks, newlines, backslashes, and where nothing continues.
+--
+-- The code looks at a string from left to right; the function on lists finds its pieces one by one. They are joined by
+-- how far the body reaches from a place on (`basic_reach` and its like): this is the loop invariant, and a step does
+-- not change it. There is one lemma for each step: a run of plain bytes (`.._run`), a piece with a length of its own
+-- (`basic_escape`, `ml_basic_more`), the closing marks (`.._ends`), and a byte that nothing continues with
+-- (`.._stops`). Over many lines up to five marks may come last, of which three close the string (`closed_many`,
+-- `open_many`).
+--
+-- Theorems: `basic_ends` and `basic_stops`, and the same two of the other kinds: where the scan ends, its answer is the
+-- string's.
 use Rattle.std.proofs.Common.{◌≡◌, ℕ, zero, suc, ◌+◌, ◌-◌, ◌<◌, ◌≤◌, min, Bool, true, false, ◌==◌, List, [], ◌∷◌, ◌++◌, length, get_or, take, drop, Option, Some, None, refl, sym, ap, ◌∙◌, arith, inl, inr, add-zero, get_or-drop, length-append, length-drop, eq-eqb}
 use Rattle.std.specs.Prelude.{nat_le}
 use Rattle.std.specs.List.{prefix_len}

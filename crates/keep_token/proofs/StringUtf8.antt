@@ -1,4 +1,12 @@
 -- A string in well-formed UTF-8 ends where the text may be cut, and means well-formed UTF-8.
+--
+-- A text may be cut before and after an ASCII byte (`cut_one`), and a string begins and ends in one: so it ends between
+-- characters (`end_boundary`). For its meaning, the pieces are replaced by their values from left to right
+-- (`values_utf8`, by induction): a plain byte stays, and every other piece is ASCII alone (`Cuts`), so it can be cut
+-- out of the text, and the character that it means is put in. Each kind of string has such pieces (`ml_basic_cuts`,
+-- `literal_cuts` and the others). The first newline over many lines is left out in the same way.
+--
+-- Theorems: `basic_value_utf8` and `basic_boundary`, and the same two of the other kinds.
 use Rattle.std.proofs.Common.{◌≡◌, ℕ, zero, suc, ◌+◌, ◌<◌, ◌≤◌, Bool, true, ◌||◌, ◌==◌, nat_lt, List, [], ◌∷◌, ◌++◌, length, get_or, take, drop, refl, sym, ap, ◌∙◌, subst, inl, inr, arith, append_assoc, take_at, drop_at, take-append-drop, length-append, length-take, IsUtf8, IsCharBoundary, encode_utf8, lt-ltb}
 use Rattle.std.specs.Prelude.{⊤}
 use Rattle.std.proofs.lemmas.Bool.{and_parts, and_from, cases_Bool, ltb-true}

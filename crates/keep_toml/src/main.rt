@@ -1,6 +1,11 @@
 //! Reads a TOML document from standard input, and answers on standard output.
 #![tactic(auto)]
 
+ghost use Rattle.std.specs.Prelude.{◌≡◌, ◌≤◌, ◌⊎◌, IfOk};
+ghost use Rattle.keep_run.specs.Status.{run_status};
+ghost use Rattle.keep_run.specs.declared.fault.RunFault as run_fault;
+ghost use Rattle.keep_app.specs.Status.{use_status};
+
 use keep_app::{Command, Counted, GivenFault, RunFault, UseFault, command_of, given_words, run};
 use std::io;
 use std::io::Write;
@@ -14,7 +19,10 @@ fn main(rt: HostRuntime) -> ExitCode {
     }
 }
 
-fn status(rt: &HostRuntime) -> io::Result<u8> {
+// A status of the table.
+fn status(rt: &HostRuntime) -> io::Result<u8>
+    ensures { IfOk result (λ status. status ≤ 4) }
+{
     let words = match given_words(rt.alloc(), rt) {
         Ok(words) => words,
         Err(GivenFault::Memory) => return refused(rt, &UseFault::Memory),
@@ -29,7 +37,10 @@ fn status(rt: &HostRuntime) -> io::Result<u8> {
     }
 }
 
-fn refused(rt: &HostRuntime, fault: &UseFault) -> io::Result<u8> {
+// Words that ask for nothing: the status of their fault.
+fn refused(rt: &HostRuntime, fault: &UseFault) -> io::Result<u8>
+    ensures { IfOk result (λ status. status ≡ use_status fault.now) }
+{
     match fault {
         // The text of clap is alone, and ends its line.
         UseFault::Words(error) => eprint!(rt; "{error}")?,
@@ -38,7 +49,10 @@ fn refused(rt: &HostRuntime, fault: &UseFault) -> io::Result<u8> {
     Ok(fault.status())
 }
 
-fn answered(rt: &HostRuntime, command: &Command) -> io::Result<u8> {
+// A command: 0, or the status of a fault of its run.
+fn answered(rt: &HostRuntime, command: &Command) -> io::Result<u8>
+    ensures { IfOk result (λ status. (status ≡ 0) ⊎ ((fault : run_fault.RunFault) × (status ≡ run_status fault))) }
+{
     let mut input = Counted::new(rt.stdin());
     let mut output = Counted::new(rt.stdout());
     let fault = match run(rt.alloc(), command, &mut input, &mut output) {
@@ -50,6 +64,13 @@ fn answered(rt: &HostRuntime, command: &Command) -> io::Result<u8> {
         },
         Err(fault) => fault,
     };
+    stopped(rt, &fault)
+}
+
+// A run that stops: the status of its fault.
+fn stopped(rt: &HostRuntime, fault: &RunFault) -> io::Result<u8>
+    ensures { IfOk result (λ status. status ≡ run_status fault.now) }
+{
     eprintln!(rt; "keep-toml: {fault}")?;
     Ok(fault.status())
 }

@@ -1,3 +1,4 @@
+pub mod Options
 pub mod Parse
 pub mod Rows
 pub mod Building

@@ -1,11 +1,13 @@
--- What `clap` makes of the program's words, for any table of subcommands with at most two words each.
-use Rattle.std.proofs.Common.{◌≡◌, ◌∙◌, ◌⊎◌, ◌++◌, ◌&&◌, ◌||◌, ℕ, suc, Bool, true, false, not, refl, sym, ap, ap₂, subst, inl, inr, List, [], ◌∷◌, map, length, Option, Some, None, is_some, option_map, find, fold, append_assoc, append-nil, arith, leb-true}
+-- What `clap` makes of the program's words, for any table of subcommands with at most two words each. It is computed for each
+-- number of words, and each place of the `--` among them; an option fails wherever it is (`Options`).
+use Rattle.std.proofs.Common.{◌≡◌, ◌∙◌, ◌⊎◌, ◌++◌, ◌&&◌, ◌||◌, ℕ, suc, Bool, true, false, refl, sym, ap, ap₂, subst, inl, inr, List, [], ◌∷◌, map, length, Option, Some, None, is_some, option_map, find, fold, append_assoc, append-nil, arith, leb-true, Global, String}
 use Rattle.std.specs.Str.{bytes_eq}
 use Rattle.std.specs.List.{list_all}
-use Rattle.std.specs.Prelude.{◌==◌, Contains, nat_le, unwrap_or}
+use Rattle.std.specs.Prelude.{◌==◌, ⊤, Contains, IsUtf8, nat_le, option_and_then, string_bytes, unwrap_or}
+use Rattle.std.specs.Option.{option_map_or}
 use Rattle.std.proofs.lemmas.Slice.Eq.{bytes_eq-Decides}
 use Rattle.std.proofs.lemmas.Bool.Decides.{eqb_tells}
-use Rattle.clap.specs.Lexer.{strip_byte}
+use Rattle.std.proofs.lemmas.Str.{IsUtf8-string_bytes}
 use Rattle.clap.specs.Walk.{Names, Row as Found, Rule, Text, answers_to, finished, settled, subcommand_met, Walk, idle, is_empty, nothing_held, walk, walked, walk_from}
 use Rattle.clap.specs.Simple.{App, HasMatchesOf, Shape, built, built_leaf, entered, inherited, is_simple, label_of, marked_built, names_of, rows_at, subcommand_of, subcommand_rows_of, with_leaf_noted}
 use Rattle.clap.specs.Faults.{fault_of, check_fault, defaults_fault, entered_fault, is_simple_and_free, level_fault, settle_fault, walk_fault}
@@ -22,7 +24,8 @@ use Rattle.keep_words.specs.App.{program_app, leaf_of, top_app}
 use Rattle.keep_words.specs.Table.{Row, first_row, table}
 use Rattle.keep_words.specs.declared.subcommand.Word.{Word}
 use Rattle.keep_words.specs.Chosen.{read_rows, wanted_with, words_in}
-use Rattle.keep_words.specs.Wanted.{IsWhole, has_plain_words, is_plain_word, row_named, wanted_in, wanted_of}
+use Rattle.keep_words.proofs.Options.{AreRequests, IsGoing, IsOptionWord, IsPlainWord, fails_after, first_fails, nothing_met, seen, turn_fails}
+use Rattle.keep_words.specs.Wanted.{IsWhole, is_dashes, row_named, taken, wanted_by, wanted_in, wanted_of, with_words}
 
 -- ---- the names of the subcommands
 
@@ -154,128 +157,382 @@ entered_named rows program name row words e =
 
 -- ---- the words of a subcommand
 
--- the word begins with no hyphen
-pub record IsPlainWord (word : Text) : Type 0 where
-  pub first : strip_byte 45 word ≡ None
-  pub dashes : bytes_eq word (45 ∷ 45 ∷ []) ≡ false
-
-none_from : {X : Type 0} (o : Option X) → not (is_some o) ≡ true → o ≡ None
-none_from None e = refl
-none_from (Some x) e = cc
-
-some_not_none : (word : Text) (b : Bool) → Some word ≡ None → b ≡ false
-some_not_none word b bad = cc
-
-dashes_at : (word : Text) → strip_byte 45 word ≡ None → (b : Bool) → bytes_eq word (45 ∷ 45 ∷ []) ≡ b → b ≡ false
-dashes_at word e false h = refl
-dashes_at word e true h =
-    let same : word ≡ 45 ∷ 45 ∷ [] = (bytes_eq-Decides word (45 ∷ 45 ∷ [])).0 h in
-    some_not_none (45 ∷ []) true (ap (strip_byte 45) (sym same) ∙ e)
-
-plain_word : (word : Text) → is_plain_word word ≡ true → IsPlainWord word
-plain_word word h =
-    let e : strip_byte 45 word ≡ None = none_from (strip_byte 45 word) h in
-    record { first = e; dashes = dashes_at word e _ refl }
-
-plain_both : (word : Text) (rest : List Text) → list_all is_plain_word (word ∷ rest) ≡ true → IsPlainWord word × (list_all is_plain_word rest ≡ true)
-plain_both word rest h = let parts = both _ _ h in (plain_word word parts.0, parts.1)
-
 -- the words that the command of a row finds
 abbrev found_in : Row → List Text → List Text
 found_in row words = words_in row (rows_at (leaf row) words).1
 
--- The command of a row takes the words exactly if they are as many as it has, and then finds them.
+-- how many words are taken is how many the row has
+abbrev has_as_many : Row → Option (List Text) → Bool
+has_as_many row words = option_map_or (λ ws. length ws == length row.words) words false
+
+-- The command of a row takes the words exactly if they are as many as it has, and then finds them. The first `--` is none of them.
 abbrev Takes : Row → List Text → Type 0
-Takes row words = (leaf_fault row words ≡ []) × (found_in row words ≡ words) × ((length words == length row.words) ≡ true)
+Takes row words = (leaf_fault row words ≡ []) × (taken words ≡ Some (found_in row words)) × (has_as_many row (taken words) ≡ true)
 
 abbrev Refuses : Row → List Text → Type 0
-Refuses row words = (is_empty (leaf_fault row words) ≡ false) × ((length words == length row.words) ≡ false)
-
-takes_none : (row : Row) → row.words ≡ [] → Takes row []
-unfolding clap_on_literals
-takes_none row e = rw e (refl {a = []}, refl {a = []}, refl)
-
-takes_one : (row : Row) (k : Word) (first : Text) → row.words ≡ k ∷ [] → IsPlainWord first → Takes row (first ∷ [])
-unfolding clap_on_literals
-takes_one row k first is p =
-    let e = p.first in let f = p.dashes in
-    rw is (simp (e, f) (refl {a = []}), simp (e, f) (refl {a = first ∷ []}), refl)
-
-takes_two : (row : Row) (k l : Word) (first second : Text) → row.words ≡ k ∷ l ∷ [] → IsPlainWord first → IsPlainWord second → Takes row (first ∷ second ∷ [])
-unfolding clap_on_literals
-takes_two row k l first second is p q =
-    let e = p.first in let f = p.dashes in let g = q.first in let h = q.dashes in
-    rw is (simp (e, f, g, h) (refl {a = []}), simp (e, f, g, h) (refl {a = first ∷ second ∷ []}), refl)
+Refuses row words = (is_empty (leaf_fault row words) ≡ false) × (has_as_many row (taken words) ≡ false)
 
 unequal : (n m : ℕ) → (n ≡ m → ⊥) → (n == m) ≡ false
 unequal n m h = elim (eqb_tells n m) [ inl same ↦ absurd (h same.1) | inr other ↦ other.0 ]
 
--- a word too many
-more_than_none : (row : Row) (word : Text) (rest : List Text) → row.words ≡ [] → IsPlainWord word → Refuses row (word ∷ rest)
-unfolding clap_on_literals
-more_than_none row word rest is p = let e = p.first in let f = p.dashes in rw is (simp (e, f) (refl {a = false}), unequal _ _ (λ same. absurd (omega arith)))
+-- words that are too many, whatever comes after them
+abbrev more_by : (List Text → List Text) → ℕ → Option (List Text) → Bool
+more_by more n words = option_map_or (λ ws. length ws == n) (option_map more words) false
 
-more_than_one : (row : Row) (k : Word) (first word : Text) (rest : List Text) → row.words ≡ k ∷ [] → IsPlainWord first → IsPlainWord word → Refuses row (first ∷ word ∷ rest)
-unfolding clap_on_literals
-more_than_one row k first word rest is p q =
-    let e = p.first in let f = p.dashes in let g = q.first in let h = q.dashes in
-    rw is (simp (e, f, g, h) (refl {a = false}), unequal _ _ (λ same. absurd (omega arith)))
+past_none : (a : Text) (words : Option (List Text)) → more_by (λ ws. a ∷ ws) 0 words ≡ false
+past_none a None = refl
+past_none a (Some ws) = unequal (length (a ∷ ws)) 0 (λ same. absurd (omega arith))
 
-more_than_two : (row : Row) (k l : Word) (first second word : Text) (rest : List Text) → row.words ≡ k ∷ l ∷ [] → IsPlainWord first → IsPlainWord second → IsPlainWord word
-    → Refuses row (first ∷ second ∷ word ∷ rest)
-unfolding clap_on_literals
-more_than_two row k l first second word rest is p q r =
-    let e = p.first in let f = p.dashes in let g = q.first in let h = q.dashes in let i = r.first in let j = r.dashes in
-    rw is (simp (e, f, g, h, i, j) (refl {a = false}), unequal _ _ (λ same. absurd (omega arith)))
+past_one : (a b : Text) (words : Option (List Text)) → more_by (λ ws. a ∷ ws) 1 (option_map (λ ws. b ∷ ws) words) ≡ false
+past_one a b None = refl
+past_one a b (Some ws) = unequal (length (a ∷ b ∷ ws)) 1 (λ same. absurd (omega arith))
 
--- a word too few
-fewer_than_one : (row : Row) (k : Word) → row.words ≡ k ∷ [] → Refuses row []
+past_two : (a b c : Text) (words : Option (List Text)) → more_by (λ ws. a ∷ ws) 2 (option_map (λ ws. b ∷ ws) (option_map (λ ws. c ∷ ws) words)) ≡ false
+past_two a b c None = refl
+past_two a b c (Some ws) = unequal (length (a ∷ b ∷ c ∷ ws)) 2 (λ same. absurd (omega arith))
+
+-- ---- a subcommand without words
+
+none_of_none : (row : Row) → row.words ≡ [] → Takes row []
 unfolding clap_on_literals
-fewer_than_one row k is = rw is (refl {a = false}, refl)
+none_of_none row is =
+    rw is ((refl {a = []}), (refl {a = Some ([])}), (refl {a = true}))
+
+none_after_dashes : (row : Row) (a : Text) → row.words ≡ [] → is_dashes a ≡ true → Takes row (a ∷ [])
+unfolding clap_on_literals
+none_after_dashes row a is da =
+    rw is (simp (da) (refl {a = []}), simp (da) (refl {a = Some ([])}), simp (da) (refl {a = true}))
+
+one_of_none : (row : Row) (a : Text) (rest : List Text) → row.words ≡ [] → IsPlainWord a → Refuses row (a ∷ rest)
+unfolding clap_on_literals
+one_of_none row a rest is pa =
+    let ea = pa.long in let fa = pa.short in let ga = pa.dashes in
+    rw is (simp (ea, fa, ga) (refl {a = false}), simp (ea, fa, ga) (past_none a (taken rest)))
+
+one_of_none_after_dashes : (row : Row) (a b : Text) (rest : List Text) → row.words ≡ [] → is_dashes a ≡ true → Refuses row (a ∷ b ∷ rest)
+unfolding clap_on_literals
+one_of_none_after_dashes row a b rest is da =
+    rw is (simp (da) (refl {a = false}), simp (da) (unequal (length (b ∷ rest)) 0 (λ same. absurd (omega arith))))
+
+-- ---- a subcommand with one word
+
+none_of_one : (row : Row) (k : Word) → row.words ≡ k ∷ [] → Refuses row []
+unfolding clap_on_literals
+none_of_one row k is =
+    rw is ((refl {a = false}), (refl {a = false}))
+
+none_of_one_after_dashes : (row : Row) (k : Word) (a : Text) → row.words ≡ k ∷ [] → is_dashes a ≡ true → Refuses row (a ∷ [])
+unfolding clap_on_literals
+none_of_one_after_dashes row k a is da =
+    rw is (simp (da) (refl {a = false}), simp (da) (refl {a = false}))
+
+one_of_one : (row : Row) (k : Word) (a : Text) → row.words ≡ k ∷ [] → IsPlainWord a → Takes row (a ∷ [])
+unfolding clap_on_literals
+one_of_one row k a is pa =
+    let ea = pa.long in let fa = pa.short in let ga = pa.dashes in
+    rw is (simp (ea, fa, ga) (refl {a = []}), simp (ea, fa, ga) (refl {a = Some (a ∷ [])}), simp (ea, fa, ga) (refl {a = true}))
+
+one_after_dashes : (row : Row) (k : Word) (a b : Text) → row.words ≡ k ∷ [] → is_dashes a ≡ true → Takes row (a ∷ b ∷ [])
+unfolding clap_on_literals
+one_after_dashes row k a b is da =
+    rw is (simp (da) (refl {a = []}), simp (da) (refl {a = Some (b ∷ [])}), simp (da) (refl {a = true}))
+
+one_before_dashes : (row : Row) (k : Word) (a b : Text) → row.words ≡ k ∷ [] → IsPlainWord a → is_dashes b ≡ true → Takes row (a ∷ b ∷ [])
+unfolding clap_on_literals
+one_before_dashes row k a b is pa db =
+    let ea = pa.long in let fa = pa.short in let ga = pa.dashes in
+    rw is (simp (ea, fa, ga, db) (refl {a = []}), simp (ea, fa, ga, db) (refl {a = Some (a ∷ [])}), simp (ea, fa, ga, db) (refl {a = true}))
+
+two_of_one : (row : Row) (k : Word) (a b : Text) (rest : List Text) → row.words ≡ k ∷ [] → IsPlainWord a → IsPlainWord b → Refuses row (a ∷ b ∷ rest)
+unfolding clap_on_literals
+two_of_one row k a b rest is pa pb =
+    let ea = pa.long in let fa = pa.short in let ga = pa.dashes in
+    let eb = pb.long in let fb = pb.short in let gb = pb.dashes in
+    rw is (simp (ea, fa, ga, eb, fb, gb) (refl {a = false}), simp (ea, fa, ga, eb, fb, gb) (past_one a b (taken rest)))
+
+two_of_one_after_dashes : (row : Row) (k : Word) (a b c : Text) (rest : List Text) → row.words ≡ k ∷ [] → is_dashes a ≡ true → Refuses row (a ∷ b ∷ c ∷ rest)
+unfolding clap_on_literals
+two_of_one_after_dashes row k a b c rest is da =
+    rw is (simp (da) (refl {a = false}), simp (da) (unequal (length (b ∷ c ∷ rest)) 1 (λ same. absurd (omega arith))))
+
+two_of_one_around_dashes : (row : Row) (k : Word) (a b c : Text) (rest : List Text) → row.words ≡ k ∷ [] → IsPlainWord a → is_dashes b ≡ true → Refuses row (a ∷ b ∷ c ∷ rest)
+unfolding clap_on_literals
+two_of_one_around_dashes row k a b c rest is pa db =
+    let ea = pa.long in let fa = pa.short in let ga = pa.dashes in
+    rw is (simp (ea, fa, ga, db) (refl {a = false}), simp (ea, fa, ga, db) (unequal (length (a ∷ c ∷ rest)) 1 (λ same. absurd (omega arith))))
+
+-- ---- a subcommand with two words
 
 none_of_two : (row : Row) (k l : Word) → row.words ≡ k ∷ l ∷ [] → Refuses row []
 unfolding clap_on_literals
-none_of_two row k l is = rw is (refl {a = false}, refl)
+none_of_two row k l is =
+    rw is ((refl {a = false}), (refl {a = false}))
 
-one_of_two : (row : Row) (k l : Word) (first : Text) → row.words ≡ k ∷ l ∷ [] → IsPlainWord first → Refuses row (first ∷ [])
+none_of_two_after_dashes : (row : Row) (k l : Word) (a : Text) → row.words ≡ k ∷ l ∷ [] → is_dashes a ≡ true → Refuses row (a ∷ [])
 unfolding clap_on_literals
-one_of_two row k l first is p = let e = p.first in let f = p.dashes in rw is (simp (e, f) (refl {a = false}), refl)
+none_of_two_after_dashes row k l a is da =
+    rw is (simp (da) (refl {a = false}), simp (da) (refl {a = false}))
 
-words_decide : (row : Row) (kinds : List Word) (words : List Text) → row.words ≡ kinds → nat_le (length kinds) 2 ≡ true → list_all is_plain_word words ≡ true → Takes row words ⊎ Refuses row words
-words_decide row [] [] is few h = inl (takes_none row is)
-words_decide row [] (word ∷ rest) is few h = inr (more_than_none row word rest is (plain_both word rest h).0)
-words_decide row (k ∷ []) [] is few h = inr (fewer_than_one row k is)
-words_decide row (k ∷ []) (first ∷ []) is few h = inl (takes_one row k first is (plain_both first [] h).0)
-words_decide row (k ∷ []) (first ∷ word ∷ rest) is few h =
-    let p = plain_both first (word ∷ rest) h in
-    let q = plain_both word rest p.1 in
-    inr (more_than_one row k first word rest is p.0 q.0)
-words_decide row (k ∷ l ∷ []) [] is few h = inr (none_of_two row k l is)
-words_decide row (k ∷ l ∷ []) (first ∷ []) is few h = inr (one_of_two row k l first is (plain_both first [] h).0)
-words_decide row (k ∷ l ∷ []) (first ∷ second ∷ []) is few h =
-    let p = plain_both first (second ∷ []) h in
-    let q = plain_both second [] p.1 in
-    inl (takes_two row k l first second is p.0 q.0)
-words_decide row (k ∷ l ∷ []) (first ∷ second ∷ word ∷ rest) is few h =
-    let p = plain_both first (second ∷ word ∷ rest) h in
-    let q = plain_both second (word ∷ rest) p.1 in
-    let r = plain_both word rest q.1 in
-    inr (more_than_two row k l first second word rest is p.0 q.0 r.0)
-words_decide row (k ∷ l ∷ m ∷ ks) words is few h = absurd (omega (arith, leb-true (length (k ∷ l ∷ m ∷ ks)) 2 few))
+one_of_two : (row : Row) (k l : Word) (a : Text) → row.words ≡ k ∷ l ∷ [] → IsPlainWord a → Refuses row (a ∷ [])
+unfolding clap_on_literals
+one_of_two row k l a is pa =
+    let ea = pa.long in let fa = pa.short in let ga = pa.dashes in
+    rw is (simp (ea, fa, ga) (refl {a = false}), simp (ea, fa, ga) (refl {a = false}))
 
--- a word that names no subcommand
+one_of_two_after_dashes : (row : Row) (k l : Word) (a b : Text) → row.words ≡ k ∷ l ∷ [] → is_dashes a ≡ true → Refuses row (a ∷ b ∷ [])
+unfolding clap_on_literals
+one_of_two_after_dashes row k l a b is da =
+    rw is (simp (da) (refl {a = false}), simp (da) (refl {a = false}))
+
+one_of_two_before_dashes : (row : Row) (k l : Word) (a b : Text) → row.words ≡ k ∷ l ∷ [] → IsPlainWord a → is_dashes b ≡ true → Refuses row (a ∷ b ∷ [])
+unfolding clap_on_literals
+one_of_two_before_dashes row k l a b is pa db =
+    let ea = pa.long in let fa = pa.short in let ga = pa.dashes in
+    rw is (simp (ea, fa, ga, db) (refl {a = false}), simp (ea, fa, ga, db) (refl {a = false}))
+
+two_of_two : (row : Row) (k l : Word) (a b : Text) → row.words ≡ k ∷ l ∷ [] → IsPlainWord a → IsPlainWord b → Takes row (a ∷ b ∷ [])
+unfolding clap_on_literals
+two_of_two row k l a b is pa pb =
+    let ea = pa.long in let fa = pa.short in let ga = pa.dashes in
+    let eb = pb.long in let fb = pb.short in let gb = pb.dashes in
+    rw is (simp (ea, fa, ga, eb, fb, gb) (refl {a = []}), simp (ea, fa, ga, eb, fb, gb) (refl {a = Some (a ∷ b ∷ [])}), simp (ea, fa, ga, eb, fb, gb) (refl {a = true}))
+
+two_after_dashes : (row : Row) (k l : Word) (a b c : Text) → row.words ≡ k ∷ l ∷ [] → is_dashes a ≡ true → Takes row (a ∷ b ∷ c ∷ [])
+unfolding clap_on_literals
+two_after_dashes row k l a b c is da =
+    rw is (simp (da) (refl {a = []}), simp (da) (refl {a = Some (b ∷ c ∷ [])}), simp (da) (refl {a = true}))
+
+two_around_dashes : (row : Row) (k l : Word) (a b c : Text) → row.words ≡ k ∷ l ∷ [] → IsPlainWord a → is_dashes b ≡ true → Takes row (a ∷ b ∷ c ∷ [])
+unfolding clap_on_literals
+two_around_dashes row k l a b c is pa db =
+    let ea = pa.long in let fa = pa.short in let ga = pa.dashes in
+    rw is (simp (ea, fa, ga, db) (refl {a = []}), simp (ea, fa, ga, db) (refl {a = Some (a ∷ c ∷ [])}), simp (ea, fa, ga, db) (refl {a = true}))
+
+two_before_dashes : (row : Row) (k l : Word) (a b c : Text) → row.words ≡ k ∷ l ∷ [] → IsPlainWord a → IsPlainWord b → is_dashes c ≡ true → Takes row (a ∷ b ∷ c ∷ [])
+unfolding clap_on_literals
+two_before_dashes row k l a b c is pa pb dc =
+    let ea = pa.long in let fa = pa.short in let ga = pa.dashes in
+    let eb = pb.long in let fb = pb.short in let gb = pb.dashes in
+    rw is (simp (ea, fa, ga, eb, fb, gb, dc) (refl {a = []}), simp (ea, fa, ga, eb, fb, gb, dc) (refl {a = Some (a ∷ b ∷ [])}), simp (ea, fa, ga, eb, fb, gb, dc) (refl {a = true}))
+
+three_of_two : (row : Row) (k l : Word) (a b c : Text) (rest : List Text) → row.words ≡ k ∷ l ∷ [] → IsPlainWord a → IsPlainWord b → IsPlainWord c → Refuses row (a ∷ b ∷ c ∷ rest)
+unfolding clap_on_literals
+three_of_two row k l a b c rest is pa pb pc =
+    let ea = pa.long in let fa = pa.short in let ga = pa.dashes in
+    let eb = pb.long in let fb = pb.short in let gb = pb.dashes in
+    let ec = pc.long in let fc = pc.short in let gc = pc.dashes in
+    rw is (simp (ea, fa, ga, eb, fb, gb, ec, fc, gc) (refl {a = false}), simp (ea, fa, ga, eb, fb, gb, ec, fc, gc) (past_two a b c (taken rest)))
+
+three_of_two_after_dashes : (row : Row) (k l : Word) (a b c d : Text) (rest : List Text) → row.words ≡ k ∷ l ∷ [] → is_dashes a ≡ true → Refuses row (a ∷ b ∷ c ∷ d ∷ rest)
+unfolding clap_on_literals
+three_of_two_after_dashes row k l a b c d rest is da =
+    rw is (simp (da) (refl {a = false}), simp (da) (unequal (length (b ∷ c ∷ d ∷ rest)) 2 (λ same. absurd (omega arith))))
+
+three_of_two_around_dashes : (row : Row) (k l : Word) (a b c d : Text) (rest : List Text) → row.words ≡ k ∷ l ∷ [] → IsPlainWord a → is_dashes b ≡ true → Refuses row (a ∷ b ∷ c ∷ d ∷ rest)
+unfolding clap_on_literals
+three_of_two_around_dashes row k l a b c d rest is pa db =
+    let ea = pa.long in let fa = pa.short in let ga = pa.dashes in
+    rw is (simp (ea, fa, ga, db) (refl {a = false}), simp (ea, fa, ga, db) (unequal (length (a ∷ c ∷ d ∷ rest)) 2 (λ same. absurd (omega arith))))
+
+three_of_two_past_dashes : (row : Row) (k l : Word) (a b c d : Text) (rest : List Text) → row.words ≡ k ∷ l ∷ [] → IsPlainWord a → IsPlainWord b → is_dashes c ≡ true → Refuses row (a ∷ b ∷ c ∷ d ∷ rest)
+unfolding clap_on_literals
+three_of_two_past_dashes row k l a b c d rest is pa pb dc =
+    let ea = pa.long in let fa = pa.short in let ga = pa.dashes in
+    let eb = pb.long in let fb = pb.short in let gb = pb.dashes in
+    rw is (simp (ea, fa, ga, eb, fb, gb, dc) (refl {a = false}), simp (ea, fa, ga, eb, fb, gb, dc) (unequal (length (a ∷ b ∷ d ∷ rest)) 2 (λ same. absurd (omega arith))))
+
+-- ---- an option among the words of a subcommand
+
+leaf_requests : (row : Row) (kinds : List Word) → row.words ≡ kinds → nat_le (length kinds) 2 ≡ true → AreRequests (leaf row).rules
+leaf_requests row [] is few = rw is (inr (record { alone = refl; asks = λ again rows. refl }), tt)
+leaf_requests row (k ∷ []) is few = rw is (inl refl, (inr (record { alone = refl; asks = λ again rows. refl }), tt))
+leaf_requests row (k ∷ l ∷ []) is few = rw is (inl refl, (inl refl, (inr (record { alone = refl; asks = λ again rows. refl }), tt)))
+leaf_requests row (k ∷ l ∷ m ∷ ks) is few = absurd (omega (arith, leb-true (length (k ∷ l ∷ m ∷ ks)) 2 few))
+
+-- the walk after these words
+abbrev after : Row → List Text → Walk
+after row words = fold (walked (leaf row).rules []) (walk_from nothing_held) words
+
+option_after : (row : Row) (before : List Text) (word : Text) (rest : List Text) → AreRequests (leaf row).rules → IsGoing (after row before) → IsOptionWord word
+    → is_empty (leaf_fault row (before ++ word ∷ rest)) ≡ false
+option_after row before word rest are going is =
+    first_fails _ _ (fails_after (leaf row) [] (walk_from nothing_held) before word rest
+    (turn_fails (leaf row) [] (after row before) word are going (nothing_met (after row before).waiting word) is))
+
+going_one : (row : Row) (k : Word) (a : Text) → row.words ≡ k ∷ [] → IsPlainWord a → IsGoing (after row (a ∷ []))
+unfolding clap_on_literals
+going_one row k a is pa =
+    let ea = pa.long in let fa = pa.short in let ga = pa.dashes in
+    rw is (simp (ea, fa, ga) (refl {a = None}), simp (ea, fa, ga) (refl {a = false}), simp (ea, fa, ga) (refl {a = 0}))
+
+going_first : (row : Row) (k l : Word) (a : Text) → row.words ≡ k ∷ l ∷ [] → IsPlainWord a → IsGoing (after row (a ∷ []))
+unfolding clap_on_literals
+going_first row k l a is pa =
+    let ea = pa.long in let fa = pa.short in let ga = pa.dashes in
+    rw is (simp (ea, fa, ga) (refl {a = None}), simp (ea, fa, ga) (refl {a = false}), simp (ea, fa, ga) (refl {a = 0}))
+
+going_second : (row : Row) (k l : Word) (a b : Text) → row.words ≡ k ∷ l ∷ [] → IsPlainWord a → IsPlainWord b → IsGoing (after row (a ∷ b ∷ []))
+unfolding clap_on_literals
+going_second row k l a b is pa pb =
+    let ea = pa.long in let fa = pa.short in let ga = pa.dashes in
+    let eb = pb.long in let fb = pb.short in let gb = pb.dashes in
+    rw is (
+      simp (ea, fa, ga, eb, fb, gb) (refl {a = None}),
+      simp (ea, fa, ga, eb, fb, gb) (refl {a = false}),
+      simp (ea, fa, ga, eb, fb, gb) (refl {a = 0}),
+    )
+
+-- a command with an option takes no words
+none_taken : (row : Row) (words : Option (List Text)) → words ≡ None → has_as_many row words ≡ false
+none_taken row words none = rw none refl
+
+option_first : (row : Row) (o : Text) (rest : List Text) → AreRequests (leaf row).rules → IsOptionWord o → Refuses row (o ∷ rest)
+option_first row o rest are q =
+    let d = q.dashes in let i = q.is in
+    (option_after row [] o rest are (refl, refl, refl) q, none_taken row (taken (o ∷ rest)) (rw (d, i) refl))
+
+option_second : (row : Row) (a o : Text) (rest : List Text) → AreRequests (leaf row).rules → IsGoing (after row (a ∷ [])) → IsPlainWord a → IsOptionWord o → Refuses row (a ∷ o ∷ rest)
+option_second row a o rest are going pa q =
+    let ea = pa.long in let fa = pa.short in let ga = pa.dashes in let d = q.dashes in let i = q.is in
+    (option_after row (a ∷ []) o rest are going q, none_taken row (taken (a ∷ o ∷ rest)) (rw (ga, ea, fa, d, i) refl))
+
+option_third : (row : Row) (a b o : Text) (rest : List Text) → AreRequests (leaf row).rules → IsGoing (after row (a ∷ b ∷ [])) → IsPlainWord a → IsPlainWord b → IsOptionWord o → Refuses row (a ∷ b ∷ o ∷ rest)
+option_third row a b o rest are going pa pb q =
+    let ea = pa.long in let fa = pa.short in let ga = pa.dashes in
+    let eb = pb.long in let fb = pb.short in let gb = pb.dashes in let d = q.dashes in let i = q.is in
+    (option_after row (a ∷ b ∷ []) o rest are going q, none_taken row (taken (a ∷ b ∷ o ∷ rest)) (rw (ga, ea, fa, gb, eb, fb, d, i) refl))
+
+-- ---- the words decide
+
+abbrev pub AreUtf8 : List Text → Type 0
+AreUtf8 [] = ⊤
+AreUtf8 (word ∷ words) = IsUtf8 word × AreUtf8 words
+
+abbrev Decided : Row → List Text → Type 0
+Decided row words = Takes row words ⊎ Refuses row words
+
+module _ (row : Row) (is : row.words ≡ []) (are : AreRequests (leaf row).rules) where
+  dashes_of_none : (a : Text) (more : List Text) → is_dashes a ≡ true → Decided row (a ∷ more)
+  dashes_of_none a [] d = inl (none_after_dashes row a is d)
+  dashes_of_none a (b ∷ rest) d = inr (one_of_none_after_dashes row a b rest is d)
+
+  of_none : (words : List Text) → AreUtf8 words → Decided row words
+  of_none [] u = inl (none_of_none row is)
+  of_none (a ∷ more) u = elim (seen a u.0) [
+    | inl d ↦ dashes_of_none a more d
+    | inr (inl p) ↦ inr (one_of_none row a more is p)
+    | inr (inr q) ↦ inr (option_first row a more are q)
+  ]
+
+module _ (row : Row) (k : Word) (is : row.words ≡ k ∷ []) (are : AreRequests (leaf row).rules) where
+  dashes_of_one : (a : Text) (more : List Text) → is_dashes a ≡ true → Decided row (a ∷ more)
+  dashes_of_one a [] d = inr (none_of_one_after_dashes row k a is d)
+  dashes_of_one a (b ∷ []) d = inl (one_after_dashes row k a b is d)
+  dashes_of_one a (b ∷ c ∷ rest) d = inr (two_of_one_after_dashes row k a b c rest is d)
+
+  dashes_after_one : (a b : Text) (more : List Text) → IsPlainWord a → is_dashes b ≡ true → Decided row (a ∷ b ∷ more)
+  dashes_after_one a b [] p d = inl (one_before_dashes row k a b is p d)
+  dashes_after_one a b (c ∷ rest) p d = inr (two_of_one_around_dashes row k a b c rest is p d)
+
+  past_first : (a : Text) (more : List Text) → IsPlainWord a → AreUtf8 more → Decided row (a ∷ more)
+  past_first a [] p u = inl (one_of_one row k a is p)
+  past_first a (b ∷ more) p u = elim (seen b u.0) [
+    | inl d ↦ dashes_after_one a b more p d
+    | inr (inl q) ↦ inr (two_of_one row k a b more is p q)
+    | inr (inr q) ↦ inr (option_second row a b more are (going_one row k a is p) p q)
+  ]
+
+  of_one : (words : List Text) → AreUtf8 words → Decided row words
+  of_one [] u = inr (none_of_one row k is)
+  of_one (a ∷ more) u = elim (seen a u.0) [
+    | inl d ↦ dashes_of_one a more d
+    | inr (inl p) ↦ past_first a more p u.1
+    | inr (inr q) ↦ inr (option_first row a more are q)
+  ]
+
+module _ (row : Row) (k l : Word) (is : row.words ≡ k ∷ l ∷ []) (are : AreRequests (leaf row).rules) where
+  dashes_of_two : (a : Text) (more : List Text) → is_dashes a ≡ true → Decided row (a ∷ more)
+  dashes_of_two a [] e = inr (none_of_two_after_dashes row k l a is e)
+  dashes_of_two a (b ∷ []) e = inr (one_of_two_after_dashes row k l a b is e)
+  dashes_of_two a (b ∷ c ∷ []) e = inl (two_after_dashes row k l a b c is e)
+  dashes_of_two a (b ∷ c ∷ d ∷ rest) e = inr (three_of_two_after_dashes row k l a b c d rest is e)
+
+  dashes_after_first : (a b : Text) (more : List Text) → IsPlainWord a → is_dashes b ≡ true → Decided row (a ∷ b ∷ more)
+  dashes_after_first a b [] p e = inr (one_of_two_before_dashes row k l a b is p e)
+  dashes_after_first a b (c ∷ []) p e = inl (two_around_dashes row k l a b c is p e)
+  dashes_after_first a b (c ∷ d ∷ rest) p e = inr (three_of_two_around_dashes row k l a b c d rest is p e)
+
+  dashes_after_two : (a b c : Text) (more : List Text) → IsPlainWord a → IsPlainWord b → is_dashes c ≡ true → Decided row (a ∷ b ∷ c ∷ more)
+  dashes_after_two a b c [] p q e = inl (two_before_dashes row k l a b c is p q e)
+  dashes_after_two a b c (d ∷ rest) p q e = inr (three_of_two_past_dashes row k l a b c d rest is p q e)
+
+  past_both : (a b : Text) (more : List Text) → IsPlainWord a → IsPlainWord b → AreUtf8 more → Decided row (a ∷ b ∷ more)
+  past_both a b [] p q u = inl (two_of_two row k l a b is p q)
+  past_both a b (c ∷ more) p q u = elim (seen c u.0) [
+    | inl d ↦ dashes_after_two a b c more p q d
+    | inr (inl r) ↦ inr (three_of_two row k l a b c more is p q r)
+    | inr (inr r) ↦ inr (option_third row a b c more are (going_second row k l a b is p q) p q r)
+  ]
+
+  past_first_of_two : (a : Text) (more : List Text) → IsPlainWord a → AreUtf8 more → Decided row (a ∷ more)
+  past_first_of_two a [] p u = inr (one_of_two row k l a is p)
+  past_first_of_two a (b ∷ more) p u = elim (seen b u.0) [
+    | inl d ↦ dashes_after_first a b more p d
+    | inr (inl q) ↦ past_both a b more p q u.1
+    | inr (inr q) ↦ inr (option_second row a b more are (going_first row k l a is p) p q)
+  ]
+
+  of_two : (words : List Text) → AreUtf8 words → Decided row words
+  of_two [] u = inr (none_of_two row k l is)
+  of_two (a ∷ more) u = elim (seen a u.0) [
+    | inl d ↦ dashes_of_two a more d
+    | inr (inl p) ↦ past_first_of_two a more p u.1
+    | inr (inr q) ↦ inr (option_first row a more are q)
+  ]
+
+words_decide : (row : Row) (kinds : List Word) (words : List Text) → row.words ≡ kinds → nat_le (length kinds) 2 ≡ true → AreUtf8 words → Decided row words
+words_decide row [] words is few u = of_none row is (leaf_requests row [] is few) words u
+words_decide row (k ∷ []) words is few u = of_one row k is (leaf_requests row (k ∷ []) is few) words u
+words_decide row (k ∷ l ∷ []) words is few u = of_two row k l is (leaf_requests row (k ∷ l ∷ []) is few) words u
+words_decide row (k ∷ l ∷ m ∷ ks) words is few u = absurd (omega (arith, leb-true (length (k ∷ l ∷ m ∷ ks)) 2 few))
+
+-- ---- a word that names no subcommand
+
+none_met : (rows : List Row) (name : Text) → row_named name rows ≡ None → subcommand_met (names_in rows) idle name ≡ None
+none_met rows name none = met_name above rows name ∙ ap (λ (o : Option Row). option_map (λ r. r.name) o) none
+
 unknown_name : (rows : List Row) (program name : Text) (rest : List Text) → row_named name rows ≡ None → IsPlainWord name → is_empty (fault_of (preserved rows) (program ∷ name ∷ rest)) ≡ false
 unfolding clap_on_literals
 unknown_name rows program name rest none p =
-    let met : subcommand_met (names_in rows) idle name ≡ None = met_name above rows name ∙ ap (λ (o : Option Row). option_map (λ r. r.name) o) none in
-    let e = p.first in let f = p.dashes in simp (met, f, e) (refl {a = false})
+    let met = none_met rows name none in
+    let e = p.long in let f = p.short in let g = p.dashes in simp (met, e, f, g) (refl {a = false})
+
+unknown_dashes : (rows : List Row) (program name : Text) (rest : List Text) → row_named name rows ≡ None → is_dashes name ≡ true → is_empty (fault_of (preserved rows) (program ∷ name ∷ rest)) ≡ false
+unfolding clap_on_literals
+unknown_dashes rows program name [] none d = let met = none_met rows name none in simp (met, d) (refl {a = false})
+unknown_dashes rows program name (word ∷ rest) none d = let met = none_met rows name none in simp (met, d) (refl {a = false})
+
+top_requests : (rows : List Row) → AreRequests (top_of rows).rules
+top_requests rows = (inr (record { alone = refl; asks = λ again found. refl }), (inr (record { alone = refl; asks = λ again found. refl }), tt))
+
+unknown_option : (rows : List Row) (program name : Text) (rest : List Text) → row_named name rows ≡ None → IsOptionWord name → is_empty (fault_of (preserved rows) (program ∷ name ∷ rest)) ≡ false
+unknown_option rows program name rest none is =
+    first_fails _ _ (fails_after (top_of rows) (names_in rows) (walk_from nothing_held) [] name rest
+    (turn_fails (top_of rows) (names_in rows) (walk_from nothing_held) name (top_requests rows) (refl, refl, refl) (none_met rows name none) is))
+
+name_unknown : (rows : List Row) (program name : Text) (rest : List Text) → row_named name rows ≡ None → IsUtf8 name → is_empty (fault_of (preserved rows) (program ∷ name ∷ rest)) ≡ false
+name_unknown rows program name rest none u = elim (seen name u) [
+  | inl d ↦ unknown_dashes rows program name rest none d
+  | inr (inl p) ↦ unknown_name rows program name rest none p
+  | inr (inr q) ↦ unknown_option rows program name rest none q
+]
 
 -- ---- all words
 
 -- A parse of these words is refused exactly where they ask for nothing, and else enters the row and finds the words that they ask for.
 abbrev Enters : List Row → List Text → Row → Type 0
-Enters rows words row = (fault_of (preserved rows) words ≡ []) × (row_named row.name rows ≡ Some row) × (rest : List Text) × (found_in row rest ≡ rest)
-    × (wanted_in rows words ≡ Some (record { row = row; words = rest })) × (subcommand_of (preserved rows) words ≡ Some (rows_at (leaf row) rest))
+Enters rows words row = (fault_of (preserved rows) words ≡ []) × (row_named row.name rows ≡ Some row) × (rest : List Text)
+    × (wanted_in rows words ≡ Some (record { row = row; words = found_in row rest })) × (subcommand_of (preserved rows) words ≡ Some (rows_at (leaf row) rest))
 
 abbrev AsksNothing : List Row → List Text → Type 0
 AsksNothing rows words = (is_empty (fault_of (preserved rows) words) ≡ false) × (wanted_in rows words ≡ None)
@@ -302,21 +559,28 @@ or_nil : (k : Kinds) → or_else k [] ≡ k
 or_nil [] = refl
 or_nil (x ∷ xs) = refl
 
-row_decides : (rows : List Row) (program name : Text) (row : Row) (words : List Text) → row_named name rows ≡ Some row → Takes row words ⊎ Refuses row words → Decides rows (program ∷ name ∷ words)
+-- what is asked where the row has as many words, and where not
+asked_so : (row : Row) (words : List Text) (found : List Text) → taken words ≡ Some found → has_as_many row (taken words) ≡ true → wanted_by words row ≡ Some (record { row = row; words = found })
+asked_so row words found is many = let all : (length found == length row.words) ≡ true = rw is at many in rw is (rw all refl)
+
+asked_not : (row : Row) (words : Option (List Text)) → has_as_many row words ≡ false → option_and_then (with_words row) words ≡ None
+asked_not row None many = refl
+asked_not row (Some found) many = rw many refl
+
+row_decides : (rows : List Row) (program name : Text) (row : Row) (words : List Text) → row_named name rows ≡ Some row → Decided row words → Decides rows (program ∷ name ∷ words)
 row_decides rows program name row words e (inl takes) = inl (
   row,
   (
     fault_named rows program name row words e ∙ ap (λ (k : Kinds). or_else k []) takes.0,
     subst (λ (n : Text). row_named n rows ≡ Some row) (sym (named_so rows name row e)) e,
     words,
-    takes.1,
-    rw e (rw takes.2 refl),
+    ap (λ (o : Option Row). option_and_then (wanted_by words) o) e ∙ asked_so row words (found_in row words) takes.1 takes.2,
     entered_named rows program name row words e,
   ),
 )
 row_decides rows program name row words e (inr refuses) = inr (
   ap (is_empty {X = ErrorKind}) (fault_named rows program name row words e ∙ or_nil (leaf_fault row words)) ∙ refuses.0,
-  rw e (rw refuses.1 refl),
+  ap (λ (o : Option Row). option_and_then (wanted_by words) o) e ∙ asked_not row (taken words) refuses.1,
 )
 
 no_words : (rows : List Row) → is_empty (fault_of (preserved rows) []) ≡ false
@@ -327,14 +591,19 @@ no_name : (rows : List Row) (program : Text) → is_empty (fault_of (preserved r
 unfolding clap_on_literals
 no_name rows program = refl {a = false}
 
-decides : (rows : List Row) → list_all is_short rows ≡ true → (words : List Text) → has_plain_words words ≡ true → Decides rows words
-decides rows all [] h = inr (no_words rows, refl)
-decides rows all (program ∷ []) h = inr (no_name rows program, refl)
-decides rows all (program ∷ name ∷ rest) h = by (row_named name rows) refl
+decides : (rows : List Row) → list_all is_short rows ≡ true → (words : List Text) → AreUtf8 words → Decides rows words
+decides rows all [] u = inr (no_words rows, refl)
+decides rows all (program ∷ []) u = inr (no_name rows program, refl)
+decides rows all (program ∷ name ∷ rest) u = by (row_named name rows) refl
   where
     by : (o : Option Row) → row_named name rows ≡ o → Decides rows (program ∷ name ∷ rest)
-    by None e = inr (unknown_name rows program name rest e (plain_both name rest h).0, rw e refl)
-    by (Some row) e = row_decides rows program name row rest e (words_decide row row.words rest refl (is_short_named rows name row all e) (plain_both name rest h).1)
+    by None e = inr (name_unknown rows program name rest e u.1.0, ap (λ (o : Option Row). option_and_then (wanted_by rest) o) e)
+    by (Some row) e = row_decides rows program name row rest e (words_decide row row.words rest refl (is_short_named rows name row all e) u.1.1)
+
+-- the words are text
+pub are_utf8 : (words : List (String Global)) → AreUtf8 (map (λ s. string_bytes s) words)
+are_utf8 [] = tt
+are_utf8 (word ∷ words) = (IsUtf8-string_bytes word, are_utf8 words)
 
 -- ---- the program's table
 
@@ -355,13 +624,13 @@ keep_simple = refl {a = true}
 -- what is read where the words enter a row is what they ask for
 reads_same : (words : List Text) (row : Row) (rows : Option (Text × List Found)) → rows ≡ subcommand_of program_app words → Enters table words row → wanted_of words ≡ Some (read_rows rows)
 reads_same words row rows met enters =
-    let at : rows ≡ Some (rows_at (leaf row) enters.2) = met ∙ enters.5 in
-    enters.4 ∙ (rw at (rw (enters.1, enters.3) refl))
+    let at : rows ≡ Some (rows_at (leaf row) enters.2) = met ∙ enters.4 in
+    enters.3 ∙ (rw at (rw enters.1 refl))
 
-pub err_refuses : (app : App) (words : List Text) (e : Error) → app ≡ program_app → has_plain_words words ≡ true
+pub err_refuses : (app : App) (words : List Text) (e : Error) → app ≡ program_app → AreUtf8 words
     → (is_simple_and_free app ≡ true → HasKind (fault_of app words) e) → (kind_of e ≡ OutOfMemory → ⊥) → wanted_of words ≡ None
-err_refuses app words e is_app plain fails not_memory =
-    elim (decides table all_short words plain) [
+err_refuses app words e is_app u fails not_memory =
+    elim (decides table all_short words u) [
       | inl enters ↦ (
           let has : HasKind (fault_of app words) e = fails (ap is_simple_and_free is_app ∙ keep_is_simple) in
           let none : fault_of app words ≡ [] = ap (λ (a : App). fault_of a words) is_app ∙ enters.1.0 in
@@ -370,14 +639,14 @@ err_refuses app words e is_app plain fails not_memory =
       | inr nothing ↦ nothing.1
     ]
 
-pub ok_reads : (app : App) (words : List Text) (m : ArgMatches) → app ≡ program_app → has_plain_words words ≡ true
+pub ok_reads : (app : App) (words : List Text) (m : ArgMatches) → app ≡ program_app → AreUtf8 words
     → (is_simple_and_free app ≡ true → fault_of app words ≡ []) → HasMatchesOf app words m
     → wanted_of words ≡ Some (read_rows (subcommand_rows_of m))
-ok_reads app words m is_app plain takes matches =
+ok_reads app words m is_app u takes matches =
     let none : fault_of app words ≡ [] = takes (ap is_simple_and_free is_app ∙ keep_is_simple) in
     let met : subcommand_rows_of m ≡ subcommand_of program_app words =
     (matches (ap is_simple is_app ∙ keep_simple)).1 ∙ ap (λ (a : App). subcommand_of a words) is_app in
-    elim (decides table all_short words plain) [
+    elim (decides table all_short words u) [
       | inl enters ↦ reads_same words enters.0 (subcommand_rows_of m) met enters.1
       | inr nothing ↦ (
           let empty : fault_of program_app words ≡ [] = ap (λ (a : App). fault_of a words) (sym is_app) ∙ none in

@@ -6,7 +6,7 @@ ghost use Rattle.clap.specs.declared.builder.command.Command.TheViews.{out-Comma
 ghost use Rattle.keep_words.specs.App.{program_app, app_with, leaf_of, word_rule};
 ghost use Rattle.keep_words.specs.Table.{first_row, row_of, table};
 ghost use Rattle.keep_words.specs.Chosen.{IsChosen, IsUnchosen, read_rows, row_or_first, wanted_of_chosen, wanted_with, word_in, words_in};
-ghost use Rattle.keep_words.specs.Wanted.{IsWhole, has_plain_words, wanted_of};
+ghost use Rattle.keep_words.specs.Wanted.{IsWhole, wanted_of};
 
 use crate::fault::ChoiceFault;
 use crate::help;
@@ -33,8 +33,7 @@ const PLACES: [&str; 2] = ["first", "second"];
 /// `Words` with the answer of `clap`; `Memory` where a growth was refused.
 pub fn chosen_of<'a>(alloc: Global, words: &'a [String]) -> Result<Chosen, ChoiceFault>
     ensures whole { IfOk result (λ chosen. IsWhole (wanted_of_chosen chosen)) }
-    ensures asked { has_plain_words (map string_bytes words.now) ≡ true
-        → MatchResult result (IsChosen (wanted_of (map string_bytes words.now)))
+    ensures asked { MatchResult result (IsChosen (wanted_of (map string_bytes words.now)))
         (λ fault. (fault ≡ ChoiceFault.Memory) ⊎ IsUnchosen (wanted_of (map string_bytes words.now)) fault) }
 {
     let Ok(command) = keep_command(alloc) else {

@@ -1,5 +1,5 @@
 //! The entries of a document, one by one.
-ghost use Rattle.std.specs.Prelude.{◌≡◌, IfOk, slice_get, string_bytes};
+ghost use Rattle.std.specs.Prelude.{◌≡◌, IfOk, OnErr, slice_get, string_bytes};
 ghost use Rattle.keep_syntax.specs.Tree as tree;
 ghost use Rattle.keep_edit.specs.Answers.{entries_of, AddsEntryPath};
 ghost use Rattle.keep_edit.specs.Children.{child_count_of};
@@ -14,7 +14,7 @@ impl Document {
     /// those of `list`, by their numbers there from 0 on; from their number on this is None, and adds nothing. No entry and no
     /// path is made, so a list of all paths takes little more memory than its text.
     ///
-    /// The only error is that memory was refused; then `out` may have grown by a part of the text.
+    /// The only error is that memory was refused; then `out` has the text that it had.
     pub fn push_entry_path(
         &self,
         number: usize,
@@ -22,6 +22,7 @@ impl Document {
     ) -> Result<Option<Kind>, AllocError>
         ensures entry { (s : tree.Document) → IsTextOfTree self.now s
             → IfOk result (λ kind. AddsEntryPath (slice_get (entries_of s) number) kind (string_bytes out.old) (string_bytes out.new)) }
+        ensures refused { OnErr result (string_bytes out.new ≡ string_bytes out.old) }
         ensures accepted { IsAccepted self.now }
     {
         let last = self.index.node_count().saturating_sub(1);

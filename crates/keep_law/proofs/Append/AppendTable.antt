@@ -1,4 +1,13 @@
 -- A header appended where the rules allow its marks: the rules, the tree and the grammar of the new document.
+--
+-- Three things are shown of the document with one more header. It is of the grammar: a line with valid content was put
+-- in (`valid_append`). It obeys the rules: the refusal looked for the first fault that the header's marks make after
+-- the others and found none (`no_conflict`). Its tree is the old one with a table at the path: only the last mention of
+-- the header states a fact (`silent_way`), and at most a table was there before (`before_define`, `table_appended`).
+-- For the refusal to speak of the same marks, the arrays of tables in the mentions have to be those of the reading:
+-- `tables_stated`, by induction over the lines.
+--
+-- Theorem: `append_table_is_right`: where nothing is refused, the appended header gives the right document.
 use Rattle.std.proofs.Common.{◌≡◌, ℕ, suc, ◌+◌, Bool, true, false, cond, List, [], ◌∷◌, ◌++◌, length, map, refl, sym, ap, subst, ◌∙◌, append_assoc, Option, Some, None, ◌⊎◌, inl, inr}
 use Rattle.std.specs.Prelude.{◌==◌}
 use Rattle.std.specs.List.{filter_map, cons_option}

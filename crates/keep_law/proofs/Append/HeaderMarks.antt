@@ -5,6 +5,9 @@
 -- refuse is what their roles refuse (`refused_roles`); so one thing that is said of the path decides, as
 -- `define_continues` or `value_refuses` say. Where nothing but headers that go through it are said, a table may be
 -- defined (`through_defines`).
+--
+-- Theorems: `refused_roles`; and for each kind of mention what a header meets at its path, as `define_continues`,
+-- `define_twice`, `define_unlisted`.
 use Rattle.std.proofs.Common.{◌≡◌, ℕ, zero, suc, Bool, true, false, cond, not, ◌&&◌, ◌||◌, List, [], ◌∷◌, map, refl, sym, ap, subst, ◌∙◌, arith, Option, Some, None}
 use Rattle.std.specs.Prelude.{filter}
 use Rattle.std.specs.List.{list_any, list_all, filter_map, cons_option}

@@ -1,4 +1,14 @@
 -- What is done at the value of a path: which value it is, what the text says of it, and how deep it is.
+--
+-- The proof follows the search into entries, by induction over them (`done_entries`): the value is in the first entry
+-- (`done_entry`) or in a later one (`done_further`). In both cases two things have to carry over to the whole. Facts:
+-- what the mentions say at the path and under it is what the value says (`step_facts`, `further_facts`). Depth: at
+-- least as many brackets enclose the path in the whole as in the part (`enclosing_beyond`, `enclosing_further`), and
+-- one more where the value is in brackets (`enclosing_nested`). So the depth after the change is bounded by that before
+-- it and that of the new value.
+--
+-- Theorems: `done_entries` and `done_value`: the change is the act at the value of the path, with its facts and its
+-- depth.
 use Rattle.std.proofs.Common.{◌≡◌, ℕ, suc, ◌+◌, ◌≤◌, Bool, true, false, cond, List, [], ◌∷◌, ◌++◌, map, refl, sym, ap, subst, ◌∙◌, append_assoc, arith, Option, Some, None, inl, inr}
 use Rattle.std.specs.Prelude.{⊤, max}
 use Rattle.std.specs.List.{filter_map, count_by}

@@ -1,5 +1,13 @@
 -- How deep the values in a value are: as many arrays and inline tables enclose each as there are at the prefixes of its
 -- path.
+--
+-- The stored depth counts the brackets around a value as the tree has them; the definition counts the prefixes of its
+-- path at which an array or an inline table is mentioned. `entries_deep` shows by induction over entries that they are
+-- equal. A value's own entries are one deeper (`value_deep`, `one_around`). The hard part is that nothing else adds to
+-- the count: no bracket is at a prefix of an entry's key (`key_open`), and what comes before the entry says nothing at
+-- the prefixes of its path (`before_same`). Both follow from the rules.
+--
+-- Theorem: `entries_deep`: in valid entries each value is as deep as brackets enclose its path.
 use Rattle.std.proofs.Common.{◌≡◌, ℕ, suc, ◌+◌, Bool, true, false, cond, List, [], ◌∷◌, ◌++◌, length, map, refl, sym, ap, subst, ◌∙◌, length-append, arith, Option, Some, None, inl, inr}
 use Rattle.std.specs.List.{AllZip, count_by, filter_map}
 use Rattle.std.proofs.lemmas.List.{append-nil}

@@ -1,5 +1,14 @@
 -- What an act changes is one of the values in the list of all: which one it is, by how many come before it, and where
 -- it is.
+--
+-- `nested` looks for the value by recursion over lines and entries, so the proof follows it: `found_lines` goes through
+-- the lines, `found_entries` through the entries of brackets. What is known of the found value is the record
+-- `IsFoundIn`. Each step outwards has a lemma: more text round it (`found_framed`), a longer path (`found_beyond`), and
+-- other mentions and values before or after it (`found_after`, `found_before`). The hard field is `disjoint`: nothing
+-- else is mentioned at the value's path or under it. It comes from the rules, since a value is the only thing that its
+-- path may name.
+--
+-- Theorem: `found_nested`: the change is made at one value, whose number and place are known.
 use Rattle.std.proofs.Common.{◌≡◌, ℕ, suc, ◌+◌, ◌≤◌, true, false, List, [], ◌∷◌, ◌++◌, length, map, refl, sym, ap, subst, ◌∙◌, append_assoc, length-append, arith, Option, Some, None, inl, inr}
 use Rattle.std.specs.Prelude.{⊤}
 use Rattle.std.specs.List.{AllByRecursion}

@@ -1,4 +1,12 @@
 -- The rules over marks give those over mentions: items differ by their numbers.
+--
+-- The rules over marks compare only mentions that have a role; the rules over mentions compare items as well. Marks end
+-- in a key and items in an index (`Formed`), so a mark and an item are never at one path. Two marks are allowed by the
+-- table of roles. So what is left is that two items are at different paths: `items_entries`, by induction over entries,
+-- where the items of an entry are under its step and the later ones are disjoint from it (`rest_disjoint`).
+-- `allowed_by` joins the cases, one for each pair of kinds.
+--
+-- Theorems: `rules_from` for any mentions; `rules_entries` and `rules_value` for those inside a value.
 use Rattle.std.proofs.Common.{◌≡◌, ℕ, ◌+◌, Bool, true, false, List, [], ◌∷◌, ◌++◌, map, refl, sym, ap, subst, ◌∙◌, append_assoc, arith, Option, Some, None, inl}
 use Rattle.std.specs.Prelude.{⊤}
 use Rattle.std.proofs.lemmas.List.{append-nil}

@@ -1,4 +1,15 @@
--- Any act in a value, seen from the document: what is said at and under the value is replaced, and nothing else is there.
+-- Any act in a value, seen from the document: what is said at and under the value is replaced, and nothing else is
+-- there.
+--
+-- An act is a change of a value; `D` says what it does to one. `IsDoneAt` says that the mentions of one value at a
+-- prefix of the path are replaced and all others are disjoint from that prefix. The proof goes from the inside
+-- outwards: at the value itself (`done_here`), deeper in it (`done_deeper`), in entries by induction over them
+-- (`done_entries`), in a line (`done_content`) and in the lines of a document (`done_lines`). The hard part is that
+-- what is beside the value is disjoint; it follows from the rules, for entries as in `SetLaw` and for lines by
+-- `beside_keyval`.
+--
+-- Theorem: `done_document`: what an act does to a value, it does at one place of the document, and all else is as
+-- before.
 use Rattle.std.proofs.Common.{◌≡◌, ℕ, ◌+◌, true, List, [], ◌∷◌, ◌++◌, map, refl, sym, ap, subst, ◌∙◌, append_assoc, Option, Some, None}
 use Rattle.std.specs.List.{AllByRecursion}
 use Rattle.std.proofs.lemmas.List.{map-append, append-nil}

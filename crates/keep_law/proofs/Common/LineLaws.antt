@@ -1,4 +1,12 @@
 -- What lines say: each prefix of a path that ends in a key is spoken of where something under it is.
+--
+-- A mention under a path comes with a mention at the path, or the path is a prefix of where the line's reading began
+-- (`ClosedFrom`). For keyvals this is known of their values. For a header it is an induction over its keys
+-- (`header_closed`): each key adds one step, and a step by index into an array of tables adds none that ends in a key
+-- (`index_cases`). `prefix_cases` splits a prefix of a joined path: it ends in the first part, or continues into the
+-- second. `lines_closed` is the induction over lines, as each line begins where the reading is after the one before.
+--
+-- Theorems: `lines_closed` for the lines of a document; `header_closed` for one header.
 use Rattle.std.proofs.Common.{◌≡◌, ℕ, ◌-◌, Bool, true, false, cond, List, [], ◌∷◌, ◌++◌, map, refl, sym, ap, subst, ◌∙◌, append_assoc, Option, Some, None, ◌⊎◌, inl, inr}
 use Rattle.std.specs.Prelude.{◌==◌}
 use Rattle.keep_syntax.specs.Tree.{Written, Gap, Content, blank, keyval, header, element, Line}

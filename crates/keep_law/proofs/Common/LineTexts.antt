@@ -1,4 +1,12 @@
 -- Changes of lines and of whole documents: each edit is a cut of the text.
+--
+-- `Texts` has this for changes inside values; here it is brought to lines and documents by the same two lemmas: a
+-- change of a part is a change of the whole, and of two choices either may be made. Lines are gone through by induction
+-- (`in_lines-is`), and so are lines that are put in or dropped (`put_lines-is`, `drop_prefix-is`, `drop_lines-is`);
+-- there the last line is the case to look at, since it has no newline of its own. Each edit is one of these, or a
+-- choice of several.
+--
+-- Theorem: `change-is`: every edit's change is a cut of the text.
 use Rattle.std.proofs.Common.{◌≡◌, ℕ, zero, suc, Bool, true, false, cond, List, [], ◌∷◌, ◌++◌, length, map, drop, refl, sym, ap, subst, ◌∙◌, append_assoc, Option, Some, None}
 use Rattle.std.specs.Prelude.{codes, position}
 use Rattle.std.specs.List.{flat_map}

@@ -1,4 +1,13 @@
 -- The general form of what an edit does to the mentions: a run put in, taken out or replaced, and paths changed.
+--
+-- If a function of paths takes different paths to different ones (`IsInjectiveOn`), pairs of mentions that were allowed
+-- stay so when all paths are changed by it (`rules_moved`), and a changed path has the mentions that the old one had
+-- (`mentions_moved`). Without a run of mentions the rules hold as well (`rules_taken`). `IsMove` puts these together
+-- with a new run: then only the pairs with that run are to be looked at (`rules_move`). The last part is one such
+-- change: an item is taken out of an array, and the items after it have numbers one lower (`down`, `entries_after`), by
+-- induction over the entries.
+--
+-- Theorems: `rules_moved`, `rules_taken` and `mentions_moved`: the rules, and what is mentioned at a path.
 use Rattle.std.proofs.Common.{◌≡◌, ℕ, ◌+◌, ◌-◌, ◌<◌, ◌≤◌, Bool, true, false, cond, List, [], ◌∷◌, ◌++◌, map, refl, sym, ap, subst, ◌∙◌, append_assoc, arith, Option, Some, None, ◌⊎◌, inl, inr}
 use Rattle.std.specs.Prelude.{⊤, codes, ◌==◌, nat_lt}
 use Rattle.std.proofs.lemmas.List.{map-append}

@@ -1,4 +1,12 @@
--- Lines put into a valid document leave it valid: its first newline is a newline, and a new line with valid content is valid.
+-- Lines put into a valid document leave it valid: its first newline is a newline, and a new line with valid content is
+-- valid.
+--
+-- The newline that is written is the document's first one, so it has to be shown that each newline among the tokens of
+-- a valid document is one of the grammar (`IsSound`). That goes through every part of a document, down to the entries
+-- of values (`of_entries`) and up to `of_leaves`; `found` takes the first. Then lines are put in by induction over the
+-- lines before them (`valid_lines_put`). Where they come after a last line that has no newline, that line gets one.
+--
+-- Theorems: `valid_at_line`: lines put into a valid document; `key_means`: a key that was written means its texts.
 use Rattle.std.proofs.Common.{◌≡◌, ℕ, zero, suc, Bool, true, false, List, [], ◌∷◌, ◌++◌, map, refl, sym, ap, subst, ◌∙◌, arith, Option, Some, None, inl}
 use Rattle.std.specs.Prelude.{⊤, IsTrue}
 use Rattle.std.specs.List.{AllByRecursion, flat_map}

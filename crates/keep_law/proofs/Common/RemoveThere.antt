@@ -1,4 +1,12 @@
 -- Where a value is at a path, `remove` has a change.
+--
+-- That the search for a value succeeds is known (`some_nested`), for an act that is done at the end of any path
+-- (`reached`). Here it is carried over to `removal`, which acts one level higher: on the brackets that the value is in.
+-- So each step has two outcomes: there is a change inside, or the path names the part that was looked at (`value_by`,
+-- `entries_by`, by induction over the entries). An entry that is named can be taken out (`some_take_out`). If the path
+-- names a keyval's line, the line itself is cleared or dropped (`some_lines`, `dropped`).
+--
+-- Theorem: `some_of_value`.
 use Rattle.std.proofs.Common.{◌≡◌, ℕ, zero, suc, ◌+◌, Bool, true, false, cond, List, [], ◌∷◌, ◌++◌, map, refl, sym, ap, ◌∙◌, Option, Some, None, ◌⊎◌, inl, inr}
 use Rattle.std.specs.Prelude.{codes, drop}
 use Rattle.std.proofs.lemmas.List.{append-nil}

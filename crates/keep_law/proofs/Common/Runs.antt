@@ -1,4 +1,13 @@
 -- A run of mentions in a list of mentions: the rules and the tree where it is replaced, put in or taken out.
+--
+-- The rules are a condition on all pairs of mentions (`Pairs`), and a list that is put together of runs satisfies it if
+-- each run does and each pair of runs does (`pairs_split`, `pairs_join`). Mentions under a path and mentions disjoint
+-- from it are never at one path, so such pairs are always allowed (`across_disjoint`, `across_under`). That gives the
+-- rules after a run was replaced. The facts at a path are those of the mentions at it: of the run alone for paths under
+-- the run's path, of the others alone elsewhere (`kinds_at-disjoint`, `kinds_at-under`). All of it is by induction over
+-- lists and paths.
+--
+-- Theorems: `rules_replaced` for the rules; `fact_under` and `fact_elsewhere` for the tree.
 use Rattle.std.proofs.Common.{◌≡◌, Bool, true, false, not, cond, List, [], ◌∷◌, ◌++◌, map, refl, sym, ap, ◌∙◌, append_assoc, Option, Some, None, ◌⊎◌, inl, inr}
 use Rattle.std.specs.Prelude.{⊤, filter}
 use Rattle.std.specs.List.{filter_map}

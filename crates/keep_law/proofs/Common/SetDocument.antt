@@ -1,4 +1,12 @@
 -- `set` in a document: what it says afterwards, its rules and its tree.
+--
+-- `SetLaw` has this for the entries of one value; here it is brought to documents. The change is made in one line
+-- (`one_line_set`), so the mentions of all other lines are as before; that they are elsewhere follows from the rules
+-- (`line_set`). So the mentions of the new document are the old ones with one run replaced (`document_set`). From this
+-- alone come the two results: the rules hold, as the new run takes the place of a value that was alone at its path
+-- (`rules_set`), and the tree is as the edit says (`tree_set`), by the facts under the path and elsewhere.
+--
+-- Theorems: `set_law`: after `set` the rules hold, and the tree has changed as it should.
 use Rattle.std.proofs.Common.{◌≡◌, ℕ, Bool, true, false, not, List, [], ◌∷◌, ◌++◌, length, map, refl, sym, ap, subst, ◌∙◌, append_assoc, length-append, arith, Option, Some, None, ◌⊎◌, inl, inr}
 use Rattle.std.specs.List.{filter_map, cons_option}
 use Rattle.std.proofs.lemmas.List.{append-nil}

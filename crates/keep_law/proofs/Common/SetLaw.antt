@@ -1,4 +1,14 @@
 -- `set` replaces a run of mentions at and under its path, and nothing else is there.
+--
+-- A run of mentions is a value's own mention and those inside it. `set_entries` is an induction over the entries: the
+-- path leads into an entry or past it. So the hard part is that all other mentions are disjoint from the path. Mentions
+-- are closed: what is mentioned under a path comes with a mention at the path (`Closed`, `closed_entries`). By the
+-- rules nothing can be mentioned beside a value (`clash_before`, `clash_after`). So nothing else is mentioned under it
+-- either (`disjoint_closed`), neither before it (`disjoint_from_held`) nor after it (`disjoint_from_entry`). Items
+-- differ by their numbers.
+--
+-- Theorems: `set_entries` and `set_value`: setting a value in entries, or in a value, replaces its run of mentions
+-- alone.
 use Rattle.std.proofs.Common.{◌≡◌, ℕ, ◌+◌, ◌<◌, ◌≤◌, Bool, true, false, List, [], ◌∷◌, ◌++◌, map, refl, sym, ap, subst, ◌∙◌, append_assoc, arith, Option, Some, None, ◌⊎◌, inl, inr}
 use Rattle.std.specs.Prelude.{⊤, ◌==◌}
 use Rattle.std.proofs.lemmas.List.{map-append, append-nil}

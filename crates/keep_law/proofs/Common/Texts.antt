@@ -1,4 +1,14 @@
 -- Each change is a cut of the text: what stays before and after is the same in the old text and the new.
+--
+-- A change has the text before it, the old text, the new text and the text after it. One lemma carries all: if a part
+-- of a whole changes so, the whole does, with the texts beside the part added (`within-is`); and of two choices either
+-- may be made (`or_else-is`). The rest follows the definitions: a search into entries by induction over them
+-- (`in_entries-is`), then each act: `set` (`replacement-is`), `insert` (`put_item-is`, `put_named-is`), `remove`
+-- (`removal-is`) and `rename` (`renaming-is`). Only `remove` joins gaps, so there the old text has to be put together
+-- anew (`joined_gap-text`, `past_ws-text`).
+--
+-- Theorems: `in_value-is`, and for each act that it is such a cut: `replacement-is`, `put_item-is`, `put_named-is`,
+-- `removal-is`, `renaming-is`.
 use Rattle.std.proofs.Common.{◌≡◌, ℕ, zero, suc, ◌+◌, ◌-◌, Bool, true, false, cond, ◌&&◌, List, [], ◌∷◌, ◌++◌, length, take, drop, refl, sym, ap, ◌∙◌, append_assoc, length-append, Option, Some, None}
 use Rattle.std.specs.Prelude.{⊤, codes}
 use Rattle.std.specs.List.{flat_map}

@@ -1,4 +1,14 @@
 -- The number of a node's value: how many values are said before its own. By the rules it is the one value of its path.
+--
+-- Each mention is numbered by the values that are mentioned before it (`counted_statements`). A node's number is that
+-- of the last mention of a value at its path (`number_of_last`); by the rules a second one cannot be there, so nothing
+-- after it changes the number (`later_none`). All of this is by induction over the numbered mentions, with a split by
+-- whether a mention is at the path (`last_at`, `last_past`). In the other direction, where a number is known, some
+-- mention gave it (`alone_of_number`). For the same reason the fact at the path is the one that the value states
+-- (`fact_of_value`).
+--
+-- Theorems: `number_of_value`: the number of a node's value; `alone_of_number`: where a number is known there is a
+-- value.
 use Rattle.std.proofs.Common.{◌≡◌, ℕ, ◌+◌, Bool, true, false, List, [], ◌∷◌, ◌++◌, map, refl, sym, ap, subst, ◌∙◌, arith, Option, Some, None, ◌⊎◌, inl, inr}
 use Rattle.std.specs.Prelude.{⊤, fold, if◌then◌else◌}
 use Rattle.std.specs.List.{filter_map, cons_option}

@@ -1,4 +1,13 @@
 -- Where a value is at a path, what can be done at a value is done there.
+--
+-- An act changes nothing where the search for its value fails, so here the search is shown to succeed. From the outside
+-- inwards: a value at the path is mentioned by one line (`some_lines`), as a keyval (`some_content`), in one entry of
+-- its value (`some_entries`, by induction), and there it is the entry's own value or one inside it (`some_value`). In
+-- each step the mention is in the one part or in the rest (`some_cases`). The hard case is an entry whose key leads to
+-- the path while the mention is in a later entry: the rules exclude it (`disjoint_alone`). A value's fact is the only
+-- one at its path (`alone_of_fact`).
+--
+-- Theorem: `some_nested`: where the document has a value at a path, what can be done at a value is done.
 use Rattle.std.proofs.Common.{◌≡◌, ℕ, ◌+◌, Bool, true, false, cond, List, [], ◌∷◌, ◌++◌, map, refl, sym, ap, subst, ◌∙◌, append_assoc, Option, Some, None, ◌⊎◌, inl, inr}
 use Rattle.std.specs.Prelude.{⊤}
 use Rattle.std.specs.List.{filter_map, cons_option}

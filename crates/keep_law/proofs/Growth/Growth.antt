@@ -1,4 +1,13 @@
 -- How much longer the text can get by an edit.
+--
+-- A change grows by at most n if what is put in is at most n bytes longer than what is taken out (`GrowsBy`). What is
+-- around a change adds nothing (`grows_within`), so a bound of an act is one of the search that uses it: for entries by
+-- induction, then for lines and documents (`grows_nested`). A bound may depend on the rest of the path, if it does not
+-- fall for a longer one (`IsBound`). The second half measures what is written: keys are no longer than the path's own
+-- text, up to two bytes (`key_fits` and its like), and new lines have their contents and newlines (`keyval_size`,
+-- `header_size`, `grows_at_line`).
+--
+-- Theorems: `grows_nested` for acts in values; `grows_at_line` for new lines.
 use Rattle.std.proofs.Common.{◌≡◌, ℕ, zero, suc, ◌+◌, ◌≤◌, List, [], ◌∷◌, ◌++◌, length, map, drop, refl, sym, ap, subst, ◌∙◌, length-append, arith, Option, Some, None}
 use Rattle.std.specs.Prelude.{codes, decimal}
 use Rattle.std.specs.List.{flat_map}

@@ -1,4 +1,13 @@
 -- By how much each edit may make the text longer.
+--
+-- Each definition of an edit is gone through, and for each the bytes that it puts in are counted; what is around a
+-- change adds nothing (`grows_within`). Searches into entries and key parts are inductions (`put_before_grows`,
+-- `put_after_grows`, `rename_further_grows`). The hard edit is `insert`: it may write an item, an entry with its keys,
+-- a line, or a new section with its header. For each, the keys that are written are those after the holder, so the
+-- path's text bounds them. The bound is met by a new section (`section_grows`).
+--
+-- Theorems: `insert_grows`, `rename_grows`, `append_table_grows`, `append_element_grows`: the most bytes that each edit
+-- adds.
 use Rattle.std.proofs.Common.{◌≡◌, ℕ, zero, suc, ◌+◌, ◌-◌, ◌≤◌, Bool, true, false, cond, ◌&&◌, not, List, [], ◌∷◌, ◌++◌, length, map, take, drop, refl, sym, ap, subst, ◌∙◌, length-append, arith, Option, Some, None}
 use Rattle.std.specs.Prelude.{⊤, codes, position, nat_lt}
 use Rattle.std.specs.List.{list_any}

@@ -1,5 +1,13 @@
 -- Where a keyval is put into braces that hold a dotted table: after the keyval that continues from it last, which is
 -- its number.
+--
+-- The keyval that is put in comes after the last entry whose key leads past the dots; the code has the number of the
+-- last mention of the dotted path by dots. Both are the same entry. The entry's key continues beyond the dots
+-- (`longer_by`): it does not end at a prefix of them, as a value would then be on the way (`on_way`). So the last of
+-- its stops up to there is a dotted mention of the path (`last_stop`), and what comes after it does not mention the
+-- path (`longer_never`, `never_none`). The braces are not empty, since the path is named (`some_nested`).
+--
+-- Theorem: `after_dotted`.
 use Rattle.std.proofs.Common.{◌≡◌, ℕ, ◌+◌, Bool, true, false, List, [], ◌∷◌, ◌++◌, length, map, slice_get, refl, sym, ap, subst, ◌∙◌, append_assoc, arith, Option, Some, None, inl, inr}
 use Rattle.std.proofs.lemmas.List.{map-append}
 use Rattle.keep_leaf.specs.declared.leaf.Profile.{Profile}

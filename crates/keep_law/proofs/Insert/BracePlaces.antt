@@ -1,4 +1,12 @@
 -- Where a keyval is put into braces: after the last keyval that goes past the dots, or into empty braces.
+--
+-- That the insert is done at the braces is known (`keyval_found`): the holder is reached by keys alone from the value
+-- at `at`, the new path is free, and so `put_named` acts there. Here the place is found. If the braces are empty, it is
+-- after the opening brace; else it is after an entry of them (`by_after`), the last one whose key goes past the dots.
+-- `by_parts` is this split. The place is computed from the stored value of the braces or of that entry. What follows is
+-- a byte of ASCII or nothing, so the place is between characters (`put_low`).
+--
+-- Theorems: `keyval_found`: the insert is done at these braces; `keyval_placed`: where it is done.
 use Rattle.std.proofs.Common.{◌≡◌, ℕ, suc, ◌+◌, ◌-◌, true, false, List, [], ◌∷◌, ◌++◌, length, map, take, slice_get, refl, sym, ap, subst, ◌∙◌, append_assoc, length-append, arith, Option, Some, None, ◌⊎◌, inl, inr}
 use Rattle.std.specs.Prelude.{codes, IsUtf8}
 use Rattle.std.specs.List.{AllByRecursion, list_any}

@@ -1,4 +1,12 @@
 -- The braces that take a new keyval: which they are, and that it fits in them.
+--
+-- `IsBracesPlace` says what is known of the place: a value is at `at`, dots lead on from it to a table, and the new
+-- keys are free. From it comes all that `done_there` asks for. The value is an inline table: a table by its fact, if
+-- the dots are none, else a value with keys inside (`table_body`, `place_body`). In it the search finds nothing deeper,
+-- as no value is between `at` and the table. And a keyval can be put there: it is valid, and leads on from an entry
+-- with those dots (`valid_by`, `put_by`).
+--
+-- Theorem: `braces_there`: the keyval is put into these braces, with all that holds of the change.
 use Rattle.std.proofs.Common.{◌≡◌, ℕ, ◌-◌, Bool, true, false, not, List, [], ◌∷◌, ◌++◌, length, map, take, refl, sym, ap, subst, ◌∙◌, append_assoc, length-append, arith, Option, Some, None, ◌⊎◌, inl, inr}
 use Rattle.std.specs.List.{filter_map}
 use Rattle.std.proofs.lemmas.Bool.{and_parts}

@@ -1,4 +1,12 @@
 -- An act that is done at the value of a path with more parts after it: there is a change, and all that holds of it.
+--
+-- The act may also act deeper than the value that is meant. So it is replaced by `ended`: an act that acts at the end
+-- of the path alone, and changes nothing where the value does not fit. Of this one the general laws hold: it has a
+-- change (`can_ended`), the document stays valid (`valid_ended`), and one value's mentions are replaced (`does_ended`).
+-- If the act fits the value, does nothing deeper in it and makes a change there (`IsApt`), both give the same change
+-- (`given`). All that is known of it is collected in one record, for the laws of `insert`.
+--
+-- Theorem: `done_there`.
 use Rattle.std.proofs.Common.{◌≡◌, ℕ, ◌+◌, ◌≤◌, Bool, true, false, List, [], ◌∷◌, ◌++◌, map, refl, sym, ap, subst, ◌∙◌, arith, Option, Some, None, inl, inr}
 use Rattle.std.specs.Prelude.{max}
 use Rattle.std.proofs.lemmas.List.{append-nil}

@@ -1,4 +1,13 @@
 -- What an act does beyond a path where there is a value is what is done at that value: in entries.
+--
+-- `Gives` says: where the first of two changes exists, the second is the same. The first is an act that is done at the
+-- end of a path alone, the second the act itself with more of the path left. The proof is an induction over the entries
+-- (`gives_entries`). Both searches have to take the same entries. The hard case is an entry that the longer path leads
+-- into and the shorter one does not. But a path beyond the value is named in the document (`Holds`), and by the rules
+-- no such entry is beside it (`none_longer`). At the value itself the two changes agree by assumption
+-- (`gives_value-by`).
+--
+-- Theorems: `gives_value` and `gives_entries`.
 use Rattle.std.proofs.Common.{◌≡◌, ℕ, ◌+◌, true, List, [], ◌∷◌, ◌++◌, map, refl, sym, ap, subst, ◌∙◌, append_assoc, Option, Some, None, ◌⊎◌, inl, inr}
 use Rattle.std.specs.Prelude.{⊤}
 use Rattle.std.specs.List.{filter_map}

@@ -1,4 +1,14 @@
 -- Where an item is put into an array: before the item of its number, after the last, or into empty brackets.
+--
+-- `put_item` looks for the item of that number and puts the new one before it; if there is none, after the last; if
+-- there are no items at all, between the brackets. `item_placed` is this split (`by_before`, `by_after`, `by_parts`),
+-- with the place of the change in each case. Which case it is follows from how many items there are (`count_is`), since
+-- an item of the number is there exactly if the number is below the count (`number_few`). The stored value that the
+-- place is computed from is the one of that item, as one value has a path (`same_value_at`). Nothing is taken out
+-- (`item_nothing`).
+--
+-- Theorem: `item_law`: where an item is put in, by the value of its own number, of the number before it, or of the
+-- array.
 use Rattle.std.proofs.Common.{◌≡◌, ℕ, zero, suc, ◌+◌, ◌<◌, ◌≤◌, Bool, true, false, List, [], ◌∷◌, ◌++◌, length, map, slice_get, refl, sym, ap, subst, ◌∙◌, append_assoc, length-append, arith, Option, Some, None, inl, inr}
 use Rattle.std.specs.Prelude.{codes, ⊤}
 use Rattle.keep_leaf.specs.declared.leaf.Profile.{Profile}

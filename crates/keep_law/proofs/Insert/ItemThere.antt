@@ -1,4 +1,13 @@
 -- The array that takes a new item: what the refusal tells of it, and that the item is put in there.
+--
+-- Where `insert` of an item is not refused, the number is at most the count, and the depth and the profile allow the
+-- value (`granted`). The path is an array's with an index (`item_at`). What `done_there` asks for is shown of
+-- `put_item`: it has a change (`some_of`), leaves the array valid (`valid_of`), and nothing deeper in the array is
+-- found by an index alone, since a path of one step ends at its entry (`nothing_deeper`, by induction over the
+-- entries). The laws of arrays apply to an array's body only, so each of these lemmas is a split by the body.
+--
+-- Theorems: `granted`: what no refusal means; `put_there`: the item is put into this array, with all that holds of the
+-- change.
 use Rattle.std.proofs.Common.{◌≡◌, ℕ, ◌+◌, ◌≤◌, Bool, true, false, not, cond, List, [], ◌∷◌, ◌++◌, map, refl, sym, ap, ◌∙◌, Option, Some, None, inl, inr}
 use Rattle.std.specs.Prelude.{nat_lt}
 use Rattle.std.proofs.lemmas.List.{append-nil}

@@ -1,4 +1,13 @@
--- What `put_item` does with an array, and `put_named` with braces: there is a change, the value is valid, and how deep it gets.
+-- What `put_item` does with an array, and `put_named` with braces: there is a change, the value is valid, and how deep
+-- it gets.
+--
+-- Each of the two acts puts an entry before an item, after an entry, or into empty brackets. Four facts are shown of
+-- each: which mentions come (`item_put`, `named_put`), that a change exists (`some_item`, `some_named`), that the value
+-- stays valid (`valid_item`, `valid_named`), and that the value is no deeper than before or than one level around the
+-- new one (`item_depth`, `named_depth`). The hard one is validity: the new entry takes over the comma and the gap of
+-- the entry that it is put after (`valid_after`).
+--
+-- Theorems: `item_put`, `valid_item`, `item_depth` for arrays; `named_put`, `valid_named`, `named_depth` for braces.
 use Rattle.std.proofs.Common.{◌≡◌, ℕ, zero, suc, ◌+◌, ◌-◌, ◌≤◌, Bool, true, false, List, [], ◌∷◌, ◌++◌, length, take, refl, subst, arith, Option, Some, None, ◌⊎◌, inl, inr}
 use Rattle.std.specs.Prelude.{codes, max}
 use Rattle.keep_leaf.specs.declared.leaf.Profile.{Profile}

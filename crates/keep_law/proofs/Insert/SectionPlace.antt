@@ -1,4 +1,13 @@
 -- Where a new section is put in, its header may be there.
+--
+-- The new header comes after the body of the last line that leads through the path. Two things have to be known for its
+-- mentions to be allowed there. The way to it is read from there on as it was in that line (`through_prefix`,
+-- `way_stays` of other files). And nothing at the path refuses a definition (`all_let`): no header defines it and no
+-- dots lead to it, as the searches before this one found nothing. The hard part is that no value is above the path:
+-- `never_held`, since a header that goes through it mentions each prefix of it that ends in a key, and a value there
+-- would be beside such a mention.
+--
+-- Theorem: `section_at`: where the section is put in, its header is allowed.
 use Rattle.std.proofs.Common.{◌≡◌, ℕ, suc, ◌+◌, Bool, true, false, not, ◌&&◌, List, [], ◌∷◌, ◌++◌, length, map, take, drop, refl, sym, ap, subst, ◌∙◌, append_assoc, length-append, arith, Option, Some, None, ◌⊎◌, inl, inr}
 use Rattle.std.proofs.lemmas.Bool.{and_parts}
 use Rattle.std.proofs.lemmas.List.{length-map}

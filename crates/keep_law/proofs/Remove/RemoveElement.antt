@@ -1,4 +1,13 @@
 -- `remove` of an element of an array of tables: its header and its keyvals go, and the paths after it go down by one.
+--
+-- As for a section, the lines of the element are one run of mentions that is cut out (`element_cut`). What is new is
+-- that elements are numbered. The lines after the cut are read with one element less of the array, so their paths have
+-- a number one lower: `shifted` of another file, from where the reading is with and without the element
+-- (`after_shift`). The paths of the lines before the cut stay as they are (`start_shift`). Beside an element's line the
+-- rules allow only what belongs to the array (`array_before`, `array_after`, one case for each kind), so nothing else
+-- is under the path.
+--
+-- Theorem: `element_dropped`: after the element is dropped the rules hold, and the tree has changed as it should.
 use Rattle.std.proofs.Common.{◌≡◌, ℕ, suc, ◌+◌, Bool, true, false, cond, List, [], ◌∷◌, ◌++◌, map, take, drop, refl, sym, ap, subst, ◌∙◌, append_assoc, arith, Option, Some, None, inl, inr}
 use Rattle.std.proofs.lemmas.List.{map-append, append-nil, take-append-drop}
 use Rattle.keep_syntax.specs.Tree.{Written, Gap, Key, Content, blank, keyval, header, element, Line, Document}

@@ -1,4 +1,12 @@
 -- What `remove` takes out of the entries of brackets: one of their values, with one comma, and where it is written.
+--
+-- `take_out` goes along the entries, and `entry_out` is an induction over them. The entry is found as the first of
+-- those that are left, and is cut in one of three ways: alone in its brackets (`alone_out`), with the comma after it
+-- (`next_out`), or, where it is the last and has none, with the comma before it (`last_out`). The last one is the hard
+-- case, since the cut then begins in the entry before: two entries are looked at together (`two_out`). `out_later`
+-- takes a cut among the later entries to one among all of them.
+--
+-- Theorem: `entry_out`: the cut takes one value of the row and one comma, or no comma where it is alone.
 use Rattle.std.proofs.Common.{◌≡◌, ℕ, suc, ◌+◌, Bool, true, false, cond, List, [], ◌∷◌, ◌++◌, length, map, refl, sym, ap, subst, ◌∙◌, append_assoc, length-append, arith, Option, Some, None, ◌⊎◌, inl, inr}
 use Rattle.std.specs.Prelude.{codes, IsTrue, not, ◌==◌}
 use Rattle.std.specs.List.{list_all}

@@ -1,4 +1,13 @@
 -- `remove` of an item of an array and of a keyval in braces: the rules and the tree.
+--
+-- What the search does at the value is known (`done_document`); here the value's own change is looked at. If its entry
+-- has no name, it is an item: its mentions are cut out, and the items after it have numbers one lower (`IsItemOut`,
+-- `item_is`). The rules hold, as different paths stay different (`item_rules`). The tree at a path is that at the path
+-- before the change: the same one below the item's number, and the one with the next number from there on
+-- (`by_number`). If it has a name, it is a keyval in braces: its mentions are cut out, and nothing is renumbered
+-- (`keyval_cut`).
+--
+-- Theorem: `removed_in_value`.
 use Rattle.std.proofs.Common.{◌≡◌, ℕ, ◌+◌, ◌-◌, ◌<◌, ◌≤◌, Bool, true, false, cond, List, [], ◌∷◌, ◌++◌, map, refl, sym, ap, subst, ◌∙◌, arith, Option, Some, None, inl, inr}
 use Rattle.std.specs.Prelude.{nat_lt}
 use Rattle.std.specs.List.{filter_map}

@@ -1,4 +1,12 @@
 -- Where `remove` cuts whole lines, or one up to its comment: found by the statement of the line.
+--
+-- The definition finds the line by recursion over lines; the code has the stored statement and value. `line_value`
+-- joins the two: the line cuts the lists of mentions, statements and values at the same counts. Two cases are left. A
+-- line with a comment is cut from its first key up to the comment (`cleared_placed`); a line without one is cut whole
+-- (`dropped_placed`). The byte after the white space that follows the value decides which it is (`next_byte`). A cut
+-- begins and ends before an ASCII byte or at the end of the text (`IsLow`), so it never splits a character.
+--
+-- Theorems: `cleared_placed` and `dropped_placed`: the cut is at `line_place` of the value and its statement.
 use Rattle.std.proofs.Common.{◌≡◌, ℕ, zero, suc, ◌+◌, Bool, true, false, cond, List, [], ◌∷◌, ◌++◌, length, map, drop, slice_get, refl, sym, ap, subst, ◌∙◌, append_assoc, length-append, arith, Option, Some, None, drop_at}
 use Rattle.std.specs.Prelude.{nat_le, not, IsTrue}
 use Rattle.std.specs.List.{list_all, prefix_len, flat_map, AllByRecursion}

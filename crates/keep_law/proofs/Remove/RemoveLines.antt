@@ -1,4 +1,13 @@
--- `remove` of a keyval's line, with its comment kept or without, and of a defined section: the rules and the tree.
+-- `remove` of a keyval's line, with its comment kept or without: the rules and the tree.
+--
+-- Both ways leave the same mentions: those of the lines before and of the lines after, since a blank line has none
+-- (`blank_mentions`) and a keyval does not change where the reading is. So both come down to `line_law`: the mentions
+-- of one keyval are cut out, and by the rules nothing else is at its path or under it (`line_cut`). Which line it is:
+-- for clearing, the line that the search meets (`lines_cleared`); for dropping, the last line that passes the test
+-- (`found`, by induction). `dropped_mentions` says what is left when lines are dropped from a number on.
+--
+-- Theorems: `line_cleared` and `line_dropped`: the rules and the tree after each; `without_mentions`: what dropped
+-- lines leave.
 use Rattle.std.proofs.Common.{◌≡◌, ℕ, zero, suc, ◌≤◌, Bool, true, false, cond, List, [], ◌∷◌, ◌++◌, length, map, take, drop, refl, sym, ap, subst, ◌∙◌, length-append, arith, Option, Some, None}
 use Rattle.std.specs.Prelude.{⊤}
 use Rattle.std.proofs.lemmas.List.{map-append, length-map}

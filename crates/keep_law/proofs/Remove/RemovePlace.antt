@@ -1,4 +1,12 @@
 -- Where `remove` cuts in brackets: found by the value's own commas and places, and by the bytes of the text.
+--
+-- The definition cuts by the tree, the code by the stored value: its place, its commas, and the bytes there. The three
+-- cuts of `RemoveEntry` are taken one by one (`next_placed`, `last_placed`, `alone_placed`). For each, the text is
+-- written as what is before the cut, the cut and what is after it; the places are then sums of lengths. The gap that is
+-- put back is found in the text by its `#` alone (`preserved_is`). White space after a comma ends where the scan of
+-- bytes ends it (`run_ends`). `placed` brings this from the row of entries to the document.
+--
+-- Theorems: `entry_placed`: the change in brackets is at `entry_place` of the path's value.
 use Rattle.std.proofs.Common.{◌≡◌, ℕ, suc, ◌+◌, ◌-◌, Bool, true, false, cond, ◌||◌, ◌==◌, List, [], ◌∷◌, ◌++◌, length, map, drop, slice_get, refl, sym, ap, subst, ◌∙◌, append_assoc, length-append, arith, Option, Some, None, inl, inr, drop_at, ◌<◌, ◌≤◌}
 use Rattle.std.specs.Prelude.{codes, IsTrue, ⊤}
 use Rattle.std.specs.List.{list_all, list_any, prefix_len}

@@ -1,4 +1,12 @@
 -- Where `remove` is not refused, no header goes through a path that ends in a key.
+--
+-- A removal is refused unless the path is one piece: a value, a definition that no header goes through, or an element
+-- (`pieces`). For a path that ends in a key and that a header goes through, two of these are left to exclude. It is no
+-- value: a value is beside nothing that may be shared, as a header's mention may (`no_both`, for any such kind of
+-- mention). And it is no element, since an element's path ends in an index: `lines_begun`, by induction over the lines.
+--
+-- Theorems: `no_both` and `lines_begun`, which other files use; `single_piece`: no header goes through a path that is
+-- one piece.
 use Rattle.std.proofs.Common.{◌≡◌, ℕ, ◌+◌, Bool, true, false, not, cond, ◌&&◌, ◌||◌, List, [], ◌∷◌, ◌++◌, map, refl, sym, ap, ◌∙◌, Option, Some, None, ◌⊎◌, inl, inr}
 use Rattle.std.specs.Prelude.{◌==◌}
 use Rattle.keep_leaf.specs.declared.leaf.Profile.{Profile}

@@ -1,4 +1,12 @@
 -- `remove` of a defined section: its header and its keyvals go; the rules and the tree.
+--
+-- The lines of a body mention what is under its path alone, and do not change where the reading is; the lines after it
+-- are read alike without them (`body_is`, by induction over the lines). So the mentions of the section are one run,
+-- which is cut out (`section_cut`). To be a cut, nothing else may be left at the path or under it. Beside a definition
+-- the rules allow only headers that go through the path (`through_earlier`, `through_later`, one case for each kind);
+-- and the edit is refused where one does (`has_through`).
+--
+-- Theorem: `section_dropped`: after the section is dropped the rules hold, and the tree has changed as it should.
 use Rattle.std.proofs.Common.{◌≡◌, ℕ, zero, suc, Bool, true, false, cond, ◌||◌, List, [], ◌∷◌, ◌++◌, map, take, drop, refl, sym, ap, subst, ◌∙◌, append_assoc, Option, Some, None, inl, inr}
 use Rattle.std.specs.Prelude.{◌==◌}
 use Rattle.std.proofs.lemmas.List.{append-nil, take-append-drop}

@@ -1,4 +1,12 @@
 -- Where `remove` cuts a header with its body: found by the statements from the header's number on.
+--
+-- The definition finds the header by recursion over the lines, and its body by counting lines; the code has the number
+-- of a statement and the statements after it. Two facts join them. The number that is known of a path is that of the
+-- last line that mentions it so (`line_number`): later lines do not mention it, and all mentions of one line have the
+-- same number. The end that is computed from the statements is the end of the body's lines: `body_ends`, an induction
+-- over lines, where blank lines after the last keyval do not belong to the body (`blank_more`, `keyval_more`).
+--
+-- Theorems: `section_placed`: the change is at `section_place` of the statements from the header's number on.
 use Rattle.std.proofs.Common.{◌≡◌, ℕ, zero, suc, ◌+◌, ◌<◌, Bool, true, false, List, [], ◌∷◌, ◌++◌, length, map, drop, refl, sym, ap, subst, ◌∙◌, length-append, arith, Option, Some, None, ◌⊎◌, inl, inr, drop_at}
 use Rattle.std.specs.Prelude.{fold, if◌then◌else◌}
 use Rattle.std.specs.List.{filter_map, cons_option}

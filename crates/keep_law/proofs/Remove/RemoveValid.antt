@@ -1,4 +1,13 @@
 -- After `remove` the tree is a document of the grammar.
+--
+-- Where lines are removed, a line is cleared up to its comment (`valid_clear`) or whole lines are dropped
+-- (`valid_dropped`), and all that is left was valid before. The hard one is a value in brackets (`valid_removal`): the
+-- gaps before and after it meet. Two gaps are joined to one; where both have white space at the seam it becomes one
+-- token, or the gap would not be one of the grammar (`joined_blank`, `joined_space`). `valid_row` is an induction over
+-- the entries with the cases of the definition; it also shows that what is left may follow the comma before it
+-- (`IsComma`).
+--
+-- Theorems: `valid_remove`: what `remove` gives is a document of the grammar in the same profile.
 use Rattle.std.proofs.Common.{◌≡◌, ℕ, zero, suc, ◌+◌, ◌<◌, Bool, true, false, cond, not, ◌&&◌, List, [], ◌∷◌, ◌++◌, length, refl, sym, ap, subst, ◌∙◌, length-append, arith, Option, Some, None}
 use Rattle.std.specs.Prelude.{IsTrue, codes}
 use Rattle.std.specs.List.{AllByRecursion, list_any, list_all}

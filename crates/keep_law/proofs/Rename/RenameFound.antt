@@ -1,4 +1,13 @@
 -- Where a key part names a path, `rename` has a change.
+--
+-- A mention that names the path comes from one key part, and the search for it is followed: in lines (`lines_there`),
+-- in what a line says (`content_cases`), and in the entries of its value (`entries_there`, by induction). In a line
+-- there are two outcomes: a key of the line itself is the part, or one inside its value. For a key of the line, the
+-- number of the part is found among the paths of its prefixes (`header_number`, `keyval_number`), and a part with that
+-- number can be renamed (`content_there`). In entries the mention is in the first entry or in a later one, and in both
+-- cases there is a change (`keyed_there`, `further_there`).
+--
+-- Theorem: `some_rename`.
 use Rattle.std.proofs.Common.{◌≡◌, ℕ, zero, suc, ◌+◌, ◌<◌, Bool, true, false, cond, List, [], ◌∷◌, ◌++◌, length, map, get_or, refl, sym, ap, subst, ◌∙◌, append_assoc, arith, Option, Some, None, ◌⊎◌, inl, inr}
 use Rattle.std.specs.Prelude.{codes, position, ◌==◌}
 use Rattle.std.specs.List.{AllByRecursion, position_or_len}

@@ -1,5 +1,13 @@
 -- The key part that `rename` replaces is the one that is known of the path's node: the first that names it, where one
 -- alone does.
+--
+-- Key parts and marks come in the same order, so the number of a key part is that of the marks before it
+-- (`counted_statements`). What is known of a node has the number of the first mark at its path (`first_mark`, by
+-- induction). Where one mark alone is at the path, the mention that `rename_place` found is that first mark, since no
+-- mark at the path comes before it (`none_earlier`). Then the change is at the span of that key part.
+--
+-- Theorems: `rename_placed`: the change is at the key part that is known of the node; `rename_place_is`: the stated
+-- place is that one.
 use Rattle.std.proofs.Common.{◌≡◌, ℕ, ◌+◌, Bool, true, false, cond, List, [], ◌∷◌, ◌++◌, length, map, slice_get, refl, sym, ap, subst, ◌∙◌, arith, Option, Some, None}
 use Rattle.std.specs.Prelude.{⊤}
 use Rattle.std.specs.List.{count_by}

@@ -1,5 +1,13 @@
 -- What `rename` changes in a document is one of its key parts: which one it is, by how many marks come before it, and
 -- where it is written.
+--
+-- The proof follows the search for the key: over lines (`renamed_lines`), then over entries (`renamed_entries`). The
+-- record `IsRenamedIn` says which mention and which key part it is. Four lemmas take it one step outwards: more text
+-- round it, a longer path, other mentions and parts before it, and others after it (`renamed_framed`, `renamed_beyond`,
+-- `renamed_after`, `renamed_before`). As marks and key parts are counted alike, the mention and the part have the same
+-- number. The key that is renamed may be one of several in a dotted key or a header (`renamed_here`, `renamed_own`).
+--
+-- Theorem: `rename_place`: the change replaces one key part, whose mention is at the path.
 use Rattle.std.proofs.Common.{◌≡◌, ℕ, ◌+◌, ◌-◌, List, [], ◌∷◌, ◌++◌, length, map, refl, sym, ap, subst, ◌∙◌, append_assoc, length-append, arith, Option, Some, None}
 use Rattle.std.specs.Prelude.{true, codes, position}
 use Rattle.std.proofs.lemmas.List.{map-append, append-nil, length-map}

@@ -1,4 +1,12 @@
 -- `rename`, whole: where nothing is refused there is a change, and all that should hold of it does.
+--
+-- Here the parts are put together. Where nothing is refused, one key part names the path and the new path is free
+-- (`renamable`). So the mentions of the new document are the old ones with the paths at and under the old path moved to
+-- the new one. Different paths stay different, so the rules hold. The tree at a path is that at the path it was moved
+-- from; nothing is left at the old path (`none_under`), nothing was at the new one (`fresh_clear`), and neither is
+-- under the other (`other_keys`). The grammar and the depth follow line by line (`valid_rename`, `rename_depth`).
+--
+-- Theorems: `rename_whole`: where nothing is refused, `rename` has a change, and all that should hold of it does.
 use Rattle.std.proofs.Common.{◌≡◌, ℕ, ◌≤◌, Bool, true, false, List, [], ◌∷◌, ◌++◌, map, refl, sym, ap, subst, ◌∙◌, append_assoc, arith, Option, Some, None, inl, inr, IsUtf8}
 use Rattle.std.specs.Prelude.{not, ◌&&◌, ◌||◌, ◌==◌}
 use Rattle.std.specs.List.{filter_map, list_any}

@@ -3,6 +3,8 @@
 -- A text is cut where its touched lines begin (`prefixes`) and where they end (`backs`). So the new text is the old
 -- one's prefix, the text of the new lines, and the old one's end (`pieces`). The new lines are valid and within the
 -- limit, since the new document is; and the last of them is empty, or is the last line of the new document.
+--
+-- Theorem: `touched_lines_are_lines`.
 use Rattle.std.proofs.Common.{◌≡◌, ℕ, ◌+◌, ◌-◌, ◌<◌, ◌≤◌, Bool, true, false, List, [], ◌∷◌, ◌++◌, length, take, drop, refl, sym, ap, subst, ◌∙◌, arith, append_assoc, inl, inr, ◌⊎◌}
 use Rattle.std.specs.Prelude.{ltb, leb, if◌then◌else◌, slice_range}
 use Rattle.std.proofs.Common.{le-leb, le-ltb, leb-true, ltb-true, ltb-false}

@@ -6,6 +6,8 @@
 -- (`swaps_drop`, by `Leads`, which says what is left after them), one line changed (`swaps_lines`). A line's change has
 -- to begin after the line's first byte or to take a byte (`IsSolid`). Else the first line start at or after its end
 -- would be the start of that line.
+--
+-- Theorems: `swaps_put`, `swaps_drop` and `swaps_lines`: lines put in, lines taken out, and a change inside one line.
 use Rattle.std.proofs.Common.{◌≡◌, ℕ, zero, suc, ◌+◌, ◌<◌, ◌≤◌, Bool, true, false, List, [], ◌∷◌, ◌++◌, length, refl, sym, ap, subst, ◌∙◌, arith, append_assoc, Option, Some, None, inl, inr, ◌⊎◌}
 use Rattle.std.specs.Prelude.{⊤, ltb, leb, if◌then◌else◌}
 use Rattle.std.proofs.Common.{le-leb, le-ltb, ltb-false}

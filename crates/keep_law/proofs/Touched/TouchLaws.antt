@@ -1,8 +1,11 @@
 -- Each edit replaces the lines that its place touches: `change_touches`.
 --
 -- `Touches` is `Swaps` of a whole document. Each edit is a change inside a line (`touches_in_lines`), lines put in
--- (`touches_at_line`) or lines taken out (`touches_without`). A change inside a line is solid: a value comes after `=`, a key of a
--- header after a bracket; a key part that is renamed has bytes, since the document is valid, and a line that is cleared has `=`.
+-- (`touches_at_line`) or lines taken out (`touches_without`). A change inside a line is solid: a value comes after `=`,
+-- a key of a header after a bracket; a key part that is renamed has bytes, since the document is valid, and a line that
+-- is cleared has `=`.
+--
+-- Theorem: `change_touches`.
 use Rattle.std.proofs.Common.{◌≡◌, ℕ, zero, suc, ◌+◌, ◌<◌, ◌≤◌, Bool, true, false, cond, List, [], ◌∷◌, ◌++◌, length, map, drop, refl, sym, ap, subst, arith, Option, Some, None, inl, inr, ◌⊎◌}
 use Rattle.std.specs.Prelude.{⊤, codes, position}
 use Rattle.std.specs.List.{flat_map, AllByRecursion}

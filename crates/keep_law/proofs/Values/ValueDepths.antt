@@ -1,5 +1,13 @@
 -- How deep the values of a document are: as many arrays and inline tables enclose each as there are at the prefixes of
 -- its path.
+--
+-- `EntryDepths` has this for the values inside one value; here it is brought to documents. Each value of a document is
+-- in a keyval of one line (`in_lines`), whose own path is enclosed by nothing: no value is at a proper prefix of it
+-- (`prefix_open`). This is the hard case. A value there would be in a keyval of a line before or after it, and then
+-- this keyval's path would be under the other's, which the rules refuse. `lines_deep` joins the lines by induction.
+--
+-- Theorems: `depth_of_value`: a stored value's depth is that of its path; `too_deep_at`: what `set` refuses as too
+-- deep.
 use Rattle.std.proofs.Common.{◌≡◌, ℕ, ◌+◌, Bool, true, false, cond, List, [], ◌∷◌, ◌++◌, length, map, slice_get, refl, sym, ap, subst, ◌∙◌, append_assoc, arith, Some, None, inl, inr}
 use Rattle.std.specs.Prelude.{nat_lt}
 use Rattle.std.specs.List.{AllZip, AllByRecursion}

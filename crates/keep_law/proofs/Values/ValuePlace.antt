@@ -1,4 +1,14 @@
--- The value at a path is the one of its node's number in the list of all values: its text, its place, and the place of `set`.
+-- The value at a path is the one of its node's number in the list of all values: its text, its place, and the place of
+-- `set`.
+--
+-- Values and mentions of values come in the same order, so the i-th mention belongs to the i-th value. `found_at` takes
+-- from the search of an act which mention its value has, and so its number (`found_nested` of another file). An act
+-- that changes nothing (`own_text`) turns this into facts of the value itself: its fact, its leaf, its span and its
+-- text (`value_of_path`). A value with the node's number exists exactly if the document has a value at the path
+-- (`has_of_number`, `none_of_number`). For `set` the change is the whole value, from its first byte to its last
+-- (`set_placed`).
+--
+-- Theorems: `value_of_number`: a node's number gives the value at its path; `set_place`: where `set` changes the text.
 use Rattle.std.proofs.Common.{◌≡◌, ℕ, zero, suc, ◌+◌, ◌-◌, Bool, true, false, List, [], ◌∷◌, ◌++◌, length, slice_get, refl, sym, ap, subst, ◌∙◌, arith, Option, Some, None}
 use Rattle.std.specs.List.{AllZip}
 use Rattle.std.specs.Option.{option_map, option_and_then}

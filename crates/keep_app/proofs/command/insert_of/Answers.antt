@@ -6,5 +6,5 @@ use Rattle.keep_app.proofs.command.insert_of.Goals as goal
 
 pub returns-clause-asked : goal.returns-clause-asked
 returns-clause-asked c =
-    one_edit (IsCommand ask.Insert (c.args.path.now ∷ c.args.value.now ∷ [])) _ _ c.one_edit.result c.one_edit.ensures
-    (λ edits same. subst (IsOne (Inserts c.args.path.now c.args.value.now)) (sym same) (c.in_ok-path.ensures, c.in_ok-value.ensures))
+    one_edit (IsCommand c.args.profile ask.Insert (c.args.path.now ∷ c.args.value.now ∷ [])) _ _ c.one_edit.result c.one_edit.ensures
+    (λ edits same. subst (IsOne (Inserts c.args.profile c.args.path.now c.args.value.now)) (sym same) (c.in_ok-path.ensures, c.in_ok-value.ensures))

@@ -1,4 +1,5 @@
 use Rattle.std.proofs.Common.{◌∷◌, [], subst, sym}
+use Rattle.keep_leaf.specs.declared.leaf.Profile.TheVariants.{Strict}
 use Rattle.keep_words.specs.declared.subcommand.Ask.TheVariants as ask
 use Rattle.keep_app.specs.Uses.{Removes, IsCommand, IsOne}
 use Rattle.keep_app.proofs.CommandLaws.{one_edit}
@@ -6,5 +7,5 @@ use Rattle.keep_app.proofs.command.remove_of.Goals as goal
 
 pub returns-clause-asked : goal.returns-clause-asked
 returns-clause-asked c =
-    one_edit (IsCommand ask.Remove (c.args.path.now ∷ [])) _ _ c.one_edit.result c.one_edit.ensures
+    one_edit (IsCommand Strict ask.Remove (c.args.path.now ∷ [])) _ _ c.one_edit.result c.one_edit.ensures
     (λ edits same. subst (IsOne (Removes c.args.path.now)) (sym same) c.in_ok-path.ensures)

@@ -1,6 +1,6 @@
 use Rattle.std.proofs.Common.{ap, arith, length, refl}
-use Rattle.keep_splice.proofs.Shared.{text_seen, profile_seen}
-use Rattle.keep_edit.proofs.TakeLaws.{touches, is_syntax, in_text, high, cut, can_as, is_reread, holds_after, read_after, change_told, change_can, holds_same}
+use Rattle.keep_splice.proofs.Shared.{text_seen}
+use Rattle.keep_edit.proofs.TakeLaws.{in_text, high, cut, scanned_as, scanned_is, holds_after, read_after, change_told, change_can, holds_same}
 use Rattle.keep_edit.proofs.changes.reread.Goals as goal
 
 pub lines-whole-requires : goal.lines-whole-requires
@@ -37,17 +37,17 @@ range-lines-requires-clause-end_boundary c =
     let (old, p, change) = c.requires in
     rw (c.as_str.ensures.value, text_seen p.is) (cut old c.args.edited.now _ _ p.holds p.edit c.lines-whole.result c.lines-whole.ensures).ends
 
-pub replace-requires : goal.replace-requires
-replace-requires c =
+pub put_lines-requires : goal.put_lines-requires
+put_lines-requires c =
     let (old, p, change) = c.requires in
-    let k = can_as old c.args.edited.now _ _ p.holds p.edit c.lines-whole.result c.lines-whole.ensures c.args.profile c.range-lines.result.now (profile_seen p.is) (rw (c.range-lines.ensures.value, c.as_str.ensures.value, text_seen p.is) refl) in
-    record { document = p.edit.tree; is = is_syntax old c.args.edited.now _ _ p.holds p.edit p.edit.tree p.edit.read; new = (touches old c.args.edited.now _ _ p.holds p.edit).lines; can = k }
+    (old, c.args.edited.now, _, scanned_as old c.args.edited.now _ _ c.args.profile c.args.text.now c.lines-whole.result c.range-lines.result.now p c.lines-whole.ensures (rw (c.range-lines.ensures.value, c.as_str.ensures.value) refl))
 
 pub renew-requires-clause-read : goal.renew-requires-clause-read
 renew-requires-clause-read c =
     let (old, p, change) = c.requires in
-    let r = is_reread old c.args.edited.now _ _ p.holds p.edit c.lines-whole.result c.lines-whole.ensures c.args.profile c.range-lines.result.now c.replace.new.self (profile_seen p.is) (rw (c.range-lines.ensures.value, c.as_str.ensures.value, text_seen p.is) refl) c.in-Ok.ensures.read c.in-Ok.ensures.of_text in
-    rw (text_seen p.is) (p.edit.changed.to, read_after old c.args.edited.now _ _ p.holds p.edit c.replace.new.self r.syntax, p.edit.new.obeys)
+    let scanned = scanned_as old c.args.edited.now _ _ c.args.profile c.args.text.now c.lines-whole.result c.range-lines.result.now p c.lines-whole.ensures (rw (c.range-lines.ensures.value, c.as_str.ensures.value) refl) in
+    let renewed = c.in-Ok.ensures.renewed old c.args.edited.now _ scanned in
+    rw (text_seen p.is) (p.edit.changed.to, read_after old c.args.edited.now _ _ p.holds p.edit c.put_lines.new.syntax renewed, p.edit.new.obeys)
 
 pub renew-requires-clause-can : goal.renew-requires-clause-can
 renew-requires-clause-can c =
@@ -56,9 +56,12 @@ renew-requires-clause-can c =
 
 pub returns-in-Ok-renew : goal.returns-in-Ok-renew
 returns-in-Ok-renew c = λ old p change.
-    let r = is_reread old c.args.edited.now _ _ p.holds p.edit c.lines-whole.result c.lines-whole.ensures c.args.profile c.range-lines.result.now c.replace.new.self (profile_seen p.is) (rw (c.range-lines.ensures.value, c.as_str.ensures.value, text_seen p.is) refl) c.in-Ok.ensures.read c.in-Ok.ensures.of_text in
-    let told = c.in-Ok-renew.ensures.new p.edit.changed.to (rw (text_seen p.is) (read_after old c.args.edited.now _ _ p.holds p.edit c.replace.new.self r.syntax)) (change_told old c.args.edited.now _ _ p.holds p.edit c.args.change change) in
-    (holds_after old c.args.edited.now _ _ p.holds p.edit c.replace.new.self _ r.syntax told, λ s q read at. rw c.as_str.ensures.value (r.scanned s q read at))
+    let scanned = scanned_as old c.args.edited.now _ _ c.args.profile c.args.text.now c.lines-whole.result c.range-lines.result.now p c.lines-whole.ensures (rw (c.range-lines.ensures.value, c.as_str.ensures.value) refl) in
+    let renewed = c.in-Ok.ensures.renewed old c.args.edited.now _ scanned in
+    let told = c.in-Ok-renew.ensures.new p.edit.changed.to (rw (text_seen p.is) (read_after old c.args.edited.now _ _ p.holds p.edit c.put_lines.new.syntax renewed)) (change_told old c.args.edited.now _ _ p.holds p.edit c.args.change change) in (
+      holds_after old c.args.edited.now _ _ p.holds p.edit c.put_lines.new.syntax _ renewed told,
+      λ s q read at. rw c.as_str.ensures.value (scanned_is old c.args.edited.now _ _ p.holds p.edit c.lines-whole.result c.lines-whole.ensures s q read at),
+    )
 
 pub returns-in_default : goal.returns-in_default
 returns-in_default c = λ old p change. (refl, holds_same old _ _ _ c.in_default.ensures.refused p.holds)

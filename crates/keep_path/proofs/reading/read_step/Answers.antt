@@ -1,8 +1,7 @@
 -- A step begins with a dot or a bracket.
 use Rattle.std.proofs.Common.{◌≡◌, drop, rules, arith, refl, string_bytes}
 use Rattle.std.proofs.lemmas.Grind.{common_steps}
-use Rattle.keep_path.proofs.PathReadLaws.{dot_stuck, bracket_stuck}
-use Rattle.keep_path.proofs.ReadLaws.{prefix_of, dot_step, bracket_step, none_after, other_step}
+use Rattle.keep_path.proofs.ReadLaws.{prefix_of, dot_step, bracket_step, dot_goes_on, bracket_goes_on, dot_stops, bracket_stops, other_stops}
 use Rattle.keep_path.proofs.reading.read_step.Goals as goal
 
 pub range_from-requires : goal.range_from-requires
@@ -16,23 +15,34 @@ returns-in-Some-clause-found c =
     let behind : c.range_from.result.now ≡ drop 1 c.args.text.now = first_of (search rules, grind (arith, common_steps)) in
     dot_step c.args.text.now c.range_from.result.now (string_bytes c.in-Some.key) c.in-Some.len (prefix_of c.args.text.now c.as_bytes.result.now c.byte_or_zero.result 0x2E c.as_bytes.ensures.value c.byte_or_zero.ensures c.utf8.text c.in-46.is (omega arith) (omega arith)) behind (rw c.in-Some.is at c.in_ok-key-in-46.ensures.found)
 
-pub returns-in-None-clause-none : goal.returns-in-None-clause-none
-returns-in-None-clause-none c _ =
-    let behind : c.range_from.result.now ≡ drop 1 c.args.text.now = first_of (search rules, grind (arith, common_steps)) in
-    none_after c.args.text.now c.range_from.result.now 0x2E (prefix_of c.args.text.now c.as_bytes.result.now c.byte_or_zero.result 0x2E c.as_bytes.ensures.value c.byte_or_zero.ensures c.utf8.text c.in-46.is (omega arith) (omega arith)) behind (dot_stuck c.range_from.result.now ((rw c.in-None.is at c.in_ok-key-in-46.ensures.none) refl))
-
 pub returns-in-Some-read_index-clause-found : goal.returns-in-Some-read_index-clause-found
 returns-in-Some-read_index-clause-found c =
     let behind : c.range_from-in-91.result.now ≡ drop 1 c.args.text.now = first_of (search rules, grind (arith, common_steps)) in
     let read = c.in-Some-read_index.ensures in
     bracket_step c.args.text.now c.range_from-in-91.result.now c.in-Some-read_index.index c.in-Some-read_index.len (prefix_of c.args.text.now c.as_bytes.result.now c.byte_or_zero.result 0x5B c.as_bytes.ensures.value c.byte_or_zero.ensures c.utf8.text c.in-91.is (omega arith) (omega arith)) behind read.small read.found read.len
 
+pub returns-in-Some-clause-on : goal.returns-in-Some-clause-on
+returns-in-Some-clause-on c =
+    let behind : c.range_from.result.now ≡ drop 1 c.args.text.now = first_of (search rules, grind (arith, common_steps)) in
+    dot_goes_on c.args.text.now c.range_from.result.now (string_bytes c.in-Some.key) c.in-Some.len (prefix_of c.args.text.now c.as_bytes.result.now c.byte_or_zero.result 0x2E c.as_bytes.ensures.value c.byte_or_zero.ensures c.utf8.text c.in-46.is (omega arith) (omega arith)) behind (rw c.in-Some.is at c.in_ok-key-in-46.ensures.found) (rw c.in-Some.is at c.in_ok-key-in-46.ensures.longest)
+
+pub returns-in-None-clause-none : goal.returns-in-None-clause-none
+returns-in-None-clause-none c _ =
+    let behind : c.range_from.result.now ≡ drop 1 c.args.text.now = first_of (search rules, grind (arith, common_steps)) in
+    dot_stops c.args.text.now c.range_from.result.now (prefix_of c.args.text.now c.as_bytes.result.now c.byte_or_zero.result 0x2E c.as_bytes.ensures.value c.byte_or_zero.ensures c.utf8.text c.in-46.is (omega arith) (omega arith)) behind ((rw c.in-None.is at c.in_ok-key-in-46.ensures.none) refl)
+
+pub returns-in-Some-read_index-clause-on : goal.returns-in-Some-read_index-clause-on
+returns-in-Some-read_index-clause-on c =
+    let behind : c.range_from-in-91.result.now ≡ drop 1 c.args.text.now = first_of (search rules, grind (arith, common_steps)) in
+    let read = c.in-Some-read_index.ensures in
+    bracket_goes_on c.args.text.now c.range_from-in-91.result.now c.in-Some-read_index.index c.in-Some-read_index.len (prefix_of c.args.text.now c.as_bytes.result.now c.byte_or_zero.result 0x5B c.as_bytes.ensures.value c.byte_or_zero.ensures c.utf8.text c.in-91.is (omega arith) (omega arith)) behind read.small read.found read.len
+
 pub returns-in-None-read_index-clause-none : goal.returns-in-None-read_index-clause-none
 returns-in-None-read_index-clause-none c _ =
     let behind : c.range_from-in-91.result.now ≡ drop 1 c.args.text.now = first_of (search rules, grind (arith, common_steps)) in
-    none_after c.args.text.now c.range_from-in-91.result.now 0x5B (prefix_of c.args.text.now c.as_bytes.result.now c.byte_or_zero.result 0x5B c.as_bytes.ensures.value c.byte_or_zero.ensures c.utf8.text c.in-91.is (omega arith) (omega arith)) behind (bracket_stuck c.range_from-in-91.result.now (c.in-None-read_index.ensures.none refl))
+    bracket_stops c.args.text.now c.range_from-in-91.result.now (prefix_of c.args.text.now c.as_bytes.result.now c.byte_or_zero.result 0x5B c.as_bytes.ensures.value c.byte_or_zero.ensures c.utf8.text c.in-91.is (omega arith) (omega arith)) behind (c.in-None-read_index.ensures.none refl)
 
 pub returns-in_default-clause-none : goal.returns-in_default-clause-none
 returns-in_default-clause-none c _ =
-    other_step c.args.text.now c.as_bytes.result.now c.byte_or_zero.result c.as_bytes.ensures.value c.byte_or_zero.ensures
+    other_stops c.args.text.now c.as_bytes.result.now c.byte_or_zero.result c.as_bytes.ensures.value c.byte_or_zero.ensures
     (λ e. first_of (search rules, grind (arith, common_steps))) (λ e. first_of (search rules, grind (arith, common_steps)))

@@ -1,8 +1,8 @@
 use Rattle.keep_row.proofs.LineLaws.{span_in}
 use Rattle.keep_row.proofs.lines.of_span.Goals as goal
 
-pub lines-requires : goal.lines-requires
-lines-requires c =
+pub lines-whole-requires : goal.lines-whole-requires
+lines-whole-requires c =
     let h = c.is_in.ensures in
     let t = c.if-not-is_in.false in
     span_in c.requires _ (h.after t) (h.order t) (h.within t)

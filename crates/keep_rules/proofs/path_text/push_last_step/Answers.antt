@@ -10,18 +10,18 @@ key_at-requires c =
     let read = is_read c.args.nodes.now.items c.requires.stored c.args.id c.parent-parent.result c.number-number.result c.requires.later c.requires.within c.parent-parent.ensures c.number-number.ensures in
     omega (arith, earlier c.args.nodes.now.items c.args.id c.parent-parent.result c.number-number.result read, c.requires.within)
 
-pub returns-in-Some : goal.returns-in-Some
-returns-in-Some c = λ before old.
+pub returns-in-Some-clause-pushed : goal.returns-in-Some-clause-pushed
+returns-in-Some-clause-pushed c = λ before old.
     let read = is_read c.args.nodes.now.items c.requires.stored c.args.id c.parent-parent.result c.number-number.result c.requires.later c.requires.within c.parent-parent.ensures c.number-number.ensures in
     OnOk-map c.push_key.result _ _
     (key_added c.args.nodes.now.items c.args.id c.parent-parent.result c.number-number.result c.in-Some.key.now before (string_bytes c.args.out.now) (string_bytes c.push_key.new.out) read
     (ap option_copied (sym c.in-Some.is) ∙ c.key_at.ensures) old)
-    c.push_key.ensures
+    c.push_key.ensures.pushed
 
-pub returns-in-None : goal.returns-in-None
-returns-in-None c = λ before old.
+pub returns-in-None-clause-pushed : goal.returns-in-None-clause-pushed
+returns-in-None-clause-pushed c = λ before old.
     let read = is_read c.args.nodes.now.items c.requires.stored c.args.id c.parent-parent.result c.number-number.result c.requires.later c.requires.within c.parent-parent.ensures c.number-number.ensures in
     OnOk-map c.push_first.result _ _
     (index_added c.args.nodes.now.items c.args.id c.parent-parent.result c.number-number.result before (string_bytes c.args.out.now) (string_bytes c.push_first.new.out) read
     (ap option_copied (sym c.in-None.is) ∙ c.key_at.ensures) old)
-    c.push_first.ensures
+    c.push_first.ensures.pushed

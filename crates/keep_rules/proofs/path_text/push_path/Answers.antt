@@ -1,26 +1,14 @@
-use Rattle.std.proofs.Common.{◌∙◌, ◌++◌, ap, sym, append-nil, string_bytes}
-use Rattle.keep_path.specs.PathText.{encoded_path}
-use Rattle.keep_nodes.specs.Stored.{trie_of}
-use Rattle.keep_nodes.specs.Trie.{path_at}
-use Rattle.keep_nodes.proofs.Shared.{path_at-root}
-use Rattle.keep_rules.proofs.ClimbLemmas.{ancestors_left}
+-- What was added is cut off again.
+use Rattle.std.proofs.Common.{◌≡◌, arith, length, rules, string_bytes, subst, sym}
+use Rattle.std.proofs.lemmas.Grind.{common_steps}
+use Rattle.std.proofs.lemmas.Str.{IsUtf8-string_bytes}
+use Rattle.std.specs.String.Boundary.{IsSplitPoint}
+use Rattle.keep_rules.proofs.AddedTexts.{old_ends}
 use Rattle.keep_rules.proofs.path_text.push_path.Goals as goal
 
-pub loop-node-init : goal.loop-node-init
-loop-node-init c =
-    let old = string_bytes c.args.out.now in
-    (0, c.in_ok-ancestors.ensures, sym (ap (λ p. old ++ encoded_path p) (path_at-root (trie_of c.args.nodes.now.items)) ∙ append-nil old))
-
-pub push_last_step-requires-clause-later : goal.push_last_step-requires-clause-later
-push_last_step-requires-clause-later c =
-    (ancestors_left c.args.nodes.now.items c.args.id c.loop-node.ancestors.items c.pop.new.self.items c.in-Some.node c.loop-node.invariant.0 c.in-Some.ensures.items c.loop-node.invariant.1).later
-
-pub push_last_step-requires-clause-within : goal.push_last_step-requires-clause-within
-push_last_step-requires-clause-within c =
-    (ancestors_left c.args.nodes.now.items c.args.id c.loop-node.ancestors.items c.pop.new.self.items c.in-Some.node c.loop-node.invariant.0 c.in-Some.ensures.items c.loop-node.invariant.1).nested
-
-pub loop-node-preserved : goal.loop-node-preserved
-loop-node-preserved c =
-    let left = ancestors_left c.args.nodes.now.items c.args.id c.loop-node.ancestors.items c.pop.new.self.items c.in-Some.node c.loop-node.invariant.0 c.in-Some.ensures.items c.loop-node.invariant.1 in
-    let old = string_bytes c.args.out.now in
-    (c.in-Some.node, left.rest, c.in_ok-push_last_step.ensures old (c.loop-node.invariant.2 ∙ ap (λ i. old ++ encoded_path (path_at (trie_of c.args.nodes.now.items) i)) (sym left.above)))
+pub truncate-requires : goal.truncate-requires
+truncate-requires c _ =
+    let count : c.len-len.result ≡ length (string_bytes c.args.out.now) = first_of (search rules, grind (arith, common_steps)) in
+    subst (IsSplitPoint (string_bytes c.push_steps.new.out)) (sym count)
+    (old_ends (string_bytes c.args.out.now) (string_bytes c.push_steps.new.out)
+    (IsUtf8-string_bytes c.args.out.now) (IsUtf8-string_bytes c.push_steps.new.out) c.push_steps.ensures.grown)

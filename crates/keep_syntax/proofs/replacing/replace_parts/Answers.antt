@@ -13,7 +13,7 @@ returns-then-can_replace-clause-done c =
     let from : Counts = counts_before f c.args.whole.start in
     let to : Counts = counts_behind f c.args.whole c.args.len in
     let until : c.in-Some.until ≡ counts_after from (counts_at c.args.size g) c.args.end =
-    c.in-Some.ensures
+    c.in-Some.ensures.1
     ∙ ap (λ (k : Counts). counts_after k c.counts_at.result c.args.end) c.counts_before-from.ensures
     ∙ ap (λ (k : Counts). counts_after from k c.args.end) c.counts_at.ensures in
     c.in_ok-replace_run.ensures.done

@@ -13,5 +13,5 @@ keys-preserved c =
     let xs = (flat c.args.other.now).keys in
     c.in_ok-push_key.ensures.ok
     ∙ ap (λ (g : Flat). with_key c.in-Some.part g) c.keys.invariant
-    ∙ ap (λ (k : KeyPart). with_key k (record (flat c.args.out.now) { keys = old ++ map f (slice_range xs c.args.from.now.keys c.keys.number) })) c.in-Some.ensures
+    ∙ ap (λ (k : KeyPart). with_key k (record (flat c.args.out.now) { keys = old ++ map f (slice_range xs c.args.from.now.keys c.keys.number) })) c.in-Some.ensures.1
     ∙ ap (λ (ks : List KeyPart). record (flat c.args.out.now) { keys = ks }) (moved_next f old xs c.args.from.now.keys c.keys.number c.key_part.result (omega arith) c.key_part.ensures)

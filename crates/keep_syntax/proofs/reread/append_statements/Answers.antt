@@ -13,5 +13,5 @@ statements-preserved c =
     let xs = (flat c.args.other.now).statements in
     c.in_ok-push_statement.ensures.ok
     ∙ ap (λ (g : Flat). with_statement c.in-Some.statement g) c.statements.invariant
-    ∙ ap (λ (s : Statement). with_statement s (record (flat c.args.out.now) { statements = old ++ map f (slice_range xs c.args.from.now.statements c.statements.number) })) c.in-Some.ensures
+    ∙ ap (λ (s : Statement). with_statement s (record (flat c.args.out.now) { statements = old ++ map f (slice_range xs c.args.from.now.statements c.statements.number) })) c.in-Some.ensures.1
     ∙ ap (λ (ss : List Statement). record (flat c.args.out.now) { statements = ss }) (moved_next f old xs c.args.from.now.statements c.statements.number c.statement_at.result (omega arith) c.statement_at.ensures)

@@ -13,5 +13,5 @@ values-preserved c =
     let xs = (flat c.args.other.now).values in
     c.in_ok-push_info.ensures
     ∙ ap (λ (g : Flat). with_value c.in-Some.value g) c.values.invariant
-    ∙ ap (λ (v : ValueInfo). with_value v (record (flat c.args.out.now) { values = old ++ map f (slice_range xs c.args.from.now.values c.values.number) })) c.in-Some.ensures
+    ∙ ap (λ (v : ValueInfo). with_value v (record (flat c.args.out.now) { values = old ++ map f (slice_range xs c.args.from.now.values c.values.number) })) c.in-Some.ensures.1
     ∙ ap (λ (vs : List ValueInfo). record (flat c.args.out.now) { values = vs }) (moved_next f old xs c.args.from.now.values c.values.number c.value.result (omega arith) c.value.ensures)

@@ -8,5 +8,5 @@ returns c = record {
   size = refl;
   end = omega (arith, c.in-Some.ensures);
   starts_are = c.in_ok-starts.ensures;
-  len_is = c.in-Some-moved.ensures;
+  len_is = c.in-Some-moved.ensures.1;
 }

@@ -4,22 +4,22 @@ use Rattle.clap.specs.declared.error.kind.ErrorKind.{ErrorKind}
 use Rattle.clap.specs.declared.error.kind.ErrorKind.TheVariants.{OutOfMemory}
 use Rattle.clap.specs.contracts.error.kind.ErrorKind.{the_type}
 use denote.Enum.Bare.{sameb}
-use Rattle.keep_words.proofs.Parse.{err_refuses, ok_reads, whole_read}
+use Rattle.keep_words.proofs.Parse.{are_utf8, err_refuses, ok_reads, whole_read}
 use Rattle.keep_words.specs.Wanted.{IsWhole, Wanted}
 use Rattle.clap.specs.Words.{subcommand_rows_of}
 use Rattle.keep_words.proofs.words.chosen_of.Goals as goal
 
 pub returns-in-Err-2-clause-asked : goal.returns-in-Err-2-clause-asked
-returns-in-Err-2-clause-asked c plain =
-    inr (err_refuses (app_of c.in-Ok.command) (map (λ s. string_bytes s) c.args.words.now) c.in-Err.error c.in-Ok.ensures plain c.in-Err.ensures.kinds
+returns-in-Err-2-clause-asked c =
+    inr (err_refuses (app_of c.in-Ok.command) (map (λ s. string_bytes s) c.args.words.now) c.in-Err.error c.in-Ok.ensures (are_utf8 c.args.words.now) c.in-Err.ensures.kinds
     (λ e.
     let bad : false ≡ true = sym c.if-eq.false ∙ (c.eq.ensures ∙ ap (λ (k : ErrorKind). sameb the_type k OutOfMemory) (c.kind.ensures ∙ e)) in
     cc))
 
 pub returns-in-Ok-chosen_in-clause-asked : goal.returns-in-Ok-chosen_in-clause-asked
-returns-in-Ok-chosen_in-clause-asked c plain =
+returns-in-Ok-chosen_in-clause-asked c =
     let parse = c.in-Ok-try_get_matches_from in
-    ok_reads (app_of c.in-Ok.command) (map (λ s. string_bytes s) c.args.words.now) parse.matches c.in-Ok.ensures plain parse.ensures.kinds parse.ensures.matches
+    ok_reads (app_of c.in-Ok.command) (map (λ s. string_bytes s) c.args.words.now) parse.matches c.in-Ok.ensures (are_utf8 c.args.words.now) parse.ensures.kinds parse.ensures.matches
     ∙ ap (λ (w : Wanted). Some w) (sym c.in-Ok-chosen_in.ensures)
 
 pub returns-in-Ok-chosen_in-clause-whole : goal.returns-in-Ok-chosen_in-clause-whole

@@ -9,4 +9,4 @@ returns-then-number-last-clause-entry c = λ s read.
 
 pub returns-clause-entry : goal.returns-clause-entry
 returns-clause-entry c = λ s read.
-    entry_added _ _ _ s c.args.number (string_bytes c.args.out.now) _ c.node.result (seen c.self.view_is c.self.invariant) read (omega arith) c.in_ok-push_path_text.ensures c.node.ensures
+    entry_added _ _ _ s c.args.number (string_bytes c.args.out.now) _ c.node.result (seen c.self.view_is c.self.invariant) read (omega arith) c.in_ok-push_path_text.ensures.pushed c.node.ensures

@@ -3,8 +3,8 @@ use Rattle.std.specs.Map.{lookup}
 use Rattle.indexmap.proofs.CallerLemmas.{insert_entry-new}
 use Rattle.keep_nodes.proofs.key_map.KeyMap.add.Goals as goal
 
-pub returns : goal.returns
-returns c =
+pub returns-clause-ok : goal.returns-clause-ok
+returns-clause-ok c =
     let keys = c.self.inside.table in
     let key = c.args.key in
     let child = c.args.child in

@@ -4,7 +4,7 @@ use Rattle.keep_rules.specs.Lookup.{AreAncestors}
 use Rattle.keep_path.specs.PathText.{encoded_path}
 use Rattle.keep_nodes.specs.Stored.{trie_of}
 use Rattle.keep_nodes.specs.Trie.{path_at}
-use Rattle.keep_rules.proofs.path_text.push_path.Given as goal
+use Rattle.keep_rules.proofs.path_text.push_steps.Given as goal
 
 abbrev pub invariant-loop-node : goal.invariant-loop-node
 invariant-loop-node l =
