@@ -34,7 +34,7 @@ from pathlib import Path
 from tempfile import TemporaryDirectory
 
 from bodies import functions_of, hole_for, types_in, without_bodies
-from quick import all_below, crates
+from quick import all_below, crates, static_libraries
 
 ROOT = Path(__file__).resolve().parent.parent
 PARTS = ("src", "specs", "proofs")
@@ -241,7 +241,7 @@ def words_for(crate, built):
     kit = Path(os.path.realpath(shutil.which("rt"))).parent.parent
     own = crates()
     below = all_below(crate, own)
-    named = re.search(rf"^{crate}:([^#\n]*)", (ROOT / "crates.txt").read_text(), re.M)[1].split()
+    named = re.search(rf"^{crate}(?: staticlib)?:([^#\n]*)", (ROOT / "crates.txt").read_text(), re.M)[1].split()
     # (the more crates are below it, the later its edits begin, and the less is there to run beside them at the end)
     level = max(10, 19 - len(below))
     words = ["setpriv", "--pdeathsig", "TERM", "nice", "-n", str(level), f"{kit}/bin/rattle", "check", "--crate-name", crate, "src/lib.rt"]
@@ -253,7 +253,16 @@ def words_for(crate, built):
         words += ["--extern", f"{name}={rlib}/{name}.rlib"] if name in own[crate] else []
         words += ["-L", f"dependency={rlib}"]
     words += ["--antt-project", f"{kit}/rattle/logic/antt-project.json", "--logic-built", f"{kit}/logic_built"]
+    words += ["--crate-type", "staticlib"] if crate in static_libraries() else []
     return [*words, "--links", f"{crate}=", "--jobs", "1"]
+
+
+def library_words(crate, built, to):
+    """The words of the build of a static library into a file, which proves it too, over libraries as for `words_for`."""
+    words = words_for(crate, built)
+    at = words.index("check")
+    kit = Path(words[at - 1]).parent.parent
+    return [words[at - 1], "build", *words[at + 1 :], "--toolchain", f"{kit}/toolchain", "--backend", "llvm", "-o", to]
 
 
 def picked(checks, left):

@@ -12,12 +12,12 @@ there. That run gives the verdict, and proves what was not kept.
 
 Beside them, as soon as the crates below a crate are proved, that crate's edits are tried over them, many in one check
 (tests/edits.py); `rt ci` would try each alone. The proofs go first, since each crate waits for those below it: the edits step
-back behind them.
+back behind them. `rt ci` proves a static library and builds none, so it is built here once it is proved, beside the run over all.
 
-What was built is put into the crates' folders out/ here once all is proved, and then the file BUILT is made. The report tells for each task (the proof, the tests and the
-edits of a crate) the minutes of processor and of the clock, and the minutes of the whole. `rt ci` tells no times, so they
-are sampled: each process of the prover is known by the folder that it works in. A sampling that fails changes nothing of
-the status.
+What was built is put into the crates' folders out/ here. Once all is proved, out/built_from says what keep_toml's program was built
+from, and then the file BUILT is made. The report tells for each task (the proof, the tests, the edits and the static library of a
+crate) the minutes of processor and of the clock, and the minutes of the whole. `rt ci` tells no times, so they are sampled: each
+process of the prover is known by the folder that it works in. A sampling that fails changes nothing of the status.
 """
 import contextlib
 import os
@@ -34,8 +34,8 @@ from heapq import heappop, heappush
 from pathlib import Path
 from tempfile import TemporaryDirectory
 
-from edits import edits_of, say_tried, series_of
-from quick import all_below, crates
+from edits import edits_of, library_words, say_tried, series_of
+from quick import all_below, crates, static_libraries
 
 ROOT = Path(__file__).resolve().parent.parent
 TICKS = os.sysconf("SC_CLK_TCK")
@@ -104,7 +104,8 @@ class Sampler(threading.Thread):
         words = Path(f"/proc/{pid}/cmdline").read_bytes().split(b"\0")
         if not words[0].endswith(b"/rattle"):
             return None
-        kind = "tests" if any(b"test" in it for it in words if it.startswith(b"--")) else "proof"
+        is_library = words[1] == b"build" and b"staticlib" in words
+        kind = "library" if is_library else "tests" if any(b"test" in it for it in words if it.startswith(b"--")) else "proof"
         crate = os.path.basename(os.readlink(f"/proc/{pid}/cwd"))
         return (crate, kind) if crate in self.crates else None
 
@@ -164,6 +165,9 @@ class Edits:
         return results
 
 
+# The program that users run, and the text that says what it was built from.
+PROGRAM = "crates/keep_toml/out/keep_toml"
+BUILT_FROM = "crates/keep_toml/out/built_from"
 # What no copy of the repository, or of a crate, has.
 LEFT_OUT = shutil.ignore_patterns(".git", "must-fail", "out", "__pycache__")
 
@@ -179,16 +183,25 @@ def copied_alone(names, copy):
         shutil.copytree(ROOT / "crates" / name, f"{copy}/crates/{name}", symlinks=True, ignore=LEFT_OUT)
     shutil.copy(ROOT / "HANDLES", copy)
     lines = (ROOT / "crates.txt").read_text().splitlines(keepends=True)
-    Path(copy, "crates.txt").write_text("".join(it for it in lines if it.partition(":")[0] in names))
+    Path(copy, "crates.txt").write_text("".join(it for it in lines if it.partition(":")[0].removesuffix(" staticlib") in names))
 
 
-def put_back(copy):
-    """Puts the programs that were built there, and what they wrote, into the crates' folders out/ here."""
+def put_back(copy, is_proved=False):
+    """Puts the programs that were built there, and what they wrote, into the crates' folders out/ here, each in one step. If all is
+    proved, a text beside keep_toml's program says what it was built from, as ./keep-toml and tools/renew-dist ask."""
+    program, text = Path(copy, PROGRAM), ROOT / BUILT_FROM
+    if program.is_file():
+        text.unlink(missing_ok=True)
     for file in Path(copy, "crates").glob("*/out/*"):
         if file.is_file():
             to = ROOT / file.relative_to(copy)
             to.parent.mkdir(exist_ok=True)
-            shutil.copy(file, to)
+            shutil.copy(file, f"{to}.new")
+            os.replace(f"{to}.new", to)
+    if program.is_file() and is_proved:
+        said = subprocess.run([f"{copy}/tools/built-from", program], stdout=subprocess.PIPE, check=True).stdout
+        Path(f"{text}.new").write_bytes(said)
+        os.replace(f"{text}.new", text)
 
 
 def lines_behind(below):
@@ -207,13 +220,13 @@ class Proofs:
     def __init__(self, command, room, start):
         self.command, self.room, self.start = command, room, start
         self.below, self.behind = crates(), lines_behind(crates())
-        self.edits, self.running, self.runs, self.keeps = Edits(), set(), {}, True
+        self.edits, self.running, self.runs, self.libraries, self.keeps = Edits(), set(), {}, [], True
         self.lock, self.pool = threading.RLock(), ThreadPoolExecutor(len(os.sched_getaffinity(0)))
 
-    def ran(self, folder, heard, level=0, more=None):
-        """Runs the command in a folder, with more in its environment and each of its lines handed on, and gives its status."""
+    def ran(self, folder, heard, level=0, more=None, command=None):
+        """Runs a command in a folder, with more in its environment and each of its lines handed on, and gives its status."""
         how = {"stdout": subprocess.PIPE, "stderr": subprocess.STDOUT, "text": True, "errors": "replace"}
-        words = ["nice", "-n", str(level), *self.command]
+        words = ["nice", "-n", str(level), *(command or self.command)]
         with subprocess.Popen(words, cwd=folder, env=os.environ | (more or {}), **OF_ITS_OWN, **how) as ran:
             self.running.add(ran.pid)
             for line in ran.stdout:
@@ -226,11 +239,23 @@ class Proofs:
         print(f"[{(time.time() - self.start) / 60:5.1f}] {line}", end="", flush=True)
 
     def has_proved(self, crate, folder):
-        """Tries the edits, and proves the crates, that waited for this one alone."""
+        """Tries the edits, and proves the crates, that waited for this one alone; builds it, if it is a static library."""
         with self.lock:
             if crate not in self.edits.proved:
                 self.edits.has_proved(crate, folder)
+                if crate in static_libraries():
+                    self.libraries.append(self.pool.submit(self.build_library, crate, folder))
                 self.begin()
+
+    def build_library(self, crate, folder):
+        """Builds the static library that a crate is proved to be, puts it into the crate's folder out/ here, and gives the status."""
+        words, lines = library_words(crate, self.edits.built, f"out/lib{crate}.a"), []
+        Path(folder, "crates", crate, "out").mkdir(exist_ok=True)
+        status = self.ran(f"{folder}/crates/{crate}", lines.append, command=words)
+        if status == 0:
+            put_back(folder)
+        self.says(f"{crate}: its library is {'built' if status == 0 else 'NOT built: ' + ''.join(lines[-9:]).rstrip()}\n")
+        return status
 
     def begin(self):
         with self.lock:
@@ -329,7 +354,9 @@ def run(command, built, room, start):
     proofs.edits.begin()
     proofs.prove_each()
     status, line = proofs.prove_all(f"{room}/all")
-    put_back(f"{room}/all")
+    statuses = [status, *(it.result() for it in proofs.libraries)]
+    status = next((it for it in statuses if it), 0)
+    put_back(f"{room}/all", status == 0)
     if status == 0:
         Path(built).touch()
     results = proofs.edits.results()

@@ -1,11 +1,13 @@
 #!/usr/bin/env python3
-"""Proves the crates that changed and what stands on them, lowest first, without their edits, and builds the programs.
+"""Proves the crates that changed and what stands on them, lowest first, without their edits, and builds the programs and the
+static library.
 
 A crate changed if a file of it is newer than when it was last proved here, or, if that is not known, if git tells that
 it differs from HEAD. With `--passed TIME` nothing is proved: all crates were, as they stood at that time (seconds since
 1970).
 """
 import os
+import re
 import subprocess
 import sys
 import time
@@ -27,6 +29,11 @@ def crates():
     while len(order) < len(below):
         order += [it for it in below if it not in order and all(dep in order for dep in below[it])]
     return {name: below[name] for name in order}
+
+
+def static_libraries():
+    """The crates that are built to a library for C, of which no other crate is above."""
+    return re.findall(r"^(\w+) staticlib:", (ROOT / "crates.txt").read_text(), re.M)
 
 
 def all_below(name, below):
@@ -56,6 +63,8 @@ def has_changed(name):
 
 def lacks_its_build(name):
     folder = ROOT / "crates" / name
+    if name in static_libraries():
+        return not (folder / f"out/lib{name}.a").is_file()
     return (folder / "src/main.rt").is_file() and not (folder / "out" / name).is_file()
 
 
@@ -66,10 +75,11 @@ def mark(name, at):
 
 
 def prove(name):
-    """Proves a crate and its tests, and builds it if it is a program; its stored run is then a test of it."""
+    """Proves a crate and its tests, and builds it if it is a static library or a program, whose stored run is then a test of it."""
     folder, start = ROOT / "crates" / name, time.time()
     print(f"== {name}", flush=True)
-    status = subprocess.run(["rt", "test" if has_tests(folder) else "check"], cwd=folder).returncode
+    proves = "test" if has_tests(folder) else "lib" if name in static_libraries() else "check"
+    status = subprocess.run(["rt", proves], cwd=folder).returncode
     if status == 0 and (folder / "src/main.rt").is_file():
         status = is_run_well(folder)
     if status == 0:
