@@ -3,11 +3,13 @@
 
     tests/recipes.py PROGRAM [FILE.md]
 
-A block ```toml NAME makes a file. A block ```sh is run. A block ```output is what the run before it printed, standard error
+A block ```toml NAME makes a file, and so do json, make, python and yaml. A block ```sh is run. A block ```output is what the run before it printed, standard error
 included, with `(status N)` as the last line where it ended so. A block ```diff NAME is what the run before it changed in
-that file. Prints what differs, and last how many blocks passed.
+that file. A problem matcher in a JSON file has to find each fault that a later run prints. Prints what differs, and last how
+many blocks passed.
 """
 import difflib
+import json
 import os
 import re
 import shutil
@@ -25,12 +27,26 @@ class Recipe:
 
     def __init__(self, folder, shell, environment):
         self.folder, self.shell, self.environment = Path(folder), shell, environment
-        self.before, self.printed = {}, ""
+        self.before, self.printed, self.matchers = {}, "", []
 
     def toml(self, name, text):
         file = self.folder / name
         file.parent.mkdir(parents=True, exist_ok=True)
         file.write_text(text)
+
+    make = python = yaml = toml
+
+    def json(self, name, text):
+        self.toml(name, text)
+        self.matchers += [it["pattern"][0] for it in json.loads(text).get("problemMatcher", [])]
+
+    def unmatched(self, printed):
+        """The faults that no problem matcher finds, or finds with other parts than the fault has."""
+        for line in re.findall(r"^\S+\.toml:\d+:\d+: .*$", printed, re.M) if self.matchers else []:
+            found = [re.match(it["regexp"], line) for it in self.matchers]
+            parts = [[it[matcher[part]] for part in ("file", "line", "column")] for it, matcher in zip(found, self.matchers) if it]
+            if line.split(":")[:3] not in parts:
+                yield line
 
     def files(self):
         found = (it for it in self.folder.rglob("*") if it.is_file() and ".git" not in it.parts)
@@ -46,7 +62,7 @@ class Recipe:
 
     def output(self, _, text):
         printed, self.printed = self.printed, ""
-        return compared(text, printed)
+        return compared(text, printed) or "\n".join(f"no problem matcher finds {it}" for it in self.unmatched(printed))
 
     def diff(self, name, text):
         old, new = self.before[name].splitlines(True), (self.folder / name).read_text().splitlines(True)
@@ -77,6 +93,7 @@ def main(program, text):
     with tempfile.TemporaryDirectory(prefix="keep-toml-") as path:
         os.symlink(Path(program).resolve(), f"{path}/keep-toml")
         os.symlink(ROOT / "keep-toml-in", f"{path}/keep-toml-in")
+        os.symlink(ROOT / "tools" / "keep-toml-check", f"{path}/keep-toml-check")
         environment = dict(os.environ, PATH=f"{path}:{os.environ['PATH']}")
         for shell in ("bash", "dash"):
             if not shutil.which(shell):
