@@ -4,10 +4,11 @@
     tests/readme.py PROGRAM [FILE.md]
 
 Each block runs in a folder of its own, with HOME there and the program and its companions on the path. The folder has the files
-of `EXAMPLES`; if a command of the block begins with `./`, it has ./keep-toml and ./install instead, as a fresh clone has. In a block with lines that begin with `$ `, each of these is a command, and the lines
-up to the next one are what it has to print, standard error included; but `$ cat FILE` before any other command that names FILE
-makes that file, and so does a fault that shows a line of a file. In other blocks each line that begins with `COMMANDS` has to
-end with status 0. So has each example of a table. Prints what differs, and last how many commands passed.
+of `EXAMPLES`; if a command of the block begins with `./`, it has ./keep-toml and ./install instead, as a fresh clone has. In a
+block with lines that begin with `$ `, each of these is a command, and the lines up to the next one are what it has to print,
+standard error included; but `$ cat FILE` before any other command that names FILE makes that file, and so does a fault that
+shows a line of a file. In other blocks each line that begins with `COMMANDS` has to end with status 0. So has each example of a
+table. Prints what differs, and last how many commands passed.
 """
 import os
 import re
