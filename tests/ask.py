@@ -1,4 +1,4 @@
-"""How the tests ask the programs that were built: the program itself by words and an input, and keep_rows by rows.
+"""How the tests ask the programs that were built: the program itself by words and an input, and keep_test_rows by rows.
 
 In a cell of a file of rows \\n, \\r, \\t and \\\\ stand for those bytes, \\xHH for a byte by two hexadecimal digits,
 and \\e for nothing (an empty word).
@@ -12,10 +12,10 @@ from dataclasses import dataclass
 
 ESCAPES = {b"n": b"\n", b"r": b"\r", b"t": b"\t", b"\\": b"\\", b"e": b""}
 WRITTEN = {byte: b"\\" + letter for letter, byte in ESCAPES.items() if byte}
-# How keep_rows prints an answer: Rust's form of a text between quotation marks.
+# How keep_test_rows prints an answer: Rust's form of a text between quotation marks.
 PRINTED = {"n": "\n", "r": "\r", "t": "\t", "0": "\0", "\\": "\\", '"': '"', "'": "'"}
 PROCESSORS = len(os.sched_getaffinity(0))
-# No answer of keep_rows is this, since an answer is UTF-8: so a row that wants it always prints what it answered.
+# No answer of keep_test_rows is this, since an answer is UTF-8: so a row that wants it always prints what it answered.
 NO_ANSWER = b"\xff"
 
 
@@ -118,12 +118,12 @@ def in_parallel(function, items):
 
 
 def row_line(*cells):
-    """The line of a row for keep_rows: its name, the wanted answer, a group, a question of that group, and words."""
+    """The line of a row for keep_test_rows: its name, the wanted answer, a group, a question of that group, and words."""
     return b"\t".join(map(cell, cells)) + b"\n"
 
 
 def printed(text):
-    """The text that keep_rows printed between quotation marks."""
+    """The text that keep_test_rows printed between quotation marks."""
 
     def character(found):
         return chr(int(found[2], 16)) if found[2] else PRINTED[found[1]]
@@ -131,10 +131,10 @@ def printed(text):
     return re.sub(r"\\(u\{([0-9a-f]+)\}|[nrt0\\\"'])", character, text)
 
 
-def answers(keep_rows, questions):
-    """What keep_rows answers to questions, as bytes; a question is a group, a name in it, and words."""
+def answers(keep_test_rows, questions):
+    """What keep_test_rows answers to questions, as bytes; a question is a group, a name in it, and words."""
     given = b"".join(row_line(b"%d" % number, NO_ANSWER, *it) for number, it in enumerate(questions))
-    lines = answer(keep_rows, [], given).stdout.decode().split("\n")[:-2]
+    lines = answer(keep_test_rows, [], given).stdout.decode().split("\n")[:-2]
     if len(lines) != len(questions):
-        raise RuntimeError(f"keep_rows answered {len(lines)} of {len(questions)} rows: {questions[len(lines)]}")
+        raise RuntimeError(f"keep_test_rows answered {len(lines)} of {len(questions)} rows: {questions[len(lines)]}")
     return [printed(line[line.index('"') + 1 : -1]).encode() for line in lines]

@@ -4,11 +4,11 @@
     tests/chains.py KEEP_TOML KEEP_ROWS [EDITS [SEED]]
 
 Each of twenty documents takes a chain of EDITS (200, if not given) that are not refused. What each edit has to give is told by
-the program, which reads the whole text every time. keep_rows makes the edits in one document, where each reads the
+the program, which reads the whole text every time. keep_test_rows makes the edits in one document, where each reads the
 lines that it touches alone, and compares tokens, counts, nodes and values with those of a fresh reading: for every step of
 the chain, from a fresh document at every tenth step.
 
-In every tenth text of a chain, the lines that a random span touches are replaced by others too: what keep_rows tells of
+In every tenth text of a chain, the lines that a random span touches are replaced by others too: what keep_test_rows tells of
 the syntax that is reread is what it tells of a fresh reading.
 """
 import sys
@@ -57,7 +57,7 @@ def document_of(random, is_accepted):
 
 
 def edit_of(random, entries, size):
-    """An edit as the three words that keep_rows takes: its name, a path, and a value, a key or nothing."""
+    """An edit as the three words that keep_test_rows takes: its name, a path, and a value, a key or nothing."""
     path, kind = random.choice(entries) if entries else (b"", b"table")
     fresh = random.choice(KEYS) + b"-%d" % random.randrange(100)
     prefix = path + b"." if path else b""
@@ -116,35 +116,35 @@ def chain_of(program, seed, edits):
     return chain
 
 
-def replacements(keep_rows, chain):
+def replacements(keep_test_rows, chain):
     """Texts of a chain with a span and the lines that are to replace those that it touches, and the new text."""
     random, spans = chain.random, []
     for text in chain.texts[::STEPS]:
         start, end = sorted(random.randrange(3 * text.startswith(b"\xef\xbb\xbf"), len(text) + 1) for _ in range(2))
         lines = b"".join(line_of(random, random.choice((0, 1))) for _ in range(random.randrange(4)))
         spans.append((text, b"strict", b"%d" % start, b"%d" % end, random.choice(GAPS) + lines))
-    for found, span in zip(answers(keep_rows, [(b"lines", b"touched", *it[:4]) for it in spans]), spans):
+    for found, span in zip(answers(keep_test_rows, [(b"lines", b"touched", *it[:4]) for it in spans]), spans):
         start, end = map(int, found.split(b".."))
         yield span, span[0][:start] + span[4] + span[0][end:]
 
 
-def reread_failures(keep_rows, chain):
+def reread_failures(keep_test_rows, chain):
     """What is told otherwise of a syntax that is reread than of a fresh one, for each replacement; None where it is the same."""
-    for span, text in replacements(keep_rows, chain):
-        reread = answers(keep_rows, [(b"lines", b"reread", *span, it) for it in TOLD])
-        afresh = answers(keep_rows, [(b"syntax", it, text, b"strict") for it in TOLD])
+    for span, text in replacements(keep_test_rows, chain):
+        reread = answers(keep_test_rows, [(b"lines", b"reread", *span, it) for it in TOLD])
+        afresh = answers(keep_test_rows, [(b"syntax", it, text, b"strict") for it in TOLD])
         differs = [it for it in zip(reread, afresh) if it[0] != it[1]]
         yield f"{short(differs[0][0])}, not {short(differs[0][1])}; {span}" if differs else None
 
 
-def main(keep_toml, keep_rows, edits="200", seed="1"):
+def main(keep_toml, keep_test_rows, edits="200", seed="1"):
     count = Count()
     numbers = [int(seed) * DOCUMENTS + number for number in range(DOCUMENTS)]
     for number, chain in zip(numbers, in_parallel(lambda it: chain_of(keep_toml, it, int(edits)), numbers)):
         asked = list(chain.questions())
-        for step, (found, (_, wanted)) in enumerate(zip(answers(keep_rows, [it for it, _ in asked]), asked), 1):
+        for step, (found, (_, wanted)) in enumerate(zip(answers(keep_test_rows, [it for it, _ in asked]), asked), 1):
             count.add(f"chain {number}, edit {step}", None if found == wanted else f"{short(found)}, not {short(wanted)}")
-        for step, why in enumerate(reread_failures(keep_rows, chain)):
+        for step, why in enumerate(reread_failures(keep_test_rows, chain)):
             count.add(f"chain {number}, lines of text {step * STEPS} reread", why)
         if len(chain.edits) < int(edits):
             count.add(f"chain {number}", f"{len(chain.edits)} edits alone were taken")

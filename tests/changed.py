@@ -8,7 +8,7 @@ FF. The program reads each of these texts in both profiles: it is accepted, or i
 place of the text. The verdict in the strict profile is that of Python's own reader; what is accepted there is
 accepted in the wide one too.
 
-keep_rows tells more of each text that is accepted, in the profile that accepted it: its tokens joined are the text,
+keep_test_rows tells more of each text that is accepted, in the profile that accepted it: its tokens joined are the text,
 tokens and nodes are no more than its bytes and one, `list` and `get` agree with Python's reader. Then the six edits
 are made at each path of `list`: an edit is refused or not as the definitions say, it keeps the other bytes, and the
 same is asked of its result. The program makes the edits in the strict profile too, and answers the same.
@@ -26,10 +26,10 @@ from reader import path_text, steps_of
 
 HERE = Path(__file__).resolve().parent
 OTHER_BYTES = (b"\x00", b"\r", b'"', b"[", b"\xff")
-# The groups of keep_rows by profile, and the name of its limits.
+# The groups of keep_test_rows by profile, and the name of its limits.
 GROUPS = {"strict": (b"document", b"edit", b"strict"), "wide": (b"wide document", b"wide edit", b"wide")}
 CHECKS = {"strict": b"check", "wide": b"check-wide"}
-# The kinds of keep_rows in the words of `list`.
+# The kinds of keep_test_rows in the words of `list`.
 KINDS = {"Str": "string", "Inline": "inline-table", "Tables": "array-of-tables"}
 # How many texts a process takes at once.
 SHARE = 50
@@ -77,7 +77,7 @@ def program_failure(keep_toml, text):
     return why, [profile for profile, it in ran.items() if it.returncode == 0]
 
 
-# What keep_rows says of a text that is accepted
+# What keep_test_rows says of a text that is accepted
 
 
 def facts_questions(text, profile):
@@ -122,11 +122,11 @@ def tokens_failure(text, count, found):
     return f"the tokens are not the text: {found}"
 
 
-def values_of(keep_rows, profile, looked):
+def values_of(keep_test_rows, profile, looked):
     """Documents with their values, and what is wrong with these; `looked` has texts and their kinds."""
     group = GROUPS[profile][0]
     paths = [(text, path.encode()) for text, kinds in looked for path in kinds]
-    found = iter(answers(keep_rows, [(group, word, *it) for it in paths for word in (b"get", b"string")]))
+    found = iter(answers(keep_test_rows, [(group, word, *it) for it in paths for word in (b"get", b"string")]))
     for text, kinds in looked:
         document, whys = Document(text, kinds, {}), []
         for path in kinds:
@@ -137,13 +137,13 @@ def values_of(keep_rows, profile, looked):
         yield document, next(filter(None, whys), None)
 
 
-def looked_at(keep_rows, profile, texts):
+def looked_at(keep_test_rows, profile, texts):
     """Each text as a document and what is wrong with it; it is None where that is that the text is refused."""
     asked = [list(facts_questions(text, profile)) for text in texts]
-    found = answers(keep_rows, [it for questions in asked for it in questions])
+    found = answers(keep_test_rows, [it for questions in asked for it in questions])
     facts = [facts_of(text, found[4 * number : 4 * number + 4]) for number, text in enumerate(texts)]
     accepted = [(text, kinds) for text, (kinds, _) in zip(texts, facts) if kinds is not None]
-    with_values = values_of(keep_rows, profile, accepted)
+    with_values = values_of(keep_test_rows, profile, accepted)
     for kinds, why in facts:
         document, other = (None, None) if kinds is None else next(with_values)
         if document and profile == "strict":
@@ -181,7 +181,7 @@ def length_of(document, path):
 
 
 def outcome_of(document, found):
-    """The outcome of an edit, the place where the text was changed, and the text after it, as keep_rows prints them."""
+    """The outcome of an edit, the place where the text was changed, and the text after it, as keep_test_rows prints them."""
     line, _, text = found.partition(b"\n")
     place = re.fullmatch(rb"(\d+) (\d+) (\d+)", line)
     return (MADE, [int(it) for it in place.groups()], text) if place else (line.decode(), None, text)
@@ -199,16 +199,16 @@ def edit_failure(document, edit, found):
     return why or laws.growth_law(document, edit, text) or laws.kept_law(document, edit, text), text
 
 
-def made_edits(keep_rows, profile, document):
+def made_edits(keep_test_rows, profile, document):
     """The edits of a document with what is wrong and the text that each made."""
     edits = list(edits_of(document))
     group = GROUPS[profile][1]
     asked = [(group, it.op.encode(), document.text, it.path.encode(), it.word.encode()) for it in edits]
-    return [(edit, *edit_failure(document, edit, found)) for edit, found in zip(edits, answers(keep_rows, asked))]
+    return [(edit, *edit_failure(document, edit, found)) for edit, found in zip(edits, answers(keep_test_rows, asked))]
 
 
 def program_edit_failure(keep_toml, document, edit, text):
-    """The program makes an edit exactly as keep_rows does."""
+    """The program makes an edit exactly as keep_test_rows does."""
     words = [it.encode() for it in (edit.op, edit.path, *([edit.word] if edit.word else []))]
     ran = answer(keep_toml, words, document.text)
     wanted = (0, text) if text is not None else (1, b"")
@@ -216,11 +216,11 @@ def program_edit_failure(keep_toml, document, edit, text):
     return None if is_well else f"the program: {ran.returncode} {ran.stdout} {ran.stderr}"
 
 
-def edits_failures(keep_toml, keep_rows, profile, document):
+def edits_failures(keep_toml, keep_test_rows, profile, document):
     """A name and what is wrong, or None, for each edit of a document and for its result."""
-    made = made_edits(keep_rows, profile, document)
+    made = made_edits(keep_test_rows, profile, document)
     results = [text for _, _, text in made if text is not None]
-    looked = looked_at(keep_rows, profile, results)
+    looked = looked_at(keep_test_rows, profile, results)
     for edit, why, text in made:
         if text is not None:
             result, other = next(looked)
@@ -235,7 +235,7 @@ def edits_failures(keep_toml, keep_rows, profile, document):
 # All of it, in shares
 
 
-def share_failures(keep_toml, keep_rows, texts):
+def share_failures(keep_toml, keep_test_rows, texts):
     """How much passed of a share of the texts, and what failed."""
     results, accepted = [], {profile: [] for profile in CHECKS}
     for text in texts:
@@ -244,17 +244,17 @@ def share_failures(keep_toml, keep_rows, texts):
         for profile in profiles:
             accepted[profile].append(text)
     for profile, ours in accepted.items():
-        for text, (document, why) in zip(ours, looked_at(keep_rows, profile, ours)):
+        for text, (document, why) in zip(ours, looked_at(keep_test_rows, profile, ours)):
             results.append((f"{text!r} in {profile}", why))
             if document:
-                results += edits_failures(keep_toml, keep_rows, profile, document)
+                results += edits_failures(keep_toml, keep_test_rows, profile, document)
     return [it for it in results if it[1]], sum(1 for it in results if not it[1])
 
 
-def main(keep_toml, keep_rows):
+def main(keep_toml, keep_test_rows):
     count = Count()
     texts = sorted({variant for text in documents() for variant in variants(text)})
-    shares = [(keep_toml, keep_rows, texts[at::SHARE]) for at in range(SHARE)]
+    shares = [(keep_toml, keep_test_rows, texts[at::SHARE]) for at in range(SHARE)]
     with Pool(PROCESSORS) as pool:
         for failed, passed in pool.starmap(share_failures, shares, chunksize=1):
             count.passed += passed

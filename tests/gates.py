@@ -24,17 +24,17 @@ from quick import all_below
 HERE = Path(__file__).resolve().parent
 CRATES = gate.crates()
 # Of each case its environment, whether the gate passes, and the crates whose edits are not tried.
-ABOVE_SPLICE = [it for it in CRATES if edits_of(it) and "keep_splice" in all_below(it, CRATES)]
+ABOVE_SPLICE = [it for it in CRATES if edits_of(it) and "keep_edit_plan" in all_below(it, CRATES)]
 CASES = [
     ("all is proved", {}, True, []),
     ("nothing is kept for later runs", {"KEEPS": "no"}, True, []),
-    ("a crate is not proved", {"FAILS": "keep_splice"}, False, ABOVE_SPLICE),
-    ("a crate is not proved, and nothing is kept", {"FAILS": "keep_splice", "KEEPS": "no"}, False, ABOVE_SPLICE),
-    ("the lowest crate is not proved", {"FAILS": "keep_leaf"}, False, [it for it in CRATES if edits_of(it) and CRATES[it]]),
-    ("the last crate is not proved", {"FAILS": "keep_tests"}, False, []),
+    ("a crate is not proved", {"FAILS": "keep_edit_plan"}, False, ABOVE_SPLICE),
+    ("a crate is not proved, and nothing is kept", {"FAILS": "keep_edit_plan", "KEEPS": "no"}, False, ABOVE_SPLICE),
+    ("the lowest crate is not proved", {"FAILS": "keep_types"}, False, [it for it in CRATES if edits_of(it) and CRATES[it]]),
+    ("the last crate is not proved", {"FAILS": "keep_test_streams"}, False, []),
     ("a crate is not proved in the run over all alone", {"ALL_FAILS": "keep_toml", "KEEPS": "no"}, False, []),
     ("the static library is not built", {"BUILDS": "false"}, False, []),
-    ("an edit is not refused", {"MISSED": "keep_law"}, False, []),
+    ("an edit is not refused", {"MISSED": "keep_edit_spec"}, False, []),
 ]
 
 

@@ -103,7 +103,7 @@ def node(kind, value_span, key_span, marks, origin):
 
 
 def large_questions():
-    """Rows for keep_rows: a name, the wanted answer, a group, a question and its words."""
+    """Rows for keep_test_rows: a name, the wanted answer, a group, a question and its words."""
     yield from wide_questions()
     lines = "#" * 70_000 + "\n"
     starts = (("Comment", 0), ("Newline", 70_000), ("Comment", 70_001), ("Newline", 140_001), ("End", 140_002))

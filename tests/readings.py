@@ -1,4 +1,4 @@
-"""Which functions of keep_edit, keep_splice and keep_rules read a text: a look at their sources, which `tests/docs` takes.
+"""Which functions of keep_edit, keep_edit_plan and keep_rules read a text: a look at their sources, which `tests/docs` takes.
 
 The rule: **after an edit nothing of the text is scanned but the lines that the edit touches.** Half of it is proved. The syntax
 is renewed by `put_lines`, which is handed the new lines and no other text, and its `requires` says that these are the lines that
@@ -18,9 +18,11 @@ from tempfile import TemporaryDirectory
 sys.dont_write_bytecode = True
 from bodies import functions_of, types_in
 
-CRATES = ("keep_edit", "keep_splice", "keep_rules")
+CRATES = ("keep_edit", "keep_edit_plan", "keep_rules")
 DOCUMENT = "keep_edit document::Document::"
 INDEX = "keep_rules index::Index::"
+# Where the texts of single values are read, which are no document's.
+OF_VALUES = "keep_rules", "src/value.rt"
 READ_BY = {
     # what reads a text, in these crates and below them (`Index::read` goes along a syntax)
     "read": [DOCUMENT + "of_text", INDEX + "build", INDEX + "rebuilt"],
@@ -78,6 +80,8 @@ def namings(crate, folder):
     texts = {it.relative_to(folder).as_posix(): it.read_text(encoding="utf-8") for it in sorted((folder / "src").rglob("*.rt"))}
     types = types_in(texts)
     for file, text in texts.items():
+        if (crate, file) == OF_VALUES:
+            continue
         functions = functions_of(file, text, types)
         code = IMPORT.sub(lambda it: blank(it[0]), DEFINED.sub(r"\1", code_of(text)))
         for number, line in enumerate(code.split("\n")):

@@ -10,17 +10,17 @@ first growth refused, with the second, and so on up to the last.
 The program (subcommands.tsv): each of these runs ends with status 4, one line on standard error and nothing on
 standard output, also where the answer with ample memory is a refusal.
 
-The libraries (calls.tsv, asked of keep_rows): each of these runs ends out of memory, or answers that the call
-was out of memory. keep_rows makes an edit twice, first for the text alone and then in the document, and prints a doubt
+The libraries (calls.tsv, asked of keep_test_rows): each of these runs ends out of memory, or answers that the call
+was out of memory. keep_test_rows makes an edit twice, first for the text alone and then in the document, and prints a doubt
 where the two differ. So more is shown of edits:
 - where a growth of an edit is refused, the same edit, made again, has the wanted answer;
 - the document has its text, tokens, counts, nodes and values as before. For that, two growths are refused, one of them
   for the text alone: so both are out of memory, and a doubt could only be about the document;
 - an edit that is refused for another reason is never out of memory.
-The same of lists of edits, which keep_rows makes first one by one and then at once. Of a push to a path, of a list, and of
+The same of lists of edits, which keep_test_rows makes first one by one and then at once. Of a push to a path, of a list, and of
 lines that are reread, the questions whose names end in `again` make what was refused once more.
 
-Some calls take no memory: the rows of keep_rows in the group `quiet` mark the growths of one call each, and have none.
+Some calls take no memory: the rows of keep_test_rows in the group `quiet` mark the growths of one call each, and have none.
 """
 import os
 import re
@@ -31,14 +31,14 @@ sys.dont_write_bytecode = True
 from ask import NO_ANSWER, Count, Row, answer, cells_of, failure, in_parallel, plain, printed, row_line, rows_of, short
 
 HERE = Path(__file__).resolve().parent
-STORED = HERE.parent / "crates/keep_rows/stdin"
+STORED = HERE.parent / "crates/keep_test_rows/stdin"
 REFUSED = Row("", [], b"", 4, b"", b"keep-toml: out of memory")
 OUT_OF_MEMORY = b"out of memory"
-# What keep_rows answers where a path or an edit of a row could not be read: the only reason is memory.
+# What keep_test_rows answers where a path or an edit of a row could not be read: the only reason is memory.
 UNREAD = (OUT_OF_MEMORY, b"no path", b"no such edit")
 AGAIN = b"refused and made again: "
 DONE = re.compile(rb"\d+ \d+ \d+$|done$")
-# How keep_rows prints that an edit does not agree with the text alone, and a list of edits with the edits one by one;
+# How keep_test_rows prints that an edit does not agree with the text alone, and a list of edits with the edits one by one;
 # and that the document is not what is read afresh from its text, for which memory may be missing too.
 TEXT_DOUBT = b", but the text alone is told otherwise"
 LIST_DOUBT = b", but one by one the edits answer otherwise"
@@ -85,7 +85,7 @@ def program_failure(program, refuse, row):
 
 
 def answer_of(ran):
-    """What keep_rows answered to its only row; out of memory, too, where it ended so."""
+    """What keep_test_rows answered to its only row; out of memory, too, where it ended so."""
     if (ran.returncode, ran.stdout, ran.stderr) == (1, b"", b"Error: Kind(OutOfMemory)\n"):
         return OUT_OF_MEMORY
     found = re.fullmatch(rb'row: "(.*)"\n0 passed, 1 failed\n', ran.stdout)
@@ -95,7 +95,7 @@ def answer_of(ran):
 
 
 class Question:
-    """A question to keep_rows, and what it answers where growths are refused."""
+    """A question to keep_test_rows, and what it answers where growths are refused."""
 
     def __init__(self, program, refuse, cells):
         self.asked = Asked(program, refuse, [], row_line(b"row", NO_ANSWER, *cells))
@@ -119,7 +119,7 @@ def other(answers, is_well):
 def call_failure(ask, wanted, cells):
     """Of a call that changes nothing, or an edit that is refused: only out of memory may stand for the wanted answer.
 
-    What keep_rows does with a value after the call may be out of memory too, and is then in doubt.
+    What keep_test_rows does with a value after the call may be out of memory too, and is then in doubt.
     """
     question = ask(cells)
     if question.ample != wanted:
@@ -220,15 +220,15 @@ def run_growths(count, program, refuse):
         count.add(f"growths between marks: {name}", None if is_well else f"{growths} growths")
 
 
-def main(keep_toml, keep_rows, refuse):
+def main(keep_toml, keep_test_rows, refuse):
     count = Count()
     for row in rows_of(HERE / "subcommands.tsv"):
         count.add(f"each growth refused: {row.name}", program_failure(keep_toml, refuse, row))
-    if keep_rows != "-":
+    if keep_test_rows != "-":
         for where, (name, wanted, *cells) in cells_of(HERE / "calls.tsv"):
-            why = library_failure(keep_rows, refuse, plain(wanted), [plain(it) for it in cells])
+            why = library_failure(keep_test_rows, refuse, plain(wanted), [plain(it) for it in cells])
             count.add(f"each growth refused: {where}: {name.decode()}", why)
-        run_growths(count, keep_rows, refuse)
+        run_growths(count, keep_test_rows, refuse)
     return count.close("refused")
 
 

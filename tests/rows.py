@@ -42,36 +42,36 @@ def run_rows(count, program, rows):
 
 
 def run_questions(count, program, rows):
-    """Answers rows by keep_rows, which prints those that fail and a count."""
+    """Answers rows by keep_test_rows, which prints those that fail and a count."""
     given = b"".join(row_line(*map(str.encode, row)) for row in rows)
     ran = answer(program, [], given)
     said = ran.stdout.decode(errors="replace").splitlines() or ["nothing"]
     for line in said[:-1]:
-        print(f"FAILED keep_rows, {line[:400]}")
+        print(f"FAILED keep_test_rows, {line[:400]}")
     counts = re.fullmatch(r"(\d+) passed, (\d+) failed", said[-1])
     if not counts or int(counts[1]) + int(counts[2]) != len(rows):
-        count.add("keep_rows", f"{said[-1][:200]!r} for {len(rows)} rows; {short(ran.stderr)}")
+        count.add("keep_test_rows", f"{said[-1][:200]!r} for {len(rows)} rows; {short(ran.stderr)}")
         return
     count.passed += int(counts[1])
     count.failed += int(counts[2])
 
 
 def run_false_row(count, program):
-    """Shows that keep_rows prints a row that fails."""
+    """Shows that keep_test_rows prints a row that fails."""
     ran = answer(program, [], b"a false row\t2\tsyntax\tdepth\t[1]\tstrict\n")
     row = Row("a false row is printed", [], b"", 1, b'a false row: "1"\n0 passed, 1 failed\n')
     count.add(row.name, failure(row, ran))
 
 
-def main(keep_toml, keep_rows):
+def main(keep_toml, keep_test_rows):
     count = Count()
     for file in sorted((HERE / "rows").glob("*.tsv")):
         run_rows(count, keep_toml, list(rows_of(file)))
     run_rows(count, keep_toml, list(cases()))
     run_rows(count, keep_toml, list(large_rows()))
-    if keep_rows != "-":
-        run_questions(count, keep_rows, list(large_questions()))
-        run_false_row(count, keep_rows)
+    if keep_test_rows != "-":
+        run_questions(count, keep_test_rows, list(large_questions()))
+        run_false_row(count, keep_test_rows)
     return count.close("rows")
 
 

@@ -2,7 +2,7 @@
 use Rattle.std.proofs.Common.{◌≡◌, ◌++◌, ◌<◌, ℕ, List, refl, subst, inl, inr, length, drop, Global, String}
 use Rattle.std.specs.Prelude.{Result, Ok, Err, string_bytes}
 use Rattle.keep_edit.specs.Reading.{ProfiledText}
-use Rattle.keep_words.specs.declared.subcommand.Ask.{Ask}
+use Rattle.keep_args.specs.declared.subcommand.Ask.{Ask}
 use Rattle.keep_c.specs.Answer.{Answers, IsAnswer, IsReported, numbers_of, status_of}
 use Rattle.keep_c.specs.Numbers.{no_fault, no_room}
 use Rattle.keep_c.specs.declared.fault.Fault.{Fault}

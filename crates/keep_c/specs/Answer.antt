@@ -2,17 +2,17 @@
 use Rattle.std.specs.Prelude.{◌≡◌, ◌<◌, ◌⊎◌, ◌++◌, ◌==◌, if◌then◌else◌, ⊤, ℕ, List, [], ◌∷◌, drop, length, IsUtf8}
 use Rattle.std.specs.Prelude.{Result, String, string_bytes, MatchResult}
 use Rattle.std.specs.Global.{Global}
-use Rattle.keep_leaf.specs.declared.leaf.Profile.{Profile}
-use Rattle.keep_leaf.specs.declared.leaf.Profile.TheVariants.{Strict, Wide}
+use Rattle.keep_types.specs.declared.leaf.Profile.{Profile}
+use Rattle.keep_types.specs.declared.leaf.Profile.TheVariants.{Strict, Wide}
 use Rattle.keep_edit.specs.Reading.{ProfiledText}
-use Rattle.keep_words.specs.declared.subcommand.Ask.{Ask}
-use Rattle.keep_run.specs.declared.command.Command.{Command}
-use Rattle.keep_run.specs.declared.fault.RunFault.{RunFault}
-use Rattle.keep_run.specs.declared.fault.RunFault.TheVariants as run
-use Rattle.keep_run.specs.Answer.{IsRefusal, IsText}
-use Rattle.keep_app.specs.declared.fault.UseFault.{UseFault}
-use Rattle.keep_app.specs.declared.fault.UseFault.TheVariants as use_fault
-use Rattle.keep_app.specs.Uses.{IsCommand, IsWordFault, kinds_of}
+use Rattle.keep_args.specs.declared.subcommand.Ask.{Ask}
+use Rattle.keep_commands.specs.declared.command.Command.{Command}
+use Rattle.keep_commands.specs.declared.fault.RunFault.{RunFault}
+use Rattle.keep_commands.specs.declared.fault.RunFault.TheVariants as run
+use Rattle.keep_commands.specs.Answer.{IsRefusal, IsText}
+use Rattle.keep_cli.specs.declared.fault.UseFault.{UseFault}
+use Rattle.keep_cli.specs.declared.fault.UseFault.TheVariants as use_fault
+use Rattle.keep_cli.specs.Uses.{IsCommand, IsWordFault, kinds_of}
 use Rattle.keep_c.specs.declared.fault.Fault.{Fault}
 use Rattle.keep_c.specs.declared.fault.Fault.TheVariants as fault
 use Rattle.keep_c.specs.declared.numbers.KeepTomlFault.{KeepTomlFault}

@@ -6,14 +6,14 @@ use Rattle.keep_syntax.specs.declared.fault.Why.{Why}
 use Rattle.keep_syntax.specs.declared.fault.Why.TheVariants as why
 use Rattle.keep_syntax.specs.declared.fault.ReadFault.{ReadFault}
 use Rattle.keep_syntax.specs.declared.fault.ReadFault.TheVariants as read
-use Rattle.keep_law.specs.declared.fault.EditFault.{EditFault}
-use Rattle.keep_law.specs.declared.fault.EditFault.TheVariants as edit
-use Rattle.keep_run.specs.declared.fault.RunFault.{RunFault}
-use Rattle.keep_run.specs.declared.fault.RunFault.TheVariants as run
-use Rattle.keep_app.specs.declared.fault.EntryWhy.{EntryWhy}
-use Rattle.keep_app.specs.declared.fault.EntryWhy.TheVariants as entry
-use Rattle.keep_app.specs.declared.fault.UseFault.{UseFault}
-use Rattle.keep_app.specs.declared.fault.UseFault.TheVariants as use_fault
+use Rattle.keep_edit_spec.specs.declared.fault.EditFault.{EditFault}
+use Rattle.keep_edit_spec.specs.declared.fault.EditFault.TheVariants as edit
+use Rattle.keep_commands.specs.declared.fault.RunFault.{RunFault}
+use Rattle.keep_commands.specs.declared.fault.RunFault.TheVariants as run
+use Rattle.keep_cli.specs.declared.fault.EntryWhy.{EntryWhy}
+use Rattle.keep_cli.specs.declared.fault.EntryWhy.TheVariants as entry
+use Rattle.keep_cli.specs.declared.fault.UseFault.{UseFault}
+use Rattle.keep_cli.specs.declared.fault.UseFault.TheVariants as use_fault
 use Rattle.keep_c.specs.declared.numbers.KeepTomlFault.{KeepTomlFault}
 
 -- the number of a place or an edit that a fault has not: the greatest of 64 bits

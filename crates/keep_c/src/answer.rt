@@ -1,7 +1,7 @@
 //! How an answer is put into a buffer.
 ghost use Rattle.std.specs.Prelude.{◌≡◌, ◌<◌, ◌++◌, true, false, List, ℕ, drop, length};
 ghost use Rattle.keep_edit.specs.Reading.{ProfiledText};
-ghost use Rattle.keep_words.specs.declared.subcommand.Ask.{Ask};
+ghost use Rattle.keep_args.specs.declared.subcommand.Ask.{Ask};
 ghost use Rattle.keep_c.specs.Answer.{Answers, IsAnswer, IsReported};
 
 use crate::fault::Fault;

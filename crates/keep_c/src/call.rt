@@ -1,11 +1,11 @@
 //! The calls: what the program answers to these words and this document.
 ghost use Rattle.std.specs.Prelude.{◌≡◌, ◌∷◌, [], MatchResult, length, map, string_bytes};
-ghost use Rattle.keep_app.specs.Uses.{kinds_of};
+ghost use Rattle.keep_cli.specs.Uses.{kinds_of};
 ghost use Rattle.keep_edit.specs.Reading.{text_in};
 ghost use Rattle.keep_c.specs.Answer.{Answers, IsNoWord, profile_named};
 
 use crate::fault::{Fault, of_run, of_use};
-use keep_app::{Ask, Rest, answer_in, command_by};
+use keep_cli::{Ask, Rest, answer_in, command_by};
 use keep_token::{Profile, text_of};
 use std::alloc::Global;
 

@@ -5,7 +5,7 @@ ghost use Rattle.keep_c.specs.Answer.{numbers_of, of_run, of_use, status_of};
 
 use crate::numbers;
 use crate::numbers::KeepTomlFault;
-use keep_app::{RunFault, UseFault};
+use keep_cli::{RunFault, UseFault};
 use std::alloc::AllocError;
 use thiserror::Error;
 

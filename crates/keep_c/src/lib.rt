@@ -17,7 +17,7 @@
 
 ghost use Rattle.std.specs.Prelude.{◌≡◌, ◌∷◌, []};
 ghost use Rattle.keep_edit.specs.Reading.{text_in};
-ghost use Rattle.keep_words.specs.declared.subcommand.Ask.TheVariants as ask;
+ghost use Rattle.keep_args.specs.declared.subcommand.Ask.TheVariants as ask;
 ghost use Rattle.keep_c.specs.Answer.{IsAnswer, profile_named};
 
 mod answer;
@@ -27,7 +27,7 @@ mod numbers;
 
 use answer::put;
 use call::{answer_with, answer_with_two, answer_without};
-use keep_app::Ask;
+use keep_cli::Ask;
 use numbers::KeepTomlFault;
 use std::alloc::Global;
 

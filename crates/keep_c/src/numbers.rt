@@ -2,7 +2,7 @@
 ghost use Rattle.std.specs.Prelude.{◌≡◌};
 ghost use Rattle.keep_c.specs.Numbers as spec;
 
-use keep_app::{EntryWhy, RunFault, UseFault};
+use keep_cli::{EntryWhy, RunFault, UseFault};
 use keep_edit::{EditFault, ReadFault, Why};
 use keep_token::What;
 

@@ -7,13 +7,13 @@ use Rattle.keep_path.specs.Path.{Part}
 use Rattle.keep_meaning.specs.Meaning.{mentions_in}
 use Rattle.keep_meaning.specs.Nodes.{children, is_node, node_number, node_paths}
 use Rattle.keep_meaning.proofs.Shared.{paths-nodes_in}
-use Rattle.keep_nodes.specs.Facts.{NodeInfos}
+use Rattle.keep_path.specs.NodeInfos.{NodeInfos}
 use Rattle.keep_rules.specs.declared.index.NodeId.{NodeId}
 use Rattle.keep_rules.specs.Lookup.{number_of, path_numbered, children_numbered}
 use Rattle.keep_rules.proofs.Shared.{number_is}
 use Rattle.keep_edit.specs.Children.{child_count_of}
 use Rattle.keep_edit.specs.Reading.{ProfiledText, IsTextOfTree, Holds}
-use Rattle.keep_splice.proofs.Shared.{stated_is, no_node, a_node}
+use Rattle.keep_edit_plan.proofs.Shared.{stated_is, no_node, a_node}
 
 module _ (d : ProfiledText) (syntax : Syntax) (index : NodeInfos) (path : List Part) (s : Document) (holds : Holds d syntax index) (read : IsTextOfTree d s) (o : Option NodeId)
     (found : number_of o ≡ node_number index.paths path) where

@@ -7,12 +7,12 @@ use Rattle.keep_syntax.specs.Numbered.{tokens}
 use Rattle.keep_syntax.specs.Contract.{tokens_of}
 use Rattle.keep_syntax.proofs.Shared.{tokens_few}
 use Rattle.keep_meaning.specs.Nodes.{nodes_in, node_path}
-use Rattle.keep_nodes.specs.Facts.{NodeInfos}
+use Rattle.keep_path.specs.NodeInfos.{NodeInfos}
 use Rattle.keep_meaning.proofs.Shared.{nodes_few}
 use Rattle.keep_edit.specs.Reading.{limit, ProfiledText, IsTextOfTree, Holds}
 use Rattle.keep_edit.specs.Answers.{counts_of}
 use Rattle.keep_edit.specs.declared.document.Counts.{Counts}
-use Rattle.keep_splice.proofs.Shared.{stated_is, tokens_are}
+use Rattle.keep_edit_plan.proofs.Shared.{stated_is, tokens_are}
 
 abbrev counted : ℕ → ℕ → Counts
 counted m n = record { tokens = m; nodes = n }

@@ -2,23 +2,23 @@
 use Rattle.std.proofs.Common.{◌≡◌, ◌∙◌, ℕ, Bor, List, sym, ap, subst, refl, Option, Some, None, Result, Ok, Err, String, Global}
 use Rattle.std.specs.Prelude.{IfSome, MatchResult, string_bytes}
 use Rattle.keep_syntax.specs.Tree.{Document}
-use Rattle.keep_law.specs.declared.fault.EditFault.{EditFault}
-use Rattle.keep_law.specs.declared.fault.EditFault.TheVariants as fault
-use Rattle.keep_law.specs.declared.splice.Splice.{Splice}
-use Rattle.keep_law.specs.Changed.{Place}
-use Rattle.keep_law.specs.Edits.{Edit, edited_document, place}
-use Rattle.keep_splice.specs.Keys.{IsKeyChange}
-use Rattle.keep_splice.specs.Kinds.{IsKindChange}
+use Rattle.keep_edit_spec.specs.declared.fault.EditFault.{EditFault}
+use Rattle.keep_edit_spec.specs.declared.fault.EditFault.TheVariants as fault
+use Rattle.keep_edit_spec.specs.declared.splice.Splice.{Splice}
+use Rattle.keep_edit_spec.specs.Changed.{Place}
+use Rattle.keep_edit_spec.specs.Edits.{Edit, edited_document, place}
+use Rattle.keep_edit_plan.specs.Keys.{IsKeyChange}
+use Rattle.keep_edit_plan.specs.Kinds.{IsKindChange}
 use Rattle.keep_meaning.specs.Nodes.{node_number}
-use Rattle.keep_nodes.specs.Facts.{with_path}
+use Rattle.keep_path.specs.NodeInfos.{with_path}
 use Rattle.keep_path.specs.Path.{Part, EndsInKey, beside}
 use Rattle.keep_rules.specs.declared.index.NodeId.{NodeId}
 use Rattle.keep_rules.proofs.Shared.{number_is}
-use Rattle.keep_splice.specs.Reading.{telling_in}
-use Rattle.keep_splice.specs.declared.edited.Edited.{Edited}
-use Rattle.keep_splice.specs.declared.set.KindChange.{KindChange}
+use Rattle.keep_edit_plan.specs.Reading.{telling_in}
+use Rattle.keep_edit_plan.specs.declared.edited.Edited.{Edited}
+use Rattle.keep_edit_plan.specs.declared.set.KindChange.{KindChange}
 use Rattle.keep_edit.specs.Reading.{ProfiledText, text_in, IsTextOfTree}
-use Rattle.keep_splice.specs.Answers.{IsMadeAt, splice_of, text_after}
+use Rattle.keep_edit_plan.specs.Answers.{IsMadeAt, splice_of, text_after}
 use Rattle.keep_edit.specs.Answers.{IsEdited, IsMade, IsTextAfter, IsDone, EditMade, EditDone, EditReported, refusal_in}
 use Rattle.keep_edit.specs.IndexChanges.{IsIndexChange}
 use Rattle.keep_edit.specs.declared.index_change.IndexChange.{IndexChange}

@@ -5,19 +5,19 @@ use Rattle.std.proofs.lemmas.Bool.{eqb-true}
 use Rattle.std.proofs.lemmas.List.{take_all}
 use Rattle.std.specs.Prelude.{◌==◌, Result, Ok, Err, string_bytes}
 use Rattle.std.specs.List.{AllZip}
-use Rattle.keep_leaf.specs.declared.leaf.Profile.{Profile}
+use Rattle.keep_types.specs.declared.leaf.Profile.{Profile}
 use Rattle.keep_syntax.specs.Tree.{Value, Document, value_text}
 use Rattle.keep_path.specs.Path.{Part}
 use Rattle.keep_path.specs.PathText.{encoded_path}
-use Rattle.keep_law.specs.declared.fault.EditFault.{EditFault}
-use Rattle.keep_law.specs.declared.fault.EditFault.TheVariants as fault
-use Rattle.keep_law.specs.declared.splice.Splice.{Splice}
-use Rattle.keep_law.specs.Answers as answers
-use Rattle.keep_law.specs.Answers.{applied_from}
-use Rattle.keep_law.specs.Edits as law
-use Rattle.keep_law.specs.Edits.{edited_document}
-use Rattle.keep_law.specs.Laws.{given_size}
-use Rattle.keep_law.specs.Refusals.{refusal}
+use Rattle.keep_edit_spec.specs.declared.fault.EditFault.{EditFault}
+use Rattle.keep_edit_spec.specs.declared.fault.EditFault.TheVariants as fault
+use Rattle.keep_edit_spec.specs.declared.splice.Splice.{Splice}
+use Rattle.keep_edit_spec.specs.Answers as answers
+use Rattle.keep_edit_spec.specs.Answers.{applied_from}
+use Rattle.keep_edit_spec.specs.Edits as law
+use Rattle.keep_edit_spec.specs.Edits.{edited_document}
+use Rattle.keep_edit_spec.specs.Laws.{given_size}
+use Rattle.keep_edit_spec.specs.Refusals.{refusal}
 use Rattle.keep_edit.specs.Answers.{EditDone, IsDone, IsEdited, refusal_in}
 use Rattle.keep_edit.specs.Lists.{IsEdit, size_of, growth_of, AreMade, IsRefusedAt, IsOutOfMemoryAt, IsNotCopied, StopsAt}
 use Rattle.keep_edit.specs.Reading.{limit, ProfiledText, IsTextOfTree, IsTextOfValue}

@@ -7,20 +7,20 @@ use Rattle.std.proofs.lemmas.List.{map-append, length-map, length-take-le, drop-
 use Rattle.std.proofs.lemmas.Option.{slice_get-map, slice_get-get_or, slice_get_past}
 use Rattle.keep_syntax.specs.declared.syntax.Syntax.{Syntax}
 use Rattle.keep_syntax.specs.Tree.{Document}
-use Rattle.keep_facts.specs.declared.node.Kind.{Kind}
-use Rattle.keep_facts.specs.declared.node.NodeInfo.{NodeInfo}
+use Rattle.keep_types.specs.declared.node.Kind.{Kind}
+use Rattle.keep_types.specs.declared.node.NodeInfo.{NodeInfo}
 use Rattle.keep_meaning.specs.Counts.{numbered_in}
 use Rattle.keep_rules.specs.Lookup.{path_numbered}
 use Rattle.keep_meaning.specs.Meaning.{mentions_in}
 use Rattle.keep_meaning.specs.Nodes.{kind_at, mention_of, node_at, node_info, node_paths, infos_in}
 use Rattle.keep_path.specs.Path.{Part}
 use Rattle.keep_path.specs.PathText.{encoded_path}
-use Rattle.keep_nodes.specs.Facts.{NodeInfos}
+use Rattle.keep_path.specs.NodeInfos.{NodeInfos}
 use Rattle.keep_meaning.proofs.Shared.{mentions-numbered_in, paths-nodes_in}
 use Rattle.keep_edit.specs.declared.document.Entry.{Entry}
 use Rattle.keep_edit.specs.Answers.{entry_at, entries_of, AddsEntryPath}
 use Rattle.keep_edit.specs.Reading.{ProfiledText, IsTextOfTree, telling_in, Holds}
-use Rattle.keep_splice.proofs.Shared.{stated_is, kind_stated}
+use Rattle.keep_edit_plan.proofs.Shared.{stated_is, kind_stated}
 
 -- ---- what is at the nodes
 

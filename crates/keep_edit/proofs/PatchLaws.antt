@@ -6,15 +6,15 @@ use Rattle.std.specs.List.{replace_range}
 use Rattle.std.proofs.lemmas.List.{length-append, length-take-le, length-drop, take-append-drop, drop-drop}
 use Rattle.std.proofs.lemmas.Str.{IsUtf8-append, IsUtf8-drop, IsUtf8-string_bytes, IsCharBoundary-at_seam}
 use Rattle.std.proofs.Math.Seq.{take-append_seam, drop-append_seam}
-use Rattle.keep_leaf.specs.declared.leaf.Profile.{Profile}
-use Rattle.keep_parts.specs.declared.info.Span.{Span}
+use Rattle.keep_types.specs.declared.leaf.Profile.{Profile}
+use Rattle.keep_types.specs.declared.syntax.Span.{Span}
 use Rattle.keep_syntax.specs.Numbered.{span}
 use Rattle.keep_syntax.specs.Tree.{Document}
-use Rattle.keep_law.specs.declared.splice.Splice.{Splice}
-use Rattle.keep_law.specs.Changed.{Place}
-use Rattle.keep_law.specs.TouchedLines.{scanned}
-use Rattle.keep_splice.specs.Answers.{IsMadeAt, splice_of, text_after}
-use Rattle.keep_splice.specs.declared.edited.Edited.{Edited}
+use Rattle.keep_edit_spec.specs.declared.splice.Splice.{Splice}
+use Rattle.keep_edit_spec.specs.Changed.{Place}
+use Rattle.keep_edit_spec.specs.TouchedLines.{scanned}
+use Rattle.keep_edit_plan.specs.Answers.{IsMadeAt, splice_of, text_after}
+use Rattle.keep_edit_plan.specs.declared.edited.Edited.{Edited}
 use Rattle.keep_edit.specs.Patches.{CanPutBack}
 use Rattle.keep_edit.specs.Places.{after}
 use Rattle.keep_edit.specs.Reading.{ProfiledText, text_in}

@@ -3,7 +3,7 @@ use Rattle.std.proofs.Common.{◌≡◌, ℕ, List, Err, ap, refl, sym, subst, �
 use Rattle.std.specs.Prelude.{IsUtf8}
 use Rattle.std.specs.Str.{IsValidUpTo}
 use Rattle.std.proofs.lemmas.Str.{utf8_valid_len-IsValidUpTo}
-use Rattle.keep_leaf.specs.declared.leaf.Profile.{Profile}
+use Rattle.keep_types.specs.declared.leaf.Profile.{Profile}
 use Rattle.keep_syntax.specs.declared.fault.ReadFault.{ReadFault}
 use Rattle.keep_syntax.specs.declared.fault.ReadFault.TheVariants as fault
 use Rattle.keep_syntax.specs.declared.syntax.Syntax.{Syntax}
@@ -12,7 +12,7 @@ use Rattle.keep_syntax.specs.Grammar.{Reads}
 use Rattle.keep_syntax.specs.Contract.{IsSyntaxOf}
 use Rattle.keep_syntax.proofs.Shared.{one_document}
 use Rattle.keep_rules.specs.ReadDocuments.{WasRead, IsIndexOf, IsRefusal}
-use Rattle.keep_nodes.specs.Facts.{NodeInfos}
+use Rattle.keep_path.specs.NodeInfos.{NodeInfos}
 use Rattle.keep_edit.specs.Reading.{limit, ProfiledText, text_in, IsRefused, IsSyntaxIn, IsTextOfTree, TellsNoText, Holds}
 
 pub was_read : {profile : Profile} {bytes : List ℕ} {syntax : Syntax} {d : Document} → Reads profile limit bytes d → IsSyntaxOf syntax d → WasRead bytes syntax d

@@ -5,14 +5,14 @@ use Rattle.std.specs.List.{list_any, filter_map}
 use Rattle.std.specs.Result.{result_ok}
 use Rattle.std.proofs.lemmas.List.{append-nil}
 use Rattle.std.proofs.lemmas.Bool.{false≢true}
-use Rattle.keep_leaf.specs.declared.leaf.Leaf.{Leaf}
-use Rattle.keep_leaf.specs.declared.leaf.Leaf.TheVariants as leaf
-use Rattle.keep_leaf.specs.declared.leaf.Profile.{Profile}
-use Rattle.keep_leaf.specs.declared.leaf.Profile.TheVariants.{Strict, Wide}
+use Rattle.keep_types.specs.declared.leaf.Leaf.{Leaf}
+use Rattle.keep_types.specs.declared.leaf.Leaf.TheVariants as leaf
+use Rattle.keep_types.specs.declared.leaf.Profile.{Profile}
+use Rattle.keep_types.specs.declared.leaf.Profile.TheVariants.{Strict, Wide}
 use Rattle.keep_token.specs.Leaves.{IsLeaf, Means, is_scalar_leaf, is_one_line, is_many_lines}
 use Rattle.keep_token.specs.Numbers.{Integer, integer_value}
 use Rattle.keep_token.proofs.Shared.{leaf_wider}
-use Rattle.keep_parts.specs.declared.info.ValueInfo.{ValueInfo}
+use Rattle.keep_types.specs.declared.syntax.ValueInfo.{ValueInfo}
 use Rattle.keep_syntax.specs.declared.syntax.Syntax.{Syntax}
 use Rattle.keep_syntax.specs.Contract.{values_of}
 use Rattle.keep_syntax.specs.Grammar.{place_in, IsBody, AreEntries}
@@ -25,15 +25,15 @@ use Rattle.keep_meaning.specs.Marks.{Mention, fact_of}
 use Rattle.keep_meaning.specs.Meaning.{mentions_in}
 use Rattle.keep_meaning.specs.Nodes.{is_at, is_node, kinds_at, fact_at, first_of}
 use Rattle.keep_path.specs.Path.{Part}
-use Rattle.keep_nodes.specs.Facts.{NodeInfos}
+use Rattle.keep_path.specs.NodeInfos.{NodeInfos}
 use Rattle.keep_meaning.proofs.Shared.{means_value}
-use Rattle.keep_law.specs.declared.fault.EditFault.{EditFault}
-use Rattle.keep_law.specs.declared.fault.EditFault.TheVariants.{NotFound, NotValue}
-use Rattle.keep_law.specs.Refusals.{has_value}
-use Rattle.keep_law.proofs.Shared.{integer_at_leaf, leaf_of_integer, string_at_leaf, string_of_leaf, no_string, IsValueOf}
+use Rattle.keep_edit_spec.specs.declared.fault.EditFault.{EditFault}
+use Rattle.keep_edit_spec.specs.declared.fault.EditFault.TheVariants.{NotFound, NotValue}
+use Rattle.keep_edit_spec.specs.Refusals.{has_value}
+use Rattle.keep_edit_spec.proofs.Shared.{integer_at_leaf, leaf_of_integer, string_at_leaf, string_of_leaf, no_string, IsValueOf}
 use Rattle.keep_edit.specs.Answers.{integer_of, int_value_of, str_value_of, HasNoValue, IsFound}
 use Rattle.keep_edit.specs.Reading.{ProfiledText, IsTextOfTree, Holds}
-use Rattle.keep_splice.proofs.Shared.{value_there}
+use Rattle.keep_edit_plan.proofs.Shared.{value_there}
 
 -- ---- the leaf that a scalar is
 

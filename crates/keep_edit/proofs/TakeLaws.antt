@@ -4,8 +4,8 @@
 -- the document is the one after the edit, so the syntax that is reread for it is that of the new text (`reread_is`).
 use Rattle.std.proofs.Common.{◌≡◌, ◌∙◌, ℕ, ◌-◌, ◌≤◌, ◌⊎◌, List, length, sym, ap, subst, arith, IsUtf8, Option, Some, None}
 use Rattle.std.specs.Prelude.{IfSome, OnOk, Result, Ok, Err, slice_range}
-use Rattle.keep_leaf.specs.declared.leaf.Profile.{Profile}
-use Rattle.keep_parts.specs.declared.info.Span.{Span}
+use Rattle.keep_types.specs.declared.leaf.Profile.{Profile}
+use Rattle.keep_types.specs.declared.syntax.Span.{Span}
 use Rattle.keep_syntax.specs.declared.syntax.Syntax.{Syntax}
 use Rattle.keep_syntax.specs.Tree.{Document, text}
 use Rattle.keep_syntax.specs.Grammar.{Reads}
@@ -14,18 +14,18 @@ use Rattle.keep_syntax.specs.WholeLines.{begin, empty_line, touched, replaced}
 use Rattle.keep_syntax.specs.Contract.{CanReplace, IsSpanIn, IsSyntaxOf, IsTextOf, put_at}
 use Rattle.keep_syntax.proofs.Shared.{next_high, replaced_text, same_syntax, same_text}
 use Rattle.keep_syntax.specs.Undoing.{IsSame}
-use Rattle.keep_law.specs.Changed.{Place, place_of}
-use Rattle.keep_law.specs.TouchedLines.{scanned, touched_by, touched_in_new, TouchesLines}
-use Rattle.keep_law.proofs.Shared.{touched_lines_are_lines, IsCut, touched_in_new_cut}
+use Rattle.keep_edit_spec.specs.Changed.{Place, place_of}
+use Rattle.keep_edit_spec.specs.TouchedLines.{scanned, touched_by, touched_in_new, TouchesLines}
+use Rattle.keep_edit_spec.proofs.Shared.{touched_lines_are_lines, IsCut, touched_in_new_cut}
 use Rattle.keep_meaning.specs.Counts.{statements_in}
 use Rattle.keep_meaning.specs.Marks.{start, reading_after}
 use Rattle.keep_meaning.specs.Meaning.{mentions_in}
-use Rattle.keep_nodes.specs.Facts.{NodeInfos}
-use Rattle.keep_splice.specs.Answers.{IsMadeAt, text_after}
-use Rattle.keep_splice.specs.declared.edited.Edited.{Edited}
+use Rattle.keep_path.specs.NodeInfos.{NodeInfos}
+use Rattle.keep_edit_plan.specs.Answers.{IsMadeAt, text_after}
+use Rattle.keep_edit_plan.specs.declared.edited.Edited.{Edited}
 use Rattle.keep_edit.specs.IndexChanges.{CanChange, changed_index}
 use Rattle.keep_edit.specs.declared.index_change.IndexChange.{IndexChange}
-use Rattle.keep_splice.proofs.Shared.{one_tree, stated_is, text_seen, profile_seen}
+use Rattle.keep_edit_plan.proofs.Shared.{one_tree, stated_is, text_seen, profile_seen}
 use Rattle.keep_rules.specs.Nested.{AreNested}
 use Rattle.keep_rules.specs.ReadDocuments.{WasRead, IsIndexOf}
 use Rattle.keep_edit.specs.Places.{after, end_by, IsOfEdit, IsIndexChanged, IsPatched, IsScanned}

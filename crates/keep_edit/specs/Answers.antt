@@ -1,9 +1,10 @@
 -- What a document answers, by its tree.
-use Rattle.std.specs.Prelude.{◌≡◌, ℕ, ℤ, if◌then◌else◌, List, ◌++◌, drop, map, length, Option, Some, None, Result, String, string_bytes}
+use Rattle.std.specs.Prelude.{◌≡◌, ℕ, ℤ, if◌then◌else◌, List, ◌++◌, drop, map, length, Option, Some, None, Result}
+use Rattle.std.specs.Prelude.{String, string_bytes}
 use Rattle.std.specs.Global.{Global}
 use Rattle.keep_syntax.specs.Tree.{Document}
 use Rattle.keep_syntax.specs.Numbered.{tokens}
-use Rattle.keep_facts.specs.declared.node.Kind.{Kind}
+use Rattle.keep_types.specs.declared.node.Kind.{Kind}
 use Rattle.keep_meaning.specs.Fact as fact
 use Rattle.keep_meaning.specs.Fact.{Fact}
 use Rattle.keep_meaning.specs.Marks.{Mention}
@@ -11,14 +12,15 @@ use Rattle.keep_meaning.specs.Meaning.{mentions_in}
 use Rattle.keep_meaning.specs.Nodes.{node_paths, nodes_in, is_node, kind_at, fact_at}
 use Rattle.keep_path.specs.Path.{Part}
 use Rattle.keep_path.specs.PathText.{encoded_path}
-use Rattle.keep_law.specs.declared.fault.EditFault.{EditFault}
-use Rattle.keep_law.specs.declared.splice.Splice.{Splice}
-use Rattle.keep_law.specs.Answers.{string_of}
-use Rattle.keep_law.specs.Edits.{Edit}
+use Rattle.keep_edit_spec.specs.declared.fault.EditFault.{EditFault}
+use Rattle.keep_edit_spec.specs.declared.splice.Splice.{Splice}
+use Rattle.keep_edit_spec.specs.Answers.{string_of}
+use Rattle.keep_edit_spec.specs.Edits.{Edit}
 use Rattle.keep_edit.specs.Reading.{ProfiledText, text_in}
 use Rattle.keep_edit.specs.declared.document.Counts.{Counts}
 use Rattle.keep_edit.specs.declared.document.Entry.{Entry}
-pub use Rattle.keep_splice.specs.Answers.{refusal_in, splice_of, value_number_of, EditMade, HasNoValue, IsDone, IsEdited, IsFound, IsMade, IsSpanOf, IsTextAfter}
+pub use Rattle.keep_edit_plan.specs.Answers.{refusal_in, splice_of, value_number_of, EditMade, HasNoValue, IsDone}
+pub use Rattle.keep_edit_plan.specs.Answers.{IsEdited, IsFound, IsMade, IsSpanOf, IsTextAfter}
 
 -- ---- the whole
 
@@ -63,4 +65,5 @@ EditDone s e old new result = IsDone (IsEdited s e new old) (refusal_in old s e)
 
 -- the changed text is given
 abbrev pub EditReported : Document → Edit → ProfiledText → Result (String Global) EditFault → Type 0
-EditReported s e old result = IsDone (λ text. IsTextAfter s e (text_in old.profile (string_bytes text)) old) (refusal_in old s e) result
+EditReported s e old result =
+    IsDone (λ text. IsTextAfter s e (text_in old.profile (string_bytes text)) old) (refusal_in old s e) result

@@ -7,4 +7,5 @@ use Rattle.keep_path.specs.Path.{Part}
 
 -- the keys of a table, the items of an array or the elements of an array of tables; none where the path names no node
 abbrev pub child_count_of : List Part → Document → Option ℕ
-child_count_of path s = if is_node path (mentions_in s) then Some (length (children path (node_paths (mentions_in s)))) else None
+child_count_of path s =
+    if is_node path (mentions_in s) then Some (length (children path (node_paths (mentions_in s)))) else None

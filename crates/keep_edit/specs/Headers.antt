@@ -1,2 +1,2 @@
 -- The keys of the header of an append, as they are cited here.
-pub use Rattle.keep_splice.specs.Headers.{key_texts}
+pub use Rattle.keep_edit_plan.specs.Headers.{key_texts}

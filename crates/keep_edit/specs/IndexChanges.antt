@@ -5,25 +5,27 @@ use Rattle.keep_meaning.specs.Counts.{statements_in}
 use Rattle.keep_meaning.specs.Marks.{start, reading_after}
 use Rattle.keep_meaning.specs.Meaning.{mentions_in}
 use Rattle.keep_meaning.specs.Nodes.{node_number}
-use Rattle.keep_nodes.specs.Facts.{NodeInfos, with_kind, with_path}
+use Rattle.keep_path.specs.NodeInfos.{NodeInfos, with_kind, with_path}
 use Rattle.keep_path.specs.Path.{EndsInKey, beside}
 use Rattle.keep_rules.specs.Lookup.{path_numbered}
 use Rattle.keep_rules.specs.Nested.{AreNested}
-use Rattle.keep_splice.specs.Reading.{telling_in}
+use Rattle.keep_edit_plan.specs.Reading.{telling_in}
 use Rattle.keep_edit.specs.declared.index_change.IndexChange.{IndexChange}
 use Rattle.keep_edit.specs.declared.index_change.IndexChange.TheVariants.{Kind, Key}
 
 -- The node is there. Where another key is its path's last one, the path ends in a key, and no node is at the new one.
 abbrev pub CanChange : NodeInfos → IndexChange → Type 0
 CanChange t (Kind k) = k.node.0 < length t.paths
-CanChange t (Key node text) = (node.0 < length t.paths) × EndsInKey (path_numbered t node.0) × (node_number t.paths (beside (path_numbered t node.0) text.now) ≡ None)
+CanChange t (Key node text) =
+    (node.0 < length t.paths) × EndsInKey (path_numbered t node.0)
+    × (node_number t.paths (beside (path_numbered t node.0) text.now) ≡ None)
 
 abbrev pub changed_index : NodeInfos → IndexChange → NodeInfos
 changed_index t (Kind k) = with_kind t k.node.0 k.kind
 changed_index t (Key node text) = with_path t (path_numbered t node.0) (beside (path_numbered t node.0) text.now)
 
--- What is told of the nodes of the new document is what is told of those of the old one, with this change. They are nested as
--- its headers say.
+-- What is told of the nodes of the new document is what is told of those of the old one, with this change. They are
+-- nested as its headers say.
 pub record IsIndexChange (old new : Document) (change : IndexChange) : Type 0 where
   pub can : CanChange (telling_in old) change
   pub told : telling_in new ≡ changed_index (telling_in old) change

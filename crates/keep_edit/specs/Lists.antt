@@ -1,15 +1,16 @@
 -- Edits that are given as values, and what a list of them answers.
-use Rattle.std.specs.Prelude.{◌≡◌, ◌⊎◌, ℕ, suc, ◌+◌, ◌<◌, List, [], ◌∷◌, length, map, take, Result, Ok, Err, string_bytes}
+use Rattle.std.specs.Prelude.{◌≡◌, ◌⊎◌, ℕ, suc, ◌+◌, ◌<◌, List, [], ◌∷◌, length, map, take, Result, Ok, Err}
+use Rattle.std.specs.Prelude.{string_bytes}
 use Rattle.std.specs.List.{AllZip}
-use Rattle.keep_leaf.specs.declared.leaf.Profile.{Profile}
+use Rattle.keep_types.specs.declared.leaf.Profile.{Profile}
 use Rattle.keep_token.specs.Encoded.{encoded_key}
 use Rattle.keep_syntax.specs.Tree.{Value, Document}
 use Rattle.keep_path.specs.Path.{key}
 use Rattle.keep_path.specs.PathText.{encoded_path}
-use Rattle.keep_law.specs.declared.fault.EditFault.{EditFault}
-use Rattle.keep_law.specs.declared.fault.EditFault.TheVariants.{Memory}
-use Rattle.keep_law.specs.Answers.{applied_edits}
-use Rattle.keep_law.specs.Edits as law
+use Rattle.keep_edit_spec.specs.declared.fault.EditFault.{EditFault}
+use Rattle.keep_edit_spec.specs.declared.fault.EditFault.TheVariants.{Memory}
+use Rattle.keep_edit_spec.specs.Answers.{applied_edits}
+use Rattle.keep_edit_spec.specs.Edits as law
 use Rattle.keep_edit.specs.Reading.{limit, ProfiledText, IsTextOfTree, IsTextOfValue}
 use Rattle.keep_edit.specs.declared.edits.Edit.{Edit}
 use Rattle.keep_edit.specs.declared.edits.Edit.TheVariants.{Set, Insert, Rename, Remove, Table, Element}
@@ -41,7 +42,8 @@ abbrev pub growth_of : List Edit → ℕ
 growth_of [] = 0
 growth_of (e ∷ es) = size_of e + 12 + growth_of es
 
--- All edits are made in their order, each on the document after those before it, and the new text is that of the last document.
+-- All edits are made in their order, each on the document after those before it, and the new text is that of the last
+-- document.
 pub record AreMade (s : Document) (edits : List Edit) (old : ProfiledText) (new : ProfiledText) : Type 0 where
   pub es : List law.Edit
   pub are : AllZip IsEdit edits es
@@ -52,13 +54,15 @@ pub record AreMade (s : Document) (edits : List Edit) (old : ProfiledText) (new 
 
 -- The edit with this number, from 0, is the first that is refused, on the document after those before it, and this is
 -- why.
-pub record IsRefusedAt (s : Document) (edits : List Edit) (profile : Profile) (number : ℕ) (f : EditFault) : Type 0 where
+pub record IsRefusedAt (s : Document) (edits : List Edit) (profile : Profile) (number : ℕ) (f : EditFault)
+    : Type 0 where
   pub es : List law.Edit
   pub are : AllZip IsEdit (take (suc number) edits) es
   pub refused : applied_edits profile limit es s ≡ Err (record { number = number; fault = f })
 
 -- Memory ran out at the edit with this number: neither it nor one before it is refused.
-pub record IsOutOfMemoryAt (s : Document) (edits : List Edit) (profile : Profile) (number : ℕ) (f : EditFault) : Type 0 where
+pub record IsOutOfMemoryAt (s : Document) (edits : List Edit) (profile : Profile) (number : ℕ) (f : EditFault)
+    : Type 0 where
   pub memory : f ≡ Memory
   pub here : number < length edits
   pub es : List law.Edit
@@ -77,11 +81,13 @@ abbrev pub StopsAt : Document → List Edit → Profile → ℕ → EditFault �
 StopsAt s edits profile number f = IsRefusedAt s edits profile number f ⊎ IsOutOfMemoryAt s edits profile number f
 
 -- what edits answer that are made one after another
-abbrev pub EachDone : {T : Type 0} → Document → List Edit → ProfiledText → ProfiledText → Result T (ℕ × EditFault) → Type 0
+abbrev pub EachDone : {T : Type 0} → Document → List Edit → ProfiledText → ProfiledText → Result T (ℕ × EditFault)
+    → Type 0
 EachDone s edits old new (Ok done) = AreMade s edits old new
 EachDone s edits old new (Err stop) = StopsAt s edits old.profile stop.0 stop.1
 
 -- what edits answer that are made all or none
-abbrev pub AllDone : {T : Type 0} → Document → List Edit → ProfiledText → ProfiledText → Result T (ℕ × EditFault) → Type 0
+abbrev pub AllDone : {T : Type 0} → Document → List Edit → ProfiledText → ProfiledText → Result T (ℕ × EditFault)
+    → Type 0
 AllDone s edits old new (Ok done) = AreMade s edits old new
 AllDone s edits old new (Err stop) = StopsAt s edits old.profile stop.0 stop.1 ⊎ IsNotCopied edits stop.0 stop.1

@@ -1,12 +1,13 @@
 -- An edit that is written into the bytes of a text, and what undoes it.
-use Rattle.std.specs.Prelude.{◌≡◌, ℕ, ◌+◌, ◌≤◌, List, length, Result, Ok, Err, IsUtf8, String, string_bytes, string_capacity, string_len}
+use Rattle.std.specs.Prelude.{◌≡◌, ℕ, ◌+◌, ◌≤◌, List, length, Result, Ok, Err, IsUtf8, String, string_bytes}
+use Rattle.std.specs.Prelude.{string_capacity, string_len}
 use Rattle.std.specs.Global.{Global}
 use Rattle.keep_meaning.specs.KeyText.{text_at}
-use Rattle.keep_splice.specs.Answers.{IsSpanOf, text_after}
-use Rattle.keep_splice.specs.declared.edited.Edited.{Edited}
+use Rattle.keep_edit_plan.specs.Answers.{IsSpanOf, text_after}
+use Rattle.keep_edit_plan.specs.declared.edited.Edited.{Edited}
 
--- The edit was written into this text, whose bytes were these before. The bytes that it replaced are kept, and the text has
--- room to take them back.
+-- The edit was written into this text, whose bytes were these before. The bytes that it replaced are kept, and the text
+-- has room to take them back.
 pub record CanPutBack (made : Edited) (before replaced_bytes : List ℕ) (text : String Global) : Type 0 where
   pub utf8 : IsUtf8 before
   pub within : IsSpanOf before made.place

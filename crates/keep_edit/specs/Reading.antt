@@ -1,5 +1,5 @@
 -- What is read: whole texts, in a profile, to the standard depth. What is read of single values is defined by
--- keep_value.
+-- keep_rules.
 use Rattle.std.specs.Prelude.{◌≡◌, ℕ, List, ◌⊎◌, Result, Err, IsUtf8}
 use Rattle.std.specs.Str.Lossy.{utf8_valid_len}
 use Rattle.keep_syntax.specs.declared.fault.ReadFault.{ReadFault}
@@ -9,8 +9,8 @@ use Rattle.keep_syntax.specs.Tree.{Document}
 use Rattle.keep_syntax.specs.Grammar.{Reads}
 use Rattle.keep_syntax.specs.Contract.{IsSyntaxOf, IsTextOf}
 use Rattle.keep_meaning.specs.ReadText.{IsReadFault}
-pub use Rattle.keep_value.specs.ValueTexts.{limit, IsTextOfValue, IsAcceptedValue, IsTextOfFact, IsRefusedValue}
-pub use Rattle.keep_splice.specs.Reading.{ProfiledText, text_in, IsTextOfTree, IsAccepted, telling_in, Holds}
+pub use Rattle.keep_rules.specs.ValueTexts.{limit, IsTextOfValue, IsAcceptedValue, IsTextOfFact, IsRefusedValue}
+pub use Rattle.keep_edit_plan.specs.Reading.{ProfiledText, text_in, IsTextOfTree, IsAccepted, telling_in, Holds}
 
 -- The text is that of some document, by the grammar of its profile and to the standard depth, and this is its syntax.
 pub record IsSyntaxIn (t : ProfiledText) (syntax : Syntax) : Type 0 where

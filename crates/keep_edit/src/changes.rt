@@ -1,17 +1,18 @@
-//! The edits of a document: keep_splice decides each, and it is made in the document's own text and syntax.
+//! The edits of a document: keep_edit_plan decides each, and it is made in the document's own text and syntax.
 ghost use Rattle.std.specs.Prelude.{◌≡◌, ◌<◌, length, IfErr, IfSome, OnErr, OnOk, MatchResult, string_bytes};
-ghost use Rattle.keep_leaf.specs.declared.leaf.Profile.TheVariants.{Wide};
+ghost use Rattle.keep_types.specs.declared.leaf.Profile.TheVariants.{Wide};
 ghost use Rattle.keep_syntax.specs.declared.fault.ReadFault.TheVariants.{Memory};
 ghost use Rattle.keep_syntax.specs.Tree as tree;
 ghost use Rattle.keep_syntax.specs.Tree.{Value};
-ghost use Rattle.keep_law.specs.Edits.{set, insert, rename, remove, append_table, append_element};
-ghost use Rattle.keep_law.specs.declared.fault.EditFault.TheVariants as law;
+ghost use Rattle.keep_edit_spec.specs.Edits.{set, insert, rename, remove, append_table, append_element};
+ghost use Rattle.keep_edit_spec.specs.declared.fault.EditFault.TheVariants as law;
 ghost use Rattle.keep_meaning.specs.Marks.{marks};
 ghost use Rattle.keep_meaning.specs.Meaning.{mentions_in};
 ghost use Rattle.keep_meaning.specs.Rules.{ObeysRules};
 ghost use Rattle.keep_rules.specs.ReadDocuments.{IsIndexOf, WasRead};
-ghost use Rattle.keep_splice.specs.Answers.{text_after};
-ghost use Rattle.keep_edit.specs.Reading.{IsAccepted, IsAcceptedValue, IsTextOfTree, IsTextOfValue, ProfiledText, text_in};
+ghost use Rattle.keep_edit_plan.specs.Answers.{text_after};
+ghost use Rattle.keep_edit.specs.Reading.{IsAccepted, IsAcceptedValue, IsTextOfTree, IsTextOfValue, ProfiledText};
+ghost use Rattle.keep_edit.specs.Reading.{text_in};
 ghost use Rattle.keep_edit.specs.Answers.{EditDone, EditReported};
 ghost use Rattle.keep_edit.specs.Headers.{key_texts};
 ghost use Rattle.keep_edit.specs.IndexChanges.{CanChange, changed_index};
@@ -21,12 +22,11 @@ use crate::document::Document;
 use crate::index_change::{IndexChange, change_index};
 use crate::lines::put_lines;
 use crate::patch::{put_back, put_in};
-use keep_law::{EditFault, Splice};
-use keep_rules::{Index, Path};
-use keep_splice::{DocumentRef, Edited, Header};
+use keep_edit_plan::{DocumentRef, Edited, Header};
+use keep_edit_spec::{EditFault, Splice};
+use keep_rules::{Index, Path, ValueText};
 use keep_syntax::{ReadFault, Span, Syntax};
 use keep_token::Profile;
-use keep_value::ValueText;
 use std::alloc::Global;
 
 impl Document {
@@ -40,7 +40,8 @@ impl Document {
     /// depth; `Profile` where the document was read in Strict and the value is none of Strict's grammar; else `Memory`
     /// where memory was refused.
     pub fn set(&mut self, path: &Path, value: &ValueText) -> Result<Splice, EditFault>
-        ensures done { (s : tree.Document) → IsTextOfTree self.old s → (v : Value) → IsTextOfValue value.now v → EditDone s (set path.now v) self.old self.new result }
+        ensures done { (s : tree.Document) → IsTextOfTree self.old s → (v : Value) → IsTextOfValue value.now v
+            → EditDone s (set path.now v) self.old self.new result }
         ensures accepted { IsAccepted self.old }
         ensures value { IsAcceptedValue Wide value.now }
         ensures read { IsAccepted self.new }
@@ -61,7 +62,8 @@ impl Document {
     ///
     /// Those of `set`.
     pub fn text_with(&self, path: &Path, value: &ValueText) -> Result<String, EditFault>
-        ensures stated { (s : tree.Document) → IsTextOfTree self.now s → (v : Value) → IsTextOfValue value.now v → EditReported s (set path.now v) self.now result }
+        ensures stated { (s : tree.Document) → IsTextOfTree self.now s → (v : Value) → IsTextOfValue value.now v
+            → EditReported s (set path.now v) self.now result }
         ensures accepted { IsAccepted self.now }
         ensures value { IsAcceptedValue Wide value.now }
     {
@@ -83,7 +85,8 @@ impl Document {
     /// standard depth; `Profile` if the document was read in Strict and the value is none of Strict's grammar; else
     /// `Memory` if memory was refused.
     pub fn insert(&mut self, path: &Path, value: &ValueText) -> Result<Splice, EditFault>
-        ensures done { (s : tree.Document) → IsTextOfTree self.old s → (v : tree.Value) → IsTextOfValue value.now v → EditDone s (insert path.now v) self.old self.new result }
+        ensures done { (s : tree.Document) → IsTextOfTree self.old s → (v : tree.Value) → IsTextOfValue value.now v
+            → EditDone s (insert path.now v) self.old self.new result }
         ensures accepted { IsAccepted self.old }
         ensures value { IsAcceptedValue Wide value.now }
         ensures read { IsAccepted self.new }
@@ -100,7 +103,8 @@ impl Document {
     ///
     /// Those of `insert`.
     pub fn text_inserted(&self, path: &Path, value: &ValueText) -> Result<String, EditFault>
-        ensures stated { (s : tree.Document) → IsTextOfTree self.now s → (v : tree.Value) → IsTextOfValue value.now v → EditReported s (insert path.now v) self.now result }
+        ensures stated { (s : tree.Document) → IsTextOfTree self.now s → (v : tree.Value) → IsTextOfValue value.now v
+            → EditReported s (insert path.now v) self.now result }
         ensures accepted { IsAccepted self.now }
         ensures value { IsAcceptedValue Wide value.now }
     {
@@ -109,16 +113,17 @@ impl Document {
         self.text_after(alloc, &inserted)
     }
 
-    /// Writes another key in place of the last key of a path: bare if it can be, else as a basic string. Every other byte is
-    /// kept. After a refusal the document is as before. The document's own allocator gives the memory.
+    /// Writes another key in place of the last key of a path: bare if it can be, else as a basic string. Every other
+    /// byte is kept. After a refusal the document is as before. The document's own allocator gives the memory.
     ///
     /// # Errors
     ///
     /// The first that holds: `NotFound` if the path names no node; `Exists` if the new key names a node under the same
-    /// parent, also if it is the old key; `NotKey` if the path is the root or ends in an index; `Scattered` if not exactly one
-    /// key part names the path; else `Memory` if memory was refused.
+    /// parent, also if it is the old key; `NotKey` if the path is the root or ends in an index; `Scattered` if not
+    /// exactly one key part names the path; else `Memory` if memory was refused.
     pub fn rename(&mut self, path: &Path, key: &str) -> Result<Splice, EditFault>
-        ensures done { (s : tree.Document) → IsTextOfTree self.old s → EditDone s (rename path.now key.now) self.old self.new result }
+        ensures done { (s : tree.Document) → IsTextOfTree self.old s
+            → EditDone s (rename path.now key.now) self.old self.new result }
         ensures accepted { IsAccepted self.old }
         ensures read { IsAccepted self.new }
         ensures refused { OnErr result (self.new ≡ self.old) }
@@ -138,7 +143,8 @@ impl Document {
     ///
     /// Those of `rename`.
     pub fn text_renamed(&self, path: &Path, key: &str) -> Result<String, EditFault>
-        ensures stated { (s : tree.Document) → IsTextOfTree self.now s → EditReported s (rename path.now key.now) self.now result }
+        ensures stated { (s : tree.Document) → IsTextOfTree self.now s
+            → EditReported s (rename path.now key.now) self.now result }
         ensures accepted { IsAccepted self.now }
     {
         let alloc = *self.text.allocator();
@@ -156,7 +162,8 @@ impl Document {
     /// value nor one header with its body is the whole node, as for a table that dotted keys define, or that a header
     /// goes through; else `Memory` if memory was refused.
     pub fn remove(&mut self, path: &Path) -> Result<Splice, EditFault>
-        ensures done { (s : tree.Document) → IsTextOfTree self.old s → EditDone s (remove path.now) self.old self.new result }
+        ensures done { (s : tree.Document) → IsTextOfTree self.old s
+            → EditDone s (remove path.now) self.old self.new result }
         ensures accepted { IsAccepted self.old }
         ensures read { IsAccepted self.new }
         ensures refused { OnErr result (self.new ≡ self.old) }
@@ -172,7 +179,8 @@ impl Document {
     ///
     /// Those of `remove`.
     pub fn text_removed(&self, path: &Path) -> Result<String, EditFault>
-        ensures stated { (s : tree.Document) → IsTextOfTree self.now s → EditReported s (remove path.now) self.now result }
+        ensures stated { (s : tree.Document) → IsTextOfTree self.now s
+            → EditReported s (remove path.now) self.now result }
         ensures accepted { IsAccepted self.now }
     {
         let alloc = *self.text.allocator();
@@ -188,7 +196,8 @@ impl Document {
     /// The first that holds: `NotKey` if there are no keys; `Conflict` with the reason if the document's key parts do
     /// not allow one of the header's; else `Memory` if memory was refused.
     pub fn append_table(&mut self, keys: &[String]) -> Result<Splice, EditFault>
-        ensures done { (s : tree.Document) → IsTextOfTree self.old s → EditDone s (append_table (key_texts keys.now)) self.old self.new result }
+        ensures done { (s : tree.Document) → IsTextOfTree self.old s
+            → EditDone s (append_table (key_texts keys.now)) self.old self.new result }
         ensures accepted { IsAccepted self.old }
         ensures read { IsAccepted self.new }
         ensures refused { OnErr result (self.new ≡ self.old) }
@@ -204,7 +213,8 @@ impl Document {
     ///
     /// Those of `append_table`.
     pub fn text_with_table(&self, keys: &[String]) -> Result<String, EditFault>
-        ensures stated { (s : tree.Document) → IsTextOfTree self.now s → EditReported s (append_table (key_texts keys.now)) self.now result }
+        ensures stated { (s : tree.Document) → IsTextOfTree self.now s
+            → EditReported s (append_table (key_texts keys.now)) self.now result }
         ensures accepted { IsAccepted self.now }
     {
         let alloc = *self.text.allocator();
@@ -219,7 +229,8 @@ impl Document {
     ///
     /// Those of `append_table`.
     pub fn append_element(&mut self, keys: &[String]) -> Result<Splice, EditFault>
-        ensures done { (s : tree.Document) → IsTextOfTree self.old s → EditDone s (append_element (key_texts keys.now)) self.old self.new result }
+        ensures done { (s : tree.Document) → IsTextOfTree self.old s
+            → EditDone s (append_element (key_texts keys.now)) self.old self.new result }
         ensures accepted { IsAccepted self.old }
         ensures read { IsAccepted self.new }
         ensures refused { OnErr result (self.new ≡ self.old) }
@@ -235,7 +246,8 @@ impl Document {
     ///
     /// Those of `append_table`.
     pub fn text_with_element(&self, keys: &[String]) -> Result<String, EditFault>
-        ensures stated { (s : tree.Document) → IsTextOfTree self.now s → EditReported s (append_element (key_texts keys.now)) self.now result }
+        ensures stated { (s : tree.Document) → IsTextOfTree self.now s
+            → EditReported s (append_element (key_texts keys.now)) self.now result }
         ensures accepted { IsAccepted self.now }
     {
         let alloc = *self.text.allocator();
@@ -246,7 +258,8 @@ impl Document {
     /// The text after an edit that was decided for the document. The only error is out of memory.
     fn text_after(&self, alloc: Global, edited: &Edited) -> Result<String, EditFault>
         requires { IsOfEdit self.now edited.now }
-        ensures { MatchResult result (λ text. string_bytes text ≡ text_after self.now.text edited.now) (λ fault. fault ≡ law.Memory) }
+        ensures { MatchResult result (λ text. string_bytes text ≡ text_after self.now.text edited.now)
+            (λ fault. fault ≡ law.Memory) }
     {
         match edited.text_after(alloc, self.text.as_str()) {
             Ok(text) => Ok(text),
@@ -254,9 +267,9 @@ impl Document {
         }
     }
 
-    /// Makes an edit that was decided for the document, in place. Of the text after it only the lines are scanned that the edit
-    /// touches. The index is built anew, unless the edit changes a kind or a key in it and no more. The only error is out of
-    /// memory, and then the document is as before.
+    /// Makes an edit that was decided for the document, in place. Of the text after it only the lines are scanned that
+    /// the edit touches. The index is built anew, unless the edit changes a kind or a key in it and no more. The only
+    /// error is out of memory, and then the document is as before.
     pub(crate) fn replaced(
         &mut self,
         edited: Edited,
@@ -308,8 +321,8 @@ impl Document {
     }
 }
 
-/// Makes of the syntax and the index of a document those of the text after an edit, and tells how many bytes are scanned:
-/// those of the lines that the edit touches. The only error is out of memory, and then both are as before.
+/// Makes of the syntax and the index of a document those of the text after an edit, and tells how many bytes are
+/// scanned: those of the lines that the edit touches. The only error is out of memory, and then both are as before.
 fn reread(
     alloc: Global,
     text: &str,
@@ -319,8 +332,10 @@ fn reread(
     edited: &Edited,
     change: Option<IndexChange<'_>>,
 ) -> Result<usize, EditFault>
-    requires { (old : ProfiledText) × IsPatched old edited.now syntax.old index.old (text_in profile text.now) × IfSome change (IsIndexChanged old edited.now) }
-    ensures { (old : ProfiledText) → IsPatched old edited.now syntax.old index.old (text_in profile text.now) → IfSome change.entry (IsIndexChanged old edited.now)
+    requires { (old : ProfiledText) × IsPatched old edited.now syntax.old index.old (text_in profile text.now)
+        × IfSome change (IsIndexChanged old edited.now) }
+    ensures { (old : ProfiledText) → IsPatched old edited.now syntax.old index.old (text_in profile text.now)
+        → IfSome change.entry (IsIndexChanged old edited.now)
         → IsTaken old edited.now syntax.new index.new result }
 {
     let Span { start, end } = edited.place;
@@ -339,8 +354,9 @@ fn reread(
     }
 }
 
-/// Makes of the index of a document that of the text after an edit, by the new syntax: by the change if there is one, else
-/// it is built anew. `lines` are the lines of the text that are new. The only error is out of memory, and then it is as before.
+/// Makes of the index of a document that of the text after an edit, by the new syntax: by the change if there is one,
+/// else it is built anew. `lines` are the lines of the text that are new. The only error is out of memory, and then it
+/// is as before.
 fn renew(
     alloc: Global,
     text: &str,
@@ -351,7 +367,8 @@ fn renew(
 ) -> Result<(), EditFault>
     requires read { (d : tree.Document) × WasRead text.now syntax.now d × ObeysRules (marks (mentions_in d)) }
     requires can { IfSome change (CanChange index.old) }
-    ensures new { (d : tree.Document) → WasRead text.now syntax.now d → IfSome change.entry (λ c. IsIndexOf d (changed_index index.old c))
+    ensures new { (d : tree.Document) → WasRead text.now syntax.now d
+        → IfSome change.entry (λ c. IsIndexOf d (changed_index index.old c))
         → OnOk result (IsIndexOf d index.new) }
     ensures old { OnErr result (index.new ≡ index.old) }
     ensures memory { IfErr result (λ fault. fault ≡ law.Memory) }

@@ -1,7 +1,7 @@
 //! Documents, and what can be asked of them.
 ghost use Rattle.std.specs.Prelude.{◌≡◌, ◌≤◌, ◌+◌, length, string_bytes, IfOk, IfErr, IsOkUnless, MatchResult, Ok, Err};
 ghost use Rattle.std.specs.Option.{option_map};
-ghost use Rattle.keep_leaf.specs.declared.leaf.Profile.TheVariants.{Strict};
+ghost use Rattle.keep_types.specs.declared.leaf.Profile.TheVariants.{Strict};
 ghost use Rattle.keep_syntax.specs.declared.fault.ReadFault.TheVariants.{Memory};
 ghost use Rattle.keep_syntax.specs.Tree as tree;
 ghost use Rattle.keep_syntax.specs.Contract.{left};
@@ -10,9 +10,9 @@ ghost use Rattle.keep_edit.specs.Reading.{IsAccepted, IsRefused, IsSyntaxIn, IsT
 
 mod entries;
 
-use keep_law::EditFault;
+use keep_edit_plan::{DocumentRef, part_at};
+use keep_edit_spec::EditFault;
 use keep_rules::{Index, Kind, NodeId, Path};
-use keep_splice::{DocumentRef, part_at};
 use keep_syntax::{Limits, ReadFault, STANDARD_DEPTH, Syntax, Tokens};
 use keep_token::{Leaf, Profile, decode_string, integer_of, text_of};
 use std::alloc::{AllocError, Global};
@@ -34,8 +34,8 @@ pub struct Entry {
     pub kind: Kind,
 }
 
-/// A document that was read in a profile: a text that the profile's grammar has, in which the rules of definition hold and
-/// arrays and inline tables enclose one another no deeper than the standard depth.
+/// A document that was read in a profile: a text that the profile's grammar has, in which the rules of definition hold
+/// and arrays and inline tables enclose one another no deeper than the standard depth.
 #[derive(Drop)]
 pub struct Document {
     pub(crate) text: String,
@@ -153,7 +153,8 @@ impl Document {
         Document::of_syntax(alloc, text, profile, syntax)
     }
 
-    /// The document of a text by the syntax that was read of it, which is known to be none only by the definition rules.
+    /// The document of a text by the syntax that was read of it, which is known to be none only by the definition
+    /// rules.
     pub(crate) fn of_syntax(
         alloc: Global,
         text: String,
@@ -231,7 +232,7 @@ impl Document {
 
 impl Document {
     ghost use Rattle.keep_edit.specs.Answers.{kind_of, int_value_of, str_value_of, entries_of};
-    ghost use Rattle.keep_law.specs.Answers as answers;
+    ghost use Rattle.keep_edit_spec.specs.Answers as answers;
 
     /// What is at a path; None where it names no node.
     pub fn kind(&self, path: &Path) -> Option<Kind>
@@ -249,7 +250,8 @@ impl Document {
     /// `NotFound` where the path names no node; `NotValue` where the node has no value with a text of its own.
     pub fn get(&self, path: &Path) -> Result<&str, EditFault>
         ensures got { (s : tree.Document) → IsTextOfTree self.now s
-            → MatchResult result (λ text. answers.get path.now s ≡ Ok text.now) (λ fault. answers.get path.now s ≡ Err fault) }
+            → MatchResult result (λ text. answers.get path.now s ≡ Ok text.now)
+            (λ fault. answers.get path.now s ≡ Err fault) }
         ensures accepted { IsAccepted self.now }
     {
         let text = self.text.as_str();
@@ -274,7 +276,8 @@ impl Document {
     /// What the string at a path means, decoded; None where something else is there, or nothing. The only error is
     /// out of memory.
     pub fn str_value(&self, alloc: Global, path: &Path) -> Result<Option<String>, AllocError>
-        ensures string { (s : tree.Document) → IsTextOfTree self.now s → IfOk result (λ found. option_map string_bytes found ≡ str_value_of path.now s) }
+        ensures string { (s : tree.Document) → IsTextOfTree self.now s
+            → IfOk result (λ found. option_map string_bytes found ≡ str_value_of path.now s) }
         ensures accepted { IsAccepted self.now }
     {
         let text = self.text.as_str();
@@ -293,7 +296,8 @@ impl Document {
     /// All nodes but the root, in the order in which the text, read from its start, first meets them. The only error is
     /// out of memory.
     pub fn list(&self, alloc: Global) -> Result<Vec<Entry>, AllocError>
-        ensures entries { (s : tree.Document) → IsTextOfTree self.now s → IfOk result (λ entries. entries.items ≡ entries_of s) }
+        ensures entries { (s : tree.Document) → IsTextOfTree self.now s
+            → IfOk result (λ entries. entries.items ≡ entries_of s) }
         ensures accepted { IsAccepted self.now }
     {
         let mut entries = Vec::new(alloc);

@@ -1,15 +1,14 @@
 //! Edits as values: one, and lists of them.
 ghost use Rattle.std.specs.Prelude.{◌≡◌, ◌⊎◌, ◌+◌, ◌<◌, ◌≤◌, length, IfErr, IfOk, MatchResult, OnErr};
 ghost use Rattle.keep_syntax.specs.Tree as tree;
-ghost use Rattle.keep_law.specs.Edits as law;
+ghost use Rattle.keep_edit_spec.specs.Edits as law;
 ghost use Rattle.keep_edit.specs.Reading.{IsAccepted, IsTextOfTree};
 ghost use Rattle.keep_edit.specs.Answers.{EditDone, EditReported};
 ghost use Rattle.keep_edit.specs.Lists.{IsEdit, AllDone, AreMade, EachDone, IsNotCopied, StopsAt, growth_of};
 
 use crate::document::Document;
-use keep_law::{EditFault, Splice};
-use keep_rules::Path;
-use keep_value::ValueText;
+use keep_edit_spec::{EditFault, Splice};
+use keep_rules::{Path, ValueText};
 
 /// An edit of a document, with what it is given.
 #[derive(Debug, Drop)]
@@ -35,7 +34,8 @@ impl Document {
     ///
     /// Those of the method of that edit.
     pub fn apply(&mut self, edit: &Edit) -> Result<Splice, EditFault>
-        ensures done { (s : tree.Document) → IsTextOfTree self.old s → (e : law.Edit) → IsEdit edit.now e → EditDone s e self.old self.new result }
+        ensures done { (s : tree.Document) → IsTextOfTree self.old s → (e : law.Edit) → IsEdit edit.now e
+            → EditDone s e self.old self.new result }
         ensures accepted { IsAccepted self.old }
         ensures edit { (e : law.Edit) × IsEdit edit.now e }
         ensures read { IsAccepted self.new }
@@ -57,7 +57,8 @@ impl Document {
     ///
     /// Those of `apply`.
     pub fn text_applied(&self, edit: &Edit) -> Result<String, EditFault>
-        ensures stated { (s : tree.Document) → IsTextOfTree self.now s → (e : law.Edit) → IsEdit edit.now e → EditReported s e self.now result }
+        ensures stated { (s : tree.Document) → IsTextOfTree self.now s → (e : law.Edit) → IsEdit edit.now e
+            → EditReported s e self.now result }
         ensures accepted { IsAccepted self.now }
         ensures edit { (e : law.Edit) × IsEdit edit.now e }
     {
@@ -73,13 +74,14 @@ impl Document {
 
     /// Makes all edits in their order, each on the document after those before it; or none of them: after a refusal the
     /// document is as before. They are made on a copy, which is read of the document's text once; then each
-    /// edit reads the lines that it touches. An empty list takes no memory. The document's own allocator gives the memory.
+    /// edit reads the lines that it touches. An empty list takes no memory. The document's own allocator gives the
+    /// memory.
     ///
     /// # Errors
     ///
-    /// The number, from 0, of the first edit that is refused, and why: as `apply` refuses it on the document after those
-    /// before it. `Memory` comes with the number of the edit where memory was refused, or with 0 where it was refused for
-    /// the copy. The number is less than the list's length, so an empty list is always made.
+    /// The number, from 0, of the first edit that is refused, and why: as `apply` refuses it on the document after
+    /// those before it. `Memory` comes with the number of the edit where memory was refused, or with 0 where it was
+    /// refused for the copy. The number is less than the list's length, so an empty list is always made.
     pub fn apply_all(&mut self, edits: &[Edit]) -> Result<(), (usize, EditFault)>
         ensures done { (s : tree.Document) → IsTextOfTree self.old s → AllDone s edits.now self.old self.new result }
         ensures accepted { IsAccepted self.old }

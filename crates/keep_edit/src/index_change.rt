@@ -2,8 +2,8 @@
 ghost use Rattle.std.specs.Prelude.{◌≡◌, OnErr, OnOk};
 ghost use Rattle.keep_edit.specs.IndexChanges.{CanChange, changed_index};
 
+use keep_edit_plan::KindChange;
 use keep_rules::{Index, NodeId};
-use keep_splice::KindChange;
 use std::alloc::AllocError;
 
 /// A change of an index that leaves its nodes, their order and all numbers.

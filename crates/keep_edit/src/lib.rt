@@ -29,7 +29,7 @@
 //!
 //! **What a caller can promise.** `specs/Reading` says what is read (`IsAccepted`, `IsTextOfTree`), `specs/Answers`
 //! what is answered and what an edit makes of the text (`EditDone`), `specs/Lists` the same of a list of edits.
-//! keep_run shows how contracts cite them.
+//! keep_commands shows how contracts cite them.
 //!
 //! **What it costs.** Reading goes over the text once. Of a new text an edit scans the lines that it touches: a `set`
 //! of a scalar by a scalar and a `rename` take some 7 % of a reading, other edits half of one. Who wants no more than
@@ -49,8 +49,7 @@ mod patch;
 
 pub use document::{Counts, Document, Entry};
 pub use edits::Edit;
-pub use keep_law::{EditFault, Splice};
-pub use keep_rules::{Kind, Path, PathFault, Step, Why};
+pub use keep_edit_spec::{EditFault, Splice};
+pub use keep_rules::{Kind, Path, PathFault, Step, ValueText, Why};
 pub use keep_syntax::{ReadFault, Token, Tokens};
 pub use keep_token::Profile;
-pub use keep_value::ValueText;

@@ -5,9 +5,9 @@ use Rattle.std.specs.List.{prefix_len, list_all}
 use Rattle.std.proofs.lemmas.Bool.{cases_Bool, and_parts}
 use Rattle.std.proofs.lemmas.Bool.Decides.{nat_tests}
 use Rattle.std.proofs.lemmas.List.Folds.{list_all-append}
-use Rattle.keep_leaf.specs.declared.leaf.Profile.TheVariants.{Wide}
-use Rattle.keep_leaf.specs.declared.leaf.Leaf.{Leaf}
-use Rattle.keep_leaf.specs.declared.leaf.Leaf.TheVariants as leaf
+use Rattle.keep_types.specs.declared.leaf.Profile.TheVariants.{Wide}
+use Rattle.keep_types.specs.declared.leaf.Leaf.{Leaf}
+use Rattle.keep_types.specs.declared.leaf.Leaf.TheVariants as leaf
 use Rattle.keep_token.specs.Abnf.{is_ws, Newline}
 use Rattle.keep_token.specs.Numbers.{sum_of_digits}
 use Rattle.keep_token.specs.Strings.{Piece, Plain, Letter, Number, Break, LineEnd, text_of, value_of, ml_value_of, letter_value, digit_count, is_basic, is_literal, is_blank_run, Each, IsMlBasicPiece, IsMlLiteralPiece, takes_all}

@@ -14,15 +14,15 @@ use Rattle.std.proofs.Math.Seq.{get_or-append_seam}
 use Rattle.std.proofs.lemmas.Bool.Decides.{nat_tests}
 use Rattle.std.proofs.lemmas.List.{length-append, get_or-append-add, get_or_append_left}
 use Rattle.std.proofs.lemmas.Str.{IsCharBoundary-before_ascii, IsCharBoundary-after_ascii}
-use Rattle.keep_leaf.specs.declared.leaf.Profile.{Profile}
-use Rattle.keep_leaf.specs.declared.leaf.Profile.TheVariants.{Strict, Wide}
-use Rattle.keep_leaf.specs.declared.leaf.Leaf.{Leaf}
-use Rattle.keep_leaf.specs.declared.leaf.Leaf.TheVariants as leaf
+use Rattle.keep_types.specs.declared.leaf.Profile.{Profile}
+use Rattle.keep_types.specs.declared.leaf.Profile.TheVariants.{Strict, Wide}
+use Rattle.keep_types.specs.declared.leaf.Leaf.{Leaf}
+use Rattle.keep_types.specs.declared.leaf.Leaf.TheVariants as leaf
 use Rattle.keep_token.specs.Abnf.{Some1, is_bare}
 use Rattle.keep_token.specs.Leaves.{IsLeaf, is_key_leaf}
 use Rattle.keep_token.specs.Strings as strings
 use Rattle.keep_token.proofs.Shared.{all_pass, leaf_wider}
-use Rattle.keep_parts.specs.declared.info.KeyPart.{KeyPart}
+use Rattle.keep_types.specs.declared.syntax.KeyPart.{KeyPart}
 use Rattle.keep_syntax.specs.Tree.{Written, Gap, Further, Key, Name, Entries, none, entry, Value, Content, blank, keyval, header, element, Line, Ended, Document, token, further_leaves, key_leaves, name_leaves, named_leaves, opening, closing, comma_leaves, entries_leaves, value_leaves, content_leaves, line_leaves, text_of, text, value_text}
 use Rattle.keep_syntax.specs.Grammar.{IsKeyPart, IsFurther, IsKey, IsName, Place, in_scalar, in_array, in_inline, place_in, IsNamed, AreEntries, IsValue, IsContent, IsLine, IsEnded, IsDocument}
 use Rattle.keep_syntax.specs.declared.syntax.Syntax.{Syntax}

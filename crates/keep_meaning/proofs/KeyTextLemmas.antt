@@ -4,9 +4,9 @@ use Rattle.std.specs.List.{slice_range, list_any}
 use Rattle.std.specs.Str.{IsUtf8, IsCharBoundary}
 use Rattle.std.proofs.lemmas.Bool.{or_parts}
 use Rattle.std.proofs.lemmas.List.Folds.{list_any-append}
-use Rattle.keep_leaf.specs.declared.leaf.Profile.TheVariants.{Wide}
-use Rattle.keep_leaf.specs.declared.leaf.Leaf.{Leaf}
-use Rattle.keep_leaf.specs.declared.leaf.Leaf.TheVariants as leaf
+use Rattle.keep_types.specs.declared.leaf.Profile.TheVariants.{Wide}
+use Rattle.keep_types.specs.declared.leaf.Leaf.{Leaf}
+use Rattle.keep_types.specs.declared.leaf.Leaf.TheVariants as leaf
 use Rattle.keep_token.specs.Strings.{text_of}
 use Rattle.keep_token.specs.Leaves.{IsLeaf, is_key_leaf, is_one_line}
 use Rattle.keep_token.proofs.Shared.{start_cut, one_ascii}

@@ -1,7 +1,7 @@
 -- Where the lines of a text, and what is in them, are spelled.
 use Rattle.std.proofs.Common.{◌≡◌, ℕ, ◌+◌, List, [], ◌∷◌, ◌++◌, length, sym, subst, arith, append_assoc}
 use Rattle.std.specs.List.{flat_map}
-use Rattle.keep_leaf.specs.declared.leaf.Leaf.TheVariants as leaf
+use Rattle.keep_types.specs.declared.leaf.Leaf.TheVariants as leaf
 use Rattle.keep_syntax.specs.Tree.{Written, Gap, Key, Line, Ended, Document, token, key_leaves, content_leaves, comment_leaves, line_leaves, ended_leaves, bom_leaves, text_of, text}
 use Rattle.keep_syntax.specs.Numbered.{width, Count, content_start, next_line, first_line}
 use Rattle.keep_meaning.proofs.KeyPartLemmas.{IsPart, part_whole, part_right, part_placed, Spelled, spelled_left, spelled_right}

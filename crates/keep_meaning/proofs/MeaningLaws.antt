@@ -1,10 +1,10 @@
 -- What a string means by its pieces is what is computed from its text byte by byte; and how many nodes there are.
 use Rattle.std.proofs.Common.{◌≡◌, ℕ, ◌+◌, ◌≤◌, List, length, refl, sym, ap, subst, ◌∙◌, arith}
 use Rattle.std.specs.Prelude.{IsTrue}
-use Rattle.keep_leaf.specs.declared.leaf.Leaf.{Leaf}
-use Rattle.keep_leaf.specs.declared.leaf.Leaf.TheVariants as leaf
-use Rattle.keep_leaf.specs.declared.leaf.Profile.{Profile}
-use Rattle.keep_leaf.specs.declared.leaf.Profile.TheVariants.{Strict, Wide}
+use Rattle.keep_types.specs.declared.leaf.Leaf.{Leaf}
+use Rattle.keep_types.specs.declared.leaf.Leaf.TheVariants as leaf
+use Rattle.keep_types.specs.declared.leaf.Profile.{Profile}
+use Rattle.keep_types.specs.declared.leaf.Profile.TheVariants.{Strict, Wide}
 use Rattle.keep_token.specs.Leaves.{IsLeaf, Means, is_string_leaf}
 use Rattle.keep_token.specs.Strings.{value_of, ml_value_of}
 use Rattle.keep_token.proofs.Shared.{means_wider}

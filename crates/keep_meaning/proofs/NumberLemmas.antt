@@ -6,7 +6,7 @@ use Rattle.std.proofs.lemmas.List.{length-append, append_assoc}
 use Rattle.keep_syntax.specs.Tree.{Name, Entries, none, entry, Content, blank, keyval, header, element, Line, Ended, Document, name_leaves, line_leaves, ended_leaves}
 use Rattle.keep_syntax.specs.Numbered as syntax
 use Rattle.keep_syntax.specs.Numbered.{over_lines, line_values, line_statements, content_values, content_statements, line_start, next_line, first_line, entries_values, value_count, nested_of, rest_of}
-use Rattle.keep_parts.specs.declared.info.Start.{Start}
+use Rattle.keep_types.specs.declared.syntax.Start.{Start}
 use Rattle.keep_path.specs.Path.{Part, key, index}
 use Rattle.keep_meaning.specs.Fact.{Fact}
 use Rattle.keep_meaning.specs.Rules.{Mark}

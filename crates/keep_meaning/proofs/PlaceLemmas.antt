@@ -5,11 +5,11 @@ use Rattle.std.specs.List.{cons_option}
 use Rattle.std.proofs.lemmas.List.{length-append}
 use Rattle.std.proofs.lemmas.List.Elements.{filter_map-append}
 use Rattle.keep_syntax.specs.declared.fault.Why.{Why}
-use Rattle.keep_parts.specs.declared.info.KeyPart.{KeyPart}
+use Rattle.keep_types.specs.declared.syntax.KeyPart.{KeyPart}
 use Rattle.keep_syntax.specs.Tree.{Further, Name, Entries, none, entry, Value, Content, blank, keyval, header, element, Line, Ended, Document, name_leaves}
 use Rattle.keep_syntax.specs.Numbered as syntax
 use Rattle.keep_syntax.specs.Numbered.{Count, over_lines, line_parts, content_parts, content_start, next_line, first_line, key_parts, further_parts, named_parts, name_count, part_count, entries_parts}
-use Rattle.keep_facts.specs.declared.role.Role.{Role}
+use Rattle.keep_types.specs.declared.role.Role.{Role}
 use Rattle.keep_path.specs.Path.{Part, key, index}
 use Rattle.keep_meaning.specs.Fact.{Fact}
 use Rattle.keep_meaning.specs.Rules.{Mark, ObeysRules, IsFirstFaulty}

@@ -2,7 +2,8 @@
 use Rattle.std.specs.Prelude.{ℕ, ◌+◌, Bool, true, false, List, [], ◌∷◌, ◌++◌, fold}
 use Rattle.std.specs.List.{filter_map}
 use Rattle.keep_syntax.specs.Tree.{Line, Document}
-use Rattle.keep_meaning.specs.Marks.{MentionKind, value, begun, passed, item, Mention, Statement, Reading, statement_mentions, next_reading, start}
+use Rattle.keep_meaning.specs.Marks.{MentionKind, value, begun, passed, item, Mention, Statement, Reading}
+use Rattle.keep_meaning.specs.Marks.{statement_mentions, next_reading, start}
 use Rattle.keep_meaning.specs.Meaning.{statement_of, lines}
 use Rattle.std.specs.Prelude.{Option}
 
@@ -37,7 +38,8 @@ one_if false = 0
 
 -- after a mention, in the same statement
 abbrev pub count_with_mention : Count → Mention → Count
-count_with_mention c m = record c { values = c.values + one_if (is_value m.kind); keys = c.keys + one_if (is_mark m.kind) }
+count_with_mention c m =
+    record c { values = c.values + one_if (is_value m.kind); keys = c.keys + one_if (is_mark m.kind) }
 
 -- the mentions of one statement, or of one value, with their numbers
 abbrev pub numbered_mentions : Count → List Mention → List Numbered
@@ -58,7 +60,9 @@ no_count = record { statements = 0; values = 0; keys = 0 }
 -- statement by statement
 abbrev pub numbered_from : Count → Reading → List Statement → List Numbered
 numbered_from c r [] = []
-numbered_from c r (s ∷ ss) = numbered_mentions c (statement_mentions r s) ++ numbered_from (next_count c (statement_mentions r s)) (next_reading r s) ss
+numbered_from c r (s ∷ ss) =
+    numbered_mentions c (statement_mentions r s)
+    ++ numbered_from (next_count c (statement_mentions r s)) (next_reading r s) ss
 
 -- after statements
 abbrev pub count_from : Count → Reading → List Statement → Count

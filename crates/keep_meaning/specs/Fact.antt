@@ -1,6 +1,6 @@
 -- What is at a path, with what it means.
 use Rattle.std.specs.Prelude.{ℕ, ℤ, Bool, true, false, List}
-use Rattle.keep_leaf.specs.declared.leaf.Leaf.{Leaf}
+use Rattle.keep_types.specs.declared.leaf.Leaf.{Leaf}
 
 pub data Fact : Type 0 where
   string : (value : List ℕ) → Fact

@@ -1,9 +1,9 @@
 -- The decoded texts of the key parts of a document.
 use Rattle.std.specs.Prelude.{ℕ, ◌≤◌, IsTrue, IsCharBoundary, List, slice_range, string_bytes, ◌-◌, map, take, drop}
-use Rattle.keep_leaf.specs.declared.leaf.Profile.TheVariants.{Wide}
+use Rattle.keep_types.specs.declared.leaf.Profile.TheVariants.{Wide}
 use Rattle.keep_token.specs.Leaves.{IsLeaf, is_key_leaf}
-use Rattle.keep_parts.specs.declared.info.KeyPart.{KeyPart}
-use Rattle.keep_parts.specs.declared.info.Span.{Span}
+use Rattle.keep_types.specs.declared.syntax.KeyPart.{KeyPart}
+use Rattle.keep_types.specs.declared.syntax.Span.{Span}
 use Rattle.keep_meaning.specs.declared.key_text.KeyText.{KeyText}
 use Rattle.keep_meaning.specs.declared.key_text.KeyText.TheVariants.{Plain, Decoded}
 use Rattle.keep_meaning.specs.Meaning.{string_value}

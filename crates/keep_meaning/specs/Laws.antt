@@ -1,8 +1,8 @@
 -- What holds of every string and every document, whatever is read.
 use Rattle.std.specs.Prelude.{◌≡◌, ℕ, ◌+◌, ◌≤◌, ◌↔◌, IsTrue, List, length}
-use Rattle.keep_leaf.specs.declared.leaf.Leaf.{Leaf}
-use Rattle.keep_leaf.specs.declared.leaf.Profile.{Profile}
-use Rattle.keep_leaf.specs.declared.leaf.Profile.TheVariants.{Strict}
+use Rattle.keep_types.specs.declared.leaf.Leaf.{Leaf}
+use Rattle.keep_types.specs.declared.leaf.Profile.{Profile}
+use Rattle.keep_types.specs.declared.leaf.Profile.TheVariants.{Strict}
 use Rattle.keep_token.specs.Leaves.{IsLeaf, Means, is_string_leaf}
 use Rattle.keep_syntax.specs.Tree.{Document, text}
 use Rattle.keep_syntax.specs.Grammar.{IsDocument, Reads}
@@ -17,7 +17,9 @@ StringValueIsMeaning =
 
 -- A text of so many bytes has at most one node more.
 abbrev pub NodesAreFew : Type 0
-NodesAreFew = (profile : Profile) (limit : ℕ) (bytes : List ℕ) (d : Document) → Reads profile limit bytes d → length (nodes_in d) ≤ length bytes + 1
+NodesAreFew =
+    (profile : Profile) (limit : ℕ) (bytes : List ℕ) (d : Document) → Reads profile limit bytes d
+    → length (nodes_in d) ≤ length bytes + 1
 
 -- The text of no bytes has as many.
 abbrev pub NodesReachBound : Type 0

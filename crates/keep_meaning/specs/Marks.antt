@@ -2,8 +2,8 @@
 -- (TOML 1.0.0: Keys, Table, Array of Tables, Inline Table.) What is said has no numbers: those are in Counts.
 use Rattle.std.specs.Prelude.{ℕ, ◌-◌, ◌==◌, if◌then◌else◌, List, [], ◌∷◌, ◌++◌, map, Option, Some, None}
 use Rattle.std.specs.List.{count_by, filter_map}
-use Rattle.keep_facts.specs.declared.role.Role.{Role}
-use Rattle.keep_facts.specs.declared.role.Role.TheVariants.{Through, Past, Define, Element, Dotted, Value}
+use Rattle.keep_types.specs.declared.role.Role.{Role}
+use Rattle.keep_types.specs.declared.role.Role.TheVariants.{Through, Past, Define, Element, Dotted, Value}
 use Rattle.keep_meaning.specs.Fact.{Fact, table}
 use Rattle.keep_path.specs.Path.{Part, key, index, same_path}
 use Rattle.keep_meaning.specs.Rules.{Mark}
@@ -34,13 +34,16 @@ pub data Statement : Type 0 where
   element_header : List (List ℕ) → Statement
   keyval : List Mention → Statement
 
--- How many `[[..]]` lines have this full path (TOML 1.0.0, Array of Tables); `tables` are the full paths of all such lines.
+-- How many `[[..]]` lines have this full path (TOML 1.0.0, Array of Tables); `tables` are the full paths of all such
+-- lines.
 abbrev pub elements_of : List Part → List (List Part) → ℕ
 elements_of path tables = count_by (λ t. same_path t path) tables
 
--- Where the next key of a header goes: on from the path, or from its last element where earlier `[[..]]` lines have the path.
+-- Where the next key of a header goes: on from the path, or from its last element where earlier `[[..]]` lines have the
+-- path.
 abbrev pub entered_path : List (List Part) → List Part → List Part
-entered_path tables path = if 0 == elements_of path tables then path else path ++ index (elements_of path tables - 1) ∷ []
+entered_path tables path =
+    if 0 == elements_of path tables then path else path ++ index (elements_of path tables - 1) ∷ []
 
 -- what a header says of a path on its way
 abbrev pub passing_mentions : List (List Part) → List Part → List Mention
@@ -70,7 +73,8 @@ pub record Reading : Type 0 where
 -- What a statement says. A `[[..]]` line begins the element after those that earlier such lines began (TOML 1.0.0,
 -- Array of Tables); a keyval's paths continue from its body (TOML 1.0.0, Table).
 abbrev pub statement_mentions : Reading → Statement → List Mention
-statement_mentions r (header keys) = header_way r.tables [] keys ++ record { path = header_path r.tables [] keys; kind = define } ∷ []
+statement_mentions r (header keys) =
+    header_way r.tables [] keys ++ record { path = header_path r.tables [] keys; kind = define } ∷ []
 statement_mentions r (element_header keys) =
     let path = header_path r.tables [] keys in
     header_way r.tables [] keys

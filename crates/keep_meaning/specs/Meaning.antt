@@ -1,13 +1,15 @@
 -- From a document's tree to its statements: what its keys and scalars mean.
-use Rattle.std.specs.Prelude.{ℕ, zero, suc, ◌+◌, ◌-◌, Bool, ◌||◌, ◌==◌, if◌then◌else◌, List, [], ◌∷◌, ◌++◌, length, map, take, drop, encode_utf8, slice_index, Option, Some, None}
+use Rattle.std.specs.Prelude.{ℕ, zero, suc, ◌+◌, ◌-◌, Bool, ◌||◌, ◌==◌, if◌then◌else◌, List, [], ◌∷◌, ◌++◌, length, map}
+use Rattle.std.specs.Prelude.{take, drop, encode_utf8, slice_index, Option, Some, None}
 use Rattle.std.specs.List.{prefix_len}
-use Rattle.keep_leaf.specs.declared.leaf.Leaf.{Leaf}
-use Rattle.keep_leaf.specs.declared.leaf.Leaf.TheVariants as leaf
-use Rattle.keep_leaf.specs.declared.leaf.Profile.TheVariants.{Wide}
+use Rattle.keep_types.specs.declared.leaf.Leaf.{Leaf}
+use Rattle.keep_types.specs.declared.leaf.Leaf.TheVariants as leaf
+use Rattle.keep_types.specs.declared.leaf.Profile.TheVariants.{Wide}
 use Rattle.keep_token.specs.Abnf.{is_ws}
 use Rattle.keep_token.specs.Numbers.{sum_of_digits, integer_value}
 use Rattle.keep_token.specs.Strings.{letter_value, digit_count}
-use Rattle.keep_syntax.specs.Tree.{Written, Further, Key, Name, Body, scalar, array, inline, Entries, none, entry, Value, Content, blank, keyval, header, element, Line, Ended, Document}
+use Rattle.keep_syntax.specs.Tree.{Written, Further, Key, Name, Body, scalar, array, inline, Entries, none, entry}
+use Rattle.keep_syntax.specs.Tree.{Value, Content, blank, keyval, header, element, Line, Ended, Document}
 use Rattle.keep_meaning.specs.Fact as fact
 use Rattle.keep_meaning.specs.Fact.{Fact}
 use Rattle.keep_path.specs.Path.{Part, key, index}
@@ -36,13 +38,15 @@ escape_value (c ∷ cs) =
 abbrev pub unescaped_text : ℕ → List ℕ → List ℕ
 unescaped_text n [] = []
 unescaped_text n (c ∷ cs) = elim n [
-  | zero ↦ (if c == 0x5C then escape_value cs else c ∷ []) ++ unescaped_text (if c == 0x5C then escape_length cs else 0) cs
+  | zero ↦ (if c == 0x5C then escape_value cs else c ∷ [])
+      ++ unescaped_text (if c == 0x5C then escape_length cs else 0) cs
   | suc m ↦ unescaped_text m cs
 ]
 
 -- a newline right after the opening is left out (TOML 1.0.0, String)
 abbrev pub without_newline : List ℕ → List ℕ
-without_newline text = if slice_index text 0 == 0x0A then drop 1 text else if slice_index text 0 == 0x0D then drop 2 text else text
+without_newline text =
+    if slice_index text 0 == 0x0A then drop 1 text else if slice_index text 0 == 0x0D then drop 2 text else text
 
 -- what is between n marks on each side
 abbrev pub between_marks : ℕ → List ℕ → List ℕ
@@ -96,7 +100,8 @@ valued_mentions mention_kind nested = record { path = []; kind = mention_kind } 
 abbrev pub keyed_mentions : List (List ℕ) → List Mention → List Mention
 keyed_mentions [] ms = ms
 keyed_mentions (k ∷ []) ms = map (below (key k ∷ [])) ms
-keyed_mentions (k ∷ l ∷ ks) ms = map (below (key k ∷ [])) (record { path = []; kind = marks.dotted } ∷ keyed_mentions (l ∷ ks) ms)
+keyed_mentions (k ∷ l ∷ ks) ms =
+    map (below (key k ∷ [])) (record { path = []; kind = marks.dotted } ∷ keyed_mentions (l ∷ ks) ms)
 
 -- an item is at its number, a keyval at its key
 abbrev pub entry_mentions : ℕ → Option Name → Fact → List Mention → List Mention

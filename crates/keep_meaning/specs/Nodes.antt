@@ -1,22 +1,24 @@
 -- The nodes of a document, in the order in which they are first met, and what is known of each.
-use Rattle.std.specs.Prelude.{ℕ, Bool, true, false, ◌&&◌, ◌||◌, if◌then◌else◌, List, [], ◌∷◌, ◌++◌, map, filter, fold, Option, Some, None, position, slice_get}
+use Rattle.std.specs.Prelude.{ℕ, Bool, true, false, ◌&&◌, ◌||◌, if◌then◌else◌, List, [], ◌∷◌, ◌++◌, map, filter, fold}
+use Rattle.std.specs.Prelude.{Option, Some, None, position, slice_get}
 use Rattle.std.specs.List.{count_by, filter_map, list_any}
 use Rattle.std.specs.Option.{option_map, option_and_then}
-use Rattle.keep_leaf.specs.declared.leaf.Leaf.{Leaf}
-use Rattle.keep_leaf.specs.declared.leaf.Leaf.TheVariants as leaf
-use Rattle.keep_parts.specs.declared.info.Span.{Span}
-use Rattle.keep_parts.specs.declared.info.KeyPart.{KeyPart}
-use Rattle.keep_parts.specs.declared.info.ValueInfo.{ValueInfo}
+use Rattle.keep_types.specs.declared.leaf.Leaf.{Leaf}
+use Rattle.keep_types.specs.declared.leaf.Leaf.TheVariants as leaf
+use Rattle.keep_types.specs.declared.syntax.Span.{Span}
+use Rattle.keep_types.specs.declared.syntax.KeyPart.{KeyPart}
+use Rattle.keep_types.specs.declared.syntax.ValueInfo.{ValueInfo}
 use Rattle.keep_syntax.specs.Tree.{Document}
-use Rattle.keep_facts.specs.declared.node.Kind.{Kind}
-use Rattle.keep_facts.specs.declared.node.Kind.TheVariants as kind
-use Rattle.keep_facts.specs.declared.node.Origin.{Origin}
-use Rattle.keep_facts.specs.declared.node.Origin.TheVariants as origin
-use Rattle.keep_facts.specs.declared.node.NodeInfo.{NodeInfo}
+use Rattle.keep_types.specs.declared.node.Kind.{Kind}
+use Rattle.keep_types.specs.declared.node.Kind.TheVariants as kind
+use Rattle.keep_types.specs.declared.node.Origin.{Origin}
+use Rattle.keep_types.specs.declared.node.Origin.TheVariants as origin
+use Rattle.keep_types.specs.declared.node.NodeInfo.{NodeInfo}
 use Rattle.keep_meaning.specs.Fact as fact
 use Rattle.keep_meaning.specs.Fact.{Fact}
 use Rattle.keep_path.specs.Path.{Part, same_part, same_path}
-use Rattle.keep_meaning.specs.Marks.{MentionKind, through, define, element, dotted, begun, passed, Mention, marks, fact_of}
+use Rattle.keep_meaning.specs.Marks.{MentionKind, through, define, element, dotted, begun, passed, Mention, marks}
+use Rattle.keep_meaning.specs.Marks.{fact_of}
 use Rattle.keep_meaning.specs.Counts.{Count, Numbered, is_value, is_mark, numbered_in}
 
 -- ---- what is said of a path
@@ -124,7 +126,8 @@ kind_or_table (Some f) = fact_kind f
 
 -- the kind of a node of which this is said
 abbrev pub mentioned_kind : List MentionKind → Kind
-mentioned_kind kinds = if list_any is_element kinds then kind.Tables else kind_or_table (first_of (filter_map fact_of kinds))
+mentioned_kind kinds =
+    if list_any is_element kinds then kind.Tables else kind_or_table (first_of (filter_map fact_of kinds))
 
 abbrev pub kind_at : List Part → List Mention → Kind
 kind_at path ms = mentioned_kind (kinds_at path ms)

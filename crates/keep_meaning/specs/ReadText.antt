@@ -1,7 +1,7 @@
 -- What reading a text gives: its tree, or the fault.
 use Rattle.std.specs.Prelude.{◌≡◌, ℕ, List, IsUtf8}
 use Rattle.std.specs.Str.Lossy.{utf8_valid_len}
-use Rattle.keep_leaf.specs.declared.leaf.Profile.{Profile}
+use Rattle.keep_types.specs.declared.leaf.Profile.{Profile}
 use Rattle.keep_syntax.specs.declared.fault.ReadFault.{ReadFault}
 use Rattle.keep_syntax.specs.declared.fault.ReadFault.TheVariants.{Utf8, Syntax, TooDeep, Define, Memory}
 use Rattle.keep_syntax.specs.Tree.{Value, Document}
@@ -23,7 +23,8 @@ abbrev pub IsReadFault : Profile → ℕ → List ℕ → ReadFault → Type 0
 IsReadFault profile limit bytes (Utf8 at) = (¬ (IsUtf8 bytes)) × (at ≡ utf8_valid_len bytes)
 IsReadFault profile limit bytes (Syntax at what) = IsUtf8 bytes × IsNoDocument profile limit bytes
 IsReadFault profile limit bytes (TooDeep at) = IsUtf8 bytes × IsTooDeep profile limit bytes at
-IsReadFault profile limit bytes (Define at why) = IsUtf8 bytes × ((s : Document) × Reads profile limit bytes s × IsFaultIn s at why)
+IsReadFault profile limit bytes (Define at why) =
+    IsUtf8 bytes × ((s : Document) × Reads profile limit bytes s × IsFaultIn s at why)
 IsReadFault profile limit bytes Memory = ⊥
 
 -- the text is that of this value, and its rules hold
@@ -35,6 +36,7 @@ pub record IsValueText (profile : Profile) (limit : ℕ) (bytes : List ℕ) (v :
 abbrev pub IsValueFault : Profile → ℕ → List ℕ → ReadFault → Type 0
 IsValueFault profile limit bytes (Syntax at what) = IsNoValue profile limit bytes
 IsValueFault profile limit bytes (TooDeep at) = IsValueTooDeep profile limit bytes at
-IsValueFault profile limit bytes (Define at why) = (v : Value) × ReadsValue profile limit bytes v × IsFaultInValue v at why
+IsValueFault profile limit bytes (Define at why) =
+    (v : Value) × ReadsValue profile limit bytes v × IsFaultInValue v at why
 IsValueFault profile limit bytes (Utf8 at) = ⊥
 IsValueFault profile limit bytes Memory = ⊥

@@ -1,10 +1,11 @@
 -- The definition rules, as a table over pairs of marks. (TOML 1.0.0: Keys, Table, Inline Table, Array of Tables. That
 -- dotted keys may pass a table that is there only because a header went through it is this project's own choice.)
 use Rattle.std.specs.Prelude.{◌≡◌, ℕ, Bool, true, false, IsTrue, List, ◌∷◌, ◌++◌, length, AllPairs, Any, map, filter}
-use Rattle.keep_facts.specs.declared.role.Role.{Role}
-use Rattle.keep_facts.specs.declared.role.Role.TheVariants.{Through, Past, Define, Element, Dotted, Value}
+use Rattle.keep_types.specs.declared.role.Role.{Role}
+use Rattle.keep_types.specs.declared.role.Role.TheVariants.{Through, Past, Define, Element, Dotted, Value}
 use Rattle.keep_syntax.specs.declared.fault.Why.{Why}
-use Rattle.keep_syntax.specs.declared.fault.Why.TheVariants.{NotATable, DefinedTwice, NotAnArray, NotByDots, DuplicateKey}
+use Rattle.keep_syntax.specs.declared.fault.Why.TheVariants.{NotATable, DefinedTwice, NotAnArray, NotByDots}
+use Rattle.keep_syntax.specs.declared.fault.Why.TheVariants.{DuplicateKey}
 use Rattle.keep_path.specs.Path.{Part, same_path}
 
 -- A mark: a key part with its role and its full path.

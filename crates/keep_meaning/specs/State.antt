@@ -1,7 +1,7 @@
 -- The one role that a node stores for those at its path.
 use Rattle.std.specs.Prelude.{◌≡◌, List, [], Option, Some, None}
 use Rattle.std.specs.List.{list_all}
-use Rattle.keep_facts.specs.declared.role.Role.{Role}
+use Rattle.keep_types.specs.declared.role.Role.{Role}
 use Rattle.keep_meaning.specs.Rules.{allows}
 
 -- A state represents roles: it allows what each of them allows. With no state there is no role.

@@ -1,6 +1,6 @@
 //! The decoded texts of key parts.
 ghost use Rattle.std.specs.Prelude.{◌≡◌, IfOk, IsTrue};
-ghost use Rattle.keep_leaf.specs.declared.leaf.Profile.TheVariants.{Wide};
+ghost use Rattle.keep_types.specs.declared.leaf.Profile.TheVariants.{Wide};
 ghost use Rattle.keep_token.specs.Leaves.{IsLeaf, is_key_leaf};
 ghost use Rattle.keep_meaning.specs.KeyText.{IsKeyAt, part_text, text_of_key};
 ghost use Rattle.keep_meaning.specs.Meaning.{string_value};

@@ -2,11 +2,11 @@
 ghost use Rattle.std.specs.Prelude.{◌≡◌, IsTrue, ◌&&◌, IfNone, IfSome, List, [], ◌∷◌, ◌++◌, Some, true, false};
 ghost use Rattle.std.specs.List.{list_all};
 ghost use Rattle.keep_meaning.specs.State.{IsState};
-ghost use Rattle.keep_facts.specs.declared.role.Role.{Role};
+ghost use Rattle.keep_types.specs.declared.role.Role.{Role};
 ghost use Rattle.keep_meaning.specs.Rules.{allows, why_of};
 
-use keep_facts::Role;
 use keep_syntax::Why;
+use keep_types::Role;
 
 /// Whether a mark of the first role lets one of the role `later` follow at its path.
 pub fn allows(role: Role, later: Role) -> bool
@@ -44,9 +44,12 @@ fn joined(role: Role, later: Role) -> Role
 
 /// The state after one more mark of that role, or `None` where some mark so far does not allow it.
 pub fn state_after(state: Option<Role>, role: Role) -> Option<Role>
-    ensures refused { IfNone result ((roles : List Role) → IsState state roles → list_all (λ e. allows e role) roles ≡ false) }
-    ensures allowed { IfSome result (λ next. (roles : List Role) → IsState state roles → list_all (λ e. allows e role) roles ≡ true) }
-    ensures next { IfSome result (λ next. (roles : List Role) → IsState state roles → IsState (Some next) (roles ++ role ∷ [])) }
+    ensures refused { IfNone result
+        ((roles : List Role) → IsState state roles → list_all (λ e. allows e role) roles ≡ false) }
+    ensures allowed { IfSome result
+        (λ next. (roles : List Role) → IsState state roles → list_all (λ e. allows e role) roles ≡ true) }
+    ensures next { IfSome result
+        (λ next. (roles : List Role) → IsState state roles → IsState (Some next) (roles ++ role ∷ [])) }
 {
     match state {
         None => Some(role),

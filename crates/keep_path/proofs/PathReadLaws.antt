@@ -1,9 +1,9 @@
 -- A path text is read step by step: what is found is a step of it, and each of its steps is found.
 use Rattle.std.proofs.Common.{◌≡◌, ℕ, suc, ◌+◌, ◌<◌, ◌≤◌, true, false, List, [], ◌∷◌, ◌++◌, length, take, drop, refl, sym, ap, ◌∙◌, subst, arith, append_assoc, append-nil, length-drop, length-append, Option, Some, None}
 use Rattle.std.proofs.lemmas.List.{drop-drop, drop-take, drop_all, drop_at, take-append-drop, take-take, take_all, take_at}
-use Rattle.keep_leaf.specs.declared.leaf.Leaf.{Leaf}
-use Rattle.keep_leaf.specs.declared.leaf.Leaf.TheVariants as leaf
-use Rattle.keep_leaf.specs.declared.leaf.Profile.TheVariants.{Strict, Wide}
+use Rattle.keep_types.specs.declared.leaf.Leaf.{Leaf}
+use Rattle.keep_types.specs.declared.leaf.Leaf.TheVariants as leaf
+use Rattle.keep_types.specs.declared.leaf.Profile.TheVariants.{Strict, Wide}
 use Rattle.keep_token.specs.Abnf.{is_bare}
 use Rattle.keep_token.specs.Leaves.{IsLeaf, is_key_leaf, Means}
 use Rattle.keep_token.specs.Pieces.{first}

@@ -10,8 +10,8 @@ use Rattle.std.proofs.Common.{◌≡◌, ℕ, zero, suc, ◌+◌, ◌-◌, ◌<�
 use Rattle.std.proofs.lemmas.Bool.{cases_lt}
 use Rattle.std.proofs.lemmas.List.{drop-drop, drop_at, length-take-le, take-append-drop, take_all, take_at}
 use Rattle.std.specs.Fmt.{decimal}
-use Rattle.keep_leaf.specs.declared.leaf.Leaf.{Leaf}
-use Rattle.keep_leaf.specs.declared.leaf.Profile.TheVariants.{Strict}
+use Rattle.keep_types.specs.declared.leaf.Leaf.{Leaf}
+use Rattle.keep_types.specs.declared.leaf.Profile.TheVariants.{Strict}
 use Rattle.keep_token.specs.Leaves.{IsLeaf, KeyLeaf, is_key_leaf}
 use Rattle.keep_token.specs.Pieces.{first}
 use Rattle.keep_token.specs.Scanning.{key_at}

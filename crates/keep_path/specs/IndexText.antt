@@ -4,4 +4,5 @@ use Rattle.std.specs.Prelude.{ℕ, Bool, not, ◌&&◌, ◌||◌, ◌==◌, nat_
 -- so many digits at the start are an index, if there are digits: at most nine, no zero before another, and a bracket
 -- after
 abbrev pub closes : List ℕ → ℕ → Bool
-closes text digits = (nat_le digits 9 && slice_index text digits == 0x5D) && (nat_le digits 1 || not (slice_index text 0 == 0x30))
+closes text digits =
+    (nat_le digits 9 && slice_index text digits == 0x5D) && (nat_le digits 1 || not (slice_index text 0 == 0x30))

@@ -3,3 +3,4 @@ pub mod Path
 pub mod PathText
 pub mod Step
 pub mod PathReading
+pub mod NodeInfos

@@ -1,7 +1,7 @@
 -- What is found at the start of a path's text. The laws in proofs/ tie it to the texts of paths.
 use Rattle.std.specs.Prelude.{◌≡◌, ℕ, ◌-◌, ◌<◌, ◌≤◌, IsTrue, List, ◌∷◌, length, take, drop, Some}
-use Rattle.keep_leaf.specs.declared.leaf.Leaf.{Leaf}
-use Rattle.keep_leaf.specs.declared.leaf.Profile.TheVariants.{Strict, Wide}
+use Rattle.keep_types.specs.declared.leaf.Leaf.{Leaf}
+use Rattle.keep_types.specs.declared.leaf.Profile.TheVariants.{Strict, Wide}
 use Rattle.keep_token.specs.Leaves.{IsLeaf, is_key_leaf, Means}
 use Rattle.keep_token.specs.Scanning.{key_at}
 use Rattle.keep_path.specs.Path.{Part}
@@ -38,4 +38,5 @@ pub record StepRead (text : List ℕ) (part : Part) (n : ℕ) : Type 0 where
   pub some : 0 < n
   pub within : n ≤ length text
   pub step : StepText part (take n text)
-  pub first : (parts : List Part) → StepsText parts text → (more : List Part) × (parts ≡ part ∷ more) × StepsText more (drop n text)
+  pub first : (parts : List Part) → StepsText parts text
+      → (more : List Part) × (parts ≡ part ∷ more) × StepsText more (drop n text)

@@ -1,8 +1,9 @@
--- The texts of paths: a key part, then dots with key parts and indexes in brackets, with no spaces. The root's text is empty.
+-- The texts of paths: a key part, then dots with key parts and indexes in brackets, with no spaces. The root's text is
+-- empty.
 use Rattle.std.specs.Prelude.{◌≡◌, ℕ, ◌<◌, IsTrue, List, [], ◌∷◌, ◌++◌, length, take, drop, decimal}
 use Rattle.std.specs.List.{flat_map}
-use Rattle.keep_leaf.specs.declared.leaf.Leaf.{Leaf}
-use Rattle.keep_leaf.specs.declared.leaf.Profile.TheVariants.{Strict}
+use Rattle.keep_types.specs.declared.leaf.Leaf.{Leaf}
+use Rattle.keep_types.specs.declared.leaf.Profile.TheVariants.{Strict}
 use Rattle.keep_token.specs.Abnf.{Language, Just, Longest, ◌⨾◌}
 use Rattle.keep_token.specs.Encoded.{encoded_key}
 use Rattle.keep_token.specs.Leaves.{IsLeaf, is_key_leaf, Means}
@@ -75,4 +76,6 @@ AreKeys (index n ∷ parts) = ⊥
 
 -- keys come before this byte, and an index begins there
 abbrev pub FirstIndex : List ℕ → ℕ → Type 0
-FirstIndex text at = (keys : List Part) × AreKeys keys × IsPathText (take at text) keys × (n : ℕ) × (parts : List Part) × StepsText (index n ∷ parts) (drop at text)
+FirstIndex text at =
+    (keys : List Part) × AreKeys keys × IsPathText (take at text) keys × (n : ℕ) × (parts : List Part)
+    × StepsText (index n ∷ parts) (drop at text)

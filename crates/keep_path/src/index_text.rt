@@ -1,5 +1,6 @@
 //! Indexes in the texts of paths.
-ghost use Rattle.std.specs.Prelude.{◌≡◌, ◌<◌, ◌++◌, [], ◌∷◌, ℕ, List, length, drop, decimal, slice_index, IfSome, IsNone, IsCharBoundary};
+ghost use Rattle.std.specs.Prelude.{◌≡◌, ◌<◌, ◌++◌, [], ◌∷◌, ℕ, List, length, drop, decimal, slice_index, IfSome};
+ghost use Rattle.std.specs.Prelude.{IsNone, IsCharBoundary};
 ghost use Rattle.keep_path.specs.IndexText.{closes};
 ghost use Rattle.std.specs.List.{prefix_len};
 ghost use Rattle.std.specs.Char.{is_ascii_digit};

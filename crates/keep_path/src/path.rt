@@ -1,5 +1,6 @@
 //! Paths.
-ghost use Rattle.std.specs.Prelude.{◌≡◌, ◌++◌, ◌≢◌, ℕ, List, [], ◌∷◌, IfOk, IfSome, IsNone, IsOkUnless, OnOk, OnErr, length, map, min, option_copied, option_map, slice_get, string_bytes};
+ghost use Rattle.std.specs.Prelude.{◌≡◌, ◌++◌, ◌≢◌, ℕ, List, [], ◌∷◌, IfOk, IfSome, IsNone, IsOkUnless, OnOk, OnErr};
+ghost use Rattle.std.specs.Prelude.{length, map, min, option_copied, option_map, slice_get, string_bytes};
 ghost use Rattle.keep_path.specs.declared.fault.PathFault.TheVariants.{BadPath, Memory};
 ghost use Rattle.keep_path.specs.Path.{Part, key, index, AreUtf8, IsRooted};
 ghost use Rattle.keep_path.specs.PathText.{encoded_path, AreKeys, FirstIndex, HasSmallIndexes, IsPathText, StopsAt};

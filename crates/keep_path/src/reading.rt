@@ -1,6 +1,6 @@
 //! The key parts and the steps that begin texts of paths.
 ghost use Rattle.std.specs.Prelude.{◌≡◌, IfOk, IfSome, IsNone, None, IsCharBoundary, string_bytes};
-ghost use Rattle.keep_leaf.specs.declared.leaf.Profile.TheVariants.{Strict};
+ghost use Rattle.keep_types.specs.declared.leaf.Profile.TheVariants.{Strict};
 ghost use Rattle.keep_token.specs.Scanning.{key_at};
 ghost use Rattle.keep_path.specs.PathReading.{KeyFound, KeyRead, KeysWithin, NoSteps, StepRead, StepsGoOn};
 ghost use Rattle.keep_path.specs.Step.{part_of};

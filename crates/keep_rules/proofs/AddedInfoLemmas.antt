@@ -5,21 +5,22 @@ use Rattle.std.specs.List.{list_any, position_or_len}
 use Rattle.std.proofs.lemmas.List.Elements.{Contains-get_or}
 use Rattle.std.proofs.lemmas.List.Sums.{position_or_len_is}
 use Rattle.std.proofs.lemmas.Bool.Decides.{nat_tests}
-use Rattle.keep_facts.specs.declared.node.NodeInfo.{NodeInfo}
-use Rattle.keep_nodes.specs.AllNodes.{Node}
-use Rattle.keep_facts.specs.declared.role.Role.{Role}
+use Rattle.keep_types.specs.declared.node.NodeInfo.{NodeInfo}
+use Rattle.keep_index_store.specs.AllNodes.{Node}
+use Rattle.keep_types.specs.declared.role.Role.{Role}
 use Rattle.keep_path.specs.Path.{Part, same_path}
 use Rattle.keep_meaning.specs.Counts.{Numbered}
 use Rattle.keep_meaning.specs.Nodes.{node_number, paths_with}
-use Rattle.keep_nodes.specs.Facts.{joined_info, no_info, NodeInfos}
+use Rattle.keep_path.specs.NodeInfos.{no_info, NodeInfos}
+use Rattle.keep_index_store.specs.Facts.{joined_info}
 use Rattle.keep_rules.specs.MentionInfos.{with_info, with_info_at, with_mentions, mention_info, paths_after}
-use Rattle.keep_nodes.specs.Trie.{Holding, IsTrie, paths_of, path_at}
-use Rattle.keep_nodes.specs.Growth.{Grows}
-use Rattle.keep_nodes.specs.Stored.{trie_of, infos_of, info_at, node_infos}
+use Rattle.keep_index_store.specs.Trie.{Holding, IsTrie, paths_of, path_at}
+use Rattle.keep_index_store.specs.Growth.{Grows}
+use Rattle.keep_index_store.specs.Stored.{trie_of, infos_of, info_at, node_infos}
 use Rattle.keep_rules.specs.AddedInfos.{AddsInfo}
 use Rattle.keep_path.proofs.Shared.{path_decides}
 use Rattle.keep_rules.proofs.RoleStateLemmas.{false_ne}
-use Rattle.keep_nodes.proofs.Shared.{length-paths_of}
+use Rattle.keep_index_store.proofs.Shared.{length-paths_of}
 
 -- ---- the number of a path
 

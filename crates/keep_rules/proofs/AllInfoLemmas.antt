@@ -18,13 +18,14 @@ use Rattle.std.proofs.lemmas.List.Sums.{sum_by-cons, sum_by-append, passes_at_fi
 use Rattle.std.proofs.lemmas.List.Quantifiers.{all_pairs_push}
 use Rattle.std.proofs.lemmas.Bool.{cases_lt, cases_eq, cases_Bool, lt-ltb, le-ltb}
 use Rattle.keep_syntax.specs.Tree.{Document}
-use Rattle.keep_facts.specs.declared.node.NodeInfo.{NodeInfo}
+use Rattle.keep_types.specs.declared.node.NodeInfo.{NodeInfo}
 use Rattle.keep_path.specs.Path.{Part, same_path}
 use Rattle.keep_meaning.specs.Marks.{marks}
 use Rattle.keep_meaning.specs.Meaning.{mentions_in}
 use Rattle.keep_meaning.specs.Counts.{Numbered, is_value, is_mark, one_if, numbered_in}
 use Rattle.keep_meaning.specs.Nodes.{paths_with, node_paths, node_number, numbered_at, is_numbered_at, mention_of, mentioned_node, Node, node_at, nodes_of, node_info, infos_in}
-use Rattle.keep_nodes.specs.Facts.{NodeInfos, joined_info, no_info, root_infos}
+use Rattle.keep_path.specs.NodeInfos.{NodeInfos, no_info, root_infos}
+use Rattle.keep_index_store.specs.Facts.{joined_info}
 use Rattle.keep_rules.specs.MentionInfos.{with_info, with_info_at, with_mentions, mention_info, paths_after, ValuesAreNew}
 use Rattle.keep_path.proofs.Shared.{path_decides}
 use Rattle.keep_meaning.proofs.Shared.{mentions-numbered_in, node_at-elsewhere, one_mark}

@@ -2,17 +2,17 @@
 use Rattle.std.proofs.Common.{◌≡◌, ℕ, zero, suc, ◌+◌, ◌<◌, List, [], ◌∷◌, ◌++◌, length, get_or, slice_get, refl, sym, ◌∙◌, ap, subst, arith, Some, None}
 use Rattle.std.specs.List.{AllZip}
 use Rattle.std.proofs.lemmas.List.{append-nil}
-use Rattle.keep_leaf.specs.declared.leaf.Profile.{Profile}
+use Rattle.keep_types.specs.declared.leaf.Profile.{Profile}
 use Rattle.keep_syntax.specs.declared.fault.ReadFault.{ReadFault}
 use Rattle.keep_syntax.specs.declared.fault.Why.{Why}
-use Rattle.keep_parts.specs.declared.info.KeyPart.{KeyPart}
-use Rattle.keep_parts.specs.declared.info.ValueInfo.{ValueInfo}
+use Rattle.keep_types.specs.declared.syntax.KeyPart.{KeyPart}
+use Rattle.keep_types.specs.declared.syntax.ValueInfo.{ValueInfo}
 use Rattle.keep_syntax.specs.Contract.{alone, parts_alone, values_alone}
-use Rattle.keep_parts.specs.Flat.{Flat}
+use Rattle.keep_syntax_store.specs.Flat.{Flat}
 use Rattle.keep_syntax.specs.Grammar.{IsValue}
 use Rattle.keep_syntax.specs.Tree.{Value, value_text}
 use Rattle.keep_syntax.specs.Numbered.{info, nested_of, entries_values}
-use Rattle.keep_nodes.specs.AllNodes.{Node}
+use Rattle.keep_index_store.specs.AllNodes.{Node}
 use Rattle.keep_rules.specs.declared.key_walk.Fault.{Fault}
 use Rattle.keep_meaning.specs.Fact.{Fact}
 use Rattle.keep_meaning.specs.Rules.{ObeysRules, IsFirstFaulty}
@@ -21,9 +21,9 @@ use Rattle.keep_meaning.specs.Marks.{Mention}
 use Rattle.keep_meaning.specs.Meaning.{body_fact, entries_mentions, mentions_of_value}
 use Rattle.keep_meaning.specs.Faults.{parts_in}
 use Rattle.keep_rules.specs.NestedValues.{NestedValue, nested_values, holding_of, all_nested_mentions, value_nesting}
-use Rattle.keep_nodes.specs.Trie.{TrieNode, Holding}
+use Rattle.keep_index_store.specs.Trie.{TrieNode, Holding}
 use Rattle.keep_rules.specs.Tables.{is_tables}
-use Rattle.keep_nodes.specs.Stored.{trie_of}
+use Rattle.keep_index_store.specs.Stored.{trie_of}
 use Rattle.keep_rules.specs.Reads.{IsValueNode, AreValueNodes}
 use Rattle.keep_rules.specs.Roots.{IsRoot}
 use Rattle.keep_rules.specs.Stops.{FaultMeets}

@@ -7,19 +7,19 @@ use Rattle.keep_rules.specs.declared.mark.Stop.{Stop}
 use Rattle.keep_rules.specs.declared.mark.Stop.TheVariants as stop
 use Rattle.keep_rules.specs.declared.key_walk.Fault.{Fault}
 use Rattle.keep_rules.specs.declared.key_walk.Fault.TheVariants as fault
-use Rattle.keep_facts.specs.declared.role.Role.{Role}
-use Rattle.keep_facts.specs.declared.role.Role.TheVariants.{Define, Element, Value}
+use Rattle.keep_types.specs.declared.role.Role.{Role}
+use Rattle.keep_types.specs.declared.role.Role.TheVariants.{Define, Element, Value}
 use Rattle.keep_meaning.specs.Rules.{why_of}
-use Rattle.keep_facts.specs.declared.node.Kind.{Kind}
-use Rattle.keep_facts.specs.declared.node.Origin.TheVariants as origin
-use Rattle.keep_nodes.specs.AllNodes.{Node}
+use Rattle.keep_types.specs.declared.node.Kind.{Kind}
+use Rattle.keep_types.specs.declared.node.Origin.TheVariants as origin
+use Rattle.keep_index_store.specs.AllNodes.{Node}
 use Rattle.keep_meaning.specs.Fact.{Fact}
 use Rattle.keep_path.specs.Path.{Part, key}
 use Rattle.keep_rules.specs.Keys.{AreKeys, key_texts, leading_texts, last_text}
 use Rattle.keep_meaning.specs.Marks.{Mention, define, header, element_header}
-use Rattle.keep_nodes.specs.Facts.{named_info}
-use Rattle.keep_nodes.specs.Trie.{TrieNode, Holding, by_key, path_at}
-use Rattle.keep_nodes.specs.Stored.{trie_of}
+use Rattle.keep_index_store.specs.Facts.{named_info}
+use Rattle.keep_index_store.specs.Trie.{TrieNode, Holding, by_key, path_at}
+use Rattle.keep_index_store.specs.Stored.{trie_of}
 use Rattle.keep_rules.specs.Represents.{Represents, IsMarked, Begins, StopsAt, FaultIn, WasRefused}
 use Rattle.keep_rules.specs.Steps.{Walks, Dots, Gives}
 use Rattle.keep_rules.specs.KeyWalks.{walk_mentions, dotted_mentions}

@@ -3,13 +3,13 @@ use Rattle.std.proofs.Common.{◌≡◌, ◌≢◌, ℕ, suc, zero, ◌<◌, Lis
 use Rattle.std.specs.Prelude.{slice_get}
 use Rattle.std.specs.Option.{option_map}
 use Rattle.std.proofs.lemmas.Option.{slice_get-get_or, slice_get_within, get_or_from_slice_get}
-use Rattle.keep_nodes.specs.AllNodes.{Node}
+use Rattle.keep_index_store.specs.AllNodes.{Node}
 use Rattle.keep_path.specs.Path.{Part, key, index}
 use Rattle.keep_meaning.specs.Nodes.{node_number}
-use Rattle.keep_nodes.specs.Children.{ChildList, Bare, Keyed, Listed, holds_of, named, child_ids, child_named, child_numbered}
-use Rattle.keep_nodes.specs.Trie.{TrieNode, paths_of, path_at, children_of, by_key}
-use Rattle.keep_nodes.specs.Stored.{step_at, trie_node_in, trie_of, IsStored}
-use Rattle.keep_nodes.proofs.Shared.{no_child, length_trie_of, keyed_step, count_named, key_found, key_missing, IsStoredChild, stored_child, node_placed}
+use Rattle.keep_index_store.specs.Children.{ChildList, Bare, Keyed, Listed, holds_of, named, child_ids, child_named, child_numbered}
+use Rattle.keep_index_store.specs.Trie.{TrieNode, paths_of, path_at, children_of, by_key}
+use Rattle.keep_index_store.specs.Stored.{step_at, trie_node_in, trie_of, IsStored}
+use Rattle.keep_index_store.proofs.Shared.{no_child, length_trie_of, keyed_step, count_named, key_found, key_missing, IsStoredChild, stored_child, node_placed}
 use Rattle.keep_rules.proofs.LookupLemmas.{number_none, number_some}
 
 -- ---- the children of one node

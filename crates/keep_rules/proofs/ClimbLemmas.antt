@@ -3,13 +3,13 @@ use Rattle.std.proofs.Common.{◌≡◌, ◌≢◌, ℕ, ◌<◌, List, [], ◌�
 use Rattle.std.specs.Prelude.{slice_get}
 use Rattle.std.specs.Option.{option_map}
 use Rattle.std.proofs.lemmas.List.{get_or-map}
-use Rattle.keep_nodes.specs.AllNodes.{Node, no_node, node_at}
+use Rattle.keep_index_store.specs.AllNodes.{Node, no_node, node_at}
 use Rattle.keep_path.specs.Path.{Part, key, index}
-use Rattle.keep_nodes.specs.Children.{ChildList, holds_of, named, child_ids}
+use Rattle.keep_index_store.specs.Children.{ChildList, holds_of, named, child_ids}
 use Rattle.keep_rules.specs.Lookup.{parent_at, AreAncestors}
-use Rattle.keep_nodes.specs.Trie.{path_at, holds_at, by_key}
-use Rattle.keep_nodes.specs.Stored.{step_at, trie_of, IsStored}
-use Rattle.keep_nodes.proofs.Shared.{path_at-root, one_node, length_trie_of, keyed_node, node_placed}
+use Rattle.keep_index_store.specs.Trie.{path_at, holds_at, by_key}
+use Rattle.keep_index_store.specs.Stored.{step_at, trie_of, IsStored}
+use Rattle.keep_index_store.proofs.Shared.{path_at-root, one_node, length_trie_of, keyed_node, node_placed}
 use Rattle.keep_rules.proofs.ChildLemmas.{path_placed, key_step, no_key_step}
 
 -- ---- the nodes up to the root

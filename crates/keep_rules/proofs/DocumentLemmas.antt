@@ -4,15 +4,15 @@ use Rattle.std.proofs.lemmas.List.{append-nil, length-map, take_all, take_more, 
 use Rattle.std.proofs.lemmas.Option.{slice_get_within, slice_get-get_or}
 use Rattle.keep_syntax.specs.declared.fault.ReadFault.{ReadFault}
 use Rattle.keep_syntax.specs.declared.fault.Why.{Why}
-use Rattle.keep_parts.specs.declared.info.KeyPart.{KeyPart}
-use Rattle.keep_parts.specs.declared.info.Statement.{Statement}
-use Rattle.keep_parts.specs.declared.info.ValueInfo.{ValueInfo}
+use Rattle.keep_types.specs.declared.syntax.KeyPart.{KeyPart}
+use Rattle.keep_types.specs.declared.syntax.Statement.{Statement}
+use Rattle.keep_types.specs.declared.syntax.ValueInfo.{ValueInfo}
 use Rattle.keep_syntax.specs.declared.syntax.Syntax.{Syntax}
 use Rattle.keep_syntax.specs.Contract.{statements_of}
-use Rattle.keep_parts.specs.Flat.{Flat}
+use Rattle.keep_syntax_store.specs.Flat.{Flat}
 use Rattle.keep_syntax.specs.Numbered as syntax
 use Rattle.keep_syntax.specs.Tree.{Document}
-use Rattle.keep_nodes.specs.AllNodes.{Node, no_node}
+use Rattle.keep_index_store.specs.AllNodes.{Node, no_node}
 use Rattle.keep_rules.specs.declared.key_walk.Fault.{Fault}
 use Rattle.keep_path.specs.Path.{Part}
 use Rattle.keep_meaning.specs.Rules.{ObeysRules, IsFirstFaulty}
@@ -21,9 +21,9 @@ use Rattle.keep_meaning.specs.Marks.{Mention, Reading, statement_mentions, next_
 use Rattle.keep_meaning.specs.Meaning.{mentions_in}
 use Rattle.keep_meaning.specs.Counts.{Count, Numbered, numbered_mentions, numbered_from, count_from, no_count, statements_in, numbered_in}
 use Rattle.keep_meaning.specs.Nodes.{node_path, nodes_in, infos_in}
-use Rattle.keep_nodes.specs.Trie.{TrieNode, by_key}
-use Rattle.keep_nodes.specs.Stored.{trie_node_in, trie_of, node_infos}
-use Rattle.keep_nodes.specs.Facts.{NodeInfos, root_infos}
+use Rattle.keep_index_store.specs.Trie.{TrieNode, by_key}
+use Rattle.keep_index_store.specs.Stored.{trie_node_in, trie_of, node_infos}
+use Rattle.keep_path.specs.NodeInfos.{NodeInfos, root_infos}
 use Rattle.keep_rules.specs.MentionInfos.{with_mentions, ValuesAreNew}
 use Rattle.keep_rules.specs.AddedInfos.{AddsValue}
 use Rattle.keep_rules.specs.Reads.{IsReading}

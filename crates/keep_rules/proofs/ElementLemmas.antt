@@ -2,16 +2,16 @@
 use Rattle.std.proofs.Common.{◌≡◌, ℕ, ◌-◌, ◌<◌, true, false, List, [], ◌∷◌, ◌++◌, length, get_or, sym, ◌∙◌, ap, arith}
 use Rattle.std.specs.Prelude.{Contains}
 use Rattle.std.proofs.lemmas.List.{length-map}
-use Rattle.keep_nodes.specs.AllNodes.{Node, no_node, node_at}
+use Rattle.keep_index_store.specs.AllNodes.{Node, no_node, node_at}
 use Rattle.keep_path.specs.Path.{Part, index}
-use Rattle.keep_nodes.specs.Children.{holds_of, child_ids}
-use Rattle.keep_nodes.specs.Trie.{by_index, paths_of, path_at, state_at, holds_at, children_of}
+use Rattle.keep_index_store.specs.Children.{holds_of, child_ids}
+use Rattle.keep_index_store.specs.Trie.{by_index, paths_of, path_at, state_at, holds_at, children_of}
 use Rattle.keep_rules.specs.Tables.{is_tables, IsShaped}
 use Rattle.keep_rules.specs.Represents.{IsLastElement, HasNoElement}
-use Rattle.keep_nodes.specs.Stored.{trie_node_in, trie_of, IsStored}
+use Rattle.keep_index_store.specs.Stored.{trie_node_in, trie_of, IsStored}
 use Rattle.keep_rules.proofs.TablesLemmas.{next_fresh, tables_listed}
 use Rattle.keep_rules.proofs.PassLemmas.{none_empty, none_plain}
-use Rattle.keep_nodes.proofs.Shared.{keyed_node, role_read}
+use Rattle.keep_index_store.proofs.Shared.{keyed_node, role_read}
 
 -- an array's next item
 pub item_fresh : (nodes : List Node) → IsStored nodes → IsShaped (trie_of nodes) → (i : ℕ) → i < length nodes → holds_at (trie_of nodes) i ≡ by_index

@@ -3,7 +3,7 @@ use Rattle.std.proofs.Common.{◌≡◌, ℕ, zero, suc, ◌+◌, List, [], ◌�
 use Rattle.std.specs.List.{filter_map, cons_option}
 use Rattle.std.proofs.lemmas.List.{append-nil, length-take}
 use Rattle.std.proofs.lemmas.Option.{slice_get_within}
-use Rattle.keep_parts.specs.declared.info.Statement.{Statement}
+use Rattle.keep_types.specs.declared.syntax.Statement.{Statement}
 use Rattle.keep_syntax.specs.Tree.{Content, blank, keyval, header, element, Line, Ended, Document, line_leaves, ended_leaves}
 use Rattle.keep_syntax.specs.Numbered as syntax
 use Rattle.keep_syntax.specs.Numbered.{width, over_lines, line_statements, content_statements, content_parts, content_values, content_start, line_start, next_line, first_line}

@@ -2,14 +2,14 @@
 use Rattle.std.proofs.Common.{◌≡◌, ℕ, zero, suc, ◌+◌, List, [], ◌∷◌, ◌++◌, length, map, slice_get, refl, sym, ◌∙◌, ap, subst, arith, append_assoc, Some, None}
 use Rattle.std.specs.List.{filter_map, cons_option, AllZip, AllByRecursion}
 use Rattle.std.proofs.lemmas.List.{append-nil, length-append}
-use Rattle.keep_leaf.specs.declared.leaf.Profile.{Profile}
-use Rattle.keep_leaf.specs.declared.leaf.Leaf.TheVariants as leaf
-use Rattle.keep_parts.specs.declared.info.KeyPart.{KeyPart}
-use Rattle.keep_parts.specs.declared.info.Owner.TheVariants as owner
-use Rattle.keep_parts.specs.declared.info.Start.{Start}
-use Rattle.keep_parts.specs.declared.info.Statement.{Statement}
-use Rattle.keep_parts.specs.declared.info.StatementKind.TheVariants.{KeyVal, Header, Element}
-use Rattle.keep_parts.specs.declared.info.ValueInfo.{ValueInfo}
+use Rattle.keep_types.specs.declared.leaf.Profile.{Profile}
+use Rattle.keep_types.specs.declared.leaf.Leaf.TheVariants as leaf
+use Rattle.keep_types.specs.declared.syntax.KeyPart.{KeyPart}
+use Rattle.keep_types.specs.declared.syntax.Owner.TheVariants as owner
+use Rattle.keep_types.specs.declared.syntax.Start.{Start}
+use Rattle.keep_types.specs.declared.syntax.Statement.{Statement}
+use Rattle.keep_types.specs.declared.syntax.StatementKind.TheVariants.{KeyVal, Header, Element}
+use Rattle.keep_types.specs.declared.syntax.ValueInfo.{ValueInfo}
 use Rattle.keep_syntax.specs.Tree.{Written, Key, Name, Value, Content, blank, keyval, header, element, Line, Ended, Document, token, key_leaves, name_leaves, value_leaves, content_leaves, line_leaves, ended_leaves, text}
 use Rattle.keep_syntax.specs.Grammar.{IsValue, IsContent, IsLine, IsEnded, IsDocument}
 use Rattle.keep_syntax.specs.Numbered as syntax

@@ -3,13 +3,13 @@ use Rattle.std.proofs.Common.{◌≡◌, ℕ, suc, ◌+◌, IsTrue, List, [], �
 use Rattle.std.proofs.lemmas.Bool.{false≢true}
 use Rattle.std.specs.List.{All, AllZip, AllByRecursion}
 use Rattle.std.proofs.lemmas.List.Elements.{All-from_recursion}
-use Rattle.keep_leaf.specs.declared.leaf.Profile.{Profile}
-use Rattle.keep_leaf.specs.declared.leaf.Leaf.{Leaf}
-use Rattle.keep_leaf.specs.declared.leaf.Leaf.TheVariants as leaf
+use Rattle.keep_types.specs.declared.leaf.Profile.{Profile}
+use Rattle.keep_types.specs.declared.leaf.Leaf.{Leaf}
+use Rattle.keep_types.specs.declared.leaf.Leaf.TheVariants as leaf
 use Rattle.keep_token.specs.Leaves.{is_scalar_leaf}
-use Rattle.keep_parts.specs.declared.info.KeyPart.{KeyPart}
-use Rattle.keep_parts.specs.declared.info.Start.{Start}
-use Rattle.keep_parts.specs.declared.info.ValueInfo.{ValueInfo}
+use Rattle.keep_types.specs.declared.syntax.KeyPart.{KeyPart}
+use Rattle.keep_types.specs.declared.syntax.Start.{Start}
+use Rattle.keep_types.specs.declared.syntax.ValueInfo.{ValueInfo}
 use Rattle.keep_syntax.specs.Tree.{Written, Name, token, key_leaves, Body, scalar, array, inline, Entries, none, entry, Value, keyval, name_leaves, named_leaves, opening, closing, comma_leaves, entries_leaves, content_leaves, value_text}
 use Rattle.keep_syntax.specs.Grammar.{Place, in_scalar, in_array, in_inline, place_in, IsNamed, IsBody, AreEntries, IsValue}
 use Rattle.keep_syntax.specs.Contract.{alone, parts_alone, values_alone}
@@ -18,7 +18,7 @@ use Rattle.keep_meaning.specs.Fact.{Fact}
 use Rattle.keep_meaning.specs.Meaning.{scalar_fact, body_fact}
 use Rattle.keep_meaning.specs.Nodes.{fact_kind}
 use Rattle.keep_rules.specs.NestedValues.{nested_fact, entry_nested, nested_values}
-use Rattle.keep_facts.specs.Kinds.{leaf_kind}
+use Rattle.keep_types.specs.Kinds.{leaf_kind}
 use Rattle.keep_rules.specs.FlatValues.{LeafMatches, MatchesNested, IsOwned, OwnsEntries, IsNested, MatchKeyval, MatchAlone}
 use Rattle.keep_rules.proofs.NestedValueLemmas.{fact_is}
 use Rattle.keep_meaning.proofs.Shared.{length-named, length-entries_parts, IsPart, part_whole, part_left, part_right, part_placed, Spelled, spelled_left, spelled_right, keys_mention, keys_within, length-key_parts}

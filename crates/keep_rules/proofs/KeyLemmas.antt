@@ -3,22 +3,22 @@ use Rattle.std.proofs.Common.{◌≡◌, ℕ, zero, suc, ◌+◌, ◌-◌, ◌<�
 use Rattle.std.specs.Prelude.{slice_get}
 use Rattle.std.proofs.lemmas.List.{get_or-map, get_or-take, get_or-drop, take_more, take_all, take-append-drop, drop_more, length-map, length-take, length-take-le, length-drop}
 use Rattle.std.proofs.lemmas.Option.{slice_get_within, get_or_from_slice_get}
-use Rattle.keep_parts.specs.declared.info.KeyPart.{KeyPart}
+use Rattle.keep_types.specs.declared.syntax.KeyPart.{KeyPart}
 use Rattle.keep_syntax.specs.declared.fault.Why.TheVariants.{NotATable, NotByDots}
 use Rattle.keep_rules.specs.declared.keys.Keys.{Keys}
-use Rattle.keep_facts.specs.declared.role.Role.TheVariants.{Through, Dotted}
+use Rattle.keep_types.specs.declared.role.Role.TheVariants.{Through, Dotted}
 use Rattle.keep_path.specs.Path.{Part, key}
 use Rattle.keep_meaning.specs.KeyText.{part_text}
 use Rattle.keep_rules.specs.Keys.{AreKeys, parts_of, key_texts, key_text_at, leading_texts, last_text}
 use Rattle.keep_meaning.specs.KeyText.{keys_in}
-use Rattle.keep_facts.specs.declared.node.Kind.TheVariants as kind
-use Rattle.keep_facts.specs.declared.node.Origin.TheVariants as origin
-use Rattle.keep_nodes.specs.AllNodes.{Node}
+use Rattle.keep_types.specs.declared.node.Kind.TheVariants as kind
+use Rattle.keep_types.specs.declared.node.Origin.TheVariants as origin
+use Rattle.keep_index_store.specs.AllNodes.{Node}
 use Rattle.keep_meaning.specs.Marks.{Mention, passing_mentions}
-use Rattle.keep_nodes.specs.Facts.{named_info}
-use Rattle.keep_nodes.specs.Stored.{trie_of}
+use Rattle.keep_index_store.specs.Facts.{named_info}
+use Rattle.keep_index_store.specs.Stored.{trie_of}
 use Rattle.keep_rules.specs.AddedInfos.{AddsInfo, HeaderAdds, DottedAdds}
-use Rattle.keep_nodes.specs.Trie.{TrieNode, by_key, path_at}
+use Rattle.keep_index_store.specs.Trie.{TrieNode, by_key, path_at}
 use Rattle.keep_rules.specs.Represents.{Represents, IsMarked, Passes, WasRefused, HasNoElement, FaultIn}
 use Rattle.keep_rules.specs.Steps.{Walks, Dots}
 use Rattle.keep_rules.specs.KeyWalks.{walk_mentions, dotted_mentions}

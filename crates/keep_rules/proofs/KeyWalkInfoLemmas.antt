@@ -12,29 +12,29 @@ use Rattle.std.proofs.Common.{◌≡◌, ℕ, ◌+◌, ◌<◌, true, false, con
 use Rattle.std.specs.Prelude.{Contains, ◌==◌, OnOk, IfOk}
 use Rattle.std.proofs.lemmas.List.{append-nil, get_or_default}
 use Rattle.std.proofs.lemmas.List.Sums.{fold-append}
-use Rattle.keep_facts.specs.declared.node.Kind.{Kind}
-use Rattle.keep_facts.specs.declared.node.Kind.TheVariants as kind
-use Rattle.keep_facts.specs.declared.node.Origin.TheVariants as origin
-use Rattle.keep_facts.specs.declared.node.NodeInfo.{NodeInfo}
-use Rattle.keep_nodes.specs.AllNodes.{Node}
-use Rattle.keep_facts.specs.declared.role.Role.TheVariants.{Element, Value}
+use Rattle.keep_types.specs.declared.node.Kind.{Kind}
+use Rattle.keep_types.specs.declared.node.Kind.TheVariants as kind
+use Rattle.keep_types.specs.declared.node.Origin.TheVariants as origin
+use Rattle.keep_types.specs.declared.node.NodeInfo.{NodeInfo}
+use Rattle.keep_index_store.specs.AllNodes.{Node}
+use Rattle.keep_types.specs.declared.role.Role.TheVariants.{Element, Value}
 use Rattle.keep_path.specs.Path.{Part, key, index}
 use Rattle.keep_meaning.specs.Marks as marks
 use Rattle.keep_meaning.specs.Marks.{Mention, through, past, passed, define, element, begun, dotted, value, item, elements_of, passing_mentions, entered_path, statement_mentions, header, element_header}
 use Rattle.keep_meaning.specs.Counts.{Count, Numbered, is_value, count_with_mention, numbered_mentions, count_after}
 use Rattle.keep_meaning.specs.Nodes.{fact_kind}
-use Rattle.keep_nodes.specs.Facts.{named_info, unnamed_info, passed_info}
+use Rattle.keep_index_store.specs.Facts.{named_info, unnamed_info, passed_info}
 use Rattle.keep_rules.specs.MentionInfos.{with_info, with_mentions, mention_info, paths_after, ValuesAreNew}
-use Rattle.keep_nodes.specs.Trie.{Holding, by_key, by_index, paths_of, path_at, children_of}
-use Rattle.keep_nodes.specs.Growth.{Grows}
-use Rattle.keep_nodes.specs.Stored.{trie_of, infos_of, node_infos}
+use Rattle.keep_index_store.specs.Trie.{Holding, by_key, by_index, paths_of, path_at, children_of}
+use Rattle.keep_index_store.specs.Growth.{Grows}
+use Rattle.keep_index_store.specs.Stored.{trie_of, infos_of, node_infos}
 use Rattle.keep_rules.specs.Represents.{IsMarked, IsLastElement, HasNoElement}
 use Rattle.keep_rules.specs.Steps.{Walks, Dots}
 use Rattle.keep_rules.specs.KeyWalks.{walk_path, walk_mentions, dotted_mentions}
 use Rattle.keep_rules.specs.NestedValues.{path_of_value, entries_of_value}
 use Rattle.keep_rules.specs.AddedInfos.{AddsInfo, AddsMentions, HeaderAdds, DottedAdds, StatementAdds, AddsValue, KeyedAdds, ItemAdds, begin_mentions}
 use Rattle.keep_meaning.proofs.Shared.{numbered_mentions-append}
-use Rattle.keep_nodes.proofs.Shared.{length-paths_of, one_node}
+use Rattle.keep_index_store.proofs.Shared.{length-paths_of, one_node}
 use Rattle.keep_rules.proofs.PassLemmas.{passing-none, passing-some, element_place, elements_there}
 use Rattle.keep_rules.proofs.KeyWalkLemmas.{walk_mentions-append, header_way-split, header_path-split, dotted_mentions-append}
 use Rattle.keep_rules.proofs.NextValueLemmas.{keyed_mentions_are}

@@ -12,16 +12,16 @@ use Rattle.std.proofs.Common.{◌≡◌, ℕ, zero, suc, ◌+◌, ◌<◌, ◌�
 use Rattle.std.proofs.lemmas.Bool.{cases_Bool}
 use Rattle.std.proofs.lemmas.List.{append-nil}
 use Rattle.keep_syntax.specs.declared.fault.Why.{Why}
-use Rattle.keep_parts.specs.declared.info.Statement.{Statement}
-use Rattle.keep_parts.specs.declared.info.ValueInfo.{ValueInfo}
-use Rattle.keep_parts.specs.Flat.{Flat}
+use Rattle.keep_types.specs.declared.syntax.Statement.{Statement}
+use Rattle.keep_types.specs.declared.syntax.ValueInfo.{ValueInfo}
+use Rattle.keep_syntax_store.specs.Flat.{Flat}
 use Rattle.keep_syntax.specs.Tree.{Name, Value}
 use Rattle.keep_syntax.specs.Numbered.{value_count}
 use Rattle.keep_rules.specs.declared.keys.Keys.{Keys}
-use Rattle.keep_facts.specs.declared.node.Kind.{Kind}
-use Rattle.keep_nodes.specs.AllNodes.{Node}
-use Rattle.keep_facts.specs.declared.role.Role.{Role}
-use Rattle.keep_facts.specs.declared.role.Role.TheVariants.{Element}
+use Rattle.keep_types.specs.declared.node.Kind.{Kind}
+use Rattle.keep_index_store.specs.AllNodes.{Node}
+use Rattle.keep_types.specs.declared.role.Role.{Role}
+use Rattle.keep_types.specs.declared.role.Role.TheVariants.{Element}
 use Rattle.keep_rules.specs.declared.key_walk.Fault.{Fault}
 use Rattle.keep_meaning.specs.Fact.{Fact, array}
 use Rattle.keep_path.specs.Path.{Part}
@@ -33,9 +33,9 @@ use Rattle.keep_meaning.specs.Counts.{Count, numbered_mentions}
 use Rattle.keep_rules.specs.Keys.{AreKeysAt, AreKeys, key_texts, leading_texts, last_text}
 use Rattle.keep_meaning.specs.KeyText.{keys_in}
 use Rattle.keep_rules.specs.NestedValues.{NestingState, NestedValue, nested_keyed, nested_values, nested_mentions, all_nested_mentions, next_nesting, body_nesting, keyval_nested}
-use Rattle.keep_nodes.specs.Trie.{TrieNode, Holding, by_key, by_index, path_at, state_at}
+use Rattle.keep_index_store.specs.Trie.{TrieNode, Holding, by_key, by_index, path_at, state_at}
 use Rattle.keep_rules.specs.Tables.{is_tables, IsShaped}
-use Rattle.keep_nodes.specs.Stored.{trie_of, node_infos}
+use Rattle.keep_index_store.specs.Stored.{trie_of, node_infos}
 use Rattle.keep_rules.specs.Represents.{Represents, IsOpen, FaultIn}
 use Rattle.keep_rules.specs.Steps.{Gives}
 use Rattle.keep_rules.specs.Reads.{IsValueNode, AreValueNodes}
@@ -43,7 +43,7 @@ use Rattle.keep_rules.specs.Stops.{FaultMeets}
 use Rattle.keep_rules.specs.AddedInfos.{KeyedAdds, AddsValue}
 use Rattle.keep_rules.specs.MentionInfos.{with_mentions, ValuesAreNew}
 use Rattle.keep_rules.specs.NestedReads.{NestedRead}
-use Rattle.keep_facts.specs.Kinds.{leaf_kind}
+use Rattle.keep_types.specs.Kinds.{leaf_kind}
 use Rattle.keep_rules.specs.FlatValues.{leaf_holding}
 use Rattle.keep_rules.specs.FlatStatements.{MatchesKeyvalOf, MatchesStatement}
 use Rattle.keep_rules.specs.Plans.{nodes_so_far, EndsAt, MatchNested, AreNext, RepresentsSome, NestedValuesRead, NestedValuesFault, fault_from}

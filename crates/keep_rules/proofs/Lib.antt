@@ -40,4 +40,5 @@ mod AloneLemmas
 mod NestedLemmas
 mod DocumentLemmas
 mod RefusalLaws
+mod ValueLaws
 pub mod Shared

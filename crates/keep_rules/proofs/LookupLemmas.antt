@@ -10,9 +10,9 @@ use Rattle.std.proofs.lemmas.List.Sums.{fails_before_first}
 use Rattle.std.proofs.lemmas.Bool.Decides.{Decides-eqb, same_from_decides}
 use Rattle.keep_path.specs.Path.{Part, same_part, same_path}
 use Rattle.keep_meaning.specs.Nodes.{node_number, is_child, children}
-use Rattle.keep_nodes.specs.Trie.{TrieNode, link, paths_of, path_at, children_from, children_of, IsTrie}
+use Rattle.keep_index_store.specs.Trie.{TrieNode, link, paths_of, path_at, children_from, children_of, IsTrie}
 use Rattle.keep_path.proofs.Shared.{path_decides}
-use Rattle.keep_nodes.proofs.Shared.{length-paths_of, path_at-link, path_at-root, one_node, child_at, closed}
+use Rattle.keep_index_store.proofs.Shared.{length-paths_of, path_at-link, path_at-root, one_node, child_at, closed}
 
 -- ---- the number of a path
 

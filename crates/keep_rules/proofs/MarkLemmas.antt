@@ -11,19 +11,19 @@
 use Rattle.std.proofs.Common.{◌≡◌, ℕ, ◌<◌, Bool, true, false, ◌&&◌, List, [], ◌∷◌, ◌++◌, length, get_or, refl, sym, ◌∙◌, ap, subst, arith, Option, Some, None, Ok, Err}
 use Rattle.std.specs.Prelude.{IsSome, IfOk, Result}
 use Rattle.std.specs.List.{list_all, cons_option}
-use Rattle.keep_facts.specs.declared.role.Role.{Role}
-use Rattle.keep_facts.specs.declared.role.Role.TheVariants.{Through, Past, Define, Element, Dotted, Value}
+use Rattle.keep_types.specs.declared.role.Role.{Role}
+use Rattle.keep_types.specs.declared.role.Role.TheVariants.{Through, Past, Define, Element, Dotted, Value}
 use Rattle.keep_path.specs.Path.{Part, key}
 use Rattle.keep_meaning.specs.Rules.{allows}
 use Rattle.keep_meaning.specs.Marks.{Mention}
-use Rattle.keep_nodes.specs.Trie.{TrieNode, Holding, by_key, by_index, paths_of, path_at, states_of, state_at, holds_at, children_of}
-use Rattle.keep_nodes.specs.Growth.{Grows, Restates}
+use Rattle.keep_index_store.specs.Trie.{TrieNode, Holding, by_key, by_index, paths_of, path_at, states_of, state_at, holds_at, children_of}
+use Rattle.keep_index_store.specs.Growth.{Grows, Restates}
 use Rattle.keep_meaning.specs.State.{IsState}
 use Rattle.keep_rules.specs.declared.mark.Stop.{Stop}
 use Rattle.keep_rules.specs.RoleStates.{mention_roles, StatesRepresent, IsIndexOf}
 use Rattle.keep_rules.specs.Tables.{is_tables, Fits, IsShaped}
 use Rattle.keep_rules.specs.Represents.{Keeps, KeepsItems, IsMarked, WasRefused}
-use Rattle.keep_nodes.proofs.Shared.{length-paths_of, no_children_past_end, first, longer, path_below, path_last, state_below, state_last, holds_below, holds_last, children_other}
+use Rattle.keep_index_store.proofs.Shared.{length-paths_of, no_children_past_end, first, longer, path_below, path_last, state_below, state_last, holds_below, holds_last, children_other}
 use Rattle.keep_rules.proofs.TablesLemmas.{Joins, key_plain, shaped_grown, tables_joined, begun_joined, begun_others, state_same, kind_same, holds_same, tables_restated, shaped_restated, begun_existing, kind_preserved, kind_made}
 use Rattle.keep_rules.proofs.RoleStateLemmas.{represented_new, represented_existing, refused, obeys_push}
 

@@ -1,13 +1,14 @@
 -- The facts from mentions, part by part, and those from one mention.
 use Rattle.std.proofs.Common.{◌≡◌, List, [], ◌∷◌, ◌++◌, ℕ, refl}
-use Rattle.keep_facts.specs.declared.node.Kind.TheVariants as kind
-use Rattle.keep_facts.specs.declared.node.Origin.TheVariants as origin
+use Rattle.keep_types.specs.declared.node.Kind.TheVariants as kind
+use Rattle.keep_types.specs.declared.node.Origin.TheVariants as origin
 use Rattle.keep_meaning.specs.Fact.{Fact}
 use Rattle.keep_path.specs.Path.{Part}
 use Rattle.keep_meaning.specs.Marks.{through, past, define, element, dotted, value, begun, passed, item}
 use Rattle.keep_meaning.specs.Counts.{Numbered}
 use Rattle.keep_meaning.specs.Nodes.{fact_kind, paths_with}
-use Rattle.keep_nodes.specs.Facts.{NodeInfos, named_info, unnamed_info, passed_info}
+use Rattle.keep_path.specs.NodeInfos.{NodeInfos}
+use Rattle.keep_index_store.specs.Facts.{named_info, unnamed_info, passed_info}
 use Rattle.keep_rules.specs.MentionInfos.{with_info, with_mentions, mention_info, paths_after, ValuesAreNew}
 
 -- ---- part by part

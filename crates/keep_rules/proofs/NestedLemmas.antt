@@ -5,15 +5,15 @@ use Rattle.std.specs.List.{list_all}
 use Rattle.std.specs.Option.{option_and_then}
 use Rattle.std.proofs.lemmas.Bool.Decides.{nat_tests}
 use Rattle.std.proofs.lemmas.Option.{slice_get-get_or}
-use Rattle.keep_facts.specs.declared.role.Role.{Role}
-use Rattle.keep_facts.specs.declared.role.Role.TheVariants.{Element}
+use Rattle.keep_types.specs.declared.role.Role.{Role}
+use Rattle.keep_types.specs.declared.role.Role.TheVariants.{Element}
 use Rattle.keep_meaning.specs.Rules.{allows}
 use Rattle.keep_meaning.specs.Marks.{Mention, elements_of, entered_path}
 use Rattle.keep_meaning.specs.Nodes.{node_paths, node_number, children}
 use Rattle.keep_meaning.specs.State.{IsState}
 use Rattle.keep_path.specs.Path.{Part, key, index}
-use Rattle.keep_nodes.specs.Trie.{TrieNode, IsTrie, paths_of, path_at, state_at, children_of}
-use Rattle.keep_nodes.proofs.Shared.{child_at, length-paths_of}
+use Rattle.keep_index_store.specs.Trie.{TrieNode, IsTrie, paths_of, path_at, state_at, children_of}
+use Rattle.keep_index_store.proofs.Shared.{child_at, length-paths_of}
 use Rattle.keep_rules.specs.RoleStates.{mention_roles}
 use Rattle.keep_rules.specs.Nested.{AreNested}
 use Rattle.keep_rules.specs.Represents.{Represents}

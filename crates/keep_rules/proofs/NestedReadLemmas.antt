@@ -1,7 +1,7 @@
 -- Nested values, read one after another.
 use Rattle.std.proofs.Common.{◌≡◌, ℕ, ◌+◌, ◌<◌, List, [], ◌∷◌, ◌++◌, length, map, get_or, refl, sym, ◌∙◌, ap, subst, arith, if◌then◌else◌, inl, inr}
 use Rattle.std.proofs.lemmas.List.{append_assoc, append-nil}
-use Rattle.keep_facts.specs.declared.node.NodeInfo.{NodeInfo}
+use Rattle.keep_types.specs.declared.node.NodeInfo.{NodeInfo}
 use Rattle.keep_meaning.specs.Fact.{Fact}
 use Rattle.keep_path.specs.Path.{Part}
 use Rattle.keep_meaning.specs.Marks as marks
@@ -9,12 +9,12 @@ use Rattle.keep_meaning.specs.Marks.{Mention, below}
 use Rattle.keep_meaning.specs.Meaning.{keyed_mentions}
 use Rattle.keep_meaning.specs.Counts.{Count, Numbered, numbered_mentions, count_after}
 use Rattle.keep_rules.specs.NestedValues.{NestingState, NestedValue, nested_item, nested_keyed, holding_of, holding_of_value, nested_mentions, all_nested_mentions, nesting_after, next_nesting, path_of_value}
-use Rattle.keep_nodes.specs.Trie.{TrieNode, by_key, by_index}
+use Rattle.keep_index_store.specs.Trie.{TrieNode, by_key, by_index}
 use Rattle.keep_rules.specs.Tables.{IsShaped}
 use Rattle.keep_rules.specs.Represents.{Represents, Keeps}
 use Rattle.keep_rules.specs.Steps.{Gives, AddsItem}
 use Rattle.keep_rules.specs.Reads.{AreValueNodes}
-use Rattle.keep_nodes.specs.Facts.{NodeInfos}
+use Rattle.keep_path.specs.NodeInfos.{NodeInfos}
 use Rattle.keep_rules.specs.MentionInfos.{with_info, with_info_at, with_mentions, mention_info, paths_after, ValuesAreNew}
 use Rattle.keep_rules.specs.NestedReads.{HasKeys, nested_keys, NodesSoFar, NestedRead}
 use Rattle.keep_meaning.proofs.Shared.{numbered_mentions-append, count_after-keys, count_after-values, valued, valued-append, valued-keyed, valued-below, marked-keyed, marked-below}

@@ -8,7 +8,7 @@ use Rattle.keep_path.specs.Path.{Part, key, index}
 use Rattle.keep_meaning.specs.Marks as marks
 use Rattle.keep_meaning.specs.Marks.{Mention, below}
 use Rattle.keep_meaning.specs.Meaning.{key_value, further_value, keys_of, body_fact, keyed_mentions, entry_mentions, entries_mentions, keyval_mentions}
-use Rattle.keep_nodes.specs.Trie.{Holding, nothing, by_key}
+use Rattle.keep_index_store.specs.Trie.{Holding, nothing, by_key}
 use Rattle.keep_rules.specs.NestedValues.{NestedValue, nested_keyed, holding_of, entry_nested, nested_values, NestingState, path_of_value, entries_of_value, holding_of_value, nested_mentions, nested_path, nested_owner, nested_fact, next_nesting, all_nested_mentions, nesting_after, body_nesting, value_nesting, keyval_nested}
 use Rattle.keep_rules.proofs.KeyWalkLemmas.{below-below}
 

@@ -7,7 +7,7 @@ use Rattle.keep_path.specs.Path.{Part, key, index}
 use Rattle.keep_meaning.specs.Marks as marks
 use Rattle.keep_meaning.specs.Marks.{Mention, below}
 use Rattle.keep_meaning.specs.Meaning.{keyed_mentions}
-use Rattle.keep_nodes.specs.Trie.{TrieNode, by_key, by_index, path_at, holds_at, children_of}
+use Rattle.keep_index_store.specs.Trie.{TrieNode, by_key, by_index, path_at, holds_at, children_of}
 use Rattle.keep_rules.specs.Represents.{Keeps, Represents}
 use Rattle.keep_rules.specs.KeyWalks.{dotted_mentions}
 use Rattle.keep_rules.specs.Steps.{IsMade, Gives, AddsItem}

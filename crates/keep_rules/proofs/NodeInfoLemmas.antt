@@ -17,17 +17,17 @@ use Rattle.std.proofs.lemmas.List.Folds.{list_any-append}
 use Rattle.std.proofs.lemmas.List.Sums.{sum_by-cons}
 use Rattle.std.proofs.lemmas.Bool.Decides.{nat_tests}
 use Rattle.std.proofs.Math.Bool.{or-false}
-use Rattle.keep_facts.specs.declared.node.Kind.{Kind}
-use Rattle.keep_facts.specs.declared.node.Kind.TheVariants as kind
-use Rattle.keep_facts.specs.declared.node.Origin.{Origin}
-use Rattle.keep_facts.specs.declared.node.Origin.TheVariants as origin
-use Rattle.keep_facts.specs.declared.node.NodeInfo.{NodeInfo}
+use Rattle.keep_types.specs.declared.node.Kind.{Kind}
+use Rattle.keep_types.specs.declared.node.Kind.TheVariants as kind
+use Rattle.keep_types.specs.declared.node.Origin.{Origin}
+use Rattle.keep_types.specs.declared.node.Origin.TheVariants as origin
+use Rattle.keep_types.specs.declared.node.NodeInfo.{NodeInfo}
 use Rattle.keep_meaning.specs.Fact.{Fact, table}
 use Rattle.keep_path.specs.Path.{Part}
 use Rattle.keep_meaning.specs.Marks.{MentionKind, through, past, define, element, dotted, value, begun, passed, item, fact_of}
 use Rattle.keep_meaning.specs.Counts.{Count, Numbered, is_value, is_mark}
 use Rattle.keep_meaning.specs.Nodes.{first_of, is_through, is_define, is_element, is_dotted, is_begun, is_passed, kind_or_table, mentioned_kind, mention_kind_of, last_number, first_number, statement_number, value_number, key_number, first_that_fits, mentioned_origin, mentioned_node, node_info}
-use Rattle.keep_nodes.specs.Facts.{later_kind, later_origin, joined_info}
+use Rattle.keep_index_store.specs.Facts.{later_kind, later_origin, joined_info}
 use Rattle.keep_rules.specs.MentionInfos.{mention_info}
 use Rattle.keep_meaning.proofs.Shared.{marks-more, last_number-more, or_number, first_number-more, passed-more}
 

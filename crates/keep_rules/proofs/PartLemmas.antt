@@ -1,8 +1,8 @@
 -- How many key parts a text can have.
 use Rattle.std.proofs.Common.{◌≤◌, ◌-◌, ◌^◌, length, map, arith}
 use Rattle.std.proofs.lemmas.List.{length-append, length-map}
-use Rattle.keep_parts.specs.declared.parts.Parts.{Parts}
-use Rattle.keep_parts.specs.Flat.{flat, unpacked_key_part}
+use Rattle.keep_syntax_store.specs.declared.parts.Parts.{Parts}
+use Rattle.keep_syntax_store.specs.Flat.{flat, unpacked_key_part}
 
 -- a machine word counts them, since each of the two vectors has less than 2 ^ 63
 pub few_keys : (parts : Parts) → length (flat parts).keys ≤ 2 ^ 64 - 1

@@ -15,20 +15,20 @@ use Rattle.std.proofs.lemmas.List.{append-nil, append_assoc, length-map}
 use Rattle.std.proofs.lemmas.List.Folds.{list_all-append}
 use Rattle.std.proofs.lemmas.Bool.Decides.{Decides-eqb}
 use Rattle.std.proofs.lemmas.Bool.{cases_Bool}
-use Rattle.keep_facts.specs.declared.role.Role.{Role}
-use Rattle.keep_facts.specs.declared.role.Role.TheVariants.{Through, Past, Define, Element, Dotted, Value}
+use Rattle.keep_types.specs.declared.role.Role.{Role}
+use Rattle.keep_types.specs.declared.role.Role.TheVariants.{Through, Past, Define, Element, Dotted, Value}
 use Rattle.keep_path.specs.Path.{Part, key, index}
 use Rattle.keep_meaning.specs.Rules.{allows}
 use Rattle.keep_meaning.specs.Marks.{through, past, passed, Mention, elements_of, passing_mentions, entered_path}
-use Rattle.keep_nodes.specs.Trie.{TrieNode, Holding, by_key, by_index, IsTrie, paths_of, path_at, states_of, state_at, holds_at, children_of}
+use Rattle.keep_index_store.specs.Trie.{TrieNode, Holding, by_key, by_index, IsTrie, paths_of, path_at, states_of, state_at, holds_at, children_of}
 use Rattle.keep_meaning.specs.State.{IsState}
-use Rattle.keep_nodes.specs.AllNodes.{Node}
-use Rattle.keep_nodes.specs.Stored.{trie_node_in, trie_of}
+use Rattle.keep_index_store.specs.AllNodes.{Node}
+use Rattle.keep_index_store.specs.Stored.{trie_node_in, trie_of}
 use Rattle.keep_rules.specs.declared.mark.Stop.{Stop}
 use Rattle.keep_rules.specs.Tables.{is_tables, Fits, IsShaped}
 use Rattle.keep_rules.specs.RoleStates.{mention_roles, StatesRepresent, IsIndexOf}
 use Rattle.keep_rules.specs.Represents.{Keeps, IsMarked, Represents, Passes, IsLastElement, HasNoElement}
-use Rattle.keep_nodes.proofs.Shared.{length-paths_of, child_at, first}
+use Rattle.keep_index_store.proofs.Shared.{length-paths_of, child_at, first}
 use Rattle.keep_rules.proofs.RoleStateLemmas.{represented_same, obeys_push, obeys_bare, false_ne}
 use Rattle.keep_rules.proofs.TablesLemmas.{tables_listed}
 use Rattle.keep_rules.proofs.MarkLemmas.{state_represents}

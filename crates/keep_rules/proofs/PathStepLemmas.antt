@@ -6,15 +6,15 @@ use Rattle.std.specs.Option.{option_map}
 use Rattle.std.proofs.lemmas.Bool.Decides.{eqb_tells}
 use Rattle.std.proofs.lemmas.Grind.{flat_map-append}
 use Rattle.keep_token.specs.Encoded.{encoded_key}
-use Rattle.keep_nodes.specs.AllNodes.{Node, no_node}
-use Rattle.keep_nodes.specs.Children.{named}
+use Rattle.keep_index_store.specs.AllNodes.{Node, no_node}
+use Rattle.keep_index_store.specs.Children.{named}
 use Rattle.keep_rules.specs.Lookup.{parent_at}
 use Rattle.keep_path.specs.Path.{Part, key, index}
 use Rattle.keep_path.specs.PathText.{encoded_path, first_text, part_text, index_text}
-use Rattle.keep_nodes.specs.Stored.{trie_of}
-use Rattle.keep_nodes.specs.Trie.{path_at}
+use Rattle.keep_index_store.specs.Stored.{trie_of}
+use Rattle.keep_index_store.specs.Trie.{path_at}
 use Rattle.keep_rules.proofs.ClimbLemmas.{IsRead, kids_at, earlier, key_last, index_last, parent_read}
-use Rattle.keep_nodes.proofs.Shared.{length_trie_of, path_at-root, one_node}
+use Rattle.keep_index_store.proofs.Shared.{length_trie_of, path_at-root, one_node}
 
 -- a step as it is written after a path
 abbrev step_text : List Part → Part → List ℕ

@@ -12,12 +12,12 @@ use Rattle.std.proofs.Common.{◌≡◌, ℕ, ◌+◌, ◌-◌, ◌<◌, ◌≤�
 use Rattle.std.proofs.lemmas.List.{length-map}
 use Rattle.std.proofs.lemmas.List.Elements.{filter_map-append}
 use Rattle.keep_syntax.specs.declared.fault.Why.{Why}
-use Rattle.keep_parts.specs.declared.info.KeyPart.{KeyPart}
-use Rattle.keep_parts.specs.declared.info.Owner.TheVariants as owner
-use Rattle.keep_parts.specs.declared.info.ValueInfo.{ValueInfo}
-use Rattle.keep_parts.specs.Flat.{Flat}
-use Rattle.keep_facts.specs.declared.node.Kind.{Kind}
-use Rattle.keep_nodes.specs.AllNodes.{Node}
+use Rattle.keep_types.specs.declared.syntax.KeyPart.{KeyPart}
+use Rattle.keep_types.specs.declared.syntax.Owner.TheVariants as owner
+use Rattle.keep_types.specs.declared.syntax.ValueInfo.{ValueInfo}
+use Rattle.keep_syntax_store.specs.Flat.{Flat}
+use Rattle.keep_types.specs.declared.node.Kind.{Kind}
+use Rattle.keep_index_store.specs.AllNodes.{Node}
 use Rattle.keep_rules.specs.declared.keys.Keys.{Keys}
 use Rattle.keep_rules.specs.declared.key_walk.Fault.{Fault}
 use Rattle.keep_rules.specs.declared.key_walk.Fault.TheVariants as fault
@@ -29,8 +29,8 @@ use Rattle.keep_meaning.specs.Marks as marks
 use Rattle.keep_meaning.specs.Marks.{Mention, mark_of}
 use Rattle.keep_meaning.specs.Counts.{Count}
 use Rattle.keep_rules.specs.NestedValues.{NestingState, NestedValue, nested_item, nested_keyed, path_of_value, holding_of_value, nested_mentions}
-use Rattle.keep_nodes.specs.Trie.{TrieNode, Holding, by_key, by_index, path_at, state_at, holds_at, children_of}
-use Rattle.keep_nodes.specs.Stored.{trie_node_in, trie_of, node_infos}
+use Rattle.keep_index_store.specs.Trie.{TrieNode, Holding, by_key, by_index, path_at, state_at, holds_at, children_of}
+use Rattle.keep_index_store.specs.Stored.{trie_node_in, trie_of, node_infos}
 use Rattle.keep_rules.specs.Tables.{is_tables}
 use Rattle.keep_rules.specs.Represents.{Represents, FaultIn}
 use Rattle.keep_rules.specs.Steps.{AddsItem, Gives}
@@ -38,7 +38,7 @@ use Rattle.keep_rules.specs.Reads.{IsValueNode, AreValueNodes}
 use Rattle.keep_rules.specs.Stops.{FaultMeets}
 use Rattle.keep_rules.specs.AddedInfos.{ItemAdds, KeyedAdds, AddsValue}
 use Rattle.keep_rules.specs.NestedReads.{NestedRead}
-use Rattle.keep_facts.specs.Kinds.{leaf_kind}
+use Rattle.keep_types.specs.Kinds.{leaf_kind}
 use Rattle.keep_rules.specs.FlatValues.{leaf_holding}
 use Rattle.keep_rules.specs.Plans.{AreReadable, nodes_so_far, IsNext, RepresentsSome, FaultFrom, NestedValueRead, NestedValueFaults, fault_from}
 use Rattle.keep_rules.proofs.KeyLemmas.{texts_split, length-keys_in}

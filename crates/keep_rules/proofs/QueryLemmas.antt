@@ -6,17 +6,18 @@ use Rattle.std.proofs.lemmas.List.{length-map, get_or-map, take-append-drop, tak
 use Rattle.std.proofs.lemmas.Option.{slice_get-get_or, slice_get_within, get_or_from_slice_get, option_and_then_some}
 use Rattle.std.proofs.Math.Seq.{take-suc}
 use Rattle.keep_rules.specs.declared.index.NodeId.{NodeId}
-use Rattle.keep_nodes.specs.AllNodes.{Node, no_node, node_at}
-use Rattle.keep_facts.specs.declared.node.Kind.{Kind}
-use Rattle.keep_facts.specs.declared.node.NodeInfo.{NodeInfo}
+use Rattle.keep_index_store.specs.AllNodes.{Node, no_node, node_at}
+use Rattle.keep_types.specs.declared.node.Kind.{Kind}
+use Rattle.keep_types.specs.declared.node.NodeInfo.{NodeInfo}
 use Rattle.keep_path.specs.Path.{EndsInKey, Part, beside, index, last_part}
 use Rattle.keep_meaning.specs.Nodes.{node_number}
-use Rattle.keep_nodes.specs.Children.{child_ids}
+use Rattle.keep_index_store.specs.Children.{child_ids}
 use Rattle.keep_rules.specs.Lookup.{number_of, path_numbered, children_numbered, nth_child}
-use Rattle.keep_nodes.specs.Stored.{trie_node_in, trie_of, node_infos, infos_of, info_at, IsStored}
-use Rattle.keep_nodes.specs.Facts.{NodeInfos, info_of, with_kind}
-use Rattle.keep_nodes.specs.Trie.{TrieNode, path_at, paths_of}
-use Rattle.keep_nodes.proofs.Shared.{length-paths_of, path_at-root, length_trie_of}
+use Rattle.keep_index_store.specs.Stored.{trie_node_in, trie_of, node_infos, infos_of, info_at, IsStored}
+use Rattle.keep_path.specs.NodeInfos.{NodeInfos, with_kind}
+use Rattle.keep_index_store.specs.Facts.{info_of}
+use Rattle.keep_index_store.specs.Trie.{TrieNode, path_at, paths_of}
+use Rattle.keep_index_store.proofs.Shared.{length-paths_of, path_at-root, length_trie_of}
 use Rattle.keep_rules.proofs.LookupLemmas.{number_is, number_some, none_longer, none_there, nth_is, count_is}
 use Rattle.keep_rules.proofs.ChildLemmas.{child_by, stepped, index_is_place}
 

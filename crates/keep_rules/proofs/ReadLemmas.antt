@@ -3,15 +3,15 @@ use Rattle.std.proofs.Common.{◌≡◌, ℕ, zero, suc, ◌+◌, ◌<◌, false
 use Rattle.std.proofs.lemmas.List.{append_assoc, append-nil, take-append-drop, drop_more}
 use Rattle.keep_syntax.specs.Tree.{Name, Value}
 use Rattle.keep_syntax.specs.declared.fault.Why.{Why}
-use Rattle.keep_facts.specs.declared.role.Role.{Role}
-use Rattle.keep_facts.specs.declared.role.Role.TheVariants.{Define}
+use Rattle.keep_types.specs.declared.role.Role.{Role}
+use Rattle.keep_types.specs.declared.role.Role.TheVariants.{Define}
 use Rattle.keep_path.specs.Path.{Part, key, index}
 use Rattle.keep_meaning.specs.Rules.{IsFirstFaulty, ObeysRules}
 use Rattle.keep_meaning.specs.Marks as marks
 use Rattle.keep_meaning.specs.Marks.{Mention, Statement, Reading, statement_mentions, next_reading, mentions_from, reading_after, mentions, start, elements_of, header, element_header, keyval, define}
 use Rattle.keep_meaning.specs.Meaning.{keyval_mentions}
 use Rattle.keep_meaning.specs.Nodes.{node_paths}
-use Rattle.keep_nodes.specs.Trie.{TrieNode, by_key, paths_of, path_at, state_at, children_of}
+use Rattle.keep_index_store.specs.Trie.{TrieNode, by_key, paths_of, path_at, state_at, children_of}
 use Rattle.keep_meaning.specs.State.{IsState}
 use Rattle.keep_rules.specs.RoleStates.{IsIndexOf}
 use Rattle.keep_rules.specs.Tables.{is_tables, IsShaped}

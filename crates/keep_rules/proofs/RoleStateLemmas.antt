@@ -9,7 +9,7 @@ use Rattle.std.proofs.lemmas.List.Sums.{fold-append}
 use Rattle.std.proofs.lemmas.List.Folds.{list_all_at}
 use Rattle.std.proofs.lemmas.List.Quantifiers.{all_pairs_push}
 use Rattle.std.proofs.lemmas.Bool.{cases_lt, cases_eq, cases_Bool}
-use Rattle.keep_facts.specs.declared.role.Role.{Role}
+use Rattle.keep_types.specs.declared.role.Role.{Role}
 use Rattle.keep_path.specs.Path.{Part, same_path}
 use Rattle.keep_meaning.specs.Rules.{Mark, allows, Allows, ObeysRules, IsRefused}
 use Rattle.keep_meaning.specs.Marks.{Mention, marks, mark_of, with_path, role_of}

@@ -3,20 +3,21 @@ use Rattle.std.proofs.Common.{◌≡◌, ℕ, zero, suc, ◌<◌, List, [], ◌�
 use Rattle.keep_syntax.specs.declared.fault.ReadFault.{ReadFault}
 use Rattle.keep_syntax.specs.declared.fault.ReadFault.TheVariants as faults
 use Rattle.keep_syntax.specs.declared.fault.Why.{Why}
-use Rattle.keep_parts.specs.declared.info.KeyPart.{KeyPart}
-use Rattle.keep_nodes.specs.AllNodes.{Node}
-use Rattle.keep_nodes.specs.declared.facts.NodeFacts.{NodeFacts}
+use Rattle.keep_types.specs.declared.syntax.KeyPart.{KeyPart}
+use Rattle.keep_index_store.specs.AllNodes.{Node}
+use Rattle.keep_index_store.specs.declared.facts.NodeFacts.{NodeFacts}
 use Rattle.keep_rules.specs.declared.key_walk.Fault.{Fault}
 use Rattle.keep_rules.specs.declared.key_walk.Fault.TheVariants as fault
-use Rattle.keep_nodes.specs.Children.{ChildList, holds_of, child_ids}
+use Rattle.keep_index_store.specs.Children.{ChildList, holds_of, child_ids}
 use Rattle.keep_meaning.specs.Faults.{IsFirstFaultAt}
 use Rattle.keep_meaning.specs.Rules.{Mark, IsFirstFaulty}
 use Rattle.keep_rules.specs.Roots.{IsRoot}
 use Rattle.keep_rules.specs.Represents.{Represents}
 use Rattle.keep_rules.specs.Stops.{FaultMeets}
-use Rattle.keep_nodes.specs.Stored.{AreNumbered, trie_node_in, trie_of}
-use Rattle.keep_nodes.specs.Facts.{NodeInfos, info_of, no_info}
-use Rattle.keep_nodes.specs.Trie.{TrieNode, Holding, children_of}
+use Rattle.keep_index_store.specs.Stored.{AreNumbered, trie_node_in, trie_of}
+use Rattle.keep_path.specs.NodeInfos.{NodeInfos, no_info}
+use Rattle.keep_index_store.specs.Facts.{info_of}
+use Rattle.keep_index_store.specs.Trie.{TrieNode, Holding, children_of}
 use Rattle.keep_rules.specs.ReadDocuments.{IsFaultAt}
 use Rattle.keep_rules.proofs.ReadLemmas.{root_represents}
 

@@ -3,3 +3,4 @@ pub use Rattle.keep_rules.proofs.AllInfoLemmas.{met_or_unmet, node_paths-distinc
 pub use Rattle.keep_rules.proofs.FlatValueLemmas.{kind_of_body}
 pub use Rattle.keep_rules.proofs.LookupLemmas.{child_push, no_child_root, number_is}
 pub use Rattle.keep_rules.proofs.RoleStateLemmas.{one_place}
+pub use Rattle.keep_rules.proofs.ValueLaws.{strict_value}

@@ -4,16 +4,16 @@ use Rattle.std.specs.Prelude.{slice_get}
 use Rattle.std.specs.Option.{option_map, option_and_then}
 use Rattle.std.proofs.lemmas.List.{get_or-map, length-map}
 use Rattle.std.proofs.lemmas.Option.{slice_get-map, slice_get_within, get_or_from_slice_get}
-use Rattle.keep_parts.specs.declared.info.KeyPart.{KeyPart}
-use Rattle.keep_parts.specs.declared.info.ValueInfo.{ValueInfo}
+use Rattle.keep_types.specs.declared.syntax.KeyPart.{KeyPart}
+use Rattle.keep_types.specs.declared.syntax.ValueInfo.{ValueInfo}
 use Rattle.keep_syntax.specs.Tree.{Document}
-use Rattle.keep_facts.specs.declared.node.NodeInfo.{NodeInfo}
-use Rattle.keep_facts.specs.declared.node.Origin.{Origin}
-use Rattle.keep_facts.specs.declared.node.Origin.TheVariants as origin
+use Rattle.keep_types.specs.declared.node.NodeInfo.{NodeInfo}
+use Rattle.keep_types.specs.declared.node.Origin.{Origin}
+use Rattle.keep_types.specs.declared.node.Origin.TheVariants as origin
 use Rattle.keep_path.specs.Path.{Part}
 use Rattle.keep_meaning.specs.Counts.{Numbered, is_value, numbered_in}
 use Rattle.keep_meaning.specs.Nodes.{Node, is_through, is_define, is_element, is_dotted, is_begun, last_number, statement_number, value_number, mention_of, node_paths, numbered_at, node_at, node_info, nodes_in, key_span, value_span, key_span_of, value_span_of}
-use Rattle.keep_nodes.specs.Facts.{NodeInfos}
+use Rattle.keep_path.specs.NodeInfos.{NodeInfos}
 use Rattle.keep_rules.specs.ReadDocuments.{IsIndexOf}
 use Rattle.keep_rules.proofs.NodeInfoLemmas.{placed}
 

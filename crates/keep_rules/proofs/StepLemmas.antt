@@ -2,17 +2,17 @@
 use Rattle.std.proofs.Common.{◌≡◌, ℕ, ◌<◌, true, false, cond, List, [], ◌∷◌, ◌++◌, length, map, refl, sym, ◌∙◌, ap, subst, arith, None}
 use Rattle.std.specs.Prelude.{Contains}
 use Rattle.std.proofs.lemmas.List.{append_assoc, append-nil, map-append}
-use Rattle.keep_facts.specs.declared.role.Role.TheVariants.{Element, Dotted, Value}
+use Rattle.keep_types.specs.declared.role.Role.TheVariants.{Element, Dotted, Value}
 use Rattle.keep_path.specs.Path.{Part, key, index}
 use Rattle.keep_meaning.specs.Marks.{Mention, elements_of, element, begun, dotted, value, item, passing_mentions, entered_path}
-use Rattle.keep_nodes.specs.Trie.{TrieNode, Holding, by_key, by_index, paths_of, path_at, states_of, state_at, holds_at, children_of}
-use Rattle.keep_nodes.specs.Growth.{Grows}
+use Rattle.keep_index_store.specs.Trie.{TrieNode, Holding, by_key, by_index, paths_of, path_at, states_of, state_at, holds_at, children_of}
+use Rattle.keep_index_store.specs.Growth.{Grows}
 use Rattle.keep_rules.specs.RoleStates.{StatesRepresent, IsIndexOf}
 use Rattle.keep_rules.specs.Tables.{is_tables, IsShaped, AreTables}
 use Rattle.keep_rules.specs.Represents.{Keeps, KeepsItems, IsMarked, Represents, IsOpen, Passes, Begins}
 use Rattle.keep_rules.specs.KeyWalks.{walk_path, walk_mentions, dotted_mentions}
 use Rattle.keep_rules.specs.Steps.{Walks, Dots, Gives, AddsItem}
-use Rattle.keep_nodes.proofs.Shared.{path_at-root, push_same, no_children_past_end, first, longer, path_last, state_last, holds_last, children_other, children_here}
+use Rattle.keep_index_store.proofs.Shared.{path_at-root, push_same, no_children_past_end, first, longer, path_last, state_last, holds_last, children_other, children_here}
 use Rattle.keep_rules.proofs.RoleStateLemmas.{represented_new}
 use Rattle.keep_rules.proofs.TablesLemmas.{Joins, tables_begun, begun_begun, element_joins, shaped_grown, tables_joined, begun_joined}
 use Rattle.keep_rules.proofs.MarkLemmas.{represented_along, keeps_grown}

@@ -5,14 +5,14 @@ use Rattle.std.proofs.lemmas.List.{append_assoc, append-nil}
 use Rattle.std.proofs.lemmas.List.Elements.{filter_map-append}
 use Rattle.keep_syntax.specs.declared.fault.Why.{Why}
 use Rattle.keep_syntax.specs.declared.fault.Why.TheVariants.{NotATable, DefinedTwice, NotAnArray, NotByDots, DuplicateKey}
-use Rattle.keep_facts.specs.declared.role.Role.{Role}
-use Rattle.keep_facts.specs.declared.role.Role.TheVariants.{Through, Define, Element, Dotted, Value}
+use Rattle.keep_types.specs.declared.role.Role.{Role}
+use Rattle.keep_types.specs.declared.role.Role.TheVariants.{Through, Define, Element, Dotted, Value}
 use Rattle.keep_meaning.specs.Fact.{Fact}
 use Rattle.keep_path.specs.Path.{Part, key, index}
 use Rattle.keep_meaning.specs.Rules.{Mark, ObeysRules, IsRefused, IsFirstFaulty, why_of}
 use Rattle.keep_meaning.specs.Marks as marks
 use Rattle.keep_meaning.specs.Marks.{Mention, MentionKind, role_of, with_path, mark_of, elements_of, entered_path, passing_mentions, header, element_header}
-use Rattle.keep_nodes.specs.Trie.{TrieNode, path_at}
+use Rattle.keep_index_store.specs.Trie.{TrieNode, path_at}
 use Rattle.keep_rules.specs.Represents.{Represents, WasRefused, HasNoElement, FaultIn}
 use Rattle.keep_rules.specs.KeyWalks.{walk_path, walk_mentions, dotted_mentions}
 use Rattle.keep_rules.specs.Steps.{Walks, Dots}

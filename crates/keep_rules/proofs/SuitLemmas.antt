@@ -1,6 +1,6 @@
 -- The values of a document fit what they are in: items arrays, and what has a key inline tables and bodies.
 use Rattle.std.proofs.Common.{◌≡◌, ℕ, suc, ◌+◌, ◌<◌, List, [], ◌∷◌, ◌++◌, length, refl, sym, ◌∙◌, ap, subst, arith, Option, Some, None}
-use Rattle.keep_leaf.specs.declared.leaf.Profile.{Profile}
+use Rattle.keep_types.specs.declared.leaf.Profile.{Profile}
 use Rattle.keep_syntax.specs.Tree.{Name, Body, scalar, array, inline, Entries, none, entry, Value}
 use Rattle.std.proofs.lemmas.List.{append-nil}
 use Rattle.keep_syntax.specs.Grammar.{Place, in_scalar, in_array, in_inline, place_in, IsNamed, AreEntries, IsValue}
@@ -8,7 +8,7 @@ use Rattle.keep_syntax.specs.Numbered.{value_count}
 use Rattle.keep_meaning.specs.Fact.{Fact}
 use Rattle.keep_path.specs.Path.{Part}
 use Rattle.keep_meaning.specs.Meaning.{body_fact}
-use Rattle.keep_nodes.specs.Trie.{Holding, nothing, by_key, by_index}
+use Rattle.keep_index_store.specs.Trie.{Holding, nothing, by_key, by_index}
 use Rattle.keep_rules.specs.NestedValues.{NestedValue, holding_of, entry_nested, nested_values, NestingState, holding_of_value, next_nesting, nesting_after, Suits, AllSuit, NameSuits, EntriesSuit, body_nesting, value_nesting, keyval_nested}
 use Rattle.keep_rules.proofs.NestedValueLemmas.{HasValues, next_values, new_holding, nested_stay, Stays, next_stays, fact_is, owner_is}
 

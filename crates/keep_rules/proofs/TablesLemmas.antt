@@ -14,18 +14,18 @@ use Rattle.std.proofs.lemmas.List.{get_or_append_left, get_or_push, get_or-set_s
 use Rattle.std.proofs.lemmas.List.Elements.{Contains-append_left, Contains-get_or}
 use Rattle.std.proofs.lemmas.List.Sums.{fold-append}
 use Rattle.std.proofs.lemmas.Bool.{cases_lt, cases_eq, cases_Bool, cond-false}
-use Rattle.keep_facts.specs.declared.role.Role.{Role}
-use Rattle.keep_facts.specs.declared.role.Role.TheVariants.{Through, Past, Define, Element, Dotted, Value}
+use Rattle.keep_types.specs.declared.role.Role.{Role}
+use Rattle.keep_types.specs.declared.role.Role.TheVariants.{Through, Past, Define, Element, Dotted, Value}
 use Rattle.keep_path.specs.Path.{Part, key, index, same_path}
 use Rattle.keep_meaning.specs.Rules.{allows}
 use Rattle.keep_meaning.specs.Marks.{elements_of}
-use Rattle.keep_nodes.specs.Trie.{TrieNode, Holding, nothing, by_key, by_index, IsTrie, paths_of, path_at, states_of, state_at, holds_at, children_of}
-use Rattle.keep_nodes.specs.Growth.{Grows, Restates}
+use Rattle.keep_index_store.specs.Trie.{TrieNode, Holding, nothing, by_key, by_index, IsTrie, paths_of, path_at, states_of, state_at, holds_at, children_of}
+use Rattle.keep_index_store.specs.Growth.{Grows, Restates}
 use Rattle.keep_meaning.specs.State.{IsState}
 use Rattle.keep_rules.specs.Tables.{is_tables, Fits, IsShaped, AreTables, AllBegun}
 use Rattle.keep_path.proofs.Shared.{path_decides}
 use Rattle.keep_rules.proofs.RoleStateLemmas.{false_ne}
-use Rattle.keep_nodes.proofs.Shared.{child_at, push_same, one_node, no_child, many, first, longer, path_below, path_last, state_below, state_last, holds_below, holds_last, children_other, children_here, children_last}
+use Rattle.keep_index_store.proofs.Shared.{child_at, push_same, one_node, no_child, many, first, longer, path_below, path_last, state_below, state_last, holds_below, holds_last, children_other, children_here, children_last}
 
 -- ---- what a node is
 

@@ -13,16 +13,16 @@ use Rattle.std.proofs.lemmas.List.{append_assoc, append-nil}
 use Rattle.std.proofs.lemmas.List.Elements.{filter_map-append}
 use Rattle.std.proofs.lemmas.Option.{slice_get_within}
 use Rattle.keep_syntax.specs.declared.fault.Why.{Why}
-use Rattle.keep_parts.specs.declared.info.Owner.{Owner}
-use Rattle.keep_parts.specs.declared.info.Owner.TheVariants as owner
-use Rattle.keep_parts.specs.declared.info.ValueInfo.{ValueInfo}
-use Rattle.keep_parts.specs.Flat.{Flat}
-use Rattle.keep_nodes.specs.AllNodes.{Node}
+use Rattle.keep_types.specs.declared.syntax.Owner.{Owner}
+use Rattle.keep_types.specs.declared.syntax.Owner.TheVariants as owner
+use Rattle.keep_types.specs.declared.syntax.ValueInfo.{ValueInfo}
+use Rattle.keep_syntax_store.specs.Flat.{Flat}
+use Rattle.keep_index_store.specs.AllNodes.{Node}
 use Rattle.keep_rules.specs.declared.key_walk.Fault.{Fault}
 use Rattle.keep_meaning.specs.Marks as marks
 use Rattle.keep_meaning.specs.Marks.{Mention, mark_of}
 use Rattle.keep_rules.specs.NestedValues.{NestingState, NestedValue, nested_item, nested_keyed, AllSuit, nested_mentions, all_nested_mentions, nesting_after, next_nesting}
-use Rattle.keep_nodes.specs.Stored.{trie_of}
+use Rattle.keep_index_store.specs.Stored.{trie_of}
 use Rattle.keep_rules.specs.Tables.{IsShaped}
 use Rattle.keep_rules.specs.Represents.{FaultIn}
 use Rattle.keep_rules.specs.Reads.{AreValueNodes}

@@ -1,19 +1,20 @@
 -- The facts that reading a part of the document adds to the nodes.
 use Rattle.std.specs.Prelude.{◌≡◌, ℕ, List, [], ◌∷◌, ◌++◌, length}
-use Rattle.keep_facts.specs.declared.node.Kind.{Kind}
-use Rattle.keep_facts.specs.declared.node.NodeInfo.{NodeInfo}
-use Rattle.keep_nodes.specs.AllNodes.{Node}
+use Rattle.keep_types.specs.declared.node.Kind.{Kind}
+use Rattle.keep_types.specs.declared.node.NodeInfo.{NodeInfo}
+use Rattle.keep_index_store.specs.AllNodes.{Node}
 use Rattle.keep_meaning.specs.Fact.{Fact}
 use Rattle.keep_path.specs.Path.{Part, index}
 use Rattle.keep_meaning.specs.Marks.{Mention, element, begun, elements_of, Reading, Statement, statement_mentions}
 use Rattle.keep_meaning.specs.Counts.{Count, numbered_mentions}
 use Rattle.keep_meaning.specs.Nodes.{fact_kind}
 use Rattle.keep_rules.specs.MentionInfos.{with_info, with_mentions, ValuesAreNew}
-use Rattle.keep_nodes.specs.Trie.{paths_of, path_at, children_of}
-use Rattle.keep_nodes.specs.Stored.{trie_of, node_infos}
+use Rattle.keep_index_store.specs.Trie.{paths_of, path_at, children_of}
+use Rattle.keep_index_store.specs.Stored.{trie_of, node_infos}
 use Rattle.keep_rules.specs.Represents.{Represents}
 use Rattle.keep_rules.specs.Reads.{IsReading}
-use Rattle.keep_rules.specs.NestedValues.{NestingState, nested_item, nested_keyed, path_of_value, entries_of_value, nested_mentions}
+use Rattle.keep_rules.specs.NestedValues.{NestingState, nested_item, nested_keyed, path_of_value, entries_of_value}
+use Rattle.keep_rules.specs.NestedValues.{nested_mentions}
 
 -- these facts were added at a path
 abbrev pub AddsInfo : List Node → List Node → List Part → NodeInfo → Type 0
@@ -31,7 +32,9 @@ HeaderAdds old new k statement mentioned =
 
 -- a `[[..]]` with this full path begins an element
 abbrev pub begin_mentions : List Part → List (List Part) → List Mention
-begin_mentions path tables = record { path = path; kind = element } ∷ record { path = path ++ index (elements_of path tables) ∷ []; kind = begun } ∷ []
+begin_mentions path tables =
+    record { path = path; kind = element }
+    ∷ record { path = path ++ index (elements_of path tables) ∷ []; kind = begun } ∷ []
 
 -- the facts from a statement were added
 abbrev pub StatementAdds : List Node → List Node → ℕ → ℕ → Statement → Type 0
@@ -58,6 +61,7 @@ KeyedAdds old new from k keys number kind =
 -- an item, in the array at a node
 abbrev pub ItemAdds : List Node → List Node → ℕ → ℕ → Kind → Type 0
 ItemAdds old new array number kind =
-    (s : NestingState) (o : ℕ) (f : Fact) → path_at (trie_of old) array ≡ path_of_value s o → entries_of_value s o ≡ length (children_of (trie_of old) array) → fact_kind f ≡ kind
+    (s : NestingState) (o : ℕ) (f : Fact) → path_at (trie_of old) array ≡ path_of_value s o
+    → entries_of_value s o ≡ length (children_of (trie_of old) array) → fact_kind f ≡ kind
     → (c : Count) → c.values ≡ number
     → AddsValue old new c (nested_mentions s (nested_item o f))

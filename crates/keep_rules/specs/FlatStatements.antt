@@ -1,17 +1,17 @@
 -- How the flat list of a document's statements matches its tree.
 use Rattle.std.specs.Prelude.{◌≡◌, ℕ, ◌+◌, ◌<◌, ◌≤◌, List, length, take, drop, slice_get, Some, None}
 use Rattle.std.specs.List.{AllZip}
-use Rattle.keep_leaf.specs.declared.leaf.Profile.{Profile}
-use Rattle.keep_parts.specs.declared.info.KeyPart.{KeyPart}
-use Rattle.keep_parts.specs.declared.info.Owner.TheVariants as owner
-use Rattle.keep_parts.specs.declared.info.Statement.{Statement}
-use Rattle.keep_parts.specs.declared.info.StatementKind.TheVariants.{KeyVal, Header, Element}
-use Rattle.keep_parts.specs.declared.info.ValueInfo.{ValueInfo}
+use Rattle.keep_types.specs.declared.leaf.Profile.{Profile}
+use Rattle.keep_types.specs.declared.syntax.KeyPart.{KeyPart}
+use Rattle.keep_types.specs.declared.syntax.Owner.TheVariants as owner
+use Rattle.keep_types.specs.declared.syntax.Statement.{Statement}
+use Rattle.keep_types.specs.declared.syntax.StatementKind.TheVariants.{KeyVal, Header, Element}
+use Rattle.keep_types.specs.declared.syntax.ValueInfo.{ValueInfo}
 use Rattle.keep_syntax.specs.Tree.{Name, Value}
 use Rattle.keep_syntax.specs.Grammar.{IsValue}
 use Rattle.keep_syntax.specs.Numbered.{value_count}
 use Rattle.keep_meaning.specs.Counts.{Count}
-use Rattle.keep_facts.specs.Kinds.{leaf_kind}
+use Rattle.keep_types.specs.Kinds.{leaf_kind}
 use Rattle.keep_rules.specs.FlatValues.{leaf_holding, MatchesNested}
 use Rattle.keep_rules.specs.FirstKeys.{FirstKeys}
 use Rattle.keep_rules.specs.NestedValues.{holding_of, nested_values}
@@ -32,7 +32,8 @@ pub record MatchesKeys (bytes : List ℕ) (parts : List KeyPart) (st : Statement
   pub within : st.first_key + st.keys ≤ length parts
 
 -- the values of a statement are this value and those in it, and the next is another line's
-pub record MatchesValues (bytes : List ℕ) (parts : List KeyPart) (values : List ValueInfo) (v : Value) (st : Statement) : Type 0 where
+pub record MatchesValues (bytes : List ℕ) (parts : List KeyPart) (values : List ValueInfo) (v : Value) (st : Statement)
+    : Type 0 where
   pub first : ℕ
   pub valued : st.value ≡ Some first
   pub own : ValueInfo
@@ -40,12 +41,15 @@ pub record MatchesValues (bytes : List ℕ) (parts : List KeyPart) (values : Lis
   pub kind : fact_kind (body_fact v.body) ≡ leaf_kind own.leaf
   pub holds : holding_of (body_fact v.body) ≡ leaf_holding own.leaf
   pub within : first + 1 + value_count v.nested ≤ length values
-  pub nested : AllZip (MatchesNested bytes parts first) (nested_values 1 2 v.nested) (take (value_count v.nested) (drop (first + 1) values))
-  pub firsts : FirstKeys (st.first_key + st.keys) (nested_values 1 2 v.nested) (take (value_count v.nested) (drop (first + 1) values))
+  pub nested : AllZip (MatchesNested bytes parts first) (nested_values 1 2 v.nested)
+      (take (value_count v.nested) (drop (first + 1) values))
+  pub firsts : FirstKeys (st.first_key + st.keys) (nested_values 1 2 v.nested)
+      (take (value_count v.nested) (drop (first + 1) values))
   pub next_line : LineStarts values (first + 1 + value_count v.nested)
 
 -- a statement of the flat list is a keyval with these mentions
-pub record MatchesKeyvalOf (bytes : List ℕ) (parts : List KeyPart) (values : List ValueInfo) (st : Statement) (mentioned : List Mention) : Type 0 where
+pub record MatchesKeyvalOf (bytes : List ℕ) (parts : List KeyPart) (values : List ValueInfo) (st : Statement)
+    (mentioned : List Mention) : Type 0 where
   pub profile : Profile
   pub name : Name
   pub value : Value
@@ -57,8 +61,10 @@ pub record MatchesKeyvalOf (bytes : List ℕ) (parts : List KeyPart) (values : L
 
 -- this statement of the flat list is that statement
 abbrev pub MatchesStatement : List ℕ → List KeyPart → List ValueInfo → Statement → marks.Statement → Type 0
-MatchesStatement bytes parts values st (marks.header ks) = (st.kind ≡ Header) × (st.value ≡ None) × MatchesKeys bytes parts st ks
-MatchesStatement bytes parts values st (marks.element_header ks) = (st.kind ≡ Element) × (st.value ≡ None) × MatchesKeys bytes parts st ks
+MatchesStatement bytes parts values st (marks.header ks) =
+    (st.kind ≡ Header) × (st.value ≡ None) × MatchesKeys bytes parts st ks
+MatchesStatement bytes parts values st (marks.element_header ks) =
+    (st.kind ≡ Element) × (st.value ≡ None) × MatchesKeys bytes parts st ks
 MatchesStatement bytes parts values st (marks.keyval ms) = MatchesKeyvalOf bytes parts values st ms
 
 -- so many statements, values and key parts are before the statement with that number

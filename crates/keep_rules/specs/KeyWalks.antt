@@ -11,7 +11,8 @@ walk_path tables at (k ∷ ks) = walk_path tables (entered_path tables (at ++ ke
 -- the mentions of a header's keys but the last
 abbrev pub walk_mentions : List (List Part) → List Part → List (List ℕ) → List Mention
 walk_mentions tables at [] = []
-walk_mentions tables at (k ∷ ks) = passing_mentions tables (at ++ key k ∷ []) ++ walk_mentions tables (entered_path tables (at ++ key k ∷ [])) ks
+walk_mentions tables at (k ∷ ks) =
+    passing_mentions tables (at ++ key k ∷ []) ++ walk_mentions tables (entered_path tables (at ++ key k ∷ [])) ks
 
 -- the mentions of a keyval's keys but the last
 abbrev pub dotted_mentions : List Part → List (List ℕ) → List Mention

@@ -1,7 +1,7 @@
 -- A key of a document: a number of its key parts from one on.
 use Rattle.std.specs.Prelude.{◌≡◌, ℕ, ◌+◌, ◌-◌, ◌<◌, ◌≤◌, List, length, take, Some, slice_get, slice_index_or, []}
-use Rattle.keep_parts.specs.declared.info.KeyPart.{KeyPart}
-use Rattle.keep_parts.specs.Flat.{flat}
+use Rattle.keep_types.specs.declared.syntax.KeyPart.{KeyPart}
+use Rattle.keep_syntax_store.specs.Flat.{flat}
 use Rattle.keep_rules.specs.declared.keys.Keys.{Keys}
 use Rattle.keep_meaning.specs.KeyText.{IsKeyAt}
 use Rattle.keep_meaning.specs.KeyText.{keys_in}

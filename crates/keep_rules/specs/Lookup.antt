@@ -2,10 +2,10 @@
 use Rattle.std.specs.Prelude.{◌≡◌, ℕ, ◌<◌, List, [], ◌∷◌, length, map, Option, slice_index_or, slice_get}
 use Rattle.std.specs.Option.{option_map, option_and_then}
 use Rattle.keep_rules.specs.declared.index.NodeId.{NodeId}
-use Rattle.keep_nodes.specs.AllNodes.{Node}
+use Rattle.keep_index_store.specs.AllNodes.{Node}
 use Rattle.keep_path.specs.Path.{Part}
 use Rattle.keep_meaning.specs.Nodes.{node_number, children}
-use Rattle.keep_nodes.specs.Facts.{NodeInfos}
+use Rattle.keep_path.specs.NodeInfos.{NodeInfos}
 
 -- the number of the node that was found
 abbrev pub number_of : Option NodeId → Option ℕ
@@ -31,4 +31,5 @@ parent_at nodes i = slice_index_or (map (λ n. n.parent) nodes) i 0
 -- a node, its parent and so on, up to below another
 abbrev pub AreAncestors : List Node → ℕ → List ℕ → ℕ → Type 0
 AreAncestors nodes id [] top = id ≡ top
-AreAncestors nodes id (n ∷ ancestors) top = (id ≡ n) × (0 < n) × (n < length nodes) × AreAncestors nodes (parent_at nodes n) ancestors top
+AreAncestors nodes id (n ∷ ancestors) top =
+    (id ≡ n) × (0 < n) × (n < length nodes) × AreAncestors nodes (parent_at nodes n) ancestors top

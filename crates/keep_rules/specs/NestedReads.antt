@@ -3,12 +3,13 @@ use Rattle.std.specs.Prelude.{◌≡◌, ℕ, ◌+◌, ◌<◌, List, [], ◌∷
 use Rattle.keep_path.specs.Path.{Part}
 use Rattle.keep_meaning.specs.Marks.{Mention}
 use Rattle.keep_meaning.specs.Counts.{Count, numbered_mentions}
-use Rattle.keep_rules.specs.NestedValues.{NestingState, NestedValue, nested_item, nested_keyed, all_nested_mentions, nesting_after}
-use Rattle.keep_nodes.specs.Trie.{TrieNode}
+use Rattle.keep_rules.specs.NestedValues.{NestingState, NestedValue, nested_item, nested_keyed, all_nested_mentions}
+use Rattle.keep_rules.specs.NestedValues.{nesting_after}
+use Rattle.keep_index_store.specs.Trie.{TrieNode}
 use Rattle.keep_rules.specs.Tables.{IsShaped}
 use Rattle.keep_rules.specs.Represents.{Keeps, Represents}
 use Rattle.keep_rules.specs.Reads.{AreValueNodes}
-use Rattle.keep_nodes.specs.Facts.{NodeInfos}
+use Rattle.keep_path.specs.NodeInfos.{NodeInfos}
 use Rattle.keep_rules.specs.MentionInfos.{with_mentions, ValuesAreNew}
 
 -- how many key parts a value has
@@ -36,6 +37,9 @@ pub record NestedRead (old new : NodesSoFar) (from first : ℕ) (s : NestingStat
   pub keeps : Keeps old.trie new.trie
   pub shaped : IsShaped new.trie
   pub nested : AreValueNodes new.trie new.ids (nesting_after s ts)
-  pub represents : (ms : List Mention) (tables : List (List Part)) → Represents old.trie ms tables → Represents new.trie (ms ++ all_nested_mentions s ts) tables
-  pub facts : (c : Count) → c.values ≡ from → c.keys ≡ first → new.node_infos ≡ with_mentions old.node_infos (numbered_mentions c (all_nested_mentions s ts))
-  pub fresh : (c : Count) → c.values ≡ from → c.keys ≡ first → ValuesAreNew old.node_infos.paths (numbered_mentions c (all_nested_mentions s ts))
+  pub represents : (ms : List Mention) (tables : List (List Part)) → Represents old.trie ms tables
+      → Represents new.trie (ms ++ all_nested_mentions s ts) tables
+  pub facts : (c : Count) → c.values ≡ from → c.keys ≡ first
+      → new.node_infos ≡ with_mentions old.node_infos (numbered_mentions c (all_nested_mentions s ts))
+  pub fresh : (c : Count) → c.values ≡ from → c.keys ≡ first
+      → ValuesAreNew old.node_infos.paths (numbered_mentions c (all_nested_mentions s ts))

@@ -1,5 +1,6 @@
 -- The values in a value as a list: outer ones before those inside, each with the number of what it is in.
-use Rattle.std.specs.Prelude.{◌≡◌, ℕ, suc, ◌+◌, ◌<◌, List, [], ◌∷◌, ◌++◌, length, map, Option, Some, None, slice_index_or, slice_set}
+use Rattle.std.specs.Prelude.{◌≡◌, ℕ, suc, ◌+◌, ◌<◌, List, [], ◌∷◌, ◌++◌, length, map, Option, Some, None}
+use Rattle.std.specs.Prelude.{slice_index_or, slice_set}
 use Rattle.keep_syntax.specs.Tree.{Name, Entries, none, entry, Value}
 use Rattle.keep_syntax.specs.Numbered.{value_count}
 use Rattle.keep_meaning.specs.Fact as fact
@@ -8,7 +9,7 @@ use Rattle.keep_path.specs.Path.{Part, key, index}
 use Rattle.keep_meaning.specs.Marks as marks
 use Rattle.keep_meaning.specs.Marks.{Mention, below}
 use Rattle.keep_meaning.specs.Meaning.{keys_of, body_fact, keyed_mentions}
-use Rattle.keep_nodes.specs.Trie.{Holding, nothing, by_key, by_index}
+use Rattle.keep_index_store.specs.Trie.{Holding, nothing, by_key, by_index}
 
 -- one nested value: an item, or one with a key, in the value with that number
 pub data NestedValue : Type 0 where
@@ -30,7 +31,8 @@ entry_nested owner (Some name) f = nested_keyed owner (keys_of name.key) f
 abbrev pub nested_values : ℕ → ℕ → Entries → List NestedValue
 nested_values owner v none = []
 nested_values owner v (entry name body nested after comma rest) =
-    entry_nested owner name (body_fact body) ∷ (nested_values v (suc v) nested ++ nested_values owner (suc v + value_count nested) rest)
+    entry_nested owner name (body_fact body)
+    ∷ (nested_values v (suc v) nested ++ nested_values owner (suc v + value_count nested) rest)
 
 -- The nesting state: of each value so far its path, what children it may have, and how many entries it has so far.
 pub record NestingState : Type 0 where
@@ -49,8 +51,10 @@ holding_of_value s o = slice_index_or s.holdings o nothing
 
 -- the mentions of one nested value
 abbrev pub nested_mentions : NestingState → NestedValue → List Mention
-nested_mentions s (nested_item o f) = record { path = path_of_value s o ++ index (entries_of_value s o) ∷ []; kind = marks.item f } ∷ []
-nested_mentions s (nested_keyed o ks f) = map (below (path_of_value s o)) (keyed_mentions ks (record { path = []; kind = marks.value f } ∷ []))
+nested_mentions s (nested_item o f) =
+    record { path = path_of_value s o ++ index (entries_of_value s o) ∷ []; kind = marks.item f } ∷ []
+nested_mentions s (nested_keyed o ks f) =
+    map (below (path_of_value s o)) (keyed_mentions ks (record { path = []; kind = marks.value f } ∷ []))
 
 abbrev pub nested_path : NestingState → NestedValue → List Part
 nested_path s (nested_item o f) = path_of_value s o ++ index (entries_of_value s o) ∷ []
@@ -97,7 +101,8 @@ NameSuits _ _ = ⊥
 
 abbrev pub EntriesSuit : Holding → Entries → Type 0
 EntriesSuit h none = Unit {0}
-EntriesSuit h (entry name body nested after comma rest) = NameSuits h name × EntriesSuit (holding_of (body_fact body)) nested × EntriesSuit h rest
+EntriesSuit h (entry name body nested after comma rest) =
+    NameSuits h name × EntriesSuit (holding_of (body_fact body)) nested × EntriesSuit h rest
 
 -- the state in a table of this path, with nothing in it yet
 abbrev pub body_nesting : List Part → NestingState

@@ -1,10 +1,10 @@
 -- The index of a document, and where a document breaks the definition rules.
 use Rattle.std.specs.Prelude.{◌≡◌, ℕ, List, map, Some, slice_get}
-use Rattle.keep_leaf.specs.declared.leaf.Profile.{Profile}
+use Rattle.keep_types.specs.declared.leaf.Profile.{Profile}
 use Rattle.keep_syntax.specs.declared.alone.ValueSyntax.{ValueSyntax}
 use Rattle.keep_syntax.specs.declared.fault.ReadFault.{ReadFault}
 use Rattle.keep_syntax.specs.declared.fault.ReadFault.TheVariants as faults
-use Rattle.keep_parts.specs.declared.info.KeyPart.{KeyPart}
+use Rattle.keep_types.specs.declared.syntax.KeyPart.{KeyPart}
 use Rattle.keep_syntax.specs.declared.syntax.Syntax.{Syntax}
 use Rattle.keep_syntax.specs.Contract.{IsSyntaxOf, IsValueSyntaxOf}
 use Rattle.keep_syntax.specs.Grammar.{Reads, ReadsValue}
@@ -17,7 +17,7 @@ use Rattle.keep_meaning.specs.Marks.{marks, start, reading_after}
 use Rattle.keep_meaning.specs.Meaning.{mentions_in, mentions_of_value}
 use Rattle.keep_meaning.specs.Nodes.{node_path, nodes_in, infos_in}
 use Rattle.keep_meaning.specs.Rules.{ObeysRules}
-use Rattle.keep_nodes.specs.Facts.{NodeInfos}
+use Rattle.keep_path.specs.NodeInfos.{NodeInfos}
 use Rattle.keep_rules.specs.Nested.{AreNested}
 
 -- The text was read as this document, in some profile and to some depth, and the syntax is that of the document.
@@ -56,5 +56,6 @@ IsValueRefusal v _ = ⊥
 
 -- the fault, with the start of its key part
 abbrev pub IsFaultAt : List KeyPart → Fault → ReadFault → Type 0
-IsFaultAt parts (Define number why) fault = (part : KeyPart) × (slice_get parts number ≡ Some part) × (fault ≡ faults.Define part.span.start why)
+IsFaultAt parts (Define number why) fault =
+    (part : KeyPart) × (slice_get parts number ≡ Some part) × (fault ≡ faults.Define part.span.start why)
 IsFaultAt parts Memory fault = fault ≡ faults.Memory

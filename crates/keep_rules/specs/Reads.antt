@@ -2,7 +2,7 @@
 use Rattle.std.specs.Prelude.{◌≡◌, ℕ, ◌<◌, false, List, ◌++◌, length, slice_index_or}
 use Rattle.keep_syntax.specs.declared.fault.Why.{Why}
 use Rattle.keep_meaning.specs.Marks.{Mention, Reading, Statement, statement_mentions, next_reading}
-use Rattle.keep_nodes.specs.Trie.{TrieNode, by_key, by_index, path_at, state_at, holds_at, children_of}
+use Rattle.keep_index_store.specs.Trie.{TrieNode, by_key, by_index, path_at, state_at, holds_at, children_of}
 use Rattle.keep_rules.specs.Tables.{is_tables}
 use Rattle.keep_rules.specs.Represents.{Represents, IsOpen, FaultIn}
 use Rattle.keep_rules.specs.NestedValues.{NestingState, path_of_value, holding_of_value, entries_of_value}
@@ -15,11 +15,14 @@ pub record IsReading (nodes : List TrieNode) (body : ℕ) (ms : List Mention) (r
 
 -- reading a statement takes the one to the other
 abbrev pub Reads : List TrieNode → ℕ → List TrieNode → ℕ → Statement → Type 0
-Reads old body new to s = (ms : List Mention) (r : Reading) → IsReading old body ms r → IsReading new to (ms ++ statement_mentions r s) (next_reading r s)
+Reads old body new to s =
+    (ms : List Mention) (r : Reading) → IsReading old body ms r
+    → IsReading new to (ms ++ statement_mentions r s) (next_reading r s)
 
 -- the statement has the first faulty mark, after so many of its marks
 abbrev pub FaultsIn : List TrieNode → ℕ → Statement → ℕ → Why → Type 0
-FaultsIn old body s number why = (ms : List Mention) (r : Reading) → IsReading old body ms r → FaultIn ms (statement_mentions r s) number why
+FaultsIn old body s number why =
+    (ms : List Mention) (r : Reading) → IsReading old body ms r → FaultIn ms (statement_mentions r s) number why
 
 -- the node of the value number j
 pub record IsValueNode (nodes : List TrieNode) (id : ℕ) (s : NestingState) (j : ℕ) : Type 0 where

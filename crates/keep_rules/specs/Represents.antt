@@ -1,12 +1,14 @@
 -- How the nodes represent the mentions so far, and what a key part, an element and an item do to them.
 use Rattle.std.specs.Prelude.{◌≡◌, ℕ, ◌<◌, ◌≤◌, ◌-◌, List, [], ◌∷◌, ◌++◌, length, Some, slice_index_or, true, false}
 use Rattle.keep_syntax.specs.declared.fault.Why.{Why}
-use Rattle.keep_facts.specs.declared.role.Role.{Role}
-use Rattle.keep_facts.specs.declared.role.Role.TheVariants.{Element, Through, Value}
+use Rattle.keep_types.specs.declared.role.Role.{Role}
+use Rattle.keep_types.specs.declared.role.Role.TheVariants.{Element, Through, Value}
 use Rattle.keep_path.specs.Path.{Part, key, index}
 use Rattle.keep_meaning.specs.Rules.{allows, ObeysRules, IsRefused, why_of}
-use Rattle.keep_meaning.specs.Marks.{MentionKind, Mention, marks, role_of, passing_mentions, entered_path, elements_of, element, begun}
-use Rattle.keep_nodes.specs.Trie.{TrieNode, Holding, by_key, by_index, IsTrie, path_at, state_at, holds_at, children_of}
+use Rattle.keep_meaning.specs.Marks.{MentionKind, Mention, marks, role_of, passing_mentions, entered_path, elements_of}
+use Rattle.keep_meaning.specs.Marks.{element, begun}
+use Rattle.keep_index_store.specs.Trie.{TrieNode, Holding, by_key, by_index, IsTrie, path_at, state_at, holds_at}
+use Rattle.keep_index_store.specs.Trie.{children_of}
 use Rattle.keep_rules.specs.Tables.{is_tables, IsShaped, AreTables, AllBegun}
 use Rattle.keep_rules.specs.RoleStates.{IsIndexOf}
 
@@ -29,17 +31,20 @@ pub record IsMarked (old new : List TrieNode) (path : List Part) (role : Role) (
   pub items : KeepsItems old new
   pub nested : id < length new
   pub here : path_at new id ≡ path
-  pub index : (ms : List Mention) (mention_kind : MentionKind) → role_of mention_kind ≡ Some role → IsIndexOf old ms → IsIndexOf new (ms ++ record { path = path; kind = mention_kind } ∷ [])
+  pub index : (ms : List Mention) (mention_kind : MentionKind) → role_of mention_kind ≡ Some role → IsIndexOf old ms
+      → IsIndexOf new (ms ++ record { path = path; kind = mention_kind } ∷ [])
   pub kind : is_tables (state_at new id) ≡ allows role Element
   pub opened : allows role Through ≡ true → holds_at new id ≡ by_key
   pub valued : role ≡ Value → (holds_at new id ≡ holds) × (children_of new id ≡ []) × (length old ≤ id)
   pub tables : (ts : List (List Part)) → AreTables old ts → AreTables new ts
   pub begun : allows role Element ≡ false → AllBegun old → AllBegun new
-  pub begun_others : AllBegun old → (i : ℕ) → i < length new → (i ≡ id → ⊥) → is_tables (state_at new i) ≡ true → 0 < length (children_of new i)
+  pub begun_others : AllBegun old → (i : ℕ) → i < length new → (i ≡ id → ⊥) → is_tables (state_at new i) ≡ true
+      → 0 < length (children_of new i)
 
 -- some earlier mark does not allow one of this role at this path
 abbrev pub WasRefused : List TrieNode → List Part → Role → Type 0
-WasRefused nodes path role = (ms : List Mention) → IsIndexOf nodes ms → IsRefused (marks ms) (record { role = role; path = path })
+WasRefused nodes path role =
+    (ms : List Mention) → IsIndexOf nodes ms → IsRefused (marks ms) (record { role = role; path = path })
 
 -- the key of the number `at` is the one that stops, as a mark of this role at this path
 pub record StopsAt (nodes : List TrieNode) (path : List Part) (role : Role) (at number : ℕ) (why : Why) : Type 0 where
@@ -62,7 +67,8 @@ pub record IsOpen (nodes : List TrieNode) (at : ℕ) (path : List Part) : Type 0
 
 -- the path is not that of an array of tables
 abbrev pub HasNoElement : List TrieNode → List Part → Type 0
-HasNoElement nodes path = (tables : List (List Part)) → AreTables nodes tables → AllBegun nodes → elements_of path tables ≡ 0
+HasNoElement nodes path =
+    (tables : List (List Part)) → AreTables nodes tables → AllBegun nodes → elements_of path tables ≡ 0
 
 -- the array of tables at a path, and its last element
 pub record IsLastElement (nodes : List TrieNode) (path : List Part) (child to : ℕ) : Type 0 where
@@ -75,17 +81,25 @@ pub record IsLastElement (nodes : List TrieNode) (path : List Part) (child to : 
 -- a header went past a key, from a node to the node `to`
 pub record Passes (old new : List TrieNode) (at to : ℕ) (k : List ℕ) : Type 0 where
   pub keeps : Keeps old new
-  pub represents : (ms : List Mention) (tables : List (List Part)) → Represents old ms tables → Represents new (ms ++ passing_mentions tables (path_at old at ++ key k ∷ [])) tables
-  pub is_open : (ms : List Mention) (tables : List (List Part)) → Represents old ms tables → IsOpen new to (entered_path tables (path_at old at ++ key k ∷ []))
+  pub represents : (ms : List Mention) (tables : List (List Part)) → Represents old ms tables
+      → Represents new (ms ++ passing_mentions tables (path_at old at ++ key k ∷ [])) tables
+  pub is_open : (ms : List Mention) (tables : List (List Part)) → Represents old ms tables
+      → IsOpen new to (entered_path tables (path_at old at ++ key k ∷ []))
 
 -- a `[[..]]` whose last key is k began an element, from a node to the element's node `to`
 pub record Begins (old new : List TrieNode) (at to : ℕ) (k : List ℕ) : Type 0 where
   pub keeps : Keeps old new
   pub shaped : IsShaped new
   pub represents : (ms : List Mention) (tables : List (List Part)) → Represents old ms tables
-      → Represents new (ms ++ record { path = path_at old at ++ key k ∷ []; kind = element } ∷ record { path = (path_at old at ++ key k ∷ []) ++ index (elements_of (path_at old at ++ key k ∷ []) tables) ∷ []; kind = begun } ∷ [])
+      → Represents new (ms ++ record { path = path_at old at ++ key k ∷ []; kind = element }
+      ∷ record {
+        path = (path_at old at ++ key k ∷ []) ++ index (elements_of (path_at old at ++ key k ∷ []) tables)
+            ∷ [];
+        kind = begun;
+      } ∷ [])
       (tables ++ (path_at old at ++ key k ∷ []) ∷ [])
-  pub is_open : (ms : List Mention) (tables : List (List Part)) → Represents old ms tables → IsOpen new to ((path_at old at ++ key k ∷ []) ++ index (elements_of (path_at old at ++ key k ∷ []) tables) ∷ [])
+  pub is_open : (ms : List Mention) (tables : List (List Part)) → Represents old ms tables
+      → IsOpen new to ((path_at old at ++ key k ∷ []) ++ index (elements_of (path_at old at ++ key k ∷ []) tables) ∷ [])
 
 -- the first faulty mark is among these mentions, after so many of their marks
 pub record FaultIn (ms more : List Mention) (number : ℕ) (why : Why) : Type 0 where

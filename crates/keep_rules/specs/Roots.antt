@@ -1,9 +1,9 @@
 -- The nodes before any mention.
 use Rattle.std.specs.Prelude.{◌≡◌, List, [], ◌∷◌, None}
-use Rattle.keep_nodes.specs.AllNodes.{Node}
-use Rattle.keep_nodes.specs.Stored.{IsStored, trie_of, node_infos}
-use Rattle.keep_nodes.specs.Facts.{root_infos}
-use Rattle.keep_nodes.specs.Trie.{TrieNode, Holding}
+use Rattle.keep_index_store.specs.AllNodes.{Node}
+use Rattle.keep_index_store.specs.Stored.{IsStored, trie_of, node_infos}
+use Rattle.keep_path.specs.NodeInfos.{root_infos}
+use Rattle.keep_index_store.specs.Trie.{TrieNode, Holding}
 
 -- the root is the only node, and may have these children
 pub record IsRoot (nodes : List Node) (h : Holding) : Type 0 where

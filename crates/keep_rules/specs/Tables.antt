@@ -1,11 +1,13 @@
 -- How the nodes represent arrays, tables and arrays of tables.
-use Rattle.std.specs.Prelude.{◌≡◌, ℕ, ◌<◌, Bool, true, false, List, [], ◌∷◌, ◌++◌, length, Option, Some, None, IsSome, slice_index_or, if◌then◌else◌, Contains}
-use Rattle.keep_facts.specs.declared.role.Role.{Role}
-use Rattle.keep_facts.specs.declared.role.Role.TheVariants.{Element, Through}
+use Rattle.std.specs.Prelude.{◌≡◌, ℕ, ◌<◌, Bool, true, false, List, [], ◌∷◌, ◌++◌, length, Option, Some, None, IsSome}
+use Rattle.std.specs.Prelude.{slice_index_or, if◌then◌else◌, Contains}
+use Rattle.keep_types.specs.declared.role.Role.{Role}
+use Rattle.keep_types.specs.declared.role.Role.TheVariants.{Element, Through}
 use Rattle.keep_path.specs.Path.{Part, key, index}
 use Rattle.keep_meaning.specs.Rules.{allows}
 use Rattle.keep_meaning.specs.Marks.{elements_of}
-use Rattle.keep_nodes.specs.Trie.{TrieNode, Holding, by_key, by_index, paths_of, path_at, state_at, holds_at, children_of}
+use Rattle.keep_index_store.specs.Trie.{TrieNode, Holding, by_key, by_index, paths_of, path_at, state_at, holds_at}
+use Rattle.keep_index_store.specs.Trie.{children_of}
 
 -- a path in this state names an array of tables
 abbrev pub is_tables : Option Role → Bool
@@ -19,15 +21,20 @@ pub record Fits (role : Role) (holds : Holding) : Type 0 where
 
 -- the children of arrays are their items, and those of arrays of tables their elements, in order
 pub record IsShaped (nodes : List TrieNode) : Type 0 where
-  pub elements : (i k : ℕ) → i < length nodes → holds_at nodes i ≡ by_index → k < length (children_of nodes i) → path_at nodes (slice_index_or (children_of nodes i) k 0) ≡ path_at nodes i ++ index k ∷ []
+  pub elements : (i k : ℕ) → i < length nodes → holds_at nodes i ≡ by_index → k < length (children_of nodes i)
+      → path_at nodes (slice_index_or (children_of nodes i) k 0) ≡ path_at nodes i ++ index k ∷ []
   pub plain : (i k : ℕ) → i < length nodes → is_tables (state_at nodes i) ≡ true → k < length (children_of nodes i)
-      → (state_at nodes (slice_index_or (children_of nodes i) k 0) ≡ None) × (holds_at nodes (slice_index_or (children_of nodes i) k 0) ≡ by_key)
-  pub marked : (i : ℕ) (p : List Part) (k : List ℕ) → i < length nodes → path_at nodes i ≡ p ++ key k ∷ [] → IsSome (state_at nodes i)
+      → (state_at nodes (slice_index_or (children_of nodes i) k 0) ≡ None)
+      × (holds_at nodes (slice_index_or (children_of nodes i) k 0) ≡ by_key)
+  pub marked : (i : ℕ) (p : List Part) (k : List ℕ) → i < length nodes → path_at nodes i ≡ p ++ key k ∷ []
+      → IsSome (state_at nodes i)
   pub fits : (i : ℕ) (s : Role) → i < length nodes → state_at nodes i ≡ Some s → Fits s (holds_at nodes i)
 
 -- arrays of tables have as many elements as earlier `[[..]]` lines have the path
 pub record AreTables (nodes : List TrieNode) (tables : List (List Part)) : Type 0 where
-  pub counts : (i : ℕ) → i < length nodes → elements_of (path_at nodes i) tables ≡ (if is_tables (state_at nodes i) then length (children_of nodes i) else 0)
+  pub counts : (i : ℕ) → i < length nodes
+      → elements_of (path_at nodes i) tables
+      ≡ (if is_tables (state_at nodes i) then length (children_of nodes i) else 0)
   pub unmet : (p : List Part) → (Contains (paths_of nodes) p → ⊥) → elements_of p tables ≡ 0
 
 -- each array of tables has an element

@@ -1,6 +1,6 @@
 //! Reading the headers and keyvals of a document into its nodes.
 ghost use Rattle.std.specs.Prelude.{◌≡◌, ◌<◌, ◌+◌, ◌-◌, ◌∷◌, ◌++◌, [], ℕ, length, List, IfOk, OnOk, IfErr};
-ghost use Rattle.keep_nodes.specs.Children.{holding};
+ghost use Rattle.keep_index_store.specs.Children.{holding};
 ghost use Rattle.keep_meaning.specs.Fact.{Fact};
 ghost use Rattle.keep_rules.specs.NestedValues.{NestingState, path_of_value, nested_mentions, nested_keyed};
 ghost use Rattle.keep_rules.specs.Keys.{AreKeys, key_texts, last_text, leading_texts};
@@ -11,15 +11,15 @@ ghost use Rattle.keep_rules.specs.Represents.{Begins, Represents, StopsAt, Fault
 ghost use Rattle.keep_rules.specs.Statements.{header_of, element_of};
 ghost use Rattle.keep_rules.specs.Steps.{Gives};
 ghost use Rattle.keep_rules.specs.Stops.{FaultMeets};
-ghost use Rattle.keep_nodes.specs.Stored.{IsStored, trie_of};
+ghost use Rattle.keep_index_store.specs.Stored.{IsStored, trie_of};
 ghost use Rattle.keep_rules.specs.Tables.{IsShaped};
 ghost use Rattle.keep_rules.specs.AddedInfos.{HeaderAdds, StatementAdds, KeyedAdds, begin_mentions};
-ghost use Rattle.keep_nodes.specs.Trie.{by_key, holds_at, path_at};
+ghost use Rattle.keep_index_store.specs.Trie.{by_key, holds_at, path_at};
 
 use crate::key_walk::{Fault, mark_key, walk_dotted, walk_header};
 use crate::keys::Keys;
-use keep_facts::{Kind, Origin, Role};
-use keep_nodes::{Holds, NodeFacts, Nodes, add_item};
+use keep_index_store::{Holds, NodeFacts, Nodes, add_item};
+use keep_types::{Kind, Origin, Role};
 
 /// Reads the header `[..]` of that statement, and gives the node of the table that it defines.
 pub fn header(nodes: &mut Nodes, keys: Keys<'_>, statement: usize) -> Result<usize, Fault>
@@ -28,9 +28,13 @@ pub fn header(nodes: &mut Nodes, keys: Keys<'_>, statement: usize) -> Result<usi
     requires rooted { holds_at (trie_of nodes.old.items) 0 ≡ by_key }
     requires keys { AreKeys keys }
     ensures stored { OnOk result (IsStored nodes.new.items) }
-    ensures ok { IfOk result (λ to. (body : ℕ) → Reads (trie_of nodes.old.items) body (trie_of nodes.new.items) to (header_of keys.entry)) }
-    ensures facts { IfOk result (λ to. StatementAdds nodes.old.items nodes.new.items keys.entry.first statement (header_of keys.entry)) }
-    ensures define { IfErr result (λ fault. FaultMeets fault (λ number why. (body : ℕ) → FaultsIn (trie_of nodes.old.items) body (header_of keys.entry) number why)) }
+    ensures ok { IfOk result (λ to. (body : ℕ)
+        → Reads (trie_of nodes.old.items) body (trie_of nodes.new.items) to (header_of keys.entry)) }
+    ensures facts { IfOk result (λ to. StatementAdds nodes.old.items nodes.new.items keys.entry.first statement
+        (header_of keys.entry)) }
+    ensures define { IfErr result
+        (λ fault. FaultMeets fault (λ number why. (body : ℕ)
+        → FaultsIn (trie_of nodes.old.items) body (header_of keys.entry) number why)) }
 {
     let parent = walk_header(nodes, keys, statement)?;
     let number = keys.count - 1;
@@ -55,9 +59,15 @@ fn begin(nodes: &mut Nodes, parent: usize, keys: Keys<'_>, statement: usize) -> 
     requires keyed { holds_at (trie_of nodes.old.items) parent ≡ by_key }
     requires keys { AreKeys keys }
     ensures stored { OnOk result (IsStored nodes.new.items) }
-    ensures ok { IfOk result (λ to. Begins (trie_of nodes.old.items) (trie_of nodes.new.items) parent to (last_text keys.entry)) }
-    ensures facts { OnOk result (HeaderAdds nodes.old.items nodes.new.items (keys.entry.first + (keys.entry.count - 1)) statement (begin_mentions (path_at (trie_of nodes.old.items) parent ++ key (last_text keys.entry) ∷ []))) }
-    ensures define { IfErr result (λ fault. FaultMeets fault (StopsAt (trie_of nodes.old.items) (path_at (trie_of nodes.old.items) parent ++ key (last_text keys.entry) ∷ []) Role.Element (keys.entry.count - 1))) }
+    ensures ok { IfOk result (λ to. Begins (trie_of nodes.old.items) (trie_of nodes.new.items) parent to
+        (last_text keys.entry)) }
+    ensures facts { OnOk result (HeaderAdds nodes.old.items nodes.new.items
+        (keys.entry.first + (keys.entry.count - 1)) statement
+        (begin_mentions (path_at (trie_of nodes.old.items) parent ++ key (last_text keys.entry) ∷ []))) }
+    ensures define { IfErr result
+        (λ fault. FaultMeets fault (StopsAt (trie_of nodes.old.items)
+        (path_at (trie_of nodes.old.items) parent ++ key (last_text keys.entry) ∷ []) Role.Element
+        (keys.entry.count - 1))) }
 {
     let number = keys.count - 1;
     let part = keys.part_number(number);
@@ -82,9 +92,13 @@ pub fn element(nodes: &mut Nodes, keys: Keys<'_>, statement: usize) -> Result<us
     requires rooted { holds_at (trie_of nodes.old.items) 0 ≡ by_key }
     requires keys { AreKeys keys }
     ensures stored { OnOk result (IsStored nodes.new.items) }
-    ensures ok { IfOk result (λ to. (body : ℕ) → Reads (trie_of nodes.old.items) body (trie_of nodes.new.items) to (element_of keys.entry)) }
-    ensures facts { IfOk result (λ to. StatementAdds nodes.old.items nodes.new.items keys.entry.first statement (element_of keys.entry)) }
-    ensures define { IfErr result (λ fault. FaultMeets fault (λ number why. (body : ℕ) → FaultsIn (trie_of nodes.old.items) body (element_of keys.entry) number why)) }
+    ensures ok { IfOk result (λ to. (body : ℕ)
+        → Reads (trie_of nodes.old.items) body (trie_of nodes.new.items) to (element_of keys.entry)) }
+    ensures facts { IfOk result (λ to. StatementAdds nodes.old.items nodes.new.items keys.entry.first statement
+        (element_of keys.entry)) }
+    ensures define { IfErr result
+        (λ fault. FaultMeets fault (λ number why. (body : ℕ)
+        → FaultsIn (trie_of nodes.old.items) body (element_of keys.entry) number why)) }
 {
     let parent = walk_header(nodes, keys, statement)?;
     begin(nodes, parent, keys, statement)
@@ -105,9 +119,15 @@ pub fn give_value(
     requires keyed { holds_at (trie_of nodes.old.items) from ≡ by_key }
     requires keys { AreKeys keys }
     ensures stored { OnOk result (IsStored nodes.new.items) }
-    ensures ok { IfOk result (λ to. Gives (trie_of nodes.old.items) (trie_of nodes.new.items) from to (leading_texts keys.entry) (last_text keys.entry) (holding holds)) }
-    ensures facts { IfOk result (λ to. KeyedAdds nodes.old.items nodes.new.items from keys.entry.first (key_texts keys.entry) value kind) }
-    ensures define { IfErr result (λ fault. FaultMeets fault (λ number why. (s : NestingState) (o : ℕ) (f : Fact) → path_at (trie_of nodes.old.items) from ≡ path_of_value s o → (ms : List Mention) (tables : List (List Part)) → Represents (trie_of nodes.old.items) ms tables → FaultIn ms (nested_mentions s (nested_keyed o (key_texts keys.entry) f)) number why)) }
+    ensures ok { IfOk result (λ to. Gives (trie_of nodes.old.items) (trie_of nodes.new.items) from to
+        (leading_texts keys.entry) (last_text keys.entry) (holding holds)) }
+    ensures facts { IfOk result (λ to. KeyedAdds nodes.old.items nodes.new.items from keys.entry.first
+        (key_texts keys.entry) value kind) }
+    ensures define { IfErr result
+        (λ fault. FaultMeets fault (λ number why. (s : NestingState) (o : ℕ) (f : Fact)
+        → path_at (trie_of nodes.old.items) from ≡ path_of_value s o → (ms : List Mention) (tables : List (List Part))
+        → Represents (trie_of nodes.old.items) ms tables
+        → FaultIn ms (nested_mentions s (nested_keyed o (key_texts keys.entry) f)) number why)) }
 {
     let parent = walk_dotted(nodes, from, keys, value)?;
     let number = keys.count - 1;

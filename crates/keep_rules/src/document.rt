@@ -1,24 +1,25 @@
 //! Reading all definitions of a document, or of a value alone.
 ghost use Rattle.std.specs.Prelude.{◌≡◌, ◌<◌, ◌∷◌, ℕ, [], List, length, IfOk, OnOk, IfErr};
-ghost use Rattle.keep_parts.specs.Flat.{flat};
+ghost use Rattle.keep_syntax_store.specs.Flat.{flat};
 ghost use Rattle.keep_syntax.specs.Tree.{Document, Value};
-ghost use Rattle.keep_nodes.specs.Children.{holding};
+ghost use Rattle.keep_index_store.specs.Children.{holding};
 ghost use Rattle.keep_rules.specs.NestedValues.{NestingState, NestedValue};
 ghost use Rattle.keep_rules.specs.Plans.{AreReadable, AreNext, RepresentsSome, NestedValuesRead, NestedValuesFault};
-ghost use Rattle.keep_rules.specs.ReadDocuments.{WasRead, WasReadAlone, IsIndexOf, ValueObeys, IsRefusal, IsValueRefusal, IsFaultAt};
+ghost use Rattle.keep_rules.specs.ReadDocuments.{WasRead, WasReadAlone, IsIndexOf, ValueObeys, IsRefusal};
+ghost use Rattle.keep_rules.specs.ReadDocuments.{IsValueRefusal, IsFaultAt};
 ghost use Rattle.keep_rules.specs.Roots.{IsRoot};
 ghost use Rattle.keep_rules.specs.Stops.{FaultMeets};
 ghost use Rattle.keep_rules.specs.Tables.{IsShaped};
-ghost use Rattle.keep_nodes.specs.Stored.{IsStored, node_infos, trie_of};
-ghost use Rattle.keep_nodes.specs.Trie.{by_key, holds_at};
+ghost use Rattle.keep_index_store.specs.Stored.{IsStored, node_infos, trie_of};
+ghost use Rattle.keep_index_store.specs.Trie.{by_key, holds_at};
 
 use crate::key_walk::Fault;
 use crate::kinds::holds_of_leaf;
 use crate::nested_values::{push_id, read_nested};
 use crate::statement::read_statement;
-use keep_facts::{Kind, Origin};
-use keep_nodes::{Holds, NodeFacts, Nodes};
+use keep_index_store::{Holds, NodeFacts, Nodes};
 use keep_syntax::{Parts, ReadFault, Syntax, ValueSyntax};
+use keep_types::{Kind, Origin};
 use std::alloc::{AllocError, Global};
 
 /// Adds the root of a document or of a value alone, which may have these children, where there is no node yet.
@@ -51,7 +52,8 @@ pub fn read_document(empty: Nodes, text: &str, syntax: &Syntax) -> Result<Nodes,
     requires empty { empty.items ≡ [] }
     ensures stored { IfOk result (λ nodes. IsStored nodes.items) }
     ensures rooted { IfOk result (λ nodes. holds_at (trie_of nodes.items) 0 ≡ by_key) }
-    ensures ok { IfOk result (λ nodes. (d : Document) → WasRead text.now syntax.now d → IsIndexOf d (node_infos nodes.items)) }
+    ensures ok { IfOk result (λ nodes. (d : Document) → WasRead text.now syntax.now d
+        → IsIndexOf d (node_infos nodes.items)) }
     ensures faults { IfErr result (λ fault. (d : Document) → WasRead text.now syntax.now d → IsRefusal d fault) }
 {
     let parts = syntax.parts();
@@ -73,10 +75,13 @@ fn read_inside(nodes: &mut Nodes, text: &str, parts: &Parts) -> Result<(), Fault
     requires stored { IsStored nodes.old.items }
     requires shaped { IsShaped (trie_of nodes.old.items) }
     requires readable { AreReadable text.now (flat parts.now).keys }
-    requires next { (s : NestingState) × (ts : List NestedValue) × (first : ℕ) × AreNext text.now (flat parts.now) (trie_of nodes.old.items) (0 ∷ []) 1 1 first s ts }
+    requires next { (s : NestingState) × (ts : List NestedValue) × (first : ℕ)
+        × AreNext text.now (flat parts.now) (trie_of nodes.old.items) (0 ∷ []) 1 1 first s ts }
     requires represents { RepresentsSome (trie_of nodes.old.items) }
-    ensures was_read { OnOk result ((ids : List ℕ) × NestedValuesRead text.now (flat parts.now) 1 1 nodes.old.items (0 ∷ []) nodes.new.items ids) }
-    ensures define { IfErr result (λ fault. FaultMeets fault (NestedValuesFault text.now (flat parts.now) 1 1 nodes.old.items (0 ∷ []))) }
+    ensures was_read { OnOk result
+        ((ids : List ℕ) × NestedValuesRead text.now (flat parts.now) 1 1 nodes.old.items (0 ∷ []) nodes.new.items ids) }
+    ensures define { IfErr result
+        (λ fault. FaultMeets fault (NestedValuesFault text.now (flat parts.now) 1 1 nodes.old.items (0 ∷ []))) }
 {
     let mut ids = Vec::new(nodes.allocator());
     push_id(&mut ids, 0)?;

@@ -1,5 +1,7 @@
 //! The nodes of a document, and what can be asked of them.
-ghost use Rattle.std.specs.Prelude.{◌≡◌, ℕ, ◌+◌, ◌-◌, ◌<◌, ◌≤◌, ◌∷◌, ◌++◌, [], None, Some, IfOk, IfErr, IfSome, IsNone, IsOkUnless, OnErr, OnOk, if◌then◌else◌, List, length, nat_lt, slice_get, string_bytes, take};
+ghost use Rattle.std.specs.Prelude.{◌≡◌, ℕ, ◌+◌, ◌-◌, ◌<◌, ◌≤◌, ◌∷◌, ◌++◌, [], None, Some, IfOk, IfErr, IfSome, IsNone};
+ghost use Rattle.std.specs.Prelude.{IsOkUnless, OnErr, OnOk, if◌then◌else◌, List, length, nat_lt, slice_get};
+ghost use Rattle.std.specs.Prelude.{string_bytes, take};
 ghost use Rattle.std.specs.Option.{option_and_then};
 ghost use Rattle.keep_syntax.specs.declared.syntax.Syntax as syntax;
 ghost use Rattle.keep_syntax.specs.Contract.{IsSyntaxOf};
@@ -10,21 +12,22 @@ ghost use Rattle.keep_rules.specs.Lookup.{number_of, path_numbered, children_num
 ghost use Rattle.keep_meaning.specs.Marks.{marks};
 ghost use Rattle.keep_meaning.specs.Meaning.{mentions_in};
 ghost use Rattle.keep_meaning.specs.Nodes.{node_number, nodes_in, key_span_of, value_span_of};
-ghost use Rattle.keep_nodes.specs.Facts.{with_kind, with_path};
+ghost use Rattle.keep_path.specs.NodeInfos.{with_kind, with_path};
 ghost use Rattle.keep_path.specs.Path.{EndsInKey, Part, beside, key, index};
 ghost use Rattle.keep_path.specs.Step.{part_of};
 ghost use Rattle.keep_path.specs.PathText.{encoded_path};
-ghost use Rattle.keep_rules.specs.ReadDocuments.{WasRead, WasReadAlone, IsIndexOf, ValueObeys, IsRefusal, IsValueRefusal};
+ghost use Rattle.keep_rules.specs.ReadDocuments.{WasRead, WasReadAlone, IsIndexOf, ValueObeys, IsRefusal};
+ghost use Rattle.keep_rules.specs.ReadDocuments.{IsValueRefusal};
 ghost use Rattle.keep_meaning.specs.Rules.{ObeysRules};
 
 use crate::document::{read_alone, read_document};
 use crate::path_text::push_path;
 use crate::queries::{child_by, path_to};
 use crate::spans::{key_span_at, value_span_at};
-use keep_facts::{Kind, NodeInfo, Origin};
-use keep_nodes::{Nodes, set_key, set_kind};
+use keep_index_store::{Nodes, set_key, set_kind};
 use keep_path::{Path, Step};
 use keep_syntax::{ReadFault, Span, Syntax, ValueSyntax};
+use keep_types::{Kind, NodeInfo, Origin};
 use std::alloc::{AllocError, Global};
 use std::marker::Model;
 
@@ -42,12 +45,12 @@ pub struct Index {
 
 impl Model for Index {
     ghost use Rattle.std.specs.Prelude.{◌≡◌};
-    ghost use Rattle.keep_nodes.specs.Facts.{NodeInfos};
+    ghost use Rattle.keep_index_store.specs.Facts.{NodeInfos};
 
     ghost Value = { NodeInfos };
 
-    ghost use Rattle.keep_nodes.specs.Stored.{IsStored, node_infos, trie_of};
-    ghost use Rattle.keep_nodes.specs.Trie.{by_key, holds_at};
+    ghost use Rattle.keep_index_store.specs.Stored.{IsStored, node_infos, trie_of};
+    ghost use Rattle.keep_index_store.specs.Trie.{by_key, holds_at};
 
     ghost view = { λ i. node_infos i.nodes.items };
 
@@ -66,16 +69,17 @@ impl Index {
     pub fn build(alloc: Global, text: &str, syntax: &Syntax) -> Result<Index, ReadFault>
         requires { (d : Document) × WasRead text.now syntax.now d }
         ensures ok { (d : Document) → WasRead text.now syntax.now d → IfOk result (IsIndexOf d) }
-        ensures read { (d : Document) → WasRead text.now syntax.now d → ObeysRules (marks (mentions_in d)) → IsOkUnless result Memory }
+        ensures read { (d : Document) → WasRead text.now syntax.now d → ObeysRules (marks (mentions_in d))
+            → IsOkUnless result Memory }
         ensures faults { (d : Document) → WasRead text.now syntax.now d → IfErr result (IsRefusal d) }
         ensures few { IfOk result (λ index. length index.paths ≤ length text.now + 1) }
     {
         Index::read(Nodes::new(alloc, text), text, syntax)
     }
 
-    /// Reads the definitions of a document as `build` does, where this is the index of the same document with other text in the
-    /// place of `lines`. The maps of the new index have a seed that comes of this one's and of the lines, so the rest of the
-    /// text is not hashed once more.
+    /// Reads the definitions of a document as `build` does, where this is the index of the same document with other
+    /// text in the place of `lines`. The maps of the new index have a seed that comes of this one's and of the lines,
+    /// so the rest of the text is not hashed once more.
     ///
     /// # Errors
     ///
@@ -89,7 +93,8 @@ impl Index {
     ) -> Result<Index, ReadFault>
         requires { (d : Document) × WasRead text.now syntax.now d }
         ensures ok { (d : Document) → WasRead text.now syntax.now d → IfOk result (IsIndexOf d) }
-        ensures read { (d : Document) → WasRead text.now syntax.now d → ObeysRules (marks (mentions_in d)) → IsOkUnless result Memory }
+        ensures read { (d : Document) → WasRead text.now syntax.now d → ObeysRules (marks (mentions_in d))
+            → IsOkUnless result Memory }
         ensures faults { (d : Document) → WasRead text.now syntax.now d → IfErr result (IsRefusal d) }
         ensures few { IfOk result (λ index. length index.paths ≤ length text.now + 1) }
     {
@@ -101,7 +106,8 @@ impl Index {
         requires read { (d : Document) × WasRead text.now syntax.now d }
         requires empty { empty.items ≡ [] }
         ensures ok { (d : Document) → WasRead text.now syntax.now d → IfOk result (IsIndexOf d) }
-        ensures read { (d : Document) → WasRead text.now syntax.now d → ObeysRules (marks (mentions_in d)) → IsOkUnless result Memory }
+        ensures read { (d : Document) → WasRead text.now syntax.now d → ObeysRules (marks (mentions_in d))
+            → IsOkUnless result Memory }
         ensures faults { (d : Document) → WasRead text.now syntax.now d → IfErr result (IsRefusal d) }
         ensures few { IfOk result (λ index. length index.paths ≤ length text.now + 1) }
     {
@@ -129,7 +135,8 @@ impl Index {
     /// bytes.
     pub fn node_count(&self) -> usize
         ensures counted { result ≡ length self.now.paths }
-        ensures few { (bytes : List ℕ) (s : syntax.Syntax) (d : Document) → WasRead bytes s d → IsIndexOf d self.now → result ≤ length bytes + 1 }
+        ensures few { (bytes : List ℕ) (s : syntax.Syntax) (d : Document) → WasRead bytes s d → IsIndexOf d self.now
+            → result ≤ length bytes + 1 }
     {
         self.nodes.len()
     }
@@ -159,7 +166,8 @@ impl Index {
     /// has the text that it had.
     pub fn push_path_text(&self, id: NodeId, out: &mut String) -> Result<(), AllocError>
         requires { id.0 < length self.now.paths }
-        ensures pushed { OnOk result (string_bytes out.new ≡ string_bytes out.old ++ encoded_path (path_numbered self.now id.0)) }
+        ensures pushed { OnOk result
+            (string_bytes out.new ≡ string_bytes out.old ++ encoded_path (path_numbered self.now id.0)) }
         ensures refused { OnErr result (string_bytes out.new ≡ string_bytes out.old) }
     {
         push_path(out, &self.nodes, id.0)
@@ -191,8 +199,10 @@ impl Index {
     /// longer path that begins so.
     pub fn step(&self, id: NodeId, step: &Step) -> Option<NodeId>
         requires { id.0 < length self.now.paths }
-        ensures found { number_of result ≡ node_number self.now.paths (path_numbered self.now id.0 ++ part_of step.now ∷ []) }
-        ensures none { IsNone result → (more : List Part) → node_number self.now.paths (path_numbered self.now id.0 ++ part_of step.now ∷ more) ≡ None }
+        ensures found { number_of result
+            ≡ node_number self.now.paths (path_numbered self.now id.0 ++ part_of step.now ∷ []) }
+        ensures none { IsNone result → (more : List Part)
+            → node_number self.now.paths (path_numbered self.now id.0 ++ part_of step.now ∷ more) ≡ None }
         ensures within { IfSome result (λ id. id.0 < length self.now.paths) }
     {
         child_by(&self.nodes, id.0, step).map(NodeId)
@@ -201,7 +211,8 @@ impl Index {
     /// The node of a table's key, decoded; None where the table has no such key, or where the node is no table.
     pub fn child(&self, id: NodeId, text: &str) -> Option<NodeId>
         requires { id.0 < length self.now.paths }
-        ensures found { number_of result ≡ node_number self.now.paths (path_numbered self.now id.0 ++ key text.now ∷ []) }
+        ensures found { number_of result
+            ≡ node_number self.now.paths (path_numbered self.now id.0 ++ key text.now ∷ []) }
         ensures within { IfSome result (λ id. id.0 < length self.now.paths) }
     {
         self.nodes.child(id.0, text).map(NodeId)
@@ -210,7 +221,8 @@ impl Index {
     /// The node of a path with this key, decoded, in place of its last step; None if the document has none there. For
     /// the root's path it is a key of the root.
     pub fn sibling(&self, path: &Path, text: &str) -> Option<NodeId>
-        ensures found { number_of result ≡ node_number self.now.paths (take (length path.now - 1) path.now ++ key text.now ∷ []) }
+        ensures found { number_of result
+            ≡ node_number self.now.paths (take (length path.now - 1) path.now ++ key text.now ∷ []) }
         ensures within { IfSome result (λ id. id.0 < length self.now.paths) }
     {
         let nodes = &self.nodes;
@@ -232,7 +244,8 @@ impl Index {
     pub fn child_at(&self, id: NodeId, n: usize) -> Option<NodeId>
         requires { id.0 < length self.now.paths }
         ensures met { number_of result ≡ nth_child self.now id.0 n }
-        ensures indexed { (k : ℕ) → node_number self.now.paths (path_numbered self.now id.0 ++ index n ∷ []) ≡ Some k → number_of result ≡ Some k }
+        ensures indexed { (k : ℕ) → node_number self.now.paths (path_numbered self.now id.0 ++ index n ∷ []) ≡ Some k
+            → number_of result ≡ Some k }
         ensures within { IfSome result (λ child. child.0 < length self.now.paths) }
     {
         self.nodes.child_at(id.0, n).map(NodeId)
@@ -250,7 +263,8 @@ impl Index {
     /// and an element, which no key part names. `syntax` is what was read of the document.
     pub fn key_span(&self, id: NodeId, syntax: &Syntax) -> Option<Span>
         requires within { id.0 < length self.now.paths }
-        ensures { (d : Document) → IsSyntaxOf syntax.now d → IsIndexOf d self.now → result ≡ option_and_then (key_span_of (numbered.parts d)) (slice_get (nodes_in d) id.0) }
+        ensures { (d : Document) → IsSyntaxOf syntax.now d → IsIndexOf d self.now
+            → result ≡ option_and_then (key_span_of (numbered.parts d)) (slice_get (nodes_in d) id.0) }
     {
         key_span_at(syntax, self.node(id).key?)
     }
@@ -260,7 +274,8 @@ impl Index {
     /// document.
     pub fn value_span(&self, id: NodeId, syntax: &Syntax) -> Option<Span>
         requires within { id.0 < length self.now.paths }
-        ensures { (d : Document) → IsSyntaxOf syntax.now d → IsIndexOf d self.now → result ≡ option_and_then (value_span_of (numbered.values d)) (slice_get (nodes_in d) id.0) }
+        ensures { (d : Document) → IsSyntaxOf syntax.now d → IsIndexOf d self.now
+            → result ≡ option_and_then (value_span_of (numbered.values d)) (slice_get (nodes_in d) id.0) }
     {
         let Origin::Value(number) = self.node(id).origin else {
             return None;
@@ -288,7 +303,8 @@ impl Index {
         requires within { id.0 < length self.old.paths }
         requires keyed { EndsInKey (path_numbered self.old id.0) }
         requires fresh { node_number self.old.paths (beside (path_numbered self.old id.0) text.now) ≡ None }
-        ensures moved { OnOk result (self.new ≡ with_path self.old (path_numbered self.old id.0) (beside (path_numbered self.old id.0) text.now)) }
+        ensures moved { OnOk result (self.new ≡ with_path self.old (path_numbered self.old id.0)
+            (beside (path_numbered self.old id.0) text.now)) }
         ensures refused { OnErr result (self.new ≡ self.old) }
     {
         set_key(&mut self.nodes, id.0, text)

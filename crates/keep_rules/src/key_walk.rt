@@ -6,20 +6,20 @@ ghost use Rattle.keep_path.specs.Path.{Part, key};
 ghost use Rattle.keep_rules.specs.Represents.{IsMarked, Represents, StopsAt, FaultIn};
 ghost use Rattle.keep_rules.specs.Steps.{Walks, Dots};
 ghost use Rattle.keep_rules.specs.Stops.{FaultMeets, fault_of_key};
-ghost use Rattle.keep_nodes.specs.Stored.{IsStored, trie_of};
+ghost use Rattle.keep_index_store.specs.Stored.{IsStored, trie_of};
 ghost use Rattle.keep_rules.specs.Tables.{Fits, IsShaped};
 ghost use Rattle.keep_rules.specs.AddedInfos.{AddsInfo, HeaderAdds, DottedAdds};
-ghost use Rattle.keep_nodes.specs.Children.{holding};
-ghost use Rattle.keep_nodes.specs.Facts.{info_of};
-ghost use Rattle.keep_nodes.specs.Trie.{by_key, holds_at, path_at};
+ghost use Rattle.keep_index_store.specs.Children.{holding};
+ghost use Rattle.keep_index_store.specs.Facts.{info_of};
+ghost use Rattle.keep_index_store.specs.Trie.{by_key, holds_at, path_at};
 ghost use Rattle.keep_rules.specs.KeyWalks.{walk_mentions, dotted_mentions};
 
 use crate::keys::Keys;
 use crate::mark::{Stop, mark, pass};
-use keep_facts::{Kind, Origin, Role};
+use keep_index_store::{Holds, NodeFacts, Nodes};
 use keep_meaning::why_of;
-use keep_nodes::{Holds, NodeFacts, Nodes};
 use keep_syntax::Why;
+use keep_types::{Kind, Origin, Role};
 use std::alloc::AllocError;
 
 /// Why a walk along keys ended early.
@@ -73,9 +73,14 @@ pub fn mark_key(
     requires low { number < keys.count }
     requires fits { Fits role (holding holds) }
     ensures stored { OnOk result (IsStored nodes.new.items) }
-    ensures ok { IfOk result (λ to. IsMarked (trie_of nodes.old.items) (trie_of nodes.new.items) (path_at (trie_of nodes.old.items) parent ++ key (key_text_at keys.entry number) ∷ []) role (holding holds) to) }
-    ensures facts { OnOk result (AddsInfo nodes.old.items nodes.new.items (path_at (trie_of nodes.old.items) parent ++ key (key_text_at keys.entry number) ∷ []) (info_of facts)) }
-    ensures define { IfErr result (λ fault. FaultMeets fault (StopsAt (trie_of nodes.old.items) (path_at (trie_of nodes.old.items) parent ++ key (key_text_at keys.entry number) ∷ []) role number)) }
+    ensures ok { IfOk result (λ to. IsMarked (trie_of nodes.old.items) (trie_of nodes.new.items)
+        (path_at (trie_of nodes.old.items) parent ++ key (key_text_at keys.entry number) ∷ []) role
+        (holding holds) to) }
+    ensures facts { OnOk result (AddsInfo nodes.old.items nodes.new.items
+        (path_at (trie_of nodes.old.items) parent ++ key (key_text_at keys.entry number) ∷ []) (info_of facts)) }
+    ensures define { IfErr result
+        (λ fault. FaultMeets fault (StopsAt (trie_of nodes.old.items)
+        (path_at (trie_of nodes.old.items) parent ++ key (key_text_at keys.entry number) ∷ []) role number)) }
 {
     let text = keys.part_text(nodes.allocator(), number)?;
     match mark(nodes, parent, text.as_str(), role, facts, holds) {
@@ -94,9 +99,14 @@ pub fn walk_header(nodes: &mut Nodes, keys: Keys<'_>, statement: usize) -> Resul
     ensures shaped { OnOk result (IsShaped (trie_of nodes.new.items)) }
     ensures nested { IfOk result (λ to. to < length nodes.new.items) }
     ensures keyed { IfOk result (λ to. holds_at (trie_of nodes.new.items) to ≡ by_key) }
-    ensures ok { IfOk result (λ to. Walks (trie_of nodes.old.items) (trie_of nodes.new.items) to (leading_texts keys.entry)) }
-    ensures facts { IfOk result (λ to. HeaderAdds nodes.old.items nodes.new.items keys.entry.first statement (λ tables. walk_mentions tables [] (leading_texts keys.entry))) }
-    ensures define { IfErr result (λ fault. FaultMeets fault (λ number why. (ms : List Mention) (tables : List (List Part)) → Represents (trie_of nodes.old.items) ms tables → FaultIn ms (walk_mentions tables [] (leading_texts keys.entry)) number why)) }
+    ensures ok { IfOk result (λ to. Walks (trie_of nodes.old.items) (trie_of nodes.new.items) to
+        (leading_texts keys.entry)) }
+    ensures facts { IfOk result (λ to. HeaderAdds nodes.old.items nodes.new.items keys.entry.first statement
+        (λ tables. walk_mentions tables [] (leading_texts keys.entry))) }
+    ensures define { IfErr result
+        (λ fault. FaultMeets fault (λ number why. (ms : List Mention) (tables : List (List Part))
+        → Represents (trie_of nodes.old.items) ms tables
+        → FaultIn ms (walk_mentions tables [] (leading_texts keys.entry)) number why)) }
 {
     let mut at = 0;
     for number in 0..keys.count - 1 {
@@ -125,9 +135,15 @@ pub fn walk_dotted(
     ensures stored { OnOk result (IsStored nodes.new.items) }
     ensures shaped { OnOk result (IsShaped (trie_of nodes.new.items)) }
     ensures nested { IfOk result (λ to. to < length nodes.new.items) }
-    ensures ok { IfOk result (λ to. Dots (trie_of nodes.old.items) (trie_of nodes.new.items) from to (leading_texts keys.entry)) }
-    ensures facts { IfOk result (λ to. DottedAdds nodes.old.items nodes.new.items keys.entry.first value (dotted_mentions (path_at (trie_of nodes.old.items) from) (leading_texts keys.entry))) }
-    ensures define { IfErr result (λ fault. FaultMeets fault (λ number why. (ms : List Mention) (tables : List (List Part)) → Represents (trie_of nodes.old.items) ms tables → FaultIn ms (dotted_mentions (path_at (trie_of nodes.old.items) from) (leading_texts keys.entry)) number why)) }
+    ensures ok { IfOk result (λ to. Dots (trie_of nodes.old.items) (trie_of nodes.new.items) from to
+        (leading_texts keys.entry)) }
+    ensures facts { IfOk result (λ to. DottedAdds nodes.old.items nodes.new.items keys.entry.first value
+        (dotted_mentions (path_at (trie_of nodes.old.items) from) (leading_texts keys.entry))) }
+    ensures define { IfErr result
+        (λ fault. FaultMeets fault (λ number why. (ms : List Mention) (tables : List (List Part))
+        → Represents (trie_of nodes.old.items) ms tables
+        → FaultIn ms (dotted_mentions (path_at (trie_of nodes.old.items) from)
+        (leading_texts keys.entry)) number why)) }
 {
     let mut at = from;
     for number in 0..keys.count - 1 {

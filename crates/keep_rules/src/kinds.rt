@@ -1,9 +1,9 @@
 //! The children that a value's node may have, by its leaf.
 ghost use Rattle.std.specs.Prelude.{◌≡◌};
-ghost use Rattle.keep_nodes.specs.Children.{holding};
+ghost use Rattle.keep_index_store.specs.Children.{holding};
 ghost use Rattle.keep_rules.specs.FlatValues.{leaf_holding};
 
-use keep_nodes::Holds;
+use keep_index_store::Holds;
 use keep_token::Leaf;
 
 /// What children a value's node may have.

@@ -14,8 +14,10 @@ mod path_text;
 mod queries;
 mod spans;
 mod statement;
+mod value;
 
 pub use index::{Index, NodeId};
-pub use keep_facts::{Kind, NodeInfo, Origin, Role, kind_of};
 pub use keep_path::{Path, PathFault, Step};
 pub use keep_syntax::Why;
+pub use keep_types::{Kind, NodeInfo, Origin, Role, kind_of};
+pub use value::ValueText;

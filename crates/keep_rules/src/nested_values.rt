@@ -1,10 +1,11 @@
 //! Reading the values that are nested in a value, one after another.
 ghost use Rattle.std.specs.Prelude.{◌≡◌, ◌+◌, ◌≤◌, ◌∷◌, ◌++◌, ℕ, [], List, length, IfOk, OnOk, IfErr};
-ghost use Rattle.keep_parts.specs.Flat.{flat};
+ghost use Rattle.keep_syntax_store.specs.Flat.{flat};
 ghost use Rattle.keep_rules.specs.NestedValues.{NestingState, NestedValue};
-ghost use Rattle.keep_rules.specs.Plans.{AreReadable, IsNext, AreNext, RepresentsSome, NestedValueRead, NestedValueFaults, NestedValuesRead, NestedValuesFault, fault_from};
+ghost use Rattle.keep_rules.specs.Plans.{AreReadable, IsNext, AreNext, RepresentsSome, NestedValueRead};
+ghost use Rattle.keep_rules.specs.Plans.{NestedValueFaults, NestedValuesRead, NestedValuesFault, fault_from};
 ghost use Rattle.keep_rules.specs.Stops.{FaultMeets};
-ghost use Rattle.keep_nodes.specs.Stored.{IsStored, trie_of};
+ghost use Rattle.keep_index_store.specs.Stored.{IsStored, trie_of};
 ghost use Rattle.keep_rules.specs.Tables.{IsShaped};
 
 use crate::build::give_value;
@@ -12,9 +13,9 @@ use crate::key_walk::Fault;
 use crate::keys::Keys;
 use crate::kinds::holds_of_leaf;
 use crate::mark::give_item;
-use keep_facts::kind_of;
-use keep_nodes::Nodes;
+use keep_index_store::Nodes;
 use keep_syntax::{Owner, Parts, ValueInfo};
+use keep_types::kind_of;
 use std::alloc::AllocError;
 
 /// The fault by its number in the document, where the key begins with the key part of the number `first`.
@@ -54,11 +55,15 @@ fn read_value(
     requires shaped { IsShaped (trie_of nodes.old.items) }
     requires readable { AreReadable text.now (flat parts.now).keys }
     requires numbered { base + length ids.now ≡ number + 1 }
-    requires next { (s : NestingState) × (t : NestedValue) × IsNext text.now (flat parts.now).keys (trie_of nodes.old.items) ids.now base value s t }
+    requires next { (s : NestingState) × (t : NestedValue)
+        × IsNext text.now (flat parts.now).keys (trie_of nodes.old.items) ids.now base value s t }
     requires represents { RepresentsSome (trie_of nodes.old.items) }
     ensures stored { OnOk result (IsStored nodes.new.items) }
-    ensures was_read { IfOk result (λ id. NestedValueRead text.now (flat parts.now) base value nodes.old.items ids.now nodes.new.items (ids.now ++ id ∷ []) number) }
-    ensures define { IfErr result (λ fault. FaultMeets fault (NestedValueFaults text.now (flat parts.now) base value nodes.old.items ids.now)) }
+    ensures was_read { IfOk result
+        (λ id. NestedValueRead text.now (flat parts.now) base value nodes.old.items ids.now nodes.new.items
+        (ids.now ++ id ∷ []) number) }
+    ensures define { IfErr result
+        (λ fault. FaultMeets fault (NestedValueFaults text.now (flat parts.now) base value nodes.old.items ids.now)) }
 {
     let kind = kind_of(value.leaf);
     let holds = holds_of_leaf(value.leaf);
@@ -98,11 +103,16 @@ pub fn read_nested(
     requires shaped { IsShaped (trie_of nodes.old.items) }
     requires readable { AreReadable text.now (flat parts.now).keys }
     requires numbered { base + length ids.old.items ≡ from + 1 }
-    requires next { (s : NestingState) × (ts : List NestedValue) × (first : ℕ) × AreNext text.now (flat parts.now) (trie_of nodes.old.items) ids.old.items base from first s ts }
+    requires next { (s : NestingState) × (ts : List NestedValue) × (first : ℕ)
+        × AreNext text.now (flat parts.now) (trie_of nodes.old.items) ids.old.items base from first s ts }
     requires represents { RepresentsSome (trie_of nodes.old.items) }
     ensures stored { OnOk result (IsStored nodes.new.items) }
-    ensures was_read { OnOk result (NestedValuesRead text.now (flat parts.now) base from nodes.old.items ids.old.items nodes.new.items ids.new.items) }
-    ensures define { IfErr result (λ fault. FaultMeets fault (NestedValuesFault text.now (flat parts.now) base from nodes.old.items ids.old.items)) }
+    ensures was_read { OnOk result
+        (NestedValuesRead text.now
+        (flat parts.now) base from nodes.old.items ids.old.items nodes.new.items ids.new.items) }
+    ensures define { IfErr result
+        (λ fault. FaultMeets fault (NestedValuesFault text.now
+        (flat parts.now) base from nodes.old.items ids.old.items)) }
 {
     for number in from..parts.value_count() {
         let value = parts.value(number);

@@ -1,13 +1,14 @@
 //! The texts of nodes' paths, written straight from the nodes.
-ghost use Rattle.std.specs.Prelude.{◌≡◌, ◌<◌, ◌∷◌, ◌++◌, List, ℕ, OnErr, OnOk, if◌then◌else◌, length, string_bytes, take};
+ghost use Rattle.std.specs.Prelude.{◌≡◌, ◌<◌, ◌∷◌, ◌++◌, List, ℕ, OnErr, OnOk, if◌then◌else◌, length, string_bytes};
+ghost use Rattle.std.specs.Prelude.{take};
 ghost use Rattle.keep_token.specs.Encoded.{encoded_key};
 ghost use Rattle.keep_rules.specs.Lookup.{parent_at};
 ghost use Rattle.keep_path.specs.PathText.{encoded_path};
-ghost use Rattle.keep_nodes.specs.Stored.{IsStored, trie_of};
-ghost use Rattle.keep_nodes.specs.Trie.{path_at};
+ghost use Rattle.keep_index_store.specs.Stored.{IsStored, trie_of};
+ghost use Rattle.keep_index_store.specs.Trie.{path_at};
 
 use crate::queries::ancestors_of;
-use keep_nodes::Nodes;
+use keep_index_store::Nodes;
 use keep_path::Step;
 use keep_token::encode_key;
 use std::alloc::{AllocError, Global};
@@ -17,7 +18,8 @@ use std::alloc::{AllocError, Global};
 pub fn push_path(out: &mut String, nodes: &Nodes, id: usize) -> Result<(), AllocError>
     requires stored { IsStored nodes.now.items }
     requires within { id < length nodes.now.items }
-    ensures pushed { OnOk result (string_bytes out.new ≡ string_bytes out.old ++ encoded_path (path_at (trie_of nodes.now.items) id)) }
+    ensures pushed { OnOk result
+        (string_bytes out.new ≡ string_bytes out.old ++ encoded_path (path_at (trie_of nodes.now.items) id)) }
     ensures refused { OnErr result (string_bytes out.new ≡ string_bytes out.old) }
 {
     let len = out.len();
@@ -32,7 +34,8 @@ pub fn push_path(out: &mut String, nodes: &Nodes, id: usize) -> Result<(), Alloc
 fn push_steps(out: &mut String, nodes: &Nodes, id: usize) -> Result<(), AllocError>
     requires stored { IsStored nodes.now.items }
     requires within { id < length nodes.now.items }
-    ensures pushed { OnOk result (string_bytes out.new ≡ string_bytes out.old ++ encoded_path (path_at (trie_of nodes.now.items) id)) }
+    ensures pushed { OnOk result
+        (string_bytes out.new ≡ string_bytes out.old ++ encoded_path (path_at (trie_of nodes.now.items) id)) }
     ensures grown { take (length (string_bytes out.old)) (string_bytes out.new) ≡ string_bytes out.old }
 {
     let alloc = *out.allocator();
@@ -53,7 +56,9 @@ fn push_last_step(
     requires stored { IsStored nodes.now.items }
     requires later { 0 < id }
     requires within { id < length nodes.now.items }
-    ensures pushed { (before : List ℕ) → string_bytes out.old ≡ before ++ encoded_path (path_at (trie_of nodes.now.items) (parent_at nodes.now.items id))
+    ensures pushed { (before : List ℕ)
+        → string_bytes out.old ≡ before ++ encoded_path
+        (path_at (trie_of nodes.now.items) (parent_at nodes.now.items id))
         → OnOk result (string_bytes out.new ≡ before ++ encoded_path (path_at (trie_of nodes.now.items) id)) }
     ensures refused { OnErr result (string_bytes out.new ≡ string_bytes out.old) }
 {
@@ -68,7 +73,9 @@ fn push_last_step(
 /// Adds a key as it is written, after a dot where it is not a path's first step. All memory is taken before the text
 /// changes: if it runs out, the text is unchanged.
 fn push_key(alloc: Global, out: &mut String, key: &str, is_first: bool) -> Result<(), AllocError>
-    ensures pushed { OnOk result (string_bytes out.new ≡ string_bytes out.old ++ (if is_first then encoded_key key.now else 0x2E ∷ encoded_key key.now)) }
+    ensures pushed { OnOk result
+        (string_bytes out.new ≡ string_bytes out.old
+        ++ (if is_first then encoded_key key.now else 0x2E ∷ encoded_key key.now)) }
     ensures refused { OnErr result (string_bytes out.new ≡ string_bytes out.old) }
 {
     let text = encode_key(alloc, key)?;

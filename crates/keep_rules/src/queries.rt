@@ -3,10 +3,10 @@ ghost use Rattle.std.specs.Prelude.{◌≡◌, ◌<◌, ◌∷◌, ◌++◌, [],
 ghost use Rattle.keep_rules.specs.Lookup.{parent_at, AreAncestors};
 ghost use Rattle.keep_meaning.specs.Nodes.{node_number};
 ghost use Rattle.keep_path.specs.Step.{part_of};
-ghost use Rattle.keep_nodes.specs.Stored.{IsStored, trie_of};
-ghost use Rattle.keep_nodes.specs.Trie.{by_key, holds_at, path_at, paths_of};
+ghost use Rattle.keep_index_store.specs.Stored.{IsStored, trie_of};
+ghost use Rattle.keep_index_store.specs.Trie.{by_key, holds_at, path_at, paths_of};
 
-use keep_nodes::Nodes;
+use keep_index_store::Nodes;
 use keep_path::{Path, Step};
 use std::alloc::{AllocError, Global};
 
@@ -14,7 +14,8 @@ use std::alloc::{AllocError, Global};
 pub fn child_by(nodes: &Nodes, id: usize, step: &Step) -> Option<usize>
     requires stored { IsStored nodes.now.items }
     requires within { id < length nodes.now.items }
-    ensures { result ≡ node_number (paths_of (trie_of nodes.now.items)) (path_at (trie_of nodes.now.items) id ++ part_of step.now ∷ []) }
+    ensures { result ≡ node_number (paths_of (trie_of nodes.now.items))
+        (path_at (trie_of nodes.now.items) id ++ part_of step.now ∷ []) }
 {
     match step {
         Step::Key(text) => nodes.child(id, text.as_str()),

@@ -1,6 +1,6 @@
 //! Reading the statements of a document, one after another.
 ghost use Rattle.std.specs.Prelude.{◌≡◌, ℕ, List, Some, None, IfOk, OnOk, IfErr};
-ghost use Rattle.keep_parts.specs.Flat.{flat};
+ghost use Rattle.keep_syntax_store.specs.Flat.{flat};
 ghost use Rattle.keep_rules.specs.FlatStatements.{MatchesStatement};
 ghost use Rattle.keep_rules.specs.Keys.{AreKeys};
 ghost use Rattle.keep_meaning.specs.Marks as marks;
@@ -8,19 +8,19 @@ ghost use Rattle.keep_rules.specs.Plans.{AreReadable};
 ghost use Rattle.keep_rules.specs.ReadStatements.{HasReading, IsReadAsMatched, BreaksAsMatched, head_of};
 ghost use Rattle.keep_rules.specs.Reads.{Reads, FaultsIn};
 ghost use Rattle.keep_rules.specs.Stops.{FaultMeets};
-ghost use Rattle.keep_nodes.specs.Stored.{IsStored, trie_of};
+ghost use Rattle.keep_index_store.specs.Stored.{IsStored, trie_of};
 ghost use Rattle.keep_rules.specs.Tables.{IsShaped};
 ghost use Rattle.keep_rules.specs.AddedInfos.{StatementAdds};
-ghost use Rattle.keep_nodes.specs.Trie.{by_key, holds_at};
+ghost use Rattle.keep_index_store.specs.Trie.{by_key, holds_at};
 
 use crate::build::{element, give_value, header};
 use crate::key_walk::Fault;
 use crate::keys::Keys;
 use crate::kinds::holds_of_leaf;
 use crate::nested_values::{fault_from, push_id, read_nested};
-use keep_facts::kind_of;
-use keep_nodes::Nodes;
+use keep_index_store::Nodes;
 use keep_syntax::{Parts, Statement, StatementKind};
+use keep_types::kind_of;
 
 /// Reads a header of this kind, the statement with that number, and gives the node that it defines or begins.
 fn read_head(
@@ -34,9 +34,13 @@ fn read_head(
     requires rooted { holds_at (trie_of nodes.old.items) 0 ≡ by_key }
     requires keys { AreKeys keys }
     ensures stored { OnOk result (IsStored nodes.new.items) }
-    ensures ok { IfOk result (λ to. (body : ℕ) → Reads (trie_of nodes.old.items) body (trie_of nodes.new.items) to (head_of kind keys.entry)) }
-    ensures facts { IfOk result (λ to. StatementAdds nodes.old.items nodes.new.items keys.entry.first number (head_of kind keys.entry)) }
-    ensures define { IfErr result (λ fault. FaultMeets fault (λ at why. (body : ℕ) → FaultsIn (trie_of nodes.old.items) body (head_of kind keys.entry) at why)) }
+    ensures ok { IfOk result (λ to. (body : ℕ)
+        → Reads (trie_of nodes.old.items) body (trie_of nodes.new.items) to (head_of kind keys.entry)) }
+    ensures facts { IfOk result (λ to. StatementAdds nodes.old.items nodes.new.items keys.entry.first number
+        (head_of kind keys.entry)) }
+    ensures define { IfErr result
+        (λ fault. FaultMeets fault (λ at why. (body : ℕ)
+        → FaultsIn (trie_of nodes.old.items) body (head_of kind keys.entry) at why)) }
 {
     match kind {
         StatementKind::Element => element(nodes, keys, number),
@@ -54,12 +58,16 @@ fn read_header(
 ) -> Result<usize, Fault>
     requires stored { IsStored nodes.old.items }
     requires readable { AreReadable text.now (flat parts.now).keys }
-    requires matches { (s : marks.Statement) × MatchesStatement text.now (flat parts.now).keys (flat parts.now).values statement s }
+    requires matches { (s : marks.Statement)
+        × MatchesStatement text.now (flat parts.now).keys (flat parts.now).values statement s }
     requires reading { (body : ℕ) × HasReading (trie_of nodes.old.items) body }
     requires head { statement.value ≡ None }
     ensures stored { OnOk result (IsStored nodes.new.items) }
-    ensures read { IfOk result (λ to. (body : ℕ) → IsReadAsMatched text.now (flat parts.now) number statement nodes.old.items body nodes.new.items to) }
-    ensures define { IfErr result (λ fault. FaultMeets fault (λ at why. (body : ℕ) → BreaksAsMatched text.now (flat parts.now) statement nodes.old.items body at why)) }
+    ensures read { IfOk result (λ to. (body : ℕ)
+        → IsReadAsMatched text.now (flat parts.now) number statement nodes.old.items body nodes.new.items to) }
+    ensures define { IfErr result
+        (λ fault. FaultMeets fault (λ at why. (body : ℕ)
+        → BreaksAsMatched text.now (flat parts.now) statement nodes.old.items body at why)) }
 {
     let keys = Keys {
         text,
@@ -86,12 +94,15 @@ fn read_keyval(
 ) -> Result<(), Fault>
     requires stored { IsStored nodes.old.items }
     requires readable { AreReadable text.now (flat parts.now).keys }
-    requires matches { (s : marks.Statement) × MatchesStatement text.now (flat parts.now).keys (flat parts.now).values statement s }
+    requires matches { (s : marks.Statement)
+        × MatchesStatement text.now (flat parts.now).keys (flat parts.now).values statement s }
     requires reading { HasReading (trie_of nodes.old.items) body }
     requires valued { statement.value ≡ Some number }
     ensures stored { OnOk result (IsStored nodes.new.items) }
-    ensures read { OnOk result ((n : ℕ) → IsReadAsMatched text.now (flat parts.now) n statement nodes.old.items body nodes.new.items body) }
-    ensures define { IfErr result (λ fault. FaultMeets fault (BreaksAsMatched text.now (flat parts.now) statement nodes.old.items body)) }
+    ensures read { OnOk result ((n : ℕ) → IsReadAsMatched text.now
+        (flat parts.now) n statement nodes.old.items body nodes.new.items body) }
+    ensures define { IfErr result
+        (λ fault. FaultMeets fault (BreaksAsMatched text.now (flat parts.now) statement nodes.old.items body)) }
 {
     let value = parts.value(number);
     let keys = Keys {
@@ -125,11 +136,14 @@ pub fn read_statement(
 ) -> Result<usize, Fault>
     requires stored { IsStored nodes.old.items }
     requires readable { AreReadable text.now (flat parts.now).keys }
-    requires matches { (s : marks.Statement) × MatchesStatement text.now (flat parts.now).keys (flat parts.now).values statement s }
+    requires matches { (s : marks.Statement)
+        × MatchesStatement text.now (flat parts.now).keys (flat parts.now).values statement s }
     requires reading { HasReading (trie_of nodes.old.items) body }
     ensures stored { OnOk result (IsStored nodes.new.items) }
-    ensures read { IfOk result (λ to. IsReadAsMatched text.now (flat parts.now) number statement nodes.old.items body nodes.new.items to) }
-    ensures define { IfErr result (λ fault. FaultMeets fault (BreaksAsMatched text.now (flat parts.now) statement nodes.old.items body)) }
+    ensures read { IfOk result (λ to. IsReadAsMatched text.now
+        (flat parts.now) number statement nodes.old.items body nodes.new.items to) }
+    ensures define { IfErr result
+        (λ fault. FaultMeets fault (BreaksAsMatched text.now (flat parts.now) statement nodes.old.items body)) }
 {
     match statement.value {
         Some(value) => {

@@ -13,21 +13,21 @@ use Rattle.std.specs.List.{flat_map, AllByRecursion}
 use Rattle.std.proofs.lemmas.List.{length-append}
 use Rattle.std.proofs.lemmas.Grind.{flat_map-append}
 use Rattle.std.proofs.Math.Seq.{take-append_seam, drop-append_seam, take-length}
-use Rattle.keep_leaf.specs.declared.leaf.Profile.{Profile}
-use Rattle.keep_parts.specs.declared.info.KeyPart.{KeyPart}
-use Rattle.keep_parts.specs.declared.info.Statement.{Statement}
-use Rattle.keep_parts.specs.declared.info.ValueInfo.{ValueInfo}
-use Rattle.keep_parts.specs.declared.moves.Counts.{Counts}
+use Rattle.keep_types.specs.declared.leaf.Profile.{Profile}
+use Rattle.keep_types.specs.declared.syntax.KeyPart.{KeyPart}
+use Rattle.keep_types.specs.declared.syntax.Statement.{Statement}
+use Rattle.keep_types.specs.declared.syntax.ValueInfo.{ValueInfo}
+use Rattle.keep_syntax_store.specs.declared.moves.Counts.{Counts}
 use Rattle.keep_syntax.specs.Tree.{Written, Content, blank, keyval, header, element, Line, Ended, Document, text_of, line_leaves, ended_leaves, bom_leaves}
 use Rattle.keep_syntax.specs.Grammar.{IsEnded, IsDocument}
 use Rattle.keep_syntax.specs.Numbered.{width, Count, first_line, line_statements, content_statements, next_line, after_lines}
-use Rattle.keep_parts.specs.Flat.{Flat}
+use Rattle.keep_syntax_store.specs.Flat.{Flat}
 use Rattle.keep_syntax.specs.Growth.{kinds, starts}
-use Rattle.keep_parts.specs.Rereading.{count_at, counts_at, places_before, statements_before, first_key, value_or, first_value, counts_before, nothing, part_of, joined}
+use Rattle.keep_syntax_store.specs.Rereading.{count_at, counts_at, places_before, statements_before, first_key, value_or, first_value, counts_before, nothing, part_of, joined}
 use Rattle.keep_syntax.specs.FlatLines.{flat_of}
 use Rattle.keep_syntax.proofs.CountLaws.{BeginsChar, AreSome, document_some}
 use Rattle.keep_syntax.proofs.NumberingLaws.{width-append}
-use Rattle.keep_parts.proofs.Shared.{same_flat, if_true, if_false}
+use Rattle.keep_syntax_store.proofs.Shared.{same_flat, if_true, if_false}
 use Rattle.keep_syntax.proofs.LineLoopLaws.{same_count}
 use Rattle.keep_syntax.proofs.LineNumberingLaws.{over_ended, after_lines-at, after_lines-statements, after_lines-parts, after_lines-values}
 use Rattle.keep_syntax.proofs.LineStartLaws.{HaveBytes}

@@ -3,10 +3,10 @@ use Rattle.std.proofs.Common.{◌≡◌, ℕ, zero, suc, ◌+◌, ◌≤◌, max
 use Rattle.std.specs.Prelude.{IsTrue}
 use Rattle.std.specs.List.{flat_map, AllByRecursion}
 use Rattle.std.proofs.lemmas.List.{append-nil, length-append, length-drop}
-use Rattle.keep_leaf.specs.declared.leaf.Profile.{Profile}
-use Rattle.keep_leaf.specs.declared.leaf.Profile.TheVariants.{Strict, Wide}
-use Rattle.keep_leaf.specs.declared.leaf.Leaf.{Leaf}
-use Rattle.keep_leaf.specs.declared.leaf.Leaf.TheVariants as leaf
+use Rattle.keep_types.specs.declared.leaf.Profile.{Profile}
+use Rattle.keep_types.specs.declared.leaf.Profile.TheVariants.{Strict, Wide}
+use Rattle.keep_types.specs.declared.leaf.Leaf.{Leaf}
+use Rattle.keep_types.specs.declared.leaf.Leaf.TheVariants as leaf
 use Rattle.keep_token.specs.Leaves.{is_gap_leaf, is_key_leaf, is_scalar_leaf}
 use Rattle.keep_token.specs.Scanning.{first, scalar_at}
 use Rattle.keep_token.proofs.Shared.{tested}

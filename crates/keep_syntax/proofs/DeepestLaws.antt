@@ -1,13 +1,13 @@
 -- The most brackets that are open in the values inside a value are its depth.
 use Rattle.std.proofs.Common.{◌≡◌, ℕ, zero, suc, ◌+◌, max, Bool, false, IsTrue, cond, List, [], ◌∷◌, ◌++◌, take, slice_get, Some, None, refl, ap, ◌∙◌, subst, arith, add-one}
 use Rattle.std.specs.List.{AllByRecursion}
-use Rattle.keep_leaf.specs.declared.leaf.Profile.{Profile}
-use Rattle.keep_leaf.specs.declared.leaf.Leaf.{Leaf}
-use Rattle.keep_leaf.specs.declared.leaf.Leaf.TheVariants as leaf
+use Rattle.keep_types.specs.declared.leaf.Profile.{Profile}
+use Rattle.keep_types.specs.declared.leaf.Leaf.{Leaf}
+use Rattle.keep_types.specs.declared.leaf.Leaf.TheVariants as leaf
 use Rattle.keep_token.specs.Leaves.{is_scalar_leaf}
-use Rattle.keep_parts.specs.declared.info.ValueInfo.{ValueInfo}
-use Rattle.keep_parts.specs.declared.info.Start.{Start}
-use Rattle.keep_parts.specs.declared.info.Owner.TheVariants as owner
+use Rattle.keep_types.specs.declared.syntax.ValueInfo.{ValueInfo}
+use Rattle.keep_types.specs.declared.syntax.Start.{Start}
+use Rattle.keep_types.specs.declared.syntax.Owner.TheVariants as owner
 use Rattle.keep_syntax.specs.Tree.{Body, scalar, array, inline, Entries, none, entry, Value, around, entries_depth, value_depth}
 use Rattle.keep_syntax.specs.Grammar.{Place, place_in, IsBody, AreEntries, IsValue}
 use Rattle.keep_syntax.specs.Deep.{is_opening}

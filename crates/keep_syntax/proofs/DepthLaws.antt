@@ -1,10 +1,10 @@
 -- No value has more brackets open than the limit, itself counted.
 use Rattle.std.proofs.Common.{◌≡◌, ℕ, suc, ◌+◌, ◌≤◌, Bool, cond, List, [], ◌∷◌, ◌++◌, None, refl, sym, ap, subst, arith}
 use Rattle.std.specs.List.{AllByRecursion}
-use Rattle.keep_leaf.specs.declared.leaf.Profile.{Profile}
-use Rattle.keep_parts.specs.declared.info.ValueInfo.{ValueInfo}
-use Rattle.keep_parts.specs.declared.info.Start.{Start}
-use Rattle.keep_parts.specs.declared.info.Owner.TheVariants as owner
+use Rattle.keep_types.specs.declared.leaf.Profile.{Profile}
+use Rattle.keep_types.specs.declared.syntax.ValueInfo.{ValueInfo}
+use Rattle.keep_types.specs.declared.syntax.Start.{Start}
+use Rattle.keep_types.specs.declared.syntax.Owner.TheVariants as owner
 use Rattle.keep_syntax.specs.Tree.{Body, scalar, array, inline, Entries, none, entry, Value, Content, blank, keyval, header, element, Line, Ended, Document, name_leaves, around, entries_depth, value_depth, content_depth, lines_depth}
 use Rattle.keep_syntax.specs.Grammar.{Place, place_in, IsBody, AreEntries, IsValue, IsContent, IsLine, IsEnded, Reads, ReadsValue}
 use Rattle.keep_syntax.specs.Numbered.{width, leaf_of, value_start, name_count, key_count, nested_of, rest_of, entries_values, value_values, content_values, Count, line_start, line_values, next_line, first_line, over_lines, values}

@@ -1,9 +1,9 @@
 -- What the code stores of gaps, and how a fault goes through.
 use Rattle.std.proofs.Common.{◌≡◌, ℕ, ◌+◌, ◌<◌, ◌≤◌, true, false, List, [], ◌∷◌, ◌++◌, length, get_or, take, drop, Option, Some, None, Result, Ok, Err, refl, sym, ap, ◌∙◌, arith, add-zero, append_assoc, IsCharBoundary}
 use Rattle.std.proofs.lemmas.List.{append-nil, drop-drop, get_or-drop, length-drop, length-take}
-use Rattle.keep_leaf.specs.declared.leaf.Leaf.{Leaf}
-use Rattle.keep_leaf.specs.declared.leaf.Leaf.TheVariants as leaf
-use Rattle.keep_leaf.specs.declared.leaf.Profile.{Profile}
+use Rattle.keep_types.specs.declared.leaf.Leaf.{Leaf}
+use Rattle.keep_types.specs.declared.leaf.Leaf.TheVariants as leaf
+use Rattle.keep_types.specs.declared.leaf.Profile.{Profile}
 use Rattle.keep_token.specs.Scanning.{first, gap_at, moved}
 use Rattle.keep_token.proofs.Shared.{white, line, comment, nothing, gap_cases}
 use Rattle.std.specs.List.{prefix_len}
@@ -13,7 +13,7 @@ use Rattle.keep_syntax.specs.declared.fault.ReadFault.TheVariants as faults
 use Rattle.keep_syntax.specs.declared.info.Brackets.{Brackets}
 use Rattle.keep_syntax.specs.Tree.{Gap, token}
 use Rattle.keep_syntax.specs.Reading.{Fault, Bad, Deep, written, space_at, blank_at, prepended, is_free, gap_in}
-use Rattle.keep_parts.specs.Flat.{Flat, with_token}
+use Rattle.keep_syntax_store.specs.Flat.{Flat, with_token}
 use Rattle.keep_syntax.specs.Growth.{only, Grows, PartRead, Fails, PunctuationIs, SpaceRead, BlankRead, IsSyntax}
 use Rattle.keep_syntax.proofs.LoopLaws.{done}
 use Rattle.keep_syntax.proofs.SpaceLaws.{blank_step, blank_stop}

@@ -2,15 +2,15 @@
 use Rattle.std.proofs.Common.{◌≡◌, ℕ, ◌+◌, List, [], ◌∷◌, ◌++◌, length, refl, sym, ap, ◌∙◌, subst, append_assoc, arith, IsCharBoundary}
 use Rattle.std.specs.List.{AllByRecursion}
 use Rattle.std.proofs.lemmas.List.{append-nil, length-append}
-use Rattle.keep_leaf.specs.declared.leaf.Leaf.{Leaf}
-use Rattle.keep_parts.specs.declared.info.Statement.{Statement}
-use Rattle.keep_parts.specs.declared.info.KeyPart.{KeyPart}
-use Rattle.keep_parts.specs.declared.info.ValueInfo.{ValueInfo}
+use Rattle.keep_types.specs.declared.leaf.Leaf.{Leaf}
+use Rattle.keep_types.specs.declared.syntax.Statement.{Statement}
+use Rattle.keep_types.specs.declared.syntax.KeyPart.{KeyPart}
+use Rattle.keep_types.specs.declared.syntax.ValueInfo.{ValueInfo}
 use Rattle.keep_syntax.specs.Tree.{Written, token, text_of}
 use Rattle.keep_syntax.specs.Numbered.{width}
-use Rattle.keep_parts.specs.Flat.{Flat, with_token, with_statement, with_key, with_value, ChangesValue}
+use Rattle.keep_syntax_store.specs.Flat.{Flat, with_token, with_statement, with_key, with_value, ChangesValue}
 use Rattle.keep_syntax.specs.Growth.{Taken, only, both, kinds, starts, add_at, Grows}
-use Rattle.keep_parts.proofs.Shared.{same_flat}
+use Rattle.keep_syntax_store.proofs.Shared.{same_flat}
 use Rattle.keep_syntax.proofs.SpaceLaws.{text_of-append}
 
 -- ---- leaves

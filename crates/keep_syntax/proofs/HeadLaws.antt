@@ -1,8 +1,8 @@
 -- How many key parts and values come before lines shows in the first statement, and the first keyval, among them.
 use Rattle.std.proofs.Common.{◌≡◌, ℕ, ◌+◌, ◌≤◌, List, [], ◌∷◌, ◌++◌, length, refl, ap, ◌∙◌, arith, Option, Some, None}
-use Rattle.keep_parts.specs.declared.info.Statement.{Statement}
-use Rattle.keep_parts.specs.declared.info.KeyPart.{KeyPart}
-use Rattle.keep_parts.specs.declared.info.ValueInfo.{ValueInfo}
+use Rattle.keep_types.specs.declared.syntax.Statement.{Statement}
+use Rattle.keep_types.specs.declared.syntax.KeyPart.{KeyPart}
+use Rattle.keep_types.specs.declared.syntax.ValueInfo.{ValueInfo}
 use Rattle.keep_syntax.specs.Tree.{Content, blank, keyval, header, element, Line, Ended, line_leaves, ended_leaves}
 use Rattle.keep_syntax.specs.Numbered.{width, Count, content_start, line_start, content_statements, content_parts, content_values, line_statements, line_parts, line_values, next_line, over_lines}
 

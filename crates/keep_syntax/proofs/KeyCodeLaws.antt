@@ -3,17 +3,17 @@ use Rattle.std.proofs.Common.{◌≡◌, ℕ, ◌+◌, ◌<◌, false, ◌==◌,
 use Rattle.std.specs.List.{flat_map}
 use Rattle.std.proofs.lemmas.List.{append-nil, length-append}
 use Rattle.std.proofs.lemmas.Grind.{flat_map-append}
-use Rattle.keep_leaf.specs.declared.leaf.Leaf.{Leaf}
-use Rattle.keep_leaf.specs.declared.leaf.Leaf.TheVariants as leaf
-use Rattle.keep_leaf.specs.declared.leaf.Profile.{Profile}
+use Rattle.keep_types.specs.declared.leaf.Leaf.{Leaf}
+use Rattle.keep_types.specs.declared.leaf.Leaf.TheVariants as leaf
+use Rattle.keep_types.specs.declared.leaf.Profile.{Profile}
 use Rattle.keep_token.specs.Scanning.{key_at, moved}
 use Rattle.keep_syntax.specs.declared.fault.ReadFault.{ReadFault}
-use Rattle.keep_parts.specs.declared.info.KeyPart.{KeyPart}
+use Rattle.keep_types.specs.declared.syntax.KeyPart.{KeyPart}
 use Rattle.keep_syntax.specs.Tree.{Written, Gap, Further, Key, Name, token, further_leaves, key_leaves}
 use Rattle.keep_syntax.specs.Numbered.{width, span, further_parts, key_parts}
 use Rattle.keep_syntax.specs.Numbered as numbered
 use Rattle.keep_syntax.specs.Reading.{Bad, Read, ◌>>=◌, continues, ready, written, space_at, part_of, part_at, further_by, further_at, more_of, key_of, name_of}
-use Rattle.keep_parts.specs.Flat.{Flat, with_token, with_key}
+use Rattle.keep_syntax_store.specs.Flat.{Flat, with_token, with_key}
 use Rattle.keep_syntax.specs.Growth.{Taken, Grows, Fails, PunctuationIs, SpaceRead, KeyPartRead, FurtherRead, KeyRead, NameRead, part_taken, further_taken, key_taken, name_taken}
 use Rattle.keep_syntax.proofs.LoopLaws.{done, ok_is, loop_on, loop_ready, loop_err}
 use Rattle.keep_syntax.proofs.KeyLaws.{further_shortens}

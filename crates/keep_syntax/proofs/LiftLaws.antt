@@ -10,16 +10,16 @@
 -- `lifted_line_values`.
 use Rattle.std.proofs.Common.{◌≡◌, ℕ, suc, ◌+◌, List, [], ◌∷◌, ◌++◌, length, map, refl, sym, ap, ◌∙◌, arith, Option, Some, None}
 use Rattle.std.proofs.lemmas.List.{map-append, length-map}
-use Rattle.keep_parts.specs.declared.info.Start.{Start}
-use Rattle.keep_parts.specs.declared.info.Owner.{Owner}
-use Rattle.keep_parts.specs.declared.info.Statement.{Statement}
-use Rattle.keep_parts.specs.declared.info.StatementKind.{StatementKind}
-use Rattle.keep_parts.specs.declared.info.StatementKind.TheVariants.{KeyVal, Header, Element}
-use Rattle.keep_parts.specs.declared.info.ValueInfo.{ValueInfo}
+use Rattle.keep_types.specs.declared.syntax.Start.{Start}
+use Rattle.keep_types.specs.declared.syntax.Owner.{Owner}
+use Rattle.keep_types.specs.declared.syntax.Statement.{Statement}
+use Rattle.keep_types.specs.declared.syntax.StatementKind.{StatementKind}
+use Rattle.keep_types.specs.declared.syntax.StatementKind.TheVariants.{KeyVal, Header, Element}
+use Rattle.keep_types.specs.declared.syntax.ValueInfo.{ValueInfo}
 use Rattle.keep_syntax.specs.Tree.{Written, Gap, Further, Key, Name, Body, scalar, array, inline, Entries, none, entry, Value, Content, blank, keyval, header, element, Line, Ended, line_leaves, ended_leaves, name_leaves, content_leaves}
 use Rattle.keep_syntax.specs.Numbered.{span, width, part_at, further_parts, key_parts, named_parts, name_count, key_count, value_start, nested_start, value_end, comma_start, entry_end, entries_parts, comma_place, info, owner_in, nested_of, rest_of, entries_values, value_values, content_start, line_start, content_parts, content_values, content_statements, Count, statement, line_statements, line_parts, line_values, next_line, over_lines}
 use Rattle.keep_syntax.proofs.LineNumberingLaws.{length-statements}
-use Rattle.keep_parts.specs.Lifted.{origin, plus, lift_there, lift_owner, lift_start, lift_key, lift_statement, lift_value}
+use Rattle.keep_syntax_store.specs.Lifted.{origin, plus, lift_there, lift_owner, lift_start, lift_key, lift_statement, lift_value}
 
 -- ---- key parts
 

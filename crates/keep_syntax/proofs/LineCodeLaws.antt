@@ -1,23 +1,23 @@
 -- What the code stores of comments, newlines and lines.
 use Rattle.std.proofs.Common.{◌≡◌, ℕ, ◌+◌, ◌<◌, true, List, [], ◌∷◌, length, get_or, drop, Option, Some, None, Ok, Err, refl, sym, ap, ◌∙◌, subst, arith, IsCharBoundary}
 use Rattle.std.proofs.lemmas.List.{append-nil}
-use Rattle.keep_leaf.specs.declared.leaf.Leaf.{Leaf}
-use Rattle.keep_leaf.specs.declared.leaf.Leaf.TheVariants as leaf
-use Rattle.keep_leaf.specs.declared.leaf.Profile.{Profile}
+use Rattle.keep_types.specs.declared.leaf.Leaf.{Leaf}
+use Rattle.keep_types.specs.declared.leaf.Leaf.TheVariants as leaf
+use Rattle.keep_types.specs.declared.leaf.Profile.{Profile}
 use Rattle.keep_token.specs.Scanning.{gap_at, moved}
 use Rattle.keep_token.proofs.Shared.{white, line, comment, nothing, gap_cases}
 use Rattle.keep_syntax.specs.declared.fault.ReadFault.{ReadFault}
-use Rattle.keep_parts.specs.declared.info.Start.{Start}
-use Rattle.keep_parts.specs.declared.info.Statement.{Statement}
-use Rattle.keep_parts.specs.declared.info.Owner.TheVariants as owner
+use Rattle.keep_types.specs.declared.syntax.Start.{Start}
+use Rattle.keep_types.specs.declared.syntax.Statement.{Statement}
+use Rattle.keep_types.specs.declared.syntax.Owner.TheVariants as owner
 use Rattle.keep_syntax.specs.declared.line.Head.{Head}
-use Rattle.keep_parts.specs.declared.info.StatementKind.TheVariants.{KeyVal, Header, Element}
+use Rattle.keep_types.specs.declared.syntax.StatementKind.TheVariants.{KeyVal, Header, Element}
 use Rattle.keep_syntax.specs.Tree.{Written, Gap, Content, blank, keyval, header, element, Line, content_leaves, line_leaves}
 use Rattle.keep_syntax.specs.Numbered.{width, span, key_count, content_parts, content_values, Count, line_start, line_statements}
 use Rattle.keep_syntax.specs.Reading.{Bad, written, space_at, is_line_end, content_at, after_of, comment_at, line_at}
-use Rattle.keep_parts.specs.Flat.{Flat, with_token}
+use Rattle.keep_syntax_store.specs.Flat.{Flat, with_token}
 use Rattle.keep_syntax.specs.Growth.{Taken, only, Grows, Fails, IsSyntax, SpaceRead}
-use Rattle.keep_parts.specs.Rereading.{count_at}
+use Rattle.keep_syntax_store.specs.Rereading.{count_at}
 use Rattle.keep_syntax.specs.FlatLines.{content_head, content_taken, ContentIs, CommentRead, line_taken, LineIs, newline_by, NewlineRead}
 use Rattle.keep_syntax.proofs.LoopLaws.{done, ok_is}
 use Rattle.keep_syntax.proofs.GrowthLaws.{same_taken, grows_nothing, grows_then, grows_as, grown_keys, grown_values}

@@ -1,17 +1,17 @@
 -- What the code stores of the content of a line: a keyval or a header.
 use Rattle.std.proofs.Common.{◌≡◌, ℕ, suc, ◌+◌, ◌-◌, false, ◌==◌, ◌&&◌, List, [], ◌∷◌, ◌++◌, length, get_or, get_or-drop, drop, Some, None, Ok, refl, sym, ap, ◌∙◌, arith, append_assoc}
 use Rattle.std.proofs.lemmas.List.{append-nil}
-use Rattle.keep_leaf.specs.declared.leaf.Leaf.{Leaf}
-use Rattle.keep_leaf.specs.declared.leaf.Leaf.TheVariants as leaf
-use Rattle.keep_leaf.specs.declared.leaf.Profile.{Profile}
+use Rattle.keep_types.specs.declared.leaf.Leaf.{Leaf}
+use Rattle.keep_types.specs.declared.leaf.Leaf.TheVariants as leaf
+use Rattle.keep_types.specs.declared.leaf.Profile.{Profile}
 use Rattle.keep_syntax.specs.declared.fault.ReadFault.{ReadFault}
-use Rattle.keep_parts.specs.declared.info.Start.{Start}
-use Rattle.keep_parts.specs.declared.info.StatementKind.TheVariants.{KeyVal, Header, Element}
+use Rattle.keep_types.specs.declared.syntax.Start.{Start}
+use Rattle.keep_types.specs.declared.syntax.StatementKind.TheVariants.{KeyVal, Header, Element}
 use Rattle.keep_syntax.specs.declared.line.Head.{Head}
 use Rattle.keep_syntax.specs.Tree.{Written, Gap, Further, Key, keyval, header, element, token, key_leaves, name_leaves, content_leaves}
 use Rattle.keep_syntax.specs.Numbered.{width, key_count, key_parts, further_parts, entries_parts, nested_start, value_values}
 use Rattle.keep_syntax.specs.Reading.{space_at, key_of, name_of, value_of, is_line_end, keyval_of, header_by, element_by, content_at}
-use Rattle.keep_parts.specs.Flat.{Flat}
+use Rattle.keep_syntax_store.specs.Flat.{Flat}
 use Rattle.keep_syntax.specs.Growth.{Taken, only, Fails, IsSyntax, PunctuationIs, SpaceRead, KeyRead, NameRead, ValueRead, key_taken, name_taken}
 use Rattle.keep_syntax.specs.FlatLines.{content_taken, ContentIs}
 use Rattle.keep_syntax.proofs.LoopLaws.{done, ok_is}

@@ -14,26 +14,26 @@ use Rattle.std.specs.Prelude.{OnOk, IsOkUnless}
 use Rattle.std.specs.List.{flat_map}
 use Rattle.std.proofs.lemmas.List.{append-nil, drop_all, length-drop}
 use Rattle.std.proofs.lemmas.Grind.{flat_map-append}
-use Rattle.keep_leaf.specs.declared.leaf.Leaf.TheVariants as leaf
-use Rattle.keep_leaf.specs.declared.leaf.Profile.{Profile}
+use Rattle.keep_types.specs.declared.leaf.Leaf.TheVariants as leaf
+use Rattle.keep_types.specs.declared.leaf.Profile.{Profile}
 use Rattle.keep_token.specs.Scanning.{gap_at}
 use Rattle.keep_token.proofs.Shared.{Gaps, white, line, comment, nothing, gap_cases}
 use Rattle.keep_syntax.specs.declared.fault.ReadFault.{ReadFault}
 use Rattle.keep_syntax.specs.declared.fault.ReadFault.TheVariants as faults
-use Rattle.keep_parts.specs.declared.info.Statement.{Statement}
+use Rattle.keep_types.specs.declared.syntax.Statement.{Statement}
 use Rattle.keep_syntax.specs.Tree.{Written, Content, blank, keyval, header, element, Line, Ended, line_leaves, ended_leaves}
 use Rattle.keep_syntax.specs.Numbered.{width, Count, line_parts, line_values, line_statements, content_statements, after_lines}
 use Rattle.keep_syntax.specs.Reading.{Fault, Bad, written, line_at, lines_of}
-use Rattle.keep_parts.specs.Flat.{Flat}
+use Rattle.keep_syntax_store.specs.Flat.{Flat}
 use Rattle.keep_syntax.specs.Growth.{Taken, only, both, add_at, Grows, Fails}
-use Rattle.keep_parts.specs.Rereading.{count_at, with_statements}
+use Rattle.keep_syntax_store.specs.Rereading.{count_at, with_statements}
 use Rattle.keep_syntax.specs.FlatLines.{statement_list, LineIs, newline_by, NewlineRead, ended_list, lines_taken, LinesAre, LinesRead}
 use Rattle.keep_syntax.specs.WholeLines.{line_starts}
 use Rattle.keep_syntax.proofs.LoopLaws.{done}
 use Rattle.keep_syntax.proofs.NumberingLaws.{width-append}
 use Rattle.keep_syntax.proofs.StepLaws.{lines_newline, lines_last, lines_err, lines_bad}
 use Rattle.keep_syntax.proofs.LineNumberingLaws.{over_ended, ended-snoc, over-last, after_lines-at, after_lines-statements, after_lines-parts, after_lines-values}
-use Rattle.keep_parts.proofs.Shared.{same_flat}
+use Rattle.keep_syntax_store.proofs.Shared.{same_flat}
 use Rattle.keep_syntax.proofs.GrowthLaws.{same_taken, grows_nothing, grows_then, grows_as, grown_keys, grown_values, grown_statements}
 use Rattle.keep_syntax.proofs.GapCodeLaws.{fails_memory, fails_through}
 

@@ -2,7 +2,7 @@
 use Rattle.std.proofs.Common.{◌≡◌, ℕ, ◌+◌, ◌<◌, ◌≤◌, Bool, true, false, List, [], ◌∷◌, refl, sym, ◌∙◌, arith, le-leb, lt-ltb, le-ltb, leb-true}
 use Rattle.std.specs.Prelude.{⊤, ltb, leb, if◌then◌else◌}
 use Rattle.std.proofs.lemmas.Bool.{lt-leb}
-use Rattle.keep_parts.proofs.Shared.{if_true, if_false}
+use Rattle.keep_syntax_store.proofs.Shared.{if_true, if_false}
 use Rattle.keep_syntax.specs.Tree.{Ended, ended_leaves}
 use Rattle.keep_syntax.specs.Numbered.{width}
 use Rattle.keep_syntax.specs.WholeLines.{line_starts, last_to, first_from, lines_before, lines_from}

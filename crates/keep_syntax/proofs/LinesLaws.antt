@@ -2,13 +2,13 @@
 -- those after, moved.
 use Rattle.std.proofs.Common.{◌≡◌, ℕ, ◌+◌, List, [], ◌∷◌, ◌++◌, map, refl, sym, ap, ◌∙◌, arith, append_assoc, Option, Some, None}
 use Rattle.std.proofs.lemmas.List.{map-append}
-use Rattle.keep_parts.specs.declared.info.Span.{Span}
-use Rattle.keep_parts.specs.declared.info.Owner.{Owner}
-use Rattle.keep_parts.specs.declared.info.Owner.TheVariants as owner
+use Rattle.keep_types.specs.declared.syntax.Span.{Span}
+use Rattle.keep_types.specs.declared.syntax.Owner.{Owner}
+use Rattle.keep_types.specs.declared.syntax.Owner.TheVariants as owner
 use Rattle.keep_syntax.specs.Tree.{Line, Ended, ended_leaves}
 use Rattle.keep_syntax.specs.Numbered.{width, Count, line_statements, line_parts, line_values, next_line, over_lines, after_lines}
 use Rattle.keep_syntax.proofs.LineNumberingLaws.{over_ended}
-use Rattle.keep_parts.specs.Lifted.{origin, plus, lift_there, lift_span, lift_owner, lift_key, lift_statement, lift_value, moved, moved_there, moved_span, moved_owner, moved_key, moved_statement, moved_value}
+use Rattle.keep_syntax_store.specs.Lifted.{origin, plus, lift_there, lift_span, lift_owner, lift_key, lift_statement, lift_value, moved, moved_there, moved_span, moved_owner, moved_key, moved_statement, moved_value}
 use Rattle.keep_syntax.proofs.LiftLaws.{lifted_next, lifted_over, lifted_line_statements, lifted_line_parts, lifted_line_values, count_is}
 
 -- ---- lists over lines

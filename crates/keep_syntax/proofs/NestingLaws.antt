@@ -11,16 +11,16 @@
 use Rattle.std.proofs.Common.{◌≡◌, ℕ, ◌+◌, ◌-◌, ◌<◌, true, false, ◌==◌, List, [], ◌∷◌, ◌++◌, length, get_or, drop, Option, Some, None, Result, Ok, Err, refl, sym, ap, ◌∙◌, arith, append_assoc, IsCharBoundary}
 use Rattle.std.specs.Option.{is_some}
 use Rattle.std.proofs.lemmas.List.{append-nil}
-use Rattle.keep_leaf.specs.declared.leaf.Profile.{Profile}
+use Rattle.keep_types.specs.declared.leaf.Profile.{Profile}
 use Rattle.keep_syntax.specs.declared.fault.ReadFault.{ReadFault}
-use Rattle.keep_parts.specs.declared.info.Start.{Start}
+use Rattle.keep_types.specs.declared.syntax.Start.{Start}
 use Rattle.keep_syntax.specs.declared.info.Brackets.{Brackets}
-use Rattle.keep_parts.specs.declared.info.KeyPart.{KeyPart}
-use Rattle.keep_parts.specs.declared.info.ValueInfo.{ValueInfo}
+use Rattle.keep_types.specs.declared.syntax.KeyPart.{KeyPart}
+use Rattle.keep_types.specs.declared.syntax.ValueInfo.{ValueInfo}
 use Rattle.keep_syntax.specs.Tree.{Written, Gap, Name, Entries, none, Value, named_leaves, value_leaves, comma_leaves}
 use Rattle.keep_syntax.specs.Numbered.{width, entries_parts, entries_values, info, nested_of, nested_start, value_start, comma_start, comma_place, name_count, named_parts, behind}
 use Rattle.keep_syntax.specs.Reading.{Iteration, continues, ready, join, Item, entry_of, iteration_of, value_of, close_byte, gap_in, named_in, after_by, item_by, entry_by, entries_by}
-use Rattle.keep_parts.specs.Flat.{Flat, with_comma}
+use Rattle.keep_syntax_store.specs.Flat.{Flat, with_comma}
 use Rattle.keep_syntax.specs.Growth.{Taken, Grows, Fails, NamedRead, ValueRead, AfterRead, AfterStored, named_taken, value_taken, entries_taken, item_taken, EntriesAre, ItemIs, ItemRead}
 use Rattle.keep_syntax.proofs.LoopLaws.{done, loop_on, loop_ready, loop_err}
 use Rattle.keep_syntax.proofs.ValueLaws.{value_takes, entry_shortens}

@@ -1,10 +1,10 @@
 -- Tokens, key parts and values of entries, one after the other, and how many there are.
 use Rattle.std.proofs.Common.{◌≡◌, ℕ, suc, ◌+◌, List, [], ◌∷◌, ◌++◌, length, Option, Some, None, refl, sym, ap, ◌∙◌, append_assoc, arith}
 use Rattle.std.proofs.lemmas.List.{length-append}
-use Rattle.keep_parts.specs.declared.info.Start.{Start}
-use Rattle.keep_parts.specs.declared.info.Owner.{Owner}
-use Rattle.keep_parts.specs.declared.info.KeyPart.{KeyPart}
-use Rattle.keep_parts.specs.declared.info.ValueInfo.{ValueInfo}
+use Rattle.keep_types.specs.declared.syntax.Start.{Start}
+use Rattle.keep_types.specs.declared.syntax.Owner.{Owner}
+use Rattle.keep_types.specs.declared.syntax.KeyPart.{KeyPart}
+use Rattle.keep_types.specs.declared.syntax.ValueInfo.{ValueInfo}
 use Rattle.keep_syntax.specs.Tree.{Further, Name, Entries, none, entry, Value, named_leaves, opening, closing, comma_leaves, entries_leaves, value_leaves}
 use Rattle.keep_syntax.specs.Numbered.{width, entries_parts, value_count, part_count, name_count, named_parts, further_parts, entries_values, nested_of, rest_of, behind, info, value_start, nested_start, value_end, comma_start, entry_end, comma_place}
 use Rattle.keep_syntax.specs.Reading.{join}

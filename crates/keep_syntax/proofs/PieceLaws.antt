@@ -5,13 +5,13 @@ use Rattle.std.proofs.lemmas.List.{append-nil}
 use Rattle.std.proofs.lemmas.Grind.{flat_map-append}
 use Rattle.keep_syntax.specs.Tree.{Written, Line, Ended, Document, line_leaves, ended_leaves, bom_leaves}
 use Rattle.keep_syntax.specs.Numbered.{width, Count, first_line, line_statements, line_parts, line_values, after_lines}
-use Rattle.keep_parts.specs.Flat.{Flat}
+use Rattle.keep_syntax_store.specs.Flat.{Flat}
 use Rattle.keep_syntax.specs.Growth.{Taken, only, kinds, starts, add_at}
 use Rattle.keep_syntax.specs.FlatLines.{lines_taken, flat_of}
 use Rattle.keep_syntax.specs.WholeLines.{empty_line}
-use Rattle.keep_parts.specs.Lifted.{origin, moved}
-use Rattle.keep_parts.specs.Rereading.{moved_flat, joined}
-use Rattle.keep_parts.proofs.Shared.{same_flat}
+use Rattle.keep_syntax_store.specs.Lifted.{origin, moved}
+use Rattle.keep_syntax_store.specs.Rereading.{moved_flat, joined}
+use Rattle.keep_syntax_store.proofs.Shared.{same_flat}
 use Rattle.keep_syntax.proofs.GrowthLaws.{kinds-append, starts-append}
 use Rattle.keep_syntax.proofs.LineNumberingLaws.{over_ended, over-last, after_lines-at}
 use Rattle.keep_syntax.proofs.LineLoopLaws.{all_taken}

@@ -2,7 +2,7 @@
 use Rattle.std.proofs.Common.{◌≡◌, ℕ, suc, ◌+◌, List, [], ◌∷◌, ◌++◌, length, take, drop, refl, sym, ap, ◌∙◌, arith, append_assoc, take_at, drop_at}
 use Rattle.std.specs.List.{flat_map}
 use Rattle.std.proofs.lemmas.List.{length-append}
-use Rattle.keep_leaf.specs.declared.leaf.Leaf.TheVariants as leaf
+use Rattle.keep_types.specs.declared.leaf.Leaf.TheVariants as leaf
 use Rattle.keep_syntax.specs.Tree.{Written, Document, text_of, token, leaves, text}
 use Rattle.keep_syntax.specs.Numbered.{width, Placed, placed, token_places, tokens}
 use Rattle.keep_syntax.proofs.SpaceLaws.{text_of-append}

@@ -3,19 +3,19 @@ use Rattle.std.proofs.Common.{◌≡◌, ℕ, ◌+◌, ◌≤◌, List, [], ◌�
 use Rattle.std.specs.List.{AllByRecursion}
 use Rattle.std.proofs.lemmas.List.{append-nil}
 use Rattle.std.proofs.lemmas.Str.{IsCharBoundary-end}
-use Rattle.keep_leaf.specs.declared.leaf.Profile.{Profile}
-use Rattle.keep_leaf.specs.declared.leaf.Leaf.TheVariants as leaf
+use Rattle.keep_types.specs.declared.leaf.Profile.{Profile}
+use Rattle.keep_types.specs.declared.leaf.Leaf.TheVariants as leaf
 use Rattle.keep_syntax.specs.declared.fault.ReadFault.{ReadFault}
 use Rattle.keep_syntax.specs.declared.fault.ReadFault.TheVariants as faults
-use Rattle.keep_parts.specs.declared.parts.Parts.{Parts}
-use Rattle.keep_parts.specs.declared.info.ValueInfo.{ValueInfo}
+use Rattle.keep_syntax_store.specs.declared.parts.Parts.{Parts}
+use Rattle.keep_types.specs.declared.syntax.ValueInfo.{ValueInfo}
 use Rattle.keep_syntax.specs.declared.syntax.Syntax.{Syntax}
 use Rattle.keep_syntax.specs.declared.alone.ValueSyntax.{ValueSyntax}
 use Rattle.keep_syntax.specs.Tree.{Document, Value, text_of, token, leaves, text}
 use Rattle.keep_syntax.specs.Grammar.{Reads, ReadsValue}
 use Rattle.keep_syntax.specs.Numbered.{placed, tokens}
 use Rattle.keep_syntax.specs.Reading.{Fault, Bad, Deep, read_document, read_one_value}
-use Rattle.keep_parts.specs.Flat.{Flat, flat}
+use Rattle.keep_syntax_store.specs.Flat.{Flat, flat}
 use Rattle.keep_syntax.specs.Growth.{kinds, starts, add_at, Fails}
 use Rattle.keep_syntax.specs.Cut.{start_in, cut, cut_by}
 use Rattle.keep_syntax.specs.FlatLines.{flat_of, DocumentIs, OneIs}

@@ -9,10 +9,10 @@ use Rattle.keep_syntax.specs.Growth.{starts}
 use Rattle.keep_syntax.specs.Numbered.{width, Count, after_lines, over_lines, line_statements, line_parts, line_values}
 use Rattle.keep_syntax.proofs.LineNumberingLaws.{over_ended, over-last}
 use Rattle.keep_syntax.specs.WholeLines.{empty_line, line_starts, last_to, lines_before, lines_from}
-use Rattle.keep_parts.specs.Lifted.{origin, lift_key, lift_statement, lift_value, moved, moved_key, moved_statement, moved_value}
+use Rattle.keep_syntax_store.specs.Lifted.{origin, lift_key, lift_statement, lift_value, moved, moved_key, moved_statement, moved_value}
 use Rattle.keep_syntax.proofs.LiftLaws.{lifted_over, lifted_line_statements, lifted_line_parts, lifted_line_values}
 use Rattle.keep_syntax.proofs.LinesLaws.{OverLine, Lifts, Moves, lines_law, over-prefix, plus-origin, moves_keys, moves_statements, moves_values}
-use Rattle.keep_parts.proofs.Shared.{if_true, if_false}
+use Rattle.keep_syntax_store.proofs.Shared.{if_true, if_false}
 use Rattle.keep_syntax.proofs.LineStartLaws.{line_of, next_of, HaveBytes, line_step, next_step, before_step, from_step, none_before, all_from, line_low, next_high}
 
 -- ---- the lines of a document, in three parts

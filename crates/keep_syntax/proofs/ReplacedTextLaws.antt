@@ -15,12 +15,12 @@ use Rattle.std.proofs.lemmas.List.{append-nil, length-append, drop_all}
 use Rattle.std.proofs.lemmas.Str.{IsCharBoundary-end}
 use Rattle.std.proofs.lemmas.Grind.{flat_map-append}
 use Rattle.std.proofs.Math.Seq.{take-append_seam, drop-append_seam}
-use Rattle.keep_leaf.specs.declared.leaf.Profile.{Profile}
-use Rattle.keep_parts.specs.declared.info.Span.{Span}
+use Rattle.keep_types.specs.declared.leaf.Profile.{Profile}
+use Rattle.keep_types.specs.declared.syntax.Span.{Span}
 use Rattle.keep_syntax.specs.declared.syntax.Syntax.{Syntax}
 use Rattle.keep_syntax.specs.Tree.{Written, Line, Ended, Document, line_leaves, ended_leaves, bom_leaves, text_of, text, lines_depth, content_depth, depth}
 use Rattle.keep_syntax.specs.Grammar.{IsLine, IsEnded, IsDocument}
-use Rattle.keep_parts.specs.Flat.{Flat, flat}
+use Rattle.keep_syntax_store.specs.Flat.{Flat, flat}
 use Rattle.keep_syntax.specs.Growth.{starts, add_at}
 use Rattle.keep_syntax.specs.Cut.{start_in}
 use Rattle.keep_syntax.specs.WholeLines.{begin, replaced}
@@ -30,7 +30,7 @@ use Rattle.keep_syntax.proofs.SpaceLaws.{text_of-append}
 use Rattle.keep_syntax.proofs.CountLaws.{BeginsChar, AreSome, inner_leaves, document_some}
 use Rattle.keep_syntax.proofs.CutLaws.{start_holds, start_forward}
 use Rattle.keep_syntax.proofs.ReadLaws.{inner_text}
-use Rattle.keep_parts.proofs.Shared.{if_true, if_false}
+use Rattle.keep_syntax_store.proofs.Shared.{if_true, if_false}
 use Rattle.keep_syntax.proofs.SplitLaws.{Split}
 use Rattle.keep_syntax.proofs.CountingLaws.{all_append, all_prefix, all_back}
 use Rattle.keep_syntax.proofs.RereadLaws.{lines_of, middle_lines, end_lines, empty_last}

@@ -13,19 +13,19 @@ use Rattle.std.proofs.Common.{◌≡◌, ℕ, zero, suc, ◌-◌, ◌≤◌, Boo
 use Rattle.std.specs.Prelude.{ltb, slice_range}
 use Rattle.std.specs.List.{AllByRecursion}
 use Rattle.std.proofs.lemmas.List.{append-nil, length-append, length-map, length-drop}
-use Rattle.keep_parts.specs.declared.info.Span.{Span}
-use Rattle.keep_parts.specs.declared.info.KeyPart.{KeyPart}
-use Rattle.keep_parts.specs.declared.info.Statement.{Statement}
-use Rattle.keep_parts.specs.declared.info.ValueInfo.{ValueInfo}
-use Rattle.keep_parts.specs.declared.moves.Counts.{Counts}
-use Rattle.keep_parts.specs.declared.parts.Parts.{Parts}
+use Rattle.keep_types.specs.declared.syntax.Span.{Span}
+use Rattle.keep_types.specs.declared.syntax.KeyPart.{KeyPart}
+use Rattle.keep_types.specs.declared.syntax.Statement.{Statement}
+use Rattle.keep_types.specs.declared.syntax.ValueInfo.{ValueInfo}
+use Rattle.keep_syntax_store.specs.declared.moves.Counts.{Counts}
+use Rattle.keep_syntax_store.specs.declared.parts.Parts.{Parts}
 use Rattle.keep_syntax.specs.Numbered.{Count}
-use Rattle.keep_parts.specs.Flat.{Flat, flat, unpacked_statement, unpacked_key_part, unpacked_value, statements_in, key_parts_in, values_in}
-use Rattle.keep_parts.specs.Rereading.{count_at, count_of, nothing, counts_at, counts_before, with_prefix, with_new, with_back, replaced_flat, CanMove}
-use Rattle.keep_parts.specs.Lifted.{origin, moved, moved_key, moved_statement, moved_value}
-use Rattle.keep_parts.specs.Shifting.{shifted_key, CanShiftKey, shifted_statement, CanShiftStatement, shifted_value, CanShiftValue}
+use Rattle.keep_syntax_store.specs.Flat.{Flat, flat, unpacked_statement, unpacked_key_part, unpacked_value, statements_in, key_parts_in, values_in}
+use Rattle.keep_syntax_store.specs.Rereading.{count_at, count_of, nothing, counts_at, counts_before, with_prefix, with_new, with_back, replaced_flat, CanMove}
+use Rattle.keep_syntax_store.specs.Lifted.{origin, moved, moved_key, moved_statement, moved_value}
+use Rattle.keep_syntax_store.specs.Shifting.{shifted_key, CanShiftKey, shifted_statement, CanShiftStatement, shifted_value, CanShiftValue}
 use Rattle.keep_syntax.specs.Replacing.{IsPacked, CanShift, IsRun, IsShifted, IsAsBefore, CanExchange, same, IsExchanged, replaced_places, placed, counts_after, counts_behind, UndoesRun}
-use Rattle.keep_parts.proofs.Shared.{same_flat, if_true, if_false, range_length, map_is, key_is, key_back, statement_is, statement_back, value_is, value_back, unpacked_exchanged, same_exchanged, room_again, exchanged_back}
+use Rattle.keep_syntax_store.proofs.Shared.{same_flat, if_true, if_false, range_length, map_is, key_is, key_back, statement_is, statement_back, value_is, value_back, unpacked_exchanged, same_exchanged, room_again, exchanged_back}
 use Rattle.keep_syntax.proofs.LineLoopLaws.{same_count}
 use Rattle.keep_syntax.proofs.RereadLaws.{stays_key, stays_statement, stays_value, map_same}
 

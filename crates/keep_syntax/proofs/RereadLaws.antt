@@ -12,24 +12,24 @@ use Rattle.std.specs.Prelude.{ltb, slice_range}
 use Rattle.std.specs.List.{flat_map, AllByRecursion}
 use Rattle.std.proofs.lemmas.List.{append-nil, length-append, map-append}
 use Rattle.std.proofs.lemmas.Grind.{flat_map-append}
-use Rattle.keep_leaf.specs.declared.leaf.Profile.{Profile}
-use Rattle.keep_parts.specs.declared.info.Span.{Span}
-use Rattle.keep_parts.specs.declared.info.Owner.{Owner}
-use Rattle.keep_parts.specs.declared.info.Owner.TheVariants as owner
-use Rattle.keep_parts.specs.declared.info.KeyPart.{KeyPart}
-use Rattle.keep_parts.specs.declared.info.Statement.{Statement}
-use Rattle.keep_parts.specs.declared.info.ValueInfo.{ValueInfo}
-use Rattle.keep_parts.specs.declared.moves.Counts.{Counts}
-use Rattle.keep_parts.specs.declared.parts.Parts.{Parts}
+use Rattle.keep_types.specs.declared.leaf.Profile.{Profile}
+use Rattle.keep_types.specs.declared.syntax.Span.{Span}
+use Rattle.keep_types.specs.declared.syntax.Owner.{Owner}
+use Rattle.keep_types.specs.declared.syntax.Owner.TheVariants as owner
+use Rattle.keep_types.specs.declared.syntax.KeyPart.{KeyPart}
+use Rattle.keep_types.specs.declared.syntax.Statement.{Statement}
+use Rattle.keep_types.specs.declared.syntax.ValueInfo.{ValueInfo}
+use Rattle.keep_syntax_store.specs.declared.moves.Counts.{Counts}
+use Rattle.keep_syntax_store.specs.declared.parts.Parts.{Parts}
 use Rattle.keep_syntax.specs.declared.syntax.Syntax.{Syntax}
 use Rattle.keep_syntax.specs.Tree.{Line, Ended, Document, line_leaves, ended_leaves, bom_leaves, text}
 use Rattle.keep_syntax.specs.Grammar.{IsEnded, IsDocument, Reads}
 use Rattle.keep_syntax.specs.Numbered.{span, width, Count, first_line, next_line, after_lines}
-use Rattle.keep_parts.specs.Flat.{Flat, flat, empty}
-use Rattle.keep_parts.specs.Rereading.{count_at, nothing, counts_at, counts_before, places_before, IsPart, part_of, moved_flat, joined, appended, with_prefix, with_new, with_back, replaced_flat, CanMove, prefix_starts, back_starts, replaced_starts}
+use Rattle.keep_syntax_store.specs.Flat.{Flat, flat, empty}
+use Rattle.keep_syntax_store.specs.Rereading.{count_at, nothing, counts_at, counts_before, places_before, IsPart, part_of, moved_flat, joined, appended, with_prefix, with_new, with_back, replaced_flat, CanMove, prefix_starts, back_starts, replaced_starts}
 use Rattle.keep_syntax.specs.FlatLines.{flat_of, DocumentIs}
 use Rattle.keep_syntax.specs.WholeLines.{empty_line, line_starts, lines_from, begin, starts_of, replaced}
-use Rattle.keep_parts.specs.Lifted.{origin, moved, moved_there, moved_span, moved_owner, moved_key, moved_statement, moved_value}
+use Rattle.keep_syntax_store.specs.Lifted.{origin, moved, moved_there, moved_span, moved_owner, moved_key, moved_statement, moved_value}
 use Rattle.keep_syntax.specs.declared.reread.NewLines.{NewLines}
 use Rattle.keep_syntax.specs.Replacing.{AreNewLines}
 use Rattle.keep_syntax.specs.Contract.{IsSyntaxOf, CanReplace, MayReread}
@@ -37,7 +37,7 @@ use Rattle.keep_syntax.proofs.LoopLaws.{ok_is}
 use Rattle.keep_syntax.proofs.DocumentLaws.{document_read}
 use Rattle.keep_syntax.proofs.ReadLaws.{syntax_of, syntax_is}
 use Rattle.keep_syntax.proofs.NumberingLaws.{width-append}
-use Rattle.keep_parts.proofs.Shared.{same_flat, if_true, if_false}
+use Rattle.keep_syntax_store.proofs.Shared.{same_flat, if_true, if_false}
 use Rattle.keep_syntax.proofs.LineLoopLaws.{same_count}
 use Rattle.keep_syntax.proofs.LineNumberingLaws.{after_lines-at, after_lines-statements, after_lines-parts, after_lines-values}
 use Rattle.keep_syntax.proofs.LineStartLaws.{HaveBytes}

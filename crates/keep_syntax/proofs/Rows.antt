@@ -1,9 +1,9 @@
 -- The definitions on a worked row: a = [1, {b = 2}]
 use Rattle.std.proofs.Common.{◌≡◌, ℕ, false, [], ◌∷◌, map, Some, None, refl}
 use Rattle.std.specs.Prelude.{codes}
-use Rattle.keep_leaf.specs.declared.leaf.Leaf.TheVariants as leaf
-use Rattle.keep_parts.specs.declared.info.Owner.TheVariants as owner
-use Rattle.keep_parts.specs.declared.info.StatementKind.TheVariants.{KeyVal}
+use Rattle.keep_types.specs.declared.leaf.Leaf.TheVariants as leaf
+use Rattle.keep_types.specs.declared.syntax.Owner.TheVariants as owner
+use Rattle.keep_types.specs.declared.syntax.StatementKind.TheVariants.{KeyVal}
 use Rattle.keep_syntax.specs.Tree.{Written, Gap, Name, scalar, array, inline, none, entry, keyval, Document, text, depth}
 use Rattle.keep_syntax.specs.Numbered.{span, values, statements, parts, tokens}
 

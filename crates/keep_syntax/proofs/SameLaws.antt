@@ -1,9 +1,9 @@
 -- A syntax in which the same is stored is that of the same document and the same text.
 use Rattle.std.proofs.Common.{ℕ, ◌+◌, ◌≤◌, List, refl, sym, ap, subst, ◌∙◌, IsCharBoundary}
-use Rattle.keep_parts.specs.declared.info.Span.{Span}
+use Rattle.keep_types.specs.declared.syntax.Span.{Span}
 use Rattle.keep_syntax.specs.declared.syntax.Syntax.{Syntax}
 use Rattle.keep_syntax.specs.Tree.{Document, text}
-use Rattle.keep_parts.specs.Flat.{Flat}
+use Rattle.keep_syntax_store.specs.Flat.{Flat}
 use Rattle.keep_syntax.specs.Cut.{start_in, cut_by}
 use Rattle.keep_syntax.specs.Contract.{IsSyntaxOf, IsTextOf, IsSpanIn}
 use Rattle.keep_syntax.specs.Undoing.{IsSame}

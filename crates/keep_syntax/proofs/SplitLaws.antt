@@ -3,16 +3,16 @@ use Rattle.std.proofs.Common.{◌≡◌, ℕ, ◌+◌, ◌<◌, ◌≤◌, Bool,
 use Rattle.std.specs.Prelude.{leb}
 use Rattle.std.specs.List.{flat_map, AllByRecursion}
 use Rattle.std.proofs.lemmas.List.{length-append}
-use Rattle.keep_leaf.specs.declared.leaf.Profile.{Profile}
-use Rattle.keep_leaf.specs.declared.leaf.Leaf.TheVariants as leaf
-use Rattle.keep_parts.specs.declared.info.Span.{Span}
+use Rattle.keep_types.specs.declared.leaf.Profile.{Profile}
+use Rattle.keep_types.specs.declared.leaf.Leaf.TheVariants as leaf
+use Rattle.keep_types.specs.declared.syntax.Span.{Span}
 use Rattle.keep_syntax.specs.Tree.{Written, Ended, Document, token, line_leaves, ended_leaves, bom_leaves, text}
 use Rattle.keep_syntax.specs.Grammar.{IsEnded, IsDocument}
 use Rattle.keep_syntax.specs.Numbered.{width}
 use Rattle.keep_syntax.specs.WholeLines.{line_starts, last_to, lines_before, lines_from, begin, touched}
 use Rattle.keep_syntax.proofs.SpaceLaws.{gap_leaf_some}
 use Rattle.keep_syntax.proofs.NumberingLaws.{width-append}
-use Rattle.keep_parts.proofs.Shared.{if_true, if_false}
+use Rattle.keep_syntax_store.proofs.Shared.{if_true, if_false}
 use Rattle.keep_syntax.proofs.LineStartLaws.{HaveBytes, line_of, next_of, line_low, next_high, line_step, next_step, before_step, from_step, none_before, all_from}
 
 abbrev pub bytes_of : List Ended → ℕ

@@ -1,6 +1,6 @@
 -- The lines that a span touches are found among the line starts.
 use Rattle.std.proofs.Common.{◌≡◌, ℕ, List, length, sym, ap, ◌∙◌, arith}
-use Rattle.keep_parts.specs.declared.info.Span.{Span}
+use Rattle.keep_types.specs.declared.syntax.Span.{Span}
 use Rattle.keep_syntax.specs.declared.syntax.Syntax.{Syntax}
 use Rattle.keep_syntax.specs.Tree.{Document, text}
 use Rattle.keep_syntax.specs.Numbered.{span}

@@ -10,21 +10,21 @@
 -- Theorems: `scalar_is`, `bracket_is` and `after_comma`: what is stored is what the definition has.
 use Rattle.std.proofs.Common.{◌≡◌, ℕ, zero, suc, ◌+◌, ◌<◌, true, false, not, ◌&&◌, ◌==◌, List, [], ◌∷◌, ◌++◌, length, get_or, drop, Option, Some, None, Result, Ok, Err, refl, sym, ap, ◌∙◌, subst, arith, IsCharBoundary}
 use Rattle.std.proofs.lemmas.List.{append-nil, length-append}
-use Rattle.keep_leaf.specs.declared.leaf.Leaf.{Leaf}
-use Rattle.keep_leaf.specs.declared.leaf.Leaf.TheVariants as leaf
-use Rattle.keep_leaf.specs.declared.leaf.Profile.{Profile}
+use Rattle.keep_types.specs.declared.leaf.Leaf.{Leaf}
+use Rattle.keep_types.specs.declared.leaf.Leaf.TheVariants as leaf
+use Rattle.keep_types.specs.declared.leaf.Profile.{Profile}
 use Rattle.keep_token.specs.Scanning.{scalar_at, moved}
 use Rattle.keep_syntax.specs.declared.fault.ReadFault.{ReadFault}
-use Rattle.keep_parts.specs.declared.info.Start.{Start}
-use Rattle.keep_parts.specs.declared.info.Owner.{Owner}
+use Rattle.keep_types.specs.declared.syntax.Start.{Start}
+use Rattle.keep_types.specs.declared.syntax.Owner.{Owner}
 use Rattle.keep_syntax.specs.declared.info.Brackets.{Brackets}
 use Rattle.keep_syntax.specs.declared.info.Brackets.TheVariants as brackets
-use Rattle.keep_parts.specs.declared.info.ValueInfo.{ValueInfo}
+use Rattle.keep_types.specs.declared.syntax.ValueInfo.{ValueInfo}
 use Rattle.keep_syntax.specs.Tree.{Gap, Name, scalar, Entries, none, Value, token, entries_leaves, value_leaves}
 use Rattle.keep_syntax.specs.Numbered.{width, span, entries_parts, entries_values, value_values, info, nested_of, nested_start, value_end, leaf_of}
 use Rattle.keep_syntax.specs.Numbered as numbered
 use Rattle.keep_syntax.specs.Reading.{Bad, Read, written, scalar_of, value_by, value_of, entries_by, body_in, open_byte, close_byte, gap_in, is_free, named_in, name_of, after_by, comma_by}
-use Rattle.keep_parts.specs.Flat.{Flat, with_token, with_value, begun, with_end, with_comma, ChangesValue}
+use Rattle.keep_syntax_store.specs.Flat.{Flat, with_token, with_value, begun, with_end, with_comma, ChangesValue}
 use Rattle.keep_syntax.specs.Growth.{Taken, only, both, Grows, PartRead, Fails, PunctuationIs, GapRead, NameRead, NamedRead, ScalarRead, BracketRead, bracket_of, open_leaf, close_leaf, owner_in, value_taken, entries_taken, AfterIs, EntriesAre}
 use Rattle.keep_syntax.proofs.LoopLaws.{done, ok_is}
 use Rattle.keep_syntax.proofs.GrowthLaws.{same_taken, grows_nothing, grows_then, grows_as, grows_value, grows_changed, grown_values, grown_keys, one_value}

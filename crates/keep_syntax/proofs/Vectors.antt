@@ -7,13 +7,13 @@
 -- lemma. A definition that the code follows, but that says something else than was meant, shows here if one of these
 -- documents touches it.
 use Rattle.std.proofs.Common.{◌≡◌, true, false, [], ◌∷◌, Some, None, refl, inl, inr, arith}
-use Rattle.keep_leaf.specs.declared.leaf.Leaf.TheVariants as leaf
-use Rattle.keep_leaf.specs.declared.leaf.Profile.TheVariants.{Strict, Wide}
+use Rattle.keep_types.specs.declared.leaf.Leaf.TheVariants as leaf
+use Rattle.keep_types.specs.declared.leaf.Profile.TheVariants.{Strict, Wide}
 use Rattle.keep_token.specs.Strings.{Plain, Break}
 use Rattle.keep_token.proofs.Shared.{integer_text_from}
-use Rattle.keep_parts.specs.declared.info.Owner.TheVariants as owner
-use Rattle.keep_parts.specs.declared.info.StatementKind.TheVariants.{KeyVal, Header, Element}
-use Rattle.keep_parts.specs.declared.info.Start.{Start}
+use Rattle.keep_types.specs.declared.syntax.Owner.TheVariants as owner
+use Rattle.keep_types.specs.declared.syntax.StatementKind.TheVariants.{KeyVal, Header, Element}
+use Rattle.keep_types.specs.declared.syntax.Start.{Start}
 use Rattle.keep_syntax.specs.Tree.{scalar, array, inline, none, entry, Value, blank, keyval, header, element, Document, depth}
 use Rattle.keep_syntax.specs.Numbered.{span, values, value_values, entries_parts, nested_start, statements, parts, tokens}
 use Rattle.keep_syntax.specs.Grammar.{Reads, ReadsValue}

@@ -5,15 +5,15 @@ use Rattle.std.proofs.lemmas.Bool.Decides.{nat_tests}
 use Rattle.std.proofs.lemmas.Str.{IsCharBoundary-start, IsCharBoundary-past_char}
 use Rattle.std.proofs.lemmas.List.{drop_all, length-drop}
 use lib.Utf8.{encode}
-use Rattle.keep_leaf.specs.declared.leaf.Leaf.TheVariants as leaf
-use Rattle.keep_leaf.specs.declared.leaf.Profile.{Profile}
+use Rattle.keep_types.specs.declared.leaf.Leaf.TheVariants as leaf
+use Rattle.keep_types.specs.declared.leaf.Profile.{Profile}
 use Rattle.keep_syntax.specs.declared.fault.ReadFault.{ReadFault}
 use Rattle.keep_syntax.specs.Tree.{Value, Document, bom_leaves}
 use Rattle.keep_syntax.specs.Numbered.{Count, first_line, statements, parts, values}
 use Rattle.keep_syntax.specs.Reading.{Fault, ◌>>=◌, lines_of, has_bom, after_bom, read_document, value_of, read_one_value}
-use Rattle.keep_parts.specs.Flat.{Flat, empty, with_token}
+use Rattle.keep_syntax_store.specs.Flat.{Flat, empty, with_token}
 use Rattle.keep_syntax.specs.Growth.{only, both, kinds, starts, add_at, Grows, Fails, IsSyntax, value_taken, ValueRead}
-use Rattle.keep_parts.specs.Rereading.{count_at}
+use Rattle.keep_syntax_store.specs.Rereading.{count_at}
 use Rattle.keep_syntax.specs.FlatLines.{lines_taken, LinesAre, BomRead, document_taken, DocumentIs, alone, OneIs}
 use Rattle.keep_syntax.specs.WholeLines.{line_starts}
 use Rattle.keep_syntax.proofs.LoopLaws.{done, ok_is}

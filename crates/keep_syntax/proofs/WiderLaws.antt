@@ -1,7 +1,7 @@
 -- What Strict accepts Wide accepts, with the same tree.
 use Rattle.std.proofs.Common.{◌≡◌, ℕ, List, [], ◌∷◌, Option, Some, None, Ok}
 use Rattle.std.specs.List.{AllByRecursion}
-use Rattle.keep_leaf.specs.declared.leaf.Profile.TheVariants.{Strict, Wide}
+use Rattle.keep_types.specs.declared.leaf.Profile.TheVariants.{Strict, Wide}
 use Rattle.keep_token.proofs.Shared.{leaf_wider}
 use Rattle.keep_syntax.proofs.SpaceLaws.{space_blank}
 use Rattle.keep_syntax.specs.Reading.{read_document, read_one_value}

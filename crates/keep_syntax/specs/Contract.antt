@@ -1,23 +1,24 @@
 -- What the public functions ensure: which document, or which value, was read of a text, and what a fault tells.
 use Rattle.std.specs.Prelude.{◌≡◌, ℕ, ◌+◌, ◌≤◌, ◌⊎◌, false, List, ◌++◌, length, take, drop, None, ⊤, IsCharBoundary}
-use Rattle.keep_leaf.specs.declared.leaf.Profile.{Profile}
+use Rattle.keep_types.specs.declared.leaf.Profile.{Profile}
 use Rattle.keep_syntax.specs.declared.fault.ReadFault.{ReadFault}
 use Rattle.keep_syntax.specs.declared.fault.ReadFault.TheVariants as faults
-use Rattle.keep_parts.specs.declared.info.Statement.{Statement}
-use Rattle.keep_parts.specs.declared.info.KeyPart.{KeyPart}
-use Rattle.keep_parts.specs.declared.info.ValueInfo.{ValueInfo}
-use Rattle.keep_parts.specs.declared.info.Span.{Span}
-use Rattle.keep_parts.specs.declared.info.Start.{Start}
-use Rattle.keep_parts.specs.declared.info.Owner.TheVariants as owner
+use Rattle.keep_types.specs.declared.syntax.Statement.{Statement}
+use Rattle.keep_types.specs.declared.syntax.KeyPart.{KeyPart}
+use Rattle.keep_types.specs.declared.syntax.ValueInfo.{ValueInfo}
+use Rattle.keep_types.specs.declared.syntax.Span.{Span}
+use Rattle.keep_types.specs.declared.syntax.Start.{Start}
+use Rattle.keep_types.specs.declared.syntax.Owner.TheVariants as owner
 use Rattle.keep_syntax.specs.declared.info.Token.{Token}
 use Rattle.keep_syntax.specs.declared.syntax.Syntax.{Syntax}
 use Rattle.keep_syntax.specs.declared.alone.ValueSyntax.{ValueSyntax}
 use Rattle.keep_syntax.specs.declared.tokens.Tokens.{Tokens}
 use Rattle.keep_syntax.specs.Tree.{Value, Document, text, value_depth}
 use Rattle.keep_syntax.specs.Grammar.{IsDocument, Reads, ReadsValue}
-use Rattle.keep_syntax.specs.Numbered.{Placed, tokens, statements, parts, values, nested_start, entries_parts, value_values}
+use Rattle.keep_syntax.specs.Numbered.{Placed, tokens, statements, parts, values, nested_start, entries_parts}
+use Rattle.keep_syntax.specs.Numbered.{value_values}
 use Rattle.keep_syntax.specs.Deep.{IsTooDeep, IsValueTooDeep, IsNoDocument, IsNoValue}
-use Rattle.keep_parts.specs.Flat.{flat}
+use Rattle.keep_syntax_store.specs.Flat.{flat}
 use Rattle.keep_syntax.specs.Cut.{start_in, cut_by}
 use Rattle.keep_syntax.specs.FlatLines.{flat_of}
 use Rattle.keep_syntax.specs.WholeLines.{empty_line, begin, starts_of, touched}
@@ -37,8 +38,9 @@ parts_of s = (flat s.parts).keys
 abbrev pub values_of : Syntax → List ValueInfo
 values_of s = (flat s.parts).values
 
--- Its tokens, statements, key parts and values are those of the document, each in text order. `stored` says of all vectors
--- together that they have what the document has and no more. It also has where the lines begin and the length of the text.
+-- Its tokens, statements, key parts and values are those of the document, each in text order. `stored` says of all
+-- vectors together that they have what the document has and no more. It also has where the lines begin and the length
+-- of the text.
 pub record IsSyntaxOf (s : Syntax) (d : Document) : Type 0 where
   pub tokens : tokens_of s (text d) ≡ tokens d
   pub statements : statements_of s ≡ statements d
@@ -48,7 +50,8 @@ pub record IsSyntaxOf (s : Syntax) (d : Document) : Type 0 where
   pub lines : s.lines ≡ starts_of d
   pub len : s.len ≡ length (text d)
 
--- It was read of this text: a document within the limit has the text, and these are its tokens, statements, key parts and values.
+-- It was read of this text: a document within the limit has the text, and these are its tokens, statements, key parts
+-- and values.
 abbrev pub IsReadOf : Profile → ℕ → List ℕ → Syntax → Type 0
 IsReadOf profile limit bytes s = (d : Document) × Reads profile limit bytes d × IsSyntaxOf s d
 
@@ -68,10 +71,11 @@ pub record IsSpanIn (s : Syntax) (sp : Span) : Type 0 where
   pub order : sp.start ≤ sp.end
   pub within : sp.end ≤ length (text document)
 
--- Lines can be replaced: `whole` is whole lines of d, which are those that some span touches. The document m has the text of
--- the new lines, within the limit and with no byte order mark. It ends with a newline, so that its last line is empty, unless
--- `whole` ends with the text.
-pub record CanReplace (profile : Profile) (limit : ℕ) (d : Document) (whole : Span) (lines : List ℕ) (m : Document) : Type 0 where
+-- Lines can be replaced: `whole` is whole lines of d, which are those that some span touches. The document m has the
+-- text of the new lines, within the limit and with no byte order mark. It ends with a newline, so that its last line is
+-- empty, unless `whole` ends with the text.
+pub record CanReplace (profile : Profile) (limit : ℕ) (d : Document) (whole : Span) (lines : List ℕ) (m : Document)
+    : Type 0 where
   pub valid : IsDocument profile d
   pub span : Span
   pub low : begin d ≤ span.start

@@ -1,9 +1,9 @@
 -- The tokens that kinds and starts cut out of a text.
 use Rattle.std.specs.Prelude.{ℕ, List, [], ◌∷◌, ◌++◌, length, get_or, drop, slice_range}
-use Rattle.keep_leaf.specs.declared.leaf.Leaf.{Leaf}
-use Rattle.keep_leaf.specs.declared.leaf.Leaf.TheVariants as leaf
+use Rattle.keep_types.specs.declared.leaf.Leaf.{Leaf}
+use Rattle.keep_types.specs.declared.leaf.Leaf.TheVariants as leaf
 use Rattle.keep_syntax.specs.Numbered.{Placed}
-use Rattle.keep_parts.specs.Flat.{Flat}
+use Rattle.keep_syntax_store.specs.Flat.{Flat}
 
 -- where the token with this number begins, if those stored begin so; End begins at the end of the text
 abbrev pub start_in : List ℕ → List ℕ → ℕ → ℕ
@@ -12,7 +12,12 @@ start_in text starts number = get_or starts number (length text)
 -- Tokens of these kinds. Each ends where the next begins.
 abbrev pub cut : List ℕ → List Leaf → List ℕ → List Placed
 cut text [] starts = []
-cut text (l ∷ ls) starts = record { leaf = l; at = start_in text starts 0; text = slice_range text (start_in text starts 0) (start_in text starts 1) } ∷ cut text ls (drop 1 starts)
+cut text (l ∷ ls) starts =
+    record {
+      leaf = l;
+      at = start_in text starts 0;
+      text = slice_range text (start_in text starts 0) (start_in text starts 1);
+    } ∷ cut text ls (drop 1 starts)
 
 -- the kinds of the tokens that are stored, and End
 abbrev pub all_kinds : Flat → List Leaf

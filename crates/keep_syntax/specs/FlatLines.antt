@@ -1,24 +1,27 @@
 -- What reading lines and whole texts adds to what is stored.
 use Rattle.std.specs.Prelude.{◌≡◌, ℕ, List, [], ◌∷◌, ◌++◌, length, drop, Option, Some, None, Result, Ok, Err}
 use Rattle.std.specs.List.{flat_map}
-use Rattle.keep_leaf.specs.declared.leaf.Leaf.{Leaf}
-use Rattle.keep_leaf.specs.declared.leaf.Leaf.TheVariants as leaf
-use Rattle.keep_leaf.specs.declared.leaf.Profile.{Profile}
+use Rattle.keep_types.specs.declared.leaf.Leaf.{Leaf}
+use Rattle.keep_types.specs.declared.leaf.Leaf.TheVariants as leaf
+use Rattle.keep_types.specs.declared.leaf.Profile.{Profile}
 use Rattle.keep_token.specs.Scanning.{gap_at}
 use Rattle.keep_syntax.specs.declared.fault.ReadFault.{ReadFault}
-use Rattle.keep_parts.specs.declared.info.Owner.TheVariants as owner
-use Rattle.keep_parts.specs.declared.info.Start.{Start}
-use Rattle.keep_parts.specs.declared.info.Statement.{Statement}
-use Rattle.keep_parts.specs.declared.info.StatementKind.TheVariants.{KeyVal, Header, Element}
+use Rattle.keep_types.specs.declared.syntax.Owner.TheVariants as owner
+use Rattle.keep_types.specs.declared.syntax.Start.{Start}
+use Rattle.keep_types.specs.declared.syntax.Statement.{Statement}
+use Rattle.keep_types.specs.declared.syntax.StatementKind.TheVariants.{KeyVal, Header, Element}
 use Rattle.keep_syntax.specs.declared.line.Head.{Head}
-use Rattle.keep_parts.specs.declared.parts.Parts.{Parts}
-use Rattle.keep_syntax.specs.Tree.{Written, Content, blank, keyval, header, element, Value, Line, Document, content_leaves, comment_leaves, line_leaves, ended_leaves, bom_leaves}
-use Rattle.keep_parts.specs.Rereading.{count_at}
-pub use Rattle.keep_parts.specs.Rereading.{with_statements}
+use Rattle.keep_syntax_store.specs.declared.parts.Parts.{Parts}
+use Rattle.keep_syntax.specs.Tree.{Written, Content, blank, keyval, header, element, Value, Line, Document}
+use Rattle.keep_syntax.specs.Tree.{content_leaves, comment_leaves, line_leaves, ended_leaves, bom_leaves}
+use Rattle.keep_syntax_store.specs.Rereading.{count_at}
+pub use Rattle.keep_syntax_store.specs.Rereading.{with_statements}
 use Rattle.keep_syntax.specs.WholeLines.{line_starts, starts_of}
-use Rattle.keep_syntax.specs.Numbered.{span, key_count, content_parts, content_values, Count, line_parts, line_values, line_statements, over_lines, statements, parts, values}
-use Rattle.keep_syntax.specs.Reading.{Bad, Read, written, content_at, comment_at, line_at, Lines, lines_of, has_bom, after_bom, read_document, read_one_value}
-use Rattle.keep_parts.specs.Flat.{Flat, flat, empty}
+use Rattle.keep_syntax.specs.Numbered.{span, key_count, content_parts, content_values, Count, line_parts, line_values}
+use Rattle.keep_syntax.specs.Numbered.{line_statements, over_lines, statements, parts, values}
+use Rattle.keep_syntax.specs.Reading.{Bad, Read, written, content_at, comment_at, line_at, Lines, lines_of, has_bom}
+use Rattle.keep_syntax.specs.Reading.{after_bom, read_document, read_one_value}
+use Rattle.keep_syntax_store.specs.Flat.{Flat, flat, empty}
 use Rattle.keep_syntax.specs.Growth.{add_at, Taken, only, Grows, Fails, PartIs, PartRead, value_taken}
 
 -- ---- the content of a line
@@ -31,10 +34,12 @@ content_head p (header before key behind) = Some (record { kind = Header; keys =
 content_head p (element before key behind) = Some (record { kind = Element; keys = key_count key; value = None })
 
 abbrev pub content_taken : Start → Content → Taken
-content_taken p c = record { leaves = content_leaves c; statements = []; keys = content_parts p.at c; values = content_values p c }
+content_taken p c =
+    record { leaves = content_leaves c; statements = []; keys = content_parts p.at c; values = content_values p c }
 
 -- a content that is not blank
-pub record ContentIs (profile : Profile) (room : ℕ) (text : List ℕ) (p : Start) (old new : Flat) (end : ℕ) (head : Head) : Type 0 where
+pub record ContentIs (profile : Profile) (room : ℕ) (text : List ℕ) (p : Start) (old new : Flat) (end : ℕ) (head : Head)
+    : Type 0 where
   pub read : PartIs text p.at 1 (content_at profile room (drop p.at text)) (content_taken p) old new end
   pub stated : content_head p read.part ≡ Some head
 
@@ -45,7 +50,8 @@ ContentRead profile room text p old new (Err e) = Fails text e (content_at profi
 -- ---- lines
 
 abbrev pub CommentRead : List ℕ → ℕ → Flat → Flat → Result ℕ ReadFault → Type 0
-CommentRead text at old new r = PartRead text at 0 (Ok (comment_at (drop at text))) (λ w. only (comment_leaves w)) old new r
+CommentRead text at old new r =
+    PartRead text at 0 (Ok (comment_at (drop at text))) (λ w. only (comment_leaves w)) old new r
 
 abbrev pub line_taken : Count → Line → Taken
 line_taken c l = record { leaves = line_leaves l; statements = []; keys = line_parts c l; values = line_values c l }
@@ -55,7 +61,8 @@ statement_list None = []
 statement_list (Some s) = s ∷ []
 
 -- a line without its newline, and its statement as if the line ended there
-pub record LineIs (profile : Profile) (room : ℕ) (text : List ℕ) (at : ℕ) (old new : Flat) (end : ℕ) (s : Option Statement) : Type 0 where
+pub record LineIs (profile : Profile) (room : ℕ) (text : List ℕ) (at : ℕ) (old new : Flat) (end : ℕ)
+    (s : Option Statement) : Type 0 where
   pub read : PartIs text at 0 (line_at profile room (drop at text)) (line_taken (count_at at old)) old new end
   pub stated : statement_list s ≡ line_statements (count_at at old) read.part end
 
@@ -68,7 +75,8 @@ newline_by text (Some (leaf.Newline, n)) = Ok (written leaf.Newline n text, drop
 newline_by text _ = Err Bad
 
 abbrev pub NewlineRead : List ℕ → ℕ → Flat → Flat → Result ℕ ReadFault → Type 0
-NewlineRead text at old new r = PartRead text at 1 (newline_by (drop at text) (gap_at (drop at text))) (λ w. only (w ∷ [])) old new r
+NewlineRead text at old new r =
+    PartRead text at 1 (newline_by (drop at text) (gap_at (drop at text))) (λ w. only (w ∷ [])) old new r
 
 -- a line's statement, now that the line's end is known
 abbrev pub ended_list : ℕ → Option Statement → List Statement
@@ -84,11 +92,14 @@ lines_taken c ls = record {
 }
 
 -- All lines from a place on, up to the end of the text, were read, and the places where they begin are stored.
-pub record LinesAre (profile : Profile) (room : ℕ) (text : List ℕ) (at : ℕ) (old new : Flat) (before after : List ℕ) : Type 0 where
-  pub read : PartIs text at 0 (lines_of profile room [] (drop at text)) (lines_taken (count_at at old)) old new (length text)
+pub record LinesAre (profile : Profile) (room : ℕ) (text : List ℕ) (at : ℕ) (old new : Flat) (before after : List ℕ)
+    : Type 0 where
+  pub read : PartIs text at 0 (lines_of profile room [] (drop at text)) (lines_taken (count_at at old)) old new
+      (length text)
   pub starts : after ≡ before ++ line_starts at read.part.0
 
-abbrev pub LinesRead : {A : Type 0} → Profile → ℕ → List ℕ → ℕ → Flat → Flat → List ℕ → List ℕ → Result A ReadFault → Type 0
+abbrev pub LinesRead : {A : Type 0} → Profile → ℕ → List ℕ → ℕ → Flat → Flat → List ℕ → List ℕ → Result A ReadFault
+    → Type 0
 LinesRead profile room text at old new before after (Ok r) = LinesAre profile room text at old new before after
 LinesRead profile room text at old new before after (Err e) = Fails text e (lines_of profile room [] (drop at text))
 
@@ -96,7 +107,8 @@ LinesRead profile room text at old new before after (Err e) = Fails text e (line
 
 -- a byte order mark, if there is one
 abbrev pub BomRead : List ℕ → Flat → Flat → Result ℕ ReadFault → Type 0
-BomRead text old new r = PartRead text 0 0 (Ok (has_bom text, after_bom (has_bom text) text)) (λ b. only (bom_leaves b)) old new r
+BomRead text old new r =
+    PartRead text 0 0 (Ok (has_bom text, after_bom (has_bom text) text)) (λ b. only (bom_leaves b)) old new r
 
 -- a document's tokens but End, and its statements, key parts and values
 abbrev pub document_taken : Document → Taken

@@ -1,6 +1,6 @@
 -- How many brackets of arrays and inline tables are open in the values of a list.
 use Rattle.std.specs.Prelude.{ℕ, suc, ◌≤◌, max, if◌then◌else◌, List, [], ◌∷◌}
-use Rattle.keep_parts.specs.declared.info.ValueInfo.{ValueInfo}
+use Rattle.keep_types.specs.declared.syntax.ValueInfo.{ValueInfo}
 use Rattle.keep_syntax.specs.Deep.{is_opening}
 
 -- those that are open in a value, its own counted

@@ -1,7 +1,7 @@
 -- Which profile's grammar a value is of, as a test on its text.
 use Rattle.std.specs.Prelude.{Bool, true, is_ok}
-use Rattle.keep_leaf.specs.declared.leaf.Profile.{Profile}
-use Rattle.keep_leaf.specs.declared.leaf.Profile.TheVariants.{Strict, Wide}
+use Rattle.keep_types.specs.declared.leaf.Profile.{Profile}
+use Rattle.keep_types.specs.declared.leaf.Profile.TheVariants.{Strict, Wide}
 use Rattle.keep_syntax.specs.Tree.{Value, value_text, value_depth}
 use Rattle.keep_syntax.specs.Reading.{read_one_value}
 

@@ -1,15 +1,17 @@
 -- Reading from left to right, as a function on lists: what the code equals, and what the laws in proofs/ tie to the
 -- grammar. A part is read from the start of a text, and what comes after it is handed on. Places are the texts from
 -- them on, so nothing is counted.
-use Rattle.std.specs.Prelude.{ℕ, zero, suc, Bool, true, false, not, ◌&&◌, ◌||◌, ◌==◌, if◌then◌else◌, List, [], ◌∷◌, ◌++◌, length, take, drop, slice_index, Option, Some, None, Result, Ok, Err}
-use Rattle.keep_leaf.specs.declared.leaf.Profile.{Profile}
-use Rattle.keep_leaf.specs.declared.leaf.Profile.TheVariants.{Strict, Wide}
-use Rattle.keep_leaf.specs.declared.leaf.Leaf.{Leaf}
-use Rattle.keep_leaf.specs.declared.leaf.Leaf.TheVariants as leaf
+use Rattle.std.specs.Prelude.{ℕ, zero, suc, Bool, true, false, not, ◌&&◌, ◌||◌, ◌==◌, if◌then◌else◌, List, [], ◌∷◌}
+use Rattle.std.specs.Prelude.{◌++◌, length, take, drop, slice_index, Option, Some, None, Result, Ok, Err}
+use Rattle.keep_types.specs.declared.leaf.Profile.{Profile}
+use Rattle.keep_types.specs.declared.leaf.Profile.TheVariants.{Strict, Wide}
+use Rattle.keep_types.specs.declared.leaf.Leaf.{Leaf}
+use Rattle.keep_types.specs.declared.leaf.Leaf.TheVariants as leaf
 use Rattle.keep_token.specs.Scanning.{first, gap_at, key_at, scalar_at}
 use Rattle.keep_syntax.specs.declared.info.Brackets.{Brackets}
 use Rattle.keep_syntax.specs.declared.info.Brackets.TheVariants as brackets
-use Rattle.keep_syntax.specs.Tree.{Written, Gap, Further, Key, Name, Body, scalar, array, inline, Entries, none, entry, Value, Content, blank, keyval, header, element, Line, Ended, Document, token}
+use Rattle.keep_syntax.specs.Tree.{Written, Gap, Further, Key, Name, Body, scalar, array, inline, Entries, none, entry}
+use Rattle.keep_syntax.specs.Tree.{Value, Content, blank, keyval, header, element, Line, Ended, Document, token}
 
 -- nothing fits, or a bracket is one too many: the text from it on
 pub data Fault : Type 0 where
@@ -115,7 +117,8 @@ part_at profile text = part_of text (key_at profile text)
 abbrev pub further_by : Profile → List Further → Gap × List ℕ → Read (Iteration (List Further) (List Further × Gap))
 further_by profile prefix b =
     if first b.1 == 0x2E
-    then (part_at profile (space_at (drop 1 b.1)).1 >>= λ p. Ok (continues (prefix ++ (record { before = b.0; behind = (space_at (drop 1 b.1)).0; part = p.0 } ∷ [])), p.1))
+    then (part_at profile (space_at (drop 1 b.1)).1 >>= λ p. Ok
+    (continues (prefix ++ (record { before = b.0; behind = (space_at (drop 1 b.1)).0; part = p.0 } ∷ [])), p.1))
     else Ok (ready (prefix, b.0), b.1)
 
 unfoldable pub further_at : Profile → List Further → List ℕ → Read (Iteration (List Further) (List Further × Gap))
@@ -186,7 +189,8 @@ abbrev pub iteration_of : Entries → Item → Option Gap → Iteration Entries 
 iteration_of prefix i None = ready (join prefix (entry_of i none))
 iteration_of prefix i (Some behind) = continues (join prefix (entry_of i none))
 
-unfoldable pub entry_by : Profile → Brackets → (List ℕ → Read Value) → Entries → List ℕ → Read (Iteration Entries Entries)
+unfoldable pub entry_by : Profile → Brackets → (List ℕ → Read Value) → Entries → List ℕ
+    → Read (Iteration Entries Entries)
 entry_by profile b value prefix text =
     if first text == close_byte b then Ok (ready prefix, text)
     else (item_by profile b value text >>= λ i. Ok (iteration_of prefix i.0 i.0.comma, i.1))
@@ -257,11 +261,13 @@ unfoldable pub comment_at : List ℕ → Option Written × List ℕ
 comment_at text = comment_of text (gap_at text)
 
 abbrev pub line_by : Gap → Content → Gap × List ℕ → Read Line
-line_by before content a = Ok (record { before = before; content = content; after = a.0; comment = (comment_at a.1).0 }, (comment_at a.1).1)
+line_by before content a =
+    Ok (record { before = before; content = content; after = a.0; comment = (comment_at a.1).0 }, (comment_at a.1).1)
 
 -- a line without its newline
 unfoldable pub line_at : Profile → ℕ → List ℕ → Read Line
-line_at profile room text = content_at profile room (space_at text).1 >>= λ c. line_by (space_at text).0 c.0 (after_of c.0 c.1)
+line_at profile room text =
+    content_at profile room (space_at text).1 >>= λ c. line_by (space_at text).0 c.0 (after_of c.0 c.1)
 
 -- lines with their newlines, and the last line
 abbrev pub Lines : Type 0
@@ -269,7 +275,8 @@ Lines = List Ended × Line
 
 -- at a newline continues after it
 abbrev pub newline_of : List Ended → Line → List ℕ → Option (Leaf × ℕ) → Read (Iteration (List Ended) Lines)
-newline_of prefix l text (Some (leaf.Newline, n)) = Ok (continues (prefix ++ (record { line = l; newline = written leaf.Newline n text } ∷ [])), drop n text)
+newline_of prefix l text (Some (leaf.Newline, n)) =
+    Ok (continues (prefix ++ (record { line = l; newline = written leaf.Newline n text } ∷ [])), drop n text)
 newline_of prefix l text _ = Err Bad
 
 -- at the end is ready
@@ -297,7 +304,8 @@ after_bom false text = text
 -- a document and nothing else
 unfoldable pub read_document : Profile → ℕ → List ℕ → Result Document Fault
 read_document profile limit text =
-    lines_of profile limit [] (after_bom (has_bom text) text) >>= λ l. Ok (record { bom = has_bom text; ended = l.0.0; last = l.0.1 })
+    lines_of profile limit [] (after_bom (has_bom text) text) >>= λ l. Ok
+    (record { bom = has_bom text; ended = l.0.0; last = l.0.1 })
 
 -- one value and nothing else
 unfoldable pub read_one_value : Profile → ℕ → List ℕ → Result Value Fault

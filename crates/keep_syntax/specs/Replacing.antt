@@ -1,21 +1,24 @@
 -- What is read to replace lines, and what was stored of lines that others replaced, and that it can be put back.
 use Rattle.std.specs.Prelude.{◌≡◌, ℕ, ◌+◌, List, length}
-use Rattle.keep_leaf.specs.declared.leaf.Profile.{Profile}
-use Rattle.keep_parts.specs.declared.info.Span.{Span}
-use Rattle.keep_parts.specs.declared.parts.Parts.{Parts}
-use Rattle.keep_parts.specs.Flat.{flat}
-use Rattle.keep_parts.specs.Lifted.{moved}
-use Rattle.keep_parts.specs.Rereading.{replaced_starts}
+use Rattle.keep_types.specs.declared.leaf.Profile.{Profile}
+use Rattle.keep_types.specs.declared.syntax.Span.{Span}
+use Rattle.keep_syntax_store.specs.declared.parts.Parts.{Parts}
+use Rattle.keep_syntax_store.specs.Flat.{flat}
+use Rattle.keep_syntax_store.specs.Lifted.{moved}
+use Rattle.keep_syntax_store.specs.Rereading.{replaced_starts}
 use Rattle.keep_syntax.specs.declared.reread.NewLines.{NewLines}
 use Rattle.keep_syntax.specs.FlatLines.{DocumentIs}
 use Rattle.keep_syntax.specs.declared.replacing.Gone.{Gone}
 use Rattle.keep_syntax.specs.declared.replacing.Gone.TheVariants as gone
-pub use Rattle.keep_parts.specs.InPlace.{IsPacked, CanShift, IsRange, IsRun, IsShifted, IsAsBefore, CanExchange, same, IsExchanged, replaced_places, placed, counts_after, AreHeld, counts_behind, IsInPlace, UndoesRun}
+pub use Rattle.keep_syntax_store.specs.InPlace.{IsPacked, CanShift, IsRange, IsRun, IsShifted, IsAsBefore, CanExchange}
+pub use Rattle.keep_syntax_store.specs.InPlace.{same, IsExchanged, replaced_places, placed, counts_after, AreHeld}
+pub use Rattle.keep_syntax_store.specs.InPlace.{counts_behind, IsInPlace, UndoesRun}
 
--- Lines with these bytes were read, to be put in the place of whole lines of a text with so many bytes, in which lines begin
--- at `starts`: what is stored of them, how many bytes they have and where they end; then where all lines begin, and how many
--- bytes there are.
-pub record AreNewLines (profile : Profile) (limit : ℕ) (bytes : List ℕ) (starts : List ℕ) (len : ℕ) (whole : Span) (new : NewLines) : Type 0 where
+-- Lines with these bytes were read, to be put in the place of whole lines of a text with so many bytes, in which lines
+-- begin at `starts`: what is stored of them, how many bytes they have and where they end; then where all lines begin,
+-- and how many bytes there are.
+pub record AreNewLines (profile : Profile) (limit : ℕ) (bytes : List ℕ) (starts : List ℕ) (len : ℕ) (whole : Span)
+    (new : NewLines) : Type 0 where
   pub begins : List ℕ
   pub read : DocumentIs profile limit bytes (flat new.parts) begins
   pub size : new.size ≡ length bytes

@@ -2,11 +2,11 @@
 use Rattle.std.specs.Prelude.{◌≡◌}
 use Rattle.keep_syntax.specs.declared.syntax.Syntax.{Syntax}
 use Rattle.keep_syntax.specs.declared.syntax.rereading.Replaced.{Replaced}
-use Rattle.keep_parts.specs.Flat.{flat}
+use Rattle.keep_syntax_store.specs.Flat.{flat}
 use Rattle.keep_syntax.specs.Replacing.{UndoesParts}
 
--- The same is stored: tokens, statements, key parts, values, where lines begin, and how long the text is. How it is packed
--- may differ.
+-- The same is stored: tokens, statements, key parts, values, where lines begin, and how long the text is. How it is
+-- packed may differ.
 pub record IsSame (a b : Syntax) : Type 0 where
   pub stored : flat a.parts ≡ flat b.parts
   pub lines : a.lines ≡ b.lines

@@ -1,7 +1,7 @@
 -- Whole lines of a document: where they begin, which of them a span touches, and a document with some replaced.
 use Rattle.std.specs.Prelude.{ℕ, ◌+◌, ltb, if◌then◌else◌, List, [], ◌∷◌, ◌++◌, length, None}
-use Rattle.keep_parts.specs.declared.info.Span.{Span}
-pub use Rattle.keep_parts.specs.Starts.{last_to, first_from}
+use Rattle.keep_types.specs.declared.syntax.Span.{Span}
+pub use Rattle.keep_syntax_store.specs.Starts.{last_to, first_from}
 use Rattle.keep_syntax.specs.Tree.{Line, blank, Ended, Document, ended_leaves, bom_leaves, text}
 use Rattle.keep_syntax.specs.Numbered.{width, span}
 
@@ -11,8 +11,8 @@ empty_line = record { before = []; content = blank; after = []; comment = None }
 
 -- ---- where lines begin
 
--- Where lines begin, the first of them at a place. A line ends with a newline of the tree, not with one inside a value. The
--- last place is where the line after them begins.
+-- Where lines begin, the first of them at a place. A line ends with a newline of the tree, not with one inside a value.
+-- The last place is where the line after them begins.
 abbrev pub line_starts : ℕ → List Ended → List ℕ
 line_starts at [] = at ∷ []
 line_starts at (e ∷ es) = at ∷ line_starts (at + width (ended_leaves e)) es

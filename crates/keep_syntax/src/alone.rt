@@ -1,7 +1,7 @@
 //! Reading one value alone, and what is known of it then.
 ghost use Rattle.std.specs.Prelude.{◌≡◌, ℕ, ◌<◌, List, length, slice_get, IfOk, IfErr, MatchResult};
 ghost use Rattle.std.specs.List.{AllByRecursion};
-ghost use Rattle.keep_leaf.specs.declared.leaf.Profile.{Profile};
+ghost use Rattle.keep_types.specs.declared.leaf.Profile.{Profile};
 ghost use Rattle.keep_syntax.specs.declared.fault.ReadFault.TheVariants.{Memory};
 ghost use Rattle.keep_syntax.specs.Tree.{Value, value_depth};
 ghost use Rattle.keep_syntax.specs.Grammar.{ReadsValue};
@@ -12,7 +12,8 @@ use crate::depth::deepest;
 use crate::fault::ReadFault;
 use crate::info::Limits;
 use crate::whole::read_one;
-use keep_parts::{KeyPart, Parts, ValueInfo};
+use keep_syntax_store::Parts;
+use keep_types::{KeyPart, ValueInfo};
 use std::alloc::Global;
 
 /// What was read of one value: its key parts and values, each in text order. The value itself has the number 0, and
@@ -28,8 +29,8 @@ impl ValueSyntax {
     ///
     /// # Errors
     ///
-    /// `Syntax` if the text is no value, `TooDeep` if more brackets are open than the limit allows, whichever is met first,
-    /// and `Memory`.
+    /// `Syntax` if the text is no value, `TooDeep` if more brackets are open than the limit allows, whichever is met
+    /// first, and `Memory`.
     pub fn read(alloc: Global, text: &str, limits: Limits) -> Result<ValueSyntax, ReadFault>
         ensures found { IfOk result (spec.IsReadAlone limits.profile limits.depth text.now) }
         ensures only { (v : Value) → ReadsValue limits.profile limits.depth text.now v
@@ -76,7 +77,8 @@ impl ValueSyntax {
     pub fn value(&self, number: usize) -> ValueInfo
         requires { number < length (spec.value_values_of self.now) }
         ensures stored { slice_get (spec.value_values_of self.now) number ≡ Some result }
-        ensures within { (profile : Profile) (limit : ℕ) (bytes : List ℕ) → spec.IsReadAlone profile limit bytes self.now → IsWithin limit result }
+        ensures within { (profile : Profile) (limit : ℕ) (bytes : List ℕ)
+            → spec.IsReadAlone profile limit bytes self.now → IsWithin limit result }
     {
         self.parts.value(number)
     }

@@ -1,11 +1,12 @@
 //! How deep arrays and inline tables enclose one another.
 ghost use Rattle.std.specs.Prelude.{◌≡◌};
 ghost use Rattle.std.specs.List.{AllByRecursion};
-ghost use Rattle.keep_parts.specs.Flat.{flat};
+ghost use Rattle.keep_syntax_store.specs.Flat.{flat};
 ghost use Rattle.keep_syntax.specs.Nesting as spec;
 
-use keep_parts::{Parts, ValueInfo};
+use keep_syntax_store::Parts;
 use keep_token::Leaf;
+use keep_types::ValueInfo;
 
 // how many arrays and inline tables are open in a value, itself counted
 fn open_in(value: ValueInfo, limit: u16) -> u16

@@ -5,7 +5,7 @@ ghost use Rattle.keep_syntax.specs.Reading.{is_free};
 
 use crate::fault::ReadFault;
 use crate::info::Brackets;
-use keep_parts::Parts;
+use keep_syntax_store::Parts;
 use keep_token::{Leaf, Profile, scan_gap};
 
 /// `ws`: white space from the byte `at` on, if there is some, and where it ends.

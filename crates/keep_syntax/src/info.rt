@@ -6,8 +6,9 @@ pub const STANDARD_DEPTH: u16 = 128;
 
 /// How deep arrays and inline tables may enclose one another, a value itself counted, and which language is read.
 ///
-/// Reading takes some 656 bytes of native stack for each level of nesting that a text has, and so at most 96 KB to the standard
-/// depth, and 42 MB to the greatest limit, 65,535: who sets a limit above 12,000 needs more than the default stack of 8 MiB.
+/// Reading takes some 656 bytes of native stack for each level of nesting that a text has, and so at most 96 KB to the
+/// standard depth, and 42 MB to the greatest limit, 65,535: who sets a limit above 12,000 needs more than the default
+/// stack of 8 MiB.
 #[derive(Clone, Copy, Debug, PartialEq, Eq)]
 pub struct Limits {
     pub depth: u16,

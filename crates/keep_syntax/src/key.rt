@@ -5,8 +5,9 @@ ghost use Rattle.keep_syntax.specs.Growth as spec;
 use crate::fault::ReadFault;
 use crate::gap::space;
 use crate::text::{byte_at, misplaced, punctuation};
-use keep_parts::{KeyPart, Parts, Span};
+use keep_syntax_store::Parts;
 use keep_token::{Leaf, Profile, scan_key};
+use keep_types::{KeyPart, Span};
 
 /// `simple-key`: the key part at the byte `at`, and where it ends.
 fn key_part(text: &str, at: usize, profile: Profile, out: &mut Parts) -> Result<usize, ReadFault>

@@ -1,6 +1,6 @@
 //! Laws of the grammar, each the contract of a function that does nothing.
 ghost use Rattle.std.specs.Prelude.{◌≡◌};
-ghost use Rattle.keep_leaf.specs.declared.leaf.Profile.TheVariants.{Strict, Wide};
+ghost use Rattle.keep_types.specs.declared.leaf.Profile.TheVariants.{Strict, Wide};
 ghost use Rattle.keep_syntax.specs.Laws as spec;
 ghost use Rattle.keep_syntax.specs.Limit.{standard_depth};
 

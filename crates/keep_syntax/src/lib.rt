@@ -20,6 +20,7 @@ mod whole;
 pub use alone::ValueSyntax;
 pub use fault::{ReadFault, Why};
 pub use info::{Brackets, Limits, STANDARD_DEPTH, Token, TokenPlace};
-pub use keep_parts::{KeyPart, Owner, Parts, Span, Start, Statement, StatementKind, ValueInfo};
+pub use keep_syntax_store::Parts;
+pub use keep_types::{KeyPart, Owner, Span, Start, Statement, StatementKind, ValueInfo};
 pub use syntax::{Replaced, Syntax};
 pub use tokens::Tokens;

@@ -2,7 +2,7 @@
 //! toml.abnf: `expression`)
 ghost use Rattle.std.specs.Prelude.{◌≡◌, ◌+◌, ◌==◌, false, length, slice_index, IsCharBoundary, OnOk, IsOkUnless};
 ghost use Rattle.keep_syntax.specs.declared.fault.ReadFault.TheVariants.{Memory};
-ghost use Rattle.keep_parts.specs.Flat as spec;
+ghost use Rattle.keep_syntax_store.specs.Flat as spec;
 ghost use Rattle.keep_syntax.specs.FlatLines as lines_spec;
 ghost use Rattle.keep_syntax.specs.Reading.{is_line_end};
 
@@ -12,8 +12,9 @@ use crate::info::Limits;
 use crate::key::{key, key_and_equals};
 use crate::text::{byte_at, misplaced, punctuation};
 use crate::value::value;
-use keep_parts::{Owner, Parts, Span, Start, Starts, Statement, StatementKind};
+use keep_syntax_store::{Parts, Starts};
 use keep_token::{Leaf, scan_gap};
+use keep_types::{Owner, Span, Start, Statement, StatementKind};
 
 /// A statement but for its places: how many key parts it has, and the number of a keyval's value.
 #[derive(Clone, Copy)]
@@ -43,7 +44,8 @@ fn keyval(
     requires depth { start.now.depth ≡ 0 }
     requires begins { is_line_end (slice_index text.now start.now.at) ≡ false }
     requires named { (slice_index text.now start.now.at == 0x5B) ≡ false }
-    ensures { lines_spec.ContentRead limits.profile limits.depth text.now start.now (spec.flat out.old) (spec.flat out.new) result }
+    ensures { lines_spec.ContentRead limits.profile limits.depth text.now start.now (spec.flat out.old)
+        (spec.flat out.new) result }
 {
     let begin = key_and_equals(text, start.at, limits.profile, out)?;
     let keys = out.key_count() - start.parts;
@@ -67,7 +69,8 @@ fn header(
     requires parts { start.now.parts ≡ length (spec.flat out.old).keys }
     requires opens { slice_index text.now start.now.at ≡ 0x5B }
     requires once { (slice_index text.now (start.now.at + 1) == 0x5B) ≡ false }
-    ensures { lines_spec.ContentRead limits.profile limits.depth text.now start.now (spec.flat out.old) (spec.flat out.new) result }
+    ensures { lines_spec.ContentRead limits.profile limits.depth text.now start.now (spec.flat out.old)
+        (spec.flat out.new) result }
 {
     let behind = punctuation(text, start.at, 1, Leaf::HeadOpen, out)?;
     let begin = space(text, behind, out)?;
@@ -95,7 +98,8 @@ fn element(
     requires parts { start.now.parts ≡ length (spec.flat out.old).keys }
     requires opens { slice_index text.now start.now.at ≡ 0x5B }
     requires twice { slice_index text.now (start.now.at + 1) ≡ 0x5B }
-    ensures { lines_spec.ContentRead limits.profile limits.depth text.now start.now (spec.flat out.old) (spec.flat out.new) result }
+    ensures { lines_spec.ContentRead limits.profile limits.depth text.now start.now (spec.flat out.old)
+        (spec.flat out.new) result }
 {
     let behind = punctuation(text, start.at, 2, Leaf::ElemOpen, out)?;
     let begin = space(text, behind, out)?;
@@ -124,7 +128,8 @@ fn statement_head(
     requires parts { start.now.parts ≡ length (spec.flat out.old).keys }
     requires depth { start.now.depth ≡ 0 }
     requires begins { is_line_end (slice_index text.now start.now.at) ≡ false }
-    ensures { lines_spec.ContentRead limits.profile limits.depth text.now start.now (spec.flat out.old) (spec.flat out.new) result }
+    ensures { lines_spec.ContentRead limits.profile limits.depth text.now start.now (spec.flat out.old)
+        (spec.flat out.new) result }
 {
     if byte_at(text, start.at) != b'[' {
         keyval(text, limits, start, out)
@@ -161,7 +166,8 @@ fn line(
     out: &mut Parts,
 ) -> Result<(usize, Option<Statement>), ReadFault>
     requires { IsCharBoundary text.now at }
-    ensures { lines_spec.LineRead limits.profile limits.depth text.now at (spec.flat out.old) (spec.flat out.new) result }
+    ensures { lines_spec.LineRead limits.profile limits.depth text.now at (spec.flat out.old)
+        (spec.flat out.new) result }
 {
     let number = out.statement_count();
     let first_key = out.key_count();
@@ -215,7 +221,8 @@ fn newline(text: &str, at: usize, out: &mut Parts) -> Result<usize, ReadFault>
 
 /// Stores a line's statement, now that the line's end is known.
 fn tell(out: &mut Parts, statement: Option<Statement>, end: usize) -> Result<(), ReadFault>
-    ensures ok { OnOk result (spec.flat out.new ≡ lines_spec.with_statements (lines_spec.ended_list end statement) (spec.flat out.old)) }
+    ensures ok { OnOk result (spec.flat out.new
+        ≡ lines_spec.with_statements (lines_spec.ended_list end statement) (spec.flat out.old)) }
     ensures err { IsOkUnless result Memory }
 {
     match statement {
@@ -240,7 +247,8 @@ pub fn lines(
     starts: &mut Starts,
 ) -> Result<(), ReadFault>
     requires { IsCharBoundary text.now begin }
-    ensures { lines_spec.LinesRead limits.profile limits.depth text.now begin (spec.flat out.old) (spec.flat out.new) starts.old starts.new result }
+    ensures { lines_spec.LinesRead limits.profile limits.depth text.now begin (spec.flat out.old)
+        (spec.flat out.new) starts.old starts.new result }
 {
     let mut at = begin;
     starts.push(at)?;

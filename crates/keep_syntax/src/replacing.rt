@@ -1,13 +1,14 @@
 //! Lines replaced in place: what is stored of them, and what was there before, to be put back.
 ghost use Rattle.std.specs.Prelude.{◌≡◌, ℕ, SomeIff, OnOk, OnErr, IfOk};
 ghost use Rattle.std.specs.Bool.{Decides};
-ghost use Rattle.keep_parts.specs.Flat.{flat};
-ghost use Rattle.keep_parts.specs.Rereading as rereading;
+ghost use Rattle.keep_syntax_store.specs.Flat.{flat};
+ghost use Rattle.keep_syntax_store.specs.Rereading as rereading;
 ghost use Rattle.keep_syntax.specs.Replacing as spec;
 
 use crate::fault::ReadFault;
 use crate::reread::{counts_at, counts_before, nothing, replaced_parts};
-use keep_parts::{Counts, Parts, Span};
+use keep_syntax_store::{Counts, Parts};
+use keep_types::Span;
 use std::alloc::{AllocError, Global};
 use std::mem;
 
@@ -88,8 +89,8 @@ fn replace_run(
     })
 }
 
-/// Puts the parts of new lines in place of those of a span, in a text of `len` bytes. The new lines have `size` bytes and end
-/// at the byte `end`. After a refusal what is stored is the same.
+/// Puts the parts of new lines in place of those of a span, in a text of `len` bytes. The new lines have `size` bytes
+/// and end at the byte `end`. After a refusal what is stored is the same.
 pub fn replace_parts(
     alloc: Global,
     parts: &mut Parts,
@@ -100,7 +101,8 @@ pub fn replace_parts(
     end: usize,
 ) -> Result<Gone, ReadFault>
     requires { rereading.CanMove (flat parts.old) whole len }
-    ensures done { OnOk result (flat parts.new ≡ rereading.replaced_flat (flat parts.old) (flat fresh) whole len size end) }
+    ensures done { OnOk result (flat parts.new
+        ≡ rereading.replaced_flat (flat parts.old) (flat fresh) whole len size end) }
     ensures undo { IfOk result (λ gone. spec.UndoesParts gone parts.old parts.new) }
     ensures refused { OnErr result (flat parts.new ≡ flat parts.old) }
 {

@@ -1,15 +1,16 @@
 //! Storing again what is stored of other lines. What comes before a place shows in the statements after it.
 ghost use Rattle.std.specs.Prelude.{◌≡◌, ◌≤◌, length, map, drop, slice_range, OnOk, IfOk};
-ghost use Rattle.keep_parts.specs.Flat.{flat};
-ghost use Rattle.keep_parts.specs.Rereading.{count_at, with_statements};
-ghost use Rattle.keep_parts.specs.Lifted as lifted;
-ghost use Rattle.keep_parts.specs.Rereading as spec;
+ghost use Rattle.keep_syntax_store.specs.Flat.{flat};
+ghost use Rattle.keep_syntax_store.specs.Rereading.{count_at, with_statements};
+ghost use Rattle.keep_syntax_store.specs.Lifted as lifted;
+ghost use Rattle.keep_syntax_store.specs.Rereading as spec;
 ghost use Rattle.keep_syntax.specs.Replacing.{AreNewLines};
 
 use crate::fault::ReadFault;
 use crate::info::Limits;
 use crate::whole::read_lines;
-use keep_parts::{Counts, Parts, Span, Starts, moved, moved_key, moved_statement, moved_value};
+use keep_syntax_store::{Counts, Parts, Starts, moved, moved_key, moved_statement, moved_value};
+use keep_types::Span;
 use std::alloc::Global;
 
 /// Lines that are put in the place of others, and what the text has then.
@@ -102,7 +103,8 @@ fn append_statements(
 ) -> Result<(), ReadFault>
     requires order { from.now.statements ≤ to.now.statements }
     requires within { to.now.statements ≤ length (flat other.now).statements }
-    ensures { OnOk result (flat out.new ≡ with_statements (map (lifted.moved_statement (spec.count_of from.now) (spec.count_of new.now))
+    ensures { OnOk result (flat out.new ≡ with_statements
+        (map (lifted.moved_statement (spec.count_of from.now) (spec.count_of new.now))
         (slice_range (flat other.now).statements from.now.statements to.now.statements)) (flat out.old)) }
 {
     'statements: for number in from.statements..to.statements {
@@ -123,7 +125,8 @@ fn append_keys(
 ) -> Result<(), ReadFault>
     requires order { from.now.keys ≤ to.now.keys }
     requires within { to.now.keys ≤ length (flat other.now).keys }
-    ensures { OnOk result (flat out.new ≡ spec.with_keys (map (lifted.moved_key (spec.count_of from.now) (spec.count_of new.now))
+    ensures { OnOk result (flat out.new ≡ spec.with_keys
+        (map (lifted.moved_key (spec.count_of from.now) (spec.count_of new.now))
         (slice_range (flat other.now).keys from.now.keys to.now.keys)) (flat out.old)) }
 {
     'keys: for number in from.keys..to.keys {
@@ -144,7 +147,8 @@ fn append_values(
 ) -> Result<(), ReadFault>
     requires order { from.now.values ≤ to.now.values }
     requires within { to.now.values ≤ length (flat other.now).values }
-    ensures { OnOk result (flat out.new ≡ spec.with_values (map (lifted.moved_value (spec.count_of from.now) (spec.count_of new.now))
+    ensures { OnOk result (flat out.new ≡ spec.with_values
+        (map (lifted.moved_value (spec.count_of from.now) (spec.count_of new.now))
         (slice_range (flat other.now).values from.now.values to.now.values)) (flat out.old)) }
 {
     'values: for number in from.values..to.values {
@@ -156,8 +160,8 @@ fn append_values(
     Ok(())
 }
 
-/// Stores also what is stored of other lines from one count to another, moved to after all that is stored. These lines begin
-/// at the byte `at`.
+/// Stores also what is stored of other lines from one count to another, moved to after all that is stored. These lines
+/// begin at the byte `at`.
 pub fn append_moved(
     out: &mut Parts,
     other: &Parts,
@@ -167,7 +171,8 @@ pub fn append_moved(
 ) -> Result<(), ReadFault>
     requires { spec.IsPart from.now to.now (flat other.now) }
     ensures { OnOk result (flat out.new ≡ spec.joined (flat out.old)
-        (spec.moved_flat (spec.count_of from.now) (count_at at (flat out.old)) (spec.part_of from.now to.now (flat other.now)))) }
+        (spec.moved_flat (spec.count_of from.now) (count_at at (flat out.old))
+        (spec.part_of from.now to.now (flat other.now)))) }
 {
     let new = counts_at(out, at);
     out.append_tokens(other, from, to, at)?;
@@ -189,8 +194,8 @@ pub fn nothing() -> Counts
     }
 }
 
-/// What is stored of a text of `len` bytes whose lines of a span are replaced: that of the lines before, that of the new
-/// lines, which have `size` bytes and end at the byte `end`, and that of the lines after.
+/// What is stored of a text of `len` bytes whose lines of a span are replaced: that of the lines before, that of the
+/// new lines, which have `size` bytes and end at the byte `end`, and that of the lines after.
 pub fn replaced_parts(
     alloc: Global,
     parts: &Parts,
@@ -259,8 +264,8 @@ fn replaced_starts(
     Ok(out)
 }
 
-/// Reads lines that are to be put in the place of whole lines, in a text of `len` bytes in which lines begin at `starts`. A
-/// number that no machine word holds is answered as out of memory: a text that memory holds has none.
+/// Reads lines that are to be put in the place of whole lines, in a text of `len` bytes in which lines begin at
+/// `starts`. A number that no machine word holds is answered as out of memory: a text that memory holds has none.
 pub fn new_lines(
     alloc: Global,
     starts: &Starts,

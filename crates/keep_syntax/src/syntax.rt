@@ -1,7 +1,7 @@
 //! Reading a document, and what is known of it then.
 ghost use Rattle.std.specs.Prelude.{◌≡◌, ℕ, ◌+◌, ◌<◌, ◌≤◌, List, length, slice_get, IfOk, IfErr, MatchResult, Some};
 ghost use Rattle.std.specs.List.{AllByRecursion};
-ghost use Rattle.keep_leaf.specs.declared.leaf.Profile.{Profile};
+ghost use Rattle.keep_types.specs.declared.leaf.Profile.{Profile};
 ghost use Rattle.keep_syntax.specs.declared.fault.ReadFault.TheVariants.{Memory};
 ghost use Rattle.keep_syntax.specs.Tree.{Document, text};
 ghost use Rattle.keep_syntax.specs.Grammar.{Reads};
@@ -16,7 +16,8 @@ use crate::info::Limits;
 use crate::reread::{new_lines, replaced_parts};
 use crate::tokens::Tokens;
 use crate::whole::read_lines;
-use keep_parts::{KeyPart, Parts, Span, Starts, Statement, ValueInfo};
+use keep_syntax_store::{Parts, Starts};
+use keep_types::{KeyPart, Span, Statement, ValueInfo};
 pub use rereading::Replaced;
 use std::alloc::{AllocError, Global};
 
@@ -35,8 +36,8 @@ impl Syntax {
     ///
     /// # Errors
     ///
-    /// `Syntax` if the text is no document, `TooDeep` if a value has more brackets open than the limit allows, whichever
-    /// is met first, and `Memory`.
+    /// `Syntax` if the text is no document, `TooDeep` if a value has more brackets open than the limit allows,
+    /// whichever is met first, and `Memory`.
     pub fn read(alloc: Global, text: &str, limits: Limits) -> Result<Syntax, ReadFault>
         ensures found { IfOk result (spec.IsReadOf limits.profile limits.depth text.now) }
         ensures only { (d : Document) → Reads limits.profile limits.depth text.now d
@@ -57,7 +58,8 @@ impl Syntax {
     /// How many tokens there are, `End` counted: at most one more than the text that was read has bytes.
     pub fn token_count(&self) -> usize
         ensures counted { (bytes : List ℕ) → result ≡ length (spec.tokens_of self.now bytes) }
-        ensures few { (profile : Profile) (limit : ℕ) (bytes : List ℕ) → spec.IsReadOf profile limit bytes self.now → result ≤ length bytes + 1 }
+        ensures few { (profile : Profile) (limit : ℕ) (bytes : List ℕ) → spec.IsReadOf profile limit bytes self.now
+            → result ≤ length bytes + 1 }
     {
         self.parts.stored_token_count() + 1
     }
@@ -112,13 +114,14 @@ impl Syntax {
     pub fn value(&self, number: usize) -> ValueInfo
         requires { number < length (spec.values_of self.now) }
         ensures stored { slice_get (spec.values_of self.now) number ≡ Some result }
-        ensures within { (profile : Profile) (limit : ℕ) (bytes : List ℕ) → spec.IsReadOf profile limit bytes self.now → IsWithin limit result }
+        ensures within { (profile : Profile) (limit : ℕ) (bytes : List ℕ) → spec.IsReadOf profile limit bytes self.now
+            → IsWithin limit result }
     {
         self.parts.value(number)
     }
 
-    /// The lines that a span touches: from the last line start at or before its start to the first line start at or after its
-    /// end, or to the end of the text. The newlines inside a value end no line.
+    /// The lines that a span touches: from the last line start at or before its start to the first line start at or
+    /// after its end, or to the end of the text. The newlines inside a value end no line.
     pub fn lines(&self, span: Span) -> Span
         requires { spec.IsSpanIn self.now span }
         ensures { (d : Document) → spec.IsSyntaxOf self.now d → result ≡ touched d span }
@@ -129,8 +132,8 @@ impl Syntax {
         }
     }
 
-    /// The syntax of the text with whole lines replaced by others. Only these are read; what is stored of all other lines is
-    /// moved.
+    /// The syntax of the text with whole lines replaced by others. Only these are read; what is stored of all other
+    /// lines is moved.
     ///
     /// # Errors
     ///
@@ -143,9 +146,11 @@ impl Syntax {
         limits: Limits,
     ) -> Result<Syntax, AllocError>
         requires { spec.MayReread limits.profile limits.depth self.now whole lines.now }
-        ensures read { (d m : Document) → spec.IsSyntaxOf self.now d → spec.CanReplace limits.profile limits.depth d whole lines.now m
+        ensures read { (d m : Document) → spec.IsSyntaxOf self.now d
+            → spec.CanReplace limits.profile limits.depth d whole lines.now m
             → IfOk result (λ s. spec.IsSyntaxOf s (replaced d whole m)) }
-        ensures of_text { (d m : Document) → spec.IsSyntaxOf self.now d → spec.CanReplace limits.profile limits.depth d whole lines.now m
+        ensures of_text { (d m : Document) → spec.IsSyntaxOf self.now d
+            → spec.CanReplace limits.profile limits.depth d whole lines.now m
             → IfOk result (λ s. spec.IsTextOf s (spec.put_at whole lines.now (text d))) }
     {
         match self.with_lines(alloc, whole, lines, limits) {
@@ -163,7 +168,8 @@ impl Syntax {
         limits: Limits,
     ) -> Result<Syntax, ReadFault>
         requires { spec.MayReread limits.profile limits.depth self.now whole lines.now }
-        ensures { (d m : Document) → spec.IsSyntaxOf self.now d → spec.CanReplace limits.profile limits.depth d whole lines.now m
+        ensures { (d m : Document) → spec.IsSyntaxOf self.now d
+            → spec.CanReplace limits.profile limits.depth d whole lines.now m
             → IfOk result (λ s. spec.IsSyntaxOf s (replaced d whole m)) }
     {
         let new = new_lines(alloc, &self.lines, self.len, whole, lines, limits)?;

@@ -3,7 +3,7 @@ ghost use Rattle.std.specs.Prelude.{◌≡◌, ℕ, ◌+◌, ◌-◌, ◌<◌, �
 ghost use Rattle.keep_syntax.specs.Growth as spec;
 
 use crate::fault::ReadFault;
-use keep_parts::Parts;
+use keep_syntax_store::Parts;
 use keep_token::{Leaf, What};
 
 /// The byte at a place, or 0 past the end.

@@ -1,11 +1,11 @@
 //! The tokens of a document one after another.
 ghost use Rattle.std.specs.Prelude.{◌≡◌, ℕ, ◌+◌, ◌<◌, ◌≤◌, ◌^◌, drop, slice_get, IfSome, IsCharBoundary};
-ghost use Rattle.keep_parts.specs.Left.{places_left};
+ghost use Rattle.keep_syntax_store.specs.Left.{places_left};
 ghost use Rattle.keep_syntax.specs.Cut.{start_in, all_kinds};
-ghost use Rattle.keep_parts.specs.Flat.{flat};
+ghost use Rattle.keep_syntax_store.specs.Flat.{flat};
 
 use crate::info::Token;
-use keep_parts::{Parts, Places};
+use keep_syntax_store::{Parts, Places};
 use keep_token::Leaf;
 
 /// The tokens of a document in text order, `End` the last. The result of [`crate::Syntax::tokens`].
@@ -19,7 +19,8 @@ pub struct Tokens<'a> {
     /// Where those after it begin.
     behind: Places<'a>,
     ghost cuts: { (n : ℕ) → IsCharBoundary text.now (start_in text.now (flat parts.now).starts n) },
-    ghost forward: { (n : ℕ) → start_in text.now (flat parts.now).starts n ≤ start_in text.now (flat parts.now).starts (n + 1) },
+    ghost forward: { (n : ℕ) → start_in text.now (flat parts.now).starts n
+        ≤ start_in text.now (flat parts.now).starts (n + 1) },
     ghost starts: { start ≡ start_in text.now (flat parts.now).starts next },
     ghost rest: { places_left behind ≡ drop (next + 1) (flat parts.now).starts },
 }
@@ -71,7 +72,8 @@ impl<'a> Tokens<'a> {
     /// All tokens that are stored of this text.
     pub(crate) fn new(parts: &'a Parts, text: &'a str) -> Tokens<'a>
         requires cuts { (n : ℕ) → IsCharBoundary text.now (start_in text.now (flat parts.now).starts n) }
-        requires forward { (n : ℕ) → start_in text.now (flat parts.now).starts n ≤ start_in text.now (flat parts.now).starts (n + 1) }
+        requires forward { (n : ℕ) → start_in text.now (flat parts.now).starts n
+            ≤ start_in text.now (flat parts.now).starts (n + 1) }
         ensures { left result ≡ cut_by (flat parts.now) text.now }
     {
         let mut behind = parts.token_starts();

@@ -11,8 +11,9 @@ use crate::gap::{gap_in, is_free};
 use crate::info::{Brackets, Limits};
 use crate::key::key_and_equals;
 use crate::text::{byte_at, misplaced, punctuation};
-use keep_parts::{Owner, Parts, Start};
+use keep_syntax_store::Parts;
 use keep_token::{Leaf, Profile, What, scan_scalar};
+use keep_types::{Owner, Start};
 
 /// A string, a number, a date, a time or a truth value at the byte `at`, and where it ends.
 fn scalar(
@@ -135,7 +136,8 @@ pub fn value(
     requires values { start.now.values ≡ length (spec.flat out.old).values }
     requires parts { start.now.parts + keys ≡ length (spec.flat out.old).keys }
     requires depth { start.now.depth + limits.depth < 2 ^ 16 }
-    ensures { spec.ValueRead limits.profile limits.depth text.now at keys start.now (spec.flat out.old) (spec.flat out.new) result }
+    ensures { spec.ValueRead limits.profile limits.depth text.now at keys start.now (spec.flat out.old)
+        (spec.flat out.new) result }
 {
     let byte = byte_at(text, at);
     if byte == b'[' {
@@ -163,7 +165,8 @@ fn bracket(
     requires values { start.now.values ≡ length (spec.flat out.old).values }
     requires parts { start.now.parts + keys ≡ length (spec.flat out.old).keys }
     requires depth { start.now.depth + limits.depth < 2 ^ 16 }
-    ensures { spec.BracketRead brackets limits.profile limits.depth text.now at keys start.now (spec.flat out.old) (spec.flat out.new) result }
+    ensures { spec.BracketRead brackets limits.profile limits.depth text.now at keys start.now (spec.flat out.old)
+        (spec.flat out.new) result }
 {
     if limits.depth == 0 {
         return Err(ReadFault::TooDeep { at });
@@ -203,7 +206,8 @@ fn entries(
     requires values { start.now.values ≡ length (spec.flat out.old).values }
     requires parts { start.now.parts ≡ length (spec.flat out.old).keys }
     requires depth { start.now.depth + limits.depth < 2 ^ 16 }
-    ensures { spec.EntriesRead brackets limits.profile limits.depth text.now start.now (spec.flat out.old) (spec.flat out.new) result }
+    ensures { spec.EntriesRead brackets limits.profile limits.depth text.now start.now (spec.flat out.old)
+        (spec.flat out.new) result }
 {
     let mut here = *start;
     'items: while byte_at(text, here.at) != close_byte(brackets) {
@@ -237,7 +241,8 @@ fn item(
     requires values { start.now.values ≡ length (spec.flat out.old).values }
     requires parts { start.now.parts ≡ length (spec.flat out.old).keys }
     requires depth { start.now.depth + limits.depth < 2 ^ 16 }
-    ensures { spec.ItemRead brackets limits.profile limits.depth text.now start.now (spec.flat out.old) (spec.flat out.new) result }
+    ensures { spec.ItemRead brackets limits.profile limits.depth text.now start.now (spec.flat out.old)
+        (spec.flat out.new) result }
 {
     let begin = entry_key(text, start.at, limits.profile, brackets, out)?;
     let keys = out.key_count() - start.parts;

@@ -1,6 +1,6 @@
 //! Whole texts: a document, or one value, and nothing else. (toml.abnf: `toml`, `val`)
 ghost use Rattle.std.specs.Prelude.{◌≡◌};
-ghost use Rattle.keep_parts.specs.Flat as spec;
+ghost use Rattle.keep_syntax_store.specs.Flat as spec;
 ghost use Rattle.keep_syntax.specs.FlatLines as lines_spec;
 ghost use Rattle.keep_syntax.specs.Reading.{has_bom};
 
@@ -9,8 +9,9 @@ use crate::info::Limits;
 use crate::line::lines;
 use crate::text::{byte_at, misplaced};
 use crate::value::value;
-use keep_parts::{Owner, Parts, Start, Starts};
+use keep_syntax_store::{Parts, Starts};
 use keep_token::Leaf;
+use keep_types::{Owner, Start};
 use std::alloc::Global;
 
 /// Whether the text begins with a byte order mark: U+FEFF in UTF-8.

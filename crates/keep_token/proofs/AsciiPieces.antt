@@ -6,7 +6,7 @@ use Rattle.std.specs.Str.{IsUtf8, IsAscii, IsCharBoundary}
 use Rattle.std.proofs.lemmas.Bool.{cases_Bool, and_parts}
 use Rattle.std.proofs.lemmas.Bool.Decides.{nat_tests}
 use Rattle.std.proofs.lemmas.Str.{IsAscii-append, IsUtf8-from_ascii, IsCharBoundary-from_take, IsCharBoundary-at_seam}
-use Rattle.keep_leaf.specs.declared.leaf.Profile.TheVariants.{Wide}
+use Rattle.keep_types.specs.declared.leaf.Profile.TheVariants.{Wide}
 use Rattle.keep_token.specs.Abnf.{is_ws, Newline}
 use Rattle.keep_token.specs.Strings.{Letter, Number, LineEnd, piece_text, letter_value, digit_count, is_blank_run, IsMlBasicPiece}
 

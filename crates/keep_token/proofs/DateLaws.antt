@@ -16,8 +16,8 @@ use Rattle.std.proofs.lemmas.Bool.{cases_lt, and_parts, and_from, or_left, or_ri
 use Rattle.std.proofs.lemmas.Bool.Decides.{nat_tests}
 use Rattle.std.specs.List.{list_all}
 use Rattle.std.specs.Char.{is_ascii_digit}
-use Rattle.keep_leaf.specs.declared.leaf.Profile.{Profile}
-use Rattle.keep_leaf.specs.declared.leaf.Profile.TheVariants.{Strict, Wide}
+use Rattle.keep_types.specs.declared.leaf.Profile.{Profile}
+use Rattle.keep_types.specs.declared.leaf.Profile.TheVariants.{Strict, Wide}
 use Rattle.keep_token.specs.Abnf.{Maybe, ◌⨾◌}
 use Rattle.keep_token.specs.Numbers.{is_sign}
 use Rattle.keep_token.specs.Dates.{two, four, month_length, LocalDate, Minutes, Seconds, SecondFraction, LocalTime, LocalDateTime, OffsetDateTime}

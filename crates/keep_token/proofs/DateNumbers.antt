@@ -6,8 +6,8 @@ use Rattle.std.proofs.lemmas.Bool.Decides.{nat_tests}
 use Rattle.std.proofs.lemmas.List.{length-take-le}
 use Rattle.std.specs.List.{list_all, prefix_len}
 use Rattle.std.specs.Char.{is_ascii_digit}
-use Rattle.keep_leaf.specs.declared.leaf.Profile.{Profile}
-use Rattle.keep_leaf.specs.declared.leaf.Leaf.TheVariants as leaf
+use Rattle.keep_types.specs.declared.leaf.Profile.{Profile}
+use Rattle.keep_types.specs.declared.leaf.Leaf.TheVariants as leaf
 use Rattle.keep_token.specs.Dates.{LocalDate, LocalTime, LocalDateTime, OffsetDateTime}
 use Rattle.keep_token.specs.Numbers.{is_digits, is_underscore, is_decimal, is_sign}
 use Rattle.keep_token.specs.Words.{is_integer, is_integer_text, is_prefixed, is_float, is_number, is_special, is_three, is_whole, is_boolean, is_date, is_time, is_date_time, is_offset_date_time, word_leaf}

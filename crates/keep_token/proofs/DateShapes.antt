@@ -16,8 +16,8 @@ use Rattle.std.proofs.lemmas.List.{take-append-le, drop-append-le, get_or_append
 use Rattle.std.proofs.lemmas.List.Folds.{list_all-append}
 use Rattle.std.specs.List.{list_all}
 use Rattle.std.specs.Char.{is_ascii_digit}
-use Rattle.keep_leaf.specs.declared.leaf.Profile.{Profile}
-use Rattle.keep_leaf.specs.declared.leaf.Profile.TheVariants.{Strict, Wide}
+use Rattle.keep_types.specs.declared.leaf.Profile.{Profile}
+use Rattle.keep_types.specs.declared.leaf.Profile.TheVariants.{Strict, Wide}
 use Rattle.keep_token.specs.Abnf.{is_word}
 use Rattle.keep_token.specs.Numbers.{is_sign}
 use Rattle.keep_token.specs.Dates.{OffsetDateTime}

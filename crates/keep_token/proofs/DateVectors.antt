@@ -7,10 +7,10 @@
 -- (`word_len`).
 use Rattle.std.proofs.Common.{◌≡◌, List, [], refl, inl, inr, arith, Some, None, ℕ, false}
 use Rattle.std.specs.Prelude.{codes}
-use Rattle.keep_leaf.specs.declared.leaf.Profile.{Profile}
-use Rattle.keep_leaf.specs.declared.leaf.Profile.TheVariants.{Strict, Wide}
-use Rattle.keep_leaf.specs.declared.leaf.Leaf.{Leaf}
-use Rattle.keep_leaf.specs.declared.leaf.Leaf.TheVariants as leaf
+use Rattle.keep_types.specs.declared.leaf.Profile.{Profile}
+use Rattle.keep_types.specs.declared.leaf.Profile.TheVariants.{Strict, Wide}
+use Rattle.keep_types.specs.declared.leaf.Leaf.{Leaf}
+use Rattle.keep_types.specs.declared.leaf.Leaf.TheVariants as leaf
 use Rattle.keep_token.specs.Dates.{LocalDate, LocalTime, LocalDateTime, OffsetDateTime}
 use Rattle.keep_token.specs.Leaves.{IsLeaf, ScalarLeaf, word_len}
 use Rattle.keep_token.specs.Words.{is_date, is_time, is_date_time, is_offset_date_time, word_leaf}

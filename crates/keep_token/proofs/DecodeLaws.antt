@@ -17,7 +17,7 @@ use Rattle.std.proofs.lemmas.Bool.Decides.{nat_tests}
 use Rattle.std.proofs.lemmas.List.{drop_more, drop_all, drop-drop}
 use Rattle.std.proofs.lemmas.List.Sums.{prefix_len_stops}
 use Rattle.std.proofs.lemmas.Str.{IsUtf8-drop, IsCharBoundary-from_rest, IsCharBoundary-before_ascii, IsCharBoundary-end}
-use Rattle.keep_leaf.specs.declared.leaf.Profile.TheVariants.{Wide}
+use Rattle.keep_types.specs.declared.leaf.Profile.TheVariants.{Wide}
 use Rattle.keep_token.specs.Abnf.{is_ws, Newline}
 use Rattle.keep_token.specs.Strings.{Piece, Plain, Letter, Number, Break, LineEnd, piece_text, piece_value, text_of, value_of, is_basic, Each, IsMlBasicPiece, takes_all}
 use Rattle.keep_token.specs.Pieces.{escape_at, line_end_at, or_else, ml_basic_piece, newline_len}

@@ -5,8 +5,8 @@ use Rattle.std.proofs.lemmas.Bool.{cases_Bool, eqb-true, lt-ltb, and_from, false
 use Rattle.std.proofs.lemmas.Str.{encode_ascii}
 use Rattle.std.specs.Char.{digit_value, is_digit}
 use Rattle.std.specs.List.{flat_map}
-use Rattle.keep_leaf.specs.declared.leaf.Profile.TheVariants.{Strict}
-use Rattle.keep_leaf.specs.declared.leaf.Leaf.TheVariants as leaf
+use Rattle.keep_types.specs.declared.leaf.Profile.TheVariants.{Strict}
+use Rattle.keep_types.specs.declared.leaf.Leaf.TheVariants as leaf
 use Rattle.keep_token.specs.Numbers.{sum_of_digits}
 use Rattle.keep_token.specs.Strings.{Piece, Plain, Letter, Number, piece_text, piece_value, is_basic, is_scalar, IsBasicPiece, Each, text_of, value_of}
 use Rattle.keep_token.specs.Encoded.{digit, encoded_byte, encoded_string, encoded_key, encoded_key_leaf, is_bare_text}

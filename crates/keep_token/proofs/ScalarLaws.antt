@@ -15,9 +15,9 @@ use Rattle.std.proofs.lemmas.List.{length-take, length-drop, get_or_past, append
 use Rattle.std.proofs.lemmas.List.Sums.{prefix_len-le-length}
 use Rattle.std.specs.List.{prefix_len}
 use Rattle.std.specs.Char.{is_ascii_digit}
-use Rattle.keep_leaf.specs.declared.leaf.Profile.{Profile}
-use Rattle.keep_leaf.specs.declared.leaf.Leaf.{Leaf}
-use Rattle.keep_leaf.specs.declared.leaf.Leaf.TheVariants as leaf
+use Rattle.keep_types.specs.declared.leaf.Profile.{Profile}
+use Rattle.keep_types.specs.declared.leaf.Leaf.{Leaf}
+use Rattle.keep_types.specs.declared.leaf.Leaf.TheVariants as leaf
 use Rattle.keep_token.specs.Abnf.{is_word}
 use Rattle.keep_token.specs.Strings.{Basic, Literal, MlBasic, MlLiteral}
 use Rattle.keep_token.specs.Leaves.{IsLeaf, ScalarLeaf, is_scalar_leaf, is_word_leaf, is_one_line, is_many_lines, opens_many_lines, word_len, has_date_shape}

@@ -11,7 +11,7 @@
 -- kinds.
 use Rattle.std.proofs.Common.{◌≡◌, ℕ, ◌<◌, ◌≤◌, true, false, ◌&&◌, ◌==◌, List, [], ◌∷◌, ◌++◌, length, take, drop, Option, Some, None, refl, sym, ap, ◌∙◌, subst, arith, take_at, length-append, length-take, take-append-drop, eqb-true}
 use Rattle.std.proofs.lemmas.Bool.{and_parts}
-use Rattle.keep_leaf.specs.declared.leaf.Profile.{Profile}
+use Rattle.keep_types.specs.declared.leaf.Profile.{Profile}
 use Rattle.keep_token.specs.Strings.{Piece, Plain, Letter, Number, Break, LineEnd, basic_text, literal_text, ml_basic_text, ml_literal_text, Each, takes_all, IsBasicPiece, IsLiteralPiece, IsMlBasicPiece, IsMlLiteralPiece, IsBasicOf, IsLiteralOf, IsMlBasicOf, IsMlLiteralOf, Basic, Literal, MlBasic, MlLiteral}
 use Rattle.keep_token.specs.Pieces.{first, basic_piece, literal_piece, ml_basic_piece, ml_literal_piece, pieces_of, len_of, basic_at, literal_at, ml_basic_at, ml_literal_at}
 use Rattle.keep_token.specs.Abnf.{Longest}

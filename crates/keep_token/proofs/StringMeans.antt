@@ -1,8 +1,8 @@
 -- A string means one list of bytes, in UTF-8 where the text is.
 use Rattle.std.proofs.Common.{◌≡◌, ℕ, List, sym, ap, ◌∙◌, subst, IsUtf8}
-use Rattle.keep_leaf.specs.declared.leaf.Profile.{Profile}
-use Rattle.keep_leaf.specs.declared.leaf.Leaf.{Leaf}
-use Rattle.keep_leaf.specs.declared.leaf.Leaf.TheVariants as leaf
+use Rattle.keep_types.specs.declared.leaf.Profile.{Profile}
+use Rattle.keep_types.specs.declared.leaf.Leaf.{Leaf}
+use Rattle.keep_types.specs.declared.leaf.Leaf.TheVariants as leaf
 use Rattle.keep_token.specs.Strings.{value_of, ml_value_of}
 use Rattle.keep_token.specs.Leaves.{Means}
 use Rattle.keep_token.proofs.StringKinds.{basic_pieces_one, literal_pieces_one, ml_basic_pieces_one, ml_literal_pieces_one}

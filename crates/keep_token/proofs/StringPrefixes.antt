@@ -1,7 +1,7 @@
 -- What each kind of string begins with: one mark and not three, or three.
 use Rattle.std.proofs.Common.{◌≡◌, ℕ, true, false, ◌==◌, List, [], ◌∷◌, ◌++◌, length, take, slice_index, refl, sym, ap, ◌∙◌, inl, inr, append_assoc, eq-eqb, true≢false}
 use Rattle.std.proofs.lemmas.Bool.{cases_Bool}
-use Rattle.keep_leaf.specs.declared.leaf.Profile.{Profile}
+use Rattle.keep_types.specs.declared.leaf.Profile.{Profile}
 use Rattle.keep_token.specs.Strings.{Piece, piece_text, text_of, IsBasicPiece, IsLiteralPiece, Basic, Literal, MlBasic, MlLiteral}
 use Rattle.keep_token.specs.Pieces.{first}
 use Rattle.keep_token.specs.Leaves.{opens_many_lines}

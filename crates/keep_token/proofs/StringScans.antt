@@ -16,7 +16,7 @@ use Rattle.std.proofs.lemmas.Bool.{cases_lt, ne_eqb, le-leb, lt-leb}
 use Rattle.std.proofs.lemmas.Bool.Decides.{nat_tests}
 use Rattle.std.proofs.lemmas.List.{drop-drop, get_or_past, take_rest}
 use Rattle.std.proofs.lemmas.List.Sums.{prefix_len_stops}
-use Rattle.keep_leaf.specs.declared.leaf.Profile.{Profile}
+use Rattle.keep_types.specs.declared.leaf.Profile.{Profile}
 use Rattle.keep_token.specs.Strings.{Piece, Plain, piece_text, text_of, is_basic, is_literal, basic_text, literal_text, ml_basic_text, ml_literal_text}
 use Rattle.keep_token.specs.Pieces.{first, escape_at, line_end_at, basic_piece, literal_piece, ml_basic_piece, ml_literal_piece, some_of, closes, pieces_of, len_of, basic_at, literal_at, ml_basic_at, ml_literal_at}
 use Rattle.keep_token.specs.PieceLens.{piece_len}

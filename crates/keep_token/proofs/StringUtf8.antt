@@ -14,8 +14,8 @@ use Rattle.std.proofs.lemmas.Bool.Decides.{nat_tests}
 use Rattle.std.proofs.lemmas.Str.{IsUtf8-append, IsUtf8-encode, IsUtf8-take, IsUtf8-drop, IsUtf8-from_ascii, IsCharBoundary-before_ascii, IsCharBoundary-after_ascii}
 use Rattle.std.specs.List.{list_all}
 use Rattle.std.specs.Char.{is_digit}
-use Rattle.keep_leaf.specs.declared.leaf.Profile.{Profile}
-use Rattle.keep_leaf.specs.declared.leaf.Profile.TheVariants.{Strict, Wide}
+use Rattle.keep_types.specs.declared.leaf.Profile.{Profile}
+use Rattle.keep_types.specs.declared.leaf.Profile.TheVariants.{Strict, Wide}
 use Rattle.keep_token.specs.Abnf.{is_ws, Newline}
 use Rattle.keep_token.specs.Numbers.{sum_of_digits}
 use Rattle.keep_token.specs.Strings.{Piece, Plain, Letter, Number, Break, LineEnd, text_of, value_of, ml_value_of, letter_value, digit_count, is_scalar, is_blank_run, Each, IsBasicPiece, IsMlBasicPiece, IsLiteralPiece, IsMlLiteralPiece, IsBasicOf, IsLiteralOf, IsMlBasicOf, IsMlLiteralOf, Basic, Literal, MlBasic, MlLiteral}

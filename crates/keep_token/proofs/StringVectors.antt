@@ -1,9 +1,9 @@
 -- Strings with the bytes that they mean, and texts that are no strings. The texts of TOML v1.0.0's examples are among
 -- them.
 use Rattle.std.proofs.Common.{◌≡◌, ℕ, List, [], ◌∷◌, length, Option, Some, None, refl, sym, ap, ◌∙◌, inl, inr, arith, append-nil}
-use Rattle.keep_leaf.specs.declared.leaf.Profile.{Profile}
-use Rattle.keep_leaf.specs.declared.leaf.Profile.TheVariants.{Strict, Wide}
-use Rattle.keep_leaf.specs.declared.leaf.Leaf.TheVariants as leaf
+use Rattle.keep_types.specs.declared.leaf.Profile.{Profile}
+use Rattle.keep_types.specs.declared.leaf.Profile.TheVariants.{Strict, Wide}
+use Rattle.keep_types.specs.declared.leaf.Leaf.TheVariants as leaf
 use Rattle.keep_token.specs.Strings.{Plain, Letter, Number, Break, LineEnd, Basic, Literal, MlBasic, MlLiteral}
 use Rattle.keep_token.specs.Leaves.{Means}
 use Rattle.keep_token.specs.Pieces.{basic_at, literal_at, ml_basic_at, ml_literal_at}

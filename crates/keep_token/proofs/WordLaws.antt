@@ -4,9 +4,9 @@ use Rattle.std.proofs.lemmas.Bool.{and_parts}
 use Rattle.std.proofs.lemmas.Bool.Decides.{nat_tests}
 use Rattle.std.specs.List.{list_all}
 use Rattle.std.specs.Char.{is_ascii_digit}
-use Rattle.keep_leaf.specs.declared.leaf.Profile.{Profile}
-use Rattle.keep_leaf.specs.declared.leaf.Leaf.{Leaf}
-use Rattle.keep_leaf.specs.declared.leaf.Leaf.TheVariants as leaf
+use Rattle.keep_types.specs.declared.leaf.Profile.{Profile}
+use Rattle.keep_types.specs.declared.leaf.Leaf.{Leaf}
+use Rattle.keep_types.specs.declared.leaf.Leaf.TheVariants as leaf
 use Rattle.keep_token.specs.Abnf.{is_word}
 use Rattle.keep_token.specs.Leaves.{IsLeaf, is_word_leaf, word_len}
 use Rattle.keep_token.specs.Scanning.{first, may_follow_scalar}

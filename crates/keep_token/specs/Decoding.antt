@@ -1,6 +1,6 @@
 -- What is between the quotation marks of a basic string, on one line or many, by its pieces.
 use Rattle.std.specs.Prelude.{◌≡◌, ℕ, IsTrue, List}
-use Rattle.keep_leaf.specs.declared.leaf.Profile.TheVariants.{Wide}
+use Rattle.keep_types.specs.declared.leaf.Profile.TheVariants.{Wide}
 use Rattle.keep_token.specs.Strings.{Piece, Each, IsMlBasicPiece, takes_all, text_of, value_of}
 
 pub record IsBodyOf (text : List ℕ) (pieces : List Piece) : Type 0 where

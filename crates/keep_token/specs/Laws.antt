@@ -1,8 +1,8 @@
 -- Laws of leaves that public functions carry.
 use Rattle.std.specs.Prelude.{◌≡◌, ℕ, IsTrue, List}
-use Rattle.keep_leaf.specs.declared.leaf.Profile.{Profile}
-use Rattle.keep_leaf.specs.declared.leaf.Profile.TheVariants.{Strict, Wide}
-use Rattle.keep_leaf.specs.declared.leaf.Leaf.{Leaf}
+use Rattle.keep_types.specs.declared.leaf.Profile.{Profile}
+use Rattle.keep_types.specs.declared.leaf.Profile.TheVariants.{Strict, Wide}
+use Rattle.keep_types.specs.declared.leaf.Leaf.{Leaf}
 use Rattle.keep_token.specs.Leaves.{IsLeaf, Means, is_scalar_leaf, is_string_leaf}
 
 -- No text is of two kinds of scalars.
@@ -18,4 +18,5 @@ WideHasStrict = (leaf : Leaf) (text : List ℕ) → IsLeaf Strict leaf text → 
 -- A string leaf and a key part mean one text.
 abbrev pub MeansOneText : Type 0
 MeansOneText =
-    (leaf : Leaf) (text one other : List ℕ) → IsTrue (is_string_leaf leaf) → Means Wide leaf text one → Means Wide leaf text other → one ≡ other
+    (leaf : Leaf) (text one other : List ℕ) → IsTrue (is_string_leaf leaf) → Means Wide leaf text one
+    → Means Wide leaf text other → one ≡ other

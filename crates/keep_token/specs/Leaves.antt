@@ -1,13 +1,16 @@
 -- The texts of each kind of leaf, the leaf at a place, and what a string leaf means.
-use Rattle.std.specs.Prelude.{◌≡◌, ℕ, ◌+◌, ◌≤◌, Bool, length, true, false, ◌&&◌, ◌||◌, ◌==◌, if◌then◌else◌, IsTrue, List, [], ◌∷◌, take, drop, slice_index, ◌⊎◌}
+use Rattle.std.specs.Prelude.{◌≡◌, ℕ, ◌+◌, ◌≤◌, Bool, length, true, false, ◌&&◌, ◌||◌, ◌==◌, if◌then◌else◌, IsTrue}
+use Rattle.std.specs.Prelude.{List, [], ◌∷◌, take, drop, slice_index, ◌⊎◌}
 use Rattle.std.specs.List.{prefix_len, list_all}
 use Rattle.std.specs.Char.{is_ascii_digit}
-use Rattle.keep_leaf.specs.declared.leaf.Profile.{Profile}
-use Rattle.keep_leaf.specs.declared.leaf.Profile.TheVariants.{Strict}
-use Rattle.keep_leaf.specs.declared.leaf.Leaf.{Leaf}
-use Rattle.keep_leaf.specs.declared.leaf.Leaf.TheVariants as leaf
-use Rattle.keep_token.specs.Abnf.{Language, Just, ◌⨾◌, Some1, Any, is_ws, is_comment, is_bare, is_word, Newline, Longest}
-use Rattle.keep_token.specs.Strings.{Basic, Literal, MlBasic, MlLiteral, IsBasicOf, IsLiteralOf, IsMlBasicOf, IsMlLiteralOf, Piece, value_of, ml_value_of}
+use Rattle.keep_types.specs.declared.leaf.Profile.{Profile}
+use Rattle.keep_types.specs.declared.leaf.Profile.TheVariants.{Strict}
+use Rattle.keep_types.specs.declared.leaf.Leaf.{Leaf}
+use Rattle.keep_types.specs.declared.leaf.Leaf.TheVariants as leaf
+use Rattle.keep_token.specs.Abnf.{Language, Just, ◌⨾◌, Some1, Any, is_ws, is_comment, is_bare, is_word, Newline}
+use Rattle.keep_token.specs.Abnf.{Longest}
+use Rattle.keep_token.specs.Strings.{Basic, Literal, MlBasic, MlLiteral, IsBasicOf, IsLiteralOf, IsMlBasicOf}
+use Rattle.keep_token.specs.Strings.{IsMlLiteralOf, Piece, value_of, ml_value_of}
 use Rattle.keep_token.specs.Numbers.{Integer, Float, Boolean}
 use Rattle.keep_token.specs.Dates.{LocalDate, LocalTime, LocalDateTime, OffsetDateTime}
 
@@ -86,7 +89,8 @@ is_scalar_leaf l = (is_word_leaf l || is_one_line l) || is_many_lines l
 -- dddd-dd-dd
 abbrev pub has_date_shape : List ℕ → Bool
 has_date_shape (a ∷ b ∷ c ∷ d ∷ e ∷ f ∷ g ∷ h ∷ i ∷ j ∷ []) =
-    ((list_all is_ascii_digit (a ∷ b ∷ c ∷ d ∷ []) && e == 0x2D) && list_all is_ascii_digit (f ∷ g ∷ [])) && (h == 0x2D && list_all is_ascii_digit (i ∷ j ∷ []))
+    ((list_all is_ascii_digit (a ∷ b ∷ c ∷ d ∷ []) && e == 0x2D) && list_all is_ascii_digit (f ∷ g ∷ []))
+    && (h == 0x2D && list_all is_ascii_digit (i ∷ j ∷ []))
 has_date_shape _ = false
 
 -- How long the word at the start is: the longest run of its bytes, and after a full date, a space and a digit the next
@@ -126,6 +130,8 @@ abbrev pub Means : Profile → Leaf → List ℕ → List ℕ → Type 0
 Means profile leaf.BareKey text value = value ≡ text
 Means profile leaf.Basic text value = (pieces : List Piece) × IsBasicOf profile text pieces × (value ≡ value_of pieces)
 Means profile leaf.Literal text value = (pieces : List Piece) × IsLiteralOf text pieces × (value ≡ value_of pieces)
-Means profile leaf.MlBasic text value = (pieces : List Piece) × IsMlBasicOf profile text pieces × (value ≡ ml_value_of pieces)
-Means profile leaf.MlLiteral text value = (pieces : List Piece) × IsMlLiteralOf text pieces × (value ≡ ml_value_of pieces)
+Means profile leaf.MlBasic text value =
+    (pieces : List Piece) × IsMlBasicOf profile text pieces × (value ≡ ml_value_of pieces)
+Means profile leaf.MlLiteral text value =
+    (pieces : List Piece) × IsMlLiteralOf text pieces × (value ≡ ml_value_of pieces)
 Means profile _ text value = ⊥

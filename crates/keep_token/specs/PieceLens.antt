@@ -11,4 +11,5 @@ piece_len (Some piece) = Some (length (piece_text piece))
 abbrev pub IsEscape : Option Escape → Option Piece → Type 0
 IsEscape None found = found ≡ None
 IsEscape (Some escape) found =
-    (piece : Piece) × (found ≡ Some piece) × (escape.len ≡ length (piece_text piece)) × (encode_utf8 escape.value ≡ piece_value piece)
+    (piece : Piece) × (found ≡ Some piece) × (escape.len ≡ length (piece_text piece))
+    × (encode_utf8 escape.value ≡ piece_value piece)

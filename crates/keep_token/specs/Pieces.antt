@@ -1,11 +1,14 @@
 -- The pieces of a string, found from the left. The laws in proofs/ tie them to the languages of strings.
-use Rattle.std.specs.Prelude.{ℕ, zero, suc, ◌-◌, min, Bool, true, false, ◌&&◌, ◌||◌, ◌==◌, nat_lt, nat_le, if◌then◌else◌, List, [], ◌∷◌, length, take, drop, slice_index, Option, Some, None}
+use Rattle.std.specs.Prelude.{ℕ, zero, suc, ◌-◌, min, Bool, true, false, ◌&&◌, ◌||◌, ◌==◌, nat_lt, nat_le}
+use Rattle.std.specs.Prelude.{if◌then◌else◌, List, [], ◌∷◌, length, take, drop, slice_index, Option, Some, None}
 use Rattle.std.specs.List.{prefix_len, list_all}
 use Rattle.std.specs.Char.{is_digit}
-use Rattle.keep_leaf.specs.declared.leaf.Profile.{Profile}
+use Rattle.keep_types.specs.declared.leaf.Profile.{Profile}
 use Rattle.keep_token.specs.Abnf.{is_ws}
 use Rattle.keep_token.specs.Numbers.{sum_of_digits}
-use Rattle.keep_token.specs.Strings.{Piece, Plain, Letter, Number, Break, LineEnd, piece_text, letter_value, digit_count, is_scalar, is_basic, is_literal, basic_text, literal_text, ml_basic_text, ml_literal_text}
+use Rattle.keep_token.specs.Strings.{Piece, Plain, Letter, Number, Break, LineEnd, piece_text, letter_value}
+use Rattle.keep_token.specs.Strings.{digit_count, is_scalar, is_basic, is_literal, basic_text, literal_text}
+use Rattle.keep_token.specs.Strings.{ml_basic_text, ml_literal_text}
 
 -- the first byte, or 0
 abbrev pub first : List ℕ → ℕ
@@ -48,7 +51,8 @@ line_end_at text =
     let white = prefix_len is_ws text in
     let newline = newline_len (drop white text) in
     let behind = drop newline (drop white text) in
-    if newline == 0 then None else Some (LineEnd (take white text) (take newline (drop white text)) (take (blank_len behind) behind))
+    if newline == 0 then None else Some (LineEnd (take white text) (take newline (drop white text))
+    (take (blank_len behind) behind))
 
 abbrev pub or_else : Option Piece → Option Piece → Option Piece
 or_else None other = other
@@ -74,7 +78,8 @@ ml_basic_piece profile text =
     else break_at text
 
 abbrev pub ml_literal_piece : List ℕ → Option Piece
-ml_literal_piece text = if is_literal (first text) || first text == 0x27 then Some (Plain (first text)) else break_at text
+ml_literal_piece text =
+    if is_literal (first text) || first text == 0x27 then Some (Plain (first text)) else break_at text
 
 abbrev pub before : Piece → Option (List Piece) → Option (List Piece)
 before piece None = None

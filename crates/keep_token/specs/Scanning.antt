@@ -1,11 +1,13 @@
--- The leaf that begins a text, found from the left: its kind and its length. The laws in proofs/ say that it is the leaf of Leaves.antt.
-use Rattle.std.specs.Prelude.{◌≡◌, ℕ, ◌+◌, Bool, not, ◌&&◌, ◌||◌, ◌==◌, if◌then◌else◌, List, take, drop, slice_index, Option, Some, None, Result, Ok, Err}
+-- The leaf that begins a text, found from the left: its kind and its length. The laws in proofs/ say that it is the
+-- leaf of Leaves.antt.
+use Rattle.std.specs.Prelude.{◌≡◌, ℕ, ◌+◌, Bool, not, ◌&&◌, ◌||◌, ◌==◌, if◌then◌else◌, List, take, drop, slice_index}
+use Rattle.std.specs.Prelude.{Option, Some, None, Result, Ok, Err}
 use Rattle.std.specs.List.{prefix_len}
 use Rattle.std.specs.Char.{is_ascii_digit}
 use Rattle.keep_token.specs.declared.fault.LeafFault.{LeafFault}
-use Rattle.keep_leaf.specs.declared.leaf.Profile.{Profile}
-use Rattle.keep_leaf.specs.declared.leaf.Leaf.{Leaf}
-use Rattle.keep_leaf.specs.declared.leaf.Leaf.TheVariants as leaf
+use Rattle.keep_types.specs.declared.leaf.Profile.{Profile}
+use Rattle.keep_types.specs.declared.leaf.Leaf.{Leaf}
+use Rattle.keep_types.specs.declared.leaf.Leaf.TheVariants as leaf
 use Rattle.keep_token.specs.Abnf.{is_ws, is_comment, is_bare, is_word}
 use Rattle.keep_token.specs.Leaves.{word_len}
 use Rattle.keep_token.specs.Words.{word_leaf}

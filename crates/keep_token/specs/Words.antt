@@ -1,11 +1,12 @@
 -- The kind of scalar that a word is, by tests that compute. The laws in proofs/ tie each test to its language.
-use Rattle.std.specs.Prelude.{ℕ, ◌+◌, ◌-◌, ◌*◌, Bool, true, false, not, ◌&&◌, ◌||◌, ◌==◌, nat_lt, nat_le, if◌then◌else◌, List, [], ◌∷◌, length, take, drop, slice_index, Option, Some, None}
+use Rattle.std.specs.Prelude.{ℕ, ◌+◌, ◌-◌, ◌*◌, Bool, true, false, not, ◌&&◌, ◌||◌, ◌==◌, nat_lt, nat_le, if◌then◌else◌}
+use Rattle.std.specs.Prelude.{List, [], ◌∷◌, length, take, drop, slice_index, Option, Some, None}
 use Rattle.std.specs.List.{prefix_len, list_all}
 use Rattle.std.specs.Char.{is_ascii_digit}
-use Rattle.keep_leaf.specs.declared.leaf.Profile.{Profile}
-use Rattle.keep_leaf.specs.declared.leaf.Profile.TheVariants.{Wide}
-use Rattle.keep_leaf.specs.declared.leaf.Leaf.{Leaf}
-use Rattle.keep_leaf.specs.declared.leaf.Leaf.TheVariants as leaf
+use Rattle.keep_types.specs.declared.leaf.Profile.{Profile}
+use Rattle.keep_types.specs.declared.leaf.Profile.TheVariants.{Wide}
+use Rattle.keep_types.specs.declared.leaf.Leaf.{Leaf}
+use Rattle.keep_types.specs.declared.leaf.Leaf.TheVariants as leaf
 use Rattle.keep_token.specs.Numbers.{is_decimal, is_digits, is_in_base, is_sign, integer_value}
 use Rattle.keep_token.specs.Dates.{month_length}
 use Rattle.keep_token.specs.Leaves.{has_date_shape}
@@ -52,10 +53,14 @@ is_maybe_exponent (c ∷ cs) = is_exponent (c ∷ cs)
 
 abbrev pub is_fraction : List ℕ → Bool
 is_fraction [] = false
-is_fraction (c ∷ cs) = c == 0x2E && (is_digits is_ascii_digit (take (prefix_len is_part cs) cs) && is_maybe_exponent (drop (prefix_len is_part cs) cs))
+is_fraction (c ∷ cs) =
+    c == 0x2E && (is_digits is_ascii_digit (take (prefix_len is_part cs) cs)
+    && is_maybe_exponent (drop (prefix_len is_part cs) cs))
 
 abbrev pub is_number : List ℕ → Bool
-is_number t = is_decimal (take (prefix_len is_whole t) t) && (is_exponent (drop (prefix_len is_whole t) t) || is_fraction (drop (prefix_len is_whole t) t))
+is_number t =
+    is_decimal (take (prefix_len is_whole t) t)
+    && (is_exponent (drop (prefix_len is_whole t) t) || is_fraction (drop (prefix_len is_whole t) t))
 
 abbrev pub is_three : List ℕ → Bool
 is_three (a ∷ b ∷ c ∷ []) = ((a == 0x69 && b == 0x6E) && c == 0x66) || ((a == 0x6E && b == 0x61) && c == 0x6E)
@@ -87,12 +92,14 @@ is_day year month day = (nat_le 1 month && nat_le month 12) && (nat_le 1 day && 
 
 abbrev pub is_date : List ℕ → Bool
 is_date (a ∷ b ∷ c ∷ d ∷ e ∷ f ∷ g ∷ h ∷ i ∷ j ∷ []) =
-    has_date_shape (a ∷ b ∷ c ∷ d ∷ e ∷ f ∷ g ∷ h ∷ i ∷ j ∷ []) && is_day (pair a b * 100 + pair c d) (pair f g) (pair i j)
+    has_date_shape (a ∷ b ∷ c ∷ d ∷ e ∷ f ∷ g ∷ h ∷ i ∷ j ∷ [])
+    && is_day (pair a b * 100 + pair c d) (pair f g) (pair i j)
 is_date _ = false
 
 abbrev pub is_minutes : List ℕ → Bool
 is_minutes (a ∷ b ∷ c ∷ d ∷ e ∷ []) =
-    (((is_ascii_digit a && is_ascii_digit b) && c == 0x3A) && (is_ascii_digit d && is_ascii_digit e)) && (nat_lt (pair a b) 24 && nat_lt (pair d e) 60)
+    (((is_ascii_digit a && is_ascii_digit b) && c == 0x3A) && (is_ascii_digit d && is_ascii_digit e))
+    && (nat_lt (pair a b) 24 && nat_lt (pair d e) 60)
 is_minutes _ = false
 
 -- :ss
@@ -120,7 +127,8 @@ abbrev pub is_between_date_and_time : ℕ → Bool
 is_between_date_and_time c = (c == 0x54 || c == 0x74) || c == 0x20
 
 abbrev pub is_date_time : Profile → List ℕ → Bool
-is_date_time profile t = is_date (take 10 t) && (is_between_date_and_time (slice_index t 10) && is_time profile (drop 11 t))
+is_date_time profile t =
+    is_date (take 10 t) && (is_between_date_and_time (slice_index t 10) && is_time profile (drop 11 t))
 
 abbrev pub is_zulu : ℕ → Bool
 is_zulu c = c == 0x5A || c == 0x7A
@@ -131,7 +139,9 @@ ends_in_zulu profile t = is_zulu (slice_index t (length t - 1)) && is_date_time 
 
 -- a sign, hours and minutes after a date and a time
 abbrev pub ends_in_minutes : Profile → List ℕ → Bool
-ends_in_minutes profile t = (is_sign (slice_index t (length t - 6)) && is_minutes (drop (length t - 5) t)) && is_date_time profile (take (length t - 6) t)
+ends_in_minutes profile t =
+    (is_sign (slice_index t (length t - 6)) && is_minutes (drop (length t - 5) t))
+    && is_date_time profile (take (length t - 6) t)
 
 abbrev pub is_offset_date_time : Profile → List ℕ → Bool
 is_offset_date_time profile t = ends_in_zulu profile t || ends_in_minutes profile t

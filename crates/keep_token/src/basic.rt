@@ -7,7 +7,7 @@ use crate::bytes::{basic_run, byte_at, is_basic};
 use crate::escape::{line_end_len, read_escape};
 use crate::fault::LeafFault;
 use crate::strings::{fault_at, marks_run, newline_len};
-use keep_leaf::Profile;
+use keep_types::Profile;
 
 /// The length of the basic string that begins the bytes, with both quotation marks.
 ///

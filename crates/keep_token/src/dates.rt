@@ -6,7 +6,7 @@ ghost use Rattle.keep_token.specs.Leaves as leaves;
 ghost use Rattle.keep_token.specs.Words as words;
 
 use crate::bytes::{are_digits, is_sign};
-use keep_leaf::Profile;
+use keep_types::Profile;
 
 /// The number that two digits write.
 fn pair(tens: u8, ones: u8) -> u16

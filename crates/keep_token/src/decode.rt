@@ -5,12 +5,12 @@ ghost use Rattle.std.specs.String.{string_bytes};
 ghost use Rattle.keep_token.specs.Decoding.{GivesBody, IsBody};
 ghost use Rattle.keep_token.specs.Leaves.{IsLeaf, Means, is_string_leaf};
 ghost use Rattle.keep_token.specs.Strings as strings;
-ghost use Rattle.keep_leaf.specs.declared.leaf.Leaf.TheVariants as kind;
-ghost use Rattle.keep_leaf.specs.declared.leaf.Profile.TheVariants.{Wide};
+ghost use Rattle.keep_types.specs.declared.leaf.Leaf.TheVariants as kind;
+ghost use Rattle.keep_types.specs.declared.leaf.Profile.TheVariants.{Wide};
 
 use crate::escape::{line_end_len, read_escape};
 use crate::strings::newline_len;
-use keep_leaf::{Leaf, Profile};
+use keep_types::{Leaf, Profile};
 use std::alloc::{AllocError, Global};
 
 /// What a string leaf or a key part means: its text without the marks, with each escape replaced by its character.

@@ -3,11 +3,12 @@ ghost use Rattle.std.specs.Prelude.{◌≡◌, ◌++◌, ◌<◌, false, length,
 ghost use Rattle.std.specs.Fmt.{signed_decimal};
 ghost use Rattle.std.specs.List.{flat_map, list_all, prefix_len};
 ghost use Rattle.keep_token.specs.Abnf.{is_bare};
-ghost use Rattle.keep_token.specs.Encoded.{digit, encoded_byte, encoded_string, encoded_key, encoded_key_leaf, is_bare_text};
+ghost use Rattle.keep_token.specs.Encoded.{digit, encoded_byte, encoded_string, encoded_key, encoded_key_leaf};
+ghost use Rattle.keep_token.specs.Encoded.{is_bare_text};
 ghost use Rattle.keep_token.specs.Leaves.{IsLeaf, Means};
 ghost use Rattle.keep_token.specs.Numbers.{integer_value};
-ghost use Rattle.keep_leaf.specs.declared.leaf.Leaf.TheVariants as leaf;
-ghost use Rattle.keep_leaf.specs.declared.leaf.Profile.TheVariants.{Strict};
+ghost use Rattle.keep_types.specs.declared.leaf.Leaf.TheVariants as leaf;
+ghost use Rattle.keep_types.specs.declared.leaf.Profile.TheVariants.{Strict};
 ghost use Rattle.keep_token.specs.Escapes.{is_plain, short_escape, escape_by_number};
 
 use crate::bytes::is_bare;

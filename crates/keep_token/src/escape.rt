@@ -9,7 +9,7 @@ ghost use Rattle.keep_token.specs.Strings as strings;
 
 use crate::bytes::ws_run;
 use crate::strings::{blank_len, newline_len};
-use keep_leaf::Profile;
+use keep_types::Profile;
 
 /// An escape of a basic string.
 #[derive(Clone, Copy)]

@@ -1,13 +1,13 @@
 //! What is between the parts: white space, newlines and comments. (TOML v1.0.0, "Comment"; toml.abnf: `ws`,
 //! `newline`, `comment`)
 ghost use Rattle.std.specs.Prelude.{◌≡◌, ℕ, ◌+◌, ◌-◌, ◌<◌, ◌≤◌, length, drop, IfSome, IsCharBoundary};
-ghost use Rattle.keep_leaf.specs.declared.leaf.Leaf.{Leaf};
+ghost use Rattle.keep_types.specs.declared.leaf.Leaf.{Leaf};
 ghost use Rattle.keep_token.specs.Leaves.{GapLeaf};
 ghost use Rattle.keep_token.specs.Scanning.{gap_at, moved};
 
 use crate::bytes::{is_ws, ws_run};
 use crate::comment::comment_len;
-use keep_leaf::Leaf;
+use keep_types::Leaf;
 
 // The leaf at the start, and its length.
 #[inline(always)]

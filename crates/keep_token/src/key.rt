@@ -1,6 +1,7 @@
 //! Key parts. (TOML v1.0.0, "Keys"; toml.abnf: `simple-key`)
-ghost use Rattle.std.specs.Prelude.{◌≡◌, ℕ, ◌+◌, ◌-◌, ◌<◌, ◌≤◌, length, drop, IfOk, IfErr, IsCharBoundary, MatchResult, Some, None};
-ghost use Rattle.keep_leaf.specs.declared.leaf.Leaf.{Leaf};
+ghost use Rattle.std.specs.Prelude.{◌≡◌, ℕ, ◌+◌, ◌-◌, ◌<◌, ◌≤◌, length, drop, IfOk, IfErr, IsCharBoundary, MatchResult};
+ghost use Rattle.std.specs.Prelude.{Some, None};
+ghost use Rattle.keep_types.specs.declared.leaf.Leaf.{Leaf};
 ghost use Rattle.keep_token.specs.Leaves.{KeyLeaf};
 ghost use Rattle.keep_token.specs.Scanning.{Scans, key_at, moved};
 
@@ -9,7 +10,7 @@ use crate::bytes::{bare_run, byte_at};
 use crate::fault::{LeafFault, What};
 use crate::literal::literal_len;
 use crate::strings::fault_here;
-use keep_leaf::{Leaf, Profile};
+use keep_types::{Leaf, Profile};
 
 // The key part at the start, and its length.
 #[tactic(auto, unfolding(crate::specs::Scanning::key_at))]

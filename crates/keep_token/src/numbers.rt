@@ -13,7 +13,8 @@ fn digits_value(digits: &[u8], base: u32) -> Option<u64>
     requires low { 2 ≤ base }
     requires high { base ≤ 16 }
     ensures { SomeIff result
-        (IsTrue (numbers.is_digits (numbers.is_in_base base) digits.now) × (numbers.digits_value base digits.now < 2 ^ 64))
+        (IsTrue (numbers.is_digits (numbers.is_in_base base) digits.now)
+        × (numbers.digits_value base digits.now < 2 ^ 64))
         (numbers.digits_value base digits.now) }
 {
     let mut value = 0u64;
@@ -70,7 +71,8 @@ fn based_value(digits: &[u8], base: u32) -> Option<i64>
     requires low { 2 ≤ base }
     requires high { base ≤ 16 }
     ensures { SomeIff result
-        (IsTrue (numbers.is_digits (numbers.is_in_base base) digits.now) × FitsSigned w64 (pos (numbers.digits_value base digits.now)))
+        (IsTrue (numbers.is_digits (numbers.is_in_base base) digits.now)
+        × FitsSigned w64 (pos (numbers.digits_value base digits.now)))
         (pos (numbers.digits_value base digits.now)) }
 {
     0i64.checked_add_unsigned(digits_value(digits, base)?)

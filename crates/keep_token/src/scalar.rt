@@ -1,6 +1,7 @@
 //! Scalars: the four kinds of strings, and words. (toml.abnf: `val` but for `array` and `inline-table`)
-ghost use Rattle.std.specs.Prelude.{◌≡◌, ℕ, ◌+◌, ◌-◌, ◌<◌, ◌≤◌, length, drop, IfOk, IfErr, IsCharBoundary, MatchResult, Some, None, Ok, Err};
-ghost use Rattle.keep_leaf.specs.declared.leaf.Leaf.{Leaf};
+ghost use Rattle.std.specs.Prelude.{◌≡◌, ℕ, ◌+◌, ◌-◌, ◌<◌, ◌≤◌, length, drop, IfOk, IfErr, IsCharBoundary, MatchResult};
+ghost use Rattle.std.specs.Prelude.{Some, None, Ok, Err};
+ghost use Rattle.keep_types.specs.declared.leaf.Leaf.{Leaf};
 ghost use Rattle.keep_token.specs.Leaves.{ScalarLeaf};
 ghost use Rattle.keep_token.specs.Scanning.{Scans, scalar_at, moved, are_three};
 
@@ -10,7 +11,7 @@ use crate::fault::LeafFault;
 use crate::literal::{literal_len, ml_literal_len};
 use crate::strings::fault_here;
 use crate::word::{word_fault, word_leaf, word_len};
-use keep_leaf::{Leaf, Profile};
+use keep_types::{Leaf, Profile};
 
 // Whether three of the mark come first.
 fn begins_with_three(bytes: &[u8], mark: u8) -> bool
@@ -63,7 +64,8 @@ fn scalar_of(bytes: &[u8], profile: Profile) -> Result<(Leaf, usize), LeafFault>
 /// The first fault from left to right where there is none, with its place in the text.
 pub fn scan_scalar(text: &str, at: usize, profile: Profile) -> Result<(Leaf, usize), LeafFault>
     requires { IsCharBoundary text.now at }
-    ensures found { IfOk result (λ found. (at < found.1) × ScalarLeaf profile (drop at text.now) found.0 (found.1 - at)) }
+    ensures found { IfOk result (λ found. (at < found.1)
+        × ScalarLeaf profile (drop at text.now) found.0 (found.1 - at)) }
     ensures only { (leaf : Leaf) → (n : ℕ) → ScalarLeaf profile (drop at text.now) leaf n → result ≡ Ok (leaf, at + n) }
     ensures ends { IfOk result (λ found. IsCharBoundary text.now found.1) }
     // the result by the function on lists, for proofs above

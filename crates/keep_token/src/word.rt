@@ -8,7 +8,7 @@ use crate::bytes::{are_digits, byte_at, is_e, is_sign, word_run};
 use crate::dates::{has_date_shape, is_date, is_date_time, is_offset_date_time, is_time};
 use crate::fault::What;
 use crate::numbers::{is_boolean, is_float, is_integer};
-use keep_leaf::{Leaf, Profile};
+use keep_types::{Leaf, Profile};
 
 /// How many bytes the word at the start has. A space between a date and a time is a byte of it.
 pub(crate) fn word_len(bytes: &[u8]) -> usize

@@ -2,11 +2,11 @@
 #![tactic(auto)]
 
 ghost use Rattle.std.specs.Prelude.{◌≡◌, ◌≤◌, ◌⊎◌, IfOk};
-ghost use Rattle.keep_run.specs.Status.{run_status};
-ghost use Rattle.keep_run.specs.declared.fault.RunFault as run_fault;
-ghost use Rattle.keep_app.specs.Status.{use_status};
+ghost use Rattle.keep_commands.specs.Status.{run_status};
+ghost use Rattle.keep_commands.specs.declared.fault.RunFault as run_fault;
+ghost use Rattle.keep_cli.specs.Status.{use_status};
 
-use keep_app::{Command, Counted, GivenFault, RunFault, UseFault, command_of, given_words, run};
+use keep_cli::{Command, Counted, GivenFault, RunFault, UseFault, command_of, given_words, run};
 use std::io;
 use std::io::Write;
 use std::process::ExitCode;

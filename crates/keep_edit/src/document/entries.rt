@@ -10,9 +10,9 @@ use keep_rules::{Kind, NodeId, Path};
 use std::alloc::AllocError;
 
 impl Document {
-    /// Adds the text of the path of an entry to `out`, as `Path::encode` writes it, and tells the entry's kind. The entries are
-    /// those of `list`, by their numbers there from 0 on; from their number on this is None, and adds nothing. No entry and no
-    /// path is made, so a list of all paths takes little more memory than its text.
+    /// Adds the text of the path of an entry to `out`, as `Path::encode` writes it, and tells the entry's kind. The
+    /// entries are those of `list`, by their numbers there from 0 on; from their number on this is None, and adds
+    /// nothing. No entry and no path is made, so a list of all paths takes little more memory than its text.
     ///
     /// The only error is that memory was refused; then `out` has the text that it had.
     pub fn push_entry_path(
@@ -21,7 +21,8 @@ impl Document {
         out: &mut String,
     ) -> Result<Option<Kind>, AllocError>
         ensures entry { (s : tree.Document) → IsTextOfTree self.now s
-            → IfOk result (λ kind. AddsEntryPath (slice_get (entries_of s) number) kind (string_bytes out.old) (string_bytes out.new)) }
+            → IfOk result (λ kind. AddsEntryPath (slice_get (entries_of s) number) kind (string_bytes out.old)
+            (string_bytes out.new)) }
         ensures refused { OnErr result (string_bytes out.new ≡ string_bytes out.old) }
         ensures accepted { IsAccepted self.now }
     {

@@ -10,7 +10,8 @@ use crate::fault::ReadFault;
 use crate::info::Limits;
 use crate::replacing::{Gone, replace_parts, restore_parts};
 use crate::reread::new_lines;
-use keep_parts::{Span, Starts};
+use keep_syntax_store::Starts;
+use keep_types::Span;
 use std::alloc::AllocError;
 use std::mem;
 
@@ -25,8 +26,8 @@ pub struct Replaced {
 impl Syntax {
     ghost use Rattle.keep_syntax.specs.declared.syntax.Syntax.{Syntax};
 
-    /// Puts lines in the place of whole lines, in place: only the new lines are read, and what is stored of the lines after
-    /// them is moved. After a refusal the same is stored as before.
+    /// Puts lines in the place of whole lines, in place: only the new lines are read, and what is stored of the lines
+    /// after them is moved. After a refusal the same is stored as before.
     ///
     /// # Errors
     ///
@@ -38,9 +39,11 @@ impl Syntax {
         limits: Limits,
     ) -> Result<Replaced, AllocError>
         requires { spec.MayReread limits.profile limits.depth self.old whole lines.now }
-        ensures read { (d m : Document) → spec.IsSyntaxOf self.old d → spec.CanReplace limits.profile limits.depth d whole lines.now m
+        ensures read { (d m : Document) → spec.IsSyntaxOf self.old d
+            → spec.CanReplace limits.profile limits.depth d whole lines.now m
             → OnOk result (spec.IsSyntaxOf self.new (replaced d whole m)) }
-        ensures of_text { (d m : Document) → spec.IsSyntaxOf self.old d → spec.CanReplace limits.profile limits.depth d whole lines.now m
+        ensures of_text { (d m : Document) → spec.IsSyntaxOf self.old d
+            → spec.CanReplace limits.profile limits.depth d whole lines.now m
             → OnOk result (spec.IsTextOf self.new (spec.put_at whole lines.now (text d))) }
         ensures refused { OnErr result (undoing.IsSame self.new self.old) }
         ensures undo { IfOk result (λ r. undoing.Undoes r self.old self.new) }
@@ -54,7 +57,8 @@ impl Syntax {
     /// Puts the parts of both syntaxes together.
     fn put_lines(&mut self, whole: Span, lines: &str, limits: Limits) -> Result<Replaced, ReadFault>
         requires { spec.MayReread limits.profile limits.depth self.old whole lines.now }
-        ensures read { (d m : Document) → spec.IsSyntaxOf self.old d → spec.CanReplace limits.profile limits.depth d whole lines.now m
+        ensures read { (d m : Document) → spec.IsSyntaxOf self.old d
+            → spec.CanReplace limits.profile limits.depth d whole lines.now m
             → OnOk result (spec.IsSyntaxOf self.new (replaced d whole m)) }
         ensures refused { OnErr result (undoing.IsSame self.new self.old) }
         ensures undo { IfOk result (λ r. undoing.Undoes r self.old self.new) }

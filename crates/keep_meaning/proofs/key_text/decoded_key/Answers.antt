@@ -1,7 +1,7 @@
 -- A copy is what the part means, and where there is no escape, what is between the marks is.
 use Rattle.std.proofs.Common.{◌≡◌, ap, ◌∙◌, sym}
 use Rattle.std.specs.List.{list_any}
-use Rattle.keep_leaf.specs.declared.leaf.Leaf.TheVariants.{BareKey}
+use Rattle.keep_types.specs.declared.leaf.Leaf.TheVariants.{BareKey}
 use Rattle.keep_token.specs.Leaves.{is_string_leaf}
 use Rattle.keep_meaning.proofs.DecodeLaws.{means_value}
 use Rattle.keep_meaning.proofs.KeyTextLemmas.{is_backslash, is_marked, literal_only, marked_start, basic_plain, literal_plain}

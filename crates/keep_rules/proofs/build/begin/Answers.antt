@@ -2,15 +2,15 @@
 use Rattle.std.proofs.Common.{◌≡◌, ◌+◌, ◌-◌, ◌<◌, length, [], ◌∷◌, ◌++◌, ap, sym, ◌∙◌, subst, refl, arith}
 use Rattle.std.proofs.lemmas.List.{length-map}
 use Rattle.std.proofs.lemmas.Result.{err_from_is_err_and}
-use Rattle.keep_facts.specs.declared.node.Kind.TheVariants as kind
-use Rattle.keep_facts.specs.declared.node.NodeInfo.{NodeInfo}
-use Rattle.keep_facts.specs.declared.node.Origin.TheVariants as origin
+use Rattle.keep_types.specs.declared.node.Kind.TheVariants as kind
+use Rattle.keep_types.specs.declared.node.NodeInfo.{NodeInfo}
+use Rattle.keep_types.specs.declared.node.Origin.TheVariants as origin
 use Rattle.keep_path.specs.Path.{key}
-use Rattle.keep_nodes.specs.Facts.{named_info}
-use Rattle.keep_nodes.specs.Stored.{trie_node_in, trie_of, infos_of}
+use Rattle.keep_index_store.specs.Facts.{named_info}
+use Rattle.keep_index_store.specs.Stored.{trie_node_in, trie_of, infos_of}
 use Rattle.keep_rules.specs.AddedInfos.{AddsInfo}
 use Rattle.keep_rules.specs.Keys.{last_text}
-use Rattle.keep_nodes.specs.Trie.{by_index, path_at, holds_at}
+use Rattle.keep_index_store.specs.Trie.{by_index, path_at, holds_at}
 use Rattle.keep_rules.proofs.TablesLemmas.{tables_listed}
 use Rattle.keep_rules.proofs.StepLemmas.{begins}
 use Rattle.keep_rules.proofs.ElementLemmas.{item_fresh}

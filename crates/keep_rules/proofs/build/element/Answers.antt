@@ -1,15 +1,15 @@
 use Rattle.std.proofs.Common.{ℕ, ◌+◌, ◌-◌, [], ◌∷◌, ◌++◌, refl}
 use Rattle.std.proofs.lemmas.Result.{err_from_is_err_and, IfOk-weaker, IfErr-weaker, on_ok_weaker}
-use Rattle.keep_facts.specs.declared.role.Role.TheVariants.{Element}
+use Rattle.keep_types.specs.declared.role.Role.TheVariants.{Element}
 use Rattle.keep_path.specs.Path.{key}
 use Rattle.keep_rules.specs.AddedInfos.{HeaderAdds, begin_mentions}
-use Rattle.keep_nodes.specs.Trie.{path_at}
+use Rattle.keep_index_store.specs.Trie.{path_at}
 use Rattle.keep_rules.specs.Keys.{last_text}
 use Rattle.keep_rules.specs.Reads.{Reads, FaultsIn}
 use Rattle.keep_rules.specs.Represents.{Begins, StopsAt}
 use Rattle.keep_rules.specs.Statements.{element_of}
 use Rattle.keep_rules.specs.Stops.{FaultMeets}
-use Rattle.keep_nodes.specs.Stored.{trie_of}
+use Rattle.keep_index_store.specs.Stored.{trie_of}
 use Rattle.keep_rules.proofs.BuildLemmas.{stops_weaker, element_walk_stops, element_read, element_stops, element_all_added}
 use Rattle.keep_rules.proofs.build.element.Goals as goal
 

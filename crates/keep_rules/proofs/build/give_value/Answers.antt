@@ -1,11 +1,11 @@
 use Rattle.std.proofs.Common.{◌≡◌, ℕ, ◌-◌, List, [], ◌∷◌, ◌++◌, ap, ◌∙◌, subst, refl, arith}
 use Rattle.std.proofs.lemmas.Result.{err_from_is_err_and, IfOk-weaker, IfErr-weaker}
 use Rattle.keep_syntax.specs.declared.fault.Why.{Why}
-use Rattle.keep_facts.specs.declared.node.NodeInfo.{NodeInfo}
-use Rattle.keep_facts.specs.declared.node.Origin.TheVariants as origin
-use Rattle.keep_facts.specs.declared.role.Role.TheVariants.{Value}
-use Rattle.keep_nodes.specs.Facts.{info_of, named_info}
-use Rattle.keep_nodes.specs.Children.{holding}
+use Rattle.keep_types.specs.declared.node.NodeInfo.{NodeInfo}
+use Rattle.keep_types.specs.declared.node.Origin.TheVariants as origin
+use Rattle.keep_types.specs.declared.role.Role.TheVariants.{Value}
+use Rattle.keep_index_store.specs.Facts.{info_of, named_info}
+use Rattle.keep_index_store.specs.Children.{holding}
 use Rattle.keep_meaning.specs.Fact.{Fact}
 use Rattle.keep_rules.specs.NestedValues.{NestingState, path_of_value, nested_mentions, nested_keyed}
 use Rattle.keep_rules.specs.Keys.{key_texts, leading_texts, last_text}
@@ -14,9 +14,9 @@ use Rattle.keep_meaning.specs.Marks.{Mention}
 use Rattle.keep_rules.specs.Represents.{IsMarked, Represents, StopsAt, FaultIn}
 use Rattle.keep_rules.specs.Steps.{Gives}
 use Rattle.keep_rules.specs.Stops.{FaultMeets}
-use Rattle.keep_nodes.specs.Stored.{trie_of}
+use Rattle.keep_index_store.specs.Stored.{trie_of}
 use Rattle.keep_rules.specs.AddedInfos.{AddsInfo, KeyedAdds}
-use Rattle.keep_nodes.specs.Trie.{path_at}
+use Rattle.keep_index_store.specs.Trie.{path_at}
 use Rattle.keep_rules.proofs.BuildLemmas.{stops_weaker, keyed_walk_stops, value_given, keyed_stops, keyed_all_added}
 use Rattle.keep_rules.proofs.OutcomeLemmas.{both_ok}
 use Rattle.keep_rules.proofs.PassLemmas.{fits_value}

@@ -1,19 +1,19 @@
 use Rattle.std.proofs.Common.{ℕ, ◌+◌, ◌-◌, [], ◌∷◌, ◌++◌, ap, ◌∙◌, subst, refl, arith}
 use Rattle.std.proofs.lemmas.Result.{err_from_is_err_and, IfOk-weaker, IfErr-weaker, on_ok_weaker}
-use Rattle.keep_facts.specs.declared.node.Kind.TheVariants as kind
-use Rattle.keep_facts.specs.declared.node.NodeInfo.{NodeInfo}
-use Rattle.keep_facts.specs.declared.node.Origin.TheVariants as origin
-use Rattle.keep_facts.specs.declared.role.Role.TheVariants.{Define}
-use Rattle.keep_nodes.specs.Facts.{info_of, named_info}
+use Rattle.keep_types.specs.declared.node.Kind.TheVariants as kind
+use Rattle.keep_types.specs.declared.node.NodeInfo.{NodeInfo}
+use Rattle.keep_types.specs.declared.node.Origin.TheVariants as origin
+use Rattle.keep_types.specs.declared.role.Role.TheVariants.{Define}
+use Rattle.keep_index_store.specs.Facts.{info_of, named_info}
 use Rattle.keep_rules.specs.Keys.{last_text}
 use Rattle.keep_path.specs.Path.{key}
 use Rattle.keep_rules.specs.Reads.{Reads, FaultsIn}
 use Rattle.keep_rules.specs.Represents.{IsMarked, StopsAt}
 use Rattle.keep_rules.specs.Statements.{header_of}
 use Rattle.keep_rules.specs.Stops.{FaultMeets}
-use Rattle.keep_nodes.specs.Stored.{trie_of}
+use Rattle.keep_index_store.specs.Stored.{trie_of}
 use Rattle.keep_rules.specs.AddedInfos.{AddsInfo}
-use Rattle.keep_nodes.specs.Trie.{by_key, path_at}
+use Rattle.keep_index_store.specs.Trie.{by_key, path_at}
 use Rattle.keep_rules.proofs.BuildLemmas.{stops_weaker, header_walk_stops, header_read, header_stops, header_all_added}
 use Rattle.keep_rules.proofs.KeyWalkInfoLemmas.{define_added}
 use Rattle.keep_rules.proofs.PassLemmas.{fits_define}

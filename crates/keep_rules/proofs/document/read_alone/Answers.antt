@@ -1,7 +1,7 @@
 -- The root represents the value.
 use Rattle.std.proofs.Common.{◌∙◌, [], slice_get, ap, sym}
 use Rattle.std.proofs.lemmas.Result.{err_from_is_err_and}
-use Rattle.keep_parts.specs.Flat.{flat}
+use Rattle.keep_syntax_store.specs.Flat.{flat}
 use Rattle.keep_syntax.specs.Tree.{Value}
 use Rattle.keep_rules.specs.NestedValues.{value_nesting, nested_values}
 use Rattle.keep_meaning.specs.Meaning.{body_fact}

@@ -1,6 +1,6 @@
 -- The nodes represent the statements so far.
 use Rattle.std.proofs.Common.{◌∙◌, ◌^◌, ◌<◌, ◌≤◌, length, slice_get, ap, sym, arith}
-use Rattle.keep_parts.specs.Flat.{flat}
+use Rattle.keep_syntax_store.specs.Flat.{flat}
 use Rattle.keep_syntax.specs.Numbered as syntax
 use Rattle.keep_syntax.specs.Tree.{Document}
 use Rattle.keep_meaning.specs.Marks.{start, mentions_from, reading_after}

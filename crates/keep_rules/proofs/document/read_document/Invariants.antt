@@ -1,6 +1,6 @@
 use Rattle.keep_syntax.specs.Tree.{Document}
 use Rattle.keep_rules.specs.ReadDocuments.{WasRead}
-use Rattle.keep_nodes.specs.Stored.{IsStored}
+use Rattle.keep_index_store.specs.Stored.{IsStored}
 use Rattle.keep_rules.proofs.DocumentLemmas.{IsReadUpTo}
 use Rattle.keep_rules.proofs.document.read_document.Given as goal
 

@@ -2,8 +2,8 @@
 use Rattle.std.proofs.Common.{◌≡◌, ℕ, ◌+◌, List, [], ◌∷◌, ◌++◌, length, ap, sym, ◌∙◌, subst}
 use Rattle.std.specs.Prelude.{IfErr}
 use Rattle.std.proofs.lemmas.Result.{err_from_is_err_and, on_ok_weaker}
-use Rattle.keep_parts.specs.Flat.{flat}
-use Rattle.keep_nodes.specs.Stored.{trie_of}
+use Rattle.keep_syntax_store.specs.Flat.{flat}
+use Rattle.keep_index_store.specs.Stored.{trie_of}
 use Rattle.keep_rules.specs.NestedValues.{NestingState, NestedValue}
 use Rattle.keep_rules.specs.Plans.{AreNext, NestedValuesRead, NestedValuesFault}
 use Rattle.keep_rules.specs.Stops.{FaultMeets}

@@ -1,6 +1,6 @@
 -- One node without children.
-use Rattle.keep_nodes.specs.Children.{holding, no_children}
-use Rattle.keep_nodes.proofs.Shared.{none_ids, none_holds}
+use Rattle.keep_index_store.specs.Children.{holding, no_children}
+use Rattle.keep_index_store.proofs.Shared.{none_ids, none_holds}
 use Rattle.keep_rules.proofs.RootLemmas.{is_root}
 use Rattle.keep_rules.proofs.document.root.Goals as goal
 

@@ -2,10 +2,10 @@
 use Rattle.std.proofs.Common.{◌≡◌, ℕ, List, [], ◌∷◌, ◌++◌, ap, ◌∙◌, subst, refl, Err}
 use Rattle.std.proofs.lemmas.Result.{err_from_is_err_and}
 use Rattle.keep_path.specs.Path.{key}
-use Rattle.keep_nodes.specs.Children.{holding}
-use Rattle.keep_nodes.specs.Facts.{info_of}
-use Rattle.keep_nodes.specs.Stored.{trie_of}
-use Rattle.keep_nodes.specs.Trie.{path_at}
+use Rattle.keep_index_store.specs.Children.{holding}
+use Rattle.keep_index_store.specs.Facts.{info_of}
+use Rattle.keep_index_store.specs.Stored.{trie_of}
+use Rattle.keep_index_store.specs.Trie.{path_at}
 use Rattle.keep_rules.specs.AddedInfos.{AddsInfo}
 use Rattle.keep_rules.specs.Keys.{key_text_at}
 use Rattle.keep_rules.specs.Represents.{IsMarked, StopsAt, WasRefused}

@@ -1,18 +1,18 @@
 use Rattle.std.proofs.Common.{List, ◌∷◌, ◌++◌, [], ap, ◌∙◌, subst, arith, refl}
 use Rattle.std.proofs.lemmas.List.{length-map}
 use Rattle.std.proofs.lemmas.Result.{err_from_is_err_and}
-use Rattle.keep_facts.specs.declared.role.Role.TheVariants.{Dotted}
+use Rattle.keep_types.specs.declared.role.Role.TheVariants.{Dotted}
 use Rattle.keep_meaning.specs.Marks.{Mention}
-use Rattle.keep_facts.specs.declared.node.Kind.TheVariants as kind
-use Rattle.keep_facts.specs.declared.node.NodeInfo.{NodeInfo}
-use Rattle.keep_facts.specs.declared.node.Origin.TheVariants as origin
-use Rattle.keep_nodes.specs.Facts.{named_info}
+use Rattle.keep_types.specs.declared.node.Kind.TheVariants as kind
+use Rattle.keep_types.specs.declared.node.NodeInfo.{NodeInfo}
+use Rattle.keep_types.specs.declared.node.Origin.TheVariants as origin
+use Rattle.keep_index_store.specs.Facts.{named_info}
 use Rattle.keep_rules.specs.Keys.{key_text_at, leading_texts}
 use Rattle.keep_path.specs.Path.{Part, key}
-use Rattle.keep_nodes.specs.Stored.{trie_node_in, trie_of}
+use Rattle.keep_index_store.specs.Stored.{trie_node_in, trie_of}
 use Rattle.keep_rules.specs.Represents.{Represents, FaultIn}
 use Rattle.keep_rules.specs.AddedInfos.{AddsInfo}
-use Rattle.keep_nodes.specs.Trie.{path_at}
+use Rattle.keep_index_store.specs.Trie.{path_at}
 use Rattle.keep_rules.specs.KeyWalks.{dotted_mentions}
 use Rattle.keep_rules.proofs.BuildLemmas.{stops_weaker}
 use Rattle.keep_rules.proofs.PassLemmas.{fits_dotted}

@@ -5,8 +5,8 @@ use Rattle.keep_syntax.specs.declared.fault.Why.{Why}
 use Rattle.keep_rules.specs.Keys.{key_texts, key_text_at, leading_texts}
 use Rattle.keep_path.specs.Path.{Part, key}
 use Rattle.keep_meaning.specs.Marks.{Mention, passing_mentions}
-use Rattle.keep_nodes.specs.Trie.{path_at}
-use Rattle.keep_nodes.specs.Stored.{trie_node_in, trie_of}
+use Rattle.keep_index_store.specs.Trie.{path_at}
+use Rattle.keep_index_store.specs.Stored.{trie_node_in, trie_of}
 use Rattle.keep_rules.specs.Represents.{Represents, FaultIn}
 use Rattle.keep_rules.specs.Steps.{Walks}
 use Rattle.keep_rules.specs.AddedInfos.{HeaderAdds}

@@ -1,10 +1,10 @@
 use Rattle.std.proofs.Common.{◌≡◌, ◌<◌, [], length, take}
 use Rattle.keep_rules.specs.Keys.{key_texts}
 use Rattle.keep_rules.specs.Steps.{Walks}
-use Rattle.keep_nodes.specs.Stored.{IsStored, trie_of}
+use Rattle.keep_index_store.specs.Stored.{IsStored, trie_of}
 use Rattle.keep_rules.specs.Tables.{IsShaped}
 use Rattle.keep_rules.specs.AddedInfos.{HeaderAdds}
-use Rattle.keep_nodes.specs.Trie.{by_key, holds_at}
+use Rattle.keep_index_store.specs.Trie.{by_key, holds_at}
 use Rattle.keep_rules.specs.KeyWalks.{walk_mentions}
 use Rattle.keep_rules.proofs.key_walk.walk_header.Given as goal
 

@@ -1,8 +1,8 @@
 use Rattle.std.proofs.Common.{◌≡◌, ◌∷◌, ◌++◌, [], sym, ◌∙◌, subst}
 use Rattle.std.proofs.lemmas.List.{length-map}
-use Rattle.keep_facts.specs.declared.node.NodeInfo.{NodeInfo}
-use Rattle.keep_nodes.specs.Children.{holding}
-use Rattle.keep_nodes.specs.Stored.{trie_node_in, trie_of, infos_of}
+use Rattle.keep_types.specs.declared.node.NodeInfo.{NodeInfo}
+use Rattle.keep_index_store.specs.Children.{holding}
+use Rattle.keep_index_store.specs.Stored.{trie_node_in, trie_of, infos_of}
 use Rattle.keep_rules.proofs.StepLemmas.{adds_item}
 use Rattle.keep_rules.proofs.ElementLemmas.{item_fresh}
 use Rattle.keep_rules.proofs.OutcomeLemmas.{both_ok}

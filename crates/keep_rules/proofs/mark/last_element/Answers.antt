@@ -1,5 +1,5 @@
 use Rattle.std.proofs.Common.{◌∙◌, ap, sym, refl, Option}
-use Rattle.keep_facts.specs.declared.role.Role.{Role}
+use Rattle.keep_types.specs.declared.role.Role.{Role}
 use Rattle.keep_rules.specs.Tables.{is_tables}
 use Rattle.keep_rules.proofs.ElementLemmas.{last_found, last_missing, no_tables}
 use Rattle.keep_rules.proofs.OutcomeLemmas.{if_some, if_none}

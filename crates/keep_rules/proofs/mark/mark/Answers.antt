@@ -3,10 +3,10 @@ use Rattle.std.specs.Prelude.{OnOk}
 use Rattle.std.proofs.lemmas.Result.{err_from_is_err_and}
 use Rattle.std.proofs.lemmas.List.{length-map}
 use Rattle.keep_path.specs.Path.{Part, key}
-use Rattle.keep_nodes.specs.Trie.{path_at}
-use Rattle.keep_nodes.specs.Children.{holding}
-use Rattle.keep_nodes.specs.Stored.{trie_node_in, trie_of}
-use Rattle.keep_nodes.specs.Facts.{info_of}
+use Rattle.keep_index_store.specs.Trie.{path_at}
+use Rattle.keep_index_store.specs.Children.{holding}
+use Rattle.keep_index_store.specs.Stored.{trie_node_in, trie_of}
+use Rattle.keep_index_store.specs.Facts.{info_of}
 use Rattle.keep_rules.specs.declared.mark.Stop.TheVariants.{Refused}
 use Rattle.keep_rules.specs.AddedInfos.{AddsInfo}
 use Rattle.keep_rules.specs.Represents.{WasRefused}

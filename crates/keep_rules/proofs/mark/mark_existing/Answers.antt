@@ -1,14 +1,14 @@
 use Rattle.std.proofs.Common.{◌≡◌, ℕ, ◌<◌, List, length, ◌∷◌, ◌++◌, [], sym, refl, ◌∙◌, subst, arith, Option, Some, true, false}
 use Rattle.std.specs.List.{list_all}
 use Rattle.std.proofs.lemmas.List.{length-map}
-use Rattle.keep_facts.specs.declared.role.Role.{Role}
-use Rattle.keep_nodes.specs.AllNodes.{Node, no_node, node_at}
+use Rattle.keep_types.specs.declared.role.Role.{Role}
+use Rattle.keep_index_store.specs.AllNodes.{Node, no_node, node_at}
 use Rattle.keep_meaning.specs.Rules.{allows}
 use Rattle.keep_meaning.specs.State.{IsState}
-use Rattle.keep_nodes.specs.Trie.{state_at}
-use Rattle.keep_nodes.specs.Stored.{trie_node_in, trie_of}
-use Rattle.keep_nodes.specs.Facts.{info_of}
-use Rattle.keep_nodes.proofs.Shared.{role_read}
+use Rattle.keep_index_store.specs.Trie.{state_at}
+use Rattle.keep_index_store.specs.Stored.{trie_node_in, trie_of}
+use Rattle.keep_index_store.specs.Facts.{info_of}
+use Rattle.keep_index_store.proofs.Shared.{role_read}
 use Rattle.keep_rules.proofs.MarkLemmas.{marked_existing, was_refused}
 use Rattle.keep_rules.proofs.AddedInfoLemmas.{added_at_existing}
 use Rattle.keep_rules.proofs.mark.mark_existing.Goals as goal

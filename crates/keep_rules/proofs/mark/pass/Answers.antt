@@ -1,14 +1,14 @@
 use Rattle.std.proofs.Common.{◌≡◌, List, ◌∷◌, ◌++◌, [], length, subst, ap, sym, arith}
 use Rattle.std.proofs.lemmas.List.{length-map}
 use Rattle.std.proofs.lemmas.Result.{on_ok_weaker}
-use Rattle.keep_facts.specs.declared.node.NodeInfo.{NodeInfo}
-use Rattle.keep_facts.specs.declared.role.Role.TheVariants.{Through}
+use Rattle.keep_types.specs.declared.node.NodeInfo.{NodeInfo}
+use Rattle.keep_types.specs.declared.role.Role.TheVariants.{Through}
 use Rattle.keep_path.specs.Path.{Part, key}
-use Rattle.keep_nodes.specs.Stored.{trie_node_in, trie_of}
-use Rattle.keep_nodes.specs.Facts.{info_of}
+use Rattle.keep_index_store.specs.Stored.{trie_node_in, trie_of}
+use Rattle.keep_index_store.specs.Facts.{info_of}
 use Rattle.keep_rules.specs.AddedInfos.{AddsInfo, HeaderAdds}
 use Rattle.keep_meaning.specs.Marks.{passing_mentions}
-use Rattle.keep_nodes.specs.Trie.{TrieNode, by_key, path_at, holds_at}
+use Rattle.keep_index_store.specs.Trie.{TrieNode, by_key, path_at, holds_at}
 use Rattle.keep_rules.specs.Tables.{IsShaped}
 use Rattle.keep_rules.specs.Represents.{WasRefused, IsLastElement, HasNoElement, Passes}
 use Rattle.keep_rules.proofs.PassLemmas.{none_unmet, went, passes_element, element_nested, element_keyed}

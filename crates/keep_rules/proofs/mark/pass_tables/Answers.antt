@@ -1,10 +1,10 @@
 -- The facts go to the node of the array of tables, and then to that of its last element.
 use Rattle.std.proofs.Common.{◌≡◌, ℕ, length, slice_set, subst, ap, refl, ◌∙◌, arith, List}
 use Rattle.std.proofs.lemmas.List.{length-map}
-use Rattle.keep_facts.specs.declared.node.NodeInfo.{NodeInfo}
-use Rattle.keep_nodes.specs.Stored.{trie_node_in, trie_of, infos_of, info_at}
-use Rattle.keep_nodes.specs.Facts.{info_of, joined_info}
-use Rattle.keep_nodes.specs.Trie.{TrieNode, paths_of, path_at}
+use Rattle.keep_types.specs.declared.node.NodeInfo.{NodeInfo}
+use Rattle.keep_index_store.specs.Stored.{trie_node_in, trie_of, infos_of, info_at}
+use Rattle.keep_index_store.specs.Facts.{info_of, joined_info}
+use Rattle.keep_index_store.specs.Trie.{TrieNode, paths_of, path_at}
 use Rattle.keep_rules.specs.AddedInfos.{AddsInfo}
 use Rattle.keep_rules.proofs.PassLemmas.{element_nested}
 use Rattle.std.proofs.lemmas.Result.{on_ok_weaker}

@@ -1,7 +1,7 @@
 -- The values so far are read as the first of the nested values that they may be.
 use Rattle.std.proofs.Common.{◌+◌, [], ◌∷◌, length, ap, ◌∙◌, arith, length-append}
 use Rattle.std.proofs.lemmas.Result.{err_from_is_err_and}
-use Rattle.keep_parts.specs.Flat.{flat}
+use Rattle.keep_syntax_store.specs.Flat.{flat}
 use Rattle.keep_rules.proofs.UnderwayLemmas.{begin_underway, some_next_seen, some_shaped, represents_some, underway_more_seen, underway_ends, past_ends, line_ends, other_nested, underway_faults_seen, IsThere}
 use Rattle.keep_rules.proofs.nested_values.read_nested.Goals as goal
 

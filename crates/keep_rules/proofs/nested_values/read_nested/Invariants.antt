@@ -1,6 +1,6 @@
 use Rattle.std.proofs.Common.{◌≡◌, ◌+◌, length}
-use Rattle.keep_parts.specs.Flat.{flat}
-use Rattle.keep_nodes.specs.Stored.{IsStored}
+use Rattle.keep_syntax_store.specs.Flat.{flat}
+use Rattle.keep_index_store.specs.Stored.{IsStored}
 use Rattle.keep_rules.proofs.UnderwayLemmas.{AreUnderway}
 use Rattle.keep_rules.proofs.nested_values.read_nested.Given as goal
 

@@ -1,11 +1,11 @@
 -- What the callees ensure of one value is what holds of it as a nested value.
 use Rattle.std.proofs.Common.{◌-◌, ◌^◌, refl, arith}
 use Rattle.std.proofs.lemmas.Result.{err_from_is_err_and}
-use Rattle.keep_parts.specs.Flat.{flat}
+use Rattle.keep_syntax_store.specs.Flat.{flat}
 use Rattle.keep_rules.specs.declared.keys.Keys.{Keys}
 use Rattle.keep_rules.specs.Keys.{key_texts}
 use Rattle.keep_rules.proofs.PlanLemmas.{IsPlace, some_item_place, some_keyed_place, item_read_all, some_next_keys, keyed_read_all, keyed_fault_fits, keyed_fault_meets}
-use Rattle.keep_nodes.specs.Trie.{by_key, by_index}
+use Rattle.keep_index_store.specs.Trie.{by_key, by_index}
 use Rattle.keep_rules.proofs.PartLemmas.{few_keys}
 use Rattle.keep_rules.proofs.nested_values.read_value.Goals as goal
 use Rattle.keep_rules.proofs.nested_values.read_value.Goals.{In-Item, In-Inline}

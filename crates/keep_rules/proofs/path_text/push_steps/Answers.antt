@@ -1,8 +1,8 @@
 use Rattle.std.proofs.Common.{◌∙◌, ◌++◌, ap, sym, append-nil, string_bytes}
 use Rattle.keep_path.specs.PathText.{encoded_path}
-use Rattle.keep_nodes.specs.Stored.{trie_of}
-use Rattle.keep_nodes.specs.Trie.{path_at}
-use Rattle.keep_nodes.proofs.Shared.{path_at-root}
+use Rattle.keep_index_store.specs.Stored.{trie_of}
+use Rattle.keep_index_store.specs.Trie.{path_at}
+use Rattle.keep_index_store.proofs.Shared.{path_at-root}
 use Rattle.keep_rules.proofs.ClimbLemmas.{ancestors_left}
 use Rattle.keep_rules.proofs.AddedTexts.{grown, grown_none}
 use Rattle.keep_rules.proofs.path_text.push_steps.Goals as goal

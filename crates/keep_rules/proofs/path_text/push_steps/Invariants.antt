@@ -2,8 +2,8 @@
 use Rattle.std.proofs.Common.{◌≡◌, ℕ, ◌++◌, vec_len, string_bytes}
 use Rattle.keep_rules.specs.Lookup.{AreAncestors}
 use Rattle.keep_path.specs.PathText.{encoded_path}
-use Rattle.keep_nodes.specs.Stored.{trie_of}
-use Rattle.keep_nodes.specs.Trie.{path_at}
+use Rattle.keep_index_store.specs.Stored.{trie_of}
+use Rattle.keep_index_store.specs.Trie.{path_at}
 use Rattle.keep_rules.proofs.path_text.push_steps.Given as goal
 
 abbrev pub invariant-loop-node : goal.invariant-loop-node

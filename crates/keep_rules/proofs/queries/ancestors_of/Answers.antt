@@ -1,7 +1,7 @@
 use Rattle.std.proofs.Common.{◌<◌, ◌∷◌, ◌++◌, [], sym, ◌∙◌, subst, arith, List, ℕ}
-use Rattle.keep_nodes.specs.AllNodes.{no_node}
+use Rattle.keep_index_store.specs.AllNodes.{no_node}
 use Rattle.keep_rules.specs.Lookup.{AreAncestors}
-use Rattle.keep_nodes.proofs.Shared.{node_placed}
+use Rattle.keep_index_store.proofs.Shared.{node_placed}
 use Rattle.keep_rules.proofs.ClimbLemmas.{parent_read, ancestors_pushed}
 use Rattle.keep_rules.proofs.queries.ancestors_of.Goals as goal
 

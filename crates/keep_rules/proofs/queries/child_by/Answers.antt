@@ -1,12 +1,12 @@
 use Rattle.std.proofs.Common.{◌++◌, ◌∷◌, [], ◌∙◌, ap, sym}
 use Rattle.std.specs.String.{string_bytes}
-use Rattle.keep_nodes.specs.AllNodes.{no_node, node_at}
-use Rattle.keep_nodes.specs.Children.{child_named}
+use Rattle.keep_index_store.specs.AllNodes.{no_node, node_at}
+use Rattle.keep_index_store.specs.Children.{child_named}
 use Rattle.keep_meaning.specs.Nodes.{node_number}
 use Rattle.keep_path.specs.Path.{key, index}
 use Rattle.keep_path.specs.Step.{part_of}
-use Rattle.keep_nodes.specs.Stored.{trie_of}
-use Rattle.keep_nodes.specs.Trie.{path_at, paths_of}
+use Rattle.keep_index_store.specs.Stored.{trie_of}
+use Rattle.keep_index_store.specs.Trie.{path_at, paths_of}
 use Rattle.keep_rules.proofs.ChildLemmas.{stepped}
 use Rattle.keep_rules.proofs.queries.child_by.Goals as goal
 

@@ -1,7 +1,7 @@
 use Rattle.std.proofs.Common.{◌∙◌, ap, sym}
-use Rattle.keep_nodes.specs.Stored.{trie_of}
-use Rattle.keep_nodes.specs.Trie.{path_at}
-use Rattle.keep_nodes.proofs.Shared.{path_at-root}
+use Rattle.keep_index_store.specs.Stored.{trie_of}
+use Rattle.keep_index_store.specs.Trie.{path_at}
+use Rattle.keep_index_store.proofs.Shared.{path_at-root}
 use Rattle.keep_rules.proofs.ClimbLemmas.{ancestors_left}
 use Rattle.keep_rules.proofs.queries.path_to.Goals as goal
 

@@ -1,7 +1,7 @@
 use Rattle.std.proofs.Common.{◌≡◌, ℕ, vec_len}
 use Rattle.keep_rules.specs.Lookup.{AreAncestors}
-use Rattle.keep_nodes.specs.Stored.{trie_of}
-use Rattle.keep_nodes.specs.Trie.{path_at}
+use Rattle.keep_index_store.specs.Stored.{trie_of}
+use Rattle.keep_index_store.specs.Trie.{path_at}
 use Rattle.keep_rules.proofs.queries.path_to.Given as goal
 
 abbrev pub invariant-loop-node : goal.invariant-loop-node

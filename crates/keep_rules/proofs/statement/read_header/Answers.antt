@@ -1,6 +1,6 @@
 -- A statement with no value is a header with its keys.
 use Rattle.std.proofs.Common.{◌-◌, ◌^◌, refl}
-use Rattle.keep_parts.specs.Flat.{flat}
+use Rattle.keep_syntax_store.specs.Flat.{flat}
 use Rattle.keep_rules.proofs.HeaderLemmas.{statement_keys, head_is_read, head_fault_fits, head_breaks}
 use Rattle.keep_rules.proofs.PartLemmas.{few_keys}
 use Rattle.keep_rules.proofs.statement.read_header.Goals as goal

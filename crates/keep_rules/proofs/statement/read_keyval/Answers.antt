@@ -2,11 +2,11 @@
 use Rattle.std.proofs.Common.{ℕ, ◌+◌, ◌-◌, ◌^◌, List, length, refl, sym, ◌∙◌, ap, subst, arith}
 use Rattle.std.proofs.lemmas.List.{length-map}
 use Rattle.std.proofs.lemmas.Result.{on_ok_weaker, MatchResult-weaker, err_from_is_err_and}
-use Rattle.keep_parts.specs.Flat.{flat}
+use Rattle.keep_syntax_store.specs.Flat.{flat}
 use Rattle.keep_rules.specs.NestedValues.{NestingState, NestedValue}
 use Rattle.keep_rules.specs.Plans.{AreNext, NestedValuesRead, NestedValuesFault}
 use Rattle.keep_rules.specs.Stops.{FaultMeets}
-use Rattle.keep_nodes.specs.Stored.{trie_node_in, trie_of}
+use Rattle.keep_index_store.specs.Stored.{trie_node_in, trie_of}
 use Rattle.keep_rules.proofs.HeaderLemmas.{statement_keys}
 use Rattle.keep_rules.proofs.KeyvalLemmas.{keys_fault_fits, keys_break_as_matched, some_nested_next, some_top_represents, keyval_is_read, nested_breaks_as_matched, two_ids}
 use Rattle.keep_rules.proofs.PartLemmas.{few_keys}

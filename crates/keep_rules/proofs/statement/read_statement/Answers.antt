@@ -1,7 +1,7 @@
 -- A statement with a value is a keyval, and any other a header.
 use Rattle.std.proofs.Common.{ℕ}
 use Rattle.std.proofs.lemmas.Result.{err_from_is_err_and, IfOk-weaker}
-use Rattle.keep_parts.specs.Flat.{flat}
+use Rattle.keep_syntax_store.specs.Flat.{flat}
 use Rattle.keep_rules.specs.ReadStatements.{IsReadAsMatched}
 use Rattle.keep_rules.proofs.statement.read_statement.Goals as goal
 

@@ -1,4 +1,4 @@
-use Rattle.keep_parts.specs.Flat.{flat}
+use Rattle.keep_syntax_store.specs.Flat.{flat}
 use Rattle.keep_syntax.proofs.GapCodeLaws.{blank_none, blank_more, blank_done}
 use Rattle.keep_syntax.proofs.gap.blank.Goals as goal
 

@@ -1,5 +1,5 @@
 use Rattle.std.proofs.Common.{◌-◌, length}
-use Rattle.keep_parts.specs.Flat.{flat}
+use Rattle.keep_syntax_store.specs.Flat.{flat}
 use Rattle.keep_syntax.proofs.GapCodeLaws.{BlankSoFar}
 use Rattle.keep_syntax.proofs.gap.blank.Given as goal
 

@@ -1,4 +1,4 @@
-use Rattle.keep_parts.specs.Flat.{flat}
+use Rattle.keep_syntax_store.specs.Flat.{flat}
 use Rattle.keep_syntax.proofs.GapCodeLaws.{other_leaf, no_leaf, white_leaf}
 use Rattle.keep_syntax.proofs.gap.space.Goals as goal
 

@@ -1,5 +1,5 @@
 use Rattle.std.proofs.Common.{◌-◌, length}
-use Rattle.keep_parts.specs.Flat.{flat}
+use Rattle.keep_syntax_store.specs.Flat.{flat}
 use Rattle.keep_syntax.proofs.KeyCodeLaws.{FurtherSoFar}
 use Rattle.keep_syntax.proofs.key.dotted_rest.Given as goal
 

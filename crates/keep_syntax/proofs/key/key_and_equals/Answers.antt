@@ -1,7 +1,7 @@
 use Rattle.std.proofs.Common.{◌≡◌, ◌==◌, get_or, false, arith}
 use Rattle.std.proofs.lemmas.Bool.Decides.{nat_tests}
 use Rattle.std.proofs.lemmas.Result.{err_from_is_err_and}
-use Rattle.keep_parts.specs.Flat.{flat}
+use Rattle.keep_syntax_store.specs.Flat.{flat}
 use Rattle.keep_syntax.proofs.GapCodeLaws.{fails_bad}
 use Rattle.keep_syntax.proofs.KeyCodeLaws.{name_fails_key, name_bad, name_is}
 use Rattle.keep_syntax.proofs.key.key_and_equals.Goals as goal

@@ -1,4 +1,4 @@
-use Rattle.keep_parts.specs.Flat.{flat}
+use Rattle.keep_syntax_store.specs.Flat.{flat}
 use Rattle.keep_syntax.proofs.KeyCodeLaws.{part_is}
 use Rattle.keep_syntax.proofs.key.key_part.Goals as goal
 

@@ -1,4 +1,4 @@
-use Rattle.keep_parts.specs.Flat.{flat}
+use Rattle.keep_syntax_store.specs.Flat.{flat}
 use Rattle.keep_syntax.proofs.LineCodeLaws.{other_comment, none_comment, some_comment}
 use Rattle.keep_syntax.proofs.line.comment.Goals as goal
 

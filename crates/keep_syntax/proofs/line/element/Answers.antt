@@ -1,8 +1,8 @@
 use Rattle.std.proofs.Common.{◌≡◌, ◌==◌, ◌&&◌, ◌+◌, get_or, false, refl, arith}
 use Rattle.std.proofs.lemmas.Bool.Decides.{nat_tests}
 use Rattle.std.proofs.lemmas.Result.{err_from_is_err_and}
-use Rattle.keep_leaf.specs.declared.leaf.Leaf.TheVariants as leaf
-use Rattle.keep_parts.specs.Flat.{flat}
+use Rattle.keep_types.specs.declared.leaf.Leaf.TheVariants as leaf
+use Rattle.keep_syntax_store.specs.Flat.{flat}
 use Rattle.keep_syntax.proofs.LineContentLaws.{key_grown, element_fails, element_bad, element_is}
 use Rattle.keep_syntax.proofs.line.element.Goals as goal
 use Rattle.keep_syntax.proofs.line.element.Goals.{then-byte_at-ne93-via-then-byte_at-ne93, then-byte_at-ne93-via-else-byte_at-ne93+then-byte_at-ne93-2}

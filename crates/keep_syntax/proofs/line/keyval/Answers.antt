@@ -1,6 +1,6 @@
 use Rattle.std.proofs.Common.{refl, arith, sym, ◌∙◌}
 use Rattle.std.proofs.lemmas.Result.{err_from_is_err_and}
-use Rattle.keep_parts.specs.Flat.{flat}
+use Rattle.keep_syntax_store.specs.Flat.{flat}
 use Rattle.keep_syntax.proofs.LineContentLaws.{name_grown, keyval_fails_name, keyval_fails_value, keyval_is}
 use Rattle.keep_syntax.proofs.line.keyval.Goals as goal
 

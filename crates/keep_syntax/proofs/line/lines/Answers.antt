@@ -1,5 +1,5 @@
 use Rattle.std.proofs.lemmas.Result.{err_from_is_err_and}
-use Rattle.keep_parts.specs.Flat.{flat}
+use Rattle.keep_syntax_store.specs.Flat.{flat}
 use Rattle.keep_syntax.proofs.LineLoopLaws.{lines_none, lines_more, lines_stated, lines_fail, lines_refuse}
 use Rattle.keep_syntax.proofs.line.lines.Goals as goal
 

@@ -1,5 +1,5 @@
 use Rattle.std.proofs.Common.{◌-◌, length}
-use Rattle.keep_parts.specs.Flat.{flat}
+use Rattle.keep_syntax_store.specs.Flat.{flat}
 use Rattle.keep_syntax.proofs.LineLoopLaws.{LinesSoFar}
 use Rattle.keep_syntax.proofs.line.lines.Given as goal
 

@@ -1,4 +1,4 @@
-use Rattle.keep_parts.specs.Flat.{flat}
+use Rattle.keep_syntax_store.specs.Flat.{flat}
 use Rattle.keep_syntax.proofs.LineCodeLaws.{other_newline, none_newline, some_newline}
 use Rattle.keep_syntax.proofs.line.newline.Goals as goal
 

@@ -1,7 +1,7 @@
 use Rattle.std.proofs.Common.{◌≡◌, sym, ap, ◌∙◌}
-use Rattle.keep_parts.specs.declared.moves.Counts.{Counts}
-use Rattle.keep_parts.specs.Flat.{Flat, flat}
-use Rattle.keep_parts.specs.Rereading.{counts_at, counts_before}
+use Rattle.keep_syntax_store.specs.declared.moves.Counts.{Counts}
+use Rattle.keep_syntax_store.specs.Flat.{Flat, flat}
+use Rattle.keep_syntax_store.specs.Rereading.{counts_at, counts_before}
 use Rattle.keep_syntax.specs.Replacing.{placed, counts_after, counts_behind}
 use Rattle.keep_syntax.proofs.ReplacingLaws.{replaced_placed}
 use Rattle.keep_syntax.proofs.replacing.replace_parts.Goals as goal

@@ -1,6 +1,6 @@
 use Rattle.std.proofs.Common.{subst, ◌∙◌}
-use Rattle.keep_parts.specs.declared.moves.Counts.{Counts}
-use Rattle.keep_parts.specs.Rereading.{nothing}
+use Rattle.keep_syntax_store.specs.declared.moves.Counts.{Counts}
+use Rattle.keep_syntax_store.specs.Rereading.{nothing}
 use Rattle.keep_syntax.specs.Replacing.{IsShifted, IsExchanged}
 use Rattle.keep_syntax.proofs.ReplacingLaws.{exchanged_flat, exchanged_before, run_undone}
 use Rattle.keep_syntax.proofs.replacing.replace_run.Goals as goal

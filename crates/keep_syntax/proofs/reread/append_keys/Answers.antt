@@ -1,9 +1,9 @@
 use Rattle.std.proofs.Common.{◌++◌, map, slice_range, ap, ◌∙◌, arith, List}
-use Rattle.keep_parts.specs.declared.info.KeyPart.{KeyPart}
-use Rattle.keep_parts.specs.Flat.{Flat, flat, with_key}
-use Rattle.keep_parts.specs.Lifted.{moved_key}
-use Rattle.keep_parts.specs.Rereading.{count_of}
-use Rattle.keep_parts.proofs.Shared.{moved_next}
+use Rattle.keep_types.specs.declared.syntax.KeyPart.{KeyPart}
+use Rattle.keep_syntax_store.specs.Flat.{Flat, flat, with_key}
+use Rattle.keep_syntax_store.specs.Lifted.{moved_key}
+use Rattle.keep_syntax_store.specs.Rereading.{count_of}
+use Rattle.keep_syntax_store.proofs.Shared.{moved_next}
 use Rattle.keep_syntax.proofs.reread.append_keys.Goals as goal
 
 pub keys-preserved : goal.keys-preserved

@@ -1,7 +1,7 @@
 use Rattle.std.proofs.Common.{◌≡◌, map, slice_range}
-use Rattle.keep_parts.specs.Flat.{flat}
-use Rattle.keep_parts.specs.Lifted as lifted
-use Rattle.keep_parts.specs.Rereading as spec
+use Rattle.keep_syntax_store.specs.Flat.{flat}
+use Rattle.keep_syntax_store.specs.Lifted as lifted
+use Rattle.keep_syntax_store.specs.Rereading as spec
 use Rattle.keep_syntax.proofs.reread.append_keys.Given as goal
 
 abbrev pub invariant-keys : goal.invariant-keys

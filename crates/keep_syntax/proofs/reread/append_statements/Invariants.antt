@@ -1,8 +1,8 @@
 use Rattle.std.proofs.Common.{◌≡◌, map, slice_range}
-use Rattle.keep_parts.specs.Flat.{flat}
-use Rattle.keep_parts.specs.Rereading.{with_statements}
-use Rattle.keep_parts.specs.Lifted as lifted
-use Rattle.keep_parts.specs.Rereading as spec
+use Rattle.keep_syntax_store.specs.Flat.{flat}
+use Rattle.keep_syntax_store.specs.Rereading.{with_statements}
+use Rattle.keep_syntax_store.specs.Lifted as lifted
+use Rattle.keep_syntax_store.specs.Rereading as spec
 use Rattle.keep_syntax.proofs.reread.append_statements.Given as goal
 
 abbrev pub invariant-statements : goal.invariant-statements

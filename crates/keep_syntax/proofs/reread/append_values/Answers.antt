@@ -1,9 +1,9 @@
 use Rattle.std.proofs.Common.{◌++◌, map, slice_range, ap, ◌∙◌, arith, List}
-use Rattle.keep_parts.specs.declared.info.ValueInfo.{ValueInfo}
-use Rattle.keep_parts.specs.Flat.{Flat, flat, with_value}
-use Rattle.keep_parts.specs.Lifted.{moved_value}
-use Rattle.keep_parts.specs.Rereading.{count_of}
-use Rattle.keep_parts.proofs.Shared.{moved_next}
+use Rattle.keep_types.specs.declared.syntax.ValueInfo.{ValueInfo}
+use Rattle.keep_syntax_store.specs.Flat.{Flat, flat, with_value}
+use Rattle.keep_syntax_store.specs.Lifted.{moved_value}
+use Rattle.keep_syntax_store.specs.Rereading.{count_of}
+use Rattle.keep_syntax_store.proofs.Shared.{moved_next}
 use Rattle.keep_syntax.proofs.reread.append_values.Goals as goal
 
 pub values-preserved : goal.values-preserved

@@ -1,6 +1,6 @@
 use Rattle.std.proofs.Common.{arith}
-use Rattle.keep_parts.specs.Flat.{flat}
-use Rattle.keep_parts.proofs.Shared.{statements_within}
+use Rattle.keep_syntax_store.specs.Flat.{flat}
+use Rattle.keep_syntax_store.proofs.Shared.{statements_within}
 use Rattle.keep_syntax.proofs.reread.counts_before.Goals as goal
 
 pub first_key-requires : goal.first_key-requires

@@ -1,6 +1,6 @@
 use Rattle.std.proofs.Common.{length}
-use Rattle.keep_parts.specs.Flat.{flat}
-use Rattle.keep_parts.proofs.Shared.{key_found}
+use Rattle.keep_syntax_store.specs.Flat.{flat}
+use Rattle.keep_syntax_store.proofs.Shared.{key_found}
 use Rattle.keep_syntax.proofs.reread.first_key.Goals as goal
 
 pub returns-then-from-statement_count : goal.returns-then-from-statement_count

@@ -1,6 +1,6 @@
 use Rattle.std.proofs.Common.{length, sym, ◌∙◌}
-use Rattle.keep_parts.specs.Flat.{flat}
-use Rattle.keep_parts.proofs.Shared.{value_found, value_none}
+use Rattle.keep_syntax_store.specs.Flat.{flat}
+use Rattle.keep_syntax_store.proofs.Shared.{value_found, value_none}
 use Rattle.keep_syntax.proofs.reread.first_value.Goals as goal
 
 pub returns-in-Some : goal.returns-in-Some

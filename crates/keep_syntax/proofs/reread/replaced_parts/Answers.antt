@@ -1,7 +1,7 @@
 use Rattle.std.proofs.Common.{sym, ap, ◌∙◌, arith, lt-ltb, le-ltb}
 use Rattle.std.specs.Prelude.{ltb}
-use Rattle.keep_parts.specs.Flat.{flat}
-use Rattle.keep_parts.proofs.Shared.{if_true, if_false}
+use Rattle.keep_syntax_store.specs.Flat.{flat}
+use Rattle.keep_syntax_store.proofs.Shared.{if_true, if_false}
 use Rattle.keep_syntax.proofs.RereadLaws.{appended_as}
 use Rattle.keep_syntax.proofs.reread.replaced_parts.Goals.{then-whole-len+in_ok-append_moved-3, else-whole-len}
 use Rattle.keep_syntax.proofs.reread.replaced_parts.Goals as goal

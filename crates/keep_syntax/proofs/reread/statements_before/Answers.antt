@@ -1,6 +1,6 @@
 use Rattle.std.proofs.Common.{arith, ◌∙◌}
-use Rattle.keep_parts.specs.Flat.{flat}
-use Rattle.keep_parts.proofs.Shared.{statements_stop, statements_more}
+use Rattle.keep_syntax_store.specs.Flat.{flat}
+use Rattle.keep_syntax_store.proofs.Shared.{statements_stop, statements_more}
 use Rattle.keep_syntax.proofs.reread.statements_before.Goals as goal
 
 pub returns-then-place-statement_at : goal.returns-then-place-statement_at

@@ -1,6 +1,6 @@
 use Rattle.std.proofs.Common.{◌≡◌, ◌+◌, drop}
-use Rattle.keep_parts.specs.Flat.{flat}
-use Rattle.keep_parts.specs.Rereading as spec
+use Rattle.keep_syntax_store.specs.Flat.{flat}
+use Rattle.keep_syntax_store.specs.Rereading as spec
 use Rattle.keep_syntax.proofs.reread.statements_before.Given as goal
 
 abbrev pub invariant-statements : goal.invariant-statements

@@ -2,7 +2,7 @@ use Rattle.std.proofs.Common.{◌≡◌, ◌+◌, ◌-◌, ◌==◌, length, get
 use Rattle.std.proofs.lemmas.Bool.Decides.{nat_tests}
 use Rattle.std.proofs.lemmas.Result.{err_from_is_err_and}
 use Rattle.keep_syntax.specs.Reading.{close_byte}
-use Rattle.keep_parts.specs.Flat.{flat}
+use Rattle.keep_syntax_store.specs.Flat.{flat}
 use Rattle.keep_syntax.specs.Growth.{value_taken}
 use Rattle.keep_syntax.proofs.ValueCodeLaws.{same_read, value_array, value_inline, value_scalar, bracket_fails, bracket_number, bracket_is}
 use Rattle.keep_syntax.proofs.NestingLaws.{item_fails_name, item_fails_value, name_keys, name_values, item_number, item_is, so_far_none, so_far_more, so_far_last, so_far_done, so_far_fails, comma_some, comma_none}

@@ -1,6 +1,6 @@
 use Rattle.std.proofs.Common.{◌≡◌, ◌==◌, ◌&&◌, not, get_or, false, refl, arith}
 use Rattle.std.proofs.lemmas.Bool.Decides.{nat_tests}
-use Rattle.keep_parts.specs.Flat.{flat}
+use Rattle.keep_syntax_store.specs.Flat.{flat}
 use Rattle.keep_syntax.specs.Reading.{close_byte, is_free}
 use Rattle.keep_syntax.proofs.ValueCodeLaws.{after_comma, after_number}
 use Rattle.keep_syntax.proofs.value.after_entry.Goals as goal

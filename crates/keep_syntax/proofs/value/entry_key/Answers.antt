@@ -1,4 +1,4 @@
-use Rattle.keep_parts.specs.Flat.{flat}
+use Rattle.keep_syntax_store.specs.Flat.{flat}
 use Rattle.keep_syntax.proofs.ValueCodeLaws.{named_array, named_inline}
 use Rattle.keep_syntax.proofs.value.entry_key.Goals as goal
 

@@ -1,5 +1,5 @@
 use Rattle.std.proofs.Common.{sym, ◌∙◌}
-use Rattle.keep_parts.specs.Flat.{flat}
+use Rattle.keep_syntax_store.specs.Flat.{flat}
 use Rattle.keep_syntax.proofs.WholeCodeLaws.{bom_there, bom_absent}
 use Rattle.keep_syntax.proofs.whole.bom.Goals as goal
 

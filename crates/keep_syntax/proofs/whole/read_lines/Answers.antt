@@ -1,5 +1,5 @@
 use Rattle.std.proofs.lemmas.Result.{err_from_is_err_and}
-use Rattle.keep_parts.specs.Flat.{flat}
+use Rattle.keep_syntax_store.specs.Flat.{flat}
 use Rattle.keep_syntax.proofs.WholeCodeLaws.{document_fails, document_is}
 use Rattle.keep_syntax.proofs.whole.read_lines.Goals as goal
 

@@ -1,6 +1,6 @@
 use Rattle.std.proofs.Common.{◌≡◌, ℕ, ◌<◌, false, List, [], ◌∷◌, length, refl, ap, ◌∙◌, arith}
 use Rattle.std.proofs.lemmas.List.{take_rest}
-use Rattle.keep_leaf.specs.declared.leaf.Profile.{Profile}
+use Rattle.keep_types.specs.declared.leaf.Profile.{Profile}
 use Rattle.keep_token.specs.Words.{is_time, is_time_end, is_short}
 use Rattle.keep_token.proofs.TestChains.{and_fails, and_or_first, and_or_second}
 use Rattle.keep_token.proofs.dates.is_time.Goals as goal

@@ -2,7 +2,7 @@
 use Rattle.std.proofs.Common.{drop, arith, ap, ◌∙◌, sym}
 use Rattle.std.proofs.lemmas.List.{take_rest}
 use Rattle.std.proofs.lemmas.Result.{IfOk-weaker}
-use Rattle.keep_leaf.specs.declared.leaf.Profile.TheVariants.{Wide}
+use Rattle.keep_types.specs.declared.leaf.Profile.TheVariants.{Wide}
 use Rattle.keep_token.specs.Strings.{IsMlBasicPiece}
 use Rattle.keep_token.specs.Pieces.{newline_len}
 use Rattle.keep_token.proofs.StringBodies.{ml_basic_parts, starts, ends, between_marks, ml_basic_body}

@@ -1,7 +1,7 @@
 use Rattle.std.proofs.Common.{◌≡◌, rules}
 use Rattle.std.specs.Fmt.{signed_decimal}
-use Rattle.keep_leaf.specs.declared.leaf.Leaf.TheVariants as leaf
-use Rattle.keep_leaf.specs.declared.leaf.Profile.TheVariants.{Strict}
+use Rattle.keep_types.specs.declared.leaf.Leaf.TheVariants as leaf
+use Rattle.keep_types.specs.declared.leaf.Profile.TheVariants.{Strict}
 use Rattle.keep_token.specs.Leaves.{IsLeaf}
 use Rattle.keep_token.specs.Numbers.{integer_value}
 use Rattle.keep_token.proofs.DecimalLaws.{encoded_int}

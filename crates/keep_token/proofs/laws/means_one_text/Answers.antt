@@ -1,4 +1,4 @@
-use Rattle.keep_leaf.specs.declared.leaf.Profile.TheVariants.{Wide}
+use Rattle.keep_types.specs.declared.leaf.Profile.TheVariants.{Wide}
 use Rattle.keep_token.proofs.StringMeans.{means_one}
 use Rattle.keep_token.proofs.laws.means_one_text.Goals as goal
 

@@ -1,5 +1,5 @@
 use Rattle.std.proofs.Common.{◌∙◌}
-use Rattle.keep_splice.proofs.Shared.{seen}
+use Rattle.keep_edit_plan.proofs.Shared.{seen}
 use Rattle.keep_edit.proofs.ChildLaws.{all_children, no_children}
 use Rattle.keep_edit.proofs.document.Document.child_count.Goals as goal
 

@@ -1,4 +1,4 @@
-use Rattle.keep_splice.proofs.Shared.{seen}
+use Rattle.keep_edit_plan.proofs.Shared.{seen}
 use Rattle.keep_edit.proofs.CountLaws.{counts_are, counts_few}
 use Rattle.keep_edit.proofs.document.Document.counts.Goals as goal
 

@@ -1,6 +1,6 @@
 use Rattle.std.proofs.Common.{refl, ◌∙◌}
 use Rattle.std.proofs.lemmas.Result.{err_from_is_err_and}
-use Rattle.keep_splice.proofs.Shared.{text_seen, seen, value_nested, value_there}
+use Rattle.keep_edit_plan.proofs.Shared.{text_seen, seen, value_nested, value_there}
 use Rattle.keep_edit.proofs.PathLaws.{got, not_got}
 use Rattle.keep_edit.proofs.document.Document.get.Goals as goal
 

@@ -1,5 +1,5 @@
 use Rattle.std.proofs.lemmas.Result.{err_from_is_err_and}
-use Rattle.keep_law.specs.Edits.{insert}
+use Rattle.keep_edit_spec.specs.Edits.{insert}
 use Rattle.keep_edit.proofs.EditedLaws.{made_of, moved_done, undone_of}
 use Rattle.keep_edit.proofs.document.Document.insert.Goals as goal
 

@@ -1,6 +1,6 @@
 use Rattle.std.proofs.Common.{◌∙◌, ap}
 use Rattle.keep_meaning.specs.KeyText.{text_at}
-use Rattle.keep_splice.proofs.Shared.{text_seen, seen, value_nested, value_there}
+use Rattle.keep_edit_plan.proofs.Shared.{text_seen, seen, value_nested, value_there}
 use Rattle.keep_edit.proofs.ScalarLaws.{value_at, number_of_some, integer_found, no_integer_leaf, no_integer_found}
 use Rattle.keep_edit.proofs.document.Document.int_value.Goals as goal
 

@@ -1,5 +1,5 @@
 use Rattle.std.proofs.Common.{◌∙◌}
-use Rattle.keep_splice.proofs.Shared.{seen, none_found, one_found}
+use Rattle.keep_edit_plan.proofs.Shared.{seen, none_found, one_found}
 use Rattle.keep_edit.proofs.PathLaws.{no_kind, its_kind}
 use Rattle.keep_edit.proofs.document.Document.kind.Goals as goal
 

@@ -1,5 +1,5 @@
 use Rattle.std.proofs.Common.{◌∙◌, arith}
-use Rattle.keep_splice.proofs.Shared.{seen}
+use Rattle.keep_edit_plan.proofs.Shared.{seen}
 use Rattle.keep_edit.proofs.ListLaws.{entries_none, entries_more, entries_all}
 use Rattle.keep_edit.proofs.document.Document.list.Goals as goal
 

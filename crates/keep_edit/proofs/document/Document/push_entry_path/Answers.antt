@@ -1,5 +1,5 @@
 use Rattle.std.proofs.Common.{arith, string_bytes}
-use Rattle.keep_splice.proofs.Shared.{seen}
+use Rattle.keep_edit_plan.proofs.Shared.{seen}
 use Rattle.keep_edit.proofs.ListLaws.{entry_added, no_entry}
 use Rattle.keep_edit.proofs.document.Document.push_entry_path.Goals as goal
 

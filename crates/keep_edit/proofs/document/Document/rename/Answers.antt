@@ -1,6 +1,6 @@
 use Rattle.std.proofs.Common.{subst}
 use Rattle.std.proofs.lemmas.Result.{err_from_is_err_and}
-use Rattle.keep_law.specs.Edits.{rename, edited_document}
+use Rattle.keep_edit_spec.specs.Edits.{rename, edited_document}
 use Rattle.keep_edit.proofs.EditedLaws.{index_changed, key_is, made_of, moved_done, undone_of}
 use Rattle.keep_edit.specs.Reading.{ProfiledText, IsTextOfTree}
 use Rattle.keep_edit.proofs.document.Document.rename.Goals.{in-Some, in-None}

@@ -1,5 +1,5 @@
 use Rattle.std.proofs.Common.{ap, ◌∙◌, List, ℕ, string_bytes, length}
-use Rattle.keep_splice.proofs.Shared.{seen}
+use Rattle.keep_edit_plan.proofs.Shared.{seen}
 use Rattle.keep_edit.specs.Reading.{text_in}
 use Rattle.keep_edit.proofs.PatchLaws.{patched_is, splice_is}
 use Rattle.keep_edit.proofs.document.Document.replaced.Goals as goal

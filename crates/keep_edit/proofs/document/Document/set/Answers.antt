@@ -1,6 +1,6 @@
 use Rattle.std.proofs.Common.{subst}
 use Rattle.std.proofs.lemmas.Result.{err_from_is_err_and}
-use Rattle.keep_law.specs.Edits.{set, edited_document}
+use Rattle.keep_edit_spec.specs.Edits.{set, edited_document}
 use Rattle.keep_edit.specs.Reading.{ProfiledText, IsTextOfTree}
 use Rattle.keep_edit.proofs.EditedLaws.{index_changed, made_of, moved_done, undone_of, kind_is}
 use Rattle.keep_edit.proofs.document.Document.set.Goals.{in-Some, in-None}

@@ -1,6 +1,6 @@
 use Rattle.std.proofs.Common.{◌∙◌, ap, string_bytes}
 use Rattle.keep_meaning.specs.KeyText.{text_at}
-use Rattle.keep_splice.proofs.Shared.{text_seen, seen, value_nested, value_there}
+use Rattle.keep_edit_plan.proofs.Shared.{text_seen, seen, value_nested, value_there}
 use Rattle.keep_edit.proofs.ScalarLaws.{value_at, quoted_leaf, string_readable, string_found, no_string_found, no_string_leaf}
 use Rattle.keep_edit.proofs.document.Document.str_value.Goals as goal
 

@@ -1,7 +1,7 @@
 use Rattle.std.proofs.Common.{ap, sym, subst, refl, ◌∙◌, map, List}
 use Rattle.std.specs.Prelude.{string_bytes, String}
 use Rattle.std.specs.Global.{Global}
-use Rattle.keep_law.specs.Edits as law
+use Rattle.keep_edit_spec.specs.Edits as law
 use Rattle.keep_edit.specs.Answers.{EditReported}
 use Rattle.keep_edit.proofs.FoldLaws.{by_value}
 use Rattle.keep_edit.proofs.document.Document.text_applied.Goals as goal

@@ -1,5 +1,5 @@
 use Rattle.std.proofs.lemmas.Result.{err_from_is_err_and}
-use Rattle.keep_law.specs.Edits.{remove}
+use Rattle.keep_edit_spec.specs.Edits.{remove}
 use Rattle.keep_edit.proofs.EditedLaws.{made_of, report_of, untold_of}
 use Rattle.keep_edit.proofs.document.Document.text_removed.Goals as goal
 

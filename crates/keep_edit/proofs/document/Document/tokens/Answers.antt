@@ -1,5 +1,5 @@
 use Rattle.std.proofs.Common.{◌∙◌}
-use Rattle.keep_splice.proofs.Shared.{text_seen, seen, tokens_are}
+use Rattle.keep_edit_plan.proofs.Shared.{text_seen, seen, tokens_are}
 use Rattle.keep_edit.proofs.document.Document.tokens.Goals as goal
 
 pub returns-clause-tokens : goal.returns-clause-tokens

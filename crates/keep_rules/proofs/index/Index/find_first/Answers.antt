@@ -2,7 +2,7 @@ use Rattle.std.proofs.Common.{◌∷◌, ◌++◌, [], ◌∙◌, ap, sym, arith
 use Rattle.keep_rules.specs.Lookup.{number_of, path_numbered}
 use Rattle.keep_meaning.specs.Nodes.{node_number}
 use Rattle.keep_path.specs.Step.{part_of}
-use Rattle.keep_nodes.specs.Facts.{NodeInfos}
+use Rattle.keep_path.specs.NodeInfos.{NodeInfos}
 use Rattle.keep_rules.proofs.QueryLemmas.{count_paths, at_root, at_next, at_none, step_there, at_end}
 use Rattle.keep_rules.proofs.index.Index.find_first.Goals as goal
 

@@ -1,5 +1,5 @@
 use Rattle.std.proofs.Common.{◌∙◌, ap, sym, arith, Some}
-use Rattle.keep_nodes.specs.Facts.{info_of}
+use Rattle.keep_index_store.specs.Facts.{info_of}
 use Rattle.keep_rules.proofs.QueryLemmas.{count_paths, info_answer}
 use Rattle.keep_rules.proofs.index.Index.node.Goals as goal
 

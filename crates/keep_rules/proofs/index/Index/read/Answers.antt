@@ -5,7 +5,7 @@ use Rattle.keep_meaning.specs.Marks.{marks}
 use Rattle.keep_meaning.specs.Meaning.{mentions_in}
 use Rattle.keep_rules.specs.ReadDocuments.{WasRead}
 use Rattle.keep_meaning.specs.Rules.{ObeysRules}
-use Rattle.keep_nodes.specs.Stored.{node_infos}
+use Rattle.keep_index_store.specs.Stored.{node_infos}
 use Rattle.keep_rules.proofs.DocumentLemmas.{index_few}
 use Rattle.keep_rules.proofs.RefusalLaws.{refused_memory}
 use Rattle.keep_rules.proofs.index.Index.read.Goals as goal

@@ -1,5 +1,5 @@
 use Rattle.std.proofs.Common.{List, ◌∙◌, ap, arith}
-use Rattle.keep_nodes.specs.Trie.{TrieNode, holds_at}
+use Rattle.keep_index_store.specs.Trie.{TrieNode, holds_at}
 use Rattle.keep_rules.proofs.QueryLemmas.{count_paths, kind_set}
 use Rattle.keep_rules.proofs.index.Index.set_kind.Goals as goal
 

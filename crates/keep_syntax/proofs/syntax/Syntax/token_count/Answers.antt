@@ -1,7 +1,7 @@
 use Rattle.std.proofs.Common.{arith, [], ◌∷◌}
 use Rattle.std.proofs.lemmas.List.{length-append}
-use Rattle.keep_leaf.specs.declared.leaf.Leaf.TheVariants as leaf
-use Rattle.keep_parts.specs.Flat.{flat}
+use Rattle.keep_types.specs.declared.leaf.Leaf.TheVariants as leaf
+use Rattle.keep_syntax_store.specs.Flat.{flat}
 use Rattle.keep_syntax.specs.Cut.{all_kinds}
 use Rattle.keep_syntax.proofs.CutLaws.{cut_count}
 use Rattle.keep_syntax.proofs.ReadLaws.{read_few}

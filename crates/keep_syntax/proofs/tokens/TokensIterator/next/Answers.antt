@@ -1,5 +1,5 @@
 use Rattle.std.proofs.Common.{◌≡◌, ◌+◌, sym, ap, length, rules}
-use Rattle.keep_parts.specs.Flat.{flat}
+use Rattle.keep_syntax_store.specs.Flat.{flat}
 use Rattle.keep_syntax.specs.Cut.{all_kinds, start_in}
 use Rattle.keep_syntax.proofs.CutLaws.{cut_next, cut_end}
 use Rattle.keep_syntax.proofs.tokens.TokensIterator.next.Goals as goal

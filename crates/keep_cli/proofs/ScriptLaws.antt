@@ -1,0 +1,120 @@
+-- The edits of a script, element by element.
+use Rattle.std.proofs.Common.{◌≡◌, ◌+◌, ◌∙◌, ◌⊎◌, ℕ, suc, List, [], ◌∷◌, ◌++◌, map, length, Option, None, Some, ◌<◌, refl, sym, ap, subst, inl, inr, arith, Vec, Global, String}
+use Rattle.std.specs.Prelude.{Result, Ok, Err, IsErrAnd, MatchResult}
+use Rattle.std.proofs.Math.Nat.{add-zero}
+use Rattle.keep_types.specs.declared.leaf.Profile.{Profile}
+use Rattle.keep_types.specs.declared.leaf.Profile.TheVariants.{Strict}
+use Rattle.keep_syntax.specs.Tree.{Document}
+use Rattle.keep_path.specs.Path.{Part, key}
+use Rattle.keep_path.specs.PathText.{AreKeys}
+use Rattle.keep_edit.specs.declared.edits.Edit.{Edit}
+use Rattle.keep_edit.specs.Reading.{ProfiledText, IsAccepted, IsAcceptedValue, IsTextOfTree, text_in}
+use Rattle.keep_cli.specs.declared.fault.UseFault.{UseFault}
+use Rattle.keep_cli.specs.declared.fault.UseFault.TheVariants as fault
+use Rattle.keep_cli.specs.PathWords.{IsKeysText}
+use Rattle.keep_cli.specs.declared.script.Op.{Op}
+use Rattle.keep_cli.specs.declared.script.Op.TheVariants as op
+use Rattle.keep_edit.specs.declared.edits.Edit.TheVariants as edit
+use Rattle.keep_commands.specs.OwnValues.{AreStrict, IsStrictEdit}
+use Rattle.keep_cli.specs.Script.{Makes, AreEntries, IsEntry, IsNoEntry, IsScript, IsScriptFault, IsTreeFault, element_count}
+use Rattle.keep_cli.specs.Scripting.{IsFaultAt, IsKeysIn, IsOnlyPath, Tells}
+
+-- one element more tells one edit more
+entries_more : (profile : Profile) (s : Document) (n : ℕ) (es : List Edit) (e : Edit) → AreEntries profile s n es → IsEntry profile s (n + length es) e → AreEntries profile s n (es ++ e ∷ [])
+entries_more profile s n [] e are is = (subst (λ (m : ℕ). IsEntry profile s m e) (add-zero n) is, tt)
+entries_more profile s n (x ∷ xs) e are is =
+    (are.0, entries_more profile s (suc n) xs e are.1 (subst (λ (m : ℕ). IsEntry profile s m e) (let many : n + suc (length xs) ≡ suc n + length xs = omega arith in many) is))
+
+one_longer : (es : List Edit) (e : Edit) → length (es ++ e ∷ []) ≡ length es + 1
+one_longer [] e = refl
+one_longer (x ∷ xs) e = omega (arith, one_longer xs e)
+
+pub many_after : (n : ℕ) (es new : List Edit) (e : Edit) → new ≡ es ++ e ∷ [] → length es ≡ n → length new ≡ n + 1
+many_after n es new e is many = ap (λ (xs : List Edit). length xs) is ∙ one_longer es e ∙ ap (λ m. m + 1) many
+
+pub entries_after : (profile : Profile) (s : Document) (n : ℕ) (es new : List Edit) (e : Edit) → new ≡ es ++ e ∷ [] → length es ≡ n → AreEntries profile s 0 es → IsEntry profile s n e → AreEntries profile s 0 new
+entries_after profile s n es new e is many are here =
+    subst (λ (xs : List Edit). AreEntries profile s 0 xs) (sym is) (entries_more profile s 0 es e are (subst (λ (m : ℕ). IsEntry profile s m e) (let so : n ≡ 0 + length es = omega (arith, many) in so) here))
+
+-- the first element that tells no edit
+first_fault : (profile : Profile) (s : Document) (count n : ℕ) (es : List Edit) (f : UseFault) → element_count s ≡ Some count → n < count → length es ≡ n → AreEntries profile s 0 es → IsFaultAt profile s n f → IsTreeFault profile s f
+first_fault profile s count n es (fault.Entry m why) is lt many are (same, none) =
+    (count, is, omega (arith, lt, same), record { before = es; many = many ∙ sym same; entries = are; fault = subst (λ (i : ℕ). IsNoEntry profile s i why) (sym same) none })
+first_fault profile s count n es fault.Shape is lt many are h = absurd h
+first_fault profile s count n es (fault.Words e) is lt many are h = absurd h
+first_fault profile s count n es (fault.Path at) is lt many are h = absurd h
+first_fault profile s count n es (fault.Value f) is lt many are h = absurd h
+first_fault profile s count n es (fault.Script f) is lt many are h = absurd h
+first_fault profile s count n es fault.Memory is lt many are h = absurd h
+
+stopped : (profile : Profile) (s : Document) (count n : ℕ) (es : List Edit) (f : UseFault) → element_count s ≡ Some count → n < count → length es ≡ n → AreEntries profile s 0 es → (f ≡ fault.Memory) ⊎ IsFaultAt profile s n f
+    → (f ≡ fault.Memory) ⊎ IsTreeFault profile s f
+stopped profile s count n es f is lt many are (inl memory) = inl memory
+stopped profile s count n es f is lt many are (inr h) = inr (first_fault profile s count n es f is lt many are h)
+
+-- what `?` passes up
+pub stops : (profile : Profile) (s : Document) (count n : ℕ) (es : List Edit) (f : UseFault) (r : Result (Vec Edit Global) UseFault) → IsErrAnd r (λ e. e ≡ f) → element_count s ≡ Some count → n < count → length es ≡ n → AreEntries profile s 0 es
+    → (f ≡ fault.Memory) ⊎ IsFaultAt profile s n f → MatchResult r (λ edits. Tells profile s edits.items) (λ e. (e ≡ fault.Memory) ⊎ IsTreeFault profile s e)
+stops profile s count n es f (Ok edits) same is lt many are h = absurd same
+stops profile s count n es f (Err e) same is lt many are h = subst (λ (x : UseFault). (x ≡ fault.Memory) ⊎ IsTreeFault profile s x) (sym same) (stopped profile s count n es f is lt many are h)
+
+-- ---- paths without an index
+
+are_keys : (keys : List (List ℕ)) → AreKeys (map (λ text. key text) keys)
+are_keys [] = tt
+are_keys (k ∷ ks) = are_keys ks
+
+pub no_keys : (text : List ℕ) (path : List Part) (found : Option (Vec (String Global) Global)) → found ≡ None → IsOnlyPath text path → IsKeysIn path found → (keys : List (List ℕ)) → IsKeysText text keys → ⊥
+no_keys text path found none only there keys is =
+    let bad : AreKeys path → ⊥ = subst (λ (o : Option (Vec (String Global) Global)). IsKeysIn path o) none there in
+    bad (subst AreKeys (sym (only.1 (map (λ text. key text) keys) is)) (are_keys keys))
+
+-- ---- the whole
+
+no_tree : (profile : Profile) (bytes : List ℕ) (s : Document) (f : UseFault) → IsTextOfTree (text_in Strict bytes) s → IsTreeFault profile s f → IsScriptFault profile bytes f
+no_tree profile bytes s fault.Shape read h = (s, read, h)
+no_tree profile bytes s (fault.Entry n why) read h = (s, read, h)
+no_tree profile bytes s (fault.Words e) read h = absurd h
+no_tree profile bytes s (fault.Path at) read h = absurd h
+no_tree profile bytes s (fault.Value f) read h = absurd h
+no_tree profile bytes s (fault.Script f) read h = absurd h
+no_tree profile bytes s fault.Memory read h = absurd h
+
+of_tree : (profile : Profile) (bytes : List ℕ) (s : Document) (r : Result (Vec Edit Global) UseFault) → IsTextOfTree (text_in Strict bytes) s
+    → MatchResult r (λ edits. Tells profile s edits.items) (λ f. (f ≡ fault.Memory) ⊎ IsTreeFault profile s f)
+    → MatchResult r (λ edits. IsScript profile bytes edits.items) (λ f. (f ≡ fault.Memory) ⊎ IsScriptFault profile bytes f)
+of_tree profile bytes s (Ok edits) read stated = record { tree = s; read = read; count = stated.count; entries = stated.entries }
+of_tree profile bytes s (Err f) read (inl memory) = inl memory
+of_tree profile bytes s (Err f) read (inr fault) = inr (no_tree profile bytes s f read fault)
+
+pub script_stated : (profile : Profile) (bytes : List ℕ) (d : ProfiledText) (r : Result (Vec Edit Global) UseFault) → d ≡ text_in Strict bytes → IsAccepted d
+    → ((s : Document) → IsTextOfTree d s → MatchResult r (λ edits. Tells profile s edits.items) (λ f. (f ≡ fault.Memory) ⊎ IsTreeFault profile s f))
+    → MatchResult r (λ edits. IsScript profile bytes edits.items) (λ f. (f ≡ fault.Memory) ⊎ IsScriptFault profile bytes f)
+script_stated profile bytes d r same (s, h) k = of_tree profile bytes s r (subst (λ (t : ProfiledText). IsTextOfTree t s) same h) (k s h)
+
+-- ---- the profile of the values
+
+strict_edit : (o : Op) (path third : List ℕ) (e : Edit) → Makes Strict o path third e → IsStrictEdit e
+strict_edit o path third (edit.Rename p name) made = tt
+strict_edit o path third (edit.Remove p) made = tt
+strict_edit o path third (edit.Table keys) made = tt
+strict_edit o path third (edit.Element keys) made = tt
+strict_edit op.Set path third (edit.Set p value) (at, same, accepted) = subst (λ (t : List ℕ). IsAcceptedValue Strict t) (sym same) accepted
+strict_edit op.Insert path third (edit.Set p value) made = absurd made
+strict_edit op.Rename path third (edit.Set p value) made = absurd made
+strict_edit op.Remove path third (edit.Set p value) made = absurd made
+strict_edit op.Table path third (edit.Set p value) made = absurd made
+strict_edit op.Element path third (edit.Set p value) made = absurd made
+strict_edit op.Set path third (edit.Insert p value) made = absurd made
+strict_edit op.Insert path third (edit.Insert p value) (at, same, accepted) = subst (λ (t : List ℕ). IsAcceptedValue Strict t) (sym same) accepted
+strict_edit op.Rename path third (edit.Insert p value) made = absurd made
+strict_edit op.Remove path third (edit.Insert p value) made = absurd made
+strict_edit op.Table path third (edit.Insert p value) made = absurd made
+strict_edit op.Element path third (edit.Insert p value) made = absurd made
+
+strict_entries : (s : Document) (n : ℕ) (es : List Edit) → AreEntries Strict s n es → AreStrict es
+strict_entries s n [] are = tt
+strict_entries s n (e ∷ es) ((o, is, (path, third, keys, made)), more) = (strict_edit o path third e made, strict_entries s (suc n) es more)
+
+pub strict_script : (bytes : List ℕ) (edits : List Edit) → IsScript Strict bytes edits → AreStrict edits
+strict_script bytes edits script = strict_entries script.tree 0 edits script.entries

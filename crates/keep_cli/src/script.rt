@@ -1,0 +1,303 @@
+//! Scripts: lists of edits as a document.
+ghost use Rattle.std.specs.Prelude.{◌≡◌, ◌⊎◌, None, Some, IfOk, MatchResult, option_map, string_bytes};
+ghost use Rattle.keep_syntax.specs.Tree as tree;
+ghost use Rattle.keep_edit.specs.Headers.{key_texts};
+ghost use Rattle.keep_edit.specs.Reading.{IsTextOfTree};
+ghost use Rattle.keep_cli.specs.Script as spec;
+ghost use Rattle.keep_cli.specs.Script.{IsEntry, IsScript, IsScriptFault, IsTreeFault, Makes};
+ghost use Rattle.keep_cli.specs.Scripting.{AreTexts, IsFaultAt, IsGiven, IsKeysIn, IsNoKeys, IsNoPath, IsNoValue};
+ghost use Rattle.keep_cli.specs.Scripting.{IsOnlyPath, IsTextsFault, Tells};
+ghost use Rattle.keep_cli.specs.PathWords.{IsKeysText};
+
+use crate::command::key_at;
+use crate::fault::{EntryWhy, UseFault};
+use keep_edit::{Document, Edit, Kind, Path, PathFault, Profile, ReadFault, ValueText};
+use std::alloc::{AllocError, Global};
+
+/// What an element of a script asks.
+#[derive(Clone, Copy)]
+enum Op {
+    Set,
+    Insert,
+    Rename,
+    Remove,
+    Table,
+    Element,
+}
+
+// The texts of an element beside its op's. The third is empty where the op asks for none.
+#[derive(Drop)]
+struct Texts {
+    path: String,
+    third: String,
+}
+
+/// The edits of a script, whose values are read in a profile. It is a document whose only top-level key is `edit`, an
+/// array of tables; or one without any key. An element has the string `op`, which is `set`, `insert`, `rename`,
+/// `remove`, `table` or `element`, the string `path`, for `set` and `insert` the string `value`, for `rename` the
+/// string `key`, and no other key.
+///
+/// # Errors
+///
+/// `Script` if the text is no document; else `Shape` if its top level is another; else `Entry` with the number of the
+/// first element that tells no edit, and the first reason why, in the order of `EntryWhy`; `Memory` where a growth was
+/// refused.
+pub fn script_of(alloc: Global, text: &str, profile: Profile) -> Result<Vec<Edit>, UseFault>
+    ensures { MatchResult result (λ edits. IsScript profile text.now edits.items)
+        (λ fault. (fault ≡ UseFault.Memory) ⊎ IsScriptFault profile text.now fault) }
+{
+    let document = match Document::read(alloc, text.as_bytes()) {
+        Ok(document) => document,
+        Err(ReadFault::Memory) => return Err(UseFault::Memory),
+        Err(fault) => return Err(UseFault::Script(fault)),
+    };
+    edits_of(alloc, &document, profile)
+}
+
+// The edits of a script's document.
+fn edits_of(alloc: Global, document: &Document, profile: Profile) -> Result<Vec<Edit>, UseFault>
+    ensures { (s : tree.Document) → IsTextOfTree document.now s
+        → MatchResult result (λ edits. Tells profile s edits.items)
+        (λ fault. (fault ≡ UseFault.Memory) ⊎ IsTreeFault profile s fault) }
+{
+    let Some(count) = element_count(alloc, document)? else {
+        return Err(UseFault::Shape);
+    };
+    let mut edits = Vec::new(alloc);
+    for index in 0..count {
+        let edit = edit_of(alloc, document, index, profile)?;
+        match edits.push(edit) {
+            Ok(()) => {}
+            Err(_) => return Err(UseFault::Memory),
+        }
+    }
+    Ok(edits)
+}
+
+// How many elements a script has; None where its top level is not a script's.
+fn element_count(alloc: Global, document: &Document) -> Result<Option<usize>, AllocError>
+    ensures { (s : tree.Document) → IsTextOfTree document.now s → IfOk result (λ found. found ≡ spec.element_count s) }
+{
+    let mut path = Path::new(alloc);
+    let keys = document.child_count(&path);
+    path.push_key("edit")?;
+    Ok(counted(keys, document.kind(&path), document.child_count(&path)))
+}
+
+// How many elements `edit` has, by the number of top-level keys and the kind of `edit`.
+fn counted(keys: Option<usize>, kind: Option<Kind>, elements: Option<usize>) -> Option<usize>
+    ensures { result ≡ spec.counted keys kind elements }
+{
+    match keys {
+        Some(0) => Some(0),
+        Some(1) => match kind {
+            Some(Kind::Tables) => elements,
+            _ => None,
+        },
+        _ => None,
+    }
+}
+
+// The edit of an element.
+fn edit_of(
+    alloc: Global,
+    document: &Document,
+    index: usize,
+    profile: Profile,
+) -> Result<Edit, UseFault>
+    ensures { (s : tree.Document) → IsTextOfTree document.now s
+        → MatchResult result (IsEntry profile s index)
+        (λ fault. (fault ≡ UseFault.Memory) ⊎ IsFaultAt profile s index fault) }
+{
+    let Some(op) = op_of(alloc, document, index)? else {
+        let why = EntryWhy::Op;
+        return Err(UseFault::Entry { index, why });
+    };
+    let Some(texts) = texts_of(alloc, document, index, op)? else {
+        let why = EntryWhy::Keys;
+        return Err(UseFault::Entry { index, why });
+    };
+    edit_from(alloc, index, op, texts, profile)
+}
+
+// The op of an element; None where it has no string `op`, or an unknown one.
+fn op_of(alloc: Global, document: &Document, index: usize) -> Result<Option<Op>, AllocError>
+    ensures { (s : tree.Document) → IsTextOfTree document.now s → IfOk result (λ found. found ≡ spec.op_of s index) }
+{
+    match given(alloc, document, index, "op")? {
+        Some(name) => Ok(op_named(name.as_str())),
+        None => Ok(None),
+    }
+}
+
+fn op_named(name: &str) -> Option<Op>
+    ensures { result ≡ spec.op_named name.now }
+{
+    if name == "set" {
+        Some(Op::Set)
+    } else if name == "insert" {
+        Some(Op::Insert)
+    } else if name == "rename" {
+        Some(Op::Rename)
+    } else if name == "remove" {
+        Some(Op::Remove)
+    } else if name == "table" {
+        Some(Op::Table)
+    } else if name == "element" {
+        Some(Op::Element)
+    } else {
+        None
+    }
+}
+
+// The key that an op asks for, beside `op` and `path`.
+fn third_key(op: Op) -> Option<&'static str>
+    ensures { option_map (λ name. name.now) result ≡ spec.third_key op }
+{
+    match op {
+        Op::Set | Op::Insert => Some("value"),
+        Op::Rename => Some("key"),
+        Op::Remove | Op::Table | Op::Element => None,
+    }
+}
+
+// The texts of an element; None where its keys are not those that its op asks for, or no strings.
+fn texts_of(
+    alloc: Global,
+    document: &Document,
+    index: usize,
+    op: Op,
+) -> Result<Option<Texts>, AllocError>
+    ensures { (s : tree.Document) → IsTextOfTree document.now s → IfOk result (AreTexts s index (spec.third_key op)) }
+{
+    let third = third_key(op);
+    let many = if third.is_some() { 3 } else { 2 };
+    let mut path = Path::new(alloc);
+    path.push_key("edit")?;
+    path.push_index(index)?;
+    match document.child_count(&path) {
+        Some(count) if count == many => {}
+        _ => return Ok(None),
+    }
+    let Some(path) = given(alloc, document, index, "path")? else {
+        return Ok(None);
+    };
+    let Some(name) = third else {
+        let third = String::new(alloc);
+        return Ok(Some(Texts { path, third }));
+    };
+    match given(alloc, document, index, name)? {
+        Some(third) => Ok(Some(Texts { path, third })),
+        None => Ok(None),
+    }
+}
+
+// What the string at a key of an element means; None where there is no such key, or no string.
+fn given(
+    alloc: Global,
+    document: &Document,
+    index: usize,
+    name: &str,
+) -> Result<Option<String>, AllocError>
+    ensures { (s : tree.Document) → IsTextOfTree document.now s
+        → IfOk result (λ found. option_map string_bytes found ≡ spec.given s index name.now) }
+{
+    let mut path = Path::new(alloc);
+    path.push_key("edit")?;
+    path.push_index(index)?;
+    path.push_key(name)?;
+    document.str_value(alloc, &path)
+}
+
+// The edit that an op makes of the texts of the element of a number.
+fn edit_from(
+    alloc: Global,
+    index: usize,
+    op: Op,
+    texts: Texts,
+    profile: Profile,
+) -> Result<Edit, UseFault>
+    ensures { MatchResult result (Makes profile op (string_bytes texts.path) (string_bytes texts.third))
+        (λ fault. (fault ≡ UseFault.Memory)
+        ⊎ IsTextsFault profile op index (string_bytes texts.path) (string_bytes texts.third) fault) }
+{
+    let Texts { path, third } = texts;
+    match op {
+        Op::Set => {
+            let path = path_of(alloc, index, path.as_str())?;
+            let value = value_of(alloc, index, third.as_str(), profile)?;
+            Ok(Edit::Set(path, value))
+        }
+        Op::Insert => {
+            let path = path_of(alloc, index, path.as_str())?;
+            let value = value_of(alloc, index, third.as_str(), profile)?;
+            Ok(Edit::Insert(path, value))
+        }
+        Op::Rename => Ok(Edit::Rename(path_of(alloc, index, path.as_str())?, third)),
+        Op::Remove => Ok(Edit::Remove(path_of(alloc, index, path.as_str())?)),
+        Op::Table => Ok(Edit::Table(keys_of(alloc, index, path.as_str())?)),
+        Op::Element => Ok(Edit::Element(keys_of(alloc, index, path.as_str())?)),
+    }
+}
+
+fn path_of(alloc: Global, index: usize, text: &str) -> Result<Path, UseFault>
+    ensures { MatchResult result (IsOnlyPath text.now)
+        (λ fault. (fault ≡ UseFault.Memory) ⊎ IsNoPath index text.now fault) }
+{
+    match Path::read(alloc, text) {
+        Ok(path) => Ok(path),
+        Err(PathFault::BadPath { .. }) => {
+            let why = EntryWhy::Path;
+            Err(UseFault::Entry { index, why })
+        }
+        Err(PathFault::Memory) => Err(UseFault::Memory),
+    }
+}
+
+fn value_of(
+    alloc: Global,
+    index: usize,
+    text: &str,
+    profile: Profile,
+) -> Result<ValueText, UseFault>
+    ensures { MatchResult result (IsGiven profile text.now)
+        (λ fault. (fault ≡ UseFault.Memory) ⊎ IsNoValue profile index text.now fault) }
+{
+    match ValueText::read_in(alloc, text, profile) {
+        Ok(value) => Ok(value),
+        Err(ReadFault::Memory) => Err(UseFault::Memory),
+        Err(_) => {
+            let why = EntryWhy::Value;
+            Err(UseFault::Entry { index, why })
+        }
+    }
+}
+
+// The keys of a path without an index.
+fn keys_of(alloc: Global, index: usize, text: &str) -> Result<Vec<String>, UseFault>
+    ensures { MatchResult result (λ keys. IsKeysText text.now (key_texts keys.items))
+        (λ fault. (fault ≡ UseFault.Memory) ⊎ IsNoKeys index text.now fault) }
+{
+    let path = path_of(alloc, index, text)?;
+    match keys_in(alloc, &path)? {
+        Some(keys) => Ok(keys),
+        None => {
+            let why = EntryWhy::Path;
+            Err(UseFault::Entry { index, why })
+        }
+    }
+}
+
+// The keys of a path; None where it has an index.
+fn keys_in(alloc: Global, path: &Path) -> Result<Option<Vec<String>>, AllocError>
+    ensures { IfOk result (IsKeysIn path.now) }
+{
+    let mut keys = Vec::new(alloc);
+    for number in 0..path.len() {
+        let Some(text) = key_at(path, number) else {
+            return Ok(None);
+        };
+        keys.push(String::from_str(alloc, text)?)?;
+    }
+    Ok(Some(keys))
+}

@@ -1,0 +1,46 @@
+-- What a run comes to, by the bytes that were read and the answer to them.
+use Rattle.std.proofs.Common.{◌≡◌, ◌⊎◌, ℕ, Bool, List, Option, inl, inr, sym, subst}
+use Rattle.std.specs.Prelude.{Result, Ok, Err, MatchResult, IsErrAnd}
+use Rattle.std.specs.Io.KnownBytes.{Keeps}
+use Rattle.keep_edit.specs.Reading.{text_in}
+use Rattle.keep_commands.specs.Answer.{IsRefusal, IsText, profile_of}
+use Rattle.keep_commands.specs.Run.{HasWritten, IsInput, StopsRun, WritesAll}
+use Rattle.keep_commands.specs.declared.command.Command.{Command}
+use Rattle.keep_commands.specs.declared.fault.RunFault.{RunFault}
+use Rattle.keep_commands.specs.declared.fault.RunFault.TheVariants as run
+use Rattle.keep_commands.specs.declared.run.Done.{Done}
+
+-- the answer is a fault, and nothing was written
+stopped : (command : Command) (input old new : Option (List ℕ)) (bytes : List ℕ) (f : RunFault) → IsInput input bytes → Keeps old new
+    → (f ≡ run.Memory) ⊎ IsRefusal command (text_in (profile_of command) bytes) f → StopsRun command input old new f
+stopped command input old new bytes (run.Document f) is keeps (inl memory) = let no : run.Document f ≡ run.Memory = memory in absurd cc
+stopped command input old new bytes (run.Document f) is keeps (inr refusal) = (keeps, (bytes, is, refusal))
+stopped command input old new bytes (run.Edit n f) is keeps (inl memory) = let no : run.Edit n f ≡ run.Memory = memory in absurd cc
+stopped command input old new bytes (run.Edit n f) is keeps (inr refusal) = (keeps, (bytes, is, refusal))
+stopped command input old new bytes run.TooLong is keeps (inl memory) = let no : run.TooLong ≡ run.Memory = memory in absurd cc
+stopped command input old new bytes run.TooLong is keeps (inr refusal) = absurd refusal
+stopped command input old new bytes (run.Write n) is keeps (inl memory) = let no : run.Write n ≡ run.Memory = memory in absurd cc
+stopped command input old new bytes (run.Write n) is keeps (inr refusal) = absurd refusal
+stopped command input old new bytes run.Read is keeps h = keeps
+stopped command input old new bytes run.Memory is keeps h = keeps
+
+pub answer_stops : (command : Command) (input old new : Option (List ℕ)) (bytes : List ℕ) (r : Result Done RunFault) (f : RunFault) → IsErrAnd r (λ e. e ≡ f)
+    → IsInput input bytes → Keeps old new → (f ≡ run.Memory) ⊎ IsRefusal command (text_in (profile_of command) bytes) f
+    → MatchResult r (λ done. HasWritten command input old new done.written) (StopsRun command input old new)
+answer_stops command input old new bytes (Ok done) f passed is keeps answer = absurd passed
+answer_stops command input old new bytes (Err e) f passed is keeps answer = subst (StopsRun command input old new) (sym passed) (stopped command input old new bytes f is keeps answer)
+
+-- the answer is a text, and all of it was written, or a prefix
+pub answer_written : (command : Command) (input old new : Option (List ℕ)) (bytes text given : List ℕ) (r : Result Done RunFault) (failed : Bool)
+    → IsInput input bytes → IsText command (text_in (profile_of command) bytes) text → given ≡ text → WritesAll old new given r failed
+    → MatchResult r (λ done. HasWritten command input old new done.written) (StopsRun command input old new)
+answer_written command input old new bytes text given r failed is answer same written = by r (subst (λ (t : List ℕ). WritesAll old new t r failed) same written)
+  where
+    by : (r : Result Done RunFault) → WritesAll old new text r failed → MatchResult r (λ done. HasWritten command input old new done.written) (StopsRun command input old new)
+    by (Ok done) all = (bytes, is, (text, answer, all.1, all.2))
+    by (Err (run.Write n)) prefix = (bytes, is, (text, answer, prefix.1, prefix.2))
+    by (Err (run.Document f)) never = absurd never
+    by (Err (run.Edit n f)) never = absurd never
+    by (Err run.TooLong) never = absurd never
+    by (Err run.Read) never = absurd never
+    by (Err run.Memory) never = absurd never

@@ -1,0 +1,8 @@
+use Rattle.keep_commands.proofs.AnswerLaws.{check_text, wide_text}
+use Rattle.keep_commands.proofs.answer.check_line.Goals as goal
+
+pub returns-clause-check : goal.returns-clause-check
+returns-clause-check c = check_text c.args.document.now _ c.counts.result c.counts.ensures.accepted c.counts.ensures.counts c.in_ok-counts_text.ensures
+
+pub returns-clause-wide : goal.returns-clause-wide
+returns-clause-wide c = wide_text c.args.document.now _ c.counts.result c.counts.ensures.accepted c.counts.ensures.counts c.in_ok-counts_text.ensures

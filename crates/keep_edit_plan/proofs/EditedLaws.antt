@@ -1,0 +1,79 @@
+-- What an edit makes of a document: from where it is done, and from its law.
+use Rattle.std.proofs.Common.{◌≡◌, ℕ, List, ◌++◌, take, drop, length, sym, ap, ap₂, subst, ◌∙◌, arith, Option, Result, Ok, Err, refl}
+use Rattle.std.specs.Prelude.{IsUtf8, IfOk, string_bytes}
+use Rattle.std.proofs.lemmas.Str.{IsUtf8-append, IsUtf8-drop, IsUtf8-string_bytes, IsUtf8-take}
+use Rattle.keep_types.specs.declared.syntax.Span.{Span}
+use Rattle.keep_syntax.specs.Tree.{Document}
+use Rattle.keep_syntax.specs.Grammar.{Reads}
+use Rattle.keep_edit_spec.specs.declared.fault.EditFault.{EditFault}
+use Rattle.keep_edit_spec.specs.declared.fault.EditFault.TheVariants as fault
+use Rattle.keep_edit_spec.specs.Changed.{Changed, Place, place_of, put}
+use Rattle.keep_edit_spec.specs.Edits.{Edit, changed_or_same, place, edited_document}
+use Rattle.keep_edit_spec.specs.Laws.{IsEditable, IsLawfulEdit}
+use Rattle.keep_edit_plan.specs.Reading.{limit, ProfiledText, text_in, IsTextOfTree}
+use Rattle.keep_edit_plan.specs.Answers.{IsMade, IsMadeAt, IsSpanOf, IsTextAfter, IsDone, EditMade, text_after}
+use Rattle.keep_edit_plan.specs.Places.{place_at, IsDoneAt, IsOfEdit, IsPatchAt}
+use Rattle.keep_edit_plan.specs.declared.edited.Edited.{Edited}
+
+-- a document that was read is one of which the laws speak
+pub editable : (d : ProfiledText) (s : Document) → IsTextOfTree d s → IsEditable d.profile limit s
+editable d s read = record { valid = read.reads.valid; shallow = read.reads.shallow; obeys = read.obeys }
+
+-- what an edit answers that is refused
+pub refused_made : (s : Document) (e : Edit) (old : ProfiledText) (given : List ℕ) (f : EditFault) → IsDoneAt s e old given (Err f) → EditMade s e old (Err f)
+refused_made s e old given f h = subst (λ (r : Option EditFault). IsDone (IsMade s e old) r (Err f)) (sym h) refl
+
+-- a text stays one where whole characters of it are replaced by a text
+put_utf8 : (text : List ℕ) (span : Span) (given : List ℕ) → IsUtf8 text → IsSpanOf text span → IsUtf8 given → IsUtf8 (put text (place_at span given))
+put_utf8 text span given old in_text new =
+    IsUtf8-append (take span.start text) (given ++ drop span.end text) (IsUtf8-take text span.start old in_text.starts)
+    (IsUtf8-append given (drop span.end text) new (IsUtf8-drop text span.end old in_text.ends))
+
+-- an edit that is not refused, and its law
+module _ (d : ProfiledText) (s : Document) (e : Edit) (span : Span) (given : List ℕ) (read : IsTextOfTree d s) (at : IsDoneAt s e d given (Ok span)) (law : IsLawfulEdit d.profile limit s e) where
+  -- the new text is that of the edited document
+  edited : (new : List ℕ) → IsUtf8 new → new ≡ put d.text (place_at span given) → IsTextAfter s e (text_in d.profile new) d
+  edited new utf8 is =
+      let put_is : new ≡ put d.text (place s e) = is ∙ ap (put d.text) (sym at.1) in
+      let reads : Reads d.profile limit new (edited_document s e) =
+      subst (λ (t : List ℕ). Reads d.profile limit t (edited_document s e)) (ap (λ (t : List ℕ). put t (place s e)) (sym read.reads.spelled) ∙ sym put_is) law.reads in
+      record {
+        profile = refl;
+        text = put_is;
+        tree = record { utf8 = utf8; reads = reads; obeys = law.obeys };
+        changed = law.tree;
+        growth = omega (arith, law.growth, ap length reads.spelled, ap length read.reads.spelled);
+      }
+
+  pub full_made : EditMade s e d (Err fault.Memory)
+  full_made = subst (λ (r : Option EditFault). IsDone (IsMade s e d) r (Err fault.Memory)) (sym at.0) refl
+
+  within_text : (made : Edited) → IsMadeAt (place_at span given) made → IsSpanOf d.text made.place
+  within_text made there = subst (λ (x : Span). IsSpanOf d.text x) (sym there.0) at.2
+
+  after : (made : Edited) → IsMadeAt (place_at span given) made → IsTextAfter s e (text_in d.profile (text_after d.text made)) d
+  after made there =
+      edited (text_after d.text made) (put_utf8 d.text made.place (string_bytes made.new) read.utf8 (within_text made there) (IsUtf8-string_bytes made.new))
+      (ap₂ (λ (x : Span) (g : List ℕ). put d.text (place_at x g)) there.0 there.1)
+
+  pub patch_made : (result : Result Edited EditFault) → IsPatchAt span given result → EditMade s e d result
+  patch_made (Err f) h = subst (λ (g : EditFault). EditMade s e d (Err g)) (sym h) full_made
+  patch_made (Ok made) there =
+      subst (λ (r : Option EditFault). IsDone (IsMade s e d) r (Ok made)) (sym at.0)
+      (subst (λ (p : Place). IsMadeAt p made) (sym at.1) there, after made there)
+
+  pub of_edit : (made : Edited) → IsMadeAt (place_at span given) made → IsOfEdit d made
+  of_edit made there = record {
+    tree = s;
+    edit = e;
+    changed = law.changed;
+    read = read;
+    is = law.is;
+    new = subst (λ (c : Option (Changed Document)). IsTextOfTree (text_in d.profile (text_after d.text made)) (changed_or_same s c).to) law.is (after made there).tree;
+    at = subst (λ (c : Option (Changed Document)). IsMadeAt (place_of (changed_or_same s c)) made) law.is (subst (λ (p : Place). IsMadeAt p made) (sym at.1) there);
+    within = within_text made there;
+  }
+
+  pub patch_of_edit : (result : Result Edited EditFault) → IsPatchAt span given result → IfOk result (IsOfEdit d)
+  patch_of_edit (Err f) h = tt
+  patch_of_edit (Ok made) there = of_edit made there

@@ -1,0 +1,22 @@
+-- Where `insert` writes lines: after which line, and what.
+use Rattle.std.specs.Prelude.{ℕ, List, Option, Some, None, drop, slice_get}
+use Rattle.std.specs.Option.{option_and_then}
+use Rattle.keep_syntax.specs.Tree.{Value, Document, text}
+use Rattle.keep_syntax.specs.Numbered as syntax
+use Rattle.keep_edit_spec.specs.Changed as changed
+use Rattle.keep_edit_spec.specs.Insertion.{section_at, section_end}
+use Rattle.keep_edit_spec.specs.Lines.{newline_of}
+use Rattle.keep_edit_spec.specs.Removal.{body_end}
+use Rattle.keep_edit_plan.specs.Inserting.{line_end_of, lines_start}
+
+-- where the body ends of the header with that number, or of the root
+abbrev pub body_end_of : Document → Option ℕ → ℕ
+body_end_of s None = body_end (lines_start s) (syntax.statements s)
+body_end_of s (Some h) = section_end (drop h (syntax.statements s))
+
+-- where the line ends of the keyval with that value number
+abbrev pub keyval_end_of : Document → ℕ → Option ℕ
+keyval_end_of s v = option_and_then (line_end_of (syntax.statements s)) (slice_get (syntax.values s) v)
+
+abbrev pub new_section_at : Document → ℕ → List (List ℕ) → List (List ℕ) → Value → changed.Place
+new_section_at s at table keys value = section_at (text s) (newline_of s).text (lines_start s) at table keys value

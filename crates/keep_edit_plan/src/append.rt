@@ -1,0 +1,139 @@
+//! Appending headers.
+ghost use Rattle.std.specs.Prelude.{◌≡◌, ◌∷◌, ◌++◌, [], IfOk, OnOk, string_bytes};
+ghost use Rattle.std.specs.List.{flat_map};
+ghost use Rattle.keep_token.specs.Encoded.{encoded_key};
+ghost use Rattle.keep_syntax.specs.Tree as tree;
+ghost use Rattle.keep_edit_spec.specs.TextEnds as text_ends;
+ghost use Rattle.keep_edit_plan.specs.Answers.{EditMade};
+ghost use Rattle.keep_edit_plan.specs.Headers.{edit_of, key_texts, keys_text, header_text, opening, closing};
+ghost use Rattle.keep_edit_plan.specs.Places.{IsOfEdit};
+ghost use Rattle.keep_edit_plan.specs.Reading.{IsAccepted, IsTextOfTree};
+
+use crate::document::DocumentRef;
+use crate::edited::Edited;
+use crate::header::{Header, check_header};
+use keep_edit_spec::EditFault;
+use keep_syntax::Span;
+use keep_token::encode_key;
+use std::alloc::{AllocError, Global};
+
+impl<'a> DocumentRef<'a> {
+    /// A header at the end of the text: what is written, and where.
+    ///
+    /// # Errors
+    ///
+    /// The refusal of the edit, whatever memory there is; else `Memory` if memory was refused.
+    pub fn appended(
+        &self,
+        alloc: Global,
+        keys: &[String],
+        header: Header,
+    ) -> Result<Edited, EditFault>
+        ensures made { (s : tree.Document) → IsTextOfTree self.now s
+            → EditMade s (edit_of header (key_texts keys.now)) self.now result }
+        ensures of_edit { IfOk result (IsOfEdit self.now) }
+        ensures of { IsAccepted self.now }
+    {
+        let text = self.text;
+        if keys.is_empty() {
+            return Err(EditFault::NotKey);
+        }
+        if let Err(why) = check_header(self.index, keys, header) {
+            return Err(EditFault::Conflict { why });
+        }
+        let Ok(new) = header_at_end(alloc, text, self.newline(), keys, header) else {
+            return Err(EditFault::Memory);
+        };
+        let end = text.len();
+        Ok(Edited {
+            place: Span { start: end, end },
+            new,
+        })
+    }
+}
+
+/// What is written for a header at the end of a text: a blank line, unless it is the first line, and the header's own
+/// line.
+fn header_at_end(
+    alloc: Global,
+    text: &str,
+    newline: &str,
+    keys: &[String],
+    header: Header,
+) -> Result<String, AllocError>
+    ensures { IfOk result (λ out. string_bytes out
+        ≡ text_ends.header_at_end text.now newline.now (header_text header (key_texts keys.now))) }
+{
+    let mut out = String::new(alloc);
+    push_blank_line(&mut out, text, newline)?;
+    push_header(alloc, &mut out, keys, header)?;
+    out.push_str(newline)?;
+    Ok(out)
+}
+
+/// Adds what ends the last line of a text, if it has no newline, and leaves a line blank.
+fn push_blank_line(out: &mut String, text: &str, newline: &str) -> Result<(), AllocError>
+    ensures { OnOk result (string_bytes out.new ≡ string_bytes out.old ++ text_ends.blank_line text.now newline.now) }
+{
+    if is_bare_start(text) {
+        return Ok(());
+    }
+    if !ends_in_newline(text) {
+        out.push_str(newline)?;
+    }
+    out.push_str(newline)
+}
+
+/// Adds a header as it is written.
+fn push_header(
+    alloc: Global,
+    out: &mut String,
+    keys: &[String],
+    header: Header,
+) -> Result<(), AllocError>
+    ensures { OnOk result (string_bytes out.new ≡ string_bytes out.old ++ header_text header (key_texts keys.now)) }
+{
+    out.push_str(header.opening())?;
+    push_keys(alloc, out, keys)?;
+    out.push_str(header.closing())
+}
+
+/// Adds keys with dots between them.
+fn push_keys(alloc: Global, out: &mut String, keys: &[String]) -> Result<(), AllocError>
+    ensures { OnOk result (string_bytes out.new ≡ string_bytes out.old ++ keys_text (key_texts keys.now)) }
+{
+    let Some((first, further)) = keys.split_first() else {
+        return Ok(());
+    };
+    push_key(alloc, out, first.as_str())?;
+    for name in further {
+        out.push_str(".")?;
+        push_key(alloc, out, name.as_str())?;
+    }
+    Ok(())
+}
+
+/// Adds a key as it is written.
+fn push_key(alloc: Global, out: &mut String, key: &str) -> Result<(), AllocError>
+    ensures { OnOk result (string_bytes out.new ≡ string_bytes out.old ++ encoded_key key.now) }
+{
+    let text = encode_key(alloc, key)?;
+    out.push_str(text.as_str())
+}
+
+/// Whether a text is empty but for a byte order mark.
+fn is_bare_start(text: &str) -> bool
+    ensures { result ≡ text_ends.is_bare_start text.now }
+{
+    matches!(text.as_bytes(), [] | [0xEF, 0xBB, 0xBF])
+}
+
+/// Whether a text ends in a line feed, as each newline does, and no line without one.
+fn ends_in_newline(text: &str) -> bool
+    ensures { result ≡ text_ends.ends_in_newline text.now }
+{
+    match text.as_bytes().last() {
+        Some(last) => *last == b'\n',
+        None => false,
+    }
+}

@@ -1,0 +1,68 @@
+//! A document that was read, as its edits look at it.
+ghost use Rattle.std.specs.Prelude.{◌≡◌};
+ghost use Rattle.keep_syntax.specs.Tree as tree;
+ghost use Rattle.keep_edit_plan.specs.Answers.{IsFound};
+ghost use Rattle.keep_edit_plan.specs.Reading.{Holds, IsTextOfTree, text_in};
+
+use keep_edit_spec::EditFault;
+use keep_rules::{Index, Origin, Path};
+use keep_syntax::Syntax;
+use keep_token::Profile;
+use std::marker::Model;
+
+/// A document that was read: its text, the profile that it was read in, and the syntax and the index that were read of
+/// it.
+#[derive(Drop)]
+pub struct DocumentRef<'a> {
+    pub(crate) text: &'a str,
+    pub(crate) profile: Profile,
+    pub(crate) syntax: &'a Syntax,
+    pub(crate) index: &'a Index,
+}
+
+impl<'a> Model for DocumentRef<'a> {
+    ghost use Rattle.keep_edit_plan.specs.Reading.{Holds, ProfiledText, text_in};
+
+    ghost Value = { ProfiledText };
+
+    ghost view = { λ d. text_in d.profile d.text.now };
+
+    ghost invariant = { λ d. Holds (text_in d.profile d.text.now) d.syntax.now d.index.now };
+}
+
+impl<'a> DocumentRef<'a> {
+    /// The document of a text, by the syntax and the index that were read of it in that profile.
+    pub fn new(
+        text: &'a str,
+        profile: Profile,
+        syntax: &'a Syntax,
+        index: &'a Index,
+    ) -> DocumentRef<'a>
+        requires { Holds (text_in profile text.now) syntax.now index.now }
+        ensures { result ≡ text_in profile text.now }
+    {
+        DocumentRef {
+            text,
+            profile,
+            syntax,
+            index,
+        }
+    }
+
+    /// The number of the value at a path, among those of the syntax. It takes no memory.
+    ///
+    /// # Errors
+    ///
+    /// `NotFound` if the path names no node; `NotValue` if the node has no value with a text of its own.
+    pub fn value_number(&self, path: &Path) -> Result<usize, EditFault>
+        ensures { (s : tree.Document) → IsTextOfTree self.now s → IsFound path.now s result }
+    {
+        let Some(id) = self.index.find(path) else {
+            return Err(EditFault::NotFound);
+        };
+        match self.index.node(id).origin {
+            Origin::Value(number) => Ok(number),
+            _ => Err(EditFault::NotValue),
+        }
+    }
+}

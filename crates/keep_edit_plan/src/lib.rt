@@ -1,0 +1,20 @@
+//! For each edit of a document, decided from what was read of it: the refusal, or else the text after it and its
+//! splice. Nothing is changed here, and the new text is not read. Where an edit is done is found from the index and the
+//! syntax, and the bytes round that place.
+#![tactic(auto)]
+
+mod append;
+mod document;
+mod edited;
+mod header;
+mod holder;
+mod insert;
+mod newline;
+mod remove;
+mod rename;
+mod set;
+
+pub use document::DocumentRef;
+pub use edited::{Edited, part_at};
+pub use header::Header;
+pub use set::KindChange;

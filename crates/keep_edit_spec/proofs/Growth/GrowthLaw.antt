@@ -1,0 +1,137 @@
+-- The text gets longer by an edit by no more than what the edit gives, and twelve bytes.
+use Rattle.std.proofs.Common.{◌≡◌, ℕ, zero, suc, ◌+◌, ◌≤◌, Bool, true, false, cond, List, [], ◌∷◌, ◌++◌, length, map, drop, refl, ap, subst, length-append, arith, Option, Some, None}
+use Rattle.std.specs.Prelude.{codes}
+use Rattle.std.specs.List.{list_any}
+use Rattle.keep_types.specs.declared.leaf.Profile.{Profile}
+use Rattle.keep_syntax.specs.Tree.{Written, Gap, Name, Body, scalar, array, inline, Entries, none, entry, blank, Line, Ended, Document, text_of, text, value_text}
+use Rattle.keep_syntax.specs.Grammar.{IsDocument}
+use Rattle.keep_path.specs.Path.{Part, key, same_path}
+use Rattle.keep_path.specs.PathText.{encoded_path}
+use Rattle.keep_edit_spec.specs.Edits.{key_part}
+use Rattle.keep_meaning.specs.Marks.{Reading, start, marks}
+use Rattle.keep_meaning.specs.Rules.{ObeysRules}
+use Rattle.keep_meaning.specs.Meaning.{step, lines, mentions_in}
+use Rattle.keep_edit_spec.specs.Changed.{Changed}
+use Rattle.keep_edit_spec.specs.Values.{prefix_ws, entry_prefix, taken_first, taken_only, taken_last, is_last_named, take_out, removal, preserved_gap, is_comment_leaf}
+use Rattle.keep_edit_spec.specs.Lines.{in_lines, last_line, drop_prefix, drop_lines, begins, body_length, content_text}
+use Rattle.keep_edit_spec.specs.Edits.{Edit, set, insert, rename, remove, append_table, append_element, nested, without_lines, clear_line, is_own, change_remove, change}
+use Rattle.keep_edit_spec.specs.Refusals.{refusal}
+use Rattle.keep_edit_spec.specs.Laws.{given_size}
+use Rattle.keep_edit_spec.proofs.Common.Texts.{EachIs}
+use Rattle.keep_edit_spec.proofs.Common.LineTexts.{change-is}
+use Rattle.keep_edit_spec.proofs.Common.Marks.{rules_of_document}
+use Rattle.keep_edit_spec.proofs.Set.SetIsLawful.{set_growth}
+use Rattle.keep_edit_spec.proofs.Growth.Growth.{GrowsBy, grows_within, grows_or_else, longer_text, IsBound, grows_lines, grows_document, grows_nested}
+use Rattle.keep_edit_spec.proofs.Growth.GrowthOfEdits.{insert_grows, rename_grows, append_table_grows, append_element_grows}
+use Rattle.keep_edit_spec.proofs.Growth.NewlineLength.{newline_short}
+
+-- ---- remove
+
+preserved_shorter : (g : Gap) → length (text_of (preserved_gap g)) ≤ length (text_of g)
+preserved_shorter g = by (list_any (λ w. is_comment_leaf w.leaf) g)
+  where
+    by : (b : Bool) → length (text_of (cond b g [])) ≤ length (text_of g)
+    by true = omega arith
+    by false = omega arith
+
+taken_first_grows : (gap : Gap) (name : Option Name) (body : Body) (nested : Entries) (after behind : Gap) (rest : Entries) → GrowsBy 0 (Some (taken_first gap name body nested after behind rest))
+taken_first_grows gap name body nested after behind rest =
+    let c = taken_first gap name body nested after behind rest in
+    omega (arith, preserved_shorter after, length-append (entry_prefix name body nested) (text_of after ++ (codes "," ++ text_of (prefix_ws behind))), length-append (text_of after) (codes "," ++ text_of (prefix_ws behind)))
+
+taken_last_grows : (gap : Gap) (name : Option Name) (body : Body) (nested : Entries) (after behind : Gap) (name' : Option Name) (body' : Body) (nested' : Entries) (after' : Gap)
+    → GrowsBy 0 (Some (taken_last gap name body nested after behind name' body' nested' after'))
+taken_last_grows gap name body nested after behind name' body' nested' after' =
+    omega (arith, preserved_shorter behind, length-append (codes ",") (text_of behind ++ entry_prefix name' body' nested'), length-append (text_of behind) (entry_prefix name' body' nested'))
+
+when_grows : {A : Type 0} (b : Bool) (o p : Option (Changed A)) → GrowsBy 0 o → GrowsBy 0 p → GrowsBy 0 (elim b [ true ↦ o | false ↦ p ])
+when_grows true o p h g = h
+when_grows false o p h g = g
+
+take_out_grows : (path : List Part) (n : ℕ) (gap : Gap) (es : Entries) → GrowsBy 0 (take_out path n gap es)
+take_out_grows path n gap none = tt
+take_out_grows path n gap (entry name body nested after None none) = when_grows (same_path (step n name) path) (Some (taken_only gap name body nested after)) None (omega arith) tt
+take_out_grows path n gap (entry name body nested after None (entry name' body' nested' after' comma' rest')) = tt
+take_out_grows path n gap (entry name body nested after (Some behind) none) =
+    when_grows (same_path (step n name) path) (Some (taken_first gap name body nested after behind none)) None (taken_first_grows gap name body nested after behind none) tt
+take_out_grows path n gap (entry name body nested after (Some behind) (entry name' body' nested' after' comma' rest')) =
+    when_grows (same_path (step n name) path) (Some (taken_first gap name body nested after behind (entry name' body' nested' after' comma' rest'))) _
+    (taken_first_grows gap name body nested after behind (entry name' body' nested' after' comma' rest'))
+    (when_grows (is_last_named path (n + 1) (entry name' body' nested' after' comma' rest')) (Some (taken_last gap name body nested after behind name' body' nested' after')) _
+    (taken_last_grows gap name body nested after behind name' body' nested' after')
+    (grows_within 0 (λ r. record { gap = gap; entries = entry name body nested after (Some r.gap) r.entries })
+    (text_of gap ++ (entry_prefix name body nested ++ (text_of after ++ codes ","))) []
+    (take_out path (n + 1) behind (entry name' body' nested' after' comma' rest'))
+    (take_out_grows path (n + 1) behind (entry name' body' nested' after' comma' rest'))))
+
+removal_bound : IsBound removal (λ more. 0)
+removal_bound = record { grows = λ more v. by more v.body v.nested; falls = λ p more. omega arith }
+  where
+    by : (more : List Part) (b : Body) (es : Entries) → GrowsBy 0 (removal more (record { body = b; nested = es }))
+    by more (scalar w) es = tt
+    by more (array first) es = grows_within 0 (λ r. record { body = array r.gap; nested = r.entries }) (codes "[") (codes "]") (take_out more 0 first es) (take_out_grows more 0 first es)
+    by more (inline first) es = grows_within 0 (λ r. record { body = inline r.gap; nested = r.entries }) (codes "{") (codes "}") (take_out more 0 first es) (take_out_grows more 0 first es)
+
+prefix_gives : (n : ℕ) (es : List Ended) (last : Line) → (drop_prefix n es last).new ≡ []
+prefix_gives zero [] last = refl
+prefix_gives (suc m) [] last = refl
+prefix_gives zero (e ∷ es) last = refl
+prefix_gives (suc m) (e ∷ es) last = prefix_gives m es last
+
+lines_give : (i n : ℕ) (es : List Ended) (last : Line) → (drop_lines i n es last).new ≡ []
+lines_give i n [] last = prefix_gives n [] last
+lines_give zero n (e ∷ es) last = prefix_gives n (e ∷ es) last
+lines_give (suc j) n (e ∷ es) last = lines_give j n es last
+
+lines_grow : (s : Document) (i n : ℕ) → GrowsBy 0 (without_lines s i n)
+lines_grow s i n = grows_document 0 s (Some (drop_lines i n s.ended s.last)) (omega (arith, ap (λ (l : List ℕ). length l) (lines_give i n s.ended s.last)))
+
+clear_grows : (path : List Part) (r : Reading) (l : Line) → GrowsBy 0 (clear_line path r l)
+clear_grows path r l = by l.comment (is_own path r l.content)
+  where
+    by : (o : Option Written) (b : Bool) → GrowsBy {A = Line} 0 (elim o [
+      | None ↦ None
+      | Some c ↦ elim b [
+        | false ↦ None
+        | true ↦ Some (record {
+          to = record { before = l.before; content = blank; after = []; comment = Some c };
+          before = text_of l.before;
+          old = content_text l.content ++ text_of l.after;
+          new = [];
+          behind = c.text;
+        })
+      ]
+    ])
+    by None b = tt
+    by (Some c) false = tt
+    by (Some c) true = omega arith
+
+number_grows : (f : ℕ → Option (Changed Document)) → ((i : ℕ) → GrowsBy 0 (f i)) → (o : Option ℕ) → GrowsBy 0 (elim o [ None ↦ None | Some i ↦ f i ])
+number_grows f h None = tt
+number_grows f h (Some i) = h i
+
+pub remove_grows : (s : Document) (path : List Part) → GrowsBy 0 (change_remove s path)
+remove_grows s path =
+    grows_or_else 0 _ _ (grows_document 0 s (in_lines (clear_line path) start s.ended s.last) (grows_lines 0 (clear_line path) (clear_grows path) start s.ended s.last))
+    (grows_or_else 0 _ _ (number_grows (λ i. without_lines s i 1) (λ i. lines_grow s i 1) (last_line (λ r l. is_own path r l.content) start (lines s)))
+    (grows_or_else 0 _ _ (number_grows (λ i. without_lines s i (suc (body_length (drop (suc i) (lines s))))) (λ i. lines_grow s i (suc (body_length (drop (suc i) (lines s))))) (last_line (begins path) start (lines s)))
+    (grows_nested removal (λ more. 0) removal_bound path s)))
+
+-- ---- every edit
+
+of_grows : (s : Document) (n : ℕ) (o : Option (Changed Document)) (c : Changed Document) → o ≡ Some c → EachIs text s o → GrowsBy n o → length (text c.to) ≤ length (text s) + n
+of_grows s n None c e i h = absurd cc
+of_grows s n (Some d) c e i h = let k : d ≡ c = cc in subst (λ (x : Changed Document). length (text x.to) ≤ length (text s) + n) k (longer_text text s n d i h)
+
+pub growth : (profile : Profile) (limit : ℕ) (s : Document) (e : Edit) (c : Changed Document) → IsDocument profile s → ObeysRules (marks (mentions_in s)) → refusal profile limit s e ≡ None → change s e ≡ Some c
+    → length (text c.to) ≤ length (text s) + given_size e + 12
+growth profile limit s (set path v) c valid obeys h k = omega (arith, set_growth path v s c (rules_of_document s obeys) k)
+growth profile limit s (insert path v) c valid obeys h k =
+    omega (arith, of_grows s (length (encoded_path path) + length (value_text v) + 12) (change s (insert path v)) c k (change-is s (insert path v)) (insert_grows profile limit s path v (newline_short profile s valid) h))
+growth profile limit s (rename path name) c valid obeys h k =
+    omega (arith, of_grows s (length (key_part name).text) (change s (rename path name)) c k (change-is s (rename path name)) (rename_grows s path name))
+growth profile limit s (remove path) c valid obeys h k = omega (arith, of_grows s 0 (change s (remove path)) c k (change-is s (remove path)) (remove_grows s path))
+growth profile limit s (append_table keys) c valid obeys h k =
+    omega (arith, of_grows s (length (encoded_path (map key keys)) + 12) (change s (append_table keys)) c k (change-is s (append_table keys)) (append_table_grows s keys (newline_short profile s valid)))
+growth profile limit s (append_element keys) c valid obeys h k =
+    omega (arith, of_grows s (length (encoded_path (map key keys)) + 12) (change s (append_element keys)) c k (change-is s (append_element keys)) (append_element_grows s keys (newline_short profile s valid)))

@@ -1,0 +1,221 @@
+-- Where `remove` is not refused, no header goes through a path that ends in a key.
+--
+-- A removal is refused unless the path is one piece: a value, a definition that no header goes through, or an element
+-- (`pieces`). For a path that ends in a key and that a header goes through, two of these are left to exclude. It is no
+-- value: a value is beside nothing that may be shared, as a header's mention may (`no_both`, for any such kind of
+-- mention). And it is no element, since an element's path ends in an index: `lines_begun`, by induction over the lines.
+--
+-- Theorems: `no_both` and `lines_begun`, which other files use; `single_piece`: no header goes through a path that is
+-- one piece.
+use Rattle.std.proofs.Common.{◌≡◌, ℕ, ◌+◌, Bool, true, false, not, cond, ◌&&◌, ◌||◌, List, [], ◌∷◌, ◌++◌, map, refl, sym, ap, ◌∙◌, Option, Some, None, ◌⊎◌, inl, inr}
+use Rattle.std.specs.Prelude.{◌==◌}
+use Rattle.keep_types.specs.declared.leaf.Profile.{Profile}
+use Rattle.keep_syntax.specs.Tree.{Written, Gap, Name, Entries, none, entry, Content, blank, keyval, header, element, Line, Document}
+use Rattle.keep_syntax.specs.Grammar.{IsDocument}
+use Rattle.keep_edit_spec.specs.declared.fault.EditFault.{EditFault}
+use Rattle.keep_meaning.specs.Fact.{Fact, table, is_value_fact}
+use Rattle.keep_path.specs.Path.{Part, key, index}
+use Rattle.keep_meaning.specs.Rules.{ObeysRules}
+use Rattle.keep_meaning.specs.Marks.{MentionKind, through, past, define, dotted, value, begun, passed, item, element as kinds_element, Mention, below, fact_of, marks, Reading, start, elements_of, entered_path, passing_mentions, header_path, header_way}
+use Rattle.keep_meaning.specs.Meaning.{key_value, further_value, keys_of, body_fact, valued_mentions, keyed_mentions, entry_mentions, entries_mentions, keyval_mentions, line_mentions, after_line, lines_mentions, lines, mentions_in}
+use Rattle.keep_meaning.specs.Nodes.{is_at, fact_at, has, is_through, is_begun, is_define, is_passed, is_node, is_root}
+use Rattle.keep_edit_spec.specs.Edits.{remove, change}
+use Rattle.keep_edit_spec.specs.Refusals.{first_that_holds, has_value, is_one_piece, refusal}
+use Rattle.keep_edit_spec.proofs.Common.Runs.{AllOf, SomeOf, all_join, Allowed, Rules, kinds_allow, solid, exclusive, same_path-sound}
+use Rattle.keep_edit_spec.proofs.Common.SetLaw.{IsAloneAt, exclusive-solid, solid-exclusive}
+use Rattle.keep_edit_spec.proofs.Common.LineLaws.{EndsInKey, last_snoc, last_from}
+use Rattle.keep_edit_spec.proofs.Common.SetWhole.{IsSetWhole, EachChange}
+use Rattle.keep_edit_spec.proofs.Common.Marks.{rules_of_document}
+use Rattle.keep_edit_spec.proofs.Remove.RemoveLaw.{remove_key_is_right}
+
+-- ---- what is at the path
+
+some_mentions : (is : MentionKind → Bool) (p : List Part) (ms : List Mention) → has is p ms ≡ true → SomeOf (λ (m : Mention). (m.path ≡ p) × (is m.kind ≡ true)) ms
+some_mentions is p [] h = absurd cc
+some_mentions is p (m ∷ ms) h = by (λ g. some_mentions is p ms g) (is_at p m) refl (is m.kind) refl h
+  where
+    by : (has is p ms ≡ true → SomeOf (λ (m : Mention). (m.path ≡ p) × (is m.kind ≡ true)) ms) → (b : Bool) → is_at p m ≡ b → (c : Bool) → is m.kind ≡ c → has is p (m ∷ ms) ≡ true → SomeOf (λ (m : Mention). (m.path ≡ p) × (is m.kind ≡ true)) (m ∷ ms)
+    by ih true e true k g = inl (same_path-sound m.path p e, k)
+    by ih true e false k g = inr (ih (rw (e, k) at g))
+    by ih false e c k g = inr (ih (rw e at g))
+
+alone_fact : (a : MentionKind) (f : Fact) → fact_of a ≡ Some f → is_value_fact f ≡ true → exclusive a ≡ true
+alone_fact (value g) f e h = refl
+alone_fact (item g) f e h = refl
+alone_fact through f e h = absurd cc
+alone_fact past f e h = absurd cc
+alone_fact dotted f e h = absurd cc
+alone_fact kinds_element f e h = absurd cc
+alone_fact passed f e h = absurd cc
+alone_fact define f e h = let k : is_value_fact (table) ≡ is_value_fact f = (let t : table ≡ f = cc in ap is_value_fact t) in absurd cc
+alone_fact begun f e h = let k : is_value_fact (table) ≡ is_value_fact f = (let t : table ≡ f = cc in ap is_value_fact t) in absurd cc
+
+some_value : (p : List Part) (f : Fact) → is_value_fact f ≡ true → (ms : List Mention) → fact_at p ms ≡ Some f → SomeOf (IsAloneAt p) ms
+some_value p f v [] h = absurd cc
+some_value p f v (m ∷ ms) h = by (λ g. some_value p f v ms g) (is_at p m) refl (fact_of m.kind) refl h
+  where
+    by : (fact_at p ms ≡ Some f → SomeOf (IsAloneAt p) ms) → (b : Bool) → is_at p m ≡ b → (o : Option Fact) → fact_of m.kind ≡ o → fact_at p (m ∷ ms) ≡ Some f → SomeOf (IsAloneAt p) (m ∷ ms)
+    by ih false e o k g = inr (ih (rw e at g))
+    by ih true e None k g = inr (ih (rw (e, k) at g))
+    by ih true e (Some t) k g =
+        let x : Some t ≡ Some f = rw (e, k) at g in
+        inl (record { path = same_path-sound m.path p e; kind = alone_fact m.kind f (k ∙ x) v })
+
+through_solid : (a : MentionKind) → is_through a ≡ true → solid a ≡ true
+through_solid through h = refl
+through_solid past h = absurd cc
+through_solid define h = absurd cc
+through_solid kinds_element h = absurd cc
+through_solid dotted h = absurd cc
+through_solid (value f) h = absurd cc
+through_solid begun h = absurd cc
+through_solid passed h = absurd cc
+through_solid (item f) h = absurd cc
+
+through_many : (a : MentionKind) → is_through a ≡ true → exclusive a ≡ true → ⊥
+through_many through h g = absurd cc
+through_many past h g = absurd cc
+through_many define h g = absurd cc
+through_many kinds_element h g = absurd cc
+through_many dotted h g = absurd cc
+through_many (value f) h g = absurd cc
+through_many begun h g = absurd cc
+through_many passed h g = absurd cc
+through_many (item f) h g = absurd cc
+
+-- a mention that may be beside other such mentions, but beside no value
+pub record IsShared (is : MentionKind → Bool) : Type 0 where
+  pub firm : (a : MentionKind) → is a ≡ true → solid a ≡ true
+  pub many : (a : MentionKind) → is a ≡ true → exclusive a ≡ true → ⊥
+
+shared_through : IsShared is_through
+shared_through = record { firm = through_solid; many = through_many }
+
+alone_after : (is : MentionKind → Bool) → IsShared is → (p : List Part) (m : Mention) (ms : List Mention) → m.path ≡ p → is m.kind ≡ true → SomeOf (IsAloneAt p) ms → AllOf (Allowed m) ms → ⊥
+alone_after is shared p m [] e t s h = s
+alone_after is shared p m (x ∷ ms) e t (inl a) h =
+    let yes : kinds_allow m.kind x.kind ≡ true = h.0 (e ∙ sym a.path) in
+    let no : kinds_allow m.kind x.kind ≡ false = solid-exclusive m.kind x.kind (shared.firm m.kind t) a.kind in
+    absurd cc
+alone_after is shared p m (x ∷ ms) e t (inr s) h = alone_after is shared p m ms e t s h.1
+
+shared_after : (is : MentionKind → Bool) → IsShared is → (p : List Part) (m : Mention) (ms : List Mention) → m.path ≡ p → exclusive m.kind ≡ true → SomeOf (λ (m : Mention). (m.path ≡ p) × (is m.kind ≡ true)) ms
+    → AllOf (Allowed m) ms → ⊥
+shared_after is shared p m [] e t s h = s
+shared_after is shared p m (x ∷ ms) e t (inl a) h =
+    let yes : kinds_allow m.kind x.kind ≡ true = h.0 (e ∙ sym a.0) in
+    let no : kinds_allow m.kind x.kind ≡ false = exclusive-solid m.kind x.kind t (shared.firm x.kind a.1) in
+    absurd cc
+shared_after is shared p m (x ∷ ms) e t (inr s) h = shared_after is shared p m ms e t s h.1
+
+pub no_both : (is : MentionKind → Bool) → IsShared is → (p : List Part) (ms : List Mention) → SomeOf (λ (m : Mention). (m.path ≡ p) × (is m.kind ≡ true)) ms → SomeOf (IsAloneAt p) ms → Rules ms → ⊥
+no_both is shared p [] s a rules = s
+no_both is shared p (m ∷ ms) (inl s) (inl a) rules = shared.many m.kind s.1 a.kind
+no_both is shared p (m ∷ ms) (inl s) (inr a) rules = alone_after is shared p m ms s.0 s.1 a rules.0
+no_both is shared p (m ∷ ms) (inr s) (inl a) rules = shared_after is shared p m ms a.path a.kind s rules.0
+no_both is shared p (m ∷ ms) (inr s) (inr a) rules = no_both is shared p ms s a rules.1
+
+-- ---- an element's path ends in an index
+
+abbrev pub NotBegun : List Part → Mention → Type 0
+NotBegun p m = m.path ≡ p → is_begun m.kind ≡ false
+
+plain : (p : List Part) (ms : List Mention) → AllOf (λ (m : Mention). is_begun m.kind ≡ false) ms → AllOf (NotBegun p) ms
+plain p [] h = tt
+plain p (m ∷ ms) h = ((λ e. h.0), plain p ms h.1)
+
+plain_below : (s : List Part) (ms : List Mention) → AllOf (λ (m : Mention). is_begun m.kind ≡ false) ms → AllOf (λ (m : Mention). is_begun m.kind ≡ false) (map (below s) ms)
+plain_below s [] h = tt
+plain_below s (m ∷ ms) h = (h.0, plain_below s ms h.1)
+
+plain_keyed : (k : List ℕ) (ks : List (List ℕ)) (ms : List Mention) → AllOf (λ (m : Mention). is_begun m.kind ≡ false) ms → AllOf (λ (m : Mention). is_begun m.kind ≡ false) (keyed_mentions (k ∷ ks) ms)
+plain_keyed k [] ms h = plain_below (key k ∷ []) ms h
+plain_keyed k (l ∷ ks) ms h = plain_below (key k ∷ []) (record { path = []; kind = dotted } ∷ keyed_mentions (l ∷ ks) ms) (refl, plain_keyed l ks ms h)
+
+plain_named : (n : ℕ) (name : Option Name) (f : Fact) (ms : List Mention) → AllOf (λ (m : Mention). is_begun m.kind ≡ false) ms → AllOf (λ (m : Mention). is_begun m.kind ≡ false) (entry_mentions n name f ms)
+plain_named n None f ms h = plain_below (index n ∷ []) (valued_mentions (item f) ms) (refl, h)
+plain_named n (Some name) f ms h = plain_keyed (key_value name.key.first) (map further_value name.key.more) (valued_mentions (value f) ms) (refl, h)
+
+plain_entries : (n : ℕ) (es : Entries) → AllOf (λ (m : Mention). is_begun m.kind ≡ false) (entries_mentions n es)
+plain_entries n none = tt
+plain_entries n (entry name body nested after comma rest) =
+    all_join (λ (m : Mention). is_begun m.kind ≡ false) (entry_mentions n name (body_fact body) (entries_mentions 0 nested)) (entries_mentions (n + 1) rest)
+    (plain_named n name (body_fact body) (entries_mentions 0 nested) (plain_entries 0 nested)) (plain_entries (n + 1) rest)
+
+plain_pass : (tables : List (List Part)) (q : List Part) (b : Bool)
+    → AllOf (λ (m : Mention). is_begun m.kind ≡ false) (cond b (record { path = q; kind = through } ∷ []) (record { path = q; kind = past } ∷ record { path = entered_path tables q; kind = passed } ∷ []))
+plain_pass tables q true = (refl, tt)
+plain_pass tables q false = (refl, (refl, tt))
+
+pub plain_way : (tables : List (List Part)) (at : List Part) (keys : List (List ℕ)) → AllOf (λ (m : Mention). is_begun m.kind ≡ false) (header_way tables at keys)
+plain_way tables at [] = tt
+plain_way tables at (k ∷ []) = tt
+plain_way tables at (k ∷ l ∷ ks) =
+    let q : List Part = at ++ key k ∷ [] in
+    all_join (λ (m : Mention). is_begun m.kind ≡ false) (passing_mentions tables q) (header_way tables (entered_path tables q) (l ∷ ks)) (plain_pass tables q (0 == elements_of q tables)) (plain_way tables (entered_path tables q) (l ∷ ks))
+
+not_index : (p at : List Part) (n : ℕ) → EndsInKey p → at ++ index n ∷ [] ≡ p → ⊥
+not_index p at n ends e =
+    let same : index n ≡ key ends.1 = sym (last_snoc (index n) (index n) at) ∙ ap (last_from (index n)) (e ∙ ends.2) ∙ last_snoc (index n) (key ends.1) ends.0 in
+    absurd cc
+
+content_begun : (p : List Part) → EndsInKey p → (r : Reading) (before after : Gap) (comment : Option Written) (c : Content)
+    → AllOf (NotBegun p) (line_mentions r (record { before = before; content = c; after = after; comment = comment }))
+content_begun p ends r before after comment blank = tt
+content_begun p ends r before after comment (keyval name v) =
+    plain p (map (below r.body) (keyval_mentions name v)) (plain_below r.body (keyval_mentions name v) (plain_named 0 (Some name) (body_fact v.body) (entries_mentions 0 v.nested) (plain_entries 0 v.nested)))
+content_begun p ends r before after comment (header b k a) =
+    all_join (NotBegun p) (header_way r.tables [] (keys_of k)) (record { path = header_path r.tables [] (keys_of k); kind = define } ∷ [])
+    (plain p (header_way r.tables [] (keys_of k)) (plain_way r.tables [] (keys_of k))) ((λ e. refl), tt)
+content_begun p ends r before after comment (element b k a) =
+    let at : List Part = header_path r.tables [] (keys_of k) in
+    let n : ℕ = elements_of at r.tables in
+    all_join (NotBegun p) (header_way r.tables [] (keys_of k)) (record { path = at; kind = kinds_element } ∷ record { path = at ++ index n ∷ []; kind = begun } ∷ [])
+    (plain p (header_way r.tables [] (keys_of k)) (plain_way r.tables [] (keys_of k))) ((λ e. refl), ((λ e. absurd (not_index p at n ends e)), tt))
+
+pub lines_begun : (p : List Part) → EndsInKey p → (r : Reading) (ls : List Line) → AllOf (NotBegun p) (lines_mentions r ls)
+lines_begun p ends r [] = tt
+lines_begun p ends r (l ∷ ls) =
+    all_join (NotBegun p) (line_mentions r l) (lines_mentions (after_line r l) ls) (content_begun p ends r l.before l.after l.comment l.content) (lines_begun p ends (after_line r l) ls)
+
+pub never_begun : (p : List Part) (ms : List Mention) → AllOf (NotBegun p) ms → SomeOf (λ (m : Mention). (m.path ≡ p) × (is_begun m.kind ≡ true)) ms → ⊥
+never_begun p [] h s = s
+never_begun p (m ∷ ms) h (inl s) = let no : is_begun m.kind ≡ false = h.0 s.0 in let yes : is_begun m.kind ≡ true = s.1 in absurd cc
+never_begun p (m ∷ ms) h (inr s) = never_begun p ms h.1 s
+
+-- ---- the refusal
+
+three : (a b c : Bool) (f g h : EditFault) → first_that_holds ((a, f) ∷ (b, g) ∷ (not c, h) ∷ []) ≡ None → c ≡ true
+three a b true f g h e = refl
+three true b false f g h e = absurd cc
+three false true false f g h e = absurd cc
+three false false false f g h e = absurd cc
+
+value_there : (p : List Part) (ms : List Mention) (o : Option Fact) → fact_at p ms ≡ o → (elim o [ None ↦ false | Some f ↦ is_value_fact f ]) ≡ true → SomeOf (IsAloneAt p) ms
+value_there p ms None e h = absurd cc
+value_there p ms (Some f) e h = some_value p f h ms e
+
+pieces : (v d t b q : Bool) → (v || ((d && not t) || (b && not q))) ≡ true → t ≡ true → (v ≡ true) ⊎ (b ≡ true)
+pieces true d t b q h e = inl refl
+pieces false d t true q h e = inr refl
+pieces false true true false q h e = absurd cc
+pieces false false true false q h e = absurd cc
+pieces false d false false q h e = absurd cc
+
+pub single_piece : (s : Document) (path : List Part) → EndsInKey path → Rules (mentions_in s) → is_one_piece path (mentions_in s) ≡ true → (b : Bool) → has is_through path (mentions_in s) ≡ b → has is_through path (mentions_in s) ≡ false
+single_piece s path ends rules one false e = e
+single_piece s path ends rules one true e =
+    let ms : List Mention = mentions_in s in
+    elim (pieces (has_value path ms) (has is_define path ms) (has is_through path ms) (has is_begun path ms) (has is_passed path ms) one e) [
+      | inl v ↦ absurd (no_both is_through shared_through path ms (some_mentions is_through path ms e) (value_there path ms (fact_at path ms) refl v) rules)
+      | inr b ↦ absurd (never_begun path ms (lines_begun path ends start (lines s)) (some_mentions is_begun path ms b))
+    ]
+
+-- `remove` of a path that ends in a key, where it is not refused.
+pub remove_is_right : (profile : Profile) (limit : ℕ) (s : Document) (path : List Part) → EndsInKey path → IsDocument profile s → ObeysRules (marks (mentions_in s)) → refusal profile limit s (remove path) ≡ None
+    → EachChange (IsSetWhole profile s (remove path)) (change s (remove path))
+remove_is_right profile limit s path ends valid obeys accepted =
+    remove_key_is_right profile s path ends valid obeys
+    (single_piece s path ends (rules_of_document s obeys)
+    (three (not (is_node path (mentions_in s))) (is_root path) (is_one_piece path (mentions_in s)) _ _ _ accepted)
+    (has is_through path (mentions_in s)) refl)

@@ -1,0 +1,138 @@
+-- Where `set` puts a value without entries in place of a value with no nodes below it, the nodes stay as they are, but for
+-- the kind of the one at the path.
+use Rattle.std.proofs.Common.{◌≡◌, Bool, true, false, List, [], ◌∷◌, ◌++◌, map, refl, sym, ap, ◌∙◌, Option, Some, None}
+use Rattle.std.specs.List.{filter_map, cons_option}
+use Rattle.std.proofs.lemmas.List.{append-nil, map-append}
+use Rattle.std.proofs.lemmas.List.Elements.{filter-append, filter_map-append}
+use Rattle.keep_syntax.specs.Tree.{Name, none, Value, Document}
+use Rattle.keep_path.specs.Path.{Part, same_path}
+use Rattle.keep_types.specs.declared.node.Kind.{Kind}
+use Rattle.keep_meaning.specs.Fact.{Fact}
+use Rattle.keep_meaning.specs.Marks.{Mention, role_of, Reading, reading_after, start}
+use Rattle.keep_meaning.specs.Meaning.{body_fact, mentions_in}
+use Rattle.keep_meaning.specs.Counts.{Count, Numbered, statements_in, numbered_in}
+use Rattle.keep_meaning.specs.Nodes.{is_at, kinds_at, node_paths, children, fact_kind, is_numbered_at, numbered_at, mention_of, mentioned_node, Node, node_at}
+use Rattle.keep_meaning.proofs.Shared.{mentions-numbered_in}
+use Rattle.keep_edit_spec.specs.Look.{strip}
+use Rattle.keep_edit_spec.specs.Changed.{Changed}
+use Rattle.keep_edit_spec.specs.Edits.{set, change}
+use Rattle.keep_edit_spec.proofs.Common.Runs.{AllOf, Rules, IsDisjoint, same_path-refl, strip-append, is_at-disjoint, kinds_at-append}
+use Rattle.keep_edit_spec.proofs.Common.SetLaw.{tag_of}
+use Rattle.keep_edit_spec.proofs.Set.SetNumbers.{value_mention, numbered_value, IsFactSet, fact_set}
+
+-- After the edit the nodes are the same, and one has another kind.
+pub record IsKindSet (path : List Part) (k : Kind) (s s' : Document) : Type 0 where
+  -- the same paths are mentioned, in the same order
+  pub met : map (λ (m : Mention). m.path) (mentions_in s') ≡ map (λ (m : Mention). m.path) (mentions_in s)
+  -- the node at the path has this kind, and all else of it is as before
+  pub here : node_at (numbered_in s') path ≡ record (node_at (numbered_in s) path) { kind = k }
+  -- each other node is as before
+  pub elsewhere : (p : List Part) → same_path path p ≡ false → node_at (numbered_in s') p ≡ node_at (numbered_in s) p
+  -- the key parts that name a path have the same roles
+  pub roles : (p : List Part) → filter_map role_of (kinds_at p (mentions_in s')) ≡ filter_map role_of (kinds_at p (mentions_in s))
+  -- the full paths of the `[[..]]` lines are the same
+  pub tables : (reading_after start (statements_in s')).tables ≡ (reading_after start (statements_in s)).tables
+
+-- ---- the mentions, by the numbered ones
+
+mentions_by : (s : Document) (before behind : List Numbered) (n : Numbered) → numbered_in s ≡ before ++ n ∷ behind
+    → mentions_in s ≡ map mention_of before ++ n.mention ∷ map mention_of behind
+mentions_by s before behind n e = sym (mentions-numbered_in s) ∙ ap (map mention_of) e ∙ map-append mention_of before (n ∷ behind)
+
+paths_by : (path : List Part) (name : Option Name) (f : Fact) (before behind : List Mention)
+    → map (λ (m : Mention). m.path) (before ++ value_mention path name f ∷ behind)
+    ≡ map (λ (m : Mention). m.path) before ++ path ∷ map (λ (m : Mention). m.path) behind
+paths_by path name f before behind = map-append (λ (m : Mention). m.path) before (value_mention path name f ∷ behind)
+
+-- the key part that names a value has the same role, whatever the fact
+same_role : (name : Option Name) (f g : Fact) → role_of (tag_of name f) ≡ role_of (tag_of name g)
+same_role None f g = refl
+same_role (Some name) f g = refl
+
+roles_first : (p path : List Part) (name : Option Name) (f g : Fact) (behind : List Mention)
+    → filter_map role_of (kinds_at p (value_mention path name f ∷ behind)) ≡ filter_map role_of (kinds_at p (value_mention path name g ∷ behind))
+roles_first p path name f g behind = by (same_path path p) refl
+  where
+    by : (b : Bool) → same_path path p ≡ b
+        → filter_map role_of (kinds_at p (value_mention path name f ∷ behind)) ≡ filter_map role_of (kinds_at p (value_mention path name g ∷ behind))
+    by true e = rw e (ap (λ o. cons_option o (filter_map role_of (kinds_at p behind))) (same_role name f g))
+    by false e = rw e refl
+
+roles_by : (p path : List Part) (name : Option Name) (f g : Fact) (before behind : List Mention)
+    → filter_map role_of (kinds_at p (before ++ value_mention path name f ∷ behind)) ≡ filter_map role_of (kinds_at p (before ++ value_mention path name g ∷ behind))
+roles_by p path name f g before behind =
+    split f ∙ ap (λ l. filter_map role_of (kinds_at p before) ++ l) (roles_first p path name f g behind) ∙ sym (split g)
+  where
+    split : (h : Fact) → filter_map role_of (kinds_at p (before ++ value_mention path name h ∷ behind))
+        ≡ filter_map role_of (kinds_at p before) ++ filter_map role_of (kinds_at p (value_mention path name h ∷ behind))
+    split h = ap (filter_map role_of) (kinds_at-append p before (value_mention path name h ∷ behind))
+        ∙ filter_map-append role_of (kinds_at p before) (kinds_at p (value_mention path name h ∷ behind))
+
+-- ---- the nodes
+
+none_disjoint : (path : List Part) (ns : List Numbered) → AllOf (IsDisjoint path) (map mention_of ns) → numbered_at path ns ≡ []
+none_disjoint path [] h = refl
+none_disjoint path (n ∷ ns) h =
+    let itself : strip path path ≡ Some [] = ap (strip path) (sym (append-nil path)) ∙ strip-append path [] in
+    rw (is_at-disjoint path n.mention path [] h.0 itself (is_at path n.mention) refl) (none_disjoint path ns h.1)
+
+-- at the path there is the value's mention alone
+one_there : (path : List Part) (name : Option Name) (c : Count) (f : Fact) (before behind : List Numbered)
+    → AllOf (IsDisjoint path) (map mention_of before) → AllOf (IsDisjoint path) (map mention_of behind)
+    → numbered_at path (before ++ numbered_value path name c f ∷ behind) ≡ numbered_value path name c f ∷ []
+one_there path name c f before behind hb hh =
+    filter-append (is_numbered_at path) before (numbered_value path name c f ∷ behind)
+    ∙ ap (λ l. l ++ numbered_at path (numbered_value path name c f ∷ behind)) (none_disjoint path before hb)
+    ∙ rw (same_path-refl path) (ap (λ l. numbered_value path name c f ∷ l) (none_disjoint path behind hh))
+
+-- at other paths it is passed over
+none_there : (p path : List Part) (name : Option Name) (c : Count) (f : Fact) (before behind : List Numbered) → same_path path p ≡ false
+    → numbered_at p (before ++ numbered_value path name c f ∷ behind) ≡ numbered_at p before ++ numbered_at p behind
+none_there p path name c f before behind e =
+    filter-append (is_numbered_at p) before (numbered_value path name c f ∷ behind) ∙ ap (λ l. numbered_at p before ++ l) (past e)
+  where
+    past : same_path path p ≡ false → numbered_at p (numbered_value path name c f ∷ behind) ≡ numbered_at p behind
+    past e = rw e refl
+
+-- another fact at a path, and nothing else: another kind
+one_node : (path : List Part) (name : Option Name) (c : Count) (f g : Fact)
+    → mentioned_node path (numbered_value path name c g ∷ []) ≡ record (mentioned_node path (numbered_value path name c f ∷ [])) { kind = fact_kind g }
+one_node path None c f g = refl
+one_node path (Some name) c f g = refl
+
+-- A document where one mention has another fact.
+pub kind_of_fact_set : (path : List Part) (g : Fact) (s s' : Document) → IsFactSet path g s s' → IsKindSet path (fact_kind g) s s'
+kind_of_fact_set path g s s' h =
+    let before : List Mention = map mention_of h.before in
+    let behind : List Mention = map mention_of h.behind in
+    let was : mentions_in s ≡ before ++ value_mention path h.name h.fact ∷ behind =
+    mentions_by s h.before h.behind (numbered_value path h.name h.count h.fact) h.was in
+    let is : mentions_in s' ≡ before ++ value_mention path h.name g ∷ behind =
+    mentions_by s' h.before h.behind (numbered_value path h.name h.count g) h.is in
+    let node_was : node_at (numbered_in s) path ≡ mentioned_node path (numbered_value path h.name h.count h.fact ∷ []) =
+    ap (λ ns. node_at ns path) h.was
+    ∙ ap (mentioned_node path) (one_there path h.name h.count h.fact h.before h.behind h.disjoint_before h.disjoint_after) in
+    let node_is : node_at (numbered_in s') path ≡ mentioned_node path (numbered_value path h.name h.count g ∷ []) =
+    ap (λ ns. node_at ns path) h.is
+    ∙ ap (mentioned_node path) (one_there path h.name h.count g h.before h.behind h.disjoint_before h.disjoint_after) in
+    record {
+      met = ap (map (λ (m : Mention). m.path)) is ∙ paths_by path h.name g before behind
+          ∙ sym (ap (map (λ (m : Mention). m.path)) was ∙ paths_by path h.name h.fact before behind);
+      here = node_is ∙ one_node path h.name h.count h.fact g ∙ ap (λ (n : Node). record n { kind = fact_kind g }) (sym node_was);
+      elsewhere = λ p other.
+          ap (λ ns. node_at ns p) h.is
+          ∙ ap (mentioned_node p) (none_there p path h.name h.count g h.before h.behind other ∙ sym (none_there p path h.name h.count h.fact h.before h.behind other))
+          ∙ sym (ap (λ ns. node_at ns p) h.was);
+      roles = λ p.
+          ap (λ ms. filter_map role_of (kinds_at p ms)) is ∙ roles_by p path h.name g h.fact before behind
+          ∙ sym (ap (λ ms. filter_map role_of (kinds_at p ms)) was);
+      tables = ap (λ (r : Reading). r.tables) h.reading;
+    }
+
+-- The law: `set` of a value without entries, in place of a value with no nodes below it, leaves the nodes as they are, but
+-- for the kind of the one at the path.
+pub kind_set : (s : Document) (path : List Part) (new : Value) (c : Changed Document)
+    → Rules (mentions_in s) → change s (set path new) ≡ Some c → new.nested ≡ none
+    → children path (node_paths (mentions_in s)) ≡ [] → IsKindSet path (fact_kind (body_fact new.body)) s c.to
+kind_set s path new c rules e plain childless_here =
+    kind_of_fact_set path (body_fact new.body) s c.to (fact_set s path new c rules e plain childless_here)

@@ -1,0 +1,59 @@
+//! Laws of the edits, each the contract of a function that does nothing.
+ghost use Rattle.keep_edit_spec.specs.Laws as spec;
+ghost use Rattle.keep_edit_spec.specs.TouchedLines as touched;
+
+/// A `set` that is not refused changes the document as it is stated: in its text, its tree and its size.
+pub fn set_is_lawful()
+    ensures { spec.SetIsLawful }
+{}
+
+/// An `append_table` that is not refused changes the document as it is stated, for keys in UTF-8.
+pub fn append_table_is_lawful()
+    ensures { spec.AppendTableIsLawful }
+{}
+
+/// An `append_element` that is not refused changes the document as it is stated, for keys in UTF-8.
+pub fn append_element_is_lawful()
+    ensures { spec.AppendElementIsLawful }
+{}
+
+/// An `insert` that is not refused changes the document as it is stated, for keys in UTF-8.
+pub fn insert_is_lawful()
+    ensures { spec.InsertIsLawful }
+{}
+
+/// A `remove` that is not refused changes the document as it is stated: in its text, its tree and its size.
+pub fn remove_is_lawful()
+    ensures { spec.RemoveIsLawful }
+{}
+
+/// A `rename` that is not refused changes the document as it is stated, for a key in UTF-8.
+pub fn rename_is_lawful()
+    ensures { spec.RenameIsLawful }
+{}
+
+/// `get` gives the text of the value at a path, and a text only where there is a value.
+pub fn get_is_right()
+    ensures { spec.GetIsRight }
+{}
+
+/// An edit replaces its place in the text, and no byte elsewhere.
+pub fn change_is_put()
+    ensures { spec.ChangeIsPut }
+{}
+
+/// By an edit the text grows by no more than what the edit gives, and twelve bytes.
+pub fn growth_is_bounded()
+    ensures { spec.GrowthIsBounded }
+{}
+
+/// Twelve is the least such number: by some edit the text grows by as much.
+pub fn growth_bound_is_reached()
+    ensures { spec.GrowthReachesBound }
+{}
+
+/// The touched lines of an edit, in the new text, are lines of their own, and all others stay as they are. So an edit
+/// needs to scan only those.
+pub fn touched_lines_are_lines()
+    ensures { touched.TouchedLinesAreLines }
+{}

@@ -1,0 +1,51 @@
+use Rattle.std.proofs.Common.{◌≡◌, ◌∷◌, ◌++◌, [], List, length, ap, sym, refl, ◌∙◌, subst, None}
+use Rattle.keep_index_store.specs.AllNodes.{Node, no_node, node_at, and_item}
+use Rattle.keep_path.specs.Path.{index}
+use Rattle.keep_index_store.specs.Children.{ChildList, holding, no_children, holds_of, child_ids}
+use Rattle.keep_index_store.specs.Trie.{by_index, children_of}
+use Rattle.keep_index_store.specs.Stored.{trie_of, IsStored, infos_of}
+use Rattle.keep_index_store.proofs.StoredLemmas.{holds_read, IsAdded, with_one, no_names, item_step, none_ids, none_holds, grows_with, stored_added, infos_added}
+use Rattle.keep_index_store.proofs.nodes.add_item.Goals as goal
+
+pub link_item-requires-clause-holds : goal.link_item-requires-clause-holds
+link_item-requires-clause-holds c = holds_read c.args.nodes.now.items c.args.parent no_node by_index c.requires.within c.requires.listed
+
+new : goal.In_ok-push → Node
+new c = record { parent = c.args.parent; number = c.child_count-number.result; children = no_children (holding c.args.holds); facts = record c.args.facts { role = None } }
+
+kids : goal.In_ok-push → ChildList
+kids c = and_item (node_at c.args.nodes.now.items c.args.parent).children c.len-id.result
+
+added : (c : goal.In_ok-push) → IsAdded c.args.nodes.now.items c.args.parent no_node (kids c) (new c) (index (length (children_of (trie_of c.args.nodes.now.items) c.args.parent)))
+unfolding new kids
+added c =
+    let nodes : List Node = c.args.nodes.now.items in
+    let above : ChildList = (node_at nodes c.args.parent).children in
+    let listed : holds_of above ≡ by_index = holds_read nodes c.args.parent no_node by_index c.requires.within c.requires.listed in
+    record {
+      stored = c.requires.stored;
+      within = c.requires.within;
+      holds = sym listed;
+      ids = ap (λ n. child_ids above ++ n ∷ []) c.len-id.ensures;
+      names = [];
+      named_is = sym (ap (λ ns. ns ++ []) (no_names above listed));
+      parent_is = refl;
+      last = c.child_count-number.ensures;
+      step = item_step (kids c) c.child_count-number.result _ refl (c.child_count-number.ensures ∙ ap length (c.requires.stored.kids c.args.parent no_node c.requires.within));
+      bare = none_ids (holding c.args.holds);
+    }
+
+items : (c : goal.In_ok-push) → c.push.new.self.items ≡ with_one c.args.nodes.now.items c.args.parent no_node (kids c) (new c)
+unfolding new kids
+items c = c.in_ok-push.ensures ∙ ap (λ (ns : List Node). ns ++ new c ∷ []) c.in_ok-link_item.ensures
+
+pub returns-clause-grows : goal.returns-clause-grows
+unfolding new kids
+returns-clause-grows c = grows_with _ _ _ _ _ _ _ _ (added c) c.requires.fresh (items c) (none_holds (holding c.args.holds))
+
+pub returns-clause-stored : goal.returns-clause-stored
+returns-clause-stored c = subst IsStored (sym (items c)) (stored_added _ _ _ _ _ _ (added c) c.requires.fresh)
+
+pub returns-clause-infos : goal.returns-clause-infos
+unfolding new kids
+returns-clause-infos c = ap infos_of (items c) ∙ infos_added c.args.nodes.now.items c.args.parent no_node (kids c) (new c)

@@ -1,0 +1,55 @@
+use Rattle.std.proofs.Common.{◌≡◌, ◌∷◌, ◌++◌, [], List, ap, sym, refl, ◌∙◌, subst, Some}
+use Rattle.keep_index_store.specs.AllNodes.{Node, no_node, node_at, and_key}
+use Rattle.keep_path.specs.Path.{key}
+use Rattle.keep_index_store.specs.Children.{ChildList, holding, no_children, holds_of, child_ids}
+use Rattle.keep_index_store.specs.Trie.{by_key}
+use Rattle.keep_index_store.specs.Stored.{IsStored, infos_of}
+use Rattle.keep_index_store.proofs.StoredLemmas.{holds_read, not_named, IsAdded, with_one, key_ids, key_step, none_ids, none_holds, grows_with, stored_added, infos_added}
+use Rattle.keep_index_store.proofs.nodes.add_key.Goals as goal
+
+pub link_key-requires-clause-holds : goal.link_key-requires-clause-holds
+link_key-requires-clause-holds c = holds_read c.args.nodes.now.items c.args.parent no_node by_key c.requires.within c.requires.keyed
+
+pub link_key-requires-clause-fresh : goal.link_key-requires-clause-fresh
+link_key-requires-clause-fresh c =
+    not_named c.args.nodes.now.items c.requires.stored c.args.parent no_node c.args.text.now c.requires.within (holds_read c.args.nodes.now.items c.args.parent no_node by_key c.requires.within c.requires.keyed) c.requires.fresh
+
+new : goal.In_ok-push → Node
+new c = record { parent = c.args.parent; number = c.child_count-number.result; children = no_children (holding c.args.holds); facts = record c.args.facts { role = Some c.args.role } }
+
+kids : goal.In_ok-push → ChildList
+kids c = and_key (node_at c.args.nodes.now.items c.args.parent).children c.args.text.now c.len-id.result
+
+added : (c : goal.In_ok-push) → IsAdded c.args.nodes.now.items c.args.parent no_node (kids c) (new c) (key c.args.text.now)
+unfolding new kids
+added c =
+    let nodes : List Node = c.args.nodes.now.items in
+    let above : ChildList = (node_at nodes c.args.parent).children in
+    let keyed : holds_of above ≡ by_key = holds_read nodes c.args.parent no_node by_key c.requires.within c.requires.keyed in
+    record {
+      stored = c.requires.stored;
+      within = c.requires.within;
+      holds = sym keyed;
+      ids = key_ids above c.args.text.now c.len-id.result keyed ∙ ap (λ n. child_ids above ++ n ∷ []) c.len-id.ensures;
+      names = (c.args.text.now, c.len-id.result) ∷ [];
+      named_is = refl;
+      parent_is = refl;
+      last = c.child_count-number.ensures;
+      step = key_step above (kids c) c.args.text.now c.args.text.now c.len-id.result c.child_count-number.result keyed refl refl c.child_count-number.ensures refl;
+      bare = none_ids (holding c.args.holds);
+    }
+
+items : (c : goal.In_ok-push) → c.push.new.self.items ≡ with_one c.args.nodes.now.items c.args.parent no_node (kids c) (new c)
+unfolding new kids
+items c = c.in_ok-push.ensures ∙ ap (λ (ns : List Node). ns ++ new c ∷ []) c.in_ok-link_key.ensures
+
+pub returns-clause-grows : goal.returns-clause-grows
+unfolding new kids
+returns-clause-grows c = grows_with _ _ _ _ _ _ _ _ (added c) c.requires.fresh (items c) (none_holds (holding c.args.holds))
+
+pub returns-clause-stored : goal.returns-clause-stored
+returns-clause-stored c = subst IsStored (sym (items c)) (stored_added _ _ _ _ _ _ (added c) c.requires.fresh)
+
+pub returns-clause-infos : goal.returns-clause-infos
+unfolding new kids
+returns-clause-infos c = ap infos_of (items c) ∙ infos_added c.args.nodes.now.items c.args.parent no_node (kids c) (new c)

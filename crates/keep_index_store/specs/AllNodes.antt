@@ -1,0 +1,57 @@
+-- The nodes, as contracts see them.
+use Rattle.std.specs.Prelude.{ℕ, List, ◌∷◌, ◌++◌, [], false, None, slice_index_or, slice_set}
+use Rattle.keep_types.specs.declared.node.Kind.TheVariants as kind
+use Rattle.keep_index_store.specs.declared.facts.OriginKind.TheVariants as origin_kind
+use Rattle.keep_index_store.specs.declared.facts.NodeFacts.{NodeFacts}
+use Rattle.keep_index_store.specs.Children.{ChildList, Bare, Keyed, Listed, named, child_ids}
+use Rattle.keep_index_store.specs.KeyMaps.{with_key_at}
+
+-- the parent of a node, its number among the children there, its own children, and the facts about it
+pub record Node : Type 0 where
+  pub parent : ℕ
+  pub number : ℕ
+  pub children : ChildList
+  pub facts : NodeFacts
+
+pub record AllNodes : Type 0 where
+  pub items : List Node
+
+-- in place of a node that is not there
+abbrev pub no_node : Node
+no_node = record {
+  parent = 0;
+  number = 0;
+  children = Bare;
+  facts = record {
+    role = None;
+    kind = kind.Table;
+    passed = false;
+    origin = origin_kind.Root;
+    marks = 0;
+    key = 0;
+    number = 0;
+  };
+}
+
+abbrev pub node_at : List Node → ℕ → Node
+node_at nodes i = slice_index_or nodes i no_node
+
+-- the nodes, where one has these children
+abbrev pub with_children : List Node → ℕ → ChildList → List Node
+with_children nodes i children = slice_set nodes i (record (node_at nodes i) { children = children })
+
+-- the nodes, where one has these facts
+abbrev pub with_facts : List Node → ℕ → NodeFacts → List Node
+with_facts nodes i facts = slice_set nodes i (record (node_at nodes i) { facts = facts })
+
+-- a child more, by its key
+abbrev pub and_key : ChildList → List ℕ → ℕ → ChildList
+and_key children text child = Keyed (named children ++ (text, child) ∷ [])
+
+-- an item or element more
+abbrev pub and_item : ChildList → ℕ → ChildList
+and_item children child = Listed (child_ids children ++ child ∷ [])
+
+-- the children, where that one has this key
+abbrev pub with_key : ChildList → ℕ → List ℕ → ChildList
+with_key children n text = Keyed (with_key_at (named children) n text)

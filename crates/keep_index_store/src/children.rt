@@ -1,0 +1,304 @@
+//! The children of a node.
+ghost use Rattle.std.specs.Prelude.{◌≡◌, ◌<◌, ◌-◌, ◌∷◌, ◌++◌, [], None, OnErr, OnOk, IfOk, IfSome, IfNone, bytes_eq};
+ghost use Rattle.std.specs.Prelude.{false, length, option_copied, option_map, slice_get, slice_index_or};
+ghost use Rattle.std.specs.Map.{lookup};
+ghost use Rattle.keep_index_store.specs.AllNodes.{and_key, and_item, with_key};
+ghost use Rattle.keep_index_store.specs.ChildForms.{children_in};
+ghost use Rattle.keep_index_store.specs.Children.{Keyed, holding, no_children, holds_of, named, child_ids, child_named};
+ghost use Rattle.keep_index_store.specs.Children.{child_numbered};
+ghost use Rattle.keep_index_store.specs.Trie.{by_key, by_index};
+
+use crate::few_keys::{FewKeys, MOST_KEYS};
+use crate::key_map::KeyMap;
+use crate::run;
+use crate::seed::Seed;
+use crate::stored_key::StoredKey;
+use std::alloc::{AllocError, Global};
+use std::marker::Model;
+use std::mem;
+
+/// What children a node may have.
+#[derive(Clone, Copy)]
+pub enum Holds {
+    /// A scalar: none.
+    Nothing,
+    /// A table: by keys.
+    Keys,
+    /// An array or an array of tables: items or elements.
+    Items,
+}
+
+/// The only key of a table, decoded, and its child.
+#[derive(Drop)]
+pub struct OnlyKey {
+    key: StoredKey,
+    child: usize,
+}
+
+/// How the children of a node are stored.
+#[derive(Drop)]
+pub enum Form {
+    /// At a scalar: none.
+    Nothing,
+    /// At a table without a key.
+    NoKeys,
+    /// At a table with one key, with which a look-up compares.
+    OneKey(Box<OnlyKey>),
+    /// At a table with a few keys, with each of which a look-up compares.
+    FewKeys(Box<FewKeys>),
+    /// At a table with more keys.
+    Keys(Box<KeyMap>),
+    /// At an array or an array of tables whose items are consecutive nodes, as they are while none but the last has a
+    /// value in it: `len` of them from `first` on.
+    Run { len: u32, first: usize },
+    /// At another array or array of tables.
+    Items(Box<Vec<usize>>),
+}
+
+impl Form {
+    /// A table's children and one more, by a key that has none yet.
+    fn with_key(
+        self,
+        alloc: Global,
+        seed: Seed,
+        key: StoredKey,
+        child: usize,
+    ) -> Result<Form, AllocError>
+        requires holds { holds_of (children_in self) ≡ by_key }
+        requires fresh { child_named (children_in self) key ≡ None }
+        ensures { IfOk result (λ form. children_in form ≡ and_key (children_in self) key child) }
+    {
+        match self {
+            Form::NoKeys => Form::one_key(alloc, key, child),
+            Form::OneKey(only) => Form::two_keys(alloc, Box::into_inner(only), key, child),
+            Form::FewKeys(keys) => Form::more_keys(alloc, seed, keys, key, child),
+            Form::Keys(keys) => Form::many_keys(keys, key, child),
+            _ => unreachable!(),
+        }
+    }
+
+    /// One key and its child.
+    fn one_key(alloc: Global, key: StoredKey, child: usize) -> Result<Form, AllocError>
+        ensures { IfOk result (λ form. children_in form ≡ Keyed ((key, child) ∷ [])) }
+    {
+        let only = OnlyKey { key, child };
+        Ok(Form::OneKey(Box::new(alloc, only)?))
+    }
+
+    /// The only key so far and another one, each with its child.
+    fn two_keys(
+        alloc: Global,
+        only: OnlyKey,
+        key: StoredKey,
+        child: usize,
+    ) -> Result<Form, AllocError>
+        requires { bytes_eq key only.key ≡ false }
+        ensures { IfOk result (λ form. children_in form ≡ Keyed ((only.key, only.child) ∷ (key, child) ∷ [])) }
+    {
+        let keys = FewKeys::two(alloc, (only.key, only.child), (key, child))?;
+        Ok(Form::FewKeys(Box::new(alloc, keys)?))
+    }
+
+    /// A few keys and another one: if they are then too many to compare one after another, in a map.
+    fn more_keys(
+        alloc: Global,
+        seed: Seed,
+        keys: Box<FewKeys>,
+        key: StoredKey,
+        child: usize,
+    ) -> Result<Form, AllocError>
+        requires { lookup (bytes_eq key) keys.value ≡ None }
+        ensures { IfOk result (λ form. children_in form ≡ Keyed (keys.value ++ (key, child) ∷ [])) }
+    {
+        if keys.len() < MOST_KEYS {
+            return Form::few_keys(keys, key, child);
+        }
+        let mut map = Box::new(alloc, KeyMap::new(alloc, seed))?;
+        Box::into_inner(keys).move_into(&mut map)?;
+        Form::many_keys(map, key, child)
+    }
+
+    /// A few keys and another one, which are still few.
+    fn few_keys(mut keys: Box<FewKeys>, key: StoredKey, child: usize) -> Result<Form, AllocError>
+        requires few { length keys.value < MOST_KEYS }
+        requires fresh { lookup (bytes_eq key) keys.value ≡ None }
+        ensures { IfOk result (λ form. children_in form ≡ Keyed (keys.value ++ (key, child) ∷ [])) }
+    {
+        keys.add(key, child)?;
+        Ok(Form::FewKeys(keys))
+    }
+
+    /// The keys of a map and another one.
+    fn many_keys(mut map: Box<KeyMap>, key: StoredKey, child: usize) -> Result<Form, AllocError>
+        requires { lookup (bytes_eq key) map.value ≡ None }
+        ensures { IfOk result (λ form. children_in form ≡ Keyed (map.value ++ (key, child) ∷ [])) }
+    {
+        map.add(key, child)?;
+        Ok(Form::Keys(map))
+    }
+}
+
+/// The children of a node, each by the number of its node, in the order of first meeting.
+#[derive(Drop)]
+pub struct Children {
+    form: Form,
+}
+
+impl Model for Children {
+    ghost use Rattle.keep_index_store.specs.Children.{ChildList};
+
+    ghost Value = { ChildList };
+
+    ghost use Rattle.keep_index_store.specs.ChildForms.{children_in, FitsIn64Bits};
+
+    ghost view = { λ children. children_in children.form };
+
+    ghost invariant = { λ children. FitsIn64Bits children.form };
+}
+
+impl Children {
+    /// None yet. It takes no memory.
+    pub fn none(holds: Holds) -> Children
+        ensures { result ≡ no_children (holding holds) }
+    {
+        let form = match holds {
+            Holds::Nothing => Form::Nothing,
+            Holds::Keys => Form::NoKeys,
+            Holds::Items => Form::Run { len: 0, first: 0 },
+        };
+        Children { form }
+    }
+
+    /// The child of that key.
+    pub fn child(&self, text: &str) -> Option<usize>
+        ensures { result ≡ child_named self.now text.now }
+    {
+        match &self.form {
+            Form::OneKey(only) => (text == only.key.as_str()).then_some(only.child),
+            Form::FewKeys(keys) => keys.child(text),
+            Form::Keys(keys) => keys.child(text),
+            _ => None,
+        }
+    }
+
+    /// Adds a child by a key that has none yet. If memory runs out, the children are lost.
+    pub fn add_key(
+        &mut self,
+        alloc: Global,
+        seed: Seed,
+        text: &str,
+        child: usize,
+    ) -> Result<(), AllocError>
+        requires holds { holds_of self.old ≡ by_key }
+        requires fresh { child_named self.old text.now ≡ None }
+        ensures { OnOk result (self.new ≡ and_key self.old text.now child) }
+    {
+        let key = StoredKey::of(alloc, text)?;
+        let form = mem::replace(&mut self.form, Form::NoKeys);
+        self.form = form.with_key(alloc, seed, key, child)?;
+        Ok(())
+    }
+
+    /// Gives a child another key, which no child has yet. If memory runs out, nothing is changed.
+    pub fn set_key(&mut self, alloc: Global, number: usize, text: &str) -> Result<(), AllocError>
+        requires holds { holds_of self.old ≡ by_key }
+        requires within { number < length (named self.old) }
+        requires fresh { child_named self.old text.now ≡ None }
+        ensures ok { OnOk result (self.new ≡ with_key self.old number text.now) }
+        ensures err { OnErr result (self.new ≡ self.old) }
+    {
+        let key = StoredKey::of(alloc, text)?;
+        match &mut self.form {
+            Form::OneKey(only) => only.key = key,
+            Form::FewKeys(keys) => keys.set_key(number, key),
+            Form::Keys(keys) => keys.set_key(number, key)?,
+            _ => unreachable!(),
+        }
+        Ok(())
+    }
+
+    /// Adds an item or an element.
+    pub fn add_item(&mut self, alloc: Global, child: usize) -> Result<(), AllocError>
+        requires { holds_of self.old ≡ by_index }
+        ensures { OnOk result (self.new ≡ and_item self.old child) }
+    {
+        match &mut self.form {
+            Form::Run { len, first } => {
+                if let Some(run) = run::longer(*len, *first, child) {
+                    (*len, *first) = run;
+                } else {
+                    let items = run::with_child(alloc, *len, *first, child)?;
+                    self.form = Form::Items(Box::new(alloc, items)?);
+                }
+            }
+            Form::Items(items) => items.push(child)?,
+            _ => unreachable!(),
+        }
+        Ok(())
+    }
+
+    /// How many there are.
+    pub fn len(&self) -> usize
+        ensures { result ≡ length (child_ids self.now) }
+    {
+        match &self.form {
+            Form::Nothing | Form::NoKeys => 0,
+            Form::OneKey(_) => 1,
+            Form::FewKeys(keys) => keys.len(),
+            Form::Keys(keys) => keys.len(),
+            Form::Run { len, .. } => *len as usize,
+            Form::Items(items) => items.len(),
+        }
+    }
+
+    /// The last item or element.
+    pub fn last_item(&self) -> Option<usize>
+        ensures some { IfSome result
+            (λ id. (0 < length (child_ids self.now))
+            × (id ≡ slice_index_or (child_ids self.now) (length (child_ids self.now) - 1) 0)) }
+        ensures none { IfNone result (holds_of self.now ≡ by_index → length (child_ids self.now) ≡ 0) }
+    {
+        match &self.form {
+            Form::Run { len, first } => run::last_child(*len, *first),
+            Form::Items(items) => items.last().copied(),
+            _ => None,
+        }
+    }
+
+    /// The item or element with that number.
+    pub fn item(&self, number: usize) -> Option<usize>
+        ensures { result ≡ child_numbered self.now number }
+    {
+        match &self.form {
+            Form::Run { len, first } => run::child_at(*len, *first, number),
+            Form::Items(items) => items.get(number).copied(),
+            _ => None,
+        }
+    }
+
+    /// The child that was added after that many others.
+    pub fn at(&self, number: usize) -> Option<usize>
+        ensures { result ≡ slice_get (child_ids self.now) number }
+    {
+        match &self.form {
+            Form::Nothing | Form::NoKeys => None,
+            Form::OneKey(only) => (number == 0).then_some(only.child),
+            Form::FewKeys(keys) => keys.child_at(number),
+            Form::Keys(keys) => keys.child_at(number),
+            Form::Run { len, first } => run::child_at(*len, *first, number),
+            Form::Items(items) => items.get(number).copied(),
+        }
+    }
+
+    /// Its key, if it has one.
+    pub fn key_at(&self, number: usize) -> Option<&str>
+        ensures { option_copied result ≡ option_map (λ e. e.0) (slice_get (named self.now) number) }
+    {
+        match &self.form {
+            Form::OneKey(only) => (number == 0).then_some(only.key.as_str()),
+            Form::FewKeys(keys) => keys.key_at(number),
+            Form::Keys(keys) => keys.key_at(number),
+            _ => None,
+        }
+    }
+}

@@ -1,0 +1,405 @@
+//! The nodes, in the order in which they are first met.
+ghost use Rattle.std.specs.Prelude.{◌≡◌, ◌<◌, ◌-◌, ◌∷◌, ◌++◌, [], length, None, Some, IfNone, IfSome, IfOk, OnErr};
+ghost use Rattle.std.specs.Prelude.{OnOk, Contains, slice_get, slice_index_or, slice_set, option_copied, option_map};
+ghost use Rattle.keep_index_store.specs.AllNodes.{node_at, with_children, with_facts, and_key, and_item, with_key};
+ghost use Rattle.keep_index_store.specs.Children.{holding, no_children, holds_of, named, child_ids, child_named};
+ghost use Rattle.keep_index_store.specs.Children.{child_numbered};
+ghost use Rattle.keep_index_store.specs.Growth.{Grows, Restates};
+ghost use Rattle.keep_path.specs.Path.{EndsInKey, beside, key, index};
+ghost use Rattle.keep_index_store.specs.Stored.{IsStored, trie_of, infos_of, info_at, node_infos};
+ghost use Rattle.keep_path.specs.NodeInfos.{with_path};
+ghost use Rattle.keep_index_store.specs.Facts.{joined_info, joined_facts, info_of};
+ghost use Rattle.keep_index_store.specs.Trie.{by_key, by_index, children_of, holds_at, holdings_of, paths_of, path_at};
+
+use crate::children::{Children, Holds};
+use crate::facts::NodeFacts;
+use crate::links::{ParentLink, ParentLinks};
+use crate::packed::PackedFacts;
+use crate::seed::Seed;
+use keep_types::{Kind, Role};
+use std::alloc::{AllocError, Global};
+use std::marker::Model;
+
+/// A node: its children, and the facts about it. The root is the first.
+#[derive(Drop)]
+pub struct Node {
+    children: Children,
+    facts: PackedFacts,
+}
+
+impl Node {
+    /// A node with no children.
+    #[inline(always)]
+    fn new(alloc: Global, facts: NodeFacts, holds: Holds) -> Result<Node, AllocError>
+        ensures children { IfOk result (λ node. node.children ≡ no_children (holding holds)) }
+        ensures facts { IfOk result (λ node. node.facts ≡ facts) }
+    {
+        Ok(Node {
+            children: Children::none(holds),
+            facts: PackedFacts::of(alloc, facts)?,
+        })
+    }
+}
+
+/// All nodes. Their parent links are stored in a separate vector, since marks and look-ups never ask for them; the
+/// root's link is never followed.
+#[derive(Drop)]
+pub struct Nodes {
+    list: Vec<Node>,
+    links: ParentLinks,
+    seed: Seed,
+}
+
+impl Model for Nodes {
+    ghost use Rattle.std.specs.Prelude.{◌≡◌, length};
+    ghost use Rattle.keep_index_store.specs.AllNodes.{AllNodes};
+
+    ghost Value = { AllNodes };
+
+    ghost use Rattle.keep_index_store.specs.NodeRows.{all_nodes};
+
+    ghost view = { λ n. all_nodes n.list.items n.links };
+
+    ghost invariant = { λ n. length n.links ≡ length n.list.items };
+}
+
+impl Nodes {
+    /// No node yet. `text` gives the seed of the maps of their keys.
+    pub fn new(alloc: Global, text: &str) -> Nodes
+        ensures { result.items ≡ [] }
+    {
+        Nodes {
+            list: Vec::new(alloc),
+            links: ParentLinks::new(alloc),
+            seed: Seed::of(text),
+        }
+    }
+
+    /// No node yet, for the text of these with other lines. The seed comes of theirs and of the lines, so the rest of
+    /// the text is not hashed once more.
+    pub fn renewed(&self, alloc: Global, lines: &str) -> Nodes
+        ensures { result.items ≡ [] }
+    {
+        Nodes {
+            list: Vec::new(alloc),
+            links: ParentLinks::new(alloc),
+            seed: self.seed.after(lines),
+        }
+    }
+
+    /// How many nodes there are.
+    pub fn len(&self) -> usize
+        ensures { result ≡ length self.now.items }
+    {
+        self.list.len()
+    }
+
+    /// The allocator of the nodes.
+    pub fn allocator(&self) -> Global {
+        *self.list.allocator()
+    }
+
+    /// The parent of a node.
+    pub fn parent(&self, id: usize) -> usize
+        requires { id < length self.now.items }
+        ensures { result ≡ (node_at self.now.items id).parent }
+    {
+        self.links.get(id).parent
+    }
+
+    /// The number of a node among the children of its parent.
+    pub fn number(&self, id: usize) -> usize
+        requires { id < length self.now.items }
+        ensures { result ≡ (node_at self.now.items id).number }
+    {
+        self.links.get(id).number
+    }
+
+    /// The facts about a node.
+    pub fn facts(&self, id: usize) -> NodeFacts
+        requires { id < length self.now.items }
+        ensures { result ≡ (node_at self.now.items id).facts }
+    {
+        self.list[id].facts.unpack()
+    }
+
+    /// The role that represents those of the marks at a node, if there are any.
+    pub fn role(&self, id: usize) -> Option<Role>
+        requires { id < length self.now.items }
+        ensures { result ≡ (node_at self.now.items id).facts.role }
+    {
+        self.list[id].facts.role()
+    }
+
+    /// The child of a node by a key.
+    pub fn child(&self, id: usize, text: &str) -> Option<usize>
+        requires { id < length self.now.items }
+        ensures { result ≡ child_named (node_at self.now.items id).children text.now }
+    {
+        self.list[id].children.child(text)
+    }
+
+    /// The item or element with that number.
+    pub fn item(&self, id: usize, number: usize) -> Option<usize>
+        requires { id < length self.now.items }
+        ensures { result ≡ child_numbered (node_at self.now.items id).children number }
+    {
+        self.list[id].children.item(number)
+    }
+
+    /// The last item or element.
+    pub fn last_item(&self, id: usize) -> Option<usize>
+        requires { id < length self.now.items }
+        ensures some { IfSome result
+            (λ last. (0 < length (child_ids (node_at self.now.items id).children))
+            × (last ≡ slice_index_or (child_ids (node_at self.now.items id).children)
+            (length (child_ids (node_at self.now.items id).children) - 1) 0)) }
+        ensures none { IfNone result
+            (holds_of (node_at self.now.items id).children ≡ by_index
+            → length (child_ids (node_at self.now.items id).children) ≡ 0) }
+    {
+        self.list[id].children.last_item()
+    }
+
+    /// How many children a node has.
+    pub fn child_count(&self, id: usize) -> usize
+        requires { id < length self.now.items }
+        ensures { result ≡ length (child_ids (node_at self.now.items id).children) }
+    {
+        self.list[id].children.len()
+    }
+
+    /// The child of a node that was added after that many others.
+    pub fn child_at(&self, id: usize, number: usize) -> Option<usize>
+        requires { id < length self.now.items }
+        ensures { result ≡ slice_get (child_ids (node_at self.now.items id).children) number }
+    {
+        self.list[id].children.at(number)
+    }
+
+    /// The key of that child, if it has one.
+    pub fn key_at(&self, id: usize, number: usize) -> Option<&str>
+        requires { id < length self.now.items }
+        ensures { option_copied result
+            ≡ option_map (λ e. e.0) (slice_get (named (node_at self.now.items id).children) number) }
+    {
+        self.list[id].children.key_at(number)
+    }
+
+    /// Adds a node with no children, which is not yet among the children of its parent.
+    #[inline(always)]
+    pub fn push(
+        &mut self,
+        parent: usize,
+        number: usize,
+        facts: NodeFacts,
+        holds: Holds,
+    ) -> Result<(), AllocError>
+        ensures { OnOk result (self.new.items ≡ self.old.items
+            ++ record { parent = parent; number = number; children = no_children (holding holds); facts = facts }
+            ∷ []) }
+    {
+        let alloc = self.allocator();
+        self.list.reserve(1)?;
+        let node = Node::new(alloc, facts, holds)?;
+        self.links.push(ParentLink { parent, number })?;
+        self.list.push_reserved(node);
+        Ok(())
+    }
+
+    /// Adds a node to the children of a table, by a key that is not there yet.
+    fn link_key(&mut self, id: usize, text: &str, child: usize) -> Result<(), AllocError>
+        requires within { id < length self.old.items }
+        requires holds { holds_of (node_at self.old.items id).children ≡ by_key }
+        requires fresh { child_named (node_at self.old.items id).children text.now ≡ None }
+        ensures { OnOk result (self.new.items ≡ with_children self.old.items id
+            (and_key (node_at self.old.items id).children text.now child)) }
+    {
+        let alloc = self.allocator();
+        let above = &mut self.list[id];
+        above.children.add_key(alloc, self.seed, text, child)
+    }
+
+    /// Gives a child of a table another key, which no child there has yet.
+    fn set_child_key(&mut self, id: usize, number: usize, text: &str) -> Result<(), AllocError>
+        requires within { id < length self.old.items }
+        requires holds { holds_of (node_at self.old.items id).children ≡ by_key }
+        requires counted { number < length (named (node_at self.old.items id).children) }
+        requires fresh { child_named (node_at self.old.items id).children text.now ≡ None }
+        ensures ok { OnOk result (self.new.items ≡ with_children self.old.items id
+            (with_key (node_at self.old.items id).children number text.now)) }
+        ensures err { OnErr result (self.new.items ≡ self.old.items) }
+    {
+        let alloc = self.allocator();
+        let above = &mut self.list[id];
+        above.children.set_key(alloc, number, text)
+    }
+
+    /// Adds a node to the children of an array or an array of tables.
+    fn link_item(&mut self, id: usize, child: usize) -> Result<(), AllocError>
+        requires within { id < length self.old.items }
+        requires holds { holds_of (node_at self.old.items id).children ≡ by_index }
+        ensures { OnOk result (self.new.items ≡ with_children self.old.items id
+            (and_item (node_at self.old.items id).children child)) }
+    {
+        let alloc = self.allocator();
+        let above = &mut self.list[id];
+        above.children.add_item(alloc, child)
+    }
+
+    /// Joins the facts from one more mention of a node to its own; its role is now this one.
+    fn join_facts(
+        &mut self,
+        id: usize,
+        role: Option<Role>,
+        more: NodeFacts,
+    ) -> Result<(), AllocError>
+        requires { id < length self.old.items }
+        ensures { OnOk result (self.new.items ≡ with_facts self.old.items id
+            (record (joined_facts (node_at self.old.items id).facts more) { role = role })) }
+    {
+        let alloc = self.allocator();
+        let node = &mut self.list[id];
+        node.facts.join(alloc, role, more)
+    }
+
+    /// Gives a node another kind.
+    fn set_kind(&mut self, id: usize, kind: Kind)
+        requires { id < length self.old.items }
+        ensures { self.new.items ≡ with_facts self.old.items id
+            (record (node_at self.old.items id).facts { kind = kind }) }
+    {
+        let node = &mut self.list[id];
+        node.facts.set_kind(kind);
+    }
+}
+
+/// The child of a table by a key.
+pub fn child_of(nodes: &Nodes, parent: usize, text: &str) -> Option<usize>
+    requires stored { IsStored nodes.now.items }
+    requires within { parent < length nodes.now.items }
+    requires keyed { holds_at (trie_of nodes.now.items) parent ≡ by_key }
+    ensures none { IfNone result
+        (Contains (paths_of (trie_of nodes.now.items)) (path_at (trie_of nodes.now.items) parent ++ key text.now ∷ [])
+        → ⊥) }
+    ensures nested { IfSome result (λ child. child < length nodes.now.items) }
+    ensures found { IfSome result
+        (λ child. path_at (trie_of nodes.now.items) child
+        ≡ path_at (trie_of nodes.now.items) parent ++ key text.now ∷ []) }
+{
+    nodes.child(parent, text)
+}
+
+/// Adds a new node below a table, where no node has its path yet.
+pub fn add_key(
+    nodes: &mut Nodes,
+    parent: usize,
+    text: &str,
+    role: Role,
+    facts: NodeFacts,
+    holds: Holds,
+) -> Result<usize, AllocError>
+    requires stored { IsStored nodes.old.items }
+    requires within { parent < length nodes.old.items }
+    requires keyed { holds_at (trie_of nodes.old.items) parent ≡ by_key }
+    requires fresh { Contains (paths_of (trie_of nodes.old.items))
+        (path_at (trie_of nodes.old.items) parent ++ key text.now ∷ []) → ⊥ }
+    ensures grows { OnOk result (Grows (trie_of nodes.old.items) (trie_of nodes.new.items) parent
+        (path_at (trie_of nodes.old.items) parent ++ key text.now ∷ []) (Some role) (holding holds)) }
+    ensures stored { OnOk result (IsStored nodes.new.items) }
+    ensures infos { OnOk result (infos_of nodes.new.items ≡ infos_of nodes.old.items ++ info_of facts ∷ []) }
+    ensures last { IfOk result (λ id. id ≡ length nodes.old.items) }
+{
+    let id = nodes.len();
+    let number = nodes.child_count(parent);
+    nodes.link_key(parent, text, id)?;
+    let role = Some(role);
+    nodes.push(parent, number, NodeFacts { role, ..facts }, holds)?;
+    Ok(id)
+}
+
+/// Adds a new item to an array, or a new element to an array of tables, after those that are there.
+pub fn add_item(
+    nodes: &mut Nodes,
+    parent: usize,
+    facts: NodeFacts,
+    holds: Holds,
+) -> Result<usize, AllocError>
+    requires stored { IsStored nodes.old.items }
+    requires within { parent < length nodes.old.items }
+    requires listed { holds_at (trie_of nodes.old.items) parent ≡ by_index }
+    requires fresh { Contains (paths_of (trie_of nodes.old.items))
+        (path_at (trie_of nodes.old.items) parent ++ index (length (children_of (trie_of nodes.old.items) parent)) ∷ [])
+        → ⊥ }
+    ensures grows { OnOk result (Grows (trie_of nodes.old.items) (trie_of nodes.new.items) parent
+        (path_at (trie_of nodes.old.items) parent ++ index (length (children_of (trie_of nodes.old.items) parent))
+        ∷ []) None (holding holds)) }
+    ensures stored { OnOk result (IsStored nodes.new.items) }
+    ensures infos { OnOk result (infos_of nodes.new.items ≡ infos_of nodes.old.items ++ info_of facts ∷ []) }
+    ensures last { IfOk result (λ id. id ≡ length nodes.old.items) }
+{
+    let id = nodes.len();
+    let number = nodes.child_count(parent);
+    nodes.link_item(parent, id)?;
+    let role = None;
+    nodes.push(parent, number, NodeFacts { role, ..facts }, holds)?;
+    Ok(id)
+}
+
+/// Gives a node another role, and joins the facts from one more mention to its own.
+pub fn set_role(nodes: &mut Nodes, id: usize, role: Role, more: NodeFacts) -> Result<(), AllocError>
+    requires stored { IsStored nodes.old.items }
+    requires within { id < length nodes.old.items }
+    ensures restates { OnOk result (Restates (trie_of nodes.old.items) (trie_of nodes.new.items) id role) }
+    ensures stored { OnOk result (IsStored nodes.new.items) }
+    ensures infos { OnOk result (infos_of nodes.new.items
+        ≡ slice_set (infos_of nodes.old.items) id (joined_info (info_at nodes.old.items id) (info_of more))) }
+{
+    nodes.join_facts(id, Some(role), more)
+}
+
+/// Joins the facts from one more mention of a node to its own; its role stays.
+pub fn add_facts(nodes: &mut Nodes, id: usize, more: NodeFacts) -> Result<(), AllocError>
+    requires stored { IsStored nodes.old.items }
+    requires within { id < length nodes.old.items }
+    ensures same { OnOk result (trie_of nodes.new.items ≡ trie_of nodes.old.items) }
+    ensures stored { OnOk result (IsStored nodes.new.items) }
+    ensures infos { OnOk result (infos_of nodes.new.items
+        ≡ slice_set (infos_of nodes.old.items) id (joined_info (info_at nodes.old.items id) (info_of more))) }
+{
+    let role = nodes.role(id);
+    nodes.join_facts(id, role, more)
+}
+
+/// Gives a node another kind, and leaves all else as it is. It takes no memory.
+pub fn set_kind(nodes: &mut Nodes, id: usize, kind: Kind)
+    requires stored { IsStored nodes.old.items }
+    requires within { id < length nodes.old.items }
+    ensures same { trie_of nodes.new.items ≡ trie_of nodes.old.items }
+    ensures stored { IsStored nodes.new.items }
+    ensures infos { infos_of nodes.new.items
+        ≡ slice_set (infos_of nodes.old.items) id (record (info_at nodes.old.items id) { kind = kind }) }
+{
+    nodes.set_kind(id, kind);
+}
+
+/// Gives a node another key in place of its last one, where no node has that path yet: so the path of each node below
+/// it changes too, and nothing else does. It takes memory for the key, and a map may grow as for one key more; if
+/// memory runs out, nothing is changed.
+pub fn set_key(nodes: &mut Nodes, id: usize, text: &str) -> Result<(), AllocError>
+    requires stored { IsStored nodes.old.items }
+    requires within { id < length nodes.old.items }
+    requires keyed { EndsInKey (path_at (trie_of nodes.old.items) id) }
+    requires fresh { Contains (paths_of (trie_of nodes.old.items))
+        (beside (path_at (trie_of nodes.old.items) id) text.now) → ⊥ }
+    ensures moved { OnOk result (node_infos nodes.new.items
+        ≡ with_path (node_infos nodes.old.items) (path_at (trie_of nodes.old.items) id)
+        (beside (path_at (trie_of nodes.old.items) id) text.now)) }
+    ensures stored { OnOk result (IsStored nodes.new.items) }
+    ensures holdings { OnOk result (holdings_of (trie_of nodes.new.items) ≡ holdings_of (trie_of nodes.old.items)) }
+    ensures refused { OnErr result (nodes.new.items ≡ nodes.old.items) }
+{
+    let parent = nodes.parent(id);
+    let number = nodes.number(id);
+    nodes.set_child_key(parent, number, text)
+}

@@ -1,5 +1,0 @@
-use Rattle.keep_law.proofs.EditLaws.{append_element_lawful}
-use Rattle.keep_law.proofs.laws.append_element_is_lawful.Goals as goal
-
-pub returns : goal.returns
-returns c = append_element_lawful

@@ -1,5 +1,0 @@
-use Rattle.keep_law.proofs.EditLaws.{append_table_lawful}
-use Rattle.keep_law.proofs.laws.append_table_is_lawful.Goals as goal
-
-pub returns : goal.returns
-returns c = append_table_lawful

@@ -1,5 +1,0 @@
-use Rattle.keep_law.proofs.EditLaws.{change_put}
-use Rattle.keep_law.proofs.laws.change_is_put.Goals as goal
-
-pub returns : goal.returns
-returns c = change_put

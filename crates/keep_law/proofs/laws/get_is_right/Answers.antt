@@ -1,5 +1,0 @@
-use Rattle.keep_law.proofs.Set.SetIsLawful.{get_is_right}
-use Rattle.keep_law.proofs.laws.get_is_right.Goals as goal
-
-pub returns : goal.returns
-returns c = get_is_right

@@ -1,5 +1,0 @@
-use Rattle.keep_law.proofs.Growth.GrowthReached.{growth_reached}
-use Rattle.keep_law.proofs.laws.growth_bound_is_reached.Goals as goal
-
-pub returns : goal.returns
-returns c = growth_reached

@@ -1,5 +1,0 @@
-use Rattle.keep_law.proofs.EditLaws.{insert_lawful}
-use Rattle.keep_law.proofs.laws.insert_is_lawful.Goals as goal
-
-pub returns : goal.returns
-returns c = insert_lawful

@@ -1,5 +1,0 @@
-use Rattle.keep_law.proofs.EditLaws.{rename_lawful}
-use Rattle.keep_law.proofs.laws.rename_is_lawful.Goals as goal
-
-pub returns : goal.returns
-returns c = rename_lawful

@@ -1,5 +1,0 @@
-use Rattle.keep_law.proofs.EditLaws.{set_lawful}
-use Rattle.keep_law.proofs.laws.set_is_lawful.Goals as goal
-
-pub returns : goal.returns
-returns c = set_lawful

@@ -1,8 +1,0 @@
-use Rattle.std.proofs.Common.{◌∙◌, ap, length, sym}
-use Rattle.keep_nodes.specs.ChildForms.{children_in}
-use Rattle.keep_nodes.specs.Children.{child_ids}
-use Rattle.keep_nodes.proofs.RunLemmas.{length-consecutive}
-use Rattle.keep_nodes.proofs.children.Children.len.Goals as goal
-
-pub returns-in-Run : goal.returns-in-Run
-returns-in-Run c = sym (length-consecutive c.in-Run.first c.in-Run.len) ∙ ap (λ form. length (child_ids (children_in form))) (sym c.in-Run.is) ∙ ap (λ x. length (child_ids x)) c.self.view_is

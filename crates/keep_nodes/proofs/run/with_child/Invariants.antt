@@ -1,7 +1,0 @@
--- The vector has the children before this one.
-use Rattle.std.proofs.Common.{◌≡◌}
-use Rattle.keep_nodes.specs.Runs.{consecutive}
-use Rattle.keep_nodes.proofs.run.with_child.Given as goal
-
-abbrev pub invariant-loop-number : goal.invariant-loop-number
-invariant-loop-number l = l.children.items ≡ consecutive l.first l.number

@@ -1,7 +1,0 @@
-use Rattle.std.proofs.Common.{◌≡◌}
-use Rattle.keep_parts.specs.Left.{places_left}
-use Rattle.keep_parts.specs.Starts.{last_to}
-use Rattle.keep_parts.proofs.starts.Starts.last_to.Given as goal
-
-abbrev pub invariant-places : goal.invariant-places
-invariant-places l = last_to l.place l.low l.self ≡ last_to l.place l.last (places_left l.at-iterator)

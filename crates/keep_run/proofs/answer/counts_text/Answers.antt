@@ -1,4 +1,0 @@
-use Rattle.keep_run.proofs.answer.counts_text.Goals as goal
-
-pub returns : goal.returns
-returns c = c.format.ensures.ok

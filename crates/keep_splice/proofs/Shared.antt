@@ -1,5 +1,0 @@
--- What the crates above build on, in one place.
-pub use Rattle.keep_splice.proofs.ReadLaws.{one_tree}
-pub use Rattle.keep_splice.proofs.AnswerLaws.{seen, text_seen, profile_seen, stated_is, tokens_are}
-pub use Rattle.keep_splice.proofs.NodeLaws.{no_node, a_node, kind_stated}
-pub use Rattle.keep_splice.proofs.FoundLaws.{fact_node, none_found, one_found, value_nested, value_there, IsStated, IsValueThere}

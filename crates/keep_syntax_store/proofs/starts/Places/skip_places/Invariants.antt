@@ -1,0 +1,12 @@
+use Rattle.std.proofs.Common.{◌≡◌, ◌≤◌, ◌-◌, drop}
+use Rattle.keep_syntax_store.specs.Left.{places_left}
+use Rattle.keep_syntax_store.proofs.starts.Places.skip_places.Given as goal
+
+abbrev pub invariant-runs : goal.invariant-runs
+invariant-runs l = record {
+  bounded : l.number ≤ l.count;
+  left : places_left l.self ≡ drop l.number (places_left l.fn.self);
+}
+
+abbrev pub decreases-runs : goal.decreases-runs
+decreases-runs l = l.count - l.number

@@ -1,0 +1,41 @@
+-- Where tokens begin, as it is stored.
+use Rattle.std.specs.Prelude.{◌≡◌, ℕ, ◌+◌, ◌<◌, ◌^◌, ◌==◌, leb, if◌then◌else◌, List, [], ◌∷◌, length, get_or, count_by}
+use Rattle.keep_syntax_store.specs.declared.starts.TheConstants.{FAR}
+
+-- The places that steps lead to: each is so far after the one before, or is the next of the far ones.
+abbrev pub places_at : ℕ → List ℕ → List ℕ → List ℕ
+places_at at [] far = []
+places_at at (step ∷ steps) [] = if step == FAR then [] else (at + step) ∷ places_at (at + step) steps []
+places_at at (step ∷ steps) (place ∷ far) =
+    if step == FAR then place ∷ places_at place steps far else (at + step) ∷ places_at (at + step) steps (place ∷ far)
+
+-- the last of these places, the first argument where there is none
+abbrev pub last_of : ℕ → List ℕ → ℕ
+last_of at [] = at
+last_of at (place ∷ places) = last_of place places
+
+-- each place is a word of the machine
+abbrev pub AllSmall : List ℕ → Type 0
+AllSmall places = (k : ℕ) → get_or places k 0 < 2 ^ 64
+
+-- how many steps lead to a far place
+abbrev pub fars : List ℕ → ℕ
+fars steps = count_by (λ step. step == FAR) steps
+
+-- Steps and far places that tell of places: each far step has its place, and the last place is known.
+pub record StepsAreStored (steps far : List ℕ) (last : ℕ) : Type 0 where
+  pub matched : length far ≡ fars steps
+  pub small : AllSmall (places_at 0 steps far)
+  pub last_is : last ≡ last_of 0 (places_at 0 steps far)
+
+-- ---- looked up by a place
+
+-- the last of ascending places that is at most `place`, or else `low`
+abbrev pub last_to : ℕ → ℕ → List ℕ → ℕ
+last_to place low [] = low
+last_to place low (x ∷ xs) = if leb x place then last_to place x xs else low
+
+-- the first of them that is at least `place`, or else `high`
+abbrev pub first_from : ℕ → ℕ → List ℕ → ℕ
+first_from place high [] = high
+first_from place high (x ∷ xs) = if leb place x then x else first_from place high xs

@@ -1,0 +1,24 @@
+//! Packed key parts whose places are moved.
+ghost use Rattle.keep_syntax_store.specs.Shifting as spec;
+
+use super::PackedKeyPart;
+use crate::moves::Counts;
+use crate::shift::{Shift, fits_u32, shifted_u32};
+
+impl Shift for PackedKeyPart {
+    ghost shifted = { spec.shifted_key };
+
+    ghost CanShift = { spec.CanShiftKey };
+
+    fn shift(self, old: &Counts, new: &Counts) -> Self {
+        PackedKeyPart {
+            start: shifted_u32(self.start, old.at, new.at),
+            len: self.len,
+            leaf: self.leaf,
+        }
+    }
+
+    fn can_shift(self, old: &Counts, new: &Counts) -> bool {
+        fits_u32(self.start, old.at, new.at)
+    }
+}

@@ -1,0 +1,15 @@
+//! What is stored of a text: its tokens, statements, key parts and values, each exactly once, in few bytes.
+#![tactic(auto)]
+
+mod exchange;
+mod keys;
+mod moves;
+mod parts;
+mod shift;
+mod starts;
+mod statements;
+mod values;
+
+pub use moves::{Counts, moved, moved_key, moved_statement, moved_value};
+pub use parts::Parts;
+pub use starts::{Places, Starts};

@@ -1,0 +1,188 @@
+//! What is stored of some lines changes places with what is stored of others, in place.
+ghost use Rattle.std.specs.Prelude.{◌≡◌, ◌+◌, ◌≤◌, OnOk, IfOk, vec_len, vec_capacity};
+ghost use Rattle.std.specs.Bool.{Decides};
+ghost use Rattle.keep_syntax_store.specs.Flat.{flat};
+ghost use Rattle.keep_syntax_store.specs.InPlace as spec;
+
+use super::Parts;
+use crate::moves::Counts;
+use crate::shift::{Shift, all_can_shift, exchange_run, shift_from};
+use crate::starts::Starts;
+use keep_types::Leaf;
+use std::alloc::{AllocError, Global};
+use std::mem;
+
+impl Shift for Leaf {
+    ghost use Rattle.std.specs.Prelude.{⊤};
+
+    ghost shifted = { λ old new leaf. leaf };
+
+    ghost CanShift = { λ old new leaf. ⊤ };
+
+    fn shift(self, _old: &Counts, _new: &Counts) -> Self {
+        self
+    }
+
+    fn can_shift(self, _old: &Counts, _new: &Counts) -> bool {
+        true
+    }
+}
+
+/// Whether it is a range of so many elements.
+fn is_range(from: usize, to: usize, len: usize) -> bool
+    ensures { Decides result (spec.IsRange from to len) }
+{
+    from <= to && to <= len
+}
+
+/// Takes memory for the elements of a run, and in the run for so many.
+fn reserve_run<T>(items: &mut Vec<T>, run: &mut Vec<T>, count: usize) -> Result<(), AllocError>
+    ensures items { items.new.items ≡ items.old.items }
+    ensures run { run.new.items ≡ run.old.items }
+    ensures len { vec_len items.new ≡ vec_len items.old }
+    ensures run_len { vec_len run.new ≡ vec_len run.old }
+    ensures room { OnOk result (vec_len items.new + vec_len run.new ≤ vec_capacity items.new) }
+    ensures room_for_run { OnOk result (count ≤ vec_capacity run.new) }
+{
+    items.reserve(run.len())?;
+    run.reserve(count)
+}
+
+impl Parts {
+    /// The memory that the parts are in.
+    pub fn allocator(&self) -> Global {
+        *self.kinds.allocator()
+    }
+
+    /// Whether all is packed.
+    pub fn is_packed(&self) -> bool
+        ensures { Decides result (spec.IsPacked self.now) }
+    {
+        self.statements.unpacked.is_empty()
+            && self.keys.unpacked.is_empty()
+            && self.values.unpacked.is_empty()
+    }
+
+    /// Whether the numbers of all packed parts from a count on can be moved in place.
+    pub fn can_shift(&self, from: &Counts, old: &Counts, new: &Counts) -> bool
+        ensures { Decides result (spec.CanShift from.now old.now new.now self.now) }
+    {
+        all_can_shift(self.statements.packed.as_slice(), from.statements, old, new)
+            && all_can_shift(self.keys.packed.as_slice(), from.keys, old, new)
+            && all_can_shift(self.values.packed.as_slice(), from.values, old, new)
+    }
+
+    /// Whether there is so much, and the counts are in order.
+    pub fn is_run(&self, from: &Counts, to: &Counts) -> bool
+        ensures { Decides result (spec.IsRun from.now to.now self.now) }
+    {
+        is_range(from.tokens, to.tokens, self.kinds.len())
+            && is_range(from.statements, to.statements, self.statements.packed.len())
+            && is_range(from.keys, to.keys, self.keys.packed.len())
+            && is_range(from.values, to.values, self.values.packed.len())
+    }
+
+    /// Moves all numbers, and puts other places of tokens there.
+    pub fn shift_all(&mut self, old: &Counts, new: &Counts, starts: Starts)
+        ensures shifted { spec.IsShifted old.now new.now self.old self.new }
+        ensures starts { self.new.starts ≡ starts }
+    {
+        shift_from(&mut self.statements.packed, 0, old, new);
+        shift_from(&mut self.keys.packed, 0, old, new);
+        shift_from(&mut self.values.packed, 0, old, new);
+        self.starts = starts;
+    }
+
+    /// Takes all memory that an exchange needs, and changes nothing.
+    pub fn reserve(&mut self, from: &Counts, to: &Counts, run: &mut Parts) -> Result<(), AllocError>
+        requires { spec.IsRun from.now to.now self.old }
+        ensures parts { spec.IsAsBefore self.old self.new }
+        ensures run { spec.IsAsBefore run.old run.new }
+        ensures room { OnOk result (spec.CanExchange from.now to.now self.new run.new) }
+    {
+        reserve_run(&mut self.kinds, &mut run.kinds, to.tokens - from.tokens)?;
+        reserve_run(
+            &mut self.statements.packed,
+            &mut run.statements.packed,
+            to.statements - from.statements,
+        )?;
+        reserve_run(
+            &mut self.keys.packed,
+            &mut run.keys.packed,
+            to.keys - from.keys,
+        )?;
+        reserve_run(
+            &mut self.values.packed,
+            &mut run.values.packed,
+            to.values - from.values,
+        )
+    }
+
+    /// The parts from one count to another and those of `run` change places, and the numbers of those after are moved.
+    /// It takes no memory.
+    pub fn exchange(
+        &mut self,
+        from: &Counts,
+        to: &Counts,
+        run: &mut Parts,
+        old: &Counts,
+        new: &Counts,
+    )
+        requires { spec.CanExchange from.now to.now self.old run.old }
+        ensures { spec.IsExchanged from.now to.now old.now new.now self.old run.old self.new run.new }
+    {
+        exchange_run(
+            &mut self.kinds,
+            from.tokens,
+            to.tokens,
+            &mut run.kinds,
+            old,
+            new,
+        );
+        exchange_run(
+            &mut self.statements.packed,
+            from.statements,
+            to.statements,
+            &mut run.statements.packed,
+            old,
+            new,
+        );
+        exchange_run(
+            &mut self.keys.packed,
+            from.keys,
+            to.keys,
+            &mut run.keys.packed,
+            old,
+            new,
+        );
+        exchange_run(
+            &mut self.values.packed,
+            from.values,
+            to.values,
+            &mut run.values.packed,
+            old,
+            new,
+        );
+        mem::swap(&mut self.starts, &mut run.starts);
+    }
+
+    /// Where the tokens begin if those of other parts take the place of those from one count to another, and those
+    /// after begin at the byte `end`.
+    pub fn replaced_places(
+        &self,
+        alloc: Global,
+        fresh: &Parts,
+        from: &Counts,
+        to: &Counts,
+        end: usize,
+    ) -> Result<Starts, AllocError>
+        ensures { IfOk result (λ places. places ≡ spec.replaced_places (flat self.now)
+            (flat fresh.now) from.now to.now end) }
+    {
+        let mut out = Starts::new(alloc);
+        out.append_moved(&self.starts, 0, from.tokens, 0, 0)?;
+        out.append_moved(&fresh.starts, 0, fresh.kinds.len(), 0, from.at)?;
+        out.append_moved(&self.starts, to.tokens, self.kinds.len(), to.at, end)?;
+        Ok(out)
+    }
+}

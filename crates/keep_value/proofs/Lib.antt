@@ -1,2 +1,0 @@
-pub mod ValueLaws
-pub mod Shared

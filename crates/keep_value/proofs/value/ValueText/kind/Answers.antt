@@ -1,5 +1,0 @@
-use Rattle.keep_value.proofs.ValueLaws.{kind_is}
-use Rattle.keep_value.proofs.value.ValueText.kind.Goals as goal
-
-pub returns : goal.returns
-returns c = λ v read. kind_is _ _ _ _ c.self.invariant v (rw c.self.view_is read)

@@ -1,5 +1,0 @@
-use Rattle.std.proofs.Common.{refl}
-use Rattle.keep_words.proofs.words.rows.Goals as goal
-
-pub returns : goal.returns
-returns c = refl
