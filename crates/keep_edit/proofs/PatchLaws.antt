@@ -43,10 +43,10 @@ module _ (before new : List ℕ) (start end : ℕ) (ordered : start ≤ end) (wi
   -- the part with what comes before and after it
   whole : (take start before ++ slice_range before start end) ++ drop end before ≡ before
   whole =
-      let behind : drop (end - start) (drop start before) ≡ drop end before =
+      let after : drop (end - start) (drop start before) ≡ drop end before =
       drop-drop (end - start) start before ∙ ap (λ (n : ℕ). drop n before) (let sum : start + (end - start) ≡ end = omega arith in sum) in
       append_assoc (take start before) (slice_range before start end) (drop end before)
-      ∙ ap (λ (x : List ℕ). take start before ++ (slice_range before start end ++ x)) (sym behind)
+      ∙ ap (λ (x : List ℕ). take start before ++ (slice_range before start end ++ x)) (sym after)
       ∙ ap (λ (x : List ℕ). take start before ++ x) (take-append-drop (end - start) (drop start before))
       ∙ take-append-drop start before
 

@@ -71,7 +71,7 @@ module _ (d : ProfiledText) (path : List Part) (s : Document) (v : Value) (read 
     item_placed (spot.AfterEntry w) (m, more, count, number) =
         let (info, of) = value_of_number d.profile (without_last path ++ index m ∷ []) s w read.reads.valid read.obeys number in
         at_number path s v (record { spot = spot.AfterEntry w; from = from }) w info (λ (x : ValueInfo). after_entry x (keys_in (drop from path)) v) of.info refl
-        (subst (λ (l : List (List ℕ)). IsLowPlace s (insert path v) (after_entry info l v)) (sym no_keys) (law.behind m w info more count number of.info))
+        (subst (λ (l : List (List ℕ)). IsLowPlace s (insert path v) (after_entry info l v)) (sym no_keys) (law.after m w info more count number of.info))
     item_placed (spot.InEmpty w) (zero_n, count, number) =
         let (info, of) = value_of_number d.profile (without_last path) s w read.reads.valid read.obeys number in
         at_number path s v (record { spot = spot.InEmpty w; from = from }) w info (λ (x : ValueInfo). in_empty x (keys_in (drop from path)) v) of.info refl
@@ -113,7 +113,7 @@ module _ (d : ProfiledText) (path : List Part) (s : Document) (v : Value) (read 
           (subst (λ (m : ℕ). IsLowPlace s (insert path v) (in_empty found.0 (keys_from m) v)) (sym base) (inline_law.empty (sym last_is ∙ e)))
 
       pub last_placed : (w : ℕ) → last_keyval_of b s ≡ Some w → IsLowSpot path s v (record { spot = spot.AfterEntry w; from = from })
-      last_placed w e = after_placed w (subst (λ (m : ℕ). IsPutAfter path s v (keys_from m) w) (sym base) (inline_law.behind w (sym last_is ∙ e)))
+      last_placed w e = after_placed w (subst (λ (m : ℕ). IsPutAfter path s v (keys_from m) w) (sym base) (inline_law.after w (sym last_is ∙ e)))
 
     dotted_is : (p : Origin) → is_dotted_origin p ≡ true → (w : ℕ) × (p ≡ origin.Dotted w)
     dotted_is (origin.Dotted w) e = (w, refl)

@@ -86,19 +86,19 @@ space_boundary bytes at utf8 within here = by (prefix_len is_ws (drop at bytes))
 -- ---- a cut that keeps nothing
 
 module _ (bytes : List ℕ) (path : List Part) (s : Document) (spelled : bytes ≡ text s) (c : Changed Document) (is : place s (remove path) ≡ place_of c) (was : IsChangeOf text s c) where
-  whole : bytes ≡ c.before ++ (c.old ++ c.behind)
+  whole : bytes ≡ c.before ++ (c.old ++ c.after)
   whole = spelled ∙ was.was
 
-  long : length bytes ≡ length c.before + (length c.old + length c.behind)
-  long = ap (λ (t : List ℕ). length t) whole ∙ length-append c.before (c.old ++ c.behind) ∙ ap (λ n. length c.before + n) (length-append c.old c.behind)
+  long : length bytes ≡ length c.before + (length c.old + length c.after)
+  long = ap (λ (t : List ℕ). length t) whole ∙ length-append c.before (c.old ++ c.after) ∙ ap (λ n. length c.before + n) (length-append c.old c.after)
 
-  prefix_drop : drop (length c.before) bytes ≡ c.old ++ c.behind
-  prefix_drop = ap (drop (length c.before)) whole ∙ drop_at c.before (c.old ++ c.behind) (length c.before) refl
+  prefix_drop : drop (length c.before) bytes ≡ c.old ++ c.after
+  prefix_drop = ap (drop (length c.before)) whole ∙ drop_at c.before (c.old ++ c.after) (length c.before) refl
 
-  back_drop : drop (length c.before + length c.old) bytes ≡ c.behind
-  back_drop = ap (drop (length c.before + length c.old)) (whole ∙ sym (append_assoc c.before c.old c.behind)) ∙ drop_at (c.before ++ c.old) c.behind (length c.before + length c.old) (length-append c.before c.old)
+  back_drop : drop (length c.before + length c.old) bytes ≡ c.after
+  back_drop = ap (drop (length c.before + length c.old)) (whole ∙ sym (append_assoc c.before c.old c.after)) ∙ drop_at (c.before ++ c.old) c.after (length c.before + length c.old) (length-append c.before c.old)
 
-  pub low_cut : (cut : Cut) → cut_place bytes cut ≡ place_of c → KeepsNothing cut → IsLow c.old c.behind → IsCutAt path s bytes cut
+  pub low_cut : (cut : Cut) → cut_place bytes cut ≡ place_of c → KeepsNothing cut → IsLow c.old c.after → IsCutAt path s bytes cut
   low_cut cut at keeps low =
       let start : cut.span.start ≡ length c.before = ap (λ (p : Place). p.start) at in
       let end : cut.span.end ≡ length c.before + length c.old = ap (λ (p : Place). p.end) at in
@@ -151,10 +151,10 @@ module _ (bytes : List ℕ) (utf8 : IsUtf8 bytes) (v : ValueInfo) (edged : IsEdg
   span_by (Some comma) b e f h =
       let start : cut.span.start ≡ v.whole.start = ap (λ (p : Place). p.start) h in
       let end : cut.span.end ≡ past_space bytes (suc comma) = ap (λ (p : Place). p.end) h in
-      let (occurs, behind) = edged.after comma e in
+      let (occurs, after) = edged.after comma e in
       let within : suc comma ≤ length bytes = omega (arith, occurs.within) in
       record {
-        ordered = omega (arith, start, end, edged.ordered, behind);
+        ordered = omega (arith, start, end, edged.ordered, after);
         within = omega (arith, end, space_within bytes (suc comma) within);
         starts = subst (IsCharBoundary bytes) (sym start) opens_here;
         ends = subst (IsCharBoundary bytes) (sym end) (space_boundary bytes (suc comma) utf8 within (comma_past bytes comma utf8 occurs));
@@ -187,9 +187,9 @@ module _ (bytes : List ℕ) (utf8 : IsUtf8 bytes) (v : ValueInfo) (edged : IsEdg
     ends = subst (IsCharBoundary bytes) (sym keeps.1) h.starts;
   }
   preserved_by h (inr (inl (start, comma))) =
-      let (occurs, behind) = edged.after cut.preserved.end comma in
+      let (occurs, after) = edged.after cut.preserved.end comma in
       record {
-        ordered = omega (arith, start, behind);
+        ordered = omega (arith, start, after);
         within = omega (arith, occurs.within);
         starts = subst (IsCharBoundary bytes) (sym start) at.ends;
         ends = comma_here bytes cut.preserved.end occurs;

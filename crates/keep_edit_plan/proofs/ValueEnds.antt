@@ -126,7 +126,7 @@ value_ends profile v h = by v.body v.nested h.body h.nested
 part_byte : (bytes : List ℕ) (at : ℕ) (t : List ℕ) (i : ℕ) → IsPart bytes at t → i < length t → get_or bytes (at + i) 0 ≡ get_or t i 0
 part_byte bytes at t i h lt =
     let from : at + i ≡ length h.prefix + i = ap (λ n. n + i) (sym h.place) in
-    ap (λ n. get_or bytes n 0) from ∙ ap (λ b. get_or b (length h.prefix + i) 0) h.whole ∙ get_or-append-add h.prefix (t ++ h.behind) i 0 ∙ get_or_append_left t h.behind 0 i lt
+    ap (λ n. get_or bytes n 0) from ∙ ap (λ b. get_or b (length h.prefix + i) 0) h.whole ∙ get_or-append-add h.prefix (t ++ h.after) i 0 ∙ get_or_append_left t h.after 0 i lt
 
 pub starts_between : (bytes : List ℕ) (at : ℕ) (t : List ℕ) → IsPart bytes at t → HasAsciiEnds t → IsCharBoundary bytes at
 starts_between bytes at t there ends =

@@ -6,17 +6,17 @@ pub record Changed (A : Type 0) : Type 0 where
   pub before : List ℕ
   pub old : List ℕ
   pub new : List ℕ
-  pub behind : List ℕ
+  pub after : List ℕ
 
 -- The change is of this value, whose text is given by `text`.
 pub record IsChangeOf {A : Type 0} (text : A → List ℕ) (from : A) (c : Changed A) : Type 0 where
-  pub was : text from ≡ c.before ++ (c.old ++ c.behind)
-  pub is : text c.to ≡ c.before ++ (c.new ++ c.behind)
+  pub was : text from ≡ c.before ++ (c.old ++ c.after)
+  pub is : text c.to ≡ c.before ++ (c.new ++ c.after)
 
 -- the same change seen from outside, where more text is on each side
 abbrev pub framed_change : {A B : Type 0} → (A → B) → List ℕ → List ℕ → Changed A → Changed B
 framed_change outer left right c =
-    record { to = outer c.to; before = left ++ c.before; old = c.old; new = c.new; behind = c.behind ++ right }
+    record { to = outer c.to; before = left ++ c.before; old = c.old; new = c.new; after = c.after ++ right }
 
 abbrev pub within : {A B : Type 0} → (A → B) → List ℕ → List ℕ → Option (Changed A) → Option (Changed B)
 within outer left right None = None

@@ -30,7 +30,7 @@ abbrev pub key_part : List ℕ → Written
 key_part text = record { leaf = encoded_key_leaf text; text = encoded_key text }
 
 abbrev pub further_part : List ℕ → Further
-further_part text = record { before = []; behind = []; part = key_part text }
+further_part text = record { before = []; after = []; part = key_part text }
 
 -- a key of at least one part
 abbrev pub key_with : List (List ℕ) → Key
@@ -38,7 +38,7 @@ key_with [] = record { first = key_part []; more = [] }
 key_with (k ∷ ks) = record { first = key_part k; more = map further_part ks }
 
 abbrev pub name_with : List (List ℕ) → Name
-name_with keys = record { key = key_with keys; before = space; behind = space }
+name_with keys = record { key = key_with keys; before = space; after = space }
 
 abbrev pub new_keyval : List Part → Value → Content
 new_keyval path value = keyval (name_with (keys_in path)) value
@@ -107,7 +107,7 @@ clear_line path r l = elim l.comment [
       before = text_of l.before;
       old = content_text l.content ++ text_of l.after;
       new = [];
-      behind = c.text;
+      after = c.text;
     })
   ]
 ]
@@ -148,7 +148,7 @@ change s (append_element keys) = append s (element [] (key_with keys) [])
 
 -- the document after an edit, and the place of the change; both are meant only where the edit is not refused
 abbrev pub changed_or_same : Document → Option (Changed Document) → Changed Document
-changed_or_same s None = record { to = s; before = []; old = []; new = []; behind = [] }
+changed_or_same s None = record { to = s; before = []; old = []; new = []; after = [] }
 changed_or_same s (Some c) = c
 
 abbrev pub edited_document : Document → Edit → Document

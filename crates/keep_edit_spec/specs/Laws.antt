@@ -111,8 +111,8 @@ pub record IsTextAt (path : List Part) (s : Document) (t : List ℕ) : Type 0 wh
   pub spelled : t ≡ value_text value
   pub facts : (q : List Part) → fact_at (path ++ q) (mentions_in s) ≡ fact_at q (mentions_of_value value)
   pub before : List ℕ
-  pub behind : List ℕ
-  pub here : text s ≡ before ++ (t ++ behind)
+  pub after : List ℕ
+  pub here : text s ≡ before ++ (t ++ after)
   pub set_there : (new : Value) → place s (set path new)
       ≡ record { start = length before; end = length before + length t; new = value_text new }
 

@@ -71,19 +71,19 @@ key_prefixes (k ∷ ks) = (k ∷ []) ∷ map (λ prefix. k ∷ prefix) (key_pref
 abbrev pub part_paths : Reading → Content → List (List Part)
 part_paths r blank = []
 part_paths r (keyval name value) = map (λ prefix. r.body ++ map key prefix) (key_prefixes (keys_of name.key))
-part_paths r (header before k behind) = map (header_path r.tables []) (key_prefixes (keys_of k))
-part_paths r (element before k behind) = map (header_path r.tables []) (key_prefixes (keys_of k))
+part_paths r (header before k after) = map (header_path r.tables []) (key_prefixes (keys_of k))
+part_paths r (element before k after) = map (header_path r.tables []) (key_prefixes (keys_of k))
 
 -- the part with that number renamed
 abbrev pub rename_content : Written → ℕ → Content → Option (Changed Content)
 rename_content new n blank = None
 rename_content new n (keyval name value) =
     within (λ nm. keyval nm value) [] (text_of_value value) (rename_name new n name)
-rename_content new n (header before k behind) =
-    within (λ k. header before k behind) (codes "[" ++ text_of before) (text_of behind ++ codes "]")
+rename_content new n (header before k after) =
+    within (λ k. header before k after) (codes "[" ++ text_of before) (text_of after ++ codes "]")
     (rename_part new n k)
-rename_content new n (element before k behind) =
-    within (λ k. element before k behind) (codes "[[" ++ text_of before) (text_of behind ++ codes "]]")
+rename_content new n (element before k after) =
+    within (λ k. element before k after) (codes "[[" ++ text_of before) (text_of after ++ codes "]]")
     (rename_part new n k)
 
 abbrev pub rename_line : Written → List Part → Reading → Line → Option (Changed Line)
@@ -103,14 +103,14 @@ put_lines n new newline [] last = elim n [
     before = [];
     old = [];
     new = ended_text new;
-    behind = line_text last;
+    after = line_text last;
   }
   | suc m ↦ record {
     to = record { ended = record { line = last; newline = newline } ∷ new; last = empty_line };
     before = line_text last;
     old = [];
     new = newline.text ++ ended_text new;
-    behind = [];
+    after = [];
   }
 ]
 put_lines n new newline (e ∷ es) last = elim n [
@@ -119,7 +119,7 @@ put_lines n new newline (e ∷ es) last = elim n [
     before = [];
     old = [];
     new = ended_text new;
-    behind = page_text (record { ended = e ∷ es; last = last });
+    after = page_text (record { ended = e ∷ es; last = last });
   }
   | suc m ↦ framed_change (λ b. record { ended = e ∷ b.ended; last = b.last }) (text_of (ended_leaves e)) []
       (put_lines m new newline es last)
@@ -128,13 +128,13 @@ put_lines n new newline (e ∷ es) last = elim n [
 -- the first n lines gone
 abbrev pub drop_prefix : ℕ → List Ended → Line → Changed Page
 drop_prefix n [] last = elim n [
-  | zero ↦ record { to = record { ended = []; last = last }; before = []; old = []; new = []; behind = line_text last }
+  | zero ↦ record { to = record { ended = []; last = last }; before = []; old = []; new = []; after = line_text last }
   | suc m ↦ record {
     to = record { ended = []; last = empty_line };
     before = [];
     old = line_text last;
     new = [];
-    behind = [];
+    after = [];
   }
 ]
 drop_prefix n (e ∷ es) last = elim n [
@@ -143,7 +143,7 @@ drop_prefix n (e ∷ es) last = elim n [
     before = [];
     old = [];
     new = [];
-    behind = page_text (record { ended = e ∷ es; last = last });
+    after = page_text (record { ended = e ∷ es; last = last });
   }
   | suc m ↦ (let c = drop_prefix m es last in record c { old = text_of (ended_leaves e) ++ c.old })
 ]
@@ -173,8 +173,8 @@ last_line test r (l ∷ ls) = elim (last_line test (after_line r l) ls) [
 
 -- the line begins the body of that path
 abbrev pub is_header : Content → Bool
-is_header (header before k behind) = true
-is_header (element before k behind) = true
+is_header (header before k after) = true
+is_header (element before k after) = true
 is_header _ = false
 
 abbrev pub begins : List Part → Reading → Line → Bool
@@ -189,8 +189,8 @@ abbrev pub leads_dotted : List Part → Reading → Line → Bool
 leads_dotted path r l = elim l.content [
   | blank ↦ false
   | keyval name value ↦ has is_dotted path (map (below r.body) (keyed_mentions (keys_of name.key) []))
-  | header before k behind ↦ false
-  | element before k behind ↦ false
+  | header before k after ↦ false
+  | element before k after ↦ false
 ]
 
 -- How many lines there are up to the last keyval before the next header.
@@ -204,8 +204,8 @@ body_length [] = 0
 body_length (l ∷ ls) = elim l.content [
   | blank ↦ more_lines false (body_length ls)
   | keyval name value ↦ more_lines true (body_length ls)
-  | header before k behind ↦ 0
-  | element before k behind ↦ 0
+  | header before k after ↦ 0
+  | element before k after ↦ 0
 ]
 
 -- the number of the line after the body that begins after line i

@@ -59,7 +59,7 @@ in_value act path v =
 
 abbrev pub replacement : Value → Act
 replacement new [] v =
-    Some (record { to = new; before = []; old = text_of_value v; new = text_of_value new; behind = [] })
+    Some (record { to = new; before = []; old = text_of_value v; new = text_of_value new; after = [] })
 replacement new (p ∷ ps) v = None
 
 -- ---- insert
@@ -76,7 +76,7 @@ put_before n new (entry name body nested after comma rest) = elim n [
     before = [];
     old = [];
     new = text_of_value new ++ codes ", ";
-    behind = entries_text (entry name body nested after comma rest);
+    after = entries_text (entry name body nested after comma rest);
   })
   | suc m ↦ within (entry name body nested after comma)
       (entry_prefix name body nested ++ (text_of after ++ text_of (comma_leaves comma))) [] (put_before m new rest)
@@ -101,7 +101,7 @@ put_after prefix named new (entry name body nested after comma rest) =
         before = entry_prefix name body nested;
         old = [];
         new = codes ", " ++ (text_of (named_leaves named) ++ text_of_value new);
-        behind = entry_back after comma rest;
+        after = entry_back after comma rest;
       })
     ])
 
@@ -115,7 +115,7 @@ bracketed_change named new more (array first) none =
       before = codes "[";
       old = [];
       new = text_of (named_leaves named) ++ text_of_value new;
-      behind = text_of first ++ codes "]";
+      after = text_of first ++ codes "]";
     })
 bracketed_change named new more (inline first) none =
     Some (record {
@@ -123,7 +123,7 @@ bracketed_change named new more (inline first) none =
       before = codes "{";
       old = [];
       new = text_of (named_leaves named) ++ text_of_value new;
-      behind = text_of first ++ codes "}";
+      after = text_of first ++ codes "}";
     })
 bracketed_change named new more (array first) (entry name body nested after comma rest) =
     within (λ es. record { body = array first; nested = es }) (codes "[" ++ text_of first) (codes "]")
@@ -187,12 +187,12 @@ row_text r = text_of r.gap ++ entries_text r.entries
 
 -- with the comma after it
 abbrev pub taken_first : Gap → Option Name → Body → Entries → Gap → Gap → Entries → Changed Row
-taken_first gap name body nested after behind rest = record {
-  to = record { gap = joined_gap gap (joined_gap (preserved_gap after) (past_ws behind)); entries = rest };
+taken_first gap name body nested after next_gap rest = record {
+  to = record { gap = joined_gap gap (joined_gap (preserved_gap after) (past_ws next_gap)); entries = rest };
   before = text_of gap;
-  old = entry_prefix name body nested ++ (text_of after ++ (codes "," ++ text_of (prefix_ws behind)));
+  old = entry_prefix name body nested ++ (text_of after ++ (codes "," ++ text_of (prefix_ws next_gap)));
   new = text_of (preserved_gap after);
-  behind = text_of (past_ws behind) ++ entries_text rest;
+  after = text_of (past_ws next_gap) ++ entries_text rest;
 }
 
 -- alone
@@ -202,23 +202,23 @@ taken_only gap name body nested after = record {
   before = text_of gap;
   old = entry_prefix name body nested;
   new = [];
-  behind = text_of after;
+  after = text_of after;
 }
 
 -- with the comma before it, after another entry
 abbrev pub taken_last : Gap → Option Name → Body → Entries → Gap → Gap → Option Name → Body → Entries → Gap
     → Changed Row
-taken_last gap name body nested after behind name' body' nested' after' = record {
+taken_last gap name body nested after next_gap name' body' nested' after' = record {
   to =
       record {
         gap = gap;
         entries = entry name body nested
-            (joined_gap after (joined_gap (preserved_gap behind) after')) None none;
+            (joined_gap after (joined_gap (preserved_gap next_gap) after')) None none;
       };
   before = text_of gap ++ (entry_prefix name body nested ++ text_of after);
-  old = codes "," ++ (text_of behind ++ entry_prefix name' body' nested');
-  new = text_of (preserved_gap behind);
-  behind = text_of after';
+  old = codes "," ++ (text_of next_gap ++ entry_prefix name' body' nested');
+  new = text_of (preserved_gap next_gap);
+  after = text_of after';
 }
 
 -- the one entry after a comma is the one that is named, and has no comma of its own
@@ -232,20 +232,20 @@ take_out path n gap none = None
 take_out path n gap (entry name body nested after None none) =
     elim (same_path (step n name) path) [ true ↦ Some (taken_only gap name body nested after) | false ↦ None ]
 take_out path n gap (entry name body nested after None (entry name' body' nested' after' comma' rest')) = None
-take_out path n gap (entry name body nested after (Some behind) none) =
+take_out path n gap (entry name body nested after (Some next_gap) none) =
     elim (same_path (step n name) path) [
       | true ↦ Some
-          (taken_first gap name body nested after behind none)
+          (taken_first gap name body nested after next_gap none)
       | false ↦ None
     ]
-take_out path n gap (entry name body nested after (Some behind) (entry name' body' nested' after' comma' rest')) =
+take_out path n gap (entry name body nested after (Some next_gap) (entry name' body' nested' after' comma' rest')) =
     elim (same_path (step n name) path) [
-      | true ↦ Some (taken_first gap name body nested after behind (entry name' body' nested' after' comma' rest'))
+      | true ↦ Some (taken_first gap name body nested after next_gap (entry name' body' nested' after' comma' rest'))
       | false ↦ elim (is_last_named path (n + 1) (entry name' body' nested' after' comma' rest')) [
-        | true ↦ Some (taken_last gap name body nested after behind name' body' nested' after')
+        | true ↦ Some (taken_last gap name body nested after next_gap name' body' nested' after')
         | false ↦ within (λ r. record { gap = gap; entries = entry name body nested after (Some r.gap) r.entries })
             (text_of gap ++ (entry_prefix name body nested ++ (text_of after ++ codes ","))) []
-            (take_out path (n + 1) behind (entry name' body' nested' after' comma' rest'))
+            (take_out path (n + 1) next_gap (entry name' body' nested' after' comma' rest'))
       ]
     ]
 
@@ -265,10 +265,10 @@ rename_further new n [] = None
 rename_further new n (f ∷ fs) = elim n [
   | zero ↦ Some (record {
     to = record f { part = new } ∷ fs;
-    before = text_of f.before ++ (codes "." ++ text_of f.behind);
+    before = text_of f.before ++ (codes "." ++ text_of f.after);
     old = f.part.text;
     new = new.text;
-    behind = text_of (flat_map further_leaves fs);
+    after = text_of (flat_map further_leaves fs);
   })
   | suc m ↦ within (λ gs. f ∷ gs) (text_of (further_leaves f)) [] (rename_further new m fs)
 ]
@@ -280,14 +280,14 @@ rename_part new n k = elim n [
     before = [];
     old = k.first.text;
     new = new.text;
-    behind = text_of (flat_map further_leaves k.more);
+    after = text_of (flat_map further_leaves k.more);
   })
   | suc m ↦ within (λ fs. record k { more = fs }) k.first.text [] (rename_further new m k.more)
 ]
 
 abbrev pub rename_name : Written → ℕ → Name → Option (Changed Name)
 rename_name new n name =
-    within (λ k. record name { key = k }) [] (text_of name.before ++ (codes "=" ++ text_of name.behind))
+    within (λ k. record name { key = k }) [] (text_of name.before ++ (codes "=" ++ text_of name.after))
     (rename_part new n name.key)
 
 -- the entry whose key goes through the path or ends there; its part with that number

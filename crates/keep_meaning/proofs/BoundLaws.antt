@@ -51,8 +51,8 @@ further_many (f ∷ fs) =
     omega (
       arith,
       length-append (further_leaves f) (flat_map further_leaves fs),
-      length-append f.before (dot ++ (f.behind ++ (f.part ∷ []))),
-      length-append f.behind (f.part ∷ []),
+      length-append f.before (dot ++ (f.after ++ (f.part ∷ []))),
+      length-append f.after (f.part ∷ []),
       further_many fs,
     )
 
@@ -65,7 +65,7 @@ entry_few n (Some name) f nested =
       arith,
       length-keyed (key_value name.key.first) (map further_value name.key.more) (valued_mentions (mentions_value f) nested),
       length-map name.key.more further_value,
-      length-append (key_leaves name.key) (name.before ++ (token leaf.Equals (0x3D ∷ []) ++ name.behind)),
+      length-append (key_leaves name.key) (name.before ++ (token leaf.Equals (0x3D ∷ []) ++ name.after)),
       further_many name.key.more,
     )
 
@@ -82,13 +82,13 @@ value_many v = by v.body
 entry_many : (name : Option Name) (v : Value) (after : Gap) (comma : Option Gap) (rest : Entries)
     → length (named_leaves name) + suc (length (entries_leaves v.nested)) + length (entries_leaves rest) ≤ length (entries_leaves (entry name v.body v.nested after comma rest))
 entry_many name v after comma rest =
-    let behind : List Written = after ++ (comma_leaves comma ++ entries_leaves rest) in
+    let suffix : List Written = after ++ (comma_leaves comma ++ entries_leaves rest) in
     omega (
       arith,
-      length-append (named_leaves name) (opening v.body ++ (entries_leaves v.nested ++ (closing v.body ++ behind))),
-      length-append (opening v.body) (entries_leaves v.nested ++ (closing v.body ++ behind)),
-      length-append (entries_leaves v.nested) (closing v.body ++ behind),
-      length-append (closing v.body) behind,
+      length-append (named_leaves name) (opening v.body ++ (entries_leaves v.nested ++ (closing v.body ++ suffix))),
+      length-append (opening v.body) (entries_leaves v.nested ++ (closing v.body ++ suffix)),
+      length-append (entries_leaves v.nested) (closing v.body ++ suffix),
+      length-append (closing v.body) suffix,
       length-append after (comma_leaves comma ++ entries_leaves rest),
       length-append (comma_leaves comma) (entries_leaves rest),
       length-append (opening v.body) (entries_leaves v.nested ++ closing v.body),
@@ -127,14 +127,14 @@ way_few tables at k (l ∷ ks) =
     )
 
 -- a header's leaves: its brackets, its keys, and a dot before each but the first
-header_many : (first last : Written) (before : Gap) (k : Key) (behind : Gap)
-    → length k.more + length k.more + 3 ≤ length (first ∷ (before ++ (key_leaves k ++ (behind ++ last ∷ []))))
-header_many first last before k behind =
+header_many : (first last : Written) (before : Gap) (k : Key) (after : Gap)
+    → length k.more + length k.more + 3 ≤ length (first ∷ (before ++ (key_leaves k ++ (after ++ last ∷ []))))
+header_many first last before k after =
     omega (
       arith,
-      length-append before (key_leaves k ++ (behind ++ last ∷ [])),
-      length-append (key_leaves k) (behind ++ last ∷ []),
-      length-append behind (last ∷ []),
+      length-append before (key_leaves k ++ (after ++ last ∷ [])),
+      length-append (key_leaves k) (after ++ last ∷ []),
+      length-append after (last ∷ []),
       further_many k.more,
     )
 
@@ -152,22 +152,22 @@ content_few r (keyval name v) =
       value_many v,
       length-append (name_leaves name) (value_leaves v),
     )
-content_few r (header before k behind) =
+content_few r (header before k after) =
     omega (
       arith,
       length-append (header_way r.tables [] (keys_of k)) (record { path = header_path r.tables [] (keys_of k); kind = define } ∷ []),
       way_few r.tables [] (key_value k.first) (map further_value k.more),
       length-map k.more further_value,
-      header_many (record { leaf = leaf.HeadOpen; text = 0x5B ∷ [] }) (record { leaf = leaf.HeadClose; text = 0x5D ∷ [] }) before k behind,
+      header_many (record { leaf = leaf.HeadOpen; text = 0x5B ∷ [] }) (record { leaf = leaf.HeadClose; text = 0x5D ∷ [] }) before k after,
     )
-content_few r (element before k behind) =
+content_few r (element before k after) =
     let path : List Part = header_path r.tables [] (keys_of k) in
     omega (
       arith,
       length-append (header_way r.tables [] (keys_of k)) (record { path = path; kind = kinds_element } ∷ record { path = path ++ index (elements_of path r.tables) ∷ []; kind = begun } ∷ []),
       way_few r.tables [] (key_value k.first) (map further_value k.more),
       length-map k.more further_value,
-      header_many (record { leaf = leaf.ElemOpen; text = 0x5B ∷ 0x5B ∷ [] }) (record { leaf = leaf.ElemClose; text = 0x5D ∷ 0x5D ∷ [] }) before k behind,
+      header_many (record { leaf = leaf.ElemOpen; text = 0x5B ∷ 0x5B ∷ [] }) (record { leaf = leaf.ElemClose; text = 0x5D ∷ 0x5D ∷ [] }) before k after,
     )
 
 line_few : (r : Reading) (l : Line) → length (line_mentions r l) ≤ length (line_leaves l)

@@ -16,36 +16,36 @@ use Rattle.keep_meaning.proofs.PlaceLemmas.{length-further}
 
 pub record IsPart {A : Type 0} (xs : List A) (at : ℕ) (ys : List A) : Type 0 where
   pub prefix : List A
-  pub behind : List A
+  pub after : List A
   pub place : length prefix ≡ at
-  pub whole : xs ≡ prefix ++ (ys ++ behind)
+  pub whole : xs ≡ prefix ++ (ys ++ after)
 
 -- all of it
 pub part_whole : {A : Type 0} (xs : List A) → IsPart xs 0 xs
-part_whole xs = record { prefix = []; behind = []; place = refl; whole = sym (append-nil xs) }
+part_whole xs = record { prefix = []; after = []; place = refl; whole = sym (append-nil xs) }
 
 -- its two parts
 pub part_left : {A : Type 0} (xs : List A) (at : ℕ) (a b : List A) → IsPart xs at (a ++ b) → IsPart xs at a
-part_left xs at a b h = record { prefix = h.prefix; behind = b ++ h.behind; place = h.place; whole = h.whole ∙ ap (λ w. h.prefix ++ w) (append_assoc a b h.behind) }
+part_left xs at a b h = record { prefix = h.prefix; after = b ++ h.after; place = h.place; whole = h.whole ∙ ap (λ w. h.prefix ++ w) (append_assoc a b h.after) }
 
 pub part_right : {A : Type 0} (xs : List A) (at : ℕ) (a b : List A) → IsPart xs at (a ++ b) → IsPart xs (at + length a) b
 part_right xs at a b h = record {
   prefix = h.prefix ++ a;
-  behind = h.behind;
+  after = h.after;
   place = length-append h.prefix a ∙ ap (λ n. n + length a) h.place;
-  whole = h.whole ∙ ap (λ w. h.prefix ++ w) (append_assoc a b h.behind) ∙ sym (append_assoc h.prefix a (b ++ h.behind));
+  whole = h.whole ∙ ap (λ w. h.prefix ++ w) (append_assoc a b h.after) ∙ sym (append_assoc h.prefix a (b ++ h.after));
 }
 
 -- by the number that its place has
 pub part_placed : {A : Type 0} (xs : List A) (at to : ℕ) (ys : List A) → at ≡ to → IsPart xs at ys → IsPart xs to ys
-part_placed xs at to ys e h = record { prefix = h.prefix; behind = h.behind; place = h.place ∙ e; whole = h.whole }
+part_placed xs at to ys e h = record { prefix = h.prefix; after = h.after; place = h.place ∙ e; whole = h.whole }
 
 pub part_ends : {A : Type 0} (xs : List A) (at : ℕ) (ys : List A) → IsPart xs at ys → at + length ys ≤ length xs
-part_ends xs at ys h = omega (arith, ap length h.whole, length-append h.prefix (ys ++ h.behind), length-append ys h.behind, h.place)
+part_ends xs at ys h = omega (arith, ap length h.whole, length-append h.prefix (ys ++ h.after), length-append ys h.after, h.place)
 
 -- what is there
 pub part_taken : {A : Type 0} (xs : List A) (at n : ℕ) (ys : List A) → IsPart xs at ys → length ys ≡ n → take n (drop at xs) ≡ ys
-part_taken xs at n ys h e = ap (λ w. take n (drop at w)) h.whole ∙ ap (take n) (drop_at h.prefix (ys ++ h.behind) at h.place) ∙ take_at ys h.behind n e
+part_taken xs at n ys h e = ap (λ w. take n (drop at w)) h.whole ∙ ap (take n) (drop_at h.prefix (ys ++ h.after) at h.place) ∙ take_at ys h.after n e
 
 -- ---- leaves in the text
 
@@ -74,12 +74,12 @@ further_mention bytes at [] h = refl
 further_mention bytes at (f ∷ fs) h =
     let more : List Written = flat_map further_leaves fs in
     let dot : List Written = token leaf.Dot (0x2E ∷ []) in
-    let from : ℕ = at + width f.before + 1 + width f.behind in
-    let split : further_leaves f ++ more ≡ f.before ++ (dot ++ (f.behind ++ (f.part ∷ more))) = simp append_assoc in
-    let text : Spelled bytes at (f.before ++ (dot ++ (f.behind ++ (f.part ∷ more)))) = subst (Spelled bytes at) split h in
-    let a : Spelled bytes (at + width f.before) (dot ++ (f.behind ++ (f.part ∷ more))) = spelled_right bytes at f.before (dot ++ (f.behind ++ (f.part ∷ more))) text in
-    let b : Spelled bytes (at + width f.before + 1) (f.behind ++ (f.part ∷ more)) = spelled_right bytes (at + width f.before) dot (f.behind ++ (f.part ∷ more)) a in
-    let c : Spelled bytes from (f.part ∷ more) = spelled_right bytes (at + width f.before + 1) f.behind (f.part ∷ more) b in
+    let from : ℕ = at + width f.before + 1 + width f.after in
+    let split : further_leaves f ++ more ≡ f.before ++ (dot ++ (f.after ++ (f.part ∷ more))) = simp append_assoc in
+    let text : Spelled bytes at (f.before ++ (dot ++ (f.after ++ (f.part ∷ more)))) = subst (Spelled bytes at) split h in
+    let a : Spelled bytes (at + width f.before) (dot ++ (f.after ++ (f.part ∷ more))) = spelled_right bytes at f.before (dot ++ (f.after ++ (f.part ∷ more))) text in
+    let b : Spelled bytes (at + width f.before + 1) (f.after ++ (f.part ∷ more)) = spelled_right bytes (at + width f.before) dot (f.after ++ (f.part ∷ more)) a in
+    let c : Spelled bytes from (f.part ∷ more) = spelled_right bytes (at + width f.before + 1) f.after (f.part ∷ more) b in
     ap (λ (k : List ℕ). k ∷ map (part_text bytes) (further_parts (from + length f.part.text) fs)) (part_mentions bytes from f.part (part_left bytes from f.part.text (text_of more) c))
     ∙ ap (λ (ks : List (List ℕ)). key_value f.part ∷ ks) (further_mention bytes (from + length f.part.text) fs (part_right bytes from f.part.text (text_of more) c))
 
@@ -102,18 +102,18 @@ keys_within parts at first k among = omega (arith, part_ends parts first (key_pa
 
 -- ---- the keys of headers
 
-pub header_keys_mention : (bytes : List ℕ) (parts : List KeyPart) (at first : ℕ) (before : Gap) (k : Key) (behind : Gap)
-    → Spelled bytes at (content_leaves (header before k behind)) → IsPart parts first (content_parts at (header before k behind)) → keys_in bytes parts first (key_count k) ≡ keys_of k
-header_keys_mention bytes parts at first before k behind text among =
-    let end : List Written = behind ++ token leaf.HeadClose (0x5D ∷ []) in
+pub header_keys_mention : (bytes : List ℕ) (parts : List KeyPart) (at first : ℕ) (before : Gap) (k : Key) (after : Gap)
+    → Spelled bytes at (content_leaves (header before k after)) → IsPart parts first (content_parts at (header before k after)) → keys_in bytes parts first (key_count k) ≡ keys_of k
+header_keys_mention bytes parts at first before k after text among =
+    let end : List Written = after ++ token leaf.HeadClose (0x5D ∷ []) in
     let a : Spelled bytes (at + 1) (before ++ (key_leaves k ++ end)) = spelled_right bytes at (token leaf.HeadOpen (0x5B ∷ [])) (before ++ (key_leaves k ++ end)) text in
     let b : Spelled bytes (at + 1 + width before) (key_leaves k ++ end) = spelled_right bytes (at + 1) before (key_leaves k ++ end) a in
     keys_mention bytes parts (at + 1 + width before) first k (spelled_left bytes (at + 1 + width before) (key_leaves k) end b) among
 
-pub element_keys_mention : (bytes : List ℕ) (parts : List KeyPart) (at first : ℕ) (before : Gap) (k : Key) (behind : Gap)
-    → Spelled bytes at (content_leaves (element before k behind)) → IsPart parts first (content_parts at (element before k behind)) → keys_in bytes parts first (key_count k) ≡ keys_of k
-element_keys_mention bytes parts at first before k behind text among =
-    let end : List Written = behind ++ token leaf.ElemClose (0x5D ∷ 0x5D ∷ []) in
+pub element_keys_mention : (bytes : List ℕ) (parts : List KeyPart) (at first : ℕ) (before : Gap) (k : Key) (after : Gap)
+    → Spelled bytes at (content_leaves (element before k after)) → IsPart parts first (content_parts at (element before k after)) → keys_in bytes parts first (key_count k) ≡ keys_of k
+element_keys_mention bytes parts at first before k after text among =
+    let end : List Written = after ++ token leaf.ElemClose (0x5D ∷ 0x5D ∷ []) in
     let a : Spelled bytes (at + 2) (before ++ (key_leaves k ++ end)) = spelled_right bytes at (token leaf.ElemOpen (0x5B ∷ 0x5B ∷ [])) (before ++ (key_leaves k ++ end)) text in
     let b : Spelled bytes (at + 2 + width before) (key_leaves k ++ end) = spelled_right bytes (at + 2) before (key_leaves k ++ end) a in
     keys_mention bytes parts (at + 2 + width before) first k (spelled_left bytes (at + 2 + width before) (key_leaves k) end b) among

@@ -71,7 +71,7 @@ key_ends profile _ text kind h = absurd cc
 part_byte : (bytes : List ℕ) (at : ℕ) (t : List ℕ) (i : ℕ) → IsPart bytes at t → i < length t → get_or bytes (at + i) 0 ≡ get_or t i 0
 part_byte bytes at t i h lt =
     let from : at + i ≡ length h.prefix + i = ap (λ n. n + i) (sym h.place) in
-    ap (λ n. get_or bytes n 0) from ∙ ap (λ b. get_or b (length h.prefix + i) 0) h.whole ∙ get_or-append-add h.prefix (t ++ h.behind) i 0 ∙ get_or_append_left t h.behind 0 i lt
+    ap (λ n. get_or bytes n 0) from ∙ ap (λ b. get_or b (length h.prefix + i) 0) h.whole ∙ get_or-append-add h.prefix (t ++ h.after) i 0 ∙ get_or_append_left t h.after 0 i lt
 
 starts_between : (bytes : List ℕ) (at : ℕ) (t : List ℕ) → IsPart bytes at t → HasAsciiEnds t → IsCharBoundary bytes at
 starts_between bytes at t there ends =
@@ -117,12 +117,12 @@ module _ (bytes : List ℕ) (utf8 : IsUtf8 bytes) (profile : Profile) where
   further_readable at (f ∷ fs) are h =
       let more : List Written = flat_map further_leaves fs in
       let dot : List Written = token leaf.Dot (0x2E ∷ []) in
-      let from : ℕ = at + width f.before + 1 + width f.behind in
-      let split : further_leaves f ++ more ≡ f.before ++ (dot ++ (f.behind ++ (f.part ∷ more))) = simp append_assoc in
-      let text : Spelled bytes at (f.before ++ (dot ++ (f.behind ++ (f.part ∷ more)))) = subst (Spelled bytes at) split h in
-      let a : Spelled bytes (at + width f.before) (dot ++ (f.behind ++ (f.part ∷ more))) = spelled_right bytes at f.before (dot ++ (f.behind ++ (f.part ∷ more))) text in
-      let b : Spelled bytes (at + width f.before + 1) (f.behind ++ (f.part ∷ more)) = spelled_right bytes (at + width f.before) dot (f.behind ++ (f.part ∷ more)) a in
-      let c : Spelled bytes from (f.part ∷ more) = spelled_right bytes (at + width f.before + 1) f.behind (f.part ∷ more) b in (
+      let from : ℕ = at + width f.before + 1 + width f.after in
+      let split : further_leaves f ++ more ≡ f.before ++ (dot ++ (f.after ++ (f.part ∷ more))) = simp append_assoc in
+      let text : Spelled bytes at (f.before ++ (dot ++ (f.after ++ (f.part ∷ more)))) = subst (Spelled bytes at) split h in
+      let a : Spelled bytes (at + width f.before) (dot ++ (f.after ++ (f.part ∷ more))) = spelled_right bytes at f.before (dot ++ (f.after ++ (f.part ∷ more))) text in
+      let b : Spelled bytes (at + width f.before + 1) (f.after ++ (f.part ∷ more)) = spelled_right bytes (at + width f.before) dot (f.after ++ (f.part ∷ more)) a in
+      let c : Spelled bytes from (f.part ∷ more) = spelled_right bytes (at + width f.before + 1) f.after (f.part ∷ more) b in (
         part_readable bytes profile from f.part utf8 are.0.part (part_left bytes from f.part.text (text_of more) c),
         further_readable (from + length f.part.text) fs are.1 (part_right bytes from f.part.text (text_of more) c),
       )
@@ -135,7 +135,7 @@ module _ (bytes : List ℕ) (utf8 : IsUtf8 bytes) (profile : Profile) where
       )
 
   name_readable : (at : ℕ) (n : Name) → IsName profile n → Spelled bytes at (name_leaves n) → Readable (key_parts at n.key)
-  name_readable at n is h = key_readable at n.key is.key (spelled_left bytes at (key_leaves n.key) (n.before ++ (token leaf.Equals (0x3D ∷ []) ++ n.behind)) h)
+  name_readable at n is h = key_readable at n.key is.key (spelled_left bytes at (key_leaves n.key) (n.before ++ (token leaf.Equals (0x3D ∷ []) ++ n.after)) h)
 
   named_readable : (place : Place) (at : ℕ) (name : Option Name) → IsNamed profile place name → Spelled bytes at (named_leaves name) → Readable (named_parts at name)
   named_readable place at None is h = tt
@@ -154,12 +154,12 @@ module _ (bytes : List ℕ) (utf8 : IsUtf8 bytes) (profile : Profile) where
       let opened : List Written = opening body ++ (entries_leaves nested ++ closed) in
       let from : ℕ = value_start at name in
       let within : ℕ = nested_start from body in
-      let behind : ℕ = within + width (entries_leaves nested) in
-      let past : ℕ = behind + width (closing body) in
+      let suffix : ℕ = within + width (entries_leaves nested) in
+      let past : ℕ = suffix + width (closing body) in
       let a : Spelled bytes from opened = spelled_right bytes at (named_leaves name) opened h in
       let b : Spelled bytes within (entries_leaves nested ++ closed) = spelled_right bytes from (opening body) (entries_leaves nested ++ closed) a in
-      let c : Spelled bytes behind closed = spelled_right bytes within (entries_leaves nested) closed b in
-      let d : Spelled bytes past (after ++ ended) = spelled_right bytes behind (closing body) (after ++ ended) c in
+      let c : Spelled bytes suffix closed = spelled_right bytes within (entries_leaves nested) closed b in
+      let d : Spelled bytes past (after ++ ended) = spelled_right bytes suffix (closing body) (after ++ ended) c in
       let e : Spelled bytes (past + width after) ended = spelled_right bytes past after ended d in
       let f : Spelled bytes (entry_end at name body nested after comma) further = spelled_right bytes (past + width after) (comma_leaves comma) further e in
       let inner : List KeyPart = entries_parts within nested in
@@ -176,9 +176,9 @@ module _ (bytes : List ℕ) (utf8 : IsUtf8 bytes) (profile : Profile) where
 
   -- ---- lines
 
-  head_readable : (at : ℕ) (first last : Written) (before : Gap) (key : Key) (behind : Gap) → IsKey profile key → Spelled bytes at (first ∷ before ++ (key_leaves key ++ (behind ++ (last ∷ []))))
+  head_readable : (at : ℕ) (first last : Written) (before : Gap) (key : Key) (suffix : Gap) → IsKey profile key → Spelled bytes at (first ∷ before ++ (key_leaves key ++ (suffix ++ (last ∷ []))))
       → Readable (key_parts (at + length first.text + width before) key)
-  head_readable at first last before key behind is h = key_readable (at + length first.text + width before) key is (head_spelled bytes at first last before key behind h)
+  head_readable at first last before key suffix is h = key_readable (at + length first.text + width before) key is (head_spelled bytes at first last before key suffix h)
 
   content_readable : (at : ℕ) (c : Content) → IsContent profile c → Spelled bytes at (content_leaves c) → Readable (content_parts at c)
   content_readable at blank is h = tt
@@ -187,10 +187,10 @@ module _ (bytes : List ℕ) (utf8 : IsUtf8 bytes) (profile : Profile) where
       all-append (IsKeyAt bytes) (key_parts at name.key) (entries_parts (nested_start from v.body) v.nested)
       (name_readable at name is.0 (spelled_left bytes at (name_leaves name) (value_leaves v) h))
       (value_readable from v is.1 (spelled_right bytes at (name_leaves name) (value_leaves v) h))
-  content_readable at (header before key behind) is h =
-      head_readable at (record { leaf = leaf.HeadOpen; text = 0x5B ∷ [] }) (record { leaf = leaf.HeadClose; text = 0x5D ∷ [] }) before key behind is.1 h
-  content_readable at (element before key behind) is h =
-      head_readable at (record { leaf = leaf.ElemOpen; text = 0x5B ∷ 0x5B ∷ [] }) (record { leaf = leaf.ElemClose; text = 0x5D ∷ 0x5D ∷ [] }) before key behind is.1 h
+  content_readable at (header before key suffix) is h =
+      head_readable at (record { leaf = leaf.HeadOpen; text = 0x5B ∷ [] }) (record { leaf = leaf.HeadClose; text = 0x5D ∷ [] }) before key suffix is.1 h
+  content_readable at (element before key suffix) is h =
+      head_readable at (record { leaf = leaf.ElemOpen; text = 0x5B ∷ 0x5B ∷ [] }) (record { leaf = leaf.ElemClose; text = 0x5D ∷ 0x5D ∷ [] }) before key suffix is.1 h
 
   line_readable : (c : Count) (l : Line) → IsLine profile l → Spelled bytes c.at (line_leaves l) → Readable (line_parts c l)
   line_readable c l is h = content_readable (content_start c l) l.content is.content (content_spelled bytes c l h)

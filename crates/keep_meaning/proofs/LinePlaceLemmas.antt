@@ -7,12 +7,12 @@ use Rattle.keep_syntax.specs.Numbered.{width, Count, content_start, next_line, f
 use Rattle.keep_meaning.proofs.KeyPartLemmas.{IsPart, part_whole, part_right, part_placed, Spelled, spelled_left, spelled_right}
 
 -- the key of a header
-pub head_spelled : (bytes : List ℕ) (at : ℕ) (first last : Written) (before : Gap) (key : Key) (behind : Gap) → Spelled bytes at (first ∷ before ++ (key_leaves key ++ (behind ++ (last ∷ []))))
+pub head_spelled : (bytes : List ℕ) (at : ℕ) (first last : Written) (before : Gap) (key : Key) (after : Gap) → Spelled bytes at (first ∷ before ++ (key_leaves key ++ (after ++ (last ∷ []))))
     → Spelled bytes (at + length first.text + width before) (key_leaves key)
-head_spelled bytes at first last before key behind h =
-    let rest : List Written = key_leaves key ++ (behind ++ (last ∷ [])) in
+head_spelled bytes at first last before key after h =
+    let rest : List Written = key_leaves key ++ (after ++ (last ∷ [])) in
     let a : Spelled bytes (at + length first.text) (before ++ rest) = part_right bytes at first.text (text_of (before ++ rest)) h in
-    spelled_left bytes (at + length first.text + width before) (key_leaves key) (behind ++ (last ∷ [])) (spelled_right bytes (at + length first.text) before rest a)
+    spelled_left bytes (at + length first.text + width before) (key_leaves key) (after ++ (last ∷ [])) (spelled_right bytes (at + length first.text) before rest a)
 
 -- the content of a line
 pub content_spelled : (bytes : List ℕ) (c : Count) (l : Line) → Spelled bytes c.at (line_leaves l) → Spelled bytes (content_start c l) (content_leaves l.content)
@@ -42,6 +42,6 @@ lines_spelled bytes d e =
     let ended : List Written = flat_map ended_leaves d.ended in
     let from : ℕ = 0 + width (bom_leaves d.bom) in
     let whole : Spelled bytes 0 (bom_leaves d.bom ++ (ended ++ (line_leaves d.last ++ end))) = subst (λ (t : List ℕ). IsPart bytes 0 t) e (part_whole bytes) in
-    let behind : Spelled bytes from (ended ++ (line_leaves d.last ++ end)) = spelled_right bytes 0 (bom_leaves d.bom) (ended ++ (line_leaves d.last ++ end)) whole in
-    let lines : Spelled bytes from ((ended ++ line_leaves d.last) ++ end) = subst (Spelled bytes from) (sym (append_assoc ended (line_leaves d.last) end)) behind in
+    let after : Spelled bytes from (ended ++ (line_leaves d.last ++ end)) = spelled_right bytes 0 (bom_leaves d.bom) (ended ++ (line_leaves d.last ++ end)) whole in
+    let lines : Spelled bytes from ((ended ++ line_leaves d.last) ++ end) = subst (Spelled bytes from) (sym (append_assoc ended (line_leaves d.last) end)) after in
     part_placed bytes from (first_line d).at (text_of (ended ++ line_leaves d.last)) (omega arith) (spelled_left bytes from (ended ++ line_leaves d.last) end lines)

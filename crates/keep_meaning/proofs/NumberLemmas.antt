@@ -128,9 +128,9 @@ valued-content r p (keyval name v) =
     let nested : List Mention = entry_mentions 0 (Some name) (body_fact v.body) (entries_mentions 0 v.nested) in
     let i : Start = nested_of p (p.at + syntax.width (name_leaves name)) (syntax.key_count name.key) v.body in
     omega (arith, valued-below r.body nested, valued-entry 0 (Some name) (body_fact v.body) (entries_mentions 0 v.nested), valued-entries 0 v.nested, length-entries_values i v.nested)
-valued-content r p (header before k behind) =
+valued-content r p (header before k after) =
     omega (arith, valued-append (header_way r.tables [] (keys_of k)) (record { path = header_path r.tables [] (keys_of k); kind = define } ∷ []), valued-way r.tables [] (keys_of k))
-valued-content r p (element before k behind) =
+valued-content r p (element before k after) =
     let path : List Part = header_path r.tables [] (keys_of k) in
     omega (
       arith,
@@ -159,8 +159,8 @@ stated-line : (c : syntax.Count) (l : Line) (line_end : ℕ) (x : Content) (ss :
     → length (cons_option (statement_of x) ss) ≡ length (content_statements c l line_end x) + n
 stated-line c l line_end blank ss n h = omega (arith, h)
 stated-line c l line_end (keyval name v) ss n h = omega (arith, h)
-stated-line c l line_end (header before k behind) ss n h = omega (arith, h)
-stated-line c l line_end (element before k behind) ss n h = omega (arith, h)
+stated-line c l line_end (header before k after) ss n h = omega (arith, h)
+stated-line c l line_end (element before k after) ss n h = omega (arith, h)
 
 statements-lines : (c : syntax.Count) (es : List Ended) (last : Line) → length (filter_map line_statement (map line_of es ++ last ∷ [])) ≡ length (over_lines line_statements c es last)
 statements-lines c [] last = omega (arith, stated-line c last (c.at + syntax.width (line_leaves last)) last.content [] 0 refl)

@@ -61,7 +61,7 @@ marked-entries n (entry name body nested after comma rest) =
 
 pub length-further : (at : ℕ) (fs : List Further) → length (further_parts at fs) ≡ length fs
 length-further at [] = refl
-length-further at (f ∷ fs) = ap suc (length-further (at + syntax.width f.before + 1 + syntax.width f.behind + length f.part.text) fs)
+length-further at (f ∷ fs) = ap suc (length-further (at + syntax.width f.before + 1 + syntax.width f.after + length f.part.text) fs)
 
 pub length-named : (at : ℕ) (name : Option Name) → length (named_parts at name) ≡ name_count name
 length-named at None = refl
@@ -114,7 +114,7 @@ marked-content r at (keyval name v) =
       length-further (at + length name.key.first.text) name.key.more,
       length-entries_parts from v.nested,
     )
-marked-content r at (header before k behind) =
+marked-content r at (header before k after) =
     omega (
       arith,
       marked-append (header_way r.tables [] (keys_of k)) (record { path = header_path r.tables [] (keys_of k); kind = define } ∷ []),
@@ -122,7 +122,7 @@ marked-content r at (header before k behind) =
       length-keys k.more,
       length-further (at + 1 + syntax.width before + length k.first.text) k.more,
     )
-marked-content r at (element before k behind) =
+marked-content r at (element before k after) =
     let path : List Part = header_path r.tables [] (keys_of k) in
     omega (
       arith,

@@ -28,13 +28,13 @@ abbrev w : Leaf → List ℕ → Written
 w l t = record { leaf = l; text = t }
 
 abbrev further : Gap → Gap → Written → Further
-further b a p = record { before = b; behind = a; part = p }
+further b a p = record { before = b; after = a; part = p }
 
 abbrev akey : Written → List Further → Key
 akey f m = record { first = f; more = m }
 
 abbrev aname : Key → Gap → Gap → Name
-aname k b a = record { key = k; before = b; behind = a }
+aname k b a = record { key = k; before = b; after = a }
 
 abbrev avalue : Body → Entries → Value
 avalue b i = record { body = b; nested = i }

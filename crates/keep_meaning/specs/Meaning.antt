@@ -127,8 +127,8 @@ mentions_of_value v = valued_mentions (marks.item (body_fact v.body)) (entries_m
 abbrev pub statement_of : Content → Option Statement
 statement_of blank = None
 statement_of (keyval name value) = Some (marks.keyval (keyval_mentions name value))
-statement_of (header before k behind) = Some (marks.header (keys_of k))
-statement_of (element before k behind) = Some (marks.element_header (keys_of k))
+statement_of (header before k after) = Some (marks.header (keys_of k))
+statement_of (element before k after) = Some (marks.element_header (keys_of k))
 
 -- what a line says, and how the reading is after it
 abbrev pub line_mentions : Reading → Line → List Mention

@@ -61,10 +61,10 @@ pub dot_cut : (text : List ℕ) (at : ℕ) → IsUtf8 text → slice_index text 
 dot_cut text at utf8 dot = IsCharBoundary-after_ascii text at utf8 (within_dot text at dot) (omega (arith, dot))
 
 pub next_key_passed : (text rest : List ℕ) (at n : ℕ) → slice_index text at ≡ 0x2E → rest ≡ drop (at + 1) text → KeyFound rest n → KeysSoFar text at → KeysSoFar text (at + (1 + n))
-next_key_passed text rest at n dot behind found h =
+next_key_passed text rest at n dot after found h =
     let (value, read) = key_meant rest n found in
     let P : List ℕ → Type 0 = λ t. StepRead t (key value) (suc n) in
-    let step : StepRead (drop at text) (key value) (suc n) = subst P (ap (λ (t : List ℕ). 0x2E ∷ t) behind ∙ sym (dot_spelled text at dot)) (dot_read rest n value read) in
+    let step : StepRead (drop at text) (key value) (suc n) = subst P (ap (λ (t : List ℕ). 0x2E ∷ t) after ∙ sym (dot_spelled text at dot)) (dot_read rest n value read) in
     let Q : ℕ → Type 0 = λ i. SoFar text (h.path ++ key value ∷ []) i in
     let same : at + suc n ≡ at + (1 + n) = omega arith in
     record { path = h.path ++ key value ∷ []; keys = keys_more h.path value h.keys; so_far = subst Q same (so_far_more text h.path at (suc n) (key value) h.so_far step) }
@@ -82,10 +82,10 @@ no_first_key text none (index n ∷ parts) h = absurd h
 -- after a dot is a key part
 pub no_next_key : (text rest : List ℕ) (at : ℕ) → slice_index text at ≡ 0x2E → rest ≡ drop (at + 1) text → key_at Strict rest ≡ None → KeysSoFar text at
     → (q : List Part) → IsPathText text q → ⊥
-no_next_key text rest at dot behind none h q stated =
+no_next_key text rest at dot after none h q stated =
     let r = h.so_far.all q stated in
     let P : List ℕ → Type 0 = λ t. StepsText r.0 t in
-    let left : r.0 ≡ [] = dot_stuck rest none r.0 (subst P (dot_spelled text at dot ∙ ap (λ (t : List ℕ). 0x2E ∷ t) (sym behind)) r.2) in
+    let left : r.0 ≡ [] = dot_stuck rest none r.0 (subst P (dot_spelled text at dot ∙ ap (λ (t : List ℕ). 0x2E ∷ t) (sym after)) r.2) in
     let Q : List Part → Type 0 = λ p. StepsText p (drop at text) in
     let over : drop at text ≡ [] = subst Q left r.2 in
     omega (arith, within_dot text at dot, ap (λ (t : List ℕ). length t) over, length-drop at text)

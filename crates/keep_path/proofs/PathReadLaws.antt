@@ -53,7 +53,7 @@ key_stated_of l t value k h m = (l, k, h, strict_means l t value k h m)
 -- a key part before steps is the one that is found
 pub record KeyIsFound (value rest : List ℕ) (parts : List Part) (l : Leaf) (n : ℕ) (text : List ℕ) : Type 0 where
   pub means : Means Strict l (take n text) value
-  pub behind : StepsText parts (drop n text)
+  pub after : StepsText parts (drop n text)
 
 pub key_at_start : (value : List ℕ) (parts : List Part) (text : List ℕ) → (a b : List ℕ) → text ≡ a ++ b → KeyText value a → StepsText parts b
     → (l : Leaf) × (key_at Strict text ≡ Some (l, length a)) × Means Strict l a value
@@ -102,23 +102,23 @@ steps_none (index n ∷ parts) (a, b, e, (small, is), more) = let f : [] ≡ ind
 
 pub record KeyFirst (value : List ℕ) (parts : List Part) (text : List ℕ) : Type 0 where
   pub part : List ℕ
-  pub behind : List ℕ
-  pub spelled : text ≡ 0x2E ∷ (part ++ behind)
+  pub after : List ℕ
+  pub spelled : text ≡ 0x2E ∷ (part ++ after)
   pub is_key : KeyText value part
-  pub more : StepsText parts behind
+  pub more : StepsText parts after
 
 pub key_first : (value : List ℕ) (parts : List Part) (text : List ℕ) → StepsText (key value ∷ parts) text → KeyFirst value parts text
 key_first value parts text (a, b, e, (x, y, e2, dot, k), more) =
-    record { part = y; behind = b; spelled = e ∙ rw (e2, dot) refl; is_key = k; more = more }
+    record { part = y; after = b; spelled = e ∙ rw (e2, dot) refl; is_key = k; more = more }
 
 pub record IndexFirst (n : ℕ) (parts : List Part) (text : List ℕ) : Type 0 where
-  pub behind : List ℕ
+  pub after : List ℕ
   pub small : n < 1_000_000_000
-  pub spelled : text ≡ index_text n ++ behind
-  pub more : StepsText parts behind
+  pub spelled : text ≡ index_text n ++ after
+  pub more : StepsText parts after
 
 pub index_first : (n : ℕ) (parts : List Part) (text : List ℕ) → StepsText (index n ∷ parts) text → IndexFirst n parts text
-index_first n parts text (a, b, e, (small, is), more) = record { behind = b; small = small; spelled = e ∙ ap (λ (t : List ℕ). t ++ b) is; more = more }
+index_first n parts text (a, b, e, (small, is), more) = record { after = b; small = small; spelled = e ∙ ap (λ (t : List ℕ). t ++ b) is; more = more }
 
 -- the whole text is read
 pub so_far_done : (text : List ℕ) (path : List Part) (at : ℕ) → length text ≤ at → SoFar text path at → IsPathText text path × ((q : List Part) → IsPathText text q → q ≡ path)
@@ -147,15 +147,15 @@ pub key_step : (more : List ℕ) (l : Leaf) (n : ℕ) (value : List ℕ) → key
 key_step more l n value at m [] h = absurd cc
 key_step more l n value at m (index k ∷ parts) h =
     let f = index_first k parts (0x2E ∷ more) h in
-    let e : ◌≡◌ {A = List ℕ} (0x2E ∷ more) (index_text k ++ f.behind) = f.spelled in
+    let e : ◌≡◌ {A = List ℕ} (0x2E ∷ more) (index_text k ++ f.after) = f.spelled in
     let never : ◌≡◌ {A = ℕ} 0x2E 0x5B = ap (λ (t : List ℕ). first t) e in
     absurd (omega (arith, never))
 key_step more l n value at m (key v ∷ parts) h =
     let f = key_first v parts (0x2E ∷ more) h in
-    let e : more ≡ f.part ++ f.behind = ap (λ (t : List ℕ). drop 1 t) f.spelled in
-    let found = key_at_start v parts more f.part f.behind e f.is_key f.more in
+    let e : more ≡ f.part ++ f.after = ap (λ (t : List ℕ). drop 1 t) f.spelled in
+    let found = key_at_start v parts more f.part f.after e f.is_key f.more in
     let P : List ℕ → Type 0 = λ t. Means Wide l (take n t) value in
-    let same = same_key l found.0 n f.part f.behind value v (sym found.1 ∙ at) found.2 (subst P e m) in
+    let same = same_key l found.0 n f.part f.after value v (sym found.1 ∙ at) found.2 (subst P e m) in
     let Q : List ℕ → Type 0 = λ t. StepsText parts (drop n t) in
     (parts, ap (λ (t : List ℕ). key t ∷ parts) same.0, subst Q (sym e) (rw same.1 f.more))
 
@@ -178,8 +178,8 @@ dot_stuck more none (index i ∷ parts) h =
     absurd (omega (arith, never))
 dot_stuck more none (key v ∷ parts) h =
     let f = key_first v parts (0x2E ∷ more) h in
-    let e : more ≡ f.part ++ f.behind = ap (λ (t : List ℕ). drop 1 t) f.spelled in
-    let found = key_at_start v parts more f.part f.behind e f.is_key f.more in
+    let e : more ≡ f.part ++ f.after = ap (λ (t : List ℕ). drop 1 t) f.spelled in
+    let found = key_at_start v parts more f.part f.after e f.is_key f.more in
     let never : ◌≡◌ {A = Option (Leaf × ℕ)} None (Some (found.0, length f.part)) = sym none ∙ found.1 in
     absurd cc
 
@@ -208,21 +208,21 @@ so_far_first text l n value at m =
 
 -- ---- an index in brackets
 
-pub index_after : (more : List ℕ) (i : ℕ) (parts : List Part) → StepsText (index i ∷ parts) (0x5B ∷ more) → (behind : List ℕ) × (i < 1_000_000_000) × (more ≡ decimal i ++ 0x5D ∷ behind) × StepsText parts behind
+pub index_after : (more : List ℕ) (i : ℕ) (parts : List Part) → StepsText (index i ∷ parts) (0x5B ∷ more) → (after : List ℕ) × (i < 1_000_000_000) × (more ≡ decimal i ++ 0x5D ∷ after) × StepsText parts after
 index_after more i parts h =
     let f = index_first i parts (0x5B ∷ more) h in
-    (f.behind, f.small, ap (λ (t : List ℕ). drop 1 t) f.spelled ∙ append_assoc (decimal i) (0x5D ∷ []) f.behind, f.more)
+    (f.after, f.small, ap (λ (t : List ℕ). drop 1 t) f.spelled ∙ append_assoc (decimal i) (0x5D ∷ []) f.after, f.more)
 
 -- the rest begins with the index that was read
-index_step : (more behind : List ℕ) (n : ℕ) → n < 1_000_000_000 → more ≡ decimal n ++ 0x5D ∷ behind
-    → (rest : List Part) → StepsText rest (0x5B ∷ more) → (parts : List Part) × (rest ≡ index n ∷ parts) × StepsText parts behind
-index_step more behind n small is [] h = absurd cc
-index_step more behind n small is (key v ∷ parts) h =
+index_step : (more after : List ℕ) (n : ℕ) → n < 1_000_000_000 → more ≡ decimal n ++ 0x5D ∷ after
+    → (rest : List Part) → StepsText rest (0x5B ∷ more) → (parts : List Part) × (rest ≡ index n ∷ parts) × StepsText parts after
+index_step more after n small is [] h = absurd cc
+index_step more after n small is (key v ∷ parts) h =
     let never : ◌≡◌ {A = ℕ} 0x5B 0x2E = ap (λ (t : List ℕ). first t) (key_first v parts (0x5B ∷ more) h).spelled in
     absurd (omega (arith, never))
-index_step more behind n small is (index i ∷ parts) h =
+index_step more after n small is (index i ∷ parts) h =
     let f = index_after more i parts h in
-    let same = index_one i n f.0 behind f.1 small (sym f.2 ∙ is) in
+    let same = index_one i n f.0 after f.1 small (sym f.2 ∙ is) in
     (parts, ap (λ (k : ℕ). index k ∷ parts) same.0, rw (← same.1) f.3)
 
 pub bracket_read : (more : List ℕ) (n k : ℕ) → n < 1_000_000_000 → more ≡ (decimal n ++ 0x5D ∷ []) ++ drop k more → k ≡ length (decimal n ++ 0x5D ∷ [])

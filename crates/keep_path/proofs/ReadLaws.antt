@@ -35,44 +35,44 @@ first_of_bytes text bytes byte same is = ap (λ (t : List ℕ). slice_index t 0)
 pub prefix_of : (text bytes : List ℕ) (read byte : ℕ) → bytes ≡ text → read ≡ slice_index bytes 0 → IsUtf8 text → read ≡ byte → 0 < byte → byte < 128 → Prefix text byte
 prefix_of text bytes read byte same is utf8 e some low = prefix_is text byte utf8 (first_of_bytes text bytes read same is ∙ e) some low
 
-pub dot_step : (text behind value : List ℕ) (n : ℕ) → Prefix text 0x2E → behind ≡ drop 1 text → KeyRead behind value n → StepRead text (key value) (n + 1)
-dot_step text behind value n prefix e found =
+pub dot_step : (text after value : List ℕ) (n : ℕ) → Prefix text 0x2E → after ≡ drop 1 text → KeyRead after value n → StepRead text (key value) (n + 1)
+dot_step text after value n prefix e found =
     let P : List ℕ → Type 0 = λ t. StepRead t (key value) (n + 1) in
     let Q : List ℕ → Type 0 = λ t. KeyRead t value n in
     subst P prefix.spelled (rw (add-one n) (dot_read (drop 1 text) n value (subst Q e found)))
 
-pub bracket_step : (text behind : List ℕ) (i n : ℕ) → Prefix text 0x5B → behind ≡ drop 1 text → i < 1_000_000_000
-    → behind ≡ (decimal i ++ 0x5D ∷ []) ++ drop n behind → n ≡ length (decimal i ++ 0x5D ∷ []) → StepRead text (index i) (n + 1)
-bracket_step text behind i n prefix e small is count =
+pub bracket_step : (text after : List ℕ) (i n : ℕ) → Prefix text 0x5B → after ≡ drop 1 text → i < 1_000_000_000
+    → after ≡ (decimal i ++ 0x5D ∷ []) ++ drop n after → n ≡ length (decimal i ++ 0x5D ∷ []) → StepRead text (index i) (n + 1)
+bracket_step text after i n prefix e small is count =
     let P : List ℕ → Type 0 = λ t. StepRead t (index i) (n + 1) in
     let Q : List ℕ → Type 0 = λ t. t ≡ (decimal i ++ 0x5D ∷ []) ++ drop n t in
     subst P prefix.spelled (rw (add-one n) (bracket_read (drop 1 text) i n small (subst Q e is) count))
 
 -- ---- what a longer prefix of the text goes on with
 
-pub dot_goes_on : (text behind value : List ℕ) (n : ℕ) → Prefix text 0x2E → behind ≡ drop 1 text → KeyRead behind value n → KeysWithin behind n → StepsGoOn text (n + 1)
-dot_goes_on text behind value n prefix e (l, found, m) within =
+pub dot_goes_on : (text after value : List ℕ) (n : ℕ) → Prefix text 0x2E → after ≡ drop 1 text → KeyRead after value n → KeysWithin after n → StepsGoOn text (n + 1)
+dot_goes_on text after value n prefix e (l, found, m) within =
     let P : List ℕ → Type 0 = λ t. StepsGoOn (0x2E ∷ t) (n + 1) in
     let Q : List ℕ → Type 0 = λ t. StepsGoOn t (n + 1) in
-    subst Q prefix.spelled (subst P e (rw (add-one n) (dot_on behind l n found within)))
+    subst Q prefix.spelled (subst P e (rw (add-one n) (dot_on after l n found within)))
 
-pub bracket_goes_on : (text behind : List ℕ) (i n : ℕ) → Prefix text 0x5B → behind ≡ drop 1 text → i < 1_000_000_000
-    → behind ≡ (decimal i ++ 0x5D ∷ []) ++ drop n behind → n ≡ length (decimal i ++ 0x5D ∷ []) → StepsGoOn text (n + 1)
-bracket_goes_on text behind i n prefix e small is count =
+pub bracket_goes_on : (text after : List ℕ) (i n : ℕ) → Prefix text 0x5B → after ≡ drop 1 text → i < 1_000_000_000
+    → after ≡ (decimal i ++ 0x5D ∷ []) ++ drop n after → n ≡ length (decimal i ++ 0x5D ∷ []) → StepsGoOn text (n + 1)
+bracket_goes_on text after i n prefix e small is count =
     let P : List ℕ → Type 0 = λ t. StepsGoOn (0x5B ∷ t) (n + 1) in
     let Q : List ℕ → Type 0 = λ t. StepsGoOn t (n + 1) in
-    subst Q prefix.spelled (subst P e (rw (add-one n) (bracket_on behind i n small is count)))
+    subst Q prefix.spelled (subst P e (rw (add-one n) (bracket_on after i n small is count)))
 
 -- no step begins with a byte after which nothing fits
-no_steps_after : (text behind : List ℕ) (byte : ℕ) → Prefix text byte → behind ≡ drop 1 text → NoSteps (byte ∷ behind) → NoSteps text
-no_steps_after text behind byte prefix e none =
+no_steps_after : (text after : List ℕ) (byte : ℕ) → Prefix text byte → after ≡ drop 1 text → NoSteps (byte ∷ after) → NoSteps text
+no_steps_after text after byte prefix e none =
     subst NoSteps (ap (λ (t : List ℕ). byte ∷ t) e ∙ prefix.spelled) none
 
-pub dot_stops : (text behind : List ℕ) → Prefix text 0x2E → behind ≡ drop 1 text → KeysWithin behind 0 → NoSteps text
-dot_stops text behind prefix e within = no_steps_after text behind 0x2E prefix e (dot_none behind within)
+pub dot_stops : (text after : List ℕ) → Prefix text 0x2E → after ≡ drop 1 text → KeysWithin after 0 → NoSteps text
+dot_stops text after prefix e within = no_steps_after text after 0x2E prefix e (dot_none after within)
 
-pub bracket_stops : (text behind : List ℕ) → Prefix text 0x5B → behind ≡ drop 1 text → ((n : ℕ) (rest : List ℕ) → n < 1_000_000_000 → behind ≡ decimal n ++ 0x5D ∷ rest → ⊥) → NoSteps text
-bracket_stops text behind prefix e none = no_steps_after text behind 0x5B prefix e (bracket_none behind none)
+pub bracket_stops : (text after : List ℕ) → Prefix text 0x5B → after ≡ drop 1 text → ((n : ℕ) (rest : List ℕ) → n < 1_000_000_000 → after ≡ decimal n ++ 0x5D ∷ rest → ⊥) → NoSteps text
+bracket_stops text after prefix e none = no_steps_after text after 0x5B prefix e (bracket_none after none)
 
 pub other_stops : (text bytes : List ℕ) (read : ℕ) → bytes ≡ text → read ≡ slice_index bytes 0 → (read ≡ 0x2E → ⊥) → (read ≡ 0x5B → ⊥) → NoSteps text
 other_stops text bytes read same is dot bracket =
@@ -92,7 +92,7 @@ so_far_first_read text value n path is (l, found, m) = rw is (so_far_first text 
 
 pub so_far_next_read : (text rest : List ℕ) (path more : List Part) (at n : ℕ) (part : Part) → more ≡ path ++ part ∷ [] → rest ≡ drop at text
     → SoFar text path at → StepRead rest part n → SoFar text more (at + n)
-so_far_next_read text rest path more at n part is behind h found = rw is (so_far_more text path at n part h (rw behind at found))
+so_far_next_read text rest path more at n part is after h found = rw is (so_far_more text path at n part h (rw after at found))
 
 pub one_read : (text : List ℕ) (path : List Part) (at : ℕ) → length text ≤ at → SoFar text path at → (q : List Part) → IsPathText text q → path ≡ q
 one_read text path at end h q stated = sym ((so_far_done text path at end h).1 q stated)

@@ -108,8 +108,8 @@ dot_on more l n at within = λ k gt le steps. by_len k gt le steps
         absurd (omega (arith, never))
     by_parts k gt le (key v ∷ parts) h =
         let f = key_first v parts (0x2E ∷ take k more) h in
-        let e : take k more ≡ f.part ++ f.behind = ap (λ (t : List ℕ). drop 1 t) f.spelled in
-        key_goes_on more l n at within v f.part f.behind parts k gt le e f.is_key f.more
+        let e : take k more ≡ f.part ++ f.after = ap (λ (t : List ℕ). drop 1 t) f.spelled in
+        key_goes_on more l n at within v f.part f.after parts k gt le e f.is_key f.more
 
     by_len : (k : ℕ) → suc n < k → k ≤ length (0x2E ∷ more) → SomeSteps (take k (0x2E ∷ more)) → SomeSteps (take (k - suc n) (drop (suc n) (0x2E ∷ more)))
     by_len zero gt le steps = absurd (omega arith)
@@ -125,8 +125,8 @@ dot_none more within = λ k gt le steps. by_len k gt le steps
         omega (arith, never)
     by_parts k le (key v ∷ parts) h =
         let f = key_first v parts (0x2E ∷ take k more) h in
-        let e : take k more ≡ f.part ++ f.behind = ap (λ (t : List ℕ). drop 1 t) f.spelled in
-        no_key more v f.part f.behind k within le e f.is_key
+        let e : take k more ≡ f.part ++ f.after = ap (λ (t : List ℕ). drop 1 t) f.spelled in
+        no_key more v f.part f.after k within le e f.is_key
 
     by_len : (k : ℕ) → 0 < k → k ≤ length (0x2E ∷ more) → SomeSteps (take k (0x2E ∷ more)) → ⊥
     by_len zero gt le steps = omega arith

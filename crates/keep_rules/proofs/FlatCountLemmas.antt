@@ -58,10 +58,10 @@ content_counts : (k : syntax.Count) (l : Line) (line_end : ℕ) (x : Content) (c
 content_counts k l line_end blank c r sts ss agrees more = more c r (omega (arith, agrees.keys)) (omega (arith, agrees.values))
 content_counts k l line_end (keyval name v) c r sts ss agrees more =
     statement_counts k c r _ _ sts ss _ _ agrees refl (λ n e. own_value n k.values e) (marked-content r (content_start k l) (keyval name v)) (valued-content r (line_start k l) (keyval name v)) more
-content_counts k l line_end (header before key behind) c r sts ss agrees more =
-    statement_counts k c r _ _ sts ss _ _ agrees refl (λ n e. no_value n k.values e) (marked-content r (content_start k l) (header before key behind)) (valued-content r (line_start k l) (header before key behind)) more
-content_counts k l line_end (element before key behind) c r sts ss agrees more =
-    statement_counts k c r _ _ sts ss _ _ agrees refl (λ n e. no_value n k.values e) (marked-content r (content_start k l) (element before key behind)) (valued-content r (line_start k l) (element before key behind)) more
+content_counts k l line_end (header before key after) c r sts ss agrees more =
+    statement_counts k c r _ _ sts ss _ _ agrees refl (λ n e. no_value n k.values e) (marked-content r (content_start k l) (header before key after)) (valued-content r (line_start k l) (header before key after)) more
+content_counts k l line_end (element before key after) c r sts ss agrees more =
+    statement_counts k c r _ _ sts ss _ _ agrees refl (λ n e. no_value n k.values e) (marked-content r (content_start k l) (element before key after)) (valued-content r (line_start k l) (element before key after)) more
 
 lines_count : (k : syntax.Count) (es : List Ended) (last : Line) (c : Count) (r : Reading) → Agrees c k → AllCount c r (over_lines line_statements k es last) (filter_map line_statement (map line_of es ++ last ∷ []))
 lines_count k [] last c r agrees =

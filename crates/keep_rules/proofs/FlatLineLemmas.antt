@@ -53,7 +53,7 @@ range_right xs at a b rest h = record {
 }
 
 range_part : {A : Type 0} (xs : List A) (at : ℕ) (ys rest : List A) → IsRangeBefore xs at ys rest → IsPart xs at ys
-range_part xs at ys rest h = record { prefix = h.prefix; behind = rest; place = h.place; whole = h.whole }
+range_part xs at ys rest h = record { prefix = h.prefix; after = rest; place = h.place; whole = h.whole }
 
 -- the first element of it, and the first after it
 range_first : {A : Type 0} (xs : List A) (at : ℕ) (y : A) (ys rest : List A) → IsRangeBefore xs at (y ∷ ys) rest → slice_get xs at ≡ Some y
@@ -84,8 +84,8 @@ content_starts c l (keyval name v) rest h = λ (i : ValueInfo) e. (c.statements,
 
     owned : (i : ValueInfo) → Some own ≡ Some i → i.owner ≡ owner.Line c.statements
     owned i e = let same : own ≡ i = cc in ap (λ (j : ValueInfo). j.owner) (sym same)
-content_starts c l (header before key behind) rest h = h
-content_starts c l (element before key behind) rest h = h
+content_starts c l (header before key after) rest h = h
+content_starts c l (element before key after) rest h = h
 
 lines_start : (c : Count) (es : List Ended) (last : Line) (rest : List ValueInfo) → LineStarts rest 0 → LineStarts (over_lines (λ c l line_end. line_values c l) c es last ++ rest) 0
 lines_start c [] last rest h = content_starts c last last.content rest h
@@ -125,7 +125,7 @@ module _ (bytes : List ℕ) (parts : List KeyPart) (values : List ValueInfo) (pr
         is = is;
         mentions = refl;
         kind = kind;
-        keys = keys_match st p.at name.key (spelled_left bytes p.at (key_leaves name.key) (name.before ++ (token leaf.Equals (0x3D ∷ []) ++ name.behind)) (spelled_left bytes p.at (name_leaves name) (value_leaves v) spelled))
+        keys = keys_match st p.at name.key (spelled_left bytes p.at (key_leaves name.key) (name.before ++ (token leaf.Equals (0x3D ∷ []) ++ name.after)) (spelled_left bytes p.at (name_leaves name) (value_leaves v) spelled))
             (part_left parts st.first_key (key_parts p.at name.key) (entries_parts (nested_start at v.body) v.nested) among) many;
         valued = record {
           first = p.values;
@@ -148,16 +148,16 @@ module _ (bytes : List ℕ) (parts : List KeyPart) (values : List ValueInfo) (pr
   content_matches c l line_end blank sts ss is spelled among rest range ends more = more
   content_matches c l line_end (keyval name v) sts ss is spelled among rest range ends more =
       (keyval_match (line_start c l) name v (syntax.statement c l line_end KeyVal (key_count name.key) (Some c.values)) is.1 spelled among refl refl refl refl rest range ends, more)
-  content_matches c l line_end (header before key behind) sts ss is spelled among rest range ends more =
+  content_matches c l line_end (header before key after) sts ss is spelled among rest range ends more =
       let at : ℕ = content_start c l + 1 + width before in
       let opens : Written = record { leaf = leaf.HeadOpen; text = 0x5B ∷ [] } in
       let closes : Written = record { leaf = leaf.HeadClose; text = 0x5D ∷ [] } in
-      ((refl, refl, keys_match (syntax.statement c l line_end Header (key_count key) None) at key (head_spelled bytes (content_start c l) opens closes before key behind spelled) among refl), more)
-  content_matches c l line_end (element before key behind) sts ss is spelled among rest range ends more =
+      ((refl, refl, keys_match (syntax.statement c l line_end Header (key_count key) None) at key (head_spelled bytes (content_start c l) opens closes before key after spelled) among refl), more)
+  content_matches c l line_end (element before key after) sts ss is spelled among rest range ends more =
       let at : ℕ = content_start c l + 2 + width before in
       let opens : Written = record { leaf = leaf.ElemOpen; text = 0x5B ∷ 0x5B ∷ [] } in
       let closes : Written = record { leaf = leaf.ElemClose; text = 0x5D ∷ 0x5D ∷ [] } in
-      ((refl, refl, keys_match (syntax.statement c l line_end Element (key_count key) None) at key (head_spelled bytes (content_start c l) opens closes before key behind spelled) among refl), more)
+      ((refl, refl, keys_match (syntax.statement c l line_end Element (key_count key) None) at key (head_spelled bytes (content_start c l) opens closes before key after spelled) among refl), more)
 
   -- ---- all lines
 

@@ -67,7 +67,7 @@ body_owns (array first) base v g e = (g, refl, e)
 body_owns (inline first) base v g e = (g, refl, e)
 
 name_spelled : (bytes : List ℕ) (at : ℕ) (n : Name) → Spelled bytes at (name_leaves n) → Spelled bytes at (key_leaves n.key)
-name_spelled bytes at n h = spelled_left bytes at (key_leaves n.key) (n.before ++ (token leaf.Equals (0x3D ∷ []) ++ n.behind)) h
+name_spelled bytes at n h = spelled_left bytes at (key_leaves n.key) (n.before ++ (token leaf.Equals (0x3D ∷ []) ++ n.after)) h
 
 module _ (bytes : List ℕ) (parts : List KeyPart) (base : ℕ) where
   -- an entry is in its value, with its keys

@@ -103,8 +103,8 @@ part_some profile w h = let begins = part_begins profile w [] h in (tested_some 
 further_some : (profile : Profile) (f : Further) → IsFurther profile f → AreSome (further_leaves f)
 further_some profile f h =
     let dot = token leaf.Dot (0x2E ∷ []) in
-    some-append f.before (dot ++ (f.behind ++ (f.part ∷ []))) (space_some f.before h.before)
-    (some-append dot (f.behind ++ (f.part ∷ [])) (sign_some leaf.Dot 0x2E [] (omega arith)) (some-append f.behind (f.part ∷ []) (space_some f.behind h.behind) (part_some profile f.part h.part)))
+    some-append f.before (dot ++ (f.after ++ (f.part ∷ []))) (space_some f.before h.before)
+    (some-append dot (f.after ++ (f.part ∷ [])) (sign_some leaf.Dot 0x2E [] (omega arith)) (some-append f.after (f.part ∷ []) (space_some f.after h.after) (part_some profile f.part h.part)))
 
 more_some : (profile : Profile) (fs : List Further) → AllByRecursion (IsFurther profile) fs → AreSome (flat_map further_leaves fs)
 more_some profile [] h = tt
@@ -116,8 +116,8 @@ key_some profile k h = some-append (k.first ∷ []) (flat_map further_leaves k.m
 name_some : (profile : Profile) (n : Name) → IsName profile n → AreSome (name_leaves n)
 name_some profile n h =
     let equals = token leaf.Equals (0x3D ∷ []) in
-    some-append (key_leaves n.key) (n.before ++ (equals ++ n.behind)) (key_some profile n.key h.key)
-    (some-append n.before (equals ++ n.behind) (space_some n.before h.before) (some-append equals n.behind (sign_some leaf.Equals 0x3D [] (omega arith)) (space_some n.behind h.behind)))
+    some-append (key_leaves n.key) (n.before ++ (equals ++ n.after)) (key_some profile n.key h.key)
+    (some-append n.before (equals ++ n.after) (space_some n.before h.before) (some-append equals n.after (sign_some leaf.Equals 0x3D [] (omega arith)) (space_some n.after h.after)))
 
 named_some : (profile : Profile) (b : Brackets) (n : Option Name) → IsNamed profile (place_of b) n → AreSome (named_leaves n)
 named_some profile b None h = tt
@@ -151,24 +151,24 @@ entries_some profile (entry name body nested after comma rest) b h =
 pub value_some : (profile : Profile) (v : Value) → IsValue profile v → AreSome (value_leaves v)
 value_some profile v h = body_some profile v.body v.nested h.body h.nested (λ b k. entries_some profile v.nested b k)
 
-header_some : (profile : Profile) (l m : Leaf) (s t : List ℕ) (before : Gap) (k : Key) (behind : Gap) → AreSome (token l s) → AreSome (token m t) → IsContent profile (header before k behind) → AreSome (token l s ++ (before ++ (key_leaves k ++ (behind ++ token m t))))
-header_some profile l m s t before k behind e f h =
-    some-append (token l s) (before ++ (key_leaves k ++ (behind ++ token m t))) e
-    (some-append before (key_leaves k ++ (behind ++ token m t)) (space_some before h.0)
-    (some-append (key_leaves k) (behind ++ token m t) (key_some profile k h.1)
-    (some-append behind (token m t) (space_some behind h.2) f)))
+header_some : (profile : Profile) (l m : Leaf) (s t : List ℕ) (before : Gap) (k : Key) (after : Gap) → AreSome (token l s) → AreSome (token m t) → IsContent profile (header before k after) → AreSome (token l s ++ (before ++ (key_leaves k ++ (after ++ token m t))))
+header_some profile l m s t before k after e f h =
+    some-append (token l s) (before ++ (key_leaves k ++ (after ++ token m t))) e
+    (some-append before (key_leaves k ++ (after ++ token m t)) (space_some before h.0)
+    (some-append (key_leaves k) (after ++ token m t) (key_some profile k h.1)
+    (some-append after (token m t) (space_some after h.2) f)))
 
 content_some : (profile : Profile) (c : Content) → IsContent profile c → AreSome (content_leaves c)
 content_some profile blank h = tt
 content_some profile (keyval n v) h = some-append (name_leaves n) (value_leaves v) (name_some profile n h.0) (value_some profile v h.1)
-content_some profile (header before k behind) h = header_some profile leaf.HeadOpen leaf.HeadClose (0x5B ∷ []) (0x5D ∷ []) before k behind (sign_some leaf.HeadOpen 0x5B [] (omega arith)) (sign_some leaf.HeadClose 0x5D [] (omega arith)) h
-content_some profile (element before k behind) h = header_some profile leaf.ElemOpen leaf.ElemClose (0x5B ∷ 0x5B ∷ []) (0x5D ∷ 0x5D ∷ []) before k behind (sign_some leaf.ElemOpen 0x5B (0x5B ∷ []) (omega arith)) (sign_some leaf.ElemClose 0x5D (0x5D ∷ []) (omega arith)) h
+content_some profile (header before k after) h = header_some profile leaf.HeadOpen leaf.HeadClose (0x5B ∷ []) (0x5D ∷ []) before k after (sign_some leaf.HeadOpen 0x5B [] (omega arith)) (sign_some leaf.HeadClose 0x5D [] (omega arith)) h
+content_some profile (element before k after) h = header_some profile leaf.ElemOpen leaf.ElemClose (0x5B ∷ 0x5B ∷ []) (0x5D ∷ 0x5D ∷ []) before k after (sign_some leaf.ElemOpen 0x5B (0x5B ∷ []) (omega arith)) (sign_some leaf.ElemClose 0x5D (0x5D ∷ []) (omega arith)) h
 
 after_some : (c : Content) (g : Gap) → IsAfter c g → AreSome g
 after_some blank g h = subst (λ (ws : List Written). AreSome ws) (sym h) tt
 after_some (keyval n v) g h = space_some g h
-after_some (header before k behind) g h = space_some g h
-after_some (element before k behind) g h = space_some g h
+after_some (header before k after) g h = space_some g h
+after_some (element before k after) g h = space_some g h
 
 comment_some : (o : Option Written) → IsComment o → AreSome (comment_leaves o)
 comment_some None h = tt

@@ -93,8 +93,8 @@ line_begins c l end place h = by l.content
     by : (k : Content) → BeginBefore place (content_statements c l end k)
     by blank = tt
     by (keyval name value) = (h, tt)
-    by (header before key behind) = (h, tt)
-    by (element before key behind) = (h, tt)
+    by (header before key after) = (h, tt)
+    by (element before key after) = (h, tt)
 
 lines_begin : (c : Count) (es : List Ended) (place : ℕ) → HaveBytes es → c.at + width (flat_map ended_leaves es) ≤ place → BeginBefore place (over_ended line_statements c es)
 lines_begin c [] place h k = tt

@@ -99,8 +99,8 @@ part_opens profile w h = opens-one w.leaf w.text (key_opens w.leaf h.0)
 
 further_opens : (profile : Profile) (f : Further) → IsFurther profile f → Plain (further_leaves f)
 further_opens profile f h =
-    none-append f.before (token leaf.Dot (0x2E ∷ []) ++ (f.behind ++ (f.part ∷ []))) (space_opens f.before h.before)
-    (none-append (token leaf.Dot (0x2E ∷ [])) (f.behind ++ (f.part ∷ [])) (opens-one leaf.Dot (0x2E ∷ []) (λ n. refl)) (none-append f.behind (f.part ∷ []) (space_opens f.behind h.behind) (part_opens profile f.part h.part)))
+    none-append f.before (token leaf.Dot (0x2E ∷ []) ++ (f.after ++ (f.part ∷ []))) (space_opens f.before h.before)
+    (none-append (token leaf.Dot (0x2E ∷ [])) (f.after ++ (f.part ∷ [])) (opens-one leaf.Dot (0x2E ∷ []) (λ n. refl)) (none-append f.after (f.part ∷ []) (space_opens f.after h.after) (part_opens profile f.part h.part)))
 
 more_opens : (profile : Profile) (fs : List Further) → AllByRecursion (IsFurther profile) fs → Plain (flat_map further_leaves fs)
 more_opens profile [] h = opens-none
@@ -111,8 +111,8 @@ keys_open profile k h = none-append (k.first ∷ []) (flat_map further_leaves k.
 
 pub name_opens : (profile : Profile) (n : Name) → IsName profile n → Plain (name_leaves n)
 name_opens profile n h =
-    none-append (key_leaves n.key) (n.before ++ (token leaf.Equals (0x3D ∷ []) ++ n.behind)) (keys_open profile n.key h.key)
-    (none-append n.before (token leaf.Equals (0x3D ∷ []) ++ n.behind) (space_opens n.before h.before) (none-append (token leaf.Equals (0x3D ∷ [])) n.behind (opens-one leaf.Equals (0x3D ∷ []) (λ n. refl)) (space_opens n.behind h.behind)))
+    none-append (key_leaves n.key) (n.before ++ (token leaf.Equals (0x3D ∷ []) ++ n.after)) (keys_open profile n.key h.key)
+    (none-append n.before (token leaf.Equals (0x3D ∷ []) ++ n.after) (space_opens n.before h.before) (none-append (token leaf.Equals (0x3D ∷ [])) n.after (opens-one leaf.Equals (0x3D ∷ []) (λ n. refl)) (space_opens n.after h.after)))
 
 pub named_opens : (profile : Profile) (b : Brackets) (n : Option Name) → IsNamed profile (place_of b) n → Plain (named_leaves n)
 named_opens profile b None h = opens-none
@@ -303,9 +303,9 @@ entries_deep profile b room value sound deep prefix text rest h =
     clash : (x y : Entries) → iteration_on x ≡ iteration_ready y → ⊥
     clash x y k = absurd cc
 
-    behind : (s : Entries) (text text' rest : List ℕ) (i : Item) (g : Gap) → i.comma ≡ Some g → TookItem profile b room text i text' → DeepEntries profile b room text' rest → DeepEntries profile b room text rest
-    behind s text text' rest i g is ti d =
-        let followed : After profile b (Some g) text' = subst (λ (c : Option Gap). After profile b c text') is ti.behind in
+    after : (s : Entries) (text text' rest : List ℕ) (i : Item) (g : Gap) → i.comma ≡ Some g → TookItem profile b room text i text' → DeepEntries profile b room text' rest → DeepEntries profile b room text rest
+    after s text text' rest i g is ti d =
+        let followed : After profile b (Some g) text' = subst (λ (c : Option Gap). After profile b c text') is ti.after in
         let gap : IsGap profile (place_of b) g = followed.0 d.begins in
         let blank : (k : Gap) → i.comma ≡ Some k → IsBlank k = λ k e. comma_blank profile b (Some g) d.entries (comma_deep profile b g d.entries room text' rest gap d.goes) k (sym is ∙ e) in
         record {
@@ -321,7 +321,7 @@ entries_deep profile b room value sound deep prefix text rest h =
         elim (entry_cases profile b room value sound s text (continues s') text' e) [
           | at_close c k r ↦ absurd (clash s' s k)
           | at_last i is k ti ↦ absurd (clash s' (join s (entry_of i none)) k)
-          | at_comma i g is k ti ↦ behind s text text' rest i g is ti d
+          | at_comma i g is k ti ↦ after s text text' rest i g is ti d
         ]
 
 opening_text : (b : Brackets) (g : Gap) (x : List ℕ) → open_byte b ∷ (text_of g ++ x) ≡ text_of (opening (body_in b g)) ++ x

@@ -22,24 +22,24 @@ use Rattle.keep_syntax.proofs.DocumentLaws.{lines_leaves, bom_parts, at_last, at
 plain : (l : Leaf) (t : List ℕ) → ((n : ℕ) → open_by l n ≡ n) → Plain (token l t)
 plain l t h n = (h n ∙ omega arith, omega (arith, h n))
 
-header_opens : (profile : Profile) (l m : Leaf) (s t : List ℕ) (before : Gap) (k : Key) (behind : Gap) → ((n : ℕ) → open_by l n ≡ n) → ((n : ℕ) → open_by m n ≡ n) → IsContent profile (header before k behind) → Plain (token l s ++ (before ++ (key_leaves k ++ (behind ++ token m t))))
-header_opens profile l m s t before k behind e f h =
-    none-append (token l s) (before ++ (key_leaves k ++ (behind ++ token m t))) (plain l s e)
-    (none-append before (key_leaves k ++ (behind ++ token m t)) (space_opens before h.0)
-    (none-append (key_leaves k) (behind ++ token m t) (keys_open profile k h.1)
-    (none-append behind (token m t) (space_opens behind h.2) (plain m t f))))
+header_opens : (profile : Profile) (l m : Leaf) (s t : List ℕ) (before : Gap) (k : Key) (after : Gap) → ((n : ℕ) → open_by l n ≡ n) → ((n : ℕ) → open_by m n ≡ n) → IsContent profile (header before k after) → Plain (token l s ++ (before ++ (key_leaves k ++ (after ++ token m t))))
+header_opens profile l m s t before k after e f h =
+    none-append (token l s) (before ++ (key_leaves k ++ (after ++ token m t))) (plain l s e)
+    (none-append before (key_leaves k ++ (after ++ token m t)) (space_opens before h.0)
+    (none-append (key_leaves k) (after ++ token m t) (keys_open profile k h.1)
+    (none-append after (token m t) (space_opens after h.2) (plain m t f))))
 
 pub content_opens : (profile : Profile) (c : Content) → IsContent profile c → Opens 0 (content_depth c) (content_leaves c)
 content_opens profile blank h = opens-none
 content_opens profile (keyval n v) h = plain_first (value_depth v) (name_leaves n) (value_leaves v) (name_opens profile n h.0) (value_opens profile v h.1)
-content_opens profile (header before k behind) h = header_opens profile leaf.HeadOpen leaf.HeadClose (0x5B ∷ []) (0x5D ∷ []) before k behind (λ n. refl) (λ n. refl) h
-content_opens profile (element before k behind) h = header_opens profile leaf.ElemOpen leaf.ElemClose (0x5B ∷ 0x5B ∷ []) (0x5D ∷ 0x5D ∷ []) before k behind (λ n. refl) (λ n. refl) h
+content_opens profile (header before k after) h = header_opens profile leaf.HeadOpen leaf.HeadClose (0x5B ∷ []) (0x5D ∷ []) before k after (λ n. refl) (λ n. refl) h
+content_opens profile (element before k after) h = header_opens profile leaf.ElemOpen leaf.ElemClose (0x5B ∷ 0x5B ∷ []) (0x5D ∷ 0x5D ∷ []) before k after (λ n. refl) (λ n. refl) h
 
 after_opens : (c : Content) (g : Gap) → IsAfter c g → Plain g
 after_opens blank g h = subst (λ (ws : List Written). Plain ws) (sym h) opens-none
 after_opens (keyval n v) g h = space_opens g h
-after_opens (header before k behind) g h = space_opens g h
-after_opens (element before k behind) g h = space_opens g h
+after_opens (header before k after) g h = space_opens g h
+after_opens (element before k after) g h = space_opens g h
 
 comment_opens : (o : Option Written) → IsComment o → Plain (comment_leaves o)
 comment_opens None h = opens-none

@@ -55,8 +55,8 @@ value_within profile limit p at keys v h le =
 content_within : (profile : Profile) (limit : ℕ) (p : Start) (c : Content) → p.depth ≡ 0 → IsContent profile c → content_depth c ≤ limit → AreWithin limit (content_values p c)
 content_within profile limit p blank e h le = tt
 content_within profile limit p (keyval n v) e h le = value_within profile limit p (p.at + width (name_leaves n)) (key_count n.key) v h.1 (omega (arith, e))
-content_within profile limit p (header before k behind) e h le = tt
-content_within profile limit p (element before k behind) e h le = tt
+content_within profile limit p (header before k after) e h le = tt
+content_within profile limit p (element before k after) e h le = tt
 
 lines_within : (profile : Profile) (limit : ℕ) (c : Count) (es : List Ended) (last : Line) → AllByRecursion (IsEnded profile) es → IsLine profile last → lines_depth es ≤ limit → content_depth last.content ≤ limit
     → AreWithin limit (over_lines (λ c l line_end. line_values c l) c es last)

@@ -44,8 +44,8 @@ head_is c [] last = by last.content
     by : (k : Content) → HeadIs c (content_statements c last (c.at + width (line_leaves last)) k) (content_parts (content_start c last) k)
     by blank = refl
     by (keyval name value) = (refl, omega arith)
-    by (header before key behind) = (refl, omega arith)
-    by (element before key behind) = (refl, omega arith)
+    by (header before key after) = (refl, omega arith)
+    by (element before key after) = (refl, omega arith)
 head_is c (e ∷ es) last = by e.line.content refl (head_is (next_line c e) es last)
   where
     by : (k : Content) → e.line.content ≡ k → HeadIs (next_line c e) (over_lines line_statements (next_line c e) es last) (all_parts (next_line c e) es last)
@@ -54,8 +54,8 @@ head_is c (e ∷ es) last = by e.line.content refl (head_is (next_line c e) es l
         head_same (next_line c e) c (over_lines line_statements (next_line c e) es last) (all_parts (next_line c e) es last)
         (omega (arith, ap (λ k. length (content_parts (content_start c e.line) k)) is)) (omega arith) h
     by (keyval name value) is h = (refl, omega arith)
-    by (header before key behind) is h = (refl, omega arith)
-    by (element before key behind) is h = (refl, omega arith)
+    by (header before key after) is h = (refl, omega arith)
+    by (element before key after) is h = (refl, omega arith)
 
 pub values_from : (c : Count) (es : List Ended) (last : Line) → ValuesFrom c (over_lines line_statements c es last) (all_values c es last)
 values_from c [] last = by last.content
@@ -63,13 +63,13 @@ values_from c [] last = by last.content
     by : (k : Content) → ValuesFrom c (content_statements c last (c.at + width (line_leaves last)) k) (content_values (line_start c last) k)
     by blank = refl
     by (keyval name value) = refl
-    by (header before key behind) = refl
-    by (element before key behind) = refl
+    by (header before key after) = refl
+    by (element before key after) = refl
 values_from c (e ∷ es) last = by e.line.content refl (values_from (next_line c e) es last)
   where
     by : (k : Content) → e.line.content ≡ k → ValuesFrom (next_line c e) (over_lines line_statements (next_line c e) es last) (all_values (next_line c e) es last)
         → ValuesFrom c (content_statements c e.line (c.at + width (ended_leaves e)) k ++ over_lines line_statements (next_line c e) es last) (content_values (line_start c e.line) k ++ all_values (next_line c e) es last)
     by blank is h = values_same (next_line c e) c (over_lines line_statements (next_line c e) es last) (all_values (next_line c e) es last) (omega (arith, ap (λ k. length (content_values (line_start c e.line) k)) is)) h
     by (keyval name value) is h = refl
-    by (header before key behind) is h = values_same (next_line c e) c (over_lines line_statements (next_line c e) es last) (all_values (next_line c e) es last) (omega (arith, ap (λ k. length (content_values (line_start c e.line) k)) is)) h
-    by (element before key behind) is h = values_same (next_line c e) c (over_lines line_statements (next_line c e) es last) (all_values (next_line c e) es last) (omega (arith, ap (λ k. length (content_values (line_start c e.line) k)) is)) h
+    by (header before key after) is h = values_same (next_line c e) c (over_lines line_statements (next_line c e) es last) (all_values (next_line c e) es last) (omega (arith, ap (λ k. length (content_values (line_start c e.line) k)) is)) h
+    by (element before key after) is h = values_same (next_line c e) c (over_lines line_statements (next_line c e) es last) (all_values (next_line c e) es last) (omega (arith, ap (λ k. length (content_values (line_start c e.line) k)) is)) h

@@ -42,15 +42,15 @@ part_is profile text at old mid new l end bound bound' lt e e1 e2 =
 
 -- ---- further parts
 
-width-further : (f : Further) → width (further_leaves f) ≡ width f.before + 1 + width f.behind + length f.part.text
+width-further : (f : Further) → width (further_leaves f) ≡ width f.before + 1 + width f.after + length f.part.text
 width-further f =
     let d = token leaf.Dot (0x2E ∷ []) in
-    omega (arith, width-append f.before (d ++ (f.behind ++ (f.part ∷ []))), width-append d (f.behind ++ (f.part ∷ [])), width-append f.behind (f.part ∷ []), length-append f.part.text [])
+    omega (arith, width-append f.before (d ++ (f.after ++ (f.part ∷ []))), width-append d (f.after ++ (f.part ∷ [])), width-append f.after (f.part ∷ []), length-append f.part.text [])
 
 further_parts-append : (at : ℕ) (a b : List Further) → further_parts at (a ++ b) ≡ further_parts at a ++ further_parts (at + width (flat_map further_leaves a)) b
 further_parts-append at [] b = ap (λ (n : ℕ). further_parts n b) (omega arith)
 further_parts-append at (f ∷ fs) b =
-    let from = at + width f.before + 1 + width f.behind in
+    let from = at + width f.before + 1 + width f.after in
     let next = from + length f.part.text in
     let e : next + width (flat_map further_leaves fs) ≡ at + width (flat_map further_leaves (f ∷ fs)) = omega (arith, width-further f, width-append (further_leaves f) (flat_map further_leaves fs)) in
     ap (λ (ks : List KeyPart). numbered.part_at from f.part ∷ ks) (further_parts-append next fs b ∙ ap (λ (n : ℕ). further_parts next fs ++ further_parts n b) e)
@@ -70,10 +70,10 @@ iteration_is : (profile : Profile) (prefix : List Further) (text : List ℕ) (he
 unfolding further_at
 iteration_is profile prefix text here dot g e = ap (further_by profile prefix) (ok_is (space_at (drop here text)) (g, drop dot text) e)
 
-iteration_dot : (profile : Profile) (prefix : List Further) (text : List ℕ) (here dot behind begin : ℕ) (g h : Gap) → done (space_at (drop here text)) ≡ done (g, drop dot text) → get_or text dot 0 ≡ 0x2E → behind ≡ dot + 1 → done (space_at (drop behind text)) ≡ done (h, drop begin text)
-    → further_at profile prefix (drop here text) ≡ (part_at profile (drop begin text) >>= λ p. Ok (continues (prefix ++ (record { before = g; behind = h; part = p.0 } ∷ [])), p.1))
-iteration_dot profile prefix text here dot behind begin g h e b e1 e2 =
-    let s : space_at (drop 1 (drop dot text)) ≡ (h, drop begin text) = ap space_at (after_sign text dot behind e1) ∙ ok_is (space_at (drop behind text)) (h, drop begin text) e2 in
+iteration_dot : (profile : Profile) (prefix : List Further) (text : List ℕ) (here dot after begin : ℕ) (g h : Gap) → done (space_at (drop here text)) ≡ done (g, drop dot text) → get_or text dot 0 ≡ 0x2E → after ≡ dot + 1 → done (space_at (drop after text)) ≡ done (h, drop begin text)
+    → further_at profile prefix (drop here text) ≡ (part_at profile (drop begin text) >>= λ p. Ok (continues (prefix ++ (record { before = g; after = h; part = p.0 } ∷ [])), p.1))
+iteration_dot profile prefix text here dot after begin g h e b e1 e2 =
+    let s : space_at (drop 1 (drop dot text)) ≡ (h, drop begin text) = ap space_at (after_sign text dot after e1) ∙ ok_is (space_at (drop after text)) (h, drop begin text) e2 in
     iteration_is profile prefix text here dot g e ∙ rw (first-drop text dot, b, s) refl
 
 pub further_done : (profile : Profile) (text : List ℕ) (at here dot : ℕ) (old now new : Flat) → FurtherSoFar profile text at here old now → SpaceRead text here now new (Ok dot) → (get_or text dot 0 == 0x2E) ≡ false → FurtherRead profile text at old new (Ok dot)
@@ -88,23 +88,23 @@ further_done profile text at here dot old now new s sp other =
       grows = grows_as (further_taken at (s.prefix, g)) (same_taken _ (further_taken at (s.prefix, g)) (ap (λ (x : List Written). x ++ g) (append-nil (flat_map further_leaves s.prefix))) refl (append-nil (further_parts at s.prefix)) refl) (grows_then s.grows sp.grows);
     }
 
-pub further_fails : (profile : Profile) (text : List ℕ) (at here dot behind begin : ℕ) (old now f1 f2 f3 : Flat) (e : ReadFault) → FurtherSoFar profile text at here old now → SpaceRead text here now f1 (Ok dot) → get_or text dot 0 ≡ 0x2E → behind ≡ dot + 1 → SpaceRead text behind f2 f3 (Ok begin)
+pub further_fails : (profile : Profile) (text : List ℕ) (at here dot after begin : ℕ) (old now f1 f2 f3 : Flat) (e : ReadFault) → FurtherSoFar profile text at here old now → SpaceRead text here now f1 (Ok dot) → get_or text dot 0 ≡ 0x2E → after ≡ dot + 1 → SpaceRead text after f2 f3 (Ok begin)
     → Fails text e (part_at profile (drop begin text)) → Fails text e (more_of profile [] (drop at text))
-further_fails profile text at here dot behind begin old now f1 f2 f3 e s sp b e1 sp2 k =
+further_fails profile text at here dot after begin old now f1 f2 f3 e s sp b e1 sp2 k =
     fails_through text e (part_at profile (drop begin text)) (more_of profile [] (drop at text))
-    (λ f h. s.read ∙ loop_err (further_at profile) s.prefix (drop here text) f (iteration_dot profile s.prefix text here dot behind begin sp.part sp2.part sp.is_read b e1 sp2.is_read ∙ ap (λ (r : Read Written). r >>= λ p. Ok (continues (s.prefix ++ (record { before = sp.part; behind = sp2.part; part = p.0 } ∷ [])), p.1)) h)) k
+    (λ f h. s.read ∙ loop_err (further_at profile) s.prefix (drop here text) f (iteration_dot profile s.prefix text here dot after begin sp.part sp2.part sp.is_read b e1 sp2.is_read ∙ ap (λ (r : Read Written). r >>= λ p. Ok (continues (s.prefix ++ (record { before = sp.part; after = sp2.part; part = p.0 } ∷ [])), p.1)) h)) k
 
-pub further_more : (profile : Profile) (text : List ℕ) (at here dot behind begin end : ℕ) (old now f1 f2 f3 new : Flat) → FurtherSoFar profile text at here old now → SpaceRead text here now f1 (Ok dot) → get_or text dot 0 ≡ 0x2E → PunctuationIs text dot 1 leaf.Dot f1 f2 behind → SpaceRead text behind f2 f3 (Ok begin)
+pub further_more : (profile : Profile) (text : List ℕ) (at here dot after begin end : ℕ) (old now f1 f2 f3 new : Flat) → FurtherSoFar profile text at here old now → SpaceRead text here now f1 (Ok dot) → get_or text dot 0 ≡ 0x2E → PunctuationIs text dot 1 leaf.Dot f1 f2 after → SpaceRead text after f2 f3 (Ok begin)
     → KeyPartRead profile text begin f3 new (Ok end) → FurtherSoFar profile text at end old new
-further_more profile text at here dot behind begin end old now f1 f2 f3 new s sp b sg sp2 p =
-    let f : Further = record { before = sp.part; behind = sp2.part; part = p.part } in
+further_more profile text at here dot after begin end old now f1 f2 f3 new s sp b sg sp2 p =
+    let f : Further = record { before = sp.part; after = sp2.part; part = p.part } in
     let iteration : further_at profile s.prefix (drop here text) ≡ Ok (continues (s.prefix ++ (f ∷ [])), drop end text) =
-    iteration_dot profile s.prefix text here dot behind begin sp.part sp2.part sp.is_read b sg.end_is sp2.is_read ∙ ap (λ (r : Read Written). r >>= λ p. Ok (continues (s.prefix ++ (record { before = sp.part; behind = sp2.part; part = p.0 } ∷ [])), p.1)) p.is_read in
-    let g = grows_then s.grows (grows_then sp.grows (grows_then (sign_grows text (0x2E ∷ []) dot 1 leaf.Dot f1 f2 behind refl sg) (grows_then sp2.grows p.grows))) in
+    iteration_dot profile s.prefix text here dot after begin sp.part sp2.part sp.is_read b sg.end_is sp2.is_read ∙ ap (λ (r : Read Written). r >>= λ p. Ok (continues (s.prefix ++ (record { before = sp.part; after = sp2.part; part = p.0 } ∷ [])), p.1)) p.is_read in
+    let g = grows_then s.grows (grows_then sp.grows (grows_then (sign_grows text (0x2E ∷ []) dot 1 leaf.Dot f1 f2 after refl sg) (grows_then sp2.grows p.grows))) in
     let ws = flat_map further_leaves s.prefix in
     let leaves : (ws ++ []) ++ further_leaves f ≡ flat_map further_leaves (s.prefix ++ (f ∷ [])) ++ [] =
     rw (append-nil ws, append-nil (flat_map further_leaves (s.prefix ++ (f ∷ []))), flat_map-append further_leaves s.prefix (f ∷ []), append-nil (further_leaves f)) refl in
-    let from : begin ≡ at + width ws + width f.before + 1 + width f.behind = omega (arith, s.grows.place, width-append ws [], sp.grows.place, sg.end_is, sp2.grows.place) in
+    let from : begin ≡ at + width ws + width f.before + 1 + width f.after = omega (arith, s.grows.place, width-append ws [], sp.grows.place, sg.end_is, sp2.grows.place) in
     let keys : further_parts at s.prefix ++ (numbered.part_at begin p.part ∷ []) ≡ further_parts at (s.prefix ++ (f ∷ [])) =
     ap (λ (n : ℕ). further_parts at s.prefix ++ (numbered.part_at n p.part ∷ [])) from ∙ sym (further_parts-append at s.prefix (f ∷ [])) in
     record {
@@ -123,7 +123,7 @@ key_fails_part profile text at e k = fails_through text e (part_at profile (drop
 pub key_is : (profile : Profile) (text : List ℕ) (at end : ℕ) (old mid new : Flat) (r : Result ℕ ReadFault) → KeyPartRead profile text at old mid (Ok end) → FurtherRead profile text end mid new r → KeyRead profile text at old new r
 unfolding key_of
 key_is profile text at end old mid new (Err e) p k = fails_through text e (more_of profile [] (drop end text)) (key_of profile (drop at text)) (λ f h. rw (p.is_read, h) refl) k
-key_is profile text at end old mid new (Ok behind) p m =
+key_is profile text at end old mid new (Ok after) p m =
     let k : Key = record { first = p.part; more = m.part.0 } in
     record {
       part = (k, m.part.1);
@@ -141,17 +141,17 @@ pub name_bad : (profile : Profile) (text : List ℕ) (at equals : ℕ) (old new 
 unfolding name_of
 name_bad profile text at equals old new k other = rw (k.is_read, first-drop text equals, other) refl
 
-pub name_is : (profile : Profile) (text : List ℕ) (at equals behind : ℕ) (old f1 f2 new : Flat) (r : Result ℕ ReadFault) → KeyRead profile text at old f1 (Ok equals) → get_or text equals 0 ≡ 0x3D → PunctuationIs text equals 1 leaf.Equals f1 f2 behind → SpaceRead text behind f2 new r → NameRead profile text at old new r
+pub name_is : (profile : Profile) (text : List ℕ) (at equals after : ℕ) (old f1 f2 new : Flat) (r : Result ℕ ReadFault) → KeyRead profile text at old f1 (Ok equals) → get_or text equals 0 ≡ 0x3D → PunctuationIs text equals 1 leaf.Equals f1 f2 after → SpaceRead text after f2 new r → NameRead profile text at old new r
 unfolding name_of
-name_is profile text at equals behind old f1 f2 new (Err e) k b sg sp = fails_through text e (done (space_at (drop behind text))) (name_of profile (drop at text)) (λ f h. let never : done (space_at (drop behind text)) ≡ Err f = h in absurd cc) sp
-name_is profile text at equals behind old f1 f2 new (Ok end) k b sg sp =
-    let n : Name = record { key = k.part.0; before = k.part.1; behind = sp.part } in
-    let s : space_at (drop 1 (drop equals text)) ≡ (sp.part, drop end text) = ap space_at (after_sign text equals behind sg.end_is) ∙ ok_is (space_at (drop behind text)) (sp.part, drop end text) sp.is_read in
+name_is profile text at equals after old f1 f2 new (Err e) k b sg sp = fails_through text e (done (space_at (drop after text))) (name_of profile (drop at text)) (λ f h. let never : done (space_at (drop after text)) ≡ Err f = h in absurd cc) sp
+name_is profile text at equals after old f1 f2 new (Ok end) k b sg sp =
+    let n : Name = record { key = k.part.0; before = k.part.1; after = sp.part } in
+    let s : space_at (drop 1 (drop equals text)) ≡ (sp.part, drop end text) = ap space_at (after_sign text equals after sg.end_is) ∙ ok_is (space_at (drop after text)) (sp.part, drop end text) sp.is_read in
     record {
       part = n;
       bound = sp.bound;
       forward = omega (arith, k.forward, sg.end_is, sp.forward);
       is_read = rw (k.is_read, first-drop text equals, b, s) refl;
       grows = grows_as (name_taken at n) (same_taken _ (name_taken at n) (append_assoc (key_leaves k.part.0) k.part.1 _) refl (append-nil (key_parts at k.part.0)) refl)
-          (grows_then k.grows (grows_then (sign_grows text (0x3D ∷ []) equals 1 leaf.Equals f1 f2 behind refl sg) sp.grows));
+          (grows_then k.grows (grows_then (sign_grows text (0x3D ∷ []) equals 1 leaf.Equals f1 f2 after refl sg) sp.grows));
     }

@@ -98,20 +98,20 @@ part_not_deep profile text rest h = by (key_at profile text) h
 
 -- ---- texts by parts
 
-pub further_text : (f : Further) (rest : List ℕ) → text_of (further_leaves f) ++ rest ≡ text_of f.before ++ (0x2E ∷ (text_of f.behind ++ (f.part.text ++ rest)))
+pub further_text : (f : Further) (rest : List ℕ) → text_of (further_leaves f) ++ rest ≡ text_of f.before ++ (0x2E ∷ (text_of f.after ++ (f.part.text ++ rest)))
 further_text f rest =
     let dot = token leaf.Dot (0x2E ∷ []) in
     let p = f.part ∷ [] in
-    ap (λ (t : List ℕ). t ++ rest) (text_of-append f.before (dot ++ (f.behind ++ p)) ∙ ap (λ (t : List ℕ). text_of f.before ++ (0x2E ∷ t)) (text_of-append f.behind p)) ∙ simp (append_assoc, append-nil)
+    ap (λ (t : List ℕ). t ++ rest) (text_of-append f.before (dot ++ (f.after ++ p)) ∙ ap (λ (t : List ℕ). text_of f.before ++ (0x2E ∷ t)) (text_of-append f.after p)) ∙ simp (append_assoc, append-nil)
 
 pub key_text : (k : Key) (rest : List ℕ) → text_of (key_leaves k) ++ rest ≡ k.first.text ++ (text_of (flat_map further_leaves k.more) ++ rest)
 key_text k rest = append_assoc k.first.text (text_of (flat_map further_leaves k.more)) rest
 
-pub name_text : (n : Name) (rest : List ℕ) → text_of (name_leaves n) ++ rest ≡ text_of (key_leaves n.key) ++ (text_of n.before ++ (0x3D ∷ (text_of n.behind ++ rest)))
+pub name_text : (n : Name) (rest : List ℕ) → text_of (name_leaves n) ++ rest ≡ text_of (key_leaves n.key) ++ (text_of n.before ++ (0x3D ∷ (text_of n.after ++ rest)))
 name_text n rest =
     let equals = token leaf.Equals (0x3D ∷ []) in
     let k = key_leaves n.key in
-    ap (λ (t : List ℕ). t ++ rest) (text_of-append k (n.before ++ (equals ++ n.behind)) ∙ ap (λ (t : List ℕ). text_of k ++ t) (text_of-append n.before (equals ++ n.behind))) ∙ simp append_assoc
+    ap (λ (t : List ℕ). t ++ rest) (text_of-append k (n.before ++ (equals ++ n.after)) ∙ ap (λ (t : List ℕ). text_of k ++ t) (text_of-append n.before (equals ++ n.after))) ∙ simp append_assoc
 
 more_text : (f : Further) (fs : List Further) (x : List ℕ) → text_of (flat_map further_leaves (f ∷ fs)) ++ x ≡ text_of (further_leaves f) ++ (text_of (flat_map further_leaves fs) ++ x)
 more_text f fs x = ap (λ (t : List ℕ). t ++ x) (text_of-append (further_leaves f) (flat_map further_leaves fs)) ∙ append_assoc (text_of (further_leaves f)) (text_of (flat_map further_leaves fs)) x
@@ -139,7 +139,7 @@ further_cases profile prefix text t rest h =
           let c = space_at (drop 1 b.1) in
           let sc = space_takes (drop 1 b.1) in
           let dot : b.1 ≡ 0x2E ∷ drop 1 b.1 = first_is 0x2E b.1 (omega arith) e in
-          let made : Written → Further = λ p. record { before = b.0; behind = c.0; part = p } in
+          let made : Written → Further = λ p. record { before = b.0; after = c.0; part = p } in
           let go : Written × List ℕ → Read FurtherIteration = λ p. Ok (continues (prefix ++ (made p.0 ∷ [])), p.1) in
           let (p, e1, e2) = bind_ok (part_at profile c.1) go (t, rest) (rw e at h) in
           let tp = part_takes profile c.1 p.0 p.1 e1 in
@@ -150,7 +150,7 @@ further_cases profile prefix text t rest h =
             sym (ap (λ (x : FurtherIteration × List ℕ). x.0) same),
             record {
               part = made p.0;
-              valid = record { before = sb.valid; behind = sc.valid; part = tp.valid };
+              valid = record { before = sb.valid; after = sc.valid; part = tp.valid };
               grown = refl;
               spelled = sb.spelled ∙ ap (λ (x : List ℕ). text_of b.0 ++ x) (dot ∙ ap (λ (x : List ℕ). 0x2E ∷ x) (sc.spelled ∙ ap (λ (x : List ℕ). text_of c.0 ++ x) (tp.spelled ∙ ap (λ (x : List ℕ). p.0.text ++ x) r))) ∙ sym (further_text (made p.0) rest);
               shorter = omega (arith, tp.shorter, ap length r, space_shortens text, space_shortens (drop 1 b.1), ap length dot);
@@ -224,15 +224,15 @@ pub more_class : (p : ℕ → Bool) (profile : Profile) (fs : List Further) (g :
 more_class p profile [] g rest ws dot h space stop = space_class p g rest space ws stop
 more_class p profile (f ∷ fs) g rest ws dot h space stop =
     let x = text_of (flat_map further_leaves fs) ++ (text_of g ++ rest) in
-    rw (more_text f fs (text_of g ++ rest), further_text f x) (space_class p f.before (0x2E ∷ (text_of f.behind ++ (f.part.text ++ x))) h.0.before ws dot)
+    rw (more_text f fs (text_of g ++ rest), further_text f x) (space_class p f.before (0x2E ∷ (text_of f.after ++ (f.part.text ++ x))) h.0.before ws dot)
 
 pub further_again : (profile : Profile) (prefix : List Further) (f : Further) (rest : List ℕ) → IsFurther profile f → is_bare (first rest) ≡ false → further_at profile prefix (text_of (further_leaves f) ++ rest) ≡ Ok (continues (prefix ++ (f ∷ [])), rest)
 unfolding further_at
 further_again profile prefix f rest h stop =
     let x = f.part.text ++ rest in
     let no_ws : is_ws (first x) ≡ false = solid_no_ws (first x) (key_first_solid (first x) (part_begins profile f.part rest h.part).1) in
-    let one : space_at (text_of f.before ++ (0x2E ∷ (text_of f.behind ++ x))) ≡ (f.before, 0x2E ∷ (text_of f.behind ++ x)) = space_again f.before (0x2E ∷ (text_of f.behind ++ x)) h.before refl in
-    let two : space_at (text_of f.behind ++ x) ≡ (f.behind, x) = space_again f.behind x h.behind no_ws in
+    let one : space_at (text_of f.before ++ (0x2E ∷ (text_of f.after ++ x))) ≡ (f.before, 0x2E ∷ (text_of f.after ++ x)) = space_again f.before (0x2E ∷ (text_of f.after ++ x)) h.before refl in
+    let two : space_at (text_of f.after ++ x) ≡ (f.after, x) = space_again f.after x h.after no_ws in
     let three : part_at profile x ≡ Ok (f.part, rest) = part_again profile f.part rest h.part stop in
     rw (further_text f rest, one, two, three) refl
 
@@ -266,7 +266,7 @@ more_not_deep profile prefix text rest h = repeat_deep (further_at profile) (λ 
     iteration s text rest e =
         let b = space_at text in
         let c = space_at (drop 1 b.1) in
-        let go : Written × List ℕ → Read FurtherIteration = λ p. Ok (continues (s ++ (record { before = b.0; behind = c.0; part = p.0 } ∷ [])), p.1) in
+        let go : Written × List ℕ → Read FurtherIteration = λ p. Ok (continues (s ++ (record { before = b.0; after = c.0; part = p.0 } ∷ [])), p.1) in
         elim (tested (first b.1 == 0x2E)) [
           | inl f ↦ elim (bind_err (part_at profile c.1) go (Deep rest) (rw f at e)) [ inl k ↦ part_not_deep profile c.1 rest k | inr k ↦ absurd (let bad = k.2 in cc) ]
           | inr f ↦ absurd (let k = rw f at e in cc)
@@ -342,9 +342,9 @@ name_takes profile text n rest h =
           let c = space_at (drop 1 k.1) in
           let sc = space_takes (drop 1 k.1) in
           let equals : k.1 ≡ 0x3D ∷ drop 1 k.1 = first_is 0x3D k.1 (omega arith) e in
-          let made : Name × List ℕ = (record { key = k.0.0; before = k.0.1; behind = c.0 }, c.1) in
+          let made : Name × List ℕ = (record { key = k.0.0; before = k.0.1; after = c.0 }, c.1) in
           subst (λ (x : Name × List ℕ). TookName profile text x.0 x.1) (ok_is made (n, rest) (rw e at e2)) (record {
-            valid = record { key = tk.valid; before = tk.gap; behind = sc.valid };
+            valid = record { key = tk.valid; before = tk.gap; after = sc.valid };
             spelled = tk.spelled ∙ ap (λ (x : List ℕ). text_of (key_leaves k.0.0) ++ (text_of k.0.1 ++ x)) (equals ∙ ap (λ (x : List ℕ). 0x3D ∷ x) sc.spelled) ∙ sym (name_text made.0 c.1);
             shorter = omega (arith, tk.shorter, space_shortens (drop 1 k.1), ap length equals);
             begins = tk.begins;
@@ -352,14 +352,14 @@ name_takes profile text n rest h =
     ]
 
 pub name_begins : (profile : Profile) (n : Name) (rest : List ℕ) → IsName profile n → is_key_first (first (text_of (name_leaves n) ++ rest)) ≡ true
-name_begins profile n rest h = rw (name_text n rest) (key_begins profile n.key (text_of n.before ++ (0x3D ∷ (text_of n.behind ++ rest))) h.key)
+name_begins profile n rest h = rw (name_text n rest) (key_begins profile n.key (text_of n.before ++ (0x3D ∷ (text_of n.after ++ rest))) h.key)
 
 pub name_again : (profile : Profile) (n : Name) (rest : List ℕ) → IsName profile n → is_ws (first rest) ≡ false → name_of profile (text_of (name_leaves n) ++ rest) ≡ Ok (n, rest)
 unfolding name_of
 name_again profile n rest h stop =
-    let x = 0x3D ∷ (text_of n.behind ++ rest) in
+    let x = 0x3D ∷ (text_of n.after ++ rest) in
     let one : key_of profile (text_of (key_leaves n.key) ++ (text_of n.before ++ x)) ≡ Ok ((n.key, n.before), x) = key_reads profile n.key n.before x h.key h.before refl in
-    let two : space_at (text_of n.behind ++ rest) ≡ (n.behind, rest) = space_again n.behind rest h.behind stop in
+    let two : space_at (text_of n.after ++ rest) ≡ (n.after, rest) = space_again n.after rest h.after stop in
     rw (name_text n rest, one, two) refl
 
 pub name_not_deep : (profile : Profile) (text rest : List ℕ) → name_of profile text ≡ Err (Deep rest) → ⊥

@@ -32,8 +32,8 @@ lifted_part c at w = ap (λ n. record { leaf = w.leaf; span = span (c.at + at) n
 lifted_further : (c : Count) (at : ℕ) (fs : List Further) → further_parts (c.at + at) fs ≡ map (lift_key c) (further_parts at fs)
 lifted_further c at [] = refl
 lifted_further c at (f ∷ fs) =
-    let from : ℕ = at + width f.before + 1 + width f.behind in
-    let e : c.at + at + width f.before + 1 + width f.behind ≡ c.at + from = omega arith in
+    let from : ℕ = at + width f.before + 1 + width f.after in
+    let e : c.at + at + width f.before + 1 + width f.after ≡ c.at + from = omega arith in
     let g : c.at + from + length f.part.text ≡ c.at + (from + length f.part.text) = assoc c.at from (length f.part.text) in
     ap (λ n. part_at n f.part ∷ further_parts (n + length f.part.text) fs) e
     ∙ ap (λ k. k ∷ further_parts (c.at + from + length f.part.text) fs) (lifted_part c from f.part)
@@ -160,9 +160,9 @@ lifted_content_parts c at (keyval name value) =
     ∙ ap (λ ks. ks ++ entries_parts (c.at + i) value.nested) (lifted_key c at name.key)
     ∙ ap (λ ks. map (lift_key c) (key_parts at name.key) ++ ks) (lifted_entries c i value.nested)
     ∙ sym (map-append (lift_key c) (key_parts at name.key) (entries_parts i value.nested))
-lifted_content_parts c at (header before key behind) =
+lifted_content_parts c at (header before key after) =
     ap (λ n. key_parts n key) (let e : c.at + at + 1 + width before ≡ c.at + (at + 1 + width before) = omega arith in e) ∙ lifted_key c (at + 1 + width before) key
-lifted_content_parts c at (element before key behind) =
+lifted_content_parts c at (element before key after) =
     ap (λ n. key_parts n key) (let e : c.at + at + 2 + width before ≡ c.at + (at + 2 + width before) = omega arith in e) ∙ lifted_key c (at + 2 + width before) key
 
 pub lifted_line_parts : (c d : Count) (l : Line) → line_parts (plus c d) l ≡ map (lift_key c) (line_parts d l)
@@ -173,8 +173,8 @@ lifted_content_values c p blank = refl
 lifted_content_values c p (keyval name value) =
     ap (λ n. value_values (lift_start c p) n (key_count name.key) value) (assoc c.at p.at (width (name_leaves name)))
     ∙ lifted_value_values c p (p.at + width (name_leaves name)) (key_count name.key) value
-lifted_content_values c p (header before key behind) = refl
-lifted_content_values c p (element before key behind) = refl
+lifted_content_values c p (header before key after) = refl
+lifted_content_values c p (element before key after) = refl
 
 pub lifted_line_values : (c d : Count) (l : Line) → line_values (plus c d) l ≡ map (lift_value c) (line_values d l)
 lifted_line_values c d l = ap (λ p. content_values p l.content) (lifted_line_start c d l) ∙ lifted_content_values c (line_start d l) l.content
@@ -193,8 +193,8 @@ lifted_line_statements c d l end = by l.content
     by : (k : Content) → content_statements (plus c d) l (c.at + end) k ≡ map (lift_statement c) (content_statements d l end k)
     by blank = refl
     by (keyval name value) = ap (λ s. s ∷ []) (lifted_statement c d l end KeyVal (key_count name.key) (Some d.values))
-    by (header before key behind) = ap (λ s. s ∷ []) (lifted_statement c d l end Header (key_count key) None)
-    by (element before key behind) = ap (λ s. s ∷ []) (lifted_statement c d l end Element (key_count key) None)
+    by (header before key after) = ap (λ s. s ∷ []) (lifted_statement c d l end Header (key_count key) None)
+    by (element before key after) = ap (λ s. s ∷ []) (lifted_statement c d l end Element (key_count key) None)
 
 abbrev pub count_with : ℕ → ℕ → ℕ → ℕ → Count
 count_with at statements parts values = record { at = at; statements = statements; parts = parts; values = values }

@@ -111,10 +111,10 @@ unfolding line_at
 line_fails profile room text at begin old new e s k =
     fails_through text e (content_at profile room (drop begin text)) (line_at profile room (drop at text)) (λ f h. rw (ok_is (space_at (drop at text)) (s.part, drop begin text) s.is_read, h) refl) k
 
-line_reads : (profile : Profile) (room : ℕ) (text : List ℕ) (at begin close behind end : ℕ) (g a : Gap) (c : Content) (k : Option Written) → space_at (drop at text) ≡ (g, drop begin text) → content_at profile room (drop begin text) ≡ Ok (c, drop close text)
-    → after_of c (drop close text) ≡ (a, drop behind text) → comment_at (drop behind text) ≡ (k, drop end text) → line_at profile room (drop at text) ≡ Ok (record { before = g; content = c; after = a; comment = k }, drop end text)
+line_reads : (profile : Profile) (room : ℕ) (text : List ℕ) (at begin close after end : ℕ) (g a : Gap) (c : Content) (k : Option Written) → space_at (drop at text) ≡ (g, drop begin text) → content_at profile room (drop begin text) ≡ Ok (c, drop close text)
+    → after_of c (drop close text) ≡ (a, drop after text) → comment_at (drop after text) ≡ (k, drop end text) → line_at profile room (drop at text) ≡ Ok (record { before = g; content = c; after = a; comment = k }, drop end text)
 unfolding line_at
-line_reads profile room text at begin close behind end g a c k e1 e2 e3 e4 = rw (e1, e2, e3, e4) refl
+line_reads profile room text at begin close after end g a c k e1 e2 e3 e4 = rw (e1, e2, e3, e4) refl
 
 blank_content : (profile : Profile) (room : ℕ) (text : List ℕ) (at : ℕ) → is_line_end (get_or text at 0) ≡ true → content_at profile room (drop at text) ≡ Ok (blank, drop at text)
 unfolding content_at
@@ -139,8 +139,8 @@ line_blank profile room text at begin end old f1 new s e k =
 after_space : (p : Start) (c : Content) (h : Head) (text : List ℕ) → content_head p c ≡ Some h → after_of c text ≡ space_at text
 after_space p blank h text e = absurd cc
 after_space p (keyval name value) h text e = refl
-after_space p (header before key behind) h text e = refl
-after_space p (element before key behind) h text e = refl
+after_space p (header before key after) h text e = refl
+after_space p (element before key after) h text e = refl
 
 abbrev stated_by : Head → ℕ → ℕ → ℕ → ℕ → ℕ → Statement
 stated_by h begin close at end parts = record { kind = h.kind; span = span begin close; line = span at end; first_key = parts; keys = h.keys; value = h.value }
@@ -155,23 +155,23 @@ stated_is p (keyval name value) h n g a k begin close end e e1 e2 e3 =
     let is : head p.values ≡ h = cc in
     let stated : ℕ → ℕ → Head → List Statement = λ b x q. stated_by q b x n.at end n.parts ∷ [] in
     ap (stated begin close) (sym is) ∙ ap (λ (x : ℕ). stated begin x (head p.values)) e2 ∙ ap (λ (b : ℕ). stated b (b + w) (head p.values)) e1 ∙ ap (λ (v : ℕ). stated (n.at + width g) ((n.at + width g) + w) (head v)) e3
-stated_is p (header before key behind) h n g a k begin close end e e1 e2 e3 =
-    let w = width (content_leaves (header before key behind)) in
+stated_is p (header before key after) h n g a k begin close end e e1 e2 e3 =
+    let w = width (content_leaves (header before key after)) in
     let head : Head = record { kind = Header; keys = key_count key; value = None } in
     let is : head ≡ h = cc in
     let stated : ℕ → ℕ → Head → List Statement = λ b x q. stated_by q b x n.at end n.parts ∷ [] in
     ap (stated begin close) (sym is) ∙ ap (λ (x : ℕ). stated begin x head) e2 ∙ ap (λ (b : ℕ). stated b (b + w) head) e1
-stated_is p (element before key behind) h n g a k begin close end e e1 e2 e3 =
-    let w = width (content_leaves (element before key behind)) in
+stated_is p (element before key after) h n g a k begin close end e e1 e2 e3 =
+    let w = width (content_leaves (element before key after)) in
     let head : Head = record { kind = Element; keys = key_count key; value = None } in
     let is : head ≡ h = cc in
     let stated : ℕ → ℕ → Head → List Statement = λ b x q. stated_by q b x n.at end n.parts ∷ [] in
     ap (stated begin close) (sym is) ∙ ap (λ (x : ℕ). stated begin x head) e2 ∙ ap (λ (b : ℕ). stated b (b + w) head) e1
 
-pub line_is : (profile : Profile) (room : ℕ) (text : List ℕ) (at begin close behind end : ℕ) (old f1 f2 f3 new : Flat) (p : Start) (h : Head) → SpaceRead text at old f1 (Ok begin)
+pub line_is : (profile : Profile) (room : ℕ) (text : List ℕ) (at begin close after end : ℕ) (old f1 f2 f3 new : Flat) (p : Start) (h : Head) → SpaceRead text at old f1 (Ok begin)
     → p ≡ record { at = begin; values = length old.values; parts = length old.keys; owner = owner.Line (length old.statements); depth = 0; comma = None } → ContentIs profile room text p f1 f2 close h
-    → SpaceRead text close f2 f3 (Ok behind) → CommentRead text behind f3 new (Ok end) → LineIs profile room text at old new end (Some (stated_by h begin close at end (length old.keys)))
-line_is profile room text at begin close behind end old f1 f2 f3 new p h s pe con a k =
+    → SpaceRead text close f2 f3 (Ok after) → CommentRead text after f3 new (Ok end) → LineIs profile room text at old new end (Some (stated_by h begin close at end (length old.keys)))
+line_is profile room text at begin close after end old f1 f2 f3 new p h s pe con a k =
     let n = count_at at old in
     let r = con.read in
     let c = r.part in
@@ -186,8 +186,8 @@ line_is profile room text at begin close behind end old f1 f2 f3 new p h s pe co
         part = l;
         bound = k.bound;
         forward = omega (arith, s.forward, pat, r.forward, a.forward, k.forward);
-        is_read = line_reads profile room text at begin close behind end s.part a.part c k.part (ok_is (space_at (drop at text)) (s.part, drop begin text) s.is_read) (ap (λ (m : ℕ). content_at profile room (drop m text)) (sym pat) ∙ r.is_read)
-            (after_space p c h (drop close text) con.stated ∙ ok_is (space_at (drop close text)) (a.part, drop behind text) a.is_read) (ok_is (comment_at (drop behind text)) (k.part, drop end text) k.is_read);
+        is_read = line_reads profile room text at begin close after end s.part a.part c k.part (ok_is (space_at (drop at text)) (s.part, drop begin text) s.is_read) (ap (λ (m : ℕ). content_at profile room (drop m text)) (sym pat) ∙ r.is_read)
+            (after_space p c h (drop close text) con.stated ∙ ok_is (space_at (drop close text)) (a.part, drop after text) a.is_read) (ok_is (comment_at (drop after text)) (k.part, drop end text) k.is_read);
         grows = grows_as (line_taken n l) (same_taken _ (taken p) refl refl (append-nil (content_parts p.at c)) (append-nil (content_values p c)) ∙ ap taken ps) g;
       };
       stated = stated_is p c h n s.part a.part k.part begin close end con.stated s.grows.place (omega (arith, r.grows.place, pat)) (ap (λ (q : Start). q.values) pe);

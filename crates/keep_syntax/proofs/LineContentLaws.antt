@@ -39,7 +39,7 @@ element_content profile room text at opens twice = rw (first-drop text at, opens
 
 length-further : (at : ℕ) (fs : List Further) → length (further_parts at fs) ≡ length fs
 length-further at [] = refl
-length-further at (f ∷ fs) = ap suc (length-further (at + width f.before + 1 + width f.behind + length f.part.text) fs)
+length-further at (f ∷ fs) = ap suc (length-further (at + width f.before + 1 + width f.after + length f.part.text) fs)
 
 length-key : (at : ℕ) (k : Key) → length (key_parts at k) ≡ key_count k
 length-key at k = ap suc (length-further (at + length k.first.text) k.more)

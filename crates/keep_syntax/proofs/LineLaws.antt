@@ -181,8 +181,8 @@ pub record TookLine (profile : Profile) (room : ℕ) (text : List ℕ) (l : Line
 after_takes : (c : Content) (text : List ℕ) → (text ≡ text_of (after_of c text).0 ++ (after_of c text).1) × IsAfter c (after_of c text).0
 after_takes blank text = (refl, refl)
 after_takes (keyval name value) text = let s = space_takes text in (s.spelled, s.valid)
-after_takes (header before key behind) text = let s = space_takes text in (s.spelled, s.valid)
-after_takes (element before key behind) text = let s = space_takes text in (s.spelled, s.valid)
+after_takes (header before key after) text = let s = space_takes text in (s.spelled, s.valid)
+after_takes (element before key after) text = let s = space_takes text in (s.spelled, s.valid)
 
 pub line_takes : (profile : Profile) (room : ℕ) (text : List ℕ) (l : Line) (rest : List ℕ) → line_at profile room text ≡ Ok (l, rest) → TookLine profile room text l rest
 unfolding line_at
@@ -261,22 +261,22 @@ comment_ends (Some w) rest h end = by (comment_class (λ c. not (is_line_end c))
 after_again : (c : Content) (after : Gap) (x : List ℕ) → IsAfter c after → is_ws (first x) ≡ false → after_of c (text_of after ++ x) ≡ (after, x)
 after_again blank after x a stop = rw a refl
 after_again (keyval n v) after x a stop = space_again after x a stop
-after_again (header before key behind) after x a stop = space_again after x a stop
-after_again (element before key behind) after x a stop = space_again after x a stop
+after_again (header before key suffix) after x a stop = space_again after x a stop
+after_again (element before key suffix) after x a stop = space_again after x a stop
 
 after_follows : (c : Content) (after : Gap) (x : List ℕ) → IsAfter c after → is_line_end (first x) ≡ true → FollowsContent c (text_of after ++ x)
 after_follows blank after x a e = rw a e
 after_follows (keyval n v) after x a e = may_follow after x (space_blank after a) (line_end_facts (first x) e).1
-after_follows (header before key behind) after x a e = may_follow after x (space_blank after a) (line_end_facts (first x) e).1
-after_follows (element before key behind) after x a e = may_follow after x (space_blank after a) (line_end_facts (first x) e).1
+after_follows (header before key suffix) after x a e = may_follow after x (space_blank after a) (line_end_facts (first x) e).1
+after_follows (element before key suffix) after x a e = may_follow after x (space_blank after a) (line_end_facts (first x) e).1
 
 content_no_ws : (profile : Profile) (c : Content) (after : Gap) (x : List ℕ) → IsContent profile c → IsAfter c after → is_ws (first x) ≡ false → is_ws (first (text_of (content_leaves c) ++ (text_of after ++ x))) ≡ false
 content_no_ws profile blank after x h a stop = rw a stop
 content_no_ws profile (keyval n v) after x h a stop =
     let rest = text_of after ++ x in
     rw (keyval_text n v rest) (solid_no_ws (first (text_of (name_leaves n) ++ (value_text v ++ rest))) (key_first_solid (first (text_of (name_leaves n) ++ (value_text v ++ rest))) (name_begins profile n (value_text v ++ rest) h.0)))
-content_no_ws profile (header before key behind) after x h a stop = refl
-content_no_ws profile (element before key behind) after x h a stop = refl
+content_no_ws profile (header before key suffix) after x h a stop = refl
+content_no_ws profile (element before key suffix) after x h a stop = refl
 
 pub line_again : (profile : Profile) (room : ℕ) (l : Line) (rest : List ℕ) → IsLine profile l → content_depth l.content ≤ room → LineEnd rest → line_at profile room (text_of (line_leaves l) ++ rest) ≡ Ok (l, rest)
 unfolding line_at

@@ -73,13 +73,13 @@ ended_content c l (Some s) x y (keyval name value) e = moved s _ e
   where
     moved : (s t : Statement) → statement_list (Some s) ≡ t ∷ [] → ended_list y (Some s) ≡ ended_list y (Some t)
     moved s t e = let is : s ≡ t = cc in ap (λ (q : Statement). ended_list y (Some q)) is
-ended_content c l None x y (header before key behind) e = absurd cc
-ended_content c l (Some s) x y (header before key behind) e = moved s _ e
+ended_content c l None x y (header before key after) e = absurd cc
+ended_content c l (Some s) x y (header before key after) e = moved s _ e
   where
     moved : (s t : Statement) → statement_list (Some s) ≡ t ∷ [] → ended_list y (Some s) ≡ ended_list y (Some t)
     moved s t e = let is : s ≡ t = cc in ap (λ (q : Statement). ended_list y (Some q)) is
-ended_content c l None x y (element before key behind) e = absurd cc
-ended_content c l (Some s) x y (element before key behind) e = moved s _ e
+ended_content c l None x y (element before key after) e = absurd cc
+ended_content c l (Some s) x y (element before key after) e = moved s _ e
   where
     moved : (s t : Statement) → statement_list (Some s) ≡ t ∷ [] → ended_list y (Some s) ≡ ended_list y (Some t)
     moved s t e = let is : s ≡ t = cc in ap (λ (q : Statement). ended_list y (Some q)) is

@@ -12,12 +12,12 @@ use Rattle.keep_syntax.proofs.NumberingLaws.{width-append}
 
 -- where a further part begins whose gap begins at a place
 abbrev pub further_start : ℕ → Further → ℕ
-further_start at f = at + width f.before + 1 + width f.behind
+further_start at f = at + width f.before + 1 + width f.after
 
-pub further-width : (f : Further) → width (further_leaves f) ≡ width f.before + 1 + width f.behind + length f.part.text
+pub further-width : (f : Further) → width (further_leaves f) ≡ width f.before + 1 + width f.after + length f.part.text
 further-width f =
     let dot : Written = record { leaf = leaf.Dot; text = 0x2E ∷ [] } in
-    omega (arith, width-append f.before (dot ∷ (f.behind ++ (f.part ∷ []))), width-append f.behind (f.part ∷ []), length-append f.part.text [])
+    omega (arith, width-append f.before (dot ∷ (f.after ++ (f.part ∷ []))), width-append f.after (f.part ∷ []), length-append f.part.text [])
 
 pub further-snoc : (at : ℕ) (fs : List Further) (f : Further) → further_parts at (fs ++ (f ∷ [])) ≡ further_parts at fs ++ (part_at (further_start (at + width (flat_map further_leaves fs)) f) f.part ∷ [])
 further-snoc at [] f = ap (λ (n : ℕ). part_at (further_start n f) f.part ∷ []) (omega arith)
@@ -34,9 +34,9 @@ abbrev pub over_ended : {A : Type 0} → (Count → Line → ℕ → List A) →
 over_ended f c [] = []
 over_ended f c (e ∷ es) = f c e.line (c.at + width (ended_leaves e)) ++ over_ended f (next_line c e) es
 
-pub behind-snoc : (c : Count) (es : List Ended) (e : Ended) → after_lines c (es ++ (e ∷ [])) ≡ next_line (after_lines c es) e
-behind-snoc c [] e = refl
-behind-snoc c (d ∷ es) e = behind-snoc (next_line c d) es e
+pub after_lines-snoc : (c : Count) (es : List Ended) (e : Ended) → after_lines c (es ++ (e ∷ [])) ≡ next_line (after_lines c es) e
+after_lines-snoc c [] e = refl
+after_lines-snoc c (d ∷ es) e = after_lines-snoc (next_line c d) es e
 
 pub ended-snoc : {A : Type 0} (f : Count → Line → ℕ → List A) (c : Count) (es : List Ended) (e : Ended)
     → over_ended f c (es ++ (e ∷ [])) ≡ over_ended f c es ++ f (after_lines c es) e.line ((after_lines c es).at + width (ended_leaves e))
@@ -69,8 +69,8 @@ length-statements c l x y = by l.content
     by : (k : Content) → length (content_statements c l x k) ≡ length (content_statements c l y k)
     by blank = refl
     by (keyval name value) = refl
-    by (header before key behind) = refl
-    by (element before key behind) = refl
+    by (header before key after) = refl
+    by (element before key after) = refl
 
 pub after_lines-statements : (c : Count) (es : List Ended) → (after_lines c es).statements ≡ c.statements + length (over_ended line_statements c es)
 after_lines-statements c [] = omega arith

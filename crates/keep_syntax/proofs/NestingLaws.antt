@@ -18,14 +18,14 @@ use Rattle.keep_syntax.specs.declared.info.Brackets.{Brackets}
 use Rattle.keep_types.specs.declared.syntax.KeyPart.{KeyPart}
 use Rattle.keep_types.specs.declared.syntax.ValueInfo.{ValueInfo}
 use Rattle.keep_syntax.specs.Tree.{Written, Gap, Name, Entries, none, Value, named_leaves, value_leaves, comma_leaves}
-use Rattle.keep_syntax.specs.Numbered.{width, entries_parts, entries_values, info, nested_of, nested_start, value_start, comma_start, comma_place, name_count, named_parts, behind}
+use Rattle.keep_syntax.specs.Numbered.{width, entries_parts, entries_values, info, nested_of, nested_start, value_start, comma_start, comma_place, name_count, named_parts, entries_end}
 use Rattle.keep_syntax.specs.Reading.{Iteration, continues, ready, join, Item, entry_of, iteration_of, value_of, close_byte, gap_in, named_in, after_by, item_by, entry_by, entries_by}
 use Rattle.keep_syntax_store.specs.Flat.{Flat, with_comma}
 use Rattle.keep_syntax.specs.Growth.{Taken, Grows, Fails, NamedRead, ValueRead, AfterRead, AfterStored, named_taken, value_taken, entries_taken, item_taken, EntriesAre, ItemIs, ItemRead}
 use Rattle.keep_syntax.proofs.LoopLaws.{done, loop_on, loop_ready, loop_err}
 use Rattle.keep_syntax.proofs.ValueLaws.{value_takes, entry_shortens}
 use Rattle.keep_syntax.proofs.GrowthLaws.{same_taken, grows_nothing, grows_then, grows_as, grows_changed, grown_values, grown_keys}
-use Rattle.keep_syntax.proofs.NumberLaws.{same_start, leaves-join, behind-at, behind-join, values-join, parts-join, value_end-width, length-values, length-named, length-parts, behind-values, behind-parts}
+use Rattle.keep_syntax.proofs.NumberLaws.{same_start, leaves-join, entries_end-at, entries_end-join, values-join, parts-join, value_end-width, length-values, length-named, length-parts, entries_end-values, entries_end-parts}
 use Rattle.keep_syntax.proofs.GapCodeLaws.{first-drop, fails_through}
 
 -- ---- an entry
@@ -71,8 +71,8 @@ entry_grows text p begin keys end next name v after None old f1 f2 new k n g1 g2
     (entry_taken p begin keys i end _ g1.place k g2.place (ap (λ (x : List Written). (named_leaves name ++ value_leaves v) ++ x) (sym (append-nil after))) refl (append-nil _)
     (ap (λ (x : List ValueInfo). info p begin keys v.body v.nested None ∷ x) (append-nil (entries_values (nested_of p begin keys v.body) v.nested))))
     (grows_then (grows_then g1 g2) a)
-entry_grows text p begin keys end next name v after (Some behind) old f1 f2 new k n g1 g2 a =
-    let i : Item = record { name = name; value = v; after = after; comma = Some behind } in
+entry_grows text p begin keys end next name v after (Some next_gap) old f1 f2 new k n g1 g2 a =
+    let i : Item = record { name = name; value = v; after = after; comma = Some next_gap } in
     let inner = entries_values (nested_of p begin keys v.body) v.nested in
     let head = info p begin keys v.body v.nested None in
     let first' = grows_then (grows_then g1 g2) a.2 in
@@ -98,7 +98,7 @@ pub item_is : (profile : Profile) (b : Brackets) (room : ℕ) (text : List ℕ) 
 item_is profile b room text p begin keys end old f1 f2 new (Err e) n1 n2 k n v a =
     fails_through text e (after_by profile b n.part v.part (gap_in profile b (drop end text))) (item_by profile b (value_of profile room) (drop p.at text)) (λ f h. item_reads profile b room text p begin keys end old f1 f2 n v ∙ h) (a n.part v.part)
 item_is profile b room text p begin keys end old f1 f2 new (Ok r) n1 n2 k n v a =
-    let i : Item = record { name = n.part; value = v.part; after = a.after; comma = a.behind } in
+    let i : Item = record { name = n.part; value = v.part; after = a.after; comma = a.comma_gap } in
     let own : keys ≡ name_count n.part = omega (arith, name_keys profile b text p begin old f1 n2 n) in
     let ends : end + width a.after ≡ comma_start p.at n.part v.part.body v.part.nested a.after = omega (arith, value_end-width (value_start p.at n.part) v.part, n.grows.place, v.grows.place) in
     record {
@@ -107,9 +107,9 @@ item_is profile b room text p begin keys end old f1 f2 new (Ok r) n1 n2 k n v a 
         bound = a.bound;
         forward = omega (arith, n.forward, v.forward, a.forward);
         is_read = item_reads profile b room text p begin keys end old f1 f2 n v ∙ a.is_read n.part v.part;
-        grows = entry_grows text p begin keys end r.0 n.part v.part a.after a.behind old f1 f2 new own n1 n.grows v.grows a.stored;
+        grows = entry_grows text p begin keys end r.0 n.part v.part a.after a.comma_gap old f1 f2 new own n1 n.grows v.grows a.stored;
       };
-      comma_is = a.comma_is ∙ ap (λ (x : ℕ). comma_place x a.behind) ends;
+      comma_is = a.comma_is ∙ ap (λ (x : ℕ). comma_place x a.comma_gap) ends;
       closed = a.closed;
     }
 
@@ -120,7 +120,7 @@ pub record SoFar (b : Brackets) (profile : Profile) (room : ℕ) (text : List �
   pub bound : IsCharBoundary text here.at
   pub read : entries_by profile b (value_of profile room) none (drop p.at text) ≡ entries_by profile b (value_of profile room) prefix (drop here.at text)
   pub grows : Grows text old now p.at here.at (entries_taken p prefix)
-  pub then : here ≡ behind p prefix
+  pub then : here ≡ entries_end p prefix
   pub depth : here.depth ≡ p.depth
   pub values : here.values ≡ length now.values
   pub parts : here.parts ≡ length now.keys
@@ -129,7 +129,7 @@ pub so_far_none : (b : Brackets) (profile : Profile) (room : ℕ) (text : List �
 so_far_none b profile room text p old bound n1 n2 = record { prefix = none; bound = bound; read = refl; grows = grows_nothing text old p.at; then = refl; depth = refl; values = n1; parts = n2 }
 
 -- entries after entries
-join_grows : (text : List ℕ) (p here : Start) (end : ℕ) (old now new : Flat) (prefix it : Entries) → here ≡ behind p prefix → Grows text old now p.at here.at (entries_taken p prefix) → Grows text now new here.at end (entries_taken here it) → Grows text old new p.at end (entries_taken p (join prefix it))
+join_grows : (text : List ℕ) (p here : Start) (end : ℕ) (old now new : Flat) (prefix it : Entries) → here ≡ entries_end p prefix → Grows text old now p.at here.at (entries_taken p prefix) → Grows text now new here.at end (entries_taken here it) → Grows text old new p.at end (entries_taken p (join prefix it))
 join_grows text p here end old now new prefix it e g h =
     grows_as (entries_taken p (join prefix it))
     (same_taken _ (entries_taken p (join prefix it)) (sym (leaves-join prefix it)) refl
@@ -167,16 +167,16 @@ so_far_more b profile room text p old now new here end nv np comma s i open' som
     let next : Start = record { at = end; values = nv; parts = np; owner = here.owner; depth = here.depth; comma = comma } in
     let iteration : entry_by profile b (value_of profile room) s.prefix (drop here.at text) ≡ Ok (continues (join s.prefix es), drop end text) =
     iteration_reads b profile room text here s.prefix now new end comma i open' ∙ ap (λ (t : Iteration Entries Entries). done (t, drop end text)) (iteration_continues s.prefix it _ comma it.comma i.comma_is some) in
-    let here_next : next ≡ behind here es =
-    same_start next (behind here es) (omega (arith, i.read.grows.place, behind-at here es))
-    (omega (arith, s.values, grown_values (entries_taken here es) i.read.grows, length-values here es, behind-values here es))
-    (omega (arith, s.parts, grown_keys (entries_taken here es) i.read.grows, length-parts here.at es, behind-parts here es)) refl refl i.comma_is in
+    let here_next : next ≡ entries_end here es =
+    same_start next (entries_end here es) (omega (arith, i.read.grows.place, entries_end-at here es))
+    (omega (arith, s.values, grown_values (entries_taken here es) i.read.grows, length-values here es, entries_end-values here es))
+    (omega (arith, s.parts, grown_keys (entries_taken here es) i.read.grows, length-parts here.at es, entries_end-parts here es)) refl refl i.comma_is in
     record {
       prefix = join s.prefix es;
       bound = i.read.bound;
       read = s.read ∙ loop_on (entry_by profile b (value_of profile room)) (entry_shortens profile b room (value_of profile room) (value_takes profile room)) s.prefix (drop here.at text) (join s.prefix es) (drop end text) iteration;
       grows = join_grows text p here end old now new s.prefix es s.then s.grows i.read.grows;
-      then = here_next ∙ ap (λ (q : Start). behind q es) s.then ∙ sym (behind-join p s.prefix es);
+      then = here_next ∙ ap (λ (q : Start). entries_end q es) s.then ∙ sym (entries_end-join p s.prefix es);
       depth = s.depth;
       values = e1;
       parts = e2;

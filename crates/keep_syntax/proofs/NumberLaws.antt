@@ -6,7 +6,7 @@ use Rattle.keep_types.specs.declared.syntax.Owner.{Owner}
 use Rattle.keep_types.specs.declared.syntax.KeyPart.{KeyPart}
 use Rattle.keep_types.specs.declared.syntax.ValueInfo.{ValueInfo}
 use Rattle.keep_syntax.specs.Tree.{Further, Name, Entries, none, entry, Value, named_leaves, opening, closing, comma_leaves, entries_leaves, value_leaves}
-use Rattle.keep_syntax.specs.Numbered.{width, entries_parts, value_count, part_count, name_count, named_parts, further_parts, entries_values, nested_of, rest_of, behind, info, value_start, nested_start, value_end, comma_start, entry_end, comma_place}
+use Rattle.keep_syntax.specs.Numbered.{width, entries_parts, value_count, part_count, name_count, named_parts, further_parts, entries_values, nested_of, rest_of, entries_end, info, value_start, nested_start, value_end, comma_start, entry_end, comma_place}
 use Rattle.keep_syntax.specs.Reading.{join}
 use Rattle.keep_syntax.proofs.GrowthLaws.{width-append}
 
@@ -21,31 +21,31 @@ leaves-join none b = refl
 leaves-join (entry name body nested after comma rest) b = rw (leaves-join rest b) (simp append_assoc)
 
 -- the places after entries
-pub behind-at : (p : Start) (es : Entries) → (behind p es).at ≡ p.at + width (entries_leaves es)
-behind-at p none = omega arith
-behind-at p (entry name body nested after comma rest) =
+pub entries_end-at : (p : Start) (es : Entries) → (entries_end p es).at ≡ p.at + width (entries_leaves es)
+entries_end-at p none = omega arith
+entries_end-at p (entry name body nested after comma rest) =
     let n = named_leaves name in
     let o = opening body in
     let i = entries_leaves nested in
     let c = closing body in
     let k = comma_leaves comma in
     let r = entries_leaves rest in
-    omega (arith, behind-at (rest_of p name body nested after comma) rest, width-append n (o ++ (i ++ (c ++ (after ++ (k ++ r))))), width-append o (i ++ (c ++ (after ++ (k ++ r)))), width-append i (c ++ (after ++ (k ++ r))), width-append c (after ++ (k ++ r)), width-append after (k ++ r), width-append k r)
+    omega (arith, entries_end-at (rest_of p name body nested after comma) rest, width-append n (o ++ (i ++ (c ++ (after ++ (k ++ r))))), width-append o (i ++ (c ++ (after ++ (k ++ r)))), width-append i (c ++ (after ++ (k ++ r))), width-append c (after ++ (k ++ r)), width-append after (k ++ r), width-append k r)
 
-pub behind-join : (p : Start) (a b : Entries) → behind p (join a b) ≡ behind (behind p a) b
-behind-join p none b = refl
-behind-join p (entry name body nested after comma rest) b = behind-join (rest_of p name body nested after comma) rest b
+pub entries_end-join : (p : Start) (a b : Entries) → entries_end p (join a b) ≡ entries_end (entries_end p a) b
+entries_end-join p none b = refl
+entries_end-join p (entry name body nested after comma rest) b = entries_end-join (rest_of p name body nested after comma) rest b
 
-pub values-join : (p : Start) (a b : Entries) → entries_values p (join a b) ≡ entries_values p a ++ entries_values (behind p a) b
+pub values-join : (p : Start) (a b : Entries) → entries_values p (join a b) ≡ entries_values p a ++ entries_values (entries_end p a) b
 values-join p none b = refl
 values-join p (entry name body nested after comma rest) b =
     let at = value_start p.at name in
     let head = info p at (name_count name) body nested (comma_place (comma_start p.at name body nested after) comma) in
     let ins = entries_values (nested_of p at (name_count name) body) nested in
     let q = rest_of p name body nested after comma in
-    ap (λ (vs : List ValueInfo). head ∷ (ins ++ vs)) (values-join q rest b) ∙ ap (λ (vs : List ValueInfo). head ∷ vs) (sym (append_assoc ins (entries_values q rest) (entries_values (behind q rest) b)))
+    ap (λ (vs : List ValueInfo). head ∷ (ins ++ vs)) (values-join q rest b) ∙ ap (λ (vs : List ValueInfo). head ∷ vs) (sym (append_assoc ins (entries_values q rest) (entries_values (entries_end q rest) b)))
 
-pub parts-join : (p : Start) (a b : Entries) → entries_parts p.at (join a b) ≡ entries_parts p.at a ++ entries_parts (behind p a).at b
+pub parts-join : (p : Start) (a b : Entries) → entries_parts p.at (join a b) ≡ entries_parts p.at a ++ entries_parts (entries_end p a).at b
 parts-join p none b = refl
 parts-join p (entry name body nested after comma rest) b =
     let ins = entries_parts (nested_start (value_start p.at name) body) nested in
@@ -70,7 +70,7 @@ length-values p (entry name body nested after comma rest) =
 
 pub length-further : (at : ℕ) (fs : List Further) → length (further_parts at fs) ≡ length fs
 length-further at [] = refl
-length-further at (f ∷ fs) = ap suc (length-further (at + width f.before + 1 + width f.behind + length f.part.text) fs)
+length-further at (f ∷ fs) = ap suc (length-further (at + width f.before + 1 + width f.after + length f.part.text) fs)
 
 pub length-named : (at : ℕ) (name : Option Name) → length (named_parts at name) ≡ name_count name
 length-named at None = refl
@@ -84,10 +84,10 @@ length-parts at (entry name body nested after comma rest) =
     let r = entries_parts (entry_end at name body nested after comma) rest in
     omega (arith, length-append a (i ++ r), length-append i r, length-named at name, length-parts (nested_start (value_start at name) body) nested, length-parts (entry_end at name body nested after comma) rest)
 
-pub behind-values : (p : Start) (es : Entries) → (behind p es).values ≡ p.values + value_count es
-behind-values p none = omega arith
-behind-values p (entry name body nested after comma rest) = omega (arith, behind-values (rest_of p name body nested after comma) rest)
+pub entries_end-values : (p : Start) (es : Entries) → (entries_end p es).values ≡ p.values + value_count es
+entries_end-values p none = omega arith
+entries_end-values p (entry name body nested after comma rest) = omega (arith, entries_end-values (rest_of p name body nested after comma) rest)
 
-pub behind-parts : (p : Start) (es : Entries) → (behind p es).parts ≡ p.parts + part_count es
-behind-parts p none = omega arith
-behind-parts p (entry name body nested after comma rest) = omega (arith, behind-parts (rest_of p name body nested after comma) rest)
+pub entries_end-parts : (p : Start) (es : Entries) → (entries_end p es).parts ≡ p.parts + part_count es
+entries_end-parts p none = omega arith
+entries_end-parts p (entry name body nested after comma rest) = omega (arith, entries_end-parts (rest_of p name body nested after comma) rest)

@@ -24,7 +24,7 @@ use Rattle.keep_syntax_store.specs.Flat.{Flat, flat, unpacked_statement, unpacke
 use Rattle.keep_syntax_store.specs.Rereading.{count_at, count_of, nothing, counts_at, counts_before, with_prefix, with_new, with_back, replaced_flat, CanMove}
 use Rattle.keep_syntax_store.specs.Lifted.{origin, moved, moved_key, moved_statement, moved_value}
 use Rattle.keep_syntax_store.specs.Shifting.{shifted_key, CanShiftKey, shifted_statement, CanShiftStatement, shifted_value, CanShiftValue}
-use Rattle.keep_syntax.specs.Replacing.{IsPacked, CanShift, IsRun, IsShifted, IsAsBefore, CanExchange, same, IsExchanged, replaced_places, placed, counts_after, counts_behind, UndoesRun}
+use Rattle.keep_syntax.specs.Replacing.{IsPacked, CanShift, IsRun, IsShifted, IsAsBefore, CanExchange, same, IsExchanged, replaced_places, placed, counts_after, counts_through, UndoesRun}
 use Rattle.keep_syntax_store.proofs.Shared.{same_flat, if_true, if_false, range_length, map_is, key_is, key_back, statement_is, statement_back, value_is, value_back, unpacked_exchanged, same_exchanged, room_again, exchanged_back}
 use Rattle.keep_syntax.proofs.LineLoopLaws.{same_count}
 use Rattle.keep_syntax.proofs.RereadLaws.{stays_key, stays_statement, stays_value, map_same}
@@ -150,10 +150,10 @@ module _ (f g : Flat) (whole : Span) (len size end : ℕ) (can : CanMove f whole
       (two_moved (moved_value origin origin) (moved_value origin c) (moved_value (count_of to) (count_of until)) stays_value f.values g.values from.values
       ∙ ap (λ (x : Count). take from.values f.values ++ (map (moved_value origin x) g.values ++ map (moved_value (count_of to) (count_of until)) (drop to.values f.values))) front_count)
 
-  pub replaced_placed : replaced_flat f g whole len size end ≡ placed f g from (counts_behind f whole len) until end
+  pub replaced_placed : replaced_flat f g whole len size end ≡ placed f g from (counts_through f whole len) until end
   replaced_placed = by (ltb whole.end len) refl
     where
-      by : (b : Bool) → ltb whole.end len ≡ b → replaced_flat f g whole len size end ≡ placed f g from (counts_behind f whole len) until end
+      by : (b : Bool) → ltb whole.end len ≡ b → replaced_flat f g whole len size end ≡ placed f g from (counts_through f whole len) until end
       by true t =
           if_true (ltb whole.end len) _ _ t ∙ back_placed ∙ ap (λ (k : Counts). placed f g from k until end) (sym (if_true (ltb whole.end len) (counts_before f whole.end) (counts_at len f) t))
       by false t =

@@ -11,7 +11,7 @@ abbrev space : Gap
 space = record { leaf = leaf.Ws; text = 32 ∷ [] } ∷ []
 
 abbrev name : ℕ → Name
-name c = record { key = record { first = record { leaf = leaf.BareKey; text = c ∷ [] }; more = [] }; before = space; behind = space }
+name c = record { key = record { first = record { leaf = leaf.BareKey; text = c ∷ [] }; more = [] }; before = space; after = space }
 
 abbrev number : ℕ → Written
 number c = record { leaf = leaf.Integer; text = c ∷ [] }

@@ -53,10 +53,10 @@ entries_err profile b room prefix text d e k =
 
 -- after a dot
 pub more_dot : (profile : Profile) (prefix : List Further) (text : List ℕ) (p : Written) (rest : List ℕ) → (first (space_at text).1 == 0x2E) ≡ true → part_at profile (space_at (drop 1 (space_at text).1)).1 ≡ Ok (p, rest)
-    → more_of profile prefix text ≡ more_of profile (prefix ++ (record { before = (space_at text).0; behind = (space_at (drop 1 (space_at text).1)).0; part = p } ∷ [])) rest
+    → more_of profile prefix text ≡ more_of profile (prefix ++ (record { before = (space_at text).0; after = (space_at (drop 1 (space_at text).1)).0; part = p } ∷ [])) rest
 unfolding further_at
 more_dot profile prefix text p rest e k =
-    let s = prefix ++ (record { before = (space_at text).0; behind = (space_at (drop 1 (space_at text).1)).0; part = p } ∷ []) in
+    let s = prefix ++ (record { before = (space_at text).0; after = (space_at (drop 1 (space_at text).1)).0; part = p } ∷ []) in
     let iteration : further_at profile prefix text ≡ Ok (continues s, rest) = rw (e, k) refl in
     loop_on (further_at profile) (further_shortens profile) prefix text s rest iteration
 
@@ -104,8 +104,8 @@ pub lines_bad : (profile : Profile) (room : ℕ) (prefix : List Ended) (text : L
 unfolding ended_at
 lines_bad profile room prefix text l [] e some no_newline = absurd (omega arith)
 lines_bad profile room prefix text l (c ∷ cs) e some no_newline =
-    let behind : newline_of prefix l (c ∷ cs) (gap_at (c ∷ cs)) ≡ Err Bad = by (gap_cases (c ∷ cs)) in
-    let iteration : ended_at profile room prefix text ≡ Err Bad = rw (e, behind) refl in
+    let after : newline_of prefix l (c ∷ cs) (gap_at (c ∷ cs)) ≡ Err Bad = by (gap_cases (c ∷ cs)) in
+    let iteration : ended_at profile room prefix text ≡ Err Bad = rw (e, after) refl in
     loop_err (ended_at profile room) prefix text Bad iteration
   where
     by : Gaps (c ∷ cs) (gap_at (c ∷ cs)) → newline_of prefix l (c ∷ cs) (gap_at (c ∷ cs)) ≡ Err Bad

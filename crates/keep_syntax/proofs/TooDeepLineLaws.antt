@@ -36,8 +36,8 @@ content_stops profile room (keyval n v) h outer text rest r =
     let f = key_first_facts (first (text_of (name_leaves n) ++ t)) begins in
     let one : name_of profile (text_of (name_leaves n) ++ t) ≡ Ok (n, t) = name_again profile n t h.0 (solid_no_ws (first t) (value_first_solid (first t) s.begins)) in
     subst (λ (x : List ℕ). StopsContent profile room x rest) (sym p.spelled) (record { stops = rw (f.0, f.1, one, s.stops) refl; begins = begins })
-content_stops profile room (header before k behind) h outer text rest r = absurd (not_plain (content_leaves (header before k behind)) (content_opens profile (header before k behind) h) r)
-content_stops profile room (element before k behind) h outer text rest r = absurd (not_plain (content_leaves (element before k behind)) (content_opens profile (element before k behind) h) r)
+content_stops profile room (header before k after) h outer text rest r = absurd (not_plain (content_leaves (header before k after)) (content_opens profile (header before k after) h) r)
+content_stops profile room (element before k after) h outer text rest r = absurd (not_plain (content_leaves (element before k after)) (content_opens profile (element before k after) h) r)
 
 line_stops : (profile : Profile) (room : ℕ) (l : Line) → IsLine profile l → (outer : ℕ) (text rest : List ℕ) → Reaches outer room text rest (line_leaves l) → line_at profile room text ≡ Err (Deep rest)
 unfolding line_at

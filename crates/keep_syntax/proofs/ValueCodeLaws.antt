@@ -90,7 +90,7 @@ pub after_none : (profile : Profile) (b : Brackets) (text : List ℕ) (at number
     → (get_or text end 0 == close_byte b) ≡ true → AfterIs profile b text at number old new end None
 after_none profile b text at number end old new g no_comma close closed = record {
   after = g.part;
-  behind = None;
+  after = None;
   bound = g.bound;
   forward = omega (arith, g.forward);
   comma_is = refl;
@@ -104,43 +104,43 @@ pub after_bad : (profile : Profile) (b : Brackets) (text : List ℕ) (at end : �
 after_bad profile b text at end old new g no_comma open' name v = rw (gap_is profile b text at end old new g, first-drop text end, no_comma, open') refl
 
 -- after the comma
-behind_comma : (profile : Profile) (b : Brackets) (text : List ℕ) (at end behind next : ℕ) (old f1 f3 new : Flat) → (g : GapRead profile b text at old f1 (Ok end)) → get_or text end 0 ≡ 0x2C → behind ≡ end + 1 → (h : GapRead profile b text behind f3 new (Ok next))
+gap_after_comma : (profile : Profile) (b : Brackets) (text : List ℕ) (at end after next : ℕ) (old f1 f3 new : Flat) → (g : GapRead profile b text at old f1 (Ok end)) → get_or text end 0 ≡ 0x2C → after ≡ end + 1 → (h : GapRead profile b text after f3 new (Ok next))
     → (name : Option Name) (v : Value) → after_by profile b name v (gap_in profile b (drop at text)) ≡ comma_by profile b name v g.part (h.part, drop next text)
-behind_comma profile b text at end behind next old f1 f3 new g comma e h name v =
-    let s : gap_in profile b (drop 1 (drop end text)) ≡ (h.part, drop next text) = ap (gap_in profile b) (after_sign text end behind e) ∙ gap_is profile b text behind next f3 new h in
+gap_after_comma profile b text at end after next old f1 f3 new g comma e h name v =
+    let s : gap_in profile b (drop 1 (drop end text)) ≡ (h.part, drop next text) = ap (gap_in profile b) (after_sign text end after e) ∙ gap_is profile b text after next f3 new h in
     rw (gap_is profile b text at end old f1 g, first-drop text end, comma, s) refl
 
-pub after_last : (profile : Profile) (b : Brackets) (text : List ℕ) (at end behind next : ℕ) (old f1 f3 new : Flat) → GapRead profile b text at old f1 (Ok end) → get_or text end 0 ≡ 0x2C → behind ≡ end + 1 → GapRead profile b text behind f3 new (Ok next)
+pub after_last : (profile : Profile) (b : Brackets) (text : List ℕ) (at end after next : ℕ) (old f1 f3 new : Flat) → GapRead profile b text at old f1 (Ok end) → get_or text end 0 ≡ 0x2C → after ≡ end + 1 → GapRead profile b text after f3 new (Ok next)
     → is_free profile b ≡ false → (get_or text next 0 == close_byte b) ≡ true → (name : Option Name) (v : Value) → after_by profile b name v (gap_in profile b (drop at text)) ≡ Err Bad
-after_last profile b text at end behind next old f1 f3 new g comma e h tight closed name v =
-    behind_comma profile b text at end behind next old f1 f3 new g comma e h name v ∙ rw (tight, first-drop text next, closed) refl
+after_last profile b text at end after next old f1 f3 new g comma e h tight closed name v =
+    gap_after_comma profile b text at end after next old f1 f3 new g comma e h name v ∙ rw (tight, first-drop text next, closed) refl
 
-pub after_comma : (profile : Profile) (b : Brackets) (text : List ℕ) (at number end behind next : ℕ) (old f1 f2 f3 new : Flat) → GapRead profile b text at old f1 (Ok end) → get_or text end 0 ≡ 0x2C → PunctuationIs text end 1 leaf.Comma f1 f2 behind
-    → ChangesValue (with_comma end) number f2 f3 → GapRead profile b text behind f3 new (Ok next) → (not (is_free profile b) && (get_or text next 0 == close_byte b)) ≡ false → AfterIs profile b text at number old new next (Some end)
-after_comma profile b text at number end behind next old f1 f2 f3 new g comma sg change h may =
+pub after_comma : (profile : Profile) (b : Brackets) (text : List ℕ) (at number end after next : ℕ) (old f1 f2 f3 new : Flat) → GapRead profile b text at old f1 (Ok end) → get_or text end 0 ≡ 0x2C → PunctuationIs text end 1 leaf.Comma f1 f2 after
+    → ChangesValue (with_comma end) number f2 f3 → GapRead profile b text after f3 new (Ok next) → (not (is_free profile b) && (get_or text next 0 == close_byte b)) ≡ false → AfterIs profile b text at number old new next (Some end)
+after_comma profile b text at number end after next old f1 f2 f3 new g comma sg change h may =
     let there : end ≡ at + width g.part = g.grows.place in
-    let after_is : behind ≡ at + width g.part + 1 = omega (arith, sg.end_is) in
+    let after_is : after ≡ at + width g.part + 1 = omega (arith, sg.end_is) in
     record {
       after = g.part;
-      behind = Some h.part;
+      after = Some h.part;
       bound = h.bound;
       forward = omega (arith, g.forward, h.forward, sg.end_is);
       comma_is = ap (λ (n : ℕ). Some n) there;
       closed = λ e. absurd cc;
-      is_read = λ name v. behind_comma profile b text at end behind next old f1 f3 new g comma sg.end_is h name v ∙ rw (first-drop text next, may) refl;
+      is_read = λ name v. gap_after_comma profile b text at end after next old f1 f3 new g comma sg.end_is h name v ∙ rw (first-drop text next, may) refl;
       stored = (
         f2,
         f3,
-        subst (λ (n : ℕ). Grows text old f2 at n (only (g.part ++ token leaf.Comma (0x2C ∷ [])))) after_is (grows_then g.grows (sign_grows text (0x2C ∷ []) end 1 leaf.Comma f1 f2 behind refl sg)),
+        subst (λ (n : ℕ). Grows text old f2 at n (only (g.part ++ token leaf.Comma (0x2C ∷ [])))) after_is (grows_then g.grows (sign_grows text (0x2C ∷ []) end 1 leaf.Comma f1 f2 after refl sg)),
         subst (λ (n : ℕ). ChangesValue (with_comma n) number f2 f3) there change,
         subst (λ (n : ℕ). Grows text f3 new n next (only h.part)) after_is h.grows,
       );
     }
 
 -- the value is there to be told its comma
-pub after_number : (profile : Profile) (b : Brackets) (text : List ℕ) (at number end behind : ℕ) (old f1 f2 : Flat) → GapRead profile b text at old f1 (Ok end) → PunctuationIs text end 1 leaf.Comma f1 f2 behind → number < length old.values → number < length f2.values
-after_number profile b text at number end behind old f1 f2 g sg lt =
-    omega (arith, grown_values (only g.part) g.grows, grown_values (only (token leaf.Comma (0x2C ∷ []))) (sign_grows text (0x2C ∷ []) end 1 leaf.Comma f1 f2 behind refl sg))
+pub after_number : (profile : Profile) (b : Brackets) (text : List ℕ) (at number end after : ℕ) (old f1 f2 : Flat) → GapRead profile b text at old f1 (Ok end) → PunctuationIs text end 1 leaf.Comma f1 f2 after → number < length old.values → number < length f2.values
+after_number profile b text at number end after old f1 f2 g sg lt =
+    omega (arith, grown_values (only g.part) g.grows, grown_values (only (token leaf.Comma (0x2C ∷ []))) (sign_grows text (0x2C ∷ []) end 1 leaf.Comma f1 f2 after refl sg))
 
 -- ---- brackets
 

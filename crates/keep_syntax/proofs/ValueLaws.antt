@@ -164,7 +164,7 @@ pub record TookItem (profile : Profile) (b : Brackets) (room : ℕ) (text : List
   pub valid : IsValue profile i.value
   pub shallow : value_depth i.value ≤ room
   pub gap : IsGap profile (place_of b) i.after
-  pub behind : After profile b i.comma rest
+  pub after : After profile b i.comma rest
   pub spelled : text ≡ text_of (item_leaves i) ++ rest
   pub shorter : length rest < length text
   pub begins : is_solid (first text) ≡ true
@@ -197,7 +197,7 @@ record TookAfter (profile : Profile) (b : Brackets) (name : Option Name) (v : Va
   same_name : i.name ≡ name
   same_value : i.value ≡ v
   gap : IsGap profile (place_of b) i.after
-  behind : After profile b i.comma rest
+  after : After profile b i.comma rest
   spelled : text ≡ text_of i.after ++ (text_of (comma_leaves i.comma) ++ rest)
   shorter : length rest ≤ length text
 
@@ -219,7 +219,7 @@ after_takes profile b name v text i rest h =
                   same_name = refl;
                   same_value = refl;
                   gap = ga.valid solid;
-                  behind = (gk.valid, f);
+                  after = (gk.valid, f);
                   spelled = ga.spelled ∙ ap (λ (x : List ℕ). text_of a.0 ++ x) (comma ∙ ap (λ (x : List ℕ). 0x2C ∷ x) gk.spelled);
                   shorter = omega (arith, gap_shortens profile b text, gap_shortens profile b (drop 1 a.1), ap length comma);
                 })
@@ -231,7 +231,7 @@ after_takes profile b name v text i rest h =
               same_name = refl;
               same_value = refl;
               gap = ga.valid (close_solid b a.1 f);
-              behind = f;
+              after = f;
               spelled = ga.spelled;
               shorter = gap_shortens profile b text;
             })
@@ -252,7 +252,7 @@ item_takes profile b room value sound text i rest h =
       valid = subst (λ (x : Value). IsValue profile x) (sym ta.same_value) tv.valid;
       shallow = subst (λ (x : Value). value_depth x ≤ room) (sym ta.same_value) tv.shallow;
       gap = ta.gap;
-      behind = ta.behind;
+      after = ta.after;
       spelled = tn.spelled ∙ ap (λ (x : List ℕ). text_of (named_leaves n.0) ++ x) (tv.spelled ∙ ap (λ (x : List ℕ). value_text v.0 ++ x) ta.spelled)
           ∙ ap (λ (m : Option Name). text_of (named_leaves m) ++ (value_text v.0 ++ (text_of i.after ++ (text_of (comma_leaves i.comma) ++ rest)))) (sym ta.same_name)
           ∙ ap (λ (w : Value). text_of (named_leaves i.name) ++ (value_text w ++ (text_of i.after ++ (text_of (comma_leaves i.comma) ++ rest)))) (sym ta.same_value)
@@ -358,7 +358,7 @@ entries_take profile b room value sound prefix text es rest h = repeat_holds (en
           | at_close c k r ↦
               record { back = none; grown = ready_is es s k ∙ sym (join-none s); took = subst (λ (x : List ℕ). Took profile b room text none x) (sym r) (took_none profile b room text c) }
           | at_last i is k ti ↦
-              let closed : (first rest == close_byte b) ≡ true = subst (λ (c : Option Gap). After profile b c rest) is ti.behind in
+              let closed : (first rest == close_byte b) ≡ true = subst (λ (c : Option Gap). After profile b c rest) is ti.after in
               record {
                 back = entry_of i none;
                 grown = ready_is es (join s (entry_of i none)) k;
@@ -373,8 +373,8 @@ entries_take profile b room value sound prefix text es rest h = repeat_holds (en
           | at_close c k r ↦ absurd (let f : on_iteration s' ≡ ready_iteration s = k in cc)
           | at_last i is k ti ↦ absurd (let f : on_iteration s' ≡ ready_iteration (join s (entry_of i none)) = k in cc)
           | at_comma i g is k ti ↦
-              let behind : After profile b (Some g) text' = subst (λ (c : Option Gap). After profile b c text') is ti.behind in
-              let comma : IsComma profile (place_of b) i.comma t.back = subst (λ (c : Option Gap). IsComma profile (place_of b) c t.back) (sym is) (is_comma profile b g t.back room text' rest behind t.took) in
+              let after : After profile b (Some g) text' = subst (λ (c : Option Gap). After profile b c text') is ti.after in
+              let comma : IsComma profile (place_of b) i.comma t.back = subst (λ (c : Option Gap). IsComma profile (place_of b) c t.back) (sym is) (is_comma profile b g t.back room text' rest after t.took) in
               record {
                 back = entry_of i t.back;
                 grown = t.grown ∙ ap (λ (x : Entries). join x t.back) (on_is s' (join s (entry_of i none)) k) ∙ join-assoc s (entry_of i none) t.back;

@@ -15,13 +15,13 @@ part_wider w h = (h.0, leaf_wider w.leaf w.text h.1)
 
 more_wider : (fs : List Further) → AllByRecursion (IsFurther Strict) fs → AllByRecursion (IsFurther Wide) fs
 more_wider [] h = tt
-more_wider (f ∷ fs) h = (record { before = h.0.before; behind = h.0.behind; part = part_wider f.part h.0.part }, more_wider fs h.1)
+more_wider (f ∷ fs) h = (record { before = h.0.before; after = h.0.after; part = part_wider f.part h.0.part }, more_wider fs h.1)
 
 key_wider : (k : Key) → IsKey Strict k → IsKey Wide k
 key_wider k h = record { first = part_wider k.first h.first; more = more_wider k.more h.more }
 
 name_wider : (n : Name) → IsName Strict n → IsName Wide n
-name_wider n h = record { key = key_wider n.key h.key; before = h.before; behind = h.behind }
+name_wider n h = record { key = key_wider n.key h.key; before = h.before; after = h.after }
 
 gap_wider : (place : Place) (g : Gap) → IsGap Strict place g → IsGap Wide place g
 gap_wider in_scalar g h = h
@@ -63,8 +63,8 @@ value_wider v h = record { body = body_wider v.body h.body; nested = entries_wid
 content_wider : (c : Content) → IsContent Strict c → IsContent Wide c
 content_wider blank h = h
 content_wider (keyval name value) h = (name_wider name h.0, value_wider value h.1)
-content_wider (header before key behind) h = (h.0, key_wider key h.1, h.2)
-content_wider (element before key behind) h = (h.0, key_wider key h.1, h.2)
+content_wider (header before key after) h = (h.0, key_wider key h.1, h.2)
+content_wider (element before key after) h = (h.0, key_wider key h.1, h.2)
 
 line_wider : (l : Line) → IsLine Strict l → IsLine Wide l
 line_wider l h = record { before = h.before; content = content_wider l.content h.content; after = h.after; comment = h.comment }

@@ -30,8 +30,8 @@ use Rattle.keep_syntax.specs.Growth.{add_at, Taken, only, Grows, Fails, PartIs, 
 abbrev pub content_head : Start → Content → Option Head
 content_head p blank = None
 content_head p (keyval name value) = Some (record { kind = KeyVal; keys = key_count name.key; value = Some p.values })
-content_head p (header before key behind) = Some (record { kind = Header; keys = key_count key; value = None })
-content_head p (element before key behind) = Some (record { kind = Element; keys = key_count key; value = None })
+content_head p (header before key after) = Some (record { kind = Header; keys = key_count key; value = None })
+content_head p (element before key after) = Some (record { kind = Element; keys = key_count key; value = None })
 
 abbrev pub content_taken : Start → Content → Taken
 content_taken p c =

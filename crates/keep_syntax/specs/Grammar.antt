@@ -42,7 +42,7 @@ IsKeyPart profile w = IsTrue (is_key_leaf w.leaf) × IsWritten profile w
 
 pub record IsFurther (profile : Profile) (f : Further) : Type 0 where
   pub before : IsSpace f.before
-  pub behind : IsSpace f.behind
+  pub after : IsSpace f.after
   pub part : IsKeyPart profile f.part
 
 pub record IsKey (profile : Profile) (k : Key) : Type 0 where
@@ -52,7 +52,7 @@ pub record IsKey (profile : Profile) (k : Key) : Type 0 where
 pub record IsName (profile : Profile) (n : Name) : Type 0 where
   pub key : IsKey profile n.key
   pub before : IsSpace n.before
-  pub behind : IsSpace n.behind
+  pub after : IsSpace n.after
 
 -- what entries are in; a scalar has none
 pub data Place : Type 0 where
@@ -93,8 +93,8 @@ MayEndInComma _ _ = ⊥
 abbrev pub IsComma : Profile → Place → Option Gap → Entries → Type 0
 IsComma profile place None none = ⊤
 IsComma profile place None (entry name body nested after comma rest) = ⊥
-IsComma profile place (Some behind) none = IsGap profile place behind × MayEndInComma profile place
-IsComma profile place (Some behind) (entry name body nested after comma rest) = IsGap profile place behind
+IsComma profile place (Some after) none = IsGap profile place after × MayEndInComma profile place
+IsComma profile place (Some next_gap) (entry name body nested after comma rest) = IsGap profile place next_gap
 
 abbrev pub AreEntries : Profile → Place → Entries → Type 0
 AreEntries profile place none = ⊤
@@ -109,8 +109,8 @@ pub record IsValue (profile : Profile) (v : Value) : Type 0 where
 abbrev pub IsContent : Profile → Content → Type 0
 IsContent profile blank = ⊤
 IsContent profile (keyval name value) = IsName profile name × IsValue profile value
-IsContent profile (header before key behind) = IsSpace before × IsKey profile key × IsSpace behind
-IsContent profile (element before key behind) = IsSpace before × IsKey profile key × IsSpace behind
+IsContent profile (header before key after) = IsSpace before × IsKey profile key × IsSpace after
+IsContent profile (element before key after) = IsSpace before × IsKey profile key × IsSpace after
 
 -- an empty line has one gap
 abbrev pub IsAfter : Content → Gap → Type 0

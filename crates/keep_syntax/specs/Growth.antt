@@ -204,24 +204,24 @@ NamedRead profile b text at old new r =
 -- what follows a value is stored, and the value with this number is told its comma
 abbrev pub AfterStored : List ℕ → ℕ → ℕ → Flat → Flat → ℕ → Gap → Option Gap → Type 0
 AfterStored text at number old new end after None = Grows text old new at end (only after)
-AfterStored text at number old new end after (Some behind) =
+AfterStored text at number old new end after (Some next_gap) =
     (mid : Flat) × (changed : Flat)
     × Grows text old mid at (at + width after + 1) (only (after ++ token leaf.Comma (0x2C ∷ [])))
     × ChangesValue (with_comma (at + width after)) number mid changed
-    × Grows text changed new (at + width after + 1) end (only behind)
+    × Grows text changed new (at + width after + 1) end (only next_gap)
 
 pub record AfterIs (profile : Profile) (b : Brackets) (text : List ℕ) (at number : ℕ) (old new : Flat) (end : ℕ)
     (comma : Option ℕ) : Type 0 where
   pub after : Gap
-  pub behind : Option Gap
+  pub comma_gap : Option Gap
   pub bound : IsCharBoundary text end
   pub forward : at ≤ end
-  pub comma_is : comma ≡ comma_place (at + width after) behind
+  pub comma_is : comma ≡ comma_place (at + width after) comma_gap
   pub closed : comma ≡ None → slice_index text end ≡ close_byte b
   pub is_read : (name : Option Name) (v : Value)
       → after_by profile b name v (gap_in profile b (drop at text))
-      ≡ Ok (record { name = name; value = v; after = after; comma = behind }, drop end text)
-  pub stored : AfterStored text at number old new end after behind
+      ≡ Ok (record { name = name; value = v; after = after; comma = comma_gap }, drop end text)
+  pub stored : AfterStored text at number old new end after comma_gap
 
 abbrev pub AfterRead : Profile → Brackets → List ℕ → ℕ → ℕ → Flat → Flat → Result (ℕ × Option ℕ) ReadFault → Type 0
 AfterRead profile b text at number old new (Ok r) = AfterIs profile b text at number old new r.0 r.1

@@ -118,7 +118,7 @@ abbrev pub further_by : Profile → List Further → Gap × List ℕ → Read (I
 further_by profile prefix b =
     if first b.1 == 0x2E
     then (part_at profile (space_at (drop 1 b.1)).1 >>= λ p. Ok
-    (continues (prefix ++ (record { before = b.0; behind = (space_at (drop 1 b.1)).0; part = p.0 } ∷ [])), p.1))
+    (continues (prefix ++ (record { before = b.0; after = (space_at (drop 1 b.1)).0; part = p.0 } ∷ [])), p.1))
     else Ok (ready (prefix, b.0), b.1)
 
 unfoldable pub further_at : Profile → List Further → List ℕ → Read (Iteration (List Further) (List Further × Gap))
@@ -138,7 +138,7 @@ key_of profile text =
 abbrev pub equals_by : Key × Gap → List ℕ → Read Name
 equals_by k text =
     if first text == 0x3D
-    then Ok (record { key = k.0; before = k.1; behind = (space_at (drop 1 text)).0 }, (space_at (drop 1 text)).1)
+    then Ok (record { key = k.0; before = k.1; after = (space_at (drop 1 text)).0 }, (space_at (drop 1 text)).1)
     else Err Bad
 
 unfoldable pub name_of : Profile → List ℕ → Read Name
@@ -187,7 +187,7 @@ item_by profile b value text =
 -- after a comma further, else ready
 abbrev pub iteration_of : Entries → Item → Option Gap → Iteration Entries Entries
 iteration_of prefix i None = ready (join prefix (entry_of i none))
-iteration_of prefix i (Some behind) = continues (join prefix (entry_of i none))
+iteration_of prefix i (Some after) = continues (join prefix (entry_of i none))
 
 unfoldable pub entry_by : Profile → Brackets → (List ℕ → Read Value) → Entries → List ℕ
     → Read (Iteration Entries Entries)

@@ -12,7 +12,7 @@ use Rattle.keep_syntax.specs.declared.replacing.Gone.{Gone}
 use Rattle.keep_syntax.specs.declared.replacing.Gone.TheVariants as gone
 pub use Rattle.keep_syntax_store.specs.InPlace.{IsPacked, CanShift, IsRange, IsRun, IsShifted, IsAsBefore, CanExchange}
 pub use Rattle.keep_syntax_store.specs.InPlace.{same, IsExchanged, replaced_places, placed, counts_after, AreHeld}
-pub use Rattle.keep_syntax_store.specs.InPlace.{counts_behind, IsInPlace, UndoesRun}
+pub use Rattle.keep_syntax_store.specs.InPlace.{counts_through, IsInPlace, UndoesRun}
 
 -- Lines with these bytes were read, to be put in the place of whole lines of a text with so many bytes, in which lines
 -- begin at `starts`: what is stored of them, how many bytes they have and where they end; then where all lines begin,

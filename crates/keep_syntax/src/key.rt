@@ -33,8 +33,8 @@ fn dotted_rest(text: &str, at: usize, profile: Profile, out: &mut Parts) -> Resu
         if byte_at(text, dot) != b'.' {
             return Ok(dot);
         }
-        let behind = punctuation(text, dot, 1, Leaf::Dot, out)?;
-        let begin = space(text, behind, out)?;
+        let after = punctuation(text, dot, 1, Leaf::Dot, out)?;
+        let begin = space(text, after, out)?;
         here = key_part(text, begin, profile, out)?;
     }
 }
@@ -62,6 +62,6 @@ pub fn key_and_equals(
     if byte_at(text, equals) != b'=' {
         return Err(misplaced(text, equals));
     }
-    let behind = punctuation(text, equals, 1, Leaf::Equals, out)?;
-    space(text, behind, out)
+    let after = punctuation(text, equals, 1, Leaf::Equals, out)?;
+    space(text, after, out)
 }

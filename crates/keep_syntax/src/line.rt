@@ -72,8 +72,8 @@ fn header(
     ensures { lines_spec.ContentRead limits.profile limits.depth text.now start.now (spec.flat out.old)
         (spec.flat out.new) result }
 {
-    let behind = punctuation(text, start.at, 1, Leaf::HeadOpen, out)?;
-    let begin = space(text, behind, out)?;
+    let after = punctuation(text, start.at, 1, Leaf::HeadOpen, out)?;
+    let begin = space(text, after, out)?;
     let close = key(text, begin, limits.profile, out)?;
     if byte_at(text, close) != b']' {
         return Err(misplaced(text, close));
@@ -101,8 +101,8 @@ fn element(
     ensures { lines_spec.ContentRead limits.profile limits.depth text.now start.now (spec.flat out.old)
         (spec.flat out.new) result }
 {
-    let behind = punctuation(text, start.at, 2, Leaf::ElemOpen, out)?;
-    let begin = space(text, behind, out)?;
+    let after = punctuation(text, start.at, 2, Leaf::ElemOpen, out)?;
+    let begin = space(text, after, out)?;
     let close = key(text, begin, limits.profile, out)?;
     if byte_at(text, close) != b']' || byte_at(text, close + 1) != b']' {
         return Err(misplaced(text, close));
@@ -186,8 +186,8 @@ fn line(
         comma: None,
     };
     let (close, head) = statement_head(text, limits, &start, out)?;
-    let behind = space(text, close, out)?;
-    let end = comment(text, behind, out)?;
+    let after = space(text, close, out)?;
+    let end = comment(text, after, out)?;
     let statement = Statement {
         kind: head.kind,
         span: Span {

@@ -40,8 +40,8 @@ fn counts_after(from: &Counts, all: &Counts, end: usize) -> Option<Counts>
 }
 
 /// How much comes before what is after a span.
-fn counts_behind(parts: &Parts, whole: Span, len: usize) -> Counts
-    ensures { result ≡ spec.counts_behind (flat parts.now) whole len }
+fn counts_through(parts: &Parts, whole: Span, len: usize) -> Counts
+    ensures { result ≡ spec.counts_through (flat parts.now) whole len }
 {
     if whole.end < len {
         counts_before(parts, whole.end)
@@ -107,7 +107,7 @@ pub fn replace_parts(
     ensures refused { OnErr result (flat parts.new ≡ flat parts.old) }
 {
     let from = counts_before(parts, whole.start);
-    let to = counts_behind(parts, whole, len);
+    let to = counts_through(parts, whole, len);
     if let Some(until) = counts_after(&from, &counts_at(&fresh, size), end) {
         if can_replace(parts, &fresh, &from, &to, &until) {
             return Ok(replace_run(alloc, parts, fresh, from, to, until)?);

@@ -17,12 +17,12 @@ pub struct Tokens<'a> {
     /// Where the token `next` begins.
     start: usize,
     /// Where those after it begin.
-    behind: Places<'a>,
+    after: Places<'a>,
     ghost cuts: { (n : ℕ) → IsCharBoundary text.now (start_in text.now (flat parts.now).starts n) },
     ghost forward: { (n : ℕ) → start_in text.now (flat parts.now).starts n
         ≤ start_in text.now (flat parts.now).starts (n + 1) },
     ghost starts: { start ≡ start_in text.now (flat parts.now).starts next },
-    ghost rest: { places_left behind ≡ drop (next + 1) (flat parts.now).starts },
+    ghost rest: { places_left after ≡ drop (next + 1) (flat parts.now).starts },
 }
 
 // the kind of the token with this number, `End` after those that are stored
@@ -54,7 +54,7 @@ impl<'a> Iterator for Tokens<'a> {
         let leaf = kind_of(self.parts, self.next)?;
         let text = self.text;
         let at = self.start;
-        let end = self.behind.next().unwrap_or(text.len());
+        let end = self.after.next().unwrap_or(text.len());
         self.next += 1;
         self.start = end;
         Some(Token {
@@ -76,14 +76,14 @@ impl<'a> Tokens<'a> {
             ≤ start_in text.now (flat parts.now).starts (n + 1) }
         ensures { left result ≡ cut_by (flat parts.now) text.now }
     {
-        let mut behind = parts.token_starts();
-        let start = behind.next().unwrap_or(text.len());
+        let mut after = parts.token_starts();
+        let start = after.next().unwrap_or(text.len());
         Tokens {
             parts,
             text,
             next: 0,
             start,
-            behind,
+            after,
         }
     }
 }

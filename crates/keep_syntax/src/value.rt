@@ -104,9 +104,9 @@ fn after_entry(
     let end = gap_in(text, at, profile, brackets, out)?;
     let byte = byte_at(text, end);
     if byte == b',' {
-        let behind = punctuation(text, end, 1, Leaf::Comma, out)?;
+        let after = punctuation(text, end, 1, Leaf::Comma, out)?;
         out.set_comma(number, end);
-        let next = gap_in(text, behind, profile, brackets, out)?;
+        let next = gap_in(text, after, profile, brackets, out)?;
         if !is_free(profile, brackets) && byte_at(text, next) == close_byte(brackets) {
             return Err(ReadFault::Syntax {
                 at: next,

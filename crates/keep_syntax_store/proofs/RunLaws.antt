@@ -7,7 +7,7 @@ use Rattle.std.proofs.lemmas.Bool.Decides.{eqb_tells}
 use Rattle.keep_syntax_store.specs.declared.starts.TheConstants.{FAR}
 use Rattle.keep_syntax_store.specs.Starts.{places_at, last_of, AllSmall, fars, StepsAreStored}
 use Rattle.keep_syntax_store.specs.Lifted.{moved}
-use Rattle.keep_syntax_store.proofs.StartLaws.{near_step, fars_after, behind, places_all}
+use Rattle.keep_syntax_store.proofs.StartLaws.{near_step, fars_after, places_join, places_all}
 
 -- ---- the places that near steps lead to
 
@@ -63,9 +63,9 @@ small_both [] more small small_more k = small_more k
 small_both (place ∷ places) more small small_more zero = small 0
 small_both (place ∷ places) more small small_more (suc k) = small_both places more (λ j. small (suc j)) small_more k
 
-small_behind : (places more : List ℕ) → AllSmall (places ++ more) → AllSmall more
-small_behind [] more small = small
-small_behind (place ∷ places) more small = small_behind places more (λ k. small (suc k))
+small_rest : (places more : List ℕ) → AllSmall (places ++ more) → AllSmall more
+small_rest [] more small = small
+small_rest (place ∷ places) more small = small_rest places more (λ k. small (suc k))
 
 last_small : (at : ℕ) (places more : List ℕ) → (length places ≡ 0 → at < 2 ^ 64) → AllSmall (places ++ more) → last_of at places < 2 ^ 64
 last_small at [] more le small = le refl
@@ -84,7 +84,7 @@ near_small at (step ∷ steps) none le =
 -- near steps, and those after them, which are counted from the last of their places
 pub near_split : (at : ℕ) (near more far : List ℕ) → fars near ≡ 0 → places_at at (near ++ more) far ≡ places_at at near [] ++ places_at (at + sum near) more far
 near_split at near more far none =
-    behind at near [] more far (sym none) ∙ ap (λ (last : ℕ). places_at at near [] ++ places_at last more far) (near_last at near none)
+    places_join at near [] more far (sym none) ∙ ap (λ (last : ℕ). places_at at near [] ++ places_at last more far) (near_last at near none)
 
 -- what is known after near steps that stand first
 pub record IsPast (at : ℕ) (all near more far : List ℕ) : Type 0 where
@@ -100,7 +100,7 @@ past_near at all near more far is none le small =
     let both : AllSmall (there ++ rest) = subst AllSmall split small in
     record {
       fits = subst (λ (n : ℕ). n < 2 ^ 64) (near_last at near none) (last_small at there rest (λ e. le (sym (near_all at near none) ∙ e)) both);
-      small = small_behind there rest both;
+      small = small_rest there rest both;
       left = split;
     }
 
@@ -112,7 +112,7 @@ last_after at (place ∷ places) more = last_after place places more
 
 -- the places of near steps that are stored after others
 pub near_after : (steps far near : List ℕ) (last : ℕ) → StepsAreStored steps far last → places_at 0 (steps ++ near) far ≡ places_at 0 steps far ++ places_at (last_of 0 (places_at 0 steps far)) near []
-near_after steps far near last stored = ap (places_at 0 (steps ++ near)) (sym (append-nil far)) ∙ behind 0 steps far near [] stored.matched
+near_after steps far near last stored = ap (places_at 0 (steps ++ near)) (sym (append-nil far)) ∙ places_join 0 steps far near [] stored.matched
 
 pub near_stored : (steps far near : List ℕ) (last : ℕ) → StepsAreStored steps far last → fars near ≡ 0 → last + sum near < 2 ^ 64 → StepsAreStored (steps ++ near) far (last + sum near)
 near_stored steps far near last stored none le =

@@ -65,7 +65,7 @@ statement_is a b s h =
     (fits_sum last_u32 a.at b.at s.line_start s.before h.line_start)
     (fits_is last_u32 a.at b.at s.end h.end)
     (fits_is last_u32 a.at b.at s.line_start h.line_start)
-    (fits_sum last_u32 a.at b.at s.end s.behind h.end)
+    (fits_sum last_u32 a.at b.at s.end s.after h.end)
     (fits_is last_u32 a.keys b.keys s.first_key h.first_key)
     (there_is s.has_value last_u32 a.values b.values s.value h.value)
   where

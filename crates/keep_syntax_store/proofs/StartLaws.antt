@@ -47,24 +47,24 @@ fars_more : (steps : List ℕ) (step : ℕ) → fars (steps ++ step ∷ []) ≡ 
 fars_more steps step = sum_by_push (λ (s : ℕ). cond (s == FAR) 1 0) steps step
 
 -- places that are stored after others continue from the last of those
-pub behind : (at : ℕ) (steps far more beyond : List ℕ) → length far ≡ fars steps → places_at at (steps ++ more) (far ++ beyond) ≡ places_at at steps far ++ places_at (last_of at (places_at at steps far)) more beyond
-behind at [] [] more beyond n = refl
-behind at [] (place ∷ far) more beyond n = absurd (omega arith)
-behind at (step ∷ steps) [] more beyond n = elim (eqb_tells step FAR) [
+pub places_join : (at : ℕ) (steps far more beyond : List ℕ) → length far ≡ fars steps → places_at at (steps ++ more) (far ++ beyond) ≡ places_at at steps far ++ places_at (last_of at (places_at at steps far)) more beyond
+places_join at [] [] more beyond n = refl
+places_join at [] (place ∷ far) more beyond n = absurd (omega arith)
+places_join at (step ∷ steps) [] more beyond n = elim (eqb_tells step FAR) [
   | inl t ↦ absurd (omega (arith, fars_after step steps true t.0))
   | inr t ↦
       near_step at step (steps ++ more) beyond t.0
-      ∙ ap (λ (ps : List ℕ). (at + step) ∷ ps) (behind (at + step) steps [] more beyond (omega (arith, fars_after step steps false t.0)))
+      ∙ ap (λ (ps : List ℕ). (at + step) ∷ ps) (places_join (at + step) steps [] more beyond (omega (arith, fars_after step steps false t.0)))
       ∙ sym (ap (λ (ps : List ℕ). ps ++ places_at (last_of at ps) more beyond) (near_step at step steps [] t.0))
 ]
-behind at (step ∷ steps) (place ∷ far) more beyond n = elim (eqb_tells step FAR) [
+places_join at (step ∷ steps) (place ∷ far) more beyond n = elim (eqb_tells step FAR) [
   | inl t ↦
       far_step at step (steps ++ more) place (far ++ beyond) t.0
-      ∙ ap (λ (ps : List ℕ). place ∷ ps) (behind place steps far more beyond (omega (arith, fars_after step steps true t.0)))
+      ∙ ap (λ (ps : List ℕ). place ∷ ps) (places_join place steps far more beyond (omega (arith, fars_after step steps true t.0)))
       ∙ sym (ap (λ (ps : List ℕ). ps ++ places_at (last_of at ps) more beyond) (far_step at step steps place far t.0))
   | inr t ↦
       near_step at step (steps ++ more) (place ∷ (far ++ beyond)) t.0
-      ∙ ap (λ (ps : List ℕ). (at + step) ∷ ps) (behind (at + step) steps (place ∷ far) more beyond (omega (arith, fars_after step steps false t.0)))
+      ∙ ap (λ (ps : List ℕ). (at + step) ∷ ps) (places_join (at + step) steps (place ∷ far) more beyond (omega (arith, fars_after step steps false t.0)))
       ∙ sym (ap (λ (ps : List ℕ). ps ++ places_at (last_of at ps) more beyond) (near_step at step steps (place ∷ far) t.0))
 ]
 
@@ -81,7 +81,7 @@ near_more steps far new new_far last step at stored other is e e_far =
       matched = ap length e_far ∙ stored.matched ∙ sym (ap fars e ∙ fars_more steps step ∙ ap (λ (b : Bool). fars steps + cond b 1 0) t ∙ omega arith);
       more =
           ap (λ (s : List ℕ). places_at 0 s new_far) e ∙ ap (places_at 0 (steps ++ step ∷ [])) (e_far ∙ sym (append-nil far))
-          ∙ behind 0 steps far (step ∷ []) [] stored.matched
+          ∙ places_join 0 steps far (step ∷ []) [] stored.matched
           ∙ ap (λ (ps : List ℕ). places_at 0 steps far ++ ps) (near_step from step [] [] t ∙ ap (λ (place : ℕ). place ∷ []) (ap (λ (place : ℕ). place + step) (sym stored.last_is) ∙ is));
     }
 
@@ -90,7 +90,7 @@ far_more steps far new new_far last step at stored there e e_far =
     let e' : new ≡ steps ++ FAR ∷ [] = e ∙ ap (λ (s : ℕ). steps ++ s ∷ []) there in
     record {
       matched = ap length e_far ∙ omega (arith, length-append far (at ∷ []), stored.matched, fars_more steps FAR) ∙ sym (ap fars e');
-      more = ap (λ (s : List ℕ). places_at 0 s new_far) e' ∙ ap (places_at 0 (steps ++ FAR ∷ [])) e_far ∙ behind 0 steps far (FAR ∷ []) (at ∷ []) stored.matched;
+      more = ap (λ (s : List ℕ). places_at 0 s new_far) e' ∙ ap (places_at 0 (steps ++ FAR ∷ [])) e_far ∙ places_join 0 steps far (FAR ∷ []) (at ∷ []) stored.matched;
     }
 
 small_more : (places : List ℕ) (at : ℕ) → AllSmall places → at < 2 ^ 64 → (k : ℕ) → get_or (places ++ at ∷ []) k 0 < 2 ^ 64

@@ -21,7 +21,7 @@ pub record FitsStatement (s : Statement) : Type 0 where
   pub starts : s.line.start ≤ s.span.start
   pub before : s.span.start < s.line.start + 2 ^ 16
   pub ends : s.span.end ≤ s.line.end
-  pub behind : s.line.end < s.span.end + 2 ^ 16
+  pub after : s.line.end < s.span.end + 2 ^ 16
 
 -- the number of what a value is in
 abbrev pub owner_number : Owner → ℕ

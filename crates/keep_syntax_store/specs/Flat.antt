@@ -41,7 +41,7 @@ abbrev pub unpacked_statement : PackedStatement → Statement
 unpacked_statement s = record {
   kind = s.kind;
   span = span (s.line_start + s.before) s.end;
-  line = span s.line_start (s.end + s.behind);
+  line = span s.line_start (s.end + s.after);
   first_key = s.first_key;
   keys = s.keys;
   value = if_there s.has_value s.value;

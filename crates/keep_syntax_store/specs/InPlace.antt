@@ -126,8 +126,8 @@ pub record AreHeld (from all : Counts) : Type 0 where
   pub values : from.values + all.values < 2 ^ 64
 
 -- how much comes before what is after a span, in a text of `len` bytes
-abbrev pub counts_behind : Flat → Span → ℕ → Counts
-counts_behind f whole len = if ltb whole.end len then counts_before f whole.end else counts_at len f
+abbrev pub counts_through : Flat → Span → ℕ → Counts
+counts_through f whole len = if ltb whole.end len then counts_before f whole.end else counts_at len f
 
 -- the run can be replaced in place by all of the other, after which it ends at a count
 pub record IsInPlace (from to until : Counts) (p fresh : Parts) : Type 0 where

@@ -62,13 +62,13 @@ first_value all (s ∷ ss) = value_or (first_value all ss) s.value
 -- how much comes before the line that begins at a place
 abbrev pub counts_before : Flat → ℕ → Counts
 counts_before f place =
-    let behind : List Statement = drop (statements_before place f.statements) f.statements in
+    let after : List Statement = drop (statements_before place f.statements) f.statements in
     record {
       at = place;
       tokens = places_before place f.starts;
       statements = statements_before place f.statements;
-      keys = first_key (length f.keys) behind;
-      values = first_value (length f.values) behind;
+      keys = first_key (length f.keys) after;
+      values = first_value (length f.values) after;
     }
 
 -- ---- parts of what is stored, moved and joined

@@ -9,7 +9,7 @@ use crate::parts::if_there;
 use keep_types::{Span, Statement, StatementKind};
 use std::alloc::{AllocError, Global};
 
-/// A statement in 24 bytes. Of its line `before` bytes come before it and `behind` after it, and `end` is its own end.
+/// A statement in 24 bytes. Of its line `before` bytes come before it and `after` after it, and `end` is its own end.
 /// The number of its value is stored apart from what tells whether it is there.
 #[derive(Clone, Copy)]
 pub struct PackedStatement {
@@ -17,7 +17,7 @@ pub struct PackedStatement {
     has_value: bool,
     keys: u16,
     before: u16,
-    behind: u16,
+    after: u16,
     line_start: u32,
     end: u32,
     first_key: u32,
@@ -44,7 +44,7 @@ fn packed(statement: Statement) -> Option<PackedStatement>
         has_value: statement.value.is_some(),
         keys: u16::try_from(statement.keys).ok()?,
         before: u16::try_from(span.start.checked_sub(line.start)?).ok()?,
-        behind: u16::try_from(line.end.checked_sub(span.end)?).ok()?,
+        after: u16::try_from(line.end.checked_sub(span.end)?).ok()?,
         line_start: u32::try_from(line.start).ok()?,
         end: u32::try_from(span.end).ok()?,
         first_key: u32::try_from(statement.first_key).ok()?,
@@ -66,7 +66,7 @@ fn unpacked_statement(stored: &PackedStatement) -> Statement
         },
         line: Span {
             start: line_start,
-            end: end + stored.behind as usize,
+            end: end + stored.after as usize,
         },
         first_key: stored.first_key as usize,
         keys: stored.keys as usize,

@@ -77,8 +77,8 @@ empty_of l = by l.before l.content l.after l.comment
         → line b c a k ≡ empty_line
     by (w ∷ b) c a k e = absurd cc
     by [] (keyval name value) a k e = absurd cc
-    by [] (header before key behind) a k e = absurd cc
-    by [] (element before key behind) a k e = absurd cc
+    by [] (header before key after) a k e = absurd cc
+    by [] (element before key after) a k e = absurd cc
     by [] blank (w ∷ a) k e = absurd cc
     by [] blank [] (Some w) e = absurd cc
     by [] blank [] None e = refl

@@ -250,14 +250,14 @@ split_at a c m n h = (get_or_at a c m 0 n (sym h), take_at a (c ∷ m) n (sym h)
 ends_in_zulu : (profile : Profile) (a : List ℕ) (c : ℕ) (n : ℕ) → n ≡ length a → is_zulu c ≡ true → is_date_time profile a ≡ true
     → (is_zulu (slice_index (a ++ (c ∷ [])) n) && is_date_time profile (take n (a ++ (c ∷ [])))) ≡ true
 ends_in_zulu profile a c n h zulu date =
-    let (at, prefix, behind) = split_at a c [] n h in
+    let (at, prefix, after) = split_at a c [] n h in
     rw (at, prefix, zulu) date
 
 ends_in_minutes : (profile : Profile) (a : List ℕ) (c : ℕ) (m : List ℕ) (n k : ℕ) → n ≡ length a → k ≡ suc n → is_sign c ≡ true → is_minutes m ≡ true → is_date_time profile a ≡ true
     → ((is_sign (slice_index (a ++ (c ∷ m)) n) && is_minutes (drop k (a ++ (c ∷ m)))) && is_date_time profile (take n (a ++ (c ∷ m)))) ≡ true
 ends_in_minutes profile a c m n k h g sign minutes date =
-    let (at, prefix, behind) = split_at a c m n h in
-    rw (g, at, prefix, behind, sign, minutes) date
+    let (at, prefix, after) = split_at a c m n h in
+    rw (g, at, prefix, after, sign, minutes) date
 
 pub offset_date_time_to : (profile : Profile) (t : List ℕ) → OffsetDateTime profile t → is_offset_date_time profile t ≡ true
 offset_date_time_to profile t (a, b, e, local, inl (c, one, zulu)) =

@@ -138,7 +138,7 @@ pub record ShowsDateTime (t : List ℕ) : Type 0 where
   pub third : is_ascii_digit (slice_index t 2) ≡ true
   pub dash : slice_index t 4 ≡ 0x2D
   pub between : is_between_date_and_time (slice_index t 10) ≡ true
-  pub behind : is_ascii_digit (slice_index t 11) ≡ true
+  pub after : is_ascii_digit (slice_index t 11) ≡ true
   pub words : list_all is_word (drop 11 t) ≡ true
 
 -- the three parts of a date with a time
@@ -164,7 +164,7 @@ date_time_shows profile t k =
       third = rw (get_or-take 10 t 2 0 (omega arith)) at d.third;
       dash = rw (get_or-take 10 t 4 0 (omega arith)) at d.dash;
       between = between;
-      behind = rw get_or-drop at w.digit;
+      after = rw get_or-drop at w.digit;
       words = passes_too is_clock is_word clock_word (drop 11 t) w.clock;
     }
 
@@ -187,7 +187,7 @@ shows_longer a b s h =
       third = rw at_2 s.third;
       dash = rw at_4 s.dash;
       between = rw at_10 s.between;
-      behind = rw at_11 s.behind;
+      after = rw at_11 s.after;
       words = rw (rest, list_all-append is_word (drop 11 a) b, s.words) h;
     }
 

@@ -54,8 +54,8 @@ word_len_spaced d (c ∷ cs) rest date digit all stop =
     let prefix : take 10 text ≡ d = take_at d (0x20 ∷ ((c ∷ cs) ++ rest)) 10 s.ten in
     let space : slice_index text 10 ≡ 0x20 = at_after d (0x20 ∷ ((c ∷ cs) ++ rest)) 10 0 (omega (arith, s.ten)) in
     let next : slice_index text 11 ≡ c = at_after d (0x20 ∷ ((c ∷ cs) ++ rest)) 11 1 (omega (arith, s.ten)) in
-    let behind : drop 11 text ≡ (c ∷ cs) ++ rest = drop_after d 0x20 ((c ∷ cs) ++ rest) 11 (omega (arith, s.ten)) in
-    rw (run, prefix, space, next, behind, prefix_len-run is_word (c ∷ cs) rest all stop) (then_so (has_date_shape d) true (is_ascii_digit c) _ _ s.shape refl digit)
+    let after : drop 11 text ≡ (c ∷ cs) ++ rest = drop_after d 0x20 ((c ∷ cs) ++ rest) 11 (omega (arith, s.ten)) in
+    rw (run, prefix, space, next, after, prefix_len-run is_word (c ∷ cs) rest all stop) (then_so (has_date_shape d) true (is_ascii_digit c) _ _ s.shape refl digit)
 
 between_is : (c : ℕ) → is_between_date_and_time c ≡ true → (is_word c ≡ true) ⊎ (c ≡ 0x20)
 between_is c h = grind (arith, nat_tests)
@@ -74,7 +74,7 @@ word_len_parted d c w rest date between digit all may =
 word_len_seen : (t rest : List ℕ) → ShowsDateTime t → may_follow_scalar rest ≡ true → word_len (t ++ rest) ≡ length t
 word_len_seen t rest s may =
     subst (λ (u : List ℕ). word_len (u ++ rest) ≡ length u) (sym (parted t 10 (omega (arith, s.long))))
-    (word_len_parted (take 10 t) (slice_index t 10) (drop 11 t) rest s.date s.between (rw (get_or-drop 11 t 0 0) s.behind) s.words may)
+    (word_len_parted (take 10 t) (slice_index t 10) (drop 11 t) rest s.date s.between (rw (get_or-drop 11 t 0 0) s.after) s.words may)
 
 pub word_len_date : (profile : Profile) (t rest : List ℕ) → LocalDate t → may_follow_scalar rest ≡ true → word_len (t ++ rest) ≡ length t
 word_len_date profile t rest h may = word_len_run t rest (date_shows t (date_to t h)).words may

@@ -134,17 +134,17 @@ stops_body (Number b ds) ps h all = tt
 stops_body (Break b) ps h all = tt
 
 -- the piece at a backslash: its text, which is ASCII, and what is left after it
-pub record Here (ps : List Piece) (rest behind value : List ℕ) : Type 0 where
+pub record Here (ps : List Piece) (rest after value : List ℕ) : Type 0 where
   pub piece : Piece
-  pub found : or_else (escape_at Wide behind) (line_end_at behind) ≡ Some piece
+  pub found : or_else (escape_at Wide after) (line_end_at after) ≡ Some piece
   pub ascii : IsAscii (piece_text piece)
   pub more : List ℕ
   pub spelled : rest ≡ piece_text piece ++ more
   pub left : LeftOf ps more (value ++ piece_value piece)
 
-here : (ps : List Piece) (rest behind value : List ℕ) (p : Piece) (more : List Piece) → rest ≡ 0x5C ∷ behind → rest ≡ text_of (p ∷ more) → Each (IsMlBasicPiece Wide) (p ∷ more) → takes_all (p ∷ more) ≡ true
-    → value_of ps ≡ value ++ value_of (p ∷ more) → IsAscii (piece_text p) → Here ps rest behind value
-here ps rest behind value p more starts spelled each whole given ascii =
+here : (ps : List Piece) (rest after value : List ℕ) (p : Piece) (more : List Piece) → rest ≡ 0x5C ∷ after → rest ≡ text_of (p ∷ more) → Each (IsMlBasicPiece Wide) (p ∷ more) → takes_all (p ∷ more) ≡ true
+    → value_of ps ≡ value ++ value_of (p ∷ more) → IsAscii (piece_text p) → Here ps rest after value
+here ps rest after value p more starts spelled each whole given ascii =
     let laws = ml_basic_laws Wide in
     let again = laws.again p (text_of more) each.0 (stops_body p more each.1 whole) in
     record {
@@ -156,21 +156,21 @@ here ps rest behind value p more starts spelled each whole given ascii =
       left = record { back = more; spelled = refl; each = each.1; whole = takes_all_rest p more whole; given = given ∙ sym (append_assoc value (piece_value p) (value_of more)) };
     }
 
-no_break : (newline more behind : List ℕ) → Newline newline → 0x5C ∷ behind ≡ newline ++ more → ⊥
-no_break newline more behind (inl same) e = omega (arith, ap (λ t. get_or t 0 0) (e ∙ ap (λ s. s ++ more) same))
-no_break newline more behind (inr same) e = omega (arith, ap (λ t. get_or t 0 0) (e ∙ ap (λ s. s ++ more) same))
+no_break : (newline more after : List ℕ) → Newline newline → 0x5C ∷ after ≡ newline ++ more → ⊥
+no_break newline more after (inl same) e = omega (arith, ap (λ t. get_or t 0 0) (e ∙ ap (λ s. s ++ more) same))
+no_break newline more after (inr same) e = omega (arith, ap (λ t. get_or t 0 0) (e ∙ ap (λ s. s ++ more) same))
 
-here_of : (ps : List Piece) (rest behind value : List ℕ) (back : List Piece) → rest ≡ 0x5C ∷ behind → rest ≡ text_of back → Each (IsMlBasicPiece Wide) back → takes_all back ≡ true
-    → value_of ps ≡ value ++ value_of back → Here ps rest behind value
-here_of ps rest behind value [] starts spelled each whole given = absurd (let e = sym starts ∙ spelled in cc)
-here_of ps rest behind value (Plain b ∷ more) starts spelled each whole given =
+here_of : (ps : List Piece) (rest after value : List ℕ) (back : List Piece) → rest ≡ 0x5C ∷ after → rest ≡ text_of back → Each (IsMlBasicPiece Wide) back → takes_all back ≡ true
+    → value_of ps ≡ value ++ value_of back → Here ps rest after value
+here_of ps rest after value [] starts spelled each whole given = absurd (let e = sym starts ∙ spelled in cc)
+here_of ps rest after value (Plain b ∷ more) starts spelled each whole given =
     let same : b ≡ 0x5C = (let e = sym starts ∙ spelled in cc) in
     absurd (let f = rw same at (plain_test b each.0) in cc)
-here_of ps rest behind value (Break b ∷ more) starts spelled each whole given =
-    absurd (no_break b (text_of more) behind each.0 (sym starts ∙ spelled))
-here_of ps rest behind value (Letter a ∷ more) starts spelled each whole given = here ps rest behind value (Letter a) more starts spelled each whole given (letter_piece_ascii a each.0)
-here_of ps rest behind value (Number a b ∷ more) starts spelled each whole given = here ps rest behind value (Number a b) more starts spelled each whole given (number_piece_ascii a b each.0)
-here_of ps rest behind value (LineEnd a b c ∷ more) starts spelled each whole given = here ps rest behind value (LineEnd a b c) more starts spelled each whole given (line_end_ascii a b c each.0)
+here_of ps rest after value (Break b ∷ more) starts spelled each whole given =
+    absurd (no_break b (text_of more) after each.0 (sym starts ∙ spelled))
+here_of ps rest after value (Letter a ∷ more) starts spelled each whole given = here ps rest after value (Letter a) more starts spelled each whole given (letter_piece_ascii a each.0)
+here_of ps rest after value (Number a b ∷ more) starts spelled each whole given = here ps rest after value (Number a b) more starts spelled each whole given (number_piece_ascii a b each.0)
+here_of ps rest after value (LineEnd a b c ∷ more) starts spelled each whole given = here ps rest after value (LineEnd a b c) more starts spelled each whole given (line_end_ascii a b c each.0)
 
 -- the byte at which a run stops
 pub stop_byte : (body : List ℕ) (at n : ℕ) → n ≡ prefix_len is_plain (drop at body) → at + n < length body → get_or body (at + n) 0 ≡ 0x5C
@@ -194,13 +194,13 @@ cut_here ps body value stop n h e u here =
     IsCharBoundary-from_rest body stop n here.0 (subst (λ k. IsCharBoundary (drop stop body) k) (sym e) cut)
 
 -- the piece is the escape that is found, or else the line-ending backslash
-pub here_escape : (ps : List Piece) (rest behind value : List ℕ) (h : Here ps rest behind value) (q : Piece) → escape_at Wide behind ≡ Some q → q ≡ h.piece
-here_escape ps rest behind value h q e =
-    let f : Some q ≡ Some h.piece = ap (λ (o : Option Piece). or_else o (line_end_at behind)) (sym e) ∙ h.found in
+pub here_escape : (ps : List Piece) (rest after value : List ℕ) (h : Here ps rest after value) (q : Piece) → escape_at Wide after ≡ Some q → q ≡ h.piece
+here_escape ps rest after value h q e =
+    let f : Some q ≡ Some h.piece = ap (λ (o : Option Piece). or_else o (line_end_at after)) (sym e) ∙ h.found in
     cc
 
-pub here_line_end : (ps : List Piece) (rest behind value : List ℕ) (h : Here ps rest behind value) → escape_at Wide behind ≡ None → line_end_at behind ≡ Some h.piece
-here_line_end ps rest behind value h e = ap (λ (o : Option Piece). or_else o (line_end_at behind)) (sym e) ∙ h.found
+pub here_line_end : (ps : List Piece) (rest after value : List ℕ) (h : Here ps rest after value) → escape_at Wide after ≡ None → line_end_at after ≡ Some h.piece
+here_line_end ps rest after value h e = ap (λ (o : Option Piece). or_else o (line_end_at after)) (sym e) ∙ h.found
 
 -- ---- one iteration
 

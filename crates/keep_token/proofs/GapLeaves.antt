@@ -79,8 +79,8 @@ comment_longest text zero le h = omega arith
 comment_longest [] (suc m) le h = absurd (omega arith)
 comment_longest (c ∷ cs) (suc m) le (a, b, spelled, hash, all) =
     let whole : c ∷ take m cs ≡ 0x23 ∷ b = spelled ∙ ap (λ (x : List ℕ). x ++ b) hash in
-    let behind : take m cs ≡ b = ap (drop 1) whole in
-    let pass : list_all is_comment (take m cs) ≡ true = rw behind all in
+    let after : take m cs ≡ b = ap (drop 1) whole in
+    let pass : list_all is_comment (take m cs) ≡ true = rw after all in
     omega (arith, run_longest is_comment cs m (omega arith) pass)
 
 comment_leaf : (text : List ℕ) → (first text == 0x23) ≡ true → GapLeaf text leaf.Comment (1 + prefix_len is_comment (drop 1 text))

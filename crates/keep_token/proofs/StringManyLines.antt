@@ -133,17 +133,17 @@ many_lines_found P piece laws mark is_mark (suc n) text ps e =
           closed_many P mark is_mark text ps k rest small same spelled
       | inr open_still ↦
           let s = stepped P piece laws (pieces_by n piece true mark) text ps open_still.1 in
-          let b = many_lines_found P piece laws mark is_mark n s.more s.behind s.found in
+          let b = many_lines_found P piece laws mark is_mark n s.more s.after s.found in
           let tail = mark ∷ mark ∷ mark ∷ b.rest in
-          let spelled = spelled_more s.here s.behind text s.more tail s.spelled b.spelled in
-          let stops : Stops s.here (text_of s.behind ++ tail) = subst (λ t. Stops s.here t) b.spelled s.stops in
-          let still : closes true mark (text_of (s.here ∷ s.behind) ++ tail) ≡ None = ap (closes true mark) (sym spelled) ∙ open_still.0 in
-          let found : FoundMany P mark text (s.here ∷ s.behind) = record {
+          let spelled = spelled_more s.here s.after text s.more tail s.spelled b.spelled in
+          let stops : Stops s.here (text_of s.after ++ tail) = subst (λ t. Stops s.here t) b.spelled s.stops in
+          let still : closes true mark (text_of (s.here ∷ s.after) ++ tail) ≡ None = ap (closes true mark) (sym spelled) ∙ open_still.0 in
+          let found : FoundMany P mark text (s.here ∷ s.after) = record {
             rest = b.rest;
             spelled = spelled;
             each = (s.allowed, b.each);
-            no_end = no_three_more mark s.here s.behind tail still b.no_end;
-            whole = takes_all_more P piece laws s.here s.behind tail b.each stops b.whole;
+            no_end = no_three_more mark s.here s.after tail still b.no_end;
+            whole = takes_all_more P piece laws s.here s.after tail b.each stops b.whole;
           } in
           subst (λ qs. FoundMany P mark text qs) (sym s.all) found
     ]
@@ -303,10 +303,10 @@ pub record PrefixMany (P : Piece → Type 0) (mark : ℕ) (text : List ℕ) (ps 
   pub whole : takes_all ps ≡ true
 
 pub prefix_many : (P : Piece → Type 0) (piece : List ℕ → Option Piece) → PieceLaws P piece → (mark : ℕ) → P (Plain mark)
-    → (text behind : List ℕ) (ps : List Piece) → text ≡ mark ∷ mark ∷ mark ∷ behind → pieces_of piece true mark (drop 3 text) ≡ Some ps → PrefixMany P mark text ps
-prefix_many P piece laws mark is_mark text behind ps opening e =
-    let found : pieces_of piece true mark behind ≡ Some ps = ap (λ t. pieces_of piece true mark (drop 3 t)) (sym opening) ∙ e in
-    let f = many_lines_found P piece laws mark is_mark (suc (length behind)) behind ps found in
+    → (text after : List ℕ) (ps : List Piece) → text ≡ mark ∷ mark ∷ mark ∷ after → pieces_of piece true mark (drop 3 text) ≡ Some ps → PrefixMany P mark text ps
+prefix_many P piece laws mark is_mark text after ps opening e =
+    let found : pieces_of piece true mark after ≡ Some ps = ap (λ t. pieces_of piece true mark (drop 3 t)) (sym opening) ∙ e in
+    let f = many_lines_found P piece laws mark is_mark (suc (length after)) after ps found in
     let spelled : text ≡ many_lines mark ps ++ f.rest = opening ∙ ap (λ t. mark ∷ mark ∷ mark ∷ t) (f.spelled ∙ sym (append_assoc (text_of ps) (mark ∷ mark ∷ mark ∷ []) f.rest)) in
     record { rest = f.rest; spelled = spelled; each = f.each; no_end = f.no_end; whole = f.whole }
 

@@ -32,8 +32,8 @@ one_line_found P piece laws mark zero_not (suc n) text ps e =
           closed_one P mark text ps c.1.0 c.0 c.1.1
       | inr open_still ↦
           let s = stepped P piece laws (pieces_by n piece false mark) text ps open_still.1 in
-          let b = one_line_found P piece laws mark zero_not n s.more s.behind s.found in
-          subst (λ qs. FoundOne P mark text qs) (sym s.all) (record { rest = b.rest; spelled = spelled_more s.here s.behind text s.more (mark ∷ b.rest) s.spelled b.spelled; each = (s.allowed, b.each) })
+          let b = one_line_found P piece laws mark zero_not n s.more s.after s.found in
+          subst (λ qs. FoundOne P mark text qs) (sym s.all) (record { rest = b.rest; spelled = spelled_more s.here s.after text s.more (mark ∷ b.rest) s.spelled b.spelled; each = (s.allowed, b.each) })
     ]
 
 -- a string on one line is found again, before anything

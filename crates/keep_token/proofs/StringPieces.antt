@@ -289,23 +289,23 @@ line_end_found P text p e allowed =
     let white = prefix_len is_ws text in
     let line = drop white text in
     let count = newline_len line in
-    let behind = drop count line in
-    let blank = blank_len behind in
-    let last = drop blank behind in
+    let after = drop count line in
+    let blank = blank_len after in
+    let last = drop blank after in
     elim (cases_Bool (count == 0)) [
       | inl z ↦ absurd (let f = rw z at e in cc)
       | inr z ↦
-          let found = blank_found behind in
-          begins_from P (0x5C ∷ text) p (LineEnd (take white text) (take count line) (take blank behind)) (rw z at e)
-          (last, ap (λ (t : List ℕ). 0x5C ∷ t) (spelled text white count blank), allowed (take white text) (take count line) (take blank behind) (list_all-run is_ws text) (newline_found line z) found.0, found.1)
+          let found = blank_found after in
+          begins_from P (0x5C ∷ text) p (LineEnd (take white text) (take count line) (take blank after)) (rw z at e)
+          (last, ap (λ (t : List ℕ). 0x5C ∷ t) (spelled text white count blank), allowed (take white text) (take count line) (take blank after) (list_all-run is_ws text) (newline_found line z) found.0, found.1)
     ]
   where
     spelled : (text : List ℕ) (white count blank : ℕ) → text ≡ (take white text ++ (take count (drop white text) ++ take blank (drop count (drop white text)))) ++ drop blank (drop count (drop white text))
     spelled text white count blank =
         let line = drop white text in
-        let behind = drop count line in
-        sym (append_assoc (take white text) (take count line ++ take blank behind) (drop blank behind)
-        ∙ ap (λ t. take white text ++ t) (append_assoc (take count line) (take blank behind) (drop blank behind) ∙ ap (λ t. take count line ++ t) (take-append-drop blank behind) ∙ take-append-drop count line)
+        let after = drop count line in
+        sym (append_assoc (take white text) (take count line ++ take blank after) (drop blank after)
+        ∙ ap (λ t. take white text ++ t) (append_assoc (take count line) (take blank after) (drop blank after) ∙ ap (λ t. take count line ++ t) (take-append-drop blank after) ∙ take-append-drop count line)
         ∙ take-append-drop white text)
 
 newline_not_white : (newline more : List ℕ) → Newline newline → is_ws (first (newline ++ more)) ≡ false
@@ -315,18 +315,18 @@ newline_not_white newline more (inr e) = rw e refl
 line_end_again : (before newline after more : List ℕ) → list_all is_ws before ≡ true → Newline newline → is_blank_run after ≡ true → blank_len more ≡ 0
     → line_end_at ((before ++ (newline ++ after)) ++ more) ≡ Some (LineEnd before newline after)
 line_end_again before newline after more white line blank stop =
-    let behind = after ++ more in
-    let split : (before ++ (newline ++ after)) ++ more ≡ before ++ (newline ++ behind) = append_assoc before (newline ++ after) more ∙ ap (λ t. before ++ t) (append_assoc newline after more) in
+    let suffix = after ++ more in
+    let split : (before ++ (newline ++ after)) ++ more ≡ before ++ (newline ++ suffix) = append_assoc before (newline ++ after) more ∙ ap (λ t. before ++ t) (append_assoc newline after more) in
     let some : (length newline == 0) ≡ false = let f = newline_some newline line in grind (arith, nat_tests) in
     rw (
       split,
-      prefix_len-run is_ws before (newline ++ behind) white refl (newline_not_white newline behind line),
-      drop_at before (newline ++ behind) (length before) refl,
-      newline_again newline behind line,
+      prefix_len-run is_ws before (newline ++ suffix) white refl (newline_not_white newline suffix line),
+      drop_at before (newline ++ suffix) (length before) refl,
+      newline_again newline suffix line,
       some,
-      take_at before (newline ++ behind) (length before) refl,
-      take_at newline behind (length newline) refl,
-      drop_at newline behind (length newline) refl,
+      take_at before (newline ++ suffix) (length before) refl,
+      take_at newline suffix (length newline) refl,
+      drop_at newline suffix (length newline) refl,
       blank_again after more blank stop,
       take_at after more (length after) refl,
     ) refl

@@ -60,9 +60,9 @@ two_not mark (c ∷ cs) e = elim (cases_Bool (mark == mark)) [ inl f ↦ rw (f, 
 not_three : (P : Piece → Type 0) (mark : ℕ) → ((p : Piece) (more : List ℕ) → P p → (first (piece_text p ++ more) == mark) ≡ false)
     → (p : Piece) (ps : List Piece) (rest : List ℕ) → P p → are_three mark (one_line mark (p ∷ ps) ++ rest) ≡ false
 not_three P mark not_mark p ps rest h =
-    let behind = text_of ps ++ (mark ∷ rest) in
-    let split : (text_of (p ∷ ps) ++ (mark ∷ [])) ++ rest ≡ piece_text p ++ behind = append_assoc (text_of (p ∷ ps)) (mark ∷ []) rest ∙ append_assoc (piece_text p) (text_of ps) (mark ∷ rest) in
-    ap (λ t. are_three mark (mark ∷ t)) split ∙ two_not mark (piece_text p ++ behind) (not_mark p behind h)
+    let after = text_of ps ++ (mark ∷ rest) in
+    let split : (text_of (p ∷ ps) ++ (mark ∷ [])) ++ rest ≡ piece_text p ++ after = append_assoc (text_of (p ∷ ps)) (mark ∷ []) rest ∙ append_assoc (piece_text p) (text_of ps) (mark ∷ rest) in
+    ap (λ t. are_three mark (mark ∷ t)) split ∙ two_not mark (piece_text p ++ after) (not_mark p after h)
 
 pub one_line_not_three : (profile : Profile) (t rest : List ℕ) → Basic profile t → (length t ≡ 2 → ⊥) → are_three 0x22 (t ++ rest) ≡ false
 one_line_not_three profile t rest ([], h) long = absurd (long (ap length h.spelled))

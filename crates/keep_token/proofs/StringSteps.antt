@@ -34,13 +34,13 @@ before_found p (Some more) ps e = (more, refl, cc)
 -- the first piece, and what is found after it
 pub record Stepped (P : Piece → Type 0) (rest : List ℕ → Option (List Piece)) (text : List ℕ) (ps : List Piece) : Type 0 where
   pub here : Piece
-  pub behind : List Piece
+  pub after : List Piece
   pub more : List ℕ
   pub spelled : text ≡ piece_text here ++ more
   pub allowed : P here
   pub stops : Stops here more
-  pub found : rest more ≡ Some behind
-  pub all : ps ≡ here ∷ behind
+  pub found : rest more ≡ Some after
+  pub all : ps ≡ here ∷ after
 
 pub stepped : (P : Piece → Type 0) (piece : List ℕ → Option Piece) → PieceLaws P piece → (rest : List ℕ → Option (List Piece)) (text : List ℕ) (ps : List Piece)
     → onward rest text (piece text) ≡ Some ps → Stepped P rest text ps
@@ -52,11 +52,11 @@ stepped P piece laws rest text ps e = go (piece text) refl e
         let b = before_found p (rest (drop (length (piece_text p)) text)) ps e in
         let f = laws.found text p one in
         let cut : drop (length (piece_text p)) text ≡ f.0 = ap (drop (length (piece_text p))) f.1 ∙ drop_at (piece_text p) f.0 (length (piece_text p)) refl in
-        record { here = p; behind = b.0; more = f.0; spelled = f.1; allowed = f.2; stops = f.3; found = ap rest (sym cut) ∙ b.1; all = b.2 }
+        record { here = p; after = b.0; more = f.0; spelled = f.1; allowed = f.2; stops = f.3; found = ap rest (sym cut) ∙ b.1; all = b.2 }
 
 -- a piece and what is spelled after it
 pub spelled_more : (p : Piece) (ps : List Piece) (text more tail : List ℕ) → text ≡ piece_text p ++ more → more ≡ text_of ps ++ tail → text ≡ text_of (p ∷ ps) ++ tail
-spelled_more p ps text more tail here behind = here ∙ ap (λ t. piece_text p ++ t) behind ∙ sym (append_assoc (piece_text p) (text_of ps) tail)
+spelled_more p ps text more tail here after = here ∙ ap (λ t. piece_text p ++ t) after ∙ sym (append_assoc (piece_text p) (text_of ps) tail)
 
 pub piece_count : (P : Piece → Type 0) (piece : List ℕ → Option Piece) → PieceLaws P piece → (ps : List Piece) → Each P ps → length ps ≤ length (text_of ps)
 piece_count P piece laws [] h = omega arith

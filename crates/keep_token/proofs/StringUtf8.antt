@@ -35,9 +35,9 @@ cut_one prefix c rest ascii u =
     let within : length prefix < length text = omega (arith, length-append prefix (c ∷ rest)) in
     let low : get_or text (length prefix) 0 < 128 = rw (seam prefix c rest) ascii in
     let here = IsUtf8-take text (length prefix) u (IsCharBoundary-before_ascii text (length prefix) within low) in
-    let behind = IsUtf8-drop text (length prefix + 1) u (IsCharBoundary-after_ascii text (length prefix) u within low) in
+    let after = IsUtf8-drop text (length prefix + 1) u (IsCharBoundary-after_ascii text (length prefix) u within low) in
     let dropped : drop (length prefix + 1) text ≡ rest = ap (drop (length prefix + 1)) (sym (append_assoc prefix (c ∷ []) rest)) ∙ drop_at (prefix ++ (c ∷ [])) rest (length prefix + 1) (length-append prefix (c ∷ [])) in
-    (subst IsUtf8 (take_at prefix (c ∷ rest) (length prefix) refl) here, subst IsUtf8 dropped behind)
+    (subst IsUtf8 (take_at prefix (c ∷ rest) (length prefix) refl) here, subst IsUtf8 dropped after)
 
 abbrev is_low : ℕ → Bool
 is_low c = nat_lt c 128
@@ -87,16 +87,16 @@ values_utf8 prefix (Plain b ∷ ps) tail h u =
 values_utf8 prefix (Letter l ∷ ps) tail h u =
     let cut = cut_one prefix 0x5C (l ∷ text_of ps ++ tail) (omega arith) u in
     let more = (cut_one [] l (text_of ps ++ tail) h.0 cut.1).1 in
-    let behind = values_utf8 [] ps tail h.1 more in
-    IsUtf8-append prefix (letter_value Wide l ∷ value_of ps ++ tail) cut.0 (IsUtf8-append (letter_value Wide l ∷ []) (value_of ps ++ tail) (one_low (letter_value Wide l) (letter_value_low l)) behind)
+    let after = values_utf8 [] ps tail h.1 more in
+    IsUtf8-append prefix (letter_value Wide l ∷ value_of ps ++ tail) cut.0 (IsUtf8-append (letter_value Wide l ∷ []) (value_of ps ++ tail) (one_low (letter_value Wide l) (letter_value_low l)) after)
 values_utf8 prefix (Number l ds ∷ ps) tail h u =
     let cut = cut_one prefix 0x5C (l ∷ (ds ++ text_of ps) ++ tail) (omega arith) u in
     let digits = (cut_one [] l ((ds ++ text_of ps) ++ tail) h.0.0 cut.1).1 in
     let more = cut_more ds (text_of ps ++ tail) h.0.1 (subst IsUtf8 (append_assoc ds (text_of ps) tail) digits) in
-    let behind = values_utf8 [] ps tail h.1 more in
+    let after = values_utf8 [] ps tail h.1 more in
     let value = encode_utf8 (sum_of_digits 16 ds) in
     subst (λ t. IsUtf8 (prefix ++ t)) (sym (append_assoc value (value_of ps) tail))
-    (IsUtf8-append prefix (value ++ (value_of ps ++ tail)) cut.0 (IsUtf8-append value (value_of ps ++ tail) (number_utf8 (sum_of_digits 16 ds) h.0.2) behind))
+    (IsUtf8-append prefix (value ++ (value_of ps ++ tail)) cut.0 (IsUtf8-append value (value_of ps ++ tail) (number_utf8 (sum_of_digits 16 ds) h.0.2) after))
 values_utf8 prefix (Break n ∷ ps) tail h u =
     let split : (more : List ℕ) → prefix ++ ((n ++ more) ++ tail) ≡ (prefix ++ n) ++ (more ++ tail) = λ more. ap (λ t. prefix ++ t) (append_assoc n more tail) ∙ sym (append_assoc prefix n (more ++ tail)) in
     subst IsUtf8 (sym (split (value_of ps))) (values_utf8 (prefix ++ n) ps tail h.1 (subst IsUtf8 (split (text_of ps)) u))

@@ -50,9 +50,9 @@ abbrev pub line_end_at : List ℕ → Option Piece
 line_end_at text =
     let white = prefix_len is_ws text in
     let newline = newline_len (drop white text) in
-    let behind = drop newline (drop white text) in
+    let after = drop newline (drop white text) in
     if newline == 0 then None else Some (LineEnd (take white text) (take newline (drop white text))
-    (take (blank_len behind) behind))
+    (take (blank_len after) after))
 
 abbrev pub or_else : Option Piece → Option Piece → Option Piece
 or_else None other = other

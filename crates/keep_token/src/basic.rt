@@ -79,10 +79,10 @@ fn ml_piece_len(bytes: &[u8], profile: Profile) -> Option<usize>
 {
     let first = byte_at(bytes, 0);
     if first == b'\\' {
-        let behind = &bytes[1..];
-        return match read_escape(behind, profile) {
+        let after = &bytes[1..];
+        return match read_escape(after, profile) {
             Some(escape) => Some(escape.len),
-            None => line_end_len(behind),
+            None => line_end_len(after),
         };
     }
     if is_basic(first) || first == b'"' {

@@ -87,11 +87,11 @@ fn unescape(alloc: Global, body: &str) -> Result<String, AllocError>
         if stop == body.len() {
             return Ok(value);
         }
-        let behind = &bytes[stop + 1..];
-        if let Some(escape) = read_escape(behind, Profile::Wide) {
+        let after = &bytes[stop + 1..];
+        if let Some(escape) = read_escape(after, Profile::Wide) {
             value.push(escape.value)?;
             at = stop + escape.len;
-        } else if let Some(len) = line_end_len(behind) {
+        } else if let Some(len) = line_end_len(after) {
             at = stop + len;
         } else {
             unreachable!()

@@ -75,7 +75,7 @@ pub(crate) fn read_escape(bytes: &[u8], profile: Profile) -> Option<Escape>
     ensures escape { IsEscape result (pieces.escape_at profile bytes.now) }
     ensures within { IfSome result (λ e. (0 < e.len) × (e.len ≤ 1 + length bytes.now)) }
 {
-    let (letter, behind) = bytes.split_first()?;
+    let (letter, after) = bytes.split_first()?;
     if let Some(value) = letter_value(*letter, profile) {
         return Some(Escape { len: 2, value });
     }
@@ -83,7 +83,7 @@ pub(crate) fn read_escape(bytes: &[u8], profile: Profile) -> Option<Escape>
     if count == 0 {
         return None;
     }
-    let digits = behind.get(..count)?;
+    let digits = after.get(..count)?;
     let value = char::from_u32(hex_value(digits)?)?;
     Some(Escape {
         len: 2 + count,

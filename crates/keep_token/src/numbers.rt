@@ -218,8 +218,8 @@ fn is_number(bytes: &[u8]) -> bool
     ensures { result ≡ words.is_number bytes.now }
 {
     let len = whole_run(bytes);
-    let behind = &bytes[len..];
-    is_decimal(&bytes[..len]) && (is_exponent(behind) || is_fraction(behind))
+    let after = &bytes[len..];
+    is_decimal(&bytes[..len]) && (is_exponent(after) || is_fraction(after))
 }
 
 /// `inf` or `nan`

@@ -16,12 +16,12 @@ pub(crate) fn word_len(bytes: &[u8]) -> usize
     ensures within { result ≤ length bytes.now }
 {
     let run = word_run(bytes);
-    let behind = &bytes[run..];
+    let after = &bytes[run..];
     if has_date_shape(&bytes[..run])
-        && byte_at(behind, 0) == b' '
-        && byte_at(behind, 1).is_ascii_digit()
+        && byte_at(after, 0) == b' '
+        && byte_at(after, 1).is_ascii_digit()
     {
-        run + 1 + word_run(&behind[1..])
+        run + 1 + word_run(&after[1..])
     } else {
         run
     }

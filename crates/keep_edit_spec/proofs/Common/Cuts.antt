@@ -18,11 +18,11 @@ pub record IsCut (path : List Part) (from to : List Mention) : Type 0 where
   pub before : List Mention
   pub ways : List Mention
   pub run : List Mention
-  pub behind : List Mention
-  pub was : from ≡ before ++ ((ways ++ run) ++ behind)
-  pub is : to ≡ before ++ behind
+  pub after : List Mention
+  pub was : from ≡ before ++ ((ways ++ run) ++ after)
+  pub is : to ≡ before ++ after
   pub disjoint_before : AllOf (IsDisjoint path) before
-  pub disjoint_after : AllOf (IsDisjoint path) behind
+  pub disjoint_after : AllOf (IsDisjoint path) after
   pub silent : AllOf (λ m. fact_of m.kind ≡ None) ways
   pub under : AllOf (IsUnder path) run
 
@@ -41,20 +41,20 @@ cut_below s path from to h = record {
   before = map (below s) h.before;
   ways = map (below s) h.ways;
   run = map (below s) h.run;
-  behind = map (below s) h.behind;
-  was = ap (map (below s)) h.was ∙ map_four s h.before h.ways h.run h.behind;
-  is = ap (map (below s)) h.is ∙ map-append (below s) h.before h.behind;
+  after = map (below s) h.after;
+  was = ap (map (below s)) h.was ∙ map_four s h.before h.ways h.run h.after;
+  is = ap (map (below s)) h.is ∙ map-append (below s) h.before h.after;
   disjoint_before = disjoint_below s path h.before h.disjoint_before;
-  disjoint_after = disjoint_below s path h.behind h.disjoint_after;
+  disjoint_after = disjoint_below s path h.after h.disjoint_after;
   silent = none_below s h.ways h.silent;
   under = under_both s path h.run h.under;
 }
 
-around : (left before mid behind right : List Mention) → left ++ ((before ++ (mid ++ behind)) ++ right) ≡ (left ++ before) ++ (mid ++ (behind ++ right))
-around left before mid behind right = simp append_assoc refl
+around : (left before mid after right : List Mention) → left ++ ((before ++ (mid ++ after)) ++ right) ≡ (left ++ before) ++ (mid ++ (after ++ right))
+around left before mid after right = simp append_assoc refl
 
-around_two : (left before behind right : List Mention) → left ++ ((before ++ behind) ++ right) ≡ (left ++ before) ++ (behind ++ right)
-around_two left before behind right = simp append_assoc refl
+around_two : (left before after right : List Mention) → left ++ ((before ++ after) ++ right) ≡ (left ++ before) ++ (after ++ right)
+around_two left before after right = simp append_assoc refl
 
 pub cut_beside : (path : List Part) (from to left right : List Mention) → AllOf (IsDisjoint path) left → AllOf (IsDisjoint path) right
     → IsCut path from to → IsCut path (left ++ (from ++ right)) (left ++ (to ++ right))
@@ -62,17 +62,17 @@ cut_beside path from to left right hl hr h = record {
   before = left ++ h.before;
   ways = h.ways;
   run = h.run;
-  behind = h.behind ++ right;
-  was = ap (λ l. left ++ (l ++ right)) h.was ∙ around left h.before (h.ways ++ h.run) h.behind right;
-  is = ap (λ l. left ++ (l ++ right)) h.is ∙ around_two left h.before h.behind right;
+  after = h.after ++ right;
+  was = ap (λ l. left ++ (l ++ right)) h.was ∙ around left h.before (h.ways ++ h.run) h.after right;
+  is = ap (λ l. left ++ (l ++ right)) h.is ∙ around_two left h.before h.after right;
   disjoint_before = all_join (IsDisjoint path) left h.before hl h.disjoint_before;
-  disjoint_after = all_join (IsDisjoint path) h.behind right h.disjoint_after hr;
+  disjoint_after = all_join (IsDisjoint path) h.after right h.disjoint_after hr;
   silent = h.silent;
   under = h.under;
 }
 
 pub rules_cut : (path : List Part) (from to : List Mention) → IsCut path from to → Rules from → Rules to
-rules_cut path from to h rules = subst Rules (sym h.is) (rules_taken h.before (h.ways ++ h.run) h.behind (subst Rules h.was rules))
+rules_cut path from to h rules = subst Rules (sym h.is) (rules_taken h.before (h.ways ++ h.run) h.after (subst Rules h.was rules))
 
 -- ---- the tree
 
@@ -83,12 +83,12 @@ pub cut_by : (path : List Part) (from to : List Mention) → IsCut path from to 
     → fact_at q to ≡ fact_from from [] (elim o [ Some more ↦ nothing | None ↦ from_path q ])
 cut_by path from to h q (Some r) e =
     ap (fact_at q) h.is
-    ∙ ap (λ l. first_of (filter_map fact_of l)) (kinds_at-disjoint path q r (h.before ++ h.behind) (all_join (IsDisjoint path) h.before h.behind h.disjoint_before h.disjoint_after) e)
+    ∙ ap (λ l. first_of (filter_map fact_of l)) (kinds_at-disjoint path q r (h.before ++ h.after) (all_join (IsDisjoint path) h.before h.after h.disjoint_before h.disjoint_after) e)
 cut_by path from to h q None e =
     ap (fact_at q) h.is
-    ∙ sym (without_ways q h.before h.ways h.behind h.silent)
-    ∙ fact_elsewhere path q (h.before ++ h.ways) h.run [] h.behind h.under tt e
-    ∙ ap (fact_at q) (sym (regroup h.before h.ways h.run h.behind) ∙ sym h.was)
+    ∙ sym (without_ways q h.before h.ways h.after h.silent)
+    ∙ fact_elsewhere path q (h.before ++ h.ways) h.run [] h.after h.under tt e
+    ∙ ap (fact_at q) (sym (regroup h.before h.ways h.run h.after) ∙ sym h.was)
 
 pub last_part-snoc : (q : List Part) (x : Part) → last_part (q ++ x ∷ []) ≡ Some x
 last_part-snoc [] x = refl

@@ -57,8 +57,8 @@ done_content-by act ends body path name v (Some more) e =
 done_content : (act : Act) → IsAtEnd act → (body path : List Part) (c : Content) → EachOf (IsDoneIn act body path c) (in_content act body path c)
 done_content act ends body path blank = tt
 done_content act ends body path (keyval name v) = done_content-by act ends body path name v (strip (body ++ step 0 (Some name)) path) refl
-done_content act ends body path (header before k behind) = tt
-done_content act ends body path (element before k behind) = tt
+done_content act ends body path (header before k after) = tt
+done_content act ends body path (element before k after) = tt
 
 -- in one of the lines
 abbrev pub page_depth : Page → ℕ

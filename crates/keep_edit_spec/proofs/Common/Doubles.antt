@@ -90,23 +90,23 @@ pub all_insert : (P : Mention → Type 0) (a : List Mention) (m : Mention) (b : 
 all_insert P [] m b h g = (g, h)
 all_insert P (x ∷ a) m b h g = (h.0, all_insert P a m b h.1 g)
 
-put_repeat : (m : Mention) (before behind : List Mention) → repeatable m.kind ≡ true → AllOf (Allowed m) (before ++ behind) → Rules (before ++ behind) → Rules (before ++ m ∷ behind)
-put_repeat m [] behind h a r = (a, r)
-put_repeat m (y ∷ before) behind h a r =
-    (all_insert (Allowed y) before m behind r.0 (λ e. repeat_again m.kind y.kind h (a.0 (sym e))), put_repeat m before behind h a.1 r.1)
+put_repeat : (m : Mention) (before after : List Mention) → repeatable m.kind ≡ true → AllOf (Allowed m) (before ++ after) → Rules (before ++ after) → Rules (before ++ m ∷ after)
+put_repeat m [] after h a r = (a, r)
+put_repeat m (y ∷ before) after h a r =
+    (all_insert (Allowed y) before m after r.0 (λ e. repeat_again m.kind y.kind h (a.0 (sym e))), put_repeat m before after h a.1 r.1)
 
 same_allows : (x m : Mention) → IsSame m x → (y : Mention) → Allowed x y → Allowed m y
 same_allows x m s y f e = subst (λ (d : MentionKind). kinds_allow d y.kind ≡ true) s.kind (f (s.path ∙ e))
 
-pub double_in : (m : Mention) (before behind : List Mention) → repeatable m.kind ≡ true → SomeOf (IsSame m) before → Rules (before ++ behind) → Rules (before ++ m ∷ behind)
-double_in m [] behind h s r = absurd s
-double_in m (x ∷ before) behind h (inl s) r = (
-  all_insert (Allowed x) before m behind r.0 (λ e. subst (λ (d : MentionKind). kinds_allow d m.kind ≡ true) (sym s.kind) (repeat_itself m.kind h)),
-  put_repeat m before behind h (all_map (Allowed x) (Allowed m) (same_allows x m s) (before ++ behind) r.0) r.1,
+pub double_in : (m : Mention) (before after : List Mention) → repeatable m.kind ≡ true → SomeOf (IsSame m) before → Rules (before ++ after) → Rules (before ++ m ∷ after)
+double_in m [] after h s r = absurd s
+double_in m (x ∷ before) after h (inl s) r = (
+  all_insert (Allowed x) before m after r.0 (λ e. subst (λ (d : MentionKind). kinds_allow d m.kind ≡ true) (sym s.kind) (repeat_itself m.kind h)),
+  put_repeat m before after h (all_map (Allowed x) (Allowed m) (same_allows x m s) (before ++ after) r.0) r.1,
 )
-double_in m (x ∷ before) behind h (inr s) r =
-    let (y, same, allowed) = meet (IsSame m) (Allowed x) (before ++ behind) (some_left (IsSame m) before behind s) r.0 in
-    (all_insert (Allowed x) before m behind r.0 (λ e. subst (λ (d : MentionKind). kinds_allow x.kind d ≡ true) same.kind (allowed (e ∙ sym same.path))), double_in m before behind h s r.1)
+double_in m (x ∷ before) after h (inr s) r =
+    let (y, same, allowed) = meet (IsSame m) (Allowed x) (before ++ after) (some_left (IsSame m) before after s) r.0 in
+    (all_insert (Allowed x) before m after r.0 (λ e. subst (λ (d : MentionKind). kinds_allow x.kind d ≡ true) same.kind (allowed (e ∙ sym same.path))), double_in m before after h s r.1)
 
 -- a mention like an earlier one
 pub record IsDoubleOf (before : List Mention) (m : Mention) : Type 0 where
@@ -127,21 +127,21 @@ doubles_self (m ∷ ms) h = (
 )
 
 -- Doubles may be put in anywhere after what they repeat.
-pub doubles_in : (new before behind : List Mention) → AllOf (IsDoubleOf before) new → Rules (before ++ behind) → Rules (before ++ (new ++ behind))
-doubles_in [] before behind h r = r
-doubles_in (m ∷ new) before behind h r =
-    let one : Rules (before ++ m ∷ behind) = double_in m before behind h.0.repeats h.0.same r in
-    let two : Rules ((before ++ m ∷ []) ++ behind) = subst Rules (sym (append_assoc before (m ∷ []) behind)) one in
-    subst Rules (append_assoc before (m ∷ []) (new ++ behind)) (doubles_in new (before ++ m ∷ []) behind (doubles_left before (m ∷ []) new h.1) two)
+pub doubles_in : (new before after : List Mention) → AllOf (IsDoubleOf before) new → Rules (before ++ after) → Rules (before ++ (new ++ after))
+doubles_in [] before after h r = r
+doubles_in (m ∷ new) before after h r =
+    let one : Rules (before ++ m ∷ after) = double_in m before after h.0.repeats h.0.same r in
+    let two : Rules ((before ++ m ∷ []) ++ after) = subst Rules (sym (append_assoc before (m ∷ []) after)) one in
+    subst Rules (append_assoc before (m ∷ []) (new ++ after)) (doubles_in new (before ++ m ∷ []) after (doubles_left before (m ∷ []) new h.1) two)
 
 -- Doubles, and after them a run under a fresh path.
-pub rules_doubled : (p : List Part) (before doubles run behind : List Mention) → Rules (before ++ behind) → AllOf (IsDoubleOf before) doubles
-    → AllOf (IsDisjoint p) before → AllOf (IsDisjoint p) behind → AllOf (IsDisjoint p) doubles → AllOf (IsUnder p) run → Rules run → Rules (before ++ ((doubles ++ run) ++ behind))
-rules_doubled p before doubles run behind r d hb hh hd hr rr =
-    let one : Rules (before ++ (doubles ++ behind)) = doubles_in doubles before behind d r in
-    let two : Rules ((before ++ doubles) ++ ([] ++ behind)) = subst Rules (sym (append_assoc before doubles behind)) one in
-    let three : Rules ((before ++ doubles) ++ (run ++ behind)) = rules_replaced p (before ++ doubles) [] run behind two (all_join (IsDisjoint p) before doubles hb hd) hh hr rr in
-    subst Rules (append_assoc before doubles (run ++ behind) ∙ ap (λ (l : List Mention). before ++ l) (sym (append_assoc doubles run behind))) three
+pub rules_doubled : (p : List Part) (before doubles run after : List Mention) → Rules (before ++ after) → AllOf (IsDoubleOf before) doubles
+    → AllOf (IsDisjoint p) before → AllOf (IsDisjoint p) after → AllOf (IsDisjoint p) doubles → AllOf (IsUnder p) run → Rules run → Rules (before ++ ((doubles ++ run) ++ after))
+rules_doubled p before doubles run after r d hb hh hd hr rr =
+    let one : Rules (before ++ (doubles ++ after)) = doubles_in doubles before after d r in
+    let two : Rules ((before ++ doubles) ++ ([] ++ after)) = subst Rules (sym (append_assoc before doubles after)) one in
+    let three : Rules ((before ++ doubles) ++ (run ++ after)) = rules_replaced p (before ++ doubles) [] run after two (all_join (IsDisjoint p) before doubles hb hd) hh hr rr in
+    subst Rules (append_assoc before doubles (run ++ after) ∙ ap (λ (l : List Mention). before ++ l) (sym (append_assoc doubles run after))) three
 
 -- ---- what is said of a path
 

@@ -227,12 +227,12 @@ key_open n name body nested rest rules q k qs e s =
       | inl a ↦
           (let h = entry_beyond n name (body_fact body) (entries_mentions 0 nested) q a in
           no_prefix (step n name) q k qs h.more e h.is)
-      | inr b ↦ behind q e b
+      | inr b ↦ after q e b
     ]
   where
-    behind : (q : List Part) → step n name ≡ q ++ k ∷ qs → SomeOf (IsAloneAt q) (entries_mentions (n + 1) rest) → ⊥
-    behind [] e b = never_empty (n + 1) rest b
-    behind (j ∷ js) e b =
+    after : (q : List Part) → step n name ≡ q ++ k ∷ qs → SomeOf (IsAloneAt q) (entries_mentions (n + 1) rest) → ⊥
+    after [] e b = never_empty (n + 1) rest b
+    after (j ∷ js) e b =
         let first : List Mention = entry_mentions n name (body_fact body) (entries_mentions 0 nested) in
         let disjoint : AllOf (IsDisjoint (j ∷ js)) first =
         disjoint_closed (j ∷ js) first first (closed_named n name (body_fact body) (entries_mentions 0 nested) (closed_entries 0 nested) j js)

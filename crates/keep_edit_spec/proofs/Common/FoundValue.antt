@@ -67,8 +67,8 @@ pub record IsFoundIn {A : Type 0} (act : Act) (Whole : Profile → Type 0) (at :
   pub fact : fact_of mention.kind ≡ Some (body_fact value.body)
   pub prefix : List ValueInfo
   pub own : ValueInfo
-  pub behind : List ValueInfo
-  pub here : infos ≡ prefix ++ own ∷ behind
+  pub after : List ValueInfo
+  pub here : infos ≡ prefix ++ own ∷ after
   pub count : valued earlier ≡ length prefix
   pub start : at + length c.before ≡ own.span.start + length done.before
   pub end : own.span.end ≡ own.span.start + length (value_text value)
@@ -80,9 +80,9 @@ pub record IsFoundIn {A : Type 0} (act : Act) (Whole : Profile → Type 0) (at :
   pub further : List Mention
   pub within_mentioned : later ≡ map (below mention.path) (entries_mentions 0 value.nested) ++ further
   pub others : List ValueInfo
-  pub within_values : behind ≡ entries_values (nested_of begin from keys value.body) value.nested ++ others
+  pub within_values : after ≡ entries_values (nested_of begin from keys value.body) value.nested ++ others
   pub beyond : List ℕ
-  pub text_after : c.behind ≡ done.behind ++ beyond
+  pub text_after : c.after ≡ done.after ++ beyond
   pub ends : BeginNoDeeper own.depth others
   pub disjoint : Rules ms → AllOf (IsDisjoint mention.path) earlier × AllOf (IsDisjoint mention.path) further
 
@@ -145,8 +145,8 @@ alone_entries n (entry name body nested after comma rest) s =
 
 -- ---- how deep values are
 
-own_deep : (d : ℕ) (infos prefix : List ValueInfo) (own : ValueInfo) (behind : List ValueInfo) → AllOf (λ (i : ValueInfo). d ≤ i.depth) infos → infos ≡ prefix ++ own ∷ behind → d ≤ own.depth
-own_deep d infos prefix own behind h e = (all_right (λ (i : ValueInfo). d ≤ i.depth) prefix (own ∷ behind) (subst (AllOf (λ (i : ValueInfo). d ≤ i.depth)) e h)).0
+own_deep : (d : ℕ) (infos prefix : List ValueInfo) (own : ValueInfo) (after : List ValueInfo) → AllOf (λ (i : ValueInfo). d ≤ i.depth) infos → infos ≡ prefix ++ own ∷ after → d ≤ own.depth
+own_deep d infos prefix own after h e = (all_right (λ (i : ValueInfo). d ≤ i.depth) prefix (own ∷ after) (subst (AllOf (λ (i : ValueInfo). d ≤ i.depth)) e h)).0
 
 pub entries_deep : (p : Start) (es : Entries) → AllOf (λ (i : ValueInfo). p.depth ≤ i.depth) (entries_values p es)
 entries_deep p none = tt
@@ -171,8 +171,8 @@ no_deeper-join d k (x ∷ xs) ys h g e = h
 line_no_deeper : (p : Start) (c : Content) → p.depth ≡ 0 → BeginNoDeeper 0 (content_values p c)
 line_no_deeper p blank e = tt
 line_no_deeper p (keyval name v) e = omega (arith, e)
-line_no_deeper p (header before k behind) e = tt
-line_no_deeper p (element before k behind) e = tt
+line_no_deeper p (header before k after) e = tt
+line_no_deeper p (element before k after) e = tt
 
 -- ---- seen from outside
 
@@ -195,7 +195,7 @@ found_framed act Inner Whole at from path ms infos outer left right c valid e h 
   fact = h.fact;
   prefix = h.prefix;
   own = h.own;
-  behind = h.behind;
+  after = h.after;
   here = h.here;
   count = h.count;
   start = omega (arith, e, h.start, length-append left c.before);
@@ -210,7 +210,7 @@ found_framed act Inner Whole at from path ms infos outer left right c valid e h 
   others = h.others;
   within_values = h.within_values;
   beyond = h.beyond ++ right;
-  text_after = ap (λ (t : List ℕ). t ++ right) h.text_after ∙ append_assoc h.done.behind h.beyond right;
+  text_after = ap (λ (t : List ℕ). t ++ right) h.text_after ∙ append_assoc h.done.after h.beyond right;
   ends = h.ends;
   disjoint = h.disjoint;
 }
@@ -235,7 +235,7 @@ found_beyond act Whole at p more path ms infos c e h = record {
   fact = h.fact;
   prefix = h.prefix;
   own = h.own;
-  behind = h.behind;
+  after = h.after;
   here = h.here;
   count = valued-below p h.earlier ∙ h.count;
   start = h.start;
@@ -277,8 +277,8 @@ found_after act Whole at path xs ms is infos c e far h = record {
   fact = h.fact;
   prefix = is ++ h.prefix;
   own = h.own;
-  behind = h.behind;
-  here = ap (λ l. is ++ l) h.here ∙ sym (append_assoc is h.prefix (h.own ∷ h.behind));
+  after = h.after;
+  here = ap (λ l. is ++ l) h.here ∙ sym (append_assoc is h.prefix (h.own ∷ h.after));
   count = omega (arith, e, h.count, valued-append xs h.earlier, length-append is h.prefix);
   start = h.start;
   end = h.end;
@@ -318,8 +318,8 @@ found_before act Whole at path ms ys infos js c d deep low far h = record {
   fact = h.fact;
   prefix = h.prefix;
   own = h.own;
-  behind = h.behind ++ js;
-  here = ap (λ l. l ++ js) h.here ∙ append_assoc h.prefix (h.own ∷ h.behind) js;
+  after = h.after ++ js;
+  here = ap (λ l. l ++ js) h.here ∙ append_assoc h.prefix (h.own ∷ h.after) js;
   count = h.count;
   start = h.start;
   end = h.end;
@@ -334,7 +334,7 @@ found_before act Whole at path ms ys infos js c d deep low far h = record {
   within_values = ap (λ l. l ++ js) h.within_values ∙ append_assoc (entries_values (nested_of h.begin h.from h.keys h.value.body) h.value.nested) h.others js;
   beyond = h.beyond;
   text_after = h.text_after;
-  ends = no_deeper-join h.own.depth d h.others js h.ends low (own_deep d infos h.prefix h.own h.behind deep h.here);
+  ends = no_deeper-join h.own.depth d h.others js h.ends low (own_deep d infos h.prefix h.own h.after deep h.here);
   disjoint = λ rules. let a = h.disjoint (pairs_split Allowed ms ys rules).left in
       (a.0, all_join (IsDisjoint h.mention.path) h.further ys a.1 (far rules h.mention.path (alone_here h.earlier h.later ms h.mention h.mentioned h.tells)));
 }
@@ -360,8 +360,8 @@ found_between act Whole at path xs ms ys is infos js c e low far h = record {
   fact = h.fact;
   prefix = is ++ h.prefix;
   own = h.own;
-  behind = h.behind ++ js;
-  here = ap (λ l. is ++ (l ++ js)) h.here ∙ around_info is h.prefix h.behind js h.own;
+  after = h.after ++ js;
+  here = ap (λ l. is ++ (l ++ js)) h.here ∙ around_info is h.prefix h.after js h.own;
   count = omega (arith, e, h.count, valued-append xs h.earlier, length-append is h.prefix);
   start = h.start;
   end = h.end;
@@ -437,7 +437,7 @@ found_here act p at keys comma body nested mention_kind more is f (Some c) e = r
   fact = f;
   prefix = [];
   own = info p at keys body nested comma;
-  behind = entries_values (nested_of p at keys body) nested;
+  after = entries_values (nested_of p at keys body) nested;
   here = refl;
   count = refl;
   start = refl;
@@ -452,7 +452,7 @@ found_here act p at keys comma body nested mention_kind more is f (Some c) e = r
   others = [];
   within_values = sym (append-nil (entries_values (nested_of p at keys body) nested));
   beyond = [];
-  text_after = sym (append-nil c.behind);
+  text_after = sym (append-nil c.after);
   ends = tt;
   disjoint = λ rules. (tt, tt);
 }
@@ -610,8 +610,8 @@ found_content : (act : Act) (path : List Part) (r : Reading) (p : Start) (c : Co
     → EachOf (IsFoundIn act (Valid_content c) p.at path (elim (statement_of c) [ None ↦ [] | Some s ↦ statement_mentions r s ]) (content_values p c)) (in_content act r.body path c)
 found_content act path r p blank = tt
 found_content act path r p (keyval name v) = found_content-by act r.body path p name v (strip (r.body ++ step 0 (Some name)) path) refl
-found_content act path r p (header before k behind) = tt
-found_content act path r p (element before k behind) = tt
+found_content act path r p (header before k after) = tt
+found_content act path r p (element before k after) = tt
 
 found_line : (act : Act) (path : List Part) (r : Reading) (c : syntax.Count) (l : Line) → EachOf (IsFoundIn act (Valid_line l) c.at path (line_mentions r l) (line_values c l)) (in_line act path r l)
 found_line act path r c l =
@@ -658,8 +658,8 @@ found_on_line act path r c l = by l.content refl
     by (keyval name v) e =
         each_map (IsFoundIn act (Valid_line l) c.at path (line_mentions r l) (line_values c l)) (IsFoundOnLine act path r c l) (in_line act path r l)
         (λ d h. record { found = h; name = name; value = v; content = e }) (found_line act path r c l)
-    by (header before k behind) e = never (header before k behind) e refl
-    by (element before k behind) e = never (element before k behind) e refl
+    by (header before k after) e = never (header before k after) e refl
+    by (element before k after) e = never (element before k after) e refl
 
 alone_keyval : (body : List Part) (name : Name) (v : Value) (q : List Part) → SomeOf (IsAloneAt q) (map (below body) (keyval_mentions name v)) → (more : List Part) × (q ≡ (body ++ step 0 (Some name)) ++ more)
 alone_keyval body name v q s =
@@ -682,7 +682,7 @@ found_at_line act path pre post lefts js c l d count low h =
     (λ rules q alone.
     let b = beside_keyval pre post h.name h.value rules in
     let (more, e) = alone_keyval r.body h.name h.value q alone in
-    (subst (λ (x : List Part). AllOf (IsDisjoint x) left) (sym e) (all_longer p more left b.before), subst (λ (x : List Part). AllOf (IsDisjoint x) right) (sym e) (all_longer p more right b.behind)))
+    (subst (λ (x : List Part). AllOf (IsDisjoint x) left) (sym e) (all_longer p more left b.before), subst (λ (x : List Part). AllOf (IsDisjoint x) right) (sym e) (all_longer p more right b.after)))
     (subst (λ (ms : List Mention). IsFoundIn act (Valid_line l) c.at path ms (line_values c l) d) (mentions_of r l h.name h.value h.content) h.found))
 
 lines_no_deeper : (c : syntax.Count) (es : List Ended) (last : Line) → BeginNoDeeper 0 (all_values c es last)

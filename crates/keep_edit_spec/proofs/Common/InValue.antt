@@ -48,11 +48,11 @@ pub record IsDoneAt (D : List Part → Value → Value → Type 0) (prefix path 
   pub now : Value
   pub done : D rest old now
   pub before : List Mention
-  pub behind : List Mention
-  pub was : from ≡ before ++ (map (below prefix) (tagged tag old) ++ behind)
-  pub is : to ≡ before ++ (map (below prefix) (tagged tag now) ++ behind)
+  pub after : List Mention
+  pub was : from ≡ before ++ (map (below prefix) (tagged tag old) ++ after)
+  pub is : to ≡ before ++ (map (below prefix) (tagged tag now) ++ after)
   pub disjoint_before : AllOf (IsDisjoint prefix) before
-  pub disjoint_after : AllOf (IsDisjoint prefix) behind
+  pub disjoint_after : AllOf (IsDisjoint prefix) after
 
 pub record IsDone (D : List Part → Value → Value → Type 0) (path : List Part) (from to : List Mention) : Type 0 where
   pub prefix : List Part
@@ -63,14 +63,14 @@ pub record IsDoneIn (D : List Part → Value → Value → Type 0) (n : ℕ) (pa
   pub at : IsDoneAt D prefix path from to
   pub held : Held n prefix from
 
-map_parts : (s p : List Part) (before mid behind : List Mention)
-    → map (below s) (before ++ (map (below p) mid ++ behind)) ≡ map (below s) before ++ (map (below (s ++ p)) mid ++ map (below s) behind)
-map_parts s p before mid behind =
-    map-append (below s) before (map (below p) mid ++ behind)
-    ∙ ap (λ l. map (below s) before ++ l) (map-append (below s) (map (below p) mid) behind ∙ ap (λ l. l ++ map (below s) behind) (map_twice s p mid))
+map_parts : (s p : List Part) (before mid after : List Mention)
+    → map (below s) (before ++ (map (below p) mid ++ after)) ≡ map (below s) before ++ (map (below (s ++ p)) mid ++ map (below s) after)
+map_parts s p before mid after =
+    map-append (below s) before (map (below p) mid ++ after)
+    ∙ ap (λ l. map (below s) before ++ l) (map-append (below s) (map (below p) mid) after ∙ ap (λ l. l ++ map (below s) after) (map_twice s p mid))
 
-around : (left before mid behind right : List Mention) → left ++ ((before ++ (mid ++ behind)) ++ right) ≡ (left ++ before) ++ (mid ++ (behind ++ right))
-around left before mid behind right = simp append_assoc refl
+around : (left before mid after right : List Mention) → left ++ ((before ++ (mid ++ after)) ++ right) ≡ (left ++ before) ++ (mid ++ (after ++ right))
+around left before mid after right = simp append_assoc refl
 
 done_below : (D : List Part → Value → Value → Type 0) (s prefix path : List Part) (from to : List Mention) → IsDoneAt D prefix path from to
     → IsDoneAt D (s ++ prefix) (s ++ path) (map (below s) from) (map (below s) to)
@@ -84,11 +84,11 @@ done_below D s prefix path from to h = record {
   now = h.now;
   done = h.done;
   before = map (below s) h.before;
-  behind = map (below s) h.behind;
-  was = ap (map (below s)) h.was ∙ map_parts s prefix h.before (tagged h.tag h.old) h.behind;
-  is = ap (map (below s)) h.is ∙ map_parts s prefix h.before (tagged h.tag h.now) h.behind;
+  after = map (below s) h.after;
+  was = ap (map (below s)) h.was ∙ map_parts s prefix h.before (tagged h.tag h.old) h.after;
+  is = ap (map (below s)) h.is ∙ map_parts s prefix h.before (tagged h.tag h.now) h.after;
   disjoint_before = disjoint_below s prefix h.before h.disjoint_before;
-  disjoint_after = disjoint_below s prefix h.behind h.disjoint_after;
+  disjoint_after = disjoint_below s prefix h.after h.disjoint_after;
 }
 
 done_beside : (D : List Part → Value → Value → Type 0) (prefix path : List Part) (from to left right : List Mention) → AllOf (IsDisjoint prefix) left → AllOf (IsDisjoint prefix) right
@@ -103,11 +103,11 @@ done_beside D prefix path from to left right hl hr h = record {
   now = h.now;
   done = h.done;
   before = left ++ h.before;
-  behind = h.behind ++ right;
-  was = ap (λ l. left ++ (l ++ right)) h.was ∙ around left h.before (map (below prefix) (tagged h.tag h.old)) h.behind right;
-  is = ap (λ l. left ++ (l ++ right)) h.is ∙ around left h.before (map (below prefix) (tagged h.tag h.now)) h.behind right;
+  after = h.after ++ right;
+  was = ap (λ l. left ++ (l ++ right)) h.was ∙ around left h.before (map (below prefix) (tagged h.tag h.old)) h.after right;
+  is = ap (λ l. left ++ (l ++ right)) h.is ∙ around left h.before (map (below prefix) (tagged h.tag h.now)) h.after right;
   disjoint_before = all_join (IsDisjoint prefix) left h.before hl h.disjoint_before;
-  disjoint_after = all_join (IsDisjoint prefix) h.behind right h.disjoint_after hr;
+  disjoint_after = all_join (IsDisjoint prefix) h.after right h.disjoint_after hr;
 }
 
 done_named : (D : List Part → Value → Value → Type 0) (n : ℕ) (name : Option Name) (f f' : Fact) (nested nested' : List Mention) (prefix more : List Part)
@@ -137,7 +137,7 @@ done_here D tag stated alone more old now h = record {
   now = now;
   done = h;
   before = [];
-  behind = [];
+  after = [];
   was = sym (map_none (tagged tag old)) ∙ sym (append-nil (map (below []) (tagged tag old)));
   is = sym (map_none (tagged tag now)) ∙ sym (append-nil (map (below []) (tagged tag now)));
   disjoint_before = tt;
@@ -275,8 +275,8 @@ done_content : (profile : Profile) (D : List Part → Value → Value → Type 0
     → (body path : List Part) (c : Content) → IsContent profile c → EachTo (ContentDone D body path c) (in_content act body path c)
 done_content profile D act does body path blank valid = tt
 done_content profile D act does body path (keyval name v) valid = done_content-by profile D act does body path name v valid.1 (strip (body ++ step 0 (Some name)) path) refl
-done_content profile D act does body path (header before k behind) valid = tt
-done_content profile D act does body path (element before k behind) valid = tt
+done_content profile D act does body path (header before k after) valid = tt
+done_content profile D act does body path (element before k after) valid = tt
 
 -- one line is changed
 pub record LinesDone (D : List Part → Value → Value → Type 0) (r : Reading) (path : List Part) (from to : List Line) : Type 0 where
@@ -309,7 +309,7 @@ done_lines profile D act does path r (e ∷ es) last he hl =
 -- what is beside a keyval's line is disjoint from its path
 pub record IsBeside (p : List Part) (left mid right : List Mention) : Type 0 where
   pub before : AllOf (IsDisjoint p) left
-  pub behind : AllOf (IsDisjoint p) right
+  pub after : AllOf (IsDisjoint p) right
   pub rules : Rules mid
 
 pub beside_keyval : (pre post : List Line) (name : Name) (v : Value)
@@ -329,7 +329,7 @@ beside_keyval pre post name v rules =
     record {
       before = from_closed p [] left (lines_closed p start pre ends) (λ v. never_root p ends v)
           (λ s. clash_before p left (mid ++ right) s (some_left (IsAloneAt p) mid right alone) rules);
-      behind = from_closed p r.body right (lines_closed p r post ends) (λ v. longer r.body _ _ v)
+      after = from_closed p r.body right (lines_closed p r post ends) (λ v. longer r.body _ _ v)
           (λ s. clash_after p mid right alone s outer.right);
       rules = inner.left;
     }
@@ -356,7 +356,7 @@ mentions_done D path from to rules h =
     (subst (λ (q : List Part). IsDoneAt D q (r.body ++ (step 0 (Some c.name) ++ c.more)) mid mid') (sym (append_assoc r.body (step 0 (Some c.name)) d.prefix))
     (done_below D r.body (step 0 (Some c.name) ++ d.prefix) (step 0 (Some c.name) ++ c.more) (keyval_mentions c.name c.old) (keyval_mentions c.name c.now) one)) in
     let three : IsDoneAt D prefix (p ++ c.more) (left ++ (mid ++ right)) (left ++ (mid' ++ right)) =
-    done_beside D prefix (p ++ c.more) mid mid' left right (all_longer p d.prefix left b.before) (all_longer p d.prefix right b.behind) two in
+    done_beside D prefix (p ++ c.more) mid mid' left right (all_longer p d.prefix left b.before) (all_longer p d.prefix right b.after) two in
     record {
       prefix = prefix;
       at = subst (λ (q : List Part). IsDoneAt D prefix q (lines_mentions start from) (lines_mentions start to)) (sym c.place)
@@ -376,35 +376,35 @@ done_document profile D act does s path valid rules =
 -- the rules hold of the value that was there
 pub rules_there : (D : List Part → Value → Value → Type 0) (prefix path : List Part) (from to : List Mention) → (h : IsDoneAt D prefix path from to) → Rules from → Rules (tagged h.tag h.old)
 rules_there D prefix path from to h rules =
-    let outer = pairs_split Allowed h.before (map (below prefix) (tagged h.tag h.old) ++ h.behind) (subst Rules h.was rules) in
-    rules_below prefix (tagged h.tag h.old) (pairs_split Allowed (map (below prefix) (tagged h.tag h.old)) h.behind outer.right).left
+    let outer = pairs_split Allowed h.before (map (below prefix) (tagged h.tag h.old) ++ h.after) (subst Rules h.was rules) in
+    rules_below prefix (tagged h.tag h.old) (pairs_split Allowed (map (below prefix) (tagged h.tag h.old)) h.after outer.right).left
 
 -- the rules hold, if they do of the new value
 pub rules_done : (D : List Part → Value → Value → Type 0) (prefix path : List Part) (from to : List Mention) → (h : IsDoneAt D prefix path from to) → Rules from
     → Rules (map (below prefix) (tagged h.tag h.now)) → Rules to
 rules_done D prefix path from to h rules new =
     subst Rules (sym h.is)
-    (rules_replaced prefix h.before (map (below prefix) (tagged h.tag h.old)) (map (below prefix) (tagged h.tag h.now)) h.behind (subst Rules h.was rules) h.disjoint_before h.disjoint_after
+    (rules_replaced prefix h.before (map (below prefix) (tagged h.tag h.old)) (map (below prefix) (tagged h.tag h.now)) h.after (subst Rules h.was rules) h.disjoint_before h.disjoint_after
     (under_below prefix (tagged h.tag h.now)) new)
 
 pub elsewhere_done : (D : List Part → Value → Value → Type 0) (prefix path : List Part) (from to : List Mention) → (h : IsDoneAt D prefix path from to)
     → (q : List Part) → strip prefix q ≡ None → fact_at q to ≡ fact_at q from
 elsewhere_done D prefix path from to h q e =
     ap (fact_at q) h.is
-    ∙ fact_elsewhere prefix q h.before (map (below prefix) (tagged h.tag h.old)) (map (below prefix) (tagged h.tag h.now)) h.behind (under_below prefix (tagged h.tag h.old)) (under_below prefix (tagged h.tag h.now)) e
+    ∙ fact_elsewhere prefix q h.before (map (below prefix) (tagged h.tag h.old)) (map (below prefix) (tagged h.tag h.now)) h.after (under_below prefix (tagged h.tag h.old)) (under_below prefix (tagged h.tag h.now)) e
     ∙ ap (fact_at q) (sym h.was)
 
-under_run : (prefix q r : List Part) (before inner behind : List Mention) → AllOf (IsDisjoint prefix) before → AllOf (IsDisjoint prefix) behind → strip prefix q ≡ Some r
-    → fact_at q (before ++ (map (below prefix) inner ++ behind)) ≡ fact_at r inner
-under_run prefix q r before inner behind hb hh e =
-    fact_under prefix q r before (map (below prefix) inner) behind hb hh e
+under_run : (prefix q r : List Part) (before inner after : List Mention) → AllOf (IsDisjoint prefix) before → AllOf (IsDisjoint prefix) after → strip prefix q ≡ Some r
+    → fact_at q (before ++ (map (below prefix) inner ++ after)) ≡ fact_at r inner
+under_run prefix q r before inner after hb hh e =
+    fact_under prefix q r before (map (below prefix) inner) after hb hh e
     ∙ ap (λ (x : List Part). fact_at x (map (below prefix) inner)) (strip-sound prefix q r e)
     ∙ ap (λ l. first_of (filter_map fact_of l)) (kinds_at-below prefix r inner)
 
 pub there_now : (D : List Part → Value → Value → Type 0) (prefix path : List Part) (from to : List Mention) → (h : IsDoneAt D prefix path from to)
     → (q r : List Part) → strip prefix q ≡ Some r → fact_at q to ≡ fact_at r (tagged h.tag h.now)
-there_now D prefix path from to h q r e = ap (fact_at q) h.is ∙ under_run prefix q r h.before (tagged h.tag h.now) h.behind h.disjoint_before h.disjoint_after e
+there_now D prefix path from to h q r e = ap (fact_at q) h.is ∙ under_run prefix q r h.before (tagged h.tag h.now) h.after h.disjoint_before h.disjoint_after e
 
 pub there_before : (D : List Part → Value → Value → Type 0) (prefix path : List Part) (from to : List Mention) → (h : IsDoneAt D prefix path from to)
     → (q r : List Part) → strip prefix q ≡ Some r → fact_at q from ≡ fact_at r (tagged h.tag h.old)
-there_before D prefix path from to h q r e = ap (fact_at q) h.was ∙ under_run prefix q r h.before (tagged h.tag h.old) h.behind h.disjoint_before h.disjoint_after e
+there_before D prefix path from to h q r e = ap (fact_at q) h.was ∙ under_run prefix q r h.before (tagged h.tag h.old) h.after h.disjoint_before h.disjoint_after e

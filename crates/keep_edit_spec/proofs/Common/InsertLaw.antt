@@ -89,11 +89,11 @@ facts-append : (q : List Part) (xs ys : List Mention) → filter_map fact_of (ki
 facts-append q xs ys = ap (filter_map fact_of) (kinds_at-append q xs ys) ∙ filter_map-append fact_of (kinds_at q xs) (kinds_at q ys)
 
 -- what tells no fact may be left out
-pub without_ways : (q : List Part) (before ways behind : List Mention) → AllOf (λ m. fact_of m.kind ≡ None) ways → fact_at q ((before ++ ways) ++ behind) ≡ fact_at q (before ++ behind)
-without_ways q before ways behind h =
-    ap first_of (facts-append q (before ++ ways) behind
-    ∙ ap (λ l. l ++ filter_map fact_of (kinds_at q behind)) (facts-append q before ways ∙ ap (λ l. filter_map fact_of (kinds_at q before) ++ l) (no_facts q ways h) ∙ append-nil (filter_map fact_of (kinds_at q before)))
-    ∙ sym (facts-append q before behind))
+pub without_ways : (q : List Part) (before ways after : List Mention) → AllOf (λ m. fact_of m.kind ≡ None) ways → fact_at q ((before ++ ways) ++ after) ≡ fact_at q (before ++ after)
+without_ways q before ways after h =
+    ap first_of (facts-append q (before ++ ways) after
+    ∙ ap (λ l. l ++ filter_map fact_of (kinds_at q after)) (facts-append q before ways ∙ ap (λ l. filter_map fact_of (kinds_at q before) ++ l) (no_facts q ways h) ∙ append-nil (filter_map fact_of (kinds_at q before)))
+    ∙ sym (facts-append q before after))
 
 pub none_below : (s : List Part) (ms : List Mention) → AllOf (λ m. fact_of m.kind ≡ None) ms → AllOf (λ m. fact_of m.kind ≡ None) (map (below s) ms)
 none_below s [] h = tt
@@ -110,11 +110,11 @@ KeyvalFact p v ms q = elim (strip p q) [ Some more ↦ fact_at more (mentions_of
 tidy : (a b c d : List Mention) → a ++ ((b ++ c) ++ d) ≡ (a ++ b) ++ (c ++ d)
 tidy a b c d = simp append_assoc refl
 
-pub tree_put-by : (a : List Part) (name : Name) (v : Value) (before behind : List Mention)
+pub tree_put-by : (a : List Part) (name : Name) (v : Value) (before after : List Mention)
     → (let p : List Part = a ++ step 0 (Some name) in
-    AllOf (IsDisjoint p) before → AllOf (IsDisjoint p) behind → (q : List Part) (o : Option (List Part)) → strip p q ≡ o
-    → fact_at q (before ++ (map (below a) (keyval_mentions name v) ++ behind)) ≡ elim o [ Some more ↦ fact_at more (mentions_of_value v) | None ↦ fact_at q (before ++ behind) ])
-tree_put-by a name v before behind hb hh q o e = by o e
+    AllOf (IsDisjoint p) before → AllOf (IsDisjoint p) after → (q : List Part) (o : Option (List Part)) → strip p q ≡ o
+    → fact_at q (before ++ (map (below a) (keyval_mentions name v) ++ after)) ≡ elim o [ Some more ↦ fact_at more (mentions_of_value v) | None ↦ fact_at q (before ++ after) ])
+tree_put-by a name v before after hb hh q o e = by o e
   where
     p : List Part
     p = a ++ step 0 (Some name)
@@ -125,23 +125,23 @@ tree_put-by a name v before behind hb hh q o e = by o e
     vs : List Mention
     vs = valued_mentions (value (body_fact v.body)) (entries_mentions 0 v.nested)
 
-    shape : before ++ (map (below a) (keyval_mentions name v) ++ behind) ≡ (before ++ ways) ++ (map (below p) vs ++ behind)
-    shape = ap (λ l. before ++ (l ++ behind))
+    shape : before ++ (map (below a) (keyval_mentions name v) ++ after) ≡ (before ++ ways) ++ (map (below p) vs ++ after)
+    shape = ap (λ l. before ++ (l ++ after))
         (ap (map (below a)) (keyed_split (keys_of name.key) vs) ∙ map-append (below a) (keyed_mentions (keys_of name.key) []) (map (below (map key (keys_of name.key))) vs)
         ∙ ap (λ l. ways ++ l) (map_twice a (map key (keys_of name.key)) vs))
-        ∙ tidy before ways (map (below p) vs) behind
+        ∙ tidy before ways (map (below p) vs) after
 
     disjoint_paths : AllOf (IsDisjoint p) ways
     disjoint_paths = disjoint_below a (map key (keys_of name.key)) (keyed_mentions (keys_of name.key) []) (keyed_disjoint (key_value name.key.first) (map further_value name.key.more))
 
-    by : (o : Option (List Part)) → strip p q ≡ o → fact_at q (before ++ (map (below a) (keyval_mentions name v) ++ behind)) ≡ elim o [ Some more ↦ fact_at more (mentions_of_value v) | None ↦ fact_at q (before ++ behind) ]
+    by : (o : Option (List Part)) → strip p q ≡ o → fact_at q (before ++ (map (below a) (keyval_mentions name v) ++ after)) ≡ elim o [ Some more ↦ fact_at more (mentions_of_value v) | None ↦ fact_at q (before ++ after) ]
     by None e =
         ap (fact_at q) shape
-        ∙ fact_elsewhere p q (before ++ ways) [] (map (below p) vs) behind tt (under_below p vs) e
-        ∙ without_ways q before ways behind (none_below a (keyed_mentions (keys_of name.key) []) (dots_none (keys_of name.key)))
+        ∙ fact_elsewhere p q (before ++ ways) [] (map (below p) vs) after tt (under_below p vs) e
+        ∙ without_ways q before ways after (none_below a (keyed_mentions (keys_of name.key) []) (dots_none (keys_of name.key)))
     by (Some r) e =
         ap (fact_at q) shape
-        ∙ fact_under p q r (before ++ ways) (map (below p) vs) behind (all_join (IsDisjoint p) before ways hb disjoint_paths) hh e
+        ∙ fact_under p q r (before ++ ways) (map (below p) vs) after (all_join (IsDisjoint p) before ways hb disjoint_paths) hh e
         ∙ ap (λ (x : List Part). fact_at x (map (below p) vs)) (strip-sound p q r e)
         ∙ ap (λ l. first_of (filter_map fact_of l)) (kinds_at-below p r vs)
         ∙ valued_facts (value (body_fact v.body)) (item (body_fact v.body)) (entries_mentions 0 v.nested) r refl (same_path [] r) refl
@@ -166,13 +166,13 @@ keyval_law s n name v few fresh rules value_rules =
     let far : AllOf (IsDisjoint p) (mentions_in s) = subst (λ (x : List Part). AllOf (IsDisjoint x) (mentions_in s)) (append_assoc a (key k ∷ []) (map key ks)) (all_longer p0 (map key ks) (mentions_in s) disjoint) in
     each_to (λ s'. IsPut start n (lines s) new (mentions_in s')) (IsKeyvalLaw s p v) (at_line s n (keyval name v ∷ []))
     (λ s' h.
-    let both : AllOf (IsDisjoint p) (h.before ++ h.behind) = subst (λ (l : List Mention). AllOf (IsDisjoint p) l) h.was far in
+    let both : AllOf (IsDisjoint p) (h.before ++ h.after) = subst (λ (l : List Mention). AllOf (IsDisjoint p) l) h.was far in
     record {
       rules = rules_put p0 start n (lines s) new (mentions_in s') h rules disjoint
           (under_both a (key k ∷ []) (keyval_mentions name v) (keyed_under k ks (valued_mentions (value (body_fact v.body)) (entries_mentions 0 v.nested))))
           (rules_outside a (keyval_mentions name v) (rules_keyval name v value_rules));
       tree = λ q. ap (fact_at q) h.is
-          ∙ tree_put-by a name v h.before h.behind (all_left (IsDisjoint p) h.before h.behind both) (all_right (IsDisjoint p) h.before h.behind both) q (strip p q) refl
+          ∙ tree_put-by a name v h.before h.after (all_left (IsDisjoint p) h.before h.after both) (all_right (IsDisjoint p) h.before h.after both) q (strip p q) refl
           ∙ ap (λ (l : List Mention). KeyvalFact p v l q) (sym h.was);
     })
     (keyval_put s n name v few)

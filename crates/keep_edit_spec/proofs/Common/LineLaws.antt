@@ -145,7 +145,7 @@ header_closed tables p at (l ∷ ks) k mention_kind s ends =
 pub record IsLineClosed (p : List Part) (r : Reading) (l : Line) : Type 0 where
   pub each : ClosedFrom p r.body (line_mentions r l) (line_mentions r l)
   -- where the next line's body lies under the path, so did this line's, or this line speaks of the path
-  pub behind : Reaches p (after_line r l).body → SomeOf (IsSolidAt p) (line_mentions r l) ⊎ Reaches p r.body
+  pub after : Reaches p (after_line r l).body → SomeOf (IsSolidAt p) (line_mentions r l) ⊎ Reaches p r.body
 
 keyval_closed : (p body : List Part) (all ms : List Mention) → ((q : Part) (qs : List Part) → ClosedAt (q ∷ qs) all ms) → ClosedFrom p body (map (below body) all) (map (below body) ms)
 keyval_closed p body all [] h = tt
@@ -169,10 +169,10 @@ header_line p body all ends (inr v) = absurd (never_root p ends v)
 
 content_closed : (p : List Part) (r : Reading) (before : Gap) (after' : Gap) (comment : Option Written) → EndsInKey p → (c : Content)
     → IsLineClosed p r (record { before = before; content = c; after = after'; comment = comment })
-content_closed p r before after' comment ends blank = record { each = tt; behind = λ u. inr u }
+content_closed p r before after' comment ends blank = record { each = tt; after = λ u. inr u }
 content_closed p r before after' comment ends (keyval name v) = record {
   each = keyval_closed p r.body (keyval_mentions name v) (keyval_mentions name v) (closed_named 0 (Some name) (body_fact v.body) (entries_mentions 0 v.nested) (closed_entries 0 v.nested));
-  behind = λ u. inr u;
+  after = λ u. inr u;
 }
 content_closed p r before after' comment ends (header b k a) =
     let all : List Mention = header_all r.tables [] (keys_of k) define in
@@ -180,7 +180,7 @@ content_closed p r before after' comment ends (header b k a) =
     record {
       each = all_map (λ m. IsUnder p m → SomeOf (IsSolidAt p) all ⊎ Reaches p []) (λ m. IsUnder p m → SomeOf (IsSolidAt p) all ⊎ Reaches p r.body)
           (λ m f u. header_line p r.body all ends (f u)) all h.each;
-      behind = λ u. header_line p r.body all ends (h.path u);
+      after = λ u. header_line p r.body all ends (h.path u);
     }
 content_closed p r before after' comment ends (element b k a) =
     let path : List Part = header_path r.tables [] (keys_of k) in
@@ -200,7 +200,7 @@ content_closed p r before after' comment ends (element b k a) =
           (all_map (λ m. IsUnder p m → SomeOf (IsSolidAt p) first ⊎ Reaches p []) (λ m. IsUnder p m → SomeOf (IsSolidAt p) (first ++ more) ⊎ Reaches p r.body)
           (λ m f u. lift (f u)) first h.each)
           ((λ u. lift (h.path (index_cases p path n ends u))), tt));
-      behind = λ u. subst (λ (l : List Mention). SomeOf (IsSolidAt p) l ⊎ Reaches p r.body) whole (lift (h.path (index_cases p path n ends u)));
+      after = λ u. subst (λ (l : List Mention). SomeOf (IsSolidAt p) l ⊎ Reaches p r.body) whole (lift (h.path (index_cases p path n ends u)));
     }
 
 pub line_closed : (p : List Part) (r : Reading) (l : Line) → EndsInKey p → IsLineClosed p r l
@@ -221,7 +221,7 @@ lines_closed p r (l ∷ ls) ends =
     all_join (λ m. IsUnder p m → SomeOf (IsSolidAt p) (first ++ rest) ⊎ Reaches p r.body) first rest
     (all_map (λ m. IsUnder p m → SomeOf (IsSolidAt p) first ⊎ Reaches p r.body) (λ m. IsUnder p m → SomeOf (IsSolidAt p) (first ++ rest) ⊎ Reaches p r.body) (λ m f u. lift (f u)) first h.each)
     (all_map (λ m. IsUnder p m → SomeOf (IsSolidAt p) rest ⊎ Reaches p (after_line r l).body) (λ m. IsUnder p m → SomeOf (IsSolidAt p) (first ++ rest) ⊎ Reaches p r.body)
-    (λ m f u. elim (f u) [ inl t ↦ inl (some_right (IsSolidAt p) first rest t) | inr v ↦ lift (h.behind v) ]) rest (lines_closed p (after_line r l) ls ends))
+    (λ m f u. elim (f u) [ inl t ↦ inl (some_right (IsSolidAt p) first rest t) | inr v ↦ lift (h.after v) ]) rest (lines_closed p (after_line r l) ls ends))
 
 pub lines_mentions-append : (r : Reading) (a b : List Line) → lines_mentions r (a ++ b) ≡ lines_mentions r a ++ lines_mentions (reading_after_lines r a) b
 lines_mentions-append r [] b = refl

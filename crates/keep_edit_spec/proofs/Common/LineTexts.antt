@@ -53,8 +53,8 @@ in_content-by act h name value (Some more) =
 pub in_content-is : (act : Act) → IsAct act → (body path : List Part) (c : Content) → EachIs content_text c (in_content act body path c)
 in_content-is act h body path blank = tt
 in_content-is act h body path (keyval name value) = in_content-by act h name value (strip (body ++ step 0 (Some name)) path)
-in_content-is act h body path (header before k behind) = tt
-in_content-is act h body path (element before k behind) = tt
+in_content-is act h body path (header before k after) = tt
+in_content-is act h body path (element before k after) = tt
 
 line-text : (l : Line) (y : Content) → line_text (record l { content = y }) ≡ text_of l.before ++ (content_text y ++ (text_of l.after ++ text_of (comment_leaves l.comment)))
 line-text l y = simp text_of-append refl
@@ -68,11 +68,11 @@ pub rename_content-is : (new : Written) (n : ℕ) (c : Content) → EachIs conte
 rename_content-is new n blank = tt
 rename_content-is new n (keyval name value) =
     within-is name_text_of content_text (λ nm. keyval nm value) [] (text_of_value value) name (rename_name new n name) (λ y. text_of-append (name_leaves y) _) (rename_name-is new n name)
-rename_content-is new n (header before k behind) =
-    within-is key_text_of content_text (λ k. header before k behind) (codes "[" ++ text_of before) (text_of behind ++ codes "]") k (rename_part new n k)
+rename_content-is new n (header before k after) =
+    within-is key_text_of content_text (λ k. header before k after) (codes "[" ++ text_of before) (text_of after ++ codes "]") k (rename_part new n k)
     (λ y. simp (text_of-append, append_assoc) refl) (rename_part-is new n k)
-rename_content-is new n (element before k behind) =
-    within-is key_text_of content_text (λ k. element before k behind) (codes "[[" ++ text_of before) (text_of behind ++ codes "]]") k (rename_part new n k)
+rename_content-is new n (element before k after) =
+    within-is key_text_of content_text (λ k. element before k after) (codes "[[" ++ text_of before) (text_of after ++ codes "]]") k (rename_part new n k)
     (λ y. simp (text_of-append, append_assoc) refl) (rename_part-is new n k)
 
 rename_line-by : (new : Written) (l : Line) (o : Option ℕ) → EachIs line_text l (elim o [
@@ -94,7 +94,7 @@ clear-by : (l : Line) (c : Written) → l.comment ≡ Some c → (b : Bool) → 
     before = text_of l.before;
     old = content_text l.content ++ text_of l.after;
     new = [];
-    behind = c.text;
+    after = c.text;
   })
 ])
 clear-by l c e false = tt
@@ -112,7 +112,7 @@ clear-comment : (path : List Part) (r : Reading) (l : Line) (o : Option Written)
       before = text_of l.before;
       old = content_text l.content ++ text_of l.after;
       new = [];
-      behind = c.text;
+      after = c.text;
     })
   ]
 ])
@@ -151,11 +151,11 @@ drop_prefix-is zero (e ∷ es) last = (record { was = refl; is = refl }, refl)
 drop_prefix-is (suc m) (e ∷ es) last =
     let (h, b) = drop_prefix-is m es last in
     let c : Changed Page = drop_prefix m es last in
-    let rest : page_text (record { ended = es; last = last }) ≡ c.old ++ c.behind = h.was ∙ ap (λ t. t ++ (c.old ++ c.behind)) b in (
+    let rest : page_text (record { ended = es; last = last }) ≡ c.old ++ c.after = h.was ∙ ap (λ t. t ++ (c.old ++ c.after)) b in (
       record {
         was = page-cons e (record { ended = es; last = last }) ∙ ap (λ t. text_of (ended_leaves e) ++ (t ++ [])) rest
-            ∙ (let tidy : text_of (ended_leaves e) ++ ((c.old ++ c.behind) ++ []) ≡ (text_of (ended_leaves e) ++ c.old) ++ c.behind = simp (append_assoc, append-nil) refl in tidy)
-            ∙ sym (ap (λ t. t ++ ((text_of (ended_leaves e) ++ c.old) ++ c.behind)) b);
+            ∙ (let tidy : text_of (ended_leaves e) ++ ((c.old ++ c.after) ++ []) ≡ (text_of (ended_leaves e) ++ c.old) ++ c.after = simp (append_assoc, append-nil) refl in tidy)
+            ∙ sym (ap (λ t. t ++ ((text_of (ended_leaves e) ++ c.old) ++ c.after)) b);
         is = h.is;
       },
       b,

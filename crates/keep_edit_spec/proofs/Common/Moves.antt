@@ -42,35 +42,35 @@ rules_moved P f inj [] h g = tt
 rules_moved P f inj (m ∷ ms) h g = (allowed_moved P f inj m ms h.0 h.1 g.0, rules_moved P f inj ms h.1 g.1)
 
 -- without a run the rules hold
-pub rules_taken : (before old behind : List Mention) → Rules (before ++ (old ++ behind)) → Rules (before ++ behind)
-rules_taken before old behind h =
-    let outer = pairs_split Allowed before (old ++ behind) h in
-    let inner = pairs_split Allowed old behind outer.right in
-    pairs_join Allowed before behind (record { left = outer.left; right = inner.right; across = across_right Allowed before old behind outer.across })
+pub rules_taken : (before old after : List Mention) → Rules (before ++ (old ++ after)) → Rules (before ++ after)
+rules_taken before old after h =
+    let outer = pairs_split Allowed before (old ++ after) h in
+    let inner = pairs_split Allowed old after outer.right in
+    pairs_join Allowed before after (record { left = outer.left; right = inner.right; across = across_right Allowed before old after outer.across })
 
 -- The general change: a run is replaced (either may be empty), and the paths of the others are changed by f. P tells
 -- which paths those are. Only pairs with the new run are to be looked at.
 pub record IsMove (P : List Part → Type 0) (f : List Part → List Part) (from to new : List Mention) : Type 0 where
   pub before : List Mention
   pub old : List Mention
-  pub behind : List Mention
-  pub was : from ≡ before ++ (old ++ behind)
-  pub is : to ≡ map (moved f) before ++ (new ++ map (moved f) behind)
+  pub after : List Mention
+  pub was : from ≡ before ++ (old ++ after)
+  pub is : to ≡ map (moved f) before ++ (new ++ map (moved f) after)
   pub preserved_before : AllOf (λ m. P m.path) before
-  pub preserved_after : AllOf (λ m. P m.path) behind
+  pub preserved_after : AllOf (λ m. P m.path) after
 
 pub rules_move : (P : List Part → Type 0) (f : List Part → List Part) → IsInjectiveOn P f → (from to new : List Mention) → (h : IsMove P f from to new)
-    → Rules from → Rules new → Across Allowed (map (moved f) h.before) new → Across Allowed new (map (moved f) h.behind) → Rules to
+    → Rules from → Rules new → Across Allowed (map (moved f) h.before) new → Across Allowed new (map (moved f) h.after) → Rules to
 rules_move P f inj from to new h rules rules_new left right =
-    let rest : Rules (h.before ++ h.behind) = rules_taken h.before h.old h.behind (subst Rules h.was rules) in
-    let all : Rules (map (moved f) h.before ++ map (moved f) h.behind) =
-    subst Rules (map-append (moved f) h.before h.behind) (rules_moved P f inj (h.before ++ h.behind) (all_join (λ m. P m.path) h.before h.behind h.preserved_before h.preserved_after) rest) in
-    let parts = pairs_split Allowed (map (moved f) h.before) (map (moved f) h.behind) all in
+    let rest : Rules (h.before ++ h.after) = rules_taken h.before h.old h.after (subst Rules h.was rules) in
+    let all : Rules (map (moved f) h.before ++ map (moved f) h.after) =
+    subst Rules (map-append (moved f) h.before h.after) (rules_moved P f inj (h.before ++ h.after) (all_join (λ m. P m.path) h.before h.after h.preserved_before h.preserved_after) rest) in
+    let parts = pairs_split Allowed (map (moved f) h.before) (map (moved f) h.after) all in
     subst Rules (sym h.is)
-    (pairs_join Allowed (map (moved f) h.before) (new ++ map (moved f) h.behind) (record {
+    (pairs_join Allowed (map (moved f) h.before) (new ++ map (moved f) h.after) (record {
       left = parts.left;
-      right = pairs_join Allowed new (map (moved f) h.behind) (record { left = rules_new; right = parts.right; across = right });
-      across = across_both (map (moved f) h.before) new (map (moved f) h.behind) left parts.across;
+      right = pairs_join Allowed new (map (moved f) h.after) (record { left = rules_new; right = parts.right; across = right });
+      across = across_both (map (moved f) h.before) new (map (moved f) h.after) left parts.across;
     }))
   where
     across_both : (xs ys zs : List Mention) → Across Allowed xs ys → Across Allowed xs zs → Across Allowed xs (ys ++ zs)
@@ -152,9 +152,9 @@ entries_after n k (entry name body nested after comma rest) h =
 pub record IsTaken (n k : ℕ) (from to : Entries) : Type 0 where
   pub before : List Mention
   pub old : List Mention
-  pub behind : List Mention
-  pub was : entries_mentions k from ≡ before ++ (old ++ behind)
-  pub is : entries_mentions k to ≡ map (moved (down n)) (before ++ behind)
+  pub after : List Mention
+  pub was : entries_mentions k from ≡ before ++ (old ++ after)
+  pub is : entries_mentions k to ≡ map (moved (down n)) (before ++ after)
 
 abbrev pub Unnamed : Entries → Type 0
 Unnamed none = ⊤
@@ -183,46 +183,46 @@ taken_one : (n k : ℕ) (name : Option Name) (body : Body) (nested : Entries) (a
 taken_one n k name body nested after comma rest h = record {
   before = [];
   old = entry_mentions k name (body_fact body) (entries_mentions 0 nested);
-  behind = entries_mentions (k + 1) rest;
+  after = entries_mentions (k + 1) rest;
   was = refl;
   is = sym (entries_after n k rest h);
 }
 
-taken_two : (n k : ℕ) (gap : Gap) (name : Option Name) (body : Body) (nested : Entries) (after behind : Gap)
+taken_two : (n k : ℕ) (gap : Gap) (name : Option Name) (body : Body) (nested : Entries) (after next_gap : Gap)
     (name' : Option Name) (body' : Body) (nested' : Entries) (after' : Gap) (comma' : Option Gap) (rest' : Entries)
     (further : Option (Changed Row)) → k ≤ n → name ≡ None → (b c : Bool) → same_path (step k name) (index n ∷ []) ≡ b → is_last_named (index n ∷ []) (k + 1) (entry name' body' nested' after' comma' rest') ≡ c
     → (k + 1 ≤ n → EachTo (λ r. IsTaken n (k + 1) (entry name' body' nested' after' comma' rest') r.entries) further)
-    → EachTo {A = Row} (λ r. IsTaken n k (entry name body nested after (Some behind) (entry name' body' nested' after' comma' rest')) r.entries) (elim b [
-      | true ↦ Some (taken_first gap name body nested after behind (entry name' body' nested' after' comma' rest'))
+    → EachTo {A = Row} (λ r. IsTaken n k (entry name body nested after (Some next_gap) (entry name' body' nested' after' comma' rest')) r.entries) (elim b [
+      | true ↦ Some (taken_first gap name body nested after next_gap (entry name' body' nested' after' comma' rest'))
       | false ↦ elim c [
-        | true ↦ Some (taken_last gap name body nested after behind name' body' nested' after')
+        | true ↦ Some (taken_last gap name body nested after next_gap name' body' nested' after')
         | false ↦ within (λ r. record { gap = gap; entries = entry name body nested after (Some r.gap) r.entries })
             (text_of gap ++ (entry_prefix name body nested ++ (text_of after ++ codes ","))) [] further
       ]
     ])
-taken_two n k gap name body nested after behind name' body' nested' after' comma' rest' further h u true c e e' ih =
-    taken_one n k name body nested after (Some behind) (entry name' body' nested' after' comma' rest') (let same : k ≡ n = its_number k n name e in omega arith)
-taken_two n k gap name body nested after behind name' body' nested' after' None none further h u false true e e' ih = record {
+taken_two n k gap name body nested after next_gap name' body' nested' after' comma' rest' further h u true c e e' ih =
+    taken_one n k name body nested after (Some next_gap) (entry name' body' nested' after' comma' rest') (let same : k ≡ n = its_number k n name e in omega arith)
+taken_two n k gap name body nested after next_gap name' body' nested' after' None none further h u false true e e' ih = record {
   before = entry_mentions k name (body_fact body) (entries_mentions 0 nested);
   old = entry_mentions (k + 1) name' (body_fact body') (entries_mentions 0 nested');
-  behind = [];
+  after = [];
   was = refl;
   is = ap (λ l. l ++ []) (sym (named_before n k name (body_fact body) (entries_mentions 0 nested) h)) ∙ sym (map-append (moved (down n)) (entry_mentions k name (body_fact body) (entries_mentions 0 nested)) []);
 }
-taken_two n k gap name body nested after behind name' body' nested' after' (Some g) rest' further h u false true e e' ih = absurd cc
-taken_two n k gap name body nested after behind name' body' nested' after' None (entry n2 b2 i2 a2 c2 r2) further h u false true e e' ih = absurd cc
-taken_two n k gap name body nested after behind name' body' nested' after' comma' rest' further h u false false e e' ih =
+taken_two n k gap name body nested after next_gap name' body' nested' after' (Some g) rest' further h u false true e e' ih = absurd cc
+taken_two n k gap name body nested after next_gap name' body' nested' after' None (entry n2 b2 i2 a2 c2 r2) further h u false true e e' ih = absurd cc
+taken_two n k gap name body nested after next_gap name' body' nested' after' comma' rest' further h u false false e e' ih =
     let first : List Mention = entry_mentions k name (body_fact body) (entries_mentions 0 nested) in
     to_within (λ r. IsTaken n (k + 1) (entry name' body' nested' after' comma' rest') r.entries)
-    (λ r. IsTaken n k (entry name body nested after (Some behind) (entry name' body' nested' after' comma' rest')) r.entries)
+    (λ r. IsTaken n k (entry name body nested after (Some next_gap) (entry name' body' nested' after' comma' rest')) r.entries)
     (λ r. record { gap = gap; entries = entry name body nested after (Some r.gap) r.entries }) _ [] further
     (λ r t. record {
       before = first ++ t.before;
       old = t.old;
-      behind = t.behind;
-      was = ap (λ l. first ++ l) t.was ∙ sym (append_assoc first t.before (t.old ++ t.behind));
-      is = ap (λ l. first ++ l) t.is ∙ ap (λ l. l ++ map (moved (down n)) (t.before ++ t.behind)) (sym (named_before n k name (body_fact body) (entries_mentions 0 nested) h))
-          ∙ sym (map-append (moved (down n)) first (t.before ++ t.behind)) ∙ ap (map (moved (down n))) (sym (append_assoc first t.before t.behind));
+      after = t.after;
+      was = ap (λ l. first ++ l) t.was ∙ sym (append_assoc first t.before (t.old ++ t.after));
+      is = ap (λ l. first ++ l) t.is ∙ ap (λ l. l ++ map (moved (down n)) (t.before ++ t.after)) (sym (named_before n k name (body_fact body) (entries_mentions 0 nested) h))
+          ∙ sym (map-append (moved (down n)) first (t.before ++ t.after)) ∙ ap (map (moved (down n))) (sym (append_assoc first t.before t.after));
     }) (ih (next_number k n name u e h))
 
 -- Taking an item out of an array: its run is gone, and the items after it have moved down by one.
@@ -232,14 +232,14 @@ item_taken n k gap (entry name body nested after None none) h u =
     taken_when (λ r. IsTaken n k (entry name body nested after None none) r.entries) (same_path (step k name) (index n ∷ [])) (taken_only gap name body nested after)
     (λ e. taken_one n k name body nested after None none (let same : k ≡ n = its_number k n name e in omega arith))
 item_taken n k gap (entry name body nested after None (entry name' body' nested' after' comma' rest')) h u = tt
-item_taken n k gap (entry name body nested after (Some behind) none) h u =
-    taken_when (λ r. IsTaken n k (entry name body nested after (Some behind) none) r.entries) (same_path (step k name) (index n ∷ [])) (taken_first gap name body nested after behind none)
-    (λ e. taken_one n k name body nested after (Some behind) none (let same : k ≡ n = its_number k n name e in omega arith))
-item_taken n k gap (entry name body nested after (Some behind) (entry name' body' nested' after' comma' rest')) h u =
-    taken_two n k gap name body nested after behind name' body' nested' after' comma' rest'
-    (take_out (index n ∷ []) (k + 1) behind (entry name' body' nested' after' comma' rest')) h u.0
+item_taken n k gap (entry name body nested after (Some next_gap) none) h u =
+    taken_when (λ r. IsTaken n k (entry name body nested after (Some next_gap) none) r.entries) (same_path (step k name) (index n ∷ [])) (taken_first gap name body nested after next_gap none)
+    (λ e. taken_one n k name body nested after (Some next_gap) none (let same : k ≡ n = its_number k n name e in omega arith))
+item_taken n k gap (entry name body nested after (Some next_gap) (entry name' body' nested' after' comma' rest')) h u =
+    taken_two n k gap name body nested after next_gap name' body' nested' after' comma' rest'
+    (take_out (index n ∷ []) (k + 1) next_gap (entry name' body' nested' after' comma' rest')) h u.0
     (same_path (step k name) (index n ∷ [])) (is_last_named (index n ∷ []) (k + 1) (entry name' body' nested' after' comma' rest')) refl refl
-    (λ g. item_taken n (k + 1) behind (entry name' body' nested' after' comma' rest') g u.1)
+    (λ g. item_taken n (k + 1) next_gap (entry name' body' nested' after' comma' rest') g u.1)
 
 not_it : (n : ℕ) (p : Part) (ps : List Part) (b : Bool) → same_part (index n) p ≡ b → strip (index n ∷ []) (p ∷ ps) ≡ None → same_part (index n) p ≡ false
 not_it n p ps true e h =

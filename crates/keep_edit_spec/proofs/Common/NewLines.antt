@@ -58,7 +58,7 @@ of_further : (profile : Profile) (fs : List Further) → AllByRecursion (IsFurth
 of_further profile [] h = tt
 of_further profile (f ∷ fs) h =
     all_join IsSound (further_leaves f) (flat_map further_leaves fs)
-    (all_join IsSound f.before _ (of_space f.before h.0.before) ((λ e. absurd cc), all_join IsSound f.behind _ (of_space f.behind h.0.behind) (of_kind is_key_leaf f.part refl h.0.part.0, tt)))
+    (all_join IsSound f.before _ (of_space f.before h.0.before) ((λ e. absurd cc), all_join IsSound f.after _ (of_space f.after h.0.after) (of_kind is_key_leaf f.part refl h.0.part.0, tt)))
     (of_further profile fs h.1)
 
 of_key : (profile : Profile) (k : Key) → IsKey profile k → AllOf IsSound (key_leaves k)
@@ -66,7 +66,7 @@ of_key profile k h = (of_kind is_key_leaf k.first refl h.first.0, of_further pro
 
 of_name : (profile : Profile) (n : Name) → IsName profile n → AllOf IsSound (name_leaves n)
 of_name profile n h =
-    all_join IsSound (key_leaves n.key) _ (of_key profile n.key h.key) (all_join IsSound n.before _ (of_space n.before h.before) ((λ e. absurd cc), of_space n.behind h.behind))
+    all_join IsSound (key_leaves n.key) _ (of_key profile n.key h.key) (all_join IsSound n.before _ (of_space n.before h.before) ((λ e. absurd cc), of_space n.after h.after))
 
 of_named : (profile : Profile) (place : Place) (n : Option Name) → IsNamed profile place n → AllOf IsSound (named_leaves n)
 of_named profile place None h = tt
@@ -204,7 +204,7 @@ pub record IsKeyText (profile : Profile) (k : List ℕ) : Type 0 where
 
 valid_further : (profile : Profile) (ks : List (List ℕ)) → AllOf (IsKeyText profile) ks → AllByRecursion (IsFurther profile) (map further_part ks)
 valid_further profile [] h = tt
-valid_further profile (k ∷ ks) h = (record { before = tt; behind = tt; part = h.0.valid }, valid_further profile ks h.1)
+valid_further profile (k ∷ ks) h = (record { before = tt; after = tt; part = h.0.valid }, valid_further profile ks h.1)
 
 pub valid_key : (profile : Profile) (k : List ℕ) (ks : List (List ℕ)) → AllOf (IsKeyText profile) (k ∷ ks) → IsKey profile (key_with (k ∷ ks))
 valid_key profile k ks h = record { first = h.0.valid; more = valid_further profile ks h.1 }
@@ -213,7 +213,7 @@ one_space : IsSpace space
 one_space = (refl, (omega arith, refl))
 
 pub valid_name : (profile : Profile) (k : List ℕ) (ks : List (List ℕ)) → AllOf (IsKeyText profile) (k ∷ ks) → IsName profile (name_with (k ∷ ks))
-valid_name profile k ks h = record { key = valid_key profile k ks h; before = one_space; behind = one_space }
+valid_name profile k ks h = record { key = valid_key profile k ks h; before = one_space; after = one_space }
 
 means_further : (profile : Profile) (ks : List (List ℕ)) → AllOf (IsKeyText profile) ks → map further_value (map further_part ks) ≡ ks
 means_further profile [] h = refl

@@ -34,9 +34,9 @@ put_mentions r (suc m) new newline (e ∷ es) last h =
 -- what the new lines say is put in; they leave the reading as it is
 pub record IsPut (r : Reading) (n : ℕ) (ls : List Line) (new : List Mention) (to : List Mention) : Type 0 where
   pub before : List Mention
-  pub behind : List Mention
-  pub was : lines_mentions r ls ≡ before ++ behind
-  pub is : to ≡ before ++ (new ++ behind)
+  pub after : List Mention
+  pub was : lines_mentions r ls ≡ before ++ after
+  pub is : to ≡ before ++ (new ++ after)
 
 cut_lines : (n : ℕ) (ls : List Line) → take n ls ++ drop n ls ≡ ls
 cut_lines n ls = take-append-drop n ls
@@ -51,7 +51,7 @@ lines_put n new newline es last h keeps =
     let r : Reading = reading_after_lines start (take n ls) in
     record {
       before = lines_mentions start (take n ls);
-      behind = lines_mentions r (drop n ls);
+      after = lines_mentions r (drop n ls);
       was = ap (lines_mentions start) (sym (cut_lines n ls)) ∙ lines_mentions-append start (take n ls) (drop n ls);
       is = put_mentions start n new newline es last h
           ∙ lines_mentions-append start (take n ls) (map line_of new ++ drop n ls)
@@ -66,7 +66,7 @@ keyval_put s n name v h =
     let r : Reading = reading_after_lines start (take n (lines s)) in
     let few : n ≤ suc (length s.ended) = omega (arith, h, length-append (map line_of s.ended) (s.last ∷ []), length-map s.ended line_of) in
     let p = lines_put n (new_line (newline_of s) (keyval name v) ∷ []) (newline_of s) s.ended s.last few refl in
-    record { before = p.before; behind = p.behind; was = p.was; is = p.is ∙ ap (λ l. p.before ++ (l ++ p.behind)) (append-nil (map (below r.body) (keyval_mentions name v))) }
+    record { before = p.before; after = p.after; was = p.was; is = p.is ∙ ap (λ l. p.before ++ (l ++ p.after)) (append-nil (map (below r.body) (keyval_mentions name v))) }
 
 -- ---- the end of a body
 
@@ -91,6 +91,6 @@ body_keeps r (l ∷ ls) = content_keeps r l.before l.after l.comment l.content l
 pub rules_put : (p : List Part) (r : Reading) (n : ℕ) (ls : List Line) (new to : List Mention) → (h : IsPut r n ls new to) → Rules (lines_mentions r ls)
     → AllOf (IsDisjoint p) (lines_mentions r ls) → AllOf (IsUnder p) new → Rules new → Rules to
 rules_put p r n ls new to h rules disjoint under rules_new =
-    let both : AllOf (IsDisjoint p) (h.before ++ h.behind) = subst (λ (l : List Mention). AllOf (IsDisjoint p) l) h.was disjoint in
+    let both : AllOf (IsDisjoint p) (h.before ++ h.after) = subst (λ (l : List Mention). AllOf (IsDisjoint p) l) h.was disjoint in
     subst Rules (sym h.is)
-    (rules_replaced p h.before [] new h.behind (subst Rules h.was rules) (all_left (IsDisjoint p) h.before h.behind both) (all_right (IsDisjoint p) h.before h.behind both) under rules_new)
+    (rules_replaced p h.before [] new h.after (subst Rules h.was rules) (all_left (IsDisjoint p) h.before h.after both) (all_right (IsDisjoint p) h.before h.after both) under rules_new)

@@ -46,21 +46,21 @@ abbrev pub IsNamedIn : List Part → ℕ → Entries → Type 0
 IsNamedIn path n none = ⊥
 IsNamedIn path n (entry name body nested after comma rest) = (same_path (step n name) path ≡ true) ⊎ IsNamedIn path (n + 1) rest
 
-some_two : (path : List Part) (n : ℕ) (gap : Gap) (name : Option Name) (body : Body) (nested : Entries) (after behind : Gap)
+some_two : (path : List Part) (n : ℕ) (gap : Gap) (name : Option Name) (body : Body) (nested : Entries) (after next_gap : Gap)
     (name' : Option Name) (body' : Body) (nested' : Entries) (after' : Gap) (comma' : Option Gap) (rest' : Entries) (further : Option (Changed Row)) (b c : Bool)
     → (b ≡ true) ⊎ IsSome further
     → IsSome {A = Changed Row} (elim b [
-      | true ↦ Some (taken_first gap name body nested after behind (entry name' body' nested' after' comma' rest'))
+      | true ↦ Some (taken_first gap name body nested after next_gap (entry name' body' nested' after' comma' rest'))
       | false ↦ elim c [
-        | true ↦ Some (taken_last gap name body nested after behind name' body' nested' after')
+        | true ↦ Some (taken_last gap name body nested after next_gap name' body' nested' after')
         | false ↦ within (λ r. record { gap = gap; entries = entry name body nested after (Some r.gap) r.entries })
             (text_of gap ++ (entry_prefix name body nested ++ (text_of after ++ codes ","))) [] further
       ]
     ])
-some_two path n gap name body nested after behind name' body' nested' after' comma' rest' further true c s = tt
-some_two path n gap name body nested after behind name' body' nested' after' comma' rest' further false true s = tt
-some_two path n gap name body nested after behind name' body' nested' after' comma' rest' further false false (inl e) = absurd cc
-some_two path n gap name body nested after behind name' body' nested' after' comma' rest' further false false (inr s) =
+some_two path n gap name body nested after next_gap name' body' nested' after' comma' rest' further true c s = tt
+some_two path n gap name body nested after next_gap name' body' nested' after' comma' rest' further false true s = tt
+some_two path n gap name body nested after next_gap name' body' nested' after' comma' rest' further false false (inl e) = absurd cc
+some_two path n gap name body nested after next_gap name' body' nested' after' comma' rest' further false false (inr s) =
     some_within (λ r. record { gap = gap; entries = entry name body nested after (Some r.gap) r.entries }) (text_of gap ++ (entry_prefix name body nested ++ (text_of after ++ codes ","))) [] further s
 
 some_only : (b : Bool) (c : Changed Row) → (b ≡ true) ⊎ ⊥ → IsSome {A = Changed Row} (elim b [ true ↦ Some c | false ↦ None ])
@@ -72,11 +72,11 @@ some_take_out : (profile : Profile) (place : Place) (path : List Part) (n : ℕ)
 some_take_out profile place path n gap none valid s = absurd s
 some_take_out profile place path n gap (entry name body nested after None none) valid s = some_only (same_path (step n name) path) (taken_only gap name body nested after) s
 some_take_out profile place path n gap (entry name body nested after None (entry name' body' nested' after' comma' rest')) valid s = absurd valid.4
-some_take_out profile place path n gap (entry name body nested after (Some behind) none) valid s = some_only (same_path (step n name) path) (taken_first gap name body nested after behind none) s
-some_take_out profile place path n gap (entry name body nested after (Some behind) (entry name' body' nested' after' comma' rest')) valid s =
-    some_two path n gap name body nested after behind name' body' nested' after' comma' rest' (take_out path (n + 1) behind (entry name' body' nested' after' comma' rest'))
+some_take_out profile place path n gap (entry name body nested after (Some next_gap) none) valid s = some_only (same_path (step n name) path) (taken_first gap name body nested after next_gap none) s
+some_take_out profile place path n gap (entry name body nested after (Some next_gap) (entry name' body' nested' after' comma' rest')) valid s =
+    some_two path n gap name body nested after next_gap name' body' nested' after' comma' rest' (take_out path (n + 1) next_gap (entry name' body' nested' after' comma' rest'))
     (same_path (step n name) path) (is_last_named path (n + 1) (entry name' body' nested' after' comma' rest'))
-    (elim s [ inl e ↦ inl e | inr k ↦ inr (some_take_out profile place path (n + 1) behind (entry name' body' nested' after' comma' rest') valid.5 k) ])
+    (elim s [ inl e ↦ inl e | inr k ↦ inr (some_take_out profile place path (n + 1) next_gap (entry name' body' nested' after' comma' rest') valid.5 k) ])
 
 no_scalar : (profile : Profile) (w : Written) (path : List Part) (es : Entries) → IsValue profile (record { body = scalar w; nested = es }) → IsNamedIn path 0 es → ⊥
 no_scalar profile w path none valid s = s

@@ -155,15 +155,15 @@ across_under p [] ys h g = tt
 across_under p (x ∷ xs) ys h g = (all_map (IsDisjoint p) (Allowed x) (λ y a e. absurd (disjoint_under p y x a h.0 (sym e))) ys g, across_under p xs ys h.1 g)
 
 -- A run at and under a path, with nothing else there, may be replaced by another.
-pub rules_replaced : (p : List Part) (before old new behind : List Mention) → Rules (before ++ (old ++ behind))
-    → AllOf (IsDisjoint p) before → AllOf (IsDisjoint p) behind → AllOf (IsUnder p) new → Rules new → Rules (before ++ (new ++ behind))
-rules_replaced p before old new behind h hb hh hn rn =
-    let outer = pairs_split Allowed before (old ++ behind) h in
-    let inner = pairs_split Allowed old behind outer.right in
-    pairs_join Allowed before (new ++ behind) (record {
+pub rules_replaced : (p : List Part) (before old new after : List Mention) → Rules (before ++ (old ++ after))
+    → AllOf (IsDisjoint p) before → AllOf (IsDisjoint p) after → AllOf (IsUnder p) new → Rules new → Rules (before ++ (new ++ after))
+rules_replaced p before old new after h hb hh hn rn =
+    let outer = pairs_split Allowed before (old ++ after) h in
+    let inner = pairs_split Allowed old after outer.right in
+    pairs_join Allowed before (new ++ after) (record {
       left = outer.left;
-      right = pairs_join Allowed new behind (record { left = rn; right = inner.right; across = across_under p new behind hn hh });
-      across = across_join Allowed before new behind (across_disjoint p before new hb hn) (across_right Allowed before old behind outer.across);
+      right = pairs_join Allowed new after (record { left = rn; right = inner.right; across = across_under p new after hn hh });
+      across = across_join Allowed before new after (across_disjoint p before new hb hn) (across_right Allowed before old after outer.across);
     })
 
 -- ---- the tree
@@ -268,16 +268,16 @@ kinds_at-below p r [] = refl
 kinds_at-below p r (m ∷ ms) = kinds_at-step p r m ms (kinds_at-below p r ms) (is_at r m) refl
 
 -- The facts where a run is replaced: under its path those of the run, and elsewhere those from before.
-pub fact_under : (p q r : List Part) (before new behind : List Mention) → AllOf (IsDisjoint p) before → AllOf (IsDisjoint p) behind → strip p q ≡ Some r
-    → fact_at q (before ++ (new ++ behind)) ≡ fact_at q new
-fact_under p q r before new behind hb hh u =
+pub fact_under : (p q r : List Part) (before new after : List Mention) → AllOf (IsDisjoint p) before → AllOf (IsDisjoint p) after → strip p q ≡ Some r
+    → fact_at q (before ++ (new ++ after)) ≡ fact_at q new
+fact_under p q r before new after hb hh u =
     ap (λ l. first_of (filter_map fact_of l))
-    (kinds_at-append q before (new ++ behind) ∙ ap (λ l. l ++ kinds_at q (new ++ behind)) (kinds_at-disjoint p q r before hb u)
-    ∙ kinds_at-append q new behind ∙ ap (λ l. kinds_at q new ++ l) (kinds_at-disjoint p q r behind hh u) ∙ append-nil (kinds_at q new))
+    (kinds_at-append q before (new ++ after) ∙ ap (λ l. l ++ kinds_at q (new ++ after)) (kinds_at-disjoint p q r before hb u)
+    ∙ kinds_at-append q new after ∙ ap (λ l. kinds_at q new ++ l) (kinds_at-disjoint p q r after hh u) ∙ append-nil (kinds_at q new))
 
-pub fact_elsewhere : (p q : List Part) (before old new behind : List Mention) → AllOf (IsUnder p) old → AllOf (IsUnder p) new → strip p q ≡ None
-    → fact_at q (before ++ (new ++ behind)) ≡ fact_at q (before ++ (old ++ behind))
-fact_elsewhere p q before old new behind ho hn u =
+pub fact_elsewhere : (p q : List Part) (before old new after : List Mention) → AllOf (IsUnder p) old → AllOf (IsUnder p) new → strip p q ≡ None
+    → fact_at q (before ++ (new ++ after)) ≡ fact_at q (before ++ (old ++ after))
+fact_elsewhere p q before old new after ho hn u =
     ap (λ l. first_of (filter_map fact_of l))
-    (kinds_at-append q before (new ++ behind) ∙ ap (λ l. kinds_at q before ++ l) (kinds_at-append q new behind ∙ ap (λ l. l ++ kinds_at q behind) (kinds_at-under p q new hn u))
-    ∙ sym (kinds_at-append q before (old ++ behind) ∙ ap (λ l. kinds_at q before ++ l) (kinds_at-append q old behind ∙ ap (λ l. l ++ kinds_at q behind) (kinds_at-under p q old ho u))))
+    (kinds_at-append q before (new ++ after) ∙ ap (λ l. kinds_at q before ++ l) (kinds_at-append q new after ∙ ap (λ l. l ++ kinds_at q after) (kinds_at-under p q new hn u))
+    ∙ sym (kinds_at-append q before (old ++ after) ∙ ap (λ l. kinds_at q before ++ l) (kinds_at-append q old after ∙ ap (λ l. l ++ kinds_at q after) (kinds_at-under p q old ho u))))

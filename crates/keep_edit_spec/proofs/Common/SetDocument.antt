@@ -56,8 +56,8 @@ content_set-by body path new name v (Some more) e =
 content_set : (body path : List Part) (new : Value) (c : Content) → EachTo (ContentSet body path new c) (in_content (replacement new) body path c)
 content_set body path new blank = tt
 content_set body path new (keyval name v) = content_set-by body path new name v (strip (body ++ step 0 (Some name)) path) refl
-content_set body path new (header before k behind) = tt
-content_set body path new (element before k behind) = tt
+content_set body path new (header before k after) = tt
+content_set body path new (element before k after) = tt
 
 -- one line is changed
 pub record LinesSet (r : Reading) (path : List Part) (new : Value) (from to : List Line) : Type 0 where
@@ -236,7 +236,7 @@ rules_set path new from to h rules value_rules =
       rules_outside path (entries_mentions 0 new.nested) value_rules.1,
     ) in
     subst Rules (sym h.is)
-    (rules_replaced path h.before (run path (tag_of h.name h.fact) (entries_mentions 0 h.entries)) now h.behind (subst Rules h.was rules) h.disjoint_before h.disjoint_after
+    (rules_replaced path h.before (run path (tag_of h.name h.fact) (entries_mentions 0 h.entries)) now h.after (subst Rules h.was rules) h.disjoint_before h.disjoint_after
     (under_run path (tag_of h.name (body_fact new.body)) (entries_mentions 0 new.nested)) run_rules)
 
 -- ---- its tree
@@ -266,12 +266,12 @@ tree_by path new from to h q None e =
     let now : List Mention = run path (tag_of h.name (body_fact new.body)) (entries_mentions 0 new.nested) in
     let old : List Mention = run path (tag_of h.name h.fact) (entries_mentions 0 h.entries) in
     ap (fact_at q) h.is
-    ∙ fact_elsewhere path q h.before old now h.behind (under_run path (tag_of h.name h.fact) (entries_mentions 0 h.entries)) (under_run path (tag_of h.name (body_fact new.body)) (entries_mentions 0 new.nested)) e
+    ∙ fact_elsewhere path q h.before old now h.after (under_run path (tag_of h.name h.fact) (entries_mentions 0 h.entries)) (under_run path (tag_of h.name (body_fact new.body)) (entries_mentions 0 new.nested)) e
     ∙ ap (fact_at q) (sym h.was)
 tree_by path new from to h q (Some r) e =
     let now : List Mention = run path (tag_of h.name (body_fact new.body)) (entries_mentions 0 new.nested) in
     ap (fact_at q) h.is
-    ∙ fact_under path q r h.before now h.behind h.disjoint_before h.disjoint_after e
+    ∙ fact_under path q r h.before now h.after h.disjoint_before h.disjoint_after e
     ∙ run_facts path q r (tag_of h.name (body_fact new.body)) (body_fact new.body) (entries_mentions 0 new.nested) (tag_stated h.name (body_fact new.body)) e
 
 pub tree_set : (path : List Part) (new : Value) (from to : List Mention) → IsSet path new from to → IsTreeOf from (set path new) to

@@ -152,11 +152,11 @@ pub record IsSet (path : List Part) (new : Value) (from to : List Mention) : Typ
   pub fact : Fact
   pub entries : Entries
   pub before : List Mention
-  pub behind : List Mention
-  pub was : from ≡ before ++ (run path (tag_of name fact) (entries_mentions 0 entries) ++ behind)
-  pub is : to ≡ before ++ (run path (tag_of name (body_fact new.body)) (entries_mentions 0 new.nested) ++ behind)
+  pub after : List Mention
+  pub was : from ≡ before ++ (run path (tag_of name fact) (entries_mentions 0 entries) ++ after)
+  pub is : to ≡ before ++ (run path (tag_of name (body_fact new.body)) (entries_mentions 0 new.nested) ++ after)
   pub disjoint_before : AllOf (IsDisjoint path) before
-  pub disjoint_after : AllOf (IsDisjoint path) behind
+  pub disjoint_after : AllOf (IsDisjoint path) after
 
 pub map_twice : (s p : List Part) (ms : List Mention) → map (below s) (map (below p) ms) ≡ map (below (s ++ p)) ms
 map_twice s p [] = refl
@@ -168,11 +168,11 @@ pub map_none : (ms : List Mention) → map (below []) ms ≡ ms
 map_none [] = refl
 map_none (m ∷ ms) = ap (λ l. m ∷ l) (map_none ms)
 
-map_parts : (s p : List Part) (before nested behind : List Mention) (mention_kind : MentionKind)
-    → map (below s) (before ++ (run p mention_kind nested ++ behind)) ≡ map (below s) before ++ (run (s ++ p) mention_kind nested ++ map (below s) behind)
-map_parts s p before nested behind mention_kind =
-    map-append (below s) before (run p mention_kind nested ++ behind)
-    ∙ ap (λ l. map (below s) before ++ l) (map-append (below s) (run p mention_kind nested) behind ∙ ap (λ l. (record { path = s ++ p; kind = mention_kind } ∷ l) ++ map (below s) behind) (map_twice s p nested))
+map_parts : (s p : List Part) (before nested after : List Mention) (mention_kind : MentionKind)
+    → map (below s) (before ++ (run p mention_kind nested ++ after)) ≡ map (below s) before ++ (run (s ++ p) mention_kind nested ++ map (below s) after)
+map_parts s p before nested after mention_kind =
+    map-append (below s) before (run p mention_kind nested ++ after)
+    ∙ ap (λ l. map (below s) before ++ l) (map-append (below s) (run p mention_kind nested) after ∙ ap (λ l. (record { path = s ++ p; kind = mention_kind } ∷ l) ++ map (below s) after) (map_twice s p nested))
 
 pub disjoint_below : (s p : List Part) (ms : List Mention) → AllOf (IsDisjoint p) ms → AllOf (IsDisjoint (s ++ p)) (map (below s) ms)
 disjoint_below s p [] h = tt
@@ -184,15 +184,15 @@ set_below s path new from to h = record {
   fact = h.fact;
   entries = h.entries;
   before = map (below s) h.before;
-  behind = map (below s) h.behind;
-  was = ap (map (below s)) h.was ∙ map_parts s path h.before (entries_mentions 0 h.entries) h.behind (tag_of h.name h.fact);
-  is = ap (map (below s)) h.is ∙ map_parts s path h.before (entries_mentions 0 new.nested) h.behind (tag_of h.name (body_fact new.body));
+  after = map (below s) h.after;
+  was = ap (map (below s)) h.was ∙ map_parts s path h.before (entries_mentions 0 h.entries) h.after (tag_of h.name h.fact);
+  is = ap (map (below s)) h.is ∙ map_parts s path h.before (entries_mentions 0 new.nested) h.after (tag_of h.name (body_fact new.body));
   disjoint_before = disjoint_below s path h.before h.disjoint_before;
-  disjoint_after = disjoint_below s path h.behind h.disjoint_after;
+  disjoint_after = disjoint_below s path h.after h.disjoint_after;
 }
 
-around : (left before mid behind right : List Mention) → left ++ ((before ++ (mid ++ behind)) ++ right) ≡ (left ++ before) ++ (mid ++ (behind ++ right))
-around left before mid behind right = simp append_assoc refl
+around : (left before mid after right : List Mention) → left ++ ((before ++ (mid ++ after)) ++ right) ≡ (left ++ before) ++ (mid ++ (after ++ right))
+around left before mid after right = simp append_assoc refl
 
 pub set_beside : (path : List Part) (new : Value) (from to left right : List Mention) → AllOf (IsDisjoint path) left → AllOf (IsDisjoint path) right
     → IsSet path new from to → IsSet path new (left ++ (from ++ right)) (left ++ (to ++ right))
@@ -201,11 +201,11 @@ set_beside path new from to left right hl hr h = record {
   fact = h.fact;
   entries = h.entries;
   before = left ++ h.before;
-  behind = h.behind ++ right;
-  was = ap (λ l. left ++ (l ++ right)) h.was ∙ around left h.before (run path (tag_of h.name h.fact) (entries_mentions 0 h.entries)) h.behind right;
-  is = ap (λ l. left ++ (l ++ right)) h.is ∙ around left h.before (run path (tag_of h.name (body_fact new.body)) (entries_mentions 0 new.nested)) h.behind right;
+  after = h.after ++ right;
+  was = ap (λ l. left ++ (l ++ right)) h.was ∙ around left h.before (run path (tag_of h.name h.fact) (entries_mentions 0 h.entries)) h.after right;
+  is = ap (λ l. left ++ (l ++ right)) h.is ∙ around left h.before (run path (tag_of h.name (body_fact new.body)) (entries_mentions 0 new.nested)) h.after right;
   disjoint_before = all_join (IsDisjoint path) left h.before hl h.disjoint_before;
-  disjoint_after = all_join (IsDisjoint path) h.behind right h.disjoint_after hr;
+  disjoint_after = all_join (IsDisjoint path) h.after right h.disjoint_after hr;
 }
 
 -- ---- keys
@@ -395,7 +395,7 @@ set_here name f entries new = record {
   fact = f;
   entries = entries;
   before = [];
-  behind = [];
+  after = [];
   was = ap (λ l. record { path = []; kind = tag_of name f } ∷ l) (sym (map_none (entries_mentions 0 entries)) ∙ sym (append-nil (map (below []) (entries_mentions 0 entries))));
   is = ap (λ l. record { path = []; kind = tag_of name (body_fact new.body) } ∷ l) (sym (map_none (entries_mentions 0 new.nested)) ∙ sym (append-nil (map (below []) (entries_mentions 0 new.nested))));
   disjoint_before = tt;

@@ -31,22 +31,22 @@ EachIs text from (Some c) = IsChangeOf text from c
 
 pub put-place_of : {A : Type 0} (text : A → List ℕ) (from : A) (c : Changed A) → IsChangeOf text from c → text c.to ≡ put (text from) (place_of c)
 put-place_of text from c h =
-    let cut : c.before ++ (c.old ++ c.behind) ≡ (c.before ++ c.old) ++ c.behind = sym (append_assoc c.before c.old c.behind) in
+    let cut : c.before ++ (c.old ++ c.after) ≡ (c.before ++ c.old) ++ c.after = sym (append_assoc c.before c.old c.after) in
     let long : length c.before + length c.old ≡ length (c.before ++ c.old) = sym (length-append c.before c.old) in
-    let prefix : take (length c.before) (text from) ≡ c.before = ap (take (length c.before)) h.was ∙ take-append_seam c.before (c.old ++ c.behind) in
-    let back : drop (length c.before + length c.old) (text from) ≡ c.behind =
-    ap (drop (length c.before + length c.old)) (h.was ∙ cut) ∙ ap (λ n. drop n ((c.before ++ c.old) ++ c.behind)) long ∙ drop-append_seam (c.before ++ c.old) c.behind in
+    let prefix : take (length c.before) (text from) ≡ c.before = ap (take (length c.before)) h.was ∙ take-append_seam c.before (c.old ++ c.after) in
+    let back : drop (length c.before + length c.old) (text from) ≡ c.after =
+    ap (drop (length c.before + length c.old)) (h.was ∙ cut) ∙ ap (λ n. drop n ((c.before ++ c.old) ++ c.after)) long ∙ drop-append_seam (c.before ++ c.old) c.after in
     h.is ∙ sym (ap (λ b. b ++ (c.new ++ drop (length c.before + length c.old) (text from))) prefix ∙ ap (λ b. c.before ++ (c.new ++ b)) back)
 
-wrap : (left right before mid behind text : List ℕ) → text ≡ before ++ (mid ++ behind) → left ++ (text ++ right) ≡ (left ++ before) ++ (mid ++ (behind ++ right))
-wrap left right before mid behind text h = rw h (simp append_assoc refl)
+wrap : (left right before mid after text : List ℕ) → text ≡ before ++ (mid ++ after) → left ++ (text ++ right) ≡ (left ++ before) ++ (mid ++ (after ++ right))
+wrap left right before mid after text h = rw h (simp append_assoc refl)
 
 pub within-is : {A B : Type 0} (f : A → List ℕ) (g : B → List ℕ) (outer : A → B) (left right : List ℕ) (x : A) (o : Option (Changed A))
     → ((y : A) → g (outer y) ≡ left ++ (f y ++ right)) → EachIs f x o → EachIs g (outer x) (within outer left right o)
 within-is f g outer left right x None e h = h
 within-is f g outer left right x (Some c) e h = record {
-  was = e x ∙ wrap left right c.before c.old c.behind (f x) h.was;
-  is = e c.to ∙ wrap left right c.before c.new c.behind (f c.to) h.is;
+  was = e x ∙ wrap left right c.before c.old c.after (f x) h.was;
+  is = e c.to ∙ wrap left right c.before c.new c.after (f c.to) h.is;
 }
 
 pub or_else-is : {A : Type 0} (f : A → List ℕ) (x : A) (o p : Option (Changed A)) → EachIs f x o → EachIs f x p → EachIs f x (or_else o p)
@@ -139,7 +139,7 @@ goes-is : (named : Option Name) (new : Value) (name : Option Name) (body : Body)
         before = entry_prefix name body nested;
         old = [];
         new = codes ", " ++ (text_of (named_leaves named) ++ text_of_value new);
-        behind = entry_back after comma rest;
+        after = entry_back after comma rest;
       })
     ])
 goes-is named new name body nested after comma rest false = tt
@@ -201,10 +201,10 @@ pub past_ws-text : (g : Gap) → text_of g ≡ text_of (prefix_ws g) ++ text_of 
 past_ws-text [] = refl
 past_ws-text (w ∷ g) = ws_parts w g (is_ws_leaf w.leaf)
 
-pub taken_first-is : (gap : Gap) (name : Option Name) (body : Body) (nested : Entries) (after behind : Gap) (rest : Entries)
-    → IsChangeOf row_text (record { gap = gap; entries = entry name body nested after (Some behind) rest }) (taken_first gap name body nested after behind rest)
-taken_first-is gap name body nested after behind rest = record {
-  was = ap (λ t. text_of gap ++ t) (entry-text name body nested after (Some behind) rest ∙ ap (λ t. entry_prefix name body nested ++ (text_of after ++ (codes "," ++ t ++ entries_text rest))) (past_ws-text behind))
+pub taken_first-is : (gap : Gap) (name : Option Name) (body : Body) (nested : Entries) (after next_gap : Gap) (rest : Entries)
+    → IsChangeOf row_text (record { gap = gap; entries = entry name body nested after (Some next_gap) rest }) (taken_first gap name body nested after next_gap rest)
+taken_first-is gap name body nested after next_gap rest = record {
+  was = ap (λ t. text_of gap ++ t) (entry-text name body nested after (Some next_gap) rest ∙ ap (λ t. entry_prefix name body nested ++ (text_of after ++ (codes "," ++ t ++ entries_text rest))) (past_ws-text next_gap))
       ∙ simp (append_assoc) refl;
   is = simp (joined_gap-text, append_assoc) refl;
 }
@@ -216,12 +216,12 @@ taken_only-is gap name body nested after = record {
   is = simp (joined_gap-text, append_assoc, append-nil) refl;
 }
 
-pub taken_last-is : (gap : Gap) (name : Option Name) (body : Body) (nested : Entries) (after behind : Gap) (name' : Option Name) (body' : Body) (nested' : Entries) (after' : Gap)
-    → IsChangeOf row_text (record { gap = gap; entries = entry name body nested after (Some behind) (entry name' body' nested' after' None none) })
-    (taken_last gap name body nested after behind name' body' nested' after')
-taken_last-is gap name body nested after behind name' body' nested' after' = record {
-  was = ap (λ t. text_of gap ++ t) (entry-text name body nested after (Some behind) (entry name' body' nested' after' None none)
-      ∙ ap (λ t. entry_prefix name body nested ++ (text_of after ++ (codes "," ++ text_of behind ++ t))) (entry-text name' body' nested' after' None none))
+pub taken_last-is : (gap : Gap) (name : Option Name) (body : Body) (nested : Entries) (after next_gap : Gap) (name' : Option Name) (body' : Body) (nested' : Entries) (after' : Gap)
+    → IsChangeOf row_text (record { gap = gap; entries = entry name body nested after (Some next_gap) (entry name' body' nested' after' None none) })
+    (taken_last gap name body nested after next_gap name' body' nested' after')
+taken_last-is gap name body nested after next_gap name' body' nested' after' = record {
+  was = ap (λ t. text_of gap ++ t) (entry-text name body nested after (Some next_gap) (entry name' body' nested' after' None none)
+      ∙ ap (λ t. entry_prefix name body nested ++ (text_of after ++ (codes "," ++ text_of next_gap ++ t))) (entry-text name' body' nested' after' None none))
       ∙ simp (append_assoc, append-nil) refl;
   is = simp (text_of-append, joined_gap-text, append_assoc, append-nil) refl;
 }
@@ -230,49 +230,49 @@ when : {A : Type 0} (f : A → List ℕ) (x : A) (b : Bool) (c : Changed A) → 
 when f x true c h = h
 when f x false c h = tt
 
-row-text : (gap : Gap) (name : Option Name) (body : Body) (nested : Entries) (after behind : Gap) (y : Row)
+row-text : (gap : Gap) (name : Option Name) (body : Body) (nested : Entries) (after next_gap : Gap) (y : Row)
     → row_text (record { gap = gap; entries = entry name body nested after (Some y.gap) y.entries })
     ≡ (text_of gap ++ (entry_prefix name body nested ++ (text_of after ++ codes ","))) ++ (row_text y ++ [])
-row-text gap name body nested after behind y =
+row-text gap name body nested after next_gap y =
     ap (λ t. text_of gap ++ t) (entry-text name body nested after (Some y.gap) y.entries) ∙ simp (append_assoc, append-nil) refl
 
 -- the one of two entries is named
-take_out-two : (path : List Part) (n : ℕ) (gap : Gap) (name : Option Name) (body : Body) (nested : Entries) (after behind : Gap)
+take_out-two : (path : List Part) (n : ℕ) (gap : Gap) (name : Option Name) (body : Body) (nested : Entries) (after next_gap : Gap)
     (name' : Option Name) (body' : Body) (nested' : Entries) (after' : Gap) (comma' : Option Gap) (rest' : Entries)
     (further : Option (Changed Row)) (b c : Bool) → is_last_named path (n + 1) (entry name' body' nested' after' comma' rest') ≡ c
-    → EachIs row_text (record { gap = behind; entries = entry name' body' nested' after' comma' rest' }) further
-    → EachIs row_text (record { gap = gap; entries = entry name body nested after (Some behind) (entry name' body' nested' after' comma' rest') }) (elim b [
-      | true ↦ Some (taken_first gap name body nested after behind (entry name' body' nested' after' comma' rest'))
+    → EachIs row_text (record { gap = next_gap; entries = entry name' body' nested' after' comma' rest' }) further
+    → EachIs row_text (record { gap = gap; entries = entry name body nested after (Some next_gap) (entry name' body' nested' after' comma' rest') }) (elim b [
+      | true ↦ Some (taken_first gap name body nested after next_gap (entry name' body' nested' after' comma' rest'))
       | false ↦ elim c [
-        | true ↦ Some (taken_last gap name body nested after behind name' body' nested' after')
+        | true ↦ Some (taken_last gap name body nested after next_gap name' body' nested' after')
         | false ↦ within (λ r. record { gap = gap; entries = entry name body nested after (Some r.gap) r.entries })
             (text_of gap ++ (entry_prefix name body nested ++ (text_of after ++ codes ","))) [] further
       ]
     ])
-take_out-two path n gap name body nested after behind name' body' nested' after' comma' rest' further true c e h =
-    taken_first-is gap name body nested after behind (entry name' body' nested' after' comma' rest')
-take_out-two path n gap name body nested after behind name' body' nested' after' None none further false true e h =
-    taken_last-is gap name body nested after behind name' body' nested' after'
-take_out-two path n gap name body nested after behind name' body' nested' after' (Some g) rest' further false true e h = absurd cc
-take_out-two path n gap name body nested after behind name' body' nested' after' None (entry n2 b2 i2 a2 c2 r2) further false true e h = absurd cc
-take_out-two path n gap name body nested after behind name' body' nested' after' comma' rest' further false false e h =
+take_out-two path n gap name body nested after next_gap name' body' nested' after' comma' rest' further true c e h =
+    taken_first-is gap name body nested after next_gap (entry name' body' nested' after' comma' rest')
+take_out-two path n gap name body nested after next_gap name' body' nested' after' None none further false true e h =
+    taken_last-is gap name body nested after next_gap name' body' nested' after'
+take_out-two path n gap name body nested after next_gap name' body' nested' after' (Some g) rest' further false true e h = absurd cc
+take_out-two path n gap name body nested after next_gap name' body' nested' after' None (entry n2 b2 i2 a2 c2 r2) further false true e h = absurd cc
+take_out-two path n gap name body nested after next_gap name' body' nested' after' comma' rest' further false false e h =
     within-is row_text row_text (λ r. record { gap = gap; entries = entry name body nested after (Some r.gap) r.entries })
     (text_of gap ++ (entry_prefix name body nested ++ (text_of after ++ codes ","))) []
-    (record { gap = behind; entries = entry name' body' nested' after' comma' rest' }) further
-    (λ y. row-text gap name body nested after behind y) h
+    (record { gap = next_gap; entries = entry name' body' nested' after' comma' rest' }) further
+    (λ y. row-text gap name body nested after next_gap y) h
 
 pub take_out-is : (path : List Part) (n : ℕ) (gap : Gap) (es : Entries) → EachIs row_text (record { gap = gap; entries = es }) (take_out path n gap es)
 take_out-is path n gap none = tt
 take_out-is path n gap (entry name body nested after None none) =
     when row_text _ (same_path (step n name) path) (taken_only gap name body nested after) (taken_only-is gap name body nested after)
 take_out-is path n gap (entry name body nested after None (entry name' body' nested' after' comma' rest')) = tt
-take_out-is path n gap (entry name body nested after (Some behind) none) =
-    when row_text _ (same_path (step n name) path) (taken_first gap name body nested after behind none) (taken_first-is gap name body nested after behind none)
-take_out-is path n gap (entry name body nested after (Some behind) (entry name' body' nested' after' comma' rest')) =
-    take_out-two path n gap name body nested after behind name' body' nested' after' comma' rest'
-    (take_out path (n + 1) behind (entry name' body' nested' after' comma' rest')) (same_path (step n name) path)
+take_out-is path n gap (entry name body nested after (Some next_gap) none) =
+    when row_text _ (same_path (step n name) path) (taken_first gap name body nested after next_gap none) (taken_first-is gap name body nested after next_gap none)
+take_out-is path n gap (entry name body nested after (Some next_gap) (entry name' body' nested' after' comma' rest')) =
+    take_out-two path n gap name body nested after next_gap name' body' nested' after' comma' rest'
+    (take_out path (n + 1) next_gap (entry name' body' nested' after' comma' rest')) (same_path (step n name) path)
     (is_last_named path (n + 1) (entry name' body' nested' after' comma' rest')) refl
-    (take_out-is path (n + 1) behind (entry name' body' nested' after' comma' rest'))
+    (take_out-is path (n + 1) next_gap (entry name' body' nested' after' comma' rest'))
 
 pub removal-is : IsAct removal
 removal-is path v = by v.body v.nested
@@ -298,7 +298,7 @@ name_text_of n = text_of (name_leaves n)
 furthers-cons : (f : Further) (fs : List Further) → furthers_text (f ∷ fs) ≡ text_of (further_leaves f) ++ (furthers_text fs ++ [])
 furthers-cons f fs = text_of-append (further_leaves f) (flat_map further_leaves fs) ∙ ap (λ t. text_of (further_leaves f) ++ t) (sym (append-nil (furthers_text fs)))
 
-further-cut : (f : Further) (fs : List Further) → furthers_text (f ∷ fs) ≡ (text_of f.before ++ (codes "." ++ text_of f.behind)) ++ (f.part.text ++ furthers_text fs)
+further-cut : (f : Further) (fs : List Further) → furthers_text (f ∷ fs) ≡ (text_of f.before ++ (codes "." ++ text_of f.after)) ++ (f.part.text ++ furthers_text fs)
 further-cut f fs = simp (text_of-append, append_assoc, append-nil) refl
 
 pub rename_further-is : (new : Written) (n : ℕ) (fs : List Further) → EachIs furthers_text fs (rename_further new n fs)
@@ -315,7 +315,7 @@ rename_part-is new (suc m) k =
 
 pub rename_name-is : (new : Written) (n : ℕ) (name : Name) → EachIs name_text_of name (rename_name new n name)
 rename_name-is new n name =
-    within-is key_text_of name_text_of (λ k. record name { key = k }) [] (text_of name.before ++ (codes "=" ++ text_of name.behind)) name.key (rename_part new n name.key)
+    within-is key_text_of name_text_of (λ k. record name { key = k }) [] (text_of name.before ++ (codes "=" ++ text_of name.after)) name.key (rename_part new n name.key)
     (λ y. simp (text_of-append, append_assoc) refl) (rename_part-is new n name.key)
 
 rename_entry-by : (new : Written) (path : List Part) (name : Name) (body : Body) (nested : Entries) (after : Gap) (comma : Option Gap) (rest : Entries)

@@ -115,9 +115,9 @@ module _ (is : MentionKind → Bool) (path : List Part) where
       let one : n.mention ≡ x = cc in
       let more : map mention_of ns ≡ earlier ++ m ∷ later = cc in
       let w : ℕ = v + one_if (is_value n.mention.kind) in
-      let behind : (k : Option ℕ) → last_from k ns ≡ Some (w + valued earlier) = λ k. last_mentioned w k ns earlier m later counted.1 more here tells none in
+      let after : (k : Option ℕ) → last_from k ns ≡ Some (w + valued earlier) = λ k. last_mentioned w k ns earlier m later counted.1 more here tells none in
       let sum : w + valued earlier ≡ v + valued (x ∷ earlier) = omega (arith, ap (λ (y : Mention). one_if (is_value y.kind)) one) in
-      by (is_at path n.mention) refl behind ∙ ap Some sum
+      by (is_at path n.mention) refl after ∙ ap Some sum
     where
       by : (b : Bool) → is_at path n.mention ≡ b → ((k : Option ℕ) → last_from k ns ≡ Some (v + one_if (is_value n.mention.kind) + valued earlier))
           → last_from known (n ∷ ns) ≡ Some (v + one_if (is_value n.mention.kind) + valued earlier)

@@ -190,8 +190,8 @@ module _ (bytes : List ℕ) (profile : Profile) where
         record { value = v; valid = is.1; fact = refl; leaf = refl; here = at_value; end = value_ends at v.body v.nested },
         entries_stated (place_in v.body) 0 i v.nested is.1.nested (spelled_left bytes i.at (entries_leaves v.nested) (closing v.body) at_nested),
       )
-  content_stated r p (header before k behind) is spelled = subst (λ (l : List MentionKind). AllZip RowOutcome l []) (sym (mention_kinds-header r (keys_of k))) tt
-  content_stated r p (element before k behind) is spelled = subst (λ (l : List MentionKind). AllZip RowOutcome l []) (sym (mention_kinds-element r (keys_of k))) tt
+  content_stated r p (header before k suffix) is spelled = subst (λ (l : List MentionKind). AllZip RowOutcome l []) (sym (mention_kinds-header r (keys_of k))) tt
+  content_stated r p (element before k suffix) is spelled = subst (λ (l : List MentionKind). AllZip RowOutcome l []) (sym (mention_kinds-element r (keys_of k))) tt
 
   line_stated : (r : Reading) (c : syntax.Count) (l : Line) → IsLine profile l → Spelled bytes (content_start c l) (content_leaves l.content) → AllZip RowOutcome (value_mention_kinds (line_mentions r l)) (line_values c l)
   line_stated r c l is spelled = content_stated r (line_start c l) l.content is.content spelled

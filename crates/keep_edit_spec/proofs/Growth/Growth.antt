@@ -45,7 +45,7 @@ grows_more m n (Some c) e h = omega (arith, h, e)
 -- the text grows no more than that
 pub longer_text : {A : Type 0} (f : A → List ℕ) (from : A) (n : ℕ) (c : Changed A) → IsChangeOf f from c → length c.new ≤ length c.old + n → length (f c.to) ≤ length (f from) + n
 longer_text f from n c h g =
-    omega (arith, g, ap (λ (l : List ℕ). length l) h.was, ap (λ (l : List ℕ). length l) h.is, length-append c.before (c.old ++ c.behind), length-append c.before (c.new ++ c.behind), length-append c.old c.behind, length-append c.new c.behind)
+    omega (arith, g, ap (λ (l : List ℕ). length l) h.was, ap (λ (l : List ℕ). length l) h.is, length-append c.before (c.old ++ c.after), length-append c.before (c.new ++ c.after), length-append c.old c.after, length-append c.new c.after)
 
 -- ---- in values
 

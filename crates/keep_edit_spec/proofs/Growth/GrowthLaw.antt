@@ -34,15 +34,15 @@ preserved_shorter g = by (list_any (λ w. is_comment_leaf w.leaf) g)
     by true = omega arith
     by false = omega arith
 
-taken_first_grows : (gap : Gap) (name : Option Name) (body : Body) (nested : Entries) (after behind : Gap) (rest : Entries) → GrowsBy 0 (Some (taken_first gap name body nested after behind rest))
-taken_first_grows gap name body nested after behind rest =
-    let c = taken_first gap name body nested after behind rest in
-    omega (arith, preserved_shorter after, length-append (entry_prefix name body nested) (text_of after ++ (codes "," ++ text_of (prefix_ws behind))), length-append (text_of after) (codes "," ++ text_of (prefix_ws behind)))
+taken_first_grows : (gap : Gap) (name : Option Name) (body : Body) (nested : Entries) (after next_gap : Gap) (rest : Entries) → GrowsBy 0 (Some (taken_first gap name body nested after next_gap rest))
+taken_first_grows gap name body nested after next_gap rest =
+    let c = taken_first gap name body nested after next_gap rest in
+    omega (arith, preserved_shorter after, length-append (entry_prefix name body nested) (text_of after ++ (codes "," ++ text_of (prefix_ws next_gap))), length-append (text_of after) (codes "," ++ text_of (prefix_ws next_gap)))
 
-taken_last_grows : (gap : Gap) (name : Option Name) (body : Body) (nested : Entries) (after behind : Gap) (name' : Option Name) (body' : Body) (nested' : Entries) (after' : Gap)
-    → GrowsBy 0 (Some (taken_last gap name body nested after behind name' body' nested' after'))
-taken_last_grows gap name body nested after behind name' body' nested' after' =
-    omega (arith, preserved_shorter behind, length-append (codes ",") (text_of behind ++ entry_prefix name' body' nested'), length-append (text_of behind) (entry_prefix name' body' nested'))
+taken_last_grows : (gap : Gap) (name : Option Name) (body : Body) (nested : Entries) (after next_gap : Gap) (name' : Option Name) (body' : Body) (nested' : Entries) (after' : Gap)
+    → GrowsBy 0 (Some (taken_last gap name body nested after next_gap name' body' nested' after'))
+taken_last_grows gap name body nested after next_gap name' body' nested' after' =
+    omega (arith, preserved_shorter next_gap, length-append (codes ",") (text_of next_gap ++ entry_prefix name' body' nested'), length-append (text_of next_gap) (entry_prefix name' body' nested'))
 
 when_grows : {A : Type 0} (b : Bool) (o p : Option (Changed A)) → GrowsBy 0 o → GrowsBy 0 p → GrowsBy 0 (elim b [ true ↦ o | false ↦ p ])
 when_grows true o p h g = h
@@ -52,17 +52,17 @@ take_out_grows : (path : List Part) (n : ℕ) (gap : Gap) (es : Entries) → Gro
 take_out_grows path n gap none = tt
 take_out_grows path n gap (entry name body nested after None none) = when_grows (same_path (step n name) path) (Some (taken_only gap name body nested after)) None (omega arith) tt
 take_out_grows path n gap (entry name body nested after None (entry name' body' nested' after' comma' rest')) = tt
-take_out_grows path n gap (entry name body nested after (Some behind) none) =
-    when_grows (same_path (step n name) path) (Some (taken_first gap name body nested after behind none)) None (taken_first_grows gap name body nested after behind none) tt
-take_out_grows path n gap (entry name body nested after (Some behind) (entry name' body' nested' after' comma' rest')) =
-    when_grows (same_path (step n name) path) (Some (taken_first gap name body nested after behind (entry name' body' nested' after' comma' rest'))) _
-    (taken_first_grows gap name body nested after behind (entry name' body' nested' after' comma' rest'))
-    (when_grows (is_last_named path (n + 1) (entry name' body' nested' after' comma' rest')) (Some (taken_last gap name body nested after behind name' body' nested' after')) _
-    (taken_last_grows gap name body nested after behind name' body' nested' after')
+take_out_grows path n gap (entry name body nested after (Some next_gap) none) =
+    when_grows (same_path (step n name) path) (Some (taken_first gap name body nested after next_gap none)) None (taken_first_grows gap name body nested after next_gap none) tt
+take_out_grows path n gap (entry name body nested after (Some next_gap) (entry name' body' nested' after' comma' rest')) =
+    when_grows (same_path (step n name) path) (Some (taken_first gap name body nested after next_gap (entry name' body' nested' after' comma' rest'))) _
+    (taken_first_grows gap name body nested after next_gap (entry name' body' nested' after' comma' rest'))
+    (when_grows (is_last_named path (n + 1) (entry name' body' nested' after' comma' rest')) (Some (taken_last gap name body nested after next_gap name' body' nested' after')) _
+    (taken_last_grows gap name body nested after next_gap name' body' nested' after')
     (grows_within 0 (λ r. record { gap = gap; entries = entry name body nested after (Some r.gap) r.entries })
     (text_of gap ++ (entry_prefix name body nested ++ (text_of after ++ codes ","))) []
-    (take_out path (n + 1) behind (entry name' body' nested' after' comma' rest'))
-    (take_out_grows path (n + 1) behind (entry name' body' nested' after' comma' rest'))))
+    (take_out path (n + 1) next_gap (entry name' body' nested' after' comma' rest'))
+    (take_out_grows path (n + 1) next_gap (entry name' body' nested' after' comma' rest'))))
 
 removal_bound : IsBound removal (λ more. 0)
 removal_bound = record { grows = λ more v. by more v.body v.nested; falls = λ p more. omega arith }
@@ -98,7 +98,7 @@ clear_grows path r l = by l.comment (is_own path r l.content)
           before = text_of l.before;
           old = content_text l.content ++ text_of l.after;
           new = [];
-          behind = c.text;
+          after = c.text;
         })
       ]
     ])

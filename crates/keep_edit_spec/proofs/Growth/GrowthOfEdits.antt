@@ -55,7 +55,7 @@ put_after_grows prefix named new (entry name body nested after comma rest) =
         before = entry_prefix name body nested;
         old = [];
         new = codes ", " ++ (text_of (named_leaves named) ++ text_of_value new);
-        behind = entry_back after comma rest;
+        after = entry_back after comma rest;
       })
     ])
     by false = tt
@@ -241,7 +241,7 @@ rename_part_grows new zero k = omega arith
 rename_part_grows new (suc m) k = grows_within (length new.text) (λ fs. record k { more = fs }) k.first.text [] (rename_further new m k.more) (rename_further_grows new m k.more)
 
 rename_name_grows : (new : Written) (n : ℕ) (name : Name) → GrowsBy (length new.text) (rename_name new n name)
-rename_name_grows new n name = grows_within (length new.text) (λ k. record name { key = k }) [] (text_of name.before ++ (codes "=" ++ text_of name.behind)) (rename_part new n name.key) (rename_part_grows new n name.key)
+rename_name_grows new n name = grows_within (length new.text) (λ k. record name { key = k }) [] (text_of name.before ++ (codes "=" ++ text_of name.after)) (rename_part new n name.key) (rename_part_grows new n name.key)
 
 rename_entry_by : (new : Written) (path : List Part) (name : Name) (body : Body) (nested : Entries) (after : Gap) (comma : Option Gap) (rest : Entries)
     → GrowsBy (length new.text) (rename_entry new path rest) → (o : Option (List Part)) → GrowsBy (length new.text) (elim o [

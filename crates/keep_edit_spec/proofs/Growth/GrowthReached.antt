@@ -28,7 +28,7 @@ abbrev document : Document
 document = record {
   bom = false;
   ended = record { line = line blank; newline = record { leaf = leaf.Newline; text = 0x0D ∷ 0x0A ∷ [] } } ∷ [];
-  last = line (header [] (record { first = word (codes "a"); more = record { before = []; behind = []; part = word (codes "b") } ∷ [] }) []);
+  last = line (header [] (record { first = word (codes "a"); more = record { before = []; after = []; part = word (codes "b") } ∷ [] }) []);
 }
 
 -- After `insert` of `true` at a.c there are an end of the line, an empty line, the header [a], and c = true.
@@ -52,7 +52,7 @@ b_part profile = (refl, (omega arith, refl))
 headed : (profile : Profile) → IsLine profile document.last
 headed profile = record {
   before = tt;
-  content = (tt, record { first = a_part profile; more = (record { before = tt; behind = tt; part = b_part profile }, tt) }, tt);
+  content = (tt, record { first = a_part profile; more = (record { before = tt; after = tt; part = b_part profile }, tt) }, tt);
   after = tt;
   comment = tt;
 }

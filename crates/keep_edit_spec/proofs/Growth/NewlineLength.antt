@@ -47,7 +47,7 @@ short_furthers : (profile : Profile) (fs : List Further) → AllByRecursion (IsF
 short_furthers profile [] h = tt
 short_furthers profile (f ∷ fs) h =
     all_join IsShort (further_leaves f) (flat_map further_leaves fs)
-    (all_join IsShort f.before _ (short_space f.before h.0.before) ((λ e. absurd cc), all_join IsShort f.behind (f.part ∷ []) (short_space f.behind h.0.behind) (short_key_part profile f.part h.0.part, tt)))
+    (all_join IsShort f.before _ (short_space f.before h.0.before) ((λ e. absurd cc), all_join IsShort f.after (f.part ∷ []) (short_space f.after h.0.after) (short_key_part profile f.part h.0.part, tt)))
     (short_furthers profile fs h.1)
 
 short_key : (profile : Profile) (k : Key) → IsKey profile k → AllOf IsShort (key_leaves k)
@@ -55,7 +55,7 @@ short_key profile k h = (short_key_part profile k.first h.first, short_furthers 
 
 short_name : (profile : Profile) (n : Name) → IsName profile n → AllOf IsShort (name_leaves n)
 short_name profile n h =
-    all_join IsShort (key_leaves n.key) _ (short_key profile n.key h.key) (all_join IsShort n.before _ (short_space n.before h.before) ((λ e. absurd cc), short_space n.behind h.behind))
+    all_join IsShort (key_leaves n.key) _ (short_key profile n.key h.key) (all_join IsShort n.before _ (short_space n.before h.before) ((λ e. absurd cc), short_space n.after h.after))
 
 short_named : (profile : Profile) (place : Place) (n : Option Name) → IsNamed profile place n → AllOf IsShort (named_leaves n)
 short_named profile place None h = tt

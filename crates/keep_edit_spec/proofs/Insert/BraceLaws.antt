@@ -46,7 +46,7 @@ module _ (profile : Profile) (s : Document) (path at : List Part) (new : Value) 
   is_own : own ≡ h.there.found.own
   is_own =
       one_of_two (slice_get (syntax.values s) v) own h.there.found.own here
-      (ap (λ (l : List ValueInfo). slice_get l v) h.there.found.here ∙ get_here h.there.found.prefix h.there.found.own h.there.found.behind v is_number)
+      (ap (λ (l : List ValueInfo). slice_get l v) h.there.found.here ∙ get_here h.there.found.prefix h.there.found.own h.there.found.after v is_number)
 
   abbrev inner : List ValueInfo
   inner = entries_values (begin profile s path at [] new k ks h) h.there.found.value.nested

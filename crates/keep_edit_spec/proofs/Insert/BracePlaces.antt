@@ -192,7 +192,7 @@ module _ (profile : Profile) (s : Document) (path at dots : List Part) (new : Va
       ap (λ (o : Option Name). text_of (named_leaves o) ++ text_of_value new) e
 
   -- bytes are put in there
-  put_low : (at : ℕ) (fresh : List ℕ) → length c.before ≡ at → c.new ≡ fresh → is_high (first c.behind) ≡ false → IsLowPlace s (insert path new) (put_in at fresh)
+  put_low : (at : ℕ) (fresh : List ℕ) → length c.before ≡ at → c.new ≡ fresh → is_high (first c.after) ≡ false → IsLowPlace s (insert path new) (put_in at fresh)
   put_low at fresh start e low =
       let nothing : c.old ≡ [] = h.there.found.old ∙ h.there.nothing in
       low_put s (insert path new) c (put_in at fresh) h.is nothing (put_place c at fresh nothing start e) low
@@ -201,7 +201,7 @@ module _ (profile : Profile) (s : Document) (path at dots : List Part) (new : Va
   abbrev pub Placed : Type 0
   Placed = ((v.nested ≡ none) × IsLowPlace s (insert path new) (in_empty h.there.found.own (keys_in rest) new)) ⊎ IsAfterKeyval
 
-  by_after : (d : Changed Entries) → put_after dots named new v.nested ≡ Some d → length c.before ≡ begin.at + length d.before → c.new ≡ d.new → c.behind ≡ d.behind ++ (codes "}" ++ h.there.found.beyond) → Placed
+  by_after : (d : Changed Entries) → put_after dots named new v.nested ≡ Some d → length c.before ≡ begin.at + length d.before → c.new ≡ d.new → c.after ≡ d.after ++ (codes "}" ++ h.there.found.beyond) → Placed
   by_after d e start fresh more =
       let b : IsAfterEntry RowOutcome dots named new 0 begin v.nested d = of_some (IsAfterEntry RowOutcome dots named new 0 begin v.nested) (put_after dots named new v.nested) d e (after_at RowOutcome dots named new 0 begin v.nested) in
       inr (record {
@@ -210,7 +210,7 @@ module _ (profile : Profile) (s : Document) (path at dots : List Part) (new : Va
         last = b.last;
         is = put_low (own_of RowOutcome 0 begin v.nested b.entry).span.end (codes ", " ++ keyed_text (keys_in rest) new) (omega (arith, start, b.end))
             (fresh ∙ b.given ∙ ap (λ (t : List ℕ). codes ", " ++ t) (sym text_is))
-            (ap (λ (t : List ℕ). is_high (first t)) (more ∙ ap (λ (t : List ℕ). t ++ (codes "}" ++ h.there.found.beyond)) b.behind)
+            (ap (λ (t : List ℕ). is_high (first t)) (more ∙ ap (λ (t : List ℕ). t ++ (codes "}" ++ h.there.found.beyond)) b.after)
             ∙ back_low profile brackets.Inline b.entry.after b.entry.comma b.entry.rest (codes "}" ++ h.there.found.beyond) (b.entry.valid profile in_inline are).3 (b.entry.valid profile in_inline are).5 refl);
       })
 
@@ -225,7 +225,7 @@ module _ (profile : Profile) (s : Document) (path at dots : List Part) (new : Va
         put_low (suc h.there.found.own.span.start) (keyed_text (keys_in rest) new) (omega (arith, h.there.found.start, ap (λ (t : List ℕ). length t) before))
             (h.there.found.new ∙ sym (ap (λ (x : Changed Value). x.new) j) ∙ sym text_is)
             (ap (λ (t : List ℕ). is_high (first t))
-            (h.there.found.text_after ∙ ap (λ (t : List ℕ). t ++ h.there.found.beyond) (sym (ap (λ (x : Changed Value). x.behind) j)) ∙ append_assoc (text_of g) (codes "}") h.there.found.beyond)
+            (h.there.found.text_after ∙ ap (λ (t : List ℕ). t ++ h.there.found.beyond) (sym (ap (λ (x : Changed Value). x.after) j)) ∙ append_assoc (text_of g) (codes "}") h.there.found.beyond)
             ∙ gap_low g (codes "}" ++ h.there.found.beyond) (gap_blank profile brackets.Inline g (subst (IsBody profile) eb h.there.valid.body)) refl),
       )
   by_parts (inline g) (entry name body nested after comma more) eb ei fit e =
@@ -237,7 +237,7 @@ module _ (profile : Profile) (s : Document) (path at dots : List Part) (new : Va
       let start : length c.before ≡ begin.at + length w.inner.before =
       omega (arith, h.there.found.start, begins, ap (λ (t : List ℕ). length t) w.before, length-append (codes "{" ++ text_of g) w.inner.before, at) in
       by_after w.inner (ap (λ (x : List Part). put_after x named new v.nested) (sym (take_prefix dots keys)) ∙ ap put ei ∙ w.is) start (h.there.found.new ∙ w.new)
-      (h.there.found.text_after ∙ ap (λ (t : List ℕ). t ++ h.there.found.beyond) w.behind ∙ append_assoc w.inner.behind (codes "}") h.there.found.beyond)
+      (h.there.found.text_after ∙ ap (λ (t : List ℕ). t ++ h.there.found.beyond) w.after ∙ append_assoc w.inner.after (codes "}") h.there.found.beyond)
 
   pub keyval_placed : Placed
   keyval_placed = by_parts v.body v.nested refl refl h.there.fit h.there.by

@@ -61,22 +61,22 @@ module _ (profile : Profile) (s : Document) (at dots : List Part) (k : List ℕ)
   abbrev before : List Mention
   before = d.before ++ map (below at) (root ∷ put.put.before)
 
-  abbrev behind : List Mention
-  behind = map (below at) (entries_mentions put.put.number put.put.rest) ++ d.behind
+  abbrev after : List Mention
+  after = map (below at) (entries_mentions put.put.number put.put.rest) ++ d.after
 
-  was : mentions_in s ≡ before ++ behind
-  was = d.was ∙ ap (λ (l : List Mention). d.before ++ (map (below at) (root ∷ l) ++ d.behind)) put.put.was ∙ regroup (below at) d.before put.put.before (entries_mentions put.put.number put.put.rest) d.behind root
+  was : mentions_in s ≡ before ++ after
+  was = d.was ∙ ap (λ (l : List Mention). d.before ++ (map (below at) (root ∷ l) ++ d.after)) put.put.was ∙ regroup (below at) d.before put.put.before (entries_mentions put.put.number put.put.rest) d.after root
 
-  now : mentions_in d.changed.to ≡ before ++ (map (below at) (keyval_mentions name new) ++ behind)
+  now : mentions_in d.changed.to ≡ before ++ (map (below at) (keyval_mentions name new) ++ after)
   now =
       let rest : Entries = put.put.rest in
       let n : ℕ = put.put.number in
       let valid : AreEntries profile in_inline rest = put.put.valid profile in_inline (entries_inline profile d.old d.fit d.old_valid) in
       let same : entries_mentions (n + 1) rest ≡ entries_mentions n rest = renumbered profile in_inline name rest (n + 1) n (rest_name profile dots k ks texts) valid in
       d.now
-      ∙ ap (λ (f : Fact). d.before ++ (map (below at) (valued_mentions (d.tag f) (entries_mentions 0 d.done.to.nested)) ++ d.behind)) put.fact
-      ∙ ap (λ (l : List Mention). d.before ++ (map (below at) (root ∷ l) ++ d.behind)) (put.put.is ∙ ap (λ (l : List Mention). put.put.before ++ (keyval_mentions name new ++ l)) same)
-      ∙ regroup_more (below at) d.before put.put.before (keyval_mentions name new) (entries_mentions n rest) d.behind root
+      ∙ ap (λ (f : Fact). d.before ++ (map (below at) (valued_mentions (d.tag f) (entries_mentions 0 d.done.to.nested)) ++ d.after)) put.fact
+      ∙ ap (λ (l : List Mention). d.before ++ (map (below at) (root ∷ l) ++ d.after)) (put.put.is ∙ ap (λ (l : List Mention). put.put.before ++ (keyval_mentions name new ++ l)) same)
+      ∙ regroup_more (below at) d.before put.put.before (keyval_mentions name new) (entries_mentions n rest) d.after root
 
   none_named : (es : Entries) → es ≡ none → SomeOf (IsNamedAt dots) (entries_mentions 0 es) → ⊥
   none_named none e x = x
@@ -105,7 +105,7 @@ module _ (profile : Profile) (s : Document) (at dots : List Part) (k : List ℕ)
       let whole : at ++ map key (there.keys ++ k ∷ ks) ≡ at ++ (dots ++ map key (k ∷ ks)) =
       ap (λ (l : List Part). at ++ l) (map-append key there.keys (k ∷ ks) ∙ ap (λ (l : List Part). l ++ map key (k ∷ ks)) (sym there.is)) in
       subst (λ (p : List Part). IsKeyvalLaw s p new d.changed.to) whole
-      (keyval_put_law s d.changed.to at there.keys k ks name new before behind was now means
+      (keyval_put_law s d.changed.to at there.keys k ks name new before after was now means
       (subst (λ (x : List Part). AllOf (IsDisjoint ((at ++ x) ++ key k ∷ [])) (mentions_in s)) there.is place.fresh) doubles rules new_rules)
 
   -- the table is none that only headers make
@@ -125,4 +125,4 @@ module _ (profile : Profile) (s : Document) (at dots : List Part) (k : List ℕ)
           some_mentioned_below is_dotted at (map key there.keys) (stops there.keys) (subst (λ (l : List (List ℕ)). SomeOf (IsMentioned is_dotted (map key l)) (stops l)) (sym e) (last_stop f fs)) in
           let here : SomeOf (IsMentioned is_dotted (at ++ dots)) run = subst (λ (x : List Part). SomeOf (IsMentioned is_dotted (at ++ x)) run) (sym there.is) last in
           inl (some_has is_dotted (at ++ dots) (mentions_in s)
-          (subst (SomeOf (IsMentioned is_dotted (at ++ dots))) (sym was) (some_left (IsMentioned is_dotted (at ++ dots)) before behind (again (at ++ dots) before run doubles here))))
+          (subst (SomeOf (IsMentioned is_dotted (at ++ dots))) (sym was) (some_left (IsMentioned is_dotted (at ++ dots)) before after (again (at ++ dots) before run doubles here))))

@@ -38,7 +38,7 @@ use Rattle.keep_edit_spec.proofs.Insert.GivesLines.{gives_nested}
 -- ---- the act at the end of the path alone: what it does where it fits, and no change elsewhere
 
 abbrev pub same_value : Value → Changed Value
-same_value v = record { to = v; before = []; old = text_of_value v; new = text_of_value v; behind = [] }
+same_value v = record { to = v; before = []; old = text_of_value v; new = text_of_value v; after = [] }
 
 abbrev pub ended : (Body → Bool) → Act → List Part → Act
 ended fits act rest [] v = elim (fits v.body) [ true ↦ or_else (act rest v) (Some (same_value v)) | false ↦ Some (same_value v) ]
@@ -115,11 +115,11 @@ pub record IsDoneThere (profile : Profile) (fits : Body → Bool) (act : Act) (r
   pub alone : (f : Fact) → exclusive (tag f) ≡ true
   pub rules : Rules (tagged tag old)
   pub before : List Mention
-  pub behind : List Mention
-  pub was : mentions_in s ≡ before ++ (map (below path) (tagged tag old) ++ behind)
-  pub now : mentions_in changed.to ≡ before ++ (map (below path) (tagged tag done.to) ++ behind)
+  pub after : List Mention
+  pub was : mentions_in s ≡ before ++ (map (below path) (tagged tag old) ++ after)
+  pub now : mentions_in changed.to ≡ before ++ (map (below path) (tagged tag done.to) ++ after)
   pub disjoint_before : AllOf (IsDisjoint path) before
-  pub disjoint_after : AllOf (IsDisjoint path) behind
+  pub disjoint_after : AllOf (IsDisjoint path) after
   pub rules_now : Rules (tagged tag done.to) → Rules (mentions_in changed.to)
   pub holds_now : (q : List Part) → fact_at (path ++ q) (mentions_in changed.to) ≡ fact_at q (mentions_of_value done.to)
   pub elsewhere : (q : List Part) → strip path q ≡ None → fact_at q (mentions_in changed.to) ≡ fact_at q (mentions_in s)
@@ -196,11 +196,11 @@ module _ (profile : Profile) (fits : Body → Bool) (act : Act) (rest path dots 
         λ q. there_before D path path (mentions_in s) (mentions_in c.to) h (path ++ q) q (strip-append path q)
         ∙ valued_facts (h.tag (body_fact v.body)) (item (body_fact v.body)) (entries_mentions 0 v.nested) q (h.stated (body_fact v.body)) (same_path [] q) refl in
         let names : (x : List Part) → SomeOf (IsNamedAt (path ++ x)) (mentions_in s) → SomeOf (IsNamedAt x) (mentions_of_value v) = λ x all.
-        elim (some_cases (IsNamedAt (path ++ x)) h.before (map (below path) (tagged h.tag v) ++ h.behind) (subst (SomeOf (IsNamedAt (path ++ x))) h.was all)) [
+        elim (some_cases (IsNamedAt (path ++ x)) h.before (map (below path) (tagged h.tag v) ++ h.after) (subst (SomeOf (IsNamedAt (path ++ x))) h.was all)) [
           | inl y ↦ absurd (never_named path x h.before h.disjoint_before y)
-          | inr y ↦ (elim (some_cases (IsNamedAt (path ++ x)) (map (below path) (tagged h.tag v)) h.behind y) [
+          | inr y ↦ (elim (some_cases (IsNamedAt (path ++ x)) (map (below path) (tagged h.tag v)) h.after y) [
             | inl z ↦ (elim (named_beyond path x (tagged h.tag v) z) [ inl e ↦ inl e | inr deep ↦ inr deep ])
-            | inr z ↦ absurd (never_named path x h.behind h.disjoint_after z)
+            | inr z ↦ absurd (never_named path x h.after h.disjoint_after z)
           ])
         ] in
         let there_rules : Rules (tagged h.tag v) = rules_there D path path (mentions_in s) (mentions_in c.to) h rules in
@@ -223,9 +223,9 @@ module _ (profile : Profile) (fits : Body → Bool) (act : Act) (rest path dots 
           alone = h.alone;
           rules = there_rules;
           before = h.before;
-          behind = h.behind;
+          after = h.after;
           was = h.was;
-          now = h.is ∙ ap (λ (w : Value). h.before ++ (map (below path) (tagged h.tag w) ++ h.behind)) h.done.to;
+          now = h.is ∙ ap (λ (w : Value). h.before ++ (map (below path) (tagged h.tag w) ++ h.after)) h.done.to;
           disjoint_before = h.disjoint_before;
           disjoint_after = h.disjoint_after;
           rules_now = λ r. rules_done D path path (mentions_in s) (mentions_in c.to) h rules (rules_outside path (tagged h.tag h.now) (subst (λ (w : Value). Rules (tagged h.tag w)) (sym h.done.to) r));

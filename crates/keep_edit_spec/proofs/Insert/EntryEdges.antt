@@ -55,15 +55,15 @@ back_low profile b after comma rest x gap are closed =
 -- ---- seen from the document
 
 -- where bytes are put in before such a text
-pub low_put : (s : Document) (e : Edit) (c : Changed Document) (p : Place) → change s e ≡ Some c → c.old ≡ [] → place_of c ≡ p → is_high (first c.behind) ≡ false → IsLowPlace s e p
+pub low_put : (s : Document) (e : Edit) (c : Changed Document) (p : Place) → change s e ≡ Some c → c.old ≡ [] → place_of c ≡ p → is_high (first c.after) ≡ false → IsLowPlace s e p
 low_put s e c p is nothing at low =
     let cut : IsChangeOf text s c = subst (λ (o : Option (Changed Document)). EachIs text s o) is (change-is s e) in
     let start : p.start ≡ length c.before = sym (ap (λ (q : Place). q.start) at) in
-    let whole : text s ≡ c.before ++ c.behind = cut.was ∙ ap (λ (t : List ℕ). c.before ++ (t ++ c.behind)) nothing in
+    let whole : text s ≡ c.before ++ c.after = cut.was ∙ ap (λ (t : List ℕ). c.before ++ (t ++ c.after)) nothing in
     record {
       placed = ap (λ (o : Option (Changed Document)). place_of (changed_or_same s o)) is ∙ at;
-      within = omega (arith, start, ap (λ (t : List ℕ). length t) whole, length-append c.before c.behind);
+      within = omega (arith, start, ap (λ (t : List ℕ). length t) whole, length-append c.before c.after);
       low = ap (λ (n : ℕ). is_high (first (drop n (text s)))) start
           ∙ ap (λ (t : List ℕ). is_high (first (drop (length c.before) t))) whole
-          ∙ ap (λ (t : List ℕ). is_high (first t)) (drop_at c.before c.behind (length c.before) refl) ∙ low;
+          ∙ ap (λ (t : List ℕ). is_high (first t)) (drop_at c.before c.after (length c.before) refl) ∙ low;
     }

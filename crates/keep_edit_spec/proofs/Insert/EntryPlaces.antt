@@ -101,13 +101,13 @@ pub record IsBefore (P : ℕ → Option Name → Type 0) (new : Value) (n k : �
   pub number : entry.number ≡ n
   pub start : p.at + length d.before ≡ entry.begin.at
   pub given : d.new ≡ text_of_value new ++ codes ", "
-  pub behind : d.behind ≡ entries_text (Tree.entry entry.name entry.body entry.nested entry.after entry.comma entry.rest)
+  pub after : d.after ≡ entries_text (Tree.entry entry.name entry.body entry.nested entry.after entry.comma entry.rest)
 
 pub before_at : (P : ℕ → Option Name → Type 0) (new : Value) (k m : ℕ) (p : Start) (es : Entries) → EachOf (IsBefore P new (k + m) k p es) (put_before m new es)
 unfolding at_first at_later
 before_at P new k m p none = tt
 before_at P new k zero p (entry name body nested after comma rest) =
-    record { entry = at_first P k p name body nested after comma rest; number = omega arith; start = omega arith; given = refl; behind = refl }
+    record { entry = at_first P k p name body nested after comma rest; number = omega arith; start = omega arith; given = refl; after = refl }
 before_at P new k (suc m) p (entry name body nested after comma rest) =
     let r : Start = rest_of p name body nested after comma in
     let left : List ℕ = entry_prefix name body nested ++ (text_of after ++ text_of (comma_leaves comma)) in
@@ -117,7 +117,7 @@ before_at P new k (suc m) p (entry name body nested after comma rest) =
       number = omega (arith, h.number);
       start = omega (arith, h.start, prefix_ends p.at name body nested after comma, length-append left d.before);
       given = h.given;
-      behind = append-nil d.behind ∙ h.behind;
+      after = append-nil d.after ∙ h.after;
     })
     (before_at P new (k + 1) m r rest)
 
@@ -129,7 +129,7 @@ pub record IsAfterEntry (P : ℕ → Option Name → Type 0) (prefix : List Part
   pub last : put_after prefix named new entry.rest ≡ None
   pub end : p.at + length d.before ≡ (own_of P k p es entry).span.end
   pub given : d.new ≡ codes ", " ++ (text_of (named_leaves named) ++ text_of_value new)
-  pub behind : d.behind ≡ entry_back entry.after entry.comma entry.rest
+  pub after : d.after ≡ entry_back entry.after entry.comma entry.rest
 
 of_either : {A : Type 0} (P : Changed A → Type 0) (o p : Option (Changed A)) → EachOf P o → (o ≡ None → EachOf P p) → EachOf P (or_else o p)
 of_either P None p h g = g refl
@@ -154,7 +154,7 @@ after_at P prefix named new k p (entry name body nested after comma rest) =
       last = h.last;
       end = omega (arith, h.end, prefix_ends p.at name body nested after comma, length-append left d.before);
       given = h.given;
-      behind = append-nil d.behind ∙ h.behind;
+      after = append-nil d.after ∙ h.after;
     })
     (after_at P prefix named new (k + 1) r rest))
     (λ e. by (leads_past prefix name) refl (within_none (entry name body nested after comma) left [] (put_after prefix named new rest) e))
@@ -166,8 +166,8 @@ after_at P prefix named new k p (entry name body nested after comma rest) =
         before = entry_prefix name body nested;
         old = [];
         new = codes ", " ++ (text_of (named_leaves named) ++ text_of_value new);
-        behind = entry_back after comma rest;
+        after = entry_back after comma rest;
       })
     ])
     by false e empty = tt
-    by true e empty = record { entry = at_first P k p name body nested after comma rest; goes = e; last = empty; end = sym (prefix_long p.at name body nested); given = refl; behind = refl }
+    by true e empty = record { entry = at_first P k p name body nested after comma rest; goes = e; last = empty; end = sym (prefix_long p.at name body nested); given = refl; after = refl }

@@ -97,7 +97,7 @@ module _ (profile : Profile) (fits : Body → Bool) (act : Act) (rest path : Lis
       let a : IsActed fits act rest v h.done = acted fits act rest v h.done (never_empty profile v own_valid) nothing (ap (λ (q : List Part). only q v) (sym e) ∙ h.by) in
       let disjoint = h.disjoint rules in
       let before : AllOf (IsDisjoint path) h.earlier = subst (λ (q : List Part). AllOf (IsDisjoint q) h.earlier) place disjoint.0 in
-      let behind : AllOf (IsDisjoint path) h.further = subst (λ (q : List Part). AllOf (IsDisjoint q) h.further) place disjoint.1 in
+      let after : AllOf (IsDisjoint path) h.further = subst (λ (q : List Part). AllOf (IsDisjoint q) h.further) place disjoint.1 in
       let inner : List Mention = entries_mentions 0 v.nested in
       let own : List Mention = valued_mentions h.mention.kind inner in
       let top : h.mention ≡ below path (record { path = []; kind = h.mention.kind }) =
@@ -112,16 +112,16 @@ module _ (profile : Profile) (fits : Body → Bool) (act : Act) (rest path : Lis
         place = place;
         fit = a.fit;
         by = a.by;
-        here = value_at_split path s h.earlier h.mention h.later h.prefix h.own h.behind rules h.mentioned place h.tells h.here h.count;
+        here = value_at_split path s h.earlier h.mention h.later h.prefix h.own h.after rules h.mentioned place h.tells h.here h.count;
         number = number_of_value path s h.earlier h.mention h.later rules h.mentioned place h.tells ∙ ap Some h.count;
         valid = own_valid;
         rules = mine.1;
         whole = whole;
         disjoint_before = before;
-        disjoint_after = behind;
+        disjoint_after = after;
         facts = λ q.
             ap (fact_at (path ++ q)) whole
-            ∙ fact_under path (path ++ q) q h.earlier (map (below path) own) h.further before behind (strip-append path q)
+            ∙ fact_under path (path ++ q) q h.earlier (map (below path) own) h.further before after (strip-append path q)
             ∙ ap (λ l. first_of (filter_map fact_of l)) (kinds_at-below path q own)
             ∙ valued_facts h.mention.kind (item (body_fact v.body)) inner q h.fact (same_path [] q) refl;
         nothing = nothing;

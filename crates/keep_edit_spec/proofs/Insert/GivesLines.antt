@@ -59,7 +59,7 @@ two_keyvals pre mid post l l2 name name2 v v2 e e2 rules =
     let second = beside_keyval (pre ++ l ∷ mid) post name2 v2 (subst Rules (whole_mentions (pre ++ l ∷ mid) post l2 name2 v2 e2) rules2) in
     let same : reading_after_lines start (pre ++ l ∷ mid) ≡ reading_after_lines r mid = reading_append start pre (l ∷ mid) ∙ ap (λ (x : Reading). reading_after_lines x mid) (reading_of r l name v e) in
     record {
-      one = never_prefix p p2 (lines_mentions r (mid ++ l2 ∷ post)) first.behind
+      one = never_prefix p p2 (lines_mentions r (mid ++ l2 ∷ post)) first.after
           (subst (λ (x : Reading). SomeOf (IsAloneAt (x.body ++ step 0 (Some name2))) (lines_mentions r (mid ++ l2 ∷ post))) (sym same) (alone_line r mid l2 post name2 v2 e2));
       other = never_prefix p2 p (lines_mentions start (pre ++ l ∷ mid)) second.before (alone_line start pre l mid name v e);
     }
@@ -97,7 +97,7 @@ module _ (profile : Profile) (ended act : Act) (ends : IsAtEnd ended) (rest : Li
             | inl s ↦ entry_named 0 (Some name) (body_fact v.body) (entries_mentions 0 v.nested) x
                 (named_beyond r.body (step 0 (Some name) ++ x) (keyval_mentions name v)
                 (subst (λ (q : List Part). SomeOf (IsNamedAt q) (map (below r.body) (keyval_mentions name v))) (append_assoc r.body (step 0 (Some name)) x) s))
-            | inr s ↦ absurd (never_named p x (lines_mentions r post) b.behind s)
+            | inr s ↦ absurd (never_named p x (lines_mentions r post) b.after s)
           ])
         ];
       }

@@ -60,14 +60,14 @@ dotted_law profile s n body f fs k ks v few at_body texts fresh doubles rules va
     let name : Name = name_with (f ∷ (fs ++ k ∷ ks)) in
     let r : Reading = reading_after_lines start (take n (lines s)) in
     let before : List Mention = lines_mentions start (take n (lines s)) in
-    let behind : List Mention = lines_mentions r (drop n (lines s)) in
+    let after : List Mention = lines_mentions r (drop n (lines s)) in
     let p0 : List Part = (body ++ map key (f ∷ fs)) ++ key k ∷ [] in
     let enough : n ≤ suc (length s.ended) = omega (arith, few, length-append (map line_of s.ended) (s.last ∷ []), length-map s.ended line_of) in
-    each_to (λ s'. mentions_in s' ≡ before ++ ((map (below r.body) (keyval_mentions name v) ++ []) ++ behind)) (IsKeyvalLaw s (body ++ map key (f ∷ (fs ++ k ∷ ks))) v) (at_line s n (keyval name v ∷ []))
+    each_to (λ s'. mentions_in s' ≡ before ++ ((map (below r.body) (keyval_mentions name v) ++ []) ++ after)) (IsKeyvalLaw s (body ++ map key (f ∷ (fs ++ k ∷ ks))) v) (at_line s n (keyval name v ∷ []))
     (λ s' is.
-    let now : mentions_in s' ≡ before ++ (map (below body) (keyval_mentions name v) ++ behind) =
-    is ∙ ap (λ (l : List Mention). before ++ (l ++ behind)) (append-nil (map (below r.body) (keyval_mentions name v)) ∙ ap (λ (b : List Part). map (below b) (keyval_mentions name v)) at_body) in
-    keyval_put_law s s' body (f ∷ fs) k ks name v before behind (mentioned_before s n) now (key_means profile f (fs ++ k ∷ ks) texts) (fresh_disjoint p0 (lines s) (body ++ map key (f ∷ fs), k, refl) fresh) doubles rules value_rules)
+    let now : mentions_in s' ≡ before ++ (map (below body) (keyval_mentions name v) ++ after) =
+    is ∙ ap (λ (l : List Mention). before ++ (l ++ after)) (append-nil (map (below r.body) (keyval_mentions name v)) ∙ ap (λ (b : List Part). map (below b) (keyval_mentions name v)) at_body) in
+    keyval_put_law s s' body (f ∷ fs) k ks name v before after (mentioned_before s n) now (key_means profile f (fs ++ k ∷ ks) texts) (fresh_disjoint p0 (lines s) (body ++ map key (f ∷ fs), k, refl) fresh) doubles rules value_rules)
     (mentions_put s n (keyval name v ∷ []) enough)
 
 -- ---- the line whose key continues from the path

@@ -40,8 +40,8 @@ module _ (profile : Profile) (s : Document) (a : List Part) (new : Value) (n : �
     (d : IsDoneThere profile is_array (put_item new) (index n ∷ []) a s) where
   enough : n ≤ size d.old.nested
   enough =
-      let count : item_count a (mentions_in s) ≡ item_count a (d.before ++ (map (below a) (tagged d.tag d.old) ++ d.behind)) = ap (λ (l : List Mention). item_count a l) d.was in
-      omega (arith, few, count, item_count_few profile a d.before d.behind (d.tag (body_fact d.old.body)) d.old.nested root (entries_of profile d.old.body d.old.nested d.fit d.old_valid) d.disjoint_before d.disjoint_after)
+      let count : item_count a (mentions_in s) ≡ item_count a (d.before ++ (map (below a) (tagged d.tag d.old) ++ d.after)) = ap (λ (l : List Mention). item_count a l) d.was in
+      omega (arith, few, count, item_count_few profile a d.before d.after (d.tag (body_fact d.old.body)) d.old.nested root (entries_of profile d.old.body d.old.nested d.fit d.old_valid) d.disjoint_before d.disjoint_after)
 
   put : IsItemPut new n d.old d.done.to
   put = subst (EachTo (IsItemPut new n d.old)) d.by (put_of new n d.old.body d.old.nested d.fit enough)

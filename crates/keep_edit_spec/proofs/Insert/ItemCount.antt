@@ -127,22 +127,22 @@ items_few profile a0 more_parts n (entry None body nested after comma rest) vali
     )
 
 -- Where an array is at the path, and nothing else at or under it, no more items are counted than the array has.
-pub item_count_few : (profile : Profile) (a : List Part) (before behind : List Mention) (mention_kind : MentionKind) (es : Entries) → (a ≡ [] → ⊥) → AreEntries profile in_array es → AllOf (IsDisjoint a) before → AllOf (IsDisjoint a) behind
-    → item_count a (before ++ (map (below a) (valued_mentions mention_kind (entries_mentions 0 es)) ++ behind)) ≤ size es
-item_count_few profile [] before behind mention_kind es root valid hb hh = absurd (root refl)
-item_count_few profile (a0 ∷ more_parts) before behind mention_kind es root valid hb hh =
+pub item_count_few : (profile : Profile) (a : List Part) (before after : List Mention) (mention_kind : MentionKind) (es : Entries) → (a ≡ [] → ⊥) → AreEntries profile in_array es → AllOf (IsDisjoint a) before → AllOf (IsDisjoint a) after
+    → item_count a (before ++ (map (below a) (valued_mentions mention_kind (entries_mentions 0 es)) ++ after)) ≤ size es
+item_count_few profile [] before after mention_kind es root valid hb hh = absurd (root refl)
+item_count_few profile (a0 ∷ more_parts) before after mention_kind es root valid hb hh =
     let t : Mention → Bool = is_item_of (a0 ∷ more_parts) in
     let top : Mention = below (a0 ∷ more_parts) (record { path = []; kind = mention_kind }) in
     let more : List Mention = map (below (a0 ∷ more_parts)) (entries_mentions 0 es) in
     let not_top : t top ≡ false = never_item a0 more_parts top (λ x e. absurd (no x (cancel (a0 ∷ more_parts) [] (x ∷ []) e))) in
     omega (
       arith,
-      count_join t before ((top ∷ more) ++ behind),
-      count_join t (top ∷ more) behind,
+      count_join t before ((top ∷ more) ++ after),
+      count_join t (top ∷ more) after,
       count_join t (top ∷ []) more,
       count_none t (top ∷ []) (not_top, tt),
       count_none t before (none_disjoint a0 more_parts before hb),
-      count_none t behind (none_disjoint a0 more_parts behind hh),
+      count_none t after (none_disjoint a0 more_parts after hh),
       items_few profile a0 more_parts 0 es valid,
     )
   where
@@ -173,10 +173,10 @@ items_many profile a n (entry None body nested after comma rest) valid =
     let one : count_by t (top ∷ []) ≡ 1 = rw (top_item a n (body_fact body)) refl in
     omega (arith, whole, count_join t (top ∷ deep) more, count_join t (top ∷ []) deep, one, items_many profile a (n + 1) rest valid.5)
 
-pub item_count_many : (profile : Profile) (a : List Part) (before behind : List Mention) (mention_kind : MentionKind) (es : Entries) → AreEntries profile in_array es
-    → size es ≤ item_count a (before ++ (map (below a) (valued_mentions mention_kind (entries_mentions 0 es)) ++ behind))
-item_count_many profile a before behind mention_kind es valid =
+pub item_count_many : (profile : Profile) (a : List Part) (before after : List Mention) (mention_kind : MentionKind) (es : Entries) → AreEntries profile in_array es
+    → size es ≤ item_count a (before ++ (map (below a) (valued_mentions mention_kind (entries_mentions 0 es)) ++ after))
+item_count_many profile a before after mention_kind es valid =
     let t : Mention → Bool = is_item_of a in
     let top : Mention = below a (record { path = []; kind = mention_kind }) in
     let more : List Mention = map (below a) (entries_mentions 0 es) in
-    omega (arith, count_join t before ((top ∷ more) ++ behind), count_join t (top ∷ more) behind, count_join t (top ∷ []) more, items_many profile a 0 es valid)
+    omega (arith, count_join t before ((top ∷ more) ++ after), count_join t (top ∷ more) after, count_join t (top ∷ []) more, items_many profile a 0 es valid)

@@ -93,8 +93,8 @@ items_numbered profile s a valid obeys at =
     omega (
       arith,
       ap (item_count a) d.was,
-      item_count_few profile a d.before d.behind (d.tag (body_fact d.old.body)) d.old.nested root entries d.disjoint_before d.disjoint_after,
-      item_count_many profile a d.before d.behind (d.tag (body_fact d.old.body)) d.old.nested entries,
+      item_count_few profile a d.before d.after (d.tag (body_fact d.old.body)) d.old.nested root entries d.disjoint_before d.disjoint_after,
+      item_count_many profile a d.before d.after (d.tag (body_fact d.old.body)) d.old.nested entries,
     ) in
     record {
       below_count = λ n h.

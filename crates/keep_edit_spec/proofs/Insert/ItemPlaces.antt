@@ -104,13 +104,13 @@ pub record IsWithin {A B : Type 0} (outer : A → B) (left right : List ℕ) (o 
   pub is : o ≡ Some inner
   pub before : done.before ≡ left ++ inner.before
   pub new : done.new ≡ inner.new
-  pub behind : done.behind ≡ inner.behind ++ right
+  pub after : done.after ≡ inner.after ++ right
 
 pub within_is : {A B : Type 0} (outer : A → B) (left right : List ℕ) (o : Option (Changed A)) (done : Changed B) → within outer left right o ≡ Some done → IsWithin outer left right o done
 within_is outer left right None done e = absurd cc
 within_is outer left right (Some d) done e =
     let k : framed_change outer left right d ≡ done = some_is (framed_change outer left right d) done e in
-    record { inner = d; is = refl; before = sym (ap (λ x. x.before) k); new = sym (ap (λ x. x.new) k); behind = sym (ap (λ x. x.behind) k) }
+    record { inner = d; is = refl; before = sym (ap (λ x. x.before) k); new = sym (ap (λ x. x.new) k); after = sym (ap (λ x. x.after) k) }
 
 -- ---- items by their numbers
 
@@ -131,9 +131,9 @@ Any m name = ⊤
 
 -- what is known of the place of the change
 data IsItemPlaced (a : List Part) (n : ℕ) (s : Document) (new : Value) (c : Changed Document) (own : ValueInfo) (count : ℕ) : Type 0 where
-  into_empty : count ≡ 0 → place_of c ≡ in_empty own [] new → is_high (first c.behind) ≡ false → IsItemPlaced a n s new c own count
-  before_one : (i : ValueInfo) → n < count → IsValueAt (a ++ index n ∷ []) s i → place_of c ≡ before_item i new → is_high (first c.behind) ≡ false → IsItemPlaced a n s new c own count
-  after_last : (i : ValueInfo) (m : ℕ) → suc m ≡ count → count ≤ n → IsValueAt (a ++ index m ∷ []) s i → place_of c ≡ after_entry i [] new → is_high (first c.behind) ≡ false → IsItemPlaced a n s new c own count
+  into_empty : count ≡ 0 → place_of c ≡ in_empty own [] new → is_high (first c.after) ≡ false → IsItemPlaced a n s new c own count
+  before_one : (i : ValueInfo) → n < count → IsValueAt (a ++ index n ∷ []) s i → place_of c ≡ before_item i new → is_high (first c.after) ≡ false → IsItemPlaced a n s new c own count
+  after_last : (i : ValueInfo) (m : ℕ) → suc m ≡ count → count ≤ n → IsValueAt (a ++ index m ∷ []) s i → place_of c ≡ after_entry i [] new → is_high (first c.after) ≡ false → IsItemPlaced a n s new c own count
 
 module _ (profile : Profile) (s : Document) (a : List Part) (n : ℕ) (new : Value) (rules : Rules (mentions_in s)) (root : a ≡ [] → ⊥) (c : Changed Document) (f : IsFoundThere profile is_array (put_item new) (index n ∷ []) a s c) where
   abbrev rest : List Part
@@ -187,29 +187,29 @@ module _ (profile : Profile) (s : Document) (a : List Part) (n : ℕ) (new : Val
       omega (arith, f.found.start, begins, ap (λ (t : List ℕ). length t) e, length-append left done.before, h)
 
   -- what comes after the place
-  after_is : (done : Changed Entries) → f.found.done.behind ≡ done.behind ++ codes "]" → c.behind ≡ done.behind ++ (codes "]" ++ f.found.beyond)
-  after_is done e = f.found.text_after ∙ ap (λ (t : List ℕ). t ++ f.found.beyond) e ∙ append_assoc done.behind (codes "]") f.found.beyond
+  after_is : (done : Changed Entries) → f.found.done.after ≡ done.after ++ codes "]" → c.after ≡ done.after ++ (codes "]" ++ f.found.beyond)
+  after_is done e = f.found.text_after ∙ ap (λ (t : List ℕ). t ++ f.found.beyond) e ∙ append_assoc done.after (codes "]") f.found.beyond
 
   abbrev Placed : Type 0
   Placed = IsItemPlaced a n s new c f.found.own (item_count a (mentions_in s))
 
-  by_before : (d : Changed Entries) → put_before n new v.nested ≡ Some d → length c.before ≡ p.at + length d.before → c.new ≡ d.new → c.behind ≡ d.behind ++ (codes "]" ++ f.found.beyond) → Placed
+  by_before : (d : Changed Entries) → put_before n new v.nested ≡ Some d → length c.before ≡ p.at + length d.before → c.new ≡ d.new → c.after ≡ d.after ++ (codes "]" ++ f.found.beyond) → Placed
   by_before d e start given more =
       let b : IsBefore Any new (0 + n) 0 p v.nested d = of_some (IsBefore Any new (0 + n) 0 p v.nested) (put_before n new v.nested) d e (before_at Any new 0 n p v.nested) in
       let same : b.entry.number ≡ n = omega (arith, b.number) in
       before_one (own_of Any 0 p v.nested b.entry) (omega (arith, b.entry.left, same, count_is))
       (subst (λ (m : ℕ). IsValueAt (a ++ index m ∷ []) s (own_of Any 0 p v.nested b.entry)) same (value_of_item b.entry))
       (put_place c b.entry.begin.at (text_of_value new ++ codes ", ") (f.found.old ∙ f.nothing) (omega (arith, start, b.start)) (given ∙ b.given))
-      (ap (λ (t : List ℕ). is_high (first t)) (more ∙ ap (λ (t : List ℕ). t ++ (codes "]" ++ f.found.beyond)) b.behind)
+      (ap (λ (t : List ℕ). is_high (first t)) (more ∙ ap (λ (t : List ℕ). t ++ (codes "]" ++ f.found.beyond)) b.after)
       ∙ entries_low profile brackets.Array (entry b.entry.name b.entry.body b.entry.nested b.entry.after b.entry.comma b.entry.rest) (codes "]" ++ f.found.beyond) (b.entry.valid profile in_array are) refl)
 
-  by_after : (d : Changed Entries) → put_before n new v.nested ≡ None → put_after [] None new v.nested ≡ Some d → length c.before ≡ p.at + length d.before → c.new ≡ d.new → c.behind ≡ d.behind ++ (codes "]" ++ f.found.beyond) → Placed
+  by_after : (d : Changed Entries) → put_before n new v.nested ≡ None → put_after [] None new v.nested ≡ Some d → length c.before ≡ p.at + length d.before → c.new ≡ d.new → c.after ≡ d.after ++ (codes "]" ++ f.found.beyond) → Placed
   by_after d few e start given more =
       let b : IsAfterEntry Any [] None new 0 p v.nested d = of_some (IsAfterEntry Any [] None new 0 p v.nested) (put_after [] None new v.nested) d e (after_at Any [] None new 0 p v.nested) in
       let i : ValueInfo = own_of Any 0 p v.nested b.entry in
       after_last i b.entry.number (omega (arith, b.entry.left, count_is, last b.entry.rest b.last)) (omega (arith, few_items new n v.nested few, count_is)) (value_of_item b.entry)
       (put_place c i.span.end (codes ", " ++ keyed_text [] new) (f.found.old ∙ f.nothing) (omega (arith, start, b.end)) (given ∙ b.given))
-      (ap (λ (t : List ℕ). is_high (first t)) (more ∙ ap (λ (t : List ℕ). t ++ (codes "]" ++ f.found.beyond)) b.behind)
+      (ap (λ (t : List ℕ). is_high (first t)) (more ∙ ap (λ (t : List ℕ). t ++ (codes "]" ++ f.found.beyond)) b.after)
       ∙ back_low profile brackets.Array b.entry.after b.entry.comma b.entry.rest (codes "]" ++ f.found.beyond) (b.entry.valid profile in_array are).3 (b.entry.valid profile in_array are).5 refl)
     where
       last : (es : Entries) → put_after [] None new es ≡ None → size es ≡ 0
@@ -229,7 +229,7 @@ module _ (profile : Profile) (s : Document) (a : List Part) (n : ℕ) (new : Val
       into_empty (count_is ∙ ap size ei)
       (put_place c (suc f.found.own.span.start) (keyed_text [] new) (f.found.old ∙ f.nothing) (omega (arith, f.found.start, ap (λ (t : List ℕ). length t) before))
       (f.found.new ∙ sym (ap (λ (x : Changed Value). x.new) k)))
-      (ap (λ (t : List ℕ). is_high (first t)) (f.found.text_after ∙ ap (λ (t : List ℕ). t ++ f.found.beyond) (sym (ap (λ (x : Changed Value). x.behind) k)) ∙ append_assoc (text_of g) (codes "]") f.found.beyond)
+      (ap (λ (t : List ℕ). is_high (first t)) (f.found.text_after ∙ ap (λ (t : List ℕ). t ++ f.found.beyond) (sym (ap (λ (x : Changed Value). x.after) k)) ∙ append_assoc (text_of g) (codes "]") f.found.beyond)
       ∙ gap_low g (codes "]" ++ f.found.beyond) (gap_blank profile brackets.Array g (subst (IsBody profile) eb f.valid.body)) refl)
   by_parts (array g) (entry name body nested after comma more) eb ei fit e =
       let es : Entries = entry name body nested after comma more in
@@ -238,10 +238,10 @@ module _ (profile : Profile) (s : Document) (a : List Part) (n : ℕ) (new : Val
       omega (arith, ap (λ (x : Body). (nested_of f.found.begin f.found.from f.found.keys x).at) eb, length-append (codes "[") (text_of g)) in
       let start : length c.before ≡ p.at + length w.inner.before = prefix_is w.inner (codes "[" ++ text_of g) w.before at in
       let given : c.new ≡ w.inner.new = f.found.new ∙ w.new in
-      by_first w.inner (put_before n new v.nested) refl (ap put ei ∙ w.is) start given (after_is w.inner w.behind)
+      by_first w.inner (put_before n new v.nested) refl (ap put ei ∙ w.is) start given (after_is w.inner w.after)
     where
       by_first : (d : Changed Entries) (o : Option (Changed Entries)) → put_before n new v.nested ≡ o → or_else (put_before n new v.nested) (put_after [] None new v.nested) ≡ Some d
-          → length c.before ≡ p.at + length d.before → c.new ≡ d.new → c.behind ≡ d.behind ++ (codes "]" ++ f.found.beyond) → Placed
+          → length c.before ≡ p.at + length d.before → c.new ≡ d.new → c.after ≡ d.after ++ (codes "]" ++ f.found.beyond) → Placed
       by_first d (Some x) h e start given more =
           let k : Some x ≡ Some d = sym (ap (λ (o : Option (Changed Entries)). or_else o (put_after [] None new v.nested)) h) ∙ e in
           by_before d (h ∙ k) start given more
@@ -286,7 +286,7 @@ same_value_at path s v i j number here h =
 pub record IsItemLaw (path : List Part) (n : ℕ) (s : Document) (new : Value) : Type 0 where
   pub before : (v : ℕ) (i : ValueInfo) → last_number is_value value_number (numbered_at path (numbered_in s)) ≡ Some v → slice_get (syntax.values s) v ≡ Some i
       → IsLowPlace s (insert path new) (before_item i new)
-  pub behind : (m v : ℕ) (i : ValueInfo) → n ≡ suc m → item_count (without_last path) (mentions_in s) ≡ n
+  pub after : (m v : ℕ) (i : ValueInfo) → n ≡ suc m → item_count (without_last path) (mentions_in s) ≡ n
       → last_number is_value value_number (numbered_at (without_last path ++ index m ∷ []) (numbered_in s)) ≡ Some v → slice_get (syntax.values s) v ≡ Some i
       → IsLowPlace s (insert path new) (after_entry i [] new)
   pub empty : (v : ℕ) (i : ValueInfo) → item_count (without_last path) (mentions_in s) ≡ 0
@@ -307,18 +307,18 @@ item_law profile limit s path new n editable given at allowed =
     let f : IsFoundThere profile is_array (put_item new) (index n ∷ []) a s d.changed =
     found_there profile is_array (put_item new) (index n ∷ []) a s editable.valid rules (item_nothing new) d.changed d.is d.ended_is in
     let placed = item_placed profile s a n new rules root d.changed f in
-    let there : (p : Place) → place_of d.changed ≡ p → is_high (first d.changed.behind) ≡ false → IsLowPlace s (insert path new) p =
+    let there : (p : Place) → place_of d.changed ≡ p → is_high (first d.changed.after) ≡ false → IsLowPlace s (insert path new) p =
     λ p e low. low_put s (insert path new) d.changed p is (f.found.old ∙ f.nothing) e low in
     let few = number_few profile s a n new rules root d.changed f in
     record {
       before = λ v i number here. by_before d.changed f.found.own placed few h.whole there v i number here;
-      behind = λ m v i e count number here. by_after d.changed f.found.own placed there m v i e count number here;
+      after = λ m v i e count number here. by_after d.changed f.found.own placed there m v i e count number here;
       empty = λ v i count number here. by_empty d.changed f.found.own f.here placed there v i count number here;
     }
   where
     by_before : (c : Changed Document) (own : ValueInfo) → IsItemPlaced (without_last path) n s new c own (item_count (without_last path) (mentions_in s))
         → ((m : ℕ) → SomeOf (IsAloneAt (without_last path ++ index m ∷ [])) (mentions_in s) → m < item_count (without_last path) (mentions_in s))
-        → path ≡ without_last path ++ index n ∷ [] → ((p : Place) → place_of c ≡ p → is_high (first c.behind) ≡ false → IsLowPlace s (insert path new) p)
+        → path ≡ without_last path ++ index n ∷ [] → ((p : Place) → place_of c ≡ p → is_high (first c.after) ≡ false → IsLowPlace s (insert path new) p)
         → (v : ℕ) (i : ValueInfo) → last_number is_value value_number (numbered_at path (numbered_in s)) ≡ Some v → slice_get (syntax.values s) v ≡ Some i → IsLowPlace s (insert path new) (before_item i new)
     by_before c own (into_empty zero_items e low) few whole there v i number here =
         let less = few n (subst (λ (x : List Part). SomeOf (IsAloneAt x) (mentions_in s)) whole (alone_of_number path s v number)) in absurd (omega (arith, less, zero_items))
@@ -327,7 +327,7 @@ item_law profile limit s path new n editable given at allowed =
     by_before c own (before_one j less at e low) few whole there v i number here =
         subst (λ (x : ValueInfo). IsLowPlace s (insert path new) (before_item x new)) (same_value_at path s v i j number here (subst (λ (x : List Part). IsValueAt x s j) (sym whole) at)) (there (before_item j new) e low)
 
-    by_after : (c : Changed Document) (own : ValueInfo) → IsItemPlaced (without_last path) n s new c own (item_count (without_last path) (mentions_in s)) → ((p : Place) → place_of c ≡ p → is_high (first c.behind) ≡ false → IsLowPlace s (insert path new) p)
+    by_after : (c : Changed Document) (own : ValueInfo) → IsItemPlaced (without_last path) n s new c own (item_count (without_last path) (mentions_in s)) → ((p : Place) → place_of c ≡ p → is_high (first c.after) ≡ false → IsLowPlace s (insert path new) p)
         → (m v : ℕ) (i : ValueInfo) → n ≡ suc m → item_count (without_last path) (mentions_in s) ≡ n
         → last_number is_value value_number (numbered_at (without_last path ++ index m ∷ []) (numbered_in s)) ≡ Some v → slice_get (syntax.values s) v ≡ Some i
         → IsLowPlace s (insert path new) (after_entry i [] new)
@@ -338,7 +338,7 @@ item_law profile limit s path new n editable given at allowed =
         subst (λ (x : ValueInfo). IsLowPlace s (insert path new) (after_entry x [] new))
         (same_value_at (without_last path ++ index m ∷ []) s v i j number here (subst (λ (x : ℕ). IsValueAt (without_last path ++ index x ∷ []) s j) same at)) (there (after_entry j [] new) e low)
 
-    by_empty : (c : Changed Document) (own : ValueInfo) → IsValueAt (without_last path) s own → IsItemPlaced (without_last path) n s new c own (item_count (without_last path) (mentions_in s)) → ((p : Place) → place_of c ≡ p → is_high (first c.behind) ≡ false → IsLowPlace s (insert path new) p)
+    by_empty : (c : Changed Document) (own : ValueInfo) → IsValueAt (without_last path) s own → IsItemPlaced (without_last path) n s new c own (item_count (without_last path) (mentions_in s)) → ((p : Place) → place_of c ≡ p → is_high (first c.after) ≡ false → IsLowPlace s (insert path new) p)
         → (v : ℕ) (i : ValueInfo) → item_count (without_last path) (mentions_in s) ≡ 0
         → last_number is_value value_number (numbered_at (without_last path) (numbered_in s)) ≡ Some v → slice_get (syntax.values s) v ≡ Some i
         → IsLowPlace s (insert path new) (in_empty i [] new)

@@ -34,7 +34,7 @@ stated_number path s = last_number is_value value_number (numbered_at path (numb
 -- into the braces of an inline table
 pub record IsInlineLaw (path : List Part) (s : Document) (new : Value) (v : ℕ) (own : ValueInfo) : Type 0 where
   pub empty : last_keyval (suc v) own.depth (drop (suc v) (syntax.values s)) ≡ None → IsLowPlace s (insert path new) (in_empty own (keys_in (drop (length (holder path (mentions_in s))) path)) new)
-  pub behind : (w : ℕ) → last_keyval (suc v) own.depth (drop (suc v) (syntax.values s)) ≡ Some w → IsPutAfter path s new (keys_in (drop (length (holder path (mentions_in s))) path)) w
+  pub after : (w : ℕ) → last_keyval (suc v) own.depth (drop (suc v) (syntax.values s)) ≡ Some w → IsPutAfter path s new (keys_in (drop (length (holder path (mentions_in s))) path)) w
 
 take_prefix : (a b : List Part) → take (length a) (a ++ b) ≡ a
 take_prefix [] [] = refl
@@ -56,7 +56,7 @@ module _ (profile : Profile) (limit : ℕ) (s : Document) (path : List Part) (ne
       let keys : keys_in (map key (n.first ∷ n.more)) ≡ keys_in (drop (length a) path) = ap keys_in (sym n.rest) in
       record {
         empty = λ e. subst (λ (l : List (List ℕ)). IsLowPlace s (insert path new) (in_empty own l new)) keys (into_empty profile s path a new n.first n.more h v own number here e);
-        behind = λ w e. subst (λ (l : List (List ℕ)). IsPutAfter path s new l w) keys (after_last profile s path a new n.first n.more h v own number here w e);
+        after = λ w e. subst (λ (l : List (List ℕ)). IsPutAfter path s new l w) keys (after_last profile s path a new n.first n.more h v own number here w e);
       }
     where
       no : (b : Part) (bs r : List Part) → [] ≡ (b ∷ bs) ++ r → ⊥

@@ -31,8 +31,8 @@ use Rattle.keep_edit_spec.proofs.Remove.RemoveLinePlace.{head_line, tail_lines, 
 abbrev pub mentions_something : Content → Bool
 mentions_something blank = false
 mentions_something (keyval name value) = true
-mentions_something (header before k behind) = true
-mentions_something (element before k behind) = true
+mentions_something (header before k after) = true
+mentions_something (element before k after) = true
 
 -- the line before the line with that number
 pub record IsLineBefore (s : Document) (n : ℕ) : Type 0 where
@@ -100,13 +100,13 @@ taken a b c t e =
     ∙ drop_at a b (length a) refl
 
 -- the text, cut where the line with that number begins
-cut_text : (s : Document) (n : ℕ) → text s ≡ (text_of (bom_leaves s.bom) ++ prefix_of n s.ended s.last) ++ (drop_prefix n s.ended s.last).behind
+cut_text : (s : Document) (n : ℕ) → text s ≡ (text_of (bom_leaves s.bom) ++ prefix_of n s.ended s.last) ++ (drop_prefix n s.ended s.last).after
 cut_text s n =
     let c : Changed Document = line_change s n [] in
     let cut : IsChangeOf text s c = at_line-is s n [] in
     let h : AreLinesPut s n [] c = lines_put s n [] c refl in
     let prefix : List ℕ = text_of (bom_leaves s.bom) ++ prefix_of n s.ended s.last in
-    cut.was ∙ ap (λ (t : List ℕ). t ++ (c.old ++ c.behind)) h.before ∙ ap (λ (t : List ℕ). prefix ++ (t ++ c.behind)) h.old ∙ ap (λ (t : List ℕ). prefix ++ t) h.behind
+    cut.was ∙ ap (λ (t : List ℕ). t ++ (c.old ++ c.after)) h.before ∙ ap (λ (t : List ℕ). prefix ++ (t ++ c.after)) h.old ∙ ap (λ (t : List ℕ). prefix ++ t) h.after
 
 -- The edit's place is this one, within the text, and no byte of a longer character is there.
 pub record IsLowPlace (s : Document) (e : Edit) (p : Place) : Type 0 where
@@ -117,9 +117,9 @@ pub record IsLowPlace (s : Document) (e : Edit) (p : Place) : Type 0 where
 pub low_at : (profile : Profile) (s : Document) (n : ℕ) → IsDocument profile s → is_high (first (drop (line_begins s n) (text s))) ≡ false
 low_at profile s n valid =
     let prefix : List ℕ = text_of (bom_leaves s.bom) ++ prefix_of n s.ended s.last in
-    let behind : List ℕ = (drop_prefix n s.ended s.last).behind in
+    let after : List ℕ = (drop_prefix n s.ended s.last).after in
     ap (λ (t : List ℕ). is_high (first (drop (line_begins s n) t))) (cut_text s n)
-    ∙ ap (λ (t : List ℕ). is_high (first t)) (drop_at prefix behind (line_begins s n) (length-append (text_of (bom_leaves s.bom)) (prefix_of n s.ended s.last)))
+    ∙ ap (λ (t : List ℕ). is_high (first t)) (drop_at prefix after (line_begins s n) (length-append (text_of (bom_leaves s.bom)) (prefix_of n s.ended s.last)))
     ∙ drop_low profile n s.ended s.last valid.ended valid.last
 
 -- no byte of a longer character begins the lines
@@ -132,11 +132,11 @@ pub low_place : (profile : Profile) (s : Document) (e : Edit) (p : Place) (n : �
 low_place profile s e p n valid placed begins =
     let bom : List ℕ = text_of (bom_leaves s.bom) in
     let prefix : List ℕ = prefix_of n s.ended s.last in
-    let behind : List ℕ = (drop_prefix n s.ended s.last).behind in
+    let after : List ℕ = (drop_prefix n s.ended s.last).after in
     let long : line_begins s n ≡ length (bom ++ prefix) = sym (length-append bom prefix) in
     record {
       placed = placed;
-      within = omega (arith, begins, long, ap (λ (t : List ℕ). length t) (cut_text s n), length-append (bom ++ prefix) behind);
+      within = omega (arith, begins, long, ap (λ (t : List ℕ). length t) (cut_text s n), length-append (bom ++ prefix) after);
       low = ap (λ (m : ℕ). is_high (first (drop m (text s)))) begins ∙ low_at profile s n valid;
     }
 
@@ -148,7 +148,7 @@ missing_is : (s : Document) (n : ℕ) → is_open (prefix_of n s.ended s.last) �
     → missing_newline (text s) (newline_of s).text (bom_width s) (line_begins s n) ≡ newline_if (is_past n s.ended) (newline_of s).text
 missing_is s n opens =
     newline_by (is_open (drop (bom_width s) (take (line_begins s n) (text s)))) (newline_of s).text (is_past n s.ended)
-    (ap is_open (taken (text_of (bom_leaves s.bom)) (prefix_of n s.ended s.last) (drop_prefix n s.ended s.last).behind (text s) (cut_text s n)) ∙ opens)
+    (ap is_open (taken (text_of (bom_leaves s.bom)) (prefix_of n s.ended s.last) (drop_prefix n s.ended s.last).after (text s) (cut_text s n)) ∙ opens)
 
 plain_text : (newline : Written) (c : Content) (es : List Ended) → ended_text (new_line newline c ∷ es) ≡ content_text c ++ (newline.text ++ ended_text es)
 plain_text newline c es =
@@ -216,8 +216,8 @@ body_last [] last k h = by last.content refl h
     by : (x : Content) → last.content ≡ x → (elim x [
       | blank ↦ more_lines false 0
       | keyval name value ↦ more_lines true 0
-      | header before key behind ↦ 0
-      | element before key behind ↦ 0
+      | header before key after ↦ 0
+      | element before key after ↦ 0
     ]) ≡ suc k → IsBodyLast [] last k
     by blank e h = absurd cc
     by (keyval name value) e h = record { pre = []; rest = []; was = refl; number = omega (arith, h); kind = ap mentions_something e }
@@ -228,8 +228,8 @@ body_last (e ∷ es) last k h = by e.line.content refl (body_length (map line_of
     by : (x : Content) → e.line.content ≡ x → (m : ℕ) → body_length (map line_of es ++ last ∷ []) ≡ m → (elim x [
       | blank ↦ more_lines false m
       | keyval name value ↦ more_lines true m
-      | header before key behind ↦ 0
-      | element before key behind ↦ 0
+      | header before key after ↦ 0
+      | element before key after ↦ 0
     ]) ≡ suc k → ((m : ℕ) → body_length (map line_of es ++ last ∷ []) ≡ suc m → IsBodyLast es last m) → IsBodyLast (e ∷ es) last k
     by blank c zero g h ih = absurd cc
     by blank c (suc m) g h ih =

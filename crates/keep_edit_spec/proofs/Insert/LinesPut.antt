@@ -32,19 +32,19 @@ pub record ArePut (n : ℕ) (lines : List Ended) (newline : Written) (es : List 
   pub before : c.before ≡ prefix_of n es last
   pub old : c.old ≡ []
   pub new : c.new ≡ newline_if (is_past n es) newline.text ++ ended_text lines
-  pub behind : c.behind ≡ (drop_prefix n es last).behind
+  pub after : c.after ≡ (drop_prefix n es last).after
 
 pub lines_are_put : (n : ℕ) (lines : List Ended) (newline : Written) (es : List Ended) (last : Line) → ArePut n lines newline es last (put_lines n lines newline es last)
-lines_are_put zero lines newline [] last = record { before = refl; old = refl; new = refl; behind = refl }
-lines_are_put (suc m) lines newline [] last = record { before = refl; old = refl; new = refl; behind = refl }
-lines_are_put zero lines newline (e ∷ es) last = record { before = refl; old = refl; new = refl; behind = refl }
+lines_are_put zero lines newline [] last = record { before = refl; old = refl; new = refl; after = refl }
+lines_are_put (suc m) lines newline [] last = record { before = refl; old = refl; new = refl; after = refl }
+lines_are_put zero lines newline (e ∷ es) last = record { before = refl; old = refl; new = refl; after = refl }
 lines_are_put (suc m) lines newline (e ∷ es) last =
     let h = lines_are_put m lines newline es last in
     record {
       before = ap (λ (t : List ℕ). text_of (ended_leaves e) ++ t) h.before;
       old = h.old;
       new = h.new;
-      behind = append-nil (put_lines m lines newline es last).behind ∙ h.behind;
+      after = append-nil (put_lines m lines newline es last).after ∙ h.after;
     }
 
 -- ---- in the document
@@ -61,7 +61,7 @@ pub record AreLinesPut (s : Document) (n : ℕ) (contents : List Content) (c : C
   pub before : c.before ≡ text_of (bom_leaves s.bom) ++ prefix_of n s.ended s.last
   pub old : c.old ≡ []
   pub new : c.new ≡ newline_if (is_past n s.ended) (newline_of s).text ++ ended_text (map (new_line (newline_of s)) contents)
-  pub behind : c.behind ≡ (drop_prefix n s.ended s.last).behind
+  pub after : c.after ≡ (drop_prefix n s.ended s.last).after
 
 pub lines_put : (s : Document) (n : ℕ) (contents : List Content) (c : Changed Document) → at_line s n contents ≡ Some c → AreLinesPut s n contents c
 lines_put s n contents c is =
@@ -73,7 +73,7 @@ lines_put s n contents c is =
       before = sym (ap (λ (x : Changed Document). x.before) same) ∙ ap (λ (t : List ℕ). text_of (bom_leaves s.bom) ++ t) h.before;
       old = sym (ap (λ (x : Changed Document). x.old) same) ∙ h.old;
       new = sym (ap (λ (x : Changed Document). x.new) same) ∙ h.new;
-      behind = sym (ap (λ (x : Changed Document). x.behind) same) ∙ append-nil p.behind ∙ h.behind;
+      after = sym (ap (λ (x : Changed Document). x.after) same) ∙ append-nil p.after ∙ h.after;
     }
 
 -- as a place

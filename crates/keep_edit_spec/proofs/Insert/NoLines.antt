@@ -121,7 +121,7 @@ module _ (s : Document) (rules : Rules (mentions_in s)) (pre post : List Line) (
       ap (last_line test start) was
       ∙ fail_none test start (pre ++ l ∷ post)
       (fail_join test start pre (l ∷ post) (disjoint_fail p x test tells start pre beside.before)
-      (own, subst (λ (q : Reading). AllFail test q post) (sym same) (disjoint_fail p x test tells r post beside.behind)))
+      (own, subst (λ (q : Reading). AllFail test q post) (sym same) (disjoint_fail p x test tells r post beside.after)))
 
   no_header : is_header l.content ≡ false
   no_header = ap is_header content

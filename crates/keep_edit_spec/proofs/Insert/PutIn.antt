@@ -153,7 +153,7 @@ entry_after prefix named new k (entry name body nested after comma rest) =
         before = entry_prefix name body nested;
         old = [];
         new = codes ", " ++ (text_of (named_leaves named) ++ text_of_value new);
-        behind = entry_back after comma rest;
+        after = entry_back after comma rest;
       })
     ])
     by false e empty = tt

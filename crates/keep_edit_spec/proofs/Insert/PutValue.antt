@@ -148,7 +148,7 @@ valid_after profile place prefix named new (entry name body nested after comma r
         before = entry_prefix name body nested;
         old = [];
         new = codes ", " ++ (text_of (named_leaves named) ++ text_of_value new);
-        behind = entry_back after comma rest;
+        after = entry_back after comma rest;
       })
     ])
     by false = tt
@@ -214,7 +214,7 @@ after_depth prefix named new (entry name body nested after comma rest) =
         before = entry_prefix name body nested;
         old = [];
         new = codes ", " ++ (text_of (named_leaves named) ++ text_of_value new);
-        behind = entry_back after comma rest;
+        after = entry_back after comma rest;
       })
     ])
     by false = tt

@@ -59,8 +59,8 @@ section_tree s n a keys p v s' place law q = law.tree q ∙ start_by (strip p q)
     before : List Mention
     before = lines_mentions start (take n (lines s))
 
-    behind : List Mention
-    behind = lines_mentions r (drop n (lines s))
+    after : List Mention
+    after = lines_mentions r (drop n (lines s))
 
     way : List Mention
     way = header_way r.tables [] keys
@@ -68,17 +68,17 @@ section_tree s n a keys p v s' place law q = law.tree q ∙ start_by (strip p q)
     m : Mention
     m = record { path = a; kind = define }
 
-    start_by : (o : Option (List Part)) → elim o [ Some more ↦ fact_at more (mentions_of_value v) | None ↦ fact_at q ((before ++ (way ++ m ∷ [])) ++ behind) ] ≡ given_or v o (fact_at q ((before ++ (way ++ m ∷ [])) ++ behind))
+    start_by : (o : Option (List Part)) → elim o [ Some more ↦ fact_at more (mentions_of_value v) | None ↦ fact_at q ((before ++ (way ++ m ∷ [])) ++ after) ] ≡ given_or v o (fact_at q ((before ++ (way ++ m ∷ [])) ++ after))
     start_by (Some more) = refl
     start_by None = refl
 
-    inner : fact_at q ((before ++ (way ++ m ∷ [])) ++ behind) ≡ cond (same_path q a) (Some table) (fact_at q (mentions_in s))
+    inner : fact_at q ((before ++ (way ++ m ∷ [])) ++ after) ≡ cond (same_path q a) (Some table) (fact_at q (mentions_in s))
     inner =
-        ap (fact_at q) (ap (λ (l : List Mention). l ++ behind) (sym (append_assoc before way (m ∷ []))) ∙ append_assoc (before ++ way) (m ∷ []) behind)
-        ∙ without_ways q before way (m ∷ behind) (silent_way r.tables [] keys)
-        ∙ amid q m before behind refl (all_map (λ x. Allowed x m) (λ x. x.path ≡ a → AtMostTable x.kind) (λ x f e. before_define x.kind (f e)) before place.before_lets) (same_path q a) refl
+        ap (fact_at q) (ap (λ (l : List Mention). l ++ after) (sym (append_assoc before way (m ∷ []))) ∙ append_assoc (before ++ way) (m ∷ []) after)
+        ∙ without_ways q before way (m ∷ after) (silent_way r.tables [] keys)
+        ∙ amid q m before after refl (all_map (λ x. Allowed x m) (λ x. x.path ≡ a → AtMostTable x.kind) (λ x f e. before_define x.kind (f e)) before place.before_lets) (same_path q a) refl
         ∙ ap (λ (l : List Mention). cond (same_path q a) (Some table) (fact_at q l)) (sym (mentioned_before s n))
 
-    by : (o : Option (List Part)) → given_or v o (fact_at q ((before ++ (way ++ m ∷ [])) ++ behind)) ≡ given_or v o (cond (same_path q a) (Some table) (fact_at q (mentions_in s)))
+    by : (o : Option (List Part)) → given_or v o (fact_at q ((before ++ (way ++ m ∷ [])) ++ after)) ≡ given_or v o (cond (same_path q a) (Some table) (fact_at q (mentions_in s)))
     by (Some more) = refl
     by None = inner

@@ -47,9 +47,9 @@ after_free t a b (l ∷ ls) = free_content t a b l.before l.after l.comment l.co
 
 -- ---- one mention put in
 
-pub one_in : (m : Mention) (before behind : List Mention) → AllOf (λ x. Allowed x m) before → AllOf (Allowed m) behind → Rules (before ++ behind) → Rules (before ++ m ∷ behind)
-one_in m [] behind h g r = (g, r)
-one_in m (x ∷ before) behind h g r = (all_insert (Allowed x) before m behind r.0 h.0, one_in m before behind h.1 g r.1)
+pub one_in : (m : Mention) (before after : List Mention) → AllOf (λ x. Allowed x m) before → AllOf (Allowed m) after → Rules (before ++ after) → Rules (before ++ m ∷ after)
+one_in m [] after h g r = (g, r)
+one_in m (x ∷ before) after h g r = (all_insert (Allowed x) before m after r.0 h.0, one_in m before after h.1 g r.1)
 
 pub doubles_disjoint : (p : List Part) (before ds : List Mention) → AllOf (IsDisjoint p) before → AllOf (IsDoubleOf before) ds → AllOf (IsDisjoint p) ds
 doubles_disjoint p before [] h d = tt
@@ -58,15 +58,15 @@ doubles_disjoint p before (m ∷ ds) h d =
     (subst (λ (q : List Part). strip p q ≡ None) same.path disjoint, doubles_disjoint p before ds h d.1)
 
 -- Doubles, a mention that the others allow, and after it a run under a fresh path.
-pub rules_section : (p : List Part) (before way : List Mention) (m : Mention) (run behind : List Mention) → Rules (before ++ behind) → AllOf (IsDoubleOf before) way
-    → AllOf (λ x. Allowed x m) before → AllOf (Allowed m) behind → AllOf (IsDisjoint p) before → AllOf (IsDisjoint p) behind → IsDisjoint p m → AllOf (IsUnder p) run → Rules run
-    → Rules ((before ++ (way ++ m ∷ [])) ++ (run ++ behind))
-rules_section p before way m run behind r d hm gm hb hh am hr rr =
-    let one : Rules (before ++ m ∷ behind) = one_in m before behind hm gm r in
-    let two : Rules (before ++ (way ++ m ∷ behind)) = doubles_in way before (m ∷ behind) d one in
-    let shape : before ++ (way ++ m ∷ behind) ≡ (before ++ (way ++ m ∷ [])) ++ ([] ++ behind) =
-    ap (λ (l : List Mention). before ++ l) (sym (append_assoc way (m ∷ []) behind)) ∙ sym (append_assoc before (way ++ m ∷ []) behind) in
-    rules_replaced p (before ++ (way ++ m ∷ [])) [] run behind (subst Rules shape two)
+pub rules_section : (p : List Part) (before way : List Mention) (m : Mention) (run after : List Mention) → Rules (before ++ after) → AllOf (IsDoubleOf before) way
+    → AllOf (λ x. Allowed x m) before → AllOf (Allowed m) after → AllOf (IsDisjoint p) before → AllOf (IsDisjoint p) after → IsDisjoint p m → AllOf (IsUnder p) run → Rules run
+    → Rules ((before ++ (way ++ m ∷ [])) ++ (run ++ after))
+rules_section p before way m run after r d hm gm hb hh am hr rr =
+    let one : Rules (before ++ m ∷ after) = one_in m before after hm gm r in
+    let two : Rules (before ++ (way ++ m ∷ after)) = doubles_in way before (m ∷ after) d one in
+    let shape : before ++ (way ++ m ∷ after) ≡ (before ++ (way ++ m ∷ [])) ++ ([] ++ after) =
+    ap (λ (l : List Mention). before ++ l) (sym (append_assoc way (m ∷ []) after)) ∙ sym (append_assoc before (way ++ m ∷ []) after) in
+    rules_replaced p (before ++ (way ++ m ∷ [])) [] run after (subst Rules shape two)
     (all_join (IsDisjoint p) before (way ++ m ∷ []) hb (all_join (IsDisjoint p) way (m ∷ []) (doubles_disjoint p before way hb d) (am, tt))) hh hr rr
 
 -- What has to be known of line n for a section with these keys: its path, and what comes before and after.
@@ -100,7 +100,7 @@ section_law profile s n a h hs k ks v place head_texts texts fresh rules value_r
     let r : Reading = reading_after_lines start (take n (lines s)) in
     let rest : List Line = drop n (lines s) in
     let before : List Mention = lines_mentions start (take n (lines s)) in
-    let behind : List Mention = lines_mentions r rest in
+    let after : List Mention = lines_mentions r rest in
     let way : List Mention = header_way r.tables [] (h ∷ hs) in
     let m : Mention = record { path = a; kind = define } in
     let vs : List Mention = valued_mentions (value (body_fact v.body)) (entries_mentions 0 v.nested) in
@@ -109,26 +109,26 @@ section_law profile s n a h hs k ks v place head_texts texts fresh rules value_r
     let p0 : List Part = a ++ key k ∷ [] in
     let p : List Part = a ++ step 0 (Some name) in
     let whole : p ≡ a ++ map key (k ∷ ks) = ap (λ (l : List (List ℕ)). a ++ map key l) means in
-    let was : mentions_in s ≡ before ++ behind = mentioned_before s n in
+    let was : mentions_in s ≡ before ++ after = mentioned_before s n in
     let disjoint : AllOf (IsDisjoint p0) (mentions_in s) = fresh_disjoint p0 (lines s) (a, k, refl) fresh in
-    let both : AllOf (IsDisjoint p0) (before ++ behind) = subst (λ (l : List Mention). AllOf (IsDisjoint p0) l) was disjoint in
-    let hb : AllOf (IsDisjoint p0) before = all_left (IsDisjoint p0) before behind both in
-    let hh : AllOf (IsDisjoint p0) behind = all_right (IsDisjoint p0) before behind both in
+    let both : AllOf (IsDisjoint p0) (before ++ after) = subst (λ (l : List Mention). AllOf (IsDisjoint p0) l) was disjoint in
+    let hb : AllOf (IsDisjoint p0) before = all_left (IsDisjoint p0) before after both in
+    let hh : AllOf (IsDisjoint p0) after = all_right (IsDisjoint p0) before after both in
     let prefix : List Mention = before ++ (way ++ m ∷ []) in
     let hf : AllOf (IsDisjoint p0) prefix = all_join (IsDisjoint p0) before (way ++ m ∷ []) hb (all_join (IsDisjoint p0) way (m ∷ []) (doubles_disjoint p0 before way hb place.doubles) (disjoint_prefix a (key k) define, tt)) in
     let long : p ≡ p0 ++ map key ks = whole ∙ sym (append_assoc a (key k ∷ []) (map key ks)) in
     let far : (ms : List Mention) → AllOf (IsDisjoint p0) ms → AllOf (IsDisjoint p) ms = λ ms g. subst (λ (x : List Part). AllOf (IsDisjoint x) ms) (sym long) (all_longer p0 (map key ks) ms g) in
     let under : AllOf (IsUnder p0) run = subst (λ (l : List ℕ). AllOf (IsUnder (a ++ key l ∷ [])) run) texts.0.means (under_both a _ (keyval_mentions name v) (keyed_under _ _ vs)) in
-    let good : Rules (prefix ++ (run ++ behind)) =
-    rules_section p0 before way m run behind (subst Rules was rules) place.doubles place.before_lets place.after_lets hb hh (disjoint_prefix a (key k) define) under
+    let good : Rules (prefix ++ (run ++ after)) =
+    rules_section p0 before way m run after (subst Rules was rules) place.doubles place.before_lets place.after_lets hb hh (disjoint_prefix a (key k) define) under
     (rules_outside a (keyval_mentions name v) (rules_keyval name v value_rules)) in
     let mentioned : List Mention → List Part → List Mention = λ w b. before ++ (((w ++ record { path = b; kind = define } ∷ []) ++ (map (below b) (keyval_mentions name v) ++ [])) ++ lines_mentions (record { tables = r.tables; body = b }) rest) in
-    let tidy : mentioned way a ≡ prefix ++ (run ++ behind) =
+    let tidy : mentioned way a ≡ prefix ++ (run ++ after) =
     ap (λ (z : List Mention). before ++ (((way ++ m ∷ []) ++ (run ++ [])) ++ z)) place.free
-    ∙ ap (λ (z : List Mention). before ++ (((way ++ m ∷ []) ++ z) ++ behind)) (append-nil run)
-    ∙ ap (λ (z : List Mention). before ++ z) (append_assoc (way ++ m ∷ []) run behind)
-    ∙ sym (append_assoc before (way ++ m ∷ []) (run ++ behind)) in
-    let iteration : mentioned (header_way r.tables [] (keys_of (key_with (h ∷ hs)))) (header_path r.tables [] (keys_of (key_with (h ∷ hs)))) ≡ prefix ++ (run ++ behind) =
+    ∙ ap (λ (z : List Mention). before ++ (((way ++ m ∷ []) ++ z) ++ after)) (append-nil run)
+    ∙ ap (λ (z : List Mention). before ++ z) (append_assoc (way ++ m ∷ []) run after)
+    ∙ sym (append_assoc before (way ++ m ∷ []) (run ++ after)) in
+    let iteration : mentioned (header_way r.tables [] (keys_of (key_with (h ∷ hs)))) (header_path r.tables [] (keys_of (key_with (h ∷ hs)))) ≡ prefix ++ (run ++ after) =
     ap (λ (l : List (List ℕ)). mentioned (header_way r.tables [] l) (header_path r.tables [] l)) (key_means profile h hs head_texts)
     ∙ ap (λ (b : List Part). mentioned way b) place.path ∙ tidy in
     each_to (λ s'. mentions_in s' ≡ mentioned (header_way r.tables [] (keys_of (key_with (h ∷ hs)))) (header_path r.tables [] (keys_of (key_with (h ∷ hs)))))
@@ -136,7 +136,7 @@ section_law profile s n a h hs k ks v place head_texts texts fresh rules value_r
     (λ s' is. record {
       rules = subst Rules (sym (is ∙ iteration)) good;
       tree = λ q. ap (fact_at q) (is ∙ iteration)
-          ∙ tree_put-by a name v prefix behind (far prefix hf) (far behind hh) q (strip p q) refl
-          ∙ ap (λ (x : List Part). KeyvalFact x v (prefix ++ behind) q) whole;
+          ∙ tree_put-by a name v prefix after (far prefix hf) (far after hh) q (strip p q) refl
+          ∙ ap (λ (x : List Part). KeyvalFact x v (prefix ++ after) q) whole;
     })
     (mentions_put s n (blank ∷ new_header (h ∷ hs) ∷ keyval name v ∷ []) place.few)

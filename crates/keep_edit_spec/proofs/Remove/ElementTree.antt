@@ -18,7 +18,7 @@ use Rattle.keep_edit_spec.proofs.Remove.Shift.{shifted, element_at, disjoint_ele
 
 module _ (prefix : List Part) (n : ℕ) (from mid to : List Mention) (cut : IsCut (element_at prefix n) from mid) (is : to ≡ map (moved (shifted prefix n)) mid) where
   mid_disjoint : AllOf (IsDisjoint (element_at prefix n)) mid
-  mid_disjoint = subst (AllOf (IsDisjoint (element_at prefix n))) (sym cut.is) (all_join (IsDisjoint (element_at prefix n)) cut.before cut.behind cut.disjoint_before cut.disjoint_after)
+  mid_disjoint = subst (AllOf (IsDisjoint (element_at prefix n))) (sym cut.is) (all_join (IsDisjoint (element_at prefix n)) cut.before cut.after cut.disjoint_before cut.disjoint_after)
 
   element_rules : Rules from → Rules to
   element_rules rules =

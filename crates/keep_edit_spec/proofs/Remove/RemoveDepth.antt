@@ -19,22 +19,22 @@ use Rattle.keep_edit_spec.proofs.Remove.TakenOut.{out_when}
 abbrev NoDeeperRow : Entries → Row → Type 0
 NoDeeperRow es r = entries_depth r.entries ≤ entries_depth es
 
-two_depth : (gap : Gap) (name : Option Name) (body : Body) (nested : Entries) (after behind : Gap)
+two_depth : (gap : Gap) (name : Option Name) (body : Body) (nested : Entries) (after next_gap : Gap)
     (name' : Option Name) (body' : Body) (nested' : Entries) (after' : Gap) (comma' : Option Gap) (rest' : Entries) (further : Option (Changed Row)) (b c : Bool)
     → EachTo (NoDeeperRow (entry name' body' nested' after' comma' rest')) further
-    → EachTo (NoDeeperRow (entry name body nested after (Some behind) (entry name' body' nested' after' comma' rest'))) (elim b [
-      | true ↦ Some (taken_first gap name body nested after behind (entry name' body' nested' after' comma' rest'))
+    → EachTo (NoDeeperRow (entry name body nested after (Some next_gap) (entry name' body' nested' after' comma' rest'))) (elim b [
+      | true ↦ Some (taken_first gap name body nested after next_gap (entry name' body' nested' after' comma' rest'))
       | false ↦ elim c [
-        | true ↦ Some (taken_last gap name body nested after behind name' body' nested' after')
+        | true ↦ Some (taken_last gap name body nested after next_gap name' body' nested' after')
         | false ↦ within (λ r. record { gap = gap; entries = entry name body nested after (Some r.gap) r.entries })
             (text_of gap ++ (entry_prefix name body nested ++ (text_of after ++ codes ","))) [] further
       ]
     ])
-two_depth gap name body nested after behind name' body' nested' after' comma' rest' further true c ih = omega arith
-two_depth gap name body nested after behind name' body' nested' after' comma' rest' further false true ih = omega arith
-two_depth gap name body nested after behind name' body' nested' after' comma' rest' further false false ih =
+two_depth gap name body nested after next_gap name' body' nested' after' comma' rest' further true c ih = omega arith
+two_depth gap name body nested after next_gap name' body' nested' after' comma' rest' further false true ih = omega arith
+two_depth gap name body nested after next_gap name' body' nested' after' comma' rest' further false false ih =
     let next : Entries = entry name' body' nested' after' comma' rest' in
-    to_within (NoDeeperRow next) (NoDeeperRow (entry name body nested after (Some behind) next))
+    to_within (NoDeeperRow next) (NoDeeperRow (entry name body nested after (Some next_gap) next))
     (λ r. record { gap = gap; entries = entry name body nested after (Some r.gap) r.entries }) (text_of gap ++ (entry_prefix name body nested ++ (text_of after ++ codes ","))) [] further
     (λ r h. omega (arith, h)) ih
 
@@ -43,12 +43,12 @@ taken_depth path n gap none = tt
 taken_depth path n gap (entry name body nested after None none) =
     out_when (NoDeeperRow (entry name body nested after None none)) (same_path (step n name) path) (taken_only gap name body nested after) (λ e. omega arith)
 taken_depth path n gap (entry name body nested after None (entry name' body' nested' after' comma' rest')) = tt
-taken_depth path n gap (entry name body nested after (Some behind) none) =
-    out_when (NoDeeperRow (entry name body nested after (Some behind) none)) (same_path (step n name) path) (taken_first gap name body nested after behind none) (λ e. omega arith)
-taken_depth path n gap (entry name body nested after (Some behind) (entry name' body' nested' after' comma' rest')) =
-    two_depth gap name body nested after behind name' body' nested' after' comma' rest' (take_out path (n + 1) behind (entry name' body' nested' after' comma' rest'))
+taken_depth path n gap (entry name body nested after (Some next_gap) none) =
+    out_when (NoDeeperRow (entry name body nested after (Some next_gap) none)) (same_path (step n name) path) (taken_first gap name body nested after next_gap none) (λ e. omega arith)
+taken_depth path n gap (entry name body nested after (Some next_gap) (entry name' body' nested' after' comma' rest')) =
+    two_depth gap name body nested after next_gap name' body' nested' after' comma' rest' (take_out path (n + 1) next_gap (entry name' body' nested' after' comma' rest'))
     (same_path (step n name) path) (is_last_named path (n + 1) (entry name' body' nested' after' comma' rest'))
-    (taken_depth path (n + 1) behind (entry name' body' nested' after' comma' rest'))
+    (taken_depth path (n + 1) next_gap (entry name' body' nested' after' comma' rest'))
 
 removal_depth : (path : List Part) (body : Body) (es : Entries) → EachTo (NoDeeper (record { body = body; nested = es })) (removal path (record { body = body; nested = es }))
 removal_depth path (scalar w) es = tt
@@ -71,7 +71,7 @@ clear_depth path r l = by l.comment (is_own path r l.content)
           before = text_of l.before;
           old = content_text l.content ++ text_of l.after;
           new = [];
-          behind = c.text;
+          after = c.text;
         })
       ]
     ])

@@ -167,7 +167,7 @@ element_cut pre post l b k a e rules free =
         before = left;
         ways = way ++ top ∷ [];
         run = m ∷ run;
-        behind = right;
+        after = right;
         was = whole;
         is = refl;
         disjoint_before = one.preserved;
@@ -186,8 +186,8 @@ element_cut pre post l b k a e rules free =
 record IsElementLine (r : Reading) (path : List Part) (c : Content) : Type 0 where
   before : Gap
   keys : Key
-  behind : Gap
-  was : c ≡ element before keys behind
+  after : Gap
+  was : c ≡ element before keys after
   place : element_at (header_path r.tables [] (keys_of keys)) (elements_of (header_path r.tables [] (keys_of keys)) r.tables) ≡ path
 
 begins_element : (path : List Part) (r : Reading) (before after : Gap) (comment : Option Written) (c : Content) → (EndsInKey path → ⊥)
@@ -196,7 +196,7 @@ begins_element path r before after comment blank other e = absurd cc
 begins_element path r before after comment (keyval name v) other e = absurd cc
 begins_element path r before after comment (header b k a) other e =
     absurd (other (subst EndsInKey (same_path-sound (header_path r.tables [] (keys_of k)) path e) (path_ends r.tables [] (key_value k.first) (map further_value k.more))))
-begins_element path r before after comment (element b k a) other e = record { before = b; keys = k; behind = a; was = refl; place = same_path-sound _ path e }
+begins_element path r before after comment (element b k a) other e = record { before = b; keys = k; after = a; was = refl; place = same_path-sound _ path e }
 
 element_by : (s : Document) (path : List Part) → Rules (mentions_in s) → SomeOf (IsMentioned is_begun path) (mentions_in s) → has is_passed path (mentions_in s) ≡ false → (o : Option ℕ) → IsFound (begins path) start (lines s) o
     → EachTo (IsLawful s (remove path)) (elim o [ None ↦ None | Some i ↦ without_lines s i (suc (body_length (drop (suc i) (lines s)))) ])
@@ -216,7 +216,7 @@ element_by s path rules begins_there free (Some i) h =
     let rules' : Rules from = subst (λ (x : List Line). Rules (lines_mentions start x)) h.was rules in
     let free' : has is_passed (element_at prefix n) from ≡ false =
     subst (λ (q : List Part). has is_passed q from ≡ false) (sym c.place) (subst (λ (x : List Line). has is_passed path (lines_mentions start x) ≡ false) h.was free) in
-    let cut = element_cut h.pre h.post h.line c.before c.keys c.behind c.was rules' free' in
+    let cut = element_cut h.pre h.post h.line c.before c.keys c.after c.was rules' free' in
     let law : IsRemoval (element_at prefix n) from to = element_removal prefix n from cut.mid to cut.cut (is ∙ cut.is) rules' in
     record {
       rules = law.rules;

@@ -84,10 +84,10 @@ pub record IsCutAlone (own : ValueInfo) (start : ℕ) (old new : List ℕ) : Typ
 
 -- what comes after white space that was taken begins with none
 abbrev pub Stops : Brackets → List ℕ → Type 0
-Stops b behind = (x : List ℕ) → (first x == close_byte b) ≡ true → is_ws (first (behind ++ x)) ≡ false
+Stops b after = (x : List ℕ) → (first x == close_byte b) ≡ true → is_ws (first (after ++ x)) ≡ false
 
 abbrev pub IsCutOut : Brackets → ValueInfo → ℕ → List ℕ → List ℕ → List ℕ → Type 0
-IsCutOut b own start old new behind = (IsCutWithNext own start old new × Stops b behind) ⊎ (IsCutWithLast own start old new ⊎ IsCutAlone own start old new)
+IsCutOut b own start old new after = (IsCutWithNext own start old new × Stops b after) ⊎ (IsCutWithLast own start old new ⊎ IsCutAlone own start old new)
 
 -- The entry that is taken out is this one of the values, of which this is said. The row's text begins at `begin`.
 pub record IsEntryOut (b : Brackets) (path : List Part) (begin : ℕ) (p : Start) (ms : List Mention) (infos : List ValueInfo) (d : Changed Row) : Type 0 where
@@ -103,7 +103,7 @@ pub record IsEntryOut (b : Brackets) (path : List Part) (begin : ℕ) (p : Start
   pub here : infos ≡ prefix ++ own ∷ others
   pub count : valued earlier ≡ length prefix
   pub owner : own.owner ≡ p.owner
-  pub cut : IsCutOut b own (begin + length d.before) d.old d.new d.behind
+  pub cut : IsCutOut b own (begin + length d.before) d.old d.new d.after
 
 -- ---- what an entry says of itself
 
@@ -205,10 +205,10 @@ past_stops (w ∷ g) x h solid = by (is_ws_leaf w.leaf) refl
     by true e = more g (subst (λ (l : Leaf). Continues l g) (ws_leaf w.leaf e) h.2) h.3
     by false e = subst (λ (t : List ℕ). is_ws (first t) ≡ false) (sym (append_assoc w.text (text_of g) x)) (not_white w.leaf w.text (text_of g ++ x) h.0 e h.1)
 
-row_stops : (profile : Profile) (b : Brackets) (behind : Gap) (rest : Entries) → IsBlank behind → AreEntries profile (place_of b) rest → Stops b (text_of (past_ws behind) ++ entries_text rest)
-row_stops profile b behind rest blank are x closed =
-    subst (λ (t : List ℕ). is_ws (first t) ≡ false) (sym (append_assoc (text_of (past_ws behind)) (entries_text rest) x))
-    (past_stops behind (entries_text rest ++ x) blank (entries_begin profile b rest x are closed))
+row_stops : (profile : Profile) (b : Brackets) (after : Gap) (rest : Entries) → IsBlank after → AreEntries profile (place_of b) rest → Stops b (text_of (past_ws after) ++ entries_text rest)
+row_stops profile b after rest blank are x closed =
+    subst (λ (t : List ℕ). is_ws (first t) ≡ false) (sym (append_assoc (text_of (past_ws after)) (entries_text rest) x))
+    (past_stops after (entries_text rest ++ x) blank (entries_begin profile b rest x are closed))
 
 -- ---- one entry taken out
 
@@ -218,7 +218,7 @@ IsOut b path n begin p es d = IsEntryOut b path begin p (entries_mentions n es) 
 -- the first of these entries
 out_here : (b : Brackets) (path : List Part) (n begin : ℕ) (p : Start) (name : Option Name) (body : Body) (nested : Entries) (after : Gap) (comma : Option Gap) (rest : Entries) (d : Changed Row)
     → same_path (step n name) path ≡ true
-    → IsCutOut b (info p (value_start p.at name) (name_count name) body nested (comma_place (comma_start p.at name body nested after) comma)) (begin + length d.before) d.old d.new d.behind
+    → IsCutOut b (info p (value_start p.at name) (name_count name) body nested (comma_place (comma_start p.at name body nested after) comma)) (begin + length d.before) d.old d.new d.after
     → IsOut b path n begin p (entry name body nested after comma rest) d
 out_here b path n begin p name body nested after comma rest d named cut =
     let f : Fact = body_fact body in
@@ -246,9 +246,9 @@ valued-entry n name f nested =
 
 -- one after the first; the row that it is in begins after the first one's comma
 out_later : (b : Brackets) (path : List Part) (n begin further : ℕ) (p : Start) (name : Option Name) (body : Body) (nested : Entries) (after : Gap) (comma : Option Gap) (rest : Entries) (d e : Changed Row)
-    → further + length e.before ≡ begin + length d.before → d.old ≡ e.old → d.new ≡ e.new → ((x : List ℕ) → d.behind ++ x ≡ e.behind ++ x)
+    → further + length e.before ≡ begin + length d.before → d.old ≡ e.old → d.new ≡ e.new → ((x : List ℕ) → d.after ++ x ≡ e.after ++ x)
     → IsOut b path (n + 1) further (rest_of p name body nested after comma) rest e → IsOut b path n begin p (entry name body nested after comma rest) d
-out_later b path n begin further p name body nested after comma rest d e start old new behind h =
+out_later b path n begin further p name body nested after comma rest d e start old new next_gap h =
     let f : Fact = body_fact body in
     let own : ValueInfo = info p (value_start p.at name) (name_count name) body nested (comma_place (comma_start p.at name body nested after) comma) in
     let i : Start = nested_of p (value_start p.at name) (name_count name) body in
@@ -268,18 +268,18 @@ out_later b path n begin further p name body nested after comma rest d e start o
       here = ap (λ (l : List ValueInfo). first_values ++ l) h.here ∙ sym (append_assoc first_values h.prefix (h.own ∷ h.others));
       count = omega (arith, many, h.count, valued-append first_mentions h.earlier, length-append first_values h.prefix);
       owner = h.owner;
-      cut = same_cut (further + length e.before) (begin + length d.before) e.old d.old e.new d.new start (sym old) (sym new) behind h.cut;
+      cut = same_cut (further + length e.before) (begin + length d.before) e.old d.old e.new d.new start (sym old) (sym new) next_gap h.cut;
     }
   where
-    same_cut : (s s' : ℕ) (o o' w w' : List ℕ) → s ≡ s' → o ≡ o' → w ≡ w' → ((x : List ℕ) → d.behind ++ x ≡ e.behind ++ x) → IsCutOut b h.own s o w e.behind → IsCutOut b h.own s' o' w' d.behind
-    same_cut s s' o o' w w' a c k behind (inl cut) =
+    same_cut : (s s' : ℕ) (o o' w w' : List ℕ) → s ≡ s' → o ≡ o' → w ≡ w' → ((x : List ℕ) → d.after ++ x ≡ e.after ++ x) → IsCutOut b h.own s o w e.after → IsCutOut b h.own s' o' w' d.after
+    same_cut s s' o o' w w' a c k next_gap (inl cut) =
         inl (
           subst (λ (t : ℕ). IsCutWithNext h.own t o' w') a (subst (λ (t : List ℕ). IsCutWithNext h.own s t w') c (subst (λ (t : List ℕ). IsCutWithNext h.own s o t) k cut.0)),
-          λ x closed. subst (λ (t : List ℕ). is_ws (first t) ≡ false) (sym (behind x)) (cut.1 x closed),
+          λ x closed. subst (λ (t : List ℕ). is_ws (first t) ≡ false) (sym (next_gap x)) (cut.1 x closed),
         )
-    same_cut s s' o o' w w' a c k behind (inr (inl cut)) =
+    same_cut s s' o o' w w' a c k next_gap (inr (inl cut)) =
         inr (inl (subst (λ (t : ℕ). IsCutWithLast h.own t o' w') a (subst (λ (t : List ℕ). IsCutWithLast h.own s t w') c (subst (λ (t : List ℕ). IsCutWithLast h.own s o t) k cut))))
-    same_cut s s' o o' w w' a c k behind (inr (inr cut)) =
+    same_cut s s' o o' w w' a c k next_gap (inr (inr cut)) =
         inr (inr (subst (λ (t : ℕ). IsCutAlone h.own t o' w') a (subst (λ (t : List ℕ). IsCutAlone h.own s t w') c (subst (λ (t : List ℕ). IsCutAlone h.own s o t) k cut))))
 
 -- where the entries after a comma begin
@@ -309,37 +309,37 @@ module _ (profile : Profile) (b : Brackets) (path : List Part) where
       out_here b path n begin p name body nested after None none (taken_only gap name body nested after) named
       (inr (inr (record { begins = e; opens = opens; ends = prefix_long p.at name body nested; no_comma = refl; none_before = lone; given = refl })))
 
-  next_out : (n begin : ℕ) (gap : Gap) (p : Start) (name : Option Name) (body : Body) (nested : Entries) (after behind : Gap) (rest : Entries) → begin + length (text_of gap) ≡ p.at
-      → Opens (entry_prefix name body nested) → IsGap profile (place_of b) after → IsGap profile (place_of b) behind → AreEntries profile (place_of b) rest → same_path (step n name) path ≡ true
-      → IsOut b path n begin p (entry name body nested after (Some behind) rest) (taken_first gap name body nested after behind rest)
-  next_out n begin gap p name body nested after behind rest e opens valid more are named =
-      out_here b path n begin p name body nested after (Some behind) rest (taken_first gap name body nested after behind rest) named
+  next_out : (n begin : ℕ) (gap : Gap) (p : Start) (name : Option Name) (body : Body) (nested : Entries) (after next_gap : Gap) (rest : Entries) → begin + length (text_of gap) ≡ p.at
+      → Opens (entry_prefix name body nested) → IsGap profile (place_of b) after → IsGap profile (place_of b) next_gap → AreEntries profile (place_of b) rest → same_path (step n name) path ≡ true
+      → IsOut b path n begin p (entry name body nested after (Some next_gap) rest) (taken_first gap name body nested after next_gap rest)
+  next_out n begin gap p name body nested after next_gap rest e opens valid more are named =
+      out_here b path n begin p name body nested after (Some next_gap) rest (taken_first gap name body nested after next_gap rest) named
       (inl (
         record {
           text = entry_prefix name body nested;
           opens = opens;
           after = after;
           blank = gap_blank profile b after valid;
-          white = text_of (prefix_ws behind);
-          all_white = all_prefix behind (gap_blank profile b behind more);
+          white = text_of (prefix_ws next_gap);
+          all_white = all_prefix next_gap (gap_blank profile b next_gap more);
           begins = e;
           was = refl;
           ends = prefix_long p.at name body nested;
           comma = refl;
           given = refl;
         },
-        row_stops profile b behind rest (gap_blank profile b behind more) are,
+        row_stops profile b next_gap rest (gap_blank profile b next_gap more) are,
       ))
 
   -- the last of several
-  last_out : (n begin : ℕ) (gap : Gap) (p : Start) (name : Option Name) (body : Body) (nested : Entries) (after behind : Gap) (name' : Option Name) (body' : Body) (nested' : Entries) (after' : Gap) (comma' : Option Gap) (rest' : Entries)
-      → begin + length (text_of gap) ≡ p.at → Opens (entry_prefix name' body' nested') → IsGap profile (place_of b) behind → is_last_named path (n + 1) (entry name' body' nested' after' comma' rest') ≡ true
-      → IsOut b path n begin p (entry name body nested after (Some behind) (entry name' body' nested' after' comma' rest')) (taken_last gap name body nested after behind name' body' nested' after')
-  last_out n begin gap p name body nested after behind name' body' nested' after' (Some c) rest' e opens more named = absurd cc
-  last_out n begin gap p name body nested after behind name' body' nested' after' None (entry name'' body'' nested'' after'' comma'' rest'') e opens more named = absurd cc
-  last_out n begin gap p name body nested after behind name' body' nested' after' None none e opens more named =
-      let r : Start = rest_of p name body nested after (Some behind) in
-      let d : Changed Row = taken_last gap name body nested after behind name' body' nested' after' in
+  last_out : (n begin : ℕ) (gap : Gap) (p : Start) (name : Option Name) (body : Body) (nested : Entries) (after next_gap : Gap) (name' : Option Name) (body' : Body) (nested' : Entries) (after' : Gap) (comma' : Option Gap) (rest' : Entries)
+      → begin + length (text_of gap) ≡ p.at → Opens (entry_prefix name' body' nested') → IsGap profile (place_of b) next_gap → is_last_named path (n + 1) (entry name' body' nested' after' comma' rest') ≡ true
+      → IsOut b path n begin p (entry name body nested after (Some next_gap) (entry name' body' nested' after' comma' rest')) (taken_last gap name body nested after next_gap name' body' nested' after')
+  last_out n begin gap p name body nested after next_gap name' body' nested' after' (Some c) rest' e opens more named = absurd cc
+  last_out n begin gap p name body nested after next_gap name' body' nested' after' None (entry name'' body'' nested'' after'' comma'' rest'') e opens more named = absurd cc
+  last_out n begin gap p name body nested after next_gap name' body' nested' after' None none e opens more named =
+      let r : Start = rest_of p name body nested after (Some next_gap) in
+      let d : Changed Row = taken_last gap name body nested after next_gap name' body' nested' after' in
       let start : begin + length d.before ≡ comma_start p.at name body nested after =
       omega (
         arith,
@@ -348,13 +348,13 @@ module _ (profile : Profile) (b : Brackets) (path : List Part) where
         length-append (text_of gap) (entry_prefix name body nested ++ text_of after),
         length-append (entry_prefix name body nested) (text_of after),
       ) in
-      out_later b path n begin begin p name body nested after (Some behind) (entry name' body' nested' after' None none) d d refl refl refl (λ x. refl)
+      out_later b path n begin begin p name body nested after (Some next_gap) (entry name' body' nested' after' None none) d d refl refl refl (λ x. refl)
       (out_here b path (n + 1) begin r name' body' nested' after' None none d named
       (inr (inl (record {
         text = entry_prefix name' body' nested';
         opens = opens;
-        before = behind;
-        blank = gap_blank profile b behind more;
+        before = next_gap;
+        blank = gap_blank profile b next_gap more;
         was = refl;
         ends = prefix_long r.at name' body' nested';
         begins = omega (arith, start);
@@ -363,36 +363,36 @@ module _ (profile : Profile) (b : Brackets) (path : List Part) where
         given = refl;
       }))))
 
-  two_out : (n begin : ℕ) (gap : Gap) (p : Start) (name : Option Name) (body : Body) (nested : Entries) (after behind : Gap) (name' : Option Name) (body' : Body) (nested' : Entries) (after' : Gap) (comma' : Option Gap) (rest' : Entries)
-      → begin + length (text_of gap) ≡ p.at → Opens (entry_prefix name body nested) → Opens (entry_prefix name' body' nested') → IsGap profile (place_of b) after → IsGap profile (place_of b) behind
+  two_out : (n begin : ℕ) (gap : Gap) (p : Start) (name : Option Name) (body : Body) (nested : Entries) (after next_gap : Gap) (name' : Option Name) (body' : Body) (nested' : Entries) (after' : Gap) (comma' : Option Gap) (rest' : Entries)
+      → begin + length (text_of gap) ≡ p.at → Opens (entry_prefix name body nested) → Opens (entry_prefix name' body' nested') → IsGap profile (place_of b) after → IsGap profile (place_of b) next_gap
       → AreEntries profile (place_of b) (entry name' body' nested' after' comma' rest')
       → (is_last_named path (n + 1) (entry name' body' nested' after' comma' rest') ≡ false
-      → EachOf (IsOut b path (n + 1) (comma_start p.at name body nested after + 1) (rest_of p name body nested after (Some behind)) (entry name' body' nested' after' comma' rest'))
-      (take_out path (n + 1) behind (entry name' body' nested' after' comma' rest')))
+      → EachOf (IsOut b path (n + 1) (comma_start p.at name body nested after + 1) (rest_of p name body nested after (Some next_gap)) (entry name' body' nested' after' comma' rest'))
+      (take_out path (n + 1) next_gap (entry name' body' nested' after' comma' rest')))
       → (o q : Bool) → same_path (step n name) path ≡ o → is_last_named path (n + 1) (entry name' body' nested' after' comma' rest') ≡ q
-      → EachOf (IsOut b path n begin p (entry name body nested after (Some behind) (entry name' body' nested' after' comma' rest'))) (elim o [
-        | true ↦ Some (taken_first gap name body nested after behind (entry name' body' nested' after' comma' rest'))
+      → EachOf (IsOut b path n begin p (entry name body nested after (Some next_gap) (entry name' body' nested' after' comma' rest'))) (elim o [
+        | true ↦ Some (taken_first gap name body nested after next_gap (entry name' body' nested' after' comma' rest'))
         | false ↦ elim q [
-          | true ↦ Some (taken_last gap name body nested after behind name' body' nested' after')
+          | true ↦ Some (taken_last gap name body nested after next_gap name' body' nested' after')
           | false ↦ within (λ r. record { gap = gap; entries = entry name body nested after (Some r.gap) r.entries })
               (text_of gap ++ (entry_prefix name body nested ++ (text_of after ++ codes ","))) []
-              (take_out path (n + 1) behind (entry name' body' nested' after' comma' rest'))
+              (take_out path (n + 1) next_gap (entry name' body' nested' after' comma' rest'))
         ]
       ])
-  two_out n begin gap p name body nested after behind name' body' nested' after' comma' rest' e opens opens' valid more are further true q named last =
-      next_out n begin gap p name body nested after behind (entry name' body' nested' after' comma' rest') e opens valid more are named
-  two_out n begin gap p name body nested after behind name' body' nested' after' comma' rest' e opens opens' valid more are further false true named last =
-      last_out n begin gap p name body nested after behind name' body' nested' after' comma' rest' e opens' more last
-  two_out n begin gap p name body nested after behind name' body' nested' after' comma' rest' e opens opens' valid more are further false false named last =
+  two_out n begin gap p name body nested after next_gap name' body' nested' after' comma' rest' e opens opens' valid more are further true q named last =
+      next_out n begin gap p name body nested after next_gap (entry name' body' nested' after' comma' rest') e opens valid more are named
+  two_out n begin gap p name body nested after next_gap name' body' nested' after' comma' rest' e opens opens' valid more are further false true named last =
+      last_out n begin gap p name body nested after next_gap name' body' nested' after' comma' rest' e opens' more last
+  two_out n begin gap p name body nested after next_gap name' body' nested' after' comma' rest' e opens opens' valid more are further false false named last =
       let rest : Entries = entry name' body' nested' after' comma' rest' in
       let from : ℕ = comma_start p.at name body nested after + 1 in
-      let r : Start = rest_of p name body nested after (Some behind) in
+      let r : Start = rest_of p name body nested after (Some next_gap) in
       let outer : Row → Row = λ r. record { gap = gap; entries = entry name body nested after (Some r.gap) r.entries } in
       let left : List ℕ = text_of gap ++ (entry_prefix name body nested ++ (text_of after ++ codes ",")) in
-      of_within (IsOut b path (n + 1) from r rest) (IsOut b path n begin p (entry name body nested after (Some behind) rest)) outer left [] (take_out path (n + 1) behind rest)
+      of_within (IsOut b path (n + 1) from r rest) (IsOut b path n begin p (entry name body nested after (Some next_gap) rest)) outer left [] (take_out path (n + 1) next_gap rest)
       (λ d h.
-      out_later b path n begin from p name body nested after (Some behind) rest (framed_change outer left [] d) d
-      (omega (arith, comma_ends begin gap p.at name body nested after e, length-append left d.before)) refl refl (λ x. append_assoc d.behind [] x) h)
+      out_later b path n begin from p name body nested after (Some next_gap) rest (framed_change outer left [] d) d
+      (omega (arith, comma_ends begin gap p.at name body nested after e, length-append left d.before)) refl refl (λ x. append_assoc d.after [] x) h)
       (further last)
 
   pub entry_out : (n begin : ℕ) (gap : Gap) (p : Start) (es : Entries) → begin + length (text_of gap) ≡ p.at → AreEntries profile (place_of b) es → IsFirstOrDisjoint n p es
@@ -400,14 +400,14 @@ module _ (profile : Profile) (b : Brackets) (path : List Part) where
   entry_out n begin gap p none e are first = tt
   entry_out n begin gap p (entry name body nested after None none) e are first = alone_out n begin gap p name body nested after e (prefix_opens profile b name body nested are.0 are.1 are.2) first (same_path (step n name) path) refl
   entry_out n begin gap p (entry name body nested after None (entry name' body' nested' after' comma' rest')) e are first = tt
-  entry_out n begin gap p (entry name body nested after (Some behind) none) e are first = by (same_path (step n name) path) refl
+  entry_out n begin gap p (entry name body nested after (Some next_gap) none) e are first = by (same_path (step n name) path) refl
     where
-      by : (o : Bool) → same_path (step n name) path ≡ o → EachOf (IsOut b path n begin p (entry name body nested after (Some behind) none)) (elim o [ true ↦ Some (taken_first gap name body nested after behind none) | false ↦ None ])
-      by true named = next_out n begin gap p name body nested after behind none e (prefix_opens profile b name body nested are.0 are.1 are.2) are.3 are.4.0 tt named
+      by : (o : Bool) → same_path (step n name) path ≡ o → EachOf (IsOut b path n begin p (entry name body nested after (Some next_gap) none)) (elim o [ true ↦ Some (taken_first gap name body nested after next_gap none) | false ↦ None ])
+      by true named = next_out n begin gap p name body nested after next_gap none e (prefix_opens profile b name body nested are.0 are.1 are.2) are.3 are.4.0 tt named
       by false named = tt
-  entry_out n begin gap p (entry name body nested after (Some behind) (entry name' body' nested' after' comma' rest')) e are first =
+  entry_out n begin gap p (entry name body nested after (Some next_gap) (entry name' body' nested' after' comma' rest')) e are first =
       let rest : Entries = entry name' body' nested' after' comma' rest' in
-      two_out n begin gap p name body nested after behind name' body' nested' after' comma' rest' e
+      two_out n begin gap p name body nested after next_gap name' body' nested' after' comma' rest' e
       (prefix_opens profile b name body nested are.0 are.1 are.2) (prefix_opens profile b name' body' nested' are.5.0 are.5.1 are.5.2) are.3 are.4 are.5
-      (λ disjoint. entry_out (n + 1) (comma_start p.at name body nested after + 1) behind (rest_of p name body nested after (Some behind)) (entry name' body' nested' after' comma' rest') (omega arith) are.5 (inr disjoint))
+      (λ disjoint. entry_out (n + 1) (comma_start p.at name body nested after + 1) next_gap (rest_of p name body nested after (Some next_gap)) (entry name' body' nested' after' comma' rest') (omega arith) are.5 (inr disjoint))
       (same_path (step n name) path) (is_last_named path (n + 1) rest) refl refl

@@ -200,7 +200,7 @@ module _ (profile : Profile) (prefix path : List Part) (from to : List Mention) 
         before = record { path = []; kind = mention_kind } ∷ t.before;
         ways = ways;
         run = map (below p) vs;
-        behind = entries_mentions (t.number + 1) t.rest;
+        after = entries_mentions (t.number + 1) t.rest;
         was = ap (λ l. record { path = []; kind = mention_kind } ∷ l)
             (was ∙ ap (λ l. t.before ++ (l ++ entries_mentions (t.number + 1) t.rest)) (keyed_split (keys_of name.key) vs));
         is = now_mentioned mention_kind refl ∙ ap (λ l. record { path = []; kind = mention_kind } ∷ l) (t.is ∙ ap (λ l. t.before ++ l) same);
@@ -218,9 +218,9 @@ module _ (profile : Profile) (prefix path : List Part) (from to : List Mention) 
   keyval_gone name e =
       let p : List Part = prefix ++ map key (keys_of name.key) in
       subst (λ (l : List Mention). IsCut p l to) (sym h.was)
-      (subst (λ (l : List Mention). IsCut p (h.before ++ (map (below prefix) (tagged h.tag h.old) ++ h.behind)) l) (sym h.is)
-      (cut_beside p (map (below prefix) (tagged h.tag h.old)) (map (below prefix) (tagged h.tag h.now)) h.before h.behind
-      (all_longer prefix (map key (keys_of name.key)) h.before h.disjoint_before) (all_longer prefix (map key (keys_of name.key)) h.behind h.disjoint_after)
+      (subst (λ (l : List Mention). IsCut p (h.before ++ (map (below prefix) (tagged h.tag h.old) ++ h.after)) l) (sym h.is)
+      (cut_beside p (map (below prefix) (tagged h.tag h.old)) (map (below prefix) (tagged h.tag h.now)) h.before h.after
+      (all_longer prefix (map key (keys_of name.key)) h.before h.disjoint_before) (all_longer prefix (map key (keys_of name.key)) h.after h.disjoint_after)
       (cut_below prefix (map key (keys_of name.key)) (tagged h.tag h.old) (tagged h.tag h.now) (keyval_cut name e))))
 
   removed : (o : Option Name) → h.done.out.name ≡ o → IsRulesAndTree path from to

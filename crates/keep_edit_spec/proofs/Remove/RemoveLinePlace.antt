@@ -135,10 +135,10 @@ pub record IsLineValue (path : List Part) (s : Document) (pre rest : List Ended)
   pub begins : statement.span.start ≡ statement.line.start + length (text_of (head_line rest s.last).before)
   pub ends : own.span.end ≡ statement.span.start + length (content_text (head_line rest s.last).content)
 
-get_prefix : {A : Type 0} (prefix : List A) (x : A) (behind : List A) (n : ℕ) → n ≡ length prefix → slice_get (prefix ++ x ∷ behind) n ≡ Some x
-get_prefix [] x behind n e = ap (slice_get (x ∷ behind)) e
-get_prefix (y ∷ prefix) x behind zero e = absurd (omega arith)
-get_prefix (y ∷ prefix) x behind (suc n) e = get_prefix prefix x behind n (omega arith)
+get_prefix : {A : Type 0} (prefix : List A) (x : A) (after : List A) (n : ℕ) → n ≡ length prefix → slice_get (prefix ++ x ∷ after) n ≡ Some x
+get_prefix [] x after n e = ap (slice_get (x ∷ after)) e
+get_prefix (y ∷ prefix) x after zero e = absurd (omega arith)
+get_prefix (y ∷ prefix) x after (suc n) e = get_prefix prefix x after n (omega arith)
 
 width-append : (a b : List Written) → width (a ++ b) ≡ width a + width b
 width-append a b = ap (λ (t : List ℕ). length t) (text_of-append a b) ∙ length-append (text_of a) (text_of b)
@@ -205,22 +205,22 @@ space_all [] h = refl
 space_all (w ∷ []) h = subst (λ (t : List ℕ). IsTrue (list_all is_ws t)) (sym (append-nil w.text)) h.1.1
 space_all (w ∷ v ∷ g) h = absurd h
 
-pub record IsScanned (bytes : List ℕ) (at : ℕ) (after : Gap) (behind : List ℕ) : Type 0 where
+pub record IsScanned (bytes : List ℕ) (at : ℕ) (after : Gap) (suffix : List ℕ) : Type 0 where
   pub prefix : List ℕ
-  pub whole : bytes ≡ prefix ++ (text_of after ++ behind)
+  pub whole : bytes ≡ prefix ++ (text_of after ++ suffix)
   pub place : length prefix ≡ at
   pub blank : IsSpace after
-  pub stops : is_ws (first behind) ≡ false
+  pub stops : is_ws (first suffix) ≡ false
 
-module _ (bytes : List ℕ) (at : ℕ) (after : Gap) (behind : List ℕ) (h : IsScanned bytes at after behind) where
+module _ (bytes : List ℕ) (at : ℕ) (after : Gap) (suffix : List ℕ) (h : IsScanned bytes at after suffix) where
   pub space_ends : past_space bytes at ≡ at + length (text_of after)
-  space_ends = ap (λ (t : List ℕ). at + prefix_len is_ws t) (ap (drop at) h.whole ∙ drop_at h.prefix (text_of after ++ behind) at h.place)
-      ∙ ap (λ n. at + n) (run_ends (text_of after) behind (space_all after h.blank) h.stops)
+  space_ends = ap (λ (t : List ℕ). at + prefix_len is_ws t) (ap (drop at) h.whole ∙ drop_at h.prefix (text_of after ++ suffix) at h.place)
+      ∙ ap (λ n. at + n) (run_ends (text_of after) suffix (space_all after h.blank) h.stops)
 
-  pub next_byte : first (drop (past_space bytes at) bytes) ≡ first behind
+  pub next_byte : first (drop (past_space bytes at) bytes) ≡ first suffix
   next_byte = ap (λ n. first (drop n bytes)) space_ends
-      ∙ ap (λ (t : List ℕ). first (drop (at + length (text_of after)) t)) (h.whole ∙ sym (append_assoc h.prefix (text_of after) behind))
-      ∙ ap first (drop_at (h.prefix ++ text_of after) behind (at + length (text_of after)) (omega (arith, length-append h.prefix (text_of after), h.place)))
+      ∙ ap (λ (t : List ℕ). first (drop (at + length (text_of after)) t)) (h.whole ∙ sym (append_assoc h.prefix (text_of after) suffix))
+      ∙ ap first (drop_at (h.prefix ++ text_of after) suffix (at + length (text_of after)) (omega (arith, length-append h.prefix (text_of after), h.place)))
 
 -- ---- what lines begin with
 
@@ -291,25 +291,25 @@ rest_valid profile [] rest h = h
 rest_valid profile (e ∷ pre) rest h = rest_valid profile pre rest h.1
 
 -- what comes after dropped lines
-pub drop_low : (profile : Profile) (n : ℕ) (es : List Ended) (last : Line) → AllByRecursion (IsEnded profile) es → IsLine profile last → is_high (first (drop_prefix n es last).behind) ≡ false
+pub drop_low : (profile : Profile) (n : ℕ) (es : List Ended) (last : Line) → AllByRecursion (IsEnded profile) es → IsLine profile last → is_high (first (drop_prefix n es last).after) ≡ false
 drop_low profile zero [] last all is = page_low profile [] last all is
 drop_low profile (suc m) [] last all is = refl
 drop_low profile zero (e ∷ es) last all is = page_low profile (e ∷ es) last all is
 drop_low profile (suc m) (e ∷ es) last all is = drop_low profile m es last all.1 is
 
 -- A cut begins at an ASCII byte, and such a byte or nothing comes after it.
-pub record IsLow (old behind : List ℕ) : Type 0 where
-  pub opens : is_high (first (old ++ behind)) ≡ false
-  pub closes : is_high (first behind) ≡ false
+pub record IsLow (old after : List ℕ) : Type 0 where
+  pub opens : is_high (first (old ++ after)) ≡ false
+  pub closes : is_high (first after) ≡ false
 
-pub without_low : (profile : Profile) (s : Document) (pre rest : List Ended) (n : ℕ) (old behind : List ℕ) → IsDocument profile s → s.ended ≡ pre ++ rest
-    → old ≡ (drop_prefix n rest s.last).old → behind ≡ (drop_prefix n rest s.last).behind → IsLow old behind
-without_low profile s pre rest n old behind valid was old_is after_is =
+pub without_low : (profile : Profile) (s : Document) (pre rest : List Ended) (n : ℕ) (old after : List ℕ) → IsDocument profile s → s.ended ≡ pre ++ rest
+    → old ≡ (drop_prefix n rest s.last).old → after ≡ (drop_prefix n rest s.last).after → IsLow old after
+without_low profile s pre rest n old after valid was old_is after_is =
     let all : AllByRecursion (IsEnded profile) rest = rest_valid profile pre rest (subst (λ (es : List Ended). AllByRecursion (IsEnded profile) es) was valid.ended) in
     let d : Changed Page = drop_prefix n rest s.last in
     let cut = drop_prefix-is n rest s.last in
-    let whole : old ++ behind ≡ page_text (record { ended = rest; last = s.last }) =
-    ap (λ (t : List ℕ). t ++ behind) old_is ∙ ap (λ (t : List ℕ). d.old ++ t) after_is ∙ sym (cut.0.was ∙ ap (λ (t : List ℕ). t ++ (d.old ++ d.behind)) cut.1) in
+    let whole : old ++ after ≡ page_text (record { ended = rest; last = s.last }) =
+    ap (λ (t : List ℕ). t ++ after) old_is ∙ ap (λ (t : List ℕ). d.old ++ t) after_is ∙ sym (cut.0.was ∙ ap (λ (t : List ℕ). t ++ (d.old ++ d.after)) cut.1) in
     record {
       opens = ap (λ (t : List ℕ). is_high (first t)) whole ∙ page_low profile rest s.last all valid.last;
       closes = ap (λ (t : List ℕ). is_high (first t)) after_is ∙ drop_low profile n rest s.last all valid.last;
@@ -361,11 +361,11 @@ pub record IsDropped (pre rest : List Ended) (last : Line) (n : ℕ) (c : Change
   pub before : length c.before ≡ length (ended_text pre)
   pub old : c.old ≡ (drop_prefix n rest last).old
   pub new : c.new ≡ []
-  pub behind : c.behind ≡ (drop_prefix n rest last).behind
+  pub after : c.after ≡ (drop_prefix n rest last).after
 
 pub dropped : (pre rest : List Ended) (last : Line) (n : ℕ) → IsDropped pre rest last n (drop_lines (length pre) n (pre ++ rest) last)
-dropped [] [] last n = record { before = ap (λ (t : List ℕ). length t) (drop_prefix-is n [] last).1; old = refl; new = drop_new n [] last; behind = refl }
-dropped [] (e ∷ es) last n = record { before = ap (λ (t : List ℕ). length t) (drop_prefix-is n (e ∷ es) last).1; old = refl; new = drop_new n (e ∷ es) last; behind = refl }
+dropped [] [] last n = record { before = ap (λ (t : List ℕ). length t) (drop_prefix-is n [] last).1; old = refl; new = drop_new n [] last; after = refl }
+dropped [] (e ∷ es) last n = record { before = ap (λ (t : List ℕ). length t) (drop_prefix-is n (e ∷ es) last).1; old = refl; new = drop_new n (e ∷ es) last; after = refl }
 dropped (e ∷ pre) rest last n =
     let h = dropped pre rest last n in
     let d : Changed Page = drop_lines (length pre) n (pre ++ rest) last in
@@ -374,7 +374,7 @@ dropped (e ∷ pre) rest last n =
           ∙ sym (width-append (ended_leaves e) (flat_map ended_leaves pre));
       old = h.old;
       new = h.new;
-      behind = append-nil d.behind ∙ h.behind;
+      after = append-nil d.after ∙ h.after;
     }
 
 -- in the document
@@ -382,7 +382,7 @@ pub record IsWithout (s : Document) (pre rest : List Ended) (n : ℕ) (c : Chang
   pub start : length c.before ≡ length (text_of (bom_leaves s.bom)) + length (ended_text pre)
   pub old : c.old ≡ (drop_prefix n rest s.last).old
   pub new : c.new ≡ []
-  pub behind : c.behind ≡ (drop_prefix n rest s.last).behind
+  pub after : c.after ≡ (drop_prefix n rest s.last).after
 
 pub without : (s : Document) (i n : ℕ) (pre rest : List Ended) (c : Changed Document) → s.ended ≡ pre ++ rest → i ≡ length pre → without_lines s i n ≡ Some c → IsWithout s pre rest n c
 without s i n pre rest c was number is =
@@ -396,7 +396,7 @@ without s i n pre rest c was number is =
       start = sym (ap (λ (x : Changed Document). length x.before) same) ∙ length-append (text_of (bom_leaves s.bom)) p.before ∙ ap (λ k. length (text_of (bom_leaves s.bom)) + k) h.before;
       old = sym (ap (λ (x : Changed Document). x.old) same) ∙ h.old;
       new = sym (ap (λ (x : Changed Document). x.new) same) ∙ h.new;
-      behind = sym (ap (λ (x : Changed Document). x.behind) same) ∙ append-nil p.behind ∙ h.behind;
+      after = sym (ap (λ (x : Changed Document). x.after) same) ∙ append-nil p.after ∙ h.after;
     }
 
 drop_one : (rest : List Ended) (last : Line) → (drop_prefix 1 rest last).old ≡ head_text rest last
@@ -412,7 +412,7 @@ pub record IsLinePlaced (path : List Part) (s : Document) (c : Changed Document)
   pub line : own.owner ≡ owner.Line number
   pub statement : Statement
   pub here : slice_get (syntax.statements s) number ≡ Some statement
-  pub low : IsLow c.old c.behind
+  pub low : IsLow c.old c.after
   pub place : line_place (text s) statement own ≡ place_of c
 
 head_valid : (profile : Profile) (pre rest : List Ended) (last : Line) → AllByRecursion (IsEnded profile) (pre ++ rest) → IsLine profile last → IsLine profile (head_line rest last)
@@ -444,7 +444,7 @@ pub record IsCleared (path : List Part) (r : Reading) (es : List Ended) (last : 
   pub old : c.old ≡ content_text (head_line rest last).content ++ text_of (head_line rest last).after
   pub new : c.new ≡ []
   pub more : List ℕ
-  pub behind : c.behind ≡ comment.text ++ more
+  pub after : c.after ≡ comment.text ++ more
 
 record IsClearedLine (path : List Part) (r : Reading) (l : Line) (d : Changed Line) : Type 0 where
   comment : Written
@@ -453,7 +453,7 @@ record IsClearedLine (path : List Part) (r : Reading) (l : Line) (d : Changed Li
   prefix : d.before ≡ text_of l.before
   old : d.old ≡ content_text l.content ++ text_of l.after
   new : d.new ≡ []
-  behind : d.behind ≡ comment.text
+  after : d.after ≡ comment.text
 
 cleared_line : (path : List Part) (r : Reading) (l : Line) → EachOf (IsClearedLine path r l) (clear_line path r l)
 cleared_line path r l = by l.comment refl (is_own path r l.content) refl
@@ -467,13 +467,13 @@ cleared_line path r l = by l.comment refl (is_own path r l.content) refl
           before = text_of l.before;
           old = content_text l.content ++ text_of l.after;
           new = [];
-          behind = c.text;
+          after = c.text;
         })
       ]
     ])
     by None e b own = tt
     by (Some c) e false own = tt
-    by (Some c) e true own = record { comment = c; is = e; own = own; prefix = refl; old = refl; new = refl; behind = refl }
+    by (Some c) e true own = record { comment = c; is = e; own = own; prefix = refl; old = refl; new = refl; after = refl }
 
 pub cleared_lines : (path : List Part) (r : Reading) (es : List Ended) (last : Line) → EachOf (IsCleared path r es last) (in_lines (clear_line path) r es last)
 cleared_lines path r [] last =
@@ -489,7 +489,7 @@ cleared_lines path r [] last =
       old = h.old;
       new = h.new;
       more = [];
-      behind = ap (λ (t : List ℕ). t ++ []) h.behind;
+      after = ap (λ (t : List ℕ). t ++ []) h.after;
     }) (cleared_line path r last)
 cleared_lines path r (e ∷ es) last =
     of_or_else (IsCleared path r (e ∷ es) last) _ _
@@ -505,7 +505,7 @@ cleared_lines path r (e ∷ es) last =
       old = h.old;
       new = h.new;
       more = e.newline.text ++ page_text (record { ended = es; last = last });
-      behind = ap (λ (t : List ℕ). t ++ (e.newline.text ++ page_text (record { ended = es; last = last }))) h.behind;
+      after = ap (λ (t : List ℕ). t ++ (e.newline.text ++ page_text (record { ended = es; last = last }))) h.after;
     }) (cleared_line path r e.line))
     (of_within (IsCleared path (after_line r e.line) es last) (IsCleared path r (e ∷ es) last) (λ b. record { ended = e ∷ b.ended; last = b.last }) (text_of (ended_leaves e)) []
     (in_lines (clear_line path) (after_line r e.line) es last)
@@ -520,7 +520,7 @@ cleared_lines path r (e ∷ es) last =
       old = h.old;
       new = h.new;
       more = h.more ++ [];
-      behind = ap (λ (t : List ℕ). t ++ []) h.behind ∙ append_assoc h.comment.text h.more [];
+      after = ap (λ (t : List ℕ). t ++ []) h.after ∙ append_assoc h.comment.text h.more [];
     })
     (cleared_lines path (after_line r e.line) es last))
 
@@ -543,12 +543,12 @@ module _ (profile : Profile) (path : List Part) (s : Document) (valid : IsDocume
       ) in
       let old : c.old ≡ content_text l.content ++ text_of l.after = sym (ap (λ (x : Changed Document). x.old) same) ∙ h.old in
       let rest : List ℕ = h.more ++ [] in
-      let behind : c.behind ≡ h.comment.text ++ rest = sym (ap (λ (x : Changed Document). x.behind) same) ∙ ap (λ (t : List ℕ). t ++ []) h.behind ∙ append_assoc h.comment.text h.more [] in
+      let after : c.after ≡ h.comment.text ++ rest = sym (ap (λ (x : Changed Document). x.after) same) ∙ ap (λ (t : List ℕ). t ++ []) h.after ∙ append_assoc h.comment.text h.more [] in
       let commented : (h.comment.leaf ≡ leaf.Comment) × IsLeaf Strict leaf.Comment h.comment.text = subst IsComment h.is is.comment in
       let scan : IsScanned (text s) v.own.span.end l.after (h.comment.text ++ rest) =
       record {
         prefix = c.before ++ content_text l.content;
-        whole = cut.was ∙ ap (λ (t : List ℕ). c.before ++ (t ++ c.behind)) old ∙ ap (λ (t : List ℕ). c.before ++ ((content_text l.content ++ text_of l.after) ++ t)) behind
+        whole = cut.was ∙ ap (λ (t : List ℕ). c.before ++ (t ++ c.after)) old ∙ ap (λ (t : List ℕ). c.before ++ ((content_text l.content ++ text_of l.after) ++ t)) after
             ∙ regroup c.before (content_text l.content) (text_of l.after) (h.comment.text ++ rest);
         place = omega (arith, length-append c.before (content_text l.content), begins, v.ends);
         blank = after_valid profile l own.name own.held is own.content;
@@ -565,11 +565,11 @@ module _ (profile : Profile) (path : List Part) (s : Document) (valid : IsDocume
         statement = v.statement;
         here = v.here;
         low = record {
-          opens = ap (λ (t : List ℕ). is_high (first (t ++ c.behind))) old
-              ∙ ap (λ (t : List ℕ). is_high (first t)) (append_assoc (content_text l.content) (text_of l.after) c.behind)
-              ∙ content_low profile l.content (text_of l.after ++ c.behind) is.content
-              (space_class is_high l.after c.behind (after_space l.content l.after is.after) ws_low (ap (λ (t : List ℕ). is_high (first t)) behind ∙ comment_class is_high h.comment.text rest refl commented.1));
-          closes = ap (λ (t : List ℕ). is_high (first t)) behind ∙ comment_class is_high h.comment.text rest refl commented.1;
+          opens = ap (λ (t : List ℕ). is_high (first (t ++ c.after))) old
+              ∙ ap (λ (t : List ℕ). is_high (first t)) (append_assoc (content_text l.content) (text_of l.after) c.after)
+              ∙ content_low profile l.content (text_of l.after ++ c.after) is.content
+              (space_class is_high l.after c.after (after_space l.content l.after is.after) ws_low (ap (λ (t : List ℕ). is_high (first t)) after ∙ comment_class is_high h.comment.text rest refl commented.1));
+          closes = ap (λ (t : List ℕ). is_high (first t)) after ∙ comment_class is_high h.comment.text rest refl commented.1;
         };
         place = place_is true (text s) v.statement v.own hash
             ∙ same_place v.statement.span.start (length c.before) (past_space (text s) v.own.span.end) (length c.before + length c.old) [] c.new (sym begins)
@@ -591,18 +591,18 @@ module _ (profile : Profile) (path : List Part) (s : Document) (valid : IsDocume
       let is : IsLine profile l = head_valid profile pre rest s.last all valid.last in
       let begins : length c.before ≡ v.statement.line.start = h.start ∙ sym v.line_begins in
       let old : c.old ≡ head_text rest s.last = h.old ∙ drop_one rest s.last in
-      let scan : IsScanned (text s) v.own.span.end l.after (head_newline rest ++ c.behind) =
+      let scan : IsScanned (text s) v.own.span.end l.after (head_newline rest ++ c.after) =
       record {
         prefix = c.before ++ (text_of l.before ++ content_text l.content);
-        whole = cut.was ∙ ap (λ (t : List ℕ). c.before ++ (t ++ c.behind)) (old ∙ head_cut rest s.last none)
-            ∙ regroup c.before (text_of l.before) (content_text l.content) (text_of l.after) (head_newline rest) c.behind;
+        whole = cut.was ∙ ap (λ (t : List ℕ). c.before ++ (t ++ c.after)) (old ∙ head_cut rest s.last none)
+            ∙ regroup c.before (text_of l.before) (content_text l.content) (text_of l.after) (head_newline rest) c.after;
         place = omega (arith, length-append c.before (text_of l.before ++ content_text l.content), length-append (text_of l.before) (content_text l.content), begins, v.begins, v.ends);
         blank = after_valid profile l own.name own.held is own.content;
-        stops = newline_stops is_ws pre rest all refl refl refl c.behind (none_after rest h.behind);
+        stops = newline_stops is_ws pre rest all refl refl refl c.after (none_after rest h.after);
       } in
       let hash : is_hash (first (drop (past_space (text s) v.own.span.end) (text s))) ≡ false =
-      ap is_hash (next_byte (text s) v.own.span.end l.after (head_newline rest ++ c.behind) scan)
-      ∙ newline_stops is_hash pre rest all refl refl refl c.behind (none_after rest h.behind) in
+      ap is_hash (next_byte (text s) v.own.span.end l.after (head_newline rest ++ c.after) scan)
+      ∙ newline_stops is_hash pre rest all refl refl refl c.after (none_after rest h.after) in
       record {
         own = v.own;
         value = v.value;
@@ -610,7 +610,7 @@ module _ (profile : Profile) (path : List Part) (s : Document) (valid : IsDocume
         line = v.line;
         statement = v.statement;
         here = v.here;
-        low = without_low profile s pre rest 1 c.old c.behind valid was h.old h.behind;
+        low = without_low profile s pre rest 1 c.old c.after valid was h.old h.after;
         place = place_is false (text s) v.statement v.own hash
             ∙ same_place v.statement.line.start (length c.before) v.statement.line.end (length c.before + length c.old) [] c.new (sym begins)
             (omega (arith, v.line_ends, begins, ap (λ (t : List ℕ). length t) old)) (sym h.new);
@@ -640,12 +640,12 @@ module _ (profile : Profile) (path : List Part) (s : Document) (valid : IsDocume
           tidy a b c d = simp (append_assoc, append-nil) refl
 
       -- what comes after the last line
-      none_after : (rest : List Ended) → c.behind ≡ (drop_prefix 1 rest s.last).behind → rest ≡ [] → c.behind ≡ []
+      none_after : (rest : List Ended) → c.after ≡ (drop_prefix 1 rest s.last).after → rest ≡ [] → c.after ≡ []
       none_after [] e k = e
       none_after (x ∷ es) e k = absurd cc
 
-      newline_stops : (p : ℕ → Bool) (pre rest : List Ended) → AllByRecursion (IsEnded profile) (pre ++ rest) → p 0x0A ≡ false → p 0x0D ≡ false → p 0 ≡ false → (behind : List ℕ) → (rest ≡ [] → behind ≡ [])
-          → p (first (head_newline rest ++ behind)) ≡ false
-      newline_stops p [] [] all a b z behind none = ap (λ (t : List ℕ). p (first t)) (none refl) ∙ z
-      newline_stops p [] (x ∷ es) all a b z behind none = newline_class p x.newline.text behind a b all.0.newline
-      newline_stops p (y ∷ pre) rest all a b z behind none = newline_stops p pre rest all.1 a b z behind none
+      newline_stops : (p : ℕ → Bool) (pre rest : List Ended) → AllByRecursion (IsEnded profile) (pre ++ rest) → p 0x0A ≡ false → p 0x0D ≡ false → p 0 ≡ false → (after : List ℕ) → (rest ≡ [] → after ≡ [])
+          → p (first (head_newline rest ++ after)) ≡ false
+      newline_stops p [] [] all a b z after none = ap (λ (t : List ℕ). p (first t)) (none refl) ∙ z
+      newline_stops p [] (x ∷ es) all a b z after none = newline_class p x.newline.text after a b all.0.newline
+      newline_stops p (y ∷ pre) rest all a b z after none = newline_stops p pre rest all.1 a b z after none

@@ -65,11 +65,11 @@ line_cut pre post l name v e rules =
       before = left;
       ways = map (below r.body) (keyed_mentions (keys_of name.key) []);
       run = map (below p) vs;
-      behind = right;
+      after = right;
       was = whole ∙ ap (λ l. left ++ (l ++ right)) (keyval_run r.body name v);
       is = refl;
       disjoint_before = b.before;
-      disjoint_after = b.behind;
+      disjoint_after = b.after;
       silent = none_below r.body (keyed_mentions (keys_of name.key) []) (dots_none (keys_of name.key));
       under = under_below p vs;
     }

@@ -102,9 +102,9 @@ run_ends (c ∷ t) rest h stop =
 -- ---- a cut, by the bytes
 
 -- the bytes with the cut
-record IsCutText (bytes : List ℕ) (start : ℕ) (old behind : List ℕ) : Type 0 where
+record IsCutText (bytes : List ℕ) (start : ℕ) (old after : List ℕ) : Type 0 where
   before : List ℕ
-  whole : bytes ≡ before ++ (old ++ behind)
+  whole : bytes ≡ before ++ (old ++ after)
   place : length before ≡ start
 
 -- a comma is there
@@ -152,18 +152,18 @@ comma_at bytes before more at whole place = record {
   byte = ap (λ (t : List ℕ). first (drop at t)) whole ∙ ap first (drop_at before (0x2C ∷ more) at place);
 }
 
-next_edged : (bytes : List ℕ) (own : ValueInfo) (start : ℕ) (old new behind : List ℕ) → IsCutText bytes start old behind → IsCutWithNext own start old new → IsEdged bytes own
-next_edged bytes own start old new behind at cut =
+next_edged : (bytes : List ℕ) (own : ValueInfo) (start : ℕ) (old new after : List ℕ) → IsCutText bytes start old after → IsCutWithNext own start old new → IsEdged bytes own
+next_edged bytes own start old new after at cut =
     let comma : ℕ = own.span.end + length (text_of cut.after) in
-    let whole : bytes ≡ at.before ++ (cut.text ++ (text_of cut.after ++ (0x2C ∷ (cut.white ++ behind)))) =
-    at.whole ∙ ap (λ (t : List ℕ). at.before ++ (t ++ behind)) cut.was ∙ spread at.before cut.text (text_of cut.after) cut.white behind in
+    let whole : bytes ≡ at.before ++ (cut.text ++ (text_of cut.after ++ (0x2C ∷ (cut.white ++ after)))) =
+    at.whole ∙ ap (λ (t : List ℕ). at.before ++ (t ++ after)) cut.was ∙ spread at.before cut.text (text_of cut.after) cut.white after in
     let prefix_is : length (at.before ++ (cut.text ++ text_of cut.after)) ≡ comma =
     omega (arith, length-append at.before (cut.text ++ text_of cut.after), length-append cut.text (text_of cut.after), at.place, cut.begins, cut.ends) in
     record {
       ordered = omega (arith, cut.ends);
-      opens = opens_at bytes at.before cut.text (text_of cut.after ++ (0x2C ∷ (cut.white ++ behind))) own.whole.start cut.opens whole (at.place ∙ cut.begins);
+      opens = opens_at bytes at.before cut.text (text_of cut.after ++ (0x2C ∷ (cut.white ++ after))) own.whole.start cut.opens whole (at.place ∙ cut.begins);
       after = λ c e. subst (λ (n : ℕ). IsComma bytes n × (own.span.end ≤ n)) (same_some own.comma_after comma c cut.comma e)
-          (comma_at bytes (at.before ++ (cut.text ++ text_of cut.after)) (cut.white ++ behind) comma (whole ∙ three at.before cut.text (text_of cut.after) (0x2C ∷ (cut.white ++ behind))) prefix_is, omega arith);
+          (comma_at bytes (at.before ++ (cut.text ++ text_of cut.after)) (cut.white ++ after) comma (whole ∙ three at.before cut.text (text_of cut.after) (0x2C ∷ (cut.white ++ after))) prefix_is, omega arith);
       before = λ c e f. absurd (none_not own.comma_after comma cut.comma e);
     }
   where
@@ -173,17 +173,17 @@ next_edged bytes own start old new behind at cut =
     three : (a b c d : List ℕ) → a ++ (b ++ (c ++ d)) ≡ (a ++ (b ++ c)) ++ d
     three a b c d = simp append_assoc refl
 
-last_edged : (bytes : List ℕ) (own : ValueInfo) (start : ℕ) (old new behind : List ℕ) → IsCutText bytes start old behind → IsCutWithLast own start old new → IsEdged bytes own
-last_edged bytes own start old new behind at cut =
-    let whole : bytes ≡ at.before ++ (0x2C ∷ (text_of cut.before ++ (cut.text ++ behind))) =
-    at.whole ∙ ap (λ (t : List ℕ). at.before ++ (t ++ behind)) cut.was ∙ spread at.before (text_of cut.before) cut.text behind in
+last_edged : (bytes : List ℕ) (own : ValueInfo) (start : ℕ) (old new after : List ℕ) → IsCutText bytes start old after → IsCutWithLast own start old new → IsEdged bytes own
+last_edged bytes own start old new after at cut =
+    let whole : bytes ≡ at.before ++ (0x2C ∷ (text_of cut.before ++ (cut.text ++ after))) =
+    at.whole ∙ ap (λ (t : List ℕ). at.before ++ (t ++ after)) cut.was ∙ spread at.before (text_of cut.before) cut.text after in
     record {
       ordered = omega (arith, cut.ends);
-      opens = opens_at bytes (at.before ++ (0x2C ∷ text_of cut.before)) cut.text behind own.whole.start cut.opens (whole ∙ two at.before (text_of cut.before) (cut.text ++ behind))
+      opens = opens_at bytes (at.before ++ (0x2C ∷ text_of cut.before)) cut.text after own.whole.start cut.opens (whole ∙ two at.before (text_of cut.before) (cut.text ++ after))
           (omega (arith, length-append at.before (0x2C ∷ text_of cut.before), at.place, cut.begins));
       after = λ c e. absurd (none_not own.comma_after c e cut.no_comma);
       before = λ c e f. subst (λ (n : ℕ). IsComma bytes n × (suc n ≤ own.whole.start)) (same_some own.comma_before start c cut.comma f)
-          (comma_at bytes at.before (text_of cut.before ++ (cut.text ++ behind)) start whole at.place, omega (arith, cut.begins));
+          (comma_at bytes at.before (text_of cut.before ++ (cut.text ++ after)) start whole at.place, omega (arith, cut.begins));
     }
   where
     spread : (a b c d : List ℕ) → a ++ ((0x2C ∷ (b ++ c)) ++ d) ≡ a ++ (0x2C ∷ (b ++ (c ++ d)))
@@ -192,39 +192,39 @@ last_edged bytes own start old new behind at cut =
     two : (a b c : List ℕ) → a ++ (0x2C ∷ (b ++ c)) ≡ (a ++ (0x2C ∷ b)) ++ c
     two a b c = simp append_assoc refl
 
-alone_edged : (bytes : List ℕ) (own : ValueInfo) (start : ℕ) (old new behind : List ℕ) → IsCutText bytes start old behind → IsCutAlone own start old new → IsEdged bytes own
-alone_edged bytes own start old new behind at cut = record {
+alone_edged : (bytes : List ℕ) (own : ValueInfo) (start : ℕ) (old new after : List ℕ) → IsCutText bytes start old after → IsCutAlone own start old new → IsEdged bytes own
+alone_edged bytes own start old new after at cut = record {
   ordered = omega (arith, cut.ends);
-  opens = opens_at bytes at.before old behind own.whole.start cut.opens at.whole (at.place ∙ cut.begins);
+  opens = opens_at bytes at.before old after own.whole.start cut.opens at.whole (at.place ∙ cut.begins);
   after = λ c e. absurd (none_not own.comma_after c e cut.no_comma);
   before = λ c e f. absurd (none_not own.comma_before c f cut.none_before);
 }
 
-cut_edged : (b : Brackets) (bytes : List ℕ) (own : ValueInfo) (start : ℕ) (old new behind outside : List ℕ) → IsCutText bytes start old (behind ++ outside) → IsCutOut b own start old new behind → IsEdged bytes own
-cut_edged b bytes own start old new behind outside at (inl cut) = next_edged bytes own start old new (behind ++ outside) at cut.0
-cut_edged b bytes own start old new behind outside at (inr (inl cut)) = last_edged bytes own start old new (behind ++ outside) at cut
-cut_edged b bytes own start old new behind outside at (inr (inr cut)) = alone_edged bytes own start old new (behind ++ outside) at cut
+cut_edged : (b : Brackets) (bytes : List ℕ) (own : ValueInfo) (start : ℕ) (old new after outside : List ℕ) → IsCutText bytes start old (after ++ outside) → IsCutOut b own start old new after → IsEdged bytes own
+cut_edged b bytes own start old new after outside at (inl cut) = next_edged bytes own start old new (after ++ outside) at cut.0
+cut_edged b bytes own start old new after outside at (inr (inl cut)) = last_edged bytes own start old new (after ++ outside) at cut
+cut_edged b bytes own start old new after outside at (inr (inr cut)) = alone_edged bytes own start old new (after ++ outside) at cut
 
-next_placed : (bytes : List ℕ) (own : ValueInfo) (start : ℕ) (old new behind : List ℕ) → IsCutText bytes start old behind → IsCutWithNext own start old new → is_ws (first behind) ≡ false
+next_placed : (bytes : List ℕ) (own : ValueInfo) (start : ℕ) (old new after : List ℕ) → IsCutText bytes start old after → IsCutWithNext own start old new → is_ws (first after) ≡ false
     → entry_place bytes own ≡ place_at start old new
-next_placed bytes own start old new behind at cut stops =
+next_placed bytes own start old new after at cut stops =
     let comma : ℕ = own.span.end + length (text_of cut.after) in
     let prefix : List ℕ = at.before ++ (cut.text ++ text_of cut.after) in
-    let whole : bytes ≡ prefix ++ (0x2C ∷ (cut.white ++ behind)) =
-    at.whole ∙ ap (λ (t : List ℕ). at.before ++ (t ++ behind)) cut.was ∙ spread at.before cut.text (text_of cut.after) cut.white behind in
+    let whole : bytes ≡ prefix ++ (0x2C ∷ (cut.white ++ after)) =
+    at.whole ∙ ap (λ (t : List ℕ). at.before ++ (t ++ after)) cut.was ∙ spread at.before cut.text (text_of cut.after) cut.white after in
     let prefix_is : length prefix ≡ comma =
     omega (arith, length-append at.before (cut.text ++ text_of cut.after), length-append cut.text (text_of cut.after), at.place, cut.begins, cut.ends) in
-    let past : drop (suc comma) bytes ≡ cut.white ++ behind =
-    ap (drop (suc comma)) (whole ∙ sym (append_assoc prefix (0x2C ∷ []) (cut.white ++ behind)))
-    ∙ drop_at (prefix ++ (0x2C ∷ [])) (cut.white ++ behind) (suc comma) (omega (arith, length-append prefix (0x2C ∷ []), prefix_is)) in
-    let run : prefix_len is_ws (drop (suc comma) bytes) ≡ length cut.white = ap (prefix_len is_ws) past ∙ run_ends cut.white behind cut.all_white stops in
+    let past : drop (suc comma) bytes ≡ cut.white ++ after =
+    ap (drop (suc comma)) (whole ∙ sym (append_assoc prefix (0x2C ∷ []) (cut.white ++ after)))
+    ∙ drop_at (prefix ++ (0x2C ∷ [])) (cut.white ++ after) (suc comma) (omega (arith, length-append prefix (0x2C ∷ []), prefix_is)) in
+    let run : prefix_len is_ws (drop (suc comma) bytes) ≡ length cut.white = ap (prefix_len is_ws) past ∙ run_ends cut.white after cut.all_white stops in
     let gap : text_at bytes (span own.span.end comma) ≡ text_of cut.after =
     part_at bytes own.span.end comma (text_of cut.after)
     (record {
       prefix = at.before ++ cut.text;
-      behind = 0x2C ∷ (cut.white ++ behind);
+      after = 0x2C ∷ (cut.white ++ after);
       place = omega (arith, length-append at.before cut.text, at.place, cut.begins, cut.ends);
-      whole = whole ∙ two at.before cut.text (text_of cut.after) (0x2C ∷ (cut.white ++ behind));
+      whole = whole ∙ two at.before cut.text (text_of cut.after) (0x2C ∷ (cut.white ++ after));
     }) refl in
     let preserved : preserved_text (text_at bytes (span own.span.end comma)) ≡ new = ap preserved_text gap ∙ preserved_is cut.after cut.blank ∙ sym cut.given in
     let long : length old ≡ length cut.text + (length (text_of cut.after) + suc (length cut.white)) =
@@ -239,14 +239,14 @@ next_placed bytes own start old new behind at cut stops =
     two : (a b c d : List ℕ) → (a ++ (b ++ c)) ++ d ≡ (a ++ b) ++ (c ++ d)
     two a b c d = simp append_assoc refl
 
-last_placed : (bytes : List ℕ) (own : ValueInfo) (start : ℕ) (old new behind : List ℕ) → IsCutText bytes start old behind → IsCutWithLast own start old new
+last_placed : (bytes : List ℕ) (own : ValueInfo) (start : ℕ) (old new after : List ℕ) → IsCutText bytes start old after → IsCutWithLast own start old new
     → entry_place bytes own ≡ place_at start old new
-last_placed bytes own start old new behind at cut =
-    let whole : bytes ≡ (at.before ++ (0x2C ∷ [])) ++ (text_of cut.before ++ (cut.text ++ behind)) =
-    at.whole ∙ ap (λ (t : List ℕ). at.before ++ (t ++ behind)) cut.was ∙ spread at.before (text_of cut.before) cut.text behind in
+last_placed bytes own start old new after at cut =
+    let whole : bytes ≡ (at.before ++ (0x2C ∷ [])) ++ (text_of cut.before ++ (cut.text ++ after)) =
+    at.whole ∙ ap (λ (t : List ℕ). at.before ++ (t ++ after)) cut.was ∙ spread at.before (text_of cut.before) cut.text after in
     let gap : text_at bytes (span (suc start) own.whole.start) ≡ text_of cut.before =
     part_at bytes (suc start) own.whole.start (text_of cut.before)
-    (record { prefix = at.before ++ (0x2C ∷ []); behind = cut.text ++ behind; place = omega (arith, length-append at.before (0x2C ∷ []), at.place); whole = whole })
+    (record { prefix = at.before ++ (0x2C ∷ []); after = cut.text ++ after; place = omega (arith, length-append at.before (0x2C ∷ []), at.place); whole = whole })
     (omega (arith, cut.begins)) in
     let preserved : preserved_text (text_at bytes (span (suc start) own.whole.start)) ≡ new = ap preserved_text gap ∙ preserved_is cut.before cut.blank ∙ sym cut.given in
     let long : length old ≡ suc (length (text_of cut.before) + length cut.text) = ap (λ (t : List ℕ). length t) cut.was ∙ ap suc (length-append (text_of cut.before) cut.text) in
@@ -263,11 +263,11 @@ alone_placed bytes own start old new cut =
     ∙ ap (λ (o : Option ℕ). by_commas bytes own None o) cut.none_before
     ∙ same_place own.whole.start start own.span.end (start + length old) [] new (sym cut.begins) (omega (arith, cut.begins, cut.ends)) (sym cut.given)
 
-cut_placed : (b : Brackets) (bytes : List ℕ) (own : ValueInfo) (start : ℕ) (old new behind outside : List ℕ) → IsCutText bytes start old (behind ++ outside) → IsCutOut b own start old new behind
+cut_placed : (b : Brackets) (bytes : List ℕ) (own : ValueInfo) (start : ℕ) (old new after outside : List ℕ) → IsCutText bytes start old (after ++ outside) → IsCutOut b own start old new after
     → (first outside == close_byte b) ≡ true → entry_place bytes own ≡ place_at start old new
-cut_placed b bytes own start old new behind outside at (inl cut) closed = next_placed bytes own start old new (behind ++ outside) at cut.0 (cut.1 outside closed)
-cut_placed b bytes own start old new behind outside at (inr (inl cut)) closed = last_placed bytes own start old new (behind ++ outside) at cut
-cut_placed b bytes own start old new behind outside at (inr (inr cut)) closed = alone_placed bytes own start old new cut
+cut_placed b bytes own start old new after outside at (inl cut) closed = next_placed bytes own start old new (after ++ outside) at cut.0 (cut.1 outside closed)
+cut_placed b bytes own start old new after outside at (inr (inl cut)) closed = last_placed bytes own start old new (after ++ outside) at cut
+cut_placed b bytes own start old new after outside at (inr (inr cut)) closed = alone_placed bytes own start old new cut
 
 -- ---- in a document
 
@@ -304,7 +304,7 @@ record IsRowOut (b : Brackets) (more : List Part) (begin : ℕ) (p : Start) (nes
   before : done.before ≡ left ++ row.before
   old : done.old ≡ row.old
   new : done.new ≡ row.new
-  behind : done.behind ≡ row.behind ++ right
+  after : done.after ≡ row.after ++ right
 
 pub some_is : {A : Type 0} (x y : A) → Some x ≡ Some y → x ≡ y
 some_is x y e = cc
@@ -320,7 +320,7 @@ row_out b more begin p nested outer left right done (Some d) h e =
       before = sym (ap (λ (x : Changed Value). x.before) k);
       old = sym (ap (λ (x : Changed Value). x.old) k);
       new = sym (ap (λ (x : Changed Value). x.new) k);
-      behind = sym (ap (λ (x : Changed Value). x.behind) k);
+      after = sym (ap (λ (x : Changed Value). x.after) k);
     }
 
 valued_one : (m : Mention) (ms : List Mention) → is_value m.kind ≡ true → valued (m ∷ ms) ≡ suc (valued ms)
@@ -339,9 +339,9 @@ module _ (profile : Profile) (path : List Part) (s : Document) (valid : IsDocume
       let prefix : length c.before ≡ start =
       omega (arith, h.start, begins, one, ap (λ (t : List ℕ). length t) row.before, length-append left d.before) in
       let old : c.old ≡ d.old = h.old ∙ row.old in
-      let behind : c.behind ≡ d.behind ++ (right ++ h.beyond) = h.text_after ∙ ap (λ (t : List ℕ). t ++ h.beyond) row.behind ∙ append_assoc d.behind right h.beyond in
-      let at : IsCutText (text s) start d.old (d.behind ++ (right ++ h.beyond)) =
-      record { before = c.before; whole = cut.was ∙ ap (λ (t : List ℕ). c.before ++ (t ++ c.behind)) old ∙ ap (λ (t : List ℕ). c.before ++ (d.old ++ t)) behind; place = prefix } in
+      let after : c.after ≡ d.after ++ (right ++ h.beyond) = h.text_after ∙ ap (λ (t : List ℕ). t ++ h.beyond) row.after ∙ append_assoc d.after right h.beyond in
+      let at : IsCutText (text s) start d.old (d.after ++ (right ++ h.beyond)) =
+      record { before = c.before; whole = cut.was ∙ ap (λ (t : List ℕ). c.before ++ (t ++ c.after)) old ∙ ap (λ (t : List ℕ). c.before ++ (d.old ++ t)) after; place = prefix } in
       let earlier : List Mention = h.earlier ++ h.mention ∷ map (below q) e.earlier in
       let later : List Mention = map (below q) e.later ++ h.further in
       let mentioned : mentions_in s ≡ earlier ++ below q e.mention ∷ later =
@@ -367,8 +367,8 @@ module _ (profile : Profile) (path : List Part) (s : Document) (valid : IsDocume
         value = value_at_split path s earlier (below q e.mention) later (h.prefix ++ h.own ∷ e.prefix) e.own (e.others ++ h.others) rules mentioned
             (ap (λ (x : List Part). q ++ x) e.place ∙ sym h.place) e.tells values count;
         nested = subst IsNested (sym e.owner) nested;
-        edged = cut_edged b (text s) e.own start d.old d.new d.behind (right ++ h.beyond) at e.cut;
-        place = cut_placed b (text s) e.own start d.old d.new d.behind (right ++ h.beyond) at e.cut (closed h.beyond)
+        edged = cut_edged b (text s) e.own start d.old d.new d.after (right ++ h.beyond) at e.cut;
+        place = cut_placed b (text s) e.own start d.old d.new d.after (right ++ h.beyond) at e.cut (closed h.beyond)
             ∙ same_place start (length c.before) (start + length d.old) (length c.before + length c.old) d.new c.new (sym prefix)
             (omega (arith, prefix, ap (λ (t : List ℕ). length t) old)) (sym (h.new ∙ row.new));
       }

@@ -59,7 +59,7 @@ clear_by l o b = elim o [
       before = text_of l.before;
       old = content_text l.content ++ text_of l.after;
       new = [];
-      behind = c.text;
+      after = c.text;
     })
   ]
 ]

@@ -173,7 +173,7 @@ section_cut pre post l b k a e ends rules single =
       before = left;
       ways = way;
       run = d ∷ run;
-      behind = right;
+      after = right;
       was = whole;
       is = ap (λ x. left ++ x) (sym (body_further r p post) ∙ refl);
       disjoint_before = from_closed p [] left (lines_closed p start pre ends) (λ v. never_root p ends v)
@@ -194,15 +194,15 @@ section_cut pre post l b k a e ends rules single =
 pub record IsSection (r : Reading) (path : List Part) (c : Content) : Type 0 where
   pub before : Gap
   pub keys : Key
-  pub behind : Gap
-  pub was : c ≡ header before keys behind
+  pub after : Gap
+  pub was : c ≡ header before keys after
   pub place : header_path r.tables [] (keys_of keys) ≡ path
 
 begins_section : (path : List Part) (r : Reading) (before after : Gap) (comment : Option Written) (c : Content) → EndsInKey path
     → begins path r (record { before = before; content = c; after = after; comment = comment }) ≡ true → IsSection r path c
 begins_section path r before after comment blank ends e = absurd cc
 begins_section path r before after comment (keyval name v) ends e = absurd cc
-begins_section path r before after comment (header b k a) ends e = record { before = b; keys = k; behind = a; was = refl; place = same_path-sound (header_path r.tables [] (keys_of k)) path e }
+begins_section path r before after comment (header b k a) ends e = record { before = b; keys = k; after = a; was = refl; place = same_path-sound (header_path r.tables [] (keys_of k)) path e }
 begins_section path r before after comment (element b k a) ends e =
     let at : List Part = header_path r.tables [] (keys_of k) in
     let n : ℕ = elements_of at r.tables in
@@ -229,7 +229,7 @@ section_by s path ends rules single (Some i) h =
     let single' : has is_through p from ≡ false =
     subst (λ (q : List Part). has is_through q from ≡ false) (sym c.place) (subst (λ (x : List Line). has is_through path (lines_mentions start x) ≡ false) h.was single) in
     let ends' : EndsInKey p = subst EndsInKey (sym c.place) ends in
-    let cut : IsCut p from to = subst (λ (x : List Mention). IsCut p from x) (sym is) (section_cut h.pre h.post h.line c.before c.keys c.behind c.was ends' rules' single') in
+    let cut : IsCut p from to = subst (λ (x : List Mention). IsCut p from x) (sym is) (section_cut h.pre h.post h.line c.before c.keys c.after c.was ends' rules' single') in
     record {
       rules = rules_cut p from to cut rules';
       tree = subst (λ (x : List Line). IsTreeOf (lines_mentions start x) (remove path) to) (sym h.was)

@@ -212,8 +212,8 @@ body_ends at c (e ∷ es) last = by e.line.before e.line.after e.line.comment e.
         ≡ body_by at c.at (e ∷ es) last (elim x [
           | blank ↦ more_lines false (body_length (map line_of es ++ last ∷ []))
           | keyval name value ↦ more_lines true (body_length (map line_of es ++ last ∷ []))
-          | header before k behind ↦ 0
-          | element before k behind ↦ 0
+          | header before k suffix ↦ 0
+          | element before k suffix ↦ 0
         ])
     by before after comment blank k ih = ih at ∙ blank_more at c e es last (body_length (map line_of es ++ last ∷ []))
     by before after comment (keyval name v) k ih = ih (c.at + width (ended_leaves e)) ∙ keyval_more c e es last (body_length (map line_of es ++ last ∷ []))
@@ -236,7 +236,7 @@ pub record IsSectionPlaced (path : List Part) (s : Document) (c : Changed Docume
   pub number : ℕ
   pub headed : IsHeaded path s number
   pub within : number < length (syntax.statements s)
-  pub low : IsLow c.old c.behind
+  pub low : IsLow c.old c.after
   pub place : section_place (drop number (syntax.statements s)) ≡ place_of c
 
 pub none_some : (o : Option ℕ) → o ≡ None → IsSome o → ⊥
@@ -319,7 +319,7 @@ section_placed profile path s i c valid found is =
       number = x.statements;
       headed = line.headed;
       within = omega (arith, ap (λ (ss : List Statement). length ss) all, length-append prefix (st ∷ more), number);
-      low = without_low profile s h.pre h.rest n c.old c.behind valid h.was w.old w.behind;
+      low = without_low profile s h.pre h.rest n c.old c.after valid h.was w.old w.after;
       place = ap section_place from
           ∙ same_place x.at (length c.before) (body_end line_end more) (length c.before + length c.old) [] c.new begins
           (omega (arith, tail_ends x h.rest s.last, begins, ap (λ (t : List ℕ). length t) w.old)) (sym w.new);

@@ -167,41 +167,41 @@ row_when : (P : Row → Type 0) (b : Bool) (c : Changed Row) → (b ≡ true →
 row_when P true c h = h refl
 row_when P false c h = tt
 
-after_gap : (profile : Profile) (place : Place) (behind : Gap) (rest : Entries) → IsComma profile place (Some behind) rest → IsGap profile place behind
-after_gap profile place behind none h = h.0
-after_gap profile place behind (entry name body nested after comma rest) h = h
+after_gap : (profile : Profile) (place : Place) (after : Gap) (rest : Entries) → IsComma profile place (Some after) rest → IsGap profile place after
+after_gap profile place after none h = h.0
+after_gap profile place next_gap (entry name body nested after comma rest) h = h
 
-first_gap : (profile : Profile) (place : Place) (gap after behind : Gap) → IsGap profile place gap → IsGap profile place after → IsGap profile place behind
-    → IsGap profile place (joined_gap gap (joined_gap (preserved_gap after) (past_ws behind)))
-first_gap profile place gap after behind hg ha hb =
-    gap_joined profile place gap _ hg (gap_joined profile place (preserved_gap after) (past_ws behind) (gap_preserved profile place after ha) (gap_past profile place behind hb))
+first_gap : (profile : Profile) (place : Place) (gap after next_gap : Gap) → IsGap profile place gap → IsGap profile place after → IsGap profile place next_gap
+    → IsGap profile place (joined_gap gap (joined_gap (preserved_gap after) (past_ws next_gap)))
+first_gap profile place gap after next_gap hg ha hb =
+    gap_joined profile place gap _ hg (gap_joined profile place (preserved_gap after) (past_ws next_gap) (gap_preserved profile place after ha) (gap_past profile place next_gap hb))
 
-row_two : (profile : Profile) (place : Place) (path : List Part) (k : ℕ) (gap : Gap) (name : Option Name) (body : Body) (nested : Entries) (after behind : Gap)
+row_two : (profile : Profile) (place : Place) (path : List Part) (k : ℕ) (gap : Gap) (name : Option Name) (body : Body) (nested : Entries) (after next_gap : Gap)
     (name' : Option Name) (body' : Body) (nested' : Entries) (after' : Gap) (comma' : Option Gap) (rest' : Entries)
-    (further : Option (Changed Row)) → IsGap profile place gap → AreEntries profile place (entry name body nested after (Some behind) (entry name' body' nested' after' comma' rest'))
+    (further : Option (Changed Row)) → IsGap profile place gap → AreEntries profile place (entry name body nested after (Some next_gap) (entry name' body' nested' after' comma' rest'))
     → (b c : Bool) → is_last_named path (k + 1) (entry name' body' nested' after' comma' rest') ≡ c
     → EachTo (IsRow profile place path (k + 1) (entry name' body' nested' after' comma' rest')) further
-    → EachTo {A = Row} (IsRow profile place path k (entry name body nested after (Some behind) (entry name' body' nested' after' comma' rest'))) (elim b [
-      | true ↦ Some (taken_first gap name body nested after behind (entry name' body' nested' after' comma' rest'))
+    → EachTo {A = Row} (IsRow profile place path k (entry name body nested after (Some next_gap) (entry name' body' nested' after' comma' rest'))) (elim b [
+      | true ↦ Some (taken_first gap name body nested after next_gap (entry name' body' nested' after' comma' rest'))
       | false ↦ elim c [
-        | true ↦ Some (taken_last gap name body nested after behind name' body' nested' after')
+        | true ↦ Some (taken_last gap name body nested after next_gap name' body' nested' after')
         | false ↦ within (λ r. record { gap = gap; entries = entry name body nested after (Some r.gap) r.entries })
             (text_of gap ++ (entry_prefix name body nested ++ (text_of after ++ codes ","))) [] further
       ]
     ])
-row_two profile place path k gap name body nested after behind name' body' nested' after' comma' rest' further hg h true c e ih =
-    let g = first_gap profile place gap after behind hg h.3 h.4 in
+row_two profile place path k gap name body nested after next_gap name' body' nested' after' comma' rest' further hg h true c e ih =
+    let g = first_gap profile place gap after next_gap hg h.3 h.4 in
     record { gap = g; entries = h.5; comma = λ e. g }
-row_two profile place path k gap name body nested after behind name' body' nested' after' None none further hg h false true e ih = record {
+row_two profile place path k gap name body nested after next_gap name' body' nested' after' None none further hg h false true e ih = record {
   gap = hg;
-  entries = (h.0, h.1, h.2, gap_joined profile place after _ h.3 (gap_joined profile place (preserved_gap behind) after' (gap_preserved profile place behind h.4) h.5.3), tt, tt);
+  entries = (h.0, h.1, h.2, gap_joined profile place after _ h.3 (gap_joined profile place (preserved_gap next_gap) after' (gap_preserved profile place next_gap h.4) h.5.3), tt, tt);
   comma = λ e. hg;
 }
-row_two profile place path k gap name body nested after behind name' body' nested' after' (Some g) rest' further hg h false true e ih = absurd cc
-row_two profile place path k gap name body nested after behind name' body' nested' after' None (entry n2 b2 i2 a2 c2 r2) further hg h false true e ih = absurd cc
-row_two profile place path k gap name body nested after behind name' body' nested' after' comma' rest' further hg h false false e ih =
+row_two profile place path k gap name body nested after next_gap name' body' nested' after' (Some g) rest' further hg h false true e ih = absurd cc
+row_two profile place path k gap name body nested after next_gap name' body' nested' after' None (entry n2 b2 i2 a2 c2 r2) further hg h false true e ih = absurd cc
+row_two profile place path k gap name body nested after next_gap name' body' nested' after' comma' rest' further hg h false false e ih =
     to_within (IsRow profile place path (k + 1) (entry name' body' nested' after' comma' rest'))
-    (IsRow profile place path k (entry name body nested after (Some behind) (entry name' body' nested' after' comma' rest')))
+    (IsRow profile place path k (entry name body nested after (Some next_gap) (entry name' body' nested' after' comma' rest')))
     (λ r. record { gap = gap; entries = entry name body nested after (Some r.gap) r.entries }) _ [] further
     (λ r t. record { gap = hg; entries = (h.0, h.1, h.2, h.3, t.comma e, t.entries); comma = λ e. hg }) ih
 
@@ -212,14 +212,14 @@ valid_row profile place path k gap (entry name body nested after None none) hg h
     row_when (IsRow profile place path k (entry name body nested after None none)) (same_path (step k name) path) (taken_only gap name body nested after)
     (λ e. record { gap = gap_joined profile place gap after hg h.3; entries = tt; comma = λ e'. absurd cc })
 valid_row profile place path k gap (entry name body nested after None (entry name' body' nested' after' comma' rest')) hg h = tt
-valid_row profile place path k gap (entry name body nested after (Some behind) none) hg h =
-    row_when (IsRow profile place path k (entry name body nested after (Some behind) none)) (same_path (step k name) path) (taken_first gap name body nested after behind none)
-    (λ e. let g = first_gap profile place gap after behind hg h.3 h.4.0 in record { gap = g; entries = tt; comma = λ e'. (g, h.4.1) })
-valid_row profile place path k gap (entry name body nested after (Some behind) (entry name' body' nested' after' comma' rest')) hg h =
-    row_two profile place path k gap name body nested after behind name' body' nested' after' comma' rest'
-    (take_out path (k + 1) behind (entry name' body' nested' after' comma' rest')) hg h
+valid_row profile place path k gap (entry name body nested after (Some next_gap) none) hg h =
+    row_when (IsRow profile place path k (entry name body nested after (Some next_gap) none)) (same_path (step k name) path) (taken_first gap name body nested after next_gap none)
+    (λ e. let g = first_gap profile place gap after next_gap hg h.3 h.4.0 in record { gap = g; entries = tt; comma = λ e'. (g, h.4.1) })
+valid_row profile place path k gap (entry name body nested after (Some next_gap) (entry name' body' nested' after' comma' rest')) hg h =
+    row_two profile place path k gap name body nested after next_gap name' body' nested' after' comma' rest'
+    (take_out path (k + 1) next_gap (entry name' body' nested' after' comma' rest')) hg h
     (same_path (step k name) path) (is_last_named path (k + 1) (entry name' body' nested' after' comma' rest')) refl
-    (valid_row profile place path (k + 1) behind (entry name' body' nested' after' comma' rest') h.4 h.5)
+    (valid_row profile place path (k + 1) next_gap (entry name' body' nested' after' comma' rest') h.4 h.5)
 
 pub valid_removal : (profile : Profile) → IsActValid profile removal
 valid_removal profile path v valid = by v.body v.nested valid

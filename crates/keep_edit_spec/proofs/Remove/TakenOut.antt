@@ -96,28 +96,28 @@ last_same path n name body nested after None none e = out_one path n name body n
 last_same path n name body nested after (Some g) rest e = absurd cc
 last_same path n name body nested after None (entry n2 b2 i2 a2 c2 r2) e = absurd cc
 
-out_two : (path : List Part) (k : ℕ) (gap : Gap) (name : Option Name) (body : Body) (nested : Entries) (after behind : Gap)
+out_two : (path : List Part) (k : ℕ) (gap : Gap) (name : Option Name) (body : Body) (nested : Entries) (after next_gap : Gap)
     (name' : Option Name) (body' : Body) (nested' : Entries) (after' : Gap) (comma' : Option Gap) (rest' : Entries)
     (further : Option (Changed Row)) → (b c : Bool) → same_path (step k name) path ≡ b → is_last_named path (k + 1) (entry name' body' nested' after' comma' rest') ≡ c
     → EachTo (λ r. IsOut path (k + 1) (entry name' body' nested' after' comma' rest') r.entries) further
-    → EachTo {A = Row} (λ r. IsOut path k (entry name body nested after (Some behind) (entry name' body' nested' after' comma' rest')) r.entries) (elim b [
-      | true ↦ Some (taken_first gap name body nested after behind (entry name' body' nested' after' comma' rest'))
+    → EachTo {A = Row} (λ r. IsOut path k (entry name body nested after (Some next_gap) (entry name' body' nested' after' comma' rest')) r.entries) (elim b [
+      | true ↦ Some (taken_first gap name body nested after next_gap (entry name' body' nested' after' comma' rest'))
       | false ↦ elim c [
-        | true ↦ Some (taken_last gap name body nested after behind name' body' nested' after')
+        | true ↦ Some (taken_last gap name body nested after next_gap name' body' nested' after')
         | false ↦ within (λ r. record { gap = gap; entries = entry name body nested after (Some r.gap) r.entries })
             (text_of gap ++ (entry_prefix name body nested ++ (text_of after ++ codes ","))) [] further
       ]
     ])
-out_two path k gap name body nested after behind name' body' nested' after' comma' rest' further true c e e' ih =
-    out_one path k name body nested after (Some behind) (entry name' body' nested' after' comma' rest') e
-out_two path k gap name body nested after behind name' body' nested' after' comma' rest' further false true e e' ih =
-    out_more path k name body nested after (Some behind) (entry name' body' nested' after' comma' rest') _ _ none
+out_two path k gap name body nested after next_gap name' body' nested' after' comma' rest' further true c e e' ih =
+    out_one path k name body nested after (Some next_gap) (entry name' body' nested' after' comma' rest') e
+out_two path k gap name body nested after next_gap name' body' nested' after' comma' rest' further false true e e' ih =
+    out_more path k name body nested after (Some next_gap) (entry name' body' nested' after' comma' rest') _ _ none
     (last_same path (k + 1) name' body' nested' after' comma' rest' e')
-out_two path k gap name body nested after behind name' body' nested' after' comma' rest' further false false e e' ih =
+out_two path k gap name body nested after next_gap name' body' nested' after' comma' rest' further false false e e' ih =
     to_within (λ r. IsOut path (k + 1) (entry name' body' nested' after' comma' rest') r.entries)
-    (λ r. IsOut path k (entry name body nested after (Some behind) (entry name' body' nested' after' comma' rest')) r.entries)
+    (λ r. IsOut path k (entry name body nested after (Some next_gap) (entry name' body' nested' after' comma' rest')) r.entries)
     (λ r. record { gap = gap; entries = entry name body nested after (Some r.gap) r.entries }) _ [] further
-    (λ r t. out_more path k name body nested after (Some behind) (entry name' body' nested' after' comma' rest') after (Some r.gap) r.entries t) ih
+    (λ r t. out_more path k name body nested after (Some next_gap) (entry name' body' nested' after' comma' rest') after (Some r.gap) r.entries t) ih
 
 pub entry_out : (path : List Part) (k : ℕ) (gap : Gap) (es : Entries) → EachTo (λ r. IsOut path k es r.entries) (take_out path k gap es)
 entry_out path k gap none = tt
@@ -125,14 +125,14 @@ entry_out path k gap (entry name body nested after None none) =
     out_when (λ r. IsOut path k (entry name body nested after None none) r.entries) (same_path (step k name) path) (taken_only gap name body nested after)
     (λ e. out_one path k name body nested after None none e)
 entry_out path k gap (entry name body nested after None (entry name' body' nested' after' comma' rest')) = tt
-entry_out path k gap (entry name body nested after (Some behind) none) =
-    out_when (λ r. IsOut path k (entry name body nested after (Some behind) none) r.entries) (same_path (step k name) path) (taken_first gap name body nested after behind none)
-    (λ e. out_one path k name body nested after (Some behind) none e)
-entry_out path k gap (entry name body nested after (Some behind) (entry name' body' nested' after' comma' rest')) =
-    out_two path k gap name body nested after behind name' body' nested' after' comma' rest'
-    (take_out path (k + 1) behind (entry name' body' nested' after' comma' rest'))
+entry_out path k gap (entry name body nested after (Some next_gap) none) =
+    out_when (λ r. IsOut path k (entry name body nested after (Some next_gap) none) r.entries) (same_path (step k name) path) (taken_first gap name body nested after next_gap none)
+    (λ e. out_one path k name body nested after (Some next_gap) none e)
+entry_out path k gap (entry name body nested after (Some next_gap) (entry name' body' nested' after' comma' rest')) =
+    out_two path k gap name body nested after next_gap name' body' nested' after' comma' rest'
+    (take_out path (k + 1) next_gap (entry name' body' nested' after' comma' rest'))
     (same_path (step k name) path) (is_last_named path (k + 1) (entry name' body' nested' after' comma' rest')) refl refl
-    (entry_out path (k + 1) behind (entry name' body' nested' after' comma' rest'))
+    (entry_out path (k + 1) next_gap (entry name' body' nested' after' comma' rest'))
 
 -- what `removal` does with a value
 pub record IsRemoved (profile : Profile) (path : List Part) (old now : Value) : Type 0 where

@@ -122,8 +122,8 @@ split_same g [] ys zs e = (refl, e)
 split_same g (x ∷ xs) ys zs e =
     let one : x ≡ g x = cc in
     let rest : xs ++ ys ≡ map g xs ++ zs = cc in
-    let (same, behind) = split_same g xs ys zs rest in
-    (ap₂ (λ y l. y ∷ l) one same, behind)
+    let (same, after) = split_same g xs ys zs rest in
+    (ap₂ (λ y l. y ∷ l) one same, after)
 
 split_even : {A : Type 0} (xs us ys vs : List A) → length xs ≡ length us → xs ++ ys ≡ us ++ vs → (xs ≡ us) × (ys ≡ vs)
 split_even [] [] ys vs many e = (refl, e)
@@ -132,8 +132,8 @@ split_even (x ∷ xs) [] ys vs many e = absurd (omega (arith, many))
 split_even (x ∷ xs) (u ∷ us) ys vs many e =
     let one : x ≡ u = cc in
     let rest : xs ++ ys ≡ us ++ vs = cc in
-    let (same, behind) = split_even xs us ys vs (omega (arith, many)) rest in
-    (ap₂ (λ y l. y ∷ l) one same, behind)
+    let (same, after) = split_even xs us ys vs (omega (arith, many)) rest in
+    (ap₂ (λ y l. y ∷ l) one same, after)
 
 -- the same lines
 lines_fixed : (f : List Part → List Part) (r : Reading) (ls : List Line) → lines_mentions r ls ≡ map (moved f) (lines_mentions r ls) → AreLinesMoved f r r ls ls

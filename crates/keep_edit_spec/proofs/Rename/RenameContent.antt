@@ -37,7 +37,7 @@ moved_reading f r = record { tables = map f r.tables; body = f r.body }
 pub record IsContentMoved (p b : List Part) (r : Reading) (c c' : Content) : Type 0 where
   pub stated : is_some (statement_of c') ≡ is_some (statement_of c)
   pub mentioned : content_mentions (moved_reading (moved_path p b) r) c' ≡ map (moved (moved_path p b)) (content_mentions r c)
-  pub behind : content_after (moved_reading (moved_path p b) r) c' ≡ moved_reading (moved_path p b) (content_after r c)
+  pub after : content_after (moved_reading (moved_path p b) r) c' ≡ moved_reading (moved_path p b) (content_after r c)
 
 -- ---- a header
 
@@ -71,7 +71,7 @@ header_moved p b r x y k k' ends clear disjoint h =
       mentioned = ap (λ (q : List Part). header_way (map f r.tables) [] (keys_of k') ++ record { path = q; kind = define } ∷ []) m.path
           ∙ ap (λ (l : List Mention). l ++ record { path = f path; kind = define } ∷ []) m.way
           ∙ sym (map-append (moved f) way (record { path = path; kind = define } ∷ []));
-      behind = ap (λ (q : List Part). record { tables = map f r.tables; body = q }) m.path;
+      after = ap (λ (q : List Part). record { tables = map f r.tables; body = q }) m.path;
     }
 
 element_moved : (p b : List Part) (r : Reading) (x y : Gap) (k k' : Key) → EndsInKey p → AreClear b r.tables → AllOf (IsDisjoint b) (content_mentions r (element x k y))
@@ -93,7 +93,7 @@ element_moved p b r x y k k' ends clear disjoint h =
           ∙ ap (λ (q : List Part). header_way (map f r.tables) [] (keys_of k') ++ record { path = q; kind = kinds_element } ∷ record { path = f (path ++ index n ∷ []); kind = begun } ∷ []) m.path
           ∙ ap (λ (l : List Mention). l ++ map (moved f) end) m.way
           ∙ sym (map-append (moved f) way end);
-      behind = ap (λ (q : List Part). record { tables = map f r.tables ++ path' ∷ []; body = q }) begins
+      after = ap (λ (q : List Part). record { tables = map f r.tables ++ path' ∷ []; body = q }) begins
           ∙ ap (λ (q : List Part). record { tables = map f r.tables ++ q ∷ []; body = f (path ++ index n ∷ []) }) m.path
           ∙ ap (λ (l : List (List Part)). record { tables = l; body = f (path ++ index n ∷ []) }) (sym (map-append f r.tables (path ∷ [])));
     }
@@ -108,8 +108,8 @@ header_never p tables keys mention_kind more self never e =
 
 pub content_preserved : (p b : List Part) (r : Reading) → EndsInKey p → AreClear b r.tables → (c : Content) → AllOf (IsDisjoint b) (content_mentions r c) → (SomeOf (IsSolidAt p) (content_mentions r c) → ⊥)
     → IsContentMoved p b r c c
-content_preserved p b r ends clear blank disjoint never = record { stated = refl; mentioned = refl; behind = refl }
-content_preserved p b r ends clear (keyval name v) disjoint never = record { stated = refl; mentioned = by (none_or_some (strip p r.body)); behind = refl }
+content_preserved p b r ends clear blank disjoint never = record { stated = refl; mentioned = refl; after = refl }
+content_preserved p b r ends clear (keyval name v) disjoint never = record { stated = refl; mentioned = by (none_or_some (strip p r.body)); after = refl }
   where
     by : (strip p r.body ≡ None) ⊎ ((u : List Part) × (strip p r.body ≡ Some u))
         → map (below (moved_path p b r.body)) (keyval_mentions name v) ≡ map (moved (moved_path p b)) (map (below r.body) (keyval_mentions name v))
@@ -149,7 +149,7 @@ content_renamed profile t p b r text beside n (keyval name v) e =
         stated = refl;
         mentioned = sym (keyed_renamed p b r.body (keys_of name.key) (keys_of nm.key) _
             (subst (AreRenamed p b [] r.body (keys_of name.key)) (sym h.keys) (keys_renamed t p b [] r.body n (keys_of name.key) beside part)) reach);
-        behind = refl;
+        after = refl;
       };
       valid = λ w. (h.valid w.0, w.1);
       after = λ g w. w;

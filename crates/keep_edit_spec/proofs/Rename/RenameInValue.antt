@@ -65,19 +65,19 @@ mentions_renamed t prefix p b from to beside once h =
     let f : List Part → List Part = moved_path p b in
     let old : List Mention = tagged h.tag h.old in
     let now : List Mention = tagged h.tag h.now in
-    let all : Once p (h.before ++ (map (below prefix) old ++ h.behind)) = subst (Once p) h.was once in
-    let mid : Once p (map (below prefix) old) = once_left p (map (below prefix) old) h.behind (once_right p h.before (map (below prefix) old ++ h.behind) all) in
+    let all : Once p (h.before ++ (map (below prefix) old ++ h.after)) = subst (Once p) h.was once in
+    let mid : Once p (map (below prefix) old) = once_left p (map (below prefix) old) h.after (once_right p h.before (map (below prefix) old ++ h.after) all) in
     let inner : Once h.rest old = once_below prefix h.rest old (subst (λ x. Once x (map (below prefix) old)) h.whole mid) in
     let moves : map (moved (moved_path (prefix ++ h.rest) (prefix ++ r.other))) (map (below prefix) old) ≡ map (below prefix) now =
     moved_below prefix h.rest r.other old ∙ ap (map (below prefix)) (tagged_mentions t h.tag h.rest r.other h.old h.now r.beside h.done.fact (h.done.mentioned r.other r.beside inner.1)) in
     let moves_all : map (moved f) (map (below prefix) old) ≡ map (below prefix) now =
     ap (λ x. map (moved (moved_path x b)) (map (below prefix) old)) h.whole ∙ ap (λ x. map (moved (moved_path (prefix ++ h.rest) x)) (map (below prefix) old)) r.whole ∙ moves in
     let before : map (moved f) h.before ≡ h.before = moved_disjoint p b h.before (subst (λ x. AllOf (IsDisjoint x) h.before) (sym h.whole) (all_longer prefix h.rest h.before h.disjoint_before)) in
-    let behind : map (moved f) h.behind ≡ h.behind = moved_disjoint p b h.behind (subst (λ x. AllOf (IsDisjoint x) h.behind) (sym h.whole) (all_longer prefix h.rest h.behind h.disjoint_after)) in
+    let after : map (moved f) h.after ≡ h.after = moved_disjoint p b h.after (subst (λ x. AllOf (IsDisjoint x) h.after) (sym h.whole) (all_longer prefix h.rest h.after h.disjoint_after)) in
     h.is
-    ∙ ap (λ x. x ++ (map (below prefix) now ++ h.behind)) (sym before)
-    ∙ ap (λ x. map (moved f) h.before ++ (x ++ h.behind)) (sym moves_all)
-    ∙ ap (λ x. map (moved f) h.before ++ (map (moved f) (map (below prefix) old) ++ x)) (sym behind)
-    ∙ ap (λ x. map (moved f) h.before ++ x) (sym (map-append (moved f) (map (below prefix) old) h.behind))
-    ∙ sym (map-append (moved f) h.before (map (below prefix) old ++ h.behind))
+    ∙ ap (λ x. x ++ (map (below prefix) now ++ h.after)) (sym before)
+    ∙ ap (λ x. map (moved f) h.before ++ (x ++ h.after)) (sym moves_all)
+    ∙ ap (λ x. map (moved f) h.before ++ (map (moved f) (map (below prefix) old) ++ x)) (sym after)
+    ∙ ap (λ x. map (moved f) h.before ++ x) (sym (map-append (moved f) (map (below prefix) old) h.after))
+    ∙ sym (map-append (moved f) h.before (map (below prefix) old ++ h.after))
     ∙ ap (map (moved f)) (sym h.was)

@@ -31,7 +31,7 @@ further_renamed : (profile : Profile) (t : List ℕ) → IsKeyText profile t →
 further_renamed profile t text n [] = tt
 further_renamed profile t text zero (f ∷ fs) = record {
   keys = ap (λ l. l ∷ map further_value fs) text.means;
-  valid = λ h. (record { before = h.0.before; behind = h.0.behind; part = text.valid }, h.1);
+  valid = λ h. (record { before = h.0.before; after = h.0.after; part = text.valid }, h.1);
 }
 further_renamed profile t text (suc m) (f ∷ fs) =
     to_within (IsFurtherRenamed profile t m fs) (IsFurtherRenamed profile t (suc m) (f ∷ fs)) (λ gs. f ∷ gs) (text_of (further_leaves f)) [] (rename_further (key_part t) m fs)
@@ -48,8 +48,8 @@ key_renamed profile t text (suc m) k =
 
 pub name_renamed : (profile : Profile) (t : List ℕ) → IsKeyText profile t → (n : ℕ) (name : Name) → EachTo (IsNameRenamed profile t n name) (rename_name (key_part t) n name)
 name_renamed profile t text n name =
-    to_within (IsKeyRenamed profile t n name.key) (IsNameRenamed profile t n name) (λ k. record name { key = k }) [] (text_of name.before ++ (codes "=" ++ text_of name.behind)) (rename_part (key_part t) n name.key)
-    (λ k h. record { keys = h.keys; valid = λ v. record { key = h.valid v.key; before = v.before; behind = v.behind } }) (key_renamed profile t text n name.key)
+    to_within (IsKeyRenamed profile t n name.key) (IsNameRenamed profile t n name) (λ k. record name { key = k }) [] (text_of name.before ++ (codes "=" ++ text_of name.after)) (rename_part (key_part t) n name.key)
+    (λ k h. record { keys = h.keys; valid = λ v. record { key = h.valid v.key; before = v.before; after = v.after } }) (key_renamed profile t text n name.key)
 
 -- ---- where there is such a part, it can be renamed
 
@@ -64,4 +64,4 @@ some_key new p tables at zero k h = tt
 some_key new p tables at (suc n) k h = some_within (λ fs. record k { more = fs }) k.first.text [] (rename_further new n k.more) (some_further new p tables (entered_path tables (at ++ key (key_value k.first) ∷ [])) n k.more h)
 
 pub some_name : (new : Written) (p : List Part) (tables : List (List Part)) (at : List Part) (n : ℕ) (name : Name) → IsPart p tables at n (keys_of name.key) → IsSome (rename_name new n name)
-some_name new p tables at n name h = some_within (λ k. record name { key = k }) [] (text_of name.before ++ (codes "=" ++ text_of name.behind)) (rename_part new n name.key) (some_key new p tables at n name.key h)
+some_name new p tables at n name h = some_within (λ k. record name { key = k }) [] (text_of name.before ++ (codes "=" ++ text_of name.after)) (rename_part new n name.key) (some_key new p tables at n name.key h)

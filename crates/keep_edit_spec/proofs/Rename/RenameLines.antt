@@ -36,7 +36,7 @@ one_more : (p b : List Part) (r : Reading) (l l' : Line) (ls ls' : List Line) �
     AreLinesMoved f (after_line r l) (moved_reading f (after_line r l)) ls ls' → AreLinesMoved f r (moved_reading f r) (l ∷ ls) (l' ∷ ls'))
 one_more p b r l l' ls ls' m more =
     let f : List Part → List Part = moved_path p b in
-    (record { stated = m.stated; mentioned = m.mentioned }, subst (λ (x : Reading). AreLinesMoved f (after_line r l) x ls ls') (sym m.behind) more)
+    (record { stated = m.stated; mentioned = m.mentioned }, subst (λ (x : Reading). AreLinesMoved f (after_line r l) x ls ls') (sym m.after) more)
 
 -- lines that say nothing of the path itself
 pub lines_preserved : (p b : List Part) → EndsInKey p → (r : Reading) (ls : List Line) → AreClear b r.tables → AllOf (IsDisjoint b) (lines_mentions r ls) → (SomeOf (IsSolidAt p) (lines_mentions r ls) → ⊥)

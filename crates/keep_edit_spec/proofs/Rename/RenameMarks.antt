@@ -23,8 +23,8 @@ use Rattle.keep_edit_spec.proofs.Rename.RenamedParts.{IsPart}
 pub record IsPartAt {A : Type 0} (at n : ℕ) (new : List ℕ) (parts : List KeyPart) (c : Changed A) : Type 0 where
   pub prefix : List KeyPart
   pub own : KeyPart
-  pub behind : List KeyPart
-  pub here : parts ≡ prefix ++ own ∷ behind
+  pub after : List KeyPart
+  pub here : parts ≡ prefix ++ own ∷ after
   pub count : length prefix ≡ n
   pub start : at + length c.before ≡ own.span.start
   pub end : own.span.end ≡ own.span.start + length c.old
@@ -36,7 +36,7 @@ part_after : {A B : Type 0} (at from n : ℕ) (new : List ℕ) (first : KeyPart)
 part_after at from n new first parts outer left right c e h = record {
   prefix = first ∷ h.prefix;
   own = h.own;
-  behind = h.behind;
+  after = h.after;
   here = ap (λ l. first ∷ l) h.here;
   count = ap suc h.count;
   start = omega (arith, e, h.start, length-append left c.before);
@@ -46,33 +46,33 @@ part_after at from n new first parts outer left right c e h = record {
 
 part_framed : {A B : Type 0} (at n : ℕ) (new : List ℕ) (parts : List KeyPart) (outer : A → B) (right : List ℕ) (c : Changed A)
     → IsPartAt at n new parts c → IsPartAt at n new parts (framed_change outer [] right c)
-part_framed at n new parts outer right c h = record { prefix = h.prefix; own = h.own; behind = h.behind; here = h.here; count = h.count; start = h.start; end = h.end; fresh = h.fresh }
+part_framed at n new parts outer right c h = record { prefix = h.prefix; own = h.own; after = h.after; here = h.here; count = h.count; start = h.start; end = h.end; fresh = h.fresh }
 
 width-append : (a b : List Written) → width (a ++ b) ≡ width a + width b
 width-append a b = ap length (text_of-append a b) ∙ length-append (text_of a) (text_of b)
 
 -- a further part of a key, up to the part, and past it
-before_part : (f : Further) → length (text_of f.before ++ (codes "." ++ text_of f.behind)) ≡ width f.before + 1 + width f.behind
-before_part f = omega (arith, length-append (text_of f.before) (codes "." ++ text_of f.behind), length-append (codes ".") (text_of f.behind))
+before_part : (f : Further) → length (text_of f.before ++ (codes "." ++ text_of f.after)) ≡ width f.before + 1 + width f.after
+before_part f = omega (arith, length-append (text_of f.before) (codes "." ++ text_of f.after), length-append (codes ".") (text_of f.after))
 
-past_part : (f : Further) → width (further_leaves f) ≡ width f.before + 1 + width f.behind + length f.part.text
+past_part : (f : Further) → width (further_leaves f) ≡ width f.before + 1 + width f.after + length f.part.text
 past_part f =
     omega (
       arith,
-      width-append f.before (token leaf.Dot (0x2E ∷ []) ++ (f.behind ++ (f.part ∷ []))),
-      width-append (token leaf.Dot (0x2E ∷ [])) (f.behind ++ (f.part ∷ [])),
-      width-append f.behind (f.part ∷ []),
+      width-append f.before (token leaf.Dot (0x2E ∷ []) ++ (f.after ++ (f.part ∷ []))),
+      width-append (token leaf.Dot (0x2E ∷ [])) (f.after ++ (f.part ∷ [])),
+      width-append f.after (f.part ∷ []),
       length-append f.part.text [],
     )
 
 further_at : (new : Written) (at n : ℕ) (fs : List Further) → EachOf (IsPartAt at n new.text (further_parts at fs)) (rename_further new n fs)
 further_at new at n [] = tt
 further_at new at zero (f ∷ fs) =
-    let from : ℕ = at + width f.before + 1 + width f.behind in
+    let from : ℕ = at + width f.before + 1 + width f.after in
     record {
       prefix = [];
       own = part_at from f.part;
-      behind = further_parts (from + length f.part.text) fs;
+      after = further_parts (from + length f.part.text) fs;
       here = refl;
       count = refl;
       start = omega (arith, before_part f);
@@ -80,7 +80,7 @@ further_at new at zero (f ∷ fs) =
       fresh = refl;
     }
 further_at new at (suc n) (f ∷ fs) =
-    let from : ℕ = at + width f.before + 1 + width f.behind in
+    let from : ℕ = at + width f.before + 1 + width f.after in
     let next : ℕ = from + length f.part.text in
     of_within (IsPartAt next n new.text (further_parts next fs)) (IsPartAt at (suc n) new.text (further_parts at (f ∷ fs))) (λ gs. f ∷ gs) (text_of (further_leaves f)) [] (rename_further new n fs)
     (λ c h. part_after next at n new.text (part_at from f.part) (further_parts next fs) (λ gs. f ∷ gs) (text_of (further_leaves f)) [] c (omega (arith, past_part f)) h)
@@ -90,7 +90,7 @@ pub key_at : (new : Written) (at n : ℕ) (k : Key) → EachOf (IsPartAt at n ne
 key_at new at zero k = record {
   prefix = [];
   own = part_at at k.first;
-  behind = further_parts (at + length k.first.text) k.more;
+  after = further_parts (at + length k.first.text) k.more;
   here = refl;
   count = refl;
   start = omega arith;
@@ -105,7 +105,7 @@ key_at new at (suc n) k =
 
 pub name_at : (new : Written) (at n : ℕ) (name : Name) → EachOf (IsPartAt at n new.text (key_parts at name.key)) (rename_name new n name)
 name_at new at n name =
-    let right : List ℕ = text_of name.before ++ (codes "=" ++ text_of name.behind) in
+    let right : List ℕ = text_of name.before ++ (codes "=" ++ text_of name.after) in
     of_within (IsPartAt at n new.text (key_parts at name.key)) (IsPartAt at n new.text (key_parts at name.key)) (λ k. record name { key = k }) [] right (rename_part new n name.key)
     (λ c h. part_framed at n new.text (key_parts at name.key) (λ k. record name { key = k }) right c h)
     (key_at new at n name.key)

@@ -170,9 +170,9 @@ first_mark p k (n ∷ ns) (x ∷ earlier) m later counted e here is none =
 none_earlier : (p : List Part) (earlier : List Mention) (m : Mention) (later : List Mention) → is_at p m ≡ true → is_mark m.kind ≡ true → mark_count p (earlier ++ m ∷ later) ≡ 1 → mark_count p earlier ≡ 0
 none_earlier p earlier m later at is one = omega (arith, one, mark_count-append p earlier (m ∷ later), marks_with p m later true true at is)
 
-get_here : {A : Type 0} (prefix : List A) (x : A) (behind : List A) → slice_get (prefix ++ x ∷ behind) (length prefix) ≡ Some x
-get_here [] x behind = refl
-get_here (y ∷ prefix) x behind = get_here prefix x behind
+get_here : {A : Type 0} (prefix : List A) (x : A) (after : List A) → slice_get (prefix ++ x ∷ after) (length prefix) ≡ Some x
+get_here [] x after = refl
+get_here (y ∷ prefix) x after = get_here prefix x after
 
 -- The key part is the one that is known of the path's node, and it is what is replaced.
 pub record IsKeyRenamed (p : List Part) (t : List ℕ) (s : Document) (c : Changed Document) : Type 0 where
@@ -197,7 +197,7 @@ rename_placed p t s c one e =
     let first : first_from p (numbered_in s) ≡ Some (0 + marked h.earlier) =
     first_mark p 0 (numbered_in s) h.earlier h.mention h.later (counted_statements no_count start (statements_in s)) (mentions-numbered_in s ∙ h.mentioned) at h.names none in
     let number : 0 + marked h.earlier ≡ length h.prefix = omega (arith, h.count) in
-    let here : slice_get (syntax.parts s) (length h.prefix) ≡ Some h.own = ap (λ l. slice_get l (length h.prefix)) h.here ∙ get_here h.prefix h.own h.behind in
+    let here : slice_get (syntax.parts s) (length h.prefix) ≡ Some h.own = ap (λ l. slice_get l (length h.prefix)) h.here ∙ get_here h.prefix h.own h.after in
     let begins : length c.before ≡ h.own.span.start = omega (arith, h.start) in
     record {
       number = length h.prefix;

@@ -45,8 +45,8 @@ pub record IsRenamedIn {A : Type 0} (at : ℕ) (p : List Part) (new : List ℕ) 
   pub names : is_mark mention.kind ≡ true
   pub prefix : List KeyPart
   pub own : KeyPart
-  pub behind : List KeyPart
-  pub here : parts ≡ prefix ++ own ∷ behind
+  pub after : List KeyPart
+  pub here : parts ≡ prefix ++ own ∷ after
   pub count : marked earlier ≡ length prefix
   pub start : at + length c.before ≡ own.span.start
   pub end : own.span.end ≡ own.span.start + length c.old
@@ -63,7 +63,7 @@ renamed_both at n p new ms parts c m h = record {
   names = m.names;
   prefix = h.prefix;
   own = h.own;
-  behind = h.behind;
+  after = h.after;
   here = h.here;
   count = m.count ∙ sym h.count;
   start = h.start;
@@ -84,7 +84,7 @@ renamed_framed at from p new ms parts outer left right c e h = record {
   names = h.names;
   prefix = h.prefix;
   own = h.own;
-  behind = h.behind;
+  after = h.after;
   here = h.here;
   count = h.count;
   start = omega (arith, e, h.start, length-append left c.before);
@@ -104,7 +104,7 @@ renamed_beyond at q more p new ms parts c e h = record {
   names = h.names;
   prefix = h.prefix;
   own = h.own;
-  behind = h.behind;
+  after = h.after;
   here = h.here;
   count = marked-below q h.earlier ∙ h.count;
   start = h.start;
@@ -124,8 +124,8 @@ renamed_after at p new xs ms is parts c e h = record {
   names = h.names;
   prefix = is ++ h.prefix;
   own = h.own;
-  behind = h.behind;
-  here = ap (λ l. is ++ l) h.here ∙ sym (append_assoc is h.prefix (h.own ∷ h.behind));
+  after = h.after;
+  here = ap (λ l. is ++ l) h.here ∙ sym (append_assoc is h.prefix (h.own ∷ h.after));
   count = omega (arith, e, h.count, marked-append xs h.earlier, length-append is h.prefix);
   start = h.start;
   end = h.end;
@@ -143,8 +143,8 @@ renamed_before at p new ms ys parts js c h = record {
   names = h.names;
   prefix = h.prefix;
   own = h.own;
-  behind = h.behind ++ js;
-  here = ap (λ l. l ++ js) h.here ∙ append_assoc h.prefix (h.own ∷ h.behind) js;
+  after = h.after ++ js;
+  here = ap (λ l. l ++ js) h.here ∙ append_assoc h.prefix (h.own ∷ h.after) js;
   count = h.count;
   start = h.start;
   end = h.end;
@@ -246,12 +246,12 @@ module _ (new : Written) where
       let first : List Mention = entry_mentions n name (body_fact body) (entries_mentions 0 nested) in
       let named : List KeyPart = named_parts at name in
       let inner : List KeyPart = entries_parts (nested_start (value_start at name) body) nested in
-      let behind : List KeyPart = entries_parts end rest in
-      of_within (Renamed end p (entries_mentions (n + 1) rest) behind) (Renamed at p (entries_mentions n whole) (entries_parts at whole)) outer left [] o
+      let suffix : List KeyPart = entries_parts end rest in
+      of_within (Renamed end p (entries_mentions (n + 1) rest) suffix) (Renamed at p (entries_mentions n whole) (entries_parts at whole)) outer left [] o
       (λ c k.
-      subst (λ (l : List KeyPart). Renamed at p (entries_mentions n whole) l (framed_change outer left [] c)) (append_assoc named inner behind)
-      (renamed_after at p new.text first (entries_mentions (n + 1) rest) (named ++ inner) behind (framed_change outer left [] c) (many_entry n at name body nested)
-      (renamed_framed end at p new.text (entries_mentions (n + 1) rest) behind outer left [] c (prefix_ends at name body nested after comma) k))) h
+      subst (λ (l : List KeyPart). Renamed at p (entries_mentions n whole) l (framed_change outer left [] c)) (append_assoc named inner suffix)
+      (renamed_after at p new.text first (entries_mentions (n + 1) rest) (named ++ inner) suffix (framed_change outer left [] c) (many_entry n at name body nested)
+      (renamed_framed end at p new.text (entries_mentions (n + 1) rest) suffix outer left [] c (prefix_ends at name body nested after comma) k))) h
 
   renamed_entry : (q : Part) (qs : List Part) (n at : ℕ) (es : Entries) → EachOf (Renamed at (q ∷ qs) (entries_mentions n es) (entries_parts at es)) (rename_entry new (q ∷ qs) es)
   renamed_entry q qs n at none = tt
@@ -326,13 +326,13 @@ module _ (new : Written) where
           let right : List ℕ = entry_back after comma rest in
           let named : List KeyPart = named_parts at name in
           let inner : List KeyPart = entries_parts i nested in
-          let behind : List KeyPart = entries_parts (entry_end at name body nested after comma) rest in
+          let suffix : List KeyPart = entries_parts (entry_end at name body nested after comma) rest in
           let first : List Mention = entry_mentions n name (body_fact body) (entries_mentions 0 nested) in
           of_within (Renamed v more (entries_mentions 0 nested) inner) (Renamed at p (entries_mentions n whole) (entries_parts at whole)) outer left right _
           (λ c h.
           renamed_framed v at p new.text (entries_mentions n whole) (entries_parts at whole) outer left right c refl
-          (subst (λ (l : List KeyPart). Renamed v p (entries_mentions n whole) l c) (append_assoc named inner behind)
-          (renamed_before v p new.text first (entries_mentions (n + 1) rest) (named ++ inner) behind c
+          (subst (λ (l : List KeyPart). Renamed v p (entries_mentions n whole) l c) (append_assoc named inner suffix)
+          (renamed_before v p new.text first (entries_mentions (n + 1) rest) (named ++ inner) suffix c
           (renamed_named v at n name (body_fact body) new.text (entries_mentions 0 nested) more p inner c (strip-sound (step n name) p more e) h))))
           (renamed_value v more body nested (deeper more))
 
@@ -360,8 +360,8 @@ module _ (new : Written) where
   renamed_content : (p : List Part) (r : Reading) (at : ℕ) (c : Content) → EachOf (Renamed at p (content_mentions r c) (content_parts at c)) (in_content (renaming new) r.body p c)
   renamed_content p r at blank = tt
   renamed_content p r at (keyval name v) = renamed_keyval p r at name v (strip (r.body ++ step 0 (Some name)) p) refl
-  renamed_content p r at (header before k behind) = tt
-  renamed_content p r at (element before k behind) = tt
+  renamed_content p r at (header before k suffix) = tt
+  renamed_content p r at (element before k suffix) = tt
 
   -- the line's own key
   renamed_own : (p : List Part) (r : Reading) (at n : ℕ) (c : Content) → position (same_path p) (part_paths r c) ≡ Some n → EachOf (Renamed at p (content_mentions r c) (content_parts at c)) (rename_content new n c)

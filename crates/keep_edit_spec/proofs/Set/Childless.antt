@@ -90,16 +90,16 @@ some_child p (m ∷ ms) (inl h) = inl (ap (λ (x : List Part). is_child p (p ++ 
 some_child p (m ∷ ms) (inr h) = inr (some_child p ms h)
 
 -- Where no node is below a path, the value that is mentioned there has no entries.
-pub childless : (p : List Part) (mention_kind : MentionKind) (entries : Entries) (before behind : List Mention)
-    → children p (node_paths (before ++ (run p mention_kind (entries_mentions 0 entries) ++ behind))) ≡ [] → entries_mentions 0 entries ≡ []
-childless p mention_kind none before behind h = refl
-childless p mention_kind (entry name body nested after comma rest) before behind h =
+pub childless : (p : List Part) (mention_kind : MentionKind) (entries : Entries) (before after : List Mention)
+    → children p (node_paths (before ++ (run p mention_kind (entries_mentions 0 entries) ++ after))) ≡ [] → entries_mentions 0 entries ≡ []
+childless p mention_kind none before after h = refl
+childless p mention_kind (entry name body nested after comma rest) before suffix h =
     let Below : Mention → Type 0 = λ m. is_child p m.path ≡ true in
     let first : List Mention = entry_mentions 0 name (body_fact body) (entries_mentions 0 nested) in
     let ms : List Mention = entries_mentions 0 (entry name body nested after comma rest) in
     let below_it : SomeOf Below (map (below p) ms) =
     some_child p ms (some_left IsStep first (entries_mentions (0 + 1) rest) (some_step 0 name (body_fact body) (entries_mentions 0 nested))) in
-    let all_mentions : List Mention = before ++ (run p mention_kind ms ++ behind) in
+    let all_mentions : List Mention = before ++ (run p mention_kind ms ++ suffix) in
     let has_below : SomeOf Below all_mentions =
-    some_right Below before (run p mention_kind ms ++ behind) (some_left Below (run p mention_kind ms) behind (inr below_it)) in
+    some_right Below before (run p mention_kind ms ++ suffix) (some_left Below (run p mention_kind ms) suffix (inr below_it)) in
     absurd (some_passes (is_child p) (node_paths all_mentions) (any_mentioned (is_child p) ([] ∷ []) all_mentions has_below) h)

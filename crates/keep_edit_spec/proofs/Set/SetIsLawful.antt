@@ -87,7 +87,7 @@ set_done path new s c rules e = the_of (IsDoneAt (replacement new) path (mention
 
 the_done : (new v : Value) (d : Changed Value) → replacement new [] v ≡ Some d → (d.to ≡ new) × (d.old ≡ text_of_value v) × (d.new ≡ text_of_value new)
 the_done new v d e =
-    let x : Changed Value = record { to = new; before = []; old = text_of_value v; new = text_of_value new; behind = [] } in
+    let x : Changed Value = record { to = new; before = []; old = text_of_value v; new = text_of_value new; after = [] } in
     let k : x ≡ d = some_is x d e in
     (sym (ap (λ (c : Changed Value). c.to) k), sym (ap (λ (c : Changed Value). c.old) k), sym (ap (λ (c : Changed Value). c.new) k))
   where
@@ -112,7 +112,7 @@ set_growth path new s c rules e =
     let (to, old, fresh) = the_done new k.value k.done k.by in
     let h : IsChangeOf text s c = change_is (change s (set path new)) s c e (change-is s (set path new)) in
     let n : length c.new ≡ length (value_text new) = ap (λ (l : List ℕ). length l) (k.new ∙ fresh) in
-    omega (arith, n, ap (λ (l : List ℕ). length l) h.was, ap (λ (l : List ℕ). length l) h.is, length-append c.before (c.old ++ c.behind), length-append c.before (c.new ++ c.behind), length-append c.old c.behind, length-append c.new c.behind)
+    omega (arith, n, ap (λ (l : List ℕ). length l) h.was, ap (λ (l : List ℕ). length l) h.is, length-append c.before (c.old ++ c.after), length-append c.before (c.new ++ c.after), length-append c.old c.after, length-append c.new c.after)
 
 -- The law of `set`: where nothing is refused there is a change, and the new document has all that it should.
 pub record IsSetLawful (profile : Profile) (limit : ℕ) (s : Document) (path : List Part) (new : Value) (c : Changed Document) : Type 0 where
@@ -176,7 +176,7 @@ gives_by path s true (Some c) e f d i cuts done =
         spelled = d.old ∙ old;
         facts = d.facts;
         before = c.before;
-        behind = c.behind;
+        after = c.after;
         here = i.was;
         set_there = λ new. placed path s new c (change s (set path new)) (cuts new) (done new);
       },

@@ -35,38 +35,38 @@ pub record IsKindSet (path : List Part) (k : Kind) (s s' : Document) : Type 0 wh
 
 -- ---- the mentions, by the numbered ones
 
-mentions_by : (s : Document) (before behind : List Numbered) (n : Numbered) → numbered_in s ≡ before ++ n ∷ behind
-    → mentions_in s ≡ map mention_of before ++ n.mention ∷ map mention_of behind
-mentions_by s before behind n e = sym (mentions-numbered_in s) ∙ ap (map mention_of) e ∙ map-append mention_of before (n ∷ behind)
+mentions_by : (s : Document) (before after : List Numbered) (n : Numbered) → numbered_in s ≡ before ++ n ∷ after
+    → mentions_in s ≡ map mention_of before ++ n.mention ∷ map mention_of after
+mentions_by s before after n e = sym (mentions-numbered_in s) ∙ ap (map mention_of) e ∙ map-append mention_of before (n ∷ after)
 
-paths_by : (path : List Part) (name : Option Name) (f : Fact) (before behind : List Mention)
-    → map (λ (m : Mention). m.path) (before ++ value_mention path name f ∷ behind)
-    ≡ map (λ (m : Mention). m.path) before ++ path ∷ map (λ (m : Mention). m.path) behind
-paths_by path name f before behind = map-append (λ (m : Mention). m.path) before (value_mention path name f ∷ behind)
+paths_by : (path : List Part) (name : Option Name) (f : Fact) (before after : List Mention)
+    → map (λ (m : Mention). m.path) (before ++ value_mention path name f ∷ after)
+    ≡ map (λ (m : Mention). m.path) before ++ path ∷ map (λ (m : Mention). m.path) after
+paths_by path name f before after = map-append (λ (m : Mention). m.path) before (value_mention path name f ∷ after)
 
 -- the key part that names a value has the same role, whatever the fact
 same_role : (name : Option Name) (f g : Fact) → role_of (tag_of name f) ≡ role_of (tag_of name g)
 same_role None f g = refl
 same_role (Some name) f g = refl
 
-roles_first : (p path : List Part) (name : Option Name) (f g : Fact) (behind : List Mention)
-    → filter_map role_of (kinds_at p (value_mention path name f ∷ behind)) ≡ filter_map role_of (kinds_at p (value_mention path name g ∷ behind))
-roles_first p path name f g behind = by (same_path path p) refl
+roles_first : (p path : List Part) (name : Option Name) (f g : Fact) (after : List Mention)
+    → filter_map role_of (kinds_at p (value_mention path name f ∷ after)) ≡ filter_map role_of (kinds_at p (value_mention path name g ∷ after))
+roles_first p path name f g after = by (same_path path p) refl
   where
     by : (b : Bool) → same_path path p ≡ b
-        → filter_map role_of (kinds_at p (value_mention path name f ∷ behind)) ≡ filter_map role_of (kinds_at p (value_mention path name g ∷ behind))
-    by true e = rw e (ap (λ o. cons_option o (filter_map role_of (kinds_at p behind))) (same_role name f g))
+        → filter_map role_of (kinds_at p (value_mention path name f ∷ after)) ≡ filter_map role_of (kinds_at p (value_mention path name g ∷ after))
+    by true e = rw e (ap (λ o. cons_option o (filter_map role_of (kinds_at p after))) (same_role name f g))
     by false e = rw e refl
 
-roles_by : (p path : List Part) (name : Option Name) (f g : Fact) (before behind : List Mention)
-    → filter_map role_of (kinds_at p (before ++ value_mention path name f ∷ behind)) ≡ filter_map role_of (kinds_at p (before ++ value_mention path name g ∷ behind))
-roles_by p path name f g before behind =
-    split f ∙ ap (λ l. filter_map role_of (kinds_at p before) ++ l) (roles_first p path name f g behind) ∙ sym (split g)
+roles_by : (p path : List Part) (name : Option Name) (f g : Fact) (before after : List Mention)
+    → filter_map role_of (kinds_at p (before ++ value_mention path name f ∷ after)) ≡ filter_map role_of (kinds_at p (before ++ value_mention path name g ∷ after))
+roles_by p path name f g before after =
+    split f ∙ ap (λ l. filter_map role_of (kinds_at p before) ++ l) (roles_first p path name f g after) ∙ sym (split g)
   where
-    split : (h : Fact) → filter_map role_of (kinds_at p (before ++ value_mention path name h ∷ behind))
-        ≡ filter_map role_of (kinds_at p before) ++ filter_map role_of (kinds_at p (value_mention path name h ∷ behind))
-    split h = ap (filter_map role_of) (kinds_at-append p before (value_mention path name h ∷ behind))
-        ∙ filter_map-append role_of (kinds_at p before) (kinds_at p (value_mention path name h ∷ behind))
+    split : (h : Fact) → filter_map role_of (kinds_at p (before ++ value_mention path name h ∷ after))
+        ≡ filter_map role_of (kinds_at p before) ++ filter_map role_of (kinds_at p (value_mention path name h ∷ after))
+    split h = ap (filter_map role_of) (kinds_at-append p before (value_mention path name h ∷ after))
+        ∙ filter_map-append role_of (kinds_at p before) (kinds_at p (value_mention path name h ∷ after))
 
 -- ---- the nodes
 
@@ -77,21 +77,21 @@ none_disjoint path (n ∷ ns) h =
     rw (is_at-disjoint path n.mention path [] h.0 itself (is_at path n.mention) refl) (none_disjoint path ns h.1)
 
 -- at the path there is the value's mention alone
-one_there : (path : List Part) (name : Option Name) (c : Count) (f : Fact) (before behind : List Numbered)
-    → AllOf (IsDisjoint path) (map mention_of before) → AllOf (IsDisjoint path) (map mention_of behind)
-    → numbered_at path (before ++ numbered_value path name c f ∷ behind) ≡ numbered_value path name c f ∷ []
-one_there path name c f before behind hb hh =
-    filter-append (is_numbered_at path) before (numbered_value path name c f ∷ behind)
-    ∙ ap (λ l. l ++ numbered_at path (numbered_value path name c f ∷ behind)) (none_disjoint path before hb)
-    ∙ rw (same_path-refl path) (ap (λ l. numbered_value path name c f ∷ l) (none_disjoint path behind hh))
+one_there : (path : List Part) (name : Option Name) (c : Count) (f : Fact) (before after : List Numbered)
+    → AllOf (IsDisjoint path) (map mention_of before) → AllOf (IsDisjoint path) (map mention_of after)
+    → numbered_at path (before ++ numbered_value path name c f ∷ after) ≡ numbered_value path name c f ∷ []
+one_there path name c f before after hb hh =
+    filter-append (is_numbered_at path) before (numbered_value path name c f ∷ after)
+    ∙ ap (λ l. l ++ numbered_at path (numbered_value path name c f ∷ after)) (none_disjoint path before hb)
+    ∙ rw (same_path-refl path) (ap (λ l. numbered_value path name c f ∷ l) (none_disjoint path after hh))
 
 -- at other paths it is passed over
-none_there : (p path : List Part) (name : Option Name) (c : Count) (f : Fact) (before behind : List Numbered) → same_path path p ≡ false
-    → numbered_at p (before ++ numbered_value path name c f ∷ behind) ≡ numbered_at p before ++ numbered_at p behind
-none_there p path name c f before behind e =
-    filter-append (is_numbered_at p) before (numbered_value path name c f ∷ behind) ∙ ap (λ l. numbered_at p before ++ l) (past e)
+none_there : (p path : List Part) (name : Option Name) (c : Count) (f : Fact) (before after : List Numbered) → same_path path p ≡ false
+    → numbered_at p (before ++ numbered_value path name c f ∷ after) ≡ numbered_at p before ++ numbered_at p after
+none_there p path name c f before after e =
+    filter-append (is_numbered_at p) before (numbered_value path name c f ∷ after) ∙ ap (λ l. numbered_at p before ++ l) (past e)
   where
-    past : same_path path p ≡ false → numbered_at p (numbered_value path name c f ∷ behind) ≡ numbered_at p behind
+    past : same_path path p ≡ false → numbered_at p (numbered_value path name c f ∷ after) ≡ numbered_at p after
     past e = rw e refl
 
 -- another fact at a path, and nothing else: another kind
@@ -104,27 +104,27 @@ one_node path (Some name) c f g = refl
 pub kind_of_fact_set : (path : List Part) (g : Fact) (s s' : Document) → IsFactSet path g s s' → IsKindSet path (fact_kind g) s s'
 kind_of_fact_set path g s s' h =
     let before : List Mention = map mention_of h.before in
-    let behind : List Mention = map mention_of h.behind in
-    let was : mentions_in s ≡ before ++ value_mention path h.name h.fact ∷ behind =
-    mentions_by s h.before h.behind (numbered_value path h.name h.count h.fact) h.was in
-    let is : mentions_in s' ≡ before ++ value_mention path h.name g ∷ behind =
-    mentions_by s' h.before h.behind (numbered_value path h.name h.count g) h.is in
+    let after : List Mention = map mention_of h.after in
+    let was : mentions_in s ≡ before ++ value_mention path h.name h.fact ∷ after =
+    mentions_by s h.before h.after (numbered_value path h.name h.count h.fact) h.was in
+    let is : mentions_in s' ≡ before ++ value_mention path h.name g ∷ after =
+    mentions_by s' h.before h.after (numbered_value path h.name h.count g) h.is in
     let node_was : node_at (numbered_in s) path ≡ mentioned_node path (numbered_value path h.name h.count h.fact ∷ []) =
     ap (λ ns. node_at ns path) h.was
-    ∙ ap (mentioned_node path) (one_there path h.name h.count h.fact h.before h.behind h.disjoint_before h.disjoint_after) in
+    ∙ ap (mentioned_node path) (one_there path h.name h.count h.fact h.before h.after h.disjoint_before h.disjoint_after) in
     let node_is : node_at (numbered_in s') path ≡ mentioned_node path (numbered_value path h.name h.count g ∷ []) =
     ap (λ ns. node_at ns path) h.is
-    ∙ ap (mentioned_node path) (one_there path h.name h.count g h.before h.behind h.disjoint_before h.disjoint_after) in
+    ∙ ap (mentioned_node path) (one_there path h.name h.count g h.before h.after h.disjoint_before h.disjoint_after) in
     record {
-      met = ap (map (λ (m : Mention). m.path)) is ∙ paths_by path h.name g before behind
-          ∙ sym (ap (map (λ (m : Mention). m.path)) was ∙ paths_by path h.name h.fact before behind);
+      met = ap (map (λ (m : Mention). m.path)) is ∙ paths_by path h.name g before after
+          ∙ sym (ap (map (λ (m : Mention). m.path)) was ∙ paths_by path h.name h.fact before after);
       here = node_is ∙ one_node path h.name h.count h.fact g ∙ ap (λ (n : Node). record n { kind = fact_kind g }) (sym node_was);
       elsewhere = λ p other.
           ap (λ ns. node_at ns p) h.is
-          ∙ ap (mentioned_node p) (none_there p path h.name h.count g h.before h.behind other ∙ sym (none_there p path h.name h.count h.fact h.before h.behind other))
+          ∙ ap (mentioned_node p) (none_there p path h.name h.count g h.before h.after other ∙ sym (none_there p path h.name h.count h.fact h.before h.after other))
           ∙ sym (ap (λ ns. node_at ns p) h.was);
       roles = λ p.
-          ap (λ ms. filter_map role_of (kinds_at p ms)) is ∙ roles_by p path h.name g h.fact before behind
+          ap (λ ms. filter_map role_of (kinds_at p ms)) is ∙ roles_by p path h.name g h.fact before after
           ∙ sym (ap (λ ms. filter_map role_of (kinds_at p ms)) was);
       tables = ap (λ (r : Reading). r.tables) h.reading;
     }

@@ -40,23 +40,23 @@ one_count : (path : List Part) (name : Option Name) (f g : Fact) (c : Count)
 one_count path None f g c = refl
 one_count path (Some name) f g c = refl
 
-same_count : (path : List Part) (name : Option Name) (f g : Fact) (c : Count) (before behind : List Mention)
-    → count_after c (before ++ value_mention path name f ∷ behind) ≡ count_after c (before ++ value_mention path name g ∷ behind)
-same_count path name f g c before behind =
-    fold-append count_with_mention c before (value_mention path name f ∷ behind)
-    ∙ ap (λ (d : Count). count_after d behind) (one_count path name f g (count_after c before))
-    ∙ sym (fold-append count_with_mention c before (value_mention path name g ∷ behind))
+same_count : (path : List Part) (name : Option Name) (f g : Fact) (c : Count) (before after : List Mention)
+    → count_after c (before ++ value_mention path name f ∷ after) ≡ count_after c (before ++ value_mention path name g ∷ after)
+same_count path name f g c before after =
+    fold-append count_with_mention c before (value_mention path name f ∷ after)
+    ∙ ap (λ (d : Count). count_after d after) (one_count path name f g (count_after c before))
+    ∙ sym (fold-append count_with_mention c before (value_mention path name g ∷ after))
 
 -- the numbers of what comes after the mention
 abbrev numbers_after : List Part → Option Name → Fact → Count → List Mention → List Numbered
-numbers_after path name f d behind = numbered_mentions (count_with_mention d (value_mention path name f)) behind
+numbers_after path name f d after = numbered_mentions (count_with_mention d (value_mention path name f)) after
 
-numbers_split : (path : List Part) (name : Option Name) (f g : Fact) (c : Count) (before behind : List Mention)
-    → numbered_mentions c (before ++ value_mention path name g ∷ behind)
-    ≡ numbered_mentions c before ++ numbered_value path name (count_after c before) g ∷ numbers_after path name f (count_after c before) behind
-numbers_split path name f g c before behind =
-    numbered_mentions-append c before (value_mention path name g ∷ behind)
-    ∙ ap (λ (d : Count). numbered_mentions c before ++ numbered_value path name (count_after c before) g ∷ numbered_mentions d behind)
+numbers_split : (path : List Part) (name : Option Name) (f g : Fact) (c : Count) (before after : List Mention)
+    → numbered_mentions c (before ++ value_mention path name g ∷ after)
+    ≡ numbered_mentions c before ++ numbered_value path name (count_after c before) g ∷ numbers_after path name f (count_after c before) after
+numbers_split path name f g c before after =
+    numbered_mentions-append c before (value_mention path name g ∷ after)
+    ∙ ap (λ (d : Count). numbered_mentions c before ++ numbered_value path name (count_after c before) g ∷ numbered_mentions d after)
     (one_count path name g f (count_after c before))
 
 -- ---- in the document
@@ -67,11 +67,11 @@ pub record IsFactSet (path : List Part) (g : Fact) (s s' : Document) : Type 0 wh
   pub fact : Fact
   pub count : Count
   pub before : List Numbered
-  pub behind : List Numbered
-  pub was : numbered_in s ≡ before ++ numbered_value path name count fact ∷ behind
-  pub is : numbered_in s' ≡ before ++ numbered_value path name count g ∷ behind
+  pub after : List Numbered
+  pub was : numbered_in s ≡ before ++ numbered_value path name count fact ∷ after
+  pub is : numbered_in s' ≡ before ++ numbered_value path name count g ∷ after
   pub disjoint_before : AllOf (IsDisjoint path) (map mention_of before)
-  pub disjoint_after : AllOf (IsDisjoint path) (map mention_of behind)
+  pub disjoint_after : AllOf (IsDisjoint path) (map mention_of after)
   pub reading : reading_after start (statements_in s') ≡ reading_after start (statements_in s)
 
 -- lines with another line in the place of one, that reads on alike
@@ -80,9 +80,9 @@ reading_past : (r : Reading) (pre post : List Line) (l l' : Line) → ((q : Read
 reading_past r [] post l l' same = ap (λ (q : Reading). reading_after_lines q post) (same r)
 reading_past r (x ∷ pre) post l l' same = reading_past (after_line r x) pre post l l' same
 
-around : (left before : List Numbered) (x : Numbered) (behind right : List Numbered)
-    → left ++ ((before ++ x ∷ behind) ++ right) ≡ (left ++ before) ++ x ∷ (behind ++ right)
-around left before x behind right = ap (λ l. left ++ l) (append_assoc before (x ∷ behind) right) ∙ sym (append_assoc left before (x ∷ (behind ++ right)))
+around : (left before : List Numbered) (x : Numbered) (after right : List Numbered)
+    → left ++ ((before ++ x ∷ after) ++ right) ≡ (left ++ before) ++ x ∷ (after ++ right)
+around left before x after right = ap (λ l. left ++ l) (append_assoc before (x ∷ after) right) ∙ sym (append_assoc left before (x ∷ (after ++ right)))
 
 no_entries : (new : Value) → new.nested ≡ none → entries_mentions 0 new.nested ≡ []
 no_entries new e = ap (entries_mentions 0) e
@@ -92,9 +92,9 @@ no_nested : (path : List Part) (new : Value) (left mid now right : List Mention)
     → children path (node_paths (left ++ (mid ++ right))) ≡ [] → entries_mentions 0 h.entries ≡ []
 no_nested path new left mid now right h childless_here =
     let here : List Mention = run path (tag_of h.name h.fact) (entries_mentions 0 h.entries) in
-    let all : left ++ (mid ++ right) ≡ (left ++ h.before) ++ (here ++ (h.behind ++ right)) =
+    let all : left ++ (mid ++ right) ≡ (left ++ h.before) ++ (here ++ (h.after ++ right)) =
     ap (λ (l : List Mention). left ++ (l ++ right)) h.was ∙ simp append_assoc refl in
-    childless path (tag_of h.name h.fact) h.entries (left ++ h.before) (h.behind ++ right)
+    childless path (tag_of h.name h.fact) h.entries (left ++ h.before) (h.after ++ right)
     (subst (λ (l : List Mention). children path (node_paths l) ≡ []) all childless_here)
 
 lines_fact_set : (s s' : Document) (path : List Part) (new : Value) → Rules (mentions_in s) → LinesSet start path new (lines s) (lines s') → new.nested ≡ none
@@ -114,17 +114,17 @@ lines_fact_set s s' path new rules h plain childless_here =
     let mentioned : mentions_in s ≡ left ++ (mid ++ right) = ap (lines_mentions start) h.was ∙ whole_mentions h.pre h.post h.old x.name x.old x.was in
     let nested : entries_mentions 0 i.entries ≡ [] =
     no_nested path new left mid mid' right i (subst (λ (l : List Mention). children path (node_paths l) ≡ []) mentioned childless_here) in
-    let was : mid ≡ i.before ++ value_mention path i.name f ∷ i.behind =
-    i.was ∙ ap (λ (l : List Mention). i.before ++ (run path (tag_of i.name f) l ++ i.behind)) nested in
-    let is : mid' ≡ i.before ++ value_mention path i.name g ∷ i.behind =
-    i.is ∙ ap (λ (l : List Mention). i.before ++ (run path (tag_of i.name g) l ++ i.behind)) (no_entries new plain) in
+    let was : mid ≡ i.before ++ value_mention path i.name f ∷ i.after =
+    i.was ∙ ap (λ (l : List Mention). i.before ++ (run path (tag_of i.name f) l ++ i.after)) nested in
+    let is : mid' ≡ i.before ++ value_mention path i.name g ∷ i.after =
+    i.is ∙ ap (λ (l : List Mention). i.before ++ (run path (tag_of i.name g) l ++ i.after)) (no_entries new plain) in
     let d : Count = count_after c i.before in
     let earlier : List Numbered = numbered_from no_count start (filter_map line_statement h.pre) in
     let prefix : List Numbered = numbered_mentions c i.before in
-    let behind : List Numbered = numbers_after path i.name f d i.behind in
+    let after : List Numbered = numbers_after path i.name f d i.after in
     let later : List Numbered = numbered_from (next_count c mid) r (filter_map line_statement h.post) in
     let counts : next_count c mid' ≡ next_count c mid =
-    ap (next_count c) is ∙ ap (λ (e : Count). record e { statements = e.statements + 1 }) (same_count path i.name g f c i.before i.behind)
+    ap (next_count c) is ∙ ap (λ (e : Count). record e { statements = e.statements + 1 }) (same_count path i.name g f c i.before i.after)
     ∙ sym (ap (next_count c) was) in
     let old_statement : statement_of h.old.content ≡ Some (marks.keyval (keyval_mentions x.name x.old)) = ap statement_of x.was in
     let new_statement : statement_of h.now.content ≡ Some (marks.keyval (keyval_mentions x.name x.now)) = ap statement_of x.is in
@@ -133,26 +133,26 @@ lines_fact_set s s' path new rules h plain childless_here =
       fact = f;
       count = d;
       before = earlier ++ prefix;
-      behind = behind ++ later;
+      after = after ++ later;
       was = ap (λ (ls : List Line). numbered_from no_count start (filter_map line_statement ls)) h.was
           ∙ numbered_around h.pre h.post h.old (marks.keyval (keyval_mentions x.name x.old)) old_statement
-          ∙ ap (λ (ns : List Numbered). earlier ++ (ns ++ later)) (ap (numbered_mentions c) was ∙ numbers_split path i.name f f c i.before i.behind)
-          ∙ around earlier prefix (numbered_value path i.name d f) behind later;
+          ∙ ap (λ (ns : List Numbered). earlier ++ (ns ++ later)) (ap (numbered_mentions c) was ∙ numbers_split path i.name f f c i.before i.after)
+          ∙ around earlier prefix (numbered_value path i.name d f) after later;
       is = ap (λ (ls : List Line). numbered_from no_count start (filter_map line_statement ls)) h.is
           ∙ numbered_around h.pre h.post h.now (marks.keyval (keyval_mentions x.name x.now)) new_statement
           ∙ ap (λ (e : Count). earlier ++ (numbered_mentions c mid' ++ numbered_from e r (filter_map line_statement h.post))) counts
-          ∙ ap (λ (ns : List Numbered). earlier ++ (ns ++ later)) (ap (numbered_mentions c) is ∙ numbers_split path i.name f g c i.before i.behind)
-          ∙ around earlier prefix (numbered_value path i.name d g) behind later;
+          ∙ ap (λ (ns : List Numbered). earlier ++ (ns ++ later)) (ap (numbered_mentions c) is ∙ numbers_split path i.name f g c i.before i.after)
+          ∙ around earlier prefix (numbered_value path i.name d g) after later;
       disjoint_before = subst (λ (l : List Mention). AllOf (IsDisjoint path) l)
           (sym (map-append mention_of earlier prefix
           ∙ ap (λ (l : List Mention). l ++ map mention_of prefix) (mentions-numbered_from no_count start (filter_map line_statement h.pre) ∙ sym (lines_mentions-statements start h.pre))
           ∙ ap (λ (l : List Mention). left ++ l) (mentions-numbered_mentions c i.before)))
           (all_join (IsDisjoint path) left i.before one.disjoint_left i.disjoint_before);
       disjoint_after = subst (λ (l : List Mention). AllOf (IsDisjoint path) l)
-          (sym (map-append mention_of behind later
-          ∙ ap (λ (l : List Mention). l ++ map mention_of later) (mentions-numbered_mentions (count_with_mention d (value_mention path i.name f)) i.behind)
-          ∙ ap (λ (l : List Mention). i.behind ++ l) (mentions-numbered_from (next_count c mid) r (filter_map line_statement h.post) ∙ sym (lines_mentions-statements r h.post))))
-          (all_join (IsDisjoint path) i.behind right i.disjoint_after one.disjoint_right);
+          (sym (map-append mention_of after later
+          ∙ ap (λ (l : List Mention). l ++ map mention_of later) (mentions-numbered_mentions (count_with_mention d (value_mention path i.name f)) i.after)
+          ∙ ap (λ (l : List Mention). i.after ++ l) (mentions-numbered_from (next_count c mid) r (filter_map line_statement h.post) ∙ sym (lines_mentions-statements r h.post))))
+          (all_join (IsDisjoint path) i.after right i.disjoint_after one.disjoint_right);
       reading = reading_lines start (lines s') ∙ ap (reading_after_lines start) h.is
           ∙ reading_past start h.pre h.post h.now h.old (λ q. reading_of q h.now x.name x.now x.is ∙ sym (reading_of q h.old x.name x.old x.was))
           ∙ sym (ap (reading_after_lines start) h.was) ∙ sym (reading_lines start (lines s));

@@ -61,13 +61,13 @@ ended_append (x ∷ xs) ys =
 -- the lines before the line of a place end where it begins
 pub record Prefixes (at : ℕ) (es : List Ended) (p : ℕ) : Type 0 where
   pub here : p ≡ at + length (ended_text (lines_before p at es))
-  pub behind : List Ended
-  pub all : es ≡ lines_before p at es ++ behind
+  pub after : List Ended
+  pub all : es ≡ lines_before p at es ++ after
 
 prefixes_here : (at : ℕ) (es : List Ended) → Prefixes at es at
 prefixes_here at es = record {
   here = omega (arith, ap (λ xs. length (ended_text xs)) (none_before at es));
-  behind = es;
+  after = es;
   all = sym (ap (λ xs. xs ++ es) (none_before at es));
 }
 
@@ -86,8 +86,8 @@ prefixes start at (e ∷ es) h low = by (leb (at + width (ended_leaves e)) start
         subst (λ n. Prefixes at (e ∷ es) n) (sym (line_step start at e es k))
         (record {
           here = omega (arith, f.here, ap (λ xs. length (ended_text xs)) prefix, ap length (text_of-append (ended_leaves e) (flat_map ended_leaves (lines_before p b es))), length-append (text_of (ended_leaves e)) (ended_text (lines_before p b es)));
-          behind = f.behind;
-          all = ap (λ xs. e ∷ xs) f.all ∙ sym (ap (λ xs. xs ++ f.behind) prefix);
+          after = f.after;
+          all = ap (λ xs. e ∷ xs) f.all ∙ sym (ap (λ xs. xs ++ f.after) prefix);
         })
     by false t rest = subst (λ n. Prefixes at (e ∷ es) n) (sym (if_true (leb at start) _ at (le-leb at start low) ∙ stop es)) (prefixes_here at (e ∷ es))
       where
@@ -182,10 +182,10 @@ cut_again x prefix new back line last = simp append_assoc refl
 
 pub record Pieces (s t m : Document) (whole : Span) : Type 0 where
   pub before : List ℕ
-  pub behind : List ℕ
-  pub is : text t ≡ before ++ (text m ++ behind)
+  pub after : List ℕ
+  pub is : text t ≡ before ++ (text m ++ after)
   pub start : whole.start ≡ length before
-  pub end : length (text s) ≡ whole.end + length behind
+  pub end : length (text s) ≡ whole.end + length after
 
 pieces : (profile : Profile) (s : Document) (start end : ℕ) (t : Document) → IsDocument profile s → begin s ≤ start → end ≤ length (text s) → (h : Touches s start end t) → Pieces s t h.lines (touched s (span start end))
 pieces profile s start end t valid low within h =
@@ -210,7 +210,7 @@ pieces profile s start end t valid low within h =
     let tail : back ++ line_text (if ltb o total then s.last else m.last) ≡ line_text m.last ++ rest = ends (ltb o total) refl h.closed size in
     record {
       before = bom_text s ++ prefix;
-      behind = rest;
+      after = rest;
       is = ap text h.is ∙ document_text (replaced s (touched s (span start end)) m)
           ∙ ap (λ x. bom_text s ++ (x ++ line_text (if ltb o total then s.last else m.last))) lines
           ∙ cut_again (bom_text s) prefix (ended_text m.ended) back (line_text m.last) (line_text (if ltb o total then s.last else m.last))
@@ -248,10 +248,10 @@ touches_lines profile limit s c valid new shallow is h =
     let end : ℕ = (place_of c).end in
     let whole : Span = touched s (span start end) in
     let m : Document = h.lines in
-    let was : length (text s) ≡ length c.before + (length c.old + length c.behind) = ap length is.was ∙ length-append c.before (c.old ++ c.behind) ∙ ap (λ n. length c.before + n) (length-append c.old c.behind) in
-    let now : length (text c.to) ≡ length c.before + (length c.new + length c.behind) = ap length is.is ∙ length-append c.before (c.new ++ c.behind) ∙ ap (λ n. length c.before + n) (length-append c.new c.behind) in
+    let was : length (text s) ≡ length c.before + (length c.old + length c.after) = ap length is.was ∙ length-append c.before (c.old ++ c.after) ∙ ap (λ n. length c.before + n) (length-append c.old c.after) in
+    let now : length (text c.to) ≡ length c.before + (length c.new + length c.after) = ap length is.is ∙ length-append c.before (c.new ++ c.after) ∙ ap (λ n. length c.before + n) (length-append c.new c.after) in
     let k = pieces profile s start end c.to valid h.low (omega (arith, was)) h in
-    let size : length (text c.to) ≡ length k.before + (length (text m) + length k.behind) = ap length k.is ∙ length-append k.before (text m ++ k.behind) ∙ ap (λ n. length k.before + n) (length-append (text m) k.behind) in
+    let size : length (text c.to) ≡ length k.before + (length (text m) + length k.after) = ap length k.is ∙ length-append k.before (text m ++ k.after) ∙ ap (λ n. length k.before + n) (length-append (text m) k.after) in
     let es : List Ended = lines_before whole.start (begin s) s.ended in
     let bs : List Ended = lines_from whole.end (begin s) s.ended in
     let all : AllByRecursion (IsEnded profile) (es ++ (m.ended ++ bs)) = subst (λ (x : Document). AllByRecursion (IsEnded profile) x.ended) h.is new.ended in
@@ -265,7 +265,7 @@ touches_lines profile limit s c valid new shallow is h =
       reads = record {
         valid = record { ended = all_prefix (IsEnded profile) m.ended bs (all_back (IsEnded profile) es (m.ended ++ bs) all); last = last_valid h.closed (ltb whole.end (length (text s))) refl (subst (λ (x : Document). IsLine profile x.last) h.is new.last) };
         spelled = ap (λ x. slice_range x whole.start (whole.end + length c.new - (end - start))) k.is
-            ∙ middle k.before (text m) k.behind whole.start (whole.end + length c.new - (end - start)) k.start (omega (arith, was, now, size, k.end, k.start));
+            ∙ middle k.before (text m) k.after whole.start (whole.end + length c.new - (end - start)) k.start (omega (arith, was, now, size, k.end, k.start));
         shallow = omega (arith, depth_prefix limit m.ended bs (depth_back limit es (m.ended ++ bs) lines_deep), last_deep h.closed (ltb whole.end (length (text s))) refl (omega (arith, deep)));
       };
       closed = h.closed;

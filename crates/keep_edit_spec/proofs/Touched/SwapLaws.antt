@@ -83,10 +83,10 @@ swaps_framed total at e es last c some fills h s =
     let b : ℕ = at + width (ended_leaves e) in
     let n : length (text_of (ended_leaves e) ++ c.before) ≡ width (ended_leaves e) + length c.before = length-append (text_of (ended_leaves e)) c.before in
     let f : total ≡ b + length (page_text (record { ended = es; last = last })) = fill_rest total at e es last fills in
-    let w : length (page_text (record { ended = es; last = last })) ≡ length c.before + length (c.old ++ c.behind) = ap length h.was ∙ length-append c.before (c.old ++ c.behind) in
+    let w : length (page_text (record { ended = es; last = last })) ≡ length c.before + length (c.old ++ c.after) = ap length h.was ∙ length-append c.before (c.old ++ c.after) in
     swaps_at total at (e ∷ es) last _ (b + length c.before) (at + length (text_of (ended_leaves e) ++ c.before)) (b + length c.before + length c.old) (at + length (text_of (ended_leaves e) ++ c.before) + length c.old)
     (omega (arith, n)) (omega (arith, n))
-    (swaps_step total at e es last (b + length c.before) (b + length c.before + length c.old) c.to some (omega arith) (omega arith) (omega (arith, f, w, length-append c.old c.behind)) s)
+    (swaps_step total at e es last (b + length c.before) (b + length c.before + length c.old) c.to some (omega arith) (omega arith) (omega (arith, f, w, length-append c.old c.after)) s)
 
 -- ---- lines put in
 
@@ -188,8 +188,8 @@ leads_prefix total at (suc m) (e ∷ es) last h fills =
     let c : Changed Page = drop_prefix m es last in
     let end : ℕ = b + length c.old in
     let g : Leads total b es last end c.to = leads_prefix total b m es last h.1 (fill_rest total at e es last fills) in
-    let was : page_text (record { ended = es; last = last }) ≡ c.before ++ (c.old ++ c.behind) = (drop_prefix-is m es last).0.was in
-    let within : end ≤ total = omega (arith, fill_rest total at e es last fills, ap length was, length-append c.before (c.old ++ c.behind), length-append c.old c.behind) in
+    let was : page_text (record { ended = es; last = last }) ≡ c.before ++ (c.old ++ c.after) = (drop_prefix-is m es last).0.was in
+    let within : end ≤ total = omega (arith, fill_rest total at e es last fills, ap length was, length-append c.before (c.old ++ c.after), length-append c.old c.after) in
     let o : next_of end total at (e ∷ es) ≡ next_of end total b es = next_step end total at e es (omega (arith, h.0)) in
     let high : at < next_of end total b es = omega (arith, h.0, next_high end total b es within) in
     leads_at total at (e ∷ es) last _ end (at + length (text_of (ended_leaves e) ++ c.old)) (omega (arith, length-append (text_of (ended_leaves e)) c.old))
@@ -248,8 +248,8 @@ pub have_bytes : (es : List Ended) → HaveNewlines es → HaveBytes es
 have_bytes [] h = tt
 have_bytes (e ∷ es) h = (omega (arith, h.0, ended_width e), have_bytes es h.1)
 
-line_size : (l : Line) (c : Changed Line) → IsSolid l c → length (line_text l) ≡ length c.before + (length c.old + length c.behind)
-line_size l c h = ap length h.is.was ∙ length-append c.before (c.old ++ c.behind) ∙ ap (λ n. length c.before + n) (length-append c.old c.behind)
+line_size : (l : Line) (c : Changed Line) → IsSolid l c → length (line_text l) ≡ length c.before + (length c.old + length c.after)
+line_size l c h = ap length h.is.was ∙ length-append c.before (c.old ++ c.after) ∙ ap (λ n. length c.before + n) (length-append c.old c.after)
 
 -- the first of these lines is changed
 swaps_first : (total at : ℕ) (e : Ended) (es : List Ended) (last : Line) (c : Changed Line) → HaveNewlines (e ∷ es) → FillPage total at (e ∷ es) last → IsSolid e.line c
@@ -258,7 +258,7 @@ swaps_first total at e es last c h fills solid =
     let b : ℕ = at + width (ended_leaves e) in
     let start : ℕ = at + length c.before in
     let end : ℕ = start + length c.old in
-    let size : width (ended_leaves e) ≡ length c.before + (length c.old + length c.behind) + length e.newline.text = ended_width e ∙ ap (λ n. n + length e.newline.text) (line_size e.line c solid) in
+    let size : width (ended_leaves e) ≡ length c.before + (length c.old + length c.after) + length e.newline.text = ended_width e ∙ ap (λ n. n + length e.newline.text) (line_size e.line c solid) in
     let low : start < b = omega (arith, size, h.0) in
     let high : end ≤ b = omega (arith, size) in
     let past : at < end = omega (arith, solid.some) in

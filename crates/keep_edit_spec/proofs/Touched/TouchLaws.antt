@@ -94,10 +94,10 @@ has_equals name =
     let w : Written = record { leaf = leaf.Equals; text = 0x3D ∷ [] } in
     omega (
       arith,
-      ap length (text_of-append (key_leaves name.key) (name.before ++ (w ∷ name.behind))),
-      length-append (text_of (key_leaves name.key)) (text_of (name.before ++ (w ∷ name.behind))),
-      ap length (text_of-append name.before (w ∷ name.behind)),
-      length-append (text_of name.before) (text_of (w ∷ name.behind)),
+      ap length (text_of-append (key_leaves name.key) (name.before ++ (w ∷ name.after))),
+      length-append (text_of (key_leaves name.key)) (text_of (name.before ++ (w ∷ name.after))),
+      ap length (text_of-append name.before (w ∷ name.after)),
+      length-append (text_of name.before) (text_of (w ∷ name.after)),
     )
 
 -- the change of a content begins after its first byte, or takes a byte
@@ -154,12 +154,12 @@ some_rename : (profile : Profile) (new : Written) (n : ℕ) (k : Content) → Is
 some_rename profile new n blank h = tt
 some_rename profile new n (keyval name value) h =
     to_content _ (some_within (λ nm. keyval nm value) [] (text_of_value value) (rename_name new n name)
-    (some_within (λ k. record name { key = k }) [] (text_of name.before ++ (codes "=" ++ text_of name.behind)) (rename_part new n name.key)
+    (some_within (λ k. record name { key = k }) [] (text_of name.before ++ (codes "=" ++ text_of name.after)) (rename_part new n name.key)
     (some_part new n name.key (part_begins profile name.key.first [] h.0.key.first).0)))
-some_rename profile new n (header before k behind) h =
-    to_content _ (some_left (λ k. header before k behind) (codes "[" ++ text_of before) (text_of behind ++ codes "]") (rename_part new n k) (omega arith))
-some_rename profile new n (element before k behind) h =
-    to_content _ (some_left (λ k. element before k behind) (codes "[[" ++ text_of before) (text_of behind ++ codes "]]") (rename_part new n k) (omega arith))
+some_rename profile new n (header before k after) h =
+    to_content _ (some_left (λ k. header before k after) (codes "[" ++ text_of before) (text_of after ++ codes "]") (rename_part new n k) (omega arith))
+some_rename profile new n (element before k after) h =
+    to_content _ (some_left (λ k. element before k after) (codes "[[" ++ text_of before) (text_of after ++ codes "]]") (rename_part new n k) (omega arith))
 
 solid_renamed : (profile : Profile) (new : Written) (l : Line) → IsLine profile l → (o : Option ℕ)
     → EachIs line_text l (elim o [ None ↦ None | Some n ↦ within (λ c. record l { content = c }) (text_of l.before) (text_of l.after ++ text_of (comment_leaves l.comment)) (rename_content new n l.content) ])
@@ -186,7 +186,7 @@ cleared l c b = elim b [
     before = text_of l.before;
     old = content_text l.content ++ text_of l.after;
     new = [];
-    behind = c.text;
+    after = c.text;
   })
 ]
 

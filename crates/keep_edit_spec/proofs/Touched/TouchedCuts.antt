@@ -112,7 +112,7 @@ touched_cut profile s start end valid utf8 low order within =
     let p : ℕ = line_of start (begin s) s.ended in
     let o : ℕ = next_of end (length (text s)) (begin s) s.ended in
     let f : Prefixes (begin s) s.ended p = prefixes start (begin s) s.ended (have_bytes s.ended (have_newlines profile s.ended valid.ended)) low in
-    let starts : IsCharBoundary (text s) p = subst (λ n. IsCharBoundary (text s) n) (sym f.here) (start_cut profile s _ f.behind valid utf8 f.all) in
+    let starts : IsCharBoundary (text s) p = subst (λ n. IsCharBoundary (text s) n) (sym f.here) (start_cut profile s _ f.after valid utf8 f.all) in
     let ends : IsCharBoundary (text s) o = end_cut (next_start end (length (text s)) (begin s) s.ended) in
     record {
       ordered = omega (arith, line_most start (begin s) (begin s) s.ended low, order, next_high end (length (text s)) (begin s) s.ended within);
@@ -132,8 +132,8 @@ pub touched_in_new_cut : (profile : Profile) (s : Document) (e : Edit) (c : Chan
 touched_in_new_cut profile s e c valid utf8 made new =
     let is : IsChangeOf text s c = subst (EachIs text s) made (change-is s e) in
     let h : Touches s (place_of c).start (place_of c).end c.to = subst (EachTouches s) made (change_touches profile s e valid) in
-    let was : length (text s) ≡ length c.before + (length c.old + length c.behind) = ap length is.was ∙ length-append c.before (c.old ++ c.behind) ∙ ap (λ n. length c.before + n) (length-append c.old c.behind) in
-    let now : length (text c.to) ≡ length c.before + (length c.new + length c.behind) = ap length is.is ∙ length-append c.before (c.new ++ c.behind) ∙ ap (λ n. length c.before + n) (length-append c.new c.behind) in
+    let was : length (text s) ≡ length c.before + (length c.old + length c.after) = ap length is.was ∙ length-append c.before (c.old ++ c.after) ∙ ap (λ n. length c.before + n) (length-append c.old c.after) in
+    let now : length (text c.to) ≡ length c.before + (length c.new + length c.after) = ap length is.is ∙ length-append c.before (c.new ++ c.after) ∙ ap (λ n. length c.before + n) (length-append c.new c.after) in
     let within : (place_of c).end ≤ length (text s) = omega (arith, was) in
     let whole : Span = touched_by s (place_of c) in
     let cut : IsCut (text s) whole = touched_cut profile s (place_of c).start (place_of c).end valid utf8 h.low (omega arith) within in
@@ -142,9 +142,9 @@ touched_in_new_cut profile s e c valid utf8 made new =
     let end : ℕ = (touched_in_new s (place_of c)).end in
     let past : ℕ = whole.end - (length c.before + length c.old) in
     let prefix : take whole.start (text c.to) ≡ take whole.start (text s) =
-    ap (take whole.start) is.is ∙ take-append-le whole.start c.before (c.new ++ c.behind) low ∙ sym (ap (take whole.start) is.was ∙ take-append-le whole.start c.before (c.old ++ c.behind) low) in
+    ap (take whole.start) is.is ∙ take-append-le whole.start c.before (c.new ++ c.after) low ∙ sym (ap (take whole.start) is.was ∙ take-append-le whole.start c.before (c.old ++ c.after) low) in
     let back : drop end (text c.to) ≡ drop whole.end (text s) =
-    after (text c.to) c.before c.new c.behind end past is.is (omega (arith, high)) ∙ sym (after (text s) c.before c.old c.behind whole.end past is.was (omega (arith, high))) in
+    after (text c.to) c.before c.new c.after end past is.is (omega (arith, high)) ∙ sym (after (text s) c.before c.old c.after whole.end past is.was (omega (arith, high))) in
     let fits : end ≤ length (text c.to) = omega (arith, was, now, high, cut.within) in
     record {
       ordered = omega (arith, low, high);

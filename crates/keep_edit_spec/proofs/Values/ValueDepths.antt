@@ -101,8 +101,8 @@ in_keyval r q name v s =
 in_content : (r : Reading) (q : List Part) (c : Content) → SomeOf (IsAloneAt q) (content_mentions r c) → IsInKeyval r q c
 in_content r q blank s = absurd s
 in_content r q (keyval name v) s = let (more, e) = in_keyval r q name v s in record { name = name; value = v; more = more; content = refl; place = e }
-in_content r q (header before k behind) s = absurd (none_alone q (content_mentions r (header before k behind)) (mention_kinds-header r (keys_of k)) s)
-in_content r q (element before k behind) s = absurd (none_alone q (content_mentions r (element before k behind)) (mention_kinds-element r (keys_of k)) s)
+in_content r q (header before k after) s = absurd (none_alone q (content_mentions r (header before k after)) (mention_kinds-header r (keys_of k)) s)
+in_content r q (element before k after) s = absurd (none_alone q (content_mentions r (element before k after)) (mention_kinds-element r (keys_of k)) s)
 
 -- a value of lines is in a keyval among them
 record IsInLines (r : Reading) (q : List Part) (ls : List Line) : Type 0 where
@@ -126,7 +126,7 @@ in_lines r q (l ∷ ls) s =
 
 record IsDisjointFrom (p : List Part) (left right : List Mention) : Type 0 where
   before : AllOf (IsDisjoint p) left
-  behind : AllOf (IsDisjoint p) right
+  after : AllOf (IsDisjoint p) right
 
 keyval_disjoint : (pre post : List Line) (l : Line) (name : Name) (v : Value) → l.content ≡ keyval name v → Rules (lines_mentions start (pre ++ l ∷ post))
     → (let r : Reading = reading_after_lines start pre in IsDisjointFrom (own_path r name) (lines_mentions start pre) (lines_mentions r post))
@@ -142,7 +142,7 @@ keyval_disjoint pre post l name v e rules =
     let alone : SomeOf (IsAloneAt p) mid = keyval_alone r.body name v in
     record {
       before = from_closed p [] left (lines_closed p start pre ends) (λ u. never_root p ends u) (λ s. clash_before p left (mid ++ right) s (some_left (IsAloneAt p) mid right alone) all_rules);
-      behind = from_closed p r.body right (lines_closed p r post ends) (λ u. longer r.body _ _ u) (λ s. clash_after p mid right alone s outer.right);
+      after = from_closed p r.body right (lines_closed p r post ends) (λ u. longer r.body _ _ u) (λ s. clash_after p mid right alone s outer.right);
     }
 
 reading_after_lines-append : (r : Reading) (a b : List Line) → reading_after_lines r (a ++ b) ≡ reading_after_lines (reading_after_lines r a) b
@@ -200,7 +200,7 @@ prefix_open pre post l name v e rules q k qs prefix s =
         ap (λ (x : Reading). reading_after_lines x h.post) (sym (reading_of first h.line h.here.name h.here.value h.here.content)) ∙ sym (reading_after_lines-append start h.pre (h.line ∷ h.post)) ∙ ap (reading_after_lines start) (sym h.was) in
         let mine : SomeOf (IsAloneAt p) (lines_mentions first (h.post ++ l ∷ post)) =
         among_lines first h.post post l p (subst (λ (x : Reading). SomeOf (IsAloneAt p) (line_mentions x l)) (sym same) (own_alone r l name v e)) in
-        disjoint_alone o (h.here.more ++ k ∷ qs) p (lines_mentions first (h.post ++ l ∷ post)) (under o h.here.more h.here.place) disjoint.behind mine
+        disjoint_alone o (h.here.more ++ k ∷ qs) p (lines_mentions first (h.post ++ l ∷ post)) (under o h.here.more h.here.place) disjoint.after mine
 
     -- in a line after
     later : IsInLines r q post → ⊥
@@ -220,12 +220,12 @@ prefix_open pre post l name v e rules q k qs prefix s =
 content_deep : (profile : Profile) (pre post : List Line) (c : syntax.Count) (l : Line) (x : Content) → l.content ≡ x → IsContent profile x → Rules (lines_mentions start (pre ++ l ∷ post))
     → AllZip (IsDeep 0 (lines_mentions start (pre ++ l ∷ post))) (value_mentions (content_mentions (reading_after_lines start pre) x)) (content_values (line_start c l) x)
 content_deep profile pre post c l blank e is rules = tt
-content_deep profile pre post c l (header before k behind) e is rules =
+content_deep profile pre post c l (header before k after) e is rules =
     let r : Reading = reading_after_lines start pre in
-    subst (λ (ms : List Mention). AllZip (IsDeep 0 (lines_mentions start (pre ++ l ∷ post))) ms []) (sym (no_mentions (content_mentions r (header before k behind)) (mention_kinds-header r (keys_of k)))) tt
-content_deep profile pre post c l (element before k behind) e is rules =
+    subst (λ (ms : List Mention). AllZip (IsDeep 0 (lines_mentions start (pre ++ l ∷ post))) ms []) (sym (no_mentions (content_mentions r (header before k after)) (mention_kinds-header r (keys_of k)))) tt
+content_deep profile pre post c l (element before k after) e is rules =
     let r : Reading = reading_after_lines start pre in
-    subst (λ (ms : List Mention). AllZip (IsDeep 0 (lines_mentions start (pre ++ l ∷ post))) ms []) (sym (no_mentions (content_mentions r (element before k behind)) (mention_kinds-element r (keys_of k)))) tt
+    subst (λ (ms : List Mention). AllZip (IsDeep 0 (lines_mentions start (pre ++ l ∷ post))) ms []) (sym (no_mentions (content_mentions r (element before k after)) (mention_kinds-element r (keys_of k)))) tt
 content_deep profile pre post c l (keyval name v) e is rules =
     let p : Start = line_start c l in
     let r : Reading = reading_after_lines start pre in

@@ -49,10 +49,10 @@ use Rattle.keep_edit_spec.proofs.Common.ValueNumber.{number_of_value, fact_of_va
 
 -- ---- by number
 
-pub get_here : {A : Type 0} (prefix : List A) (x : A) (behind : List A) (n : ℕ) → n ≡ length prefix → slice_get (prefix ++ x ∷ behind) n ≡ Some x
-get_here [] x behind n e = ap (slice_get (x ∷ behind)) e
-get_here (y ∷ prefix) x behind zero e = absurd (omega arith)
-get_here (y ∷ prefix) x behind (suc n) e = get_here prefix x behind n (omega arith)
+pub get_here : {A : Type 0} (prefix : List A) (x : A) (after : List A) (n : ℕ) → n ≡ length prefix → slice_get (prefix ++ x ∷ after) n ≡ Some x
+get_here [] x after n e = ap (slice_get (x ∷ after)) e
+get_here (y ∷ prefix) x after zero e = absurd (omega arith)
+get_here (y ∷ prefix) x after (suc n) e = get_here prefix x after n (omega arith)
 
 pub zip_at : {A B : Type 0} (R : A → B → Type 0) (xs : List A) (ys : List B) (n : ℕ) (x : A) (y : B) → AllZip R xs ys → slice_get xs n ≡ Some x → slice_get ys n ≡ Some y → R x y
 zip_at R [] ys n x y all e f = absurd cc
@@ -116,7 +116,7 @@ found_at-by act ends path s rules c h [] e =
       number = valued h.earlier;
       is = number_of_value path s h.earlier h.mention h.later rules h.mentioned place h.tells;
       own = h.own;
-      here = ap (λ l. slice_get l (valued h.earlier)) h.here ∙ get_here h.prefix h.own h.behind (valued h.earlier) h.count;
+      here = ap (λ l. slice_get l (valued h.earlier)) h.here ∙ get_here h.prefix h.own h.after (valued h.earlier) h.count;
       start = omega (arith, h.start);
       end = h.end;
       kind = h.mention.kind;
@@ -162,7 +162,7 @@ record IsReplaced (new v : Value) (d : Changed Value) : Type 0 where
 
 replaced : (new v : Value) (d : Changed Value) → replacement new [] v ≡ Some d → IsReplaced new v d
 replaced new v d e =
-    let x : Changed Value = record { to = new; before = []; old = value_text v; new = value_text new; behind = [] } in
+    let x : Changed Value = record { to = new; before = []; old = value_text v; new = value_text new; after = [] } in
     let k : x ≡ d = some_is x d e in
     record { before = sym (ap (λ (c : Changed Value). c.before) k); old = sym (ap (λ (c : Changed Value). c.old) k); fresh = sym (ap (λ (c : Changed Value). c.new) k) }
   where
@@ -193,7 +193,7 @@ value_of_path profile path s valid obeys has =
     let cut : IsChangeOf text s c = change_of (nested own_text path s) s c e (nested-is own_text own_text-is path s) in
     let place : length c.before ≡ h.own.span.start = omega (arith, h.start, ap (λ (l : List ℕ). length l) d.before) in
     let long : h.own.span.end ≡ h.own.span.start + length c.old = omega (arith, h.end, ap (λ (l : List ℕ). length l) (h.old ∙ d.old)) in
-    let occurs : IsPart (text s) h.own.span.start c.old = record { prefix = c.before; behind = c.behind; place = place; whole = cut.was } in (
+    let occurs : IsPart (text s) h.own.span.start c.old = record { prefix = c.before; after = c.after; place = place; whole = cut.was } in (
       h.number,
       h.own,
       record {

@@ -16,7 +16,7 @@ impl Shift for PackedStatement {
             has_value: self.has_value,
             keys: self.keys,
             before: self.before,
-            behind: self.behind,
+            after: self.after,
             line_start: shifted_u32(self.line_start, old.at, new.at),
             end: shifted_u32(self.end, old.at, new.at),
             first_key: shifted_u32(self.first_key, old.keys, new.keys),

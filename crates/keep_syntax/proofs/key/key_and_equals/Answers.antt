@@ -18,5 +18,5 @@ returns-then-byte_at-ne61 c =
 
 pub returns : goal.returns
 returns c =
-    name_is c.args.profile c.args.text.now c.args.at c.in_ok-equals.equals c.in_ok-behind.behind (flat c.args.out.now) (flat c.key.new.out) (flat c.punctuation.new.out) (flat c.space.new.out) c.space.result
-    c.in_ok-equals.ensures (omega (arith, c.byte_at.ensures)) c.in_ok-behind.ensures c.space.ensures
+    name_is c.args.profile c.args.text.now c.args.at c.in_ok-equals.equals c.in_ok-after.after (flat c.args.out.now) (flat c.key.new.out) (flat c.punctuation.new.out) (flat c.space.new.out) c.space.result
+    c.in_ok-equals.ensures (omega (arith, c.byte_at.ensures)) c.in_ok-after.ensures c.space.ensures

@@ -23,6 +23,6 @@ returns-in_err-close c =
 
 pub returns : goal.returns
 returns c =
-    rw c.key_count-first_key.ensures (line_is c.args.limits.profile c.args.limits.depth c.args.text.now c.args.at c.in_ok-begin.begin c.in_ok-close.close c.in_ok-behind.behind c.in_ok-end-2.end (flat c.args.out.now) (flat c.space.new.out) (flat c.statement_head.new.out) (flat c.space-2.new.out) (flat c.comment-2.new.out)
+    rw c.key_count-first_key.ensures (line_is c.args.limits.profile c.args.limits.depth c.args.text.now c.args.at c.in_ok-begin.begin c.in_ok-close.close c.in_ok-after.after c.in_ok-end-2.end (flat c.args.out.now) (flat c.space.new.out) (flat c.statement_head.new.out) (flat c.space-2.new.out) (flat c.comment-2.new.out)
     (record { at = c.in_ok-begin.begin; values = c.value_count-values.result; parts = c.key_count-first_key.result; owner = owner.Line c.statement_count-number.result; depth = 0; comma = None }) c.in_ok-close.head
-    c.in_ok-begin.ensures (rw (c.value_count-values.ensures, c.key_count-first_key.ensures, c.statement_count-number.ensures) refl) c.in_ok-close.ensures c.in_ok-behind.ensures c.in_ok-end-2.ensures)
+    c.in_ok-begin.ensures (rw (c.value_count-values.ensures, c.key_count-first_key.ensures, c.statement_count-number.ensures) refl) c.in_ok-close.ensures c.in_ok-after.ensures c.in_ok-end-2.ensures)

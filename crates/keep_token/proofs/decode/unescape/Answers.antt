@@ -43,9 +43,9 @@ loop-value-preserved-in-Some c =
     let nested : at + n < length body = omega (arith, c.if-stop-body.false, c.range.ensures.len, ap length same) in
     let byte = stop_byte body at n len nested in
     let cut = cut_stop body at n len (omega (arith, nested)) in
-    let behind = take_rest c.as_bytes-bytes.result.now (at + n + 1) ∙ ap (drop (at + n + 1)) same in
+    let after = take_rest c.as_bytes-bytes.result.now (at + n + 1) ∙ ap (drop (at + n + 1)) same in
     let (q, found, size, given) = c.in-Some.ensures.escape in
-    let found' = ap (escape_at Wide) (sym behind) ∙ found in
+    let found' = ap (escape_at Wide) (sym after) ∙ found in
     let again : (ps : List Piece) → IsBodyOf body ps → Iteration ps body (string_bytes c.push.new.self) (at + n + c.in-Some.escape.len) = λ ps h.
     let left = after_run ps body _ _ _ at n (c.loop-value.invariant.left ps h) len c.range.ensures.value c.in_ok-push_str.ensures.bytes in
     iteration_escape ps body _ _ _ (at + n) c.in-Some.escape.len q left nested byte found' size given c.in_ok-push.ensures.bytes c.utf8.body cut
@@ -62,9 +62,9 @@ loop-value-preserved c =
     let nested : at + n < length body = omega (arith, c.if-stop-body.false, c.range.ensures.len, ap length same) in
     let byte = stop_byte body at n len nested in
     let cut = cut_stop body at n len (omega (arith, nested)) in
-    let behind = take_rest c.as_bytes-bytes.result.now (at + n + 1) ∙ ap (drop (at + n + 1)) same in
-    let none = ap (escape_at Wide) (sym behind) ∙ c.in_default.ensures.escape in
-    let found = ap (λ t. piece_len (line_end_at t)) (sym behind) ∙ sym c.in-Some-line_end_len.ensures.len in
+    let after = take_rest c.as_bytes-bytes.result.now (at + n + 1) ∙ ap (drop (at + n + 1)) same in
+    let none = ap (escape_at Wide) (sym after) ∙ c.in_default.ensures.escape in
+    let found = ap (λ t. piece_len (line_end_at t)) (sym after) ∙ sym c.in-Some-line_end_len.ensures.len in
     let again : (ps : List Piece) → IsBodyOf body ps → Iteration ps body (string_bytes c.push_str.new.self) (at + n + c.in-Some-line_end_len.len) = λ ps h.
     let left = after_run ps body _ _ _ at n (c.loop-value.invariant.left ps h) len c.range.ensures.value c.in_ok-push_str.ensures.bytes in
     iteration_line_end ps body _ (at + n) c.in-Some-line_end_len.len left nested byte none found c.utf8.body cut
@@ -80,8 +80,8 @@ unreachable-requires c =
     let len = c.plain_run.ensures.len ∙ ap (prefix_len is_plain) (take_rest c.as_bytes-bytes.result.now at ∙ ap (drop at) same) in
     let nested : at + n < length body = omega (arith, c.if-stop-body.false, c.range.ensures.len, ap length same) in
     let byte = stop_byte body at n len nested in
-    let behind = take_rest c.as_bytes-bytes.result.now (at + n + 1) ∙ ap (drop (at + n + 1)) same in
-    let none = ap (escape_at Wide) (sym behind) ∙ c.in_default.ensures.escape in
-    let missed = ap (λ t. piece_len (line_end_at t)) (sym behind) ∙ sym c.in_default-line_end_len.ensures.len in
+    let after = take_rest c.as_bytes-bytes.result.now (at + n + 1) ∙ ap (drop (at + n + 1)) same in
+    let none = ap (escape_at Wide) (sym after) ∙ c.in_default.ensures.escape in
+    let missed = ap (λ t. piece_len (line_end_at t)) (sym after) ∙ sym c.in_default-line_end_len.ensures.len in
     let left = after_run c.requires.0 body _ _ _ at n (c.loop-value.invariant.left c.requires.0 c.requires.1) len c.range.ensures.value c.in_ok-push_str.ensures.bytes in
     no_iteration c.requires.0 body _ (at + n) left nested byte none missed

@@ -32,9 +32,9 @@ returns-clause-len c =
     let w = c.ws_run-white.result in
     let n = c.newline_len-newline.result in
     let rest = take_rest t w in
-    let behind = take_rest t (w + n) in
-    found t w n c.blank_len.result c.ws_run-white.ensures.len (c.newline_len-newline.ensures.len ∙ ap newline_len rest) (c.blank_len.ensures.len ∙ ap blank_len behind) c.if-newline-eq0.false c.ws_run-white.ensures.within
-    (rw rest at c.newline_len-newline.ensures.within) (rw behind at c.blank_len.ensures.within)
+    let after = take_rest t (w + n) in
+    found t w n c.blank_len.result c.ws_run-white.ensures.len (c.newline_len-newline.ensures.len ∙ ap newline_len rest) (c.blank_len.ensures.len ∙ ap blank_len after) c.if-newline-eq0.false c.ws_run-white.ensures.within
+    (rw rest at c.newline_len-newline.ensures.within) (rw after at c.blank_len.ensures.within)
 
 pub returns-then-newline-eq0-clause-len : goal.returns-then-newline-eq0-clause-len
 returns-then-newline-eq0-clause-len c =

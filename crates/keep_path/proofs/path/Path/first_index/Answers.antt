@@ -23,18 +23,18 @@ range_from-requires c _ =
 pub returns-in_err-at-2-clause-none : goal.returns-in_err-at-2-clause-none
 returns-in_err-at-2-clause-none c _ path stated =
     let dot = byte_is c.args.text.now c.as_bytes.result.now c.loop-at.at c.byte_or_zero.result c.as_bytes.ensures.value c.byte_or_zero.ensures ∙ c.loop-at-test.true in
-    let behind : c.range_from.result.now ≡ drop (c.loop-at.at + 1) c.args.text.now = first_of (search rules, grind (arith, common_steps)) in
-    absurd (no_next_key c.args.text.now c.range_from.result.now c.loop-at.at dot behind (c.in_err-at-2.ensures.none refl) c.loop-at.invariant.so_far path stated)
+    let after : c.range_from.result.now ≡ drop (c.loop-at.at + 1) c.args.text.now = first_of (search rules, grind (arith, common_steps)) in
+    absurd (no_next_key c.args.text.now c.range_from.result.now c.loop-at.at dot after (c.in_err-at-2.ensures.none refl) c.loop-at.invariant.so_far path stated)
 
 pub loop-at-preserved : goal.loop-at-preserved
 loop-at-preserved c =
     let dot = byte_is c.args.text.now c.as_bytes.result.now c.loop-at.at c.byte_or_zero.result c.as_bytes.ensures.value c.byte_or_zero.ensures ∙ c.loop-at-test.true in
-    let behind : c.range_from.result.now ≡ drop (c.loop-at.at + 1) c.args.text.now = first_of (search rules, grind (arith, common_steps)) in
-    let cut : IsCharBoundary (drop (c.loop-at.at + 1) c.args.text.now) c.in_ok-at-2.field-0 = rw behind at c.in_ok-at-2.ensures.ends in
+    let after : c.range_from.result.now ≡ drop (c.loop-at.at + 1) c.args.text.now = first_of (search rules, grind (arith, common_steps)) in
+    let cut : IsCharBoundary (drop (c.loop-at.at + 1) c.args.text.now) c.in_ok-at-2.field-0 = rw after at c.in_ok-at-2.ensures.ends in
     let within = (dot_cut c.args.text.now c.loop-at.at c.utf8.text dot).0 in
     record {
       cut = rw (← add_assoc c.loop-at.at 1 c.in_ok-at-2.field-0) (IsCharBoundary-from_rest c.args.text.now (c.loop-at.at + 1) c.in_ok-at-2.field-0 within cut);
-      so_far = next_key_passed c.args.text.now c.range_from.result.now c.loop-at.at c.in_ok-at-2.field-0 dot behind c.in_ok-at-2.ensures.found c.loop-at.invariant.so_far;
+      so_far = next_key_passed c.args.text.now c.range_from.result.now c.loop-at.at c.in_ok-at-2.field-0 dot after c.in_ok-at-2.ensures.found c.loop-at.invariant.so_far;
     }
 
 pub returns-then-at-text-clause-found : goal.returns-then-at-text-clause-found

@@ -39,13 +39,13 @@ loop-at-init c =
 pub loop-at-preserved : goal.loop-at-preserved
 loop-at-preserved c =
     let pushed : map part_of c.push-in-loop-at.new.self.items ≡ map part_of c.loop-at.steps.items ++ part_of c.in-Some-2.step ∷ [] = first_of (search rules, grind (arith, common_steps)) in
-    let behind : c.range_from.result.now ≡ drop c.loop-at.at c.args.text.now = first_of (search rules, grind (arith, common_steps)) in
-    let cut : IsCharBoundary (drop c.loop-at.at c.args.text.now) c.in-Some-2.len = rw (behind, c.in-Some-2.is) at c.in_ok-step.ensures.ends in
+    let after : c.range_from.result.now ≡ drop c.loop-at.at c.args.text.now = first_of (search rules, grind (arith, common_steps)) in
+    let cut : IsCharBoundary (drop c.loop-at.at c.args.text.now) c.in-Some-2.len = rw (after, c.in-Some-2.is) at c.in_ok-step.ensures.ends in
     record {
       cut = IsCharBoundary-from_rest c.args.text.now c.loop-at.at c.in-Some-2.len c.loop-at.invariant.cut.0 cut;
       so_far = so_far_next_read c.args.text.now c.range_from.result.now (map part_of c.loop-at.steps.items) (map part_of c.push-in-loop-at.new.self.items)
-          c.loop-at.at c.in-Some-2.len (part_of c.in-Some-2.step) pushed behind c.loop-at.invariant.so_far (rw c.in-Some-2.is at c.in_ok-step.ensures.found);
-      on = path_on_next_read c.args.text.now c.range_from.result.now c.loop-at.at c.in-Some-2.len behind c.loop-at.invariant.on (rw c.in-Some-2.is at c.in_ok-step.ensures.on);
+          c.loop-at.at c.in-Some-2.len (part_of c.in-Some-2.step) pushed after c.loop-at.invariant.so_far (rw c.in-Some-2.is at c.in_ok-step.ensures.found);
+      on = path_on_next_read c.args.text.now c.range_from.result.now c.loop-at.at c.in-Some-2.len after c.loop-at.invariant.on (rw c.in-Some-2.is at c.in_ok-step.ensures.on);
     }
 
 pub returns-clause-one : goal.returns-clause-one
@@ -54,13 +54,13 @@ returns-clause-one c path stated =
 
 pub returns-in_default-2-clause-read : goal.returns-in_default-2-clause-read
 returns-in_default-2-clause-read c path stated =
-    let behind : c.range_from.result.now ≡ drop c.loop-at.at c.args.text.now = first_of (search rules, grind (arith, common_steps)) in
-    let none = subst NoSteps behind ((rw c.in_default-2.is at c.in_ok-step.ensures.none) refl) in
+    let after : c.range_from.result.now ≡ drop c.loop-at.at c.args.text.now = first_of (search rules, grind (arith, common_steps)) in
+    let none = subst NoSteps after ((rw c.in_default-2.is at c.in_ok-step.ensures.none) refl) in
     absurd (no_path c.args.text.now c.loop-at.at (stops_at c.args.text.now (map part_of c.loop-at.steps.items) c.loop-at.at c.loop-at-test.true c.loop-at.invariant.so_far c.loop-at.invariant.on none) path stated)
 
 pub returns-in_default-2-clause-place : goal.returns-in_default-2-clause-place
 returns-in_default-2-clause-place c n e =
-    let behind : c.range_from.result.now ≡ drop c.loop-at.at c.args.text.now = first_of (search rules, grind (arith, common_steps)) in
-    let none = subst NoSteps behind ((rw c.in_default-2.is at c.in_ok-step.ensures.none) refl) in
+    let after : c.range_from.result.now ≡ drop c.loop-at.at c.args.text.now = first_of (search rules, grind (arith, common_steps)) in
+    let none = subst NoSteps after ((rw c.in_default-2.is at c.in_ok-step.ensures.none) refl) in
     stops_here c.args.text.now c.loop-at.at n
     (stops_at c.args.text.now (map part_of c.loop-at.steps.items) c.loop-at.at c.loop-at-test.true c.loop-at.invariant.so_far c.loop-at.invariant.on none) e
