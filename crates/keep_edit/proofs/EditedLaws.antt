@@ -15,7 +15,7 @@ use Rattle.keep_path.specs.Path.{Part, EndsInKey, beside}
 use Rattle.keep_rules.specs.declared.index.NodeId.{NodeId}
 use Rattle.keep_rules.proofs.Shared.{number_is}
 use Rattle.keep_edit_plan.specs.Reading.{telling_in}
-use Rattle.keep_edit_plan.specs.declared.edited.Edited.{Edited}
+use Rattle.keep_edit_plan.specs.declared.text_edit.TextEdit.{TextEdit}
 use Rattle.keep_edit_plan.specs.declared.set.KindChange.{KindChange}
 use Rattle.keep_edit.specs.Reading.{ProfiledText, text_in, IsTextOfTree}
 use Rattle.keep_edit_plan.specs.Answers.{IsMadeAt, splice_of, text_after}
@@ -44,7 +44,7 @@ module _ (s : Document) (e : Edit) (old : ProfiledText) where
   abbrev is_computed : String Global → Type 0
   is_computed text = IsTextAfter s e (text_in old.profile (string_bytes text)) old
 
-  pub report_of : (made : Edited) (result : Result (String Global) EditFault) → EditMade s e old (Ok made) → MatchResult result (λ text. string_bytes text ≡ text_after old.text made) (λ f. f ≡ fault.Memory) → EditReported s e old result
+  pub report_of : (made : TextEdit) (result : Result (String Global) EditFault) → EditMade s e old (Ok made) → MatchResult result (λ text. string_bytes text ≡ text_after old.text made) (λ f. f ≡ fault.Memory) → EditReported s e old result
   report_of made (Ok text) h is =
       done_as (IsMade s e old) is_computed made text (refusal_in old s e) h (λ (k : IsMade s e old made). subst (λ (t : List ℕ). IsTextAfter s e (text_in old.profile t) old) (sym is) k.1)
   report_of made (Err f) h is = subst (λ (g : EditFault). EditReported s e old (Err g)) (sym is) (done_or_full (IsMade s e old) is_computed made (refusal_in old s e) h)
@@ -53,7 +53,7 @@ module _ (s : Document) (e : Edit) (old : ProfiledText) where
   untold_of f h = not_done (IsMade s e old) is_computed f (refusal_in old s e) h
 
   module _ (new : ProfiledText) where
-    pub done_of : (made : Edited) (splice : Splice) → new ≡ after old made → ((p : Place) → IsMadeAt p made → splice ≡ splice_of s p) → EditMade s e old (Ok made)
+    pub done_of : (made : TextEdit) (splice : Splice) → new ≡ after old made → ((p : Place) → IsMadeAt p made → splice ≡ splice_of s p) → EditMade s e old (Ok made)
         → EditDone s e old new (Ok splice)
     done_of made splice is there h =
         done_as (IsMade s e old) (IsEdited s e new old) made splice (refusal_in old s e) h
@@ -62,11 +62,11 @@ module _ (s : Document) (e : Edit) (old : ProfiledText) where
     pub undone_of : (f : EditFault) → EditMade s e old (Err f) → EditDone s e old new (Err f)
     undone_of f h = not_done (IsMade s e old) (IsEdited s e new old) f (refusal_in old s e) h
 
-    pub full_of : (made : Edited) → EditMade s e old (Ok made) → EditDone s e old new (Err fault.Memory)
+    pub full_of : (made : TextEdit) → EditMade s e old (Ok made) → EditDone s e old new (Err fault.Memory)
     full_of made h = done_or_full (IsMade s e old) (IsEdited s e new old) made (refusal_in old s e) h
 
 -- what an edit answers once the document of its text is moved in
-pub moved_done : (s : Document) (e : Edit) (old new : ProfiledText) (made : Edited) (result : Result Splice EditFault) → IsTextOfTree old s → EditMade s e old (Ok made) → IsMovedIn made old new result → EditDone s e old new result
+pub moved_done : (s : Document) (e : Edit) (old new : ProfiledText) (made : TextEdit) (result : Result Splice EditFault) → IsTextOfTree old s → EditMade s e old (Ok made) → IsMovedIn made old new result → EditDone s e old new result
 moved_done s e old new made (Ok splice) read h (there, is) = done_of s e old new made splice is (λ p m. there s p read m) h
 moved_done s e old new made (Err f) read h (full, preserved) = subst (λ (g : EditFault). EditDone s e old new (Err g)) (sym full) (full_of s e old new made h)
 
@@ -77,12 +77,12 @@ when_made : {T : Type 0} (good : T → Type 0) (r : Option EditFault) (x : T) �
 when_made good None x h = (refl, h)
 when_made good (Some f) x h = absurd cc
 
-change_of_made : (s : Document) (e : Edit) (old : ProfiledText) (made : Edited) (change : Option IndexChange) → IsTextOfTree old s → IsMade s e old made → IfSome change (IsIndexChange s (edited_document s e))
+change_of_made : (s : Document) (e : Edit) (old : ProfiledText) (made : TextEdit) (change : Option IndexChange) → IsTextOfTree old s → IsMade s e old made → IfSome change (IsIndexChange s (edited_document s e))
     → IfSome change (IsIndexChanged old made)
 change_of_made s e old made None read h is = tt
 change_of_made s e old made (Some k) read h is = record { from = s; to = edited_document s e; read = read; new = h.1.tree; is = is }
 
-pub index_changed : {seen_as old : ProfiledText} (s : Document) (e : Edit) (made : Edited) (change : Option IndexChange) → seen_as ≡ old → IsTextOfTree old s → EditMade s e old (Ok made)
+pub index_changed : {seen_as old : ProfiledText} (s : Document) (e : Edit) (made : TextEdit) (change : Option IndexChange) → seen_as ≡ old → IsTextOfTree old s → EditMade s e old (Ok made)
     → (IsTextOfTree seen_as s → refusal_in seen_as s e ≡ None → IfSome change (IsIndexChange s (edited_document s e))) → IfSome change (IsIndexChanged old made)
 index_changed {seen_as} {old} s e made change same read h is =
     let there : IsTextOfTree old s → refusal_in old s e ≡ None → IfSome change (IsIndexChange s (edited_document s e)) =
@@ -105,6 +105,6 @@ key_is s s' path text node h =
     }
 
 -- what was made for a document that is seen as this one
-pub made_of : {seen_as old : ProfiledText} (s : Document) (e : Edit) (result : Result Edited EditFault) → seen_as ≡ old → (IsTextOfTree seen_as s → EditMade s e seen_as result) → IsTextOfTree old s
+pub made_of : {seen_as old : ProfiledText} (s : Document) (e : Edit) (result : Result TextEdit EditFault) → seen_as ≡ old → (IsTextOfTree seen_as s → EditMade s e seen_as result) → IsTextOfTree old s
     → EditMade s e old result
 made_of s e result same h = subst (λ (d : ProfiledText). IsTextOfTree d s → EditMade s e d result) same h

@@ -14,7 +14,7 @@ use Rattle.keep_edit_spec.specs.declared.splice.Splice.{Splice}
 use Rattle.keep_edit_spec.specs.Changed.{Place}
 use Rattle.keep_edit_spec.specs.TouchedLines.{scanned}
 use Rattle.keep_edit_plan.specs.Answers.{IsMadeAt, splice_of, text_after}
-use Rattle.keep_edit_plan.specs.declared.edited.Edited.{Edited}
+use Rattle.keep_edit_plan.specs.declared.text_edit.TextEdit.{TextEdit}
 use Rattle.keep_edit.specs.Patches.{CanPutBack}
 use Rattle.keep_edit.specs.Places.{after}
 use Rattle.keep_edit.specs.Reading.{ProfiledText, text_in}
@@ -76,7 +76,7 @@ module _ (before new : List ℕ) (start end : ℕ) (ordered : start ≤ end) (wi
 
 -- ---- of an edit
 
-module _ (made : Edited) (before replaced_bytes : List ℕ) (text : String Global) (can : CanPutBack made before replaced_bytes text) where
+module _ (made : TextEdit) (before replaced_bytes : List ℕ) (text : String Global) (can : CanPutBack made before replaced_bytes text) where
   pub starts_there : IsCharBoundary (string_bytes text) made.place.start
   starts_there =
       subst (λ (x : List ℕ). IsCharBoundary x made.place.start) (sym can.put)
@@ -95,13 +95,13 @@ module _ (made : Edited) (before replaced_bytes : List ℕ) (text : String Globa
 -- ---- of a document
 
 -- by the bytes that the document's text is seen as
-pub patched_is : (old : ProfiledText) (made : Edited) (profile : Profile) (bytes new : List ℕ) → text_in profile bytes ≡ old → new ≡ text_after bytes made → text_in profile new ≡ after old made
+pub patched_is : (old : ProfiledText) (made : TextEdit) (profile : Profile) (bytes new : List ℕ) → text_in profile bytes ≡ old → new ≡ text_after bytes made → text_in profile new ≡ after old made
 patched_is old made profile bytes new same put = ap (λ (b : List ℕ). text_in profile b) put ∙ ap (λ (d : ProfiledText). after d made) same
 
 splice_with : Span → ℕ → ℕ → Splice
 splice_with place added n = record { start = place.start; end = place.end; added = added; scanned = n }
 
-pub splice_is : (s : Document) (p : Place) (made : Edited) (added n : ℕ) → IsMadeAt p made → added ≡ length (string_bytes made.new) → n ≡ scanned s p
+pub splice_is : (s : Document) (p : Place) (made : TextEdit) (added n : ℕ) → IsMadeAt p made → added ≡ length (string_bytes made.new) → n ≡ scanned s p
     → ◌≡◌ {A = Splice} (record { start = made.place.start; end = made.place.end; added = added; scanned = n }) (splice_of s p)
 unfolding splice_with
 splice_is s p made added n at size count =

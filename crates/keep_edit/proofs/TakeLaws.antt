@@ -22,7 +22,7 @@ use Rattle.keep_meaning.specs.Marks.{start, reading_after}
 use Rattle.keep_meaning.specs.Meaning.{mentions_in}
 use Rattle.keep_path.specs.NodeInfos.{NodeInfos}
 use Rattle.keep_edit_plan.specs.Answers.{IsMadeAt, text_after}
-use Rattle.keep_edit_plan.specs.declared.edited.Edited.{Edited}
+use Rattle.keep_edit_plan.specs.declared.text_edit.TextEdit.{TextEdit}
 use Rattle.keep_edit.specs.IndexChanges.{CanChange, changed_index}
 use Rattle.keep_edit.specs.declared.index_change.IndexChange.{IndexChange}
 use Rattle.keep_edit_plan.proofs.Shared.{one_tree, stated_is, text_seen, profile_seen}
@@ -32,7 +32,7 @@ use Rattle.keep_edit.specs.Places.{after, end_by, IsOfEdit, IsIndexChanged, IsPa
 use Rattle.keep_edit.specs.Reading.{limit, ProfiledText, Holds, IsSyntaxIn, IsTextOfTree, telling_in, text_in}
 use Rattle.keep_edit.proofs.ReadLaws.{read_once}
 
-module _ (old : ProfiledText) (made : Edited) (syntax : Syntax) (index : NodeInfos) (h : Holds old syntax index) (o : IsOfEdit old made) where
+module _ (old : ProfiledText) (made : TextEdit) (syntax : Syntax) (index : NodeInfos) (h : Holds old syntax index) (o : IsOfEdit old made) where
   pub is_syntax : (s : Document) → IsTextOfTree old s → IsSyntaxOf syntax s
   is_syntax s read = subst (λ (d : Document). IsSyntaxOf syntax d) (one_tree old h.tree s h.read read) h.is
 
@@ -170,7 +170,7 @@ module _ (old : ProfiledText) (made : Edited) (syntax : Syntax) (index : NodeInf
   change_can (Some k) c = subst (λ (t : NodeInfos). CanChange t k) (sym (stated_is old syntax index c.from h c.read)) c.is.can
 
 -- the lines that are cut out of the patched text
-pub scanned_as : (old : ProfiledText) (made : Edited) (syntax : Syntax) (index : NodeInfos) (profile : Profile) (bytes : List ℕ) (whole : Span) (lines : List ℕ)
+pub scanned_as : (old : ProfiledText) (made : TextEdit) (syntax : Syntax) (index : NodeInfos) (profile : Profile) (bytes : List ℕ) (whole : Span) (lines : List ℕ)
     → IsPatched old made syntax index (text_in profile bytes) → ((d : Document) → IsSyntaxOf syntax d → whole ≡ touched d made.place)
     → lines ≡ slice_range bytes whole.start (end_by whole made) → IsScanned old made syntax index whole (text_in profile lines)
 scanned_as old made syntax index profile bytes whole lines p are e = record {

@@ -12,30 +12,30 @@ use Rattle.keep_edit_spec.specs.Changed.{Place}
 use Rattle.keep_edit_spec.specs.TouchedLines as touched
 use Rattle.keep_path.specs.NodeInfos.{NodeInfos}
 use Rattle.keep_edit_plan.specs.Answers.{IsMadeAt, splice_of, text_after}
-use Rattle.keep_edit_plan.specs.declared.edited.Edited.{Edited}
+use Rattle.keep_edit_plan.specs.declared.text_edit.TextEdit.{TextEdit}
 use Rattle.keep_edit.specs.IndexChanges.{IsIndexChange}
 use Rattle.keep_edit.specs.declared.index_change.IndexChange.{IndexChange}
 use Rattle.keep_edit.specs.Reading.{ProfiledText, Holds, IsTextOfTree, text_in}
 pub use Rattle.keep_edit_plan.specs.Places.{IsOfEdit}
 
 -- the text after the edit, in the document's profile
-abbrev pub after : ProfiledText → Edited → ProfiledText
+abbrev pub after : ProfiledText → TextEdit → ProfiledText
 after old made = text_in old.profile (text_after old.text made)
 
 -- The edit was written into the text of a document, of which syntax and index are what they were.
-pub record IsPatched (old : ProfiledText) (made : Edited) (syntax : Syntax) (index : NodeInfos) (new : ProfiledText)
+pub record IsPatched (old : ProfiledText) (made : TextEdit) (syntax : Syntax) (index : NodeInfos) (new : ProfiledText)
     : Type 0 where
   pub holds : Holds old syntax index
   pub edit : IsOfEdit old made
   pub is : new ≡ after old made
 
 -- where the lines end that come in the place of a span of whole lines
-abbrev pub end_by : Span → Edited → ℕ
+abbrev pub end_by : Span → TextEdit → ℕ
 end_by whole made = whole.end - (made.place.end - made.place.start) + length (string_bytes made.new)
 
 -- All that is scanned of the text after an edit: `new` are the lines of it that replace `whole`, the lines that the
 -- edit touches in the document of which syntax and index are.
-pub record IsScanned (old : ProfiledText) (made : Edited) (syntax : Syntax) (index : NodeInfos) (whole : Span)
+pub record IsScanned (old : ProfiledText) (made : TextEdit) (syntax : Syntax) (index : NodeInfos) (whole : Span)
     (new : ProfiledText) : Type 0 where
   pub holds : Holds old syntax index
   pub edit : IsOfEdit old made
@@ -45,14 +45,14 @@ pub record IsScanned (old : ProfiledText) (made : Edited) (syntax : Syntax) (ind
 
 -- Syntax and index are those of the text after the edit, with so many bytes scanned; or memory ran out, and they still
 -- are those of the old text.
-abbrev pub IsTaken : ProfiledText → Edited → Syntax → NodeInfos → Result ℕ EditFault → Type 0
+abbrev pub IsTaken : ProfiledText → TextEdit → Syntax → NodeInfos → Result ℕ EditFault → Type 0
 IsTaken old made syntax index (Ok scanned) =
     Holds (after old made) syntax index
     × ((s : Document) (p : Place) → IsTextOfTree old s → IsMadeAt p made → scanned ≡ touched.scanned s p)
 IsTaken old made syntax index (Err f) = (f ≡ Memory) × Holds old syntax index
 
 -- All that the edit changes of the index is this.
-pub record IsIndexChanged (old : ProfiledText) (made : Edited) (change : IndexChange) : Type 0 where
+pub record IsIndexChanged (old : ProfiledText) (made : TextEdit) (change : IndexChange) : Type 0 where
   pub from : Document
   pub to : Document
   pub read : IsTextOfTree old from
@@ -60,7 +60,7 @@ pub record IsIndexChanged (old : ProfiledText) (made : Edited) (change : IndexCh
   pub is : IsIndexChange from to change
 
 -- The document has the text after the edit, and the splice is that of its place; or memory ran out and it is as before.
-abbrev pub IsMovedIn : Edited → ProfiledText → ProfiledText → Result Splice EditFault → Type 0
+abbrev pub IsMovedIn : TextEdit → ProfiledText → ProfiledText → Result Splice EditFault → Type 0
 IsMovedIn made old new (Ok splice) =
     ((s : Document) (p : Place) → IsTextOfTree old s → IsMadeAt p made → splice ≡ splice_of s p)
     × (new ≡ after old made)

@@ -22,7 +22,7 @@ use crate::document::Document;
 use crate::index_change::{IndexChange, change_index};
 use crate::lines::put_lines;
 use crate::patch::{put_back, put_in};
-use keep_edit_plan::{DocumentRef, Edited, Header};
+use keep_edit_plan::{DocumentRef, TextEdit, Header};
 use keep_edit_spec::{EditFault, Splice};
 use keep_rules::{Index, Path, ValueText};
 use keep_syntax::{ReadFault, Span, Syntax};
@@ -48,7 +48,7 @@ impl Document {
         ensures refused { OnErr result (self.new ≡ self.old) }
     {
         let alloc = *self.text.allocator();
-        let edited = self.as_ref().edited(alloc, path, value)?;
+        let edited = self.as_ref().set_edit(alloc, path, value)?;
         let change = match self.as_ref().kind_change(path, value) {
             Some(change) => Some(IndexChange::Kind(change)),
             None => None,
@@ -68,7 +68,7 @@ impl Document {
         ensures value { IsAcceptedValue Wide value.now }
     {
         let alloc = *self.text.allocator();
-        let edited = self.as_ref().edited(alloc, path, value)?;
+        let edited = self.as_ref().set_edit(alloc, path, value)?;
         self.text_after(alloc, &edited)
     }
 
@@ -93,7 +93,7 @@ impl Document {
         ensures refused { OnErr result (self.new ≡ self.old) }
     {
         let alloc = *self.text.allocator();
-        let inserted = self.as_ref().inserted(alloc, path, value)?;
+        let inserted = self.as_ref().insert_edit(alloc, path, value)?;
         self.replaced(inserted, None)
     }
 
@@ -109,7 +109,7 @@ impl Document {
         ensures value { IsAcceptedValue Wide value.now }
     {
         let alloc = *self.text.allocator();
-        let inserted = self.as_ref().inserted(alloc, path, value)?;
+        let inserted = self.as_ref().insert_edit(alloc, path, value)?;
         self.text_after(alloc, &inserted)
     }
 
@@ -129,7 +129,7 @@ impl Document {
         ensures refused { OnErr result (self.new ≡ self.old) }
     {
         let alloc = *self.text.allocator();
-        let renamed = self.as_ref().renamed(alloc, path, key)?;
+        let renamed = self.as_ref().rename_edit(alloc, path, key)?;
         let change = match self.as_ref().key_change(path) {
             Some(node) => Some(IndexChange::Key { node, key }),
             None => None,
@@ -148,7 +148,7 @@ impl Document {
         ensures accepted { IsAccepted self.now }
     {
         let alloc = *self.text.allocator();
-        let renamed = self.as_ref().renamed(alloc, path, key)?;
+        let renamed = self.as_ref().rename_edit(alloc, path, key)?;
         self.text_after(alloc, &renamed)
     }
 
@@ -169,7 +169,7 @@ impl Document {
         ensures refused { OnErr result (self.new ≡ self.old) }
     {
         let alloc = *self.text.allocator();
-        let removed = self.as_ref().removed(alloc, path)?;
+        let removed = self.as_ref().remove_edit(alloc, path)?;
         self.replaced(removed, None)
     }
 
@@ -184,7 +184,7 @@ impl Document {
         ensures accepted { IsAccepted self.now }
     {
         let alloc = *self.text.allocator();
-        let removed = self.as_ref().removed(alloc, path)?;
+        let removed = self.as_ref().remove_edit(alloc, path)?;
         self.text_after(alloc, &removed)
     }
 
@@ -203,7 +203,7 @@ impl Document {
         ensures refused { OnErr result (self.new ≡ self.old) }
     {
         let alloc = *self.text.allocator();
-        let appended = self.as_ref().appended(alloc, keys, Header::Table)?;
+        let appended = self.as_ref().append_edit(alloc, keys, Header::Table)?;
         self.replaced(appended, None)
     }
 
@@ -218,7 +218,7 @@ impl Document {
         ensures accepted { IsAccepted self.now }
     {
         let alloc = *self.text.allocator();
-        let header = self.as_ref().appended(alloc, keys, Header::Table)?;
+        let header = self.as_ref().append_edit(alloc, keys, Header::Table)?;
         self.text_after(alloc, &header)
     }
 
@@ -236,7 +236,7 @@ impl Document {
         ensures refused { OnErr result (self.new ≡ self.old) }
     {
         let alloc = *self.text.allocator();
-        let appended = self.as_ref().appended(alloc, keys, Header::Element)?;
+        let appended = self.as_ref().append_edit(alloc, keys, Header::Element)?;
         self.replaced(appended, None)
     }
 
@@ -251,12 +251,12 @@ impl Document {
         ensures accepted { IsAccepted self.now }
     {
         let alloc = *self.text.allocator();
-        let header = self.as_ref().appended(alloc, keys, Header::Element)?;
+        let header = self.as_ref().append_edit(alloc, keys, Header::Element)?;
         self.text_after(alloc, &header)
     }
 
     /// The text after an edit that was decided for the document. The only error is out of memory.
-    fn text_after(&self, alloc: Global, edited: &Edited) -> Result<String, EditFault>
+    fn text_after(&self, alloc: Global, edited: &TextEdit) -> Result<String, EditFault>
         requires { IsOfEdit self.now edited.now }
         ensures { MatchResult result (λ text. string_bytes text ≡ text_after self.now.text edited.now)
             (λ fault. fault ≡ law.Memory) }
@@ -272,7 +272,7 @@ impl Document {
     /// error is out of memory, and then the document is as before.
     pub(crate) fn replaced(
         &mut self,
-        edited: Edited,
+        edited: TextEdit,
         change: Option<IndexChange<'_>>,
     ) -> Result<Splice, EditFault>
         requires of { IsOfEdit self.old edited }
@@ -329,7 +329,7 @@ fn reread(
     profile: Profile,
     syntax: &mut Syntax,
     index: &mut Index,
-    edited: &Edited,
+    edited: &TextEdit,
     change: Option<IndexChange<'_>>,
 ) -> Result<usize, EditFault>
     requires { (old : ProfiledText) × IsPatched old edited.now syntax.old index.old (text_in profile text.now)

@@ -2,7 +2,7 @@
 //! the edit touches: nothing else of that text is handed over, so nothing else of it is scanned.
 ghost use Rattle.std.specs.Prelude.{IfOk, OnErr, OnOk};
 ghost use Rattle.keep_path.specs.NodeInfos.{NodeInfos};
-ghost use Rattle.keep_edit_plan.specs.declared.edited.Edited.{Edited};
+ghost use Rattle.keep_edit_plan.specs.declared.text_edit.TextEdit.{TextEdit};
 ghost use Rattle.keep_syntax.specs.Undoing.{IsSame, Undoes};
 ghost use Rattle.keep_edit.specs.Places.{IsScanned, after};
 ghost use Rattle.keep_edit.specs.Reading.{IsSyntaxIn, ProfiledText, text_in};
@@ -19,9 +19,9 @@ pub(crate) fn put_lines(
     lines: &str,
     profile: Profile,
 ) -> Result<Replaced, AllocError>
-    requires { (old : ProfiledText) × (made : Edited) × (index : NodeInfos)
+    requires { (old : ProfiledText) × (made : TextEdit) × (index : NodeInfos)
         × IsScanned old made syntax.old index whole (text_in profile lines.now) }
-    ensures renewed { (old : ProfiledText) (made : Edited) (index : NodeInfos)
+    ensures renewed { (old : ProfiledText) (made : TextEdit) (index : NodeInfos)
         → IsScanned old made syntax.old index whole (text_in profile lines.now)
         → OnOk result (IsSyntaxIn (after old made) syntax.new) }
     ensures undo { IfOk result (λ replaced. Undoes replaced syntax.old syntax.new) }

@@ -3,13 +3,13 @@ ghost use Rattle.std.specs.Prelude.{◌≡◌, ℕ, List, string_bytes};
 ghost use Rattle.keep_edit_plan.specs.Answers.{IsSpanOf};
 ghost use Rattle.keep_edit.specs.Patches.{CanPutBack, IsPutIn};
 
-use keep_edit_plan::{Edited, part_at};
+use keep_edit_plan::{TextEdit, part_at};
 use keep_syntax::Span;
 use std::alloc::AllocError;
 
 /// Writes what an edit writes, and returns the bytes that it replaces: `put_back` takes no memory. The only error is
 /// out of memory, and then the text is as before.
-pub(crate) fn put_in(text: &mut String, edited: &Edited) -> Result<String, AllocError>
+pub(crate) fn put_in(text: &mut String, edited: &TextEdit) -> Result<String, AllocError>
     requires { IsSpanOf (string_bytes text.old) edited.now.place }
     ensures { IsPutIn edited.now text.old text.new result }
 {
@@ -23,7 +23,7 @@ pub(crate) fn put_in(text: &mut String, edited: &Edited) -> Result<String, Alloc
 }
 
 /// Undoes `put_in`: writes the replaced bytes in the place of what the edit wrote. It takes no memory.
-pub(crate) fn put_back(text: &mut String, edited: &Edited, replaced_bytes: &str)
+pub(crate) fn put_back(text: &mut String, edited: &TextEdit, replaced_bytes: &str)
     requires { (before : List ℕ) × CanPutBack edited.now before replaced_bytes.now text.old }
     ensures { (before : List ℕ) → CanPutBack edited.now before replaced_bytes.now text.old
         → string_bytes text.new ≡ before }

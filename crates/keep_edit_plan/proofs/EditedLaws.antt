@@ -13,7 +13,7 @@ use Rattle.keep_edit_spec.specs.Laws.{IsEditable, IsLawfulEdit}
 use Rattle.keep_edit_plan.specs.Reading.{limit, ProfiledText, text_in, IsTextOfTree}
 use Rattle.keep_edit_plan.specs.Answers.{IsMade, IsMadeAt, IsSpanOf, IsTextAfter, IsDone, EditMade, text_after}
 use Rattle.keep_edit_plan.specs.Places.{place_at, IsDoneAt, IsOfEdit, IsPatchAt}
-use Rattle.keep_edit_plan.specs.declared.edited.Edited.{Edited}
+use Rattle.keep_edit_plan.specs.declared.text_edit.TextEdit.{TextEdit}
 
 -- a document that was read is one of which the laws speak
 pub editable : (d : ProfiledText) (s : Document) → IsTextOfTree d s → IsEditable d.profile limit s
@@ -48,21 +48,21 @@ module _ (d : ProfiledText) (s : Document) (e : Edit) (span : Span) (given : Lis
   pub full_made : EditMade s e d (Err fault.Memory)
   full_made = subst (λ (r : Option EditFault). IsDone (IsMade s e d) r (Err fault.Memory)) (sym at.0) refl
 
-  within_text : (made : Edited) → IsMadeAt (place_at span given) made → IsSpanOf d.text made.place
+  within_text : (made : TextEdit) → IsMadeAt (place_at span given) made → IsSpanOf d.text made.place
   within_text made there = subst (λ (x : Span). IsSpanOf d.text x) (sym there.0) at.2
 
-  after : (made : Edited) → IsMadeAt (place_at span given) made → IsTextAfter s e (text_in d.profile (text_after d.text made)) d
+  after : (made : TextEdit) → IsMadeAt (place_at span given) made → IsTextAfter s e (text_in d.profile (text_after d.text made)) d
   after made there =
       edited (text_after d.text made) (put_utf8 d.text made.place (string_bytes made.new) read.utf8 (within_text made there) (IsUtf8-string_bytes made.new))
       (ap₂ (λ (x : Span) (g : List ℕ). put d.text (place_at x g)) there.0 there.1)
 
-  pub patch_made : (result : Result Edited EditFault) → IsPatchAt span given result → EditMade s e d result
+  pub patch_made : (result : Result TextEdit EditFault) → IsPatchAt span given result → EditMade s e d result
   patch_made (Err f) h = subst (λ (g : EditFault). EditMade s e d (Err g)) (sym h) full_made
   patch_made (Ok made) there =
       subst (λ (r : Option EditFault). IsDone (IsMade s e d) r (Ok made)) (sym at.0)
       (subst (λ (p : Place). IsMadeAt p made) (sym at.1) there, after made there)
 
-  pub of_edit : (made : Edited) → IsMadeAt (place_at span given) made → IsOfEdit d made
+  pub of_edit : (made : TextEdit) → IsMadeAt (place_at span given) made → IsOfEdit d made
   of_edit made there = record {
     tree = s;
     edit = e;
@@ -74,6 +74,6 @@ module _ (d : ProfiledText) (s : Document) (e : Edit) (span : Span) (given : Lis
     within = within_text made there;
   }
 
-  pub patch_of_edit : (result : Result Edited EditFault) → IsPatchAt span given result → IfOk result (IsOfEdit d)
+  pub patch_of_edit : (result : Result TextEdit EditFault) → IsPatchAt span given result → IfOk result (IsOfEdit d)
   patch_of_edit (Err f) h = tt
   patch_of_edit (Ok made) there = of_edit made there

@@ -19,7 +19,7 @@ use Rattle.keep_edit_spec.specs.Refusals.{refusal, has_value}
 use Rattle.keep_edit_spec.specs.TouchedLines.{scanned}
 use Rattle.keep_edit_spec.specs.Trees.{IsTreeOf}
 use Rattle.keep_edit_plan.specs.Reading.{limit, ProfiledText, text_in, IsTextOfTree}
-use Rattle.keep_edit_plan.specs.declared.edited.Edited.{Edited}
+use Rattle.keep_edit_plan.specs.declared.text_edit.TextEdit.{TextEdit}
 
 -- ---- the value of a node
 
@@ -76,17 +76,17 @@ abbrev pub refusal_in : ProfiledText → Document → Edit → Option EditFault
 refusal_in old s e = refusal old.profile limit s e
 
 -- it is of this place
-abbrev pub IsMadeAt : Place → Edited → Type 0
+abbrev pub IsMadeAt : Place → TextEdit → Type 0
 IsMadeAt p made = (made.place ≡ span p.start p.end) × (string_bytes made.new ≡ p.new)
 
 -- the old text with the new bytes in place of those of the span
-abbrev pub text_after : List ℕ → Edited → List ℕ
+abbrev pub text_after : List ℕ → TextEdit → List ℕ
 text_after old made = put old (record { start = made.place.start; end = made.place.end; new = string_bytes made.new })
 
 -- It is of the edit's place, and the text with it is what it is after the edit.
-abbrev pub IsMade : Document → Edit → ProfiledText → Edited → Type 0
+abbrev pub IsMade : Document → Edit → ProfiledText → TextEdit → Type 0
 IsMade s e old made = IsMadeAt (place s e) made × IsTextAfter s e (text_in old.profile (text_after old.text made)) old
 
 -- the edit is decided
-abbrev pub EditMade : Document → Edit → ProfiledText → Result Edited EditFault → Type 0
+abbrev pub EditMade : Document → Edit → ProfiledText → Result TextEdit EditFault → Type 0
 EditMade s e old result = IsDone (IsMade s e old) (refusal_in old s e) result

@@ -8,7 +8,7 @@ use Rattle.keep_edit_spec.specs.Changed.{Changed, Place, place_of}
 use Rattle.keep_edit_spec.specs.Edits.{Edit, change, place}
 use Rattle.keep_edit_plan.specs.Reading.{ProfiledText, IsTextOfTree, text_in}
 use Rattle.keep_edit_plan.specs.Answers.{IsMadeAt, IsSpanOf, text_after, refusal_in}
-use Rattle.keep_edit_plan.specs.declared.edited.Edited.{Edited}
+use Rattle.keep_edit_plan.specs.declared.text_edit.TextEdit.{TextEdit}
 
 -- a span, with the bytes that take its place
 abbrev pub place_at : Span → List ℕ → Place
@@ -21,12 +21,12 @@ IsDoneAt s e old given (Ok span) =
 IsDoneAt s e old given (Err f) = refusal_in old s e ≡ Some f
 
 -- These bytes are to replace the span; or memory ran out.
-abbrev pub IsPatchAt : Span → List ℕ → Result Edited EditFault → Type 0
+abbrev pub IsPatchAt : Span → List ℕ → Result TextEdit EditFault → Type 0
 IsPatchAt span given (Ok made) = IsMadeAt (place_at span given) made
 IsPatchAt span given (Err f) = f ≡ Memory
 
 -- It was made by an edit that changes the document of the old text: the text with it is read as the new document.
-pub record IsOfEdit (old : ProfiledText) (made : Edited) : Type 0 where
+pub record IsOfEdit (old : ProfiledText) (made : TextEdit) : Type 0 where
   pub tree : Document
   pub edit : Edit
   pub changed : Changed Document

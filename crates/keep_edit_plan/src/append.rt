@@ -10,7 +10,7 @@ ghost use Rattle.keep_edit_plan.specs.Places.{IsOfEdit};
 ghost use Rattle.keep_edit_plan.specs.Reading.{IsAccepted, IsTextOfTree};
 
 use crate::document::DocumentRef;
-use crate::edited::Edited;
+use crate::text_edit::TextEdit;
 use crate::header::{Header, check_header};
 use keep_edit_spec::EditFault;
 use keep_syntax::Span;
@@ -23,12 +23,12 @@ impl<'a> DocumentRef<'a> {
     /// # Errors
     ///
     /// The refusal of the edit, whatever memory there is; else `Memory` if memory was refused.
-    pub fn appended(
+    pub fn append_edit(
         &self,
         alloc: Global,
         keys: &[String],
         header: Header,
-    ) -> Result<Edited, EditFault>
+    ) -> Result<TextEdit, EditFault>
         ensures made { (s : tree.Document) → IsTextOfTree self.now s
             → EditMade s (edit_of header (key_texts keys.now)) self.now result }
         ensures of_edit { IfOk result (IsOfEdit self.now) }
@@ -45,7 +45,7 @@ impl<'a> DocumentRef<'a> {
             return Err(EditFault::Memory);
         };
         let end = text.len();
-        Ok(Edited {
+        Ok(TextEdit {
             place: Span { start: end, end },
             new,
         })

@@ -22,7 +22,7 @@ mod keys;
 mod lines;
 
 use crate::document::DocumentRef;
-use crate::edited::Edited;
+use crate::text_edit::TextEdit;
 use crate::holder::Holder;
 use crate::insert::keys::push_keyed;
 use keep_edit_spec::EditFault;
@@ -60,12 +60,12 @@ impl<'a> DocumentRef<'a> {
     /// # Errors
     ///
     /// The refusal of the edit, whatever memory there is; else `Memory` if memory was refused.
-    pub fn inserted(
+    pub fn insert_edit(
         &self,
         alloc: Global,
         path: &Path,
         value: &ValueText,
-    ) -> Result<Edited, EditFault>
+    ) -> Result<TextEdit, EditFault>
         ensures made { (s : tree.Document) → IsTextOfTree self.now s → (v : tree.Value) → IsTextOfValue value.now v
             → EditMade s (insert path.now v) self.now result }
         ensures of_edit { IfOk result (IsOfEdit self.now) }
@@ -82,7 +82,7 @@ impl<'a> DocumentRef<'a> {
         let Ok(at) = self.push_insertion(alloc, &mut new, path, insertion, value) else {
             return Err(EditFault::Memory);
         };
-        Ok(Edited {
+        Ok(TextEdit {
             place: Span { start: at, end: at },
             new,
         })

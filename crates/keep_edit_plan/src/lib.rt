@@ -5,7 +5,7 @@
 
 mod append;
 mod document;
-mod edited;
+mod text_edit;
 mod header;
 mod holder;
 mod insert;
@@ -15,6 +15,6 @@ mod rename;
 mod set;
 
 pub use document::DocumentRef;
-pub use edited::{Edited, part_at};
+pub use text_edit::{TextEdit, part_at};
 pub use header::Header;
 pub use set::KindChange;

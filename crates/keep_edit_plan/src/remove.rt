@@ -16,7 +16,7 @@ ghost use Rattle.keep_edit_plan.specs.Reading.{IsAccepted, IsTextOfTree};
 ghost use Rattle.keep_edit_plan.specs.Removing.{cut_place, KeepsNothing, KeepsGap, IsEntryIn, IsCutAt, IsRemovalOf};
 
 use crate::document::DocumentRef;
-use crate::edited::{Edited, edited_at, part_at};
+use crate::text_edit::{TextEdit, text_edit_at, part_at};
 use keep_edit_spec::EditFault;
 use keep_rules::{Origin, Path};
 use keep_syntax::{Owner, Span, Statement, StatementKind, Syntax, ValueInfo};
@@ -44,7 +44,7 @@ impl<'a> DocumentRef<'a> {
     /// # Errors
     ///
     /// The refusal of the edit, whatever memory there is; else `Memory` if memory was refused.
-    pub fn removed(&self, alloc: Global, path: &Path) -> Result<Edited, EditFault>
+    pub fn remove_edit(&self, alloc: Global, path: &Path) -> Result<TextEdit, EditFault>
         ensures made { (s : tree.Document) → IsTextOfTree self.now s → EditMade s (remove path.now) self.now result }
         ensures of_edit { IfOk result (IsOfEdit self.now) }
         ensures of { IsAccepted self.now }
@@ -52,7 +52,7 @@ impl<'a> DocumentRef<'a> {
         let text = self.text;
         let piece = self.piece(path)?;
         let cut = self.cut(piece);
-        edited_at(alloc, cut.span, part_at(text, cut.preserved))
+        text_edit_at(alloc, cut.span, part_at(text, cut.preserved))
     }
 
     /// What goes with the node of a path, or why it can't be removed. It takes no memory.

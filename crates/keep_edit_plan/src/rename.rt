@@ -11,7 +11,7 @@ ghost use Rattle.keep_edit_plan.specs.Keys.{IsKeyChange};
 ghost use Rattle.keep_edit_plan.specs.Places.{IsDoneAt, IsOfEdit};
 
 use crate::document::DocumentRef;
-use crate::edited::Edited;
+use crate::text_edit::TextEdit;
 use keep_edit_spec::EditFault;
 use keep_rules::{NodeId, Path, Step};
 use keep_syntax::Span;
@@ -24,7 +24,7 @@ impl<'a> DocumentRef<'a> {
     /// # Errors
     ///
     /// The refusal of the edit, whatever memory there is; else `Memory` if memory was refused.
-    pub fn renamed(&self, alloc: Global, path: &Path, key: &str) -> Result<Edited, EditFault>
+    pub fn rename_edit(&self, alloc: Global, path: &Path, key: &str) -> Result<TextEdit, EditFault>
         ensures made { (s : tree.Document) → IsTextOfTree self.now s
             → EditMade s (rename path.now key.now) self.now result }
         ensures of_edit { IfOk result (IsOfEdit self.now) }
@@ -36,7 +36,7 @@ impl<'a> DocumentRef<'a> {
         let Ok(new) = encode_key(alloc, key) else {
             return Err(EditFault::Memory);
         };
-        Ok(Edited { place: span, new })
+        Ok(TextEdit { place: span, new })
     }
 
     /// The node whose path, and the paths below it, are all that a new last key of this path changes of the index. It

@@ -12,7 +12,7 @@ ghost use Rattle.keep_edit_plan.specs.Places.{IsOfEdit};
 ghost use Rattle.keep_edit_plan.specs.Reading.{IsAccepted, IsAcceptedValue, IsTextOfTree, IsTextOfValue};
 
 use crate::document::DocumentRef;
-use crate::edited::{Edited, edited_at};
+use crate::text_edit::{TextEdit, text_edit_at};
 use keep_edit_spec::EditFault;
 use keep_rules::{Kind, NodeId, Path, ValueText};
 use keep_syntax::STANDARD_DEPTH;
@@ -31,7 +31,7 @@ impl<'a> DocumentRef<'a> {
     /// # Errors
     ///
     /// The refusal of the edit, whatever memory there is; else `Memory` if memory was refused.
-    pub fn edited(&self, alloc: Global, path: &Path, value: &ValueText) -> Result<Edited, EditFault>
+    pub fn set_edit(&self, alloc: Global, path: &Path, value: &ValueText) -> Result<TextEdit, EditFault>
         ensures made { (s : tree.Document) → IsTextOfTree self.now s → (v : tree.Value) → IsTextOfValue value.now v
             → EditMade s (set path.now v) self.now result }
         ensures of_edit { IfOk result (IsOfEdit self.now) }
@@ -49,7 +49,7 @@ impl<'a> DocumentRef<'a> {
         if !value.is_allowed_in(self.profile) {
             return Err(EditFault::Profile);
         }
-        edited_at(alloc, found.span, new)
+        text_edit_at(alloc, found.span, new)
     }
 
     /// What a value in place of the one at a path changes of the index, if that is no more than a kind: the new one is

@@ -5,7 +5,7 @@ use Rattle.keep_edit_plan.specs.Headers.{edit_of, key_texts}
 use Rattle.keep_edit_plan.proofs.AnswerLaws.{text_seen, seen, index_of}
 use Rattle.keep_edit_plan.proofs.AppendDone.{refused_as, some_keys, done_there, law_of, end_span, given_text, given_as, patch_as}
 use Rattle.keep_edit_plan.proofs.EditedLaws.{refused_made, full_made, patch_made, of_edit}
-use Rattle.keep_edit_plan.proofs.document.DocumentRef.appended.Goals as goal
+use Rattle.keep_edit_plan.proofs.document.DocumentRef.append_edit.Goals as goal
 
 pub returns-in-Err-clause-made : goal.returns-in-Err-clause-made
 returns-in-Err-clause-made c = λ s read.

@@ -5,7 +5,7 @@ use Rattle.keep_edit_spec.specs.Edits.{remove}
 use Rattle.keep_edit_plan.proofs.AnswerLaws.{text_seen, seen}
 use Rattle.keep_edit_plan.proofs.EditedLaws.{refused_made, patch_made, patch_of_edit}
 use Rattle.keep_edit_plan.proofs.RemoveCut.{removal_law, removal_done}
-use Rattle.keep_edit_plan.proofs.document.DocumentRef.removed.Goals as goal
+use Rattle.keep_edit_plan.proofs.document.DocumentRef.remove_edit.Goals as goal
 
 pub returns-in_err-piece-clause-made : goal.returns-in_err-piece-clause-made
 returns-in_err-piece-clause-made c = λ s read.
@@ -27,15 +27,15 @@ pub returns-clause-made : goal.returns-clause-made
 returns-clause-made c = λ s read.
     let piece = c.in_ok-piece.ensures s read in
     let at = c.cut-cut.ensures c.args.path.now s read piece in
-    let is = rw (c.part_at.ensures, text_seen c.self.view_is) at c.edited_at.ensures in
+    let is = rw (c.part_at.ensures, text_seen c.self.view_is) at c.text_edit_at.ensures in
     patch_made c.args.self.now s (remove c.args.path.now) c.cut-cut.result.span (text_at c.args.self.now.text c.cut-cut.result.preserved) read
-    (removal_done c.args.self.now c.args.path.now s c.in_ok-piece.piece c.cut-cut.result piece at) (removal_law c.args.self.now c.args.path.now s read piece.0) c.edited_at.result is
+    (removal_done c.args.self.now c.args.path.now s c.in_ok-piece.piece c.cut-cut.result piece at) (removal_law c.args.self.now c.args.path.now s read piece.0) c.text_edit_at.result is
 
 pub returns-clause-of_edit : goal.returns-clause-of_edit
 returns-clause-of_edit c =
     let h = seen c.self.view_is c.self.invariant in
     let piece = c.in_ok-piece.ensures h.tree h.read in
     let at = c.cut-cut.ensures c.args.path.now h.tree h.read piece in
-    let is = rw (c.part_at.ensures, text_seen c.self.view_is) at c.edited_at.ensures in
+    let is = rw (c.part_at.ensures, text_seen c.self.view_is) at c.text_edit_at.ensures in
     patch_of_edit c.args.self.now h.tree (remove c.args.path.now) c.cut-cut.result.span (text_at c.args.self.now.text c.cut-cut.result.preserved) h.read
-    (removal_done c.args.self.now c.args.path.now h.tree c.in_ok-piece.piece c.cut-cut.result piece at) (removal_law c.args.self.now c.args.path.now h.tree h.read piece.0) c.edited_at.result is
+    (removal_done c.args.self.now c.args.path.now h.tree c.in_ok-piece.piece c.cut-cut.result piece at) (removal_law c.args.self.now c.args.path.now h.tree h.read piece.0) c.text_edit_at.result is

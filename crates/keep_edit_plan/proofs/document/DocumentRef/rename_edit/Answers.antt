@@ -5,7 +5,7 @@ use Rattle.keep_edit_spec.specs.Edits.{rename}
 use Rattle.keep_edit_plan.proofs.AnswerLaws.{seen}
 use Rattle.keep_edit_plan.proofs.EditedLaws.{refused_made, full_made, patch_made, of_edit}
 use Rattle.keep_edit_plan.proofs.RenameLaws.{law_of}
-use Rattle.keep_edit_plan.proofs.document.DocumentRef.renamed.Goals as goal
+use Rattle.keep_edit_plan.proofs.document.DocumentRef.rename_edit.Goals as goal
 
 pub returns-in_err-span-clause-made : goal.returns-in_err-span-clause-made
 returns-in_err-span-clause-made c = λ s read.

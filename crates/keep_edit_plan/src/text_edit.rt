@@ -10,14 +10,14 @@ use std::alloc::{AllocError, Global};
 
 /// What an edit writes into a text, and where: every other byte stays.
 #[derive(Drop)]
-pub struct Edited {
+pub struct TextEdit {
     /// The bytes of the old text that are replaced.
     pub place: Span,
     /// What replaces them.
     pub new: String,
 }
 
-impl Edited {
+impl TextEdit {
     /// The text after the edit, in one allocation. The only error is out of memory.
     pub fn text_after(&self, alloc: Global, old: &str) -> Result<String, AllocError>
         requires { IsSpanOf old.now self.now.place }
@@ -45,11 +45,11 @@ pub fn part_at(text: &str, span: Span) -> &str
 }
 
 /// That these bytes are to replace those of a span. The only error is out of memory.
-pub(crate) fn edited_at(alloc: Global, place: Span, new: &str) -> Result<Edited, EditFault>
+pub(crate) fn text_edit_at(alloc: Global, place: Span, new: &str) -> Result<TextEdit, EditFault>
     ensures { IsPatchAt place new.now result }
 {
     let Ok(new) = String::from_str(alloc, new) else {
         return Err(EditFault::Memory);
     };
-    Ok(Edited { place, new })
+    Ok(TextEdit { place, new })
 }

@@ -4,7 +4,7 @@ use Rattle.keep_edit_spec.specs.Edits.{insert}
 use Rattle.keep_edit_plan.proofs.AnswerLaws.{seen}
 use Rattle.keep_edit_plan.proofs.EditedLaws.{refused_made, patch_made, of_edit}
 use Rattle.keep_edit_plan.proofs.InsertedLaws.{insert_law, inserted_at}
-use Rattle.keep_edit_plan.proofs.document.DocumentRef.inserted.Goals as goal
+use Rattle.keep_edit_plan.proofs.document.DocumentRef.insert_edit.Goals as goal
 
 pub returns-in_err-insertion-clause-made : goal.returns-in_err-insertion-clause-made
 returns-in_err-insertion-clause-made c = λ s read v value.
