@@ -610,9 +610,6 @@ are_utf8 (word ∷ words) = (IsUtf8-string_bytes word, are_utf8 words)
 all_short : list_all is_short table ≡ true
 all_short = refl
 
-as_preserved : program_app ≡ preserved table
-as_preserved = refl
-
 keep_is_simple : is_simple_and_free program_app ≡ true
 unfolding clap_on_literals
 keep_is_simple = refl {a = true}

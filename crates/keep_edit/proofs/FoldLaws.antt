@@ -154,9 +154,3 @@ grown edits i n d x e u old new splice lt is given k le = by (refusal_in old u e
 pub nothing_made : (s : Document) (edits : List Edit) (d : ProfiledText) → true ≡ (length edits == 0) → IsTextOfTree d s → AreMade s edits d d
 nothing_made s [] d e h = none_made s d h
 nothing_made s (x ∷ xs) d e h = absurd (omega (arith, eqb-true (length (x ∷ xs)) 0 (sym e)))
-
-pub all_made : (s : Document) (edits : List Edit) (n : ℕ) (old new : ProfiledText) → length edits ≤ n → AreMade s (take n edits) old new → AreMade s edits old new
-all_made s edits n old new le h = subst (λ (x : List Edit). AreMade s x old new) (take_all n edits le) h
-
-pub all_grown : (edits : List Edit) (n m k : ℕ) → length edits ≤ n → k ≤ m + growth_of (take n edits) → k ≤ m + growth_of edits
-all_grown edits n m k le h = subst (λ (x : List Edit). k ≤ m + growth_of x) (take_all n edits le) h

@@ -22,7 +22,7 @@ use crate::document::Document;
 use crate::index_change::{IndexChange, change_index};
 use crate::lines::put_lines;
 use crate::patch::{put_back, put_in};
-use keep_edit_plan::{DocumentRef, TextEdit, Header};
+use keep_edit_plan::{DocumentRef, Header, TextEdit};
 use keep_edit_spec::{EditFault, Splice};
 use keep_rules::{Index, Path, ValueText};
 use keep_syntax::{ReadFault, Span, Syntax};

@@ -41,10 +41,6 @@ met : (profile : Profile) (s : Document) (header : Header) (d : ProfiledText) (k
 met profile s Table d k ks read = ap (option_map fault.Conflict) (table_met (mentions_in s) (lets_pass (mentions_in s) read.obeys) k ks)
 met profile s Element d k ks read = ap (option_map fault.Conflict) (element_met (mentions_in s) (lets_pass (mentions_in s) read.obeys) k ks)
 
--- without keys
-pub empty_refused : (profile : Profile) (s : Document) (header : Header) (keys : List (String Global)) → keys ≡ [] → refusal profile limit s (edit_of header (key_texts keys)) ≡ Some fault.NotKey
-empty_refused profile s header keys e = ap (λ (l : List (String Global)). refusal profile limit s (edit_of header (key_texts l))) e ∙ no_key profile s header
-
 -- with keys
 pub refused_as : (profile : Profile) (s : Document) (header : Header) (d : ProfiledText) (keys : List (String Global)) → (keys ≡ [] → ⊥) → IsTextOfTree d s
     → refusal profile limit s (edit_of header (key_texts keys)) ≡ option_map fault.Conflict (conflict_from s [] (key_texts keys) (role_of header))

@@ -9,6 +9,7 @@
 -- Theorems: `line_arm`, `entry_arm`, `section_arm`: the cut that each arm makes is the edit's; `removal_done` for the
 -- whole edit.
 use Rattle.std.proofs.Common.{◌≡◌, ℕ, zero, suc, ◌+◌, ◌<◌, ◌≤◌, true, false, List, [], ◌++◌, length, get_or, drop, slice_get, refl, sym, ap, subst, ◌∙◌, length-append, append_assoc, length-drop, get_or-drop, arith, Option, Some, None, Ok, inl, inr, drop_at}
+use Rattle.keep_types.proofs.Shared.{one_of_two}
 use Rattle.std.specs.Prelude.{IsUtf8, IsCharBoundary}
 use Rattle.std.specs.List.{prefix_len}
 use Rattle.std.proofs.lemmas.Bool.{cases_lt}
@@ -210,12 +211,6 @@ module _ (bytes : List ℕ) (utf8 : IsUtf8 bytes) (v : ValueInfo) (edged : IsEdg
 
 -- ---- what the code finds
 
-one_value : (o : Option ℕ) (a b : ℕ) → o ≡ Some a → o ≡ Some b → a ≡ b
-one_value o a b e f = let k : Some a ≡ Some b = sym e ∙ f in cc
-
-one_info : (o : Option ValueInfo) (a b : ValueInfo) → o ≡ Some a → o ≡ Some b → a ≡ b
-one_info o a b e f = let k : Some a ≡ Some b = sym e ∙ f in cc
-
 one_line : (a b : ℕ) → owner.Line a ≡ owner.Line b → a ≡ b
 one_line a b e = cc
 
@@ -254,7 +249,7 @@ module _ (d : ProfiledText) (syntax : Syntax) (index : NodeInfos) (path : List P
 
   own_is : (number : ℕ) (info own : ValueInfo) → value_number_of path s ≡ Some number → slice_get (values_of syntax) number ≡ Some info → IsValueAt path s own → own ≡ info
   own_is number info own found here h =
-      one_info (slice_get (numbered.values s) number) own info (ap (slice_get (numbered.values s)) (one_value (value_number_of path s) number h.number found h.is) ∙ h.here)
+      one_of_two (slice_get (numbered.values s) number) own info (ap (slice_get (numbered.values s)) (one_of_two (value_number_of path s) number h.number found h.is) ∙ h.here)
       (ap (λ (l : List ValueInfo). slice_get l number) (sym values_are) ∙ here)
 
   -- a keyval's line
@@ -276,16 +271,13 @@ module _ (d : ProfiledText) (syntax : Syntax) (index : NodeInfos) (path : List P
               within = slice_get_within (statements_of syntax) line p.statement occurs;
               ends = there.span.within;
               cut = λ st cut is at keeps.
-                  (let one : st ≡ p.statement = one_statement (slice_get (statements_of syntax) line) st p.statement is occurs in
+                  (let one : st ≡ p.statement = one_of_two (slice_get (statements_of syntax) line) st p.statement is occurs in
                   low_cut d.text path s read.reads.spelled c h.place h.cut cut
                   (at ∙ ap (λ (t : Statement). line_place d.text t info) one ∙ ap (line_place d.text p.statement) (sym same) ∙ ap (λ (b : List ℕ). line_place b p.statement p.own) read.reads.spelled ∙ p.place) keeps p.low);
             })
         | inr (inl p) ↦ absurd (not_nested p.own.owner line p.nested (ap (λ (i : ValueInfo). i.owner) (own_is number info p.own found here p.value) ∙ owned))
         | inr (inr p) ↦ absurd (no_header d path s number c read found p)
       ]
-    where
-      one_statement : (o : Option Statement) (a b : Statement) → o ≡ Some a → o ≡ Some b → a ≡ b
-      one_statement o a b e f = let k : Some a ≡ Some b = sym e ∙ f in cc
 
   -- an entry of brackets
   pub record IsEntryArm (info : ValueInfo) : Type 0 where
@@ -317,12 +309,12 @@ module _ (d : ProfiledText) (syntax : Syntax) (index : NodeInfos) (path : List P
 
   headed_is : (n m : ℕ) → IsHeaded path s n → (c : Changed Document) (p : IsSectionPlaced path s c) → p.number ≡ m → m ≡ n
   headed_is n m (inl (d, b)) c p e = elim p.headed [
-    | inl k ↦ sym e ∙ one_value _ p.number n k d
+    | inl k ↦ sym e ∙ one_of_two _ p.number n k d
     | inr k ↦ (let bad : Some p.number ≡ None = sym k ∙ b in absurd cc)
   ]
   headed_is n m (inr (b, d)) c p e = elim p.headed [
     | inl k ↦ (let bad : Some p.number ≡ None = sym k ∙ d in absurd cc)
-    | inr k ↦ sym e ∙ one_value _ p.number n k b
+    | inr k ↦ sym e ∙ one_of_two _ p.number n k b
   ]
 
   pub section_arm : (number : ℕ) → value_number_of path s ≡ None → IsHeaded path s number → IsSectionArm number

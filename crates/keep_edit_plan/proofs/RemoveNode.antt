@@ -404,10 +404,6 @@ module _ (profile : Profile) (path : List Part) (s : Document) (info : NodeInfo)
 
 -- ---- the root, and no node
 
-pub root_removal : (profile : Profile) (path : List Part) (s : Document) → is_root path ≡ true → IsRemovalOf profile path s (Err fault.NotKey)
-root_removal profile [] s e = refl
-root_removal profile (p ∷ ps) s e = absurd cc
-
 pub no_removal : (profile : Profile) (path : List Part) (s : Document) → is_node path (mentions_in s) ≡ false → IsRemovalOf profile path s (Err fault.NotFound)
 no_removal profile path s e = ap (λ (b : Bool). first_that_holds ((not b, fault.NotFound) ∷ (is_root path, fault.NotKey) ∷ (not (is_one_piece path (mentions_in s)), fault.Scattered) ∷ [])) e
 

@@ -10,8 +10,8 @@ ghost use Rattle.keep_edit_plan.specs.Places.{IsOfEdit};
 ghost use Rattle.keep_edit_plan.specs.Reading.{IsAccepted, IsTextOfTree};
 
 use crate::document::DocumentRef;
-use crate::text_edit::TextEdit;
 use crate::header::{Header, check_header};
+use crate::text_edit::TextEdit;
 use keep_edit_spec::EditFault;
 use keep_syntax::Span;
 use keep_token::encode_key;

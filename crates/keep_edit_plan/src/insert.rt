@@ -22,9 +22,9 @@ mod keys;
 mod lines;
 
 use crate::document::DocumentRef;
-use crate::text_edit::TextEdit;
 use crate::holder::Holder;
 use crate::insert::keys::push_keyed;
+use crate::text_edit::TextEdit;
 use keep_edit_spec::EditFault;
 use keep_rules::{Kind, NodeId, Origin, Path, Step, ValueText};
 use keep_syntax::{STANDARD_DEPTH, Span, Syntax};

@@ -5,7 +5,6 @@
 
 mod append;
 mod document;
-mod text_edit;
 mod header;
 mod holder;
 mod insert;
@@ -13,8 +12,9 @@ mod newline;
 mod remove;
 mod rename;
 mod set;
+mod text_edit;
 
 pub use document::DocumentRef;
-pub use text_edit::{TextEdit, part_at};
 pub use header::Header;
 pub use set::KindChange;
+pub use text_edit::{TextEdit, part_at};

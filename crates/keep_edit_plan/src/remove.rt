@@ -16,7 +16,7 @@ ghost use Rattle.keep_edit_plan.specs.Reading.{IsAccepted, IsTextOfTree};
 ghost use Rattle.keep_edit_plan.specs.Removing.{cut_place, KeepsNothing, KeepsGap, IsEntryIn, IsCutAt, IsRemovalOf};
 
 use crate::document::DocumentRef;
-use crate::text_edit::{TextEdit, text_edit_at, part_at};
+use crate::text_edit::{TextEdit, part_at, text_edit_at};
 use keep_edit_spec::EditFault;
 use keep_rules::{Origin, Path};
 use keep_syntax::{Owner, Span, Statement, StatementKind, Syntax, ValueInfo};

@@ -31,7 +31,12 @@ impl<'a> DocumentRef<'a> {
     /// # Errors
     ///
     /// The refusal of the edit, whatever memory there is; else `Memory` if memory was refused.
-    pub fn set_edit(&self, alloc: Global, path: &Path, value: &ValueText) -> Result<TextEdit, EditFault>
+    pub fn set_edit(
+        &self,
+        alloc: Global,
+        path: &Path,
+        value: &ValueText,
+    ) -> Result<TextEdit, EditFault>
         ensures made { (s : tree.Document) → IsTextOfTree self.now s → (v : tree.Value) → IsTextOfValue value.now v
             → EditMade s (set path.now v) self.now result }
         ensures of_edit { IfOk result (IsOfEdit self.now) }

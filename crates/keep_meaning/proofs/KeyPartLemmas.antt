@@ -101,19 +101,3 @@ pub keys_within : (parts : List KeyPart) (at first : ℕ) (k : Key) → IsPart p
 keys_within parts at first k among = omega (arith, part_ends parts first (key_parts at k) among, length-key_parts at k)
 
 -- ---- the keys of headers
-
-pub header_keys_mention : (bytes : List ℕ) (parts : List KeyPart) (at first : ℕ) (before : Gap) (k : Key) (after : Gap)
-    → Spelled bytes at (content_leaves (header before k after)) → IsPart parts first (content_parts at (header before k after)) → keys_in bytes parts first (key_count k) ≡ keys_of k
-header_keys_mention bytes parts at first before k after text among =
-    let end : List Written = after ++ token leaf.HeadClose (0x5D ∷ []) in
-    let a : Spelled bytes (at + 1) (before ++ (key_leaves k ++ end)) = spelled_right bytes at (token leaf.HeadOpen (0x5B ∷ [])) (before ++ (key_leaves k ++ end)) text in
-    let b : Spelled bytes (at + 1 + width before) (key_leaves k ++ end) = spelled_right bytes (at + 1) before (key_leaves k ++ end) a in
-    keys_mention bytes parts (at + 1 + width before) first k (spelled_left bytes (at + 1 + width before) (key_leaves k) end b) among
-
-pub element_keys_mention : (bytes : List ℕ) (parts : List KeyPart) (at first : ℕ) (before : Gap) (k : Key) (after : Gap)
-    → Spelled bytes at (content_leaves (element before k after)) → IsPart parts first (content_parts at (element before k after)) → keys_in bytes parts first (key_count k) ≡ keys_of k
-element_keys_mention bytes parts at first before k after text among =
-    let end : List Written = after ++ token leaf.ElemClose (0x5D ∷ 0x5D ∷ []) in
-    let a : Spelled bytes (at + 2) (before ++ (key_leaves k ++ end)) = spelled_right bytes at (token leaf.ElemOpen (0x5B ∷ 0x5B ∷ [])) (before ++ (key_leaves k ++ end)) text in
-    let b : Spelled bytes (at + 2 + width before) (key_leaves k ++ end) = spelled_right bytes (at + 2) before (key_leaves k ++ end) a in
-    keys_mention bytes parts (at + 2 + width before) first k (spelled_left bytes (at + 2 + width before) (key_leaves k) end b) among

@@ -138,21 +138,6 @@ valued-content r p (element before k after) =
       valued-way r.tables [] (keys_of k),
     )
 
-valued-lines : (r : Reading) (c : syntax.Count) (es : List Ended) (last : Line) → valued (lines_mentions r (map line_of es ++ last ∷ [])) ≡ length (over_lines (λ c l line_end. line_values c l) c es last)
-valued-lines r c [] last = omega (arith, valued-append (line_mentions r last) [], valued-content r (line_start c last) last.content)
-valued-lines r c (e ∷ es) last =
-    omega (
-      arith,
-      valued-append (line_mentions r e.line) (lines_mentions (after_line r e.line) (map line_of es ++ last ∷ [])),
-      valued-content r (line_start c e.line) e.line.content,
-      length-append (line_values c e.line) (over_lines (λ c l line_end. line_values c l) (next_line c e) es last),
-      valued-lines (after_line r e.line) (next_line c e) es last,
-    )
-
--- a document tells as many values as keep_syntax numbers
-pub valued-values : (s : Document) → valued (mentions_in s) ≡ length (syntax.values s)
-valued-values s = valued-lines start (first_line s) s.ended s.last
-
 -- ---- and as many statements
 
 stated-line : (c : syntax.Count) (l : Line) (line_end : ℕ) (x : Content) (ss : List Statement) (n : ℕ) → length ss ≡ n

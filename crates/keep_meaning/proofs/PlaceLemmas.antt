@@ -170,14 +170,3 @@ there : (parts : List KeyPart) (n : ℕ) → n < length parts → slice_get part
 there [] n lt e = absurd (omega arith)
 there (p ∷ ps) zero lt e = absurd cc
 there (p ∷ ps) (suc n) lt e = there ps n (omega arith) e
-
-place_stated : (ms : List Mark) (parts : List KeyPart) (o : Option Fault) → length ms ≡ length parts → Tells ms o → TellsPlace ms parts (fault_at parts o)
-place_stated ms parts None many h = h
-place_stated ms parts (Some f) many h = stated ms parts f (slice_get parts f.number) h refl (there parts f.number (omega (arith, short ms f.number f.why h, many)))
-
--- None exactly where the rules hold, else the place and reason of the first faulty mark
-pub fault_in-tells : (s : Document) → TellsPlace (marks (mentions_in s)) (syntax.parts s) (fault_in s)
-fault_in-tells s = place_stated (marks (mentions_in s)) (syntax.parts s) (first_fault (marks (mentions_in s))) (marked-parts s) (first_fault-tells (marks (mentions_in s)))
-
-pub fault_in_value-tells : (v : Value) → TellsPlace (marks (mentions_of_value v)) (parts_in v) (fault_in_value v)
-fault_in_value-tells v = place_stated (marks (mentions_of_value v)) (parts_in v) (first_fault (marks (mentions_of_value v))) (marked-parts_in v) (first_fault-tells (marks (mentions_of_value v)))

@@ -167,8 +167,3 @@ entries_nested p (entry name body nested after comma rest) h =
     let i : Start = nested_of p (value_start p.at name) (name_count name) body in
     let r : Start = rest_of p name body nested after comma in
     (h, all-append (entries_values i nested) (entries_values r rest) (entries_nested i nested (body_nested body p.values)) (entries_nested r rest h))
-
--- The values in a value are in arrays and inline tables.
-pub owned_nested : (p : Start) (at keys : ℕ) (v : Value) → All (λ (i : ValueInfo). IsNested i.owner) (entries_values (nested_of p at keys v.body) v.nested)
-owned_nested p at keys v =
-    All-from_recursion (λ (i : ValueInfo). IsNested i.owner) (entries_values (nested_of p at keys v.body) v.nested) (entries_nested (nested_of p at keys v.body) v.nested (body_nested v.body p.values))

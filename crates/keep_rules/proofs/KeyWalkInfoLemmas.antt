@@ -123,9 +123,6 @@ both_on (Err e) P Q R f p q = p
 
 -- ---- one operation after another
 
-pub adds_none : (nodes : List Node) (c : Count) → AddsMentions nodes nodes c []
-adds_none nodes c = refl
-
 pub adds_then : (old mid new : List Node) (c : Count) (ms ns : List Mention) → AddsMentions old mid c ms → AddsMentions mid new (count_after c ms) ns → AddsMentions old new c (ms ++ ns)
 adds_then old mid new c ms ns one two =
     two ∙ ap (λ t. with_mentions t (numbered_mentions (count_after c ms) ns)) one
@@ -281,34 +278,3 @@ keyed_added old mid new from at id ks x first number k holds gone leading marked
     (sym (keyed_mentions_are (path_of_value s o) ks x f ∙ ap (λ p. dotted_mentions p ks ++ record { path = (p ++ map key ks) ++ key x ∷ []; kind = value f } ∷ []) (sym here))) all
 
 -- ---- headers give no values
-
-abbrev pub GivesNone : List Mention → Type 0
-GivesNone [] = Unit {0}
-GivesNone (m ∷ ms) = (is_value m.kind ≡ false) × GivesNone ms
-
-gives_none-append : (ms ns : List Mention) → GivesNone ms → GivesNone ns → GivesNone (ms ++ ns)
-gives_none-append [] ns f g = g
-gives_none-append (m ∷ ms) ns f g = (f.0, gives_none-append ms ns f.1 g)
-
-none_new : (ms : List Mention) (paths : List (List Part)) (c : Count) → GivesNone ms → ValuesAreNew paths (numbered_mentions c ms)
-none_new [] paths c h = tt
-none_new (m ∷ ms) paths c h = (λ t. absurd (let no : true ≡ false = sym t ∙ h.0 in cc), none_new ms _ (count_with_mention c m) h.1)
-
-passing_gives : (tables : List (List Part)) (p : List Part) → GivesNone (passing_mentions tables p)
-passing_gives tables p =
-    elim (0 == elements_of p tables) as (λ b. GivesNone (cond b (record { path = p; kind = through } ∷ []) (record { path = p; kind = past } ∷ record { path = entered_path tables p; kind = passed } ∷ []))) [
-      | true ↦ (refl, tt)
-      | false ↦ (refl, (refl, tt))
-    ]
-
-header_gives : (tables : List (List Part)) (at : List Part) (keys : List (List ℕ)) → GivesNone (marks.header_way tables at keys)
-header_gives tables at [] = tt
-header_gives tables at (k ∷ []) = tt
-header_gives tables at (k ∷ l ∷ ks) =
-    gives_none-append (passing_mentions tables (at ++ key k ∷ [])) _ (passing_gives tables (at ++ key k ∷ [])) (header_gives tables (entered_path tables (at ++ key k ∷ [])) (l ∷ ks))
-
-pub header_new : (paths : List (List Part)) (c : Count) (r : marks.Reading) (keys : List (List ℕ)) → ValuesAreNew paths (numbered_mentions c (statement_mentions r (header keys)))
-header_new paths c r keys = none_new (statement_mentions r (header keys)) paths c (gives_none-append (marks.header_way r.tables [] keys) _ (header_gives r.tables [] keys) (refl, tt))
-
-pub element_new : (paths : List (List Part)) (c : Count) (r : marks.Reading) (keys : List (List ℕ)) → ValuesAreNew paths (numbered_mentions c (statement_mentions r (element_header keys)))
-element_new paths c r keys = none_new (statement_mentions r (element_header keys)) paths c (gives_none-append (marks.header_way r.tables [] keys) _ (header_gives r.tables [] keys) (refl, (refl, tt)))

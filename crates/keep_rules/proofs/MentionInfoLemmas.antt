@@ -25,14 +25,6 @@ pub values_new-append : (paths : List (List Part)) (xs ys : List Numbered) → V
 values_new-append paths [] ys h g = g
 values_new-append paths (x ∷ xs) ys h g = (h.0, values_new-append (paths_with paths x.mention.path) xs ys h.1 g)
 
-pub values_new-first : (paths : List (List Part)) (xs ys : List Numbered) → ValuesAreNew paths (xs ++ ys) → ValuesAreNew paths xs
-values_new-first paths [] ys h = tt
-values_new-first paths (x ∷ xs) ys h = (h.0, values_new-first (paths_with paths x.mention.path) xs ys h.1)
-
-pub values_new-rest : (paths : List (List Part)) (xs ys : List Numbered) → ValuesAreNew paths (xs ++ ys) → ValuesAreNew (paths_after paths xs) ys
-values_new-rest paths [] ys h = h
-values_new-rest paths (x ∷ xs) ys h = values_new-rest (paths_with paths x.mention.path) xs ys h.1
-
 -- ---- the facts from one mention
 
 module _ (n : Numbered) where

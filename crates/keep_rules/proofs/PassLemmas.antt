@@ -195,10 +195,6 @@ none_empty nodes path child h here empty = λ ts are begun.
       | inr f ↦ none_plain nodes path child h here f ts are begun
     ]
 
--- a key that fits its role
-pub fits_through : (h : Holding) → h ≡ by_key → Fits Through h
-fits_through h e = record { listed = λ t. absurd cc; opened = λ t. e }
-
 pub fits_dotted : (h : Holding) → h ≡ by_key → Fits Dotted h
 fits_dotted h e = record { listed = λ t. absurd cc; opened = λ t. e }
 

@@ -81,17 +81,6 @@ keyval_reads old new body name v keeps represents ms r reading = record {
   is_open = stays_open keeps reading.is_open;
 }
 
--- a fault in one of them
-pub nested_faults : (s : NestingState) (ts : List NestedValue) (i : ℕ) (t : NestedValue) (ms : List Mention) (n : ℕ) (why : Why) → i < length ts → t ≡ get_or ts i t
-    → FaultIn (ms ++ all_nested_mentions s (take i ts)) (nested_mentions (nesting_after s (take i ts)) t) n why → FaultIn ms (all_nested_mentions s ts) (length (marks.marks (all_nested_mentions s (take i ts))) + n) why
-nested_faults s ts i t ms n why h is f =
-    let before : List NestedValue = take i ts in
-    let rest : List NestedValue = drop (i + 1) ts in
-    let split : ts ≡ before ++ t ∷ rest = sym (take-append-drop i ts) ∙ ap (λ r. before ++ r) (drop_more ts i t h) ∙ ap (λ x. before ++ x ∷ rest) (sym is) in
-    let mentioned : all_nested_mentions s ts ≡ all_nested_mentions s before ++ (nested_mentions (nesting_after s before) t ++ all_nested_mentions (next_nesting (nesting_after s before) t) rest) = ap (all_nested_mentions s) split ∙ all_nested_mentions-append s before (t ∷ rest) in
-    subst (λ (w : List Mention). FaultIn ms w (length (marks.marks (all_nested_mentions s before)) + n) why) (sym mentioned)
-    (fault_within ms (all_nested_mentions s before) (nested_mentions (nesting_after s before) t) (all_nested_mentions (next_nesting (nesting_after s before) t) rest) n why f)
-
 -- ---- statement after statement
 
 pub mentions_from-append : (r : Reading) (ss ts : List Statement) → mentions_from r (ss ++ ts) ≡ mentions_from r ss ++ mentions_from (reading_after r ss) ts
@@ -114,20 +103,8 @@ read_more old new body to ss s before reads =
     let one : IsReading new to (mentions_from start (ss ++ s ∷ [])) (next_reading r s) = subst (λ (w : List Mention). IsReading new to w (next_reading r s)) mentioned step in
     subst (λ (x : Reading). IsReading new to (mentions_from start (ss ++ s ∷ [])) x) (sym (reading_after-push start ss s)) one
 
--- the nodes are those of the document, and its marks obey the rules
-pub read_nodes : (nodes : List TrieNode) (body : ℕ) (ss : List Statement) → IsReadTo nodes body ss → paths_of nodes ≡ node_paths (mentions ss)
-read_nodes nodes body ss reading = reading.represents.index.states_represent.paths_are
-
 pub read_obeys : (nodes : List TrieNode) (body : ℕ) (ss : List Statement) → IsReadTo nodes body ss → ObeysRules (marks.marks (mentions ss))
 read_obeys nodes body ss reading = reading.represents.index.states_represent.obeys
-
--- the fault of a statement is the first of the document
-pub read_breaks : (old : List TrieNode) (body : ℕ) (ss : List Statement) (s : Statement) (rest : List Statement) (number : ℕ) (why : Why) → IsReadTo old body ss → FaultsIn old body s number why
-    → IsFirstFaulty (marks.marks (mentions (ss ++ s ∷ rest))) (length (marks.marks (mentions ss)) + number) why
-read_breaks old body ss s rest number why before faults =
-    let r : Reading = reading_after start ss in
-    let first = fault_is_first (mentions_from start ss) (statement_mentions r s) (mentions_from (next_reading r s) rest) number why (faults (mentions_from start ss) r before) in
-    subst (λ (w : List Mention). IsFirstFaulty (marks.marks w) (length (marks.marks (mentions ss)) + number) why) (sym (mentions_from-append start ss (s ∷ rest))) first
 
 -- ---- before any statement
 

@@ -47,9 +47,6 @@ ReadOf profile bytes syntax = (v : Value) × ReadsValue profile limit bytes v ×
 pub was_read : {profile : Profile} {bytes : List ℕ} {syntax : ValueSyntax} {v : Value} → ReadsValue profile limit bytes v → IsValueSyntaxOf syntax v → WasReadAlone bytes syntax v
 was_read {profile} reads is = record { profile = profile; limit = limit; reads = reads; is = is }
 
-pub was_read_alone : {profile : Profile} {bytes : List ℕ} {syntax : ValueSyntax} → ReadOf profile bytes syntax → (v : Value) × WasReadAlone bytes syntax v
-was_read_alone (v, reads, is) = (v, was_read reads is)
-
 -- ---- what is read
 
 -- what is stored of the value itself

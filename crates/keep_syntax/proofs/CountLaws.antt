@@ -218,9 +218,6 @@ leaves_count profile limit bytes s h =
       length-append (text_of (inner_leaves s)) (text_of end),
     )
 
-pub value_leaves_count : (profile : Profile) (limit : ℕ) (bytes : List ℕ) (v : Value) → ReadsValue profile limit bytes v → length (value_leaves v) ≤ length bytes
-value_leaves_count profile limit bytes v h = omega (arith, some_count (value_leaves v) (value_some profile v h.valid), ap length h.spelled)
-
 -- as many tokens as leaves
 pub tokens_count : (at : ℕ) (ws : List Written) → length (token_places at ws) ≡ length ws
 tokens_count at [] = refl

@@ -26,7 +26,7 @@ use Rattle.keep_syntax.specs.Growth.{kinds, starts}
 use Rattle.keep_syntax_store.specs.Rereading.{count_at, counts_at, places_before, statements_before, first_key, value_or, first_value, counts_before, nothing, part_of, joined}
 use Rattle.keep_syntax.specs.FlatLines.{flat_of}
 use Rattle.keep_syntax.proofs.CountLaws.{BeginsChar, AreSome, document_some}
-use Rattle.keep_syntax.proofs.NumberingLaws.{width-append}
+use Rattle.keep_syntax.proofs.GrowthLaws.{width-append}
 use Rattle.keep_syntax_store.proofs.Shared.{same_flat, if_true, if_false}
 use Rattle.keep_syntax.proofs.LineLoopLaws.{same_count}
 use Rattle.keep_syntax.proofs.LineNumberingLaws.{over_ended, after_lines-at, after_lines-statements, after_lines-parts, after_lines-values}

@@ -1,5 +1,6 @@
 -- The tokens that stored kinds and starts cut out of a text, one by one, and as the leaves of a tree.
 use Rattle.std.proofs.Common.{◌≡◌, ℕ, zero, suc, ◌+◌, ◌-◌, ◌≤◌, List, [], ◌∷◌, ◌++◌, length, get_or, take, drop, slice_get, slice_range, Some, None, refl, sym, ap, ◌∙◌, arith, append_assoc, take_at, drop_at}
+use Rattle.std.proofs.lemmas.Option.{same_Some}
 use Rattle.std.specs.List.{AllByRecursion}
 use Rattle.std.proofs.lemmas.List.{length-append, append-nil}
 use Rattle.keep_types.specs.declared.leaf.Leaf.{Leaf}
@@ -23,12 +24,9 @@ token_in text ss n l = record { leaf = l; at = start_in text ss n; text = slice_
 after_is : (text ss : List ℕ) (n : ℕ) (l : Leaf) → token_in text (drop 1 ss) n l ≡ token_in text ss (suc n) l
 after_is text ss n l = rw (start_after ss n (length text), start_after ss (suc n) (length text)) refl
 
-some_is : (k l : Leaf) → Some k ≡ Some l → k ≡ l
-some_is k l e = cc
-
 pub cut_step : (text : List ℕ) (ks : List Leaf) (ss : List ℕ) (n : ℕ) (l : Leaf) → slice_get ks n ≡ Some l → drop n (cut text ks ss) ≡ token_in text ss n l ∷ drop (suc n) (cut text ks ss)
 cut_step text [] ss n l e = absurd cc
-cut_step text (k ∷ ks) ss zero l e = ap (λ (x : Leaf). token_in text ss 0 x ∷ cut text ks (drop 1 ss)) (some_is k l e)
+cut_step text (k ∷ ks) ss zero l e = ap (λ (x : Leaf). token_in text ss 0 x ∷ cut text ks (drop 1 ss)) (same_Some k l e)
 cut_step text (k ∷ ks) ss (suc n) l e = cut_step text ks (drop 1 ss) n l e ∙ ap (λ (t : Placed). t ∷ drop (suc n) (cut text ks (drop 1 ss))) (after_is text ss n l)
 
 pub cut_end : (text : List ℕ) (ks : List Leaf) (ss : List ℕ) (n : ℕ) → slice_get ks n ≡ None → drop n (cut text ks ss) ≡ []

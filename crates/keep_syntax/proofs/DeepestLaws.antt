@@ -21,15 +21,6 @@ pub deepest-append : (a b : List ValueInfo) → deepest (a ++ b) ≡ max (deepes
 deepest-append [] b = omega arith
 deepest-append (v ∷ vs) b = omega (arith, deepest-append vs b)
 
--- with one value more
-pub deepest_next : (vs : List ValueInfo) (n : ℕ) (v : ValueInfo) → slice_get vs n ≡ Some v → deepest (take (suc n) vs) ≡ max (deepest (take n vs)) (open_in v)
-deepest_next [] n v e = absurd cc
-deepest_next (w ∷ vs) zero v e = let is : w ≡ v = cc in ap (λ (x : ValueInfo). max (open_in x) 0) is ∙ omega arith
-deepest_next (w ∷ vs) (suc n) v e = omega (arith, deepest_next vs n v e)
-
-pub deepest_iteration : (vs : List ValueInfo) (n : ℕ) (v : ValueInfo) → slice_get vs n ≡ Some v → deepest (take (n + 1) vs) ≡ max (deepest (take n vs)) (open_in v)
-deepest_iteration vs n v e = ap (λ (m : ℕ). deepest (take m vs)) (add-one n) ∙ deepest_next vs n v e
-
 pub all_at : (p : ValueInfo → Type 0) (vs : List ValueInfo) (n : ℕ) (v : ValueInfo) → AllByRecursion p vs → slice_get vs n ≡ Some v → p v
 all_at p [] n v h e = absurd cc
 all_at p (w ∷ vs) zero v h e = let is : w ≡ v = cc in subst p is h.0

@@ -72,10 +72,6 @@ fails_bad text (faults.TooDeep at) r is bad = absurd is
 fails_bad text (faults.Define at why) r is bad = absurd is
 fails_bad text faults.Memory r is bad = absurd is
 
--- what cannot fail fails only where memory runs out
-pub fails_only : {A B : Type 0} (text : List ℕ) (e : ReadFault) (x : A) (s : Result B Fault) → Fails text e (done x) → Fails text e s
-fails_only {A} text e x s k = fails_through text e (done x) s (λ f h. let never : done x ≡ Err f = h in absurd cc) k
-
 -- ---- white space
 
 space_ws : (text : List ℕ) (n : ℕ) → gap_at text ≡ Some (leaf.Ws, n) → space_at text ≡ (token leaf.Ws (take n text), drop n text)
@@ -157,9 +153,3 @@ blank_done text at here old now s e =
     }
 
 -- ---- the gap that a place allows
-
-pub gap_free : (profile : Profile) (b : Brackets) (text : List ℕ) (at : ℕ) (old new : Flat) (r : Result ℕ ReadFault) → is_free profile b ≡ true → BlankRead text at old new r → PartRead text at 0 (done (gap_in profile b (drop at text))) only old new r
-gap_free profile b text at old new r free h = rw free h
-
-pub gap_tight : (profile : Profile) (b : Brackets) (text : List ℕ) (at : ℕ) (old new : Flat) (r : Result ℕ ReadFault) → is_free profile b ≡ false → SpaceRead text at old new r → PartRead text at 0 (done (gap_in profile b (drop at text))) only old new r
-gap_tight profile b text at old new r free h = rw free h

@@ -18,7 +18,6 @@ pub mod DepthLaws
 pub mod GapCodeLaws
 pub mod KeyCodeLaws
 pub mod StepLaws
-pub mod NumberingLaws
 mod Vectors
 mod Rows
 pub mod PlaceLaws

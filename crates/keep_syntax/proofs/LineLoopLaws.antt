@@ -30,7 +30,7 @@ use Rattle.keep_syntax_store.specs.Rereading.{count_at, with_statements}
 use Rattle.keep_syntax.specs.FlatLines.{statement_list, LineIs, newline_by, NewlineRead, ended_list, lines_taken, LinesAre, LinesRead}
 use Rattle.keep_syntax.specs.WholeLines.{line_starts}
 use Rattle.keep_syntax.proofs.LoopLaws.{done}
-use Rattle.keep_syntax.proofs.NumberingLaws.{width-append}
+use Rattle.keep_syntax.proofs.GrowthLaws.{width-append}
 use Rattle.keep_syntax.proofs.StepLaws.{lines_newline, lines_last, lines_err, lines_bad}
 use Rattle.keep_syntax.proofs.LineNumberingLaws.{over_ended, ended-snoc, over-last, after_lines-at, after_lines-statements, after_lines-parts, after_lines-values}
 use Rattle.keep_syntax_store.proofs.Shared.{same_flat}

@@ -6,26 +6,9 @@ use Rattle.keep_types.specs.declared.leaf.Leaf.TheVariants as leaf
 use Rattle.keep_types.specs.declared.syntax.KeyPart.{KeyPart}
 use Rattle.keep_syntax.specs.Tree.{Written, Further, Content, blank, keyval, header, element, Line, Ended, further_leaves, line_leaves, ended_leaves}
 use Rattle.keep_syntax.specs.Numbered.{width, part_at, further_parts, Count, line_parts, line_values, line_statements, content_statements, next_line, over_lines, after_lines}
-use Rattle.keep_syntax.proofs.NumberingLaws.{width-append}
+use Rattle.keep_syntax.proofs.GrowthLaws.{width-append}
 
 -- ---- key parts
-
--- where a further part begins whose gap begins at a place
-abbrev pub further_start : ℕ → Further → ℕ
-further_start at f = at + width f.before + 1 + width f.after
-
-pub further-width : (f : Further) → width (further_leaves f) ≡ width f.before + 1 + width f.after + length f.part.text
-further-width f =
-    let dot : Written = record { leaf = leaf.Dot; text = 0x2E ∷ [] } in
-    omega (arith, width-append f.before (dot ∷ (f.after ++ (f.part ∷ []))), width-append f.after (f.part ∷ []), length-append f.part.text [])
-
-pub further-snoc : (at : ℕ) (fs : List Further) (f : Further) → further_parts at (fs ++ (f ∷ [])) ≡ further_parts at fs ++ (part_at (further_start (at + width (flat_map further_leaves fs)) f) f.part ∷ [])
-further-snoc at [] f = ap (λ (n : ℕ). part_at (further_start n f) f.part ∷ []) (omega arith)
-further-snoc at (g ∷ gs) f =
-    let from = further_start at g in
-    let n : from + length g.part.text + width (flat_map further_leaves gs) ≡ at + width (flat_map further_leaves (g ∷ gs)) =
-    omega (arith, width-append (further_leaves g) (flat_map further_leaves gs), further-width g) in
-    ap (λ (ks : List KeyPart). part_at from g.part ∷ ks) (further-snoc (from + length g.part.text) gs f ∙ ap (λ (k : ℕ). further_parts (from + length g.part.text) gs ++ (part_at (further_start k f) f.part ∷ [])) n)
 
 -- ---- lines
 
@@ -33,10 +16,6 @@ further-snoc at (g ∷ gs) f =
 abbrev pub over_ended : {A : Type 0} → (Count → Line → ℕ → List A) → Count → List Ended → List A
 over_ended f c [] = []
 over_ended f c (e ∷ es) = f c e.line (c.at + width (ended_leaves e)) ++ over_ended f (next_line c e) es
-
-pub after_lines-snoc : (c : Count) (es : List Ended) (e : Ended) → after_lines c (es ++ (e ∷ [])) ≡ next_line (after_lines c es) e
-after_lines-snoc c [] e = refl
-after_lines-snoc c (d ∷ es) e = after_lines-snoc (next_line c d) es e
 
 pub ended-snoc : {A : Type 0} (f : Count → Line → ℕ → List A) (c : Count) (es : List Ended) (e : Ended)
     → over_ended f c (es ++ (e ∷ [])) ≡ over_ended f c es ++ f (after_lines c es) e.line ((after_lines c es).at + width (ended_leaves e))

@@ -105,24 +105,6 @@ moves_values a b v =
     let x = back_span a.at b.at v.span in let y = back_span a.at b.at v.whole in let z = back_owner a b v.owner in let u = moved_back a.parts b.parts v.first_key in
     let s = back_there a.at b.at v.comma_before in let t = back_there a.at b.at v.comma_after in cc
 
--- the three laws
-abbrev pub LinesLaw : {A : Type 0} → OverLine A → (Count → A → A) → (Count → Count → A → A) → Type 0
-LinesLaw f lift move =
-    (c : Count) (prefix gone new back : List Ended) (last : Line)
-    → over_lines f c (prefix ++ (new ++ back)) last
-    ≡ over_ended f c prefix
-    ++ (map (lift (after_lines c prefix)) (over_ended f origin new)
-    ++ map (move (after_lines (after_lines c prefix) gone) (after_lines (after_lines c prefix) new)) (over_lines f (after_lines (after_lines c prefix) gone) back last))
-
-pub statements_law : LinesLaw line_statements lift_statement moved_statement
-statements_law = lines_law line_statements lift_statement moved_statement lifted_line_statements moves_statements
-
-pub parts_law : LinesLaw (λ c l line_end. line_parts c l) lift_key moved_key
-parts_law = lines_law (λ c l line_end. line_parts c l) lift_key moved_key (λ c d l end. lifted_line_parts c d l) moves_keys
-
-pub values_law : LinesLaw (λ c l line_end. line_values c l) lift_value moved_value
-values_law = lines_law (λ c l line_end. line_values c l) lift_value moved_value (λ c d l end. lifted_line_values c d l) moves_values
-
 -- ---- and moved
 
 abbrev pub MovesOver : {A : Type 0} → OverLine A → (Count → Count → A → A) → Type 0

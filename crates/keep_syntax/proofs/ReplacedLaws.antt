@@ -109,27 +109,10 @@ ReplacedLaw f lift move =
     ++ (map (lift (after_lines c prefix)) (over_lines f origin new line)
     ++ map (move (after_lines (after_lines c prefix) gone) (after_lines (after_lines c prefix) new)) (if test then over_lines f (after_lines (after_lines c prefix) gone) back last else []))
 
-pub replaced_statements : ReplacedLaw line_statements lift_statement moved_statement
-replaced_statements = replaced_law line_statements lift_statement moved_statement lifted_line_statements moves_statements (λ c end. refl)
-
 pub replaced_parts : ReplacedLaw (λ c l line_end. line_parts c l) lift_key moved_key
 replaced_parts = replaced_law (λ c l line_end. line_parts c l) lift_key moved_key (λ c d l end. lifted_line_parts c d l) moves_keys (λ c end. refl)
 
-pub replaced_values : ReplacedLaw (λ c l line_end. line_values c l) lift_value moved_value
-replaced_values = replaced_law (λ c l line_end. line_values c l) lift_value moved_value (λ c d l end. lifted_line_values c d l) moves_values (λ c end. refl)
-
 -- ---- of tokens
-
-pub starts_lift : (b at : ℕ) (ws : List Written) → starts (b + at) ws ≡ map (λ n. b + n) (starts at ws)
-starts_lift b at [] = refl
-starts_lift b at (w ∷ ws) =
-    ap (λ n. (b + at) ∷ starts n ws) (let e : b + at + length w.text ≡ b + (at + length w.text) = omega arith in e) ∙ ap (λ xs. (b + at) ∷ xs) (starts_lift b (at + length w.text) ws)
-
-pub starts_join : (at : ℕ) (a b : List Written) → starts at (a ++ b) ≡ starts at a ++ starts (at + width a) b
-starts_join at [] b = ap (λ n. starts n b) (omega arith)
-starts_join at (w ∷ ws) b =
-    let n : at + length w.text + width ws ≡ at + width (w ∷ ws) = omega (arith, length-append w.text (text_of ws)) in
-    ap (λ xs. at ∷ xs) (starts_join (at + length w.text) ws b ∙ ap (λ k. starts (at + length w.text) ws ++ starts k b) n)
 
 -- from after one place to after another
 starts_on : (old new k : ℕ) (ws : List Written) → starts (new + k) ws ≡ map (moved old new) (starts (old + k) ws)

@@ -233,15 +233,6 @@ exchanged_before p p1 run run1 q gone from to old new e r h = record {
 
 -- ---- going back
 
-pub can_go_back : (gone : Parts) (from to until : Counts) (before after : Parts) → UndoesRun gone from to until before after → CanExchange from until after gone
-can_go_back gone from to until before after u = record {
-  kinds = room_again same from.tokens to.tokens until.tokens before.kinds u.run.kinds after.kinds gone.kinds u.is_run.tokens.order u.is_run.tokens.within u.tokens u.now.kinds;
-  statements = room_again (shifted_statement to until) from.statements to.statements until.statements before.statements.packed u.run.statements.packed after.statements.packed gone.statements.packed
-      u.is_run.statements.order u.is_run.statements.within u.statements u.now.statements;
-  keys = room_again (shifted_key to until) from.keys to.keys until.keys before.keys.packed u.run.keys.packed after.keys.packed gone.keys.packed
-      u.is_run.keys.order u.is_run.keys.within u.keys u.now.keys;
-  values = room_again (shifted_value to until) from.values to.values until.values before.values.packed u.run.values.packed after.values.packed gone.values.packed
-      u.is_run.values.order u.is_run.values.within u.values u.now.values;
 }
 
 all_same : {A : Type 0} (xs : List A) → AllByRecursion (λ x. x ≡ x) xs

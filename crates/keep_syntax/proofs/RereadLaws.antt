@@ -36,7 +36,7 @@ use Rattle.keep_syntax.specs.Contract.{IsSyntaxOf, CanReplace, MayReread}
 use Rattle.keep_syntax.proofs.LoopLaws.{ok_is}
 use Rattle.keep_syntax.proofs.DocumentLaws.{document_read}
 use Rattle.keep_syntax.proofs.ReadLaws.{syntax_of, syntax_is}
-use Rattle.keep_syntax.proofs.NumberingLaws.{width-append}
+use Rattle.keep_syntax.proofs.GrowthLaws.{width-append}
 use Rattle.keep_syntax_store.proofs.Shared.{same_flat, if_true, if_false}
 use Rattle.keep_syntax.proofs.LineLoopLaws.{same_count}
 use Rattle.keep_syntax.proofs.LineNumberingLaws.{after_lines-at, after_lines-statements, after_lines-parts, after_lines-values}

@@ -11,12 +11,6 @@ use Rattle.keep_syntax.specs.Undoing.{IsSame}
 pub same_refl : (a : Syntax) → IsSame a a
 same_refl a = record { stored = refl; lines = refl; len = refl }
 
-pub same_sym : {a b : Syntax} → IsSame a b → IsSame b a
-same_sym h = record { stored = sym h.stored; lines = sym h.lines; len = sym h.len }
-
-pub same_trans : {a b c : Syntax} → IsSame a b → IsSame b c → IsSame a c
-same_trans h k = record { stored = h.stored ∙ k.stored; lines = h.lines ∙ k.lines; len = h.len ∙ k.len }
-
 pub same_syntax : {a b : Syntax} {d : Document} → IsSame a b → IsSyntaxOf b d → IsSyntaxOf a d
 same_syntax {d = d} h is = record {
   tokens = ap (λ (f : Flat). cut_by f (text d)) h.stored ∙ is.tokens;
@@ -36,6 +30,3 @@ same_text {bytes = bytes} h is = record {
   cuts = λ n. subst (λ (f : Flat). IsCharBoundary bytes (start_in bytes f.starts n)) (sym h.stored) (is.cuts n);
   forward = λ n. subst (λ (f : Flat). start_in bytes f.starts n ≤ start_in bytes f.starts (n + 1)) (sym h.stored) (is.forward n);
 }
-
-pub same_span : {a b : Syntax} {sp : Span} → IsSame a b → IsSpanIn b sp → IsSpanIn a sp
-same_span h is = record { document = is.document; is = same_syntax h is.is; low = is.low; order = is.order; within = is.within }

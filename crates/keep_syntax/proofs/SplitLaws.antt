@@ -11,7 +11,7 @@ use Rattle.keep_syntax.specs.Grammar.{IsEnded, IsDocument}
 use Rattle.keep_syntax.specs.Numbered.{width}
 use Rattle.keep_syntax.specs.WholeLines.{line_starts, last_to, lines_before, lines_from, begin, touched}
 use Rattle.keep_syntax.proofs.SpaceLaws.{gap_leaf_some}
-use Rattle.keep_syntax.proofs.NumberingLaws.{width-append}
+use Rattle.keep_syntax.proofs.GrowthLaws.{width-append}
 use Rattle.keep_syntax_store.proofs.Shared.{if_true, if_false}
 use Rattle.keep_syntax.proofs.LineStartLaws.{HaveBytes, line_of, next_of, line_low, next_high, line_step, next_step, before_step, from_step, none_before, all_from}
 

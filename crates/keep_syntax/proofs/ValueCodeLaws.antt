@@ -86,22 +86,7 @@ named_inline profile text at old new (Ok end) h = record { part = Some h.part; b
 gap_is : (profile : Profile) (b : Brackets) (text : List ℕ) (at end : ℕ) (old new : Flat) → (g : GapRead profile b text at old new (Ok end)) → gap_in profile b (drop at text) ≡ (g.part, drop end text)
 gap_is profile b text at end old new g = ok_is (gap_in profile b (drop at text)) (g.part, drop end text) g.is_read
 
-pub after_none : (profile : Profile) (b : Brackets) (text : List ℕ) (at number end : ℕ) (old new : Flat) → GapRead profile b text at old new (Ok end) → (get_or text end 0 == 0x2C) ≡ false → get_or text end 0 ≡ close_byte b
-    → (get_or text end 0 == close_byte b) ≡ true → AfterIs profile b text at number old new end None
-after_none profile b text at number end old new g no_comma close closed = record {
-  after = g.part;
-  after = None;
-  bound = g.bound;
-  forward = omega (arith, g.forward);
-  comma_is = refl;
-  closed = λ _. close;
-  is_read = λ name v. rw (gap_is profile b text at end old new g, first-drop text end, no_comma, closed) refl;
-  stored = g.grows;
 }
-
-pub after_bad : (profile : Profile) (b : Brackets) (text : List ℕ) (at end : ℕ) (old new : Flat) → GapRead profile b text at old new (Ok end) → (get_or text end 0 == 0x2C) ≡ false → (get_or text end 0 == close_byte b) ≡ false
-    → (name : Option Name) (v : Value) → after_by profile b name v (gap_in profile b (drop at text)) ≡ Err Bad
-after_bad profile b text at end old new g no_comma open' name v = rw (gap_is profile b text at end old new g, first-drop text end, no_comma, open') refl
 
 -- after the comma
 gap_after_comma : (profile : Profile) (b : Brackets) (text : List ℕ) (at end after next : ℕ) (old f1 f3 new : Flat) → (g : GapRead profile b text at old f1 (Ok end)) → get_or text end 0 ≡ 0x2C → after ≡ end + 1 → (h : GapRead profile b text after f3 new (Ok next))

@@ -79,15 +79,5 @@ document_wider s h = record { ended = ended_wider s.ended h.ended; last = line_w
 pub reads_wider : (limit : ℕ) (bytes : List ℕ) (s : Document) → Reads Strict limit bytes s → Reads Wide limit bytes s
 reads_wider limit bytes s h = record { valid = document_wider s h.valid; spelled = h.spelled; shallow = h.shallow }
 
-pub accepted_wider : (limit : ℕ) (bytes : List ℕ) → IsAccepted Strict limit bytes → IsAccepted Wide limit bytes
-accepted_wider limit bytes (s, h) = (s, reads_wider limit bytes s h)
-
 pub reads_value_wider : (limit : ℕ) (bytes : List ℕ) (v : Value) → ReadsValue Strict limit bytes v → ReadsValue Wide limit bytes v
 reads_value_wider limit bytes v h = record { valid = value_wider v h.valid; spelled = h.spelled; shallow = h.shallow }
-
--- What Strict reads, Wide reads as the same document.
-pub document_read_wider : (limit : ℕ) (bytes : List ℕ) (s : Document) → read_document Strict limit bytes ≡ Ok s → read_document Wide limit bytes ≡ Ok s
-document_read_wider limit bytes s e = document_read Wide limit bytes s (reads_wider limit bytes s (document_found Strict limit bytes s e))
-
-pub value_read_wider : (limit : ℕ) (bytes : List ℕ) (v : Value) → read_one_value Strict limit bytes ≡ Ok v → read_one_value Wide limit bytes ≡ Ok v
-value_read_wider limit bytes v e = value_read Wide limit bytes v (reads_value_wider limit bytes v (value_found Strict limit bytes v e))

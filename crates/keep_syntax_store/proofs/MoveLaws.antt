@@ -24,12 +24,6 @@ range_more xs from n d order within =
     ap (λ k. take k (drop from xs)) e ∙ take_more (drop from xs) (n - from) d (omega (arith, order, within, length-drop from xs))
     ∙ ap (λ y. take (n - from) (drop from xs) ++ y ∷ []) (get_drop xs from (n - from) d ∙ ap (λ k. get_or xs k d) i)
 
-pub moved_more : {A B : Type 0} (f : A → B) (out : List B) (xs : List A) (from n : ℕ) (d : A) → from ≤ n → n < length xs
-    → (out ++ map f (slice_range xs from n)) ++ f (get_or xs n d) ∷ [] ≡ out ++ map f (slice_range xs from (n + 1))
-moved_more f out xs from n d order within =
-    append_assoc out (map f (slice_range xs from n)) (f (get_or xs n d) ∷ [])
-    ∙ ap (λ ys. out ++ ys) (sym (map-append f (slice_range xs from n) (get_or xs n d ∷ [])) ∙ sym (ap (map f) (range_more xs from n d order within)))
-
 -- ---- by the element of a number
 
 pub drop_next : {A : Type 0} (xs : List A) (n : ℕ) (x : A) → slice_get xs n ≡ Some x → drop n xs ≡ x ∷ drop (n + 1) xs
@@ -45,20 +39,6 @@ moved_next f out xs from n x order e =
     ∙ ap (λ ys. out ++ ys) (sym (map-append f (slice_range xs from n) (x ∷ [])) ∙ sym (ap (map f) (range_next xs from n x order e)))
 
 -- ---- by what is left of a list
-
-pub rest_get : {A : Type 0} (xs rest : List A) (n : ℕ) (x : A) → drop n xs ≡ x ∷ rest → slice_get xs n ≡ Some x
-rest_get [] rest zero x e = absurd cc
-rest_get [] rest (suc n) x e = absurd cc
-rest_get (y ∷ xs) rest zero x e = let same : y ≡ x = cc in ap Some same
-rest_get (y ∷ xs) rest (suc n) x e = rest_get xs rest n x e
-
-pub rest_next : {A : Type 0} (xs rest : List A) (n : ℕ) (x : A) → drop n xs ≡ x ∷ rest → rest ≡ drop (n + 1) xs
-rest_next {A} xs rest n x e =
-    let both : x ∷ rest ≡ x ∷ drop (n + 1) xs = sym e ∙ drop_next xs n x (rest_get xs rest n x e) in
-    let same : rest ≡ drop (n + 1) xs = cc in same
-
-pub range_none : {A : Type 0} (xs : List A) (from n m : ℕ) → n ≤ from → m ≤ from → slice_range xs from n ≡ slice_range xs from m
-range_none xs from n m h k = ap (λ i. take i (drop from xs)) (let e : n - from ≡ m - from = omega (arith, h, k) in e)
 
 pub range_end : {A : Type 0} (xs : List A) (from n m : ℕ) → drop n xs ≡ [] → n ≤ m → slice_range xs from m ≡ slice_range xs from n
 range_end xs from n m e h =

@@ -29,7 +29,3 @@ shaped (a ∷ b ∷ c ∷ d ∷ e ∷ f ∷ g ∷ h ∷ i ∷ j ∷ []) k =
     shape_tests (is_ascii_digit a) (is_ascii_digit b) (is_ascii_digit c) (is_ascii_digit d) (e == 0x2D) (is_ascii_digit f) (is_ascii_digit g) (h == 0x2D) (is_ascii_digit i) (is_ascii_digit j) k in
     record { ten = refl; a = at_a; b = at_b; c = at_c; d = at_d; f = at_f; g = at_g; i = at_i; j = at_j; date = rw k refl }
 shaped _ k = absurd cc
-
-pub unshaped : (t : List ℕ) → has_date_shape t ≡ false → is_date t ≡ false
-unshaped (a ∷ b ∷ c ∷ d ∷ e ∷ f ∷ g ∷ h ∷ i ∷ j ∷ []) k = rw k refl
-unshaped _ k = refl

@@ -14,11 +14,6 @@ tested : (b : Bool) → (b ≡ true) ⊎ (b ≡ false)
 tested true = inl refl
 tested false = inr refl
 
--- a text with a byte or more is bare where each byte is
-pub bare_text_of : (text : List ℕ) → 0 < length text → is_bare_text text ≡ list_all is_bare text
-bare_text_of [] h = absurd (omega arith)
-bare_text_of (c ∷ cs) h = refl
-
 -- a plain byte is written as it is
 plain_byte : (c : ℕ) → is_plain c ≡ true → encoded_byte c ≡ c ∷ []
 plain_byte c h = grind (arith, nat_tests)

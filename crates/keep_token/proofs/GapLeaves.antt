@@ -31,12 +31,6 @@ run_longest p text m le h =
           absurd (let k : p (get_or text (prefix_len p text) 0) ≡ true = rw (← same) at in cc)
     ]
 
--- a prefix of the text that is not empty begins with the text's first byte
-pub first-take : (n : ℕ) (text : List ℕ) → 0 < n → n ≤ length text → first (take n text) ≡ first text
-first-take zero text some le = absurd (omega arith)
-first-take (suc n) [] some le = absurd (omega arith)
-first-take (suc n) (c ∷ cs) some le = refl
-
 pub longest_one : (A : Language) (text : List ℕ) (n m : ℕ) → Longest A text n → Longest A text m → n ≡ m
 longest_one A text n m a b =
     let le = b.longest n a.within a.belongs in

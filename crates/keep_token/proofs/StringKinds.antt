@@ -105,9 +105,6 @@ basic_pieces_one profile t ps qs h k =
 pub basic_longest : (profile : Profile) (text : List ℕ) (n : ℕ) → basic_at profile text ≡ Some n → (m : ℕ) → m ≤ length text → Basic profile (take m text) → m ≤ n
 basic_longest profile text n e m le h = longest_from (basic_at profile) text n m e le (λ rest. (length (take m text), basic_again profile (take m text) rest h, omega arith))
 
-pub basic_none : (profile : Profile) (text : List ℕ) → basic_at profile text ≡ None → (m : ℕ) → m ≤ length text → Basic profile (take m text) → ⊥
-basic_none profile text e m le h = none_from (basic_at profile) text m e (λ rest. (length (take m text), basic_again profile (take m text) rest h, omega arith))
-
 -- ---- literal strings
 
 pub literal_pieces_found : (text : List ℕ) (ps : List Piece) → (first text == 0x27) ≡ true → pieces_of literal_piece false 0x27 (drop 1 text) ≡ Some ps
@@ -138,9 +135,6 @@ literal_pieces_one t ps qs h k =
 
 pub literal_longest : (text : List ℕ) (n : ℕ) → literal_at text ≡ Some n → (m : ℕ) → m ≤ length text → Literal (take m text) → m ≤ n
 literal_longest text n e m le h = longest_from literal_at text n m e le (λ rest. (length (take m text), literal_again (take m text) rest h, omega arith))
-
-pub literal_none : (text : List ℕ) → literal_at text ≡ None → (m : ℕ) → m ≤ length text → Literal (take m text) → ⊥
-literal_none text e m le h = none_from literal_at text m e (λ rest. (length (take m text), literal_again (take m text) rest h, omega arith))
 
 -- ---- basic strings over many lines
 
@@ -184,9 +178,6 @@ ml_basic_prefix profile t rest (ps, h) =
 
 pub ml_basic_longest : (profile : Profile) (text : List ℕ) (n : ℕ) → ml_basic_at profile text ≡ Some n → (m : ℕ) → m ≤ length text → MlBasic profile (take m text) → m ≤ n
 ml_basic_longest profile text n e m le h = longest_from (ml_basic_at profile) text n m e le (λ rest. ml_basic_prefix profile (take m text) rest h)
-
-pub ml_basic_none : (profile : Profile) (text : List ℕ) → ml_basic_at profile text ≡ None → (m : ℕ) → m ≤ length text → MlBasic profile (take m text) → ⊥
-ml_basic_none profile text e m le h = none_from (ml_basic_at profile) text m e (λ rest. ml_basic_prefix profile (take m text) rest h)
 
 -- ---- literal strings over many lines
 
@@ -239,9 +230,6 @@ ml_literal_prefix t rest (ps, h) =
 
 pub ml_literal_longest : (text : List ℕ) (n : ℕ) → ml_literal_at text ≡ Some n → (m : ℕ) → m ≤ length text → MlLiteral (take m text) → m ≤ n
 ml_literal_longest text n e m le h = longest_from ml_literal_at text n m e le (λ rest. ml_literal_prefix (take m text) rest h)
-
-pub ml_literal_none : (text : List ℕ) → ml_literal_at text ≡ None → (m : ℕ) → m ≤ length text → MlLiteral (take m text) → ⊥
-ml_literal_none text e m le h = none_from ml_literal_at text m e (λ rest. ml_literal_prefix (take m text) rest h)
 
 -- ---- the longest prefix, as the definitions say it
 

@@ -19,11 +19,3 @@ means_one profile leaf.MlLiteral text v w (ps, h, a) (qs, k, b) = a ∙ ap ml_va
 means_one profile _ text v w a b = absurd a
 
 -- ---- in UTF-8
-
-pub means_utf8 : (profile : Profile) (l : Leaf) (text value : List ℕ) → IsUtf8 text → Means profile l text value → IsUtf8 value
-means_utf8 profile leaf.BareKey text value u a = subst IsUtf8 (sym a) u
-means_utf8 profile leaf.Basic text value u (ps, h, a) = subst IsUtf8 (sym a) (basic_value_utf8 profile text ps u h)
-means_utf8 profile leaf.Literal text value u (ps, h, a) = subst IsUtf8 (sym a) (literal_value_utf8 text ps u h)
-means_utf8 profile leaf.MlBasic text value u (ps, h, a) = subst IsUtf8 (sym a) (ml_basic_value_utf8 profile text ps u h)
-means_utf8 profile leaf.MlLiteral text value u (ps, h, a) = subst IsUtf8 (sym a) (ml_literal_value_utf8 text ps u h)
-means_utf8 profile _ text value u a = absurd a

@@ -216,10 +216,6 @@ break_found P text p e allowed =
           (drop (newline_len text) text, sym (take-append-drop (newline_len text) text), allowed (take (newline_len text) text) (newline_found text z), tt)
     ]
 
-break_again : (newline more : List ℕ) → Newline newline → break_at (newline ++ more) ≡ Some (Break newline)
-break_again newline more (inl e) = rw e refl
-break_again newline more (inr e) = rw e refl
-
 list_all-run : (test : ℕ → Bool) (text : List ℕ) → list_all test (take (prefix_len test text) text) ≡ true
 list_all-run test [] = refl
 list_all-run test (c ∷ cs) =

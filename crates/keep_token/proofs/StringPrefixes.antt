@@ -39,9 +39,6 @@ three_not mark other text e differs = rw (e, differs) refl
 pub basic_no_apostrophes : (profile : Profile) (t rest : List ℕ) → Basic profile t → are_three 0x27 (t ++ rest) ≡ false
 basic_no_apostrophes profile t rest h = three_not 0x27 0x22 (t ++ rest) (basic_first profile t rest h) refl
 
-pub ml_basic_no_apostrophes : (profile : Profile) (t rest : List ℕ) → MlBasic profile t → are_three 0x27 (t ++ rest) ≡ false
-ml_basic_no_apostrophes profile t rest h = three_not 0x27 0x22 (t ++ rest) (ml_basic_first profile t rest h) refl
-
 pub literal_no_quotes : (t rest : List ℕ) → Literal t → are_three 0x22 (t ++ rest) ≡ false
 literal_no_quotes t rest h = three_not 0x22 0x27 (t ++ rest) (literal_first t rest h) refl
 
@@ -63,16 +60,6 @@ not_three P mark not_mark p ps rest h =
     let after = text_of ps ++ (mark ∷ rest) in
     let split : (text_of (p ∷ ps) ++ (mark ∷ [])) ++ rest ≡ piece_text p ++ after = append_assoc (text_of (p ∷ ps)) (mark ∷ []) rest ∙ append_assoc (piece_text p) (text_of ps) (mark ∷ rest) in
     ap (λ t. are_three mark (mark ∷ t)) split ∙ two_not mark (piece_text p ++ after) (not_mark p after h)
-
-pub one_line_not_three : (profile : Profile) (t rest : List ℕ) → Basic profile t → (length t ≡ 2 → ⊥) → are_three 0x22 (t ++ rest) ≡ false
-one_line_not_three profile t rest ([], h) long = absurd (long (ap length h.spelled))
-one_line_not_three profile t rest (p ∷ ps, h) long =
-    ap (λ s. are_three 0x22 (s ++ rest)) h.spelled ∙ not_three (IsBasicPiece profile) 0x22 (basic_not_mark profile) p ps rest h.each.0
-
-pub literal_one_line_not_three : (t rest : List ℕ) → Literal t → (length t ≡ 2 → ⊥) → are_three 0x27 (t ++ rest) ≡ false
-literal_one_line_not_three t rest ([], h) long = absurd (long (ap length h.spelled))
-literal_one_line_not_three t rest (p ∷ ps, h) long =
-    ap (λ s. are_three 0x27 (s ++ rest)) h.spelled ∙ not_three IsLiteralPiece 0x27 literal_not_mark p ps rest h.each.0
 
 -- the empty string, and what follows it
 pub empty_three : (mark : ℕ) (rest : List ℕ) → are_three mark (mark ∷ mark ∷ rest) ≡ (first rest == mark)
@@ -101,10 +88,3 @@ three_taken mark (a ∷ b ∷ c ∷ cs) e =
     let two : b ≡ mark = cc in
     let three : c ≡ mark = cc in
     rw (eq-eqb a mark one, eq-eqb b mark two, eq-eqb c mark three) refl
-
-pub not_many_lines : (text : List ℕ) → are_three 0x22 text ≡ false → are_three 0x27 text ≡ false → opens_many_lines text → ⊥
-not_many_lines text quotes apostrophes (inl e) = true≢false (sym (three_taken 0x22 text e) ∙ quotes)
-not_many_lines text quotes apostrophes (inr e) = true≢false (sym (three_taken 0x27 text e) ∙ apostrophes)
-
-pub many_lines_opens : (mark : ℕ) (text : List ℕ) → (0 == mark) ≡ false → are_three mark text ≡ true → take 3 text ≡ mark ∷ mark ∷ mark ∷ []
-many_lines_opens mark text not_zero h = ap (take 3) (three_open mark text not_zero h)

@@ -124,11 +124,6 @@ step_facts n name body nested after comma rest rules q =
     fact_under p (p ++ q) q [] first (entries_mentions (n + 1) rest) tt disjoint (strip-append p q)
     ∙ entry_facts n name (body_fact body) (entries_mentions 0 nested) q
 
-solid_of_alone : (p : List Part) (ms : List Mention) → SomeOf (IsAloneAt p) ms → SomeOf (IsSolidAt p) ms
-solid_of_alone p [] s = absurd s
-solid_of_alone p (m ∷ ms) (inl a) = inl (record { path = a.path; kind = exclusive_is_solid m.kind a.kind })
-solid_of_alone p (m ∷ ms) (inr s) = inr (solid_of_alone p ms s)
-
 -- before the entries that tell of a value, nothing is said at or under its path
 pub disjoint_of_fact : (n : ℕ) (name : Option Name) (body : Body) (nested rest : Entries) (p : Part) (ps : List Part) (f : Fact)
     → Rules (entry_mentions n name (body_fact body) (entries_mentions 0 nested) ++ entries_mentions (n + 1) rest)

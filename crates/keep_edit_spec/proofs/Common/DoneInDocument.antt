@@ -28,9 +28,6 @@ pub record IsDoneIn (act : Act) (body path : List Part) (from : Content) (c : Ch
   pub place : path ≡ (body ++ step 0 (Some name)) ++ more
   pub changed : Rules (entries_mentions 0 value.nested) → IsDoneAt act more (mentions_of_value value) content_depth from c
 
-abbrev LaterDone : Type 0 → Act → List Part → Value → Changed Value → Type 0
-LaterDone R act more v c = R → IsDoneAt act more (mentions_of_value v) value_depth v c
-
 later_done : (R : Type 0) (P : Changed Value → Type 0) (o : Option (Changed Value)) → (R → EachOf P o) → EachOf (λ c. R → P c) o
 later_done R P None h = tt
 later_done R P (Some c) h = h

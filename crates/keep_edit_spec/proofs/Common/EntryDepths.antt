@@ -143,11 +143,6 @@ mentions-dots [] = refl
 mentions-dots (k ∷ []) = refl
 mentions-dots (k ∷ l ∷ ks) = mentions-below (key k ∷ []) (keyed_mentions (l ∷ ks) []) ∙ ap (map (below (key k ∷ []))) (mentions-dots (l ∷ ks))
 
-mentions-valued : (name : Option Name) (f : Fact) (nested : List Mention)
-    → value_mentions (valued_mentions (tag_of name f) nested) ≡ valued_mentions (tag_of name f) (value_mentions nested)
-mentions-valued None f nested = refl
-mentions-valued (Some name) f nested = refl
-
 pub mentions-entry : (n : ℕ) (name : Option Name) (f : Fact) (nested : List Mention)
     → value_mentions (entry_mentions n name f nested) ≡ map (below (step n name)) (valued_mentions (tag_of name f) (value_mentions nested))
 mentions-entry n None f nested = mentions-below (index n ∷ []) (valued_mentions (item f) nested)

@@ -243,7 +243,3 @@ change-is s (rename path name) = change_rename-is s path name
 change-is s (remove path) = change_remove-is s path
 change-is s (append_table keys) = append-by s (header [] (key_with keys) []) s.ended
 change-is s (append_element keys) = append-by s (element [] (key_with keys) []) s.ended
-
--- The new text is the old one with the place replaced.
-pub change-put : (s : Document) (e : Edit) (c : Changed Document) → change s e ≡ Some c → text c.to ≡ put (text s) (place_of c)
-change-put s e c h = put-place_of text s c (subst (EachIs text s) h (change-is s e))

@@ -59,24 +59,6 @@ pub record IsMove (P : List Part → Type 0) (f : List Part → List Part) (from
   pub preserved_before : AllOf (λ m. P m.path) before
   pub preserved_after : AllOf (λ m. P m.path) after
 
-pub rules_move : (P : List Part → Type 0) (f : List Part → List Part) → IsInjectiveOn P f → (from to new : List Mention) → (h : IsMove P f from to new)
-    → Rules from → Rules new → Across Allowed (map (moved f) h.before) new → Across Allowed new (map (moved f) h.after) → Rules to
-rules_move P f inj from to new h rules rules_new left right =
-    let rest : Rules (h.before ++ h.after) = rules_taken h.before h.old h.after (subst Rules h.was rules) in
-    let all : Rules (map (moved f) h.before ++ map (moved f) h.after) =
-    subst Rules (map-append (moved f) h.before h.after) (rules_moved P f inj (h.before ++ h.after) (all_join (λ m. P m.path) h.before h.after h.preserved_before h.preserved_after) rest) in
-    let parts = pairs_split Allowed (map (moved f) h.before) (map (moved f) h.after) all in
-    subst Rules (sym h.is)
-    (pairs_join Allowed (map (moved f) h.before) (new ++ map (moved f) h.after) (record {
-      left = parts.left;
-      right = pairs_join Allowed new (map (moved f) h.after) (record { left = rules_new; right = parts.right; across = right });
-      across = across_both (map (moved f) h.before) new (map (moved f) h.after) left parts.across;
-    }))
-  where
-    across_both : (xs ys zs : List Mention) → Across Allowed xs ys → Across Allowed xs zs → Across Allowed xs (ys ++ zs)
-    across_both [] ys zs h g = tt
-    across_both (x ∷ xs) ys zs h g = (all_join (Allowed x) ys zs h.0 g.0, across_both xs ys zs h.1 g.1)
-
 -- ---- the tree where paths are changed
 
 is_at_moved : (P : List Part → Type 0) (f : List Part → List Part) → IsInjectiveOn P f → (q : List Part) (m : Mention) → P q → P m.path → (b c : Bool) → is_at q m ≡ b → is_at (f q) (moved f m) ≡ c → c ≡ b

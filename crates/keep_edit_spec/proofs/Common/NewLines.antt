@@ -221,13 +221,3 @@ means_further profile (k ∷ ks) h = let x = h.0.means in let y = means_further 
 
 pub key_means : (profile : Profile) (k : List ℕ) (ks : List (List ℕ)) → AllOf (IsKeyText profile) (k ∷ ks) → keys_of (key_with (k ∷ ks)) ≡ k ∷ ks
 key_means profile k ks h = let x = h.0.means in let y = means_further profile ks h.1 in cc
-
--- a bare key is one
-pub bare_is : (profile : Profile) (k : List ℕ) → is_bare_text k ≡ true → IsKeyText profile k
-bare_is profile [] h = absurd cc
-bare_is profile (c ∷ cs) h =
-    let w : key_part (c ∷ cs) ≡ record { leaf = leaf.BareKey; text = c ∷ cs } = rw (h, key_part) refl in
-    record {
-      valid = subst (IsKeyPart profile) (sym w) (refl, (omega arith, h));
-      means = ap key_value w;
-    }

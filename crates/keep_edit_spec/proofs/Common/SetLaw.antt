@@ -409,11 +409,6 @@ set_deeper mention_kind q qs new from to h =
     (subst (λ (l : List Mention). IsSet (q ∷ qs) new (valued_mentions mention_kind l) (valued_mentions mention_kind (to ++ []))) (append-nil from)
     (set_beside (q ∷ qs) new from to (record { path = []; kind = mention_kind } ∷ []) [] (refl, tt) tt h))
 
--- no entry is named by the empty path
-no_entry-step : (act : Act) (n : ℕ) (name : Option Name) → (strip (step n name) [] ≡ None)
-no_entry-step act n None = refl
-no_entry-step act n (Some name) = refl
-
 within_none : {A B : Type 0} (outer : A → B) (left right : List ℕ) (o : Option (Changed A)) → o ≡ None → within outer left right o ≡ None
 within_none outer left right None e = refl
 within_none outer left right (Some c) e = absurd cc

@@ -22,9 +22,6 @@ short_newline t (inr e) = omega (arith, ap (λ (l : List ℕ). length l) e)
 short_strict : (w : Written) → IsLeaf Strict w.leaf w.text → IsShort w
 short_strict w h e = short_newline w.text (subst (λ l. IsLeaf Strict l w.text) e h)
 
-other_short : (l m : Leaf) (t : List ℕ) → (m ≡ leaf.Newline → ⊥) → l ≡ m → IsShort (record { leaf = l; text = t })
-other_short l m t f e g = absurd (f (sym e ∙ g))
-
 short_space : (g : Gap) → IsSpace g → AllOf IsShort g
 short_space [] h = tt
 short_space (w ∷ []) h = ((λ e. let k : leaf.Ws ≡ leaf.Newline = sym h.0 ∙ e in absurd cc), tt)

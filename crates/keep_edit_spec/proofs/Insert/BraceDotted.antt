@@ -36,7 +36,7 @@ use Rattle.keep_edit_spec.proofs.Insert.BracesPlace.{is_inline}
 use Rattle.keep_edit_spec.proofs.Insert.BracesStops.{IsKeySplit, key_split, past_sound}
 use Rattle.keep_edit_spec.proofs.Insert.NamedEntries.{SomeEntry, EachEntry, some_both, IsNear, at_or_under, further, entries_near, IsStated, entries_stated, IsLonger, never_index, past_entry}
 use Rattle.keep_edit_spec.proofs.Insert.ItemCount.{Longer, longer_keyed}
-use Rattle.keep_edit_spec.proofs.Insert.ItemPlaces.{one_of_two}
+use Rattle.keep_types.proofs.Shared.{one_of_two}
 use Rattle.keep_edit_spec.proofs.Insert.EntryPlaces.{own_of}
 use Rattle.keep_edit_spec.proofs.Insert.EntryThere.{infos_before, mentioned_before, here_there, mentioned_there, count_there}
 use Rattle.keep_edit_spec.proofs.Insert.BracePlaces.{IsPutAfter, IsKeyvalFound, rest, begin, RowOutcome, IsAfterKeyval, Placed, keyval_placed}

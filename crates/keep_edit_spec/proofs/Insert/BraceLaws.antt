@@ -16,7 +16,7 @@ use Rattle.keep_edit_spec.specs.Insertion.{in_empty, last_keyval}
 use Rattle.keep_edit_spec.proofs.Common.FoundValue.{BeginNoDeeper}
 use Rattle.keep_edit_spec.proofs.Values.ValuePlace.{get_here}
 use Rattle.keep_edit_spec.proofs.Insert.BracesPlace.{is_inline}
-use Rattle.keep_edit_spec.proofs.Insert.ItemPlaces.{one_of_two}
+use Rattle.keep_types.proofs.Shared.{one_of_two}
 use Rattle.keep_edit_spec.proofs.Insert.EntryPlaces.{own_of}
 use Rattle.keep_edit_spec.proofs.Insert.EntryThere.{infos_before, here_there}
 use Rattle.keep_edit_spec.proofs.Insert.LineBefore.{IsLowPlace}

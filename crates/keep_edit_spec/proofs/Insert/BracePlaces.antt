@@ -8,6 +8,7 @@
 --
 -- Theorems: `keyval_found`: the insert is done at these braces; `keyval_placed`: where it is done.
 use Rattle.std.proofs.Common.{◌≡◌, ℕ, suc, ◌+◌, ◌-◌, true, false, List, [], ◌∷◌, ◌++◌, length, map, take, slice_get, refl, sym, ap, subst, ◌∙◌, append_assoc, length-append, arith, Option, Some, None, ◌⊎◌, inl, inr}
+use Rattle.std.proofs.lemmas.Option.{same_Some}
 use Rattle.std.specs.Prelude.{codes, IsUtf8}
 use Rattle.std.specs.List.{AllByRecursion, list_any}
 use Rattle.std.proofs.lemmas.List.Elements.{filter_map-append}
@@ -40,7 +41,6 @@ use Rattle.keep_edit_spec.proofs.Common.NewLines.{IsKeyText}
 use Rattle.keep_edit_spec.proofs.Common.InsertLaw.{fresh_disjoint}
 use Rattle.keep_edit_spec.proofs.Common.ValueThere.{alone_of_has, fact_of_has}
 use Rattle.keep_edit_spec.proofs.Rename.KeyTexts.{key_texts}
-use Rattle.keep_edit_spec.proofs.Remove.RemovePlace.{some_is}
 use Rattle.keep_edit_spec.proofs.Insert.DoneThere.{IsDoneThere}
 use Rattle.keep_edit_spec.proofs.Insert.LinesNamed.{named_of}
 use Rattle.keep_edit_spec.proofs.Insert.NewPath.{IsNewPath, new_path}
@@ -218,7 +218,7 @@ module _ (profile : Profile) (s : Document) (path at dots : List Part) (new : Va
   by_parts (scalar w) es eb ei fit e = absurd cc
   by_parts (array g) es eb ei fit e = absurd cc
   by_parts (inline g) none eb ei fit e =
-      let j = some_is _ h.there.found.done e in
+      let j = same_Some _ h.there.found.done e in
       let before : h.there.found.done.before ≡ codes "{" = sym (ap (λ (x : Changed Value). x.before) j) in
       inl (
         ei,

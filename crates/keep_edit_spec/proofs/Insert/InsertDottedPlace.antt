@@ -7,6 +7,7 @@
 --
 -- Theorem: `dotted_placed`.
 use Rattle.std.proofs.Common.{◌≡◌, false, ℕ, zero, suc, ◌+◌, ◌-◌, ◌<◌, ◌≤◌, List, [], ◌∷◌, ◌++◌, length, map, take, drop, slice_get, refl, sym, ap, subst, ◌∙◌, append_assoc, length-append, arith, Option, Some, None, inl, inr}
+use Rattle.keep_types.proofs.Shared.{one_of_two}
 use Rattle.std.specs.List.{list_any}
 use Rattle.std.proofs.lemmas.Bool.{cases_lt}
 use Rattle.std.proofs.lemmas.List.{length-map, map-append, take-append-drop}
@@ -146,7 +147,7 @@ module _ (profile : Profile) (limit : ℕ) (s : Document) (path : List Part) (v 
   on_line : (from number i : ℕ) → IsDottedNode a s number → IsBaseAt s a from → last_line (leads_dotted a) start (lines s) ≡ Some i → IsDottedPlaced s path v from number
   on_line from number i node base found =
       let d : IsDottedAt a s i = dotted_at a s i rules found in
-      let same : d.number ≡ number = one_number (stated is_dotted value_number a s) d.number number d.is node.number in
+      let same : d.number ≡ number = one_of_two (stated is_dotted value_number a s) d.number number d.is node.number in
       let b : List Part = (reading_at i (lines s)).body in
       let length_is : from ≡ length b = base_is s a b from rules base d.base.from (λ n e. body_firm s b n rules d.base.body e) in
       let ends : EndsInKey a = dotted_ends a s (mention_with_number is_dotted value_number a s number node.number) in
@@ -175,9 +176,6 @@ module _ (profile : Profile) (limit : ℕ) (s : Document) (path : List Part) (v 
             ∙ ap (λ (n : ℕ). line_at (text s) (newline_of s).text (bom_width s) n (keys_in (drop from path)) v) (sym d.ends)) d.ends;
       }
     where
-      one_number : (o : Option ℕ) (n m : ℕ) → o ≡ Some n → o ≡ Some m → n ≡ m
-      one_number o n m e f = let k : Some n ≡ Some m = sym e ∙ f in cc
-
       unheaded : (n m : ℕ) → IsDottedNode a s n → IsHeaded a s m → ⊥
       unheaded n m node (inl d) = node.header (mention_with_number is_define statement_number a s m d)
       unheaded n m node (inr b) = node.element (mention_with_number is_begun statement_number a s m b)

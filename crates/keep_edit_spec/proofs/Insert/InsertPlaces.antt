@@ -5,6 +5,7 @@
 --
 -- Theorems: `root_placed`, `header_placed`, `element_placed`, `through_placed`.
 use Rattle.std.proofs.Common.{◌≡◌, ◌⊎◌, ◌<◌, ℕ, false, arith, List, [], ◌∷◌, ◌++◌, length, map, take, drop, refl, sym, ap, subst, ◌∙◌, Option, Some, None, inl, inr}
+use Rattle.keep_types.proofs.Shared.{one_of_two}
 use Rattle.std.specs.List.{list_any}
 use Rattle.keep_types.specs.declared.leaf.Profile.{Profile}
 use Rattle.keep_syntax.specs.Tree.{Value, blank, keyval, Document, text}
@@ -55,9 +56,6 @@ pub none_of : {A : Type 0} (o : Option A) → ((x : A) → o ≡ Some x → ⊥)
 none_of None h = refl
 none_of (Some x) h = absurd (h x refl)
 
-one_number : (o : Option ℕ) (a b : ℕ) → o ≡ Some a → o ≡ Some b → a ≡ b
-one_number o a b e f = let k : Some a ≡ Some b = sym e ∙ f in cc
-
 take_prefix : (a b : List Part) → take (length a) (a ++ b) ≡ a
 take_prefix [] [] = refl
 take_prefix [] (y ∷ b) = refl
@@ -93,7 +91,7 @@ through_header a s number h =
     let ends : EndsInKey a = through_ends a s mentioned in
     let (i, found) = the_some (last_line (leads_through a) start (lines s)) (through_lines a start (lines s) mentioned) in
     let at : IsThroughAt a s (line_end i (lines s)) = through_at a s i found in
-    let same : at.number ≡ number = one_number _ at.number number at.through node.number in
+    let same : at.number ≡ number = one_of_two _ at.number number at.through node.number in
     let (k, ks, e) = some_key ends.0 ends.1 in
     record { within = omega (arith, same, at.body.within); first = k; more = ks; keys = ap keys_in ends.2 ∙ e }
   where
@@ -160,7 +158,7 @@ module _ (profile : Profile) (limit : ℕ) (s : Document) (path : List Part) (v 
       let dots : last_line (leads_dotted a) start (lines s) ≡ None = none_of (last_line (leads_dotted a) start (lines s)) (λ i e. node.dotted (dotted_line s a i e).dotted) in
       let (i, found) = the_some (last_line (leads_through a) start (lines s)) (through_lines a start (lines s) mentioned) in
       let at : IsThroughAt a s (line_end i (lines s)) = through_at a s i found in
-      let same : at.number ≡ number = one_number _ at.number number at.through node.number in
+      let same : at.number ≡ number = one_of_two _ at.number number at.through node.number in
       let n : ℕ = line_end i (lines s) in
       let begins : body_end_at s number ≡ line_begins s n = ap (body_end_at s) (sym same) ∙ at.body.ends in
       low_place profile s (insert path v) (section_at (text s) (newline_of s).text (bom_width s) (body_end_at s number) (keys_in (take (length a) path)) (keys_in (drop (length a) path)) v) n valid

@@ -10,6 +10,8 @@
 -- Theorem: `item_law`: where an item is put in, by the value of its own number, of the number before it, or of the
 -- array.
 use Rattle.std.proofs.Common.{◌≡◌, ℕ, zero, suc, ◌+◌, ◌<◌, ◌≤◌, Bool, true, false, List, [], ◌∷◌, ◌++◌, length, map, slice_get, refl, sym, ap, subst, ◌∙◌, append_assoc, length-append, arith, Option, Some, None, inl, inr}
+use Rattle.std.proofs.lemmas.Option.{same_Some}
+use Rattle.keep_types.proofs.Shared.{one_of_two}
 use Rattle.std.specs.Prelude.{codes, ⊤}
 use Rattle.keep_types.specs.declared.leaf.Profile.{Profile}
 use Rattle.keep_types.specs.declared.leaf.Profile.TheVariants.{Wide}
@@ -40,7 +42,7 @@ use Rattle.keep_edit_spec.proofs.Common.ValueThere.{alone_of_fact, some_cases}
 use Rattle.keep_edit_spec.proofs.Common.ValueNumber.{alone_of_number}
 use Rattle.keep_edit_spec.proofs.Common.DoneAtValue.{EachOf, of_within, of_or_else}
 use Rattle.keep_edit_spec.proofs.Common.FoundValue.{alone_beyond, alone_named}
-use Rattle.keep_edit_spec.proofs.Remove.RemovePlace.{IsValueAt, value_at_split, some_is}
+use Rattle.keep_edit_spec.proofs.Remove.RemovePlace.{IsValueAt, value_at_split}
 use Rattle.keep_edit_spec.proofs.Insert.DoneThere.{IsDoneThere}
 use Rattle.keep_edit_spec.proofs.Insert.Gives.{never_alone}
 use Rattle.keep_edit_spec.proofs.Common.SetDocument.{cancel}
@@ -109,7 +111,7 @@ pub record IsWithin {A B : Type 0} (outer : A → B) (left right : List ℕ) (o 
 pub within_is : {A B : Type 0} (outer : A → B) (left right : List ℕ) (o : Option (Changed A)) (done : Changed B) → within outer left right o ≡ Some done → IsWithin outer left right o done
 within_is outer left right None done e = absurd cc
 within_is outer left right (Some d) done e =
-    let k : framed_change outer left right d ≡ done = some_is (framed_change outer left right d) done e in
+    let k : framed_change outer left right d ≡ done = same_Some (framed_change outer left right d) done e in
     record { inner = d; is = refl; before = sym (ap (λ x. x.before) k); new = sym (ap (λ x. x.new) k); after = sym (ap (λ x. x.after) k) }
 
 -- ---- items by their numbers
@@ -224,7 +226,7 @@ module _ (profile : Profile) (s : Document) (a : List Part) (n : ℕ) (new : Val
   by_parts (scalar w) es eb ei fit e = absurd cc
   by_parts (inline g) es eb ei fit e = absurd cc
   by_parts (array g) none eb ei fit e =
-      let k = some_is _ f.found.done e in
+      let k = same_Some _ f.found.done e in
       let before : f.found.done.before ≡ codes "[" = sym (ap (λ (x : Changed Value). x.before) k) in
       into_empty (count_is ∙ ap size ei)
       (put_place c (suc f.found.own.span.start) (keyed_text [] new) (f.found.old ∙ f.nothing) (omega (arith, f.found.start, ap (λ (t : List ℕ). length t) before))
@@ -272,9 +274,6 @@ module _ (profile : Profile) (s : Document) (a : List Part) (n : ℕ) (new : Val
       inner r e (inr t) = omega (arith, count_is, number_less m 0 v.nested (subst (λ (x : List Part). SomeOf (IsAloneAt x) (entries_mentions 0 v.nested)) (sym e) t))
 
 -- ---- the laws
-
-pub one_of_two : {A : Type 0} (o : Option A) (x y : A) → o ≡ Some x → o ≡ Some y → x ≡ y
-one_of_two o x y e f = let k : Some x ≡ Some y = sym e ∙ f in cc
 
 -- one value is at a path
 pub same_value_at : (path : List Part) (s : Document) (v : ℕ) (i j : ValueInfo) → last_number is_value value_number (numbered_at path (numbered_in s)) ≡ Some v → slice_get (syntax.values s) v ≡ Some i → IsValueAt path s j → j ≡ i

@@ -3,6 +3,7 @@
 --
 -- Theorem: `lines_place`.
 use Rattle.std.proofs.Common.{◌≡◌, ℕ, zero, suc, ◌+◌, Bool, true, false, cond, List, [], ◌∷◌, ◌++◌, length, map, refl, sym, ap, ◌∙◌, append_assoc, length-append, arith, Some}
+use Rattle.std.proofs.lemmas.Option.{same_Some}
 use Rattle.std.specs.List.{flat_map}
 use Rattle.std.proofs.lemmas.List.{append-nil}
 use Rattle.keep_syntax.specs.Tree.{Written, Content, Line, Ended, Document, ended_leaves, bom_leaves, text_of}
@@ -10,7 +11,7 @@ use Rattle.keep_edit_spec.specs.Changed.{Changed, place_of, framed_change}
 use Rattle.keep_edit_spec.specs.Lines.{Page, ended_text, with_page, put_lines, drop_prefix, new_line, newline_of}
 use Rattle.keep_edit_spec.specs.Edits.{at_line}
 use Rattle.keep_edit_spec.proofs.Common.Texts.{text_of-append}
-use Rattle.keep_edit_spec.proofs.Remove.RemovePlace.{some_is, same_place}
+use Rattle.keep_edit_spec.proofs.Remove.RemovePlace.{same_place}
 use Rattle.keep_edit_spec.proofs.Remove.RemoveLinePlace.{head_text}
 
 -- ---- among the lines
@@ -68,7 +69,7 @@ lines_put s n contents c is =
     let lines : List Ended = map (new_line (newline_of s)) contents in
     let p : Changed Page = put_lines n lines (newline_of s) s.ended s.last in
     let h : ArePut n lines (newline_of s) s.ended s.last p = lines_are_put n lines (newline_of s) s.ended s.last in
-    let same : framed_change (with_page s) (text_of (bom_leaves s.bom)) [] p ≡ c = some_is (framed_change (with_page s) (text_of (bom_leaves s.bom)) [] p) c is in
+    let same : framed_change (with_page s) (text_of (bom_leaves s.bom)) [] p ≡ c = same_Some (framed_change (with_page s) (text_of (bom_leaves s.bom)) [] p) c is in
     record {
       before = sym (ap (λ (x : Changed Document). x.before) same) ∙ ap (λ (t : List ℕ). text_of (bom_leaves s.bom) ++ t) h.before;
       old = sym (ap (λ (x : Changed Document). x.old) same) ∙ h.old;

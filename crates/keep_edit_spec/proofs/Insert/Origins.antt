@@ -6,6 +6,7 @@
 --
 -- Theorems: `headed_of_header`, `headed_of_element`, `headed_one`, `dotted_node`, `through_node`.
 use Rattle.std.proofs.Common.{◌≡◌, ℕ, Bool, true, false, List, [], ◌∷◌, ◌++◌, map, refl, sym, ap, subst, ◌∙◌, Option, Some, None, ◌⊎◌, inl, inr}
+use Rattle.keep_types.proofs.Shared.{one_of_two}
 use Rattle.std.specs.Prelude.{fold, if◌then◌else◌}
 use Rattle.std.specs.Option.{option_map}
 use Rattle.std.proofs.lemmas.Bool.{and_parts}
@@ -279,9 +280,6 @@ pub headed_begins : (path : List Part) (s : Document) (n : ℕ) → IsHeaded pat
 headed_begins path s n (inl d) = (some_begins path start (lines s) (mention_with_number is_define statement_number path s n d)).0
 headed_begins path s n (inr b) = element_there.some_begins path start (lines s) (mention_with_number is_begun statement_number path s n b)
 
-one_number : (o : Option ℕ) (a b : ℕ) → o ≡ Some a → o ≡ Some b → a ≡ b
-one_number o a b e f = let k : Some a ≡ Some b = sym e ∙ f in cc
-
 -- an element is not defined by a header
 not_both : (path : List Part) (s : Document) (a b : ℕ) → last_number is_define statement_number (numbered_at path (numbered_in s)) ≡ Some a → last_number is_begun statement_number (numbered_at path (numbered_in s)) ≡ Some b → ⊥
 not_both path s a b d e =
@@ -289,7 +287,7 @@ not_both path s a b d e =
     never_begun path (mentions_in s) (lines_begun path ends start (lines s)) (mention_with_number is_begun statement_number path s b e)
 
 pub headed_one : (path : List Part) (s : Document) (a b : ℕ) → IsHeaded path s a → IsHeaded path s b → a ≡ b
-headed_one path s a b (inl d) (inl e) = one_number _ a b d e
-headed_one path s a b (inr d) (inr e) = one_number _ a b d e
+headed_one path s a b (inl d) (inl e) = one_of_two _ a b d e
+headed_one path s a b (inr d) (inr e) = one_of_two _ a b d e
 headed_one path s a b (inl d) (inr e) = absurd (not_both path s a b d e)
 headed_one path s a b (inr d) (inl e) = absurd (not_both path s b a e d)

@@ -8,6 +8,7 @@
 --
 -- Theorems: `cleared_placed` and `dropped_placed`: the cut is at `line_place` of the value and its statement.
 use Rattle.std.proofs.Common.{◌≡◌, ℕ, zero, suc, ◌+◌, Bool, true, false, cond, List, [], ◌∷◌, ◌++◌, length, map, drop, slice_get, refl, sym, ap, subst, ◌∙◌, append_assoc, length-append, arith, Option, Some, None, drop_at}
+use Rattle.std.proofs.lemmas.Option.{same_Some}
 use Rattle.std.specs.Prelude.{nat_le, not, IsTrue}
 use Rattle.std.specs.List.{list_all, prefix_len, flat_map, AllByRecursion}
 use Rattle.std.proofs.lemmas.Bool.Decides.{nat_tests}
@@ -43,7 +44,7 @@ use Rattle.keep_edit_spec.proofs.Common.SetDocument.{mentions_of}
 use Rattle.keep_edit_spec.proofs.Common.ValuesMention.{value_ends}
 use Rattle.keep_edit_spec.proofs.Common.DoneAtValue.{EachOf, of_within, of_or_else}
 use Rattle.keep_edit_spec.proofs.Remove.RemoveEntry.{named_split}
-use Rattle.keep_edit_spec.proofs.Remove.RemovePlace.{run_ends, some_is, same_place, IsValueAt, value_at_split}
+use Rattle.keep_edit_spec.proofs.Remove.RemovePlace.{run_ends, same_place, IsValueAt, value_at_split}
 
 -- ---- a line among lines
 
@@ -59,11 +60,6 @@ tail_lines (e ∷ es) last = map line_of es ++ last ∷ []
 abbrev pub head_text : List Ended → Line → List ℕ
 head_text [] last = text_of (line_leaves last)
 head_text (e ∷ es) last = text_of (ended_leaves e)
-
--- what comes after the first of these lines
-abbrev pub tail_text : List Ended → Line → List ℕ
-tail_text [] last = []
-tail_text (e ∷ es) last = page_text (record { ended = es; last = last })
 
 pub lines_head : (rest : List Ended) (last : Line) → map line_of rest ++ last ∷ [] ≡ head_line rest last ∷ tail_lines rest last
 lines_head [] last = refl
@@ -389,7 +385,7 @@ without s i n pre rest c was number is =
     let p : Changed Page = drop_lines (length pre) n (pre ++ rest) s.last in
     let h = dropped pre rest s.last n in
     let same : framed_change (with_page s) (text_of (bom_leaves s.bom)) [] p ≡ c =
-    some_is (framed_change (with_page s) (text_of (bom_leaves s.bom)) [] p) c
+    same_Some (framed_change (with_page s) (text_of (bom_leaves s.bom)) [] p) c
     (ap (λ (k : ℕ). within (with_page s) (text_of (bom_leaves s.bom)) [] (Some (drop_lines k n (pre ++ rest) s.last))) (sym number)
     ∙ ap (λ (es : List Ended). within (with_page s) (text_of (bom_leaves s.bom)) [] (Some (drop_lines i n es s.last))) (sym was) ∙ is) in
     record {

@@ -8,6 +8,8 @@
 --
 -- Theorems: `entry_placed`: the change in brackets is at `entry_place` of the path's value.
 use Rattle.std.proofs.Common.{◌≡◌, ℕ, suc, ◌+◌, ◌-◌, Bool, true, false, cond, ◌||◌, ◌==◌, List, [], ◌∷◌, ◌++◌, length, map, drop, slice_get, refl, sym, ap, subst, ◌∙◌, append_assoc, length-append, arith, Option, Some, None, inl, inr, drop_at, ◌<◌, ◌≤◌}
+use Rattle.std.proofs.lemmas.Option.{same_Some}
+use Rattle.keep_types.proofs.Shared.{one_of_two}
 use Rattle.std.specs.Prelude.{codes, IsTrue, ⊤}
 use Rattle.std.specs.List.{list_all, list_any, prefix_len}
 use Rattle.std.proofs.lemmas.Bool.{and_parts}
@@ -137,9 +139,6 @@ by_commas bytes own after before = elim after [
   ]
 ]
 
-same_some : (o : Option ℕ) (a b : ℕ) → o ≡ Some a → o ≡ Some b → a ≡ b
-same_some o a b e f = let k : Some a ≡ Some b = sym e ∙ f in cc
-
 none_not : (o : Option ℕ) (a : ℕ) → o ≡ Some a → o ≡ None → ⊥
 none_not o a e f = let k : Some a ≡ None = sym e ∙ f in absurd cc
 
@@ -162,7 +161,7 @@ next_edged bytes own start old new after at cut =
     record {
       ordered = omega (arith, cut.ends);
       opens = opens_at bytes at.before cut.text (text_of cut.after ++ (0x2C ∷ (cut.white ++ after))) own.whole.start cut.opens whole (at.place ∙ cut.begins);
-      after = λ c e. subst (λ (n : ℕ). IsComma bytes n × (own.span.end ≤ n)) (same_some own.comma_after comma c cut.comma e)
+      after = λ c e. subst (λ (n : ℕ). IsComma bytes n × (own.span.end ≤ n)) (one_of_two own.comma_after comma c cut.comma e)
           (comma_at bytes (at.before ++ (cut.text ++ text_of cut.after)) (cut.white ++ after) comma (whole ∙ three at.before cut.text (text_of cut.after) (0x2C ∷ (cut.white ++ after))) prefix_is, omega arith);
       before = λ c e f. absurd (none_not own.comma_after comma cut.comma e);
     }
@@ -182,7 +181,7 @@ last_edged bytes own start old new after at cut =
       opens = opens_at bytes (at.before ++ (0x2C ∷ text_of cut.before)) cut.text after own.whole.start cut.opens (whole ∙ two at.before (text_of cut.before) (cut.text ++ after))
           (omega (arith, length-append at.before (0x2C ∷ text_of cut.before), at.place, cut.begins));
       after = λ c e. absurd (none_not own.comma_after c e cut.no_comma);
-      before = λ c e f. subst (λ (n : ℕ). IsComma bytes n × (suc n ≤ own.whole.start)) (same_some own.comma_before start c cut.comma f)
+      before = λ c e f. subst (λ (n : ℕ). IsComma bytes n × (suc n ≤ own.whole.start)) (one_of_two own.comma_before start c cut.comma f)
           (comma_at bytes at.before (text_of cut.before ++ (cut.text ++ after)) start whole at.place, omega (arith, cut.begins));
     }
   where
@@ -306,14 +305,11 @@ record IsRowOut (b : Brackets) (more : List Part) (begin : ℕ) (p : Start) (nes
   new : done.new ≡ row.new
   after : done.after ≡ row.after ++ right
 
-pub some_is : {A : Type 0} (x y : A) → Some x ≡ Some y → x ≡ y
-some_is x y e = cc
-
 row_out : (b : Brackets) (more : List Part) (begin : ℕ) (p : Start) (nested : Entries) (outer : Row → Value) (left right : List ℕ) (done : Changed Value) (o : Option (Changed Row))
     → EachOf (IsOut b more 0 begin p nested) o → within outer left right o ≡ Some done → IsRowOut b more begin p nested left right done
 row_out b more begin p nested outer left right done None h e = absurd cc
 row_out b more begin p nested outer left right done (Some d) h e =
-    let k : framed_change outer left right d ≡ done = some_is (framed_change outer left right d) done e in
+    let k : framed_change outer left right d ≡ done = same_Some (framed_change outer left right d) done e in
     record {
       row = d;
       out = h;

@@ -1,5 +1,6 @@
 -- Where `remove` cuts, where it is not refused: at a line, in brackets, or at a header with its body.
 use Rattle.std.proofs.Common.{◌≡◌, ℕ, suc, Bool, true, false, List, [], ◌∷◌, ◌++◌, map, drop, refl, sym, ap, subst, ◌∙◌, Option, Some, None, ◌⊎◌, inl, inr}
+use Rattle.std.proofs.lemmas.Option.{same_Some}
 use Rattle.keep_types.specs.declared.leaf.Profile.{Profile}
 use Rattle.keep_syntax.specs.Tree.{Written, blank, Line, Ended, Document, bom_leaves, ended_leaves, text_of, text}
 use Rattle.keep_syntax.specs.Grammar.{IsDocument}
@@ -20,7 +21,7 @@ use Rattle.keep_edit_spec.proofs.Common.Marks.{rules_of_document}
 use Rattle.keep_edit_spec.proofs.Common.DoneAtValue.{EachOf}
 use Rattle.keep_edit_spec.proofs.EditLaws.{remove_lawful}
 use Rattle.keep_edit_spec.proofs.Common.FoundValue.{IsFoundIn, Valid_document, found_nested}
-use Rattle.keep_edit_spec.proofs.Remove.RemovePlace.{some_is, IsEntryPlaced, entry_placed}
+use Rattle.keep_edit_spec.proofs.Remove.RemovePlace.{IsEntryPlaced, entry_placed}
 use Rattle.keep_edit_spec.proofs.Remove.RemoveLinePlace.{head_line, IsCleared, cleared_lines, cleared_placed, dropped_placed, IsLinePlaced, page_line, without}
 use Rattle.keep_edit_spec.proofs.Remove.RemoveSectionPlace.{IsSectionPlaced, section_placed}
 
@@ -105,7 +106,7 @@ module _ (profile : Profile) (path : List Part) (s : Document) (valid : IsDocume
   by_comment None k e = by_line k (last_line (λ r l. is_own path r l.content) start (lines s)) refl e
   by_comment (Some p) k e =
       let h : IsCleared path start s.ended s.last p = subst (λ (o : Option (Changed Page)). EachOf (IsCleared path start s.ended s.last) o) k (cleared_lines path start s.ended s.last) in
-      inl (cleared_placed profile path s valid rules c cut p h (some_is (framed_change (with_page s) (text_of (bom_leaves s.bom)) [] p) c e))
+      inl (cleared_placed profile path s valid rules c cut p h (same_Some (framed_change (with_page s) (text_of (bom_leaves s.bom)) [] p) c e))
 
   placed : change s (remove path) ≡ Some c → IsPlaced path s c
   placed e = by_comment (in_lines (clear_line path) start s.ended s.last) refl e

@@ -30,15 +30,6 @@ use Rattle.keep_edit_spec.proofs.Remove.RemoveLaw.{remove_key_is_right}
 
 -- ---- what is at the path
 
-some_mentions : (is : MentionKind → Bool) (p : List Part) (ms : List Mention) → has is p ms ≡ true → SomeOf (λ (m : Mention). (m.path ≡ p) × (is m.kind ≡ true)) ms
-some_mentions is p [] h = absurd cc
-some_mentions is p (m ∷ ms) h = by (λ g. some_mentions is p ms g) (is_at p m) refl (is m.kind) refl h
-  where
-    by : (has is p ms ≡ true → SomeOf (λ (m : Mention). (m.path ≡ p) × (is m.kind ≡ true)) ms) → (b : Bool) → is_at p m ≡ b → (c : Bool) → is m.kind ≡ c → has is p (m ∷ ms) ≡ true → SomeOf (λ (m : Mention). (m.path ≡ p) × (is m.kind ≡ true)) (m ∷ ms)
-    by ih true e true k g = inl (same_path-sound m.path p e, k)
-    by ih true e false k g = inr (ih (rw (e, k) at g))
-    by ih false e c k g = inr (ih (rw e at g))
-
 alone_fact : (a : MentionKind) (f : Fact) → fact_of a ≡ Some f → is_value_fact f ≡ true → exclusive a ≡ true
 alone_fact (value g) f e h = refl
 alone_fact (item g) f e h = refl
@@ -61,35 +52,10 @@ some_value p f v (m ∷ ms) h = by (λ g. some_value p f v ms g) (is_at p m) ref
         let x : Some t ≡ Some f = rw (e, k) at g in
         inl (record { path = same_path-sound m.path p e; kind = alone_fact m.kind f (k ∙ x) v })
 
-through_solid : (a : MentionKind) → is_through a ≡ true → solid a ≡ true
-through_solid through h = refl
-through_solid past h = absurd cc
-through_solid define h = absurd cc
-through_solid kinds_element h = absurd cc
-through_solid dotted h = absurd cc
-through_solid (value f) h = absurd cc
-through_solid begun h = absurd cc
-through_solid passed h = absurd cc
-through_solid (item f) h = absurd cc
-
-through_many : (a : MentionKind) → is_through a ≡ true → exclusive a ≡ true → ⊥
-through_many through h g = absurd cc
-through_many past h g = absurd cc
-through_many define h g = absurd cc
-through_many kinds_element h g = absurd cc
-through_many dotted h g = absurd cc
-through_many (value f) h g = absurd cc
-through_many begun h g = absurd cc
-through_many passed h g = absurd cc
-through_many (item f) h g = absurd cc
-
 -- a mention that may be beside other such mentions, but beside no value
 pub record IsShared (is : MentionKind → Bool) : Type 0 where
   pub firm : (a : MentionKind) → is a ≡ true → solid a ≡ true
   pub many : (a : MentionKind) → is a ≡ true → exclusive a ≡ true → ⊥
-
-shared_through : IsShared is_through
-shared_through = record { firm = through_solid; many = through_many }
 
 alone_after : (is : MentionKind → Bool) → IsShared is → (p : List Part) (m : Mention) (ms : List Mention) → m.path ≡ p → is m.kind ≡ true → SomeOf (IsAloneAt p) ms → AllOf (Allowed m) ms → ⊥
 alone_after is shared p m [] e t s h = s
@@ -201,21 +167,3 @@ pieces false d t true q h e = inr refl
 pieces false true true false q h e = absurd cc
 pieces false false true false q h e = absurd cc
 pieces false d false false q h e = absurd cc
-
-pub single_piece : (s : Document) (path : List Part) → EndsInKey path → Rules (mentions_in s) → is_one_piece path (mentions_in s) ≡ true → (b : Bool) → has is_through path (mentions_in s) ≡ b → has is_through path (mentions_in s) ≡ false
-single_piece s path ends rules one false e = e
-single_piece s path ends rules one true e =
-    let ms : List Mention = mentions_in s in
-    elim (pieces (has_value path ms) (has is_define path ms) (has is_through path ms) (has is_begun path ms) (has is_passed path ms) one e) [
-      | inl v ↦ absurd (no_both is_through shared_through path ms (some_mentions is_through path ms e) (value_there path ms (fact_at path ms) refl v) rules)
-      | inr b ↦ absurd (never_begun path ms (lines_begun path ends start (lines s)) (some_mentions is_begun path ms b))
-    ]
-
--- `remove` of a path that ends in a key, where it is not refused.
-pub remove_is_right : (profile : Profile) (limit : ℕ) (s : Document) (path : List Part) → EndsInKey path → IsDocument profile s → ObeysRules (marks (mentions_in s)) → refusal profile limit s (remove path) ≡ None
-    → EachChange (IsSetWhole profile s (remove path)) (change s (remove path))
-remove_is_right profile limit s path ends valid obeys accepted =
-    remove_key_is_right profile s path ends valid obeys
-    (single_piece s path ends (rules_of_document s obeys)
-    (three (not (is_node path (mentions_in s))) (is_root path) (is_one_piece path (mentions_in s)) _ _ _ accepted)
-    (has is_through path (mentions_in s)) refl)

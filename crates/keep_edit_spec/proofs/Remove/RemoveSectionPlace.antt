@@ -173,9 +173,6 @@ line_number is path s pre rest st was e some none =
 abbrev pub body_by : ℕ → ℕ → List Ended → Line → ℕ → ℕ
 body_by at from es last n = elim n [ zero ↦ at | suc k ↦ from + length (drop_prefix (suc k) es last).old ]
 
-content_line : (before after : Gap) (comment : Option Written) (x : Content) → Line
-content_line before after comment x = record { before = before; content = x; after = after; comment = comment }
-
 last_body : (at : ℕ) (c : Count) (before after : Gap) (comment : Option Written) (x : Content)
     → (let l : Line = record { before = before; content = x; after = after; comment = comment } in
     body_end at (over_lines line_statements c [] l) ≡ body_by at c.at [] l (body_length (l ∷ [])))

@@ -167,10 +167,6 @@ row_when : (P : Row → Type 0) (b : Bool) (c : Changed Row) → (b ≡ true →
 row_when P true c h = h refl
 row_when P false c h = tt
 
-after_gap : (profile : Profile) (place : Place) (after : Gap) (rest : Entries) → IsComma profile place (Some after) rest → IsGap profile place after
-after_gap profile place after none h = h.0
-after_gap profile place next_gap (entry name body nested after comma rest) h = h
-
 first_gap : (profile : Profile) (place : Place) (gap after next_gap : Gap) → IsGap profile place gap → IsGap profile place after → IsGap profile place next_gap
     → IsGap profile place (joined_gap gap (joined_gap (preserved_gap after) (past_ws next_gap)))
 first_gap profile place gap after next_gap hg ha hb =

@@ -1,5 +1,6 @@
 -- The law of `set`, whole; and the text that `get` gives.
 use Rattle.std.proofs.Common.{◌≡◌, ℕ, ◌+◌, ◌≤◌, Bool, true, false, not, List, [], ◌∷◌, ◌++◌, length, refl, sym, ap, subst, ◌∙◌, length-append, arith, Option, Some, None}
+use Rattle.std.proofs.lemmas.Option.{same_Some}
 use Rattle.std.specs.Prelude.{nat_lt}
 use Rattle.std.specs.Option.{option_map}
 use Rattle.keep_types.specs.declared.leaf.Profile.{Profile}
@@ -88,11 +89,8 @@ set_done path new s c rules e = the_of (IsDoneAt (replacement new) path (mention
 the_done : (new v : Value) (d : Changed Value) → replacement new [] v ≡ Some d → (d.to ≡ new) × (d.old ≡ text_of_value v) × (d.new ≡ text_of_value new)
 the_done new v d e =
     let x : Changed Value = record { to = new; before = []; old = text_of_value v; new = text_of_value new; after = [] } in
-    let k : x ≡ d = some_is x d e in
+    let k : x ≡ d = same_Some x d e in
     (sym (ap (λ (c : Changed Value). c.to) k), sym (ap (λ (c : Changed Value). c.old) k), sym (ap (λ (c : Changed Value). c.new) k))
-  where
-    some_is : (x y : Changed Value) → Some x ≡ Some y → x ≡ y
-    some_is x y e = cc
 
 -- The new document is no deeper than the limit.
 pub set_depth : (profile : Profile) (limit : ℕ) (path : List Part) (new : Value) (s : Document) (c : Changed Document) → Rules (mentions_in s) → depth s ≤ limit → refusal profile limit s (set path new) ≡ None

@@ -85,10 +85,6 @@ document_fills s =
 
 -- ---- solid changes of a line
 
--- bytes come before what is changed, or what is changed has bytes
-frame_solid : (b o n : ℕ) → 0 < n → 0 < n + b + o
-frame_solid b o n h = omega arith
-
 has_equals : (name : Name) → 0 < length (text_of (name_leaves name))
 has_equals name =
     let w : Written = record { leaf = leaf.Equals; text = 0x3D ∷ [] } in

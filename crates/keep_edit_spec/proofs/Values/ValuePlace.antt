@@ -10,6 +10,8 @@
 --
 -- Theorems: `value_of_number`: a node's number gives the value at its path; `set_place`: where `set` changes the text.
 use Rattle.std.proofs.Common.{◌≡◌, ℕ, zero, suc, ◌+◌, ◌-◌, Bool, true, false, List, [], ◌∷◌, ◌++◌, length, slice_get, refl, sym, ap, subst, ◌∙◌, arith, Option, Some, None}
+use Rattle.std.proofs.lemmas.Option.{same_Some}
+use Rattle.keep_types.proofs.Shared.{one_of_two}
 use Rattle.std.specs.List.{AllZip}
 use Rattle.std.specs.Option.{option_map, option_and_then}
 use Rattle.std.proofs.lemmas.List.{append-nil}
@@ -59,9 +61,6 @@ zip_at R [] ys n x y all e f = absurd cc
 zip_at R (a ∷ xs) [] n x y all e f = absurd all
 zip_at {A} {B} R (a ∷ xs) (b ∷ ys) zero x y all e f = subst (λ (z : A). R z y) (let same : a ≡ x = cc in same) (subst (λ (z : B). R a z) (let same : b ≡ y = cc in same) all.0)
 zip_at R (a ∷ xs) (b ∷ ys) (suc n) x y all e f = zip_at R xs ys n x y all.1 e f
-
-one_of_two : {A : Type 0} (o : Option A) (x y : A) → o ≡ Some x → o ≡ Some y → x ≡ y
-one_of_two o x y e f = let k : Some x ≡ Some y = sym e ∙ f in cc
 
 the_of : {A : Type 0} (P : Changed A → Type 0) (o : Option (Changed A)) (c : Changed A) → o ≡ Some c → EachOf P o → P c
 the_of P o c e h = subst (λ o. EachOf P o) e h
@@ -163,11 +162,8 @@ record IsReplaced (new v : Value) (d : Changed Value) : Type 0 where
 replaced : (new v : Value) (d : Changed Value) → replacement new [] v ≡ Some d → IsReplaced new v d
 replaced new v d e =
     let x : Changed Value = record { to = new; before = []; old = value_text v; new = value_text new; after = [] } in
-    let k : x ≡ d = some_is x d e in
+    let k : x ≡ d = same_Some x d e in
     record { before = sym (ap (λ (c : Changed Value). c.before) k); old = sym (ap (λ (c : Changed Value). c.old) k); fresh = sym (ap (λ (c : Changed Value). c.new) k) }
-  where
-    some_is : (x y : Changed Value) → Some x ≡ Some y → x ≡ y
-    some_is x y e = cc
 
 fact_of_has : (path : List Part) (ms : List Mention) → has_value path ms ≡ true → (f : Fact) × (fact_at path ms ≡ Some f) × (is_value_fact f ≡ true)
 fact_of_has path ms h = by (fact_at path ms) refl h
@@ -246,12 +242,6 @@ none_of_number path s obeys number = by (has_value path (mentions_in s)) (number
     by : (b : Bool) → (b ≡ true → (v : ℕ) × (last_number is_value value_number (numbered_at path (numbered_in s)) ≡ Some v)) → b ≡ false
     by false f = refl
     by true f = let (v, e) = f refl in let k : None ≡ Some v = sym number ∙ e in absurd cc
-
--- the span that is known of the node
-pub span_of_node : (profile : Profile) (path : List Part) (s : Document) (v : ℕ) (i : ValueInfo) → IsValueOf profile path s v i
-    → value_span_of (syntax.values s) (node_at (numbered_in s) path) ≡ Some i.span
-span_of_node profile path s v i h =
-    ap (option_and_then (value_span (syntax.values s))) h.number ∙ ap (option_map (λ (j : ValueInfo). j.span)) h.info
 
 -- the mention of a value with that number is at the path
 pub mention_of_number : (path : List Part) (s : Document) (v : ℕ) → ObeysRules (marks (mentions_in s)) → last_number is_value value_number (numbered_at path (numbered_in s)) ≡ Some v
