@@ -17,7 +17,7 @@ use Rattle.keep_cli.specs.declared.script.Op.TheVariants as op
 use Rattle.keep_edit.specs.declared.edits.Edit.TheVariants as edit
 use Rattle.keep_commands.specs.OwnValues.{AreStrict, IsStrictEdit}
 use Rattle.keep_cli.specs.Script.{Makes, AreEntries, IsEntry, IsNoEntry, IsScript, IsScriptFault, IsTreeFault, element_count}
-use Rattle.keep_cli.specs.Scripting.{IsFaultAt, IsKeysIn, IsOnlyPath, Tells}
+use Rattle.keep_cli.specs.Scripting.{IsFaultAt, IsKeysIn, IsOnlyPath, StatesEdits}
 
 -- one element more tells one edit more
 entries_more : (profile : Profile) (s : Document) (n : ℕ) (es : List Edit) (e : Edit) → AreEntries profile s n es → IsEntry profile s (n + length es) e → AreEntries profile s n (es ++ e ∷ [])
@@ -36,7 +36,7 @@ pub entries_after : (profile : Profile) (s : Document) (n : ℕ) (es new : List 
 entries_after profile s n es new e is many are here =
     subst (λ (xs : List Edit). AreEntries profile s 0 xs) (sym is) (entries_more profile s 0 es e are (subst (λ (m : ℕ). IsEntry profile s m e) (let so : n ≡ 0 + length es = omega (arith, many) in so) here))
 
--- the first element that tells no edit
+-- the first element that states no edit
 first_fault : (profile : Profile) (s : Document) (count n : ℕ) (es : List Edit) (f : UseFault) → element_count s ≡ Some count → n < count → length es ≡ n → AreEntries profile s 0 es → IsFaultAt profile s n f → IsTreeFault profile s f
 first_fault profile s count n es (fault.Entry m why) is lt many are (same, none) =
     (count, is, omega (arith, lt, same), record { before = es; many = many ∙ sym same; entries = are; fault = subst (λ (i : ℕ). IsNoEntry profile s i why) (sym same) none })
@@ -54,7 +54,7 @@ stopped profile s count n es f is lt many are (inr h) = inr (first_fault profile
 
 -- what `?` passes up
 pub stops : (profile : Profile) (s : Document) (count n : ℕ) (es : List Edit) (f : UseFault) (r : Result (Vec Edit Global) UseFault) → IsErrAnd r (λ e. e ≡ f) → element_count s ≡ Some count → n < count → length es ≡ n → AreEntries profile s 0 es
-    → (f ≡ fault.Memory) ⊎ IsFaultAt profile s n f → MatchResult r (λ edits. Tells profile s edits.items) (λ e. (e ≡ fault.Memory) ⊎ IsTreeFault profile s e)
+    → (f ≡ fault.Memory) ⊎ IsFaultAt profile s n f → MatchResult r (λ edits. StatesEdits profile s edits.items) (λ e. (e ≡ fault.Memory) ⊎ IsTreeFault profile s e)
 stops profile s count n es f (Ok edits) same is lt many are h = absurd same
 stops profile s count n es f (Err e) same is lt many are h = subst (λ (x : UseFault). (x ≡ fault.Memory) ⊎ IsTreeFault profile s x) (sym same) (stopped profile s count n es f is lt many are h)
 
@@ -81,14 +81,14 @@ no_tree profile bytes s (fault.Script f) read h = absurd h
 no_tree profile bytes s fault.Memory read h = absurd h
 
 of_tree : (profile : Profile) (bytes : List ℕ) (s : Document) (r : Result (Vec Edit Global) UseFault) → IsTextOfTree (text_in Strict bytes) s
-    → MatchResult r (λ edits. Tells profile s edits.items) (λ f. (f ≡ fault.Memory) ⊎ IsTreeFault profile s f)
+    → MatchResult r (λ edits. StatesEdits profile s edits.items) (λ f. (f ≡ fault.Memory) ⊎ IsTreeFault profile s f)
     → MatchResult r (λ edits. IsScript profile bytes edits.items) (λ f. (f ≡ fault.Memory) ⊎ IsScriptFault profile bytes f)
 of_tree profile bytes s (Ok edits) read stated = record { tree = s; read = read; count = stated.count; entries = stated.entries }
 of_tree profile bytes s (Err f) read (inl memory) = inl memory
 of_tree profile bytes s (Err f) read (inr fault) = inr (no_tree profile bytes s f read fault)
 
 pub script_stated : (profile : Profile) (bytes : List ℕ) (d : ProfiledText) (r : Result (Vec Edit Global) UseFault) → d ≡ text_in Strict bytes → IsAccepted d
-    → ((s : Document) → IsTextOfTree d s → MatchResult r (λ edits. Tells profile s edits.items) (λ f. (f ≡ fault.Memory) ⊎ IsTreeFault profile s f))
+    → ((s : Document) → IsTextOfTree d s → MatchResult r (λ edits. StatesEdits profile s edits.items) (λ f. (f ≡ fault.Memory) ⊎ IsTreeFault profile s f))
     → MatchResult r (λ edits. IsScript profile bytes edits.items) (λ f. (f ≡ fault.Memory) ⊎ IsScriptFault profile bytes f)
 script_stated profile bytes d r same (s, h) k = of_tree profile bytes s r (subst (λ (t : ProfiledText). IsTextOfTree t s) same h) (k s h)
 

@@ -1,4 +1,4 @@
--- What a script's text means: a document whose only key is `edit`, an array of tables, each of which tells an edit.
+-- What a script's text means: a document whose only key is `edit`, an array of tables, each of which states an edit.
 use Rattle.std.specs.Prelude.{◌≡◌, ⊤, ℕ, zero, suc, ◌<◌, List, [], ◌∷◌, codes, length, Option, Some, None}
 use Rattle.std.specs.Prelude.{if◌then◌else◌, string_bytes}
 use Rattle.std.specs.Option.{option_and_then}
@@ -96,7 +96,7 @@ Makes profile op.Table path third (edit.Table keys) = IsKeysText path (key_texts
 Makes profile op.Element path third (edit.Element keys) = IsKeysText path (key_texts keys.items)
 Makes _ _ _ _ _ = ⊥
 
--- the element with this number tells this edit
+-- the element with this number states this edit
 abbrev pub IsEntry : Profile → Document → ℕ → Edit → Type 0
 IsEntry profile s n e =
     (o : Op) × (op_of s n ≡ Some o)
@@ -126,7 +126,7 @@ MakesNone profile o path third why.Path = IsPathFor o path → ⊥
 MakesNone profile o path third why.Value = IsPathFor o path × TakesValue o × (IsAcceptedValue profile third → ⊥)
 MakesNone profile o path third _ = ⊥
 
--- the element with this number tells no edit, and this is the first reason
+-- the element with this number states no edit, and this is the first reason
 abbrev pub IsNoEntry : Profile → Document → ℕ → EntryWhy → Type 0
 IsNoEntry profile s n why.Op = op_of s n ≡ None
 IsNoEntry profile s n why.Keys =
@@ -144,7 +144,7 @@ pub record IsScript (profile : Profile) (bytes : List ℕ) (edits : List Edit) :
   pub count : element_count tree ≡ Some (length edits)
   pub entries : AreEntries profile tree 0 edits
 
--- the element with this number is the first that tells no edit
+-- the element with this number is the first that states no edit
 pub record IsFirstFault (profile : Profile) (s : Document) (n : ℕ) (why : EntryWhy) : Type 0 where
   pub before : List Edit
   pub many : length before ≡ n

@@ -18,7 +18,7 @@ use Rattle.keep_cli.specs.Script.{element_count, AreEntries, HasKeys, IsNoEntry,
 use Rattle.keep_cli.specs.PathWords.{IsKeysText, IsPath}
 
 -- these edits are given by all elements
-pub record Tells (profile : Profile) (s : Document) (edits : List Edit) : Type 0 where
+pub record StatesEdits (profile : Profile) (s : Document) (edits : List Edit) : Type 0 where
   pub count : element_count s ≡ Some (length edits)
   pub entries : AreEntries profile s 0 edits
 

@@ -26,7 +26,7 @@ pub enum UseFault {
     /// A script has another top level than `edit`, an array of tables, alone.
     #[error("script: shape")]
     Shape,
-    /// The element with this number of a script, from 0, tells no edit.
+    /// The element with this number of a script, from 0, states no edit.
     #[error("script: edit {index}: {why}")]
     Entry { index: usize, why: EntryWhy },
     /// A growth was refused.
@@ -34,7 +34,7 @@ pub enum UseFault {
     Memory,
 }
 
-/// Why an element of a script tells no edit: the first that holds.
+/// Why an element of a script states no edit: the first that holds.
 #[derive(Clone, Copy, Debug, PartialEq, Eq, Error)]
 pub enum EntryWhy {
     /// It has no `op`, or one that is no string, or unknown.

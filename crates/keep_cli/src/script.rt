@@ -6,7 +6,7 @@ ghost use Rattle.keep_edit.specs.Reading.{IsTextOfTree};
 ghost use Rattle.keep_cli.specs.Script as spec;
 ghost use Rattle.keep_cli.specs.Script.{IsEntry, IsScript, IsScriptFault, IsTreeFault, Makes};
 ghost use Rattle.keep_cli.specs.Scripting.{AreTexts, IsFaultAt, IsGiven, IsKeysIn, IsNoKeys, IsNoPath, IsNoValue};
-ghost use Rattle.keep_cli.specs.Scripting.{IsOnlyPath, IsTextsFault, Tells};
+ghost use Rattle.keep_cli.specs.Scripting.{IsOnlyPath, IsTextsFault, StatesEdits};
 ghost use Rattle.keep_cli.specs.PathWords.{IsKeysText};
 
 use crate::command::key_at;
@@ -40,7 +40,7 @@ struct Texts {
 /// # Errors
 ///
 /// `Script` if the text is no document; else `Shape` if its top level is another; else `Entry` with the number of the
-/// first element that tells no edit, and the first reason why, in the order of `EntryWhy`; `Memory` where a growth was
+/// first element that states no edit, and the first reason why, in the order of `EntryWhy`; `Memory` where a growth was
 /// refused.
 pub fn script_of(alloc: Global, text: &str, profile: Profile) -> Result<Vec<Edit>, UseFault>
     ensures { MatchResult result (λ edits. IsScript profile text.now edits.items)
@@ -57,7 +57,7 @@ pub fn script_of(alloc: Global, text: &str, profile: Profile) -> Result<Vec<Edit
 // The edits of a script's document.
 fn edits_of(alloc: Global, document: &Document, profile: Profile) -> Result<Vec<Edit>, UseFault>
     ensures { (s : tree.Document) → IsTextOfTree document.now s
-        → MatchResult result (λ edits. Tells profile s edits.items)
+        → MatchResult result (λ edits. StatesEdits profile s edits.items)
         (λ fault. (fault ≡ UseFault.Memory) ⊎ IsTreeFault profile s fault) }
 {
     let Some(count) = element_count(alloc, document)? else {

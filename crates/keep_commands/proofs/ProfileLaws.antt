@@ -32,11 +32,11 @@ use Rattle.keep_commands.specs.declared.fault.RunFault.{RunFault}
 use Rattle.keep_commands.specs.declared.fault.RunFault.TheVariants as run
 
 -- the conditions that tell this fault do not hold
-abbrev NeverTells : EditFault → List (Bool × EditFault) → Type 0
-NeverTells f [] = Unit {0}
-NeverTells f (c ∷ cs) = (c.1 ≡ f → c.0 ≡ false) × NeverTells f cs
+abbrev NeverStates : EditFault → List (Bool × EditFault) → Type 0
+NeverStates f [] = Unit {0}
+NeverStates f (c ∷ cs) = (c.1 ≡ f → c.0 ≡ false) × NeverStates f cs
 
-never_first : (f : EditFault) (cs : List (Bool × EditFault)) → NeverTells f cs → first_that_holds cs ≡ Some f → ⊥
+never_first : (f : EditFault) (cs : List (Bool × EditFault)) → NeverStates f cs → first_that_holds cs ≡ Some f → ⊥
 never_first f [] never h = let no : None ≡ Some f = h in cc
 never_first f ((true, g) ∷ cs) never h = let same : Some g ≡ Some f = h in let no : true ≡ false = never.0 (let is : g ≡ f = cc in is) in cc
 never_first f ((false, g) ∷ cs) never h = never_first f cs never.1 h
@@ -70,13 +70,13 @@ never_four : (a b c d : Bool) (f g h i : EditFault) → (f ≡ fault.Profile →
     → first_that_holds ((a, f) ∷ (b, g) ∷ (c, h) ∷ (d, i) ∷ []) ≡ Some fault.Profile → ⊥
 never_four a b c d f g h i x y z w = never_first fault.Profile ((a, f) ∷ (b, g) ∷ (c, h) ∷ (d, i) ∷ []) ((λ e. absurd (x e)), ((λ e. absurd (y e)), ((λ e. absurd (z e)), (w, tt))))
 
-tells_conflict : (o : Option Why) → option_map fault.Conflict o ≡ Some fault.Profile → ⊥
-tells_conflict None h = let no : ◌≡◌ {A = Option EditFault} None (Some fault.Profile) = h in cc
-tells_conflict (Some why) h = let no : Some (fault.Conflict why) ≡ Some fault.Profile = h in cc
+states_conflict : (o : Option Why) → option_map fault.Conflict o ≡ Some fault.Profile → ⊥
+states_conflict None h = let no : ◌≡◌ {A = Option EditFault} None (Some fault.Profile) = h in cc
+states_conflict (Some why) h = let no : Some (fault.Conflict why) ≡ Some fault.Profile = h in cc
 
 never_appended : (keys : List (List ℕ)) (statement : Statement) (ms : List Mention) → or_conflict (first_that_holds ((is_empty keys, fault.NotKey) ∷ [])) statement ms ≡ Some fault.Profile → ⊥
 never_appended [] statement ms h = let no : Some fault.NotKey ≡ Some fault.Profile = h in cc
-never_appended (k ∷ ks) statement ms h = tells_conflict (first_conflict (marks ms) (marks (statement_mentions (end_reading ms) statement))) h
+never_appended (k ∷ ks) statement ms h = states_conflict (first_conflict (marks ms) (marks (statement_mentions (end_reading ms) statement))) h
 
 never_five : (a b c d e : Bool) → e ≡ false → first_that_holds ((a, fault.NotFound) ∷ (b, fault.Exists) ∷ (c, fault.NotTable) ∷ (d, fault.TooDeep) ∷ (e, fault.Profile) ∷ []) ≡ Some fault.Profile → ⊥
 never_five a b c d e own = never_first fault.Profile ((a, fault.NotFound) ∷ (b, fault.Exists) ∷ (c, fault.NotTable) ∷ (d, fault.TooDeep) ∷ (e, fault.Profile) ∷ [])

@@ -13,7 +13,7 @@ use Rattle.keep_syntax.specs.Contract.{IsSyntaxOf}
 use Rattle.keep_syntax.proofs.Shared.{one_document}
 use Rattle.keep_rules.specs.ReadDocuments.{WasRead, IsIndexOf, IsRefusal}
 use Rattle.keep_path.specs.NodeInfos.{NodeInfos}
-use Rattle.keep_edit.specs.Reading.{limit, ProfiledText, text_in, IsRefused, IsSyntaxIn, IsTextOfTree, TellsNoText, Holds}
+use Rattle.keep_edit.specs.Reading.{limit, ProfiledText, text_in, IsRefused, IsSyntaxIn, IsTextOfTree, ReportsNoText, Holds}
 
 pub was_read : {profile : Profile} {bytes : List ℕ} {syntax : Syntax} {d : Document} → Reads profile limit bytes d → IsSyntaxOf syntax d → WasRead bytes syntax d
 was_read {profile} reads is = record { profile = profile; limit = limit; reads = reads; is = is }
@@ -36,8 +36,8 @@ holds profile bytes syntax index utf8 h built =
 pub not_utf8 : (profile : Profile) (bytes : List ℕ) (at : ℕ) → ¬ (IsUtf8 bytes) → IsValidUpTo bytes at → IsRefused (text_in profile bytes) (fault.Utf8 at)
 not_utf8 profile bytes at not prefix = inr (not, sym (utf8_valid_len-IsValidUpTo bytes at prefix))
 
-pub tells_no_text : {T : Type 0} (bytes : List ℕ) (at : ℕ) → IsValidUpTo bytes at → TellsNoText {T = T} bytes (Err (fault.Utf8 at))
-tells_no_text bytes at prefix not = ap (λ (n : ℕ). Err (fault.Utf8 n)) (sym (utf8_valid_len-IsValidUpTo bytes at prefix))
+pub reports_no_text : {T : Type 0} (bytes : List ℕ) (at : ℕ) → IsValidUpTo bytes at → ReportsNoText {T = T} bytes (Err (fault.Utf8 at))
+reports_no_text bytes at prefix not = ap (λ (n : ℕ). Err (fault.Utf8 n)) (sym (utf8_valid_len-IsValidUpTo bytes at prefix))
 
 by_rules : (profile : Profile) (bytes : List ℕ) (d : Document) (e : ReadFault) → IsUtf8 bytes → Reads profile limit bytes d → IsRefusal d e → IsRefused (text_in profile bytes) e
 by_rules profile bytes d (fault.Define at why) utf8 reads h = inr (utf8, (d, reads, h))

@@ -24,5 +24,5 @@ abbrev pub IsRefused : ProfiledText → ReadFault → Type 0
 IsRefused t fault = (fault ≡ Memory) ⊎ IsReadFault t.profile limit t.text fault
 
 -- If the bytes are no text, this is reported, with the length of their longest prefix that is text.
-abbrev pub TellsNoText : {T : Type 0} → List ℕ → Result T ReadFault → Type 0
-TellsNoText bytes result = ¬ (IsUtf8 bytes) → result ≡ Err (Utf8 (utf8_valid_len bytes))
+abbrev pub ReportsNoText : {T : Type 0} → List ℕ → Result T ReadFault → Type 0
+ReportsNoText bytes result = ¬ (IsUtf8 bytes) → result ≡ Err (Utf8 (utf8_valid_len bytes))

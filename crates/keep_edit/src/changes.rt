@@ -321,7 +321,7 @@ impl Document {
     }
 }
 
-/// Makes of the syntax and the index of a document those of the text after an edit, and tells how many bytes are
+/// Makes of the syntax and the index of a document those of the text after an edit, and reports how many bytes are
 /// scanned: those of the lines that the edit touches. The only error is out of memory, and then both are as before.
 fn reread(
     alloc: Global,

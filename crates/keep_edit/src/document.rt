@@ -6,7 +6,7 @@ ghost use Rattle.keep_syntax.specs.declared.fault.ReadFault.TheVariants.{Memory}
 ghost use Rattle.keep_syntax.specs.Tree as tree;
 ghost use Rattle.keep_syntax.specs.Contract.{left};
 ghost use Rattle.keep_syntax.specs.Numbered as syntax;
-ghost use Rattle.keep_edit.specs.Reading.{IsAccepted, IsRefused, IsSyntaxIn, IsTextOfTree, TellsNoText, text_in};
+ghost use Rattle.keep_edit.specs.Reading.{IsAccepted, IsRefused, IsSyntaxIn, IsTextOfTree, ReportsNoText, text_in};
 
 mod entries;
 
@@ -70,7 +70,7 @@ impl Document {
         ensures accepted { IfOk result IsAccepted }
         ensures only { IsAccepted (text_in Strict bytes.now) → IsOkUnless result Memory }
         ensures faults { IfErr result (IsRefused (text_in Strict bytes.now)) }
-        ensures no_text { TellsNoText bytes.now result }
+        ensures no_text { ReportsNoText bytes.now result }
     {
         Document::read_in(alloc, bytes, Profile::Strict)
     }
@@ -85,7 +85,7 @@ impl Document {
         ensures accepted { IfOk result IsAccepted }
         ensures only { IsAccepted (text_in profile bytes.now) → IsOkUnless result Memory }
         ensures faults { IfErr result (IsRefused (text_in profile bytes.now)) }
-        ensures no_text { TellsNoText bytes.now result }
+        ensures no_text { ReportsNoText bytes.now result }
     {
         match text_of(bytes) {
             Ok(text) => Document::of_text(alloc, String::from_str(alloc, text)?, profile),
@@ -103,7 +103,7 @@ impl Document {
         ensures accepted { IfOk result IsAccepted }
         ensures only { IsAccepted (text_in Strict bytes.items) → IsOkUnless result Memory }
         ensures faults { IfErr result (IsRefused (text_in Strict bytes.items)) }
-        ensures no_text { TellsNoText bytes.items result }
+        ensures no_text { ReportsNoText bytes.items result }
     {
         Document::read_owned_in(alloc, bytes, Profile::Strict)
     }
@@ -122,7 +122,7 @@ impl Document {
         ensures accepted { IfOk result IsAccepted }
         ensures only { IsAccepted (text_in profile bytes.items) → IsOkUnless result Memory }
         ensures faults { IfErr result (IsRefused (text_in profile bytes.items)) }
-        ensures no_text { TellsNoText bytes.items result }
+        ensures no_text { ReportsNoText bytes.items result }
     {
         match text_of(bytes.as_slice()) {
             Ok(_) => {

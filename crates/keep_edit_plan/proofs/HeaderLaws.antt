@@ -1,6 +1,6 @@
 -- What the index tells of a node tells what a header meets there.
 --
--- The origin of a node says which things are said of its path (`origin_tells`), and those say what its marks refuse: a
+-- The origin of a node says which things are said of its path (`origin_states`), and those say what its marks refuse: a
 -- value refuses all, an array of tables all but its elements, any other node elements (`refused_last`). Headers
 -- continue from a node that is no value: into the last element of an array of tables, as `AreNested` says, else at the
 -- node itself. Where there is no node, there is none below, so nothing more is refused (`free_from`).
@@ -47,17 +47,17 @@ use Rattle.keep_edit_plan.proofs.RemoveNode.{has_of, none_of, ends_never_begun}
 -- ---- where a node comes from
 
 -- what the origin of a node tells of the last mentions of each kind
-abbrev OriginTells : Origin → Option ℕ → Option ℕ → Option ℕ → Option ℕ → Option ℕ → Option ℕ → Type 0
-OriginTells (origin.Value n) v t b d k g = v ≡ Some n
-OriginTells origin.Tables v t b d k g = (v ≡ None) × ((i : ℕ) × (t ≡ Some i))
-OriginTells (origin.Element n) v t b d k g = b ≡ Some n
-OriginTells (origin.Header n) v t b d k g = (v ≡ None) × (t ≡ None) × (d ≡ Some n)
-OriginTells (origin.Dotted n) v t b d k g = (v ≡ None) × (t ≡ None) × (d ≡ None) × (k ≡ Some n)
-OriginTells (origin.Through n) v t b d k g = (v ≡ None) × (t ≡ None) × (d ≡ None) × (k ≡ None) × (g ≡ Some n)
-OriginTells origin.Root v t b d k g = (v ≡ None) × (t ≡ None) × (d ≡ None) × (k ≡ None) × (g ≡ None)
+abbrev OriginStates : Origin → Option ℕ → Option ℕ → Option ℕ → Option ℕ → Option ℕ → Option ℕ → Type 0
+OriginStates (origin.Value n) v t b d k g = v ≡ Some n
+OriginStates origin.Tables v t b d k g = (v ≡ None) × ((i : ℕ) × (t ≡ Some i))
+OriginStates (origin.Element n) v t b d k g = b ≡ Some n
+OriginStates (origin.Header n) v t b d k g = (v ≡ None) × (t ≡ None) × (d ≡ Some n)
+OriginStates (origin.Dotted n) v t b d k g = (v ≡ None) × (t ≡ None) × (d ≡ None) × (k ≡ Some n)
+OriginStates (origin.Through n) v t b d k g = (v ≡ None) × (t ≡ None) × (d ≡ None) × (k ≡ None) × (g ≡ Some n)
+OriginStates origin.Root v t b d k g = (v ≡ None) × (t ≡ None) × (d ≡ None) × (k ≡ None) × (g ≡ None)
 
 fits : (v t b d k g : Option ℕ)
-    → OriginTells (first_that_fits (option_map origin.Value v ∷ option_map (λ i. origin.Tables) t ∷ option_map origin.Element b ∷ option_map origin.Header d ∷ option_map origin.Dotted k ∷ option_map origin.Through g ∷ [])) v t b d k g
+    → OriginStates (first_that_fits (option_map origin.Value v ∷ option_map (λ i. origin.Tables) t ∷ option_map origin.Element b ∷ option_map origin.Header d ∷ option_map origin.Dotted k ∷ option_map origin.Through g ∷ [])) v t b d k g
 fits (Some i) t b d k g = refl
 fits None (Some i) b d k g = (refl, (i, refl))
 fits None None (Some i) d k g = refl
@@ -69,11 +69,11 @@ fits None None None None None None = (refl, refl, refl, refl, refl)
 abbrev OriginOf : Origin → List Part → Document → Type 0
 OriginOf p path s =
     let ns : List Numbered = numbered_at path (numbered_in s) in
-    OriginTells p (last_number is_value value_number ns) (last_number is_element statement_number ns) (last_number is_begun statement_number ns)
+    OriginStates p (last_number is_value value_number ns) (last_number is_element statement_number ns) (last_number is_begun statement_number ns)
     (last_number is_define statement_number ns) (last_number is_dotted value_number ns) (last_number is_through statement_number ns)
 
-origin_tells : (path : List Part) (s : Document) (info : NodeInfo) → IsStated path s info → OriginOf info.origin path s
-origin_tells path s info stated =
+origin_states : (path : List Part) (s : Document) (info : NodeInfo) → IsStated path s info → OriginOf info.origin path s
+origin_states path s info stated =
     let ns : List Numbered = numbered_at path (numbered_in s) in
     subst (λ (p : Origin). OriginOf p path s) (sym (ap (λ (i : NodeInfo). i.origin) stated.is))
     (fits (last_number is_value value_number ns) (last_number is_element statement_number ns) (last_number is_begun statement_number ns)
@@ -136,7 +136,7 @@ module _ (s : Document) (t : NodeInfos) (h : IsIndexOf s t) where
 
   module _ (at : List Part) (k : List ℕ) (i : ℕ) (info : NodeInfo) (number : node_number (node_paths (mentions_in s)) (at ++ key k ∷ []) ≡ Some i) (there : slice_get t.infos i ≡ Some info) where
     tells : OriginOf info.origin (at ++ key k ∷ []) s
-    tells = origin_tells (at ++ key k ∷ []) s info (stated_there (at ++ key k ∷ []) i info number there)
+    tells = origin_states (at ++ key k ∷ []) s info (stated_there (at ++ key k ∷ []) i info number there)
 
     lets : Pairs Allows (marks (mentions_in s))
     lets = marks_let (mentions_in s) h.obeys

@@ -40,7 +40,7 @@ use Rattle.keep_edit_spec.specs.Look.{prefixes, last_passing, holder, enclosing,
 use Rattle.keep_edit_spec.proofs.Shared.{Rules, alone_of_bracket, never_whole, no_bracket_element, rules_of_document}
 use Rattle.keep_edit_plan.specs.Reading.{ProfiledText, IsTextOfTree, Holds}
 use Rattle.keep_edit_plan.specs.Inserting.{origin_of, is_dotted_origin}
-use Rattle.keep_edit_plan.specs.Holding.{brackets_of, is_value_origin, IsOnWay, IsFurther, IsHolder}
+use Rattle.keep_edit_plan.specs.Holding.{brackets_of, is_value_origin, IsOnWalk, IsFurther, IsHolder}
 use Rattle.keep_edit_plan.specs.declared.holder.Holder.{Holder}
 use Rattle.keep_edit_plan.proofs.AnswerLaws.{stated_is}
 use Rattle.keep_edit_plan.proofs.FoundLaws.{IsStated, one_found, fact_node}
@@ -122,12 +122,12 @@ no_dots (origin.Through v) h = refl
 no_dots origin.Root h = refl
 no_dots origin.Tables h = refl
 
-module _ (d : ProfiledText) (syntax : Syntax) (index : NodeInfos) (path : List Part) (s : Document) (holds : Holds d syntax index) (read : IsTextOfTree d s) (h : Holder) (way : IsOnWay path s h) where
+module _ (d : ProfiledText) (syntax : Syntax) (index : NodeInfos) (path : List Part) (s : Document) (holds : Holds d syntax index) (read : IsTextOfTree d s) (h : Holder) (walk : IsOnWalk path s h) where
   paths_are : index.paths ≡ node_paths (mentions_in s)
   paths_are = ap (λ (t : NodeInfos). t.paths) (stated_is d syntax index s holds read) ∙ paths-nodes_in s
 
   here : (h.id.0 < length index.paths) × (path_numbered index h.id.0 ≡ take h.len path)
-  here = number_is index.paths (take h.len path) h.id.0 (ap (λ (ps : List (List Part)). node_number ps (take h.len path)) paths_are ∙ way.node)
+  here = number_is index.paths (take h.len path) h.id.0 (ap (λ (ps : List (List Part)). node_number ps (take h.len path)) paths_are ∙ walk.node)
 
   pub node_nested : h.id.0 < length index.paths
   node_nested = here.0
@@ -185,19 +185,19 @@ module _ (d : ProfiledText) (syntax : Syntax) (index : NodeInfos) (path : List P
     deeper =
         let more : enclosing (take (suc h.len) path) (mentions_in s) ≡ enclosing (take h.len path) (mentions_in s) + one_if (is_bracket_at (mentions_in s) (take h.len path)) =
         enclosing_more path (mentions_in s) h.len (slice_get_within path h.len p is) in
-        let whole : h.depth + k ≡ enclosing (take (suc h.len) path) (mentions_in s) + one_if (is_bracket_at (mentions_in s) (take (suc h.len) path)) = omega (arith, more, way.depth, brackets_are) in
+        let whole : h.depth + k ≡ enclosing (take (suc h.len) path) (mentions_in s) + one_if (is_bracket_at (mentions_in s) (take (suc h.len) path)) = omega (arith, more, walk.depth, brackets_are) in
         whole ∙ ap (λ (n : ℕ). enclosing (take n path) (mentions_in s) + one_if (is_bracket_at (mentions_in s) (take n path))) (sym long)
 
-    pub by_dots : (v : ℕ) → info.origin ≡ origin.Dotted v → IsOnWay path s (record { id = id; len = len; base = h.base; braced = h.braced; depth = h.depth + k }) × (len ≡ suc h.len)
+    pub by_dots : (v : ℕ) → info.origin ≡ origin.Dotted v → IsOnWalk path s (record { id = id; len = len; base = h.base; braced = h.braced; depth = h.depth + k }) × (len ≡ suc h.len)
     by_dots v dot = (
       record {
         within = omega (arith, long, nested);
         node = next_node;
-        based = omega (arith, long, way.based);
-        base = way.base;
+        based = omega (arith, long, walk.based);
+        base = walk.base;
         dots = λ n low high. dotted n low (cases n high);
-        braced = way.braced;
-        low = omega (arith, long, way.low, few);
+        braced = walk.braced;
+        low = omega (arith, long, walk.low, few);
         depth = deeper;
       },
       long,
@@ -207,10 +207,10 @@ module _ (d : ProfiledText) (syntax : Syntax) (index : NodeInfos) (path : List P
         cases n high = elim (cases_lt h.len n) [ inl b ↦ inr (omega (arith, b, high, long)) | inr a ↦ inl a ]
 
         dotted : (n : ℕ) → h.base < n → (n ≤ h.len) ⊎ (n ≡ suc h.len) → is_dotted_origin (origin_of (take n path) s) ≡ true
-        dotted n low (inl a) = way.dots n low a
+        dotted n low (inl a) = walk.dots n low a
         dotted n low (inr b) = ap (λ (m : ℕ). is_dotted_origin (origin_of (take m path) s)) b ∙ ap is_dotted_origin (place_is ∙ dot)
 
-    pub by_other : (b : Bool) → b ≡ is_value_origin info.origin → ((v : ℕ) → info.origin ≡ origin.Dotted v → ⊥) → IsOnWay path s (record { id = id; len = len; base = len; braced = b; depth = h.depth + k }) × (len ≡ suc h.len)
+    pub by_other : (b : Bool) → b ≡ is_value_origin info.origin → ((v : ℕ) → info.origin ≡ origin.Dotted v → ⊥) → IsOnWalk path s (record { id = id; len = len; base = len; braced = b; depth = h.depth + k }) × (len ≡ suc h.len)
     by_other b value other = (
       record {
         within = omega (arith, long, nested);
@@ -219,7 +219,7 @@ module _ (d : ProfiledText) (syntax : Syntax) (index : NodeInfos) (path : List P
         base = ap (λ (m : ℕ). is_dotted_origin (origin_of (take m path) s)) long ∙ ap is_dotted_origin place_is ∙ no_dots info.origin other;
         dots = λ n low high. absurd (omega (arith, low, high));
         braced = value ∙ ap is_value_origin (sym place_is) ∙ ap (λ (m : ℕ). is_value_origin (origin_of (take m path) s)) (sym long);
-        low = omega (arith, long, way.low, few);
+        low = omega (arith, long, walk.low, few);
         depth = deeper;
       },
       long,
@@ -250,7 +250,7 @@ root_flat s = by (is_bracket_at (mentions_in s) []) refl
     by false e = refl
     by true e = absurd (never_whole s (alone_of_bracket [] (mentions_in s) e))
 
-pub at_root : (path : List Part) (s : Document) → IsOnWay path s (record { id = record { 0 = 0 }; len = 0; base = 0; braced = false; depth = 0 })
+pub at_root : (path : List Part) (s : Document) → IsOnWalk path s (record { id = record { 0 = 0 }; len = 0; base = 0; braced = false; depth = 0 })
 at_root path s = record {
   within = omega arith;
   node = root_number s;
@@ -318,7 +318,7 @@ enclosing_same path ms (suc k) n e none =
 -- ---- the way along a path, and its end
 
 abbrev pub IsGoing : ProfiledText → List Part → ℕ → Holder → Type 0
-IsGoing d path len h = (len ≡ suc h.len) × ((path ≡ []) ⊎ (h.len < length path)) × ((s : Document) → IsTextOfTree d s → IsOnWay path s h)
+IsGoing d path len h = (len ≡ suc h.len) × ((path ≡ []) ⊎ (h.len < length path)) × ((s : Document) → IsTextOfTree d s → IsOnWalk path s h)
 
 some_step : (path : List Part) → (path ≡ []) ⊎ (0 < length path)
 some_step [] = inl refl
@@ -327,9 +327,9 @@ some_step (p ∷ ps) = inr (omega arith)
 pub going : (d : ProfiledText) (path : List Part) → IsGoing d path 1 (record { id = record { 0 = 0 }; len = 0; base = 0; braced = false; depth = 0 })
 going d path = (refl, some_step path, λ s read. at_root path s)
 
-holder_at : (path : List Part) (s : Document) (h : Holder) → IsOnWay path s h → (path ≡ []) ⊎ (h.len < length path) → ((n : ℕ) → h.len < n → n < length path → is_node (take n path) (mentions_in s) ≡ false)
+holder_at : (path : List Part) (s : Document) (h : Holder) → IsOnWalk path s h → (path ≡ []) ⊎ (h.len < length path) → ((n : ℕ) → h.len < n → n < length path → is_node (take n path) (mentions_in s) ≡ false)
     → (holder path (mentions_in s) ≡ take h.len path) × (h.depth ≡ enclosing path (mentions_in s))
-holder_at path s h way (inl empty) none = (by path empty way.within, subst (λ (q : List Part). h.depth ≡ enclosing q (mentions_in s)) (sym empty) (zero_depth path empty h.len way.within h.depth way.depth))
+holder_at path s h walk (inl empty) none = (by path empty walk.within, subst (λ (q : List Part). h.depth ≡ enclosing q (mentions_in s)) (sym empty) (zero_depth path empty h.len walk.within h.depth walk.depth))
   where
     by : (q : List Part) → q ≡ [] → h.len ≤ length q → holder q (mentions_in s) ≡ take h.len q
     by [] e low = sym (take_all h.len [] (omega arith))
@@ -341,30 +341,30 @@ holder_at path s h way (inl empty) none = (by path empty way.within, subst (λ (
         let at_end : k ≡ 0 + one_if (is_bracket_at (mentions_in s) []) = is ∙ ap (λ (q : List Part). enclosing q (mentions_in s) + one_if (is_bracket_at (mentions_in s) q)) none_taken in
         omega (arith, at_end, ap one_if (root_flat s))
     zero_depth (p ∷ ps) e n low k is = absurd cc
-holder_at path s h way (inr more) none =
+holder_at path s h walk (inr more) none =
     let ms : List Mention = mentions_in s in
     let passing : last_passing (λ prefix. is_node prefix ms) (prefixes path) ≡ Some (take h.len path) =
-    passing_longest (λ prefix. is_node prefix ms) path h.len more (a_node (take h.len path) ms h.id.0 way.node) none in
+    passing_longest (λ prefix. is_node prefix ms) path h.len more (a_node (take h.len path) ms h.id.0 walk.node) none in
     let deeper : enclosing path ms ≡ enclosing (take (suc h.len) path) ms =
     enclosing_same path ms (length path - suc h.len) (suc h.len) (omega (arith, more)) (λ m g low. flat_unless (take m path) ms (none m (omega (arith, g)) low)) in
-    (ap (λ (o : Option (List Part)). elim o [ Some a ↦ a | None ↦ [] ]) passing, omega (arith, way.depth, deeper, enclosing_more path ms h.len more))
+    (ap (λ (o : Option (List Part)). elim o [ Some a ↦ a | None ↦ [] ]) passing, omega (arith, walk.depth, deeper, enclosing_more path ms h.len more))
 
 -- no node is further on
 pub stopped : (d : ProfiledText) (path : List Part) (len : ℕ) (h : Holder) (s : Document) → IsTextOfTree d s → IsGoing d path len h → IsFurther path s h None → IsHolder path s h
 stopped d path len h s read (next, proper, on) none =
-    let way : IsOnWay path s h = on s read in
-    let (prefix, depth) = holder_at path s h way proper (λ n low high. none n low (omega (arith, high))) in
-    record { way = way; prefix = prefix; proper = proper; depth = depth; beyond = λ more n low high. none n low high }
+    let walk : IsOnWalk path s h = on s read in
+    let (prefix, depth) = holder_at path s h walk proper (λ n low high. none n low (omega (arith, high))) in
+    record { walk = walk; prefix = prefix; proper = proper; depth = depth; beyond = λ more n low high. none n low high }
 
 -- the path has no more steps but its last
 pub ended : (d : ProfiledText) (path : List Part) (len : ℕ) (h : Holder) (s : Document) → IsTextOfTree d s → IsGoing d path len h → length path ≤ len → IsHolder path s h
 ended d path len h s read (next, proper, on) end =
-    let way : IsOnWay path s h = on s read in
-    let (prefix, depth) = holder_at path s h way proper (λ n low high. absurd (omega (arith, low, high, end, next))) in
-    record { way = way; prefix = prefix; proper = proper; depth = depth; beyond = λ more n low high. absurd (omega (arith, more, end, next)) }
+    let walk : IsOnWalk path s h = on s read in
+    let (prefix, depth) = holder_at path s h walk proper (λ n low high. absurd (omega (arith, low, high, end, next))) in
+    record { walk = walk; prefix = prefix; proper = proper; depth = depth; beyond = λ more n low high. absurd (omega (arith, more, end, next)) }
 
 pub went : (d : ProfiledText) (path : List Part) (len : ℕ) (h next : Holder) (s : Document) → IsTextOfTree d s → len < length path → IsGoing d path len h
-    → ((s : Document) → IsTextOfTree d s → IsOnWay path s h → IsFurther path s h (Some next)) → IsGoing d path (len + 1) next
+    → ((s : Document) → IsTextOfTree d s → IsOnWalk path s h → IsFurther path s h (Some next)) → IsGoing d path (len + 1) next
 went d path len h next s read more (e, proper, on) further =
     let longer : next.len ≡ suc h.len = (further s read (on s read)).1 in
     (omega (arith, longer, e), inr (omega (arith, longer, more, e)), λ s read. (further s read (on s read)).0)

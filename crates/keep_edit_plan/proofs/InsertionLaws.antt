@@ -63,7 +63,7 @@ module _ (path : List Part) (s : Document) (n : ℕ) (at : item_number path (men
   item_of h held =
       let p : IsItemPath path n (mentions_in s) = item_at path n (mentions_in s) at in
       let prefix : without_last path ≡ take h.len path = without_last-is path more ∙ ap (λ (k : ℕ). take k path) last in
-      record { whole = p.whole; node = ap (node_number (node_paths (mentions_in s))) prefix ∙ held.way.node; static = p.is_array }
+      record { whole = p.whole; node = ap (node_number (node_paths (mentions_in s))) prefix ∙ held.walk.node; static = p.is_array }
     where
       more : 0 < length path
       more = elim held.proper [
@@ -110,7 +110,7 @@ module _ (path : List Part) (s : Document) (none : item_number path (mentions_in
 
   module _ (h : Holder) (held : IsHolder path s h) (unnamed : is_node path (mentions_in s) ≡ false) where
     long : length (holder path (mentions_in s)) ≡ h.len
-    long = ap length held.prefix ∙ length-take-le h.len path held.way.within
+    long = ap length held.prefix ∙ length-take-le h.len path held.walk.within
 
     indexed : (b : Bool) → list_any is_index (drop h.len path) ≡ b → list_any is_index (drop (length (holder path (mentions_in s))) path) ≡ b
     indexed b e = ap (λ (k : ℕ). list_any is_index (drop k path)) long ∙ e

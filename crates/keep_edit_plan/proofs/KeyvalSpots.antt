@@ -185,8 +185,8 @@ module _ (d : ProfiledText) (path : List Part) (s : Document) (h : Holder) (read
   -- no dots lead to it: it is its own base
   own_base : is_dotted_origin info.origin ≡ false → h.base ≡ length a
   own_base e = elim (cases_lt h.base h.len) [
-    | inl low ↦ (let k : true ≡ false = sym (held.way.dots h.len low (omega arith)) ∙ ap is_dotted_origin place_is ∙ e in absurd cc)
-    | inr high ↦ omega (arith, high, held.way.based, length-take-le h.len path held.way.within)
+    | inl low ↦ (let k : true ≡ false = sym (held.walk.dots h.len low (omega arith)) ∙ ap is_dotted_origin place_is ∙ e in absurd cc)
+    | inr high ↦ omega (arith, high, held.walk.based, length-take-le h.len path held.walk.within)
   ]
 
   table_of : is_table_origin info.origin ≡ true → is_table a ms ≡ true
@@ -200,7 +200,7 @@ module _ (d : ProfiledText) (path : List Part) (s : Document) (h : Holder) (read
 
   pub root_spot : info.origin ≡ origin.Root → IsKeyvalAimed (holder path ms) s h.base (Ok (spot.AfterBody None))
   root_spot e =
-      let empty : a ≡ [] = by a refl (a_node a ms h.id.0 held.way.node) in
+      let empty : a ≡ [] = by a refl (a_node a ms h.id.0 held.walk.node) in
       aimed (spot.AfterBody None) (table_of (ap is_table_origin e)) (empty, own_base (ap is_dotted_origin e) ∙ ap length empty)
     where
       by : (q : List Part) → take h.len path ≡ q → is_node q (mentions_in s) ≡ true → q ≡ []
@@ -230,10 +230,10 @@ module _ (d : ProfiledText) (path : List Part) (s : Document) (h : Holder) (read
 
   base_is : IsBase a s h.base
   base_is = record {
-    within = omega (arith, held.way.based, length-take-le h.len path held.way.within);
-    base = ap (λ (q : List Part). is_dotted_origin (origin_of q s)) (taken h.base held.way.based) ∙ held.way.base;
-    dots = λ n low high. (let near : n ≤ h.len = omega (arith, high, length-take-le h.len path held.way.within) in
-        ap (λ (q : List Part). is_dotted_origin (origin_of q s)) (taken n near) ∙ held.way.dots n low near);
+    within = omega (arith, held.walk.based, length-take-le h.len path held.walk.within);
+    base = ap (λ (q : List Part). is_dotted_origin (origin_of q s)) (taken h.base held.walk.based) ∙ held.walk.base;
+    dots = λ n low high. (let near : n ≤ h.len = omega (arith, high, length-take-le h.len path held.walk.within) in
+        ap (λ (q : List Part). is_dotted_origin (origin_of q s)) (taken n near) ∙ held.walk.dots n low near);
   }
 
   value_origin : (o : Origin) → true ≡ is_value_origin o → (b : ℕ) × (o ≡ origin.Value b)
@@ -251,16 +251,16 @@ module _ (d : ProfiledText) (path : List Part) (s : Document) (h : Holder) (read
 
   pub braces_dotted : (v : ℕ) → info.origin ≡ origin.Dotted v → h.braced ≡ true → IsKeyvalAimed (holder path ms) s h.base (Ok (spot.AfterEntry v))
   braces_dotted v e yes_braced =
-      let (b, is) = value_origin (origin_of (take h.base path) s) (sym yes_braced ∙ held.way.braced) in
-      aimed (spot.AfterEntry v) (table_of (ap is_table_origin e)) (inr (b, place_is ∙ e, base_is, ap (λ (q : List Part). origin_of q s) (taken h.base held.way.based) ∙ is))
+      let (b, is) = value_origin (origin_of (take h.base path) s) (sym yes_braced ∙ held.walk.braced) in
+      aimed (spot.AfterEntry v) (table_of (ap is_table_origin e)) (inr (b, place_is ∙ e, base_is, ap (λ (q : List Part). origin_of q s) (taken h.base held.walk.based) ∙ is))
 
   pub line_dotted : (v : ℕ) → info.origin ≡ origin.Dotted v → h.braced ≡ false → IsKeyvalAimed (holder path ms) s h.base (Ok (spot.AfterLine v))
   line_dotted v e not_braced =
       aimed (spot.AfterLine v) (table_of (ap is_table_origin e)) (
         place_is ∙ e,
         base_is,
-        ap (λ (q : List Part). value_number_of q s) (taken h.base held.way.based)
-            ∙ no_value (value_number_of (take h.base path) s) _ _ _ _ _ (sym not_braced ∙ held.way.braced),
+        ap (λ (q : List Part). value_number_of q s) (taken h.base held.walk.based)
+            ∙ no_value (value_number_of (take h.base path) s) _ _ _ _ _ (sym not_braced ∙ held.walk.braced),
       )
 
   -- ---- values, and arrays of tables

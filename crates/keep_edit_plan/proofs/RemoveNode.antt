@@ -22,7 +22,7 @@ use Rattle.keep_types.specs.declared.node.Origin.TheVariants as origin
 use Rattle.keep_path.specs.Path.{Part, key, index}
 use Rattle.keep_meaning.specs.Rules.{ObeysRules}
 use Rattle.keep_meaning.specs.Marks as marks_of
-use Rattle.keep_meaning.specs.Marks.{MentionKind, through, past, define, dotted, value, begun, passed, item, Mention, Reading, start, marks, elements_of, entered_path, passing_mentions, header_path, header_way, below}
+use Rattle.keep_meaning.specs.Marks.{MentionKind, through, past, define, dotted, value, begun, passed, item, Mention, Reading, start, marks, elements_of, entered_path, passing_mentions, header_path, header_prefixes, below}
 use Rattle.keep_meaning.specs.Meaning.{key_value, further_value, keys_of, keyval_mentions, line_mentions, after_line, lines_mentions, lines, mentions_in}
 use Rattle.keep_meaning.specs.Counts.{Count, Numbered, is_mark, numbered_in}
 use Rattle.keep_meaning.specs.Nodes.{is_at, kinds_at, is_root, is_node, has, is_through, is_define, is_element, is_dotted, is_begun, is_passed, numbered_at, mention_kind_of, last_number, value_number, statement_number, first_that_fits, mentioned_origin}
@@ -213,12 +213,12 @@ plain_pass : (tables : List (List Part)) (q : List Part) (b : Bool)
 plain_pass tables q true = (refl, tt)
 plain_pass tables q false = (refl, (refl, tt))
 
-plain_way : (tables : List (List Part)) (at : List Part) (ks : List (List ℕ)) → AllOf (λ (m : Mention). is_element m.kind ≡ false) (header_way tables at ks)
-plain_way tables at [] = tt
-plain_way tables at (k ∷ []) = tt
-plain_way tables at (k ∷ l ∷ ks) =
+plain_prefixes : (tables : List (List Part)) (at : List Part) (ks : List (List ℕ)) → AllOf (λ (m : Mention). is_element m.kind ≡ false) (header_prefixes tables at ks)
+plain_prefixes tables at [] = tt
+plain_prefixes tables at (k ∷ []) = tt
+plain_prefixes tables at (k ∷ l ∷ ks) =
     let q : List Part = at ++ key k ∷ [] in
-    all_join (λ (m : Mention). is_element m.kind ≡ false) (passing_mentions tables q) (header_way tables (entered_path tables q) (l ∷ ks)) (plain_pass tables q (0 == elements_of q tables)) (plain_way tables (entered_path tables q) (l ∷ ks))
+    all_join (λ (m : Mention). is_element m.kind ≡ false) (passing_mentions tables q) (header_prefixes tables (entered_path tables q) (l ∷ ks)) (plain_pass tables q (0 == elements_of q tables)) (plain_prefixes tables (entered_path tables q) (l ∷ ks))
 
 never : (p : List Part) (ms : List Mention) → AllOf (λ (m : Mention). is_element m.kind ≡ false) ms → SomeOf (IsMentioned is_element p) ms → ⊥
 never p [] h s = s
@@ -232,12 +232,12 @@ content_named p r before after comment (keyval name v) s =
     absurd (never p (map (below r.body) (keyval_mentions name v))
     (mentioned_below (λ (a : MentionKind). is_element a ≡ false) r.body (keyval_mentions name v) (mentions_keyval (λ (a : MentionKind). is_element a ≡ false) (record { dot = refl; held = λ f. refl; unnamed = λ f. refl }) name v)) s)
 content_named p r before after comment (header b k a) s =
-    absurd (never p _ (all_join (λ (m : Mention). is_element m.kind ≡ false) (header_way r.tables [] (keys_of k)) (record { path = header_path r.tables [] (keys_of k); kind = define } ∷ []) (plain_way r.tables [] (keys_of k)) (refl, tt)) s)
+    absurd (never p _ (all_join (λ (m : Mention). is_element m.kind ≡ false) (header_prefixes r.tables [] (keys_of k)) (record { path = header_path r.tables [] (keys_of k); kind = define } ∷ []) (plain_prefixes r.tables [] (keys_of k)) (refl, tt)) s)
 content_named p r before after comment (element b k a) s =
-    let way : List Mention = header_way r.tables [] (keys_of k) in
+    let prefixes : List Mention = header_prefixes r.tables [] (keys_of k) in
     let at : List Part = header_path r.tables [] (keys_of k) in
-    elim (some_cases (IsMentioned is_element p) way (record { path = at; kind = marks_of.element } ∷ record { path = at ++ index (elements_of at r.tables) ∷ []; kind = begun } ∷ []) s) [
-      | inl w ↦ absurd (never p way (plain_way r.tables [] (keys_of k)) w)
+    elim (some_cases (IsMentioned is_element p) prefixes (record { path = at; kind = marks_of.element } ∷ record { path = at ++ index (elements_of at r.tables) ∷ []; kind = begun } ∷ []) s) [
+      | inl w ↦ absurd (never p prefixes (plain_prefixes r.tables [] (keys_of k)) w)
       | inr h ↦ (elim h [
         | inl d ↦ subst EndsInKey d.0 (path_ends r.tables [] (key_value k.first) (map further_value k.more))
         | inr g ↦ (elim g [ inl d ↦ (let k : false ≡ true = d.1 in absurd cc) | inr end ↦ absurd end ])

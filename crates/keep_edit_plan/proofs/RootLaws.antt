@@ -3,7 +3,7 @@ use Rattle.std.proofs.Common.{◌≡◌, ℕ, ◌-◌, ◌==◌, Bool, true, fal
 use Rattle.keep_syntax.specs.Tree.{Content, blank, keyval, header, element, Line, Document}
 use Rattle.keep_path.specs.Path.{Part, key, index}
 use Rattle.keep_meaning.specs.Marks as marks
-use Rattle.keep_meaning.specs.Marks.{MentionKind, Mention, Reading, start, below, elements_of, entered_path, passing_mentions, header_path, header_way}
+use Rattle.keep_meaning.specs.Marks.{MentionKind, Mention, Reading, start, below, elements_of, entered_path, passing_mentions, header_path, header_prefixes}
 use Rattle.keep_meaning.specs.Meaning.{key_value, further_value, keys_of, keyed_mentions, statement_of, line_mentions, after_line, lines_mentions, lines}
 use Rattle.keep_meaning.specs.Counts.{Numbered, numbered_in}
 use Rattle.keep_meaning.specs.Nodes.{mention_of, numbered_at}
@@ -37,12 +37,12 @@ pass_named tables q some = by (0 == elements_of q tables)
     by true = (some, tt)
     by false = (some, (entered_named tables q some, tt))
 
-way_named : (tables : List (List Part)) (at : List Part) (ks : List (List ℕ)) → AllOf Named (header_way tables at ks)
+way_named : (tables : List (List Part)) (at : List Part) (ks : List (List ℕ)) → AllOf Named (header_prefixes tables at ks)
 way_named tables at [] = tt
 way_named tables at (k ∷ []) = tt
 way_named tables at (k ∷ l ∷ ks) =
     let q : List Part = at ++ key k ∷ [] in
-    all_join Named (passing_mentions tables q) (header_way tables (entered_path tables q) (l ∷ ks)) (pass_named tables q (some_path at (key k))) (way_named tables (entered_path tables q) (l ∷ ks))
+    all_join Named (passing_mentions tables q) (header_prefixes tables (entered_path tables q) (l ∷ ks)) (pass_named tables q (some_path at (key k))) (way_named tables (entered_path tables q) (l ∷ ks))
 
 path_named : (tables : List (List Part)) (at : List Part) (k : List ℕ) (ks : List (List ℕ)) → header_path tables at (k ∷ ks) ≡ [] → ⊥
 path_named tables at k [] e = some_path at (key k) e
@@ -68,11 +68,11 @@ content_named : (r : Reading) (c : Content) → AllOf Named (elim (statement_of 
 content_named r blank = tt
 content_named r (keyval name v) = body_named r.body _ (keyed_named (key_value name.key.first) (map further_value name.key.more) _)
 content_named r (header b k a) =
-    all_join Named (header_way r.tables [] (keys_of k)) (record { path = header_path r.tables [] (keys_of k); kind = marks.define } ∷ []) (way_named r.tables [] (keys_of k))
+    all_join Named (header_prefixes r.tables [] (keys_of k)) (record { path = header_path r.tables [] (keys_of k); kind = marks.define } ∷ []) (way_named r.tables [] (keys_of k))
     (path_named r.tables [] (key_value k.first) (map further_value k.more), tt)
 content_named r (element b k a) =
     let path : List Part = header_path r.tables [] (keys_of k) in
-    all_join Named (header_way r.tables [] (keys_of k)) (record { path = path; kind = marks.element } ∷ record { path = path ++ index (elements_of path r.tables) ∷ []; kind = marks.begun } ∷ []) (way_named r.tables [] (keys_of k))
+    all_join Named (header_prefixes r.tables [] (keys_of k)) (record { path = path; kind = marks.element } ∷ record { path = path ++ index (elements_of path r.tables) ∷ []; kind = marks.begun } ∷ []) (way_named r.tables [] (keys_of k))
     (path_named r.tables [] (key_value k.first) (map further_value k.more), (some_path path _, tt))
 
 lines_named : (r : Reading) (ls : List Line) → AllOf Named (lines_mentions r ls)

@@ -26,7 +26,7 @@ is_value_origin _ = false
 
 -- The first `len` steps of a path lead to this node. The last of the nodes on that way that dots don't lead to has
 -- `base` steps, and is a value or not. So many arrays and inline tables are on the way, the last node counted.
-pub record IsOnWay (path : List Part) (s : Document) (h : Holder) : Type 0 where
+pub record IsOnWalk (path : List Part) (s : Document) (h : Holder) : Type 0 where
   pub within : h.len ≤ length path
   pub node : node_number (node_paths (mentions_in s)) (take h.len path) ≡ Some h.id.0
   pub based : h.base ≤ h.len
@@ -39,12 +39,12 @@ pub record IsOnWay (path : List Part) (s : Document) (h : Holder) : Type 0 where
 
 -- The way is one step longer, or no more steps lead to a node.
 abbrev pub IsFurther : List Part → Document → Holder → Option Holder → Type 0
-IsFurther path s h (Some next) = IsOnWay path s next × (next.len ≡ suc h.len)
+IsFurther path s h (Some next) = IsOnWalk path s next × (next.len ≡ suc h.len)
 IsFurther path s h None = (n : ℕ) → h.len < n → n ≤ length path → is_node (take n path) (mentions_in s) ≡ false
 
 -- The way leads to the longest prefix of the path, itself left out, that names a node.
 pub record IsHolder (path : List Part) (s : Document) (h : Holder) : Type 0 where
-  pub way : IsOnWay path s h
+  pub walk : IsOnWalk path s h
   pub prefix : holder path (mentions_in s) ≡ take h.len path
   pub proper : (path ≡ []) ⊎ (h.len < length path)
   pub depth : h.depth ≡ enclosing path (mentions_in s)

@@ -3,7 +3,7 @@ ghost use Rattle.std.specs.Prelude.{◌≡◌, suc, ◌<◌, ◌≤◌, length};
 ghost use Rattle.keep_syntax.specs.Tree as tree;
 ghost use Rattle.keep_path.specs.Path.{AreUtf8};
 ghost use Rattle.keep_edit_plan.specs.Reading.{IsAccepted, IsTextOfTree};
-ghost use Rattle.keep_edit_plan.specs.Holding.{brackets_of, is_value_origin, IsFurther, IsHolder, IsOnWay};
+ghost use Rattle.keep_edit_plan.specs.Holding.{brackets_of, is_value_origin, IsFurther, IsHolder, IsOnWalk};
 
 use crate::document::DocumentRef;
 use keep_rules::{Kind, NodeId, Origin, Path};
@@ -48,9 +48,9 @@ impl<'a> DocumentRef<'a> {
     /// One step further along a path, to its first `len` steps; None if they lead to no node.
     fn further(&self, path: &Path, holder: Holder, len: usize) -> Option<Holder>
         requires next { len ≡ suc holder.len }
-        requires way { (s : tree.Document) × IsTextOfTree self.now s × IsOnWay path.now s holder }
+        requires walk { (s : tree.Document) × IsTextOfTree self.now s × IsOnWalk path.now s holder }
         requires more { holder.len < length path.now }
-        ensures { (s : tree.Document) → IsTextOfTree self.now s → IsOnWay path.now s holder
+        ensures { (s : tree.Document) → IsTextOfTree self.now s → IsOnWalk path.now s holder
             → IsFurther path.now s holder result }
     {
         let id = self.index.step(holder.id, path.step(holder.len)?)?;

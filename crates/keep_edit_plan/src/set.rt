@@ -18,7 +18,7 @@ use keep_rules::{Kind, NodeId, Path, ValueText};
 use keep_syntax::STANDARD_DEPTH;
 use std::alloc::Global;
 
-/// A node, and the kind that an edit gives it, where that is all that changes of what the index tells.
+/// A node, and the kind that an edit gives it, where that is all that changes of what the index states.
 #[derive(Clone, Copy)]
 pub struct KindChange {
     pub node: NodeId,

@@ -48,10 +48,10 @@ Of (Ok s) P = P s
 Of (Err f) P = ⊥
 
 -- of the document with this text
-abbrev Tells : List ℕ → List Row → Type 0
-Tells text rows = Of (read_document Strict standard_depth text) (λ s. map (stated s) rows ≡ rows)
+abbrev StatesEdits : List ℕ → List Row → Type 0
+StatesEdits text rows = Of (read_document Strict standard_depth text) (λ s. map (stated s) rows ≡ rows)
 
-number_with_comment : Tells (codes "a = 1 # x\n") (
+number_with_comment : StatesEdits (codes "a = 1 # x\n") (
     gets (key (codes "a") ∷ []) (Ok (codes "1"))
     ∷ gets (key (codes "c") ∷ []) (Err fault.NotFound)
     ∷ gets [] (Err fault.NotValue)
@@ -60,7 +60,7 @@ number_with_comment : Tells (codes "a = 1 # x\n") (
 unfolding repeat space_at blank_from further_at key_of name_of item_by entry_by value_of content_at comment_at line_at ended_at read_document read_one_value gap_at key_at scalar_at word_leaf
 number_with_comment = refl
 
-value_in_value : Tells (codes "a = [1, {b = [ 2, 3 ]}]\n[t]\n") (
+value_in_value : StatesEdits (codes "a = [1, {b = [ 2, 3 ]}]\n[t]\n") (
     gets (key (codes "a") ∷ index 1 ∷ key (codes "b") ∷ []) (Ok (codes "[ 2, 3 ]"))
     ∷ gets (key (codes "a") ∷ index 1 ∷ key (codes "b") ∷ index 1 ∷ []) (Ok (codes "3"))
     ∷ gets (key (codes "t") ∷ []) (Err fault.NotValue)
@@ -68,46 +68,46 @@ value_in_value : Tells (codes "a = [1, {b = [ 2, 3 ]}]\n[t]\n") (
 unfolding repeat space_at blank_from further_at key_of name_of item_by entry_by value_of content_at comment_at line_at ended_at read_document read_one_value gap_at key_at scalar_at word_leaf
 value_in_value = refl
 
-string_without_escapes : Tells (codes "a = \"x\\n\"\n") (
+string_without_escapes : StatesEdits (codes "a = \"x\\n\"\n") (
     gets (key (codes "a") ∷ []) (Ok (codes "\"x\\n\""))
     ∷ string_is (key (codes "a") ∷ []) (Ok (codes "x\n"))
     ∷ [])
 unfolding repeat space_at blank_from further_at key_of name_of item_by entry_by value_of content_at comment_at line_at ended_at read_document read_one_value gap_at key_at scalar_at word_leaf
 string_without_escapes = refl
 
-empty : Tells [] (counts 1 1 ∷ lists [] ∷ [])
+empty : StatesEdits [] (counts 1 1 ∷ lists [] ∷ [])
 unfolding repeat space_at blank_from further_at key_of name_of item_by entry_by value_of content_at comment_at line_at ended_at read_document read_one_value gap_at key_at scalar_at word_leaf
 empty = refl
 
-two_keys : Tells (codes "a = 1\nb = true\n") (counts 13 3 ∷ [])
+two_keys : StatesEdits (codes "a = 1\nb = true\n") (counts 13 3 ∷ [])
 unfolding repeat space_at blank_from further_at key_of name_of item_by entry_by value_of content_at comment_at line_at ended_at read_document read_one_value gap_at key_at scalar_at word_leaf
 two_keys = refl
 
-arrays_in_arrays : Tells (codes "a = [1, [2, 'x'],]") (counts 17 6 ∷ [])
+arrays_in_arrays : StatesEdits (codes "a = [1, [2, 'x'],]") (counts 17 6 ∷ [])
 unfolding repeat space_at blank_from further_at key_of name_of item_by entry_by value_of content_at comment_at line_at ended_at read_document read_one_value gap_at key_at scalar_at word_leaf
 arrays_in_arrays = refl
 
-braces_with_dotted_keys : Tells (codes "a = {b.c = 1, b.d = {}}") (counts 24 5 ∷ [])
+braces_with_dotted_keys : StatesEdits (codes "a = {b.c = 1, b.d = {}}") (counts 24 5 ∷ [])
 unfolding repeat space_at blank_from further_at key_of name_of item_by entry_by value_of content_at comment_at line_at ended_at read_document read_one_value gap_at key_at scalar_at word_leaf
 braces_with_dotted_keys = refl
 
-elements_in_elements : Tells (codes "[[a]]\n[[a.b]]\n[[a]]\n[[a.b]]\n") (counts 21 8 ∷ [])
+elements_in_elements : StatesEdits (codes "[[a]]\n[[a.b]]\n[[a]]\n[[a.b]]\n") (counts 21 8 ∷ [])
 unfolding repeat space_at blank_from further_at key_of name_of item_by entry_by value_of content_at comment_at line_at ended_at read_document read_one_value gap_at key_at scalar_at word_leaf
 elements_in_elements = refl
 
-long_header : Tells (codes "[x.y.z.w]\n[x]\n") (counts 15 5 ∷ [])
+long_header : StatesEdits (codes "[x.y.z.w]\n[x]\n") (counts 15 5 ∷ [])
 unfolding repeat space_at blank_from further_at key_of name_of item_by entry_by value_of content_at comment_at line_at ended_at read_document read_one_value gap_at key_at scalar_at word_leaf
 long_header = refl
 
-keys_below_element : Tells (codes "[[a]]\n[a.s]\nx.y = 1\n") (counts 19 6 ∷ [])
+keys_below_element : StatesEdits (codes "[[a]]\n[a.s]\nx.y = 1\n") (counts 19 6 ∷ [])
 unfolding repeat space_at blank_from further_at key_of name_of item_by entry_by value_of content_at comment_at line_at ended_at read_document read_one_value gap_at key_at scalar_at word_leaf
 keys_below_element = refl
 
-header_below_dotted_keys : Tells (codes "[f]\np.c = 1\n[f.p.q]\n") (counts 21 5 ∷ [])
+header_below_dotted_keys : StatesEdits (codes "[f]\np.c = 1\n[f.p.q]\n") (counts 21 5 ∷ [])
 unfolding repeat space_at blank_from further_at key_of name_of item_by entry_by value_of content_at comment_at line_at ended_at read_document read_one_value gap_at key_at scalar_at word_leaf
 header_below_dotted_keys = refl
 
-elements_in_order : Tells (codes "[[a]]\n[a.b]\n[[a]]\n[a.b]\n") (
+elements_in_order : StatesEdits (codes "[[a]]\n[a.b]\n[[a]]\n[a.b]\n") (
     nodes_are
     ([] ∷ (key (codes "a") ∷ []) ∷ (key (codes "a") ∷ index 0 ∷ []) ∷ (key (codes "a") ∷ index 0 ∷ key (codes "b") ∷ [])
     ∷ (key (codes "a") ∷ index 1 ∷ []) ∷ (key (codes "a") ∷ index 1 ∷ key (codes "b") ∷ []) ∷ [])
@@ -117,7 +117,7 @@ unfolding repeat space_at blank_from further_at key_of name_of item_by entry_by 
 elements_in_order = refl
 
 -- dotted keys before the keys that they hold, the root left out, keys in quotation marks where they must be
-listed_in_order : Tells (codes "a.b = 1\n'x y' = \"s\"\n[t]\nu = {v = 1979-05-27}\n") (
+listed_in_order : StatesEdits (codes "a.b = 1\n'x y' = \"s\"\n[t]\nu = {v = 1979-05-27}\n") (
     lists (
     record { path = codes "a"; kind = kind.Table }
     ∷ record { path = codes "a.b"; kind = kind.Integer }
@@ -130,7 +130,7 @@ listed_in_order : Tells (codes "a.b = 1\n'x y' = \"s\"\n[t]\nu = {v = 1979-05-27
 unfolding repeat space_at blank_from further_at key_of name_of item_by entry_by value_of content_at comment_at line_at ended_at read_document read_one_value gap_at key_at scalar_at word_leaf
 listed_in_order = refl
 
-edits_in_order : Tells (codes "a = 1\n") (
+edits_in_order : StatesEdits (codes "a = 1\n") (
     becomes [] (Ok (codes "a = 1\n"))
     ∷ becomes (set (key (codes "a") ∷ []) (value (codes "2")) ∷ set (key (codes "q") ∷ []) (value (codes "1")) ∷ []) (Err (record { number = 1; fault = fault.NotFound }))
     ∷ becomes (rename (key (codes "a") ∷ []) (codes "b") ∷ insert (key (codes "a") ∷ []) (value (codes "[]")) ∷ remove (key (codes "b") ∷ []) ∷ []) (Ok (codes "a = []\n"))

@@ -6,7 +6,7 @@ pub mod SectionLaw
 pub mod SectionFacts
 pub mod LineDepths
 pub mod InsertWhole
-pub mod WayPrefix
+pub mod HeaderPrefixes
 pub mod SectionPlace
 pub mod InsertSection
 pub mod PutIn

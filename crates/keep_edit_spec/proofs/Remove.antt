@@ -9,7 +9,7 @@ pub mod RemoveRefusal
 pub mod RemoveDepth
 pub mod RemoveWhole
 pub mod Shift
-pub mod ShiftWay
+pub mod ShiftPrefixes
 pub mod KeyvalMentions
 pub mod ShiftLines
 pub mod ShiftMentioned

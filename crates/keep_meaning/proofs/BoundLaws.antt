@@ -19,7 +19,7 @@ use Rattle.keep_syntax.specs.Grammar.{IsDocument}
 use Rattle.keep_syntax.proofs.Shared.{leaves_count}
 use Rattle.keep_path.specs.Path.{Part, key, index, same_path}
 use Rattle.keep_meaning.specs.Fact.{Fact}
-use Rattle.keep_meaning.specs.Marks.{through, past, passed, define, element as kinds_element, begun, value as mentions_value, item, Mention, below, Reading, statement_mentions, elements_of, entered_path, passing_mentions, header_way, header_path, start}
+use Rattle.keep_meaning.specs.Marks.{through, past, passed, define, element as kinds_element, begun, value as mentions_value, item, Mention, below, Reading, statement_mentions, elements_of, entered_path, passing_mentions, header_prefixes, header_path, start}
 use Rattle.keep_meaning.specs.Meaning.{key_value, further_value, keys_of, body_fact, keyed_mentions, valued_mentions, entry_mentions, entries_mentions, statement_of, line_mentions, after_line, lines_mentions, line_of, mentions_in}
 use Rattle.keep_meaning.specs.Nodes.{paths_with, node_path, node_paths, nodes_in}
 use Rattle.keep_meaning.proofs.CountLemmas.{paths-nodes_in}
@@ -115,13 +115,13 @@ passing_few true p q r = omega arith
 passing_few false p q r = omega arith
 
 -- on its way at most two things for each key but the last
-way_few : (tables : List (List Part)) (at : List Part) (k : List ℕ) (ks : List (List ℕ)) → length (header_way tables at (k ∷ ks)) ≤ length ks + length ks
+way_few : (tables : List (List Part)) (at : List Part) (k : List ℕ) (ks : List (List ℕ)) → length (header_prefixes tables at (k ∷ ks)) ≤ length ks + length ks
 way_few tables at k [] = omega arith
 way_few tables at k (l ∷ ks) =
     let path : List Part = at ++ key k ∷ [] in
     omega (
       arith,
-      length-append (passing_mentions tables path) (header_way tables (entered_path tables path) (l ∷ ks)),
+      length-append (passing_mentions tables path) (header_prefixes tables (entered_path tables path) (l ∷ ks)),
       passing_few (0 == elements_of path tables) (record { path = path; kind = through }) (record { path = path; kind = past }) (record { path = entered_path tables path; kind = passed }),
       way_few tables (entered_path tables path) l ks,
     )
@@ -155,7 +155,7 @@ content_few r (keyval name v) =
 content_few r (header before k after) =
     omega (
       arith,
-      length-append (header_way r.tables [] (keys_of k)) (record { path = header_path r.tables [] (keys_of k); kind = define } ∷ []),
+      length-append (header_prefixes r.tables [] (keys_of k)) (record { path = header_path r.tables [] (keys_of k); kind = define } ∷ []),
       way_few r.tables [] (key_value k.first) (map further_value k.more),
       length-map k.more further_value,
       header_many (record { leaf = leaf.HeadOpen; text = 0x5B ∷ [] }) (record { leaf = leaf.HeadClose; text = 0x5D ∷ [] }) before k after,
@@ -164,7 +164,7 @@ content_few r (element before k after) =
     let path : List Part = header_path r.tables [] (keys_of k) in
     omega (
       arith,
-      length-append (header_way r.tables [] (keys_of k)) (record { path = path; kind = kinds_element } ∷ record { path = path ++ index (elements_of path r.tables) ∷ []; kind = begun } ∷ []),
+      length-append (header_prefixes r.tables [] (keys_of k)) (record { path = path; kind = kinds_element } ∷ record { path = path ++ index (elements_of path r.tables) ∷ []; kind = begun } ∷ []),
       way_few r.tables [] (key_value k.first) (map further_value k.more),
       length-map k.more further_value,
       header_many (record { leaf = leaf.ElemOpen; text = 0x5B ∷ 0x5B ∷ [] }) (record { leaf = leaf.ElemClose; text = 0x5D ∷ 0x5D ∷ [] }) before k after,

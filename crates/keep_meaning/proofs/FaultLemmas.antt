@@ -12,9 +12,9 @@ use Rattle.keep_meaning.specs.Faults.{Fault, refuses, first_fault_after, first_f
 use Rattle.keep_path.proofs.Shared.{path_decides}
 
 -- what the computed fault tells of the marks
-abbrev pub Tells : List Mark → Option Fault → Type 0
-Tells ms None = ObeysRules ms
-Tells ms (Some f) = IsFirstFaulty ms f.number f.why
+abbrev pub StatesEdits : List Mark → Option Fault → Type 0
+StatesEdits ms None = ObeysRules ms
+StatesEdits ms (Some f) = IsFirstFaulty ms f.number f.why
 
 not_true : (b : Bool) → not b ≡ true → b ≡ false
 not_true true h = absurd cc
@@ -45,21 +45,21 @@ refused_by earlier m hit =
     (any.0, any.1, any.2, any.3, ((path_decides any.1.path m.path).0 both.0, not_true (allows any.1.role m.role) both.1))
 
 step : (earlier : List Mark) (m : Mark) (ms : List Mark) (b : Bool) → list_any (refuses m) earlier ≡ b → ObeysRules earlier
-    → (list_any (refuses m) earlier ≡ false → Tells ((earlier ++ m ∷ []) ++ ms) (first_fault_after (earlier ++ m ∷ []) ms))
-    → Tells (earlier ++ m ∷ ms) (elim b [ true ↦ Some (record { number = length earlier; why = why_of m.role }) | false ↦ first_fault_after (earlier ++ m ∷ []) ms ])
+    → (list_any (refuses m) earlier ≡ false → StatesEdits ((earlier ++ m ∷ []) ++ ms) (first_fault_after (earlier ++ m ∷ []) ms))
+    → StatesEdits (earlier ++ m ∷ ms) (elim b [ true ↦ Some (record { number = length earlier; why = why_of m.role }) | false ↦ first_fault_after (earlier ++ m ∷ []) ms ])
 step earlier m ms true hit obeys more =
     record { before = earlier; mark = m; after = ms; here = refl; number = refl; obeys = obeys; refused = refused_by earlier m hit; reason = refl }
 step earlier m ms false free obeys more =
-    subst (λ (xs : List Mark). Tells xs (first_fault_after (earlier ++ m ∷ []) ms)) (append_assoc earlier (m ∷ []) ms) (more free)
+    subst (λ (xs : List Mark). StatesEdits xs (first_fault_after (earlier ++ m ∷ []) ms)) (append_assoc earlier (m ∷ []) ms) (more free)
 
-pub first_fault_after-tells : (earlier more : List Mark) → ObeysRules earlier → Tells (earlier ++ more) (first_fault_after earlier more)
-first_fault_after-tells earlier [] obeys = subst ObeysRules (sym (append-nil earlier)) obeys
-first_fault_after-tells earlier (m ∷ ms) obeys =
-    step earlier m ms (list_any (refuses m) earlier) refl obeys (λ free. first_fault_after-tells (earlier ++ m ∷ []) ms (pushed earlier m obeys free))
+pub first_fault_after-states : (earlier more : List Mark) → ObeysRules earlier → StatesEdits (earlier ++ more) (first_fault_after earlier more)
+first_fault_after-states earlier [] obeys = subst ObeysRules (sym (append-nil earlier)) obeys
+first_fault_after-states earlier (m ∷ ms) obeys =
+    step earlier m ms (list_any (refuses m) earlier) refl obeys (λ free. first_fault_after-states (earlier ++ m ∷ []) ms (pushed earlier m obeys free))
 
 -- None exactly where the rules hold, else the first faulty mark
-pub first_fault-tells : (ms : List Mark) → Tells ms (first_fault ms)
-first_fault-tells ms = first_fault_after-tells [] ms (λ i j d lt within. absurd (omega arith))
+pub first_fault-states : (ms : List Mark) → StatesEdits ms (first_fault ms)
+first_fault-states ms = first_fault_after-states [] ms (λ i j d lt within. absurd (omega arith))
 
 -- a document with a first faulty mark does not obey the rules
 pub not_both : (ms : List Mark) (n : ℕ) (why : Why) → IsFirstFaulty ms n why → ObeysRules ms → ⊥

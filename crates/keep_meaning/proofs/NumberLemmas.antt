@@ -10,7 +10,7 @@ use Rattle.keep_types.specs.declared.syntax.Start.{Start}
 use Rattle.keep_path.specs.Path.{Part, key, index}
 use Rattle.keep_meaning.specs.Fact.{Fact}
 use Rattle.keep_meaning.specs.Rules.{Mark}
-use Rattle.keep_meaning.specs.Marks.{MentionKind, through, past, define, element as kinds_element, dotted, value as mentions_value, begun, passed, item, Mention, Statement, below, Reading, statement_mentions, next_reading, reading_after, mentions_from, marks, with_path, role_of, elements_of, entered_path, passing_mentions, header_way, header_path, start}
+use Rattle.keep_meaning.specs.Marks.{MentionKind, through, past, define, element as kinds_element, dotted, value as mentions_value, begun, passed, item, Mention, Statement, below, Reading, statement_mentions, next_reading, reading_after, mentions_from, marks, with_path, role_of, elements_of, entered_path, passing_mentions, header_prefixes, header_path, start}
 use Rattle.keep_meaning.specs.Meaning.{key_value, further_value, keys_of, body_fact, keyed_mentions, entry_mentions, entries_mentions, statement_of, line_mentions, after_line, lines_mentions, line_of, mentions_in}
 use Rattle.keep_meaning.specs.Counts.{Count, is_value, is_mark, one_if, count_with_mention, numbered_mentions, count_after, next_count, count_from, numbered_from, line_statement, statements_in}
 use Rattle.keep_meaning.proofs.PlaceLemmas.{marked-append}
@@ -111,15 +111,15 @@ none_either : (b : Bool) (xs ys : List Mention) → valued xs ≡ 0 → valued y
 none_either true xs ys h g = h
 none_either false xs ys h g = g
 
-valued-way : (tables : List (List Part)) (at : List Part) (ks : List (List ℕ)) → valued (header_way tables at ks) ≡ 0
-valued-way tables at [] = refl
-valued-way tables at (k ∷ []) = refl
-valued-way tables at (k ∷ l ∷ ks) =
+valued-prefixes : (tables : List (List Part)) (at : List Part) (ks : List (List ℕ)) → valued (header_prefixes tables at ks) ≡ 0
+valued-prefixes tables at [] = refl
+valued-prefixes tables at (k ∷ []) = refl
+valued-prefixes tables at (k ∷ l ∷ ks) =
     omega (
       arith,
-      valued-append (passing_mentions tables (at ++ key k ∷ [])) (header_way tables (entered_path tables (at ++ key k ∷ [])) (l ∷ ks)),
+      valued-append (passing_mentions tables (at ++ key k ∷ [])) (header_prefixes tables (entered_path tables (at ++ key k ∷ [])) (l ∷ ks)),
       none_either (0 == elements_of (at ++ key k ∷ []) tables) (record { path = at ++ key k ∷ []; kind = through } ∷ []) (record { path = at ++ key k ∷ []; kind = past } ∷ record { path = entered_path tables (at ++ key k ∷ []); kind = passed } ∷ []) refl refl,
-      valued-way tables (entered_path tables (at ++ key k ∷ [])) (l ∷ ks),
+      valued-prefixes tables (entered_path tables (at ++ key k ∷ [])) (l ∷ ks),
     )
 
 pub valued-content : (r : Reading) (p : Start) (c : Content) → valued (elim (statement_of c) [ None ↦ [] | Some s ↦ statement_mentions r s ]) ≡ length (content_values p c)
@@ -129,13 +129,13 @@ valued-content r p (keyval name v) =
     let i : Start = nested_of p (p.at + syntax.width (name_leaves name)) (syntax.key_count name.key) v.body in
     omega (arith, valued-below r.body nested, valued-entry 0 (Some name) (body_fact v.body) (entries_mentions 0 v.nested), valued-entries 0 v.nested, length-entries_values i v.nested)
 valued-content r p (header before k after) =
-    omega (arith, valued-append (header_way r.tables [] (keys_of k)) (record { path = header_path r.tables [] (keys_of k); kind = define } ∷ []), valued-way r.tables [] (keys_of k))
+    omega (arith, valued-append (header_prefixes r.tables [] (keys_of k)) (record { path = header_path r.tables [] (keys_of k); kind = define } ∷ []), valued-prefixes r.tables [] (keys_of k))
 valued-content r p (element before k after) =
     let path : List Part = header_path r.tables [] (keys_of k) in
     omega (
       arith,
-      valued-append (header_way r.tables [] (keys_of k)) (record { path = path; kind = kinds_element } ∷ record { path = path ++ index (elements_of path r.tables) ∷ []; kind = begun } ∷ []),
-      valued-way r.tables [] (keys_of k),
+      valued-append (header_prefixes r.tables [] (keys_of k)) (record { path = path; kind = kinds_element } ∷ record { path = path ++ index (elements_of path r.tables) ∷ []; kind = begun } ∷ []),
+      valued-prefixes r.tables [] (keys_of k),
     )
 
 -- ---- and as many statements

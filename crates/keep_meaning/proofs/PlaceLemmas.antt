@@ -13,10 +13,10 @@ use Rattle.keep_types.specs.declared.role.Role.{Role}
 use Rattle.keep_path.specs.Path.{Part, key, index}
 use Rattle.keep_meaning.specs.Fact.{Fact}
 use Rattle.keep_meaning.specs.Rules.{Mark, ObeysRules, IsFirstFaulty}
-use Rattle.keep_meaning.specs.Marks.{Mention, below, Reading, statement_mentions, mark_of, marks, with_path, role_of, elements_of, entered_path, passing_mentions, header_way, header_path, start, define, begun, element as kinds_element, value as marks_value}
+use Rattle.keep_meaning.specs.Marks.{Mention, below, Reading, statement_mentions, mark_of, marks, with_path, role_of, elements_of, entered_path, passing_mentions, header_prefixes, header_path, start, define, begun, element as kinds_element, value as marks_value}
 use Rattle.keep_meaning.specs.Meaning.{keys_of, further_value, key_value, body_fact, keyed_mentions, entry_mentions, entries_mentions, mentions_of_value, statement_of, line_mentions, after_line, lines_mentions, line_of, mentions_in}
 use Rattle.keep_meaning.specs.Faults.{Fault, FaultAt, first_fault, IsFirstFaultAt, at_part, fault_at, fault_in, fault_in_value, parts_in}
-use Rattle.keep_meaning.proofs.FaultLemmas.{Tells, first_fault-tells}
+use Rattle.keep_meaning.proofs.FaultLemmas.{StatesEdits, first_fault-states}
 
 -- how many marks there are
 abbrev pub marked : List Mention → ℕ
@@ -90,14 +90,14 @@ one_either false xs ys h g = g
 marked-passing_mentions : (tables : List (List Part)) (path : List Part) → marked (passing_mentions tables path) ≡ 1
 marked-passing_mentions tables path = one_either (0 == elements_of path tables) _ _ refl refl
 
-pub marked-way : (tables : List (List Part)) (at : List Part) (k : List ℕ) (ks : List (List ℕ)) → marked (header_way tables at (k ∷ ks)) ≡ length ks
-marked-way tables at k [] = refl
-marked-way tables at k (l ∷ ks) =
+pub marked-prefixes : (tables : List (List Part)) (at : List Part) (k : List ℕ) (ks : List (List ℕ)) → marked (header_prefixes tables at (k ∷ ks)) ≡ length ks
+marked-prefixes tables at k [] = refl
+marked-prefixes tables at k (l ∷ ks) =
     omega (
       arith,
-      marked-append (passing_mentions tables (at ++ key k ∷ [])) (header_way tables (entered_path tables (at ++ key k ∷ [])) (l ∷ ks)),
+      marked-append (passing_mentions tables (at ++ key k ∷ [])) (header_prefixes tables (entered_path tables (at ++ key k ∷ [])) (l ∷ ks)),
       marked-passing_mentions tables (at ++ key k ∷ []),
-      marked-way tables (entered_path tables (at ++ key k ∷ [])) l ks,
+      marked-prefixes tables (entered_path tables (at ++ key k ∷ [])) l ks,
     )
 
 pub marked-content : (r : Reading) (at : ℕ) (c : Content) → marked (elim (statement_of c) [ None ↦ [] | Some s ↦ statement_mentions r s ]) ≡ length (content_parts at c)
@@ -117,8 +117,8 @@ marked-content r at (keyval name v) =
 marked-content r at (header before k after) =
     omega (
       arith,
-      marked-append (header_way r.tables [] (keys_of k)) (record { path = header_path r.tables [] (keys_of k); kind = define } ∷ []),
-      marked-way r.tables [] (key_value k.first) (map further_value k.more),
+      marked-append (header_prefixes r.tables [] (keys_of k)) (record { path = header_path r.tables [] (keys_of k); kind = define } ∷ []),
+      marked-prefixes r.tables [] (key_value k.first) (map further_value k.more),
       length-keys k.more,
       length-further (at + 1 + syntax.width before + length k.first.text) k.more,
     )
@@ -126,8 +126,8 @@ marked-content r at (element before k after) =
     let path : List Part = header_path r.tables [] (keys_of k) in
     omega (
       arith,
-      marked-append (header_way r.tables [] (keys_of k)) (record { path = path; kind = kinds_element } ∷ record { path = path ++ index (elements_of path r.tables) ∷ []; kind = begun } ∷ []),
-      marked-way r.tables [] (key_value k.first) (map further_value k.more),
+      marked-append (header_prefixes r.tables [] (keys_of k)) (record { path = path; kind = kinds_element } ∷ record { path = path ++ index (elements_of path r.tables) ∷ []; kind = begun } ∷ []),
+      marked-prefixes r.tables [] (key_value k.first) (map further_value k.more),
       length-keys k.more,
       length-further (at + 2 + syntax.width before + length k.first.text) k.more,
     )
@@ -155,14 +155,14 @@ marked-parts_in v = marked-entries 0 v.nested ∙ sym (length-entries_parts (syn
 -- ---- the computed fault
 
 -- what it tells: where and why, or that the rules hold
-abbrev pub TellsPlace : List Mark → List KeyPart → Option FaultAt → Type 0
-TellsPlace ms parts None = ObeysRules ms
-TellsPlace ms parts (Some f) = IsFirstFaultAt ms parts f.at f.why
+abbrev pub StatesPlace : List Mark → List KeyPart → Option FaultAt → Type 0
+StatesPlace ms parts None = ObeysRules ms
+StatesPlace ms parts (Some f) = IsFirstFaultAt ms parts f.at f.why
 
 short : (ms : List Mark) (n : ℕ) (why : Why) → IsFirstFaulty ms n why → n < length ms
 short ms n why first = omega (arith, ap length first.here, length-append first.before (first.mark ∷ first.after), first.number)
 
-stated : (ms : List Mark) (parts : List KeyPart) (f : Fault) (o : Option KeyPart) → IsFirstFaulty ms f.number f.why → slice_get parts f.number ≡ o → (o ≡ None → ⊥) → TellsPlace ms parts (at_part f.why o)
+stated : (ms : List Mark) (parts : List KeyPart) (f : Fault) (o : Option KeyPart) → IsFirstFaulty ms f.number f.why → slice_get parts f.number ≡ o → (o ≡ None → ⊥) → StatesPlace ms parts (at_part f.why o)
 stated ms parts f None first here nested = absurd (nested refl)
 stated ms parts f (Some part) first here nested = record { number = f.number; part = part; first = first; occurs = here; here = refl }
 

@@ -284,12 +284,12 @@ two_elements-spans : spans_in (adoc false ((anended (aline [] (element [] (akey 
 two_elements-spans = refl
 
 -- `[a.b.c]<LF>[a]<LF>b.x = 1<LF>`
-dotted_passes_way : fault_in (adoc false ((anended (aline [] (header [] (akey (w leaf.BareKey (codes "a")) ((further [] [] (w leaf.BareKey (codes "b"))) ∷ (further [] [] (w leaf.BareKey (codes "c"))) ∷ [])) []) [] None) (w leaf.Newline (10 ∷ []))) ∷ (anended (aline [] (header [] (akey (w leaf.BareKey (codes "a")) []) []) [] None) (w leaf.Newline (10 ∷ []))) ∷ (anended (aline [] (keyval (aname (akey (w leaf.BareKey (codes "b")) ((further [] [] (w leaf.BareKey (codes "x"))) ∷ [])) ((w leaf.Ws (codes " ")) ∷ []) ((w leaf.Ws (codes " ")) ∷ [])) (avalue (scalar (w leaf.Integer (codes "1"))) none)) [] None) (w leaf.Newline (10 ∷ []))) ∷ []) (aline [] blank [] None)) ≡ None
-dotted_passes_way = refl
+dotted_passes_prefixes : fault_in (adoc false ((anended (aline [] (header [] (akey (w leaf.BareKey (codes "a")) ((further [] [] (w leaf.BareKey (codes "b"))) ∷ (further [] [] (w leaf.BareKey (codes "c"))) ∷ [])) []) [] None) (w leaf.Newline (10 ∷ []))) ∷ (anended (aline [] (header [] (akey (w leaf.BareKey (codes "a")) []) []) [] None) (w leaf.Newline (10 ∷ []))) ∷ (anended (aline [] (keyval (aname (akey (w leaf.BareKey (codes "b")) ((further [] [] (w leaf.BareKey (codes "x"))) ∷ [])) ((w leaf.Ws (codes " ")) ∷ []) ((w leaf.Ws (codes " ")) ∷ [])) (avalue (scalar (w leaf.Integer (codes "1"))) none)) [] None) (w leaf.Newline (10 ∷ []))) ∷ []) (aline [] blank [] None)) ≡ None
+dotted_passes_prefixes = refl
 
 -- `[a.b.c]<LF>[a]<LF>b.x = 1<LF>[a.b]<LF>`
-dotted_passes_way-header : fault_in (adoc false ((anended (aline [] (header [] (akey (w leaf.BareKey (codes "a")) ((further [] [] (w leaf.BareKey (codes "b"))) ∷ (further [] [] (w leaf.BareKey (codes "c"))) ∷ [])) []) [] None) (w leaf.Newline (10 ∷ []))) ∷ (anended (aline [] (header [] (akey (w leaf.BareKey (codes "a")) []) []) [] None) (w leaf.Newline (10 ∷ []))) ∷ (anended (aline [] (keyval (aname (akey (w leaf.BareKey (codes "b")) ((further [] [] (w leaf.BareKey (codes "x"))) ∷ [])) ((w leaf.Ws (codes " ")) ∷ []) ((w leaf.Ws (codes " ")) ∷ [])) (avalue (scalar (w leaf.Integer (codes "1"))) none)) [] None) (w leaf.Newline (10 ∷ []))) ∷ (anended (aline [] (header [] (akey (w leaf.BareKey (codes "a")) ((further [] [] (w leaf.BareKey (codes "b"))) ∷ [])) []) [] None) (w leaf.Newline (10 ∷ []))) ∷ []) (aline [] blank [] None)) ≡ fault 23 why.DefinedTwice
-dotted_passes_way-header = refl
+dotted_passes_prefixes-header : fault_in (adoc false ((anended (aline [] (header [] (akey (w leaf.BareKey (codes "a")) ((further [] [] (w leaf.BareKey (codes "b"))) ∷ (further [] [] (w leaf.BareKey (codes "c"))) ∷ [])) []) [] None) (w leaf.Newline (10 ∷ []))) ∷ (anended (aline [] (header [] (akey (w leaf.BareKey (codes "a")) []) []) [] None) (w leaf.Newline (10 ∷ []))) ∷ (anended (aline [] (keyval (aname (akey (w leaf.BareKey (codes "b")) ((further [] [] (w leaf.BareKey (codes "x"))) ∷ [])) ((w leaf.Ws (codes " ")) ∷ []) ((w leaf.Ws (codes " ")) ∷ [])) (avalue (scalar (w leaf.Integer (codes "1"))) none)) [] None) (w leaf.Newline (10 ∷ []))) ∷ (anended (aline [] (header [] (akey (w leaf.BareKey (codes "a")) ((further [] [] (w leaf.BareKey (codes "b"))) ∷ [])) []) [] None) (w leaf.Newline (10 ∷ []))) ∷ []) (aline [] blank [] None)) ≡ fault 23 why.DefinedTwice
+dotted_passes_prefixes-header = refl
 
 -- `a = 1<LF>"a" = 2<LF>`
 quoted_key : fault_in (adoc false ((anended (aline [] (keyval (aname (akey (w leaf.BareKey (codes "a")) []) ((w leaf.Ws (codes " ")) ∷ []) ((w leaf.Ws (codes " ")) ∷ [])) (avalue (scalar (w leaf.Integer (codes "1"))) none)) [] None) (w leaf.Newline (10 ∷ []))) ∷ (anended (aline [] (keyval (aname (akey (w leaf.Basic (34 ∷ 97 ∷ 34 ∷ [])) []) ((w leaf.Ws (codes " ")) ∷ []) ((w leaf.Ws (codes " ")) ∷ [])) (avalue (scalar (w leaf.Integer (codes "2"))) none)) [] None) (w leaf.Newline (10 ∷ []))) ∷ []) (aline [] blank [] None)) ≡ fault 6 why.DuplicateKey

@@ -2,10 +2,10 @@
 pub use Rattle.keep_meaning.proofs.KeyPlaceLemmas.{HasAsciiEnds, parts_readable, syntax_readable, value_syntax_readable}
 pub use Rattle.keep_meaning.proofs.KeyPartLemmas.{IsPart, Spelled, keys_mention, keys_within, length-key_parts, part_ends, part_left, part_placed, part_right, part_taken, part_whole, spelled_left, spelled_right}
 pub use Rattle.keep_meaning.proofs.LinePlaceLemmas.{LinesSpelled, content_spelled, head_spelled, line_spelled, lines_spelled, next_spelled}
-pub use Rattle.keep_meaning.proofs.FaultLemmas.{Tells, first_fault_after-tells, not_both}
+pub use Rattle.keep_meaning.proofs.FaultLemmas.{StatesEdits, first_fault_after-states, not_both}
 pub use Rattle.keep_meaning.proofs.NumberLemmas.{count_after-keys, count_after-values, count_from-keys, count_from-statements, length-entries_values, numbered_from-append, one_mark, statements-count, valued, valued-append, valued-below, valued-content, valued-entries, valued-keyed}
 pub use Rattle.keep_meaning.proofs.FactLemmas.{first_number-more, last_number-more, marks-more, or_number, passed-more}
-pub use Rattle.keep_meaning.proofs.PlaceLemmas.{length-entries_parts, length-named, marked, marked-append, marked-below, marked-content, marked-entries, marked-keyed, marked-parts, marked-parts_in, marked-way}
+pub use Rattle.keep_meaning.proofs.PlaceLemmas.{length-entries_parts, length-named, marked, marked-append, marked-below, marked-content, marked-entries, marked-keyed, marked-parts, marked-parts_in, marked-prefixes}
 pub use Rattle.keep_meaning.proofs.CountLemmas.{lines_mentions-statements, mentions-numbered_from, mentions-numbered_in, mentions-numbered_mentions, node_at-elsewhere, numbered_mentions-append, paths-nodes_in, mentions_in-statements}
 pub use Rattle.keep_meaning.proofs.DecodeLaws.{means_value}
 pub use Rattle.keep_meaning.proofs.BoundLaws.{nodes_few}

@@ -59,11 +59,12 @@ header_path tables at (k ∷ []) = at ++ key k ∷ []
 header_path tables at (k ∷ l ∷ ks) = header_path tables (entered_path tables (at ++ key k ∷ [])) (l ∷ ks)
 
 -- what a header says of the paths on its way
-abbrev pub header_way : List (List Part) → List Part → List (List ℕ) → List Mention
-header_way tables at [] = []
-header_way tables at (k ∷ []) = []
-header_way tables at (k ∷ l ∷ ks) =
-    passing_mentions tables (at ++ key k ∷ []) ++ header_way tables (entered_path tables (at ++ key k ∷ [])) (l ∷ ks)
+abbrev pub header_prefixes : List (List Part) → List Part → List (List ℕ) → List Mention
+header_prefixes tables at [] = []
+header_prefixes tables at (k ∷ []) = []
+header_prefixes tables at (k ∷ l ∷ ks) =
+    passing_mentions tables (at ++ key k ∷ [])
+    ++ header_prefixes tables (entered_path tables (at ++ key k ∷ [])) (l ∷ ks)
 
 -- How far the reading has come: the full paths of the `[[..]]` lines so far, and the path of the body.
 pub record Reading : Type 0 where
@@ -74,10 +75,10 @@ pub record Reading : Type 0 where
 -- Array of Tables); a keyval's paths continue from its body (TOML 1.0.0, Table).
 abbrev pub statement_mentions : Reading → Statement → List Mention
 statement_mentions r (header keys) =
-    header_way r.tables [] keys ++ record { path = header_path r.tables [] keys; kind = define } ∷ []
+    header_prefixes r.tables [] keys ++ record { path = header_path r.tables [] keys; kind = define } ∷ []
 statement_mentions r (element_header keys) =
     let path = header_path r.tables [] keys in
-    header_way r.tables [] keys
+    header_prefixes r.tables [] keys
     ++ record { path = path; kind = element }
     ∷ record { path = path ++ index (elements_of path r.tables) ∷ []; kind = begun } ∷ []
 statement_mentions r (keyval nested) = map (below r.body) nested

@@ -214,7 +214,7 @@ nodes_of ns = map (node_at ns) (node_paths (map mention_of ns))
 abbrev pub nodes_in : Document → List Node
 nodes_in s = nodes_of (numbered_in s)
 
--- ---- what the index tells: numbers
+-- ---- what the index states: numbers
 
 abbrev pub node_info : Node → NodeInfo
 node_info n = record { kind = n.kind; key = n.key; marks = n.marks; passed = n.passed; origin = n.origin }

@@ -123,10 +123,11 @@ impl Path {
         self.steps.get(number)
     }
 
-    /// The path's text. Where no index is above 999,999,999, it tells the path. The only error is out of memory.
+    /// The path's text. Where no index is above 999,999,999, it reads back as the path. The only error is out of
+    /// memory.
     pub fn encode(&self, alloc: Global) -> Result<String, AllocError>
         ensures text { IfOk result (λ s. string_bytes s ≡ encoded_path self.now) }
-        ensures tells { HasSmallIndexes self.now → IfOk result (λ s. IsPathText (string_bytes s) self.now) }
+        ensures reads_back { HasSmallIndexes self.now → IfOk result (λ s. IsPathText (string_bytes s) self.now) }
     {
         let mut out = String::new(alloc);
         if let [first, further @ ..] = self.steps.as_slice() {

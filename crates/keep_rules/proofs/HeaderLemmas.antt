@@ -12,7 +12,7 @@ use Rattle.keep_index_store.specs.AllNodes.{Node}
 use Rattle.keep_rules.specs.declared.key_walk.Fault.{Fault}
 use Rattle.keep_path.specs.Path.{Part, key, index}
 use Rattle.keep_meaning.specs.Marks as marks
-use Rattle.keep_meaning.specs.Marks.{Mention, Reading, statement_mentions, header_way, header_path, passing_mentions, entered_path, elements_of, define, element, begun}
+use Rattle.keep_meaning.specs.Marks.{Mention, Reading, statement_mentions, header_prefixes, header_path, passing_mentions, entered_path, elements_of, define, element, begun}
 use Rattle.keep_meaning.specs.Counts.{Count, is_value, numbered_mentions, count_with_mention}
 use Rattle.keep_meaning.specs.Nodes.{paths_with}
 use Rattle.keep_rules.specs.Keys.{AreKeysAt, key_texts}
@@ -27,7 +27,7 @@ use Rattle.keep_rules.specs.MentionInfos.{ValuesAreNew}
 use Rattle.keep_rules.specs.FlatStatements.{MatchesKeys, MatchesStatement}
 use Rattle.keep_rules.specs.Plans.{AreReadable, fault_from}
 use Rattle.keep_rules.specs.ReadStatements.{head_of, HasReading, IsRead, IsReadAsMatched, BreaksAsMatched}
-use Rattle.keep_meaning.proofs.Shared.{marked, marked-append, marked-way}
+use Rattle.keep_meaning.proofs.Shared.{marked, marked-append, marked-prefixes}
 use Rattle.keep_rules.proofs.PlanLemmas.{meets_weaker, meets_from, fault_low}
 use Rattle.keep_rules.proofs.KeyLemmas.{length-keys_in}
 
@@ -73,18 +73,18 @@ either_none : (b : Bool) (xs ys : List Mention) → AllByRecursion IsNoValue xs 
 either_none true xs ys h g = h
 either_none false xs ys h g = g
 
-leading_none : (tables : List (List Part)) (at : List Part) (ks : List (List ℕ)) → AllByRecursion IsNoValue (header_way tables at ks)
+leading_none : (tables : List (List Part)) (at : List Part) (ks : List (List ℕ)) → AllByRecursion IsNoValue (header_prefixes tables at ks)
 leading_none tables at [] = tt
 leading_none tables at (k ∷ []) = tt
 leading_none tables at (k ∷ l ∷ ks) =
-    none-append (passing_mentions tables (at ++ key k ∷ [])) (header_way tables (entered_path tables (at ++ key k ∷ [])) (l ∷ ks))
+    none-append (passing_mentions tables (at ++ key k ∷ [])) (header_prefixes tables (entered_path tables (at ++ key k ∷ [])) (l ∷ ks))
     (either_none (0 == elements_of (at ++ key k ∷ []) tables) _ _ (refl, tt) (refl, (refl, tt)))
     (leading_none tables (entered_path tables (at ++ key k ∷ [])) (l ∷ ks))
 
 head_none : (kind : StatementKind) (k : Keys) (r : Reading) → AllByRecursion IsNoValue (statement_mentions r (head_of kind k))
-head_none KeyVal k r = none-append (header_way r.tables [] (key_texts k)) _ (leading_none r.tables [] (key_texts k)) (refl, tt)
-head_none Header k r = none-append (header_way r.tables [] (key_texts k)) _ (leading_none r.tables [] (key_texts k)) (refl, tt)
-head_none Element k r = none-append (header_way r.tables [] (key_texts k)) _ (leading_none r.tables [] (key_texts k)) (refl, (refl, tt))
+head_none KeyVal k r = none-append (header_prefixes r.tables [] (key_texts k)) _ (leading_none r.tables [] (key_texts k)) (refl, tt)
+head_none Header k r = none-append (header_prefixes r.tables [] (key_texts k)) _ (leading_none r.tables [] (key_texts k)) (refl, tt)
+head_none Element k r = none-append (header_prefixes r.tables [] (key_texts k)) _ (leading_none r.tables [] (key_texts k)) (refl, (refl, tt))
 
 -- ---- read, with its facts added
 
@@ -102,16 +102,16 @@ head_is_read bytes f number st k old new to texts none reads joined body s match
 
 -- ---- faults
 
-leading_marks : (tables : List (List Part)) (at : List Part) (ks : List (List ℕ)) → 0 < length ks → marked (header_way tables at ks) + 1 ≡ length ks
+leading_marks : (tables : List (List Part)) (at : List Part) (ks : List (List ℕ)) → 0 < length ks → marked (header_prefixes tables at ks) + 1 ≡ length ks
 leading_marks tables at [] some = absurd (omega (arith, some))
-leading_marks tables at (k ∷ ks) some = omega (arith, marked-way tables at k ks)
+leading_marks tables at (k ∷ ks) some = omega (arith, marked-prefixes tables at k ks)
 
 head_marks : (kind : StatementKind) (k : Keys) (r : Reading) → 0 < length (key_texts k) → marked (statement_mentions r (head_of kind k)) ≡ length (key_texts k)
-head_marks KeyVal k r some = omega (arith, marked-append (header_way r.tables [] (key_texts k)) (record { path = header_path r.tables [] (key_texts k); kind = define } ∷ []), leading_marks r.tables [] (key_texts k) some)
-head_marks Header k r some = omega (arith, marked-append (header_way r.tables [] (key_texts k)) (record { path = header_path r.tables [] (key_texts k); kind = define } ∷ []), leading_marks r.tables [] (key_texts k) some)
+head_marks KeyVal k r some = omega (arith, marked-append (header_prefixes r.tables [] (key_texts k)) (record { path = header_path r.tables [] (key_texts k); kind = define } ∷ []), leading_marks r.tables [] (key_texts k) some)
+head_marks Header k r some = omega (arith, marked-append (header_prefixes r.tables [] (key_texts k)) (record { path = header_path r.tables [] (key_texts k); kind = define } ∷ []), leading_marks r.tables [] (key_texts k) some)
 head_marks Element k r some =
     let path : List Part = header_path r.tables [] (key_texts k) in
-    omega (arith, marked-append (header_way r.tables [] (key_texts k)) (record { path = path; kind = element } ∷ record { path = path ++ index (elements_of path r.tables) ∷ []; kind = begun } ∷ []), leading_marks r.tables [] (key_texts k) some)
+    omega (arith, marked-append (header_prefixes r.tables [] (key_texts k)) (record { path = path; kind = element } ∷ record { path = path ++ index (elements_of path r.tables) ∷ []; kind = begun } ∷ []), leading_marks r.tables [] (key_texts k) some)
 
 pub head_fault_fits : (bytes : List ℕ) (parts : List KeyPart) (st : Statement) (k : Keys) (old : List Node) (most : ℕ) (f : Fault) → key_texts k ≡ keys_in bytes parts st.first_key st.keys → AreKeysAt bytes parts st.first_key st.keys
     → (body : ℕ) × HasReading (trie_of old) body → length parts ≤ most → FaultMeets f (λ at why. (body : ℕ) → FaultsIn (trie_of old) body (head_of st.kind k) at why) → FaultMeets f (λ at why. st.first_key + at ≤ most)

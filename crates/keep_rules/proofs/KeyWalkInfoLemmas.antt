@@ -36,7 +36,7 @@ use Rattle.keep_rules.specs.AddedInfos.{AddsInfo, AddsMentions, HeaderAdds, Dott
 use Rattle.keep_meaning.proofs.Shared.{numbered_mentions-append}
 use Rattle.keep_index_store.proofs.Shared.{length-paths_of, one_node}
 use Rattle.keep_rules.proofs.PassLemmas.{passing-none, passing-some, element_place, elements_there}
-use Rattle.keep_rules.proofs.KeyWalkLemmas.{walk_mentions-append, header_way-split, header_path-split, dotted_mentions-append}
+use Rattle.keep_rules.proofs.KeyWalkLemmas.{walk_mentions-append, header_prefixes-split, header_path-split, dotted_mentions-append}
 use Rattle.keep_rules.proofs.NextValueLemmas.{keyed_mentions_are}
 use Rattle.keep_rules.proofs.MentionInfoLemmas.{with_mentions-append, values_new-append, through_info, past_info, define_info, element_info, dotted_info, value_info, begun_info, passed_is_info, item_info}
 use Rattle.keep_rules.proofs.AddedInfoLemmas.{added_at_new, with_mentions-paths}
@@ -197,8 +197,8 @@ pub header_added : (old new : List Node) (ks : List (List ℕ)) (x : List ℕ) (
 header_added old new ks x first statement joined ms r body reading c keys statements =
     let ts : List (List Part) = r.tables in
     subst (λ (w : List Mention). AddsMentions old new c w)
-    (ap (λ w. w ++ record { path = walk_path ts [] ks ++ key x ∷ []; kind = define } ∷ []) (sym (header_way-split ts [] ks x))
-    ∙ ap (λ p. marks.header_way ts [] (ks ++ x ∷ []) ++ record { path = p; kind = define } ∷ []) (sym (header_path-split ts [] ks x)))
+    (ap (λ w. w ++ record { path = walk_path ts [] ks ++ key x ∷ []; kind = define } ∷ []) (sym (header_prefixes-split ts [] ks x))
+    ∙ ap (λ p. marks.header_prefixes ts [] (ks ++ x ∷ []) ++ record { path = p; kind = define } ∷ []) (sym (header_path-split ts [] ks x)))
     (joined ms ts reading.represents c keys statements)
 
 pub element_added : (old new : List Node) (ks : List (List ℕ)) (x : List ℕ) (first statement : ℕ)
@@ -207,8 +207,8 @@ pub element_added : (old new : List Node) (ks : List (List ℕ)) (x : List ℕ) 
 element_added old new ks x first statement joined ms r body reading c keys statements =
     let ts : List (List Part) = r.tables in
     subst (λ (w : List Mention). AddsMentions old new c w)
-    (ap (λ w. w ++ begin_mentions (walk_path ts [] ks ++ key x ∷ []) ts) (sym (header_way-split ts [] ks x))
-    ∙ ap (λ p. marks.header_way ts [] (ks ++ x ∷ []) ++ begin_mentions p ts) (sym (header_path-split ts [] ks x)))
+    (ap (λ w. w ++ begin_mentions (walk_path ts [] ks ++ key x ∷ []) ts) (sym (header_prefixes-split ts [] ks x))
+    ∙ ap (λ p. marks.header_prefixes ts [] (ks ++ x ∷ []) ++ begin_mentions p ts) (sym (header_path-split ts [] ks x)))
     (joined ms ts reading.represents c keys statements)
 
 -- ---- values with keys

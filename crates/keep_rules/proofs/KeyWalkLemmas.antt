@@ -4,7 +4,7 @@ use Rattle.std.specs.Prelude.{◌==◌}
 use Rattle.std.proofs.lemmas.List.{append_assoc, append-nil}
 use Rattle.std.proofs.lemmas.List.Elements.{filter_map-append}
 use Rattle.keep_path.specs.Path.{Part, key}
-use Rattle.keep_meaning.specs.Marks.{Mention, below, through, past, passed, dotted, passing_mentions, entered_path, header_way, header_path, marks, mark_of, elements_of}
+use Rattle.keep_meaning.specs.Marks.{Mention, below, through, past, passed, dotted, passing_mentions, entered_path, header_prefixes, header_path, marks, mark_of, elements_of}
 use Rattle.keep_meaning.specs.Meaning.{keyed_mentions}
 use Rattle.keep_rules.specs.KeyWalks.{walk_path, walk_mentions, dotted_mentions}
 
@@ -19,10 +19,10 @@ walk_path-append ts at [] ls = refl
 walk_path-append ts at (k ∷ ks) ls = walk_path-append ts (entered_path ts (at ++ key k ∷ [])) ks ls
 
 -- the leading keys of a header
-pub header_way-split : (ts : List (List Part)) (at : List Part) (leading : List (List ℕ)) (k : List ℕ) → header_way ts at (leading ++ k ∷ []) ≡ walk_mentions ts at leading
-header_way-split ts at [] k = refl
-header_way-split ts at (w ∷ []) k = refl
-header_way-split ts at (w ∷ x ∷ leading) k = ap (λ ms. passing_mentions ts (at ++ key w ∷ []) ++ ms) (header_way-split ts (entered_path ts (at ++ key w ∷ [])) (x ∷ leading) k)
+pub header_prefixes-split : (ts : List (List Part)) (at : List Part) (leading : List (List ℕ)) (k : List ℕ) → header_prefixes ts at (leading ++ k ∷ []) ≡ walk_mentions ts at leading
+header_prefixes-split ts at [] k = refl
+header_prefixes-split ts at (w ∷ []) k = refl
+header_prefixes-split ts at (w ∷ x ∷ leading) k = ap (λ ms. passing_mentions ts (at ++ key w ∷ []) ++ ms) (header_prefixes-split ts (entered_path ts (at ++ key w ∷ [])) (x ∷ leading) k)
 
 pub header_path-split : (ts : List (List Part)) (at : List Part) (leading : List (List ℕ)) (k : List ℕ) → header_path ts at (leading ++ k ∷ []) ≡ walk_path ts at leading ++ key k ∷ []
 header_path-split ts at [] k = refl

@@ -20,7 +20,7 @@ use Rattle.keep_rules.specs.KeyWalks.{walk_path, walk_mentions}
 use Rattle.keep_rules.specs.Steps.{Walks}
 use Rattle.keep_rules.specs.NestedValues.{NestedValue, NestingState, nested_mentions, all_nested_mentions, nesting_after, next_nesting, body_nesting, keyval_nested}
 use Rattle.keep_rules.specs.Reads.{IsReading, Reads, FaultsIn}
-use Rattle.keep_rules.proofs.KeyWalkLemmas.{header_way-split, header_path-split}
+use Rattle.keep_rules.proofs.KeyWalkLemmas.{header_prefixes-split, header_path-split}
 use Rattle.keep_rules.proofs.PassLemmas.{represents_marked}
 use Rattle.keep_rules.proofs.StepLemmas.{keeps_then, stays_open}
 use Rattle.keep_rules.proofs.NestedValueLemmas.{all_nested_mentions-append, keyval_nested-mentions}
@@ -39,8 +39,8 @@ header_reads old mid new at to leading last walked marked body ms r reading =
     subst (λ (q : List Part). IsIndexOf new ((ms ++ walk_mentions ts [] leading) ++ record { path = q; kind = define } ∷ [])) full (marked.index (ms ++ walk_mentions ts [] leading) define refl before.index) in
     let whole : (ms ++ walk_mentions ts [] leading) ++ record { path = p; kind = define } ∷ [] ≡ ms ++ statement_mentions r (header (leading ++ last ∷ [])) =
     append_assoc ms (walk_mentions ts [] leading) (record { path = p; kind = define } ∷ [])
-    ∙ ap (λ w. ms ++ (w ++ record { path = p; kind = define } ∷ [])) (sym (header_way-split ts [] leading last))
-    ∙ ap (λ q. ms ++ (marks.header_way ts [] (leading ++ last ∷ []) ++ record { path = q; kind = define } ∷ [])) full' in
+    ∙ ap (λ w. ms ++ (w ++ record { path = p; kind = define } ∷ [])) (sym (header_prefixes-split ts [] leading last))
+    ∙ ap (λ q. ms ++ (marks.header_prefixes ts [] (leading ++ last ∷ []) ++ record { path = q; kind = define } ∷ [])) full' in
     record {
       represents = subst (λ (w : List Mention). Represents new w ts) whole (represents_marked marked refl (ms ++ walk_mentions ts [] leading) (record { path = p; kind = define } ∷ []) ts step before);
       rooted = (keeps_then walked.keeps marked.keeps).holdings 0 reading.represents.index.trie.root ∙ reading.rooted;
@@ -64,7 +64,7 @@ element_reads old mid new at to leading last walked begun body ms r reading =
     let step : Represents new ((ms ++ walk_mentions ts [] leading) ++ two hp) (ts ++ hp ∷ []) =
     subst (λ (q : List Part). Represents new ((ms ++ walk_mentions ts [] leading) ++ two q) (ts ++ q ∷ [])) full (begun.represents (ms ++ walk_mentions ts [] leading) ts before) in
     let whole : (ms ++ walk_mentions ts [] leading) ++ two hp ≡ ms ++ statement_mentions r (element_header (leading ++ last ∷ [])) =
-    append_assoc ms (walk_mentions ts [] leading) (two hp) ∙ ap (λ w. ms ++ (w ++ two hp)) (sym (header_way-split ts [] leading last)) in
+    append_assoc ms (walk_mentions ts [] leading) (two hp) ∙ ap (λ w. ms ++ (w ++ two hp)) (sym (header_prefixes-split ts [] leading last)) in
     record {
       represents = subst (λ (w : List Mention). Represents new w (ts ++ hp ∷ [])) whole step;
       rooted = (keeps_then walked.keeps begun.keeps).holdings 0 reading.represents.index.trie.root ∙ reading.rooted;

@@ -19,7 +19,7 @@ use Rattle.keep_rules.specs.Steps.{Walks, Dots}
 use Rattle.keep_rules.specs.NestedValues.{nested_keyed, NestingState, path_of_value, nested_mentions}
 use Rattle.keep_rules.specs.Reads.{FaultsIn}
 use Rattle.keep_rules.proofs.PassLemmas.{passing-none}
-use Rattle.keep_rules.proofs.KeyWalkLemmas.{walk_mentions-append, header_way-split, header_path-split, marks-walk_mentions, dotted_mentions-append, marks-dotted_mentions}
+use Rattle.keep_rules.proofs.KeyWalkLemmas.{walk_mentions-append, header_prefixes-split, header_path-split, marks-walk_mentions, dotted_mentions-append, marks-dotted_mentions}
 use Rattle.keep_rules.proofs.NextValueLemmas.{keyed_mentions_are}
 
 -- a refused mark, after others in order
@@ -96,15 +96,15 @@ walk_fault old mid at ks k rest walked was plain ms ts represents =
     (one_fault mid p Through marks.through ms (walk_mentions ts [] ks) (walk_mentions ts (entered_path ts p) rest) ts (length ks) there (subst (λ (q : List Part). WasRefused mid q Through) full was) refl (marks-walk_mentions ts [] ks))
 
 -- where a leading key is at fault, the header is
-header_whole : (ts : List (List Part)) (leading : List (List ℕ)) (last : List ℕ) → marks.header_way ts [] (leading ++ last ∷ []) ++ record { path = marks.header_path ts [] (leading ++ last ∷ []); kind = marks.define } ∷ []
+header_whole : (ts : List (List Part)) (leading : List (List ℕ)) (last : List ℕ) → marks.header_prefixes ts [] (leading ++ last ∷ []) ++ record { path = marks.header_path ts [] (leading ++ last ∷ []); kind = marks.define } ∷ []
     ≡ walk_mentions ts [] leading ++ record { path = walk_path ts [] leading ++ key last ∷ []; kind = marks.define } ∷ []
-header_whole ts leading last = ap (λ w. w ++ record { path = marks.header_path ts [] (leading ++ last ∷ []); kind = marks.define } ∷ []) (header_way-split ts [] leading last)
+header_whole ts leading last = ap (λ w. w ++ record { path = marks.header_path ts [] (leading ++ last ∷ []); kind = marks.define } ∷ []) (header_prefixes-split ts [] leading last)
     ∙ ap (λ p. walk_mentions ts [] leading ++ record { path = p; kind = marks.define } ∷ []) (header_path-split ts [] leading last)
 
 element_whole : (ts : List (List Part)) (leading : List (List ℕ)) (last : List ℕ) → marks.statement_mentions (record { tables = ts; body = [] }) (element_header (leading ++ last ∷ []))
     ≡ walk_mentions ts [] leading ++ record { path = walk_path ts [] leading ++ key last ∷ []; kind = marks.element } ∷ record { path = (walk_path ts [] leading ++ key last ∷ []) ++ index (elements_of (walk_path ts [] leading ++ key last ∷ []) ts) ∷ []; kind = marks.begun } ∷ []
 element_whole ts leading last =
-    ap (λ w. w ++ record { path = marks.header_path ts [] (leading ++ last ∷ []); kind = marks.element } ∷ record { path = marks.header_path ts [] (leading ++ last ∷ []) ++ index (elements_of (marks.header_path ts [] (leading ++ last ∷ [])) ts) ∷ []; kind = marks.begun } ∷ []) (header_way-split ts [] leading last)
+    ap (λ w. w ++ record { path = marks.header_path ts [] (leading ++ last ∷ []); kind = marks.element } ∷ record { path = marks.header_path ts [] (leading ++ last ∷ []) ++ index (elements_of (marks.header_path ts [] (leading ++ last ∷ [])) ts) ∷ []; kind = marks.begun } ∷ []) (header_prefixes-split ts [] leading last)
     ∙ ap (λ p. walk_mentions ts [] leading ++ record { path = p; kind = marks.element } ∷ record { path = p ++ index (elements_of p ts) ∷ []; kind = marks.begun } ∷ []) (header_path-split ts [] leading last)
 
 pub header_walk_faults : (old : List TrieNode) (leading : List (List ℕ)) (last : List ℕ) (n : ℕ) (why : Why)

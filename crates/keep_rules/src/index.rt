@@ -101,7 +101,7 @@ impl Index {
         Index::read(self.nodes.renewed(alloc, lines), text, syntax)
     }
 
-    /// Reads the definitions of a document as `build` tells, where there is no node yet.
+    /// Reads the definitions of a document as `build` promises, where there is no node yet.
     fn read(empty: Nodes, text: &str, syntax: &Syntax) -> Result<Index, ReadFault>
         requires read { (d : Document) × WasRead text.now syntax.now d }
         requires empty { empty.items ≡ [] }

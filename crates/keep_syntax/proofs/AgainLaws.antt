@@ -84,17 +84,17 @@ entries_begin profile b (entry name body nested after comma more) rest h closed 
 -- ---- one entry
 
 abbrev pub ReadsAgain : Profile → ℕ → (List ℕ → Read Value) → Type 0
-ReadsAgain profile room value = (v : Value) (rest : List ℕ) → IsValue profile v → value_depth v ≤ room → may_follow_scalar rest ≡ true → value (value_text v ++ rest) ≡ Ok (v, rest)
+ReadsAgain profile depth_left value = (v : Value) (rest : List ℕ) → IsValue profile v → value_depth v ≤ depth_left → may_follow_scalar rest ≡ true → value (value_text v ++ rest) ≡ Ok (v, rest)
 
 -- what follows an entry
 abbrev pub Follows : Profile → Brackets → Option Gap → List ℕ → Type 0
 Follows profile b None rest = (first rest == close_byte b) ≡ true
 Follows profile b (Some g) rest = IsGap profile (place_of b) g × (is_solid (first rest) ≡ true) × ((not (is_free profile b) && first rest == close_byte b) ≡ false)
 
-pub record AnItem (profile : Profile) (b : Brackets) (room : ℕ) (i : Item) : Type 0 where
+pub record AnItem (profile : Profile) (b : Brackets) (depth_left : ℕ) (i : Item) : Type 0 where
   pub named : IsNamed profile (place_of b) i.name
   pub valid : IsValue profile i.value
-  pub shallow : value_depth i.value ≤ room
+  pub shallow : value_depth i.value ≤ depth_left
   pub gap : IsGap profile (place_of b) i.after
 
 close_facts : (b : Brackets) (c : ℕ) → (c == close_byte b) ≡ true → (is_stop c ≡ true) × (is_solid c ≡ true) × ((c == 0x2C) ≡ false)
@@ -119,9 +119,9 @@ named_again profile brackets.Array (Some n) x h stop = absurd h
 named_again profile brackets.Inline None x h stop = absurd h
 named_again profile brackets.Inline (Some n) x h stop = rw (name_again profile n x h stop) refl
 
-pub item_again : (profile : Profile) (b : Brackets) (room : ℕ) (value : List ℕ → Read Value) → ReadsAgain profile room value → (i : Item) (x : List ℕ) → AnItem profile b room i → Follows profile b i.comma x → item_by profile b value (text_of (item_leaves i) ++ x) ≡ Ok (i, x)
+pub item_again : (profile : Profile) (b : Brackets) (depth_left : ℕ) (value : List ℕ → Read Value) → ReadsAgain profile depth_left value → (i : Item) (x : List ℕ) → AnItem profile b depth_left i → Follows profile b i.comma x → item_by profile b value (text_of (item_leaves i) ++ x) ≡ Ok (i, x)
 unfolding item_by
-item_again profile b room value again i x h follows =
+item_again profile b depth_left value again i x h follows =
     let t2 = text_of (comma_leaves i.comma) ++ x in
     let t1 = text_of i.after ++ t2 in
     let t0 = value_text i.value ++ t1 in
@@ -135,18 +135,18 @@ item_again profile b room value again i x h follows =
 -- ---- entries
 
 -- a comma before what follows
-comma_follows : (profile : Profile) (b : Brackets) (room : ℕ) (comma : Option Gap) (more : Entries) (rest : List ℕ) → IsComma profile (place_of b) comma more → AreEntries profile (place_of b) more → (first rest == close_byte b) ≡ true
+comma_follows : (profile : Profile) (b : Brackets) (depth_left : ℕ) (comma : Option Gap) (more : Entries) (rest : List ℕ) → IsComma profile (place_of b) comma more → AreEntries profile (place_of b) more → (first rest == close_byte b) ≡ true
     → Follows profile b comma (text_of (entries_leaves more) ++ rest)
-comma_follows profile b room None none rest c h closed = closed
-comma_follows profile b room None (entry name body nested after comma more) rest c h closed = absurd c
-comma_follows profile b room (Some g) none rest c h closed = (c.0, close_solid b rest closed, free profile b c.1)
+comma_follows profile b depth_left None none rest c h closed = closed
+comma_follows profile b depth_left None (entry name body nested after comma more) rest c h closed = absurd c
+comma_follows profile b depth_left (Some g) none rest c h closed = (c.0, close_solid b rest closed, free profile b c.1)
   where
     free : (profile : Profile) (b : Brackets) → MayEndInComma profile (place_of b) → (not (is_free profile b) && first rest == close_byte b) ≡ false
     free Strict brackets.Array k = refl
     free Wide brackets.Array k = refl
     free Strict brackets.Inline k = absurd k
     free Wide brackets.Inline k = refl
-comma_follows profile b room (Some g) (entry name body nested after comma more) rest c h closed =
+comma_follows profile b depth_left (Some g) (entry name body nested after comma more) rest c h closed =
     let i : Item = record { name = name; value = record { body = body; nested = nested }; after = after; comma = comma } in
     let f : EntryFirst b (first (text_of (entries_leaves (entry_of i more)) ++ rest)) =
     subst (λ (t : List ℕ). EntryFirst b (first t)) (sym (entry_text i more rest)) (item_begins profile b i (text_of (entries_leaves more) ++ rest) h.0 (record { body = h.1; nested = h.2 })) in
@@ -156,25 +156,25 @@ comma_follows profile b room (Some g) (entry name body nested after comma more) 
     never true = refl
     never false = refl
 
-pub iteration_again : (profile : Profile) (b : Brackets) (room : ℕ) (value : List ℕ → Read Value) → ReadsAgain profile room value → (prefix : Entries) (i : Item) (x : List ℕ) → AnItem profile b room i → Follows profile b i.comma x
+pub iteration_again : (profile : Profile) (b : Brackets) (depth_left : ℕ) (value : List ℕ → Read Value) → ReadsAgain profile depth_left value → (prefix : Entries) (i : Item) (x : List ℕ) → AnItem profile b depth_left i → Follows profile b i.comma x
     → entry_by profile b value prefix (text_of (item_leaves i) ++ x) ≡ Ok (iteration_of prefix i i.comma, x)
 unfolding entry_by
-iteration_again profile b room value again prefix i x h follows =
+iteration_again profile b depth_left value again prefix i x h follows =
     let f = item_begins profile b i x h.named h.valid in
-    rw (f.1, item_again profile b room value again i x h follows) refl
+    rw (f.1, item_again profile b depth_left value again i x h follows) refl
 
-pub entries_again : (profile : Profile) (b : Brackets) (room : ℕ) (value : List ℕ → Read Value) → ReadsValues profile room value → ReadsAgain profile room value → (es prefix : Entries) (rest : List ℕ)
-    → AreEntries profile (place_of b) es → entries_depth es ≤ room → (first rest == close_byte b) ≡ true → entries_by profile b value prefix (text_of (entries_leaves es) ++ rest) ≡ Ok (join prefix es, rest)
+pub entries_again : (profile : Profile) (b : Brackets) (depth_left : ℕ) (value : List ℕ → Read Value) → ReadsValues profile depth_left value → ReadsAgain profile depth_left value → (es prefix : Entries) (rest : List ℕ)
+    → AreEntries profile (place_of b) es → entries_depth es ≤ depth_left → (first rest == close_byte b) ≡ true → entries_by profile b value prefix (text_of (entries_leaves es) ++ rest) ≡ Ok (join prefix es, rest)
 unfolding entry_by
-entries_again profile b room value sound again none prefix rest h le closed =
+entries_again profile b depth_left value sound again none prefix rest h le closed =
     let iteration : entry_by profile b value prefix rest ≡ Ok (ready prefix, rest) = rw closed refl in
     loop_ready (entry_by profile b value) prefix rest (join prefix none) rest (iteration ∙ ap (λ (x : Entries). Ok (ready x, rest)) (sym (join-none prefix)))
-entries_again profile b room value sound again (entry name body nested after comma more) prefix rest h le closed =
+entries_again profile b depth_left value sound again (entry name body nested after comma more) prefix rest h le closed =
     let i : Item = record { name = name; value = record { body = body; nested = nested }; after = after; comma = comma } in
     let x = text_of (entries_leaves more) ++ rest in
-    let an : AnItem profile b room i = record { named = h.0; valid = record { body = h.1; nested = h.2 }; shallow = omega arith; gap = h.3 } in
-    let iteration : entry_by profile b value prefix (text_of (item_leaves i) ++ x) ≡ Ok (iteration_of prefix i comma, x) = iteration_again profile b room value again prefix i x an (comma_follows profile b room comma more rest h.4 h.5 closed) in
-    ap (entries_by profile b value prefix) (entry_text i more rest) ∙ by i comma more iteration h.4 (λ prefix'. entries_again profile b room value sound again more prefix' rest h.5 (omega arith) closed)
+    let an : AnItem profile b depth_left i = record { named = h.0; valid = record { body = h.1; nested = h.2 }; shallow = omega arith; gap = h.3 } in
+    let iteration : entry_by profile b value prefix (text_of (item_leaves i) ++ x) ≡ Ok (iteration_of prefix i comma, x) = iteration_again profile b depth_left value again prefix i x an (comma_follows profile b depth_left comma more rest h.4 h.5 closed) in
+    ap (entries_by profile b value prefix) (entry_text i more rest) ∙ by i comma more iteration h.4 (λ prefix'. entries_again profile b depth_left value sound again more prefix' rest h.5 (omega arith) closed)
   where
     by : (i : Item) (c : Option Gap) (more : Entries) → entry_by profile b value prefix (text_of (item_leaves i) ++ (text_of (entries_leaves more) ++ rest)) ≡ Ok (iteration_of prefix i c, text_of (entries_leaves more) ++ rest) → IsComma profile (place_of b) c more
         → ((prefix' : Entries) → entries_by profile b value prefix' (text_of (entries_leaves more) ++ rest) ≡ Ok (join prefix' more, rest)) → entries_by profile b value prefix (text_of (item_leaves i) ++ (text_of (entries_leaves more) ++ rest)) ≡ Ok (join prefix (entry_of i more), rest)
@@ -182,20 +182,20 @@ entries_again profile b room value sound again (entry name body nested after com
     by i None (entry name body nested after comma more) iteration c ih = absurd c
     by i (Some g) more iteration c ih =
         let x = text_of (entries_leaves more) ++ rest in
-        loop_on (entry_by profile b value) (entry_shortens profile b room value sound) prefix (text_of (item_leaves i) ++ x) (join prefix (entry_of i none)) x iteration
+        loop_on (entry_by profile b value) (entry_shortens profile b depth_left value sound) prefix (text_of (item_leaves i) ++ x) (join prefix (entry_of i none)) x iteration
         ∙ ih (join prefix (entry_of i none)) ∙ ap (λ (es : Entries). Ok (es, rest)) (join-assoc prefix (entry_of i none) more)
 
 -- ---- values
 
-bracket_again : (profile : Profile) (room : ℕ) (value : List ℕ → Read Value) → ReadsValues profile room value → ReadsAgain profile room value → (b : Brackets) (g : Gap) (nested : Entries) (rest : List ℕ)
-    → IsGap profile (place_of b) g → AreEntries profile (place_of b) nested → entries_depth nested ≤ room
+bracket_again : (profile : Profile) (depth_left : ℕ) (value : List ℕ → Read Value) → ReadsValues profile depth_left value → ReadsAgain profile depth_left value → (b : Brackets) (g : Gap) (nested : Entries) (rest : List ℕ)
+    → IsGap profile (place_of b) g → AreEntries profile (place_of b) nested → entries_depth nested ≤ depth_left
     → bracket_by profile value b (open_byte b ∷ (text_of g ++ (text_of (entries_leaves nested) ++ (close_byte b ∷ rest)))) ≡ Ok (record { body = body_in b g; nested = nested }, rest)
-bracket_again profile room value sound again b g nested rest gap i le =
+bracket_again profile depth_left value sound again b g nested rest gap i le =
     let z = close_byte b ∷ rest in
     let x = text_of (entries_leaves nested) ++ z in
     let closed : (first z == close_byte b) ≡ true = closes b in
     let one : gap_in profile b (text_of g ++ x) ≡ (g, x) = gap_again profile b g x gap (entries_begin profile b nested z i closed) in
-    let two : entries_by profile b value none x ≡ Ok (nested, z) = entries_again profile b room value sound again nested none z i le closed in
+    let two : entries_by profile b value none x ≡ Ok (nested, z) = entries_again profile b depth_left value sound again nested none z i le closed in
     rw (one, two) refl
   where
     closes : (b : Brackets) → (close_byte b == close_byte b) ≡ true
@@ -211,7 +211,7 @@ scalar_reads profile bracket w rest h stop =
     rw (append-nil w.text, f.0, f.1, scalar_again profile w.leaf w.text rest h.0 h.1 stop, take_at w.text rest (length w.text) refl, drop_at w.text rest (length w.text) refl) refl
 
 -- What is a value within the limit is read, before what does not continue with it.
-pub value_again : (profile : Profile) (room : ℕ) → ReadsAgain profile room (value_of profile room)
+pub value_again : (profile : Profile) (depth_left : ℕ) → ReadsAgain profile depth_left (value_of profile depth_left)
 unfolding value_of
 value_again profile zero v rest h le stop = by v.body v.nested h.body h.nested le
   where
@@ -220,13 +220,13 @@ value_again profile zero v rest h le stop = by v.body v.nested h.body h.nested l
     by (scalar w) (entry name body nested after comma more) b i le = absurd i.0
     by (array g) nested b i le = absurd (omega arith)
     by (inline g) nested b i le = absurd (omega arith)
-value_again profile (suc room) v rest h le stop = by v.body v.nested h.body h.nested le (bracket_again profile room (value_of profile room) (value_takes profile room) (value_again profile room))
+value_again profile (suc depth_left) v rest h le stop = by v.body v.nested h.body h.nested le (bracket_again profile depth_left (value_of profile depth_left) (value_takes profile depth_left) (value_again profile depth_left))
   where
-    by : (body : Body) (nested : Entries) → IsBody profile body → AreEntries profile (place_in body) nested → around body (entries_depth nested) ≤ suc room
-        → ((b : Brackets) (g : Gap) (nested : Entries) (rest : List ℕ) → IsGap profile (place_of b) g → AreEntries profile (place_of b) nested → entries_depth nested ≤ room
-        → bracket_by profile (value_of profile room) b (open_byte b ∷ (text_of g ++ (text_of (entries_leaves nested) ++ (close_byte b ∷ rest)))) ≡ Ok (record { body = body_in b g; nested = nested }, rest))
-        → value_of profile (suc room) (value_text (record { body = body; nested = nested }) ++ rest) ≡ Ok (record { body = body; nested = nested }, rest)
-    by (scalar w) none b i le ih = scalar_reads profile (bracket_by profile (value_of profile room)) w rest b stop
+    by : (body : Body) (nested : Entries) → IsBody profile body → AreEntries profile (place_in body) nested → around body (entries_depth nested) ≤ suc depth_left
+        → ((b : Brackets) (g : Gap) (nested : Entries) (rest : List ℕ) → IsGap profile (place_of b) g → AreEntries profile (place_of b) nested → entries_depth nested ≤ depth_left
+        → bracket_by profile (value_of profile depth_left) b (open_byte b ∷ (text_of g ++ (text_of (entries_leaves nested) ++ (close_byte b ∷ rest)))) ≡ Ok (record { body = body_in b g; nested = nested }, rest))
+        → value_of profile (suc depth_left) (value_text (record { body = body; nested = nested }) ++ rest) ≡ Ok (record { body = body; nested = nested }, rest)
+    by (scalar w) none b i le ih = scalar_reads profile (bracket_by profile (value_of profile depth_left)) w rest b stop
     by (scalar w) (entry name body nested after comma more) b i le ih = absurd i.0
-    by (array g) nested b i le ih = ap (value_of profile (suc room)) (bracket_text brackets.Array g nested rest) ∙ ih brackets.Array g nested rest b i (omega arith)
-    by (inline g) nested b i le ih = ap (value_of profile (suc room)) (bracket_text brackets.Inline g nested rest) ∙ ih brackets.Inline g nested rest b i (omega arith)
+    by (array g) nested b i le ih = ap (value_of profile (suc depth_left)) (bracket_text brackets.Array g nested rest) ∙ ih brackets.Array g nested rest b i (omega arith)
+    by (inline g) nested b i le ih = ap (value_of profile (suc depth_left)) (bracket_text brackets.Inline g nested rest) ∙ ih brackets.Inline g nested rest b i (omega arith)

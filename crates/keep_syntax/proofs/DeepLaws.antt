@@ -190,7 +190,7 @@ value_opens profile v h = value_closes profile v.body v.nested h.body h.nested (
 -- ---- where reading stops at a bracket too many
 
 -- leaves continue from a prefix of a text with a bracket, where so many more are open
-pub record Leads (room : ℕ) (text rest : List ℕ) (all : List Written) : Type 0 where
+pub record Leads (depth_left : ℕ) (text rest : List ℕ) (all : List Written) : Type 0 where
   pub before : List Written
   pub bracket : Written
   pub after : List Written
@@ -199,11 +199,11 @@ pub record Leads (room : ℕ) (text rest : List ℕ) (all : List Written) : Type
   pub here : all ≡ before ++ (bracket ∷ after)
   pub spelled : text ≡ text_of before ++ rest
   pub occurs : rest ≡ bracket.text ++ tail
-  pub deep : Opens room room before
+  pub deep : Opens depth_left depth_left before
 
 -- leaves before and after
-pub leads_in : (k m room room' : ℕ) (text t rest : List ℕ) (prefix all back whole : List Written) → room' ≡ k + room → m ≤ room' → Opens k m prefix → text ≡ text_of prefix ++ t → whole ≡ prefix ++ (all ++ back) → Leads room t rest all → Leads room' text rest whole
-leads_in k m room room' text t rest prefix all back whole e le opens spelled is g = record {
+pub leads_in : (k m depth_left depth_left' : ℕ) (text t rest : List ℕ) (prefix all back whole : List Written) → depth_left' ≡ k + depth_left → m ≤ depth_left' → Opens k m prefix → text ≡ text_of prefix ++ t → whole ≡ prefix ++ (all ++ back) → Leads depth_left t rest all → Leads depth_left' text rest whole
+leads_in k m depth_left depth_left' text t rest prefix all back whole e le opens spelled is g = record {
   before = prefix ++ g.before;
   bracket = g.bracket;
   after = g.after ++ back;
@@ -212,23 +212,23 @@ leads_in k m room room' text t rest prefix all back whole e le opens spelled is 
   here = is ∙ ap (λ (ws : List Written). prefix ++ (ws ++ back)) g.here ∙ simp append_assoc;
   spelled = spelled ∙ ap (λ (x : List ℕ). text_of prefix ++ x) g.spelled ∙ sym (append_assoc (text_of prefix) (text_of g.before) rest) ∙ ap (λ (x : List ℕ). x ++ rest) (sym (text_of-append prefix g.before));
   occurs = g.occurs;
-  deep = opens-append k m room room room' room' prefix g.before e (omega arith) opens g.deep;
+  deep = opens-append k m depth_left depth_left depth_left' depth_left' prefix g.before e (omega arith) opens g.deep;
 }
 
-pub record DeepValue (profile : Profile) (room : ℕ) (text rest : List ℕ) : Type 0 where
+pub record DeepValue (profile : Profile) (depth_left : ℕ) (text rest : List ℕ) : Type 0 where
   pub value : Value
   pub valid : IsValue profile value
-  pub goes : Leads room text rest (value_leaves value)
+  pub goes : Leads depth_left text rest (value_leaves value)
   pub begins : is_value_first (first text) ≡ true
 
-record DeepEntries (profile : Profile) (b : Brackets) (room : ℕ) (text rest : List ℕ) : Type 0 where
+record DeepEntries (profile : Profile) (b : Brackets) (depth_left : ℕ) (text rest : List ℕ) : Type 0 where
   entries : Entries
   valid : AreEntries profile (place_of b) entries
-  goes : Leads room text rest (entries_leaves entries)
+  goes : Leads depth_left text rest (entries_leaves entries)
   begins : is_solid (first text) ≡ true
 
 abbrev pub DeepValues : Profile → ℕ → (List ℕ → Read Value) → Type 0
-DeepValues profile room value = (text rest : List ℕ) → value text ≡ Err (Deep rest) → DeepValue profile room text rest
+DeepValues profile depth_left value = (text rest : List ℕ) → value text ≡ Err (Deep rest) → DeepValue profile depth_left text rest
 
 empty_gap : (profile : Profile) (b : Brackets) → IsGap profile (place_of b) []
 empty_gap Strict brackets.Array = tt
@@ -255,9 +255,9 @@ after_not_deep profile b name v a rest h =
       | inr e ↦ elim (tested (first a.1 == close_byte b)) [ inl f ↦ absurd (let k = rw (e, f) at h in cc) | inr f ↦ absurd (let k = rw (e, f) at h in cc) ]
     ]
 
-item_deep : (profile : Profile) (b : Brackets) (room : ℕ) (value : List ℕ → Read Value) → DeepValues profile room value → (text rest : List ℕ) → item_by profile b value text ≡ Err (Deep rest) → DeepEntries profile b room text rest
+item_deep : (profile : Profile) (b : Brackets) (depth_left : ℕ) (value : List ℕ → Read Value) → DeepValues profile depth_left value → (text rest : List ℕ) → item_by profile b value text ≡ Err (Deep rest) → DeepEntries profile b depth_left text rest
 unfolding item_by
-item_deep profile b room value deep text rest h =
+item_deep profile b depth_left value deep text rest h =
     elim (bind_err (named_in profile b text) (λ n. value n.1 >>= λ v. after_by profile b n.0 v.0 (gap_in profile b v.1)) (Deep rest) h) [
       | inl k ↦ absurd (named_not_deep profile b text rest k)
       | inr x ↦
@@ -271,24 +271,24 @@ item_deep profile b room value deep text rest h =
                 record {
                   entries = entry_of i none;
                   valid = (tn.valid, d.valid.body, d.valid.nested, empty_gap profile b, tt, tt);
-                  goes = leads_in 0 0 room room text n.1 rest (named_leaves n.0) (value_leaves d.value) [] (entries_leaves (entry_of i none)) (omega arith) (omega arith) (named_opens profile b n.0 tn.valid) tn.spelled (entry_leaves i none ∙ append-nil (item_leaves i)) d.goes;
+                  goes = leads_in 0 0 depth_left depth_left text n.1 rest (named_leaves n.0) (value_leaves d.value) [] (entries_leaves (entry_of i none)) (omega arith) (omega arith) (named_opens profile b n.0 tn.valid) tn.spelled (entry_leaves i none ∙ append-nil (item_leaves i)) d.goes;
                   begins = tn.begins (value_first_solid (first n.1) d.begins);
                 }
           ]
     ]
 
-iteration_deep : (profile : Profile) (b : Brackets) (room : ℕ) (value : List ℕ → Read Value) → DeepValues profile room value → (prefix : Entries) (text rest : List ℕ) → entry_by profile b value prefix text ≡ Err (Deep rest) → DeepEntries profile b room text rest
+iteration_deep : (profile : Profile) (b : Brackets) (depth_left : ℕ) (value : List ℕ → Read Value) → DeepValues profile depth_left value → (prefix : Entries) (text rest : List ℕ) → entry_by profile b value prefix text ≡ Err (Deep rest) → DeepEntries profile b depth_left text rest
 unfolding entry_by
-iteration_deep profile b room value deep prefix text rest h =
+iteration_deep profile b depth_left value deep prefix text rest h =
     elim (tested (first text == close_byte b)) [
       | inl e ↦ absurd (let k = rw e at h in cc)
-      | inr e ↦ elim (bind_err (item_by profile b value text) (λ i. Ok (iteration_of prefix i.0 i.0.comma, i.1)) (Deep rest) (rw e at h)) [ inl k ↦ item_deep profile b room value deep text rest k | inr x ↦ absurd (let bad = x.2 in cc) ]
+      | inr e ↦ elim (bind_err (item_by profile b value text) (λ i. Ok (iteration_of prefix i.0 i.0.comma, i.1)) (Deep rest) (rw e at h)) [ inl k ↦ item_deep profile b depth_left value deep text rest k | inr x ↦ absurd (let bad = x.2 in cc) ]
     ]
 
 -- entries with a bracket in them are some
-comma_deep : (profile : Profile) (b : Brackets) (g : Gap) (es : Entries) (room : ℕ) (text rest : List ℕ) → IsGap profile (place_of b) g → Leads room text rest (entries_leaves es) → IsComma profile (place_of b) (Some g) es
-comma_deep profile b g none room text rest h goes = absurd (omega (arith, ap length goes.here, length-append goes.before (goes.bracket ∷ goes.after)))
-comma_deep profile b g (entry name body nested after comma more) room text rest h goes = h
+comma_deep : (profile : Profile) (b : Brackets) (g : Gap) (es : Entries) (depth_left : ℕ) (text rest : List ℕ) → IsGap profile (place_of b) g → Leads depth_left text rest (entries_leaves es) → IsComma profile (place_of b) (Some g) es
+comma_deep profile b g none depth_left text rest h goes = absurd (omega (arith, ap length goes.here, length-append goes.before (goes.bracket ∷ goes.after)))
+comma_deep profile b g (entry name body nested after comma more) depth_left text rest h goes = h
 
 abbrev iteration_on : Entries → Iteration Entries Entries
 iteration_on s = continues s
@@ -296,29 +296,29 @@ iteration_on s = continues s
 abbrev iteration_ready : Entries → Iteration Entries Entries
 iteration_ready s = ready s
 
-entries_deep : (profile : Profile) (b : Brackets) (room : ℕ) (value : List ℕ → Read Value) → ReadsValues profile room value → DeepValues profile room value → (prefix : Entries) (text rest : List ℕ) → entries_by profile b value prefix text ≡ Err (Deep rest) → DeepEntries profile b room text rest
-entries_deep profile b room value sound deep prefix text rest h =
-    repeat_deep (entry_by profile b value) (λ s t r. DeepEntries profile b room t r) (iteration_deep profile b room value deep) on (suc (length text)) prefix text rest h
+entries_deep : (profile : Profile) (b : Brackets) (depth_left : ℕ) (value : List ℕ → Read Value) → ReadsValues profile depth_left value → DeepValues profile depth_left value → (prefix : Entries) (text rest : List ℕ) → entries_by profile b value prefix text ≡ Err (Deep rest) → DeepEntries profile b depth_left text rest
+entries_deep profile b depth_left value sound deep prefix text rest h =
+    repeat_deep (entry_by profile b value) (λ s t r. DeepEntries profile b depth_left t r) (iteration_deep profile b depth_left value deep) on (suc (length text)) prefix text rest h
   where
     clash : (x y : Entries) → iteration_on x ≡ iteration_ready y → ⊥
     clash x y k = absurd cc
 
-    after : (s : Entries) (text text' rest : List ℕ) (i : Item) (g : Gap) → i.comma ≡ Some g → TookItem profile b room text i text' → DeepEntries profile b room text' rest → DeepEntries profile b room text rest
+    after : (s : Entries) (text text' rest : List ℕ) (i : Item) (g : Gap) → i.comma ≡ Some g → TookItem profile b depth_left text i text' → DeepEntries profile b depth_left text' rest → DeepEntries profile b depth_left text rest
     after s text text' rest i g is ti d =
         let followed : After profile b (Some g) text' = subst (λ (c : Option Gap). After profile b c text') is ti.after in
         let gap : IsGap profile (place_of b) g = followed.0 d.begins in
-        let blank : (k : Gap) → i.comma ≡ Some k → IsBlank k = λ k e. comma_blank profile b (Some g) d.entries (comma_deep profile b g d.entries room text' rest gap d.goes) k (sym is ∙ e) in
+        let blank : (k : Gap) → i.comma ≡ Some k → IsBlank k = λ k e. comma_blank profile b (Some g) d.entries (comma_deep profile b g d.entries depth_left text' rest gap d.goes) k (sym is ∙ e) in
         record {
           entries = entry_of i d.entries;
-          valid = (ti.named, ti.valid.body, ti.valid.nested, ti.gap, subst (λ (c : Option Gap). IsComma profile (place_of b) c d.entries) (sym is) (comma_deep profile b g d.entries room text' rest gap d.goes), d.valid);
-          goes = leads_in 0 (value_depth i.value) room room text text' rest (item_leaves i) (entries_leaves d.entries) [] (entries_leaves (entry_of i d.entries)) (omega arith) ti.shallow (item_closes profile b i ti.named (value_opens profile i.value ti.valid) ti.gap blank) ti.spelled
+          valid = (ti.named, ti.valid.body, ti.valid.nested, ti.gap, subst (λ (c : Option Gap). IsComma profile (place_of b) c d.entries) (sym is) (comma_deep profile b g d.entries depth_left text' rest gap d.goes), d.valid);
+          goes = leads_in 0 (value_depth i.value) depth_left depth_left text text' rest (item_leaves i) (entries_leaves d.entries) [] (entries_leaves (entry_of i d.entries)) (omega arith) ti.shallow (item_closes profile b i ti.named (value_opens profile i.value ti.valid) ti.gap blank) ti.spelled
               (entry_leaves i d.entries ∙ ap (λ (ws : List Written). item_leaves i ++ ws) (sym (append-nil (entries_leaves d.entries)))) d.goes;
           begins = ti.begins;
         }
 
-    on : (s : Entries) (text : List ℕ) (s' : Entries) (text' : List ℕ) (rest : List ℕ) → entry_by profile b value s text ≡ Ok (continues s', text') → DeepEntries profile b room text' rest → DeepEntries profile b room text rest
+    on : (s : Entries) (text : List ℕ) (s' : Entries) (text' : List ℕ) (rest : List ℕ) → entry_by profile b value s text ≡ Ok (continues s', text') → DeepEntries profile b depth_left text' rest → DeepEntries profile b depth_left text rest
     on s text s' text' rest e d =
-        elim (entry_cases profile b room value sound s text (continues s') text' e) [
+        elim (entry_cases profile b depth_left value sound s text (continues s') text' e) [
           | at_close c k r ↦ absurd (clash s' s k)
           | at_last i is k ti ↦ absurd (clash s' (join s (entry_of i none)) k)
           | at_comma i g is k ti ↦ after s text text' rest i g is ti d
@@ -328,27 +328,27 @@ opening_text : (b : Brackets) (g : Gap) (x : List ℕ) → open_byte b ∷ (text
 opening_text brackets.Array g x = refl
 opening_text brackets.Inline g x = refl
 
-bracket_deep : (profile : Profile) (room : ℕ) (value : List ℕ → Read Value) → ReadsValues profile room value → DeepValues profile room value → (b : Brackets) (text rest : List ℕ) → (first text == open_byte b) ≡ true → bracket_by profile value b text ≡ Err (Deep rest) → DeepValue profile (suc room) text rest
-bracket_deep profile room value sound deep b text rest opens h =
+bracket_deep : (profile : Profile) (depth_left : ℕ) (value : List ℕ → Read Value) → ReadsValues profile depth_left value → DeepValues profile depth_left value → (b : Brackets) (text rest : List ℕ) → (first text == open_byte b) ≡ true → bracket_by profile value b text ≡ Err (Deep rest) → DeepValue profile (suc depth_left) text rest
+bracket_deep profile depth_left value sound deep b text rest opens h =
     let g = gap_in profile b (drop 1 text) in
     let gg = gap_takes profile b (drop 1 text) in
     elim (bind_err (entries_by profile b value none g.1) (λ es. Ok (record { body = body_in b g.0; nested = es.0 }, drop 1 es.1)) (Deep rest) h) [
       | inr x ↦ absurd (let bad = x.2 in cc)
       | inl k ↦
-          let d = entries_deep profile b room value sound deep none g.1 rest k in
+          let d = entries_deep profile b depth_left value sound deep none g.1 rest k in
           let gap : IsGap profile (place_of b) g.0 = gg.valid d.begins in
           let v : Value = record { body = body_in b g.0; nested = d.entries } in
           let opened : text ≡ open_byte b ∷ drop 1 text = first_is (open_byte b) text (open_some b) opens in
           record {
             value = v;
             valid = bracket_valid profile b g.0 d.entries gap d.valid;
-            goes = leads_in 1 1 room (suc room) text g.1 rest (opening (body_in b g.0)) (entries_leaves d.entries) (closing (body_in b g.0)) (value_leaves v) (omega arith) (omega arith) (opening_opens b g.0 (gap_blank profile b g.0 gap))
+            goes = leads_in 1 1 depth_left (suc depth_left) text g.1 rest (opening (body_in b g.0)) (entries_leaves d.entries) (closing (body_in b g.0)) (value_leaves v) (omega arith) (omega arith) (opening_opens b g.0 (gap_blank profile b g.0 gap))
                 (opened ∙ ap (λ (x : List ℕ). open_byte b ∷ x) gg.spelled ∙ opening_text b g.0 g.1) refl d.goes;
             begins = open_begins b text opens;
           }
     ]
 
--- no room for the bracket
+-- no depth_left for the bracket
 bracket_none : (profile : Profile) (b : Brackets) (text rest : List ℕ) → (first text == open_byte b) ≡ true → text ≡ rest → DeepValue profile 0 text rest
 bracket_none profile b text rest opens is = by b opens
   where
@@ -366,8 +366,8 @@ bracket_none profile b text rest opens is = by b opens
       begins = open_begins brackets.Inline text e;
     }
 
-value_by_deep : (profile : Profile) (room : ℕ) (bracket : Brackets → List ℕ → Read Value) (text rest : List ℕ) → ((b : Brackets) → (first text == open_byte b) ≡ true → bracket b text ≡ Err (Deep rest) → DeepValue profile room text rest) → value_by profile bracket text ≡ Err (Deep rest) → DeepValue profile room text rest
-value_by_deep profile room bracket text rest deep h =
+value_by_deep : (profile : Profile) (depth_left : ℕ) (bracket : Brackets → List ℕ → Read Value) (text rest : List ℕ) → ((b : Brackets) → (first text == open_byte b) ≡ true → bracket b text ≡ Err (Deep rest) → DeepValue profile depth_left text rest) → value_by profile bracket text ≡ Err (Deep rest) → DeepValue profile depth_left text rest
+value_by_deep profile depth_left bracket text rest deep h =
     elim (tested (first text == 0x5B)) [
       | inl e ↦ deep brackets.Array e (rw e at h)
       | inr e ↦ elim (tested (first text == 0x7B)) [
@@ -376,12 +376,12 @@ value_by_deep profile room bracket text rest deep h =
       ]
     ]
 
-pub value_deep_at : (profile : Profile) (room : ℕ) → DeepValues profile room (value_of profile room)
+pub value_deep_at : (profile : Profile) (depth_left : ℕ) → DeepValues profile depth_left (value_of profile depth_left)
 unfolding value_of
 value_deep_at profile zero text rest h =
     value_by_deep profile 0 (λ b t. Err (Deep t)) text rest (λ b e k. let same : Deep text ≡ Deep rest = cc in let is : text ≡ rest = cc in bracket_none profile b text rest e is) h
-value_deep_at profile (suc room) text rest h =
-    value_by_deep profile (suc room) (bracket_by profile (value_of profile room)) text rest (λ b e k. bracket_deep profile room (value_of profile room) (value_takes profile room) (value_deep_at profile room) b text rest e k) h
+value_deep_at profile (suc depth_left) text rest h =
+    value_by_deep profile (suc depth_left) (bracket_by profile (value_of profile depth_left)) text rest (λ b e k. bracket_deep profile depth_left (value_of profile depth_left) (value_takes profile depth_left) (value_deep_at profile depth_left) b text rest e k) h
 
 -- ---- whole values
 

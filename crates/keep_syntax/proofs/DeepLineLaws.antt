@@ -65,16 +65,16 @@ bom_opens false = opens-none
 
 -- ---- where reading stops at a bracket too many
 
-record DeepLine (profile : Profile) (room : ℕ) (text rest : List ℕ) : Type 0 where
+record DeepLine (profile : Profile) (depth_left : ℕ) (text rest : List ℕ) : Type 0 where
   line : Line
   valid : IsLine profile line
-  goes : Leads room text rest (line_leaves line)
+  goes : Leads depth_left text rest (line_leaves line)
 
-record DeepContent (profile : Profile) (room : ℕ) (text rest : List ℕ) : Type 0 where
+record DeepContent (profile : Profile) (depth_left : ℕ) (text rest : List ℕ) : Type 0 where
   content : Content
   valid : IsContent profile content
   after : IsAfter content []
-  goes : Leads room text rest (content_leaves content)
+  goes : Leads depth_left text rest (content_leaves content)
 
 guard_not_deep : {A : Type 0} (b : Bool) (x : A) (rest : List ℕ) → cond b (Ok x) (Err Bad) ≡ Err (Deep rest) → ⊥
 guard_not_deep true x rest e = absurd cc
@@ -94,62 +94,62 @@ element_not_deep profile b rest h =
       | inr x ↦ guard_not_deep (first x.0.1 == 0x5D && slice_index x.0.1 1 == 0x5D) (element b.0 x.0.0.0 x.0.0.1, drop 2 x.0.1) rest x.2
     ]
 
-keyval_deep : (profile : Profile) (room : ℕ) (text rest : List ℕ) → keyval_of profile room text ≡ Err (Deep rest) → DeepContent profile room text rest
-keyval_deep profile room text rest h =
-    elim (bind_err (name_of profile text) (λ n. value_of profile room n.1 >>= λ v. Ok (keyval n.0 v.0, v.1)) (Deep rest) h) [
+keyval_deep : (profile : Profile) (depth_left : ℕ) (text rest : List ℕ) → keyval_of profile depth_left text ≡ Err (Deep rest) → DeepContent profile depth_left text rest
+keyval_deep profile depth_left text rest h =
+    elim (bind_err (name_of profile text) (λ n. value_of profile depth_left n.1 >>= λ v. Ok (keyval n.0 v.0, v.1)) (Deep rest) h) [
       | inl k ↦ absurd (name_not_deep profile text rest k)
-      | inr x ↦ elim (bind_err (value_of profile room x.0.1) (λ v. Ok (keyval x.0.0 v.0, v.1)) (Deep rest) x.2) [
+      | inr x ↦ elim (bind_err (value_of profile depth_left x.0.1) (λ v. Ok (keyval x.0.0 v.0, v.1)) (Deep rest) x.2) [
         | inr y ↦ absurd (let bad = y.2 in cc)
         | inl k ↦
             let n = x.0 in
             let tn = name_takes profile text n.0 n.1 x.1 in
-            let d = value_deep_at profile room n.1 rest k in
+            let d = value_deep_at profile depth_left n.1 rest k in
             record {
               content = keyval n.0 d.value;
               valid = (tn.valid, d.valid);
               after = tt;
-              goes = leads_in 0 0 room room text n.1 rest (name_leaves n.0) (value_leaves d.value) [] (content_leaves (keyval n.0 d.value)) (omega arith) (omega arith) (name_opens profile n.0 tn.valid) tn.spelled (ap (λ (ws : List Written). name_leaves n.0 ++ ws) (sym (append-nil (value_leaves d.value)))) d.goes;
+              goes = leads_in 0 0 depth_left depth_left text n.1 rest (name_leaves n.0) (value_leaves d.value) [] (content_leaves (keyval n.0 d.value)) (omega arith) (omega arith) (name_opens profile n.0 tn.valid) tn.spelled (ap (λ (ws : List Written). name_leaves n.0 ++ ws) (sym (append-nil (value_leaves d.value)))) d.goes;
             }
       ]
     ]
 
-content_deep : (profile : Profile) (room : ℕ) (text rest : List ℕ) → content_at profile room text ≡ Err (Deep rest) → DeepContent profile room text rest
+content_deep : (profile : Profile) (depth_left : ℕ) (text rest : List ℕ) → content_at profile depth_left text ≡ Err (Deep rest) → DeepContent profile depth_left text rest
 unfolding content_at
-content_deep profile room text rest h =
+content_deep profile depth_left text rest h =
     elim (tested (is_line_end (first text))) [
       | inl e ↦ absurd (let k = rw e at h in cc)
       | inr e ↦ elim (tested (first text == 0x5B && slice_index text 1 == 0x5B)) [
         | inl f ↦ absurd (element_not_deep profile (space_at (drop 2 text)) rest (rw (e, f) at h))
         | inr f ↦ elim (tested (first text == 0x5B)) [
           | inl g ↦ absurd (header_not_deep profile (space_at (drop 1 text)) rest (rw (e, f, g) at h))
-          | inr g ↦ keyval_deep profile room text rest (rw (e, f, g) at h)
+          | inr g ↦ keyval_deep profile depth_left text rest (rw (e, f, g) at h)
         ]
       ]
     ]
 
-line_deep : (profile : Profile) (room : ℕ) (text rest : List ℕ) → line_at profile room text ≡ Err (Deep rest) → DeepLine profile room text rest
+line_deep : (profile : Profile) (depth_left : ℕ) (text rest : List ℕ) → line_at profile depth_left text ≡ Err (Deep rest) → DeepLine profile depth_left text rest
 unfolding line_at
-line_deep profile room text rest h =
+line_deep profile depth_left text rest h =
     let g = space_at text in
     let s = space_takes text in
-    elim (bind_err (content_at profile room g.1) (λ c. line_by g.0 c.0 (after_of c.0 c.1)) (Deep rest) h) [
+    elim (bind_err (content_at profile depth_left g.1) (λ c. line_by g.0 c.0 (after_of c.0 c.1)) (Deep rest) h) [
       | inr x ↦ absurd (let bad = x.2 in cc)
       | inl k ↦
-          let d = content_deep profile room g.1 rest k in
+          let d = content_deep profile depth_left g.1 rest k in
           let l : Line = record { before = g.0; content = d.content; after = []; comment = None } in
           record {
             line = l;
             valid = record { before = s.valid; content = d.valid; after = d.after; comment = tt };
-            goes = leads_in 0 0 room room text g.1 rest g.0 (content_leaves d.content) [] (line_leaves l) (omega arith) (omega arith) (space_opens g.0 s.valid) s.spelled refl d.goes;
+            goes = leads_in 0 0 depth_left depth_left text g.1 rest g.0 (content_leaves d.content) [] (line_leaves l) (omega arith) (omega arith) (space_opens g.0 s.valid) s.spelled refl d.goes;
           }
     ]
 
-record DeepLines (profile : Profile) (room : ℕ) (text rest : List ℕ) : Type 0 where
+record DeepLines (profile : Profile) (depth_left : ℕ) (text rest : List ℕ) : Type 0 where
   ended : List Ended
   last : Line
   valid : AllByRecursion (IsEnded profile) ended
   valid_last : IsLine profile last
-  goes : Leads room text rest (lines_leaves ended last)
+  goes : Leads depth_left text rest (lines_leaves ended last)
 
 newline_not_deep : (prefix : List Ended) (l : Line) (text rest : List ℕ) → newline_of prefix l text (gap_at text) ≡ Err (Deep rest) → ⊥
 newline_not_deep prefix l text rest h =
@@ -160,12 +160,12 @@ newline_not_deep prefix l text rest h =
       | nothing r f ↦ absurd (let k = rw r at h in cc)
     ]
 
-iteration_deep : (profile : Profile) (room : ℕ) (prefix : List Ended) (text rest : List ℕ) → ended_at profile room prefix text ≡ Err (Deep rest) → DeepLines profile room text rest
+iteration_deep : (profile : Profile) (depth_left : ℕ) (prefix : List Ended) (text rest : List ℕ) → ended_at profile depth_left prefix text ≡ Err (Deep rest) → DeepLines profile depth_left text rest
 unfolding ended_at
-iteration_deep profile room prefix text rest h =
-    elim (bind_err (line_at profile room text) (λ l. after_line prefix l.0 l.1) (Deep rest) h) [
+iteration_deep profile depth_left prefix text rest h =
+    elim (bind_err (line_at profile depth_left text) (λ l. after_line prefix l.0 l.1) (Deep rest) h) [
       | inr x ↦ absurd (by x.0.0 x.0.1 x.2)
-      | inl k ↦ let d = line_deep profile room text rest k in record { ended = []; last = d.line; valid = tt; valid_last = d.valid; goes = d.goes }
+      | inl k ↦ let d = line_deep profile depth_left text rest k in record { ended = []; last = d.line; valid = tt; valid_last = d.valid; goes = d.goes }
     ]
   where
     by : (l : Line) (more : List ℕ) → after_line prefix l more ≡ Err (Deep rest) → ⊥
@@ -178,22 +178,22 @@ iteration_on s = continues s
 abbrev iteration_ready : Lines → Iteration (List Ended) Lines
 iteration_ready a = ready a
 
-lines_deep : (profile : Profile) (room : ℕ) (prefix : List Ended) (text rest : List ℕ) → lines_of profile room prefix text ≡ Err (Deep rest) → DeepLines profile room text rest
-lines_deep profile room prefix text rest h = repeat_deep (ended_at profile room) (λ s t r. DeepLines profile room t r) (iteration_deep profile room) on (suc (length text)) prefix text rest h
+lines_deep : (profile : Profile) (depth_left : ℕ) (prefix : List Ended) (text rest : List ℕ) → lines_of profile depth_left prefix text ≡ Err (Deep rest) → DeepLines profile depth_left text rest
+lines_deep profile depth_left prefix text rest h = repeat_deep (ended_at profile depth_left) (λ s t r. DeepLines profile depth_left t r) (iteration_deep profile depth_left) on (suc (length text)) prefix text rest h
   where
     clash : (x : List Ended) (y : Lines) → iteration_on x ≡ iteration_ready y → ⊥
     clash x y k = absurd cc
 
-    on : (s : List Ended) (text : List ℕ) (s' : List Ended) (text' : List ℕ) (rest : List ℕ) → ended_at profile room s text ≡ Ok (continues s', text') → DeepLines profile room text' rest → DeepLines profile room text rest
+    on : (s : List Ended) (text : List ℕ) (s' : List Ended) (text' : List ℕ) (rest : List ℕ) → ended_at profile depth_left s text ≡ Ok (continues s', text') → DeepLines profile depth_left text' rest → DeepLines profile depth_left text rest
     on s text s' text' rest e d =
-        elim (line_cases profile room s text (continues s') text' e) [
+        elim (line_cases profile depth_left s text (continues s') text' e) [
           | at_last l k r tl ↦ absurd (clash s' (s, l) k)
           | at_line w k valid le spelled lt ↦ record {
             ended = w ∷ d.ended;
             last = d.last;
             valid = (valid, d.valid);
             valid_last = d.valid_last;
-            goes = leads_in 0 (content_depth w.line.content) room room text text' rest (ended_leaves w) (lines_leaves d.ended d.last) [] (lines_leaves (w ∷ d.ended) d.last) (omega arith) le (ended_opens profile w valid) spelled
+            goes = leads_in 0 (content_depth w.line.content) depth_left depth_left text text' rest (ended_leaves w) (lines_leaves d.ended d.last) [] (lines_leaves (w ∷ d.ended) d.last) (omega arith) le (ended_opens profile w valid) spelled
                 (append_assoc (ended_leaves w) (flat_map ended_leaves d.ended) (line_leaves d.last) ∙ ap (λ (ws : List Written). ended_leaves w ++ ws) (sym (append-nil (lines_leaves d.ended d.last)))) d.goes;
           }
         ]

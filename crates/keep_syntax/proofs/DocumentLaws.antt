@@ -5,7 +5,7 @@
 -- (`lines_take`); in the other, `lines_again` is an induction over the lines of the tree. A text may begin with a byte
 -- order mark: no line does, so the text is read in one way only (`bom_no_line`, `lines_no_bom`). That at most one
 -- document has a text follows, as both would be read. A larger limit reads the same, unless the smaller was passed
--- (`document_room`), so a syntax error is one at every depth.
+-- (`document_depth_left`), so a syntax error is one at every depth.
 --
 -- Theorems: `document_found` and `document_read`: read exactly where there is one; `one_document`: there is at most
 -- one.
@@ -26,7 +26,7 @@ use Rattle.keep_syntax.specs.Grammar.{IsLine, IsEnded, IsDocument, Reads}
 use Rattle.keep_syntax.specs.Reading.{Fault, Bad, ◌>>=◌, Iteration, continues, ready, written, space_at, part_at, key_of, name_of, value_of, header_by, element_by, is_line_end, content_at, after_of, line_by, line_at, Lines, newline_of, after_line, ended_at, lines_of, has_bom, after_bom, read_document}
 use Rattle.keep_syntax.proofs.LoopLaws.{bind_ok, ok_is, Shortens, loop_on, loop_ready, loop_err, repeat_holds, Same, same_refl, same_bind, same_cond, same_repeat}
 use Rattle.keep_syntax.proofs.SpaceLaws.{text_of-append, space_none}
-use Rattle.keep_syntax.proofs.WholeLaws.{value_room, bad_stays}
+use Rattle.keep_syntax.proofs.WholeLaws.{value_depth_left, bad_stays}
 use Rattle.keep_syntax.proofs.LineLaws.{at_end, at_newline, TookLine, line_takes, line_again}
 
 -- ---- texts by parts
@@ -55,15 +55,15 @@ document_text s =
 -- ---- iterations
 
 -- what an iteration does: the last line, or a line with its newline
-pub data LineIteration (profile : Profile) (room : ℕ) (prefix : List Ended) (text : List ℕ) (t : Iteration (List Ended) Lines) (rest : List ℕ) : Type 0 where
-  at_last : (l : Line) → t ≡ ready (prefix, l) → rest ≡ [] → TookLine profile room text l [] → LineIteration profile room prefix text t rest
-  at_line : (e : Ended) → t ≡ continues (prefix ++ (e ∷ [])) → IsEnded profile e → content_depth e.line.content ≤ room → text ≡ text_of (ended_leaves e) ++ rest → length rest < length text → LineIteration profile room prefix text t rest
+pub data LineIteration (profile : Profile) (depth_left : ℕ) (prefix : List Ended) (text : List ℕ) (t : Iteration (List Ended) Lines) (rest : List ℕ) : Type 0 where
+  at_last : (l : Line) → t ≡ ready (prefix, l) → rest ≡ [] → TookLine profile depth_left text l [] → LineIteration profile depth_left prefix text t rest
+  at_line : (e : Ended) → t ≡ continues (prefix ++ (e ∷ [])) → IsEnded profile e → content_depth e.line.content ≤ depth_left → text ≡ text_of (ended_leaves e) ++ rest → length rest < length text → LineIteration profile depth_left prefix text t rest
 
 abbrev LinesIteration : Type 0
 LinesIteration = Iteration (List Ended) Lines
 
-newline_takes : (profile : Profile) (room : ℕ) (prefix : List Ended) (whole : List ℕ) (l : Line) (text : List ℕ) (t : LinesIteration) (rest : List ℕ) → TookLine profile room whole l text → newline_of prefix l text (gap_at text) ≡ Ok (t, rest) → LineIteration profile room prefix whole t rest
-newline_takes profile room prefix whole l text t rest tl h =
+newline_takes : (profile : Profile) (depth_left : ℕ) (prefix : List Ended) (whole : List ℕ) (l : Line) (text : List ℕ) (t : LinesIteration) (rest : List ℕ) → TookLine profile depth_left whole l text → newline_of prefix l text (gap_at text) ≡ Ok (t, rest) → LineIteration profile depth_left prefix whole t rest
+newline_takes profile depth_left prefix whole l text t rest tl h =
     elim (gap_cases text) [
       | white r f ↦ absurd (let k = rw r at h in cc)
       | line n r f found ↦
@@ -78,17 +78,17 @@ newline_takes profile room prefix whole l text t rest tl h =
       | nothing r f ↦ absurd (let k = rw r at h in cc)
     ]
 
-pub line_cases : (profile : Profile) (room : ℕ) (prefix : List Ended) (text : List ℕ) (t : Iteration (List Ended) Lines) (rest : List ℕ) → ended_at profile room prefix text ≡ Ok (t, rest) → LineIteration profile room prefix text t rest
+pub line_cases : (profile : Profile) (depth_left : ℕ) (prefix : List Ended) (text : List ℕ) (t : Iteration (List Ended) Lines) (rest : List ℕ) → ended_at profile depth_left prefix text ≡ Ok (t, rest) → LineIteration profile depth_left prefix text t rest
 unfolding ended_at
-line_cases profile room prefix text t rest h =
-    let (l, e1, e2) = bind_ok (line_at profile room text) (λ l. after_line prefix l.0 l.1) (t, rest) h in
-    by l.0 l.1 (line_takes profile room text l.0 l.1 e1) e2
+line_cases profile depth_left prefix text t rest h =
+    let (l, e1, e2) = bind_ok (line_at profile depth_left text) (λ l. after_line prefix l.0 l.1) (t, rest) h in
+    by l.0 l.1 (line_takes profile depth_left text l.0 l.1 e1) e2
   where
-    by : (l : Line) (more : List ℕ) → TookLine profile room text l more → after_line prefix l more ≡ Ok (t, rest) → LineIteration profile room prefix text t rest
+    by : (l : Line) (more : List ℕ) → TookLine profile depth_left text l more → after_line prefix l more ≡ Ok (t, rest) → LineIteration profile depth_left prefix text t rest
     by l [] tl e =
         let same = ok_is (ready (prefix, l), []) (t, rest) e in
         at_last l (sym (ap (λ (x : LinesIteration × List ℕ). x.0) same)) (sym (ap (λ (x : LinesIteration × List ℕ). x.1) same)) tl
-    by l (c ∷ cs) tl e = newline_takes profile room prefix text l (c ∷ cs) t rest tl e
+    by l (c ∷ cs) tl e = newline_takes profile depth_left prefix text l (c ∷ cs) t rest tl e
 
 abbrev iteration_on : List Ended → LinesIteration
 iteration_on s = continues s
@@ -96,26 +96,26 @@ iteration_on s = continues s
 abbrev iteration_ready : Lines → LinesIteration
 iteration_ready a = ready a
 
-pub lines_shorten : (profile : Profile) (room : ℕ) → Shortens (ended_at profile room)
-lines_shorten profile room s text s' rest h =
-    elim (line_cases profile room s text (continues s') rest h) [
+pub lines_shorten : (profile : Profile) (depth_left : ℕ) → Shortens (ended_at profile depth_left)
+lines_shorten profile depth_left s text s' rest h =
+    elim (line_cases profile depth_left s text (continues s') rest h) [
       | at_last l e r tl ↦ absurd (let k : iteration_on s' ≡ iteration_ready (s, l) = e in cc)
       | at_line e k valid le spelled lt ↦ lt
     ]
 
 -- ---- what is read as lines is spelled so
 
-pub record TookLines (profile : Profile) (room : ℕ) (prefix : List Ended) (text : List ℕ) (ls : Lines) (rest : List ℕ) : Type 0 where
+pub record TookLines (profile : Profile) (depth_left : ℕ) (prefix : List Ended) (text : List ℕ) (ls : Lines) (rest : List ℕ) : Type 0 where
   pub back : List Ended
   pub grown : ls.0 ≡ prefix ++ back
   pub valid : AllByRecursion (IsEnded profile) back
   pub valid_last : IsLine profile ls.1
-  pub shallow : lines_depth back ≤ room
-  pub shallow_last : content_depth ls.1.content ≤ room
+  pub shallow : lines_depth back ≤ depth_left
+  pub shallow_last : content_depth ls.1.content ≤ depth_left
   pub spelled : text ≡ lines_text back ls.1
 
-pub lines_take : (profile : Profile) (room : ℕ) (prefix : List Ended) (text : List ℕ) (ls : Lines) (rest : List ℕ) → lines_of profile room prefix text ≡ Ok (ls, rest) → TookLines profile room prefix text ls rest
-lines_take profile room prefix text ls rest h = repeat_holds (ended_at profile room) (TookLines profile room) last on (suc (length text)) prefix text ls rest h
+pub lines_take : (profile : Profile) (depth_left : ℕ) (prefix : List Ended) (text : List ℕ) (ls : Lines) (rest : List ℕ) → lines_of profile depth_left prefix text ≡ Ok (ls, rest) → TookLines profile depth_left prefix text ls rest
+lines_take profile depth_left prefix text ls rest h = repeat_holds (ended_at profile depth_left) (TookLines profile depth_left) last on (suc (length text)) prefix text ls rest h
   where
     ready_is : (x y : Lines) → iteration_ready x ≡ iteration_ready y → x ≡ y
     ready_is x y e = cc
@@ -123,18 +123,18 @@ lines_take profile room prefix text ls rest h = repeat_holds (ended_at profile r
     on_is : (x y : List Ended) → iteration_on x ≡ iteration_on y → x ≡ y
     on_is x y e = cc
 
-    last : (s : List Ended) (text : List ℕ) (ls : Lines) (rest : List ℕ) → ended_at profile room s text ≡ Ok (ready ls, rest) → TookLines profile room s text ls rest
+    last : (s : List Ended) (text : List ℕ) (ls : Lines) (rest : List ℕ) → ended_at profile depth_left s text ≡ Ok (ready ls, rest) → TookLines profile depth_left s text ls rest
     last s text ls rest e =
-        elim (line_cases profile room s text (ready ls) rest e) [
+        elim (line_cases profile depth_left s text (ready ls) rest e) [
           | at_last l k r tl ↦
-              subst (λ (x : Lines). TookLines profile room s text x rest) (sym (ready_is ls (s, l) k))
+              subst (λ (x : Lines). TookLines profile depth_left s text x rest) (sym (ready_is ls (s, l) k))
               (record { back = []; grown = sym (append-nil s); valid = tt; valid_last = tl.valid; shallow = omega arith; shallow_last = tl.shallow; spelled = tl.spelled ∙ append-nil (text_of (line_leaves l)) })
           | at_line e k valid le spelled lt ↦ absurd (let f : iteration_ready ls ≡ iteration_on (s ++ (e ∷ [])) = k in cc)
         ]
 
-    on : (s : List Ended) (text : List ℕ) (s' : List Ended) (text' : List ℕ) (ls : Lines) (rest : List ℕ) → ended_at profile room s text ≡ Ok (continues s', text') → TookLines profile room s' text' ls rest → TookLines profile room s text ls rest
+    on : (s : List Ended) (text : List ℕ) (s' : List Ended) (text' : List ℕ) (ls : Lines) (rest : List ℕ) → ended_at profile depth_left s text ≡ Ok (continues s', text') → TookLines profile depth_left s' text' ls rest → TookLines profile depth_left s text ls rest
     on s text s' text' ls rest e t =
-        elim (line_cases profile room s text (continues s') text' e) [
+        elim (line_cases profile depth_left s text (continues s') text' e) [
           | at_last l k r tl ↦ absurd (let f : iteration_on s' ≡ iteration_ready (s, l) = k in cc)
           | at_line e k valid le spelled lt ↦ record {
             back = e ∷ t.back;
@@ -163,22 +163,22 @@ after_again prefix l w more kind h = by w.text h refl
     by [] (inr k) e = absurd cc
     by (c ∷ cs) k e = subst (λ (x : List ℕ). after_line prefix l (x ++ more) ≡ Ok (continues (prefix ++ (record { line = l; newline = w } ∷ [])), more)) e (here c cs e (newline_again (c ∷ cs) more k))
 
-pub lines_again : (profile : Profile) (room : ℕ) (ended : List Ended) (last : Line) (prefix : List Ended) → AllByRecursion (IsEnded profile) ended → IsLine profile last → lines_depth ended ≤ room → content_depth last.content ≤ room
-    → lines_of profile room prefix (lines_text ended last) ≡ Ok ((prefix ++ ended, last), [])
+pub lines_again : (profile : Profile) (depth_left : ℕ) (ended : List Ended) (last : Line) (prefix : List Ended) → AllByRecursion (IsEnded profile) ended → IsLine profile last → lines_depth ended ≤ depth_left → content_depth last.content ≤ depth_left
+    → lines_of profile depth_left prefix (lines_text ended last) ≡ Ok ((prefix ++ ended, last), [])
 unfolding ended_at
-lines_again profile room [] last prefix h k le le' =
-    let e : line_at profile room (lines_text [] last) ≡ Ok (last, []) = ap (line_at profile room) (sym (append-nil (text_of (line_leaves last)))) ∙ line_again profile room last [] k le' (at_end refl) in
-    let iteration : ended_at profile room prefix (lines_text [] last) ≡ Ok (ready (prefix, last), []) = rw e refl in
-    loop_ready (ended_at profile room) prefix (lines_text [] last) (prefix ++ [], last) [] (iteration ∙ ap (λ (x : List Ended). Ok (ready (x, last), [])) (sym (append-nil prefix)))
-lines_again profile room (e ∷ es) last prefix h k le le' =
+lines_again profile depth_left [] last prefix h k le le' =
+    let e : line_at profile depth_left (lines_text [] last) ≡ Ok (last, []) = ap (line_at profile depth_left) (sym (append-nil (text_of (line_leaves last)))) ∙ line_again profile depth_left last [] k le' (at_end refl) in
+    let iteration : ended_at profile depth_left prefix (lines_text [] last) ≡ Ok (ready (prefix, last), []) = rw e refl in
+    loop_ready (ended_at profile depth_left) prefix (lines_text [] last) (prefix ++ [], last) [] (iteration ∙ ap (λ (x : List Ended). Ok (ready (x, last), [])) (sym (append-nil prefix)))
+lines_again profile depth_left (e ∷ es) last prefix h k le le' =
     let more = lines_text es last in
-    let read : line_at profile room (text_of (line_leaves e.line) ++ (e.newline.text ++ more)) ≡ Ok (e.line, e.newline.text ++ more) =
-    line_again profile room e.line (e.newline.text ++ more) h.0.line (omega arith) (at_newline e.newline.text more h.0.newline refl) in
-    let iteration : ended_at profile room prefix (text_of (ended_leaves e) ++ more) ≡ Ok (continues (prefix ++ (e ∷ [])), more) =
-    ap (λ (x : List ℕ). line_at profile room x >>= λ l. after_line prefix l.0 l.1) (ended_text e more) ∙ rw read (after_again prefix e.line e.newline more h.0.kind h.0.newline) in
-    ap (lines_of profile room prefix) (lines-cons e es last)
-    ∙ loop_on (ended_at profile room) (lines_shorten profile room) prefix (text_of (ended_leaves e) ++ more) (prefix ++ (e ∷ [])) more iteration
-    ∙ lines_again profile room es last (prefix ++ (e ∷ [])) h.1 k (omega arith) le'
+    let read : line_at profile depth_left (text_of (line_leaves e.line) ++ (e.newline.text ++ more)) ≡ Ok (e.line, e.newline.text ++ more) =
+    line_again profile depth_left e.line (e.newline.text ++ more) h.0.line (omega arith) (at_newline e.newline.text more h.0.newline refl) in
+    let iteration : ended_at profile depth_left prefix (text_of (ended_leaves e) ++ more) ≡ Ok (continues (prefix ++ (e ∷ [])), more) =
+    ap (λ (x : List ℕ). line_at profile depth_left x >>= λ l. after_line prefix l.0 l.1) (ended_text e more) ∙ rw read (after_again prefix e.line e.newline more h.0.kind h.0.newline) in
+    ap (lines_of profile depth_left prefix) (lines-cons e es last)
+    ∙ loop_on (ended_at profile depth_left) (lines_shorten profile depth_left) prefix (text_of (ended_leaves e) ++ more) (prefix ++ (e ∷ [])) more iteration
+    ∙ lines_again profile depth_left es last (prefix ++ (e ∷ [])) h.1 k (omega arith) le'
     ∙ ap (λ (x : List Ended). Ok ((x, last), [])) (append_assoc prefix (e ∷ []) es)
 
 -- ---- the byte order mark
@@ -212,27 +212,27 @@ no_key profile text e =
     let c : (first text == 0x27) ≡ false = rw e refl in
     rw (a, b, c) refl
 
-bom_no_line : (profile : Profile) (room : ℕ) (text : List ℕ) → first text ≡ 0xEF → line_at profile room text ≡ Err Bad
+bom_no_line : (profile : Profile) (depth_left : ℕ) (text : List ℕ) → first text ≡ 0xEF → line_at profile depth_left text ≡ Err Bad
 unfolding line_at content_at name_of key_of
-bom_no_line profile room text e =
+bom_no_line profile depth_left text e =
     let a : is_line_end (first text) ≡ false = rw e refl in
     let b : (first text == 0x5B) ≡ false = rw e refl in
     let c : is_ws (first text) ≡ false = rw e refl in
     rw (space_none text c, a, b, no_key profile text e) refl
 
-pub bom_no_lines : (profile : Profile) (room : ℕ) (text : List ℕ) → first text ≡ 0xEF → lines_of profile room [] text ≡ Err Bad
+pub bom_no_lines : (profile : Profile) (depth_left : ℕ) (text : List ℕ) → first text ≡ 0xEF → lines_of profile depth_left [] text ≡ Err Bad
 unfolding ended_at
-bom_no_lines profile room text e = let iteration : ended_at profile room [] text ≡ Err Bad = rw (bom_no_line profile room text e) refl in loop_err (ended_at profile room) [] text Bad iteration
+bom_no_lines profile depth_left text e = let iteration : ended_at profile depth_left [] text ≡ Err Bad = rw (bom_no_line profile depth_left text e) refl in loop_err (ended_at profile depth_left) [] text Bad iteration
 
-lines_no_bom : (profile : Profile) (room : ℕ) (text : List ℕ) (x : Lines × List ℕ) → lines_of profile room [] text ≡ Ok x → has_bom text ≡ false
-lines_no_bom profile room text x h = by (tested (has_bom text))
+lines_no_bom : (profile : Profile) (depth_left : ℕ) (text : List ℕ) (x : Lines × List ℕ) → lines_of profile depth_left [] text ≡ Ok x → has_bom text ≡ false
+lines_no_bom profile depth_left text x h = by (tested (has_bom text))
   where
-    clash : lines_of profile room [] text ≡ Err Bad → has_bom text ≡ false
+    clash : lines_of profile depth_left [] text ≡ Err Bad → has_bom text ≡ false
     clash k = absurd (let bad : Ok x ≡ Err Bad = sym h ∙ k in cc)
 
     by : (has_bom text ≡ true) ⊎ (has_bom text ≡ false) → has_bom text ≡ false
     by (inr e) = e
-    by (inl e) = clash (bom_no_lines profile room text (ap first (bom_is text e)))
+    by (inl e) = clash (bom_no_lines profile depth_left text (ap first (bom_is text e)))
 
 -- ---- documents
 
@@ -283,7 +283,7 @@ same_content profile a b text le =
     same_cond (is_line_end (first text)) _ _ _ _ refl
     (same_cond (first text == 0x5B && slice_index text 1 == 0x5B) _ _ _ _ (same_refl (element_by profile (space_at (drop 2 text))))
     (same_cond (first text == 0x5B) _ _ _ _ (same_refl (header_by profile (space_at (drop 1 text))))
-    (same_bind (name_of profile text) (name_of profile text) _ _ (same_refl (name_of profile text)) (λ n. same_bind (value_of profile a n.1) (value_of profile b n.1) _ _ (value_room profile a b n.1 le) (λ v. refl)))))
+    (same_bind (name_of profile text) (name_of profile text) _ _ (same_refl (name_of profile text)) (λ n. same_bind (value_of profile a n.1) (value_of profile b n.1) _ _ (value_depth_left profile a b n.1 le) (λ v. refl)))))
 
 same_line : (profile : Profile) (a b : ℕ) (text : List ℕ) → a ≤ b → Same (line_at profile a text) (line_at profile b text)
 unfolding line_at
@@ -295,9 +295,9 @@ unfolding ended_at
 same_iteration profile a b le prefix text = same_bind (line_at profile a text) (line_at profile b text) _ _ (same_line profile a b text le) (λ l. same_refl (after_line prefix l.0 l.1))
 
 -- A larger limit reads the same, unless the smaller was passed.
-pub document_room : (profile : Profile) (a b : ℕ) (bytes : List ℕ) → a ≤ b → Same (read_document profile a bytes) (read_document profile b bytes)
+pub document_depth_left : (profile : Profile) (a b : ℕ) (bytes : List ℕ) → a ≤ b → Same (read_document profile a bytes) (read_document profile b bytes)
 unfolding read_document
-document_room profile a b bytes le =
+document_depth_left profile a b bytes le =
     let t = after_bom (has_bom bytes) bytes in
     same_bind (lines_of profile a [] t) (lines_of profile b [] t) _ _ (same_repeat (suc (length t)) (ended_at profile a) (ended_at profile b) (same_iteration profile a b le) [] t) (λ l. refl)
 
@@ -305,4 +305,4 @@ document_room profile a b bytes le =
 pub document_bad : (profile : Profile) (limit : ℕ) (bytes : List ℕ) → read_document profile limit bytes ≡ Err Bad → (s : Document) → IsDocument profile s → bytes ≡ text s → ⊥
 document_bad profile limit bytes bad s h e =
     let more = max limit (depth s) in
-    bad_stays (read_document profile limit bytes) (read_document profile more bytes) s bad (document_room profile limit more bytes (omega arith)) (ap (read_document profile more) e ∙ of_text profile more s h (omega arith))
+    bad_stays (read_document profile limit bytes) (read_document profile more bytes) s bad (document_depth_left profile limit more bytes (omega arith)) (ap (read_document profile more) e ∙ of_text profile more s h (omega arith))

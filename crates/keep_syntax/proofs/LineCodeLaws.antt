@@ -106,30 +106,30 @@ some_newline text at old new end lt bound bound' e is =
 pub space_grown : (text : List ℕ) (at begin : ℕ) (old new : Flat) → SpaceRead text at old new (Ok begin) → (length new.values ≡ length old.values) × (length new.keys ≡ length old.keys)
 space_grown text at begin old new s = (omega (arith, grown_values (only s.part) s.grows), omega (arith, grown_keys (only s.part) s.grows))
 
-pub line_fails : (profile : Profile) (room : ℕ) (text : List ℕ) (at begin : ℕ) (old new : Flat) (e : ReadFault) → SpaceRead text at old new (Ok begin) → Fails text e (content_at profile room (drop begin text)) → Fails text e (line_at profile room (drop at text))
+pub line_fails : (profile : Profile) (depth_left : ℕ) (text : List ℕ) (at begin : ℕ) (old new : Flat) (e : ReadFault) → SpaceRead text at old new (Ok begin) → Fails text e (content_at profile depth_left (drop begin text)) → Fails text e (line_at profile depth_left (drop at text))
 unfolding line_at
-line_fails profile room text at begin old new e s k =
-    fails_through text e (content_at profile room (drop begin text)) (line_at profile room (drop at text)) (λ f h. rw (ok_is (space_at (drop at text)) (s.part, drop begin text) s.is_read, h) refl) k
+line_fails profile depth_left text at begin old new e s k =
+    fails_through text e (content_at profile depth_left (drop begin text)) (line_at profile depth_left (drop at text)) (λ f h. rw (ok_is (space_at (drop at text)) (s.part, drop begin text) s.is_read, h) refl) k
 
-line_reads : (profile : Profile) (room : ℕ) (text : List ℕ) (at begin close after end : ℕ) (g a : Gap) (c : Content) (k : Option Written) → space_at (drop at text) ≡ (g, drop begin text) → content_at profile room (drop begin text) ≡ Ok (c, drop close text)
-    → after_of c (drop close text) ≡ (a, drop after text) → comment_at (drop after text) ≡ (k, drop end text) → line_at profile room (drop at text) ≡ Ok (record { before = g; content = c; after = a; comment = k }, drop end text)
+line_reads : (profile : Profile) (depth_left : ℕ) (text : List ℕ) (at begin close after end : ℕ) (g a : Gap) (c : Content) (k : Option Written) → space_at (drop at text) ≡ (g, drop begin text) → content_at profile depth_left (drop begin text) ≡ Ok (c, drop close text)
+    → after_of c (drop close text) ≡ (a, drop after text) → comment_at (drop after text) ≡ (k, drop end text) → line_at profile depth_left (drop at text) ≡ Ok (record { before = g; content = c; after = a; comment = k }, drop end text)
 unfolding line_at
-line_reads profile room text at begin close after end g a c k e1 e2 e3 e4 = rw (e1, e2, e3, e4) refl
+line_reads profile depth_left text at begin close after end g a c k e1 e2 e3 e4 = rw (e1, e2, e3, e4) refl
 
-blank_content : (profile : Profile) (room : ℕ) (text : List ℕ) (at : ℕ) → is_line_end (get_or text at 0) ≡ true → content_at profile room (drop at text) ≡ Ok (blank, drop at text)
+blank_content : (profile : Profile) (depth_left : ℕ) (text : List ℕ) (at : ℕ) → is_line_end (get_or text at 0) ≡ true → content_at profile depth_left (drop at text) ≡ Ok (blank, drop at text)
 unfolding content_at
-blank_content profile room text at e = rw (first-drop text at, e) refl
+blank_content profile depth_left text at e = rw (first-drop text at, e) refl
 
 -- a line without a keyval or a header
-pub line_blank : (profile : Profile) (room : ℕ) (text : List ℕ) (at begin end : ℕ) (old f1 new : Flat) → SpaceRead text at old f1 (Ok begin) → is_line_end (get_or text begin 0) ≡ true → CommentRead text begin f1 new (Ok end) → LineIs profile room text at old new end None
-line_blank profile room text at begin end old f1 new s e k =
+pub line_blank : (profile : Profile) (depth_left : ℕ) (text : List ℕ) (at begin end : ℕ) (old f1 new : Flat) → SpaceRead text at old f1 (Ok begin) → is_line_end (get_or text begin 0) ≡ true → CommentRead text begin f1 new (Ok end) → LineIs profile depth_left text at old new end None
+line_blank profile depth_left text at begin end old f1 new s e k =
     let l : Line = record { before = s.part; content = blank; after = []; comment = k.part } in
     record {
       read = record {
         part = l;
         bound = k.bound;
         forward = omega (arith, s.forward, k.forward);
-        is_read = line_reads profile room text at begin begin begin end s.part [] blank k.part (ok_is (space_at (drop at text)) (s.part, drop begin text) s.is_read) (blank_content profile room text begin e) refl (ok_is (comment_at (drop begin text)) (k.part, drop end text) k.is_read);
+        is_read = line_reads profile depth_left text at begin begin begin end s.part [] blank k.part (ok_is (space_at (drop at text)) (s.part, drop begin text) s.is_read) (blank_content profile depth_left text begin e) refl (ok_is (comment_at (drop begin text)) (k.part, drop end text) k.is_read);
         grows = grows_then s.grows k.grows;
       };
       stated = refl;
@@ -168,10 +168,10 @@ stated_is p (element before key after) h n g a k begin close end e e1 e2 e3 =
     let stated : ℕ → ℕ → Head → List Statement = λ b x q. stated_by q b x n.at end n.parts ∷ [] in
     ap (stated begin close) (sym is) ∙ ap (λ (x : ℕ). stated begin x head) e2 ∙ ap (λ (b : ℕ). stated b (b + w) head) e1
 
-pub line_is : (profile : Profile) (room : ℕ) (text : List ℕ) (at begin close after end : ℕ) (old f1 f2 f3 new : Flat) (p : Start) (h : Head) → SpaceRead text at old f1 (Ok begin)
-    → p ≡ record { at = begin; values = length old.values; parts = length old.keys; owner = owner.Line (length old.statements); depth = 0; comma = None } → ContentIs profile room text p f1 f2 close h
-    → SpaceRead text close f2 f3 (Ok after) → CommentRead text after f3 new (Ok end) → LineIs profile room text at old new end (Some (stated_by h begin close at end (length old.keys)))
-line_is profile room text at begin close after end old f1 f2 f3 new p h s pe con a k =
+pub line_is : (profile : Profile) (depth_left : ℕ) (text : List ℕ) (at begin close after end : ℕ) (old f1 f2 f3 new : Flat) (p : Start) (h : Head) → SpaceRead text at old f1 (Ok begin)
+    → p ≡ record { at = begin; values = length old.values; parts = length old.keys; owner = owner.Line (length old.statements); depth = 0; comma = None } → ContentIs profile depth_left text p f1 f2 close h
+    → SpaceRead text close f2 f3 (Ok after) → CommentRead text after f3 new (Ok end) → LineIs profile depth_left text at old new end (Some (stated_by h begin close at end (length old.keys)))
+line_is profile depth_left text at begin close after end old f1 f2 f3 new p h s pe con a k =
     let n = count_at at old in
     let r = con.read in
     let c = r.part in
@@ -186,7 +186,7 @@ line_is profile room text at begin close after end old f1 f2 f3 new p h s pe con
         part = l;
         bound = k.bound;
         forward = omega (arith, s.forward, pat, r.forward, a.forward, k.forward);
-        is_read = line_reads profile room text at begin close after end s.part a.part c k.part (ok_is (space_at (drop at text)) (s.part, drop begin text) s.is_read) (ap (λ (m : ℕ). content_at profile room (drop m text)) (sym pat) ∙ r.is_read)
+        is_read = line_reads profile depth_left text at begin close after end s.part a.part c k.part (ok_is (space_at (drop at text)) (s.part, drop begin text) s.is_read) (ap (λ (m : ℕ). content_at profile depth_left (drop m text)) (sym pat) ∙ r.is_read)
             (after_space p c h (drop close text) con.stated ∙ ok_is (space_at (drop close text)) (a.part, drop after text) a.is_read) (ok_is (comment_at (drop after text)) (k.part, drop end text) k.is_read);
         grows = grows_as (line_taken n l) (same_taken _ (taken p) refl refl (append-nil (content_parts p.at c)) (append-nil (content_values p c)) ∙ ap taken ps) g;
       };

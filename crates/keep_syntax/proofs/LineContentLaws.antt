@@ -23,17 +23,17 @@ use Rattle.keep_syntax.proofs.GapCodeLaws.{first-drop, after_leaf, after_sign, s
 next-drop : (text : List ℕ) (at : ℕ) → get_or (drop at text) 1 0 ≡ get_or text (at + 1) 0
 next-drop text at = get_or-drop at text 1 0
 
-pub keyval_content : (profile : Profile) (room : ℕ) (text : List ℕ) (at : ℕ) → is_line_end (get_or text at 0) ≡ false → (get_or text at 0 == 0x5B) ≡ false → content_at profile room (drop at text) ≡ keyval_of profile room (drop at text)
+pub keyval_content : (profile : Profile) (depth_left : ℕ) (text : List ℕ) (at : ℕ) → is_line_end (get_or text at 0) ≡ false → (get_or text at 0 == 0x5B) ≡ false → content_at profile depth_left (drop at text) ≡ keyval_of profile depth_left (drop at text)
 unfolding content_at
-keyval_content profile room text at more other = rw (first-drop text at, more, other) refl
+keyval_content profile depth_left text at more other = rw (first-drop text at, more, other) refl
 
-pub header_content : (profile : Profile) (room : ℕ) (text : List ℕ) (at : ℕ) → get_or text at 0 ≡ 0x5B → (get_or text (at + 1) 0 == 0x5B) ≡ false → content_at profile room (drop at text) ≡ header_by profile (space_at (drop 1 (drop at text)))
+pub header_content : (profile : Profile) (depth_left : ℕ) (text : List ℕ) (at : ℕ) → get_or text at 0 ≡ 0x5B → (get_or text (at + 1) 0 == 0x5B) ≡ false → content_at profile depth_left (drop at text) ≡ header_by profile (space_at (drop 1 (drop at text)))
 unfolding content_at
-header_content profile room text at opens once = rw (first-drop text at, opens, next-drop text at, once) refl
+header_content profile depth_left text at opens once = rw (first-drop text at, opens, next-drop text at, once) refl
 
-pub element_content : (profile : Profile) (room : ℕ) (text : List ℕ) (at : ℕ) → get_or text at 0 ≡ 0x5B → get_or text (at + 1) 0 ≡ 0x5B → content_at profile room (drop at text) ≡ element_by profile (space_at (drop 2 (drop at text)))
+pub element_content : (profile : Profile) (depth_left : ℕ) (text : List ℕ) (at : ℕ) → get_or text at 0 ≡ 0x5B → get_or text (at + 1) 0 ≡ 0x5B → content_at profile depth_left (drop at text) ≡ element_by profile (space_at (drop 2 (drop at text)))
 unfolding content_at
-element_content profile room text at opens twice = rw (first-drop text at, opens, next-drop text at, twice) refl
+element_content profile depth_left text at opens twice = rw (first-drop text at, opens, next-drop text at, twice) refl
 
 -- ---- how many key parts
 
@@ -54,19 +54,19 @@ key_grown profile text at len inner begin close l old f1 f2 new sg s k =
 
 -- ---- a keyval
 
-pub keyval_fails_name : (profile : Profile) (room : ℕ) (text : List ℕ) (at : ℕ) (e : ReadFault) → is_line_end (get_or text at 0) ≡ false → (get_or text at 0 == 0x5B) ≡ false → Fails text e (name_of profile (drop at text)) → Fails text e (content_at profile room (drop at text))
-keyval_fails_name profile room text at e more other k =
-    fails_through text e (name_of profile (drop at text)) (content_at profile room (drop at text)) (λ f h. keyval_content profile room text at more other ∙ rw h refl) k
+pub keyval_fails_name : (profile : Profile) (depth_left : ℕ) (text : List ℕ) (at : ℕ) (e : ReadFault) → is_line_end (get_or text at 0) ≡ false → (get_or text at 0 == 0x5B) ≡ false → Fails text e (name_of profile (drop at text)) → Fails text e (content_at profile depth_left (drop at text))
+keyval_fails_name profile depth_left text at e more other k =
+    fails_through text e (name_of profile (drop at text)) (content_at profile depth_left (drop at text)) (λ f h. keyval_content profile depth_left text at more other ∙ rw h refl) k
 
-pub keyval_fails_value : (profile : Profile) (room : ℕ) (text : List ℕ) (at begin : ℕ) (old new : Flat) (e : ReadFault) → is_line_end (get_or text at 0) ≡ false → (get_or text at 0 == 0x5B) ≡ false → NameRead profile text at old new (Ok begin)
-    → Fails text e (value_of profile room (drop begin text)) → Fails text e (content_at profile room (drop at text))
-keyval_fails_value profile room text at begin old new e more other n k =
-    fails_through text e (value_of profile room (drop begin text)) (content_at profile room (drop at text)) (λ f h. keyval_content profile room text at more other ∙ rw (n.is_read, h) refl) k
+pub keyval_fails_value : (profile : Profile) (depth_left : ℕ) (text : List ℕ) (at begin : ℕ) (old new : Flat) (e : ReadFault) → is_line_end (get_or text at 0) ≡ false → (get_or text at 0 == 0x5B) ≡ false → NameRead profile text at old new (Ok begin)
+    → Fails text e (value_of profile depth_left (drop begin text)) → Fails text e (content_at profile depth_left (drop at text))
+keyval_fails_value profile depth_left text at begin old new e more other n k =
+    fails_through text e (value_of profile depth_left (drop begin text)) (content_at profile depth_left (drop at text)) (λ f h. keyval_content profile depth_left text at more other ∙ rw (n.is_read, h) refl) k
 
-pub keyval_is : (profile : Profile) (room : ℕ) (text : List ℕ) (p : Start) (begin end count keys : ℕ) (old f1 new : Flat) → is_line_end (get_or text p.at 0) ≡ false → (get_or text p.at 0 == 0x5B) ≡ false → NameRead profile text p.at old f1 (Ok begin)
-    → p.parts ≡ length old.keys → count ≡ length f1.keys → keys ≡ count - p.parts → ValueRead profile room text begin keys p f1 new (Ok end)
-    → ContentIs profile room text p old new end (record { kind = KeyVal; keys = keys; value = Some p.values })
-keyval_is profile room text p begin end count keys old f1 new more other n e1 e2 e3 v =
+pub keyval_is : (profile : Profile) (depth_left : ℕ) (text : List ℕ) (p : Start) (begin end count keys : ℕ) (old f1 new : Flat) → is_line_end (get_or text p.at 0) ≡ false → (get_or text p.at 0 == 0x5B) ≡ false → NameRead profile text p.at old f1 (Ok begin)
+    → p.parts ≡ length old.keys → count ≡ length f1.keys → keys ≡ count - p.parts → ValueRead profile depth_left text begin keys p f1 new (Ok end)
+    → ContentIs profile depth_left text p old new end (record { kind = KeyVal; keys = keys; value = Some p.values })
+keyval_is profile depth_left text p begin end count keys old f1 new more other n e1 e2 e3 v =
     let c = keyval n.part v.part in
     let counted : keys ≡ key_count n.part.key = omega (arith, e1, e2, e3, (name_grown profile text p.at begin old f1 n).0) in
     let taken : ℕ → ℕ → Taken = λ at ks. record { leaves = content_leaves c; statements = []; keys = key_parts p.at n.part.key ++ entries_parts (nested_start at v.part.body) v.part.nested; values = value_values p at ks v.part } in
@@ -76,7 +76,7 @@ keyval_is profile room text p begin end count keys old f1 new more other n e1 e2
         part = c;
         bound = v.bound;
         forward = omega (arith, n.forward, v.forward);
-        is_read = keyval_content profile room text p.at more other ∙ rw (n.is_read, v.is_read) refl;
+        is_read = keyval_content profile depth_left text p.at more other ∙ rw (n.is_read, v.is_read) refl;
         grows = grows_as (content_taken p c) same (grows_then n.grows v.grows);
       };
       stated = ap (λ (k : ℕ). let h : Head = record { kind = KeyVal; keys = k; value = Some p.values } in Some h) (sym counted);
@@ -87,20 +87,20 @@ keyval_is profile room text p begin end count keys old f1 new more other n e1 e2
 space_is : (text : List ℕ) (at len inner begin : ℕ) (g : Gap) → inner ≡ at + len → done (space_at (drop inner text)) ≡ done (g, drop begin text) → space_at (drop len (drop at text)) ≡ (g, drop begin text)
 space_is text at len inner begin g e s = ap space_at (after_leaf text at len inner (sym e)) ∙ ok_is (space_at (drop inner text)) (g, drop begin text) s
 
-pub header_fails : (profile : Profile) (room : ℕ) (text : List ℕ) (at inner begin : ℕ) (f1 f2 : Flat) (e : ReadFault) → get_or text at 0 ≡ 0x5B → (get_or text (at + 1) 0 == 0x5B) ≡ false → inner ≡ at + 1 → SpaceRead text inner f1 f2 (Ok begin)
-    → Fails text e (key_of profile (drop begin text)) → Fails text e (content_at profile room (drop at text))
-header_fails profile room text at inner begin f1 f2 e opens once is s k =
-    fails_through text e (key_of profile (drop begin text)) (content_at profile room (drop at text)) (λ f h. header_content profile room text at opens once ∙ rw (space_is text at 1 inner begin s.part is s.is_read, h) refl) k
+pub header_fails : (profile : Profile) (depth_left : ℕ) (text : List ℕ) (at inner begin : ℕ) (f1 f2 : Flat) (e : ReadFault) → get_or text at 0 ≡ 0x5B → (get_or text (at + 1) 0 == 0x5B) ≡ false → inner ≡ at + 1 → SpaceRead text inner f1 f2 (Ok begin)
+    → Fails text e (key_of profile (drop begin text)) → Fails text e (content_at profile depth_left (drop at text))
+header_fails profile depth_left text at inner begin f1 f2 e opens once is s k =
+    fails_through text e (key_of profile (drop begin text)) (content_at profile depth_left (drop at text)) (λ f h. header_content profile depth_left text at opens once ∙ rw (space_is text at 1 inner begin s.part is s.is_read, h) refl) k
 
-pub header_bad : (profile : Profile) (room : ℕ) (text : List ℕ) (at inner begin close : ℕ) (f1 f2 f3 : Flat) (e : ReadFault) → get_or text at 0 ≡ 0x5B → (get_or text (at + 1) 0 == 0x5B) ≡ false → inner ≡ at + 1 → SpaceRead text inner f1 f2 (Ok begin)
-    → KeyRead profile text begin f2 f3 (Ok close) → (get_or text close 0 == 0x5D) ≡ false → IsSyntax e → Fails text e (content_at profile room (drop at text))
-header_bad profile room text at inner begin close f1 f2 f3 e opens once is s k other fault =
-    fails_bad text e (content_at profile room (drop at text)) fault (header_content profile room text at opens once ∙ rw (space_is text at 1 inner begin s.part is s.is_read, k.is_read, first-drop text close, other) refl)
+pub header_bad : (profile : Profile) (depth_left : ℕ) (text : List ℕ) (at inner begin close : ℕ) (f1 f2 f3 : Flat) (e : ReadFault) → get_or text at 0 ≡ 0x5B → (get_or text (at + 1) 0 == 0x5B) ≡ false → inner ≡ at + 1 → SpaceRead text inner f1 f2 (Ok begin)
+    → KeyRead profile text begin f2 f3 (Ok close) → (get_or text close 0 == 0x5D) ≡ false → IsSyntax e → Fails text e (content_at profile depth_left (drop at text))
+header_bad profile depth_left text at inner begin close f1 f2 f3 e opens once is s k other fault =
+    fails_bad text e (content_at profile depth_left (drop at text)) fault (header_content profile depth_left text at opens once ∙ rw (space_is text at 1 inner begin s.part is s.is_read, k.is_read, first-drop text close, other) refl)
 
-pub header_is : (profile : Profile) (room : ℕ) (text : List ℕ) (p : Start) (inner begin close end count : ℕ) (old f1 f2 f3 new : Flat) → get_or text p.at 0 ≡ 0x5B → (get_or text (p.at + 1) 0 == 0x5B) ≡ false → PunctuationIs text p.at 1 leaf.HeadOpen old f1 inner → SpaceRead text inner f1 f2 (Ok begin)
+pub header_is : (profile : Profile) (depth_left : ℕ) (text : List ℕ) (p : Start) (inner begin close end count : ℕ) (old f1 f2 f3 new : Flat) → get_or text p.at 0 ≡ 0x5B → (get_or text (p.at + 1) 0 == 0x5B) ≡ false → PunctuationIs text p.at 1 leaf.HeadOpen old f1 inner → SpaceRead text inner f1 f2 (Ok begin)
     → KeyRead profile text begin f2 f3 (Ok close) → get_or text close 0 ≡ 0x5D → p.parts ≡ length old.keys → count ≡ length f3.keys → PunctuationIs text close 1 leaf.HeadClose f3 new end
-    → ContentIs profile room text p old new end (record { kind = Header; keys = count - p.parts; value = None })
-header_is profile room text p inner begin close end count old f1 f2 f3 new opens once sg s k closes e1 e2 sg2 =
+    → ContentIs profile depth_left text p old new end (record { kind = Header; keys = count - p.parts; value = None })
+header_is profile depth_left text p inner begin close end count old f1 f2 f3 new opens once sg s k closes e1 e2 sg2 =
     let key = k.part.0 in
     let c = header s.part key k.part.1 in
     let counted : key_count key ≡ count - p.parts = omega (arith, e1, e2, key_grown profile text p.at 1 inner begin close leaf.HeadOpen old f1 f2 f3 sg s k) in
@@ -111,7 +111,7 @@ header_is profile room text p inner begin close end count old f1 f2 f3 new opens
         part = c;
         bound = sg2.bound;
         forward = omega (arith, sg.end_is, s.forward, k.forward, sg2.end_is);
-        is_read = header_content profile room text p.at opens once ∙ rw (space_is text p.at 1 inner begin s.part sg.end_is s.is_read, k.is_read, first-drop text close, closes, after_sign text close end sg2.end_is) refl;
+        is_read = header_content profile depth_left text p.at opens once ∙ rw (space_is text p.at 1 inner begin s.part sg.end_is s.is_read, k.is_read, first-drop text close, closes, after_sign text close end sg2.end_is) refl;
         grows = grows_as (content_taken p c) (same_taken _ (content_taken p c) (ap (λ (ws : List Written). token leaf.HeadOpen (0x5B ∷ []) ++ (s.part ++ ws)) (append_assoc (key_leaves key) k.part.1 (token leaf.HeadClose (0x5D ∷ [])))) refl (append-nil (key_parts begin key) ∙ ap (λ (n : ℕ). key_parts n key) from) refl) g;
       };
       stated = ap (λ (n : ℕ). let h : Head = record { kind = Header; keys = n; value = None } in Some h) counted;
@@ -119,20 +119,20 @@ header_is profile room text p inner begin close end count old f1 f2 f3 new opens
 
 -- ---- the header of an element
 
-pub element_fails : (profile : Profile) (room : ℕ) (text : List ℕ) (at inner begin : ℕ) (f1 f2 : Flat) (e : ReadFault) → get_or text at 0 ≡ 0x5B → get_or text (at + 1) 0 ≡ 0x5B → inner ≡ at + 2 → SpaceRead text inner f1 f2 (Ok begin)
-    → Fails text e (key_of profile (drop begin text)) → Fails text e (content_at profile room (drop at text))
-element_fails profile room text at inner begin f1 f2 e opens twice is s k =
-    fails_through text e (key_of profile (drop begin text)) (content_at profile room (drop at text)) (λ f h. element_content profile room text at opens twice ∙ rw (space_is text at 2 inner begin s.part is s.is_read, h) refl) k
+pub element_fails : (profile : Profile) (depth_left : ℕ) (text : List ℕ) (at inner begin : ℕ) (f1 f2 : Flat) (e : ReadFault) → get_or text at 0 ≡ 0x5B → get_or text (at + 1) 0 ≡ 0x5B → inner ≡ at + 2 → SpaceRead text inner f1 f2 (Ok begin)
+    → Fails text e (key_of profile (drop begin text)) → Fails text e (content_at profile depth_left (drop at text))
+element_fails profile depth_left text at inner begin f1 f2 e opens twice is s k =
+    fails_through text e (key_of profile (drop begin text)) (content_at profile depth_left (drop at text)) (λ f h. element_content profile depth_left text at opens twice ∙ rw (space_is text at 2 inner begin s.part is s.is_read, h) refl) k
 
-pub element_bad : (profile : Profile) (room : ℕ) (text : List ℕ) (at inner begin close : ℕ) (f1 f2 f3 : Flat) (e : ReadFault) → get_or text at 0 ≡ 0x5B → get_or text (at + 1) 0 ≡ 0x5B → inner ≡ at + 2 → SpaceRead text inner f1 f2 (Ok begin)
-    → KeyRead profile text begin f2 f3 (Ok close) → ((get_or text close 0 == 0x5D) && (get_or text (close + 1) 0 == 0x5D)) ≡ false → IsSyntax e → Fails text e (content_at profile room (drop at text))
-element_bad profile room text at inner begin close f1 f2 f3 e opens twice is s k other fault =
-    fails_bad text e (content_at profile room (drop at text)) fault (element_content profile room text at opens twice ∙ rw (space_is text at 2 inner begin s.part is s.is_read, k.is_read, first-drop text close, next-drop text close, other) refl)
+pub element_bad : (profile : Profile) (depth_left : ℕ) (text : List ℕ) (at inner begin close : ℕ) (f1 f2 f3 : Flat) (e : ReadFault) → get_or text at 0 ≡ 0x5B → get_or text (at + 1) 0 ≡ 0x5B → inner ≡ at + 2 → SpaceRead text inner f1 f2 (Ok begin)
+    → KeyRead profile text begin f2 f3 (Ok close) → ((get_or text close 0 == 0x5D) && (get_or text (close + 1) 0 == 0x5D)) ≡ false → IsSyntax e → Fails text e (content_at profile depth_left (drop at text))
+element_bad profile depth_left text at inner begin close f1 f2 f3 e opens twice is s k other fault =
+    fails_bad text e (content_at profile depth_left (drop at text)) fault (element_content profile depth_left text at opens twice ∙ rw (space_is text at 2 inner begin s.part is s.is_read, k.is_read, first-drop text close, next-drop text close, other) refl)
 
-pub element_is : (profile : Profile) (room : ℕ) (text : List ℕ) (p : Start) (inner begin close end count : ℕ) (old f1 f2 f3 new : Flat) → get_or text p.at 0 ≡ 0x5B → get_or text (p.at + 1) 0 ≡ 0x5B → PunctuationIs text p.at 2 leaf.ElemOpen old f1 inner → SpaceRead text inner f1 f2 (Ok begin)
+pub element_is : (profile : Profile) (depth_left : ℕ) (text : List ℕ) (p : Start) (inner begin close end count : ℕ) (old f1 f2 f3 new : Flat) → get_or text p.at 0 ≡ 0x5B → get_or text (p.at + 1) 0 ≡ 0x5B → PunctuationIs text p.at 2 leaf.ElemOpen old f1 inner → SpaceRead text inner f1 f2 (Ok begin)
     → KeyRead profile text begin f2 f3 (Ok close) → get_or text close 0 ≡ 0x5D → get_or text (close + 1) 0 ≡ 0x5D → p.parts ≡ length old.keys → count ≡ length f3.keys → PunctuationIs text close 2 leaf.ElemClose f3 new end
-    → ContentIs profile room text p old new end (record { kind = Element; keys = count - p.parts; value = None })
-element_is profile room text p inner begin close end count old f1 f2 f3 new opens twice sg s k closes closes2 e1 e2 sg2 =
+    → ContentIs profile depth_left text p old new end (record { kind = Element; keys = count - p.parts; value = None })
+element_is profile depth_left text p inner begin close end count old f1 f2 f3 new opens twice sg s k closes closes2 e1 e2 sg2 =
     let key = k.part.0 in
     let c = element s.part key k.part.1 in
     let counted : key_count key ≡ count - p.parts = omega (arith, e1, e2, key_grown profile text p.at 2 inner begin close leaf.ElemOpen old f1 f2 f3 sg s k) in
@@ -143,7 +143,7 @@ element_is profile room text p inner begin close end count old f1 f2 f3 new open
         part = c;
         bound = sg2.bound;
         forward = omega (arith, sg.end_is, s.forward, k.forward, sg2.end_is);
-        is_read = element_content profile room text p.at opens twice ∙ rw (space_is text p.at 2 inner begin s.part sg.end_is s.is_read, k.is_read, first-drop text close, next-drop text close, closes, closes2, after_leaf text close 2 end (sym sg2.end_is)) refl;
+        is_read = element_content profile depth_left text p.at opens twice ∙ rw (space_is text p.at 2 inner begin s.part sg.end_is s.is_read, k.is_read, first-drop text close, next-drop text close, closes, closes2, after_leaf text close 2 end (sym sg2.end_is)) refl;
         grows = grows_as (content_taken p c) (same_taken _ (content_taken p c) (ap (λ (ws : List Written). token leaf.ElemOpen (0x5B ∷ 0x5B ∷ []) ++ (s.part ++ ws)) (append_assoc (key_leaves key) k.part.1 (token leaf.ElemClose (0x5D ∷ 0x5D ∷ [])))) refl (append-nil (key_parts begin key) ∙ ap (λ (n : ℕ). key_parts n key) from) refl) g;
       };
       stated = ap (λ (n : ℕ). let h : Head = record { kind = Element; keys = n; value = None } in Some h) counted;

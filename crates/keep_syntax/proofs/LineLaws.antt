@@ -109,26 +109,26 @@ comment_read (Some w) rest h end =
 
 -- ---- contents
 
-pub record TookContent (profile : Profile) (room : ℕ) (text : List ℕ) (c : Content) (rest : List ℕ) : Type 0 where
+pub record TookContent (profile : Profile) (depth_left : ℕ) (text : List ℕ) (c : Content) (rest : List ℕ) : Type 0 where
   pub valid : IsContent profile c
-  pub shallow : content_depth c ≤ room
+  pub shallow : content_depth c ≤ depth_left
   pub spelled : text ≡ text_of (content_leaves c) ++ rest
 
-keyval_takes : (profile : Profile) (room : ℕ) (text : List ℕ) (c : Content) (rest : List ℕ) → keyval_of profile room text ≡ Ok (c, rest) → TookContent profile room text c rest
-keyval_takes profile room text c rest h =
-    let (n, e1, e2) = bind_ok (name_of profile text) (λ n. value_of profile room n.1 >>= λ v. Ok (keyval n.0 v.0, v.1)) (c, rest) h in
-    let (v, e3, e4) = bind_ok (value_of profile room n.1) (λ v. Ok (keyval n.0 v.0, v.1)) (c, rest) e2 in
+keyval_takes : (profile : Profile) (depth_left : ℕ) (text : List ℕ) (c : Content) (rest : List ℕ) → keyval_of profile depth_left text ≡ Ok (c, rest) → TookContent profile depth_left text c rest
+keyval_takes profile depth_left text c rest h =
+    let (n, e1, e2) = bind_ok (name_of profile text) (λ n. value_of profile depth_left n.1 >>= λ v. Ok (keyval n.0 v.0, v.1)) (c, rest) h in
+    let (v, e3, e4) = bind_ok (value_of profile depth_left n.1) (λ v. Ok (keyval n.0 v.0, v.1)) (c, rest) e2 in
     let tn = name_takes profile text n.0 n.1 e1 in
-    let tv = value_takes profile room n.1 v.0 v.1 e3 in
+    let tv = value_takes profile depth_left n.1 v.0 v.1 e3 in
     let made : Content × List ℕ = (keyval n.0 v.0, v.1) in
-    subst (λ (x : Content × List ℕ). TookContent profile room text x.0 x.1) (ok_is made (c, rest) e4) (record {
+    subst (λ (x : Content × List ℕ). TookContent profile depth_left text x.0 x.1) (ok_is made (c, rest) e4) (record {
       valid = (tn.valid, tv.valid);
       shallow = tv.shallow;
       spelled = tn.spelled ∙ ap (λ (x : List ℕ). text_of (name_leaves n.0) ++ x) tv.spelled ∙ sym (keyval_text n.0 v.0 v.1);
     })
 
-header_takes : (profile : Profile) (room : ℕ) (text : List ℕ) (c : Content) (rest : List ℕ) → header_by profile (space_at text) ≡ Ok (c, rest) → TookContent profile room (0x5B ∷ text) c rest
-header_takes profile room text c rest h =
+header_takes : (profile : Profile) (depth_left : ℕ) (text : List ℕ) (c : Content) (rest : List ℕ) → header_by profile (space_at text) ≡ Ok (c, rest) → TookContent profile depth_left (0x5B ∷ text) c rest
+header_takes profile depth_left text c rest h =
     let b = space_at text in
     let sb = space_takes text in
     let go : (Key × Gap) × List ℕ → Read Content = λ k. cond (first k.1 == 0x5D) (Ok (header b.0 k.0.0 k.0.1, drop 1 k.1)) (Err Bad) in
@@ -136,14 +136,14 @@ header_takes profile room text c rest h =
     let tk = key_takes profile b.1 k.0 k.1 e1 in
     let g = guard_ok (first k.1 == 0x5D) Bad (header b.0 k.0.0 k.0.1, drop 1 k.1) (c, rest) e2 in
     let close : k.1 ≡ 0x5D ∷ drop 1 k.1 = first_is 0x5D k.1 (omega arith) g.0 in
-    subst (λ (x : Content × List ℕ). TookContent profile room (0x5B ∷ text) x.0 x.1) g.1 (record {
+    subst (λ (x : Content × List ℕ). TookContent profile depth_left (0x5B ∷ text) x.0 x.1) g.1 (record {
       valid = (sb.valid, tk.valid, tk.gap);
       shallow = omega arith;
       spelled = ap (λ (x : List ℕ). 0x5B ∷ x) (sb.spelled ∙ ap (λ (x : List ℕ). text_of b.0 ++ x) (tk.spelled ∙ ap (λ (x : List ℕ). text_of (key_leaves k.0.0) ++ (text_of k.0.1 ++ x)) close)) ∙ sym (header_text b.0 k.0.0 k.0.1 (drop 1 k.1));
     })
 
-element_takes : (profile : Profile) (room : ℕ) (text : List ℕ) (c : Content) (rest : List ℕ) → element_by profile (space_at text) ≡ Ok (c, rest) → TookContent profile room (0x5B ∷ 0x5B ∷ text) c rest
-element_takes profile room text c rest h =
+element_takes : (profile : Profile) (depth_left : ℕ) (text : List ℕ) (c : Content) (rest : List ℕ) → element_by profile (space_at text) ≡ Ok (c, rest) → TookContent profile depth_left (0x5B ∷ 0x5B ∷ text) c rest
+element_takes profile depth_left text c rest h =
     let b = space_at text in
     let sb = space_takes text in
     let go : (Key × Gap) × List ℕ → Read Content = λ k. cond (first k.1 == 0x5D && slice_index k.1 1 == 0x5D) (Ok (element b.0 k.0.0 k.0.1, drop 2 k.1)) (Err Bad) in
@@ -151,31 +151,31 @@ element_takes profile room text c rest h =
     let tk = key_takes profile b.1 k.0 k.1 e1 in
     let g = guard_ok (first k.1 == 0x5D && slice_index k.1 1 == 0x5D) Bad (element b.0 k.0.0 k.0.1, drop 2 k.1) (c, rest) e2 in
     let close : k.1 ≡ 0x5D ∷ 0x5D ∷ drop 2 k.1 = two_are 0x5D 0x5D k.1 (omega arith) (omega arith) g.0 in
-    subst (λ (x : Content × List ℕ). TookContent profile room (0x5B ∷ 0x5B ∷ text) x.0 x.1) g.1 (record {
+    subst (λ (x : Content × List ℕ). TookContent profile depth_left (0x5B ∷ 0x5B ∷ text) x.0 x.1) g.1 (record {
       valid = (sb.valid, tk.valid, tk.gap);
       shallow = omega arith;
       spelled = ap (λ (x : List ℕ). 0x5B ∷ 0x5B ∷ x) (sb.spelled ∙ ap (λ (x : List ℕ). text_of b.0 ++ x) (tk.spelled ∙ ap (λ (x : List ℕ). text_of (key_leaves k.0.0) ++ (text_of k.0.1 ++ x)) close)) ∙ sym (element_text b.0 k.0.0 k.0.1 (drop 2 k.1));
     })
 
-pub content_takes : (profile : Profile) (room : ℕ) (text : List ℕ) (c : Content) (rest : List ℕ) → content_at profile room text ≡ Ok (c, rest) → TookContent profile room text c rest
+pub content_takes : (profile : Profile) (depth_left : ℕ) (text : List ℕ) (c : Content) (rest : List ℕ) → content_at profile depth_left text ≡ Ok (c, rest) → TookContent profile depth_left text c rest
 unfolding content_at
-content_takes profile room text c rest h =
+content_takes profile depth_left text c rest h =
     elim (tested (is_line_end (first text))) [
-      | inl e ↦ subst (λ (x : Content × List ℕ). TookContent profile room text x.0 x.1) (ok_is (blank, text) (c, rest) (rw e at h)) (record { valid = tt; shallow = omega arith; spelled = refl })
+      | inl e ↦ subst (λ (x : Content × List ℕ). TookContent profile depth_left text x.0 x.1) (ok_is (blank, text) (c, rest) (rw e at h)) (record { valid = tt; shallow = omega arith; spelled = refl })
       | inr e ↦ elim (tested (first text == 0x5B && slice_index text 1 == 0x5B)) [
-        | inl f ↦ subst (λ (x : List ℕ). TookContent profile room x c rest) (sym (two_are 0x5B 0x5B text (omega arith) (omega arith) f)) (element_takes profile room (drop 2 text) c rest (rw (e, f) at h))
+        | inl f ↦ subst (λ (x : List ℕ). TookContent profile depth_left x c rest) (sym (two_are 0x5B 0x5B text (omega arith) (omega arith) f)) (element_takes profile depth_left (drop 2 text) c rest (rw (e, f) at h))
         | inr f ↦ elim (tested (first text == 0x5B)) [
-          | inl g ↦ subst (λ (x : List ℕ). TookContent profile room x c rest) (sym (first_is 0x5B text (omega arith) g)) (header_takes profile room (drop 1 text) c rest (rw (e, f, g) at h))
-          | inr g ↦ keyval_takes profile room text c rest (rw (e, f, g) at h)
+          | inl g ↦ subst (λ (x : List ℕ). TookContent profile depth_left x c rest) (sym (first_is 0x5B text (omega arith) g)) (header_takes profile depth_left (drop 1 text) c rest (rw (e, f, g) at h))
+          | inr g ↦ keyval_takes profile depth_left text c rest (rw (e, f, g) at h)
         ]
       ]
     ]
 
 -- ---- lines
 
-pub record TookLine (profile : Profile) (room : ℕ) (text : List ℕ) (l : Line) (rest : List ℕ) : Type 0 where
+pub record TookLine (profile : Profile) (depth_left : ℕ) (text : List ℕ) (l : Line) (rest : List ℕ) : Type 0 where
   pub valid : IsLine profile l
-  pub shallow : content_depth l.content ≤ room
+  pub shallow : content_depth l.content ≤ depth_left
   pub spelled : text ≡ text_of (line_leaves l) ++ rest
 
 after_takes : (c : Content) (text : List ℕ) → (text ≡ text_of (after_of c text).0 ++ (after_of c text).1) × IsAfter c (after_of c text).0
@@ -184,18 +184,18 @@ after_takes (keyval name value) text = let s = space_takes text in (s.spelled, s
 after_takes (header before key after) text = let s = space_takes text in (s.spelled, s.valid)
 after_takes (element before key after) text = let s = space_takes text in (s.spelled, s.valid)
 
-pub line_takes : (profile : Profile) (room : ℕ) (text : List ℕ) (l : Line) (rest : List ℕ) → line_at profile room text ≡ Ok (l, rest) → TookLine profile room text l rest
+pub line_takes : (profile : Profile) (depth_left : ℕ) (text : List ℕ) (l : Line) (rest : List ℕ) → line_at profile depth_left text ≡ Ok (l, rest) → TookLine profile depth_left text l rest
 unfolding line_at
-line_takes profile room text l rest h =
+line_takes profile depth_left text l rest h =
     let s = space_takes text in
     let g = (space_at text).0 in
-    let (c, e1, e2) = bind_ok (content_at profile room (space_at text).1) (λ c. line_by g c.0 (after_of c.0 c.1)) (l, rest) h in
-    let t = content_takes profile room (space_at text).1 c.0 c.1 e1 in
+    let (c, e1, e2) = bind_ok (content_at profile depth_left (space_at text).1) (λ c. line_by g c.0 (after_of c.0 c.1)) (l, rest) h in
+    let t = content_takes profile depth_left (space_at text).1 c.0 c.1 e1 in
     let a = after_of c.0 c.1 in
     let (ea, va) = after_takes c.0 c.1 in
     let k = comment_takes a.1 in
     let made : Line × List ℕ = (record { before = g; content = c.0; after = a.0; comment = (comment_at a.1).0 }, (comment_at a.1).1) in
-    subst (λ (x : Line × List ℕ). TookLine profile room text x.0 x.1) (ok_is made (l, rest) e2) (record {
+    subst (λ (x : Line × List ℕ). TookLine profile depth_left text x.0 x.1) (ok_is made (l, rest) e2) (record {
       valid = record { before = s.valid; content = t.valid; after = va; comment = k.valid };
       shallow = t.shallow;
       spelled = s.spelled ∙ ap (λ (x : List ℕ). text_of g ++ x) (t.spelled ∙ ap (λ (x : List ℕ). text_of (content_leaves c.0) ++ x) (ea ∙ ap (λ (x : List ℕ). text_of a.0 ++ x) k.spelled)) ∙ sym (line_text made.0 made.1);
@@ -214,16 +214,16 @@ abbrev pub FollowsContent : Content → List ℕ → Type 0
 FollowsContent blank rest = is_line_end (first rest) ≡ true
 FollowsContent _ rest = may_follow_scalar rest ≡ true
 
-pub content_again : (profile : Profile) (room : ℕ) (c : Content) (rest : List ℕ) → IsContent profile c → content_depth c ≤ room → FollowsContent c rest → content_at profile room (text_of (content_leaves c) ++ rest) ≡ Ok (c, rest)
+pub content_again : (profile : Profile) (depth_left : ℕ) (c : Content) (rest : List ℕ) → IsContent profile c → content_depth c ≤ depth_left → FollowsContent c rest → content_at profile depth_left (text_of (content_leaves c) ++ rest) ≡ Ok (c, rest)
 unfolding content_at
-content_again profile room blank rest h le follows = rw follows refl
-content_again profile room (keyval n v) rest h le follows =
+content_again profile depth_left blank rest h le follows = rw follows refl
+content_again profile depth_left (keyval n v) rest h le follows =
     let t1 = value_text v ++ rest in
     let f = key_first_facts (first (text_of (name_leaves n) ++ t1)) (name_begins profile n t1 h.0) in
     let one : name_of profile (text_of (name_leaves n) ++ t1) ≡ Ok (n, t1) = name_again profile n t1 h.0 (solid_no_ws (first t1) (value_first_solid (first t1) (value_begins profile v rest h.1))) in
-    let two : value_of profile room t1 ≡ Ok (v, rest) = value_again profile room v rest h.1 le follows in
+    let two : value_of profile depth_left t1 ≡ Ok (v, rest) = value_again profile depth_left v rest h.1 le follows in
     rw (keyval_text n v rest, f.0, f.1, one, two) refl
-content_again profile room (header b k a) rest h le follows =
+content_again profile depth_left (header b k a) rest h le follows =
     let z = 0x5D ∷ rest in
     let t2 = text_of (key_leaves k) ++ (text_of a ++ z) in
     let t1 = text_of b ++ t2 in
@@ -232,15 +232,15 @@ content_again profile room (header b k a) rest h le follows =
     let not_two : (slice_index (0x5B ∷ t1) 1 == 0x5B) ≡ false = space_class (λ c. c == 0x5B) b t2 h.0 ws_no_bracket f.1 in
     let one : space_at t1 ≡ (b, t2) = space_again b t2 h.0 (solid_no_ws (first t2) (key_first_solid (first t2) kf)) in
     let two : key_of profile t2 ≡ Ok ((k, a), z) = key_reads profile k a z h.1 h.2 refl in
-    ap (content_at profile room) (header_text b k a rest) ∙ rw (not_two, one, two) refl
-content_again profile room (element b k a) rest h le follows =
+    ap (content_at profile depth_left) (header_text b k a rest) ∙ rw (not_two, one, two) refl
+content_again profile depth_left (element b k a) rest h le follows =
     let z = 0x5D ∷ 0x5D ∷ rest in
     let t2 = text_of (key_leaves k) ++ (text_of a ++ z) in
     let t1 = text_of b ++ t2 in
     let kf = key_begins profile k (text_of a ++ z) h.1 in
     let one : space_at t1 ≡ (b, t2) = space_again b t2 h.0 (solid_no_ws (first t2) (key_first_solid (first t2) kf)) in
     let two : key_of profile t2 ≡ Ok ((k, a), z) = key_reads profile k a z h.1 h.2 refl in
-    ap (content_at profile room) (element_text b k a rest) ∙ rw (one, two) refl
+    ap (content_at profile depth_left) (element_text b k a rest) ∙ rw (one, two) refl
 
 line_end_facts : (c : ℕ) → is_line_end c ≡ true → (is_ws c ≡ false) × (is_stop c ≡ true)
 line_end_facts c h = (grind (arith, nat_tests), grind (arith, nat_tests))
@@ -278,17 +278,17 @@ content_no_ws profile (keyval n v) after x h a stop =
 content_no_ws profile (header before key suffix) after x h a stop = refl
 content_no_ws profile (element before key suffix) after x h a stop = refl
 
-pub line_again : (profile : Profile) (room : ℕ) (l : Line) (rest : List ℕ) → IsLine profile l → content_depth l.content ≤ room → LineEnd rest → line_at profile room (text_of (line_leaves l) ++ rest) ≡ Ok (l, rest)
+pub line_again : (profile : Profile) (depth_left : ℕ) (l : Line) (rest : List ℕ) → IsLine profile l → content_depth l.content ≤ depth_left → LineEnd rest → line_at profile depth_left (text_of (line_leaves l) ++ rest) ≡ Ok (l, rest)
 unfolding line_at
-line_again profile room l rest h le end =
+line_again profile depth_left l rest h le end =
     let x3 = text_of (comment_leaves l.comment) ++ rest in
     let x2 = text_of l.after ++ x3 in
     let x1 = text_of (content_leaves l.content) ++ x2 in
     let ends3 : is_line_end (first x3) ≡ true = comment_ends l.comment rest h.comment end in
     let no_ws3 : is_ws (first x3) ≡ false = (line_end_facts (first x3) ends3).0 in
     let gap : space_at (text_of l.before ++ x1) ≡ (l.before, x1) = space_again l.before x1 h.before (content_no_ws profile l.content l.after x3 h.content h.after no_ws3) in
-    let content : content_at profile room x1 ≡ Ok (l.content, x2) = content_again profile room l.content x2 h.content le (after_follows l.content l.after x3 h.after ends3) in
+    let content : content_at profile depth_left x1 ≡ Ok (l.content, x2) = content_again profile depth_left l.content x2 h.content le (after_follows l.content l.after x3 h.after ends3) in
     let after : after_of l.content x2 ≡ (l.after, x3) = after_again l.content l.after x3 h.after no_ws3 in
     let comment : comment_at x3 ≡ (l.comment, rest) = comment_read l.comment rest h.comment end in
-    let e : (content_at profile room (space_at (text_of l.before ++ x1)).1 >>= λ c. line_by (space_at (text_of l.before ++ x1)).0 c.0 (after_of c.0 c.1)) ≡ Ok (l, rest) = rw (gap, content, after, comment) refl in
-    subst (λ (x : List ℕ). (content_at profile room (space_at x).1 >>= λ c. line_by (space_at x).0 c.0 (after_of c.0 c.1)) ≡ Ok (l, rest)) (sym (line_text l rest)) e
+    let e : (content_at profile depth_left (space_at (text_of l.before ++ x1)).1 >>= λ c. line_by (space_at (text_of l.before ++ x1)).0 c.0 (after_of c.0 c.1)) ≡ Ok (l, rest) = rw (gap, content, after, comment) refl in
+    subst (λ (x : List ℕ). (content_at profile depth_left (space_at x).1 >>= λ c. line_by (space_at x).0 c.0 (after_of c.0 c.1)) ≡ Ok (l, rest)) (sym (line_text l rest)) e

@@ -157,32 +157,32 @@ line_starts-snoc at (d ∷ es) e end h =
 -- ---- the loop
 
 -- the lines so far, and where they and the next one begin
-pub record LinesSoFar (profile : Profile) (room : ℕ) (text : List ℕ) (begin here : ℕ) (old now : Flat) (before after : List ℕ) : Type 0 where
+pub record LinesSoFar (profile : Profile) (depth_left : ℕ) (text : List ℕ) (begin here : ℕ) (old now : Flat) (before after : List ℕ) : Type 0 where
   pub prefix : List Ended
   pub bound : IsCharBoundary text here
-  pub read : lines_of profile room [] (drop begin text) ≡ lines_of profile room prefix (drop here text)
+  pub read : lines_of profile depth_left [] (drop begin text) ≡ lines_of profile depth_left prefix (drop here text)
   pub grows : Grows text old now begin here (all_taken (count_at begin old) prefix)
   pub starts : after ≡ before ++ line_starts begin prefix
 
-pub lines_none : (profile : Profile) (room : ℕ) (text : List ℕ) (begin : ℕ) (old : Flat) (before after : List ℕ) → IsCharBoundary text begin → after ≡ before ++ (begin ∷ [])
-    → LinesSoFar profile room text begin begin old old before after
-lines_none profile room text begin old before after bound first = record { prefix = []; bound = bound; read = refl; grows = grows_nothing text old begin; starts = first }
+pub lines_none : (profile : Profile) (depth_left : ℕ) (text : List ℕ) (begin : ℕ) (old : Flat) (before after : List ℕ) → IsCharBoundary text begin → after ≡ before ++ (begin ∷ [])
+    → LinesSoFar profile depth_left text begin begin old old before after
+lines_none profile depth_left text begin old before after bound first = record { prefix = []; bound = bound; read = refl; grows = grows_nothing text old begin; starts = first }
 
-pub lines_fail : (profile : Profile) (room : ℕ) (text : List ℕ) (begin here : ℕ) (old now : Flat) (before after : List ℕ) (e : ReadFault) → LinesSoFar profile room text begin here old now before after → Fails text e (line_at profile room (drop here text)) → Fails text e (lines_of profile room [] (drop begin text))
-lines_fail profile room text begin here old now before after e s k =
-    fails_through text e (line_at profile room (drop here text)) (lines_of profile room [] (drop begin text)) (λ d h. s.read ∙ lines_err profile room s.prefix (drop here text) d h) k
+pub lines_fail : (profile : Profile) (depth_left : ℕ) (text : List ℕ) (begin here : ℕ) (old now : Flat) (before after : List ℕ) (e : ReadFault) → LinesSoFar profile depth_left text begin here old now before after → Fails text e (line_at profile depth_left (drop here text)) → Fails text e (lines_of profile depth_left [] (drop begin text))
+lines_fail profile depth_left text begin here old now before after e s k =
+    fails_through text e (line_at profile depth_left (drop here text)) (lines_of profile depth_left [] (drop begin text)) (λ d h. s.read ∙ lines_err profile depth_left s.prefix (drop here text) d h) k
 
-pub lines_refuse : (profile : Profile) (room : ℕ) (text : List ℕ) (begin here close : ℕ) (st : Option Statement) (old now f1 f2 : Flat) (before after : List ℕ) (e : ReadFault) → LinesSoFar profile room text begin here old now before after → LineIs profile room text here now f1 close st → (close ≡ length text → ⊥)
-    → NewlineRead text close f1 f2 (Err e) → Fails text e (lines_of profile room [] (drop begin text))
-lines_refuse profile room text begin here close st old now f1 f2 before after e s i more k =
+pub lines_refuse : (profile : Profile) (depth_left : ℕ) (text : List ℕ) (begin here close : ℕ) (st : Option Statement) (old now f1 f2 : Flat) (before after : List ℕ) (e : ReadFault) → LinesSoFar profile depth_left text begin here old now before after → LineIs profile depth_left text here now f1 close st → (close ≡ length text → ⊥)
+    → NewlineRead text close f1 f2 (Err e) → Fails text e (lines_of profile depth_left [] (drop begin text))
+lines_refuse profile depth_left text begin here close st old now f1 f2 before after e s i more k =
     let rest = drop close text in
     let some : 0 < length rest = omega (arith, length-drop close text, i.read.bound.0, more) in
-    fails_through text e (newline_by rest (gap_at rest)) (lines_of profile room [] (drop begin text))
-    (λ d h. s.read ∙ lines_bad profile room s.prefix (drop here text) i.read.part rest i.read.is_read some (λ n g. newline_not rest d n h g) ∙ ap Err (sym (newline_bad rest d h))) k
+    fails_through text e (newline_by rest (gap_at rest)) (lines_of profile depth_left [] (drop begin text))
+    (λ d h. s.read ∙ lines_bad profile depth_left s.prefix (drop here text) i.read.part rest i.read.is_read some (λ n g. newline_not rest d n h g) ∙ ap Err (sym (newline_bad rest d h))) k
 
-pub lines_more : (profile : Profile) (room : ℕ) (text : List ℕ) (begin here close end : ℕ) (st : Option Statement) (old now f1 f2 new : Flat) (before after later : List ℕ) → LinesSoFar profile room text begin here old now before after → LineIs profile room text here now f1 close st
-    → NewlineRead text close f1 f2 (Ok end) → new ≡ with_statements (ended_list end st) f2 → later ≡ after ++ (end ∷ []) → LinesSoFar profile room text begin end old new before later
-lines_more profile room text begin here close end st old now f1 f2 new before after later s i nl is next =
+pub lines_more : (profile : Profile) (depth_left : ℕ) (text : List ℕ) (begin here close end : ℕ) (st : Option Statement) (old now f1 f2 new : Flat) (before after later : List ℕ) → LinesSoFar profile depth_left text begin here old now before after → LineIs profile depth_left text here now f1 close st
+    → NewlineRead text close f1 f2 (Ok end) → new ≡ with_statements (ended_list end st) f2 → later ≡ after ++ (end ∷ []) → LinesSoFar profile depth_left text begin end old new before later
+lines_more profile depth_left text begin here close end st old now f1 f2 new before after later s i nl is next =
     let c = count_at begin old in
     let n = count_at here now in
     let l = i.read.part in
@@ -198,17 +198,17 @@ lines_more profile room text begin here close end st old now f1 f2 new before af
     record {
       prefix = s.prefix ++ (e ∷ []);
       bound = nl.bound;
-      read = s.read ∙ lines_newline profile room s.prefix (drop here text) l (drop close text) found.0 i.read.is_read found.1
-          ∙ ap (λ (x : Written). let d : Ended = record { line = l; newline = x } in lines_of profile room (s.prefix ++ (d ∷ [])) (drop found.0 (drop close text))) (sym found.2)
-          ∙ ap (λ (t : List ℕ). lines_of profile room (s.prefix ++ (e ∷ [])) t) (sym found.3);
+      read = s.read ∙ lines_newline profile depth_left s.prefix (drop here text) l (drop close text) found.0 i.read.is_read found.1
+          ∙ ap (λ (x : Written). let d : Ended = record { line = l; newline = x } in lines_of profile depth_left (s.prefix ++ (d ∷ [])) (drop found.0 (drop close text))) (sym found.2)
+          ∙ ap (λ (t : List ℕ). lines_of profile depth_left (s.prefix ++ (e ∷ [])) t) (sym found.3);
       grows = all;
       starts = next ∙ ap (λ (ns : List ℕ). ns ++ (end ∷ [])) s.starts ∙ append_assoc before (line_starts begin s.prefix) (end ∷ [])
           ∙ ap (λ (ns : List ℕ). before ++ ns) (sym (line_starts-snoc begin s.prefix e end all.place));
     }
 
-lines_end : (profile : Profile) (room : ℕ) (text : List ℕ) (begin here close : ℕ) (st : Option Statement) (old now f1 new : Flat) (before after : List ℕ) → LinesSoFar profile room text begin here old now before after → LineIs profile room text here now f1 close st
-    → new ≡ with_statements (ended_list close st) f1 → close ≡ length text → LinesAre profile room text begin old new before after
-lines_end profile room text begin here close st old now f1 new before after s i is at_end =
+lines_end : (profile : Profile) (depth_left : ℕ) (text : List ℕ) (begin here close : ℕ) (st : Option Statement) (old now f1 new : Flat) (before after : List ℕ) → LinesSoFar profile depth_left text begin here old now before after → LineIs profile depth_left text here now f1 close st
+    → new ≡ with_statements (ended_list close st) f1 → close ≡ length text → LinesAre profile depth_left text begin old new before after
+lines_end profile depth_left text begin here close st old now f1 new before after s i is at_end =
     let c = count_at begin old in
     let n = count_at here now in
     let l = i.read.part in
@@ -225,13 +225,13 @@ lines_end profile room text begin here close st old now f1 new before after s i 
         part = (s.prefix, l);
         bound = subst (λ (m : ℕ). IsCharBoundary text m) at_end i.read.bound;
         forward = omega (arith, s.grows.place, i.read.forward, at_end);
-        is_read = s.read ∙ lines_last profile room s.prefix (drop here text) l (i.read.is_read ∙ ap (λ (t : List ℕ). done (l, t)) nothing_left) ∙ ap (λ (t : List ℕ). done ((s.prefix, l), t)) (sym nothing_after);
+        is_read = s.read ∙ lines_last profile depth_left s.prefix (drop here text) l (i.read.is_read ∙ ap (λ (t : List ℕ). done (l, t)) nothing_left) ∙ ap (λ (t : List ℕ). done ((s.prefix, l), t)) (sym nothing_after);
         grows = subst (λ (m : ℕ). Grows text old new begin m (lines_taken c (s.prefix, l))) at_end whole;
       };
       starts = s.starts;
     }
 
-pub lines_stated : {A : Type 0} (profile : Profile) (room : ℕ) (text : List ℕ) (begin here close : ℕ) (st : Option Statement) (old now f1 new : Flat) (before after : List ℕ) (r : Result A ReadFault) → LinesSoFar profile room text begin here old now before after → LineIs profile room text here now f1 close st
-    → OnOk r (new ≡ with_statements (ended_list close st) f1) → IsOkUnless r faults.Memory → close ≡ length text → LinesRead profile room text begin old new before after r
-lines_stated profile room text begin here close st old now f1 new before after (Ok x) s i is only at_end = lines_end profile room text begin here close st old now f1 new before after s i is at_end
-lines_stated profile room text begin here close st old now f1 new before after (Err e) s i is only at_end = fails_memory text e (lines_of profile room [] (drop begin text)) only
+pub lines_stated : {A : Type 0} (profile : Profile) (depth_left : ℕ) (text : List ℕ) (begin here close : ℕ) (st : Option Statement) (old now f1 new : Flat) (before after : List ℕ) (r : Result A ReadFault) → LinesSoFar profile depth_left text begin here old now before after → LineIs profile depth_left text here now f1 close st
+    → OnOk r (new ≡ with_statements (ended_list close st) f1) → IsOkUnless r faults.Memory → close ≡ length text → LinesRead profile depth_left text begin old new before after r
+lines_stated profile depth_left text begin here close st old now f1 new before after (Ok x) s i is only at_end = lines_end profile depth_left text begin here close st old now f1 new before after s i is at_end
+lines_stated profile depth_left text begin here close st old now f1 new before after (Err e) s i is only at_end = fails_memory text e (lines_of profile depth_left [] (drop begin text)) only

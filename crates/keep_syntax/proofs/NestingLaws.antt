@@ -30,20 +30,20 @@ use Rattle.keep_syntax.proofs.GapCodeLaws.{first-drop, fails_through}
 
 -- ---- an entry
 
-pub item_fails_name : (profile : Profile) (b : Brackets) (room : ℕ) (rest text : List ℕ) (e : ReadFault) → Fails text e (named_in profile b rest) → Fails text e (item_by profile b (value_of profile room) rest)
+pub item_fails_name : (profile : Profile) (b : Brackets) (depth_left : ℕ) (rest text : List ℕ) (e : ReadFault) → Fails text e (named_in profile b rest) → Fails text e (item_by profile b (value_of profile depth_left) rest)
 unfolding item_by
-item_fails_name profile b room rest text e k = fails_through text e (named_in profile b rest) (item_by profile b (value_of profile room) rest) (λ f h. rw h refl) k
+item_fails_name profile b depth_left rest text e k = fails_through text e (named_in profile b rest) (item_by profile b (value_of profile depth_left) rest) (λ f h. rw h refl) k
 
-pub item_fails_value : (profile : Profile) (b : Brackets) (room : ℕ) (text : List ℕ) (at begin : ℕ) (old f1 : Flat) (e : ReadFault) → NamedRead profile b text at old f1 (Ok begin) → Fails text e (value_of profile room (drop begin text))
-    → Fails text e (item_by profile b (value_of profile room) (drop at text))
+pub item_fails_value : (profile : Profile) (b : Brackets) (depth_left : ℕ) (text : List ℕ) (at begin : ℕ) (old f1 : Flat) (e : ReadFault) → NamedRead profile b text at old f1 (Ok begin) → Fails text e (value_of profile depth_left (drop begin text))
+    → Fails text e (item_by profile b (value_of profile depth_left) (drop at text))
 unfolding item_by
-item_fails_value profile b room text at begin old f1 e n k = fails_through text e (value_of profile room (drop begin text)) (item_by profile b (value_of profile room) (drop at text)) (λ f h. rw (n.is_read, h) refl) k
+item_fails_value profile b depth_left text at begin old f1 e n k = fails_through text e (value_of profile depth_left (drop begin text)) (item_by profile b (value_of profile depth_left) (drop at text)) (λ f h. rw (n.is_read, h) refl) k
 
 -- what is after the name and the value
-item_reads : (profile : Profile) (b : Brackets) (room : ℕ) (text : List ℕ) (p : Start) (begin keys end : ℕ) (old f1 f2 : Flat) → (n : NamedRead profile b text p.at old f1 (Ok begin)) → (v : ValueRead profile room text begin keys p f1 f2 (Ok end))
-    → item_by profile b (value_of profile room) (drop p.at text) ≡ after_by profile b n.part v.part (gap_in profile b (drop end text))
+item_reads : (profile : Profile) (b : Brackets) (depth_left : ℕ) (text : List ℕ) (p : Start) (begin keys end : ℕ) (old f1 f2 : Flat) → (n : NamedRead profile b text p.at old f1 (Ok begin)) → (v : ValueRead profile depth_left text begin keys p f1 f2 (Ok end))
+    → item_by profile b (value_of profile depth_left) (drop p.at text) ≡ after_by profile b n.part v.part (gap_in profile b (drop end text))
 unfolding item_by
-item_reads profile b room text p begin keys end old f1 f2 n v = rw (n.is_read, v.is_read) refl
+item_reads profile b depth_left text p begin keys end old f1 f2 n v = rw (n.is_read, v.is_read) refl
 
 -- what an entry adds, by its parts
 entry_taken : (p : Start) (begin keys : ℕ) (i : Item) (end : ℕ) (t : Taken) → begin ≡ p.at + width (named_leaves i.name) → keys ≡ name_count i.name → end ≡ begin + width (value_leaves i.value)
@@ -90,14 +90,14 @@ pub name_values : (profile : Profile) (b : Brackets) (text : List ℕ) (p : Star
 name_values profile b text p begin old f1 e n = omega (arith, grown_values (named_taken p.at n.part) n.grows)
 
 -- the value is there to be told its comma
-pub item_number : (profile : Profile) (room : ℕ) (text : List ℕ) (p : Start) (begin keys end : ℕ) (f1 f2 : Flat) → p.values ≡ length f1.values → ValueRead profile room text begin keys p f1 f2 (Ok end) → p.values < length f2.values
-item_number profile room text p begin keys end f1 f2 e v = omega (arith, grown_values (value_taken p begin keys v.part) v.grows)
+pub item_number : (profile : Profile) (depth_left : ℕ) (text : List ℕ) (p : Start) (begin keys end : ℕ) (f1 f2 : Flat) → p.values ≡ length f1.values → ValueRead profile depth_left text begin keys p f1 f2 (Ok end) → p.values < length f2.values
+item_number profile depth_left text p begin keys end f1 f2 e v = omega (arith, grown_values (value_taken p begin keys v.part) v.grows)
 
-pub item_is : (profile : Profile) (b : Brackets) (room : ℕ) (text : List ℕ) (p : Start) (begin keys end : ℕ) (old f1 f2 new : Flat) (r : Result (ℕ × Option ℕ) ReadFault) → p.values ≡ length old.values → p.parts ≡ length old.keys → keys ≡ length f1.keys - p.parts
-    → NamedRead profile b text p.at old f1 (Ok begin) → ValueRead profile room text begin keys p f1 f2 (Ok end) → AfterRead profile b text end p.values f2 new r → ItemRead b profile room text p old new r
-item_is profile b room text p begin keys end old f1 f2 new (Err e) n1 n2 k n v a =
-    fails_through text e (after_by profile b n.part v.part (gap_in profile b (drop end text))) (item_by profile b (value_of profile room) (drop p.at text)) (λ f h. item_reads profile b room text p begin keys end old f1 f2 n v ∙ h) (a n.part v.part)
-item_is profile b room text p begin keys end old f1 f2 new (Ok r) n1 n2 k n v a =
+pub item_is : (profile : Profile) (b : Brackets) (depth_left : ℕ) (text : List ℕ) (p : Start) (begin keys end : ℕ) (old f1 f2 new : Flat) (r : Result (ℕ × Option ℕ) ReadFault) → p.values ≡ length old.values → p.parts ≡ length old.keys → keys ≡ length f1.keys - p.parts
+    → NamedRead profile b text p.at old f1 (Ok begin) → ValueRead profile depth_left text begin keys p f1 f2 (Ok end) → AfterRead profile b text end p.values f2 new r → ItemRead b profile depth_left text p old new r
+item_is profile b depth_left text p begin keys end old f1 f2 new (Err e) n1 n2 k n v a =
+    fails_through text e (after_by profile b n.part v.part (gap_in profile b (drop end text))) (item_by profile b (value_of profile depth_left) (drop p.at text)) (λ f h. item_reads profile b depth_left text p begin keys end old f1 f2 n v ∙ h) (a n.part v.part)
+item_is profile b depth_left text p begin keys end old f1 f2 new (Ok r) n1 n2 k n v a =
     let i : Item = record { name = n.part; value = v.part; after = a.after; comma = a.comma_gap } in
     let own : keys ≡ name_count n.part = omega (arith, name_keys profile b text p begin old f1 n2 n) in
     let ends : end + width a.after ≡ comma_start p.at n.part v.part.body v.part.nested a.after = omega (arith, value_end-width (value_start p.at n.part) v.part, n.grows.place, v.grows.place) in
@@ -106,7 +106,7 @@ item_is profile b room text p begin keys end old f1 f2 new (Ok r) n1 n2 k n v a 
         part = i;
         bound = a.bound;
         forward = omega (arith, n.forward, v.forward, a.forward);
-        is_read = item_reads profile b room text p begin keys end old f1 f2 n v ∙ a.is_read n.part v.part;
+        is_read = item_reads profile b depth_left text p begin keys end old f1 f2 n v ∙ a.is_read n.part v.part;
         grows = entry_grows text p begin keys end r.0 n.part v.part a.after a.comma_gap old f1 f2 new own n1 n.grows v.grows a.stored;
       };
       comma_is = a.comma_is ∙ ap (λ (x : ℕ). comma_place x a.comma_gap) ends;
@@ -115,18 +115,18 @@ item_is profile b room text p begin keys end old f1 f2 new (Ok r) n1 n2 k n v a 
 
 -- ---- entries
 
-pub record SoFar (b : Brackets) (profile : Profile) (room : ℕ) (text : List ℕ) (p : Start) (old now : Flat) (here : Start) : Type 0 where
+pub record SoFar (b : Brackets) (profile : Profile) (depth_left : ℕ) (text : List ℕ) (p : Start) (old now : Flat) (here : Start) : Type 0 where
   pub prefix : Entries
   pub bound : IsCharBoundary text here.at
-  pub read : entries_by profile b (value_of profile room) none (drop p.at text) ≡ entries_by profile b (value_of profile room) prefix (drop here.at text)
+  pub read : entries_by profile b (value_of profile depth_left) none (drop p.at text) ≡ entries_by profile b (value_of profile depth_left) prefix (drop here.at text)
   pub grows : Grows text old now p.at here.at (entries_taken p prefix)
   pub then : here ≡ entries_end p prefix
   pub depth : here.depth ≡ p.depth
   pub values : here.values ≡ length now.values
   pub parts : here.parts ≡ length now.keys
 
-pub so_far_none : (b : Brackets) (profile : Profile) (room : ℕ) (text : List ℕ) (p : Start) (old : Flat) → IsCharBoundary text p.at → p.values ≡ length old.values → p.parts ≡ length old.keys → SoFar b profile room text p old old p
-so_far_none b profile room text p old bound n1 n2 = record { prefix = none; bound = bound; read = refl; grows = grows_nothing text old p.at; then = refl; depth = refl; values = n1; parts = n2 }
+pub so_far_none : (b : Brackets) (profile : Profile) (depth_left : ℕ) (text : List ℕ) (p : Start) (old : Flat) → IsCharBoundary text p.at → p.values ≡ length old.values → p.parts ≡ length old.keys → SoFar b profile depth_left text p old old p
+so_far_none b profile depth_left text p old bound n1 n2 = record { prefix = none; bound = bound; read = refl; grows = grows_nothing text old p.at; then = refl; depth = refl; values = n1; parts = n2 }
 
 -- entries after entries
 join_grows : (text : List ℕ) (p here : Start) (end : ℕ) (old now new : Flat) (prefix it : Entries) → here ≡ entries_end p prefix → Grows text old now p.at here.at (entries_taken p prefix) → Grows text now new here.at end (entries_taken here it) → Grows text old new p.at end (entries_taken p (join prefix it))
@@ -154,19 +154,19 @@ iteration_continues prefix i n comma None e h = absurd (h e)
 iteration_continues prefix i n comma (Some g) e h = refl
 
 -- an iteration at an entry
-iteration_reads : (b : Brackets) (profile : Profile) (room : ℕ) (text : List ℕ) (here : Start) (prefix : Entries) (now new : Flat) (end : ℕ) (comma : Option ℕ) → (i : ItemIs b profile room text here now new end comma) → (get_or text here.at 0 == close_byte b) ≡ false
-    → entry_by profile b (value_of profile room) prefix (drop here.at text) ≡ Ok (iteration_of prefix i.read.part i.read.part.comma, drop end text)
+iteration_reads : (b : Brackets) (profile : Profile) (depth_left : ℕ) (text : List ℕ) (here : Start) (prefix : Entries) (now new : Flat) (end : ℕ) (comma : Option ℕ) → (i : ItemIs b profile depth_left text here now new end comma) → (get_or text here.at 0 == close_byte b) ≡ false
+    → entry_by profile b (value_of profile depth_left) prefix (drop here.at text) ≡ Ok (iteration_of prefix i.read.part i.read.part.comma, drop end text)
 unfolding entry_by
-iteration_reads b profile room text here prefix now new end comma i open' = rw (first-drop text here.at, open', i.read.is_read) refl
+iteration_reads b profile depth_left text here prefix now new end comma i open' = rw (first-drop text here.at, open', i.read.is_read) refl
 
-pub so_far_more : (b : Brackets) (profile : Profile) (room : ℕ) (text : List ℕ) (p : Start) (old now new : Flat) (here : Start) (end nv np : ℕ) (comma : Option ℕ) → SoFar b profile room text p old now here → ItemIs b profile room text here now new end comma
-    → (get_or text here.at 0 == close_byte b) ≡ false → (comma ≡ None → ⊥) → nv ≡ length new.values → np ≡ length new.keys → SoFar b profile room text p old new (record { at = end; values = nv; parts = np; owner = here.owner; depth = here.depth; comma = comma })
-so_far_more b profile room text p old now new here end nv np comma s i open' some e1 e2 =
+pub so_far_more : (b : Brackets) (profile : Profile) (depth_left : ℕ) (text : List ℕ) (p : Start) (old now new : Flat) (here : Start) (end nv np : ℕ) (comma : Option ℕ) → SoFar b profile depth_left text p old now here → ItemIs b profile depth_left text here now new end comma
+    → (get_or text here.at 0 == close_byte b) ≡ false → (comma ≡ None → ⊥) → nv ≡ length new.values → np ≡ length new.keys → SoFar b profile depth_left text p old new (record { at = end; values = nv; parts = np; owner = here.owner; depth = here.depth; comma = comma })
+so_far_more b profile depth_left text p old now new here end nv np comma s i open' some e1 e2 =
     let it = i.read.part in
     let es = entry_of it none in
     let next : Start = record { at = end; values = nv; parts = np; owner = here.owner; depth = here.depth; comma = comma } in
-    let iteration : entry_by profile b (value_of profile room) s.prefix (drop here.at text) ≡ Ok (continues (join s.prefix es), drop end text) =
-    iteration_reads b profile room text here s.prefix now new end comma i open' ∙ ap (λ (t : Iteration Entries Entries). done (t, drop end text)) (iteration_continues s.prefix it _ comma it.comma i.comma_is some) in
+    let iteration : entry_by profile b (value_of profile depth_left) s.prefix (drop here.at text) ≡ Ok (continues (join s.prefix es), drop end text) =
+    iteration_reads b profile depth_left text here s.prefix now new end comma i open' ∙ ap (λ (t : Iteration Entries Entries). done (t, drop end text)) (iteration_continues s.prefix it _ comma it.comma i.comma_is some) in
     let here_next : next ≡ entries_end here es =
     same_start next (entries_end here es) (omega (arith, i.read.grows.place, entries_end-at here es))
     (omega (arith, s.values, grown_values (entries_taken here es) i.read.grows, length-values here es, entries_end-values here es))
@@ -174,7 +174,7 @@ so_far_more b profile room text p old now new here end nv np comma s i open' som
     record {
       prefix = join s.prefix es;
       bound = i.read.bound;
-      read = s.read ∙ loop_on (entry_by profile b (value_of profile room)) (entry_shortens profile b room (value_of profile room) (value_takes profile room)) s.prefix (drop here.at text) (join s.prefix es) (drop end text) iteration;
+      read = s.read ∙ loop_on (entry_by profile b (value_of profile depth_left)) (entry_shortens profile b depth_left (value_of profile depth_left) (value_takes profile depth_left)) s.prefix (drop here.at text) (join s.prefix es) (drop end text) iteration;
       grows = join_grows text p here end old now new s.prefix es s.then s.grows i.read.grows;
       then = here_next ∙ ap (λ (q : Start). entries_end q es) s.then ∙ sym (entries_end-join p s.prefix es);
       depth = s.depth;
@@ -182,44 +182,44 @@ so_far_more b profile room text p old now new here end nv np comma s i open' som
       parts = e2;
     }
 
-pub so_far_last : (b : Brackets) (profile : Profile) (room : ℕ) (text : List ℕ) (p : Start) (old now new : Flat) (here : Start) (end : ℕ) (comma : Option ℕ) → SoFar b profile room text p old now here → ItemIs b profile room text here now new end comma
-    → (get_or text here.at 0 == close_byte b) ≡ false → comma ≡ None → EntriesAre b profile room text p old new end
-so_far_last b profile room text p old now new here end comma s i open' none' =
+pub so_far_last : (b : Brackets) (profile : Profile) (depth_left : ℕ) (text : List ℕ) (p : Start) (old now new : Flat) (here : Start) (end : ℕ) (comma : Option ℕ) → SoFar b profile depth_left text p old now here → ItemIs b profile depth_left text here now new end comma
+    → (get_or text here.at 0 == close_byte b) ≡ false → comma ≡ None → EntriesAre b profile depth_left text p old new end
+so_far_last b profile depth_left text p old now new here end comma s i open' none' =
     let it = i.read.part in
     let es = entry_of it none in
-    let iteration : entry_by profile b (value_of profile room) s.prefix (drop here.at text) ≡ Ok (ready (join s.prefix es), drop end text) =
-    iteration_reads b profile room text here s.prefix now new end comma i open' ∙ ap (λ (t : Iteration Entries Entries). done (t, drop end text)) (iteration_ready s.prefix it _ comma it.comma i.comma_is none') in
+    let iteration : entry_by profile b (value_of profile depth_left) s.prefix (drop here.at text) ≡ Ok (ready (join s.prefix es), drop end text) =
+    iteration_reads b profile depth_left text here s.prefix now new end comma i open' ∙ ap (λ (t : Iteration Entries Entries). done (t, drop end text)) (iteration_ready s.prefix it _ comma it.comma i.comma_is none') in
     record {
       read = record {
         part = join s.prefix es;
         bound = i.read.bound;
         forward = omega (arith, s.grows.place, i.read.forward);
-        is_read = s.read ∙ loop_ready (entry_by profile b (value_of profile room)) s.prefix (drop here.at text) (join s.prefix es) (drop end text) iteration;
+        is_read = s.read ∙ loop_ready (entry_by profile b (value_of profile depth_left)) s.prefix (drop here.at text) (join s.prefix es) (drop end text) iteration;
         grows = join_grows text p here end old now new s.prefix es s.then s.grows i.read.grows;
       };
       closed = i.closed none';
     }
 
-iteration_closes : (b : Brackets) (profile : Profile) (room : ℕ) (text : List ℕ) (here : Start) (prefix : Entries) → (get_or text here.at 0 == close_byte b) ≡ true → entry_by profile b (value_of profile room) prefix (drop here.at text) ≡ Ok (ready prefix, drop here.at text)
+iteration_closes : (b : Brackets) (profile : Profile) (depth_left : ℕ) (text : List ℕ) (here : Start) (prefix : Entries) → (get_or text here.at 0 == close_byte b) ≡ true → entry_by profile b (value_of profile depth_left) prefix (drop here.at text) ≡ Ok (ready prefix, drop here.at text)
 unfolding entry_by
-iteration_closes b profile room text here prefix closed = rw (first-drop text here.at, closed) refl
+iteration_closes b profile depth_left text here prefix closed = rw (first-drop text here.at, closed) refl
 
-pub so_far_done : (b : Brackets) (profile : Profile) (room : ℕ) (text : List ℕ) (p : Start) (old now : Flat) (here : Start) → SoFar b profile room text p old now here → get_or text here.at 0 ≡ close_byte b → (get_or text here.at 0 == close_byte b) ≡ true → EntriesAre b profile room text p old now here.at
-so_far_done b profile room text p old now here s close closed =
+pub so_far_done : (b : Brackets) (profile : Profile) (depth_left : ℕ) (text : List ℕ) (p : Start) (old now : Flat) (here : Start) → SoFar b profile depth_left text p old now here → get_or text here.at 0 ≡ close_byte b → (get_or text here.at 0 == close_byte b) ≡ true → EntriesAre b profile depth_left text p old now here.at
+so_far_done b profile depth_left text p old now here s close closed =
     record {
       read = record {
         part = s.prefix;
         bound = s.bound;
         forward = omega (arith, s.grows.place);
-        is_read = s.read ∙ loop_ready (entry_by profile b (value_of profile room)) s.prefix (drop here.at text) s.prefix (drop here.at text) (iteration_closes b profile room text here s.prefix closed);
+        is_read = s.read ∙ loop_ready (entry_by profile b (value_of profile depth_left)) s.prefix (drop here.at text) s.prefix (drop here.at text) (iteration_closes b profile depth_left text here s.prefix closed);
         grows = s.grows;
       };
       closed = close;
     }
 
-pub so_far_fails : (b : Brackets) (profile : Profile) (room : ℕ) (text : List ℕ) (p : Start) (old now : Flat) (here : Start) (e : ReadFault) → SoFar b profile room text p old now here → (get_or text here.at 0 == close_byte b) ≡ false → Fails text e (item_by profile b (value_of profile room) (drop here.at text))
-    → Fails text e (entries_by profile b (value_of profile room) none (drop p.at text))
+pub so_far_fails : (b : Brackets) (profile : Profile) (depth_left : ℕ) (text : List ℕ) (p : Start) (old now : Flat) (here : Start) (e : ReadFault) → SoFar b profile depth_left text p old now here → (get_or text here.at 0 == close_byte b) ≡ false → Fails text e (item_by profile b (value_of profile depth_left) (drop here.at text))
+    → Fails text e (entries_by profile b (value_of profile depth_left) none (drop p.at text))
 unfolding entry_by
-so_far_fails b profile room text p old now here e s open' k =
-    fails_through text e (item_by profile b (value_of profile room) (drop here.at text)) (entries_by profile b (value_of profile room) none (drop p.at text))
-    (λ f h. s.read ∙ loop_err (entry_by profile b (value_of profile room)) s.prefix (drop here.at text) f (rw (first-drop text here.at, open', h) refl)) k
+so_far_fails b profile depth_left text p old now here e s open' k =
+    fails_through text e (item_by profile b (value_of profile depth_left) (drop here.at text)) (entries_by profile b (value_of profile depth_left) none (drop p.at text))
+    (λ f h. s.read ∙ loop_err (entry_by profile b (value_of profile depth_left)) s.prefix (drop here.at text) f (rw (first-drop text here.at, open', h) refl)) k

@@ -15,39 +15,39 @@ use Rattle.keep_syntax.proofs.DocumentLaws.{lines_shorten}
 -- ---- entries
 
 abbrev pub entries_of : Profile → Brackets → ℕ → Entries → List ℕ → Read Entries
-entries_of profile b room prefix text = entries_by profile b (value_of profile room) prefix text
+entries_of profile b depth_left prefix text = entries_by profile b (value_of profile depth_left) prefix text
 
 abbrev pub item_of : Profile → Brackets → ℕ → List ℕ → Read Item
-item_of profile b room text = item_by profile b (value_of profile room) text
+item_of profile b depth_left text = item_by profile b (value_of profile depth_left) text
 
 -- at the closing bracket
-pub entries_close : (profile : Profile) (b : Brackets) (room : ℕ) (prefix : Entries) (text : List ℕ) → (first text == close_byte b) ≡ true → entries_of profile b room prefix text ≡ Ok (prefix, text)
+pub entries_close : (profile : Profile) (b : Brackets) (depth_left : ℕ) (prefix : Entries) (text : List ℕ) → (first text == close_byte b) ≡ true → entries_of profile b depth_left prefix text ≡ Ok (prefix, text)
 unfolding entry_by
-entries_close profile b room prefix text e =
-    let iteration : entry_by profile b (value_of profile room) prefix text ≡ Ok (ready prefix, text) = rw e refl in
-    loop_ready (entry_by profile b (value_of profile room)) prefix text prefix text iteration
+entries_close profile b depth_left prefix text e =
+    let iteration : entry_by profile b (value_of profile depth_left) prefix text ≡ Ok (ready prefix, text) = rw e refl in
+    loop_ready (entry_by profile b (value_of profile depth_left)) prefix text prefix text iteration
 
 -- an entry with a comma
-pub entries_comma : (profile : Profile) (b : Brackets) (room : ℕ) (prefix : Entries) (text : List ℕ) (i : Item) (g : Gap) (rest : List ℕ) → (first text == close_byte b) ≡ false → item_of profile b room text ≡ Ok (i, rest) → i.comma ≡ Some g
-    → entries_of profile b room prefix text ≡ entries_of profile b room (join prefix (entry_of i none)) rest
+pub entries_comma : (profile : Profile) (b : Brackets) (depth_left : ℕ) (prefix : Entries) (text : List ℕ) (i : Item) (g : Gap) (rest : List ℕ) → (first text == close_byte b) ≡ false → item_of profile b depth_left text ≡ Ok (i, rest) → i.comma ≡ Some g
+    → entries_of profile b depth_left prefix text ≡ entries_of profile b depth_left (join prefix (entry_of i none)) rest
 unfolding entry_by
-entries_comma profile b room prefix text i g rest e k comma =
-    let iteration : entry_by profile b (value_of profile room) prefix text ≡ Ok (continues (join prefix (entry_of i none)), rest) = rw (e, k) (ap (λ (c : Option Gap). Ok (iteration_of prefix i c, rest)) comma) in
-    loop_on (entry_by profile b (value_of profile room)) (entry_shortens profile b room (value_of profile room) (value_takes profile room)) prefix text (join prefix (entry_of i none)) rest iteration
+entries_comma profile b depth_left prefix text i g rest e k comma =
+    let iteration : entry_by profile b (value_of profile depth_left) prefix text ≡ Ok (continues (join prefix (entry_of i none)), rest) = rw (e, k) (ap (λ (c : Option Gap). Ok (iteration_of prefix i c, rest)) comma) in
+    loop_on (entry_by profile b (value_of profile depth_left)) (entry_shortens profile b depth_left (value_of profile depth_left) (value_takes profile depth_left)) prefix text (join prefix (entry_of i none)) rest iteration
 
 -- the last entry
-pub entries_last : (profile : Profile) (b : Brackets) (room : ℕ) (prefix : Entries) (text : List ℕ) (i : Item) (rest : List ℕ) → (first text == close_byte b) ≡ false → item_of profile b room text ≡ Ok (i, rest) → i.comma ≡ None
-    → entries_of profile b room prefix text ≡ Ok (join prefix (entry_of i none), rest)
+pub entries_last : (profile : Profile) (b : Brackets) (depth_left : ℕ) (prefix : Entries) (text : List ℕ) (i : Item) (rest : List ℕ) → (first text == close_byte b) ≡ false → item_of profile b depth_left text ≡ Ok (i, rest) → i.comma ≡ None
+    → entries_of profile b depth_left prefix text ≡ Ok (join prefix (entry_of i none), rest)
 unfolding entry_by
-entries_last profile b room prefix text i rest e k comma =
-    let iteration : entry_by profile b (value_of profile room) prefix text ≡ Ok (ready (join prefix (entry_of i none)), rest) = rw (e, k) (ap (λ (c : Option Gap). Ok (iteration_of prefix i c, rest)) comma) in
-    loop_ready (entry_by profile b (value_of profile room)) prefix text (join prefix (entry_of i none)) rest iteration
+entries_last profile b depth_left prefix text i rest e k comma =
+    let iteration : entry_by profile b (value_of profile depth_left) prefix text ≡ Ok (ready (join prefix (entry_of i none)), rest) = rw (e, k) (ap (λ (c : Option Gap). Ok (iteration_of prefix i c, rest)) comma) in
+    loop_ready (entry_by profile b (value_of profile depth_left)) prefix text (join prefix (entry_of i none)) rest iteration
 
-pub entries_err : (profile : Profile) (b : Brackets) (room : ℕ) (prefix : Entries) (text : List ℕ) (d : Fault) → (first text == close_byte b) ≡ false → item_of profile b room text ≡ Err d → entries_of profile b room prefix text ≡ Err d
+pub entries_err : (profile : Profile) (b : Brackets) (depth_left : ℕ) (prefix : Entries) (text : List ℕ) (d : Fault) → (first text == close_byte b) ≡ false → item_of profile b depth_left text ≡ Err d → entries_of profile b depth_left prefix text ≡ Err d
 unfolding entry_by
-entries_err profile b room prefix text d e k =
-    let iteration : entry_by profile b (value_of profile room) prefix text ≡ Err d = rw (e, k) refl in
-    loop_err (entry_by profile b (value_of profile room)) prefix text d iteration
+entries_err profile b depth_left prefix text d e k =
+    let iteration : entry_by profile b (value_of profile depth_left) prefix text ≡ Err d = rw (e, k) refl in
+    loop_err (entry_by profile b (value_of profile depth_left)) prefix text d iteration
 
 -- ---- further parts of a key
 
@@ -77,36 +77,36 @@ more_err profile prefix text d e k =
 -- ---- lines
 
 -- a line with its newline
-pub lines_newline : (profile : Profile) (room : ℕ) (prefix : List Ended) (text : List ℕ) (l : Line) (rest : List ℕ) (n : ℕ) → line_at profile room text ≡ Ok (l, rest) → gap_at rest ≡ Some (leaf.Newline, n)
-    → lines_of profile room prefix text ≡ lines_of profile room (prefix ++ (record { line = l; newline = written leaf.Newline n rest } ∷ [])) (drop n rest)
+pub lines_newline : (profile : Profile) (depth_left : ℕ) (prefix : List Ended) (text : List ℕ) (l : Line) (rest : List ℕ) (n : ℕ) → line_at profile depth_left text ≡ Ok (l, rest) → gap_at rest ≡ Some (leaf.Newline, n)
+    → lines_of profile depth_left prefix text ≡ lines_of profile depth_left (prefix ++ (record { line = l; newline = written leaf.Newline n rest } ∷ [])) (drop n rest)
 unfolding ended_at gap_at
-lines_newline profile room prefix text l [] n e g = absurd cc
-lines_newline profile room prefix text l (c ∷ cs) n e g =
+lines_newline profile depth_left prefix text l [] n e g = absurd cc
+lines_newline profile depth_left prefix text l (c ∷ cs) n e g =
     let s = prefix ++ (record { line = l; newline = written leaf.Newline n (c ∷ cs) } ∷ []) in
-    let iteration : ended_at profile room prefix text ≡ Ok (continues s, drop n (c ∷ cs)) = rw (e, g) refl in
-    loop_on (ended_at profile room) (lines_shorten profile room) prefix text s (drop n (c ∷ cs)) iteration
+    let iteration : ended_at profile depth_left prefix text ≡ Ok (continues s, drop n (c ∷ cs)) = rw (e, g) refl in
+    loop_on (ended_at profile depth_left) (lines_shorten profile depth_left) prefix text s (drop n (c ∷ cs)) iteration
 
 -- the last line
-pub lines_last : (profile : Profile) (room : ℕ) (prefix : List Ended) (text : List ℕ) (l : Line) → line_at profile room text ≡ Ok (l, []) → lines_of profile room prefix text ≡ Ok ((prefix, l), [])
+pub lines_last : (profile : Profile) (depth_left : ℕ) (prefix : List Ended) (text : List ℕ) (l : Line) → line_at profile depth_left text ≡ Ok (l, []) → lines_of profile depth_left prefix text ≡ Ok ((prefix, l), [])
 unfolding ended_at
-lines_last profile room prefix text l e =
-    let iteration : ended_at profile room prefix text ≡ Ok (ready (prefix, l), []) = rw e refl in
-    loop_ready (ended_at profile room) prefix text (prefix, l) [] iteration
+lines_last profile depth_left prefix text l e =
+    let iteration : ended_at profile depth_left prefix text ≡ Ok (ready (prefix, l), []) = rw e refl in
+    loop_ready (ended_at profile depth_left) prefix text (prefix, l) [] iteration
 
-pub lines_err : (profile : Profile) (room : ℕ) (prefix : List Ended) (text : List ℕ) (d : Fault) → line_at profile room text ≡ Err d → lines_of profile room prefix text ≡ Err d
+pub lines_err : (profile : Profile) (depth_left : ℕ) (prefix : List Ended) (text : List ℕ) (d : Fault) → line_at profile depth_left text ≡ Err d → lines_of profile depth_left prefix text ≡ Err d
 unfolding ended_at
-lines_err profile room prefix text d e =
-    let iteration : ended_at profile room prefix text ≡ Err d = rw e refl in
-    loop_err (ended_at profile room) prefix text d iteration
+lines_err profile depth_left prefix text d e =
+    let iteration : ended_at profile depth_left prefix text ≡ Err d = rw e refl in
+    loop_err (ended_at profile depth_left) prefix text d iteration
 
 -- a line and then neither the end nor a newline
-pub lines_bad : (profile : Profile) (room : ℕ) (prefix : List Ended) (text : List ℕ) (l : Line) (rest : List ℕ) → line_at profile room text ≡ Ok (l, rest) → 0 < length rest → ((n : ℕ) → gap_at rest ≡ Some (leaf.Newline, n) → ⊥) → lines_of profile room prefix text ≡ Err Bad
+pub lines_bad : (profile : Profile) (depth_left : ℕ) (prefix : List Ended) (text : List ℕ) (l : Line) (rest : List ℕ) → line_at profile depth_left text ≡ Ok (l, rest) → 0 < length rest → ((n : ℕ) → gap_at rest ≡ Some (leaf.Newline, n) → ⊥) → lines_of profile depth_left prefix text ≡ Err Bad
 unfolding ended_at
-lines_bad profile room prefix text l [] e some no_newline = absurd (omega arith)
-lines_bad profile room prefix text l (c ∷ cs) e some no_newline =
+lines_bad profile depth_left prefix text l [] e some no_newline = absurd (omega arith)
+lines_bad profile depth_left prefix text l (c ∷ cs) e some no_newline =
     let after : newline_of prefix l (c ∷ cs) (gap_at (c ∷ cs)) ≡ Err Bad = by (gap_cases (c ∷ cs)) in
-    let iteration : ended_at profile room prefix text ≡ Err Bad = rw (e, after) refl in
-    loop_err (ended_at profile room) prefix text Bad iteration
+    let iteration : ended_at profile depth_left prefix text ≡ Err Bad = rw (e, after) refl in
+    loop_err (ended_at profile depth_left) prefix text Bad iteration
   where
     by : Gaps (c ∷ cs) (gap_at (c ∷ cs)) → newline_of prefix l (c ∷ cs) (gap_at (c ∷ cs)) ≡ Err Bad
     by (white r f) = rw r refl

@@ -27,7 +27,7 @@ use Rattle.keep_syntax.proofs.DeepLaws.{Opens, Plain, open_after-append, most_op
 
 -- Leaves continue from a prefix of a text with a bracket. So many are open before these leaves, so many more before the
 -- bracket, and never more between.
-pub record Reaches (outer room : ℕ) (text rest : List ℕ) (all : List Written) : Type 0 where
+pub record Reaches (outer depth_left : ℕ) (text rest : List ℕ) (all : List Written) : Type 0 where
   pub before : List Written
   pub bracket : Written
   pub after : List Written
@@ -36,8 +36,8 @@ pub record Reaches (outer room : ℕ) (text rest : List ℕ) (all : List Written
   pub here : all ≡ before ++ (bracket ∷ after)
   pub spelled : text ≡ text_of before ++ rest
   pub occurs : rest ≡ bracket.text ++ tail
-  pub deep : open_after outer before ≡ outer + room
-  pub most : most_open outer before ≤ outer + room
+  pub deep : open_after outer before ≡ outer + depth_left
+  pub most : most_open outer before ≤ outer + depth_left
 
 opening_opens_one : (l : Leaf) → IsTrue (is_opening l) → (n : ℕ) → open_by l n ≡ suc n
 opening_opens_one leaf.ArrayOpen h n = refl
@@ -67,35 +67,35 @@ side (x ∷ xs) b (y ∷ ys) w after e =
 no_items : (before : List Written) (w : Written) (after : List Written) → [] ≡ before ++ (w ∷ after) → ⊥
 no_items before w after e = omega (arith, ap length e, length-append before (w ∷ after))
 
-pub not_none : {outer room : ℕ} {text rest : List ℕ} → Reaches outer room text rest [] → ⊥
+pub not_none : {outer depth_left : ℕ} {text rest : List ℕ} → Reaches outer depth_left text rest [] → ⊥
 not_none r = no_items r.before r.bracket r.after r.here
 
 -- Leaves that open no more than may be opened don't have the bracket.
-pub not_in : {outer room : ℕ} {text rest : List ℕ} (m : ℕ) (a : List Written) → m ≤ room → ((n : ℕ) → most_open n a ≡ n + m) → Reaches outer room text rest a → ⊥
-not_in {outer} {room} m a le most r =
+pub not_in : {outer depth_left : ℕ} {text rest : List ℕ} (m : ℕ) (a : List Written) → m ≤ depth_left → ((n : ℕ) → most_open n a ≡ n + m) → Reaches outer depth_left text rest a → ⊥
+not_in {outer} {depth_left} m a le most r =
     let w = r.bracket in
     let all : most_open outer a ≡ most_open outer (r.before ++ (w ∷ r.after)) = ap (most_open outer) r.here in
     let parts = most_open-append outer r.before (w ∷ r.after) in
-    let from : most_open (open_after outer r.before) (w ∷ r.after) ≡ most_open (outer + room) (w ∷ r.after) = ap (λ (i : ℕ). most_open i (w ∷ r.after)) r.deep in
-    let least = most_open-least (open_by w.leaf (outer + room)) r.after in
-    omega (arith, all, parts, from, least, opening_opens_one w.leaf r.opens (outer + room), most outer, le)
+    let from : most_open (open_after outer r.before) (w ∷ r.after) ≡ most_open (outer + depth_left) (w ∷ r.after) = ap (λ (i : ℕ). most_open i (w ∷ r.after)) r.deep in
+    let least = most_open-least (open_by w.leaf (outer + depth_left)) r.after in
+    omega (arith, all, parts, from, least, opening_opens_one w.leaf r.opens (outer + depth_left), most outer, le)
 
-pub not_plain : {outer room : ℕ} {text rest : List ℕ} (a : List Written) → Plain a → Reaches outer room text rest a → ⊥
+pub not_plain : {outer depth_left : ℕ} {text rest : List ℕ} (a : List Written) → Plain a → Reaches outer depth_left text rest a → ⊥
 not_plain a plain r = not_in 0 a (omega arith) (λ n. (plain n).1) r
 
 -- The bracket is in these leaves or after them.
-pub data Where (m outer room : ℕ) (text rest : List ℕ) (a b : List Written) : Type 0 where
-  inside : Reaches outer room text rest a → Where m outer room text rest a b
-  beyond : (t : List ℕ) → text ≡ text_of a ++ t → m ≤ room → Reaches outer room t rest b → Where m outer room text rest a b
+pub data Where (m outer depth_left : ℕ) (text rest : List ℕ) (a b : List Written) : Type 0 where
+  inside : Reaches outer depth_left text rest a → Where m outer depth_left text rest a b
+  beyond : (t : List ℕ) → text ≡ text_of a ++ t → m ≤ depth_left → Reaches outer depth_left t rest b → Where m outer depth_left text rest a b
 
-pub look : {outer room : ℕ} {text rest : List ℕ} (m : ℕ) (a b : List Written) → Opens 0 m a → Reaches outer room text rest (a ++ b) → Where m outer room text rest a b
-look {outer} {room} {text} {rest} m a b opens r =
+pub look : {outer depth_left : ℕ} {text rest : List ℕ} (m : ℕ) (a b : List Written) → Opens 0 m a → Reaches outer depth_left text rest (a ++ b) → Where m outer depth_left text rest a b
+look {outer} {depth_left} {text} {rest} m a b opens r =
     elim (side a b r.before r.bracket r.after r.here) [
       | in_first more k ↦ inside (record { before = r.before; bracket = r.bracket; after = more; tail = r.tail; opens = r.opens; here = k; spelled = r.spelled; occurs = r.occurs; deep = r.deep; most = r.most })
       | in_second less k here ↦ past less k here
     ]
   where
-    past : (less : List Written) → r.before ≡ a ++ less → b ≡ less ++ (r.bracket ∷ r.after) → Where m outer room text rest a b
+    past : (less : List Written) → r.before ≡ a ++ less → b ≡ less ++ (r.bracket ∷ r.after) → Where m outer depth_left text rest a b
     past less k here =
         let (oa, om) = opens outer in
         let so : open_after outer a ≡ outer = oa ∙ omega arith in
@@ -118,13 +118,13 @@ look {outer} {room} {text} {rest} m a b opens r =
           most = omega (arith, r.most, all, parts, from);
         })
 
-pub record Past (outer room : ℕ) (text rest : List ℕ) (a b : List Written) : Type 0 where
+pub record Past (outer depth_left : ℕ) (text rest : List ℕ) (a b : List Written) : Type 0 where
   pub more : List ℕ
   pub spelled : text ≡ text_of a ++ more
-  pub reaches : Reaches outer room more rest b
+  pub reaches : Reaches outer depth_left more rest b
 
 -- after leaves that open none
-pub past : {outer room : ℕ} {text rest : List ℕ} (a b : List Written) → Plain a → Reaches outer room text rest (a ++ b) → Past outer room text rest a b
+pub past : {outer depth_left : ℕ} {text rest : List ℕ} (a b : List Written) → Plain a → Reaches outer depth_left text rest (a ++ b) → Past outer depth_left text rest a b
 past a b plain r =
     elim (look 0 a b plain r) [
       | inside k ↦ absurd (not_plain a plain k)
@@ -132,8 +132,8 @@ past a b plain r =
     ]
 
 -- before a leaf that opens none
-pub before_last : {outer room : ℕ} {text rest : List ℕ} (a : List Written) (x : Written) → is_opening x.leaf ≡ false → Reaches outer room text rest (a ++ (x ∷ [])) → Reaches outer room text rest a
-before_last {outer} {room} {text} {rest} a x plain r =
+pub before_last : {outer depth_left : ℕ} {text rest : List ℕ} (a : List Written) (x : Written) → is_opening x.leaf ≡ false → Reaches outer depth_left text rest (a ++ (x ∷ [])) → Reaches outer depth_left text rest a
+before_last {outer} {depth_left} {text} {rest} a x plain r =
     elim (side a (x ∷ []) r.before r.bracket r.after r.here) [
       | in_first more k ↦ record { before = r.before; bracket = r.bracket; after = more; tail = r.tail; opens = r.opens; here = k; spelled = r.spelled; occurs = r.occurs; deep = r.deep; most = r.most }
       | in_second less k here ↦ absurd (by less here)
@@ -148,21 +148,21 @@ before_last {outer} {room} {text} {rest} a x plain r =
     by (y ∷ ys) e = no_items ys r.bracket r.after (tail_is x y [] (ys ++ (r.bracket ∷ r.after)) e)
 
 -- A bracket at the start is the one, where no more may be opened, or opens one.
-pub data First (outer room : ℕ) (text rest : List ℕ) (x : Written) (b : List Written) : Type 0 where
-  at_start : text ≡ rest → room ≡ 0 → (tail : List ℕ) → text ≡ x.text ++ tail → First outer room text rest x b
-  within : (t : List ℕ) (less : ℕ) → room ≡ suc less → text ≡ x.text ++ t → Reaches (suc outer) less t rest b → First outer room text rest x b
+pub data First (outer depth_left : ℕ) (text rest : List ℕ) (x : Written) (b : List Written) : Type 0 where
+  at_start : text ≡ rest → depth_left ≡ 0 → (tail : List ℕ) → text ≡ x.text ++ tail → First outer depth_left text rest x b
+  within : (t : List ℕ) (less : ℕ) → depth_left ≡ suc less → text ≡ x.text ++ t → Reaches (suc outer) less t rest b → First outer depth_left text rest x b
 
-pub begin : {outer room : ℕ} {text rest : List ℕ} (x : Written) (b : List Written) → IsTrue (is_opening x.leaf) → Reaches outer room text rest (x ∷ b) → First outer room text rest x b
-begin {outer} {room} {text} {rest} x b one r = by r.before r.here r.spelled r.deep r.most
+pub begin : {outer depth_left : ℕ} {text rest : List ℕ} (x : Written) (b : List Written) → IsTrue (is_opening x.leaf) → Reaches outer depth_left text rest (x ∷ b) → First outer depth_left text rest x b
+begin {outer} {depth_left} {text} {rest} x b one r = by r.before r.here r.spelled r.deep r.most
   where
-    by : (before : List Written) → (x ∷ b) ≡ before ++ (r.bracket ∷ r.after) → text ≡ text_of before ++ rest → open_after outer before ≡ outer + room → most_open outer before ≤ outer + room → First outer room text rest x b
+    by : (before : List Written) → (x ∷ b) ≡ before ++ (r.bracket ∷ r.after) → text ≡ text_of before ++ rest → open_after outer before ≡ outer + depth_left → most_open outer before ≤ outer + depth_left → First outer depth_left text rest x b
     by [] here spelled deep most = at_start spelled (omega (arith, deep)) r.tail (spelled ∙ r.occurs ∙ ap (λ (w : Written). w.text ++ r.tail) (sym (head_is x r.bracket b r.after here)))
     by (y ∷ ys) here spelled deep most =
         let same : x ≡ y = head_is x y b (ys ++ (r.bracket ∷ r.after)) here in
         let so : open_by y.leaf outer ≡ suc outer = ap (λ (w : Written). open_by w.leaf outer) (sym same) ∙ opening_opens_one x.leaf one outer in
         let from : most_open (open_by y.leaf outer) ys ≡ most_open (suc outer) ys = ap (λ (i : ℕ). most_open i ys) so in
         let least = most_open-least (suc outer) ys in
-        within (text_of ys ++ rest) (room - 1) (omega (arith, most, from, least))
+        within (text_of ys ++ rest) (depth_left - 1) (omega (arith, most, from, least))
         (spelled ∙ append_assoc y.text (text_of ys) rest ∙ ap (λ (w : Written). w.text ++ (text_of ys ++ rest)) (sym same))
         (record {
           before = ys;
@@ -185,7 +185,7 @@ pub record Stops (value : List ℕ → Read Value) (text rest : List ℕ) : Type
 
 -- a value with the bracket is not read past it
 abbrev pub StopsValues : Profile → ℕ → (List ℕ → Read Value) → Type 0
-StopsValues profile room value = (v : Value) → IsValue profile v → (outer : ℕ) (text rest : List ℕ) → Reaches outer room text rest (value_leaves v) → Stops value text rest
+StopsValues profile depth_left value = (v : Value) → IsValue profile v → (outer : ℕ) (text rest : List ℕ) → Reaches outer depth_left text rest (value_leaves v) → Stops value text rest
 
 record StopsItem (profile : Profile) (b : Brackets) (value : List ℕ → Read Value) (text rest : List ℕ) : Type 0 where
   stops : item_by profile b value text ≡ Err (Deep rest)
@@ -201,10 +201,10 @@ named_first profile brackets.Array (Some n) t h begins = absurd h
 named_first profile brackets.Inline None t h begins = absurd h
 named_first profile brackets.Inline (Some n) t h begins = key_first_entry (first (text_of (named_leaves (Some n)) ++ t)) (name_begins profile n t h)
 
-item_stops : (profile : Profile) (b : Brackets) (room : ℕ) (value : List ℕ → Read Value) → StopsValues profile room value → (i : Item) → IsNamed profile (place_of b) i.name → IsValue profile i.value → Plain (i.after ++ comma_leaves i.comma)
-    → (outer : ℕ) (text rest : List ℕ) → Reaches outer room text rest (item_leaves i) → StopsItem profile b value text rest
+item_stops : (profile : Profile) (b : Brackets) (depth_left : ℕ) (value : List ℕ → Read Value) → StopsValues profile depth_left value → (i : Item) → IsNamed profile (place_of b) i.name → IsValue profile i.value → Plain (i.after ++ comma_leaves i.comma)
+    → (outer : ℕ) (text rest : List ℕ) → Reaches outer depth_left text rest (item_leaves i) → StopsItem profile b value text rest
 unfolding item_by
-item_stops profile b room value stops i named valid ends outer text rest r =
+item_stops profile b depth_left value stops i named valid ends outer text rest r =
     let p = past (named_leaves i.name) (value_leaves i.value ++ (i.after ++ comma_leaves i.comma)) (named_opens profile b i.name named) r in
     elim (look (value_depth i.value) (value_leaves i.value) (i.after ++ comma_leaves i.comma) (value_opens profile i.value valid) p.reaches) [
       | beyond t e le k ↦ absurd (not_plain (i.after ++ comma_leaves i.comma) ends k)
@@ -222,9 +222,9 @@ entry_stops profile b value text rest s = record {
 }
 
 -- after an entry that is read
-entry_passes : (profile : Profile) (b : Brackets) (room : ℕ) (value : List ℕ → Read Value) → ReadsValues profile room value → ReadsAgain profile room value → (i : Item) (more : Entries) (text t rest : List ℕ)
-    → AnItem profile b room i → IsComma profile (place_of b) i.comma more → (more ≡ none → ⊥) → text ≡ text_of (item_leaves i) ++ t → StopsEntries profile b value t rest → StopsEntries profile b value text rest
-entry_passes profile b room value sound again i more text t rest an comma some spelled s =
+entry_passes : (profile : Profile) (b : Brackets) (depth_left : ℕ) (value : List ℕ → Read Value) → ReadsValues profile depth_left value → ReadsAgain profile depth_left value → (i : Item) (more : Entries) (text t rest : List ℕ)
+    → AnItem profile b depth_left i → IsComma profile (place_of b) i.comma more → (more ≡ none → ⊥) → text ≡ text_of (item_leaves i) ++ t → StopsEntries profile b value t rest → StopsEntries profile b value text rest
+entry_passes profile b depth_left value sound again i more text t rest an comma some spelled s =
     subst (λ (x : List ℕ). StopsEntries profile b value x rest) (sym spelled) (record { stops = by i.comma refl more comma some; begins = item_begins profile b i t an.named an.valid })
   where
     never : (x : Bool) → (x && false) ≡ false
@@ -236,36 +236,36 @@ entry_passes profile b room value sound again i more text t rest an comma some s
     by None is (entry name body nested after comma rest) k some prefix = absurd k
     by (Some g) is (entry name body nested after comma rest) k some prefix =
         let follows : Follows profile b i.comma t = subst (λ (c : Option Gap). Follows profile b c t) (sym is) (k, s.begins.0, rw s.begins.1 (never (not (is_free profile b)))) in
-        let one = iteration_again profile b room value again prefix i t an follows ∙ ap (λ (c : Option Gap). Ok (iteration_of prefix i c, t)) is in
-        loop_on (entry_by profile b value) (entry_shortens profile b room value sound) prefix (text_of (item_leaves i) ++ t) (join prefix (entry_of i none)) t one ∙ s.stops (join prefix (entry_of i none))
+        let one = iteration_again profile b depth_left value again prefix i t an follows ∙ ap (λ (c : Option Gap). Ok (iteration_of prefix i c, t)) is in
+        loop_on (entry_by profile b value) (entry_shortens profile b depth_left value sound) prefix (text_of (item_leaves i) ++ t) (join prefix (entry_of i none)) t one ∙ s.stops (join prefix (entry_of i none))
 
-entries_stop : (profile : Profile) (b : Brackets) (room : ℕ) (value : List ℕ → Read Value) → ReadsValues profile room value → ReadsAgain profile room value → StopsValues profile room value → (es : Entries) → AreEntries profile (place_of b) es
-    → (outer : ℕ) (text rest : List ℕ) → Reaches outer room text rest (entries_leaves es) → StopsEntries profile b value text rest
-entries_stop profile b room value sound again stops none h outer text rest r = absurd (not_none r)
-entries_stop profile b room value sound again stops (entry name body nested after comma more) h outer text rest r =
+entries_stop : (profile : Profile) (b : Brackets) (depth_left : ℕ) (value : List ℕ → Read Value) → ReadsValues profile depth_left value → ReadsAgain profile depth_left value → StopsValues profile depth_left value → (es : Entries) → AreEntries profile (place_of b) es
+    → (outer : ℕ) (text rest : List ℕ) → Reaches outer depth_left text rest (entries_leaves es) → StopsEntries profile b value text rest
+entries_stop profile b depth_left value sound again stops none h outer text rest r = absurd (not_none r)
+entries_stop profile b depth_left value sound again stops (entry name body nested after comma more) h outer text rest r =
     let i : Item = record { name = name; value = record { body = body; nested = nested }; after = after; comma = comma } in
     let valid : IsValue profile i.value = record { body = h.1; nested = h.2 } in
     let blank = comma_blank profile b comma more h.4 in
-    let whole : Reaches outer room text rest (item_leaves i ++ entries_leaves more) = subst (λ (ws : List Written). Reaches outer room text rest ws) (entry_leaves i more) r in
+    let whole : Reaches outer depth_left text rest (item_leaves i ++ entries_leaves more) = subst (λ (ws : List Written). Reaches outer depth_left text rest ws) (entry_leaves i more) r in
     elim (look (value_depth i.value) (item_leaves i) (entries_leaves more) (item_closes profile b i h.0 (value_opens profile i.value valid) h.3 blank) whole) [
-      | inside k ↦ entry_stops profile b value text rest (item_stops profile b room value stops i h.0 valid (item_ends profile b i h.3 blank) outer text rest k)
+      | inside k ↦ entry_stops profile b value text rest (item_stops profile b depth_left value stops i h.0 valid (item_ends profile b i h.3 blank) outer text rest k)
       | beyond t e le k ↦
-          let s = entries_stop profile b room value sound again stops more h.5 outer t rest k in
-          let an : AnItem profile b room i = record { named = h.0; valid = valid; shallow = le; gap = h.3 } in
-          entry_passes profile b room value sound again i more text t rest an h.4 (λ same. not_none (subst (λ (es : Entries). Reaches outer room t rest (entries_leaves es)) same k)) e s
+          let s = entries_stop profile b depth_left value sound again stops more h.5 outer t rest k in
+          let an : AnItem profile b depth_left i = record { named = h.0; valid = valid; shallow = le; gap = h.3 } in
+          entry_passes profile b depth_left value sound again i more text t rest an h.4 (λ same. not_none (subst (λ (es : Entries). Reaches outer depth_left t rest (entries_leaves es)) same k)) e s
     ]
 
 -- ---- values
 
-bracket_stops : (profile : Profile) (room : ℕ) (value : List ℕ → Read Value) → ReadsValues profile room value → ReadsAgain profile room value → StopsValues profile room value → (b : Brackets) (g : Gap) (nested : Entries) → IsGap profile (place_of b) g
-    → AreEntries profile (place_of b) nested → (outer : ℕ) (t rest : List ℕ) → Reaches outer room t rest (g ++ (entries_leaves nested ++ closing (body_in b g))) → bracket_by profile value b (open_byte b ∷ t) ≡ Err (Deep rest)
-bracket_stops profile room value sound again stops b g nested gap h outer t rest r =
+bracket_stops : (profile : Profile) (depth_left : ℕ) (value : List ℕ → Read Value) → ReadsValues profile depth_left value → ReadsAgain profile depth_left value → StopsValues profile depth_left value → (b : Brackets) (g : Gap) (nested : Entries) → IsGap profile (place_of b) g
+    → AreEntries profile (place_of b) nested → (outer : ℕ) (t rest : List ℕ) → Reaches outer depth_left t rest (g ++ (entries_leaves nested ++ closing (body_in b g))) → bracket_by profile value b (open_byte b ∷ t) ≡ Err (Deep rest)
+bracket_stops profile depth_left value sound again stops b g nested gap h outer t rest r =
     let p = past g (entries_leaves nested ++ closing (body_in b g)) (blank_opens g (gap_blank profile b g gap)) r in
-    let s = entries_stop profile b room value sound again stops nested h outer p.more rest (closed b p.reaches) in
+    let s = entries_stop profile b depth_left value sound again stops nested h outer p.more rest (closed b p.reaches) in
     let one : gap_in profile b t ≡ (g, p.more) = ap (gap_in profile b) p.spelled ∙ gap_again profile b g p.more gap s.begins.0 in
     rw (one, s.stops none) refl
   where
-    closed : (b : Brackets) {x : List ℕ} → Reaches outer room x rest (entries_leaves nested ++ closing (body_in b g)) → Reaches outer room x rest (entries_leaves nested)
+    closed : (b : Brackets) {x : List ℕ} → Reaches outer depth_left x rest (entries_leaves nested ++ closing (body_in b g)) → Reaches outer depth_left x rest (entries_leaves nested)
     closed brackets.Array k = before_last (entries_leaves nested) (record { leaf = leaf.ArrayClose; text = 0x5D ∷ [] }) refl k
     closed brackets.Inline k = before_last (entries_leaves nested) (record { leaf = leaf.InlineClose; text = 0x7D ∷ [] }) refl k
 
@@ -289,21 +289,21 @@ bracket_none profile b outer text rest x ws one is r =
     begins brackets.Inline = refl
 
 -- the bracket is the first, or among the entries
-bracket_some : (profile : Profile) (room : ℕ) → StopsValues profile room (value_of profile room) → (b : Brackets) (g : Gap) (nested : Entries) → IsGap profile (place_of b) g → AreEntries profile (place_of b) nested → (outer : ℕ) (text rest : List ℕ) (x : Written)
-    → IsTrue (is_opening x.leaf) → x.text ≡ open_byte b ∷ [] → Reaches outer (suc room) text rest (x ∷ (g ++ (entries_leaves nested ++ closing (body_in b g)))) → Stops (value_of profile (suc room)) text rest
+bracket_some : (profile : Profile) (depth_left : ℕ) → StopsValues profile depth_left (value_of profile depth_left) → (b : Brackets) (g : Gap) (nested : Entries) → IsGap profile (place_of b) g → AreEntries profile (place_of b) nested → (outer : ℕ) (text rest : List ℕ) (x : Written)
+    → IsTrue (is_opening x.leaf) → x.text ≡ open_byte b ∷ [] → Reaches outer (suc depth_left) text rest (x ∷ (g ++ (entries_leaves nested ++ closing (body_in b g)))) → Stops (value_of profile (suc depth_left)) text rest
 unfolding value_of
-bracket_some profile room stops b g nested gap h outer text rest x one is r =
+bracket_some profile depth_left stops b g nested gap h outer text rest x one is r =
     elim (begin x (g ++ (entries_leaves nested ++ closing (body_in b g))) one r) [
-      | at_start same no_more tail spelled ↦ absurd (let bad : suc room ≡ 0 = no_more in cc)
+      | at_start same no_more tail spelled ↦ absurd (let bad : suc depth_left ≡ 0 = no_more in cc)
       | within t less e spelled k ↦
-          let same : less ≡ room = omega (arith, e) in
+          let same : less ≡ depth_left = omega (arith, e) in
           let opened : text ≡ open_byte b ∷ t = spelled ∙ ap (λ (o : List ℕ). o ++ t) is in
-          let ih = bracket_stops profile room (value_of profile room) (value_takes profile room) (value_again profile room) stops b g nested gap h (suc outer) t rest
+          let ih = bracket_stops profile depth_left (value_of profile depth_left) (value_takes profile depth_left) (value_again profile depth_left) stops b g nested gap h (suc outer) t rest
           (subst (λ (m : ℕ). Reaches (suc outer) m t rest (g ++ (entries_leaves nested ++ closing (body_in b g)))) same k) in
-          record { stops = ap (value_of profile (suc room)) opened ∙ reads b t ∙ ih; begins = rw opened (begins b) }
+          record { stops = ap (value_of profile (suc depth_left)) opened ∙ reads b t ∙ ih; begins = rw opened (begins b) }
     ]
   where
-    reads : (b : Brackets) (t : List ℕ) → value_of profile (suc room) (open_byte b ∷ t) ≡ bracket_by profile (value_of profile room) b (open_byte b ∷ t)
+    reads : (b : Brackets) (t : List ℕ) → value_of profile (suc depth_left) (open_byte b ∷ t) ≡ bracket_by profile (value_of profile depth_left) b (open_byte b ∷ t)
     reads brackets.Array t = refl
     reads brackets.Inline t = refl
 
@@ -312,7 +312,7 @@ bracket_some profile room stops b g nested gap h outer text rest x one is r =
     begins brackets.Inline = refl
 
 -- A value with a bracket that is too deep is read up to the bracket.
-pub value_stops : (profile : Profile) (room : ℕ) → StopsValues profile room (value_of profile room)
+pub value_stops : (profile : Profile) (depth_left : ℕ) → StopsValues profile depth_left (value_of profile depth_left)
 value_stops profile zero v h outer text rest r = by v.body v.nested h.body h.nested r
   where
     by : (body : Body) (nested : Entries) → IsBody profile body → AreEntries profile (place_in body) nested → Reaches outer 0 text rest (value_leaves (record { body = body; nested = nested })) → Stops (value_of profile 0) text rest
@@ -320,12 +320,12 @@ value_stops profile zero v h outer text rest r = by v.body v.nested h.body h.nes
     by (scalar w) (entry name body nested after comma more) b i k = absurd i.0
     by (array g) nested b i k = bracket_none profile brackets.Array outer text rest (record { leaf = leaf.ArrayOpen; text = 0x5B ∷ [] }) (g ++ (entries_leaves nested ++ closing (array g))) refl refl k
     by (inline g) nested b i k = bracket_none profile brackets.Inline outer text rest (record { leaf = leaf.InlineOpen; text = 0x7B ∷ [] }) (g ++ (entries_leaves nested ++ closing (inline g))) refl refl k
-value_stops profile (suc room) v h outer text rest r = by v.body v.nested h.body h.nested r (bracket_some profile room (value_stops profile room))
+value_stops profile (suc depth_left) v h outer text rest r = by v.body v.nested h.body h.nested r (bracket_some profile depth_left (value_stops profile depth_left))
   where
-    by : (body : Body) (nested : Entries) → IsBody profile body → AreEntries profile (place_in body) nested → Reaches outer (suc room) text rest (value_leaves (record { body = body; nested = nested }))
+    by : (body : Body) (nested : Entries) → IsBody profile body → AreEntries profile (place_in body) nested → Reaches outer (suc depth_left) text rest (value_leaves (record { body = body; nested = nested }))
         → ((b : Brackets) (g : Gap) (nested : Entries) → IsGap profile (place_of b) g → AreEntries profile (place_of b) nested → (outer : ℕ) (text rest : List ℕ) (x : Written)
-        → IsTrue (is_opening x.leaf) → x.text ≡ open_byte b ∷ [] → Reaches outer (suc room) text rest (x ∷ (g ++ (entries_leaves nested ++ closing (body_in b g)))) → Stops (value_of profile (suc room)) text rest)
-        → Stops (value_of profile (suc room)) text rest
+        → IsTrue (is_opening x.leaf) → x.text ≡ open_byte b ∷ [] → Reaches outer (suc depth_left) text rest (x ∷ (g ++ (entries_leaves nested ++ closing (body_in b g)))) → Stops (value_of profile (suc depth_left)) text rest)
+        → Stops (value_of profile (suc depth_left)) text rest
     by (scalar w) none b i k ih = absurd (not_plain (w ∷ []) (value_opens profile (record { body = scalar w; nested = none }) (record { body = b; nested = i })) k)
     by (scalar w) (entry name body nested after comma more) b i k ih = absurd i.0
     by (array g) nested b i k ih = ih brackets.Array g nested b i outer text rest (record { leaf = leaf.ArrayOpen; text = 0x5B ∷ [] }) refl refl k

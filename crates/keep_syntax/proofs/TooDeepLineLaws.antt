@@ -21,60 +21,60 @@ use Rattle.keep_syntax.proofs.TooDeepLaws.{Reaches, not_none, not_plain, inside,
 
 -- ---- a line
 
-record StopsContent (profile : Profile) (room : ℕ) (text rest : List ℕ) : Type 0 where
-  stops : content_at profile room text ≡ Err (Deep rest)
+record StopsContent (profile : Profile) (depth_left : ℕ) (text rest : List ℕ) : Type 0 where
+  stops : content_at profile depth_left text ≡ Err (Deep rest)
   begins : is_key_first (first text) ≡ true
 
-content_stops : (profile : Profile) (room : ℕ) (c : Content) → IsContent profile c → (outer : ℕ) (text rest : List ℕ) → Reaches outer room text rest (content_leaves c) → StopsContent profile room text rest
+content_stops : (profile : Profile) (depth_left : ℕ) (c : Content) → IsContent profile c → (outer : ℕ) (text rest : List ℕ) → Reaches outer depth_left text rest (content_leaves c) → StopsContent profile depth_left text rest
 unfolding content_at
-content_stops profile room blank h outer text rest r = absurd (not_none r)
-content_stops profile room (keyval n v) h outer text rest r =
+content_stops profile depth_left blank h outer text rest r = absurd (not_none r)
+content_stops profile depth_left (keyval n v) h outer text rest r =
     let p = past (name_leaves n) (value_leaves v) (name_opens profile n h.0) r in
     let t = p.more in
-    let s = value_stops profile room v h.1 outer t rest p.reaches in
+    let s = value_stops profile depth_left v h.1 outer t rest p.reaches in
     let begins = name_begins profile n t h.0 in
     let f = key_first_facts (first (text_of (name_leaves n) ++ t)) begins in
     let one : name_of profile (text_of (name_leaves n) ++ t) ≡ Ok (n, t) = name_again profile n t h.0 (solid_no_ws (first t) (value_first_solid (first t) s.begins)) in
-    subst (λ (x : List ℕ). StopsContent profile room x rest) (sym p.spelled) (record { stops = rw (f.0, f.1, one, s.stops) refl; begins = begins })
-content_stops profile room (header before k after) h outer text rest r = absurd (not_plain (content_leaves (header before k after)) (content_opens profile (header before k after) h) r)
-content_stops profile room (element before k after) h outer text rest r = absurd (not_plain (content_leaves (element before k after)) (content_opens profile (element before k after) h) r)
+    subst (λ (x : List ℕ). StopsContent profile depth_left x rest) (sym p.spelled) (record { stops = rw (f.0, f.1, one, s.stops) refl; begins = begins })
+content_stops profile depth_left (header before k after) h outer text rest r = absurd (not_plain (content_leaves (header before k after)) (content_opens profile (header before k after) h) r)
+content_stops profile depth_left (element before k after) h outer text rest r = absurd (not_plain (content_leaves (element before k after)) (content_opens profile (element before k after) h) r)
 
-line_stops : (profile : Profile) (room : ℕ) (l : Line) → IsLine profile l → (outer : ℕ) (text rest : List ℕ) → Reaches outer room text rest (line_leaves l) → line_at profile room text ≡ Err (Deep rest)
+line_stops : (profile : Profile) (depth_left : ℕ) (l : Line) → IsLine profile l → (outer : ℕ) (text rest : List ℕ) → Reaches outer depth_left text rest (line_leaves l) → line_at profile depth_left text ≡ Err (Deep rest)
 unfolding line_at
-line_stops profile room l h outer text rest r =
+line_stops profile depth_left l h outer text rest r =
     let ends = l.after ++ comment_leaves l.comment in
     let p = past l.before (content_leaves l.content ++ ends) (space_opens l.before h.before) r in
     elim (look (content_depth l.content) (content_leaves l.content) ends (content_opens profile l.content h.content) p.reaches) [
       | beyond t e le k ↦ absurd (not_plain ends (line_ends_open profile l h) k)
       | inside k ↦
-          let s = content_stops profile room l.content h.content outer p.more rest k in
+          let s = content_stops profile depth_left l.content h.content outer p.more rest k in
           let one : space_at text ≡ (l.before, p.more) = ap space_at p.spelled ∙ space_again l.before p.more h.before (solid_no_ws (first p.more) (key_first_solid (first p.more) s.begins)) in
           rw (one, s.stops) refl
     ]
 
 -- ---- lines
 
-iteration_stops : (profile : Profile) (room : ℕ) (prefix : List Ended) (text rest : List ℕ) → line_at profile room text ≡ Err (Deep rest) → lines_of profile room prefix text ≡ Err (Deep rest)
+iteration_stops : (profile : Profile) (depth_left : ℕ) (prefix : List Ended) (text rest : List ℕ) → line_at profile depth_left text ≡ Err (Deep rest) → lines_of profile depth_left prefix text ≡ Err (Deep rest)
 unfolding ended_at
-iteration_stops profile room prefix text rest e = let one : ended_at profile room prefix text ≡ Err (Deep rest) = rw e refl in loop_err (ended_at profile room) prefix text (Deep rest) one
+iteration_stops profile depth_left prefix text rest e = let one : ended_at profile depth_left prefix text ≡ Err (Deep rest) = rw e refl in loop_err (ended_at profile depth_left) prefix text (Deep rest) one
 
 -- a line that is read
-line_passes : (profile : Profile) (room : ℕ) (prefix : List Ended) (e : Ended) (t : List ℕ) → IsEnded profile e → content_depth e.line.content ≤ room → lines_of profile room prefix (text_of (ended_leaves e) ++ t) ≡ lines_of profile room (prefix ++ (e ∷ [])) t
+line_passes : (profile : Profile) (depth_left : ℕ) (prefix : List Ended) (e : Ended) (t : List ℕ) → IsEnded profile e → content_depth e.line.content ≤ depth_left → lines_of profile depth_left prefix (text_of (ended_leaves e) ++ t) ≡ lines_of profile depth_left (prefix ++ (e ∷ [])) t
 unfolding ended_at
-line_passes profile room prefix e t h le =
-    let read : line_at profile room (text_of (line_leaves e.line) ++ (e.newline.text ++ t)) ≡ Ok (e.line, e.newline.text ++ t) = line_again profile room e.line (e.newline.text ++ t) h.line le (at_newline e.newline.text t h.newline refl) in
-    let iteration : ended_at profile room prefix (text_of (ended_leaves e) ++ t) ≡ Ok (continues (prefix ++ (e ∷ [])), t) =
-    ap (λ (x : List ℕ). line_at profile room x >>= λ l. after_line prefix l.0 l.1) (ended_text e t) ∙ rw read (after_again prefix e.line e.newline t h.kind h.newline) in
-    loop_on (ended_at profile room) (lines_shorten profile room) prefix (text_of (ended_leaves e) ++ t) (prefix ++ (e ∷ [])) t iteration
+line_passes profile depth_left prefix e t h le =
+    let read : line_at profile depth_left (text_of (line_leaves e.line) ++ (e.newline.text ++ t)) ≡ Ok (e.line, e.newline.text ++ t) = line_again profile depth_left e.line (e.newline.text ++ t) h.line le (at_newline e.newline.text t h.newline refl) in
+    let iteration : ended_at profile depth_left prefix (text_of (ended_leaves e) ++ t) ≡ Ok (continues (prefix ++ (e ∷ [])), t) =
+    ap (λ (x : List ℕ). line_at profile depth_left x >>= λ l. after_line prefix l.0 l.1) (ended_text e t) ∙ rw read (after_again prefix e.line e.newline t h.kind h.newline) in
+    loop_on (ended_at profile depth_left) (lines_shorten profile depth_left) prefix (text_of (ended_leaves e) ++ t) (prefix ++ (e ∷ [])) t iteration
 
-lines_stop : (profile : Profile) (room : ℕ) (ended : List Ended) (last : Line) → AllByRecursion (IsEnded profile) ended → IsLine profile last → (prefix : List Ended) (outer : ℕ) (text rest : List ℕ) → Reaches outer room text rest (lines_leaves ended last)
-    → lines_of profile room prefix text ≡ Err (Deep rest)
-lines_stop profile room [] last h k prefix outer text rest r = iteration_stops profile room prefix text rest (line_stops profile room last k outer text rest r)
-lines_stop profile room (e ∷ es) last h k prefix outer text rest r =
-    let whole : Reaches outer room text rest (ended_leaves e ++ lines_leaves es last) = subst (λ (ws : List Written). Reaches outer room text rest ws) (append_assoc (ended_leaves e) (flat_map ended_leaves es) (line_leaves last)) r in
+lines_stop : (profile : Profile) (depth_left : ℕ) (ended : List Ended) (last : Line) → AllByRecursion (IsEnded profile) ended → IsLine profile last → (prefix : List Ended) (outer : ℕ) (text rest : List ℕ) → Reaches outer depth_left text rest (lines_leaves ended last)
+    → lines_of profile depth_left prefix text ≡ Err (Deep rest)
+lines_stop profile depth_left [] last h k prefix outer text rest r = iteration_stops profile depth_left prefix text rest (line_stops profile depth_left last k outer text rest r)
+lines_stop profile depth_left (e ∷ es) last h k prefix outer text rest r =
+    let whole : Reaches outer depth_left text rest (ended_leaves e ++ lines_leaves es last) = subst (λ (ws : List Written). Reaches outer depth_left text rest ws) (append_assoc (ended_leaves e) (flat_map ended_leaves es) (line_leaves last)) r in
     elim (look (content_depth e.line.content) (ended_leaves e) (lines_leaves es last) (ended_opens profile e h.0) whole) [
-      | inside i ↦ iteration_stops profile room prefix text rest (line_stops profile room e.line h.0.line outer text rest (before_last (line_leaves e.line) e.newline (ap is_opening h.0.kind) i))
-      | beyond t spelled le i ↦ ap (lines_of profile room prefix) spelled ∙ line_passes profile room prefix e t h.0 le ∙ lines_stop profile room es last h.1 k (prefix ++ (e ∷ [])) outer t rest i
+      | inside i ↦ iteration_stops profile depth_left prefix text rest (line_stops profile depth_left e.line h.0.line outer text rest (before_last (line_leaves e.line) e.newline (ap is_opening h.0.kind) i))
+      | beyond t spelled le i ↦ ap (lines_of profile depth_left prefix) spelled ∙ line_passes profile depth_left prefix e t h.0 le ∙ lines_stop profile depth_left es last h.1 k (prefix ++ (e ∷ [])) outer t rest i
     ]
 
 -- ---- documents

@@ -57,19 +57,19 @@ scalar_is profile text at keys p old mid new l end bound bound' lt e e1 e2 =
 
 -- ---- which value
 
-value_of-bracket : (profile : Profile) (room : ℕ) (text : List ℕ) → value_of profile room text ≡ value_by profile (bracket_of profile room) text
+value_of-bracket : (profile : Profile) (depth_left : ℕ) (text : List ℕ) → value_of profile depth_left text ≡ value_by profile (bracket_of profile depth_left) text
 unfolding value_of
 value_of-bracket profile zero text = refl
-value_of-bracket profile (suc room) text = refl
+value_of-bracket profile (suc depth_left) text = refl
 
-pub value_array : (profile : Profile) (room : ℕ) (text : List ℕ) (at : ℕ) → get_or text at 0 ≡ 0x5B → bracket_of profile room brackets.Array (drop at text) ≡ value_of profile room (drop at text)
-value_array profile room text at e = sym (value_of-bracket profile room (drop at text) ∙ rw (first-drop text at, e) refl)
+pub value_array : (profile : Profile) (depth_left : ℕ) (text : List ℕ) (at : ℕ) → get_or text at 0 ≡ 0x5B → bracket_of profile depth_left brackets.Array (drop at text) ≡ value_of profile depth_left (drop at text)
+value_array profile depth_left text at e = sym (value_of-bracket profile depth_left (drop at text) ∙ rw (first-drop text at, e) refl)
 
-pub value_inline : (profile : Profile) (room : ℕ) (text : List ℕ) (at : ℕ) → get_or text at 0 ≡ 0x7B → bracket_of profile room brackets.Inline (drop at text) ≡ value_of profile room (drop at text)
-value_inline profile room text at e = sym (value_of-bracket profile room (drop at text) ∙ rw (first-drop text at, e) refl)
+pub value_inline : (profile : Profile) (depth_left : ℕ) (text : List ℕ) (at : ℕ) → get_or text at 0 ≡ 0x7B → bracket_of profile depth_left brackets.Inline (drop at text) ≡ value_of profile depth_left (drop at text)
+value_inline profile depth_left text at e = sym (value_of-bracket profile depth_left (drop at text) ∙ rw (first-drop text at, e) refl)
 
-pub value_scalar : (profile : Profile) (room : ℕ) (text : List ℕ) (at : ℕ) → (get_or text at 0 == 0x5B) ≡ false → (get_or text at 0 == 0x7B) ≡ false → scalar_of (drop at text) (scalar_at profile (drop at text)) ≡ value_of profile room (drop at text)
-value_scalar profile room text at e1 e2 = sym (value_of-bracket profile room (drop at text) ∙ rw (first-drop text at, e1, e2) refl)
+pub value_scalar : (profile : Profile) (depth_left : ℕ) (text : List ℕ) (at : ℕ) → (get_or text at 0 == 0x5B) ≡ false → (get_or text at 0 == 0x7B) ≡ false → scalar_of (drop at text) (scalar_at profile (drop at text)) ≡ value_of profile depth_left (drop at text)
+value_scalar profile depth_left text at e1 e2 = sym (value_of-bracket profile depth_left (drop at text) ∙ rw (first-drop text at, e1, e2) refl)
 
 -- ---- a name, where there is one
 
@@ -153,14 +153,14 @@ bracket_end brackets.Inline at g es = omega arith
 opens_at : (profile : Profile) (b : Brackets) (text : List ℕ) (at open' first' : ℕ) (f2 f3 : Flat) → open' ≡ at + 1 → (g : GapRead profile b text open' f2 f3 (Ok first')) → gap_in profile b (drop 1 (drop at text)) ≡ (g.part, drop first' text)
 opens_at profile b text at open' first' f2 f3 e g = ap (gap_in profile b) (after_sign text at open' e) ∙ gap_is profile b text open' first' f2 f3 g
 
-pub bracket_fails : (profile : Profile) (b : Brackets) (text : List ℕ) (at room open' first' : ℕ) (f2 f3 : Flat) (e : ReadFault) → open' ≡ at + 1 → GapRead profile b text open' f2 f3 (Ok first') → Fails text e (entries_by profile b (value_of profile room) none (drop first' text))
-    → Fails text e (bracket_of profile (suc room) b (drop at text))
-bracket_fails profile b text at room open' first' f2 f3 e o g k =
-    fails_through text e (entries_by profile b (value_of profile room) none (drop first' text)) (bracket_of profile (suc room) b (drop at text)) (λ f h. rw (opens_at profile b text at open' first' f2 f3 o g, h) refl) k
+pub bracket_fails : (profile : Profile) (b : Brackets) (text : List ℕ) (at depth_left open' first' : ℕ) (f2 f3 : Flat) (e : ReadFault) → open' ≡ at + 1 → GapRead profile b text open' f2 f3 (Ok first') → Fails text e (entries_by profile b (value_of profile depth_left) none (drop first' text))
+    → Fails text e (bracket_of profile (suc depth_left) b (drop at text))
+bracket_fails profile b text at depth_left open' first' f2 f3 e o g k =
+    fails_through text e (entries_by profile b (value_of profile depth_left) none (drop first' text)) (bracket_of profile (suc depth_left) b (drop at text)) (λ f h. rw (opens_at profile b text at open' first' f2 f3 o g, h) refl) k
 
-pub bracket_number : (text : List ℕ) (b : Brackets) (profile : Profile) (room at keys open' first' close end : ℕ) (p q : Start) (old f1 f2 f3 f4 f5 : Flat) → PunctuationIs text at 1 (open_leaf b) old f1 open' → f2 ≡ with_value (begun (open_leaf b) at at keys p) f1
-    → GapRead profile b text open' f2 f3 (Ok first') → EntriesAre b profile room text q f3 f4 close → PunctuationIs text close 1 (close_leaf b) f4 f5 end → length old.values < length f5.values
-bracket_number text b profile room at keys open' first' close end p q old f1 f2 f3 f4 f5 sg e g en sg2 =
+pub bracket_number : (text : List ℕ) (b : Brackets) (profile : Profile) (depth_left at keys open' first' close end : ℕ) (p q : Start) (old f1 f2 f3 f4 f5 : Flat) → PunctuationIs text at 1 (open_leaf b) old f1 open' → f2 ≡ with_value (begun (open_leaf b) at at keys p) f1
+    → GapRead profile b text open' f2 f3 (Ok first') → EntriesAre b profile depth_left text q f3 f4 close → PunctuationIs text close 1 (close_leaf b) f4 f5 end → length old.values < length f5.values
+bracket_number text b profile depth_left at keys open' first' close end p q old f1 f2 f3 f4 f5 sg e g en sg2 =
     let v = begun (open_leaf b) at at keys p in
     omega (
       arith,
@@ -171,12 +171,12 @@ bracket_number text b profile room at keys open' first' close end p q old f1 f2 
       grown_values (only (token (close_leaf b) (0 ∷ []))) (sign_grows text (0 ∷ []) close 1 (close_leaf b) f4 f5 end refl sg2),
     )
 
-pub bracket_is : (text : List ℕ) (b : Brackets) (profile : Profile) (room at keys open' first' close end number nv np depth : ℕ) (o : Owner) (p : Start) (old f1 f2 f3 f4 f5 new : Flat)
+pub bracket_is : (text : List ℕ) (b : Brackets) (profile : Profile) (depth_left at keys open' first' close end number nv np depth : ℕ) (o : Owner) (p : Start) (old f1 f2 f3 f4 f5 new : Flat)
     → PunctuationIs text at 1 (open_leaf b) old f1 open' → f2 ≡ with_value (begun (open_leaf b) at at keys p) f1 → GapRead profile b text open' f2 f3 (Ok first')
     → nv ≡ length f3.values → np ≡ length f3.keys → o ≡ owner_in b number → depth ≡ suc p.depth → number ≡ length old.values → p.values ≡ length old.values → p.parts + keys ≡ length old.keys
-    → EntriesAre b profile room text (record { at = first'; values = nv; parts = np; owner = o; depth = depth; comma = None }) f3 f4 close → PunctuationIs text close 1 (close_leaf b) f4 f5 end → ChangesValue (with_end end) number f5 new
-    → BracketRead b profile (suc room) text at keys p old new (Ok end)
-bracket_is text b profile room at keys open' first' close end number nv np depth o p old f1 f2 f3 f4 f5 new sg e g i1 i2 i3 i4 n1 n2 n3 en sg2 change =
+    → EntriesAre b profile depth_left text (record { at = first'; values = nv; parts = np; owner = o; depth = depth; comma = None }) f3 f4 close → PunctuationIs text close 1 (close_leaf b) f4 f5 end → ChangesValue (with_end end) number f5 new
+    → BracketRead b profile (suc depth_left) text at keys p old new (Ok end)
+bracket_is text b profile depth_left at keys open' first' close end number nv np depth o p old f1 f2 f3 f4 f5 new sg e g i1 i2 i3 i4 n1 n2 n3 en sg2 change =
     let gap = g.part in
     let es = en.read.part in
     let q : Start = record { at = first'; values = nv; parts = np; owner = o; depth = depth; comma = None } in

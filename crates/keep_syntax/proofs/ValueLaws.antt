@@ -126,9 +126,9 @@ scalar_first_at profile text l n e some =
 
 -- ---- scalars
 
-pub record TookValue (profile : Profile) (room : ℕ) (text : List ℕ) (v : Value) (rest : List ℕ) : Type 0 where
+pub record TookValue (profile : Profile) (depth_left : ℕ) (text : List ℕ) (v : Value) (rest : List ℕ) : Type 0 where
   pub valid : IsValue profile v
-  pub shallow : value_depth v ≤ room
+  pub shallow : value_depth v ≤ depth_left
   pub spelled : text ≡ value_text v ++ rest
   pub shorter : length rest < length text
   pub begins : is_value_first (first text) ≡ true
@@ -136,15 +136,15 @@ pub record TookValue (profile : Profile) (room : ℕ) (text : List ℕ) (v : Val
 scalar_begins_value : (c : ℕ) → is_scalar_first c ≡ true → is_value_first c ≡ true
 scalar_begins_value c h = rw h refl
 
-pub scalar_takes : (profile : Profile) (room : ℕ) (text : List ℕ) (v : Value) (rest : List ℕ) → scalar_of text (scalar_at profile text) ≡ Ok (v, rest) → TookValue profile room text v rest
-scalar_takes profile room text v rest h = by (scalar_at profile text) refl h
+pub scalar_takes : (profile : Profile) (depth_left : ℕ) (text : List ℕ) (v : Value) (rest : List ℕ) → scalar_of text (scalar_at profile text) ≡ Ok (v, rest) → TookValue profile depth_left text v rest
+scalar_takes profile depth_left text v rest h = by (scalar_at profile text) refl h
   where
-    by : (o : Option (Leaf × ℕ)) → scalar_at profile text ≡ o → scalar_of text o ≡ Ok (v, rest) → TookValue profile room text v rest
+    by : (o : Option (Leaf × ℕ)) → scalar_at profile text ≡ o → scalar_of text o ≡ Ok (v, rest) → TookValue profile depth_left text v rest
     by None is e = absurd cc
     by (Some (l, n)) is e =
         let (kind, some, within, belongs) = scalar_found profile text l n is in
         let made : Value × List ℕ = (record { body = scalar (written l n text); nested = none }, drop n text) in
-        subst (λ (x : Value × List ℕ). TookValue profile room text x.0 x.1) (ok_is made (v, rest) e) (record {
+        subst (λ (x : Value × List ℕ). TookValue profile depth_left text x.0 x.1) (ok_is made (v, rest) e) (record {
           valid = record { body = (kind, belongs); nested = tt };
           shallow = omega arith;
           spelled = sym (rw (append-nil (take n text)) (take-append-drop n text));
@@ -159,10 +159,10 @@ abbrev pub After : Profile → Brackets → Option Gap → List ℕ → Type 0
 After profile b None rest = (first rest == close_byte b) ≡ true
 After profile b (Some g) rest = (is_solid (first rest) ≡ true → IsGap profile (place_of b) g) × ((not (is_free profile b) && first rest == close_byte b) ≡ false)
 
-pub record TookItem (profile : Profile) (b : Brackets) (room : ℕ) (text : List ℕ) (i : Item) (rest : List ℕ) : Type 0 where
+pub record TookItem (profile : Profile) (b : Brackets) (depth_left : ℕ) (text : List ℕ) (i : Item) (rest : List ℕ) : Type 0 where
   pub named : IsNamed profile (place_of b) i.name
   pub valid : IsValue profile i.value
-  pub shallow : value_depth i.value ≤ room
+  pub shallow : value_depth i.value ≤ depth_left
   pub gap : IsGap profile (place_of b) i.after
   pub after : After profile b i.comma rest
   pub spelled : text ≡ text_of (item_leaves i) ++ rest
@@ -170,7 +170,7 @@ pub record TookItem (profile : Profile) (b : Brackets) (room : ℕ) (text : List
   pub begins : is_solid (first text) ≡ true
 
 abbrev pub ReadsValues : Profile → ℕ → (List ℕ → Read Value) → Type 0
-ReadsValues profile room value = (text : List ℕ) (v : Value) (rest : List ℕ) → value text ≡ Ok (v, rest) → TookValue profile room text v rest
+ReadsValues profile depth_left value = (text : List ℕ) (v : Value) (rest : List ℕ) → value text ≡ Ok (v, rest) → TookValue profile depth_left text v rest
 
 pub record TookNamed (profile : Profile) (b : Brackets) (text : List ℕ) (n : Option Name) (rest : List ℕ) : Type 0 where
   pub valid : IsNamed profile (place_of b) n
@@ -239,9 +239,9 @@ after_takes profile b name v text i rest h =
       ]
     ]
 
-pub item_takes : (profile : Profile) (b : Brackets) (room : ℕ) (value : List ℕ → Read Value) → ReadsValues profile room value → (text : List ℕ) (i : Item) (rest : List ℕ) → item_by profile b value text ≡ Ok (i, rest) → TookItem profile b room text i rest
+pub item_takes : (profile : Profile) (b : Brackets) (depth_left : ℕ) (value : List ℕ → Read Value) → ReadsValues profile depth_left value → (text : List ℕ) (i : Item) (rest : List ℕ) → item_by profile b value text ≡ Ok (i, rest) → TookItem profile b depth_left text i rest
 unfolding item_by
-item_takes profile b room value sound text i rest h =
+item_takes profile b depth_left value sound text i rest h =
     let (n, e1, e2) = bind_ok (named_in profile b text) (λ n. value n.1 >>= λ v. after_by profile b n.0 v.0 (gap_in profile b v.1)) (i, rest) h in
     let (v, e3, e4) = bind_ok (value n.1) (λ v. after_by profile b n.0 v.0 (gap_in profile b v.1)) (i, rest) e2 in
     let tn = named_takes profile b text n.0 n.1 e1 in
@@ -250,7 +250,7 @@ item_takes profile b room value sound text i rest h =
     record {
       named = subst (λ (x : Option Name). IsNamed profile (place_of b) x) (sym ta.same_name) tn.valid;
       valid = subst (λ (x : Value). IsValue profile x) (sym ta.same_value) tv.valid;
-      shallow = subst (λ (x : Value). value_depth x ≤ room) (sym ta.same_value) tv.shallow;
+      shallow = subst (λ (x : Value). value_depth x ≤ depth_left) (sym ta.same_value) tv.shallow;
       gap = ta.gap;
       after = ta.after;
       spelled = tn.spelled ∙ ap (λ (x : List ℕ). text_of (named_leaves n.0) ++ x) (tv.spelled ∙ ap (λ (x : List ℕ). value_text v.0 ++ x) ta.spelled)
@@ -261,16 +261,16 @@ item_takes profile b room value sound text i rest h =
       begins = tn.begins (value_first_solid (first n.1) tv.begins);
     }
 
-pub record Took (profile : Profile) (b : Brackets) (room : ℕ) (text : List ℕ) (es : Entries) (rest : List ℕ) : Type 0 where
+pub record Took (profile : Profile) (b : Brackets) (depth_left : ℕ) (text : List ℕ) (es : Entries) (rest : List ℕ) : Type 0 where
   pub valid : AreEntries profile (place_of b) es
-  pub shallow : entries_depth es ≤ room
+  pub shallow : entries_depth es ≤ depth_left
   pub spelled : text ≡ text_of (entries_leaves es) ++ rest
   pub closed : (first rest == close_byte b) ≡ true
   pub begins : is_solid (first text) ≡ true
   pub shorter : length rest ≤ length text
 
-pub took_none : (profile : Profile) (b : Brackets) (room : ℕ) (text : List ℕ) → (first text == close_byte b) ≡ true → Took profile b room text none text
-took_none profile b room text closed = record { valid = tt; shallow = omega arith; spelled = refl; closed = closed; begins = close_solid b text closed; shorter = omega arith }
+pub took_none : (profile : Profile) (b : Brackets) (depth_left : ℕ) (text : List ℕ) → (first text == close_byte b) ≡ true → Took profile b depth_left text none text
+took_none profile b depth_left text closed = record { valid = tt; shallow = omega arith; spelled = refl; closed = closed; begins = close_solid b text closed; shorter = omega arith }
 
 -- where a comma may end the entries
 pub may_end : (profile : Profile) (b : Brackets) → is_free profile b ≡ true → MayEndInComma profile (place_of b)
@@ -279,19 +279,19 @@ may_end Wide brackets.Array free = tt
 may_end Strict brackets.Inline free = absurd cc
 may_end Wide brackets.Inline free = tt
 
-is_comma : (profile : Profile) (b : Brackets) (g : Gap) (back : Entries) (room : ℕ) (text rest : List ℕ) → After profile b (Some g) text → Took profile b room text back rest → IsComma profile (place_of b) (Some g) back
-is_comma profile b g none room text rest h t =
+is_comma : (profile : Profile) (b : Brackets) (g : Gap) (back : Entries) (depth_left : ℕ) (text rest : List ℕ) → After profile b (Some g) text → Took profile b depth_left text back rest → IsComma profile (place_of b) (Some g) back
+is_comma profile b g none depth_left text rest h t =
     let closes : (first text == close_byte b) ≡ true = ap (λ (x : List ℕ). first x == close_byte b) t.spelled ∙ t.closed in
     (h.0 t.begins, may_end profile b (free (is_free profile b) (rw closes at h.1)))
   where
     free : (f : Bool) → (not f && true) ≡ false → f ≡ true
     free true e = refl
     free false e = absurd cc
-is_comma profile b g (entry name body nested after comma more) room text rest h t = h.0 t.begins
+is_comma profile b g (entry name body nested after comma more) depth_left text rest h t = h.0 t.begins
 
 -- an entry before entries that were read
-took_entry : (profile : Profile) (b : Brackets) (room : ℕ) (text : List ℕ) (i : Item) (text' : List ℕ) (back : Entries) (rest : List ℕ) → TookItem profile b room text i text' → IsComma profile (place_of b) i.comma back → Took profile b room text' back rest → Took profile b room text (entry_of i back) rest
-took_entry profile b room text i text' back rest ti comma t = record {
+took_entry : (profile : Profile) (b : Brackets) (depth_left : ℕ) (text : List ℕ) (i : Item) (text' : List ℕ) (back : Entries) (rest : List ℕ) → TookItem profile b depth_left text i text' → IsComma profile (place_of b) i.comma back → Took profile b depth_left text' back rest → Took profile b depth_left text (entry_of i back) rest
+took_entry profile b depth_left text i text' back rest ti comma t = record {
   valid = (ti.named, ti.valid.body, ti.valid.nested, ti.gap, comma, t.valid);
   shallow = omega (arith, ti.shallow, t.shallow);
   spelled = ti.spelled ∙ ap (λ (x : List ℕ). text_of (item_leaves i) ++ x) t.spelled ∙ sym (entry_text i back rest);
@@ -301,26 +301,26 @@ took_entry profile b room text i text' back rest ti comma t = record {
 }
 
 -- what an iteration does
-pub data EntryIteration (profile : Profile) (b : Brackets) (room : ℕ) (prefix : Entries) (text : List ℕ) (t : Iteration Entries Entries) (rest : List ℕ) : Type 0 where
-  at_close : (first text == close_byte b) ≡ true → t ≡ ready prefix → rest ≡ text → EntryIteration profile b room prefix text t rest
-  at_last : (i : Item) → i.comma ≡ None → t ≡ ready (join prefix (entry_of i none)) → TookItem profile b room text i rest → EntryIteration profile b room prefix text t rest
-  at_comma : (i : Item) (g : Gap) → i.comma ≡ Some g → t ≡ continues (join prefix (entry_of i none)) → TookItem profile b room text i rest → EntryIteration profile b room prefix text t rest
+pub data EntryIteration (profile : Profile) (b : Brackets) (depth_left : ℕ) (prefix : Entries) (text : List ℕ) (t : Iteration Entries Entries) (rest : List ℕ) : Type 0 where
+  at_close : (first text == close_byte b) ≡ true → t ≡ ready prefix → rest ≡ text → EntryIteration profile b depth_left prefix text t rest
+  at_last : (i : Item) → i.comma ≡ None → t ≡ ready (join prefix (entry_of i none)) → TookItem profile b depth_left text i rest → EntryIteration profile b depth_left prefix text t rest
+  at_comma : (i : Item) (g : Gap) → i.comma ≡ Some g → t ≡ continues (join prefix (entry_of i none)) → TookItem profile b depth_left text i rest → EntryIteration profile b depth_left prefix text t rest
 
-pub entry_cases : (profile : Profile) (b : Brackets) (room : ℕ) (value : List ℕ → Read Value) → ReadsValues profile room value → (prefix : Entries) (text : List ℕ) (t : Iteration Entries Entries) (rest : List ℕ) → entry_by profile b value prefix text ≡ Ok (t, rest) → EntryIteration profile b room prefix text t rest
+pub entry_cases : (profile : Profile) (b : Brackets) (depth_left : ℕ) (value : List ℕ → Read Value) → ReadsValues profile depth_left value → (prefix : Entries) (text : List ℕ) (t : Iteration Entries Entries) (rest : List ℕ) → entry_by profile b value prefix text ≡ Ok (t, rest) → EntryIteration profile b depth_left prefix text t rest
 unfolding entry_by
-entry_cases profile b room value sound prefix text t rest h =
+entry_cases profile b depth_left value sound prefix text t rest h =
     elim (tested (first text == close_byte b)) [
       | inl e ↦
           let same = ok_is (ready prefix, text) (t, rest) (rw e at h) in
           at_close e (sym (ap (λ (x : Iteration Entries Entries × List ℕ). x.0) same)) (sym (ap (λ (x : Iteration Entries Entries × List ℕ). x.1) same))
       | inr e ↦
           let (i, e1, e2) = bind_ok (item_by profile b value text) (λ i. Ok (iteration_of prefix i.0 i.0.comma, i.1)) (t, rest) (rw e at h) in
-          let ti = item_takes profile b room value sound text i.0 i.1 e1 in
+          let ti = item_takes profile b depth_left value sound text i.0 i.1 e1 in
           let same = ok_is (iteration_of prefix i.0 i.0.comma, i.1) (t, rest) e2 in
-          by i.0 i.0.comma refl (sym (ap (λ (x : Iteration Entries Entries × List ℕ). x.0) same)) (subst (λ (r : List ℕ). TookItem profile b room text i.0 r) (ap (λ (x : Iteration Entries Entries × List ℕ). x.1) same) ti)
+          by i.0 i.0.comma refl (sym (ap (λ (x : Iteration Entries Entries × List ℕ). x.0) same)) (subst (λ (r : List ℕ). TookItem profile b depth_left text i.0 r) (ap (λ (x : Iteration Entries Entries × List ℕ). x.1) same) ti)
     ]
   where
-    by : (i : Item) (c : Option Gap) → i.comma ≡ c → t ≡ iteration_of prefix i c → TookItem profile b room text i rest → EntryIteration profile b room prefix text t rest
+    by : (i : Item) (c : Option Gap) → i.comma ≡ c → t ≡ iteration_of prefix i c → TookItem profile b depth_left text i rest → EntryIteration profile b depth_left prefix text t rest
     by i None is e ti = at_last i is e ti
     by i (Some g) is e ti = at_comma i g is e ti
 
@@ -330,21 +330,21 @@ on_iteration s = continues s
 abbrev ready_iteration : Entries → Iteration Entries Entries
 ready_iteration s = ready s
 
-pub entry_shortens : (profile : Profile) (b : Brackets) (room : ℕ) (value : List ℕ → Read Value) → ReadsValues profile room value → Shortens (entry_by profile b value)
-entry_shortens profile b room value sound s text s' rest h =
-    elim (entry_cases profile b room value sound s text (continues s') rest h) [
+pub entry_shortens : (profile : Profile) (b : Brackets) (depth_left : ℕ) (value : List ℕ → Read Value) → ReadsValues profile depth_left value → Shortens (entry_by profile b value)
+entry_shortens profile b depth_left value sound s text s' rest h =
+    elim (entry_cases profile b depth_left value sound s text (continues s') rest h) [
       | at_close c e r ↦ absurd (let f : on_iteration s' ≡ ready_iteration s = e in cc)
       | at_last i is e ti ↦ absurd (let f : on_iteration s' ≡ ready_iteration (join s (entry_of i none)) = e in cc)
       | at_comma i g is e ti ↦ ti.shorter
     ]
 
-pub record TookEntries (profile : Profile) (b : Brackets) (room : ℕ) (prefix : Entries) (text : List ℕ) (es : Entries) (rest : List ℕ) : Type 0 where
+pub record TookEntries (profile : Profile) (b : Brackets) (depth_left : ℕ) (prefix : Entries) (text : List ℕ) (es : Entries) (rest : List ℕ) : Type 0 where
   pub back : Entries
   pub grown : es ≡ join prefix back
-  pub took : Took profile b room text back rest
+  pub took : Took profile b depth_left text back rest
 
-pub entries_take : (profile : Profile) (b : Brackets) (room : ℕ) (value : List ℕ → Read Value) → ReadsValues profile room value → (prefix : Entries) (text : List ℕ) (es : Entries) (rest : List ℕ) → entries_by profile b value prefix text ≡ Ok (es, rest) → TookEntries profile b room prefix text es rest
-entries_take profile b room value sound prefix text es rest h = repeat_holds (entry_by profile b value) (TookEntries profile b room) last on (suc (length text)) prefix text es rest h
+pub entries_take : (profile : Profile) (b : Brackets) (depth_left : ℕ) (value : List ℕ → Read Value) → ReadsValues profile depth_left value → (prefix : Entries) (text : List ℕ) (es : Entries) (rest : List ℕ) → entries_by profile b value prefix text ≡ Ok (es, rest) → TookEntries profile b depth_left prefix text es rest
+entries_take profile b depth_left value sound prefix text es rest h = repeat_holds (entry_by profile b value) (TookEntries profile b depth_left) last on (suc (length text)) prefix text es rest h
   where
     ready_is : (x y : Entries) → ready_iteration x ≡ ready_iteration y → x ≡ y
     ready_is x y e = cc
@@ -352,33 +352,33 @@ entries_take profile b room value sound prefix text es rest h = repeat_holds (en
     on_is : (x y : Entries) → on_iteration x ≡ on_iteration y → x ≡ y
     on_is x y e = cc
 
-    last : (s : Entries) (text : List ℕ) (es : Entries) (rest : List ℕ) → entry_by profile b value s text ≡ Ok (ready es, rest) → TookEntries profile b room s text es rest
+    last : (s : Entries) (text : List ℕ) (es : Entries) (rest : List ℕ) → entry_by profile b value s text ≡ Ok (ready es, rest) → TookEntries profile b depth_left s text es rest
     last s text es rest e =
-        elim (entry_cases profile b room value sound s text (ready es) rest e) [
+        elim (entry_cases profile b depth_left value sound s text (ready es) rest e) [
           | at_close c k r ↦
-              record { back = none; grown = ready_is es s k ∙ sym (join-none s); took = subst (λ (x : List ℕ). Took profile b room text none x) (sym r) (took_none profile b room text c) }
+              record { back = none; grown = ready_is es s k ∙ sym (join-none s); took = subst (λ (x : List ℕ). Took profile b depth_left text none x) (sym r) (took_none profile b depth_left text c) }
           | at_last i is k ti ↦
               let closed : (first rest == close_byte b) ≡ true = subst (λ (c : Option Gap). After profile b c rest) is ti.after in
               record {
                 back = entry_of i none;
                 grown = ready_is es (join s (entry_of i none)) k;
-                took = took_entry profile b room text i rest none rest ti (subst (λ (c : Option Gap). IsComma profile (place_of b) c none) (sym is) tt) (took_none profile b room rest closed);
+                took = took_entry profile b depth_left text i rest none rest ti (subst (λ (c : Option Gap). IsComma profile (place_of b) c none) (sym is) tt) (took_none profile b depth_left rest closed);
               }
           | at_comma i g is k ti ↦ absurd (let f : ready_iteration es ≡ on_iteration (join s (entry_of i none)) = k in cc)
         ]
 
-    on : (s : Entries) (text : List ℕ) (s' : Entries) (text' : List ℕ) (es : Entries) (rest : List ℕ) → entry_by profile b value s text ≡ Ok (continues s', text') → TookEntries profile b room s' text' es rest → TookEntries profile b room s text es rest
+    on : (s : Entries) (text : List ℕ) (s' : Entries) (text' : List ℕ) (es : Entries) (rest : List ℕ) → entry_by profile b value s text ≡ Ok (continues s', text') → TookEntries profile b depth_left s' text' es rest → TookEntries profile b depth_left s text es rest
     on s text s' text' es rest e t =
-        elim (entry_cases profile b room value sound s text (continues s') text' e) [
+        elim (entry_cases profile b depth_left value sound s text (continues s') text' e) [
           | at_close c k r ↦ absurd (let f : on_iteration s' ≡ ready_iteration s = k in cc)
           | at_last i is k ti ↦ absurd (let f : on_iteration s' ≡ ready_iteration (join s (entry_of i none)) = k in cc)
           | at_comma i g is k ti ↦
               let after : After profile b (Some g) text' = subst (λ (c : Option Gap). After profile b c text') is ti.after in
-              let comma : IsComma profile (place_of b) i.comma t.back = subst (λ (c : Option Gap). IsComma profile (place_of b) c t.back) (sym is) (is_comma profile b g t.back room text' rest after t.took) in
+              let comma : IsComma profile (place_of b) i.comma t.back = subst (λ (c : Option Gap). IsComma profile (place_of b) c t.back) (sym is) (is_comma profile b g t.back depth_left text' rest after t.took) in
               record {
                 back = entry_of i t.back;
                 grown = t.grown ∙ ap (λ (x : Entries). join x t.back) (on_is s' (join s (entry_of i none)) k) ∙ join-assoc s (entry_of i none) t.back;
-                took = took_entry profile b room text i text' t.back rest ti comma t.took;
+                took = took_entry profile b depth_left text i text' t.back rest ti comma t.took;
               }
         ]
 
@@ -404,17 +404,17 @@ pub open_begins : (b : Brackets) (text : List ℕ) → (first text == open_byte 
 open_begins brackets.Array text e = rw (eqb-true (first text) 0x5B e) refl
 open_begins brackets.Inline text e = rw (eqb-true (first text) 0x7B e) refl
 
-pub bracket_takes : (profile : Profile) (room : ℕ) (value : List ℕ → Read Value) → ReadsValues profile room value → (b : Brackets) (text : List ℕ) (v : Value) (rest : List ℕ) → (first text == open_byte b) ≡ true → bracket_by profile value b text ≡ Ok (v, rest) → TookValue profile (suc room) text v rest
-bracket_takes profile room value sound b text v rest opens h =
+pub bracket_takes : (profile : Profile) (depth_left : ℕ) (value : List ℕ → Read Value) → ReadsValues profile depth_left value → (b : Brackets) (text : List ℕ) (v : Value) (rest : List ℕ) → (first text == open_byte b) ≡ true → bracket_by profile value b text ≡ Ok (v, rest) → TookValue profile (suc depth_left) text v rest
+bracket_takes profile depth_left value sound b text v rest opens h =
     let g = gap_in profile b (drop 1 text) in
     let gg = gap_takes profile b (drop 1 text) in
     let (es, e1, e2) = bind_ok (entries_by profile b value none g.1) (λ es. Ok (record { body = body_in b g.0; nested = es.0 }, drop 1 es.1)) (v, rest) h in
-    let te = entries_take profile b room value sound none g.1 es.0 es.1 e1 in
-    let t : Took profile b room g.1 es.0 es.1 = subst (λ (x : Entries). Took profile b room g.1 x es.1) (sym te.grown) te.took in
+    let te = entries_take profile b depth_left value sound none g.1 es.0 es.1 e1 in
+    let t : Took profile b depth_left g.1 es.0 es.1 = subst (λ (x : Entries). Took profile b depth_left g.1 x es.1) (sym te.grown) te.took in
     let made : Value × List ℕ = (record { body = body_in b g.0; nested = es.0 }, drop 1 es.1) in
     let opened : text ≡ open_byte b ∷ drop 1 text = first_is (open_byte b) text (open_some b) opens in
     let closed : es.1 ≡ close_byte b ∷ drop 1 es.1 = first_is (close_byte b) es.1 (close_some b) t.closed in
-    subst (λ (x : Value × List ℕ). TookValue profile (suc room) text x.0 x.1) (ok_is made (v, rest) e2) (record {
+    subst (λ (x : Value × List ℕ). TookValue profile (suc depth_left) text x.0 x.1) (ok_is made (v, rest) e2) (record {
       valid = bracket_valid profile b g.0 es.0 (gg.valid t.begins) t.valid;
       shallow = omega (arith, t.shallow, bracket_depth b g.0 es.0);
       spelled = opened ∙ ap (λ (x : List ℕ). open_byte b ∷ x) (gg.spelled ∙ ap (λ (x : List ℕ). text_of g.0 ++ x) (t.spelled ∙ ap (λ (x : List ℕ). text_of (entries_leaves es.0) ++ x) closed)) ∙ sym (bracket_text b g.0 es.0 (drop 1 es.1));
@@ -424,20 +424,20 @@ bracket_takes profile room value sound b text v rest opens h =
 
 -- ---- values
 
-pub value_by_takes : (profile : Profile) (room : ℕ) (bracket : Brackets → List ℕ → Read Value) (text : List ℕ) (v : Value) (rest : List ℕ)
-    → ((b : Brackets) → (first text == open_byte b) ≡ true → bracket b text ≡ Ok (v, rest) → TookValue profile room text v rest) → value_by profile bracket text ≡ Ok (v, rest) → TookValue profile room text v rest
-value_by_takes profile room bracket text v rest sound h =
+pub value_by_takes : (profile : Profile) (depth_left : ℕ) (bracket : Brackets → List ℕ → Read Value) (text : List ℕ) (v : Value) (rest : List ℕ)
+    → ((b : Brackets) → (first text == open_byte b) ≡ true → bracket b text ≡ Ok (v, rest) → TookValue profile depth_left text v rest) → value_by profile bracket text ≡ Ok (v, rest) → TookValue profile depth_left text v rest
+value_by_takes profile depth_left bracket text v rest sound h =
     elim (tested (first text == 0x5B)) [
       | inl e ↦ sound brackets.Array e (rw e at h)
       | inr e ↦ elim (tested (first text == 0x7B)) [
         | inl f ↦ sound brackets.Inline f (rw (e, f) at h)
-        | inr f ↦ scalar_takes profile room text v rest (rw (e, f) at h)
+        | inr f ↦ scalar_takes profile depth_left text v rest (rw (e, f) at h)
       ]
     ]
 
 -- What is read as a value is one, with this text, within the limit.
-pub value_takes : (profile : Profile) (room : ℕ) → ReadsValues profile room (value_of profile room)
+pub value_takes : (profile : Profile) (depth_left : ℕ) → ReadsValues profile depth_left (value_of profile depth_left)
 unfolding value_of
 value_takes profile zero text v rest h = value_by_takes profile 0 (λ b t. Err (Deep t)) text v rest (λ b e k. absurd cc) h
-value_takes profile (suc room) text v rest h =
-    value_by_takes profile (suc room) (bracket_by profile (value_of profile room)) text v rest (λ b e k. bracket_takes profile room (value_of profile room) (value_takes profile room) b text v rest e k) h
+value_takes profile (suc depth_left) text v rest h =
+    value_by_takes profile (suc depth_left) (bracket_by profile (value_of profile depth_left)) text v rest (λ b e k. bracket_takes profile depth_left (value_of profile depth_left) (value_takes profile depth_left) b text v rest e k) h

@@ -63,17 +63,17 @@ same_value profile bracket bracket' h text =
     same_cond (first text == 0x5B) _ _ _ _ (h brackets.Array text) (same_cond (first text == 0x7B) _ _ _ _ (h brackets.Inline text) (same_refl (scalar_of text (scalar_at profile text))))
 
 -- A larger limit reads the same, unless the smaller was passed.
-pub value_room : (profile : Profile) (a b : ℕ) (text : List ℕ) → a ≤ b → Same (value_of profile a text) (value_of profile b text)
+pub value_depth_left : (profile : Profile) (a b : ℕ) (text : List ℕ) → a ≤ b → Same (value_of profile a text) (value_of profile b text)
 unfolding value_of
-value_room profile zero zero text le = same_refl (value_of profile zero text)
-value_room profile zero (suc b) text le = same_value profile (λ b t. Err (Deep t)) (bracket_by profile (value_of profile b)) (λ k t. tt) text
-value_room profile (suc a) zero text le = absurd (omega arith)
-value_room profile (suc a) (suc b) text le = same_value profile (bracket_by profile (value_of profile a)) (bracket_by profile (value_of profile b)) (same_bracket profile (value_of profile a) (value_of profile b) (λ t. value_room profile a b t (omega arith))) text
+value_depth_left profile zero zero text le = same_refl (value_of profile zero text)
+value_depth_left profile zero (suc b) text le = same_value profile (λ b t. Err (Deep t)) (bracket_by profile (value_of profile b)) (λ k t. tt) text
+value_depth_left profile (suc a) zero text le = absurd (omega arith)
+value_depth_left profile (suc a) (suc b) text le = same_value profile (bracket_by profile (value_of profile a)) (bracket_by profile (value_of profile b)) (same_bracket profile (value_of profile a) (value_of profile b) (λ t. value_depth_left profile a b t (omega arith))) text
 
-one_value_room : (profile : Profile) (a b : ℕ) (text : List ℕ) → a ≤ b → Same (read_one_value profile a text) (read_one_value profile b text)
+one_value_depth_left : (profile : Profile) (a b : ℕ) (text : List ℕ) → a ≤ b → Same (read_one_value profile a text) (read_one_value profile b text)
 unfolding read_one_value
-one_value_room profile a b text le =
-    same_bind (value_of profile a text) (value_of profile b text) (λ v. cond (length v.1 == 0) (Ok v.0) (Err Bad)) (λ v. cond (length v.1 == 0) (Ok v.0) (Err Bad)) (value_room profile a b text le) (λ v. same_refl (cond (length v.1 == 0) (Ok v.0) (Err Bad)))
+one_value_depth_left profile a b text le =
+    same_bind (value_of profile a text) (value_of profile b text) (λ v. cond (length v.1 == 0) (Ok v.0) (Err Bad)) (λ v. cond (length v.1 == 0) (Ok v.0) (Err Bad)) (value_depth_left profile a b text le) (λ v. same_refl (cond (length v.1 == 0) (Ok v.0) (Err Bad)))
 
 pub bad_stays : {A : Type 0} (r s : Result A Fault) (x : A) → r ≡ Err Bad → Same r s → s ≡ Ok x → ⊥
 bad_stays {A} r s x bad same e = by (subst (λ (q : Result A Fault). Same q s) bad same)
@@ -85,4 +85,4 @@ bad_stays {A} r s x bad same e = by (subst (λ (q : Result A Fault). Same q s) b
 pub value_bad : (profile : Profile) (limit : ℕ) (text : List ℕ) → read_one_value profile limit text ≡ Err Bad → (v : Value) → IsValue profile v → text ≡ value_text v → ⊥
 value_bad profile limit text bad v h e =
     let more = max limit (value_depth v) in
-    bad_stays (read_one_value profile limit text) (read_one_value profile more text) v bad (one_value_room profile limit more text (omega arith)) (ap (read_one_value profile more) e ∙ of_text profile more v h (omega arith))
+    bad_stays (read_one_value profile limit text) (read_one_value profile more text) v bad (one_value_depth_left profile limit more text (omega arith)) (ap (read_one_value profile more) e ∙ of_text profile more v h (omega arith))

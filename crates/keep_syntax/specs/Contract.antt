@@ -25,7 +25,7 @@ use Rattle.keep_syntax.specs.WholeLines.{empty_line, begin, starts_of, touched}
 
 -- ---- what a syntax holds
 
--- the tokens that it tells of a text, End the last
+-- the tokens that it gives of a text, End the last
 abbrev pub tokens_of : Syntax → List ℕ → List Placed
 tokens_of s bytes = cut_by (flat s.parts) bytes
 

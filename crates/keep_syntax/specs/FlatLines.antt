@@ -38,14 +38,15 @@ content_taken p c =
     record { leaves = content_leaves c; statements = []; keys = content_parts p.at c; values = content_values p c }
 
 -- a content that is not blank
-pub record ContentIs (profile : Profile) (room : ℕ) (text : List ℕ) (p : Start) (old new : Flat) (end : ℕ) (head : Head)
+pub record ContentIs (profile : Profile) (depth_left : ℕ) (text : List ℕ) (p : Start) (old new : Flat) (end : ℕ)
+    (head : Head)
     : Type 0 where
-  pub read : PartIs text p.at 1 (content_at profile room (drop p.at text)) (content_taken p) old new end
+  pub read : PartIs text p.at 1 (content_at profile depth_left (drop p.at text)) (content_taken p) old new end
   pub stated : content_head p read.part ≡ Some head
 
 abbrev pub ContentRead : Profile → ℕ → List ℕ → Start → Flat → Flat → Result (ℕ × Head) ReadFault → Type 0
-ContentRead profile room text p old new (Ok r) = ContentIs profile room text p old new r.0 r.1
-ContentRead profile room text p old new (Err e) = Fails text e (content_at profile room (drop p.at text))
+ContentRead profile depth_left text p old new (Ok r) = ContentIs profile depth_left text p old new r.0 r.1
+ContentRead profile depth_left text p old new (Err e) = Fails text e (content_at profile depth_left (drop p.at text))
 
 -- ---- lines
 
@@ -61,14 +62,14 @@ statement_list None = []
 statement_list (Some s) = s ∷ []
 
 -- a line without its newline, and its statement as if the line ended there
-pub record LineIs (profile : Profile) (room : ℕ) (text : List ℕ) (at : ℕ) (old new : Flat) (end : ℕ)
+pub record LineIs (profile : Profile) (depth_left : ℕ) (text : List ℕ) (at : ℕ) (old new : Flat) (end : ℕ)
     (s : Option Statement) : Type 0 where
-  pub read : PartIs text at 0 (line_at profile room (drop at text)) (line_taken (count_at at old)) old new end
+  pub read : PartIs text at 0 (line_at profile depth_left (drop at text)) (line_taken (count_at at old)) old new end
   pub stated : statement_list s ≡ line_statements (count_at at old) read.part end
 
 abbrev pub LineRead : Profile → ℕ → List ℕ → ℕ → Flat → Flat → Result (ℕ × Option Statement) ReadFault → Type 0
-LineRead profile room text at old new (Ok r) = LineIs profile room text at old new r.0 r.1
-LineRead profile room text at old new (Err e) = Fails text e (line_at profile room (drop at text))
+LineRead profile depth_left text at old new (Ok r) = LineIs profile depth_left text at old new r.0 r.1
+LineRead profile depth_left text at old new (Err e) = Fails text e (line_at profile depth_left (drop at text))
 
 abbrev pub newline_by : List ℕ → Option (Leaf × ℕ) → Read Written
 newline_by text (Some (leaf.Newline, n)) = Ok (written leaf.Newline n text, drop n text)
@@ -92,16 +93,19 @@ lines_taken c ls = record {
 }
 
 -- All lines from a place on, up to the end of the text, were read, and the places where they begin are stored.
-pub record LinesAre (profile : Profile) (room : ℕ) (text : List ℕ) (at : ℕ) (old new : Flat) (before after : List ℕ)
+pub record LinesAre (profile : Profile) (depth_left : ℕ) (text : List ℕ) (at : ℕ) (old new : Flat)
+    (before after : List ℕ)
     : Type 0 where
-  pub read : PartIs text at 0 (lines_of profile room [] (drop at text)) (lines_taken (count_at at old)) old new
+  pub read : PartIs text at 0 (lines_of profile depth_left [] (drop at text)) (lines_taken (count_at at old)) old new
       (length text)
   pub starts : after ≡ before ++ line_starts at read.part.0
 
 abbrev pub LinesRead : {A : Type 0} → Profile → ℕ → List ℕ → ℕ → Flat → Flat → List ℕ → List ℕ → Result A ReadFault
     → Type 0
-LinesRead profile room text at old new before after (Ok r) = LinesAre profile room text at old new before after
-LinesRead profile room text at old new before after (Err e) = Fails text e (lines_of profile room [] (drop at text))
+LinesRead profile depth_left text at old new before after (Ok r) =
+    LinesAre profile depth_left text at old new before after
+LinesRead profile depth_left text at old new before after (Err e) =
+    Fails text e (lines_of profile depth_left [] (drop at text))
 
 -- ---- whole texts
 

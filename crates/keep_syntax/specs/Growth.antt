@@ -74,7 +74,7 @@ pub record Grows (text : List ℕ) (old new : Flat) (at end : ℕ) (t : Taken) :
 
 -- ---- reading
 
--- an error tells what reading gives, unless memory ran out
+-- an error is what reading gives, unless memory ran out
 abbrev pub Fails : {A : Type 0} → List ℕ → ReadFault → Result A Fault → Type 0
 Fails text faults.Memory read = ⊤
 Fails text (faults.Syntax at what) read = read ≡ Err Bad
@@ -182,17 +182,17 @@ ScalarRead profile text at keys p old new r =
     PartRead text at 1 (scalar_of (drop at text) (scalar_at profile (drop at text))) (value_taken p at keys) old new r
 
 abbrev pub ValueRead : Profile → ℕ → List ℕ → ℕ → ℕ → Start → Flat → Flat → Result ℕ ReadFault → Type 0
-ValueRead profile room text at keys p old new r =
-    PartRead text at 1 (value_of profile room (drop at text)) (value_taken p at keys) old new r
+ValueRead profile depth_left text at keys p old new r =
+    PartRead text at 1 (value_of profile depth_left (drop at text)) (value_taken p at keys) old new r
 
 -- an array or an inline table, where so many more brackets may be opened
 abbrev pub bracket_of : Profile → ℕ → Brackets → List ℕ → Read Value
 bracket_of profile zero b text = Err (Deep text)
-bracket_of profile (suc room) b text = bracket_by profile (value_of profile room) b text
+bracket_of profile (suc depth_left) b text = bracket_by profile (value_of profile depth_left) b text
 
 abbrev pub BracketRead : Brackets → Profile → ℕ → List ℕ → ℕ → ℕ → Start → Flat → Flat → Result ℕ ReadFault → Type 0
-BracketRead b profile room text at keys p old new r =
-    PartRead text at 1 (bracket_of profile room b (drop at text)) (value_taken p at keys) old new r
+BracketRead b profile depth_left text at keys p old new r =
+    PartRead text at 1 (bracket_of profile depth_left b (drop at text)) (value_taken p at keys) old new r
 
 abbrev pub named_taken : ℕ → Option Name → Taken
 named_taken at n = record { leaves = named_leaves n; statements = []; keys = named_parts at n; values = [] }
@@ -232,29 +232,31 @@ abbrev pub entries_taken : Start → Entries → Taken
 entries_taken p es =
     record { leaves = entries_leaves es; statements = []; keys = entries_parts p.at es; values = entries_values p es }
 
-pub record EntriesAre (b : Brackets) (profile : Profile) (room : ℕ) (text : List ℕ) (p : Start) (old new : Flat)
+pub record EntriesAre (b : Brackets) (profile : Profile) (depth_left : ℕ) (text : List ℕ) (p : Start) (old new : Flat)
     (end : ℕ) : Type 0 where
-  pub read : PartIs text p.at 0 (entries_by profile b (value_of profile room) none (drop p.at text))
+  pub read : PartIs text p.at 0 (entries_by profile b (value_of profile depth_left) none (drop p.at text))
       (entries_taken p) old new end
   pub closed : slice_index text end ≡ close_byte b
 
 abbrev pub EntriesRead : Brackets → Profile → ℕ → List ℕ → Start → Flat → Flat → Result ℕ ReadFault → Type 0
-EntriesRead b profile room text p old new (Ok end) = EntriesAre b profile room text p old new end
-EntriesRead b profile room text p old new (Err e) =
-    Fails text e (entries_by profile b (value_of profile room) none (drop p.at text))
+EntriesRead b profile depth_left text p old new (Ok end) = EntriesAre b profile depth_left text p old new end
+EntriesRead b profile depth_left text p old new (Err e) =
+    Fails text e (entries_by profile b (value_of profile depth_left) none (drop p.at text))
 
 abbrev pub item_taken : Start → Item → Taken
 item_taken p i = entries_taken p (entry_of i none)
 
-pub record ItemIs (b : Brackets) (profile : Profile) (room : ℕ) (text : List ℕ) (p : Start) (old new : Flat) (end : ℕ)
+pub record ItemIs (b : Brackets) (profile : Profile) (depth_left : ℕ) (text : List ℕ) (p : Start) (old new : Flat)
+    (end : ℕ)
     (comma : Option ℕ) : Type 0 where
-  pub read : PartIs text p.at 1 (item_by profile b (value_of profile room) (drop p.at text)) (item_taken p) old new end
+  pub read : PartIs text p.at 1 (item_by profile b (value_of profile depth_left) (drop p.at text))
+      (item_taken p) old new end
   pub comma_is : comma
       ≡ comma_place
       (comma_start p.at read.part.name read.part.value.body read.part.value.nested read.part.after) read.part.comma
   pub closed : comma ≡ None → slice_index text end ≡ close_byte b
 
 abbrev pub ItemRead : Brackets → Profile → ℕ → List ℕ → Start → Flat → Flat → Result (ℕ × Option ℕ) ReadFault → Type 0
-ItemRead b profile room text p old new (Ok r) = ItemIs b profile room text p old new r.0 r.1
-ItemRead b profile room text p old new (Err e) =
-    Fails text e (item_by profile b (value_of profile room) (drop p.at text))
+ItemRead b profile depth_left text p old new (Ok r) = ItemIs b profile depth_left text p old new r.0 r.1
+ItemRead b profile depth_left text p old new (Err e) =
+    Fails text e (item_by profile b (value_of profile depth_left) (drop p.at text))

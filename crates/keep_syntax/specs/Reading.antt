@@ -219,7 +219,7 @@ value_by profile bracket text =
 -- A value, where so many more brackets may be opened: one more is a fault with the text from it on.
 unfoldable pub value_of : Profile → ℕ → List ℕ → Read Value
 value_of profile zero text = value_by profile (λ b t. Err (Deep t)) text
-value_of profile (suc room) text = value_by profile (bracket_by profile (value_of profile room)) text
+value_of profile (suc depth_left) text = value_by profile (bracket_by profile (value_of profile depth_left)) text
 
 -- ---- lines
 
@@ -228,7 +228,8 @@ abbrev pub is_line_end : ℕ → Bool
 is_line_end c = ((c == 0 || c == 0x0A) || c == 0x0D) || c == 0x23
 
 abbrev pub keyval_of : Profile → ℕ → List ℕ → Read Content
-keyval_of profile room text = name_of profile text >>= λ n. value_of profile room n.1 >>= λ v. Ok (keyval n.0 v.0, v.1)
+keyval_of profile depth_left text =
+    name_of profile text >>= λ n. value_of profile depth_left n.1 >>= λ v. Ok (keyval n.0 v.0, v.1)
 
 -- after a header's opening and gap
 abbrev pub header_by : Profile → Gap × List ℕ → Read Content
@@ -242,11 +243,11 @@ element_by profile b =
     (if first k.1 == 0x5D && slice_index k.1 1 == 0x5D then Ok (element b.0 k.0.0 k.0.1, drop 2 k.1) else Err Bad)
 
 unfoldable pub content_at : Profile → ℕ → List ℕ → Read Content
-content_at profile room text =
+content_at profile depth_left text =
     if is_line_end (first text) then Ok (blank, text)
     else if first text == 0x5B && slice_index text 1 == 0x5B then element_by profile (space_at (drop 2 text))
     else if first text == 0x5B then header_by profile (space_at (drop 1 text))
-    else keyval_of profile room text
+    else keyval_of profile depth_left text
 
 -- an empty line has one gap
 abbrev pub after_of : Content → List ℕ → Gap × List ℕ
@@ -266,8 +267,8 @@ line_by before content a =
 
 -- a line without its newline
 unfoldable pub line_at : Profile → ℕ → List ℕ → Read Line
-line_at profile room text =
-    content_at profile room (space_at text).1 >>= λ c. line_by (space_at text).0 c.0 (after_of c.0 c.1)
+line_at profile depth_left text =
+    content_at profile depth_left (space_at text).1 >>= λ c. line_by (space_at text).0 c.0 (after_of c.0 c.1)
 
 -- lines with their newlines, and the last line
 abbrev pub Lines : Type 0
@@ -285,11 +286,11 @@ after_line prefix l [] = Ok (ready (prefix, l), [])
 after_line prefix l (c ∷ cs) = newline_of prefix l (c ∷ cs) (gap_at (c ∷ cs))
 
 unfoldable pub ended_at : Profile → ℕ → List Ended → List ℕ → Read (Iteration (List Ended) Lines)
-ended_at profile room prefix text = line_at profile room text >>= λ l. after_line prefix l.0 l.1
+ended_at profile depth_left prefix text = line_at profile depth_left text >>= λ l. after_line prefix l.0 l.1
 
 -- the lines after those that were read
 abbrev pub lines_of : Profile → ℕ → List Ended → List ℕ → Read Lines
-lines_of profile room prefix text = loop (ended_at profile room) prefix text
+lines_of profile depth_left prefix text = loop (ended_at profile depth_left) prefix text
 
 -- ---- whole texts
 

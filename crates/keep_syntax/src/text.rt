@@ -16,7 +16,7 @@ pub fn byte_at(text: &str, at: usize) -> u8
     }
 }
 
-/// Stores a token of `len` bytes, the last of them an ASCII one, and tells where it ends.
+/// Stores a token of `len` bytes, the last of them an ASCII one, and returns where it ends.
 #[inline(always)]
 pub fn punctuation(
     text: &str,

@@ -10,7 +10,7 @@ use keep_rules::{Kind, NodeId, Path};
 use std::alloc::AllocError;
 
 impl Document {
-    /// Adds the text of the path of an entry to `out`, as `Path::encode` writes it, and tells the entry's kind. The
+    /// Adds the text of the path of an entry to `out`, as `Path::encode` writes it, and reports the entry's kind. The
     /// entries are those of `list`, by their numbers there from 0 on; from their number on this is None, and adds
     /// nothing. No entry and no path is made, so a list of all paths takes little more memory than its text.
     ///

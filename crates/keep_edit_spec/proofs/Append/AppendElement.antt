@@ -7,7 +7,7 @@ use Rattle.keep_syntax.specs.Grammar.{IsDocument}
 use Rattle.keep_path.specs.Path.{Part, key, index, same_path}
 use Rattle.keep_meaning.specs.Rules.{ObeysRules}
 use Rattle.keep_meaning.specs.Marks as marks_of
-use Rattle.keep_meaning.specs.Marks.{MentionKind, through, past, define, element as kinds_element, dotted, value, begun, passed, item, Mention, below, fact_of, Reading, start, statement_mentions, header_path, header_way, elements_of, entered_path, passing_mentions, marks}
+use Rattle.keep_meaning.specs.Marks.{MentionKind, through, past, define, element as kinds_element, dotted, value, begun, passed, item, Mention, below, fact_of, Reading, start, statement_mentions, header_path, header_prefixes, elements_of, entered_path, passing_mentions, marks}
 use Rattle.keep_meaning.specs.Meaning.{keys_of, key_value, further_value, body_fact, valued_mentions, keyed_mentions, entries_mentions, keyval_mentions, line_mentions, after_line, lines_mentions, reading_after_lines, lines, mentions_in}
 use Rattle.std.specs.Prelude.{◌==◌}
 use Rattle.keep_meaning.specs.Nodes.{fact_at}
@@ -23,7 +23,7 @@ use Rattle.keep_edit_spec.proofs.Common.LineLaws.{Reaches, EndsInKey, index_case
 use Rattle.keep_edit_spec.proofs.Common.Marks.{rules_of_document}
 use Rattle.keep_edit_spec.proofs.Append.AppendLaw.{append_law}
 use Rattle.keep_edit_spec.proofs.Common.NewLines.{IsKeyText, valid_key, key_means}
-use Rattle.keep_edit_spec.proofs.Append.AppendTable.{tables_stated, no_conflict, valid_append, silent_way, AtMostTable, table_appended, from_cond}
+use Rattle.keep_edit_spec.proofs.Append.AppendTable.{tables_stated, no_conflict, valid_append, silent_prefixes, AtMostTable, table_appended, from_cond}
 
 -- ---- a value or an item is at or under the path of a keyval
 
@@ -60,12 +60,12 @@ open_passing : (tables : List (List Part)) (q : List Part) (b : Bool) → AllOf 
 open_passing tables q true = (refl, tt)
 open_passing tables q false = (refl, (refl, tt))
 
-pub open_way : (tables : List (List Part)) (at : List Part) (ks : List (List ℕ)) → AllOf Open (header_way tables at ks)
-open_way tables at [] = tt
-open_way tables at (k ∷ []) = tt
-open_way tables at (k ∷ l ∷ ks) =
+pub open_prefixes : (tables : List (List Part)) (at : List Part) (ks : List (List ℕ)) → AllOf Open (header_prefixes tables at ks)
+open_prefixes tables at [] = tt
+open_prefixes tables at (k ∷ []) = tt
+open_prefixes tables at (k ∷ l ∷ ks) =
     let q : List Part = at ++ key k ∷ [] in
-    all_join Open (passing_mentions tables q) (header_way tables (entered_path tables q) (l ∷ ks)) (open_passing tables q (0 == elements_of q tables)) (open_way tables (entered_path tables q) (l ∷ ks))
+    all_join Open (passing_mentions tables q) (header_prefixes tables (entered_path tables q) (l ∷ ks)) (open_passing tables q (0 == elements_of q tables)) (open_prefixes tables (entered_path tables q) (l ∷ ks))
 
 keyval_held : (body : List Part) (name : Name) (v : Value) → AreHeld (map (below body) (keyval_mentions name v)) (map (below body) (keyval_mentions name v))
 keyval_held body name v =
@@ -85,10 +85,10 @@ content_held : (r : Reading) (before after' : Gap) (comment : Option Written) (c
 content_held r before after' comment blank = tt
 content_held r before after' comment (keyval name v) = keyval_held r.body name v
 content_held r before after' comment (header b k a) =
-    open_held _ _ (all_join Open (header_way r.tables [] (keys_of k)) (record { path = header_path r.tables [] (keys_of k); kind = define } ∷ []) (open_way r.tables [] (keys_of k)) (refl, tt))
+    open_held _ _ (all_join Open (header_prefixes r.tables [] (keys_of k)) (record { path = header_path r.tables [] (keys_of k); kind = define } ∷ []) (open_prefixes r.tables [] (keys_of k)) (refl, tt))
 content_held r before after' comment (element b k a) =
     let path : List Part = header_path r.tables [] (keys_of k) in
-    open_held _ _ (all_join Open (header_way r.tables [] (keys_of k)) (record { path = path; kind = kinds_element } ∷ record { path = path ++ index (elements_of path r.tables) ∷ []; kind = begun } ∷ []) (open_way r.tables [] (keys_of k)) (refl, (refl, tt)))
+    open_held _ _ (all_join Open (header_prefixes r.tables [] (keys_of k)) (record { path = path; kind = kinds_element } ∷ record { path = path ++ index (elements_of path r.tables) ∷ []; kind = begun } ∷ []) (open_prefixes r.tables [] (keys_of k)) (refl, (refl, tt)))
 
 pub lines_held : (r : Reading) (ls : List Line) → AreHeld (lines_mentions r ls) (lines_mentions r ls)
 lines_held r [] = tt
@@ -131,11 +131,11 @@ element_lawful profile s k ks texts obeys free =
     let tables : List (List Part) = tables_in ms in
     let p : List Part = header_path tables [] (k ∷ ks) in
     let n : ℕ = elements_of p tables in
-    let way : List Mention = header_way tables [] (k ∷ ks) in
+    let prefixes : List Mention = header_prefixes tables [] (k ∷ ks) in
     let top : Mention = record { path = p; kind = kinds_element } in
     let m : Mention = record { path = p ++ index n ∷ []; kind = begun } in
-    let all : List Mention = way ++ top ∷ [] in
-    let whole : way ++ (top ∷ m ∷ []) ≡ all ++ m ∷ [] = sym (append_assoc way (top ∷ []) (m ∷ [])) in
+    let all : List Mention = prefixes ++ top ∷ [] in
+    let whole : prefixes ++ (top ∷ m ∷ []) ≡ all ++ m ∷ [] = sym (append_assoc prefixes (top ∷ []) (m ∷ [])) in
     let new : line_mentions r (plain_line c) ≡ all ++ m ∷ [] =
     ap (λ (l : List (List ℕ)). statement_mentions r (marks_of.element_header l)) (key_means profile k ks texts)
     ∙ ap (λ (t : List (List Part)). statement_mentions (record { tables = t; body = [] }) (marks_of.element_header (k ∷ ks))) (tables_stated start (lines s)) ∙ whole in
@@ -150,7 +150,7 @@ element_lawful profile s k ks texts obeys free =
     record {
       rules = rules;
       tree = λ q. ap (fact_at q) (now ∙ sym (append_assoc ms all (m ∷ [])))
-          ∙ table_appended ms all m q (all_join (λ x. fact_of x.kind ≡ None) way (top ∷ []) (silent_way tables [] (k ∷ ks)) (refl, tt)) refl before (same_path q m.path) refl
+          ∙ table_appended ms all m q (all_join (λ x. fact_of x.kind ≡ None) prefixes (top ∷ []) (silent_prefixes tables [] (k ∷ ks)) (refl, tt)) refl before (same_path q m.path) refl
           ∙ sym (from_cond ms q (same_path q m.path));
     })
     (append_law s c)

@@ -3,7 +3,7 @@
 -- Three things are shown of the document with one more header. It is of the grammar: a line with valid content was put
 -- in (`valid_append`). It obeys the rules: the refusal looked for the first fault that the header's marks make after
 -- the others and found none (`no_conflict`). Its tree is the old one with a table at the path: only the last mention of
--- the header states a fact (`silent_way`), and at most a table was there before (`before_define`, `table_appended`).
+-- the header states a fact (`silent_prefixes`), and at most a table was there before (`before_define`, `table_appended`).
 -- For the refusal to speak of the same marks, the arrays of tables in the mentions have to be those of the reading:
 -- `tables_stated`, by induction over the lines.
 --
@@ -23,7 +23,7 @@ use Rattle.keep_path.specs.Path.{Part, key, index, same_path}
 use Rattle.keep_meaning.specs.Rules.{ObeysRules}
 use Rattle.keep_meaning.specs.Faults.{Fault, first_fault_after}
 use Rattle.keep_meaning.specs.Marks as marks_of
-use Rattle.keep_meaning.specs.Marks.{MentionKind, through, past, define, element as kinds_element, dotted, value, begun, passed, item, Mention, below, fact_of, Reading, start, Statement, statement_mentions, header_path, header_way, entered_path, elements_of, passing_mentions, mark_of, marks}
+use Rattle.keep_meaning.specs.Marks.{MentionKind, through, past, define, element as kinds_element, dotted, value, begun, passed, item, Mention, below, fact_of, Reading, start, Statement, statement_mentions, header_path, header_prefixes, entered_path, elements_of, passing_mentions, mark_of, marks}
 use Rattle.keep_meaning.specs.Meaning.{keys_of, body_fact, valued_mentions, keyed_mentions, entry_mentions, entries_mentions, keyval_mentions, line_mentions, after_line, lines_mentions, reading_after_lines, lines, mentions_in}
 use Rattle.keep_meaning.specs.Nodes.{is_at, kinds_at, fact_at, first_of, is_element}
 use Rattle.keep_edit_spec.specs.Lines.{plain_line, is_empty}
@@ -40,7 +40,7 @@ use Rattle.keep_edit_spec.proofs.Common.Marks.{rules_of_document}
 use Rattle.keep_edit_spec.proofs.Append.AppendLaw.{append_law}
 use Rattle.keep_edit_spec.proofs.Common.InsertLaw.{without_ways}
 use Rattle.keep_edit_spec.proofs.Common.NewLines.{IsKeyText, valid_at_line, valid_key, key_means}
-use Rattle.keep_meaning.proofs.Shared.{Tells, first_fault_after-tells}
+use Rattle.keep_meaning.proofs.Shared.{StatesEdits, first_fault_after-states}
 
 -- ---- the tables stated are those of the reading
 
@@ -76,12 +76,12 @@ none_passing : (tables : List (List Part)) (q : List Part) (b : Bool) → AllOf 
 none_passing tables q true = (refl, tt)
 none_passing tables q false = (refl, (refl, tt))
 
-none_way : (tables : List (List Part)) (at : List Part) (ks : List (List ℕ)) → AllOf NoElement (header_way tables at ks)
-none_way tables at [] = tt
-none_way tables at (k ∷ []) = tt
-none_way tables at (k ∷ l ∷ ks) =
+none_prefixes : (tables : List (List Part)) (at : List Part) (ks : List (List ℕ)) → AllOf NoElement (header_prefixes tables at ks)
+none_prefixes tables at [] = tt
+none_prefixes tables at (k ∷ []) = tt
+none_prefixes tables at (k ∷ l ∷ ks) =
     let q : List Part = at ++ key k ∷ [] in
-    all_join NoElement (passing_mentions tables q) (header_way tables (entered_path tables q) (l ∷ ks)) (none_passing tables q (0 == elements_of q tables)) (none_way tables (entered_path tables q) (l ∷ ks))
+    all_join NoElement (passing_mentions tables q) (header_prefixes tables (entered_path tables q) (l ∷ ks)) (none_passing tables q (0 == elements_of q tables)) (none_prefixes tables (entered_path tables q) (l ∷ ks))
 
 content_tables : (r : Reading) (before after' : Gap) (comment : Option Written) (c : Content)
     → (let l : Line = record { before = before; content = c; after = after'; comment = comment } in (after_line r l).tables ≡ r.tables ++ tables_in (line_mentions r l))
@@ -89,13 +89,13 @@ content_tables r before after' comment blank = sym (append-nil r.tables)
 content_tables r before after' comment (keyval name v) =
     sym (ap (λ l. r.tables ++ l) (tables_none (map (below r.body) (keyval_mentions name v)) (none_below r.body (keyval_mentions name v) (none_named 0 (Some name) (body_fact v.body) (entries_mentions 0 v.nested) (none_entries 0 v.nested)))) ∙ append-nil r.tables)
 content_tables r before after' comment (header b k a) =
-    let way : List Mention = header_way r.tables [] (keys_of k) in
-    sym (ap (λ l. r.tables ++ l) (tables-append way (record { path = header_path r.tables [] (keys_of k); kind = define } ∷ []) ∙ ap (λ l. l ++ []) (tables_none way (none_way r.tables [] (keys_of k)))) ∙ append-nil r.tables)
+    let prefixes : List Mention = header_prefixes r.tables [] (keys_of k) in
+    sym (ap (λ l. r.tables ++ l) (tables-append prefixes (record { path = header_path r.tables [] (keys_of k); kind = define } ∷ []) ∙ ap (λ l. l ++ []) (tables_none prefixes (none_prefixes r.tables [] (keys_of k)))) ∙ append-nil r.tables)
 content_tables r before after' comment (element b k a) =
-    let way : List Mention = header_way r.tables [] (keys_of k) in
+    let prefixes : List Mention = header_prefixes r.tables [] (keys_of k) in
     let path : List Part = header_path r.tables [] (keys_of k) in
-    sym (ap (λ l. r.tables ++ l) (tables-append way (record { path = path; kind = kinds_element } ∷ record { path = path ++ index (elements_of path r.tables) ∷ []; kind = begun } ∷ [])
-    ∙ ap (λ l. l ++ path ∷ []) (tables_none way (none_way r.tables [] (keys_of k)))))
+    sym (ap (λ l. r.tables ++ l) (tables-append prefixes (record { path = path; kind = kinds_element } ∷ record { path = path ++ index (elements_of path r.tables) ∷ []; kind = begun } ∷ [])
+    ∙ ap (λ l. l ++ path ∷ []) (tables_none prefixes (none_prefixes r.tables [] (keys_of k)))))
 
 pub tables_stated : (r : Reading) (ls : List Line) → (reading_after_lines r ls).tables ≡ r.tables ++ tables_in (lines_mentions r ls)
 tables_stated r [] = sym (append-nil r.tables)
@@ -115,7 +115,7 @@ pub no_conflict : (st : Statement) (ms : List Mention) → ObeysRules (marks ms)
 no_conflict st ms obeys h =
     let new : List Mention = statement_mentions (end_reading ms) st in
     let e : first_fault_after (marks ms) (marks new) ≡ None = no_fault (first_fault_after (marks ms) (marks new)) h in
-    subst ObeysRules (sym (filter_map-append mark_of ms new)) (subst (Tells (marks ms ++ marks new)) e (first_fault_after-tells (marks ms) (marks new) obeys))
+    subst ObeysRules (sym (filter_map-append mark_of ms new)) (subst (StatesEdits (marks ms ++ marks new)) e (first_fault_after-states (marks ms) (marks new) obeys))
 
 -- ---- the grammar
 
@@ -142,12 +142,12 @@ silent_passing : (tables : List (List Part)) (q : List Part) (b : Bool) → AllO
 silent_passing tables q true = (refl, tt)
 silent_passing tables q false = (refl, (refl, tt))
 
-pub silent_way : (tables : List (List Part)) (at : List Part) (ks : List (List ℕ)) → AllOf NoFact (header_way tables at ks)
-silent_way tables at [] = tt
-silent_way tables at (k ∷ []) = tt
-silent_way tables at (k ∷ l ∷ ks) =
+pub silent_prefixes : (tables : List (List Part)) (at : List Part) (ks : List (List ℕ)) → AllOf NoFact (header_prefixes tables at ks)
+silent_prefixes tables at [] = tt
+silent_prefixes tables at (k ∷ []) = tt
+silent_prefixes tables at (k ∷ l ∷ ks) =
     let q : List Part = at ++ key k ∷ [] in
-    all_join NoFact (passing_mentions tables q) (header_way tables (entered_path tables q) (l ∷ ks)) (silent_passing tables q (0 == elements_of q tables)) (silent_way tables (entered_path tables q) (l ∷ ks))
+    all_join NoFact (passing_mentions tables q) (header_prefixes tables (entered_path tables q) (l ∷ ks)) (silent_passing tables q (0 == elements_of q tables)) (silent_prefixes tables (entered_path tables q) (l ∷ ks))
 
 -- at most a table is there
 abbrev pub AtMostTable : MentionKind → Type 0
@@ -174,13 +174,13 @@ other_end : (q : List Part) (m : Mention) (ms : List Mention) → is_at q m ≡ 
 other_end q m ms e = ap (λ (l : List MentionKind). first_of (filter_map fact_of l)) (kinds_at-append q ms (m ∷ []) ∙ ap (λ (l : List MentionKind). kinds_at q ms ++ l) (other_mentions q m e) ∙ append-nil (kinds_at q ms))
 
 -- mentions that tell no fact, and then a table at a path where at most a table was there
-pub table_appended : (ms way : List Mention) (m : Mention) (q : List Part) → AllOf NoFact way → fact_of m.kind ≡ Some table → AllOf (λ x. x.path ≡ m.path → AtMostTable x.kind) ms → (b : Bool) → same_path q m.path ≡ b
-    → fact_at q ((ms ++ way) ++ m ∷ []) ≡ cond b (Some table) (fact_at q ms)
-table_appended ms way m q silent stated h true e =
+pub table_appended : (ms prefixes : List Mention) (m : Mention) (q : List Part) → AllOf NoFact prefixes → fact_of m.kind ≡ Some table → AllOf (λ x. x.path ≡ m.path → AtMostTable x.kind) ms → (b : Bool) → same_path q m.path ≡ b
+    → fact_at q ((ms ++ prefixes) ++ m ∷ []) ≡ cond b (Some table) (fact_at q ms)
+table_appended ms prefixes m q silent stated h true e =
     let same : q ≡ m.path = same_path-sound q m.path e in
     let here : is_at q m ≡ true = subst (λ (p : List Part). same_path m.path p ≡ true) (sym same) (same_path-refl m.path) in
-    without_ways q ms way (m ∷ []) silent ∙ table_end q m ms here stated (subst (λ (p : List Part). AllOf (λ x. x.path ≡ p → AtMostTable x.kind) ms) (sym same) h)
-table_appended ms way m q silent stated h false e = without_ways q ms way (m ∷ []) silent ∙ other_end q m ms (by (is_at q m) refl)
+    without_ways q ms prefixes (m ∷ []) silent ∙ table_end q m ms here stated (subst (λ (p : List Part). AllOf (λ x. x.path ≡ p → AtMostTable x.kind) ms) (sym same) h)
+table_appended ms prefixes m q silent stated h false e = without_ways q ms prefixes (m ∷ []) silent ∙ other_end q m ms (by (is_at q m) refl)
   where
     by : (c : Bool) → is_at q m ≡ c → is_at q m ≡ false
     by false k = k
@@ -203,9 +203,9 @@ before_define begun h = inr refl
 before_define passed h = inl refl
 before_define (item f) h = absurd cc
 
-defined_before : (ms way : List Mention) (p : List Part) → Across Allowed ms (way ++ record { path = p; kind = define } ∷ []) → AllOf (λ x. x.path ≡ p → AtMostTable x.kind) ms
-defined_before [] way p h = tt
-defined_before (x ∷ ms) way p h = ((λ e. before_define x.kind ((all_right (Allowed x) way (record { path = p; kind = define } ∷ []) h.0).0 e)), defined_before ms way p h.1)
+defined_before : (ms prefixes : List Mention) (p : List Part) → Across Allowed ms (prefixes ++ record { path = p; kind = define } ∷ []) → AllOf (λ x. x.path ≡ p → AtMostTable x.kind) ms
+defined_before [] prefixes p h = tt
+defined_before (x ∷ ms) prefixes p h = ((λ e. before_define x.kind ((all_right (Allowed x) prefixes (record { path = p; kind = define } ∷ []) h.0).0 e)), defined_before ms prefixes p h.1)
 
 table_lawful : (profile : Profile) (s : Document) (k : List ℕ) (ks : List (List ℕ)) → AllOf (IsKeyText profile) (k ∷ ks) → ObeysRules (marks (mentions_in s)) → conflict (marks_of.header (k ∷ ks)) (mentions_in s) ≡ None
     → EachTo (IsLawful s (append_table (k ∷ ks))) (append s (header [] (key_with (k ∷ ks)) []))
@@ -213,22 +213,22 @@ table_lawful profile s k ks texts obeys free =
     let ms : List Mention = mentions_in s in
     let c : Content = header [] (key_with (k ∷ ks)) [] in
     let r : Reading = reading_after_lines start (lines s) in
-    let way : List Mention = header_way (tables_in ms) [] (k ∷ ks) in
+    let prefixes : List Mention = header_prefixes (tables_in ms) [] (k ∷ ks) in
     let p : List Part = header_path (tables_in ms) [] (k ∷ ks) in
     let m : Mention = record { path = p; kind = define } in
-    let new : line_mentions r (plain_line c) ≡ way ++ m ∷ [] =
+    let new : line_mentions r (plain_line c) ≡ prefixes ++ m ∷ [] =
     ap (λ (l : List (List ℕ)). statement_mentions r (marks_of.header l)) (key_means profile k ks texts)
     ∙ ap (λ (t : List (List Part)). statement_mentions (record { tables = t; body = [] }) (marks_of.header (k ∷ ks))) (tables_stated start (lines s)) in
-    let allowed : ObeysRules (marks (ms ++ (way ++ m ∷ []))) = no_conflict (marks_of.header (k ∷ ks)) ms obeys free in
+    let allowed : ObeysRules (marks (ms ++ (prefixes ++ m ∷ []))) = no_conflict (marks_of.header (k ∷ ks)) ms obeys free in
     each_to (λ s'. mentions_in s' ≡ ms ++ line_mentions r (plain_line c)) (IsLawful s (append_table (k ∷ ks))) (append s c)
     (λ s' is.
-    let now : mentions_in s' ≡ ms ++ (way ++ m ∷ []) = is ∙ ap (λ (l : List Mention). ms ++ l) new in
+    let now : mentions_in s' ≡ ms ++ (prefixes ++ m ∷ []) = is ∙ ap (λ (l : List Mention). ms ++ l) new in
     let rules : Rules (mentions_in s') = rules_of_document s' (subst (λ (l : List Mention). ObeysRules (marks l)) (sym now) allowed) in
-    let parts = pairs_split Allowed ms (way ++ m ∷ []) (subst Rules now rules) in
+    let parts = pairs_split Allowed ms (prefixes ++ m ∷ []) (subst Rules now rules) in
     record {
       rules = rules;
-      tree = λ q. ap (fact_at q) (now ∙ sym (append_assoc ms way (m ∷ [])))
-          ∙ table_appended ms way m q (silent_way (tables_in ms) [] (k ∷ ks)) refl (defined_before ms way p parts.across) (same_path q p) refl
+      tree = λ q. ap (fact_at q) (now ∙ sym (append_assoc ms prefixes (m ∷ [])))
+          ∙ table_appended ms prefixes m q (silent_prefixes (tables_in ms) [] (k ∷ ks)) refl (defined_before ms prefixes p parts.across) (same_path q p) refl
           ∙ sym (from_cond ms q (same_path q p));
     })
     (append_law s c)

@@ -13,7 +13,7 @@ use Rattle.keep_types.specs.declared.role.Role.{Role}
 use Rattle.keep_types.specs.declared.role.Role.TheVariants.{Through, Past, Define, Element}
 use Rattle.keep_meaning.specs.Faults.{Fault, refuses, first_fault_after}
 use Rattle.keep_meaning.specs.Marks as marks_of
-use Rattle.keep_meaning.specs.Marks.{Mention, through, past, define, element as kinds_element, begun, passed, mark_of, marks, elements_of, entered_path, header_path, header_way, statement_mentions}
+use Rattle.keep_meaning.specs.Marks.{Mention, through, past, define, element as kinds_element, begun, passed, mark_of, marks, elements_of, entered_path, header_path, header_prefixes, statement_mentions}
 use Rattle.keep_meaning.specs.Rules.{Mark, allows, why_of}
 use Rattle.keep_path.specs.Path.{Part, key, index, same_path}
 use Rattle.keep_edit_spec.specs.Headers.{is_refused, header_conflict}
@@ -88,7 +88,7 @@ passing tables q b = cond b (record { path = q; kind = through } ∷ []) (record
 module _ (earlier : List Mark) (tables : List (List Part)) (passes : LetsPass earlier tables) (role : Role) where
   -- the marks of the keys to go
   abbrev to_go : List Part → List (List ℕ) → List Mark
-  to_go at keys = marks (header_way tables at keys) ++ record { role = role; path = header_path tables at keys } ∷ []
+  to_go at keys = marks (header_prefixes tables at keys) ++ record { role = role; path = header_path tables at keys } ∷ []
 
   -- one key further on, after a mark of that role
   onward : (own : List Mark) (at : List Part) (k l : List ℕ) (ks : List (List ℕ)) (r : Role) → AllOf (Short at) own
@@ -117,13 +117,13 @@ module _ (earlier : List Mark) (tables : List (List Part)) (passes : LetsPass ea
       by true e more =
           let q : List Part = at ++ key k ∷ [] in
           let to : List Part = entered_path tables q in
-          ap (λ (b : Bool). reason (earlier ++ own) (marks (passing tables q b ++ header_way tables to (l ∷ ks)) ++ record { role = role; path = header_path tables to (l ∷ ks) } ∷ [])) e
+          ap (λ (b : Bool). reason (earlier ++ own) (marks (passing tables q b ++ header_prefixes tables to (l ∷ ks)) ++ record { role = role; path = header_path tables to (l ∷ ks) } ∷ [])) e
           ∙ onward own at k l ks Through short more
           ∙ sym (ap (λ (b : Bool). cond (b && is_refused earlier Through q) (Some (why_of Through)) (header_conflict earlier tables to (l ∷ ks) role)) e)
       by false e more =
           let q : List Part = at ++ key k ∷ [] in
           let to : List Part = entered_path tables q in
-          ap (λ (b : Bool). reason (earlier ++ own) (marks (passing tables q b ++ header_way tables to (l ∷ ks)) ++ record { role = role; path = header_path tables to (l ∷ ks) } ∷ [])) e
+          ap (λ (b : Bool). reason (earlier ++ own) (marks (passing tables q b ++ header_prefixes tables to (l ∷ ks)) ++ record { role = role; path = header_path tables to (l ∷ ks) } ∷ [])) e
           ∙ onward own at k l ks Past short more
           ∙ ap (λ (b : Bool). cond b (Some (why_of Past)) (header_conflict earlier tables to (l ∷ ks) role)) (passes q (some_elements (elements_of q tables) e))
           ∙ sym (ap (λ (b : Bool). cond (b && is_refused earlier Through q) (Some (why_of Through)) (header_conflict earlier tables to (l ∷ ks) role)) e)
@@ -134,13 +134,13 @@ module _ (ms : List Mention) (passes : LetsPass (marks ms) (tables_in ms)) (k : 
   pub table_met : first_conflict (marks ms) (marks (statement_mentions (end_reading ms) (marks_of.header (k ∷ ks)))) ≡ header_conflict (marks ms) (tables_in ms) [] (k ∷ ks) Define
   table_met =
       let path : List Part = header_path (tables_in ms) [] (k ∷ ks) in
-      ap (λ (l : List Mark). reason (marks ms) l) (filter_map-append mark_of (header_way (tables_in ms) [] (k ∷ ks)) (record { path = path; kind = define } ∷ []))
-      ∙ ap (λ (l : List Mark). reason l (marks (header_way (tables_in ms) [] (k ∷ ks)) ++ record { role = Define; path = path } ∷ [])) (sym (append-nil (marks ms)))
+      ap (λ (l : List Mark). reason (marks ms) l) (filter_map-append mark_of (header_prefixes (tables_in ms) [] (k ∷ ks)) (record { path = path; kind = define } ∷ []))
+      ∙ ap (λ (l : List Mark). reason l (marks (header_prefixes (tables_in ms) [] (k ∷ ks)) ++ record { role = Define; path = path } ∷ [])) (sym (append-nil (marks ms)))
       ∙ met (marks ms) (tables_in ms) passes Define [] [] k ks tt
 
   pub element_met : first_conflict (marks ms) (marks (statement_mentions (end_reading ms) (marks_of.element_header (k ∷ ks)))) ≡ header_conflict (marks ms) (tables_in ms) [] (k ∷ ks) Element
   element_met =
       let path : List Part = header_path (tables_in ms) [] (k ∷ ks) in
-      ap (λ (l : List Mark). reason (marks ms) l) (filter_map-append mark_of (header_way (tables_in ms) [] (k ∷ ks)) (record { path = path; kind = kinds_element } ∷ record { path = path ++ index (elements_of path (tables_in ms)) ∷ []; kind = begun } ∷ []))
-      ∙ ap (λ (l : List Mark). reason l (marks (header_way (tables_in ms) [] (k ∷ ks)) ++ record { role = Element; path = path } ∷ [])) (sym (append-nil (marks ms)))
+      ap (λ (l : List Mark). reason (marks ms) l) (filter_map-append mark_of (header_prefixes (tables_in ms) [] (k ∷ ks)) (record { path = path; kind = kinds_element } ∷ record { path = path ++ index (elements_of path (tables_in ms)) ∷ []; kind = begun } ∷ []))
+      ∙ ap (λ (l : List Mark). reason l (marks (header_prefixes (tables_in ms) [] (k ∷ ks)) ++ record { role = Element; path = path } ∷ [])) (sym (append-nil (marks ms)))
       ∙ met (marks ms) (tables_in ms) passes Element [] [] k ks tt

@@ -5,7 +5,7 @@ use Rattle.std.specs.List.{list_any}
 use Rattle.std.proofs.lemmas.Bool.{and_parts}
 use Rattle.keep_syntax.specs.Tree.{Written, Gap, Content, blank, keyval, header, element, Line, Document}
 use Rattle.keep_path.specs.Path.{Part, same_path}
-use Rattle.keep_meaning.specs.Marks.{Mention, Reading, start, header_way}
+use Rattle.keep_meaning.specs.Marks.{Mention, Reading, start, header_prefixes}
 use Rattle.keep_meaning.specs.Meaning.{keys_of, line_mentions, after_line, lines_mentions, reading_after_lines, lines, mentions_in}
 use Rattle.keep_meaning.specs.Nodes.{is_at, kinds_at, has, is_define, is_begun}
 use Rattle.keep_edit_spec.specs.Lines.{last_line, begins, is_header, body_length, body_end, more_lines}
@@ -96,8 +96,8 @@ stated_by : (a : List Part) (r : Reading) (before after' : Gap) (comment : Optio
     → (let l : Line = record { before = before; content = c; after = after'; comment = comment } in is_header c ≡ true → (after_line r l).body ≡ a → SomeOf (IsStated a) (line_mentions r l))
 stated_by a r before after' comment blank h e = absurd cc
 stated_by a r before after' comment (keyval n v) h e = absurd cc
-stated_by a r before after' comment (header b k x) h e = some_right (IsStated a) (header_way r.tables [] (keys_of k)) _ (inl (e, refl))
-stated_by a r before after' comment (element b k x) h e = some_right (IsStated a) (header_way r.tables [] (keys_of k)) _ (inr (inl (e, refl)))
+stated_by a r before after' comment (header b k x) h e = some_right (IsStated a) (header_prefixes r.tables [] (keys_of k)) _ (inl (e, refl))
+stated_by a r before after' comment (element b k x) h e = some_right (IsStated a) (header_prefixes r.tables [] (keys_of k)) _ (inr (inl (e, refl)))
 
 pub begins_stated : (a : List Part) (r : Reading) (l : Line) → begins a r l ≡ true → SomeOf (IsStated a) (line_mentions r l)
 begins_stated a r l h =

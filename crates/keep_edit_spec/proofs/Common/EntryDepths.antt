@@ -31,7 +31,7 @@ use Rattle.keep_edit_spec.proofs.Common.SetLaw.{IsAloneAt, some_alone_below, clo
 use Rattle.keep_edit_spec.proofs.Common.SetDocument.{valued_facts}
 use Rattle.keep_edit_spec.proofs.Common.ValueThere.{some_cases, alone_of_fact, entry_beyond}
 use Rattle.keep_edit_spec.proofs.Common.DoneAtValue.{fact_join, fact_keep, entries_root, step_facts}
-use Rattle.keep_edit_spec.proofs.Common.ValuesMention.{tells_value, value_mentions, zip_join}
+use Rattle.keep_edit_spec.proofs.Common.ValuesMention.{states_value, value_mentions, zip_join}
 use Rattle.keep_edit_spec.proofs.Common.ValueNumber.{false_unless}
 
 -- ---- counting brackets at prefixes
@@ -150,7 +150,7 @@ mentions-entry n (Some name) f nested =
     let ms : List Mention = valued_mentions (value f) nested in
     let p : List Part = map key (keys_of name.key) in
     ap value_mentions (keyed_split (keys_of name.key) ms)
-    ∙ filter-append tells_value (keyed_mentions (keys_of name.key) []) (map (below p) ms)
+    ∙ filter-append states_value (keyed_mentions (keys_of name.key) []) (map (below p) ms)
     ∙ ap (λ (l : List Mention). l ++ value_mentions (map (below p) ms)) (mentions-dots (keys_of name.key))
     ∙ mentions-below p ms
 
@@ -310,6 +310,6 @@ entries_deep profile place n p (entry name body nested after comma rest) are rul
       deep = h.deep ∙ ap (λ (d : ℕ). p.depth + d) (sym (count_same (is_bracket_at whole) (is_bracket_at more) m.path (λ q k qs e. before_same n name body nested rest rules m.path q k qs e h.alone)));
       alone = some_right (IsAloneAt m.path) first more h.alone;
     }) (entries_deep profile place (n + 1) r rest are.5 split.right) in
-    let mentioned : value_mentions whole ≡ map (below s) vs ++ value_mentions more = filter-append tells_value first more ∙ ap (λ (l : List Mention). l ++ value_mentions more) (mentions-entry n name f within) in
+    let mentioned : value_mentions whole ≡ map (below s) vs ++ value_mentions more = filter-append states_value first more ∙ ap (λ (l : List Mention). l ++ value_mentions more) (mentions-entry n name f within) in
     subst (λ (l : List Mention). AllZip (IsDeep p.depth whole) l (entries_values p (entry name body nested after comma rest))) (sym mentioned)
     (zip_join (IsDeep p.depth whole) (map (below s) vs) (value_mentions more) (own ∷ entries_values i nested) (entries_values r rest) here further)

@@ -3,7 +3,7 @@ use Rattle.std.proofs.Common.{◌≡◌, ℕ, Bool, true, false, cond, List, [],
 use Rattle.std.specs.Prelude.{◌==◌}
 use Rattle.keep_syntax.specs.Tree.{Written, Gap, Name, Value, Content, blank, keyval, header, element, Line, Document}
 use Rattle.keep_path.specs.Path.{Part, key}
-use Rattle.keep_meaning.specs.Marks.{through, past, passed, Mention, below, Reading, start, elements_of, entered_path, passing_mentions, header_path, header_way}
+use Rattle.keep_meaning.specs.Marks.{through, past, passed, Mention, below, Reading, start, elements_of, entered_path, passing_mentions, header_path, header_prefixes}
 use Rattle.keep_meaning.specs.Meaning.{key_value, further_value, keys_of, body_fact, entries_mentions, step, keyval_mentions, line_mentions, after_line, lines_mentions, lines, mentions_in}
 use Rattle.keep_edit_spec.proofs.Common.Runs.{strip_both, AllOf, SomeOf, Pairs, pairs_split, pairs_join, all_join, all_map, Across, Rules, IsDisjoint, IsUnder}
 use Rattle.keep_edit_spec.proofs.Common.LineLaws.{EndsInKey, lines_closed}
@@ -26,11 +26,11 @@ plain_passing : (tables : List (List Part)) (at : List Part) (k : List ℕ) (b :
 plain_passing tables at k true = record { formed = ((at, k, refl), tt); none = ((λ e. cc), tt) }
 plain_passing tables at k false = record { formed = ((at, k, refl), (tt, tt)); none = ((λ e. cc), ((λ e. cc), tt)) }
 
-plain_way : (tables : List (List Part)) (at : List Part) (k : List ℕ) (ks : List (List ℕ)) → IsPlain (header_way tables at (k ∷ ks))
-plain_way tables at k [] = record { formed = tt; none = tt }
-plain_way tables at k (l ∷ ks) =
-    plain_join (passing_mentions tables (at ++ key k ∷ [])) (header_way tables (entered_path tables (at ++ key k ∷ [])) (l ∷ ks))
-    (plain_passing tables at k (0 == elements_of (at ++ key k ∷ []) tables)) (plain_way tables (entered_path tables (at ++ key k ∷ [])) l ks)
+plain_prefixes : (tables : List (List Part)) (at : List Part) (k : List ℕ) (ks : List (List ℕ)) → IsPlain (header_prefixes tables at (k ∷ ks))
+plain_prefixes tables at k [] = record { formed = tt; none = tt }
+plain_prefixes tables at k (l ∷ ks) =
+    plain_join (passing_mentions tables (at ++ key k ∷ [])) (header_prefixes tables (entered_path tables (at ++ key k ∷ [])) (l ∷ ks))
+    (plain_passing tables at k (0 == elements_of (at ++ key k ∷ []) tables)) (plain_prefixes tables (entered_path tables (at ++ key k ∷ [])) l ks)
 
 pub path_ends : (tables : List (List Part)) (at : List Part) (k : List ℕ) (ks : List (List ℕ)) → EndsInKey (header_path tables at (k ∷ ks))
 path_ends tables at k [] = (at, k, refl)
@@ -45,10 +45,10 @@ sort_content : (r : Reading) (before after' : Gap) (comment : Option Written) (c
 sort_content r before after' comment blank = plain (record { formed = tt; none = tt })
 sort_content r before after' comment (keyval name v) = of_keyval name v refl refl
 sort_content r before after' comment (header b k a) =
-    plain (plain_join (header_way r.tables [] (keys_of k)) _ (plain_way r.tables [] (key_value k.first) (map further_value k.more))
+    plain (plain_join (header_prefixes r.tables [] (keys_of k)) _ (plain_prefixes r.tables [] (key_value k.first) (map further_value k.more))
     (record { formed = (path_ends r.tables [] (key_value k.first) (map further_value k.more), tt); none = ((λ e. cc), tt) }))
 sort_content r before after' comment (element b k a) =
-    plain (plain_join (header_way r.tables [] (keys_of k)) _ (plain_way r.tables [] (key_value k.first) (map further_value k.more))
+    plain (plain_join (header_prefixes r.tables [] (keys_of k)) _ (plain_prefixes r.tables [] (key_value k.first) (map further_value k.more))
     (record { formed = (path_ends r.tables [] (key_value k.first) (map further_value k.more), (tt, tt)); none = ((λ e. cc), ((λ e. cc), tt)) }))
 
 sort_line : (r : Reading) (l : Line) → LineSort r l

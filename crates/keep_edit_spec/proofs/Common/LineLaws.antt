@@ -11,7 +11,7 @@ use Rattle.std.proofs.Common.{◌≡◌, ℕ, ◌-◌, Bool, true, false, cond, 
 use Rattle.std.specs.Prelude.{◌==◌}
 use Rattle.keep_syntax.specs.Tree.{Written, Gap, Content, blank, keyval, header, element, Line}
 use Rattle.keep_path.specs.Path.{Part, key, index, same_part}
-use Rattle.keep_meaning.specs.Marks.{MentionKind, through, past, define, element as kinds_element, begun, passed, Mention, below, Reading, elements_of, entered_path, passing_mentions, header_path, header_way}
+use Rattle.keep_meaning.specs.Marks.{MentionKind, through, past, define, element as kinds_element, begun, passed, Mention, below, Reading, elements_of, entered_path, passing_mentions, header_path, header_prefixes}
 use Rattle.keep_meaning.specs.Meaning.{key_value, further_value, keys_of, body_fact, entries_mentions, keyval_mentions, line_mentions, after_line, lines_mentions, reading_after_lines}
 use Rattle.keep_edit_spec.specs.Look.{strip}
 use Rattle.keep_edit_spec.proofs.Common.Runs.{solid, AllOf, SomeOf, all_join, all_map, some_left, some_right, IsUnder, same_part-sound, strip-sound}
@@ -103,7 +103,7 @@ passing_under tables p q ends true = ((λ u. u), tt)
 passing_under tables p q ends false = ((λ u. u), ((λ u. entered_cases tables p q ends u), tt))
 
 abbrev pub header_all : List (List Part) → List Part → List (List ℕ) → MentionKind → List Mention
-header_all tables at keys mention_kind = header_way tables at keys ++ record { path = header_path tables at keys; kind = mention_kind } ∷ []
+header_all tables at keys mention_kind = header_prefixes tables at keys ++ record { path = header_path tables at keys; kind = mention_kind } ∷ []
 
 pub record IsHeaderClosed (tables : List (List Part)) (p at : List Part) (keys : List (List ℕ)) (mention_kind : MentionKind) : Type 0 where
   pub each : ClosedFrom p at (header_all tables at keys mention_kind) (header_all tables at keys mention_kind)
@@ -121,22 +121,22 @@ header_closed tables p at [] k mention_kind s ends = record {
 header_closed tables p at (l ∷ ks) k mention_kind s ends =
     let q : List Part = at ++ key k ∷ [] in
     let ih = header_closed tables p (entered_path tables q) ks l mention_kind s ends in
-    let way : List Mention = passing_mentions tables q in
+    let prefixes : List Mention = passing_mentions tables q in
     let rest : List Mention = header_all tables (entered_path tables q) (l ∷ ks) mention_kind in
-    let whole : header_all tables at (k ∷ l ∷ ks) mention_kind ≡ way ++ rest = append_assoc way (header_way tables (entered_path tables q) (l ∷ ks)) (record { path = header_path tables (entered_path tables q) (l ∷ ks); kind = mention_kind } ∷ []) in
-    let reach : Reaches p q → SomeOf (IsSolidAt p) (way ++ rest) ⊎ Reaches p at = λ u. elim (snoc_cases p at k u) [
-      | inl e ↦ inl (some_left (IsSolidAt p) way rest (subst (λ (x : List Part). SomeOf (IsSolidAt x) way) (sym e) (passing_top tables q (0 == elements_of q tables))))
+    let whole : header_all tables at (k ∷ l ∷ ks) mention_kind ≡ prefixes ++ rest = append_assoc prefixes (header_prefixes tables (entered_path tables q) (l ∷ ks)) (record { path = header_path tables (entered_path tables q) (l ∷ ks); kind = mention_kind } ∷ []) in
+    let reach : Reaches p q → SomeOf (IsSolidAt p) (prefixes ++ rest) ⊎ Reaches p at = λ u. elim (snoc_cases p at k u) [
+      | inl e ↦ inl (some_left (IsSolidAt p) prefixes rest (subst (λ (x : List Part). SomeOf (IsSolidAt x) prefixes) (sym e) (passing_top tables q (0 == elements_of q tables))))
       | inr v ↦ inr v
     ] in
-    let onward : SomeOf (IsSolidAt p) rest ⊎ Reaches p (entered_path tables q) → SomeOf (IsSolidAt p) (way ++ rest) ⊎ Reaches p at = λ h. elim h [
-      | inl h' ↦ inl (some_right (IsSolidAt p) way rest h')
+    let onward : SomeOf (IsSolidAt p) rest ⊎ Reaches p (entered_path tables q) → SomeOf (IsSolidAt p) (prefixes ++ rest) ⊎ Reaches p at = λ h. elim h [
+      | inl h' ↦ inl (some_right (IsSolidAt p) prefixes rest h')
       | inr u ↦ reach (entered_cases tables p q ends u)
     ] in
     record {
       each = subst (λ (l : List Mention). ClosedFrom p at l l) (sym whole)
-          (all_join (λ m. IsUnder p m → SomeOf (IsSolidAt p) (way ++ rest) ⊎ Reaches p at) way rest
-          (all_map (λ m. IsUnder p m → Reaches p q) (λ m. IsUnder p m → SomeOf (IsSolidAt p) (way ++ rest) ⊎ Reaches p at) (λ m f u. reach (f u)) way (passing_under tables p q ends (0 == elements_of q tables)))
-          (all_map (λ m. IsUnder p m → SomeOf (IsSolidAt p) rest ⊎ Reaches p (entered_path tables q)) (λ m. IsUnder p m → SomeOf (IsSolidAt p) (way ++ rest) ⊎ Reaches p at) (λ m f u. onward (f u)) rest ih.each));
+          (all_join (λ m. IsUnder p m → SomeOf (IsSolidAt p) (prefixes ++ rest) ⊎ Reaches p at) prefixes rest
+          (all_map (λ m. IsUnder p m → Reaches p q) (λ m. IsUnder p m → SomeOf (IsSolidAt p) (prefixes ++ rest) ⊎ Reaches p at) (λ m f u. reach (f u)) prefixes (passing_under tables p q ends (0 == elements_of q tables)))
+          (all_map (λ m. IsUnder p m → SomeOf (IsSolidAt p) rest ⊎ Reaches p (entered_path tables q)) (λ m. IsUnder p m → SomeOf (IsSolidAt p) (prefixes ++ rest) ⊎ Reaches p at) (λ m f u. onward (f u)) rest ih.each));
       path = λ u. subst (λ (l : List Mention). SomeOf (IsSolidAt p) l ⊎ Reaches p at) (sym whole) (onward (ih.path u));
     }
 
@@ -188,8 +188,8 @@ content_closed p r before after' comment ends (element b k a) =
     let first : List Mention = header_all r.tables [] (keys_of k) kinds_element in
     let more : List Mention = record { path = path ++ index n ∷ []; kind = begun } ∷ [] in
     let h = header_closed r.tables p [] (map further_value k.more) (key_value k.first) kinds_element refl ends in
-    let whole : first ++ more ≡ header_way r.tables [] (keys_of k) ++ (record { path = path; kind = kinds_element } ∷ more) =
-    append_assoc (header_way r.tables [] (keys_of k)) (record { path = path; kind = kinds_element } ∷ []) more in
+    let whole : first ++ more ≡ header_prefixes r.tables [] (keys_of k) ++ (record { path = path; kind = kinds_element } ∷ more) =
+    append_assoc (header_prefixes r.tables [] (keys_of k)) (record { path = path; kind = kinds_element } ∷ []) more in
     let lift : SomeOf (IsSolidAt p) first ⊎ Reaches p [] → SomeOf (IsSolidAt p) (first ++ more) ⊎ Reaches p r.body = λ s. elim (header_line p r.body first ends s) [
       | inl t ↦ inl (some_left (IsSolidAt p) first more t)
       | inr v ↦ inr v

@@ -4,7 +4,7 @@ use Rattle.std.specs.Prelude.{drop, ◌==◌}
 use Rattle.keep_syntax.specs.Tree.{Written, Gap, Name, Entries, none, entry, Content, blank, keyval, header, element, Line, Document}
 use Rattle.keep_path.specs.Path.{Part, key, index, same_path}
 use Rattle.keep_meaning.specs.Fact.{Fact}
-use Rattle.keep_meaning.specs.Marks.{through, past, define, dotted, value, passed, item, Mention, Reading, start, below, header_path, header_way, passing_mentions, entered_path, elements_of}
+use Rattle.keep_meaning.specs.Marks.{through, past, define, dotted, value, passed, item, Mention, Reading, start, below, header_path, header_prefixes, passing_mentions, entered_path, elements_of}
 use Rattle.keep_meaning.specs.Meaning.{keys_of, key_value, further_value, keyed_mentions, valued_mentions, entry_mentions, entries_mentions, keyval_mentions, body_fact, line_mentions, lines_mentions, after_line, lines, mentions_in}
 use Rattle.keep_meaning.specs.Nodes.{is_define}
 use Rattle.keep_edit_spec.specs.Lines.{in_document, in_lines, last_line, begins, body_length}
@@ -48,12 +48,12 @@ none_pass : (tables : List (List Part)) (q : List Part) (b : Bool)
 none_pass tables q true = (refl, tt)
 none_pass tables q false = (refl, (refl, tt))
 
-none_way : (tables : List (List Part)) (at : List Part) (keys : List (List ℕ)) → AllOf DefinesNone (header_way tables at keys)
-none_way tables at [] = tt
-none_way tables at (k ∷ []) = tt
-none_way tables at (k ∷ l ∷ ks) =
+none_prefixes : (tables : List (List Part)) (at : List Part) (keys : List (List ℕ)) → AllOf DefinesNone (header_prefixes tables at keys)
+none_prefixes tables at [] = tt
+none_prefixes tables at (k ∷ []) = tt
+none_prefixes tables at (k ∷ l ∷ ks) =
     let q : List Part = at ++ key k ∷ [] in
-    all_join DefinesNone (passing_mentions tables q) (header_way tables (entered_path tables q) (l ∷ ks)) (none_pass tables q (0 == elements_of q tables)) (none_way tables (entered_path tables q) (l ∷ ks))
+    all_join DefinesNone (passing_mentions tables q) (header_prefixes tables (entered_path tables q) (l ∷ ks)) (none_pass tables q (0 == elements_of q tables)) (none_prefixes tables (entered_path tables q) (l ∷ ks))
 
 never : (p : List Part) (ms : List Mention) → AllOf DefinesNone ms → SomeOf (IsDefined p) ms → ⊥
 never p [] h s = s
@@ -68,14 +68,14 @@ content_begins p r before after comment blank s = absurd s
 content_begins p r before after comment (keyval name v) s =
     absurd (never p (map (below r.body) (keyval_mentions name v)) (none_below r.body (keyval_mentions name v) (none_named 0 (Some name) (body_fact v.body) (entries_mentions 0 v.nested) (none_entries 0 v.nested))) s)
 content_begins p r before after comment (header b k a) s =
-    let way : List Mention = header_way r.tables [] (keys_of k) in
+    let prefixes : List Mention = header_prefixes r.tables [] (keys_of k) in
     let at : List Part = header_path r.tables [] (keys_of k) in
-    elim (some_cases (IsDefined p) way (record { path = at; kind = define } ∷ []) s) [
-      | inl w ↦ absurd (never p way (none_way r.tables [] (keys_of k)) w)
+    elim (some_cases (IsDefined p) prefixes (record { path = at; kind = define } ∷ []) s) [
+      | inl w ↦ absurd (never p prefixes (none_prefixes r.tables [] (keys_of k)) w)
       | inr h ↦ (elim h [ inl d ↦ (ap (same_path at) (sym d.0) ∙ same_path-refl at, subst EndsInKey d.0 (path_ends r.tables [] (key_value k.first) (map further_value k.more))) | inr end ↦ absurd end ])
     ]
 content_begins p r before after comment (element b k a) s =
-    absurd (never p _ (all_join DefinesNone (header_way r.tables [] (keys_of k)) _ (none_way r.tables [] (keys_of k)) (refl, (refl, tt))) s)
+    absurd (never p _ (all_join DefinesNone (header_prefixes r.tables [] (keys_of k)) _ (none_prefixes r.tables [] (keys_of k)) (refl, (refl, tt))) s)
 
 -- the path of a defined table ends in a key, and some line begins its body
 pub some_begins : (p : List Part) (r : Reading) (ls : List Line) → SomeOf (IsDefined p) (lines_mentions r ls) → IsSome (last_line (begins p) r ls) × EndsInKey p

@@ -3,7 +3,7 @@ use Rattle.std.proofs.Common.{◌≡◌, ℕ, ◌-◌, Bool, true, false, cond, 
 use Rattle.std.specs.Prelude.{◌==◌}
 use Rattle.keep_syntax.specs.Tree.{Written, Gap, Content, blank, keyval, header, element, Line}
 use Rattle.keep_path.specs.Path.{Part, key, index}
-use Rattle.keep_meaning.specs.Marks.{MentionKind, through, past, define, dotted, value, begun, passed, item, Mention, Reading, start, below, header_path, header_way, passing_mentions, entered_path, elements_of}
+use Rattle.keep_meaning.specs.Marks.{MentionKind, through, past, define, dotted, value, begun, passed, item, Mention, Reading, start, below, header_path, header_prefixes, passing_mentions, entered_path, elements_of}
 use Rattle.keep_meaning.specs.Marks as marks_of
 use Rattle.keep_meaning.specs.Meaning.{keys_of, key_value, further_value, keyed_mentions, valued_mentions, entries_mentions, keyval_mentions, body_fact, line_mentions, lines_mentions, after_line}
 use Rattle.keep_meaning.specs.Nodes.{is_through, is_dotted}
@@ -118,27 +118,27 @@ no_dotted_pass q a n false (inl h) = let no : is_dotted past ≡ true = h.1 in a
 no_dotted_pass q a n false (inr (inl h)) = let no : is_dotted passed ≡ true = h.1 in absurd cc
 no_dotted_pass q a n false (inr (inr h)) = h
 
-pub no_dotted_way : (tables : List (List Part)) (at : List Part) (keys : List (List ℕ)) (a : List Part) → SomeOf (IsMentioned is_dotted a) (header_way tables at keys) → ⊥
-no_dotted_way tables at [] a h = h
-no_dotted_way tables at (k ∷ []) a h = h
-no_dotted_way tables at (k ∷ l ∷ ks) a h =
+pub no_dotted_prefixes : (tables : List (List Part)) (at : List Part) (keys : List (List ℕ)) (a : List Part) → SomeOf (IsMentioned is_dotted a) (header_prefixes tables at keys) → ⊥
+no_dotted_prefixes tables at [] a h = h
+no_dotted_prefixes tables at (k ∷ []) a h = h
+no_dotted_prefixes tables at (k ∷ l ∷ ks) a h =
     let q : List Part = at ++ key k ∷ [] in
-    elim (some_cases (IsMentioned is_dotted a) (passing_mentions tables q) (header_way tables (entered_path tables q) (l ∷ ks)) h) [
+    elim (some_cases (IsMentioned is_dotted a) (passing_mentions tables q) (header_prefixes tables (entered_path tables q) (l ∷ ks)) h) [
       | inl s ↦ no_dotted_pass q a (elements_of q tables - 1) (0 == elements_of q tables) s
-      | inr s ↦ no_dotted_way tables (entered_path tables q) (l ∷ ks) a s
+      | inr s ↦ no_dotted_prefixes tables (entered_path tables q) (l ∷ ks) a s
     ]
 
 dotted_by : (a : List Part) (r : Reading) (before after : Gap) (comment : Option Written) (c : Content)
     → (let l : Line = record { before = before; content = c; after = after; comment = comment } in SomeOf (IsMentioned is_dotted a) (line_mentions r l) → (leads_dotted a r l ≡ true) ⊎ IsHeldIn a (line_mentions r l))
 dotted_by a r before after comment blank s = absurd s
 dotted_by a r before after comment (header b k x) s =
-    elim (some_cases (IsMentioned is_dotted a) (header_way r.tables [] (keys_of k)) _ s) [
-      | inl w ↦ absurd (no_dotted_way r.tables [] (keys_of k) a w)
+    elim (some_cases (IsMentioned is_dotted a) (header_prefixes r.tables [] (keys_of k)) _ s) [
+      | inl w ↦ absurd (no_dotted_prefixes r.tables [] (keys_of k) a w)
       | inr t ↦ (elim t [ inl h ↦ (let no : is_dotted define ≡ true = h.1 in absurd cc) | inr h ↦ absurd h ])
     ]
 dotted_by a r before after comment (element b k x) s =
-    elim (some_cases (IsMentioned is_dotted a) (header_way r.tables [] (keys_of k)) _ s) [
-      | inl w ↦ absurd (no_dotted_way r.tables [] (keys_of k) a w)
+    elim (some_cases (IsMentioned is_dotted a) (header_prefixes r.tables [] (keys_of k)) _ s) [
+      | inl w ↦ absurd (no_dotted_prefixes r.tables [] (keys_of k) a w)
       | inr t ↦ (elim t [
         | inl h ↦ (let no : is_dotted marks_of.element ≡ true = h.1 in absurd cc)
         | inr u ↦ (elim u [ inl h ↦ (let no : is_dotted begun ≡ true = h.1 in absurd cc) | inr h ↦ absurd h ])

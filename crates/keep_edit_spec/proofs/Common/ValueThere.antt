@@ -15,7 +15,7 @@ use Rattle.std.proofs.lemmas.List.{append-nil}
 use Rattle.keep_syntax.specs.Tree.{Written, Gap, Name, name_leaves, named_leaves, opening, closing, comma_leaves, comment_leaves, Body, Entries, none, entry, Value, Content, blank, keyval, header, element, Line, Ended, Document, ended_leaves, bom_leaves, text_of}
 use Rattle.keep_meaning.specs.Fact.{Fact, table, is_value_fact}
 use Rattle.keep_path.specs.Path.{Part, key, index}
-use Rattle.keep_meaning.specs.Marks.{MentionKind, through, past, define, element as kinds_element, dotted, value, begun, passed, item, Mention, below, fact_of, Reading, start, entered_path, passing_mentions, header_way}
+use Rattle.keep_meaning.specs.Marks.{MentionKind, through, past, define, element as kinds_element, dotted, value, begun, passed, item, Mention, below, fact_of, Reading, start, entered_path, passing_mentions, header_prefixes}
 use Rattle.keep_meaning.specs.Meaning.{keys_of, body_fact, valued_mentions, keyed_mentions, entry_mentions, entries_mentions, step, keyval_mentions, line_mentions, after_line, lines_mentions, line_of, mentions_in}
 use Rattle.keep_meaning.specs.Nodes.{is_at, kinds_at, fact_at, first_of}
 use Rattle.keep_edit_spec.specs.Look.{strip}
@@ -211,12 +211,12 @@ not_alone_passing : (tables : List (List Part)) (q : List Part) (b : Bool) → A
 not_alone_passing tables q true = (refl, tt)
 not_alone_passing tables q false = (refl, (refl, tt))
 
-pub not_alone_way : (tables : List (List Part)) (at : List Part) (ks : List (List ℕ)) → AllOf IsNotAlone (header_way tables at ks)
-not_alone_way tables at [] = tt
-not_alone_way tables at (k ∷ []) = tt
-not_alone_way tables at (k ∷ l ∷ ks) =
-    all_join IsNotAlone (passing_mentions tables (at ++ key k ∷ [])) (header_way tables (entered_path tables (at ++ key k ∷ [])) (l ∷ ks))
-    (not_alone_passing tables (at ++ key k ∷ []) _) (not_alone_way tables (entered_path tables (at ++ key k ∷ [])) (l ∷ ks))
+pub not_alone_prefixes : (tables : List (List Part)) (at : List Part) (ks : List (List ℕ)) → AllOf IsNotAlone (header_prefixes tables at ks)
+not_alone_prefixes tables at [] = tt
+not_alone_prefixes tables at (k ∷ []) = tt
+not_alone_prefixes tables at (k ∷ l ∷ ks) =
+    all_join IsNotAlone (passing_mentions tables (at ++ key k ∷ [])) (header_prefixes tables (entered_path tables (at ++ key k ∷ [])) (l ∷ ks))
+    (not_alone_passing tables (at ++ key k ∷ []) _) (not_alone_prefixes tables (entered_path tables (at ++ key k ∷ [])) (l ∷ ks))
 
 some_content-by : (act : Act) (body path : List Part) (name : Name) (v : Value) (o : Option (List Part)) → strip (body ++ step 0 (Some name)) path ≡ o
     → ((more : List Part) → path ≡ (body ++ step 0 (Some name)) ++ more → IsSome (in_value act more v)) → (more : List Part) → path ≡ (body ++ step 0 (Some name)) ++ more
@@ -229,9 +229,9 @@ some_content : (act : Act) → CanBeDone act → (r : Reading) (path : List Part
     → (let l : Line = record { before = before; content = c; after = after; comment = comment } in Rules (line_mentions r l) → SomeOf (IsAloneAt path) (line_mentions r l) → IsSome (in_content act r.body path c))
 some_content act can r path before after comment blank rules s = absurd s
 some_content act can r path before after comment (header b k a) rules s =
-    absurd (never_alone path _ (all_join IsNotAlone (header_way r.tables [] (keys_of k)) _ (not_alone_way r.tables [] (keys_of k)) (refl, tt)) s)
+    absurd (never_alone path _ (all_join IsNotAlone (header_prefixes r.tables [] (keys_of k)) _ (not_alone_prefixes r.tables [] (keys_of k)) (refl, tt)) s)
 some_content act can r path before after comment (element b k a) rules s =
-    absurd (never_alone path _ (all_join IsNotAlone (header_way r.tables [] (keys_of k)) _ (not_alone_way r.tables [] (keys_of k)) (refl, (refl, tt))) s)
+    absurd (never_alone path _ (all_join IsNotAlone (header_prefixes r.tables [] (keys_of k)) _ (not_alone_prefixes r.tables [] (keys_of k)) (refl, (refl, tt))) s)
 some_content act can r path before after comment (keyval name v) rules s =
     let p : List Part = r.body ++ step 0 (Some name) in
     let one = beyond r.body path (keyval_mentions name v) s in

@@ -3,7 +3,7 @@
 --
 -- Mentions and values are numbered in two ways that follow the same tree, so they are compared part by part. Only
 -- keyvals and items mention values: what a key's prefixes and a header mention is left out (`mention_kinds-keyed`,
--- `mention_kinds-way`). An entry has its own value first, then those inside (`mention_kinds-entry`). The lists are then
+-- `mention_kinds-prefixes`). An entry has its own value first, then those inside (`mention_kinds-entry`). The lists are then
 -- joined pairwise (`zip_join`), by induction over the entries (`entries_stated`) and over the lines (`lines_stated`).
 -- That a value's text is at its place comes from the text of the part that it is in (`Spelled`).
 --
@@ -22,7 +22,7 @@ use Rattle.keep_syntax.specs.Numbered as syntax
 use Rattle.keep_syntax.specs.Numbered.{width, value_start, value_end, key_count, name_count, leaf_of, info, nested_of, rest_of, entries_values, content_start, line_start, content_values, line_values, over_lines, next_line, first_line}
 use Rattle.keep_meaning.specs.Fact.{Fact}
 use Rattle.keep_path.specs.Path.{Part, key, index}
-use Rattle.keep_meaning.specs.Marks.{MentionKind, through, past, define, element as kinds_element, value, begun, passed, item, header as header_of, element_header, Mention, below, fact_of, Reading, elements_of, entered_path, passing_mentions, header_way, header_path, statement_mentions, start}
+use Rattle.keep_meaning.specs.Marks.{MentionKind, through, past, define, element as kinds_element, value, begun, passed, item, header as header_of, element_header, Mention, below, fact_of, Reading, elements_of, entered_path, passing_mentions, header_prefixes, header_path, statement_mentions, start}
 use Rattle.keep_meaning.specs.Meaning.{key_value, further_value, keys_of, body_fact, keyed_mentions, entry_mentions, entries_mentions, statement_of, line_mentions, after_line, lines_mentions, line_of, mentions_in}
 use Rattle.keep_meaning.specs.Counts.{is_value, one_if}
 use Rattle.keep_meaning.proofs.Shared.{IsPart, Spelled, spelled_left, spelled_right, content_spelled, LinesSpelled, line_spelled, next_spelled, lines_spelled, valued}
@@ -61,11 +61,11 @@ length-mention_kinds (m ∷ ms) = by (is_value m.kind) (length-mention_kinds ms)
     by false e = omega (arith, e)
 
 -- whether a mention tells a value
-abbrev pub tells_value : Mention → Bool
-tells_value m = is_value m.kind
+abbrev pub states_value : Mention → Bool
+states_value m = is_value m.kind
 
 abbrev pub value_mentions : List Mention → List Mention
-value_mentions ms = filter tells_value ms
+value_mentions ms = filter states_value ms
 
 pub length-mentions : (ms : List Mention) → length (value_mentions ms) ≡ valued ms
 length-mentions [] = refl
@@ -81,26 +81,26 @@ none_either : (b : Bool) (xs ys : List Mention) → value_mention_kinds xs ≡ [
 none_either true xs ys h g = h
 none_either false xs ys h g = g
 
-mention_kinds-way : (tables : List (List Part)) (at : List Part) (ks : List (List ℕ)) → value_mention_kinds (header_way tables at ks) ≡ []
-mention_kinds-way tables at [] = refl
-mention_kinds-way tables at (k ∷ []) = refl
-mention_kinds-way tables at (k ∷ l ∷ ks) =
+mention_kinds-prefixes : (tables : List (List Part)) (at : List Part) (ks : List (List ℕ)) → value_mention_kinds (header_prefixes tables at ks) ≡ []
+mention_kinds-prefixes tables at [] = refl
+mention_kinds-prefixes tables at (k ∷ []) = refl
+mention_kinds-prefixes tables at (k ∷ l ∷ ks) =
     let q : List Part = at ++ key k ∷ [] in
-    mention_kinds-append (passing_mentions tables q) (header_way tables (entered_path tables q) (l ∷ ks))
-    ∙ ap (λ (x : List MentionKind). x ++ value_mention_kinds (header_way tables (entered_path tables q) (l ∷ ks)))
+    mention_kinds-append (passing_mentions tables q) (header_prefixes tables (entered_path tables q) (l ∷ ks))
+    ∙ ap (λ (x : List MentionKind). x ++ value_mention_kinds (header_prefixes tables (entered_path tables q) (l ∷ ks)))
     (none_either (0 == elements_of q tables) (record { path = q; kind = through } ∷ []) (record { path = q; kind = past } ∷ record { path = entered_path tables q; kind = passed } ∷ []) refl refl)
-    ∙ mention_kinds-way tables (entered_path tables q) (l ∷ ks)
+    ∙ mention_kinds-prefixes tables (entered_path tables q) (l ∷ ks)
 
 -- a header says no value
 pub mention_kinds-header : (r : Reading) (ks : List (List ℕ)) → value_mention_kinds (statement_mentions r (header_of ks)) ≡ []
 mention_kinds-header r ks =
-    mention_kinds-append (header_way r.tables [] ks) (record { path = header_path r.tables [] ks; kind = define } ∷ []) ∙ ap (λ (l : List MentionKind). l ++ []) (mention_kinds-way r.tables [] ks)
+    mention_kinds-append (header_prefixes r.tables [] ks) (record { path = header_path r.tables [] ks; kind = define } ∷ []) ∙ ap (λ (l : List MentionKind). l ++ []) (mention_kinds-prefixes r.tables [] ks)
 
 pub mention_kinds-element : (r : Reading) (ks : List (List ℕ)) → value_mention_kinds (statement_mentions r (element_header ks)) ≡ []
 mention_kinds-element r ks =
     let path : List Part = header_path r.tables [] ks in
-    mention_kinds-append (header_way r.tables [] ks) (record { path = path; kind = kinds_element } ∷ record { path = path ++ index (elements_of path r.tables) ∷ []; kind = begun } ∷ [])
-    ∙ ap (λ (l : List MentionKind). l ++ []) (mention_kinds-way r.tables [] ks)
+    mention_kinds-append (header_prefixes r.tables [] ks) (record { path = path; kind = kinds_element } ∷ record { path = path ++ index (elements_of path r.tables) ∷ []; kind = begun } ∷ [])
+    ∙ ap (λ (l : List MentionKind). l ++ []) (mention_kinds-prefixes r.tables [] ks)
 
 -- ---- a value in the text
 

@@ -14,7 +14,7 @@ use Rattle.keep_path.specs.Path.{Part, key}
 use Rattle.keep_meaning.specs.Marks.{marks}
 use Rattle.keep_meaning.specs.Meaning.{mentions_in}
 use Rattle.keep_meaning.specs.Rules.{ObeysRules}
-use Rattle.keep_meaning.proofs.Shared.{first_fault_after-tells}
+use Rattle.keep_meaning.proofs.Shared.{first_fault_after-states}
 use Rattle.keep_edit_spec.specs.Laws.{IsEditable, IsGivenValue, GrowthReachesBound}
 
 abbrev word : List ℕ → Written
@@ -61,7 +61,7 @@ valid : (profile : Profile) → IsDocument profile document
 valid profile = record { ended = (record { line = plain profile; kind = refl; newline = inr refl }, tt); last = headed profile }
 
 rules : ObeysRules (marks (mentions_in document))
-rules = first_fault_after-tells [] (marks (mentions_in document)) (λ i j d lt within. absurd (omega arith))
+rules = first_fault_after-states [] (marks (mentions_in document)) (λ i j d lt within. absurd (omega arith))
 
 editable : (profile : Profile) → IsEditable profile standard_depth document
 editable profile = record { valid = valid profile; shallow = omega arith; obeys = rules }

@@ -9,7 +9,7 @@ use Rattle.std.proofs.Common.{◌≡◌, ℕ, ◌+◌, true, false, List, [], �
 use Rattle.keep_syntax.specs.Tree.{Written, Gap, Name, Entries, none, entry, Value, Content, blank, keyval, header, element, Line}
 use Rattle.keep_path.specs.Path.{Part, key, index}
 use Rattle.keep_meaning.specs.Marks as marks_of
-use Rattle.keep_meaning.specs.Marks.{MentionKind, through, past, define, dotted, value, begun, passed, item, Mention, Reading, start, below, header_path, header_way}
+use Rattle.keep_meaning.specs.Marks.{MentionKind, through, past, define, dotted, value, begun, passed, item, Mention, Reading, start, below, header_path, header_prefixes}
 use Rattle.keep_meaning.specs.Meaning.{keys_of, body_fact, valued_mentions, keyed_mentions, entry_mentions, entries_mentions, keyval_mentions, line_mentions, after_line, lines_mentions}
 use Rattle.keep_meaning.specs.Fact.{Fact}
 use Rattle.keep_meaning.specs.Counts.{is_value}
@@ -21,7 +21,7 @@ use Rattle.keep_edit_spec.proofs.Common.Doubles.{IsMentioned, some_has}
 use Rattle.keep_edit_spec.proofs.Common.Stops.{stops, keyed_stops, some_unbelow, some_mentioned_below, Continues, dotted_prefix}
 use Rattle.keep_edit_spec.proofs.Common.ValueThere.{IsSome, some_cases}
 use Rattle.keep_edit_spec.proofs.Common.RemoveThere.{some_here, some_later}
-use Rattle.keep_edit_spec.proofs.Common.ThroughAlone.{no_dotted_way}
+use Rattle.keep_edit_spec.proofs.Common.ThroughAlone.{no_dotted_prefixes}
 
 -- ---- dots from a path on
 
@@ -143,13 +143,13 @@ line_where : (a : List Part) (r : Reading) (before after : Gap) (comment : Optio
     → (let l : Line = record { before = before; content = c; after = after; comment = comment } in SomeOf (IsMentioned is_dotted a) (line_mentions r l) → (leads_dotted a r l ≡ true) ⊎ IsDottedIn (line_mentions r l) a)
 line_where a r before after comment blank s = absurd s
 line_where a r before after comment (header b k x) s =
-    elim (some_cases (IsMentioned is_dotted a) (header_way r.tables [] (keys_of k)) _ s) [
-      | inl w ↦ absurd (no_dotted_way r.tables [] (keys_of k) a w)
+    elim (some_cases (IsMentioned is_dotted a) (header_prefixes r.tables [] (keys_of k)) _ s) [
+      | inl w ↦ absurd (no_dotted_prefixes r.tables [] (keys_of k) a w)
       | inr t ↦ (elim t [ inl h ↦ (let no : is_dotted define ≡ true = h.1 in absurd cc) | inr h ↦ absurd h ])
     ]
 line_where a r before after comment (element b k x) s =
-    elim (some_cases (IsMentioned is_dotted a) (header_way r.tables [] (keys_of k)) _ s) [
-      | inl w ↦ absurd (no_dotted_way r.tables [] (keys_of k) a w)
+    elim (some_cases (IsMentioned is_dotted a) (header_prefixes r.tables [] (keys_of k)) _ s) [
+      | inl w ↦ absurd (no_dotted_prefixes r.tables [] (keys_of k) a w)
       | inr t ↦ (elim t [
         | inl h ↦ (let no : is_dotted marks_of.element ≡ true = h.1 in absurd cc)
         | inr u ↦ (elim u [ inl h ↦ (let no : is_dotted begun ≡ true = h.1 in absurd cc) | inr h ↦ absurd h ])

@@ -3,7 +3,7 @@ use Rattle.std.proofs.Common.{◌≡◌, ℕ, ◌-◌, ◌<◌, Bool, true, fals
 use Rattle.std.specs.List.{list_any}
 use Rattle.keep_syntax.specs.Tree.{Written, Gap, Name, Value, Content, blank, keyval, header, element, Line, Document}
 use Rattle.keep_path.specs.Path.{Part, key, index, same_path}
-use Rattle.keep_meaning.specs.Marks.{MentionKind, through, past, define, dotted, value, begun, passed, item, Mention, Reading, start, below, header_path, header_way, passing_mentions, entered_path, elements_of}
+use Rattle.keep_meaning.specs.Marks.{MentionKind, through, past, define, dotted, value, begun, passed, item, Mention, Reading, start, below, header_path, header_prefixes, passing_mentions, entered_path, elements_of}
 use Rattle.keep_meaning.specs.Marks as marks_of
 use Rattle.keep_meaning.specs.Meaning.{keys_of, keyed_mentions, valued_mentions, entries_mentions, keyval_mentions, body_fact, line_mentions, lines_mentions, after_line, reading_after_lines, lines, mentions_in}
 use Rattle.keep_meaning.specs.Nodes.{is_at, has, is_through, is_element, is_dotted}
@@ -64,14 +64,14 @@ module _ (s : Document) (h : List Part) (pre : List Line) (before after : Gap) (
         (subst (SomeOf (IsMentioned is h)) (sym (lines_mentions-append start pre (here ∷ post)))
         (some_right (IsMentioned is h) (lines_mentions start pre) _ (some_left (IsMentioned is h) (line_mentions r here) (lines_mentions (after_line r here) post) k)))
 
-    from_way : (head : (SomeOf (IsMentioned is_through h) (line_mentions r here)) → leads_through h r here ≡ true) (way : List Mention) → (SomeOf (IsMentioned is_through h) way → SomeOf (IsMentioned is_through h) (line_mentions r here)) → WayCase r.tables h way → Elsewhere s h
-    from_way head way carry (goes k) = through_by (among (leads_through h) (head (carry k)))
-    from_way head way carry (beyond_element k) =
+    from_way : (head : (SomeOf (IsMentioned is_through h) (line_mentions r here)) → leads_through h r here ≡ true) (prefixes : List Mention) → (SomeOf (IsMentioned is_through h) prefixes → SomeOf (IsMentioned is_through h) (line_mentions r here)) → WayCase r.tables h prefixes → Elsewhere s h
+    from_way head prefixes carry (goes k) = through_by (among (leads_through h) (head (carry k)))
+    from_way head prefixes carry (beyond_element k) =
         let stated : r.tables ≡ tables_in (lines_mentions start pre) = tables_stated start pre in
         an_element (subst (λ (ls : List Line). SomeOf (IsMentioned is_element h) (lines_mentions start ls)) (sym was)
         (subst (SomeOf (IsMentioned is_element h)) (sym (lines_mentions-append start pre (here ∷ post)))
         (some_left (IsMentioned is_element h) (lines_mentions start pre) _ (counted h (lines_mentions start pre) (subst (λ (t : List (List Part)). 0 < elements_of h t) stated k)))))
-    from_way head way carry (at_element q e k) =
+    from_way head prefixes carry (at_element q e k) =
         let n : ℕ = elements_of q r.tables in
         let begin : IsSome (last_line (begins (q ++ index (n - 1) ∷ [])) start pre) = tables_begin q (n - 1) start pre (omega arith) (omega (arith, k)) in
         begun_by (subst (λ (x : List Part). IsSome (last_line (begins x) start (lines s))) (sym e)
@@ -87,11 +87,11 @@ where_mentioned s h pre before after comment blank post was x = absurd x
 where_mentioned s h pre before after comment (header b k a) post was x =
     let l : Line = record { before = before; content = header b k a; after = after; comment = comment } in
     let r : Reading = reading_after_lines start pre in
-    let way : List Mention = header_way r.tables [] (keys_of k) in
+    let prefixes : List Mention = header_prefixes r.tables [] (keys_of k) in
     let path : List Part = header_path r.tables [] (keys_of k) in
     let end : List Mention = record { path = path; kind = define } ∷ [] in
-    elim (some_cases (IsNamedAt h) way end x) [
-      | inl w ↦ from_way s h pre before after comment (header b k a) post was (λ g. some_has is_through h (line_mentions r l) g) way (λ g. some_left (IsMentioned is_through h) way end g) (way_case r.tables h [] (keys_of k) w)
+    elim (some_cases (IsNamedAt h) prefixes end x) [
+      | inl w ↦ from_way s h pre before after comment (header b k a) post was (λ g. some_has is_through h (line_mentions r l) g) prefixes (λ g. some_left (IsMentioned is_through h) prefixes end g) (way_case r.tables h [] (keys_of k) w)
       | inr t ↦ (elim t [
         | inl e ↦ begun_by (among s h pre before after comment (header b k a) post was (begins h) (ends_there path h e))
         | inr none ↦ absurd none
@@ -100,14 +100,14 @@ where_mentioned s h pre before after comment (header b k a) post was x =
 where_mentioned s h pre before after comment (element b k a) post was x =
     let l : Line = record { before = before; content = element b k a; after = after; comment = comment } in
     let r : Reading = reading_after_lines start pre in
-    let way : List Mention = header_way r.tables [] (keys_of k) in
+    let prefixes : List Mention = header_prefixes r.tables [] (keys_of k) in
     let path : List Part = header_path r.tables [] (keys_of k) in
     let top : List Part = path ++ index (elements_of path r.tables) ∷ [] in
     let end : List Mention = record { path = path; kind = marks_of.element } ∷ record { path = top; kind = begun } ∷ [] in
-    elim (some_cases (IsNamedAt h) way end x) [
-      | inl w ↦ from_way s h pre before after comment (element b k a) post was (λ g. some_has is_through h (line_mentions r l) g) way (λ g. some_left (IsMentioned is_through h) way end g) (way_case r.tables h [] (keys_of k) w)
+    elim (some_cases (IsNamedAt h) prefixes end x) [
+      | inl w ↦ from_way s h pre before after comment (element b k a) post was (λ g. some_has is_through h (line_mentions r l) g) prefixes (λ g. some_left (IsMentioned is_through h) prefixes end g) (way_case r.tables h [] (keys_of k) w)
       | inr t ↦ (elim t [
-        | inl e ↦ an_element (mentioned_here s h pre before after comment (element b k a) post was is_element (some_right (IsMentioned is_element h) way end (inl (e, refl))))
+        | inl e ↦ an_element (mentioned_here s h pre before after comment (element b k a) post was is_element (some_right (IsMentioned is_element h) prefixes end (inl (e, refl))))
         | inr u ↦ (elim u [
           | inl e ↦ begun_by (among s h pre before after comment (element b k a) post was (begins h) (ends_there top h e))
           | inr none ↦ absurd none

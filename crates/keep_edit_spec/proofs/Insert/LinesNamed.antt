@@ -6,7 +6,7 @@ use Rattle.std.proofs.lemmas.Bool.{cases_lt}
 use Rattle.std.proofs.lemmas.List.Sums.{sum_by-append}
 use Rattle.keep_syntax.specs.Tree.{Written, Gap, Content, blank, keyval, header, element, Line}
 use Rattle.keep_path.specs.Path.{Part, key, index, same_path}
-use Rattle.keep_meaning.specs.Marks.{through, past, passed, Mention, Reading, below, header_path, header_way, passing_mentions, entered_path, elements_of}
+use Rattle.keep_meaning.specs.Marks.{through, past, passed, Mention, Reading, below, header_path, header_prefixes, passing_mentions, entered_path, elements_of}
 use Rattle.keep_meaning.specs.Meaning.{keys_of, line_mentions, lines_mentions, after_line, reading_after_lines}
 use Rattle.keep_meaning.specs.Nodes.{is_at, is_through, is_element}
 use Rattle.keep_edit_spec.specs.Lines.{last_line, begins}
@@ -143,13 +143,13 @@ case_right tables h xs ys (goes s) = goes (some_right (IsMentioned is_through h)
 case_right tables h xs ys (beyond_element e) = beyond_element e
 case_right tables h xs ys (at_element q e k) = at_element q e k
 
-pub way_case : (tables : List (List Part)) (h at : List Part) (ks : List (List ℕ)) → SomeOf (IsNamedAt h) (header_way tables at ks) → WayCase tables h (header_way tables at ks)
+pub way_case : (tables : List (List Part)) (h at : List Part) (ks : List (List ℕ)) → SomeOf (IsNamedAt h) (header_prefixes tables at ks) → WayCase tables h (header_prefixes tables at ks)
 way_case tables h at [] s = absurd s
 way_case tables h at (k ∷ []) s = absurd s
 way_case tables h at (k ∷ l ∷ ks) s =
     let q : List Part = at ++ key k ∷ [] in
     let first : List Mention = passing_mentions tables q in
-    let more : List Mention = header_way tables (entered_path tables q) (l ∷ ks) in
+    let more : List Mention = header_prefixes tables (entered_path tables q) (l ∷ ks) in
     elim (some_cases (IsNamedAt h) first more s) [
       | inl x ↦ case_left tables h first more (pass_case tables h q (0 == elements_of q tables) refl x)
       | inr x ↦ case_right tables h first more (way_case tables h (entered_path tables q) (l ∷ ks) x)

@@ -39,10 +39,10 @@ fail_join test r [] b h g = g
 fail_join test r (l ∷ a) b h g = (h.0, fail_join test (after_line r l) a b h.1 g)
 
 -- a line that passes says something of the path
-abbrev Tells : List Part → (Reading → Line → Bool) → Type 0
-Tells p test = (r : Reading) (l : Line) → test r l ≡ true → SomeOf (IsNamedAt p) (line_mentions r l)
+abbrev StatesEdits : List Part → (Reading → Line → Bool) → Type 0
+StatesEdits p test = (r : Reading) (l : Line) → test r l ≡ true → SomeOf (IsNamedAt p) (line_mentions r l)
 
-disjoint_fail : (p x : List Part) (test : Reading → Line → Bool) → Tells (p ++ x) test → (r : Reading) (ls : List Line) → AllOf (IsDisjoint p) (lines_mentions r ls) → AllFail test r ls
+disjoint_fail : (p x : List Part) (test : Reading → Line → Bool) → StatesEdits (p ++ x) test → (r : Reading) (ls : List Line) → AllOf (IsDisjoint p) (lines_mentions r ls) → AllFail test r ls
 disjoint_fail p x test tells r [] h = tt
 disjoint_fail p x test tells r (l ∷ ls) h =
     (by (test r l) refl, disjoint_fail p x test tells (after_line r l) ls (all_right (IsDisjoint p) (line_mentions r l) (lines_mentions (after_line r l) ls) h))
@@ -63,19 +63,19 @@ named_of_mentions is p [] s = s
 named_of_mentions is p (m ∷ ms) (inl h) = inl h.0
 named_of_mentions is p (m ∷ ms) (inr s) = inr (named_of_mentions is p ms s)
 
-begins_tells : (p : List Part) → Tells p (begins p)
-begins_tells p r l e = named_of_stated p (line_mentions r l) (begins_stated p r l e)
+begins_states : (p : List Part) → StatesEdits p (begins p)
+begins_states p r l e = named_of_stated p (line_mentions r l) (begins_stated p r l e)
 
-through_tells : (p : List Part) → Tells p (leads_through p)
-through_tells p r l e =
+through_states : (p : List Part) → StatesEdits p (leads_through p)
+through_states p r l e =
     named_of_mentions is_through p (line_mentions r l) (has_some is_through p (line_mentions r l) (and_parts (is_header l.content) (has is_through p (line_mentions r l)) e).1)
 
 -- a line's own key
 own_dotted : (p body : List Part) (name : Name) → has is_dotted p (map (below body) (keyed_mentions (keys_of name.key) [])) ≡ true → SomeOf (IsNamedAt p) (map (below body) (keyed_mentions (keys_of name.key) []))
 own_dotted p body name e = named_of_mentions is_dotted p _ (has_some is_dotted p (map (below body) (keyed_mentions (keys_of name.key) [])) e)
 
-dotted_tells : (p : List Part) → Tells p (leads_dotted p)
-dotted_tells p r l e = by l.before l.after l.comment l.content e
+dotted_states : (p : List Part) → StatesEdits p (leads_dotted p)
+dotted_states p r l e = by l.before l.after l.comment l.content e
   where
     by : (before after : Gap) (comment : Option Written) (c : Content) → (let l : Line = record { before = before; content = c; after = after; comment = comment } in leads_dotted p r l ≡ true → SomeOf (IsNamedAt p) (line_mentions r l))
     by before after comment blank e = absurd cc
@@ -115,7 +115,7 @@ module _ (s : Document) (rules : Rules (mentions_in s)) (pre post : List Line) (
   beside = beside_keyval pre post name v (subst Rules (ap (lines_mentions start) was ∙ whole_mentions pre post l name v content) rules)
 
   -- nor does the line itself pass
-  none_by : (test : Reading → Line → Bool) → Tells a test → test r l ≡ false → last_line test start (lines s) ≡ None
+  none_by : (test : Reading → Line → Bool) → StatesEdits a test → test r l ≡ false → last_line test start (lines s) ≡ None
   none_by test tells own =
       let same : after_line r l ≡ r = ap (λ (c : Content). after_line r (record { before = l.before; content = c; after = l.after; comment = l.comment })) content in
       ap (last_line test start) was
@@ -127,13 +127,13 @@ module _ (s : Document) (rules : Rules (mentions_in s)) (pre post : List Line) (
   no_header = ap is_header content
 
   no_begins : last_line (begins a) start (lines s) ≡ None
-  no_begins = none_by (begins a) (begins_tells a) (rw no_header refl)
+  no_begins = none_by (begins a) (begins_states a) (rw no_header refl)
 
   no_through : last_line (leads_through a) start (lines s) ≡ None
-  no_through = none_by (leads_through a) (through_tells a) (rw no_header refl)
+  no_through = none_by (leads_through a) (through_states a) (rw no_header refl)
 
   no_dotted : last_line (leads_dotted a) start (lines s) ≡ None
-  no_dotted = none_by (leads_dotted a) (dotted_tells a) (ap (λ (c : Content). leads_dotted a r (record { before = l.before; content = c; after = l.after; comment = l.comment })) content ∙ by (has is_dotted a ways) refl)
+  no_dotted = none_by (leads_dotted a) (dotted_states a) (ap (λ (c : Content). leads_dotted a r (record { before = l.before; content = c; after = l.after; comment = l.comment })) content ∙ by (has is_dotted a ways) refl)
     where
       ways : List Mention
       ways = map (below r.body) (keyed_mentions (keys_of name.key) [])

@@ -4,7 +4,7 @@ use Rattle.std.specs.List.{list_any}
 use Rattle.keep_syntax.specs.Tree.{Written, Gap, Content, blank, keyval, header, element, Line, Document}
 use Rattle.keep_path.specs.Path.{Part, index}
 use Rattle.keep_meaning.specs.Marks as marks_of
-use Rattle.keep_meaning.specs.Marks.{MentionKind, through, past, define, dotted, value, begun, passed, item, Mention, Reading, start, below, header_path, header_way, elements_of}
+use Rattle.keep_meaning.specs.Marks.{MentionKind, through, past, define, dotted, value, begun, passed, item, Mention, Reading, start, below, header_path, header_prefixes, elements_of}
 use Rattle.keep_meaning.specs.Meaning.{keys_of, keyval_mentions, line_mentions, after_line, lines_mentions, reading_after_lines, lines, mentions_in}
 use Rattle.keep_meaning.specs.Nodes.{is_at, is_through, is_element}
 use Rattle.keep_edit_spec.specs.Lines.{last_line, begins}
@@ -58,11 +58,11 @@ content_begins h r before after comment blank e = absurd cc
 content_begins h r before after comment (keyval name v) e = absurd cc
 content_begins h r before after comment (header b k a) e =
     let path : List Part = header_path r.tables [] (keys_of k) in
-    some_right (IsMentioned is_origin h) (header_way r.tables [] (keys_of k)) (record { path = path; kind = define } ∷ []) (inl (same_path-sound path h e, refl))
+    some_right (IsMentioned is_origin h) (header_prefixes r.tables [] (keys_of k)) (record { path = path; kind = define } ∷ []) (inl (same_path-sound path h e, refl))
 content_begins h r before after comment (element b k a) e =
     let path : List Part = header_path r.tables [] (keys_of k) in
     let top : List Part = path ++ index (elements_of path r.tables) ∷ [] in
-    some_right (IsMentioned is_origin h) (header_way r.tables [] (keys_of k)) (record { path = path; kind = marks_of.element } ∷ record { path = top; kind = begun } ∷ []) (inr (inl (same_path-sound top h e, refl)))
+    some_right (IsMentioned is_origin h) (header_prefixes r.tables [] (keys_of k)) (record { path = path; kind = marks_of.element } ∷ record { path = top; kind = begun } ∷ []) (inr (inl (same_path-sound top h e, refl)))
 
 begun_mentioned : (h : List Part) (r : Reading) (ls : List Line) → IsSome (last_line (begins h) r ls) → SomeOf (IsMentioned is_origin h) (lines_mentions r ls)
 begun_mentioned h r [] s = absurd s
@@ -88,11 +88,11 @@ module _ (s : Document) (h : List Part) (pre : List Line) (l : Line) (post : Lis
       (subst (SomeOf (IsMentioned is_origin h)) (sym (lines_mentions-append start pre (l ∷ post)))
       (some_right (IsMentioned is_origin h) (lines_mentions start pre) (lines_mentions r (l ∷ post)) (some_left (IsMentioned is_origin h) (line_mentions r l) (lines_mentions (after_line r l) post) x)))
 
-  from_way : (way : List Mention) → (SomeOf (IsMentioned is_origin h) way → SomeOf (IsMentioned is_origin h) (line_mentions r l)) → WayCase r.tables h way → SomeOf (IsMentioned is_origin h) (mentions_in s)
-  from_way way carry (goes k) = in_line (carry (widened is_through through_origin h way k))
-  from_way way carry (beyond_element k) =
+  from_way : (prefixes : List Mention) → (SomeOf (IsMentioned is_origin h) prefixes → SomeOf (IsMentioned is_origin h) (line_mentions r l)) → WayCase r.tables h prefixes → SomeOf (IsMentioned is_origin h) (mentions_in s)
+  from_way prefixes carry (goes k) = in_line (carry (widened is_through through_origin h prefixes k))
+  from_way prefixes carry (beyond_element k) =
       prepended (widened is_element element_origin h (lines_mentions start pre) (counted h (lines_mentions start pre) (subst (λ (t : List (List Part)). 0 < elements_of h t) (tables_stated start pre) k)))
-  from_way way carry (at_element q e k) =
+  from_way prefixes carry (at_element q e k) =
       let n : ℕ = elements_of q r.tables in
       prepended (subst (λ (x : List Part). SomeOf (IsMentioned is_origin x) (lines_mentions start pre)) (sym e) (begun_mentioned (q ++ index (n - 1) ∷ []) start pre (tables_begin q (n - 1) start pre (omega arith) (omega (arith, k)))))
 
@@ -113,21 +113,21 @@ line_origin s h pre before after comment (keyval name v) post was x =
 line_origin s h pre before after comment (header b k a) post was x =
     let l : Line = record { before = before; content = header b k a; after = after; comment = comment } in
     let r : Reading = reading_after_lines start pre in
-    let way : List Mention = header_way r.tables [] (keys_of k) in
+    let prefixes : List Mention = header_prefixes r.tables [] (keys_of k) in
     let end : List Mention = record { path = header_path r.tables [] (keys_of k); kind = define } ∷ [] in
-    elim (some_cases (IsNamedAt h) way end x) [
-      | inl w ↦ from_way s h pre l post was way (λ g. some_left (IsMentioned is_origin h) way end g) (way_case r.tables h [] (keys_of k) w)
-      | inr t ↦ in_line s h pre l post was (some_right (IsMentioned is_origin h) way end (all_origins h end (refl, tt) t))
+    elim (some_cases (IsNamedAt h) prefixes end x) [
+      | inl w ↦ from_way s h pre l post was prefixes (λ g. some_left (IsMentioned is_origin h) prefixes end g) (way_case r.tables h [] (keys_of k) w)
+      | inr t ↦ in_line s h pre l post was (some_right (IsMentioned is_origin h) prefixes end (all_origins h end (refl, tt) t))
     ]
 line_origin s h pre before after comment (element b k a) post was x =
     let l : Line = record { before = before; content = element b k a; after = after; comment = comment } in
     let r : Reading = reading_after_lines start pre in
-    let way : List Mention = header_way r.tables [] (keys_of k) in
+    let prefixes : List Mention = header_prefixes r.tables [] (keys_of k) in
     let path : List Part = header_path r.tables [] (keys_of k) in
     let end : List Mention = record { path = path; kind = marks_of.element } ∷ record { path = path ++ index (elements_of path r.tables) ∷ []; kind = begun } ∷ [] in
-    elim (some_cases (IsNamedAt h) way end x) [
-      | inl w ↦ from_way s h pre l post was way (λ g. some_left (IsMentioned is_origin h) way end g) (way_case r.tables h [] (keys_of k) w)
-      | inr t ↦ in_line s h pre l post was (some_right (IsMentioned is_origin h) way end (all_origins h end (refl, (refl, tt)) t))
+    elim (some_cases (IsNamedAt h) prefixes end x) [
+      | inl w ↦ from_way s h pre l post was prefixes (λ g. some_left (IsMentioned is_origin h) prefixes end g) (way_case r.tables h [] (keys_of k) w)
+      | inr t ↦ in_line s h pre l post was (some_right (IsMentioned is_origin h) prefixes end (all_origins h end (refl, (refl, tt)) t))
     ]
 
 -- What is mentioned at all is said to come from somewhere.

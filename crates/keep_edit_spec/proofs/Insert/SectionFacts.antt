@@ -4,14 +4,14 @@ use Rattle.std.specs.List.{filter_map, cons_option}
 use Rattle.keep_syntax.specs.Tree.{Value, Document}
 use Rattle.keep_meaning.specs.Fact.{Fact, table}
 use Rattle.keep_path.specs.Path.{Part, same_path}
-use Rattle.keep_meaning.specs.Marks.{MentionKind, define, Mention, fact_of, Reading, start, header_way}
+use Rattle.keep_meaning.specs.Marks.{MentionKind, define, Mention, fact_of, Reading, start, header_prefixes}
 use Rattle.keep_meaning.specs.Meaning.{lines_mentions, reading_after_lines, lines, mentions_in, mentions_of_value}
 use Rattle.keep_meaning.specs.Nodes.{is_at, kinds_at, fact_at, first_of}
 use Rattle.keep_edit_spec.specs.Look.{strip}
 use Rattle.keep_edit_spec.proofs.Common.Runs.{AllOf, all_map, Allowed, same_path-sound, same_path-refl, kinds_at-append}
 use Rattle.keep_edit_spec.proofs.Common.InsertLaw.{without_ways}
 use Rattle.keep_edit_spec.proofs.Insert.InsertDotted.{mentioned_before}
-use Rattle.keep_edit_spec.proofs.Append.AppendTable.{AtMostTable, more_facts, before_define, silent_way}
+use Rattle.keep_edit_spec.proofs.Append.AppendTable.{AtMostTable, more_facts, before_define, silent_prefixes}
 use Rattle.keep_edit_spec.proofs.Insert.SectionLaw.{IsSectionPlace, IsSectionLaw}
 
 table_amid : (q : List Part) (m : Mention) (ms more : List Mention) → is_at q m ≡ true → fact_of m.kind ≡ Some table → AllOf (λ x. x.path ≡ q → AtMostTable x.kind) ms → fact_at q (ms ++ m ∷ more) ≡ Some table
@@ -62,23 +62,23 @@ section_tree s n a keys p v s' place law q = law.tree q ∙ start_by (strip p q)
     after : List Mention
     after = lines_mentions r (drop n (lines s))
 
-    way : List Mention
-    way = header_way r.tables [] keys
+    prefixes : List Mention
+    prefixes = header_prefixes r.tables [] keys
 
     m : Mention
     m = record { path = a; kind = define }
 
-    start_by : (o : Option (List Part)) → elim o [ Some more ↦ fact_at more (mentions_of_value v) | None ↦ fact_at q ((before ++ (way ++ m ∷ [])) ++ after) ] ≡ given_or v o (fact_at q ((before ++ (way ++ m ∷ [])) ++ after))
+    start_by : (o : Option (List Part)) → elim o [ Some more ↦ fact_at more (mentions_of_value v) | None ↦ fact_at q ((before ++ (prefixes ++ m ∷ [])) ++ after) ] ≡ given_or v o (fact_at q ((before ++ (prefixes ++ m ∷ [])) ++ after))
     start_by (Some more) = refl
     start_by None = refl
 
-    inner : fact_at q ((before ++ (way ++ m ∷ [])) ++ after) ≡ cond (same_path q a) (Some table) (fact_at q (mentions_in s))
+    inner : fact_at q ((before ++ (prefixes ++ m ∷ [])) ++ after) ≡ cond (same_path q a) (Some table) (fact_at q (mentions_in s))
     inner =
-        ap (fact_at q) (ap (λ (l : List Mention). l ++ after) (sym (append_assoc before way (m ∷ []))) ∙ append_assoc (before ++ way) (m ∷ []) after)
-        ∙ without_ways q before way (m ∷ after) (silent_way r.tables [] keys)
+        ap (fact_at q) (ap (λ (l : List Mention). l ++ after) (sym (append_assoc before prefixes (m ∷ []))) ∙ append_assoc (before ++ prefixes) (m ∷ []) after)
+        ∙ without_ways q before prefixes (m ∷ after) (silent_prefixes r.tables [] keys)
         ∙ amid q m before after refl (all_map (λ x. Allowed x m) (λ x. x.path ≡ a → AtMostTable x.kind) (λ x f e. before_define x.kind (f e)) before place.before_lets) (same_path q a) refl
         ∙ ap (λ (l : List Mention). cond (same_path q a) (Some table) (fact_at q l)) (sym (mentioned_before s n))
 
-    by : (o : Option (List Part)) → given_or v o (fact_at q ((before ++ (way ++ m ∷ [])) ++ after)) ≡ given_or v o (cond (same_path q a) (Some table) (fact_at q (mentions_in s)))
+    by : (o : Option (List Part)) → given_or v o (fact_at q ((before ++ (prefixes ++ m ∷ [])) ++ after)) ≡ given_or v o (cond (same_path q a) (Some table) (fact_at q (mentions_in s)))
     by (Some more) = refl
     by None = inner

@@ -6,7 +6,7 @@ use Rattle.std.proofs.lemmas.List.{append-nil}
 use Rattle.keep_types.specs.declared.leaf.Profile.{Profile}
 use Rattle.keep_syntax.specs.Tree.{Written, Gap, Name, Value, Content, blank, keyval, header, element, Line, Document}
 use Rattle.keep_path.specs.Path.{Part, key}
-use Rattle.keep_meaning.specs.Marks.{MentionKind, define, value, Mention, below, Reading, start, header_path, header_way}
+use Rattle.keep_meaning.specs.Marks.{MentionKind, define, value, Mention, below, Reading, start, header_path, header_prefixes}
 use Rattle.keep_meaning.specs.Meaning.{keys_of, body_fact, valued_mentions, entries_mentions, keyval_mentions, step, line_mentions, after_line, lines_mentions, reading_after_lines, lines, mentions_in, mentions_of_value}
 use Rattle.keep_meaning.specs.Nodes.{is_at, fact_at}
 use Rattle.keep_edit_spec.specs.Look.{strip}
@@ -58,22 +58,22 @@ doubles_disjoint p before (m ∷ ds) h d =
     (subst (λ (q : List Part). strip p q ≡ None) same.path disjoint, doubles_disjoint p before ds h d.1)
 
 -- Doubles, a mention that the others allow, and after it a run under a fresh path.
-pub rules_section : (p : List Part) (before way : List Mention) (m : Mention) (run after : List Mention) → Rules (before ++ after) → AllOf (IsDoubleOf before) way
+pub rules_section : (p : List Part) (before prefixes : List Mention) (m : Mention) (run after : List Mention) → Rules (before ++ after) → AllOf (IsDoubleOf before) prefixes
     → AllOf (λ x. Allowed x m) before → AllOf (Allowed m) after → AllOf (IsDisjoint p) before → AllOf (IsDisjoint p) after → IsDisjoint p m → AllOf (IsUnder p) run → Rules run
-    → Rules ((before ++ (way ++ m ∷ [])) ++ (run ++ after))
-rules_section p before way m run after r d hm gm hb hh am hr rr =
+    → Rules ((before ++ (prefixes ++ m ∷ [])) ++ (run ++ after))
+rules_section p before prefixes m run after r d hm gm hb hh am hr rr =
     let one : Rules (before ++ m ∷ after) = one_in m before after hm gm r in
-    let two : Rules (before ++ (way ++ m ∷ after)) = doubles_in way before (m ∷ after) d one in
-    let shape : before ++ (way ++ m ∷ after) ≡ (before ++ (way ++ m ∷ [])) ++ ([] ++ after) =
-    ap (λ (l : List Mention). before ++ l) (sym (append_assoc way (m ∷ []) after)) ∙ sym (append_assoc before (way ++ m ∷ []) after) in
-    rules_replaced p (before ++ (way ++ m ∷ [])) [] run after (subst Rules shape two)
-    (all_join (IsDisjoint p) before (way ++ m ∷ []) hb (all_join (IsDisjoint p) way (m ∷ []) (doubles_disjoint p before way hb d) (am, tt))) hh hr rr
+    let two : Rules (before ++ (prefixes ++ m ∷ after)) = doubles_in prefixes before (m ∷ after) d one in
+    let shape : before ++ (prefixes ++ m ∷ after) ≡ (before ++ (prefixes ++ m ∷ [])) ++ ([] ++ after) =
+    ap (λ (l : List Mention). before ++ l) (sym (append_assoc prefixes (m ∷ []) after)) ∙ sym (append_assoc before (prefixes ++ m ∷ []) after) in
+    rules_replaced p (before ++ (prefixes ++ m ∷ [])) [] run after (subst Rules shape two)
+    (all_join (IsDisjoint p) before (prefixes ++ m ∷ []) hb (all_join (IsDisjoint p) prefixes (m ∷ []) (doubles_disjoint p before prefixes hb d) (am, tt))) hh hr rr
 
 -- What has to be known of line n for a section with these keys: its path, and what comes before and after.
 pub record IsSectionPlace (s : Document) (n : ℕ) (a : List Part) (keys : List (List ℕ)) : Type 0 where
   pub few : n ≤ suc (length s.ended)
   pub path : header_path (reading_after_lines start (take n (lines s))).tables [] keys ≡ a
-  pub doubles : AllOf (IsDoubleOf (lines_mentions start (take n (lines s)))) (header_way (reading_after_lines start (take n (lines s))).tables [] keys)
+  pub doubles : AllOf (IsDoubleOf (lines_mentions start (take n (lines s)))) (header_prefixes (reading_after_lines start (take n (lines s))).tables [] keys)
   pub before_lets : AllOf (λ x. Allowed x (record { path = a; kind = define })) (lines_mentions start (take n (lines s)))
   pub after_lets : AllOf (Allowed (record { path = a; kind = define })) (lines_mentions (reading_after_lines start (take n (lines s))) (drop n (lines s)))
   pub free : lines_mentions (record { tables = (reading_after_lines start (take n (lines s))).tables; body = a }) (drop n (lines s)) ≡ lines_mentions (reading_after_lines start (take n (lines s))) (drop n (lines s))
@@ -81,7 +81,7 @@ pub record IsSectionPlace (s : Document) (n : ℕ) (a : List Part) (keys : List 
 -- What is said with the section put in: the facts are the new keyval's, and elsewhere those of what was said with the way and the table.
 pub record IsSectionLaw (s : Document) (n : ℕ) (a : List Part) (keys : List (List ℕ)) (p : List Part) (v : Value) (s' : Document) : Type 0 where
   pub rules : Rules (mentions_in s')
-  pub tree : (q : List Part) → fact_at q (mentions_in s') ≡ KeyvalFact p v ((lines_mentions start (take n (lines s)) ++ (header_way (reading_after_lines start (take n (lines s))).tables [] keys ++ record { path = a; kind = define } ∷ []))
+  pub tree : (q : List Part) → fact_at q (mentions_in s') ≡ KeyvalFact p v ((lines_mentions start (take n (lines s)) ++ (header_prefixes (reading_after_lines start (take n (lines s))).tables [] keys ++ record { path = a; kind = define } ∷ []))
       ++ lines_mentions (reading_after_lines start (take n (lines s))) (drop n (lines s))) q
 
 disjoint_prefix : (a : List Part) (b : Part) (mention_kind : MentionKind) → IsDisjoint (a ++ b ∷ []) (record { path = a; kind = mention_kind })
@@ -101,7 +101,7 @@ section_law profile s n a h hs k ks v place head_texts texts fresh rules value_r
     let rest : List Line = drop n (lines s) in
     let before : List Mention = lines_mentions start (take n (lines s)) in
     let after : List Mention = lines_mentions r rest in
-    let way : List Mention = header_way r.tables [] (h ∷ hs) in
+    let prefixes : List Mention = header_prefixes r.tables [] (h ∷ hs) in
     let m : Mention = record { path = a; kind = define } in
     let vs : List Mention = valued_mentions (value (body_fact v.body)) (entries_mentions 0 v.nested) in
     let run : List Mention = map (below a) (keyval_mentions name v) in
@@ -114,24 +114,24 @@ section_law profile s n a h hs k ks v place head_texts texts fresh rules value_r
     let both : AllOf (IsDisjoint p0) (before ++ after) = subst (λ (l : List Mention). AllOf (IsDisjoint p0) l) was disjoint in
     let hb : AllOf (IsDisjoint p0) before = all_left (IsDisjoint p0) before after both in
     let hh : AllOf (IsDisjoint p0) after = all_right (IsDisjoint p0) before after both in
-    let prefix : List Mention = before ++ (way ++ m ∷ []) in
-    let hf : AllOf (IsDisjoint p0) prefix = all_join (IsDisjoint p0) before (way ++ m ∷ []) hb (all_join (IsDisjoint p0) way (m ∷ []) (doubles_disjoint p0 before way hb place.doubles) (disjoint_prefix a (key k) define, tt)) in
+    let prefix : List Mention = before ++ (prefixes ++ m ∷ []) in
+    let hf : AllOf (IsDisjoint p0) prefix = all_join (IsDisjoint p0) before (prefixes ++ m ∷ []) hb (all_join (IsDisjoint p0) prefixes (m ∷ []) (doubles_disjoint p0 before prefixes hb place.doubles) (disjoint_prefix a (key k) define, tt)) in
     let long : p ≡ p0 ++ map key ks = whole ∙ sym (append_assoc a (key k ∷ []) (map key ks)) in
     let far : (ms : List Mention) → AllOf (IsDisjoint p0) ms → AllOf (IsDisjoint p) ms = λ ms g. subst (λ (x : List Part). AllOf (IsDisjoint x) ms) (sym long) (all_longer p0 (map key ks) ms g) in
     let under : AllOf (IsUnder p0) run = subst (λ (l : List ℕ). AllOf (IsUnder (a ++ key l ∷ [])) run) texts.0.means (under_both a _ (keyval_mentions name v) (keyed_under _ _ vs)) in
     let good : Rules (prefix ++ (run ++ after)) =
-    rules_section p0 before way m run after (subst Rules was rules) place.doubles place.before_lets place.after_lets hb hh (disjoint_prefix a (key k) define) under
+    rules_section p0 before prefixes m run after (subst Rules was rules) place.doubles place.before_lets place.after_lets hb hh (disjoint_prefix a (key k) define) under
     (rules_outside a (keyval_mentions name v) (rules_keyval name v value_rules)) in
     let mentioned : List Mention → List Part → List Mention = λ w b. before ++ (((w ++ record { path = b; kind = define } ∷ []) ++ (map (below b) (keyval_mentions name v) ++ [])) ++ lines_mentions (record { tables = r.tables; body = b }) rest) in
-    let tidy : mentioned way a ≡ prefix ++ (run ++ after) =
-    ap (λ (z : List Mention). before ++ (((way ++ m ∷ []) ++ (run ++ [])) ++ z)) place.free
-    ∙ ap (λ (z : List Mention). before ++ (((way ++ m ∷ []) ++ z) ++ after)) (append-nil run)
-    ∙ ap (λ (z : List Mention). before ++ z) (append_assoc (way ++ m ∷ []) run after)
-    ∙ sym (append_assoc before (way ++ m ∷ []) (run ++ after)) in
-    let iteration : mentioned (header_way r.tables [] (keys_of (key_with (h ∷ hs)))) (header_path r.tables [] (keys_of (key_with (h ∷ hs)))) ≡ prefix ++ (run ++ after) =
-    ap (λ (l : List (List ℕ)). mentioned (header_way r.tables [] l) (header_path r.tables [] l)) (key_means profile h hs head_texts)
-    ∙ ap (λ (b : List Part). mentioned way b) place.path ∙ tidy in
-    each_to (λ s'. mentions_in s' ≡ mentioned (header_way r.tables [] (keys_of (key_with (h ∷ hs)))) (header_path r.tables [] (keys_of (key_with (h ∷ hs)))))
+    let tidy : mentioned prefixes a ≡ prefix ++ (run ++ after) =
+    ap (λ (z : List Mention). before ++ (((prefixes ++ m ∷ []) ++ (run ++ [])) ++ z)) place.free
+    ∙ ap (λ (z : List Mention). before ++ (((prefixes ++ m ∷ []) ++ z) ++ after)) (append-nil run)
+    ∙ ap (λ (z : List Mention). before ++ z) (append_assoc (prefixes ++ m ∷ []) run after)
+    ∙ sym (append_assoc before (prefixes ++ m ∷ []) (run ++ after)) in
+    let iteration : mentioned (header_prefixes r.tables [] (keys_of (key_with (h ∷ hs)))) (header_path r.tables [] (keys_of (key_with (h ∷ hs)))) ≡ prefix ++ (run ++ after) =
+    ap (λ (l : List (List ℕ)). mentioned (header_prefixes r.tables [] l) (header_path r.tables [] l)) (key_means profile h hs head_texts)
+    ∙ ap (λ (b : List Part). mentioned prefixes b) place.path ∙ tidy in
+    each_to (λ s'. mentions_in s' ≡ mentioned (header_prefixes r.tables [] (keys_of (key_with (h ∷ hs)))) (header_path r.tables [] (keys_of (key_with (h ∷ hs)))))
     (IsSectionLaw s n a (h ∷ hs) (a ++ map key (k ∷ ks)) v) (at_line s n (blank ∷ new_header (h ∷ hs) ∷ keyval name v ∷ []))
     (λ s' is. record {
       rules = subst Rules (sym (is ∙ iteration)) good;

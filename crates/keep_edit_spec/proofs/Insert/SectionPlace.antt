@@ -13,7 +13,7 @@ use Rattle.std.proofs.lemmas.Bool.{and_parts}
 use Rattle.std.proofs.lemmas.List.{length-map}
 use Rattle.keep_syntax.specs.Tree.{Written, Gap, Content, blank, keyval, header, element, Line, Document}
 use Rattle.keep_path.specs.Path.{Part, index}
-use Rattle.keep_meaning.specs.Marks.{MentionKind, through, past, define, dotted, value, begun, passed, item, Mention, Reading, start, header_path, header_way, elements_of}
+use Rattle.keep_meaning.specs.Marks.{MentionKind, through, past, define, dotted, value, begun, passed, item, Mention, Reading, start, header_path, header_prefixes, elements_of}
 use Rattle.keep_meaning.specs.Marks as marks_of
 use Rattle.keep_meaning.specs.Meaning.{keys_of, line_mentions, lines_mentions, after_line, reading_after_lines, lines, line_of, mentions_in}
 use Rattle.keep_meaning.specs.Nodes.{has, is_through, is_define, is_dotted}
@@ -24,14 +24,14 @@ use Rattle.keep_edit_spec.proofs.Common.SetLaw.{IsSolidAt}
 use Rattle.keep_edit_spec.proofs.Common.LineLaws.{Reaches, header_closed, never_root, lines_mentions-append}
 use Rattle.keep_edit_spec.proofs.Common.BodyEnd.{IsLast, beyond, beyond_is, last_found, body_few, reading_beyond, drop_after}
 use Rattle.keep_edit_spec.proofs.Common.Doubles.{IsMentioned, IsDoubleOf, has_some, doubles_left, doubles_right, doubles_self}
-use Rattle.keep_edit_spec.proofs.Common.ValueThere.{IsSome, IsNotAlone, not_alone_way, some_cases}
+use Rattle.keep_edit_spec.proofs.Common.ValueThere.{IsSome, IsNotAlone, not_alone_prefixes, some_cases}
 use Rattle.keep_edit_spec.proofs.Remove.RemoveRefusal.{IsShared, no_both}
 use Rattle.keep_edit_spec.proofs.Remove.RemoveSection.{body_is}
 use Rattle.keep_edit_spec.proofs.Insert.InsertDotted.{mentioned_before}
 use Rattle.keep_edit_spec.proofs.Insert.SectionLaw.{IsSectionPlace, after_free}
 use Rattle.keep_edit_spec.proofs.Common.TableThere.{some_begins}
 use Rattle.keep_edit_spec.proofs.Common.ThroughAlone.{meets, all_meet, none_mentioned, IsHeldIn, dotted_lines}
-use Rattle.keep_edit_spec.proofs.Insert.WayPrefix.{IsLonger, LeadsThrough, through_prefix, way_stays, path_keys, way_again}
+use Rattle.keep_edit_spec.proofs.Insert.HeaderPrefixes.{IsLonger, LeadsThrough, through_prefix, way_stays, path_keys, way_again}
 
 -- ---- a value above a path that a header goes through
 
@@ -71,7 +71,7 @@ some_firm p (m ∷ ms) (inl s) = inl (s.0, through_firm m.kind s.1)
 some_firm p (m ∷ ms) (inr s) = inr (some_firm p ms s)
 
 never_held : (tables : List (List Part)) (a : List Part) (f : List ℕ) (fs : List (List ℕ)) (ms : List Mention) → a ≡ header_path tables [] (f ∷ fs)
-    → ((p : List Part) → SomeOf (IsMentioned firm p) (header_way tables [] (f ∷ fs)) → SomeOf (IsMentioned firm p) ms)
+    → ((p : List Part) → SomeOf (IsMentioned firm p) (header_prefixes tables [] (f ∷ fs)) → SomeOf (IsMentioned firm p) ms)
     → SomeOf (IsMentioned is_through a) ms → Rules ms → IsHeldIn a ms → ⊥
 never_held tables a f fs ms e carry goes rules held =
     let p : List Part = held.path in
@@ -79,10 +79,10 @@ never_held tables a f fs ms e carry goes rules held =
     elim ((header_closed tables p [] fs f through refl held.ends).path reach) [
       | inr root ↦ never_root p held.ends root
       | inl solid_there ↦
-          (let way : List Mention = header_way tables [] (f ∷ fs) in
+          (let prefixes : List Mention = header_prefixes tables [] (f ∷ fs) in
           let end : List Mention = record { path = header_path tables [] (f ∷ fs); kind = through } ∷ [] in
-          let here : SomeOf (IsMentioned firm p) (way ++ end) = firm_at p (way ++ end) (all_join IsNotAlone way end (not_alone_way tables [] (f ∷ fs)) (refl, tt)) solid_there in
-          let there : SomeOf (IsMentioned firm p) ms = elim (some_cases (IsMentioned firm p) way end here) [
+          let here : SomeOf (IsMentioned firm p) (prefixes ++ end) = firm_at p (prefixes ++ end) (all_join IsNotAlone prefixes end (not_alone_prefixes tables [] (f ∷ fs)) (refl, tt)) solid_there in
+          let there : SomeOf (IsMentioned firm p) ms = elim (some_cases (IsMentioned firm p) prefixes end here) [
             | inl w ↦ carry p w
             | inr t ↦ (elim t [ inl h ↦ some_firm p ms (subst (λ (q : List Part). SomeOf (IsMentioned is_through q) ms) (e ∙ h.0) goes) | inr none ↦ absurd none ])
           ] in
@@ -94,8 +94,8 @@ never_held tables a f fs ms e carry goes rules held =
 pub record IsThroughLine (a : List Part) (r : Reading) (l : Line) : Type 0 where
   pub keys : List (List ℕ)
   pub tail : List Mention
-  pub mentioned : line_mentions r l ≡ header_way r.tables [] keys ++ tail
-  pub goes : SomeOf (IsMentioned is_through a) (header_way r.tables [] keys)
+  pub mentioned : line_mentions r l ≡ header_prefixes r.tables [] keys ++ tail
+  pub goes : SomeOf (IsMentioned is_through a) (header_prefixes r.tables [] keys)
   pub tables : ((after_line r l).tables ≡ r.tables) ⊎ ((after_line r l).tables ≡ r.tables ++ header_path r.tables [] keys ∷ [])
 
 through_content : (a : List Part) (r : Reading) (before after : Gap) (comment : Option Written) (c : Content)
@@ -104,14 +104,14 @@ through_content a r before after comment blank h s = absurd s
 through_content a r before after comment (keyval name v) h s = absurd cc
 through_content a r before after comment (header b k x) h s =
     let keys : List (List ℕ) = keys_of k in
-    elim (some_cases (IsMentioned is_through a) (header_way r.tables [] keys) _ s) [
+    elim (some_cases (IsMentioned is_through a) (header_prefixes r.tables [] keys) _ s) [
       | inl w ↦ record { keys = keys; tail = record { path = header_path r.tables [] keys; kind = define } ∷ []; mentioned = refl; goes = w; tables = inl refl }
       | inr t ↦ (elim t [ inl d ↦ (let no : is_through define ≡ true = d.1 in absurd cc) | inr none ↦ absurd none ])
     ]
 through_content a r before after comment (element b k x) h s =
     let keys : List (List ℕ) = keys_of k in
     let at : List Part = header_path r.tables [] keys in
-    elim (some_cases (IsMentioned is_through a) (header_way r.tables [] keys) _ s) [
+    elim (some_cases (IsMentioned is_through a) (header_prefixes r.tables [] keys) _ s) [
       | inl w ↦ record { keys = keys; tail = record { path = at; kind = marks_of.element } ∷ record { path = at ++ index (elements_of at r.tables) ∷ []; kind = begun } ∷ []; mentioned = refl; goes = w; tables = inr refl }
       | inr t ↦ (elim t [
         | inl d ↦ (let no : is_through marks_of.element ≡ true = d.1 in absurd cc)
@@ -176,13 +176,13 @@ section_at s a i rules no_body no_dots e =
     let g : LeadsThrough r.tables [] t.keys a = through_prefix r.tables [] t.keys a t.goes in
     let keys : List (List ℕ) = g.first ∷ g.prefix in
     let r1 : Reading = after_line r f.here in
-    let way : List Mention = header_way r.tables [] keys in
+    let prefixes : List Mention = header_prefixes r.tables [] keys in
     let long : IsLonger (header_path r.tables [] keys) (header_path r.tables [] t.keys) = subst (λ (q : List Part). IsLonger q (header_path r.tables [] t.keys)) g.path g.longer in
-    let stays : (header_path r1.tables [] keys ≡ header_path r.tables [] keys) × (header_way r1.tables [] keys ≡ way) = elim t.tables [
-      | inl same ↦ (ap (λ (x : List (List Part)). header_path x [] keys) same, ap (λ (x : List (List Part)). header_way x [] keys) same)
+    let stays : (header_path r1.tables [] keys ≡ header_path r.tables [] keys) × (header_prefixes r1.tables [] keys ≡ prefixes) = elim t.tables [
+      | inl same ↦ (ap (λ (x : List (List Part)). header_path x [] keys) same, ap (λ (x : List (List Part)). header_prefixes x [] keys) same)
       | inr more ↦
           (let w = way_stays r.tables (header_path r.tables [] t.keys) [] g.first g.prefix long in
-          (ap (λ (x : List (List Part)). header_path x [] keys) more ∙ w.0, ap (λ (x : List (List Part)). header_way x [] keys) more ∙ w.1))
+          (ap (λ (x : List (List Part)). header_path x [] keys) more ∙ w.0, ap (λ (x : List (List Part)). header_prefixes x [] keys) more ∙ w.1))
     ] in
     let m : ℕ = body_length f.post in
     let n : ℕ = body_end i (lines s) in
@@ -195,26 +195,26 @@ section_at s a i rules no_body no_dots e =
     ap (λ (k : ℕ). reading_after_lines start (take k (lines s))) same ∙ ap (λ (l : List Line). reading_after_lines start (take (suc (length f.pre) + m) l)) f.was
     ∙ reading_beyond start f.pre f.here f.post m ∙ (body_is r1 f.post).keeps in
     let line : List Mention = line_mentions r f.here in
-    let line_is : line ≡ way ++ (g.others ++ t.tail) = t.mentioned ∙ ap (λ (l : List Mention). l ++ t.tail) g.way ∙ append_assoc way g.others t.tail in
+    let line_is : line ≡ prefixes ++ (g.others ++ t.tail) = t.mentioned ∙ ap (λ (l : List Mention). l ++ t.tail) g.prefixes ∙ append_assoc prefixes g.others t.tail in
     let rest : List Mention = lines_mentions r1 (take m f.post) in
     let before : lines_mentions start (take n (lines s)) ≡ lines_mentions start f.pre ++ (line ++ rest) = ap (lines_mentions start) taken ∙ lines_mentions-append start f.pre (f.here ∷ take m f.post) in
     let all : ms ≡ lines_mentions start f.pre ++ (line ++ lines_mentions r1 f.post) = ap (lines_mentions start) f.was ∙ lines_mentions-append start f.pre (f.here ∷ f.post) in
     let carry : (P : Mention → Type 0) → SomeOf P line → SomeOf P ms =
     λ P h. subst (SomeOf P) (sym all) (some_right P (lines_mentions start f.pre) (line ++ lines_mentions r1 f.post) (some_left P line (lines_mentions r1 f.post) h)) in
-    let goes : SomeOf (IsMentioned is_through a) ms = carry (IsMentioned is_through a) (subst (SomeOf (IsMentioned is_through a)) (sym t.mentioned) (some_left (IsMentioned is_through a) (header_way r.tables [] t.keys) t.tail t.goes)) in
+    let goes : SomeOf (IsMentioned is_through a) ms = carry (IsMentioned is_through a) (subst (SomeOf (IsMentioned is_through a)) (sym t.mentioned) (some_left (IsMentioned is_through a) (header_prefixes r.tables [] t.keys) t.tail t.goes)) in
     let no_define : SomeOf (IsMentioned is_define a) ms → ⊥ = λ h. no_some (last_line (begins a) start (lines s)) no_body (some_begins a start (lines s) h).0 in
     let no_dotted : SomeOf (IsMentioned is_dotted a) ms → ⊥ = λ h. elim (dotted_lines a start (lines s) h) [
       | inl some ↦ no_some (last_line (leads_dotted a) start (lines s)) no_dots some
       | inr held ↦
           never_held r.tables a g.first g.prefix ms g.path
-          (λ p w. carry (IsMentioned firm p) (subst (SomeOf (IsMentioned firm p)) (sym line_is) (some_left (IsMentioned firm p) way (g.others ++ t.tail) w))) goes rules held
+          (λ p w. carry (IsMentioned firm p) (subst (SomeOf (IsMentioned firm p)) (sym line_is) (some_left (IsMentioned firm p) prefixes (g.others ++ t.tail) w))) goes rules held
     ] in
     let lets : AllOf (Lets a) ms = all_let a ms (all_meet a ms goes rules) (none_mentioned is_define a ms no_define) (none_mentioned is_dotted a ms no_dotted) in
     let parts : AllOf (Lets a) (lines_mentions start (take n (lines s)) ++ lines_mentions (reading_after_lines start (take n (lines s))) (drop n (lines s))) = subst (AllOf (Lets a)) (mentioned_before s n) lets in
     let d : Mention = record { path = a; kind = define } in
-    let doubles : AllOf (IsDoubleOf (lines_mentions start f.pre ++ (line ++ rest))) way =
-    doubles_right (lines_mentions start f.pre) (line ++ rest) way (doubles_left line rest way
-    (subst (λ (l : List Mention). AllOf (IsDoubleOf l) way) (sym line_is) (doubles_left way (g.others ++ t.tail) way (doubles_self way (way_again r.tables [] keys))))) in
+    let doubles : AllOf (IsDoubleOf (lines_mentions start f.pre ++ (line ++ rest))) prefixes =
+    doubles_right (lines_mentions start f.pre) (line ++ rest) prefixes (doubles_left line rest prefixes
+    (subst (λ (l : List Mention). AllOf (IsDoubleOf l) prefixes) (sym line_is) (doubles_left prefixes (g.others ++ t.tail) prefixes (doubles_self prefixes (way_again r.tables [] keys))))) in
     record {
       first = g.first;
       prefix = g.prefix;
@@ -222,8 +222,8 @@ section_at s a i rules no_body no_dots e =
       place = record {
         few = omega (arith, same, body_few f.post, ap (λ (l : List Line). length l) f.was, length-append f.pre (f.here ∷ f.post), length-append (map line_of s.ended) (s.last ∷ []), length-map s.ended line_of);
         path = ap (λ (x : Reading). header_path x.tables [] keys) reading ∙ stays.0 ∙ sym g.path;
-        doubles = subst (λ (l : List Mention). AllOf (IsDoubleOf (lines_mentions start (take n (lines s)))) l) (sym (ap (λ (x : Reading). header_way x.tables [] keys) reading ∙ stays.1))
-            (subst (λ (l : List Mention). AllOf (IsDoubleOf l) way) (sym before) doubles);
+        doubles = subst (λ (l : List Mention). AllOf (IsDoubleOf (lines_mentions start (take n (lines s)))) l) (sym (ap (λ (x : Reading). header_prefixes x.tables [] keys) reading ∙ stays.1))
+            (subst (λ (l : List Mention). AllOf (IsDoubleOf l) prefixes) (sym before) doubles);
         before_lets = all_map (Lets a) (λ x. Allowed x d) (λ x h k. (h k).0) (lines_mentions start (take n (lines s))) (all_left (Lets a) (lines_mentions start (take n (lines s))) _ parts);
         after_lets = all_map (Lets a) (Allowed d) (λ x h k. (h (sym k)).1) (lines_mentions (reading_after_lines start (take n (lines s))) (drop n (lines s))) (all_right (Lets a) (lines_mentions start (take n (lines s))) _ parts);
         free = ap (lines_mentions (record { tables = (reading_after_lines start (take n (lines s))).tables; body = a })) dropped

@@ -4,7 +4,7 @@ use Rattle.std.proofs.lemmas.Bool.{and_parts}
 use Rattle.keep_syntax.specs.Tree.{Written, Gap, Content, blank, keyval, header, element, Line, Document}
 use Rattle.keep_path.specs.Path.{Part, index, same_path}
 use Rattle.keep_meaning.specs.Marks as marks_of
-use Rattle.keep_meaning.specs.Marks.{MentionKind, define, begun, Mention, Reading, start, below, elements_of, header_path, header_way}
+use Rattle.keep_meaning.specs.Marks.{MentionKind, define, begun, Mention, Reading, start, below, elements_of, header_path, header_prefixes}
 use Rattle.keep_meaning.specs.Meaning.{key_value, further_value, keys_of, keyval_mentions, line_mentions, after_line, lines_mentions, lines, mentions_in}
 use Rattle.keep_meaning.specs.Nodes.{is_begun}
 use Rattle.keep_edit_spec.specs.Changed.{Changed, or_else}
@@ -17,8 +17,8 @@ use Rattle.keep_edit_spec.proofs.Common.LineLaws.{Reaches, EndsInKey, index_case
 use Rattle.keep_edit_spec.proofs.Common.Doubles.{IsMentioned}
 use Rattle.keep_edit_spec.proofs.Common.ValueThere.{IsSome, some_first, some_second, some_cases}
 use Rattle.keep_edit_spec.proofs.Common.RemoveThere.{some_here, some_later, dropped}
-use Rattle.keep_edit_spec.proofs.Remove.RemoveRefusal.{IsShared, no_both, plain_way}
-use Rattle.keep_edit_spec.proofs.Append.AppendElement.{IsHeld, Open, open_way, lines_held}
+use Rattle.keep_edit_spec.proofs.Remove.RemoveRefusal.{IsShared, no_both, plain_prefixes}
+use Rattle.keep_edit_spec.proofs.Append.AppendElement.{IsHeld, Open, open_prefixes, lines_held}
 use Rattle.keep_edit_spec.proofs.Remove.KeyvalMentions.{mentioned_below, mentions_keyval}
 
 -- ---- the line that begins it
@@ -45,22 +45,22 @@ content_begun p r before after' comment (keyval name v) s =
     absurd (never p (map (below r.body) (keyval_mentions name v))
     (mentioned_below (λ (a : MentionKind). is_begun a ≡ false) r.body (keyval_mentions name v) (mentions_keyval (λ (a : MentionKind). is_begun a ≡ false) (record { dot = refl; held = λ f. refl; unnamed = λ f. refl }) name v)) s)
 content_begun p r before after' comment (header b k a) s =
-    absurd (never p _ (all_join (λ (m : Mention). is_begun m.kind ≡ false) (header_way r.tables [] (keys_of k)) (record { path = header_path r.tables [] (keys_of k); kind = define } ∷ []) (plain_way r.tables [] (keys_of k)) (refl, tt)) s)
+    absurd (never p _ (all_join (λ (m : Mention). is_begun m.kind ≡ false) (header_prefixes r.tables [] (keys_of k)) (record { path = header_path r.tables [] (keys_of k); kind = define } ∷ []) (plain_prefixes r.tables [] (keys_of k)) (refl, tt)) s)
 content_begun p r before after' comment (element b k a) s =
-    let way : List Mention = header_way r.tables [] (keys_of k) in
+    let prefixes : List Mention = header_prefixes r.tables [] (keys_of k) in
     let at : List Part = header_path r.tables [] (keys_of k) in
     let n : ℕ = elements_of at r.tables in
     let top : Mention = record { path = at; kind = marks_of.element } in
     let m : Mention = record { path = at ++ index n ∷ []; kind = begun } in
-    elim (some_cases (IsMentioned is_begun p) way (top ∷ m ∷ []) s) [
-      | inl w ↦ absurd (never p way (plain_way r.tables [] (keys_of k)) w)
+    elim (some_cases (IsMentioned is_begun p) prefixes (top ∷ m ∷ []) s) [
+      | inl w ↦ absurd (never p prefixes (plain_prefixes r.tables [] (keys_of k)) w)
       | inr h ↦ (elim h [
         | inl d ↦ (let z : is_begun marks_of.element ≡ true = d.1 in absurd cc)
         | inr g ↦ (elim g [
           | inl d ↦
               (let place : at ++ index n ∷ [] ≡ p = d.0 in (
                 ap (same_path (at ++ index n ∷ [])) (sym place) ∙ same_path-refl (at ++ index n ∷ []),
-                record { first = key_value k.first; more = map further_value k.more; number = n; place = place; rest = m ∷ []; is = sym (append_assoc way (top ∷ []) (m ∷ [])) },
+                record { first = key_value k.first; more = map further_value k.more; number = n; place = place; rest = m ∷ []; is = sym (append_assoc prefixes (top ∷ []) (m ∷ [])) },
               ))
           | inr end ↦ absurd end
         ])
@@ -113,7 +113,7 @@ line_headed p prefix ends u r mentioned h =
     let all : List Mention = header_all r.tables [] (h.first ∷ h.more) marks_of.element in
     let reach : Reaches prefix path = index_cases prefix path h.number ends (subst (Reaches prefix) (sym h.place) u) in
     let there : SomeOf (IsSolidAt prefix) all = elim ((header_closed r.tables prefix [] h.more h.first marks_of.element refl ends).path reach) [ inl s ↦ s | inr v ↦ absurd (never_root prefix ends v) ] in
-    let open_all : AllOf Open all = all_join Open (header_way r.tables [] (h.first ∷ h.more)) (record { path = path; kind = marks_of.element } ∷ []) (open_way r.tables [] (h.first ∷ h.more)) (refl, tt) in
+    let open_all : AllOf Open all = all_join Open (header_prefixes r.tables [] (h.first ∷ h.more)) (record { path = path; kind = marks_of.element } ∷ []) (open_prefixes r.tables [] (h.first ∷ h.more)) (refl, tt) in
     subst (SomeOf (IsMentioned headed prefix)) (sym h.is) (some_left (IsMentioned headed prefix) all h.rest (some_headed prefix all there open_all))
 
 lines_headed : (p prefix : List Part) → EndsInKey prefix → Reaches prefix p → (r : Reading) (ls : List Line) → SomeOf (IsMentioned is_begun p) (lines_mentions r ls) → SomeOf (IsMentioned headed prefix) (lines_mentions r ls)

@@ -12,7 +12,7 @@ use Rattle.std.proofs.Common.{◌≡◌, ℕ, suc, ◌+◌, Bool, true, false, c
 use Rattle.std.proofs.lemmas.List.{map-append, append-nil, take-append-drop}
 use Rattle.keep_syntax.specs.Tree.{Written, Gap, Key, Content, blank, keyval, header, element, Line, Document}
 use Rattle.keep_path.specs.Path.{Part, same_path}
-use Rattle.keep_meaning.specs.Marks.{MentionKind, through, past, define, dotted, value, begun, passed, item, element as kinds_element, Mention, fact_of, Reading, start, elements_of, header_path, header_way}
+use Rattle.keep_meaning.specs.Marks.{MentionKind, through, past, define, dotted, value, begun, passed, item, element as kinds_element, Mention, fact_of, Reading, start, elements_of, header_path, header_prefixes}
 use Rattle.keep_meaning.specs.Meaning.{key_value, further_value, keys_of, lines_mentions, reading_after_lines, lines, mentions_in}
 use Rattle.keep_meaning.specs.Nodes.{has, is_begun, is_passed}
 use Rattle.keep_edit_spec.specs.Look.{strip}
@@ -27,13 +27,13 @@ use Rattle.keep_edit_spec.proofs.Common.FromMarksLines.{path_ends}
 use Rattle.keep_edit_spec.proofs.Common.Moves.{moved}
 use Rattle.keep_edit_spec.proofs.Common.Doubles.{IsMentioned, some_has}
 use Rattle.keep_edit_spec.proofs.Common.ThroughAlone.{none_mentioned}
-use Rattle.keep_edit_spec.proofs.Append.AppendTable.{silent_way}
+use Rattle.keep_edit_spec.proofs.Append.AppendTable.{silent_prefixes}
 use Rattle.keep_edit_spec.proofs.Common.Cuts.{IsCut}
 use Rattle.keep_edit_spec.proofs.Remove.RemoveLines.{IsRemoval, IsFound, found, without_mentions, drop_next}
 use Rattle.keep_edit_spec.proofs.Remove.RemoveSection.{body_is}
 use Rattle.keep_edit_spec.proofs.Remove.RemoveRefusal.{lines_begun, never_begun}
 use Rattle.keep_edit_spec.proofs.Remove.Shift.{shifted, element_at, disjoint_root, shifted_root}
-use Rattle.keep_edit_spec.proofs.Remove.ShiftWay.{IsShift, NotPassed, elements_more}
+use Rattle.keep_edit_spec.proofs.Remove.ShiftPrefixes.{IsShift, NotPassed, elements_more}
 use Rattle.keep_edit_spec.proofs.Remove.ShiftLines.{array_mentions, AreShifted, all_both}
 use Rattle.keep_edit_spec.proofs.Remove.ShiftMentioned.{lines_shift}
 use Rattle.keep_edit_spec.proofs.Remove.ElementTree.{element_removal}
@@ -107,11 +107,11 @@ after_shift prefix ends ts h = record {
 
 -- ---- the element's lines taken out
 
-regroup : (left way run right : List Mention) (d m : Mention) → left ++ ((way ++ d ∷ m ∷ []) ++ (run ++ right)) ≡ left ++ (((way ++ d ∷ []) ++ (m ∷ run)) ++ right)
-regroup left way run right d m = simp append_assoc refl
+regroup : (left prefixes run right : List Mention) (d m : Mention) → left ++ ((prefixes ++ d ∷ m ∷ []) ++ (run ++ right)) ≡ left ++ (((prefixes ++ d ∷ []) ++ (m ∷ run)) ++ right)
+regroup left prefixes run right d m = simp append_assoc refl
 
-regroup_two : (left way run right : List Mention) (d m : Mention) → left ++ (((way ++ d ∷ []) ++ (m ∷ run)) ++ right) ≡ (left ++ way) ++ (d ∷ ((m ∷ run) ++ right))
-regroup_two left way run right d m = simp append_assoc refl
+regroup_two : (left prefixes run right : List Mention) (d m : Mention) → left ++ (((prefixes ++ d ∷ []) ++ (m ∷ run)) ++ right) ≡ (left ++ prefixes) ++ (d ∷ ((m ∷ run) ++ right))
+regroup_two left prefixes run right d m = simp append_assoc refl
 
 record IsElementCut (p : List Part) (f : List Part → List Part) (from to : List Mention) : Type 0 where
   mid : List Mention
@@ -137,7 +137,7 @@ element_cut pre post l b k a e rules free =
     let body = body_is inner post in
     let rest : List Line = drop (body_length post) post in
     let left : List Mention = lines_mentions start pre in
-    let way : List Mention = header_way r.tables [] (keys_of k) in
+    let prefixes : List Mention = header_prefixes r.tables [] (keys_of k) in
     let top : Mention = record { path = prefix; kind = kinds_element } in
     let m : Mention = record { path = p; kind = begun } in
     let run : List Mention = lines_mentions inner (take (body_length post) post) in
@@ -145,19 +145,19 @@ element_cut pre post l b k a e rules free =
     let post_mentions : lines_mentions inner post ≡ run ++ right =
     ap (lines_mentions inner) (sym (take-append-drop (body_length post) post)) ∙ lines_mentions-append inner (take (body_length post) post) rest
     ∙ ap (λ (x : Reading). run ++ lines_mentions x rest) body.keeps ∙ ap (λ (x : List Mention). run ++ x) (body.further []) in
-    let whole : lines_mentions start (pre ++ l ∷ post) ≡ left ++ (((way ++ top ∷ []) ++ (m ∷ run)) ++ right) =
+    let whole : lines_mentions start (pre ++ l ∷ post) ≡ left ++ (((prefixes ++ top ∷ []) ++ (m ∷ run)) ++ right) =
     lines_mentions-append start pre (l ∷ post)
     ∙ ap (λ (c : Content). left ++ lines_mentions r (record { before = l.before; content = c; after = l.after; comment = l.comment } ∷ post)) e
-    ∙ ap (λ x. left ++ ((way ++ top ∷ m ∷ []) ++ x)) post_mentions
-    ∙ regroup left way run right top m in
-    let flat : lines_mentions start (pre ++ l ∷ post) ≡ (left ++ way) ++ (top ∷ ((m ∷ run) ++ right)) = whole ∙ regroup_two left way run right top m in
-    let split = pairs_split Allowed (left ++ way) (top ∷ ((m ∷ run) ++ right)) (subst Rules flat rules) in
-    let array_left : AllOf (IsOfArray prefix) left = all_left (IsOfArray prefix) left way (all_before prefix (left ++ way) ((m ∷ run) ++ right) (subst Rules flat rules)) in
+    ∙ ap (λ x. left ++ ((prefixes ++ top ∷ m ∷ []) ++ x)) post_mentions
+    ∙ regroup left prefixes run right top m in
+    let flat : lines_mentions start (pre ++ l ∷ post) ≡ (left ++ prefixes) ++ (top ∷ ((m ∷ run) ++ right)) = whole ∙ regroup_two left prefixes run right top m in
+    let split = pairs_split Allowed (left ++ prefixes) (top ∷ ((m ∷ run) ++ right)) (subst Rules flat rules) in
+    let array_left : AllOf (IsOfArray prefix) left = all_left (IsOfArray prefix) left prefixes (all_before prefix (left ++ prefixes) ((m ∷ run) ++ right) (subst Rules flat rules)) in
     let array_right : AllOf (IsOfArray prefix) right = all_right (IsOfArray prefix) (m ∷ run) right (all_after prefix ((m ∷ run) ++ right) split.right.0) in
-    let never : AllOf (NotPassed p) ((left ++ way) ++ (top ∷ ((m ∷ run) ++ right))) = none_mentioned is_passed p ((left ++ way) ++ (top ∷ ((m ∷ run) ++ right)))
-    (λ s. let yes : has is_passed p (lines_mentions start (pre ++ l ∷ post)) ≡ true = ap (has is_passed p) flat ∙ some_has is_passed p ((left ++ way) ++ (top ∷ ((m ∷ run) ++ right))) s in absurd cc) in
-    let never_left : AllOf (NotPassed p) left = all_left (NotPassed p) left way (all_left (NotPassed p) (left ++ way) (top ∷ ((m ∷ run) ++ right)) never) in
-    let never_right : AllOf (NotPassed p) right = all_right (NotPassed p) (m ∷ run) right (all_right (NotPassed p) (left ++ way) (top ∷ ((m ∷ run) ++ right)) never).1 in
+    let never : AllOf (NotPassed p) ((left ++ prefixes) ++ (top ∷ ((m ∷ run) ++ right))) = none_mentioned is_passed p ((left ++ prefixes) ++ (top ∷ ((m ∷ run) ++ right)))
+    (λ s. let yes : has is_passed p (lines_mentions start (pre ++ l ∷ post)) ≡ true = ap (has is_passed p) flat ∙ some_has is_passed p ((left ++ prefixes) ++ (top ∷ ((m ∷ run) ++ right))) s in absurd cc) in
+    let never_left : AllOf (NotPassed p) left = all_left (NotPassed p) left prefixes (all_left (NotPassed p) (left ++ prefixes) (top ∷ ((m ∷ run) ++ right)) never) in
+    let never_right : AllOf (NotPassed p) right = all_right (NotPassed p) (m ∷ run) right (all_right (NotPassed p) (left ++ prefixes) (top ∷ ((m ∷ run) ++ right)) never).1 in
     let one = lines_shift prefix ends n start start pre (start_shift prefix ends n) (all_both (IsOfArray prefix) (NotPassed p) left array_left never_left) (inl (omega arith)) in
     let two = lines_shift prefix ends n outer less rest (after_shift prefix ends r.tables one.next.tables) (all_both (IsOfArray prefix) (NotPassed p) right array_right never_right)
     (inr (omega (arith, elements_more prefix prefix r.tables ∙ ap (λ (b : Bool). elements_of prefix r.tables + cond b 1 0) (same_path-refl prefix)))) in
@@ -165,14 +165,14 @@ element_cut pre post l b k a e rules free =
       mid = left ++ right;
       cut = record {
         before = left;
-        ways = way ++ top ∷ [];
+        ways = prefixes ++ top ∷ [];
         run = m ∷ run;
         after = right;
         was = whole;
         is = refl;
         disjoint_before = one.preserved;
         disjoint_after = two.preserved;
-        silent = all_join (λ (x : Mention). fact_of x.kind ≡ None) way (top ∷ []) (silent_way r.tables [] (keys_of k)) (refl, tt);
+        silent = all_join (λ (x : Mention). fact_of x.kind ≡ None) prefixes (top ∷ []) (silent_prefixes r.tables [] (keys_of k)) (refl, tt);
         under = (([], ap (strip p) (sym (append-nil p)) ∙ strip-append p []), body.under);
       };
       is = ap (λ x. left ++ x) ((body_is r post).further [] ∙ two.mentioned)

@@ -16,7 +16,7 @@ use Rattle.keep_edit_spec.specs.declared.fault.EditFault.{EditFault}
 use Rattle.keep_meaning.specs.Fact.{Fact, table, is_value_fact}
 use Rattle.keep_path.specs.Path.{Part, key, index}
 use Rattle.keep_meaning.specs.Rules.{ObeysRules}
-use Rattle.keep_meaning.specs.Marks.{MentionKind, through, past, define, dotted, value, begun, passed, item, element as kinds_element, Mention, below, fact_of, marks, Reading, start, elements_of, entered_path, passing_mentions, header_path, header_way}
+use Rattle.keep_meaning.specs.Marks.{MentionKind, through, past, define, dotted, value, begun, passed, item, element as kinds_element, Mention, below, fact_of, marks, Reading, start, elements_of, entered_path, passing_mentions, header_path, header_prefixes}
 use Rattle.keep_meaning.specs.Meaning.{key_value, further_value, keys_of, body_fact, valued_mentions, keyed_mentions, entry_mentions, entries_mentions, keyval_mentions, line_mentions, after_line, lines_mentions, lines, mentions_in}
 use Rattle.keep_meaning.specs.Nodes.{is_at, fact_at, has, is_through, is_begun, is_define, is_passed, is_node, is_root}
 use Rattle.keep_edit_spec.specs.Edits.{remove, change}
@@ -113,12 +113,12 @@ plain_pass : (tables : List (List Part)) (q : List Part) (b : Bool)
 plain_pass tables q true = (refl, tt)
 plain_pass tables q false = (refl, (refl, tt))
 
-pub plain_way : (tables : List (List Part)) (at : List Part) (keys : List (List ℕ)) → AllOf (λ (m : Mention). is_begun m.kind ≡ false) (header_way tables at keys)
-plain_way tables at [] = tt
-plain_way tables at (k ∷ []) = tt
-plain_way tables at (k ∷ l ∷ ks) =
+pub plain_prefixes : (tables : List (List Part)) (at : List Part) (keys : List (List ℕ)) → AllOf (λ (m : Mention). is_begun m.kind ≡ false) (header_prefixes tables at keys)
+plain_prefixes tables at [] = tt
+plain_prefixes tables at (k ∷ []) = tt
+plain_prefixes tables at (k ∷ l ∷ ks) =
     let q : List Part = at ++ key k ∷ [] in
-    all_join (λ (m : Mention). is_begun m.kind ≡ false) (passing_mentions tables q) (header_way tables (entered_path tables q) (l ∷ ks)) (plain_pass tables q (0 == elements_of q tables)) (plain_way tables (entered_path tables q) (l ∷ ks))
+    all_join (λ (m : Mention). is_begun m.kind ≡ false) (passing_mentions tables q) (header_prefixes tables (entered_path tables q) (l ∷ ks)) (plain_pass tables q (0 == elements_of q tables)) (plain_prefixes tables (entered_path tables q) (l ∷ ks))
 
 not_index : (p at : List Part) (n : ℕ) → EndsInKey p → at ++ index n ∷ [] ≡ p → ⊥
 not_index p at n ends e =
@@ -131,13 +131,13 @@ content_begun p ends r before after comment blank = tt
 content_begun p ends r before after comment (keyval name v) =
     plain p (map (below r.body) (keyval_mentions name v)) (plain_below r.body (keyval_mentions name v) (plain_named 0 (Some name) (body_fact v.body) (entries_mentions 0 v.nested) (plain_entries 0 v.nested)))
 content_begun p ends r before after comment (header b k a) =
-    all_join (NotBegun p) (header_way r.tables [] (keys_of k)) (record { path = header_path r.tables [] (keys_of k); kind = define } ∷ [])
-    (plain p (header_way r.tables [] (keys_of k)) (plain_way r.tables [] (keys_of k))) ((λ e. refl), tt)
+    all_join (NotBegun p) (header_prefixes r.tables [] (keys_of k)) (record { path = header_path r.tables [] (keys_of k); kind = define } ∷ [])
+    (plain p (header_prefixes r.tables [] (keys_of k)) (plain_prefixes r.tables [] (keys_of k))) ((λ e. refl), tt)
 content_begun p ends r before after comment (element b k a) =
     let at : List Part = header_path r.tables [] (keys_of k) in
     let n : ℕ = elements_of at r.tables in
-    all_join (NotBegun p) (header_way r.tables [] (keys_of k)) (record { path = at; kind = kinds_element } ∷ record { path = at ++ index n ∷ []; kind = begun } ∷ [])
-    (plain p (header_way r.tables [] (keys_of k)) (plain_way r.tables [] (keys_of k))) ((λ e. refl), ((λ e. absurd (not_index p at n ends e)), tt))
+    all_join (NotBegun p) (header_prefixes r.tables [] (keys_of k)) (record { path = at; kind = kinds_element } ∷ record { path = at ++ index n ∷ []; kind = begun } ∷ [])
+    (plain p (header_prefixes r.tables [] (keys_of k)) (plain_prefixes r.tables [] (keys_of k))) ((λ e. refl), ((λ e. absurd (not_index p at n ends e)), tt))
 
 pub lines_begun : (p : List Part) → EndsInKey p → (r : Reading) (ls : List Line) → AllOf (NotBegun p) (lines_mentions r ls)
 lines_begun p ends r [] = tt

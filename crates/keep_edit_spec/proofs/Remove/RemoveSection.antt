@@ -12,7 +12,7 @@ use Rattle.std.specs.Prelude.{◌==◌}
 use Rattle.std.proofs.lemmas.List.{append-nil, take-append-drop}
 use Rattle.keep_syntax.specs.Tree.{Written, Gap, Key, Content, blank, keyval, header, element, Line, Document}
 use Rattle.keep_path.specs.Path.{Part, key, index, same_path}
-use Rattle.keep_meaning.specs.Marks.{MentionKind, through, past, define, dotted, value, begun, passed, item, element as kinds_element, Mention, below, fact_of, Reading, start, elements_of, entered_path, passing_mentions, header_path, header_way}
+use Rattle.keep_meaning.specs.Marks.{MentionKind, through, past, define, dotted, value, begun, passed, item, element as kinds_element, Mention, below, fact_of, Reading, start, elements_of, entered_path, passing_mentions, header_path, header_prefixes}
 use Rattle.keep_meaning.specs.Meaning.{keys_of, keyval_mentions, lines_mentions, reading_after_lines, lines, mentions_in}
 use Rattle.keep_meaning.specs.Nodes.{is_at, has, is_through}
 use Rattle.keep_edit_spec.specs.Look.{strip}
@@ -122,18 +122,18 @@ way_silent : (tables : List (List Part)) (q : List Part) (b : Bool)
 way_silent tables q true = (refl, tt)
 way_silent tables q false = (refl, (refl, tt))
 
-silent_way : (tables : List (List Part)) (at : List Part) (keys : List (List ℕ)) → AllOf (λ (m : Mention). fact_of m.kind ≡ None) (header_way tables at keys)
-silent_way tables at [] = tt
-silent_way tables at (k ∷ []) = tt
-silent_way tables at (k ∷ l ∷ ks) =
+silent_prefixes : (tables : List (List Part)) (at : List Part) (keys : List (List ℕ)) → AllOf (λ (m : Mention). fact_of m.kind ≡ None) (header_prefixes tables at keys)
+silent_prefixes tables at [] = tt
+silent_prefixes tables at (k ∷ []) = tt
+silent_prefixes tables at (k ∷ l ∷ ks) =
     let q : List Part = at ++ key k ∷ [] in
-    all_join (λ (m : Mention). fact_of m.kind ≡ None) (passing_mentions tables q) (header_way tables (entered_path tables q) (l ∷ ks)) (way_silent tables q (0 == elements_of q tables)) (silent_way tables (entered_path tables q) (l ∷ ks))
+    all_join (λ (m : Mention). fact_of m.kind ≡ None) (passing_mentions tables q) (header_prefixes tables (entered_path tables q) (l ∷ ks)) (way_silent tables q (0 == elements_of q tables)) (silent_prefixes tables (entered_path tables q) (l ∷ ks))
 
-regroup : (left way run right : List Mention) (d : Mention) → left ++ ((way ++ d ∷ []) ++ (run ++ right)) ≡ left ++ ((way ++ (d ∷ run)) ++ right)
-regroup left way run right d = simp append_assoc refl
+regroup : (left prefixes run right : List Mention) (d : Mention) → left ++ ((prefixes ++ d ∷ []) ++ (run ++ right)) ≡ left ++ ((prefixes ++ (d ∷ run)) ++ right)
+regroup left prefixes run right d = simp append_assoc refl
 
-regroup_two : (left way run right : List Mention) (d : Mention) → left ++ ((way ++ (d ∷ run)) ++ right) ≡ (left ++ way) ++ (d ∷ (run ++ right))
-regroup_two left way run right d = simp append_assoc refl
+regroup_two : (left prefixes run right : List Mention) (d : Mention) → left ++ ((prefixes ++ (d ∷ run)) ++ right) ≡ (left ++ prefixes) ++ (d ∷ (run ++ right))
+regroup_two left prefixes run right d = simp append_assoc refl
 
 -- a header and its body, taken out of the lines
 section_cut : (pre post : List Line) (l : Line) (b : Gap) (k : Key) (a : Gap) → l.content ≡ header b k a
@@ -148,41 +148,41 @@ section_cut pre post l b k a e ends rules single =
     let n : ℕ = body_length post in
     let body = body_is r1 post in
     let left : List Mention = lines_mentions start pre in
-    let way : List Mention = header_way r.tables [] (keys_of k) in
+    let prefixes : List Mention = header_prefixes r.tables [] (keys_of k) in
     let d : Mention = record { path = p; kind = define } in
     let run : List Mention = lines_mentions r1 (take n post) in
     let right : List Mention = lines_mentions r1 (drop n post) in
     let post_mentions : lines_mentions r1 post ≡ run ++ right =
     ap (lines_mentions r1) (sym (take-append-drop n post)) ∙ lines_mentions-append r1 (take n post) (drop n post)
     ∙ ap (λ (x : Reading). run ++ lines_mentions x (drop n post)) body.keeps in
-    let whole : lines_mentions start (pre ++ l ∷ post) ≡ left ++ ((way ++ (d ∷ run)) ++ right) =
+    let whole : lines_mentions start (pre ++ l ∷ post) ≡ left ++ ((prefixes ++ (d ∷ run)) ++ right) =
     lines_mentions-append start pre (l ∷ post)
     ∙ ap (λ (c : Content). left ++ lines_mentions r (record { before = l.before; content = c; after = l.after; comment = l.comment } ∷ post)) e
-    ∙ ap (λ x. left ++ ((way ++ d ∷ []) ++ x)) post_mentions
-    ∙ regroup left way run right d in
-    let all : Rules (left ++ ((way ++ (d ∷ run)) ++ right)) = subst Rules whole rules in
-    let flat : Rules ((left ++ way) ++ (d ∷ (run ++ right))) = subst Rules (regroup_two left way run right d) all in
-    let never : SomeOf (IsThroughAt p) ((left ++ way) ++ (d ∷ (run ++ right))) → ⊥ = λ s.
+    ∙ ap (λ x. left ++ ((prefixes ++ d ∷ []) ++ x)) post_mentions
+    ∙ regroup left prefixes run right d in
+    let all : Rules (left ++ ((prefixes ++ (d ∷ run)) ++ right)) = subst Rules whole rules in
+    let flat : Rules ((left ++ prefixes) ++ (d ∷ (run ++ right))) = subst Rules (regroup_two left prefixes run right d) all in
+    let never : SomeOf (IsThroughAt p) ((left ++ prefixes) ++ (d ∷ (run ++ right))) → ⊥ = λ s.
     let t : has is_through p (lines_mentions start (pre ++ l ∷ post)) ≡ true =
-    ap (has is_through p) (whole ∙ regroup_two left way run right d) ∙ has_through p ((left ++ way) ++ (d ∷ (run ++ right))) s in
+    ap (has is_through p) (whole ∙ regroup_two left prefixes run right d) ∙ has_through p ((left ++ prefixes) ++ (d ∷ (run ++ right))) s in
     absurd cc in
-    let allowed : AllOf (Allowed d) (run ++ right) = (pairs_split Allowed (left ++ way) (d ∷ (run ++ right)) flat).right.0 in
+    let allowed : AllOf (Allowed d) (run ++ right) = (pairs_split Allowed (left ++ prefixes) (d ∷ (run ++ right)) flat).right.0 in
     let r0 : Reading = record { tables = r.tables; body = [] } in
     let same : lines_mentions r0 (drop n post) ≡ right = sym (body.further []) in
     record {
       before = left;
-      ways = way;
+      ways = prefixes;
       run = d ∷ run;
       after = right;
       was = whole;
       is = ap (λ x. left ++ x) (sym (body_further r p post) ∙ refl);
       disjoint_before = from_closed p [] left (lines_closed p start pre ends) (λ v. never_root p ends v)
-          (λ s. never (some_left (IsThroughAt p) (left ++ way) (d ∷ (run ++ right)) (solid_before p (left ++ way) (run ++ right) (some_left (IsSolidAt p) left way s) flat)));
+          (λ s. never (some_left (IsThroughAt p) (left ++ prefixes) (d ∷ (run ++ right)) (solid_before p (left ++ prefixes) (run ++ right) (some_left (IsSolidAt p) left prefixes s) flat)));
       disjoint_after = subst (λ (x : List Mention). AllOf (IsDisjoint p) x) same
           (from_closed p [] (lines_mentions r0 (drop n post)) (lines_closed p r0 (drop n post) ends) (λ v. never_root p ends v)
-          (λ s. never (some_right (IsThroughAt p) (left ++ way) (d ∷ (run ++ right))
+          (λ s. never (some_right (IsThroughAt p) (left ++ prefixes) (d ∷ (run ++ right))
           (inr (solid_after p (run ++ right) (some_right (IsSolidAt p) run right (subst (λ (x : List Mention). SomeOf (IsSolidAt p) x) same s)) allowed)))));
-      silent = silent_way r.tables [] (keys_of k);
+      silent = silent_prefixes r.tables [] (keys_of k);
       under = (([], ap (strip p) (sym (append-nil p)) ∙ strip-append p []), body.under);
     }
   where

@@ -25,7 +25,7 @@ use Rattle.keep_syntax.specs.Numbered.{width, Count, key_count, line_statements,
 use Rattle.keep_syntax.proofs.Shared.{over_ended, after_lines-statements}
 use Rattle.keep_path.specs.Path.{Part, same_path}
 use Rattle.keep_meaning.specs.Marks as marks_of
-use Rattle.keep_meaning.specs.Marks.{MentionKind, Mention, Reading, start, statement_mentions, next_reading, mentions_from, reading_after, header_way}
+use Rattle.keep_meaning.specs.Marks.{MentionKind, Mention, Reading, start, statement_mentions, next_reading, mentions_from, reading_after, header_prefixes}
 use Rattle.keep_meaning.specs.Meaning.{keys_of, statement_of, after_line, lines_mentions, reading_after_lines, line_of, lines}
 use Rattle.keep_meaning.specs.Counts as counts
 use Rattle.keep_meaning.specs.Counts.{Numbered, count_with_mention, next_count, no_count, numbered_mentions, numbered_from, count_from, line_statement, statements_in, numbered_in}
@@ -265,7 +265,7 @@ header_line path s pre rest (header b k a) was e is at none =
       keys = key_count k;
       statements = λ c line_end. ap (content_statements c (head_line rest s.last) line_end) e;
       headed = inl (line_number is_define path s pre rest st was stated
-          (some_right (IsMentioned is_define path) (header_way r.tables [] (keys_of k)) _ (inl (place, refl)))
+          (some_right (IsMentioned is_define path) (header_prefixes r.tables [] (keys_of k)) _ (inl (place, refl)))
           (λ x. none_some (last_line (begins path) (next_reading r st) (tail_lines rest s.last)) none' (some_begins path (next_reading r st) (tail_lines rest s.last) x).0));
     }
 header_line path s pre rest (element b k a) was e is at none =
@@ -280,7 +280,7 @@ header_line path s pre rest (element b k a) was e is at none =
       keys = key_count k;
       statements = λ c line_end. ap (content_statements c (head_line rest s.last) line_end) e;
       headed = inr (line_number is_begun path s pre rest st was stated
-          (some_right (IsMentioned is_begun path) (header_way r.tables [] (keys_of k)) _ (inr (inl (place, refl))))
+          (some_right (IsMentioned is_begun path) (header_prefixes r.tables [] (keys_of k)) _ (inr (inl (place, refl))))
           (λ x. none_some (last_line (begins path) (next_reading r st) (tail_lines rest s.last)) none' (element_there.some_begins path (next_reading r st) (tail_lines rest s.last) x)));
     }
 

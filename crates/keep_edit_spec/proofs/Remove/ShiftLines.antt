@@ -3,7 +3,7 @@ use Rattle.std.proofs.Common.{◌≡◌, ℕ, ◌+◌, ◌<◌, ◌≤◌, Bool,
 use Rattle.keep_syntax.specs.Tree.{Name, Value, Line}
 use Rattle.keep_path.specs.Path.{Part, key, index, same_part, same_path}
 use Rattle.keep_meaning.specs.Marks as marks_of
-use Rattle.keep_meaning.specs.Marks.{MentionKind, past, define, begun, passed, Mention, below, Reading, elements_of, header_path, header_way}
+use Rattle.keep_meaning.specs.Marks.{MentionKind, past, define, begun, passed, Mention, below, Reading, elements_of, header_path, header_prefixes}
 use Rattle.keep_meaning.specs.Meaning.{keyval_mentions, line_mentions}
 use Rattle.keep_edit_spec.specs.Look.{strip}
 use Rattle.keep_edit_spec.proofs.Common.Runs.{AllOf, SomeOf, all_map, meet, IsDisjoint, IsUnder, strip_both, strip_shorter, strip-sound, same_path-sound, same_path-refl}
@@ -12,7 +12,7 @@ use Rattle.keep_edit_spec.proofs.Common.LineLaws.{Reaches, EndsInKey, line_close
 use Rattle.keep_edit_spec.proofs.Common.Moves.{moved, down}
 use Rattle.keep_edit_spec.proofs.Remove.KeyvalMentions.{StartsInKey, mentioned_below, mentions_keyval}
 use Rattle.keep_edit_spec.proofs.Remove.Shift.{shifted, element_at, unreached, disjoint_step, prefix_same, last_same, same_number, shifted_prefix, shifted_further, shifted_index, shifted_below, shifted_above, shifted_same}
-use Rattle.keep_edit_spec.proofs.Remove.ShiftWay.{IsShift, NotPassed, elements_more, prefix_disjoint}
+use Rattle.keep_edit_spec.proofs.Remove.ShiftPrefixes.{IsShift, NotPassed, elements_more, prefix_disjoint}
 
 -- what is said of an array of tables and its elements by headers
 abbrev pub array_mentions : MentionKind → Bool

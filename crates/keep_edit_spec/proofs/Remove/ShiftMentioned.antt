@@ -4,14 +4,14 @@ use Rattle.std.proofs.lemmas.List.{map-append}
 use Rattle.keep_syntax.specs.Tree.{Written, Gap, Content, blank, keyval, header, element, Line}
 use Rattle.keep_path.specs.Path.{Part, index}
 use Rattle.keep_meaning.specs.Marks as marks_of
-use Rattle.keep_meaning.specs.Marks.{define, begun, Mention, Reading, elements_of, header_path, header_way}
+use Rattle.keep_meaning.specs.Marks.{define, begun, Mention, Reading, elements_of, header_path, header_prefixes}
 use Rattle.keep_meaning.specs.Meaning.{keys_of, keyval_mentions, line_mentions, after_line, lines_mentions, reading_after_lines}
 use Rattle.keep_edit_spec.proofs.Common.Runs.{AllOf, all_left, all_right, all_join, all_map, IsDisjoint}
 use Rattle.keep_edit_spec.proofs.Common.LineLaws.{EndsInKey}
 use Rattle.keep_edit_spec.proofs.Common.Moves.{moved}
 use Rattle.keep_edit_spec.proofs.Remove.KeyvalMentions.{starts_keyval}
 use Rattle.keep_edit_spec.proofs.Remove.Shift.{shifted, element_at, disjoint_root, shifted_root}
-use Rattle.keep_edit_spec.proofs.Remove.ShiftWay.{IsShift, NotPassed, IsWayShift, elements_more, way_shift}
+use Rattle.keep_edit_spec.proofs.Remove.ShiftPrefixes.{IsShift, NotPassed, IsWayShift, elements_more, way_shift}
 use Rattle.keep_edit_spec.proofs.Remove.ShiftLines.{IsBeside, AreShifted, IsStop, keyval_preserved, keyval_shifted, near_all, begun_shift, next_shift}
 
 pub record IsLineShift (prefix : List Part) (n : ℕ) (r u : Reading) (l : Line) : Type 0 where
@@ -21,13 +21,13 @@ pub record IsLineShift (prefix : List Part) (n : ℕ) (r u : Reading) (l : Line)
 
 module _ (prefix : List Part) (ends : EndsInKey prefix) (n : ℕ) (r u : Reading) (h : AreShifted prefix n r u) where
   -- a header's way and path, from the root
-  way_root : (keys : List (List ℕ)) → AllOf (IsBeside prefix n) (header_way r.tables [] keys) → IsWayShift prefix n r.tables u.tables [] keys
+  way_root : (keys : List (List ℕ)) → AllOf (IsBeside prefix n) (header_prefixes r.tables [] keys) → IsWayShift prefix n r.tables u.tables [] keys
   way_root keys all =
       way_shift prefix ends n r.tables u.tables h.tables [] keys (disjoint_root prefix n ends)
-      (all_map (IsBeside prefix n) (NotPassed (element_at prefix n)) (λ m x. x.1) (header_way r.tables [] keys) all)
+      (all_map (IsBeside prefix n) (NotPassed (element_at prefix n)) (λ m x. x.1) (header_prefixes r.tables [] keys) all)
 
-  way_mentioned : (keys : List (List ℕ)) → IsWayShift prefix n r.tables u.tables [] keys → header_way u.tables [] keys ≡ map (moved (shifted prefix n)) (header_way r.tables [] keys)
-  way_mentioned keys w = ap (λ (x : List Part). header_way u.tables x keys) (sym (shifted_root prefix n ends)) ∙ w.way
+  way_mentioned : (keys : List (List ℕ)) → IsWayShift prefix n r.tables u.tables [] keys → header_prefixes u.tables [] keys ≡ map (moved (shifted prefix n)) (header_prefixes r.tables [] keys)
+  way_mentioned keys w = ap (λ (x : List Part). header_prefixes u.tables x keys) (sym (shifted_root prefix n ends)) ∙ w.prefixes
 
   path_is : (keys : List (List ℕ)) → IsWayShift prefix n r.tables u.tables [] keys → header_path u.tables [] keys ≡ shifted prefix n (header_path r.tables [] keys)
   path_is keys w = ap (λ (x : List Part). header_path u.tables x keys) (sym (shifted_root prefix n ends)) ∙ w.path
@@ -44,30 +44,30 @@ module _ (prefix : List Part) (ends : EndsInKey prefix) (n : ℕ) (r u : Reading
       }
   content_shift before after' comment (header b k a) all stop =
       let keys : List (List ℕ) = keys_of k in
-      let way : List Mention = header_way r.tables [] keys in
+      let prefixes : List Mention = header_prefixes r.tables [] keys in
       let at : List Part = header_path r.tables [] keys in
       let end : List Mention = record { path = at; kind = define } ∷ [] in
-      let w = way_root keys (all_left (IsBeside prefix n) way end all) in
+      let w = way_root keys (all_left (IsBeside prefix n) prefixes end all) in
       record {
         mentioned = ap (λ (x : List Mention). x ++ record { path = header_path u.tables [] keys; kind = define } ∷ []) (way_mentioned keys w)
-            ∙ ap (λ (q : List Part). map (moved (shifted prefix n)) way ++ record { path = q; kind = define } ∷ []) (path_is keys w)
-            ∙ sym (map-append (moved (shifted prefix n)) way end);
-        preserved = all_join (IsDisjoint (element_at prefix n)) way end w.way_preserved (w.path_preserved, tt);
+            ∙ ap (λ (q : List Part). map (moved (shifted prefix n)) prefixes ++ record { path = q; kind = define } ∷ []) (path_is keys w)
+            ∙ sym (map-append (moved (shifted prefix n)) prefixes end);
+        preserved = all_join (IsDisjoint (element_at prefix n)) prefixes end w.way_preserved (w.path_preserved, tt);
         next = record { tables = h.tables; body = path_is keys w; preserved = w.path_preserved };
       }
   content_shift before after' comment (element b k a) all stop =
       let keys : List (List ℕ) = keys_of k in
-      let way : List Mention = header_way r.tables [] keys in
+      let prefixes : List Mention = header_prefixes r.tables [] keys in
       let at : List Part = header_path r.tables [] keys in
       let two : List Part → List (List Part) → List Mention = λ q ts. record { path = q; kind = marks_of.element } ∷ record { path = q ++ index (elements_of q ts) ∷ []; kind = begun } ∷ [] in
-      let w = way_root keys (all_left (IsBeside prefix n) way (two at r.tables) all) in
+      let w = way_root keys (all_left (IsBeside prefix n) prefixes (two at r.tables) all) in
       let begins = begun_shift prefix ends n r.tables u.tables h.tables at w.path_preserved stop in
       record {
         mentioned = ap (λ (x : List Mention). x ++ two (header_path u.tables [] keys) u.tables) (way_mentioned keys w)
-            ∙ ap (λ (q : List Part). map (moved (shifted prefix n)) way ++ two q u.tables) (path_is keys w)
-            ∙ ap (λ (q : List Part). map (moved (shifted prefix n)) way ++ (record { path = shifted prefix n at; kind = marks_of.element } ∷ record { path = q; kind = begun } ∷ [])) (sym begins.is)
-            ∙ sym (map-append (moved (shifted prefix n)) way (two at r.tables));
-        preserved = all_join (IsDisjoint (element_at prefix n)) way (two at r.tables) w.way_preserved (w.path_preserved, (begins.preserved, tt));
+            ∙ ap (λ (q : List Part). map (moved (shifted prefix n)) prefixes ++ two q u.tables) (path_is keys w)
+            ∙ ap (λ (q : List Part). map (moved (shifted prefix n)) prefixes ++ (record { path = shifted prefix n at; kind = marks_of.element } ∷ record { path = q; kind = begun } ∷ [])) (sym begins.is)
+            ∙ sym (map-append (moved (shifted prefix n)) prefixes (two at r.tables));
+        preserved = all_join (IsDisjoint (element_at prefix n)) prefixes (two at r.tables) w.way_preserved (w.path_preserved, (begins.preserved, tt));
         next = record {
           tables = subst_tables at (header_path u.tables [] keys) (path_is keys w) (next_shift prefix ends n r.tables u.tables h.tables at w.path_preserved stop);
           body = ap (λ (q : List Part). q ++ index (elements_of q u.tables) ∷ []) (path_is keys w) ∙ sym begins.is;

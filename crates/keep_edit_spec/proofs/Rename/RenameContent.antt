@@ -7,7 +7,7 @@ use Rattle.keep_types.specs.declared.leaf.Profile.{Profile}
 use Rattle.keep_syntax.specs.Tree.{Gap, Key, Content, blank, keyval, header, element, content_depth, text_of}
 use Rattle.keep_syntax.specs.Grammar.{IsContent, IsAfter}
 use Rattle.keep_path.specs.Path.{Part, key, index, same_path, moved_path}
-use Rattle.keep_meaning.specs.Marks.{MentionKind, define, element as kinds_element, begun, value, Mention, below, Reading, elements_of, header_path, header_way, statement_mentions, next_reading}
+use Rattle.keep_meaning.specs.Marks.{MentionKind, define, element as kinds_element, begun, value, Mention, below, Reading, elements_of, header_path, header_prefixes, statement_mentions, next_reading}
 use Rattle.keep_meaning.specs.Meaning.{keys_of, body_fact, entries_mentions, keyval_mentions, statement_of}
 use Rattle.keep_edit_spec.specs.Look.{strip}
 use Rattle.keep_edit_spec.specs.Values.{rename_part, rename_name, text_of_value}
@@ -46,17 +46,17 @@ root_renamed p b ends = disjoint_renamed p b [] (short_disjoint p [] (omega (ari
 
 record IsWayMoved (p b : List Part) (tables : List (List Part)) (keys keys' : List (List ℕ)) : Type 0 where
   path : header_path (map (moved_path p b) tables) [] keys' ≡ moved_path p b (header_path tables [] keys)
-  way : header_way (map (moved_path p b) tables) [] keys' ≡ map (moved (moved_path p b)) (header_way tables [] keys)
+  prefixes : header_prefixes (map (moved_path p b) tables) [] keys' ≡ map (moved (moved_path p b)) (header_prefixes tables [] keys)
 
-way_moved : (p b : List Part) (tables : List (List Part)) (keys keys' : List (List ℕ)) → EndsInKey p → AreClear b tables → AllOf (IsDisjoint b) (header_way tables [] keys)
+way_moved : (p b : List Part) (tables : List (List Part)) (keys keys' : List (List ℕ)) → EndsInKey p → AreClear b tables → AllOf (IsDisjoint b) (header_prefixes tables [] keys)
     → AreRenamed p b tables [] keys keys' → IsWayMoved p b tables keys keys'
-way_moved p b tables keys keys' ends clear way h =
+way_moved p b tables keys keys' ends clear prefixes h =
     let f : List Part → List Part = moved_path p b in
-    let m = header_renamed p b tables [] keys keys' ends clear way h in
+    let m = header_renamed p b tables [] keys keys' ends clear prefixes h in
     let root : [] ≡ f [] = sym (root_renamed p b ends) in
     record {
       path = ap (λ x. header_path (map f tables) x keys') root ∙ m.path;
-      way = ap (λ x. header_way (map f tables) x keys') root ∙ m.way;
+      prefixes = ap (λ x. header_prefixes (map f tables) x keys') root ∙ m.prefixes;
     }
 
 header_moved : (p b : List Part) (r : Reading) (x y : Gap) (k k' : Key) → EndsInKey p → AreClear b r.tables → AllOf (IsDisjoint b) (content_mentions r (header x k y))
@@ -64,13 +64,13 @@ header_moved : (p b : List Part) (r : Reading) (x y : Gap) (k k' : Key) → Ends
 header_moved p b r x y k k' ends clear disjoint h =
     let f : List Part → List Part = moved_path p b in
     let path : List Part = header_path r.tables [] (keys_of k) in
-    let way : List Mention = header_way r.tables [] (keys_of k) in
-    let m = way_moved p b r.tables (keys_of k) (keys_of k') ends clear (all_left (IsDisjoint b) way (record { path = path; kind = define } ∷ []) disjoint) h in
+    let prefixes : List Mention = header_prefixes r.tables [] (keys_of k) in
+    let m = way_moved p b r.tables (keys_of k) (keys_of k') ends clear (all_left (IsDisjoint b) prefixes (record { path = path; kind = define } ∷ []) disjoint) h in
     record {
       stated = refl;
-      mentioned = ap (λ (q : List Part). header_way (map f r.tables) [] (keys_of k') ++ record { path = q; kind = define } ∷ []) m.path
-          ∙ ap (λ (l : List Mention). l ++ record { path = f path; kind = define } ∷ []) m.way
-          ∙ sym (map-append (moved f) way (record { path = path; kind = define } ∷ []));
+      mentioned = ap (λ (q : List Part). header_prefixes (map f r.tables) [] (keys_of k') ++ record { path = q; kind = define } ∷ []) m.path
+          ∙ ap (λ (l : List Mention). l ++ record { path = f path; kind = define } ∷ []) m.prefixes
+          ∙ sym (map-append (moved f) prefixes (record { path = path; kind = define } ∷ []));
       after = ap (λ (q : List Part). record { tables = map f r.tables; body = q }) m.path;
     }
 
@@ -81,18 +81,18 @@ element_moved p b r x y k k' ends clear disjoint h =
     let path : List Part = header_path r.tables [] (keys_of k) in
     let path' : List Part = header_path (map f r.tables) [] (keys_of k') in
     let n : ℕ = elements_of path r.tables in
-    let way : List Mention = header_way r.tables [] (keys_of k) in
+    let prefixes : List Mention = header_prefixes r.tables [] (keys_of k) in
     let end : List Mention = record { path = path; kind = kinds_element } ∷ record { path = path ++ index n ∷ []; kind = begun } ∷ [] in
-    let m = way_moved p b r.tables (keys_of k) (keys_of k') ends clear (all_left (IsDisjoint b) way end disjoint) h in
-    let number : elements_of path' (map f r.tables) ≡ n = ap (λ q. elements_of q (map f r.tables)) m.path ∙ elements_renamed p b r.tables path clear (all_right (IsDisjoint b) way end disjoint).0 in
+    let m = way_moved p b r.tables (keys_of k) (keys_of k') ends clear (all_left (IsDisjoint b) prefixes end disjoint) h in
+    let number : elements_of path' (map f r.tables) ≡ n = ap (λ q. elements_of q (map f r.tables)) m.path ∙ elements_renamed p b r.tables path clear (all_right (IsDisjoint b) prefixes end disjoint).0 in
     let begins : path' ++ index (elements_of path' (map f r.tables)) ∷ [] ≡ f (path ++ index n ∷ []) =
     ap (λ i. path' ++ index i ∷ []) number ∙ ap (λ q. q ++ index n ∷ []) m.path ∙ sym (renamed_index p b path n ends) in
     record {
       stated = refl;
-      mentioned = ap (λ (q : List Part). header_way (map f r.tables) [] (keys_of k') ++ record { path = path'; kind = kinds_element } ∷ record { path = q; kind = begun } ∷ []) begins
-          ∙ ap (λ (q : List Part). header_way (map f r.tables) [] (keys_of k') ++ record { path = q; kind = kinds_element } ∷ record { path = f (path ++ index n ∷ []); kind = begun } ∷ []) m.path
-          ∙ ap (λ (l : List Mention). l ++ map (moved f) end) m.way
-          ∙ sym (map-append (moved f) way end);
+      mentioned = ap (λ (q : List Part). header_prefixes (map f r.tables) [] (keys_of k') ++ record { path = path'; kind = kinds_element } ∷ record { path = q; kind = begun } ∷ []) begins
+          ∙ ap (λ (q : List Part). header_prefixes (map f r.tables) [] (keys_of k') ++ record { path = q; kind = kinds_element } ∷ record { path = f (path ++ index n ∷ []); kind = begun } ∷ []) m.path
+          ∙ ap (λ (l : List Mention). l ++ map (moved f) end) m.prefixes
+          ∙ sym (map-append (moved f) prefixes end);
       after = ap (λ (q : List Part). record { tables = map f r.tables ++ path' ∷ []; body = q }) begins
           ∙ ap (λ (q : List Part). record { tables = map f r.tables ++ q ∷ []; body = f (path ++ index n ∷ []) }) m.path
           ∙ ap (λ (l : List (List Part)). record { tables = l; body = f (path ++ index n ∷ []) }) (sym (map-append f r.tables (path ∷ [])));
@@ -101,9 +101,9 @@ element_moved p b r x y k k' ends clear disjoint h =
 -- ---- lines that stay
 
 header_never : (p : List Part) (tables : List (List Part)) (keys : List (List ℕ)) (mention_kind : MentionKind) (more : List Mention) → (SomeOf (IsSolidAt p) (record { path = p; kind = mention_kind } ∷ []))
-    → (SomeOf (IsSolidAt p) (header_way tables [] keys ++ record { path = header_path tables [] keys; kind = mention_kind } ∷ more) → ⊥) → header_path tables [] keys ≡ p → ⊥
+    → (SomeOf (IsSolidAt p) (header_prefixes tables [] keys ++ record { path = header_path tables [] keys; kind = mention_kind } ∷ more) → ⊥) → header_path tables [] keys ≡ p → ⊥
 header_never p tables keys mention_kind more self never e =
-    never (some_right (IsSolidAt p) (header_way tables [] keys) (record { path = header_path tables [] keys; kind = mention_kind } ∷ more)
+    never (some_right (IsSolidAt p) (header_prefixes tables [] keys) (record { path = header_path tables [] keys; kind = mention_kind } ∷ more)
     (subst (λ (q : List Part). SomeOf (IsSolidAt p) (record { path = q; kind = mention_kind } ∷ more)) (sym e) (some_left (IsSolidAt p) (record { path = p; kind = mention_kind } ∷ []) more self)))
 
 pub content_preserved : (p b : List Part) (r : Reading) → EndsInKey p → AreClear b r.tables → (c : Content) → AllOf (IsDisjoint b) (content_mentions r c) → (SomeOf (IsSolidAt p) (content_mentions r c) → ⊥)
@@ -120,11 +120,11 @@ content_preserved p b r ends clear (keyval name v) disjoint never = record { sta
         ∙ sym (moved_disjoint p b ms (from_closed p r.body ms (line_closed p r (plain_line (keyval name v)) ends).each (λ u. absurd (let k : None ≡ Some u.0 = sym e ∙ u.1 in cc)) never))
 content_preserved p b r ends clear (header x k y) disjoint never =
     header_moved p b r x y k k ends clear disjoint
-    (keys_preserved p b r.tables [] (keys_of k) (λ s. never (some_left (IsSolidAt p) (header_way r.tables [] (keys_of k)) _ s))
+    (keys_preserved p b r.tables [] (keys_of k) (λ s. never (some_left (IsSolidAt p) (header_prefixes r.tables [] (keys_of k)) _ s))
     (header_never p r.tables (keys_of k) define [] (inl (record { path = refl; kind = refl })) never))
 content_preserved p b r ends clear (element x k y) disjoint never =
     element_moved p b r x y k k ends clear disjoint
-    (keys_preserved p b r.tables [] (keys_of k) (λ s. never (some_left (IsSolidAt p) (header_way r.tables [] (keys_of k)) _ s))
+    (keys_preserved p b r.tables [] (keys_of k) (λ s. never (some_left (IsSolidAt p) (header_prefixes r.tables [] (keys_of k)) _ s))
     (header_never p r.tables (keys_of k) kinds_element _ (inl (record { path = refl; kind = refl })) never))
 
 -- ---- the line that is renamed
@@ -168,11 +168,11 @@ content_renamed profile t p b r text beside n (header x k y) e =
     }) (key_renamed profile t text n k)
 content_renamed profile t p b r text beside n (element x k y) e =
     let part = header_position p r.tables n (keys_of k) e in
-    let way : List Mention = header_way r.tables [] (keys_of k) in
+    let prefixes : List Mention = header_prefixes r.tables [] (keys_of k) in
     let path : List Part = header_path r.tables [] (keys_of k) in
     to_within (IsKeyRenamed profile t n k) (IsContentRenamed profile p b r (element x k y)) (λ k. element x k y) (codes "[[" ++ text_of x) (text_of y ++ codes "]]") (rename_part (key_part t) n k)
     (λ k' h. record {
-      some = longer way (record { path = path; kind = kinds_element }) _ (part_solid p r.tables [] n (keys_of k) kinds_element refl part);
+      some = longer prefixes (record { path = path; kind = kinds_element }) _ (part_solid p r.tables [] n (keys_of k) kinds_element refl part);
       moves = λ clear disjoint. element_moved p b r x y k k' (ends_old t p b beside) clear disjoint
           (subst (AreRenamed p b r.tables [] (keys_of k)) (sym h.keys) (keys_renamed t p b r.tables [] n (keys_of k) beside part));
       valid = λ w. (w.0, h.valid w.1, w.2);
@@ -180,8 +180,8 @@ content_renamed profile t p b r text beside n (element x k y) e =
       deep = refl;
     }) (key_renamed profile t text n k)
   where
-    longer : (way : List Mention) (m : Mention) (more : List Mention) → SomeOf (IsSolidAt p) (way ++ m ∷ []) → SomeOf (IsSolidAt p) (way ++ m ∷ more)
+    longer : (prefixes : List Mention) (m : Mention) (more : List Mention) → SomeOf (IsSolidAt p) (prefixes ++ m ∷ []) → SomeOf (IsSolidAt p) (prefixes ++ m ∷ more)
     longer [] m more (inl s) = inl s
     longer [] m more (inr s) = absurd s
-    longer (x ∷ way) m more (inl s) = inl s
-    longer (x ∷ way) m more (inr s) = inr (longer way m more s)
+    longer (x ∷ prefixes) m more (inl s) = inl s
+    longer (x ∷ prefixes) m more (inr s) = inr (longer prefixes m more s)

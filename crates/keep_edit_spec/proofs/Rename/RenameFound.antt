@@ -17,7 +17,7 @@ use Rattle.keep_types.specs.declared.leaf.Profile.{Profile}
 use Rattle.keep_syntax.specs.Tree.{Written, Gap, Name, Body, Entries, none, entry, Value, Content, blank, keyval, header, element, Line, Ended, Document, name_leaves, comment_leaves, ended_leaves, bom_leaves, text_of}
 use Rattle.keep_syntax.specs.Grammar.{IsNamed, AreEntries, IsContent, IsLine, IsEnded, IsDocument, Place, place_in}
 use Rattle.keep_path.specs.Path.{Part, key, index, same_path}
-use Rattle.keep_meaning.specs.Marks.{MentionKind, through, past, passed, define, element as kinds_element, begun, value, Mention, Reading, start, elements_of, entered_path, passing_mentions, header_path, header_way}
+use Rattle.keep_meaning.specs.Marks.{MentionKind, through, past, passed, define, element as kinds_element, begun, value, Mention, Reading, start, elements_of, entered_path, passing_mentions, header_path, header_prefixes}
 use Rattle.keep_meaning.specs.Meaning.{key_value, further_value, keys_of, body_fact, entry_mentions, entries_mentions, step, keyval_mentions, line_mentions, after_line, lines_mentions, line_of, mentions_in}
 use Rattle.keep_edit_spec.specs.Look.{strip}
 use Rattle.keep_edit_spec.specs.Changed.{Changed, within}
@@ -114,14 +114,14 @@ passing_at p tables q s = by (entered_path tables q) (0 == elements_of q tables)
     by e false (inr (inr h)) = absurd h
 
 header_cases : (p : List Part) (tables : List (List Part)) (at : List Part) (k : List ℕ) (ks : List (List ℕ)) (mention_kind : MentionKind) (more : List Mention) → (SomeOf (IsSolidAt p) more → ⊥)
-    → SomeOf (IsSolidAt p) (header_way tables at (k ∷ ks) ++ record { path = header_path tables at (k ∷ ks); kind = mention_kind } ∷ more) → SomePart p tables at (k ∷ ks)
+    → SomeOf (IsSolidAt p) (header_prefixes tables at (k ∷ ks) ++ record { path = header_path tables at (k ∷ ks); kind = mention_kind } ∷ more) → SomePart p tables at (k ∷ ks)
 header_cases p tables at k [] mention_kind more never (inl h) = (zero, h.path)
 header_cases p tables at k [] mention_kind more never (inr s) = absurd (never s)
 header_cases p tables at k (l ∷ ks) mention_kind more never s =
     let q : List Part = at ++ key k ∷ [] in
-    let way : List Mention = header_way tables (entered_path tables q) (l ∷ ks) in
+    let passed_prefixes : List Mention = header_prefixes tables (entered_path tables q) (l ∷ ks) in
     let end : List Mention = record { path = header_path tables (entered_path tables q) (l ∷ ks); kind = mention_kind } ∷ more in
-    elim (some_cases (IsSolidAt p) (passing_mentions tables q) (way ++ end) (subst (SomeOf (IsSolidAt p)) (append_assoc (passing_mentions tables q) way end) s)) [
+    elim (some_cases (IsSolidAt p) (passing_mentions tables q) (passed_prefixes ++ end) (subst (SomeOf (IsSolidAt p)) (append_assoc (passing_mentions tables q) passed_prefixes end) s)) [
       | inl a ↦ (zero, passing_at p tables q a)
       | inr b ↦ (let h = header_cases p tables (entered_path tables q) l ks mention_kind more never b in (suc h.0, h.1))
     ]

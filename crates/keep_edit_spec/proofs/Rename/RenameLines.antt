@@ -5,7 +5,7 @@ use Rattle.keep_types.specs.declared.leaf.Profile.{Profile}
 use Rattle.keep_syntax.specs.Tree.{Content, blank, keyval, header, element, Line, Ended, comment_leaves, ended_leaves, text_of}
 use Rattle.keep_syntax.specs.Grammar.{IsLine}
 use Rattle.keep_path.specs.Path.{Part, same_path, moved_path}
-use Rattle.keep_meaning.specs.Marks.{Mention, Reading, header_path, header_way}
+use Rattle.keep_meaning.specs.Marks.{Mention, Reading, header_path, header_prefixes}
 use Rattle.keep_meaning.specs.Meaning.{keys_of, line_mentions, after_line, lines_mentions, line_of}
 use Rattle.keep_edit_spec.specs.Look.{strip}
 use Rattle.keep_edit_spec.specs.Changed.{within}
@@ -28,7 +28,7 @@ clear_content b r blank clear disjoint = clear
 clear_content b r (keyval name v) clear disjoint = clear
 clear_content b r (header x k y) clear disjoint = clear
 clear_content b r (element x k y) clear disjoint =
-    all_join (λ t. strip b t ≡ None) r.tables (header_path r.tables [] (keys_of k) ∷ []) clear ((all_right (IsDisjoint b) (header_way r.tables [] (keys_of k)) _ disjoint).0, tt)
+    all_join (λ t. strip b t ≡ None) r.tables (header_path r.tables [] (keys_of k) ∷ []) clear ((all_right (IsDisjoint b) (header_prefixes r.tables [] (keys_of k)) _ disjoint).0, tt)
 
 -- the first line says the same, and so do those after it
 one_more : (p b : List Part) (r : Reading) (l l' : Line) (ls ls' : List Line) → IsContentMoved p b r l.content l'.content

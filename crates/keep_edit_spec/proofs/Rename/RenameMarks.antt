@@ -6,7 +6,7 @@ use Rattle.keep_types.specs.declared.syntax.KeyPart.{KeyPart}
 use Rattle.keep_syntax.specs.Tree.{Written, Further, Key, Name, token, further_leaves, text_of}
 use Rattle.keep_syntax.specs.Numbered.{width, part_at, further_parts, key_parts}
 use Rattle.keep_path.specs.Path.{Part, key}
-use Rattle.keep_meaning.specs.Marks.{MentionKind, through, past, passed, dotted, Mention, below, elements_of, entered_path, passing_mentions, header_path, header_way}
+use Rattle.keep_meaning.specs.Marks.{MentionKind, through, past, passed, dotted, Mention, below, elements_of, entered_path, passing_mentions, header_path, header_prefixes}
 use Rattle.keep_meaning.specs.Meaning.{valued_mentions, keyed_mentions}
 use Rattle.keep_meaning.specs.Counts.{is_mark}
 use Rattle.keep_meaning.proofs.Shared.{marked, marked-append}
@@ -163,24 +163,24 @@ one_passing tables q = by (entered_path tables q) (0 == elements_of q tables)
     by e false = refl
 
 pub header_marked : (p : List Part) (tables : List (List Part)) (at : List Part) (n : ℕ) (keys : List (List ℕ)) (mention_kind : MentionKind) (more : List Mention) → is_mark mention_kind ≡ true → IsPart p tables at n keys
-    → IsMarkedAt p n (header_way tables at keys ++ record { path = header_path tables at keys; kind = mention_kind } ∷ more)
+    → IsMarkedAt p n (header_prefixes tables at keys ++ record { path = header_path tables at keys; kind = mention_kind } ∷ more)
 header_marked p tables at n [] mention_kind more is h = absurd h
 header_marked p tables at zero (k ∷ []) mention_kind more is h = marked_first p (record { path = at ++ key k ∷ []; kind = mention_kind }) more h is
 header_marked p tables at (suc n) (k ∷ []) mention_kind more is h = absurd h
 header_marked p tables at zero (k ∷ l ∷ ks) mention_kind more is h =
     let q : List Part = at ++ key k ∷ [] in
-    let way : List Mention = header_way tables (entered_path tables q) (l ∷ ks) in
+    let prefixes : List Mention = header_prefixes tables (entered_path tables q) (l ∷ ks) in
     let end : List Mention = record { path = header_path tables (entered_path tables q) (l ∷ ks); kind = mention_kind } ∷ more in
-    marked_before p zero (passing_mentions tables q ++ way) end
-    (marked_before p zero (passing_mentions tables q) way (subst (λ x. IsMarkedAt x zero (passing_mentions tables q)) h (passing_marked tables q)))
+    marked_before p zero (passing_mentions tables q ++ prefixes) end
+    (marked_before p zero (passing_mentions tables q) prefixes (subst (λ x. IsMarkedAt x zero (passing_mentions tables q)) h (passing_marked tables q)))
 header_marked p tables at (suc n) (k ∷ l ∷ ks) mention_kind more is h =
     let q : List Part = at ++ key k ∷ [] in
-    let way : List Mention = header_way tables (entered_path tables q) (l ∷ ks) in
+    let prefixes : List Mention = header_prefixes tables (entered_path tables q) (l ∷ ks) in
     let end : List Mention = record { path = header_path tables (entered_path tables q) (l ∷ ks); kind = mention_kind } ∷ more in
     let number : 1 + n ≡ suc n = omega arith in
-    subst (λ m. IsMarkedAt p m ((passing_mentions tables q ++ way) ++ end)) number
-    (subst (IsMarkedAt p (1 + n)) (sym (append_assoc (passing_mentions tables q) way end))
-    (marked_after p 1 n (passing_mentions tables q) (way ++ end) (one_passing tables q) (header_marked p tables (entered_path tables q) n (l ∷ ks) mention_kind more is h)))
+    subst (λ m. IsMarkedAt p m ((passing_mentions tables q ++ prefixes) ++ end)) number
+    (subst (IsMarkedAt p (1 + n)) (sym (append_assoc (passing_mentions tables q) prefixes end))
+    (marked_after p 1 n (passing_mentions tables q) (prefixes ++ end) (one_passing tables q) (header_marked p tables (entered_path tables q) n (l ∷ ks) mention_kind more is h)))
 
 pub keyed_marked : (p at : List Part) (n : ℕ) (keys : List (List ℕ)) (mention_kind : MentionKind) (ms : List Mention) → is_mark mention_kind ≡ true → IsPart p [] at n keys
     → IsMarkedAt p n (map (below at) (keyed_mentions keys (valued_mentions mention_kind ms)))

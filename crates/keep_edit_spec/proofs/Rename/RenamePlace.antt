@@ -172,11 +172,11 @@ renamed_named at from n None f new nested more p parts c e h =
 renamed_named at from n (Some name) f new nested more p parts c e h =
     let q : List Part = map key (keys_of name.key) in
     let own : Mention = below q (record { path = []; kind = value f }) in
-    let way : List Mention = keyed_mentions (keys_of name.key) [] in
-    let whole : keyed_mentions (keys_of name.key) (valued_mentions (value f) nested) ≡ (way ++ own ∷ []) ++ map (below q) nested =
-    keyed_split (keys_of name.key) (valued_mentions (value f) nested) ∙ sym (append_assoc way (own ∷ []) (map (below q) nested)) in
+    let prefixes : List Mention = keyed_mentions (keys_of name.key) [] in
+    let whole : keyed_mentions (keys_of name.key) (valued_mentions (value f) nested) ≡ (prefixes ++ own ∷ []) ++ map (below q) nested =
+    keyed_split (keys_of name.key) (valued_mentions (value f) nested) ∙ sym (append_assoc prefixes (own ∷ []) (map (below q) nested)) in
     subst (λ (l : List Mention). IsRenamedIn at p new l (named_parts from (Some name) ++ parts) c) (sym whole)
-    (renamed_after at p new (way ++ own ∷ []) (map (below q) nested) (named_parts from (Some name)) parts c (many_keys from name own refl)
+    (renamed_after at p new (prefixes ++ own ∷ []) (map (below q) nested) (named_parts from (Some name)) parts c (many_keys from name own refl)
     (renamed_beyond at q more p new nested parts c e h))
 
 many_entry : (n at : ℕ) (name : Option Name) (body : Body) (nested : Entries) → marked (entry_mentions n name (body_fact body) (entries_mentions 0 nested)) ≡ length (named_parts at name ++ entries_parts (nested_start (value_start at name) body) nested)

@@ -3,7 +3,7 @@ use Rattle.std.proofs.Common.{◌≡◌, ℕ, ◌-◌, Bool, true, false, cond, 
 use Rattle.std.specs.Prelude.{⊤, ◌==◌}
 use Rattle.std.proofs.lemmas.List.{map-append}
 use Rattle.keep_path.specs.Path.{Part, key, index, same_path, moved_path}
-use Rattle.keep_meaning.specs.Marks.{through, past, passed, Mention, elements_of, entered_path, passing_mentions, header_path, header_way}
+use Rattle.keep_meaning.specs.Marks.{through, past, passed, Mention, elements_of, entered_path, passing_mentions, header_path, header_prefixes}
 use Rattle.keep_edit_spec.specs.Look.{strip}
 use Rattle.keep_edit_spec.proofs.Common.Runs.{AllOf, SomeOf, all_left, all_right, some_left, some_right, IsDisjoint, same_path-sound, same_path-refl}
 use Rattle.keep_edit_spec.proofs.Common.SetLaw.{IsSolidAt}
@@ -85,32 +85,32 @@ passing_clear tables b q h = by (entered_path tables q) (0 == elements_of q tabl
 
 pub record IsHeaderRenamed (p b : List Part) (tables : List (List Part)) (at : List Part) (keys keys' : List (List ℕ)) : Type 0 where
   pub path : header_path (map (moved_path p b) tables) (moved_path p b at) keys' ≡ moved_path p b (header_path tables at keys)
-  pub way : header_way (map (moved_path p b) tables) (moved_path p b at) keys' ≡ map (moved (moved_path p b)) (header_way tables at keys)
+  pub prefixes : header_prefixes (map (moved_path p b) tables) (moved_path p b at) keys' ≡ map (moved (moved_path p b)) (header_prefixes tables at keys)
 
 pub header_renamed : (p b : List Part) (tables : List (List Part)) (at : List Part) (keys keys' : List (List ℕ)) → EndsInKey p → AreClear b tables
-    → AllOf (IsDisjoint b) (header_way tables at keys) → AreRenamed p b tables at keys keys' → IsHeaderRenamed p b tables at keys keys'
-header_renamed p b tables at [] [] ends clear way h = record { path = refl; way = refl }
-header_renamed p b tables at [] (k' ∷ ks') ends clear way h = absurd h
-header_renamed p b tables at (k ∷ ks) [] ends clear way h = absurd h
-header_renamed p b tables at (k ∷ []) (k' ∷ []) ends clear way h = record { path = sym h.0; way = refl }
-header_renamed p b tables at (k ∷ []) (k' ∷ l' ∷ ks') ends clear way h = absurd h.1
-header_renamed p b tables at (k ∷ l ∷ ks) (k' ∷ []) ends clear way h = absurd h.1
-header_renamed p b tables at (k ∷ l ∷ ks) (k' ∷ l' ∷ ks') ends clear way h =
+    → AllOf (IsDisjoint b) (header_prefixes tables at keys) → AreRenamed p b tables at keys keys' → IsHeaderRenamed p b tables at keys keys'
+header_renamed p b tables at [] [] ends clear prefixes h = record { path = refl; prefixes = refl }
+header_renamed p b tables at [] (k' ∷ ks') ends clear prefixes h = absurd h
+header_renamed p b tables at (k ∷ ks) [] ends clear prefixes h = absurd h
+header_renamed p b tables at (k ∷ []) (k' ∷ []) ends clear prefixes h = record { path = sym h.0; prefixes = refl }
+header_renamed p b tables at (k ∷ []) (k' ∷ l' ∷ ks') ends clear prefixes h = absurd h.1
+header_renamed p b tables at (k ∷ l ∷ ks) (k' ∷ []) ends clear prefixes h = absurd h.1
+header_renamed p b tables at (k ∷ l ∷ ks) (k' ∷ l' ∷ ks') ends clear prefixes h =
     let f : List Part → List Part = moved_path p b in
     let q : List Part = at ++ key k ∷ [] in
-    let first = all_left (IsDisjoint b) (passing_mentions tables q) (header_way tables (entered_path tables q) (l ∷ ks)) way in
-    let rest = all_right (IsDisjoint b) (passing_mentions tables q) (header_way tables (entered_path tables q) (l ∷ ks)) way in
+    let first = all_left (IsDisjoint b) (passing_mentions tables q) (header_prefixes tables (entered_path tables q) (l ∷ ks)) prefixes in
+    let rest = all_right (IsDisjoint b) (passing_mentions tables q) (header_prefixes tables (entered_path tables q) (l ∷ ks)) prefixes in
     let hq : strip b q ≡ None = passing_clear tables b q first in
     let e : f at ++ key k' ∷ [] ≡ f q = sym h.0 in
     let entered : entered_path (map f tables) (f at ++ key k' ∷ []) ≡ f (entered_path tables q) = ap (entered_path (map f tables)) e ∙ entered_renamed p b tables q ends clear hq in
     let ih = header_renamed p b tables (entered_path tables q) (l ∷ ks) (l' ∷ ks') ends clear rest h.1 in
     record {
       path = ap (λ x. header_path (map f tables) x (l' ∷ ks')) entered ∙ ih.path;
-      way = ap (λ x. passing_mentions (map f tables) x ++ header_way (map f tables) (entered_path (map f tables) (f at ++ key k' ∷ [])) (l' ∷ ks')) e
-          ∙ ap (λ x. passing_mentions (map f tables) (f q) ++ header_way (map f tables) x (l' ∷ ks')) entered
-          ∙ ap (λ x. x ++ header_way (map f tables) (f (entered_path tables q)) (l' ∷ ks')) (passing_renamed p b tables q ends clear hq)
-          ∙ ap (λ x. map (moved f) (passing_mentions tables q) ++ x) ih.way
-          ∙ sym (map-append (moved f) (passing_mentions tables q) (header_way tables (entered_path tables q) (l ∷ ks)));
+      prefixes = ap (λ x. passing_mentions (map f tables) x ++ header_prefixes (map f tables) (entered_path (map f tables) (f at ++ key k' ∷ [])) (l' ∷ ks')) e
+          ∙ ap (λ x. passing_mentions (map f tables) (f q) ++ header_prefixes (map f tables) x (l' ∷ ks')) entered
+          ∙ ap (λ x. x ++ header_prefixes (map f tables) (f (entered_path tables q)) (l' ∷ ks')) (passing_renamed p b tables q ends clear hq)
+          ∙ ap (λ x. map (moved f) (passing_mentions tables q) ++ x) ih.prefixes
+          ∙ sym (map-append (moved f) (passing_mentions tables q) (header_prefixes tables (entered_path tables q) (l ∷ ks)));
     }
 
 pub passing_solid : (tables : List (List Part)) (q : List Part) → SomeOf (IsSolidAt q) (passing_mentions tables q)
@@ -121,13 +121,13 @@ passing_solid tables q = by (entered_path tables q) (0 == elements_of q tables)
     by e false = inl (record { path = refl; kind = refl })
 
 -- the keys stay where nothing is said of the path itself
-pub keys_preserved : (p b : List Part) (tables : List (List Part)) (at : List Part) (keys : List (List ℕ)) → (SomeOf (IsSolidAt p) (header_way tables at keys) → ⊥) → (header_path tables at keys ≡ p → ⊥)
+pub keys_preserved : (p b : List Part) (tables : List (List Part)) (at : List Part) (keys : List (List ℕ)) → (SomeOf (IsSolidAt p) (header_prefixes tables at keys) → ⊥) → (header_path tables at keys ≡ p → ⊥)
     → AreRenamed p b tables at keys keys
 keys_preserved p b tables at [] never end = tt
 keys_preserved p b tables at (k ∷ []) never end = (renamed_step p b at (key k) end, tt)
 keys_preserved p b tables at (k ∷ l ∷ ks) never end =
     let q : List Part = at ++ key k ∷ [] in
-    let way : List Mention = header_way tables (entered_path tables q) (l ∷ ks) in (
-      renamed_step p b at (key k) (λ e. never (some_left (IsSolidAt p) (passing_mentions tables q) way (subst (λ (x : List Part). SomeOf (IsSolidAt x) (passing_mentions tables q)) e (passing_solid tables q)))),
-      keys_preserved p b tables (entered_path tables q) (l ∷ ks) (λ s. never (some_right (IsSolidAt p) (passing_mentions tables q) way s)) end,
+    let prefixes : List Mention = header_prefixes tables (entered_path tables q) (l ∷ ks) in (
+      renamed_step p b at (key k) (λ e. never (some_left (IsSolidAt p) (passing_mentions tables q) prefixes (subst (λ (x : List Part). SomeOf (IsSolidAt x) (passing_mentions tables q)) e (passing_solid tables q)))),
+      keys_preserved p b tables (entered_path tables q) (l ∷ ks) (λ s. never (some_right (IsSolidAt p) (passing_mentions tables q) prefixes s)) end,
     )

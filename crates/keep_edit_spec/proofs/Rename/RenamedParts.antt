@@ -4,7 +4,7 @@ use Rattle.std.specs.Prelude.{◌==◌, position}
 use Rattle.std.proofs.lemmas.List.{append-nil}
 use Rattle.std.proofs.lemmas.List.Quantifiers.{position-Some}
 use Rattle.keep_path.specs.Path.{Part, key, index, same_path, moved_path}
-use Rattle.keep_meaning.specs.Marks.{MentionKind, dotted, Mention, below, elements_of, entered_path, passing_mentions, header_path, header_way}
+use Rattle.keep_meaning.specs.Marks.{MentionKind, dotted, Mention, below, elements_of, entered_path, passing_mentions, header_path, header_prefixes}
 use Rattle.keep_meaning.specs.Meaning.{valued_mentions, keyed_mentions}
 use Rattle.keep_edit_spec.specs.Look.{strip, without_last}
 use Rattle.keep_edit_spec.specs.Lines.{key_prefixes}
@@ -82,18 +82,18 @@ keys_renamed t p b tables at (suc n) (k ∷ ks) beside h =
 -- ---- something is said of the path there
 
 pub part_solid : (p : List Part) (tables : List (List Part)) (at : List Part) (n : ℕ) (keys : List (List ℕ)) (mention_kind : MentionKind) → solid mention_kind ≡ true → IsPart p tables at n keys
-    → SomeOf (IsSolidAt p) (header_way tables at keys ++ record { path = header_path tables at keys; kind = mention_kind } ∷ [])
+    → SomeOf (IsSolidAt p) (header_prefixes tables at keys ++ record { path = header_path tables at keys; kind = mention_kind } ∷ [])
 part_solid p tables at n [] mention_kind s h = absurd h
 part_solid p tables at zero (k ∷ []) mention_kind s h = inl (record { path = h; kind = s })
 part_solid p tables at (suc n) (k ∷ []) mention_kind s h = absurd h
 part_solid p tables at zero (k ∷ l ∷ ks) mention_kind s h =
     let q : List Part = at ++ key k ∷ [] in
-    let rest : List Mention = header_way tables (entered_path tables q) (l ∷ ks) in
+    let rest : List Mention = header_prefixes tables (entered_path tables q) (l ∷ ks) in
     some_left (IsSolidAt p) (passing_mentions tables q ++ rest) _
     (some_left (IsSolidAt p) (passing_mentions tables q) rest (subst (λ (x : List Part). SomeOf (IsSolidAt x) (passing_mentions tables q)) h (passing_solid tables q)))
 part_solid p tables at (suc n) (k ∷ l ∷ ks) mention_kind s h =
     let q : List Part = at ++ key k ∷ [] in
-    let rest : List Mention = header_way tables (entered_path tables q) (l ∷ ks) in
+    let rest : List Mention = header_prefixes tables (entered_path tables q) (l ∷ ks) in
     let end : List Mention = record { path = header_path tables (entered_path tables q) (l ∷ ks); kind = mention_kind } ∷ [] in
     subst (SomeOf (IsSolidAt p)) (sym (append_assoc (passing_mentions tables q) rest end))
     (some_right (IsSolidAt p) (passing_mentions tables q) (rest ++ end) (part_solid p tables (entered_path tables q) n (l ∷ ks) mention_kind s h))

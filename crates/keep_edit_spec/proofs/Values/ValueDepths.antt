@@ -36,7 +36,7 @@ use Rattle.keep_edit_spec.proofs.Common.LineLaws.{EndsInKey, lines_closed, lines
 use Rattle.keep_edit_spec.proofs.Common.Marks.{rules_of_document}
 use Rattle.keep_edit_spec.proofs.Common.ValueThere.{some_cases, entry_beyond}
 use Rattle.keep_edit_spec.proofs.Common.DoneInDocument.{keyval_facts}
-use Rattle.keep_edit_spec.proofs.Common.ValuesMention.{value_mention_kinds, length-mention_kinds, mention_kinds-header, mention_kinds-element, tells_value, value_mentions, length-mentions, zip_join}
+use Rattle.keep_edit_spec.proofs.Common.ValuesMention.{value_mention_kinds, length-mention_kinds, mention_kinds-header, mention_kinds-element, states_value, value_mentions, length-mentions, zip_join}
 use Rattle.keep_edit_spec.proofs.Common.ValueNumber.{false_unless}
 use Rattle.keep_edit_spec.proofs.Values.ValuePlace.{zip_at, mention_of_number}
 use Rattle.keep_edit_spec.proofs.Common.EntryDepths.{alone_of_bracket, enclosing_none, enclosing_beyond, disjoint_alone, no_prefix, IsDeep, zip_map, mentions-below, mentions-entry, alone_named, value_deep, entries_deep}
@@ -292,7 +292,7 @@ lines_deep profile pre c (x ∷ es) last are is whole e rules =
     let further : AllZip (IsDeep 0 ms) (value_mentions (lines_mentions (reading_after_lines start next) post)) more =
     lines_deep profile next (next_line c x) es last are.1 is whole (e ∙ sym (append_assoc pre (x.line ∷ []) post)) rules in
     let same : reading_after_lines start next ≡ after_line r x.line = reading_after_lines-append start pre (x.line ∷ []) in
-    subst (λ (l : List Mention). AllZip (IsDeep 0 ms) l (line_values c x.line ++ more)) (sym (filter-append tells_value here rest))
+    subst (λ (l : List Mention). AllZip (IsDeep 0 ms) l (line_values c x.line ++ more)) (sym (filter-append states_value here rest))
     (zip_join (IsDeep 0 ms) (value_mentions here) (value_mentions rest) (line_values c x.line) more first
     (subst (λ (q : Reading). AllZip (IsDeep 0 ms) (value_mentions (lines_mentions q post)) more) same further))
 

@@ -45,7 +45,7 @@ use Rattle.keep_edit_spec.proofs.Common.ValueThere.{the_some, some_nested, alone
 use Rattle.keep_edit_spec.proofs.Common.DoneAtValue.{EachOf, IsAtEnd, IsDoneAt, value_fact-body}
 use Rattle.keep_edit_spec.proofs.Common.DoneInDocument.{done_nested}
 use Rattle.keep_edit_spec.proofs.Set.SetIsLawful.{ends_replacement, set_exists}
-use Rattle.keep_edit_spec.proofs.Common.ValuesMention.{value_mention_kinds, mention_kinds-append, length-mention_kinds, tells_value, value_mentions, length-mentions, IsStatedBy, values_mention}
+use Rattle.keep_edit_spec.proofs.Common.ValuesMention.{value_mention_kinds, mention_kinds-append, length-mention_kinds, states_value, value_mentions, length-mentions, IsStatedBy, values_mention}
 use Rattle.keep_edit_spec.proofs.Common.FoundValue.{IsFoundIn, Valid_document, found_nested}
 use Rattle.keep_edit_spec.proofs.Common.ValueNumber.{number_of_value, fact_of_value, alone_of_number}
 
@@ -105,7 +105,7 @@ found_at-by act ends path s rules c h [] e =
     let mention_kind : value_mention_kinds (mentions_in s) ≡ value_mention_kinds h.earlier ++ h.mention.kind ∷ value_mention_kinds h.later =
     ap value_mention_kinds h.mentioned ∙ mention_kinds-append h.earlier (h.mention ∷ h.later) ∙ ap (λ l. value_mention_kinds h.earlier ++ l) (mention_kinds-head h.mention h.later h.tells) in
     let mentions : value_mentions (mentions_in s) ≡ value_mentions h.earlier ++ h.mention ∷ value_mentions h.later =
-    ap value_mentions h.mentioned ∙ filter-append tells_value h.earlier (h.mention ∷ h.later) ∙ ap (λ l. value_mentions h.earlier ++ l) (mentions-head h.mention h.later h.tells) in
+    ap value_mentions h.mentioned ∙ filter-append states_value h.earlier (h.mention ∷ h.later) ∙ ap (λ l. value_mentions h.earlier ++ l) (mentions-head h.mention h.later h.tells) in
     record {
       value = h.value;
       done = h.done;

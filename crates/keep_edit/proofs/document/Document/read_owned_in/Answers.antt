@@ -1,7 +1,7 @@
 use Rattle.std.proofs.Common.{◌≡◌, ℕ, List, true, false, subst, Err}
 use Rattle.keep_syntax.specs.declared.fault.ReadFault.TheVariants.{Utf8}
-use Rattle.keep_edit.specs.Reading.{IsRefused, TellsNoText, text_in}
-use Rattle.keep_edit.proofs.ReadLaws.{not_utf8, tells_no_text}
+use Rattle.keep_edit.specs.Reading.{IsRefused, ReportsNoText, text_in}
+use Rattle.keep_edit.proofs.ReadLaws.{not_utf8, reports_no_text}
 use Rattle.keep_edit.proofs.document.Document.read_owned_in.Goals as goal
 
 pub returns-in-Err-clause-faults : goal.returns-in-Err-clause-faults
@@ -11,4 +11,4 @@ returns-in-Err-clause-faults c =
 
 pub returns-in-Err-clause-no_text : goal.returns-in-Err-clause-no_text
 returns-in-Err-clause-no_text c =
-    subst (λ (bytes : List ℕ). TellsNoText bytes (Err (Utf8 c.in-Err.at))) c.as_slice.ensures.value (tells_no_text c.as_slice.result.now c.in-Err.at c.in-Err.ensures.prefix)
+    subst (λ (bytes : List ℕ). ReportsNoText bytes (Err (Utf8 c.in-Err.at))) c.as_slice.ensures.value (reports_no_text c.as_slice.result.now c.in-Err.at c.in-Err.ensures.prefix)

@@ -12,16 +12,16 @@ pub returns-then-len-holder-gt1 : goal.returns-then-len-holder-gt1
 returns-then-len-holder-gt1 c = λ s read held. sym (far_item _ s _ held (omega (arith, c.if-len-holder-gt1.true, c.len.ensures.count)))
 
 pub node-requires : goal.node-requires
-node-requires c = let (s, read, held) = c.requires in number_nested _ _ _ _ s (seen c.self.view_is c.self.invariant) read _ held.way.node
+node-requires c = let (s, read, held) = c.requires in number_nested _ _ _ _ s (seen c.self.view_is c.self.invariant) read _ held.walk.node
 
 pub returns-in-Array : goal.returns-in-Array
 returns-in-Array c = λ s read held.
-    let stated = stated_here _ _ _ _ s (seen c.self.view_is c.self.invariant) read _ held.way.node _ c.node.ensures in
+    let stated = stated_here _ _ _ _ s (seen c.self.view_is c.self.invariant) read _ held.walk.node _ c.node.ensures in
     let is : slice_get c.args.path.now c.args.holder.len ≡ Some (index c.in-Index.number) = sym c.in_ok-number.ensures ∙ ap (λ step. Some (part_of step)) c.in-Index.is in
     sym (array_item _ s _ held _ is (omega (arith, c.if-len-holder-gt1.false, c.len.ensures.count, step_nested c.args.path.now c.args.holder.len (index c.in-Index.number) is)) _ stated read.obeys c.in-Array.is)
 
 pub returns-in_default : goal.returns-in_default
 returns-in_default c = λ s read held.
-    let stated = stated_here _ _ _ _ s (seen c.self.view_is c.self.invariant) read _ held.way.node _ c.node.ensures in
+    let stated = stated_here _ _ _ _ s (seen c.self.view_is c.self.invariant) read _ held.walk.node _ c.node.ensures in
     let is : slice_get c.args.path.now c.args.holder.len ≡ Some (index c.in-Index.number) = sym c.in_ok-number.ensures ∙ ap (λ step. Some (part_of step)) c.in-Index.is in
     sym (other_item _ s _ held _ is (omega (arith, c.if-len-holder-gt1.false, c.len.ensures.count, step_nested c.args.path.now c.args.holder.len (index c.in-Index.number) is)) _ stated read.obeys c.in_default.not-Array)

@@ -5,8 +5,8 @@ use Rattle.keep_path.specs.PathText.{encoded_path, HasSmallIndexes, IsPathText}
 use Rattle.keep_path.proofs.PathTextLaws.{encoded_stated}
 use Rattle.keep_path.proofs.path.Path.encode.Goals as goal
 
-pub returns-clause-tells : goal.returns-clause-tells
-returns-clause-tells c small =
+pub returns-clause-reads_back : goal.returns-clause-reads_back
+returns-clause-reads_back c small =
     let path = c.args.self.now in
     let text : string_bytes c.if-as_slice-lt1.out ≡ encoded_path path = first_of (search rules, grind (arith, common_steps)) in
     let stated = encoded_stated c.self.inside.steps.items c.self.invariant (subst HasSmallIndexes (sym c.self.view_is) small) in

@@ -5,7 +5,7 @@ use Rattle.std.proofs.lemmas.List.{append-nil, map-append}
 use Rattle.std.proofs.lemmas.List.Sums.{sum_by-append}
 use Rattle.std.proofs.lemmas.Bool.{cases_lt, eqb-true}
 use Rattle.keep_path.specs.Path.{Part, key, index, same_path}
-use Rattle.keep_meaning.specs.Marks.{through, past, passed, Mention, elements_of, entered_path, passing_mentions, header_path, header_way}
+use Rattle.keep_meaning.specs.Marks.{through, past, passed, Mention, elements_of, entered_path, passing_mentions, header_path, header_prefixes}
 use Rattle.keep_meaning.specs.Nodes.{is_passed}
 use Rattle.keep_edit_spec.specs.Look.{strip}
 use Rattle.keep_edit_spec.proofs.Common.Runs.{AllOf, all_left, all_right, all_join, IsDisjoint, same_path-sound, same_path-refl}
@@ -150,33 +150,33 @@ module _ (prefix : List Part) (ends : EndsInKey prefix) (n : ℕ) (ts us : List 
       absurd cc
 
 pub record IsWayShift (prefix : List Part) (n : ℕ) (ts us : List (List Part)) (at : List Part) (keys : List (List ℕ)) : Type 0 where
-  pub way : header_way us (shifted prefix n at) keys ≡ map (moved (shifted prefix n)) (header_way ts at keys)
+  pub prefixes : header_prefixes us (shifted prefix n at) keys ≡ map (moved (shifted prefix n)) (header_prefixes ts at keys)
   pub path : header_path us (shifted prefix n at) keys ≡ shifted prefix n (header_path ts at keys)
-  pub way_preserved : AllOf (IsDisjoint (element_at prefix n)) (header_way ts at keys)
+  pub way_preserved : AllOf (IsDisjoint (element_at prefix n)) (header_prefixes ts at keys)
   pub path_preserved : strip (element_at prefix n) (header_path ts at keys) ≡ None
 
 -- A header's path and its way, where it does not go past the element.
 pub way_shift : (prefix : List Part) → EndsInKey prefix → (n : ℕ) (ts us : List (List Part)) → IsShift prefix n ts us → (at : List Part) (keys : List (List ℕ)) → strip (element_at prefix n) at ≡ None
-    → AllOf (NotPassed (element_at prefix n)) (header_way ts at keys) → IsWayShift prefix n ts us at keys
-way_shift prefix ends n ts us h at [] hat all = record { way = refl; path = refl; way_preserved = tt; path_preserved = hat }
-way_shift prefix ends n ts us h at (k ∷ []) hat all = record { way = refl; path = sym (shifted_key prefix n at k); way_preserved = tt; path_preserved = disjoint_key prefix n at k hat }
+    → AllOf (NotPassed (element_at prefix n)) (header_prefixes ts at keys) → IsWayShift prefix n ts us at keys
+way_shift prefix ends n ts us h at [] hat all = record { prefixes = refl; path = refl; way_preserved = tt; path_preserved = hat }
+way_shift prefix ends n ts us h at (k ∷ []) hat all = record { prefixes = refl; path = sym (shifted_key prefix n at k); way_preserved = tt; path_preserved = disjoint_key prefix n at k hat }
 way_shift prefix ends n ts us h at (k ∷ l ∷ ks) hat all =
     let q : List Part = at ++ key k ∷ [] in
     let hq : strip (element_at prefix n) q ≡ None = disjoint_key prefix n at k hat in
     let to : List Part = entered_path ts q in
     let P : Mention → Type 0 = NotPassed (element_at prefix n) in
-    let e = entered_is prefix ends n ts us h q hq (not_entered prefix ends n ts us h q (all_left P (passing_mentions ts q) (header_way ts to (l ∷ ks)) all)) in
-    let ih = way_shift prefix ends n ts us h to (l ∷ ks) e.preserved (all_right P (passing_mentions ts q) (header_way ts to (l ∷ ks)) all) in
+    let e = entered_is prefix ends n ts us h q hq (not_entered prefix ends n ts us h q (all_left P (passing_mentions ts q) (header_prefixes ts to (l ∷ ks)) all)) in
+    let ih = way_shift prefix ends n ts us h to (l ∷ ks) e.preserved (all_right P (passing_mentions ts q) (header_prefixes ts to (l ∷ ks)) all) in
     let next : shifted prefix n at ++ key k ∷ [] ≡ shifted prefix n q = sym (shifted_key prefix n at k) in
     record {
-      way = ap (λ (x : List Part). passing_mentions us x ++ header_way us (entered_path us x) (l ∷ ks)) next
-          ∙ ap (λ (x : List Part). passing_mentions us (shifted prefix n q) ++ header_way us x (l ∷ ks)) e.is
-          ∙ ap (λ (x : List Mention). passing_mentions us (shifted prefix n q) ++ x) ih.way
-          ∙ ap (λ (x : List Mention). x ++ map (moved (shifted prefix n)) (header_way ts to (l ∷ ks))) (passing_shifted prefix ends n ts us h q e)
-          ∙ sym (map-append (moved (shifted prefix n)) (passing_mentions ts q) (header_way ts to (l ∷ ks)));
+      prefixes = ap (λ (x : List Part). passing_mentions us x ++ header_prefixes us (entered_path us x) (l ∷ ks)) next
+          ∙ ap (λ (x : List Part). passing_mentions us (shifted prefix n q) ++ header_prefixes us x (l ∷ ks)) e.is
+          ∙ ap (λ (x : List Mention). passing_mentions us (shifted prefix n q) ++ x) ih.prefixes
+          ∙ ap (λ (x : List Mention). x ++ map (moved (shifted prefix n)) (header_prefixes ts to (l ∷ ks))) (passing_shifted prefix ends n ts us h q e)
+          ∙ sym (map-append (moved (shifted prefix n)) (passing_mentions ts q) (header_prefixes ts to (l ∷ ks)));
       path = ap (λ (x : List Part). header_path us (entered_path us x) (l ∷ ks)) next
           ∙ ap (λ (x : List Part). header_path us x (l ∷ ks)) e.is
           ∙ ih.path;
-      way_preserved = all_join (IsDisjoint (element_at prefix n)) (passing_mentions ts q) (header_way ts to (l ∷ ks)) (passing_preserved prefix ends n ts us h q hq e) ih.way_preserved;
+      way_preserved = all_join (IsDisjoint (element_at prefix n)) (passing_mentions ts q) (header_prefixes ts to (l ∷ ks)) (passing_preserved prefix ends n ts us h q hq e) ih.way_preserved;
       path_preserved = ih.path_preserved;
     }

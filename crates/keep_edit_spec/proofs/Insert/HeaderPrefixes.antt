@@ -5,7 +5,7 @@ use Rattle.std.proofs.lemmas.List.{append-nil}
 use Rattle.std.proofs.lemmas.List.Elements.{filter_map-append}
 use Rattle.std.proofs.lemmas.List.Sums.{sum_by-append}
 use Rattle.keep_path.specs.Path.{Part, key, index, same_path}
-use Rattle.keep_meaning.specs.Marks.{through, past, passed, Mention, header_path, header_way, passing_mentions, entered_path, elements_of}
+use Rattle.keep_meaning.specs.Marks.{through, past, passed, Mention, header_path, header_prefixes, passing_mentions, entered_path, elements_of}
 use Rattle.keep_meaning.specs.Nodes.{is_through}
 use Rattle.keep_edit_spec.specs.Look.{keys_in, key_text}
 use Rattle.keep_edit_spec.proofs.Common.Runs.{AllOf, SomeOf, all_join, same_path-sound}
@@ -41,7 +41,7 @@ pub record LeadsThrough (tables : List (List Part)) (at : List Part) (keys : Lis
   pub prefix : List (List ℕ)
   pub path : a ≡ header_path tables at (first ∷ prefix)
   pub others : List Mention
-  pub way : header_way tables at keys ≡ header_way tables at (first ∷ prefix) ++ others
+  pub prefixes : header_prefixes tables at keys ≡ header_prefixes tables at (first ∷ prefix) ++ others
   pub longer : IsLonger a (header_path tables at keys)
 
 passes_here : (tables : List (List Part)) (q a : List Part) (n : ℕ) (b : Bool)
@@ -53,17 +53,17 @@ passes_here tables q a n false (inl h) = let no : is_through past ≡ true = h.1
 passes_here tables q a n false (inr (inl h)) = let no : is_through passed ≡ true = h.1 in absurd cc
 passes_here tables q a n false (inr (inr h)) = absurd h
 
-pub through_prefix : (tables : List (List Part)) (at : List Part) (keys : List (List ℕ)) (a : List Part) → SomeOf (IsMentioned is_through a) (header_way tables at keys) → LeadsThrough tables at keys a
+pub through_prefix : (tables : List (List Part)) (at : List Part) (keys : List (List ℕ)) (a : List Part) → SomeOf (IsMentioned is_through a) (header_prefixes tables at keys) → LeadsThrough tables at keys a
 through_prefix tables at [] a h = absurd h
 through_prefix tables at (k ∷ []) a h = absurd h
 through_prefix tables at (k ∷ l ∷ ks) a h =
     let q : List Part = at ++ key k ∷ [] in
-    elim (some_cases (IsMentioned is_through a) (passing_mentions tables q) (header_way tables (entered_path tables q) (l ∷ ks)) h) [
+    elim (some_cases (IsMentioned is_through a) (passing_mentions tables q) (header_prefixes tables (entered_path tables q) (l ∷ ks)) h) [
       | inl p ↦
           (let (same, none) = passes_here tables q a (elements_of q tables - 1) (0 == elements_of q tables) p in
           let stays : entered_path tables q ≡ a = ap (λ (b : Bool). cond b q (q ++ index (elements_of q tables - 1) ∷ [])) none ∙ same in
           let g = path_longer tables (entered_path tables q) l ks in
-          record { first = k; prefix = []; path = sym same; others = header_way tables at (k ∷ l ∷ ks); way = refl; longer = record { part = g.part; more = g.more; is = g.is ∙ ap (λ (x : List Part). x ++ g.part ∷ g.more) stays } })
+          record { first = k; prefix = []; path = sym same; others = header_prefixes tables at (k ∷ l ∷ ks); prefixes = refl; longer = record { part = g.part; more = g.more; is = g.is ∙ ap (λ (x : List Part). x ++ g.part ∷ g.more) stays } })
       | inr r ↦
           (let g = through_prefix tables (entered_path tables q) (l ∷ ks) a r in
           record {
@@ -71,7 +71,7 @@ through_prefix tables at (k ∷ l ∷ ks) a h =
             prefix = g.first ∷ g.prefix;
             path = g.path;
             others = g.others;
-            way = ap (λ (x : List Mention). passing_mentions tables q ++ x) g.way ∙ sym (append_assoc (passing_mentions tables q) (header_way tables (entered_path tables q) (g.first ∷ g.prefix)) g.others);
+            prefixes = ap (λ (x : List Mention). passing_mentions tables q ++ x) g.prefixes ∙ sym (append_assoc (passing_mentions tables q) (header_prefixes tables (entered_path tables q) (g.first ∷ g.prefix)) g.others);
             longer = g.longer;
           })
     ]
@@ -99,7 +99,7 @@ entered_longer q path n true h = h
 entered_longer q path n false h = record { part = index n; more = h.part ∷ h.more; is = h.is ∙ append_assoc q (index n ∷ []) (h.part ∷ h.more) }
 
 pub way_stays : (tables : List (List Part)) (p at : List Part) (k : List ℕ) (ks : List (List ℕ)) → IsLonger (header_path tables at (k ∷ ks)) p
-    → (header_path (tables ++ p ∷ []) at (k ∷ ks) ≡ header_path tables at (k ∷ ks)) × (header_way (tables ++ p ∷ []) at (k ∷ ks) ≡ header_way tables at (k ∷ ks))
+    → (header_path (tables ++ p ∷ []) at (k ∷ ks) ≡ header_path tables at (k ∷ ks)) × (header_prefixes (tables ++ p ∷ []) at (k ∷ ks) ≡ header_prefixes tables at (k ∷ ks))
 way_stays tables p at k [] h = (refl, refl)
 way_stays tables p at k (l ∷ ks) h =
     let q : List Part = at ++ key k ∷ [] in
@@ -114,11 +114,11 @@ way_stays tables p at k (l ∷ ks) h =
     let few : elements_of q more ≡ elements_of q tables = elements_same tables p q far.part far.more far.is in
     let entered : entered_path more q ≡ entered_path tables q = ap (entered_by q) few in
     let passing : passing_mentions more q ≡ passing_mentions tables q = ap (passing_by q) few in
-    let (path, way) = way_stays tables p (entered_path tables q) l ks h in (
+    let (path, prefixes) = way_stays tables p (entered_path tables q) l ks h in (
       ap (λ (x : List Part). header_path more x (l ∷ ks)) entered ∙ path,
-      ap (λ (x : List Mention). x ++ header_way more (entered_path more q) (l ∷ ks)) passing
-          ∙ ap (λ (x : List Part). passing_mentions tables q ++ header_way more x (l ∷ ks)) entered
-          ∙ ap (λ (x : List Mention). passing_mentions tables q ++ x) way,
+      ap (λ (x : List Mention). x ++ header_prefixes more (entered_path more q) (l ∷ ks)) passing
+          ∙ ap (λ (x : List Part). passing_mentions tables q ++ header_prefixes more x (l ∷ ks)) entered
+          ∙ ap (λ (x : List Mention). passing_mentions tables q ++ x) prefixes,
     )
 
 -- ---- the keys of a header's path are the header's
@@ -142,9 +142,9 @@ again_passing : (q : List Part) (n : ℕ) (b : Bool)
 again_passing q n true = (refl, tt)
 again_passing q n false = (refl, (refl, tt))
 
-pub way_again : (tables : List (List Part)) (at : List Part) (keys : List (List ℕ)) → AllOf (λ (m : Mention). repeatable m.kind ≡ true) (header_way tables at keys)
+pub way_again : (tables : List (List Part)) (at : List Part) (keys : List (List ℕ)) → AllOf (λ (m : Mention). repeatable m.kind ≡ true) (header_prefixes tables at keys)
 way_again tables at [] = tt
 way_again tables at (k ∷ []) = tt
 way_again tables at (k ∷ l ∷ ks) =
     let q : List Part = at ++ key k ∷ [] in
-    all_join (λ (m : Mention). repeatable m.kind ≡ true) (passing_mentions tables q) (header_way tables (entered_path tables q) (l ∷ ks)) (again_passing q (elements_of q tables - 1) (0 == elements_of q tables)) (way_again tables (entered_path tables q) (l ∷ ks))
+    all_join (λ (m : Mention). repeatable m.kind ≡ true) (passing_mentions tables q) (header_prefixes tables (entered_path tables q) (l ∷ ks)) (again_passing q (elements_of q tables - 1) (0 == elements_of q tables)) (way_again tables (entered_path tables q) (l ∷ ks))
