@@ -1,4 +1,4 @@
-/* rows FILE..: makes the calls of the rows of tests/model_cases.tsv, and compares what comes out with what the program answers there.
+/* rows FILE..: makes the calls of the rows of tests/rows/model_cases.tsv, and compares what comes out with what the program answers there.
  *
  * A row has, with tabs between them: status, standard error, document, standard output, subcommand, words; `\xHH` is a byte. Each call
  * is made with ample room, then with one byte too few for its answer. A row whose words the program's command line refuses has no call.

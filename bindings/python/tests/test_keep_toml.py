@@ -147,7 +147,7 @@ class Calls(unittest.TestCase):
 
     @unittest.skipUnless(os.environ.get("KEEP_TOML_ROWS"), "KEEP_TOML_ROWS names no rows")
     def test_rows(self):
-        """The rows of tests/model_cases.tsv: status, standard error, document, standard output, subcommand, words."""
+        """The rows of tests/rows/model_cases.tsv: status, standard error, document, standard output, subcommand, words."""
         equal = 0
         with open(os.environ["KEEP_TOML_ROWS"], encoding="ascii") as rows:
             for line in rows:

@@ -74,7 +74,7 @@ fn unescaped(field: &str) -> Vec<u8> {
     out
 }
 
-/// The rows of the program (`KEEP_TOML_ROWS`, as tests/model_cases.tsv): status, standard error, input, standard output, words.
+/// The rows of the program (`KEEP_TOML_ROWS`, as tests/rows/model_cases.tsv): status, standard error, input, standard output, words.
 #[test]
 fn rows() {
     let Some(path) = std::env::var_os("KEEP_TOML_ROWS") else { return };
