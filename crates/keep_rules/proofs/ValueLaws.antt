@@ -21,7 +21,7 @@ use Rattle.keep_types.specs.declared.node.Kind.{Kind}
 use Rattle.keep_types.specs.declared.node.Kind.TheVariants as kind
 use Rattle.keep_meaning.specs.Nodes.{fact_kind}
 use Rattle.keep_types.specs.Kinds.{leaf_kind}
-use Rattle.keep_rules.proofs.Shared.{kind_of_body}
+use Rattle.keep_rules.proofs.FlatValueLemmas.{kind_of_body}
 use Rattle.keep_syntax.specs.Profiles.{is_allowed_in}
 use Rattle.keep_syntax.proofs.Shared.{allowed_value, value_allowed, reads_value_wider, one_value}
 use Rattle.keep_meaning.specs.Fact as fact

@@ -45,7 +45,7 @@ pub struct Index {
 
 impl Model for Index {
     ghost use Rattle.std.specs.Prelude.{◌≡◌};
-    ghost use Rattle.keep_index_store.specs.Facts.{NodeInfos};
+    ghost use Rattle.keep_path.specs.NodeInfos.{NodeInfos};
 
     ghost Value = { NodeInfos };
 

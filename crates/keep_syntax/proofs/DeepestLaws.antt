@@ -65,3 +65,12 @@ deepest_alone profile v h =
     let p : Start = record { at = 0; values = 0; parts = 0; owner = owner.Line 0; depth = 0; comma = None } in
     let q = nested_of p 0 0 v.body in
     omega (arith, body_deepest profile 0 v.body v.nested h.body h.nested (entries_values q v.nested) (none_values q v.nested) (entries_deepest profile v.nested (place_in v.body) q h.nested))
+
+-- with one value more
+pub deepest_next : (vs : List ValueInfo) (n : ℕ) (v : ValueInfo) → slice_get vs n ≡ Some v → deepest (take (suc n) vs) ≡ max (deepest (take n vs)) (open_in v)
+deepest_next [] n v e = absurd cc
+deepest_next (w ∷ vs) zero v e = let is : w ≡ v = cc in ap (λ (x : ValueInfo). max (open_in x) 0) is ∙ omega arith
+deepest_next (w ∷ vs) (suc n) v e = omega (arith, deepest_next vs n v e)
+
+pub deepest_iteration : (vs : List ValueInfo) (n : ℕ) (v : ValueInfo) → slice_get vs n ≡ Some v → deepest (take (n + 1) vs) ≡ max (deepest (take n vs)) (open_in v)
+deepest_iteration vs n v e = ap (λ (m : ℕ). deepest (take m vs)) (add-one n) ∙ deepest_next vs n v e

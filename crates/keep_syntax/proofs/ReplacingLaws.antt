@@ -233,8 +233,6 @@ exchanged_before p p1 run run1 q gone from to old new e r h = record {
 
 -- ---- going back
 
-}
-
 all_same : {A : Type 0} (xs : List A) → AllByRecursion (λ x. x ≡ x) xs
 all_same [] = tt
 all_same (x ∷ xs) = (refl, all_same xs)

@@ -86,8 +86,6 @@ named_inline profile text at old new (Ok end) h = record { part = Some h.part; b
 gap_is : (profile : Profile) (b : Brackets) (text : List ℕ) (at end : ℕ) (old new : Flat) → (g : GapRead profile b text at old new (Ok end)) → gap_in profile b (drop at text) ≡ (g.part, drop end text)
 gap_is profile b text at end old new g = ok_is (gap_in profile b (drop at text)) (g.part, drop end text) g.is_read
 
-}
-
 -- after the comma
 gap_after_comma : (profile : Profile) (b : Brackets) (text : List ℕ) (at end after next : ℕ) (old f1 f3 new : Flat) → (g : GapRead profile b text at old f1 (Ok end)) → get_or text end 0 ≡ 0x2C → after ≡ end + 1 → (h : GapRead profile b text after f3 new (Ok next))
     → (name : Option Name) (v : Value) → after_by profile b name v (gap_in profile b (drop at text)) ≡ comma_by profile b name v g.part (h.part, drop next text)
@@ -107,7 +105,7 @@ after_comma profile b text at number end after next old f1 f2 f3 new g comma sg 
     let after_is : after ≡ at + width g.part + 1 = omega (arith, sg.end_is) in
     record {
       after = g.part;
-      after = Some h.part;
+      comma_gap = Some h.part;
       bound = h.bound;
       forward = omega (arith, g.forward, h.forward, sg.end_is);
       comma_is = ap (λ (n : ℕ). Some n) there;

@@ -70,3 +70,8 @@ encoded_more text before now next whole n e more so_far now_is next_is =
     let rest : flat_map encoded_byte text ≡ take n text ++ (encoded_byte (get_or text n 0) ++ flat_map encoded_byte (drop (n + 1) text)) =
     rw e (plain_run text) ∙ ap (λ (t : List ℕ). take n text ++ t) (escape_next text n more) in
     rw (next_is, now_is) (simp append_assoc (ap (λ (t : List ℕ). before ++ t) (sym rest) ∙ so_far))
+
+-- a text with a byte or more is bare where each byte is
+pub bare_text_of : (text : List ℕ) → 0 < length text → is_bare_text text ≡ list_all is_bare text
+bare_text_of [] h = absurd (omega arith)
+bare_text_of (c ∷ cs) h = refl
