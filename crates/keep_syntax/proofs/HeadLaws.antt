@@ -5,26 +5,13 @@ use Rattle.keep_types.specs.declared.syntax.KeyPart.{KeyPart}
 use Rattle.keep_types.specs.declared.syntax.ValueInfo.{ValueInfo}
 use Rattle.keep_syntax.specs.Tree.{Content, blank, keyval, header, element, Line, Ended, line_leaves, ended_leaves}
 use Rattle.keep_syntax.specs.Numbered.{width, Count, content_start, line_start, content_statements, content_parts, content_values, line_statements, line_parts, line_values, next_line, over_lines}
+use Rattle.keep_syntax_store.proofs.Shared.{ByValue, HeadIs, ValuesFrom}
 
 abbrev all_parts : Count → List Ended → Line → List KeyPart
 all_parts c es last = over_lines (λ c l line_end. line_parts c l) c es last
 
 abbrev all_values : Count → List Ended → Line → List ValueInfo
 all_values c es last = over_lines (λ c l line_end. line_values c l) c es last
-
--- The first of these statements begins at or after the count and has its number of key parts; without one there are none.
-abbrev pub HeadIs : Count → List Statement → List KeyPart → Type 0
-HeadIs c [] ks = ks ≡ []
-HeadIs c (s ∷ ss) ks = (s.first_key ≡ c.parts) × (c.at ≤ s.line.start)
-
--- The first keyval among them has the number of values before it; without one there are none.
-abbrev pub ByValue : Count → Type 0 → Option ℕ → Type 0
-ByValue c rest None = rest
-ByValue c rest (Some v) = v ≡ c.values
-
-abbrev pub ValuesFrom : Count → List Statement → List ValueInfo → Type 0
-ValuesFrom c [] vs = vs ≡ []
-ValuesFrom c (s ∷ ss) vs = ByValue c (ValuesFrom c ss vs) s.value
 
 values_same : (c d : Count) (ss : List Statement) (vs : List ValueInfo) → c.values ≡ d.values → ValuesFrom c ss vs → ValuesFrom d ss vs
 values_same c d [] vs e h = h

@@ -44,6 +44,5 @@ pub mod SplitLaws
 pub mod CountingLaws
 pub mod RereadLaws
 pub mod ReplacedTextLaws
-pub mod ReplacingLaws
 pub mod SameLaws
 pub mod Shared

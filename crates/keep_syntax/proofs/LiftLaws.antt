@@ -18,8 +18,9 @@ use Rattle.keep_types.specs.declared.syntax.StatementKind.TheVariants.{KeyVal, H
 use Rattle.keep_types.specs.declared.syntax.ValueInfo.{ValueInfo}
 use Rattle.keep_syntax.specs.Tree.{Written, Gap, Further, Key, Name, Body, scalar, array, inline, Entries, none, entry, Value, Content, blank, keyval, header, element, Line, Ended, line_leaves, ended_leaves, name_leaves, content_leaves}
 use Rattle.keep_syntax.specs.Numbered.{span, width, part_at, further_parts, key_parts, named_parts, name_count, key_count, value_start, nested_start, value_end, comma_start, entry_end, entries_parts, comma_place, info, owner_in, nested_of, rest_of, entries_values, value_values, content_start, line_start, content_parts, content_values, content_statements, Count, statement, line_statements, line_parts, line_values, next_line, over_lines}
+use Rattle.keep_syntax_store.proofs.Shared.{count_is}
 use Rattle.keep_syntax.proofs.LineNumberingLaws.{length-statements}
-use Rattle.keep_syntax_store.specs.Lifted.{origin, plus, lift_there, lift_owner, lift_start, lift_key, lift_statement, lift_value}
+use Rattle.keep_syntax_store.specs.Lifted.{plus, lift_there, lift_owner, lift_start, lift_key, lift_statement, lift_value}
 
 -- ---- key parts
 
@@ -195,12 +196,6 @@ lifted_line_statements c d l end = by l.content
     by (keyval name value) = ap (λ s. s ∷ []) (lifted_statement c d l end KeyVal (key_count name.key) (Some d.values))
     by (header before key after) = ap (λ s. s ∷ []) (lifted_statement c d l end Header (key_count key) None)
     by (element before key after) = ap (λ s. s ∷ []) (lifted_statement c d l end Element (key_count key) None)
-
-abbrev pub count_with : ℕ → ℕ → ℕ → ℕ → Count
-count_with at statements parts values = record { at = at; statements = statements; parts = parts; values = values }
-
-pub count_is : {a a' s s' p p' v v' : ℕ} → a ≡ a' → s ≡ s' → p ≡ p' → v ≡ v' → count_with a s p v ≡ count_with a' s' p' v'
-count_is a s p v = cc
 
 -- lifting keeps the length
 more : {A : Type 0} (n m : ℕ) (f : A → A) (xs ys : List A) → ys ≡ map f xs → n + m + length ys ≡ n + (m + length xs)

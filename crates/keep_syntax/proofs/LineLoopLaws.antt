@@ -33,7 +33,7 @@ use Rattle.keep_syntax.proofs.LoopLaws.{done}
 use Rattle.keep_syntax.proofs.GrowthLaws.{width-append}
 use Rattle.keep_syntax.proofs.StepLaws.{lines_newline, lines_last, lines_err, lines_bad}
 use Rattle.keep_syntax.proofs.LineNumberingLaws.{over_ended, ended-snoc, over-last, after_lines-at, after_lines-statements, after_lines-parts, after_lines-values}
-use Rattle.keep_syntax_store.proofs.Shared.{same_flat}
+use Rattle.keep_syntax_store.proofs.Shared.{same_count, same_flat}
 use Rattle.keep_syntax.proofs.GrowthLaws.{same_taken, grows_nothing, grows_then, grows_as, grown_keys, grown_values, grown_statements}
 use Rattle.keep_syntax.proofs.GapCodeLaws.{fails_memory, fails_through}
 
@@ -130,10 +130,6 @@ all_last c es l =
     (sym (over-last line_statements c es l))
     (sym (over-last (λ c l line_end. line_parts c l) c es l))
     (sym (over-last (λ c l line_end. line_values c l) c es l))
-
-pub same_count : (a b : Count) → a.at ≡ b.at → a.statements ≡ b.statements → a.parts ≡ b.parts → a.values ≡ b.values → a ≡ b
-same_count a b e1 e2 e3 e4 =
-    ap (λ (x : ℕ). record a { at = x }) e1 ∙ ap (λ (x : ℕ). record a { at = b.at; statements = x }) e2 ∙ ap (λ (x : ℕ). record b { parts = x; values = a.values }) e3 ∙ ap (λ (x : ℕ). record b { values = x }) e4
 
 -- what is stored tells what comes before the next line
 count_is : (text : List ℕ) (begin here : ℕ) (old now : Flat) (es : List Ended) → Grows text old now begin here (all_taken (count_at begin old) es) → count_at here now ≡ after_lines (count_at begin old) es

@@ -1,15 +1,13 @@
 -- Lines among which some are new: a list over them is the list over those before, then over the new ones, lifted, and then over
 -- those after, moved.
-use Rattle.std.proofs.Common.{◌≡◌, ℕ, ◌+◌, List, [], ◌∷◌, ◌++◌, map, refl, sym, ap, ◌∙◌, arith, append_assoc, Option, Some, None}
+use Rattle.std.proofs.Common.{◌≡◌, ℕ, ◌+◌, List, [], ◌∷◌, ◌++◌, map, refl, sym, ap, ◌∙◌, arith, append_assoc}
 use Rattle.std.proofs.lemmas.List.{map-append}
-use Rattle.keep_types.specs.declared.syntax.Span.{Span}
-use Rattle.keep_types.specs.declared.syntax.Owner.{Owner}
-use Rattle.keep_types.specs.declared.syntax.Owner.TheVariants as owner
 use Rattle.keep_syntax.specs.Tree.{Line, Ended, ended_leaves}
 use Rattle.keep_syntax.specs.Numbered.{width, Count, line_statements, line_parts, line_values, next_line, over_lines, after_lines}
+use Rattle.keep_syntax_store.proofs.Shared.{Moves, moves_all, moves_keys, moves_statements, moves_values, plus-origin}
 use Rattle.keep_syntax.proofs.LineNumberingLaws.{over_ended}
-use Rattle.keep_syntax_store.specs.Lifted.{origin, plus, lift_there, lift_span, lift_owner, lift_key, lift_statement, lift_value, moved, moved_there, moved_span, moved_owner, moved_key, moved_statement, moved_value}
-use Rattle.keep_syntax.proofs.LiftLaws.{lifted_next, lifted_over, lifted_line_statements, lifted_line_parts, lifted_line_values, count_is}
+use Rattle.keep_syntax_store.specs.Lifted.{origin, plus, lift_key, lift_statement, lift_value, moved_key, moved_statement, moved_value}
+use Rattle.keep_syntax.proofs.LiftLaws.{lifted_next, lifted_over, lifted_line_statements, lifted_line_parts, lifted_line_values}
 
 -- ---- lists over lines
 
@@ -34,18 +32,6 @@ lifted_ended f lift h c d (e ∷ es) =
     ∙ ap (λ k. map (lift c) (f d e.line (d.at + width (ended_leaves e))) ++ over_ended f k es) (lifted_next c d e)
     ∙ ap (λ xs. map (lift c) (f d e.line (d.at + width (ended_leaves e))) ++ xs) (lifted_ended f lift h c (next_line d e) es)
     ∙ sym (map-append (lift c) (f d e.line (d.at + width (ended_leaves e))) (over_ended f (next_line d e) es))
-
-pub plus-origin : (c : Count) → plus c origin ≡ c
-plus-origin c = count_is (omega arith) (omega arith) (omega arith) (omega arith)
-
--- ---- moving undoes a lift and lifts anew
-
-abbrev pub Moves : {A : Type 0} → (Count → A → A) → (Count → Count → A → A) → Type 0
-Moves {A} lift move = (a b : Count) (x : A) → move a b (lift a x) ≡ lift b x
-
-moves_all : {A : Type 0} (lift : Count → A → A) (move : Count → Count → A → A) → Moves lift move → (a b : Count) (xs : List A) → map (move a b) (map (lift a) xs) ≡ map (lift b) xs
-moves_all lift move h a b [] = refl
-moves_all lift move h a b (x ∷ xs) = let e = h a b x in let f = moves_all lift move h a b xs in cc
 
 -- lines from one count on are those from another, moved
 pub moved_over : {A : Type 0} (f : OverLine A) (lift : Count → A → A) (move : Count → Count → A → A) → Lifts f lift → Moves lift move
@@ -75,35 +61,6 @@ lines_law {A} f lift move h m c prefix gone new back last =
     let fresh : over_ended f a new ≡ map (lift a) (over_ended f origin new) = ap (λ k. over_ended f k new) (sym (plus-origin a)) ∙ lifted_ended f lift h a origin new in
     over-prefix f c prefix (new ++ back) last
     ∙ ap (λ xs. over_ended f c prefix ++ xs) (over-prefix f a new back last ∙ ap (λ xs. xs ++ over_lines f now back last) fresh ∙ ap (λ xs. map (lift a) (over_ended f origin new) ++ xs) there)
-
--- ---- of statements, key parts and values
-
-moved_back : (old new n : ℕ) → moved old new (old + n) ≡ new + n
-moved_back old new n = omega arith
-
-back_there : (old new : ℕ) (o : Option ℕ) → moved_there old new (lift_there old o) ≡ lift_there new o
-back_there old new None = refl
-back_there old new (Some n) = ap Some (moved_back old new n)
-
-back_span : (old new : ℕ) (s : Span) → moved_span old new (lift_span old s) ≡ lift_span new s
-back_span old new s = let a = moved_back old new s.start in let b = moved_back old new s.end in cc
-
-back_owner : (a b : Count) (o : Owner) → moved_owner a b (lift_owner a o) ≡ lift_owner b o
-back_owner a b (owner.Line n) = ap owner.Line (moved_back a.statements b.statements n)
-back_owner a b (owner.Inline n) = ap owner.Inline (moved_back a.values b.values n)
-back_owner a b (owner.Item n) = ap owner.Item (moved_back a.values b.values n)
-
-pub moves_keys : Moves lift_key moved_key
-moves_keys a b k = let s = back_span a.at b.at k.span in cc
-
-pub moves_statements : Moves lift_statement moved_statement
-moves_statements a b s =
-    let x = back_span a.at b.at s.span in let y = back_span a.at b.at s.line in let z = moved_back a.parts b.parts s.first_key in let w = back_there a.values b.values s.value in cc
-
-pub moves_values : Moves lift_value moved_value
-moves_values a b v =
-    let x = back_span a.at b.at v.span in let y = back_span a.at b.at v.whole in let z = back_owner a b v.owner in let u = moved_back a.parts b.parts v.first_key in
-    let s = back_there a.at b.at v.comma_before in let t = back_there a.at b.at v.comma_after in cc
 
 -- ---- and moved
 

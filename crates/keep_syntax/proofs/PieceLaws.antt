@@ -9,9 +9,9 @@ use Rattle.keep_syntax_store.specs.Flat.{Flat}
 use Rattle.keep_syntax.specs.Growth.{Taken, only, kinds, starts, add_at}
 use Rattle.keep_syntax.specs.FlatLines.{lines_taken, flat_of}
 use Rattle.keep_syntax.specs.WholeLines.{empty_line}
-use Rattle.keep_syntax_store.specs.Lifted.{origin, moved}
+use Rattle.keep_syntax_store.specs.Lifted.{origin}
 use Rattle.keep_syntax_store.specs.Rereading.{moved_flat, joined}
-use Rattle.keep_syntax_store.proofs.Shared.{same_flat}
+use Rattle.keep_syntax_store.proofs.Shared.{joined_assoc, same_flat}
 use Rattle.keep_syntax.proofs.GrowthLaws.{kinds-append, starts-append}
 use Rattle.keep_syntax.proofs.LineNumberingLaws.{over_ended, over-last, after_lines-at}
 use Rattle.keep_syntax.proofs.LineLoopLaws.{all_taken}
@@ -32,15 +32,6 @@ ended_piece c es = piece c.at (all_taken c es)
 -- and with a last line
 abbrev pub lines_piece : Count → List Ended → Line → Flat
 lines_piece c es l = piece c.at (lines_taken c (es, l))
-
-pub joined_assoc : (f g h : Flat) → joined (joined f g) h ≡ joined f (joined g h)
-joined_assoc f g h =
-    same_flat (joined (joined f g) h) (joined f (joined g h))
-    (append_assoc f.kinds g.kinds h.kinds)
-    (append_assoc f.starts g.starts h.starts)
-    (append_assoc f.statements g.statements h.statements)
-    (append_assoc f.keys g.keys h.keys)
-    (append_assoc f.values g.values h.values)
 
 -- the lines before others, and these
 pub lines_prefix : (c : Count) (xs ys : List Ended) (l : Line) → lines_piece c (xs ++ ys) l ≡ joined (ended_piece c xs) (lines_piece (after_lines c xs) ys l)
@@ -92,11 +83,6 @@ flat_pieces d =
 -- its lines alone, if it has none
 pub flat_lines : (d : Document) → d.bom ≡ false → flat_of d ≡ lines_piece origin d.ended d.last
 flat_lines d e = flat_pieces d ∙ ap (λ (b : Bool). let x : Document = record { bom = b; ended = d.ended; last = d.last } in joined (bom_piece x) (lines_piece (first_line x) d.ended d.last)) e
-
--- ---- moving from nothing to nothing
-
-moved_none : (n : ℕ) → moved 0 0 n ≡ n
-moved_none n = omega arith
 
 -- Lines among which some are new: those before unchanged, the new ones lifted, and those after moved.
 pub lines_replaced : (d : Document) (prefix gone new back : List Ended) (last : Line)

@@ -3,16 +3,16 @@
 use Rattle.std.proofs.Common.{◌≡◌, ℕ, ◌+◌, ◌<◌, ◌≤◌, Bool, true, false, List, [], ◌∷◌, ◌++◌, length, map, refl, sym, ap, ◌∙◌, arith}
 use Rattle.std.specs.Prelude.{leb, if◌then◌else◌}
 use Rattle.std.proofs.Common.{le-leb, leb-true, leb-false}
-use Rattle.std.proofs.lemmas.List.{append-nil, length-append}
-use Rattle.keep_syntax.specs.Tree.{Written, Line, Ended, line_leaves, ended_leaves, text_of}
+use Rattle.std.proofs.lemmas.List.{append-nil}
+use Rattle.keep_syntax.specs.Tree.{Written, Line, Ended, line_leaves, ended_leaves}
 use Rattle.keep_syntax.specs.Growth.{starts}
-use Rattle.keep_syntax.specs.Numbered.{width, Count, after_lines, over_lines, line_statements, line_parts, line_values}
+use Rattle.keep_syntax.specs.Numbered.{width, Count, after_lines, over_lines, line_parts}
 use Rattle.keep_syntax.proofs.LineNumberingLaws.{over_ended, over-last}
 use Rattle.keep_syntax.specs.WholeLines.{empty_line, line_starts, last_to, lines_before, lines_from}
-use Rattle.keep_syntax_store.specs.Lifted.{origin, lift_key, lift_statement, lift_value, moved, moved_key, moved_statement, moved_value}
-use Rattle.keep_syntax.proofs.LiftLaws.{lifted_over, lifted_line_statements, lifted_line_parts, lifted_line_values}
-use Rattle.keep_syntax.proofs.LinesLaws.{OverLine, Lifts, Moves, lines_law, over-prefix, plus-origin, moves_keys, moves_statements, moves_values}
-use Rattle.keep_syntax_store.proofs.Shared.{if_true, if_false}
+use Rattle.keep_syntax_store.specs.Lifted.{origin, lift_key, moved, moved_key}
+use Rattle.keep_syntax.proofs.LiftLaws.{lifted_over, lifted_line_parts}
+use Rattle.keep_syntax.proofs.LinesLaws.{OverLine, Lifts, lines_law, over-prefix}
+use Rattle.keep_syntax_store.proofs.Shared.{Moves, if_false, if_true, moves_keys, plus-origin}
 use Rattle.keep_syntax.proofs.LineStartLaws.{line_of, next_of, HaveBytes, line_step, next_step, before_step, from_step, none_before, all_from, line_low, next_high}
 
 -- ---- the lines of a document, in three parts

@@ -30,9 +30,8 @@ use Rattle.keep_syntax.proofs.SpaceLaws.{text_of-append}
 use Rattle.keep_syntax.proofs.CountLaws.{BeginsChar, AreSome, inner_leaves, document_some}
 use Rattle.keep_syntax.proofs.CutLaws.{start_holds, start_forward}
 use Rattle.keep_syntax.proofs.ReadLaws.{inner_text}
-use Rattle.keep_syntax_store.proofs.Shared.{if_true, if_false}
+use Rattle.keep_syntax_store.proofs.Shared.{all_append, all_back, all_prefix, if_false, if_true}
 use Rattle.keep_syntax.proofs.SplitLaws.{Split}
-use Rattle.keep_syntax.proofs.CountingLaws.{all_append, all_prefix, all_back}
 use Rattle.keep_syntax.proofs.RereadLaws.{lines_of, middle_lines, end_lines, empty_last}
 
 -- ---- texts

@@ -7,18 +7,13 @@
 -- (`reread_flat`), and so are the line starts (`reread_starts`) and the length (`reread_length`).
 --
 -- Theorem: `reread_is`: the syntax that rereading gives is that of the document with its lines replaced.
-use Rattle.std.proofs.Common.{◌≡◌, ℕ, ◌+◌, ◌<◌, ◌≤◌, Bool, true, false, List, [], ◌∷◌, ◌++◌, length, map, refl, sym, ap, subst, ◌∙◌, arith, append_assoc, inl, inr, Option, Some, None, lt-ltb, le-ltb, ltb-true, ltb-false}
+use Rattle.std.proofs.Common.{◌≡◌, ℕ, ◌+◌, ◌<◌, ◌≤◌, Bool, true, false, List, [], ◌∷◌, ◌++◌, length, map, refl, sym, ap, subst, ◌∙◌, arith, append_assoc, inl, inr, lt-ltb, le-ltb, ltb-true, ltb-false}
 use Rattle.std.specs.Prelude.{ltb, slice_range}
 use Rattle.std.specs.List.{flat_map, AllByRecursion}
 use Rattle.std.proofs.lemmas.List.{append-nil, length-append, map-append}
 use Rattle.std.proofs.lemmas.Grind.{flat_map-append}
 use Rattle.keep_types.specs.declared.leaf.Profile.{Profile}
 use Rattle.keep_types.specs.declared.syntax.Span.{Span}
-use Rattle.keep_types.specs.declared.syntax.Owner.{Owner}
-use Rattle.keep_types.specs.declared.syntax.Owner.TheVariants as owner
-use Rattle.keep_types.specs.declared.syntax.KeyPart.{KeyPart}
-use Rattle.keep_types.specs.declared.syntax.Statement.{Statement}
-use Rattle.keep_types.specs.declared.syntax.ValueInfo.{ValueInfo}
 use Rattle.keep_syntax_store.specs.declared.moves.Counts.{Counts}
 use Rattle.keep_syntax_store.specs.declared.parts.Parts.{Parts}
 use Rattle.keep_syntax.specs.declared.syntax.Syntax.{Syntax}
@@ -29,69 +24,20 @@ use Rattle.keep_syntax_store.specs.Flat.{Flat, flat, empty}
 use Rattle.keep_syntax_store.specs.Rereading.{count_at, nothing, counts_at, counts_before, places_before, IsPart, part_of, moved_flat, joined, appended, with_prefix, with_new, with_back, replaced_flat, CanMove, prefix_starts, back_starts, replaced_starts}
 use Rattle.keep_syntax.specs.FlatLines.{flat_of, DocumentIs}
 use Rattle.keep_syntax.specs.WholeLines.{empty_line, line_starts, lines_from, begin, starts_of, replaced}
-use Rattle.keep_syntax_store.specs.Lifted.{origin, moved, moved_there, moved_span, moved_owner, moved_key, moved_statement, moved_value}
+use Rattle.keep_syntax_store.specs.Lifted.{origin, moved}
 use Rattle.keep_syntax.specs.declared.reread.NewLines.{NewLines}
-use Rattle.keep_syntax.specs.Replacing.{AreNewLines}
+use Rattle.keep_syntax.specs.NewLines.{AreNewLines}
 use Rattle.keep_syntax.specs.Contract.{IsSyntaxOf, CanReplace, MayReread}
 use Rattle.keep_syntax.proofs.LoopLaws.{ok_is}
 use Rattle.keep_syntax.proofs.DocumentLaws.{document_read}
 use Rattle.keep_syntax.proofs.ReadLaws.{syntax_of, syntax_is}
 use Rattle.keep_syntax.proofs.GrowthLaws.{width-append}
-use Rattle.keep_syntax_store.proofs.Shared.{same_flat, if_true, if_false}
-use Rattle.keep_syntax.proofs.LineLoopLaws.{same_count}
+use Rattle.keep_syntax_store.proofs.Shared.{Before, From, all_prefix, if_false, if_true, map_same, part_after, part_all, part_back, part_before, part_prefix, places_found, range_all, range_back, range_prefix, same_count, stays, stays_flat}
 use Rattle.keep_syntax.proofs.LineNumberingLaws.{after_lines-at, after_lines-statements, after_lines-parts, after_lines-values}
 use Rattle.keep_syntax.proofs.LineStartLaws.{HaveBytes}
 use Rattle.keep_syntax.proofs.SplitLaws.{bytes_of, have_bytes, Split, document_split, text_length}
 use Rattle.keep_syntax.proofs.PieceLaws.{bom_piece, ended_piece, lines_piece, flat_pieces, flat_lines, lines_replaced, lines_replaced_last, lines_moved, lines_ended}
-use Rattle.keep_syntax.proofs.CountingLaws.{Before, From, places_found, all_prefix, before_piece, before_even, before_count, flat_before, counts_found, lines_even, part_prefix, part_back, part_all, range_prefix, range_back, range_all}
-
--- ---- moving from nothing to nothing
-
-pub stays : (n : ℕ) → moved 0 0 n ≡ n
-stays n = omega arith
-
-stays_there : (o : Option ℕ) → moved_there 0 0 o ≡ o
-stays_there None = refl
-stays_there (Some n) = ap Some (stays n)
-
-stays_span : (s : Span) → moved_span 0 0 s ≡ s
-stays_span s = ap (λ (n : ℕ). span n (moved 0 0 s.end)) (stays s.start) ∙ ap (λ (n : ℕ). span s.start n) (stays s.end)
-
-stays_owner : (o : Owner) → moved_owner origin origin o ≡ o
-stays_owner (owner.Line n) = ap owner.Line (stays n)
-stays_owner (owner.Inline n) = ap owner.Inline (stays n)
-stays_owner (owner.Item n) = ap owner.Item (stays n)
-
-pub stays_key : (k : KeyPart) → moved_key origin origin k ≡ k
-stays_key k = ap (λ (x : Span). record k { span = x }) (stays_span k.span)
-
-pub stays_statement : (s : Statement) → moved_statement origin origin s ≡ s
-stays_statement s =
-    ap (λ (x : Span). record (moved_statement origin origin s) { span = x }) (stays_span s.span)
-    ∙ ap (λ (x : Span). record s { line = x; first_key = moved 0 0 s.first_key; value = moved_there 0 0 s.value }) (stays_span s.line)
-    ∙ ap (λ (n : ℕ). record s { first_key = n; value = moved_there 0 0 s.value }) (stays s.first_key)
-    ∙ ap (λ (o : Option ℕ). record s { value = o }) (stays_there s.value)
-
-pub stays_value : (v : ValueInfo) → moved_value origin origin v ≡ v
-stays_value v =
-    let first = moved 0 0 v.first_key in
-    let before = moved_there 0 0 v.comma_before in
-    let after = moved_there 0 0 v.comma_after in
-    ap (λ (x : Span). record (moved_value origin origin v) { span = x }) (stays_span v.span)
-    ∙ ap (λ (x : Span). record v { whole = x; owner = moved_owner origin origin v.owner; first_key = first; comma_before = before; comma_after = after }) (stays_span v.whole)
-    ∙ ap (λ (o : Owner). record v { owner = o; first_key = first; comma_before = before; comma_after = after }) (stays_owner v.owner)
-    ∙ ap (λ (n : ℕ). record v { first_key = n; comma_before = before; comma_after = after }) (stays v.first_key)
-    ∙ ap (λ (o : Option ℕ). record v { comma_before = o; comma_after = after }) (stays_there v.comma_before)
-    ∙ ap (λ (o : Option ℕ). record v { comma_after = o }) (stays_there v.comma_after)
-
-pub map_same : {A : Type 0} (f : A → A) → ((x : A) → f x ≡ x) → (xs : List A) → map f xs ≡ xs
-map_same f h [] = refl
-map_same f h (x ∷ xs) = let e = h x in let k = map_same f h xs in cc
-
-stays_flat : (f : Flat) → moved_flat origin origin f ≡ f
-stays_flat f =
-    same_flat (moved_flat origin origin f) f refl (map_same (moved 0 0) stays f.starts) (map_same (moved_statement origin origin) stays_statement f.statements) (map_same (moved_key origin origin) stays_key f.keys)
-    (map_same (moved_value origin origin) stays_value f.values)
+use Rattle.keep_syntax.proofs.CountingLaws.{before_piece, before_even, before_count, flat_before, counts_found, lines_even}
 
 -- ---- what can be replaced
 
@@ -304,11 +250,6 @@ starts_end profile d m prefix rest whole valid e here bom =
 
 -- ---- all of it
 
--- what is appended to the same
-pub appended_as : {out out2 new : Flat} (other : Flat) {a a2 b b2 : Counts} (at : ℕ) → out ≡ out2 → a ≡ a2 → b ≡ b2 → new ≡ appended out other a b at → new ≡ appended out2 other a2 b2 at
-appended_as {out} {out2} {new} other {a} {a2} {b} {b2} at p q r h =
-    h ∙ ap (λ (x : Flat). appended x other a b at) p ∙ ap (λ (x : Counts). appended out2 other x b at) q ∙ ap (λ (x : Counts). appended out2 other a2 x at) r
-
 -- the lines of the new document
 pub middle_lines : {profile : Profile} {limit : ℕ} {d : Document} {whole : Span} {bytes : List ℕ} {m : Document} (h : CanReplace profile limit d whole bytes m)
     → (replaced d whole m).ended ≡ (lines_of h).prefix ++ (m.ended ++ (lines_of h).back)
@@ -397,30 +338,6 @@ reread_length {profile} {limit} {d} {whole} {bytes} {m} h len size end long wide
         omega (arith, long, wide, after, past, same, bytes_are h, text_length r, s.start_is, ap bytes_of (end_lines h past), bytes_join s.prefix m.ended)
 
 -- ---- what can be taken
-
-part_before : (x y : Flat) (a : ℕ) → IsPart nothing (counts_at a x) (joined x y)
-part_before x y a = record {
-  tokens_from = omega arith;
-  tokens = omega (arith, length-append x.kinds y.kinds);
-  statements_from = omega arith;
-  statements = omega (arith, length-append x.statements y.statements);
-  keys_from = omega arith;
-  keys = omega (arith, length-append x.keys y.keys);
-  values_from = omega arith;
-  values = omega (arith, length-append x.values y.values);
-}
-
-part_after : (x y : Flat) (a b : ℕ) → IsPart (counts_at a x) (counts_at b (joined x y)) (joined x y)
-part_after x y a b = record {
-  tokens_from = omega (arith, length-append x.kinds y.kinds);
-  tokens = omega arith;
-  statements_from = omega (arith, length-append x.statements y.statements);
-  statements = omega arith;
-  keys_from = omega (arith, length-append x.keys y.keys);
-  keys = omega arith;
-  values_from = omega (arith, length-append x.values y.values);
-  values = omega arith;
-}
 
 pub can_move : {profile : Profile} {limit : ℕ} {d : Document} {whole : Span} {bytes : List ℕ} {m : Document} (h : CanReplace profile limit d whole bytes m) (len : ℕ) → len ≡ length (text d) → CanMove (flat_of d) whole len
 can_move {profile} {limit} {d} {whole} {bytes} {m} h len long =

@@ -1,7 +1,7 @@
 -- What the crates above build on, in one place.
 pub use Rattle.keep_syntax.proofs.AgainLaws.{entries_begin, value_begins}
 pub use Rattle.keep_syntax.proofs.CountLaws.{AreSome, BeginsChar, document_some, leaves_count}
-pub use Rattle.keep_syntax.proofs.CountingLaws.{all_back}
+pub use Rattle.keep_syntax_store.proofs.Shared.{all_back}
 pub use Rattle.keep_syntax.proofs.DeepestLaws.{all_at}
 pub use Rattle.keep_syntax.proofs.DepthLaws.{values_within}
 pub use Rattle.keep_syntax.proofs.DocumentLaws.{one_document}

@@ -16,9 +16,9 @@ use Rattle.keep_syntax.specs.Growth.{only, both, kinds, starts, add_at, Grows, F
 use Rattle.keep_syntax_store.specs.Rereading.{count_at}
 use Rattle.keep_syntax.specs.FlatLines.{lines_taken, LinesAre, BomRead, document_taken, DocumentIs, alone, OneIs}
 use Rattle.keep_syntax.specs.WholeLines.{line_starts}
+use Rattle.keep_syntax_store.proofs.Shared.{same_count}
 use Rattle.keep_syntax.proofs.LoopLaws.{done, ok_is}
 use Rattle.keep_syntax.proofs.GrowthLaws.{grows_nothing, grows_then, grows_as, grows_token, grown_keys, grown_values, grown_statements}
-use Rattle.keep_syntax.proofs.LineLoopLaws.{same_count}
 use Rattle.keep_syntax.proofs.GapCodeLaws.{fails_bad, fails_through}
 
 -- ---- the byte order mark

@@ -12,5 +12,5 @@ pub mod Contract
 pub mod Laws
 pub mod FlatLines
 pub mod WholeLines
-pub mod Replacing
+pub mod NewLines
 pub mod Undoing

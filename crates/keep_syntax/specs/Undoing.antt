@@ -3,7 +3,7 @@ use Rattle.std.specs.Prelude.{◌≡◌}
 use Rattle.keep_syntax.specs.declared.syntax.Syntax.{Syntax}
 use Rattle.keep_syntax.specs.declared.syntax.rereading.Replaced.{Replaced}
 use Rattle.keep_syntax_store.specs.Flat.{flat}
-use Rattle.keep_syntax.specs.Replacing.{UndoesParts}
+use Rattle.keep_syntax_store.specs.InPlace.{UndoesParts}
 
 -- The same is stored: tokens, statements, key parts, values, where lines begin, and how long the text is. How it is
 -- packed may differ.

@@ -9,7 +9,6 @@ mod info;
 mod key;
 pub mod laws;
 mod line;
-mod replacing;
 mod reread;
 mod syntax;
 mod text;

@@ -13,10 +13,10 @@ mod rereading;
 
 use crate::fault::ReadFault;
 use crate::info::Limits;
-use crate::reread::{new_lines, replaced_parts};
+use crate::reread::new_lines;
 use crate::tokens::Tokens;
 use crate::whole::read_lines;
-use keep_syntax_store::{Parts, Starts};
+use keep_syntax_store::{Parts, Starts, replaced_parts};
 use keep_types::{KeyPart, Span, Statement, ValueInfo};
 pub use rereading::Replaced;
 use std::alloc::{AllocError, Global};

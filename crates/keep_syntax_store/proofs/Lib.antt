@@ -7,4 +7,9 @@ pub mod MoveLaws
 pub mod ExchangeLaws
 pub mod ShiftLaws
 pub mod ExchangedLaws
+pub mod StayLaws
+pub mod LiftedLaws
+pub mod JoinLaws
+pub mod BeforeLaws
+pub mod ReplacingLaws
 pub mod Shared

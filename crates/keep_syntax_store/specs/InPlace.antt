@@ -5,7 +5,9 @@ use Rattle.std.specs.List.{AllByRecursion}
 use Rattle.keep_types.specs.declared.syntax.Span.{Span}
 use Rattle.keep_syntax_store.specs.declared.moves.Counts.{Counts}
 use Rattle.keep_syntax_store.specs.declared.parts.Parts.{Parts}
-use Rattle.keep_syntax_store.specs.Flat.{Flat}
+use Rattle.keep_syntax_store.specs.declared.replacing.Gone.{Gone}
+use Rattle.keep_syntax_store.specs.declared.replacing.Gone.TheVariants as gone
+use Rattle.keep_syntax_store.specs.Flat.{Flat, flat}
 use Rattle.keep_syntax_store.specs.Lifted.{origin, moved, moved_statement, moved_key, moved_value}
 use Rattle.keep_syntax_store.specs.Rereading.{count_of, nothing, counts_before, counts_at}
 use Rattle.keep_syntax_store.specs.Shifting.{shifted_statement, shifted_key, shifted_value, CanShiftStatement}
@@ -149,3 +151,11 @@ pub record UndoesRun (gone : Parts) (from to until : Counts) (before after : Par
   pub statements : until.statements ≡ from.statements + vec_len run.statements.packed
   pub keys : until.keys ≡ from.keys + vec_len run.keys.packed
   pub values : until.values ≡ from.values + vec_len run.values.packed
+
+-- putting it back in the second gives what is stored in the first
+abbrev pub UndoesParts : Gone → Parts → Parts → Type 0
+UndoesParts (gone.Run run from to until) before after = UndoesRun run from to until before after
+UndoesParts (gone.Whole parts) before after = flat parts ≡ flat before
+
+abbrev pub CanUndoParts : Gone → Parts → Type 0
+CanUndoParts g after = (before : Parts) × UndoesParts g before after

@@ -5,6 +5,8 @@ mod exchange;
 mod keys;
 mod moves;
 mod parts;
+mod replacing;
+mod rereading;
 mod shift;
 mod starts;
 mod statements;
@@ -12,4 +14,6 @@ mod values;
 
 pub use moves::{Counts, moved, moved_key, moved_statement, moved_value};
 pub use parts::Parts;
+pub use replacing::{Gone, replace_parts, restore_parts};
+pub use rereading::{replaced_parts, replaced_starts};
 pub use starts::{Places, Starts};

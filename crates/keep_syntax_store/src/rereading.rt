@@ -1,0 +1,249 @@
+//! What is stored of a text with lines replaced: that of the lines before, of the new lines, and of the lines after, each
+//! stored again. What comes before a place shows in the statements after it.
+ghost use Rattle.std.specs.Prelude.{◌≡◌, ◌≤◌, length, map, drop, slice_range, OnOk, IfOk};
+ghost use Rattle.keep_syntax_store.specs.Flat.{flat};
+ghost use Rattle.keep_syntax_store.specs.Rereading.{count_at, with_statements};
+ghost use Rattle.keep_syntax_store.specs.Lifted as lifted;
+ghost use Rattle.keep_syntax_store.specs.Rereading as spec;
+
+use crate::moves::{Counts, moved_key, moved_statement, moved_value};
+use crate::parts::Parts;
+use crate::starts::Starts;
+use keep_types::Span;
+use std::alloc::{AllocError, Global};
+
+/// How many statements have a line that begins before a place.
+fn statements_before(parts: &Parts, place: usize) -> usize
+    ensures { result ≡ spec.statements_before place (flat parts.now).statements }
+{
+    let count = parts.statement_count();
+    'statements: for number in 0..count {
+        if place <= parts.statement_at(number).line.start {
+            return number;
+        }
+    }
+    count
+}
+
+/// The number of the first value from a statement on.
+fn first_value(parts: &Parts, from: usize) -> usize
+    requires { from ≤ length (flat parts.now).statements }
+    ensures { result ≡ spec.first_value (length (flat parts.now).values) (drop from (flat parts.now).statements) }
+{
+    let count = parts.statement_count();
+    'statements: for number in from..count {
+        if let Some(value) = parts.statement_at(number).value {
+            return value;
+        }
+    }
+    parts.value_count()
+}
+
+/// The number of the first key part from a statement on.
+fn first_key(parts: &Parts, from: usize) -> usize
+    requires { from ≤ length (flat parts.now).statements }
+    ensures { result ≡ spec.first_key (length (flat parts.now).keys) (drop from (flat parts.now).statements) }
+{
+    if from < parts.statement_count() {
+        parts.statement_at(from).first_key
+    } else {
+        parts.key_count()
+    }
+}
+
+/// How much comes before the line that begins at a place.
+pub fn counts_before(parts: &Parts, place: usize) -> Counts
+    ensures { result ≡ spec.counts_before (flat parts.now) place }
+{
+    let statements = statements_before(parts, place);
+    Counts {
+        at: place,
+        tokens: parts.tokens_before(place),
+        statements,
+        keys: first_key(parts, statements),
+        values: first_value(parts, statements),
+    }
+}
+
+/// All that is stored of a text that ends at a place.
+pub fn counts_at(parts: &Parts, at: usize) -> Counts
+    ensures { result ≡ spec.counts_at at (flat parts.now) }
+{
+    Counts {
+        at,
+        tokens: parts.stored_token_count(),
+        statements: parts.statement_count(),
+        keys: parts.key_count(),
+        values: parts.value_count(),
+    }
+}
+
+fn append_statements(
+    out: &mut Parts,
+    other: &Parts,
+    from: &Counts,
+    to: &Counts,
+    new: &Counts,
+) -> Result<(), AllocError>
+    requires order { from.now.statements ≤ to.now.statements }
+    requires within { to.now.statements ≤ length (flat other.now).statements }
+    ensures { OnOk result (flat out.new ≡ with_statements
+        (map (lifted.moved_statement (spec.count_of from.now) (spec.count_of new.now))
+        (slice_range (flat other.now).statements from.now.statements to.now.statements)) (flat out.old)) }
+{
+    'statements: for number in from.statements..to.statements {
+        let Some(statement) = moved_statement(other.statement_at(number), from, new) else {
+            return Err(AllocError);
+        };
+        out.push_statement(statement)?;
+    }
+    Ok(())
+}
+
+fn append_keys(
+    out: &mut Parts,
+    other: &Parts,
+    from: &Counts,
+    to: &Counts,
+    new: &Counts,
+) -> Result<(), AllocError>
+    requires order { from.now.keys ≤ to.now.keys }
+    requires within { to.now.keys ≤ length (flat other.now).keys }
+    ensures { OnOk result (flat out.new ≡ spec.with_keys
+        (map (lifted.moved_key (spec.count_of from.now) (spec.count_of new.now))
+        (slice_range (flat other.now).keys from.now.keys to.now.keys)) (flat out.old)) }
+{
+    'keys: for number in from.keys..to.keys {
+        let Some(part) = moved_key(other.key_part(number), from, new) else {
+            return Err(AllocError);
+        };
+        out.push_key(part)?;
+    }
+    Ok(())
+}
+
+fn append_values(
+    out: &mut Parts,
+    other: &Parts,
+    from: &Counts,
+    to: &Counts,
+    new: &Counts,
+) -> Result<(), AllocError>
+    requires order { from.now.values ≤ to.now.values }
+    requires within { to.now.values ≤ length (flat other.now).values }
+    ensures { OnOk result (flat out.new ≡ spec.with_values
+        (map (lifted.moved_value (spec.count_of from.now) (spec.count_of new.now))
+        (slice_range (flat other.now).values from.now.values to.now.values)) (flat out.old)) }
+{
+    'values: for number in from.values..to.values {
+        let Some(value) = moved_value(other.value(number), from, new) else {
+            return Err(AllocError);
+        };
+        out.push_info(value)?;
+    }
+    Ok(())
+}
+
+/// Stores also what is stored of other lines from one count to another, moved to after all that is stored. These lines
+/// begin at the byte `at`.
+pub fn append_moved(
+    out: &mut Parts,
+    other: &Parts,
+    from: &Counts,
+    to: &Counts,
+    at: usize,
+) -> Result<(), AllocError>
+    requires { spec.IsPart from.now to.now (flat other.now) }
+    ensures { OnOk result (flat out.new ≡ spec.joined (flat out.old)
+        (spec.moved_flat (spec.count_of from.now) (count_at at (flat out.old))
+        (spec.part_of from.now to.now (flat other.now)))) }
+{
+    let new = counts_at(out, at);
+    out.append_tokens(other, from, to, at)?;
+    append_statements(out, other, from, to, &new)?;
+    append_keys(out, other, from, to, &new)?;
+    append_values(out, other, from, to, &new)
+}
+
+/// What comes before everything.
+pub fn nothing() -> Counts
+    ensures { result ≡ spec.nothing }
+{
+    Counts {
+        at: 0,
+        tokens: 0,
+        statements: 0,
+        keys: 0,
+        values: 0,
+    }
+}
+
+/// What is stored of a text of `len` bytes whose lines of a span are replaced: that of the lines before, that of the
+/// new lines, which have `size` bytes and end at the byte `end`, and that of the lines after.
+pub fn replaced_parts(
+    alloc: Global,
+    parts: &Parts,
+    whole: Span,
+    len: usize,
+    fresh: &Parts,
+    size: usize,
+    end: usize,
+) -> Result<Parts, AllocError>
+    requires { spec.CanMove (flat parts.now) whole len }
+    ensures { IfOk result (λ out. flat out ≡ spec.replaced_flat (flat parts.now) (flat fresh.now) whole len size end) }
+{
+    let mut out = Parts::new(alloc);
+    append_moved(
+        &mut out,
+        parts,
+        &nothing(),
+        &counts_before(parts, whole.start),
+        0,
+    )?;
+    append_moved(
+        &mut out,
+        fresh,
+        &nothing(),
+        &counts_at(fresh, size),
+        whole.start,
+    )?;
+    if whole.end < len {
+        append_moved(
+            &mut out,
+            parts,
+            &counts_before(parts, whole.end),
+            &counts_at(parts, len),
+            end,
+        )?;
+    }
+    Ok(out)
+}
+
+/// Where the lines of that text begin.
+pub fn replaced_starts(
+    alloc: Global,
+    starts: &Starts,
+    whole: Span,
+    len: usize,
+    fresh: &Starts,
+    size: usize,
+    end: usize,
+) -> Result<Starts, AllocError>
+    ensures { IfOk result (λ out. out ≡ spec.replaced_starts starts.now fresh.now whole len size end) }
+{
+    let mut out = Starts::new(alloc);
+    out.append_moved(starts, 0, starts.count_before(whole.start), 0, 0)?;
+    if whole.end < len {
+        out.append_moved(fresh, 0, fresh.count_before(size), 0, whole.start)?;
+        out.append_moved(
+            starts,
+            starts.count_before(whole.end),
+            starts.len(),
+            whole.end,
+            end,
+        )?;
+    } else {
+        out.append_moved(fresh, 0, fresh.len(), 0, whole.start)?;
+    }
+    Ok(out)
+}
