@@ -12,7 +12,7 @@ mod starts;
 mod statements;
 mod values;
 
-pub use moves::{Counts, moved, moved_key, moved_statement, moved_value};
+pub use moves::moved;
 pub use parts::Parts;
 pub use replacing::{Gone, replace_parts, restore_parts};
 pub use rereading::{replaced_parts, replaced_starts};

@@ -113,14 +113,14 @@ impl Parts {
     }
 
     /// Stores a value of which all is known.
-    pub fn push_info(&mut self, value: ValueInfo) -> Result<(), AllocError>
+    pub(crate) fn push_info(&mut self, value: ValueInfo) -> Result<(), AllocError>
         ensures { OnOk result (spec.flat self.new ≡ spec.with_value value (spec.flat self.old)) }
     {
         self.values.push(value)
     }
 
     /// Stores the tokens of another list from one count to another, moved to begin at the byte `at`.
-    pub fn append_tokens(
+    pub(crate) fn append_tokens(
         &mut self,
         other: &Parts,
         from: &Counts,
@@ -142,7 +142,7 @@ impl Parts {
     }
 
     /// How many tokens begin before a place.
-    pub fn tokens_before(&self, place: usize) -> usize
+    pub(crate) fn tokens_before(&self, place: usize) -> usize
         ensures { result ≡ rereading.places_before place (spec.flat self.now).starts }
     {
         self.starts.count_before(place)

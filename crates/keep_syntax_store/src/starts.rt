@@ -120,7 +120,7 @@ impl Starts {
     }
 
     /// All places.
-    pub fn iter(&self) -> Places<'_>
+    pub(crate) fn iter(&self) -> Places<'_>
         ensures { places_left result ≡ self.now }
     {
         Places {
@@ -157,7 +157,7 @@ impl Starts {
     }
 
     /// How many places there are.
-    pub fn len(&self) -> usize
+    pub(crate) fn len(&self) -> usize
         ensures { result ≡ length self.now }
     {
         self.steps.len()
@@ -165,7 +165,7 @@ impl Starts {
 
     /// How many of ascending places are before `place`. Near places are counted together where the last of them is
     /// before it.
-    pub fn count_before(&self, place: usize) -> usize
+    pub(crate) fn count_before(&self, place: usize) -> usize
         ensures { result ≡ places_before place self.now }
     {
         let count = self.len();
@@ -213,7 +213,7 @@ impl Starts {
     /// Stores also the places of another list from number `from` up to number `to`, moved from after `old` to after
     /// `new`. A place that is not far from the one before is as far from it when both are moved, so the steps between
     /// are stored as they are.
-    pub fn append_moved(
+    pub(crate) fn append_moved(
         &mut self,
         other: &Starts,
         from: usize,

@@ -55,7 +55,7 @@ impl Parts {
     }
 
     /// Whether all is packed.
-    pub fn is_packed(&self) -> bool
+    pub(crate) fn is_packed(&self) -> bool
         ensures { Decides result (spec.IsPacked self.now) }
     {
         self.statements.unpacked.is_empty()
@@ -64,7 +64,7 @@ impl Parts {
     }
 
     /// Whether the numbers of all packed parts from a count on can be moved in place.
-    pub fn can_shift(&self, from: &Counts, old: &Counts, new: &Counts) -> bool
+    pub(crate) fn can_shift(&self, from: &Counts, old: &Counts, new: &Counts) -> bool
         ensures { Decides result (spec.CanShift from.now old.now new.now self.now) }
     {
         all_can_shift(self.statements.packed.as_slice(), from.statements, old, new)
@@ -73,7 +73,7 @@ impl Parts {
     }
 
     /// Whether there is so much, and the counts are in order.
-    pub fn is_run(&self, from: &Counts, to: &Counts) -> bool
+    pub(crate) fn is_run(&self, from: &Counts, to: &Counts) -> bool
         ensures { Decides result (spec.IsRun from.now to.now self.now) }
     {
         is_range(from.tokens, to.tokens, self.kinds.len())
@@ -83,7 +83,7 @@ impl Parts {
     }
 
     /// Moves all numbers, and puts other places of tokens there.
-    pub fn shift_all(&mut self, old: &Counts, new: &Counts, starts: Starts)
+    pub(crate) fn shift_all(&mut self, old: &Counts, new: &Counts, starts: Starts)
         ensures shifted { spec.IsShifted old.now new.now self.old self.new }
         ensures starts { self.new.starts ≡ starts }
     {
@@ -94,7 +94,12 @@ impl Parts {
     }
 
     /// Takes all memory that an exchange needs, and changes nothing.
-    pub fn reserve(&mut self, from: &Counts, to: &Counts, run: &mut Parts) -> Result<(), AllocError>
+    pub(crate) fn reserve(
+        &mut self,
+        from: &Counts,
+        to: &Counts,
+        run: &mut Parts,
+    ) -> Result<(), AllocError>
         requires { spec.IsRun from.now to.now self.old }
         ensures parts { spec.IsAsBefore self.old self.new }
         ensures run { spec.IsAsBefore run.old run.new }
@@ -120,7 +125,7 @@ impl Parts {
 
     /// The parts from one count to another and those of `run` change places, and the numbers of those after are moved.
     /// It takes no memory.
-    pub fn exchange(
+    pub(crate) fn exchange(
         &mut self,
         from: &Counts,
         to: &Counts,
@@ -168,7 +173,7 @@ impl Parts {
 
     /// Where the tokens begin if those of other parts take the place of those from one count to another, and those
     /// after begin at the byte `end`.
-    pub fn replaced_places(
+    pub(crate) fn replaced_places(
         &self,
         alloc: Global,
         fresh: &Parts,
