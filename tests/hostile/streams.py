@@ -68,12 +68,13 @@ def error_settings(row):
 
 
 def space_settings():
-    """Inputs of spaces, in blocks or one a turn, with how often the program asks."""
-    for step, turns in ((1, LIMIT + 1), (65_536, LIMIT // 65_536 + 1)):
+    """Inputs of spaces, in blocks or one a turn, with how often the program asks: for 8 KB, then for 64 KB."""
+    blocks = 1 + -(-(LIMIT - 8_192) // 65_536)
+    for step, turns, turns_past in ((1, LIMIT + 1, LIMIT + 1), (65_536, blocks + 1, blocks)):
         settings = {"READ_STEP": step, "CALLS": 1}
         output, calls = b"ok tokens=2 nodes=1\n", b"reads=%d writes=1" % turns
         yield {**settings, "SPACES": LIMIT}, Row("as many spaces as may be", [b"check"], b"", 0, output, calls)
-        calls = TOO_LONG + b"\nreads=%d writes=0" % turns
+        calls = TOO_LONG + b"\nreads=%d writes=0" % turns_past
         yield {**settings, "SPACES": LIMIT + 1}, Row("a space too many", [b"check"], b"", 3, b"", calls)
         yield {**settings, "SPACES": -1}, Row("spaces that never end", [b"check"], b"", 3, b"", calls)
 

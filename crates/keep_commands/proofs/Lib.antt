@@ -1,5 +1,4 @@
 pub mod Appends
-pub mod Loses
 pub mod AnswerLaws
 pub mod ProfileLaws
 pub mod ListLines

@@ -1,7 +1,7 @@
 -- What reading to the end and writing all come to.
 use Rattle.std.specs.Prelude.{◌≡◌, ◌<◌, ⊤, ℕ, Bool, true, false, List, length, take, Option, IfSome, None, Some, ◌≤◌}
 use Rattle.std.specs.Prelude.{◌+◌, Result, Ok, Err, Vec}
-use Rattle.std.specs.Io.KnownBytes.{Appends, Keeps}
+use Rattle.std.specs.Io.KnownBytes.{Appends, Consumes, IsAtEnd, Keeps}
 use Rattle.keep_edit.specs.Reading.{text_in}
 use Rattle.keep_commands.specs.Answer.{IsRefusal, IsText, profile_of}
 use Rattle.keep_commands.specs.declared.command.Command.{Command}
@@ -16,6 +16,12 @@ IsWithinLimit bytes = length bytes ≤ LONGEST_INPUT
 
 abbrev pub IsTooLong : List ℕ → Type 0
 IsTooLong bytes = LONGEST_INPUT < length bytes
+
+-- at most so many known bytes went
+abbrev pub LosesAtMost : ℕ → Option (List ℕ) → Option (List ℕ) → Type 0
+LosesAtMost most None new = ⊤
+LosesAtMost most (Some xs) None = ⊥
+LosesAtMost most (Some xs) (Some ys) = length xs ≤ length ys + most
 
 -- These bytes were read: they are within the limit, and are those that the reader states, if it states them.
 abbrev pub IsInput : Option (List ℕ) → List ℕ → Type 0
@@ -33,6 +39,13 @@ module _ {Z : Type 0} where
   abbrev pub ReadsAll : Option (List ℕ) → Result (Vec ℕ Z) RunFault → Bool → Type 0
   ReadsAll input (Ok bytes) failed = (failed ≡ false) × IsInput input bytes.items
   ReadsAll input (Err fault) failed = StopsReading input fault failed
+
+  -- all bytes of the input, or so many that it has first, with the rest of it; or why not
+  abbrev pub ReadsUpTo : ℕ → Option (List ℕ) → Option (List ℕ) → Result (Vec ℕ Z) RunFault → Bool → Type 0
+  ReadsUpTo most input rest (Ok bytes) failed =
+      (failed ≡ false) × (length bytes.items ≤ most) × Consumes input rest bytes.items
+      × (length bytes.items < most → IsAtEnd rest)
+  ReadsUpTo most input rest (Err fault) failed = StopsReading input fault failed × LosesAtMost most input rest
 
 -- why writing stopped
 abbrev pub StopsWriting : Option (List ℕ) → Option (List ℕ) → List ℕ → RunFault → Bool → Type 0
@@ -78,9 +91,3 @@ StopsRun command input old new Memory = Keeps old new
 StopsRun command input old new fault =
     Keeps old new × ((bytes : List ℕ) × IsInput input bytes
     × IsRefusal command (text_in (profile_of command) bytes) fault)
-
--- at most so many known bytes went
-abbrev pub LosesAtMost : ℕ → Option (List ℕ) → Option (List ℕ) → Type 0
-LosesAtMost most None new = ⊤
-LosesAtMost most (Some xs) None = ⊥
-LosesAtMost most (Some xs) (Some ys) = length xs ≤ length ys + most

@@ -1,9 +1,12 @@
 //! Reads the input to its end, and writes the answer.
-ghost use Rattle.std.specs.Prelude.{◌≡◌, ◌+◌, ◌≤◌, ◌⊎◌, ◌↔◌, true, IfErr, IfOk, MatchResult, IsErrAnd, IsErrOf};
+ghost use Rattle.std.specs.Prelude.{◌≡◌, ◌+◌, ◌≤◌, ◌<◌, ◌⊎◌, ◌↔◌, false, true, length, IfErr, IfOk, MatchResult};
+ghost use Rattle.std.specs.Prelude.{IsErrAnd, IsErrOf};
+ghost use Rattle.std.specs.Io.KnownBytes.{prepend_known};
 ghost use Rattle.keep_commands.specs.Counted.{IsFresh, has_failed, inner_of, calls_of};
 ghost use Rattle.keep_commands.specs.Answer.{IsProfileFault};
 ghost use Rattle.keep_commands.specs.OwnValues.{HasOwnValues};
-ghost use Rattle.keep_commands.specs.Run.{HasWritten, LosesAtMost, ReadsAll, StopsRun, WritesAll, is_write};
+ghost use Rattle.keep_commands.specs.Run.{HasWritten, IsWithinLimit, LosesAtMost, ReadsAll, ReadsUpTo, StopsRun};
+ghost use Rattle.keep_commands.specs.Run.{WritesAll, is_write};
 
 use crate::answer::answer;
 use crate::command::Command;
@@ -12,7 +15,10 @@ use crate::fault::RunFault;
 use std::alloc::Global;
 use std::io::{Read, Write};
 
-// The most bytes that one call asks for.
+// The most bytes that the first calls ask for. Few inputs are longer.
+const FIRST_BLOCK: usize = 8_192;
+
+// The most bytes that a later call asks for.
 const BLOCK: usize = 65_536;
 
 /// The length in bytes of the longest input that is accepted. The definitions cite it too.
@@ -73,10 +79,52 @@ fn read_all<R: Read>(alloc: Global, input: &mut Counted<R>) -> Result<Vec<u8>, R
     ensures taken { LosesAtMost (LONGEST_INPUT + 1) (R.remaining (inner_of input.old))
         (R.remaining (inner_of input.new)) }
 {
-    let mut bytes = Vec::new(alloc);
+    let mut buffer = [0u8; FIRST_BLOCK];
+    let bytes = read_up_to(FIRST_BLOCK, Vec::new(alloc), &mut buffer, input)?;
+    if bytes.len() < FIRST_BLOCK {
+        return Ok(bytes);
+    }
+    read_rest(bytes, input)
+}
+
+// The bytes that were read, and then all others of the input. A function of its own, so that a short input does not
+// wait until its buffer is zeroed.
+#[inline(never)]
+fn read_rest<R: Read>(bytes: Vec<u8>, input: &mut Counted<R>) -> Result<Vec<u8>, RunFault>
+    requires going { has_failed input.old ≡ false }
+    requires calls { calls_of input.old ≤ length bytes.items }
+    requires within { IsWithinLimit bytes.items }
+    ensures reads { ReadsAll (prepend_known bytes.items (R.remaining (inner_of input.old))) result
+        (has_failed input.new) }
+    ensures calls { calls_of input.new ≤ LONGEST_INPUT + 1 }
+    ensures taken { LosesAtMost (LONGEST_INPUT + 1) (prepend_known bytes.items (R.remaining (inner_of input.old)))
+        (R.remaining (inner_of input.new)) }
+{
     let mut buffer = [0u8; BLOCK];
-    for _ in 0..LONGEST_INPUT + 1 {
-        let room = (LONGEST_INPUT + 1 - bytes.len()).min(BLOCK);
+    let bytes = read_up_to(LONGEST_INPUT + 1, bytes, &mut buffer, input)?;
+    if bytes.len() > LONGEST_INPUT {
+        return Err(RunFault::TooLong);
+    }
+    Ok(bytes)
+}
+
+// The bytes that were read, and then those of the input, but no more than so many in all.
+fn read_up_to<R: Read>(
+    most: usize,
+    mut bytes: Vec<u8>,
+    buffer: &mut [u8],
+    input: &mut Counted<R>,
+) -> Result<Vec<u8>, RunFault>
+    requires going { has_failed input.old ≡ false }
+    requires calls { calls_of input.old ≤ length bytes.items }
+    requires within { length bytes.items ≤ most }
+    requires holds { 0 < length buffer.old }
+    ensures reads { ReadsUpTo most (prepend_known bytes.items (R.remaining (inner_of input.old)))
+        (R.remaining (inner_of input.new)) result (has_failed input.new) }
+    ensures calls { calls_of input.new ≤ most }
+{
+    while bytes.len() < most {
+        let room = (most - bytes.len()).min(buffer.len());
         let Ok(count) = input.read(&mut buffer[..room]) else {
             return Err(RunFault::Read);
         };
@@ -86,11 +134,8 @@ fn read_all<R: Read>(alloc: Global, input: &mut Counted<R>) -> Result<Vec<u8>, R
         if bytes.extend_from_slice(&buffer[..count]).is_err() {
             return Err(RunFault::Memory);
         }
-        if bytes.len() > LONGEST_INPUT {
-            return Err(RunFault::TooLong);
-        }
     }
-    Err(RunFault::TooLong)
+    Ok(bytes)
 }
 
 // Writes all of the bytes, or a prefix of them.
