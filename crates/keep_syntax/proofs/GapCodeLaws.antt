@@ -3,18 +3,16 @@ use Rattle.std.proofs.Common.{◌≡◌, ℕ, ◌+◌, ◌<◌, ◌≤◌, true,
 use Rattle.std.proofs.lemmas.List.{append-nil, drop-drop, get_or-drop, length-drop, length-take}
 use Rattle.keep_types.specs.declared.leaf.Leaf.{Leaf}
 use Rattle.keep_types.specs.declared.leaf.Leaf.TheVariants as leaf
-use Rattle.keep_types.specs.declared.leaf.Profile.{Profile}
 use Rattle.keep_token.specs.Scanning.{first, gap_at, moved}
-use Rattle.keep_token.proofs.Shared.{white, line, comment, nothing, gap_cases}
+use Rattle.keep_token.proofs.Shared.{white, line, comment, nothing, gap_cases, ws_found}
 use Rattle.std.specs.List.{prefix_len}
 use Rattle.keep_token.specs.Abnf.{is_ws}
 use Rattle.keep_syntax.specs.declared.fault.ReadFault.{ReadFault}
 use Rattle.keep_syntax.specs.declared.fault.ReadFault.TheVariants as faults
-use Rattle.keep_syntax.specs.declared.info.Brackets.{Brackets}
 use Rattle.keep_syntax.specs.Tree.{Gap, token}
-use Rattle.keep_syntax.specs.Reading.{Fault, Bad, Deep, written, space_at, blank_at, prepended, is_free, gap_in}
+use Rattle.keep_syntax.specs.Reading.{Fault, Bad, Deep, written, space_at, blank_at, prepended}
 use Rattle.keep_syntax_store.specs.Flat.{Flat, with_token}
-use Rattle.keep_syntax.specs.Growth.{only, Grows, PartRead, Fails, PunctuationIs, SpaceRead, BlankRead, IsSyntax}
+use Rattle.keep_syntax.specs.Growth.{only, Grows, Fails, PunctuationIs, SpaceRead, BlankRead, IsSyntax}
 use Rattle.keep_syntax.proofs.LoopLaws.{done}
 use Rattle.keep_syntax.proofs.SpaceLaws.{blank_step, blank_stop}
 use Rattle.keep_syntax.proofs.GrowthLaws.{grows_nothing, grows_then, grows_token}
@@ -34,6 +32,15 @@ moved_none at (Some p) e = absurd cc
 
 pub first-drop : (text : List ℕ) (at : ℕ) → first (drop at text) ≡ get_or text at 0
 first-drop text at = rw (get_or-drop at text 0 0, add-zero) refl
+
+-- the leaf that a scan finds is of the kind that is known
+pub moved_kind : (at n : ℕ) (o : Option (Leaf × ℕ)) (known l : Leaf) (end : ℕ) → o ≡ Some (known, n) → Some (l, end) ≡ moved at o → Some (known, end) ≡ moved at o
+moved_kind at n o known l end is e =
+    let m = moved_some at o l end e in
+    let both : ◌≡◌ {A = Option (Leaf × ℕ)} (Some (known, n)) (Some (l, m.0)) = sym is ∙ m.1 in
+    let same : ◌≡◌ {A = Leaf × ℕ} (known, n) (l, m.0) = cc in
+    let kind : known ≡ l = ap (λ (p : Leaf × ℕ). p.0) same in
+    rw kind e
 
 -- the text after a leaf of n bytes, and its length
 pub after_leaf : (text : List ℕ) (at n end : ℕ) → at + n ≡ end → drop n (drop at text) ≡ drop end text
@@ -78,11 +85,11 @@ space_ws : (text : List ℕ) (n : ℕ) → gap_at text ≡ Some (leaf.Ws, n) →
 unfolding space_at
 space_ws text n e = rw e refl
 
-space_other : (text : List ℕ) (l : Leaf) (n : ℕ) → gap_at text ≡ Some (l, n) → (l ≡ leaf.Ws → ⊥) → space_at text ≡ ([], text)
+space_other : (text : List ℕ) → is_ws (first text) ≡ false → space_at text ≡ ([], text)
 unfolding space_at
-space_other text l n e other =
+space_other text other =
     elim (gap_cases text) [
-      | white r f ↦ absurd (other (let g : Some (l, n) ≡ Some (leaf.Ws, prefix_len is_ws text) = sym e ∙ r in let k : (l, n) ≡ (leaf.Ws, prefix_len is_ws text) = cc in ap (λ (p : Leaf × ℕ). p.0) k))
+      | white r f ↦ absurd (let no : true ≡ false = sym f ∙ other in cc)
       | line m r f found ↦ rw r refl
       | comment m r f found stop ↦ rw r refl
       | nothing r f ↦ rw r refl
@@ -95,13 +102,14 @@ space_nothing text e = rw e refl
 pub no_space : (text : List ℕ) (at : ℕ) (f : Flat) → IsCharBoundary text at → space_at (drop at text) ≡ ([], drop at text) → SpaceRead text at f f (Ok at)
 no_space text at f bound e = record { part = []; bound = bound; forward = omega arith; is_read = ap done e; grows = grows_nothing text f at }
 
-pub other_leaf : (text : List ℕ) (at : ℕ) (f : Flat) (l : Leaf) (end : ℕ) → IsCharBoundary text at → Some (l, end) ≡ moved at (gap_at (drop at text)) → (l ≡ leaf.Ws → ⊥) → SpaceRead text at f f (Ok at)
-other_leaf text at f l end bound e other =
-    let m = moved_some at (gap_at (drop at text)) l end e in
-    no_space text at f bound (space_other (drop at text) l m.0 m.1 other)
+pub other_byte : (text : List ℕ) (at : ℕ) (f : Flat) → IsCharBoundary text at → is_ws (get_or text at 0) ≡ false → SpaceRead text at f f (Ok at)
+other_byte text at f bound other = no_space text at f bound (space_other (drop at text) (rw (first-drop text at) other))
 
 pub no_leaf : (text : List ℕ) (at : ℕ) (f : Flat) → IsCharBoundary text at → None ≡ moved at (gap_at (drop at text)) → SpaceRead text at f f (Ok at)
 no_leaf text at f bound e = no_space text at f bound (space_nothing (drop at text) (moved_none at (gap_at (drop at text)) e))
+
+pub white_kind : (text : List ℕ) (at : ℕ) (l : Leaf) (end : ℕ) → is_ws (get_or text at 0) ≡ true → Some (l, end) ≡ moved at (gap_at (drop at text)) → Some (leaf.Ws, end) ≡ moved at (gap_at (drop at text))
+white_kind text at l end is e = moved_kind at (prefix_len is_ws (drop at text)) (gap_at (drop at text)) leaf.Ws l end (ws_found (drop at text) (rw (first-drop text at) is)).0 e
 
 pub white_leaf : (text : List ℕ) (at : ℕ) (old new : Flat) (end : ℕ) → IsCharBoundary text at → IsCharBoundary text end → Some (leaf.Ws, end) ≡ moved at (gap_at (drop at text)) → new ≡ with_token leaf.Ws at old → SpaceRead text at old new (Ok end)
 white_leaf text at old new end bound bound' e is =

@@ -1,11 +1,13 @@
 -- What the code stores of comments, newlines and lines.
-use Rattle.std.proofs.Common.{◌≡◌, ℕ, ◌+◌, ◌<◌, true, List, [], ◌∷◌, length, get_or, drop, Option, Some, None, Ok, Err, refl, sym, ap, ◌∙◌, subst, arith, IsCharBoundary}
-use Rattle.std.proofs.lemmas.List.{append-nil}
+use Rattle.std.proofs.Common.{◌≡◌, ℕ, ◌+◌, ◌<◌, ◌==◌, ◌&&◌, true, false, List, [], ◌∷◌, length, get_or, drop, Option, Some, None, Result, Ok, Err, inl, inr, refl, sym, ap, ◌∙◌, subst, arith, IsCharBoundary}
+use Rattle.std.proofs.lemmas.List.{append-nil, get_or-drop}
+use Rattle.std.specs.List.{prefix_len}
 use Rattle.keep_types.specs.declared.leaf.Leaf.{Leaf}
 use Rattle.keep_types.specs.declared.leaf.Leaf.TheVariants as leaf
 use Rattle.keep_types.specs.declared.leaf.Profile.{Profile}
-use Rattle.keep_token.specs.Scanning.{gap_at, moved}
-use Rattle.keep_token.proofs.Shared.{white, line, comment, nothing, gap_cases}
+use Rattle.keep_token.specs.Scanning.{first, gap_at, moved}
+use Rattle.keep_token.specs.Abnf.{is_comment, is_ws}
+use Rattle.keep_token.proofs.Shared.{tested}
 use Rattle.keep_syntax.specs.declared.fault.ReadFault.{ReadFault}
 use Rattle.keep_types.specs.declared.syntax.Start.{Start}
 use Rattle.keep_types.specs.declared.syntax.Statement.{Statement}
@@ -16,23 +18,31 @@ use Rattle.keep_syntax.specs.Tree.{Written, Gap, Content, blank, keyval, header,
 use Rattle.keep_syntax.specs.Numbered.{width, span, key_count, content_parts, content_values, Count, line_start, line_statements}
 use Rattle.keep_syntax.specs.Reading.{Bad, written, space_at, is_line_end, content_at, after_of, comment_at, line_at}
 use Rattle.keep_syntax_store.specs.Flat.{Flat, with_token}
-use Rattle.keep_syntax.specs.Growth.{Taken, only, Grows, Fails, IsSyntax, SpaceRead}
+use Rattle.keep_syntax.specs.Growth.{Taken, only, Grows, Fails, IsSyntax, PunctuationRead, SpaceRead}
 use Rattle.keep_syntax_store.specs.Rereading.{count_at}
 use Rattle.keep_syntax.specs.FlatLines.{content_head, content_taken, ContentIs, CommentRead, line_taken, LineIs, newline_by, NewlineRead}
 use Rattle.keep_syntax.proofs.LoopLaws.{done, ok_is}
 use Rattle.keep_syntax.proofs.GrowthLaws.{same_taken, grows_nothing, grows_then, grows_as, grown_keys, grown_values}
-use Rattle.keep_syntax.proofs.GapCodeLaws.{moved_some, moved_none, first-drop, after_leaf, leaf_grows, fails_bad, fails_through}
+use Rattle.keep_syntax.proofs.GapCodeLaws.{moved_some, moved_none, moved_kind, first-drop, after_leaf, leaf_grows, fails_bad, fails_memory, fails_through}
 
 -- ---- a comment
 
-comment_other : (text : List ℕ) (l : Leaf) (n : ℕ) → gap_at text ≡ Some (l, n) → (l ≡ leaf.Comment → ⊥) → comment_at text ≡ (None, text)
-unfolding comment_at
-comment_other text l n e other =
-    elim (gap_cases text) [
-      | white r f ↦ rw r refl
-      | line m r f found ↦ rw r refl
-      | comment m r f found stop ↦ absurd (other (let g : Some (l, n) ≡ Some (leaf.Comment, m) = sym e ∙ r in let k : (l, n) ≡ (leaf.Comment, m) = cc in ap (λ (p : Leaf × ℕ). p.0) k))
-      | nothing r f ↦ rw r refl
+hash_at : (text : List ℕ) → first text ≡ 0x23 → gap_at text ≡ Some (leaf.Comment, 1 + prefix_len is_comment (drop 1 text))
+unfolding gap_at
+hash_at text e = rw e refl
+
+comment_other : (text : List ℕ) → (first text == 0x23) ≡ false → comment_at text ≡ (None, text)
+unfolding comment_at gap_at
+comment_other text other =
+    elim (tested (is_ws (first text))) [
+      | inl e ↦ rw e refl
+      | inr e ↦ elim (tested (first text == 0x0A)) [
+        | inl f ↦ rw (e, f) refl
+        | inr f ↦ elim (tested (first text == 0x0D && get_or text 1 0 == 0x0A)) [
+          | inl g ↦ rw (e, f, g) refl
+          | inr g ↦ rw (e, f, g, other) refl
+        ]
+      ]
     ]
 
 comment_nothing : (text : List ℕ) → gap_at text ≡ None → comment_at text ≡ (None, text)
@@ -46,10 +56,11 @@ comment_some text n e = rw e refl
 no_comment : (text : List ℕ) (at : ℕ) (f : Flat) → IsCharBoundary text at → comment_at (drop at text) ≡ (None, drop at text) → CommentRead text at f f (Ok at)
 no_comment text at f bound e = record { part = None; bound = bound; forward = omega arith; is_read = ap done e; grows = grows_nothing text f at }
 
-pub other_comment : (text : List ℕ) (at : ℕ) (f : Flat) (l : Leaf) (end : ℕ) → IsCharBoundary text at → Some (l, end) ≡ moved at (gap_at (drop at text)) → (l ≡ leaf.Comment → ⊥) → CommentRead text at f f (Ok at)
-other_comment text at f l end bound e other =
-    let m = moved_some at (gap_at (drop at text)) l end e in
-    no_comment text at f bound (comment_other (drop at text) l m.0 m.1 other)
+pub other_comment : (text : List ℕ) (at : ℕ) (f : Flat) → IsCharBoundary text at → (get_or text at 0 == 0x23) ≡ false → CommentRead text at f f (Ok at)
+other_comment text at f bound other = no_comment text at f bound (comment_other (drop at text) (rw (first-drop text at) other))
+
+pub comment_kind : (text : List ℕ) (at : ℕ) (l : Leaf) (end : ℕ) → get_or text at 0 ≡ 0x23 → Some (l, end) ≡ moved at (gap_at (drop at text)) → Some (leaf.Comment, end) ≡ moved at (gap_at (drop at text))
+comment_kind text at l end is e = moved_kind at (1 + prefix_len is_comment (drop 1 (drop at text))) (gap_at (drop at text)) leaf.Comment l end (hash_at (drop at text) (first-drop text at ∙ is)) e
 
 pub none_comment : (text : List ℕ) (at : ℕ) (f : Flat) → IsCharBoundary text at → None ≡ moved at (gap_at (drop at text)) → CommentRead text at f f (Ok at)
 none_comment text at f bound e = no_comment text at f bound (comment_nothing (drop at text) (moved_none at (gap_at (drop at text)) e))
@@ -69,23 +80,31 @@ some_comment text at old new end bound bound' e is =
 
 -- ---- a newline
 
-newline_other : (text : List ℕ) (l : Leaf) (n : ℕ) → gap_at text ≡ Some (l, n) → (l ≡ leaf.Newline → ⊥) → newline_by text (gap_at text) ≡ Err Bad
-newline_other text l n e other =
-    elim (gap_cases text) [
-      | white r f ↦ rw r refl
-      | line m r f found ↦ absurd (other (let g : Some (l, n) ≡ Some (leaf.Newline, m) = sym e ∙ r in let k : (l, n) ≡ (leaf.Newline, m) = cc in ap (λ (p : Leaf × ℕ). p.0) k))
-      | comment m r f found stop ↦ rw r refl
-      | nothing r f ↦ rw r refl
+newline_one : (text : List ℕ) → first text ≡ 0x0A → gap_at text ≡ Some (leaf.Newline, 1)
+unfolding gap_at
+newline_one text e = rw e refl
+
+newline_two : (text : List ℕ) → first text ≡ 0x0D → get_or text 1 0 ≡ 0x0A → gap_at text ≡ Some (leaf.Newline, 2)
+unfolding gap_at
+newline_two text e f = rw (e, f) refl
+
+newline_other : (text : List ℕ) → (first text == 0x0A) ≡ false → (first text == 0x0D && get_or text 1 0 == 0x0A) ≡ false → newline_by text (gap_at text) ≡ Err Bad
+unfolding gap_at
+newline_other text e f =
+    elim (tested (is_ws (first text))) [
+      | inl g ↦ rw g refl
+      | inr g ↦ elim (tested (first text == 0x23)) [
+        | inl h ↦ rw (g, e, f, h) refl
+        | inr h ↦ rw (g, e, f, h) refl
+      ]
     ]
 
-pub other_newline : (text : List ℕ) (at : ℕ) (f : Flat) (l : Leaf) (end : ℕ) (e : ReadFault) → Some (l, end) ≡ moved at (gap_at (drop at text)) → (l ≡ leaf.Newline → ⊥) → IsSyntax e → NewlineRead text at f f (Err e)
-other_newline text at f l end e is other fault =
-    let m = moved_some at (gap_at (drop at text)) l end is in
-    fails_bad text e (newline_by (drop at text) (gap_at (drop at text))) fault (newline_other (drop at text) l m.0 m.1 other)
+second-drop : (text : List ℕ) (at : ℕ) → get_or (drop at text) 1 0 ≡ get_or text (at + 1) 0
+second-drop text at = get_or-drop at text 1 0
 
-pub none_newline : (text : List ℕ) (at : ℕ) (f : Flat) (e : ReadFault) → None ≡ moved at (gap_at (drop at text)) → IsSyntax e → NewlineRead text at f f (Err e)
-none_newline text at f e is fault =
-    fails_bad text e (newline_by (drop at text) (gap_at (drop at text))) fault (ap (newline_by (drop at text)) (moved_none at (gap_at (drop at text)) is))
+pub other_newline : (text : List ℕ) (at : ℕ) (f : Flat) (e : ReadFault) → (get_or text at 0 == 0x0A) ≡ false → (get_or text at 0 == 0x0D && get_or text (at + 1) 0 == 0x0A) ≡ false → IsSyntax e → NewlineRead text at f f (Err e)
+other_newline text at f e one two fault =
+    fails_bad text e (newline_by (drop at text) (gap_at (drop at text))) fault (newline_other (drop at text) (rw (first-drop text at) one) (rw (first-drop text at, second-drop text at) two))
 
 pub some_newline : (text : List ℕ) (at : ℕ) (old new : Flat) (end : ℕ) → at < end → IsCharBoundary text at → IsCharBoundary text end → Some (leaf.Newline, end) ≡ moved at (gap_at (drop at text)) → new ≡ with_token leaf.Newline at old → NewlineRead text at old new (Ok end)
 some_newline text at old new end lt bound bound' e is =
@@ -99,6 +118,16 @@ some_newline text at old new end lt bound bound' e is =
       is_read = ap (newline_by (drop at text)) m.1 ∙ ap (λ (t : List ℕ). done (w, t)) (after_leaf text at n end m.2);
       grows = leaf_grows text at n end leaf.Newline old new m.2 bound'.0 bound is;
     }
+
+newline_by_len : (text : List ℕ) (at len : ℕ) (old new : Flat) (r : Result ℕ ReadFault) → gap_at (drop at text) ≡ Some (leaf.Newline, len) → 0 < len → PunctuationRead text at len leaf.Newline old new r → NewlineRead text at old new r
+newline_by_len text at len old new (Err e) found some memory = fails_memory text e (newline_by (drop at text) (gap_at (drop at text))) memory
+newline_by_len text at len old new (Ok end) found some p = some_newline text at old new end (omega (arith, p.end_is)) p.start p.bound (rw (found, p.end_is) refl) p.stored
+
+pub newline_1 : (text : List ℕ) (at : ℕ) (old new : Flat) (r : Result ℕ ReadFault) → get_or text at 0 ≡ 0x0A → PunctuationRead text at 1 leaf.Newline old new r → NewlineRead text at old new r
+newline_1 text at old new r e p = newline_by_len text at 1 old new r (newline_one (drop at text) (first-drop text at ∙ e)) (omega arith) p
+
+pub newline_2 : (text : List ℕ) (at : ℕ) (old new : Flat) (r : Result ℕ ReadFault) → get_or text at 0 ≡ 0x0D → get_or text (at + 1) 0 ≡ 0x0A → PunctuationRead text at 2 leaf.Newline old new r → NewlineRead text at old new r
+newline_2 text at old new r e f p = newline_by_len text at 2 old new r (newline_two (drop at text) (first-drop text at ∙ e) (second-drop text at ∙ f)) (omega arith) p
 
 -- ---- a line
 

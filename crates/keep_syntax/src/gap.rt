@@ -1,12 +1,21 @@
 //! Gaps: what is between the parts. (TOML v1.0.0, "Comment"; toml.abnf: `ws`, `ws-comment-newline`)
 ghost use Rattle.std.specs.Prelude.{◌≡◌, IsCharBoundary};
+ghost use Rattle.keep_token.specs.Abnf as abnf;
 ghost use Rattle.keep_syntax.specs.Growth as spec;
 ghost use Rattle.keep_syntax.specs.Reading.{is_free};
 
 use crate::fault::ReadFault;
 use crate::info::Brackets;
+use crate::text::byte_at;
 use keep_syntax_store::Parts;
 use keep_token::{Leaf, Profile, scan_gap};
+
+/// `wschar`
+fn is_ws(byte: u8) -> bool
+    ensures { result ≡ abnf.is_ws byte }
+{
+    byte == b' ' || byte == b'\t'
+}
 
 /// `ws`: white space from the byte `at` on, if there is some, and where it ends.
 #[inline(always)]
@@ -14,14 +23,14 @@ pub fn space(text: &str, at: usize, out: &mut Parts) -> Result<usize, ReadFault>
     requires { IsCharBoundary text.now at }
     ensures { spec.SpaceRead text.now at (spec.flat out.old) (spec.flat out.new) result }
 {
+    if !is_ws(byte_at(text, at)) {
+        return Ok(at);
+    }
     match scan_gap(text, at) {
-        Some((leaf, end)) => match leaf {
-            Leaf::Ws => {
-                out.push_token(Leaf::Ws, at)?;
-                Ok(end)
-            }
-            _ => Ok(at),
-        },
+        Some((_, end)) => {
+            out.push_token(Leaf::Ws, at)?;
+            Ok(end)
+        }
         None => Ok(at),
     }
 }

@@ -145,14 +145,14 @@ fn comment(text: &str, at: usize, out: &mut Parts) -> Result<usize, ReadFault>
     requires { IsCharBoundary text.now at }
     ensures { lines_spec.CommentRead text.now at (spec.flat out.old) (spec.flat out.new) result }
 {
+    if byte_at(text, at) != b'#' {
+        return Ok(at);
+    }
     match scan_gap(text, at) {
-        Some((leaf, end)) => match leaf {
-            Leaf::Comment => {
-                out.push_token(Leaf::Comment, at)?;
-                Ok(end)
-            }
-            _ => Ok(at),
-        },
+        Some((_, end)) => {
+            out.push_token(Leaf::Comment, at)?;
+            Ok(end)
+        }
         None => Ok(at),
     }
 }
@@ -207,15 +207,13 @@ fn newline(text: &str, at: usize, out: &mut Parts) -> Result<usize, ReadFault>
     requires { IsCharBoundary text.now at }
     ensures { lines_spec.NewlineRead text.now at (spec.flat out.old) (spec.flat out.new) result }
 {
-    match scan_gap(text, at) {
-        Some((leaf, end)) => match leaf {
-            Leaf::Newline => {
-                out.push_token(Leaf::Newline, at)?;
-                Ok(end)
-            }
-            _ => Err(misplaced(text, at)),
-        },
-        None => Err(misplaced(text, at)),
+    let byte = byte_at(text, at);
+    if byte == b'\n' {
+        punctuation(text, at, 1, Leaf::Newline, out)
+    } else if byte == b'\r' && byte_at(text, at + 1) == b'\n' {
+        punctuation(text, at, 2, Leaf::Newline, out)
+    } else {
+        Err(misplaced(text, at))
     }
 }
 
