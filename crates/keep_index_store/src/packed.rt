@@ -8,6 +8,12 @@ use keep_types::{Kind, Role};
 use std::alloc::{AllocError, Global};
 use std::marker::Model;
 
+/// The largest number of 16 bits.
+const SHORT: usize = 0xffff;
+
+/// The largest number of 32 bits.
+const LONG: usize = 0xffff_ffff;
+
 /// The facts about a node but for its role and kind, with shorter numbers: in 12 bytes, so that the role and the kind
 /// fit beside them into 16.
 #[derive(Clone, Copy)]
@@ -48,25 +54,20 @@ impl Model for PackedFacts {
 
 impl ShortFacts {
     /// These facts, if their numbers fit.
+    #[inline(always)]
     fn of(facts: &NodeFacts) -> Option<ShortFacts>
         ensures short { IfSome result (λ short. short ≡ short_facts facts.now) }
         ensures large { result ≡ None → Fits facts.now → ⊥ }
     {
-        let Ok(marks) = u16::try_from(facts.marks) else {
+        if facts.marks > SHORT || facts.key > LONG || facts.number > LONG {
             return None;
-        };
-        let Ok(key) = u32::try_from(facts.key) else {
-            return None;
-        };
-        let Ok(number) = u32::try_from(facts.number) else {
-            return None;
-        };
+        }
         Some(ShortFacts {
             passed: facts.passed,
             origin: facts.origin,
-            marks,
-            key,
-            number,
+            marks: facts.marks as u16,
+            key: facts.key as u32,
+            number: facts.number as u32,
         })
     }
 
@@ -90,6 +91,7 @@ impl ShortFacts {
 }
 
 /// The packed form, if the numbers fit.
+#[inline(always)]
 fn packed_form(facts: &NodeFacts) -> Option<Form>
     ensures packed { IfSome result (λ form. facts_in form ≡ facts.now) }
     ensures large { result ≡ None → Fits facts.now → ⊥ }

@@ -5,6 +5,7 @@ ghost use Rattle.keep_syntax_store.specs.Flat as spec;
 
 mod shifting;
 
+use crate::widths::{LONG, SHORT, distance};
 use keep_types::{KeyPart, Leaf, Span};
 use std::alloc::{AllocError, Global};
 
@@ -25,14 +26,19 @@ pub struct KeyParts {
 }
 
 /// The key part in 8 bytes, if its numbers fit.
+#[inline(always)]
 fn packed(part: KeyPart) -> Option<PackedKeyPart>
     ensures stored { IfSome result (λ stored. spec.unpacked_key_part stored ≡ part) }
     ensures unpacked { result ≡ None → FitsKey part → ⊥ }
 {
-    let len = part.span.end.checked_sub(part.span.start)?;
+    let start = part.span.start;
+    let len = distance(start, part.span.end);
+    if len > SHORT || start > LONG {
+        return None;
+    }
     Some(PackedKeyPart {
-        start: u32::try_from(part.span.start).ok()?,
-        len: u16::try_from(len).ok()?,
+        start: start as u32,
+        len: len as u16,
         leaf: part.leaf,
     })
 }
@@ -83,6 +89,7 @@ impl KeyParts {
     }
 
     /// Adds one more.
+    #[inline(always)]
     pub fn push(&mut self, part: KeyPart) -> Result<(), AllocError>
         ensures { OnOk result (spec.key_parts_in self.new ≡ spec.key_parts_in self.old ++ part ∷ []) }
     {

@@ -11,6 +11,7 @@ mod shift;
 mod starts;
 mod statements;
 mod values;
+mod widths;
 
 pub use moves::moved;
 pub use parts::Parts;

@@ -6,6 +6,7 @@ ghost use Rattle.keep_syntax_store.specs.Flat as spec;
 mod shifting;
 
 use crate::parts::if_there;
+use crate::widths::{LONG, SHORT, distance, either};
 use keep_types::{Span, Statement, StatementKind};
 use std::alloc::{AllocError, Global};
 
@@ -33,22 +34,33 @@ pub struct Statements {
 }
 
 /// The statement in 24 bytes, if its numbers fit.
+#[inline(always)]
 fn packed(statement: Statement) -> Option<PackedStatement>
     ensures stored { IfSome result (λ stored. spec.unpacked_statement stored ≡ statement) }
     ensures unpacked { result ≡ None → FitsStatement statement → ⊥ }
 {
     let span = statement.span;
     let line = statement.line;
+    let before = distance(line.start, span.start);
+    let after = distance(span.end, line.end);
+    if either(statement.keys, either(before, after)) > SHORT {
+        return None;
+    }
+    let value = statement.value.unwrap_or(0);
+    let numbers = either(statement.first_key, value);
+    if either(line.start, either(span.end, numbers)) > LONG {
+        return None;
+    }
     Some(PackedStatement {
         kind: statement.kind,
         has_value: statement.value.is_some(),
-        keys: u16::try_from(statement.keys).ok()?,
-        before: u16::try_from(span.start.checked_sub(line.start)?).ok()?,
-        after: u16::try_from(line.end.checked_sub(span.end)?).ok()?,
-        line_start: u32::try_from(line.start).ok()?,
-        end: u32::try_from(span.end).ok()?,
-        first_key: u32::try_from(statement.first_key).ok()?,
-        value: u32::try_from(statement.value.unwrap_or(0)).ok()?,
+        keys: statement.keys as u16,
+        before: before as u16,
+        after: after as u16,
+        line_start: line.start as u32,
+        end: span.end as u32,
+        first_key: statement.first_key as u32,
+        value: value as u32,
     })
 }
 
@@ -106,6 +118,7 @@ impl Statements {
     }
 
     /// Adds one more.
+    #[inline(always)]
     pub fn push(&mut self, statement: Statement) -> Result<(), AllocError>
         ensures { OnOk result (spec.statements_in self.new ≡ spec.statements_in self.old ++ statement ∷ []) }
     {

@@ -1,11 +1,12 @@
 //! The values of a text as they are stored, in text order.
 ghost use Rattle.std.specs.Prelude.{◌≡◌, ◌<◌, ◌+◌, ◌++◌, ◌∷◌, [], length, slice_get, IfSome, OnOk, None, Some};
-ghost use Rattle.keep_syntax_store.specs.Fits.{FitsValue, IsNear};
+ghost use Rattle.keep_syntax_store.specs.Fits.{FitsValue};
 ghost use Rattle.keep_syntax_store.specs.Flat as spec;
 
 mod shifting;
 
 use crate::parts::{flag_and_number, if_there};
+use crate::widths::{LONG, SHORT, distance, either};
 use keep_types::{Leaf, Owner, Span, ValueInfo};
 use std::alloc::{AllocError, Global};
 
@@ -67,15 +68,8 @@ fn owner_of(within: Within, number: usize) -> Owner
     }
 }
 
-/// How many bytes a place comes after another, if that fits into 16 bits.
-fn distance(from: usize, to: usize) -> Option<u16>
-    ensures stored { IfSome result (λ gap. from + gap ≡ to) }
-    ensures unpacked { result ≡ None → IsNear from to → ⊥ }
-{
-    u16::try_from(to.checked_sub(from)?).ok()
-}
-
 /// The value in 40 bytes, if its numbers fit and it ends with its keyval.
+#[inline(always)]
 fn packed_value(value: &ValueInfo) -> Option<PackedValue>
     ensures stored { IfSome result (λ packed. spec.unpacked_value packed ≡ value.now) }
     ensures unpacked { result ≡ None → FitsValue value.now → ⊥ }
@@ -86,18 +80,26 @@ fn packed_value(value: &ValueInfo) -> Option<PackedValue>
     let (within, owner) = owner_parts(value.owner);
     let (has_after, after) = flag_and_number(value.comma_after);
     let anchor = value.comma_before.unwrap_or(value.whole.start);
+    let gap = distance(anchor, value.whole.start);
+    let lead = distance(value.whole.start, value.span.start);
+    if either(value.keys, either(gap, lead)) > SHORT {
+        return None;
+    }
+    if either(anchor, either(owner, value.first_key)) > LONG {
+        return None;
+    }
     Some(PackedValue {
         leaf: value.leaf,
         within,
         depth: value.depth,
         has_before: value.comma_before.is_some(),
         has_after,
-        keys: u16::try_from(value.keys).ok()?,
-        anchor: u32::try_from(anchor).ok()?,
-        owner: u32::try_from(owner).ok()?,
-        first_key: u32::try_from(value.first_key).ok()?,
-        gap: distance(anchor, value.whole.start)?,
-        lead: distance(value.whole.start, value.span.start)?,
+        keys: value.keys as u16,
+        anchor: anchor as u32,
+        owner: owner as u32,
+        first_key: value.first_key as u32,
+        gap: gap as u16,
+        lead: lead as u16,
         end: value.span.end,
         after,
     })
@@ -160,6 +162,7 @@ impl Values {
     }
 
     /// One more.
+    #[inline(always)]
     pub fn push(&mut self, value: ValueInfo) -> Result<(), AllocError>
         ensures ok { OnOk result (spec.values_in self.new ≡ spec.values_in self.old ++ value ∷ []) }
     {
