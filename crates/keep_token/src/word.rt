@@ -32,12 +32,12 @@ pub(crate) fn word_len(bytes: &[u8]) -> usize
 pub(crate) fn word_leaf(bytes: &[u8], profile: Profile) -> Option<Leaf>
     ensures { result ≡ words.word_leaf profile bytes.now }
 {
-    if is_integer(bytes) {
+    if is_boolean(bytes) {
+        Some(Leaf::Boolean)
+    } else if is_integer(bytes) {
         Some(Leaf::Integer)
     } else if is_float(bytes) {
         Some(Leaf::Float)
-    } else if is_boolean(bytes) {
-        Some(Leaf::Boolean)
     } else if is_date(bytes) {
         Some(Leaf::LocalDate)
     } else if is_time(bytes, profile) {
