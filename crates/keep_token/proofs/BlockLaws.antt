@@ -1,16 +1,19 @@
 -- A run of bytes that pass a test, seen sixteen at a time by the mask of those that fail it.
-use Rattle.std.proofs.Common.{◌≡◌, ℕ, zero, suc, ◌+◌, ◌*◌, ◌%◌, ◌^◌, ◌<◌, ◌≤◌, Bool, true, false, not, cond, eqb, ltb, List, [], ◌∷◌, map, length, get_or, drop, replicate, bit_and, refl, sym, ap, ap₂, ◌∙◌, arith, w8, Fits}
-use Rattle.std.specs.Prelude.{◌&&◌}
+use Rattle.std.proofs.Common.{◌≡◌, ℕ, zero, suc, ◌+◌, ◌*◌, ◌%◌, ◌^◌, ◌<◌, ◌≤◌, Bool, true, false, not, cond, eqb, ltb, List, [], ◌∷◌, map, length, drop, replicate, bit_and, inl, inr, subst, refl, sym, ap, ap₂, ◌∙◌, arith, w8, Fits}
+use Rattle.std.specs.Prelude.{◌&&◌, ◌||◌, nat_le}
 use Rattle.std.specs.List.{prefix_len}
-use Rattle.std.proofs.lemmas.Bool.{and_parts, eq-eqb, ne_eqb, eqb-true, eqb-false}
-use Rattle.std.proofs.lemmas.List.{length-map, length-drop}
+use Rattle.std.proofs.lemmas.Bool.{and_parts, cases_lt, eq-eqb, ne_eqb, eqb-true, eqb-false}
+use Rattle.std.proofs.lemmas.Bool.Decides.{leb_tells}
+use Rattle.std.proofs.lemmas.List.{length-map, length-drop, drop-drop}
 use Rattle.std.proofs.lemmas.List.Folds.{prefix_len-append}
-use Rattle.std.proofs.lemmas.List.Sums.{prefix_len-le-length}
+use Rattle.std.proofs.lemmas.List.Sums.{prefix_len-drop_all, prefix_len-drop_no, prefix_len-le-length, prefix_len_stops}
 use Rattle.std.proofs.lemmas.Simd.{zip2_splat, zip2-map, mask_l-mod, chunk-drop, length-chunk, leading_from_mask_l, trailing_mask_l}
 use lib.Bits.{bit_or}
 use lib.Lanes.{zip2, mask_l, top, chunk, Each1}
 use lib.Count.{count_trailing_zeros}
-use Rattle.keep_token.specs.Blocks.{ends_comment}
+use Rattle.keep_token.specs.Abnf.{between, is_comment}
+use Rattle.keep_token.specs.Strings.{is_basic, is_literal}
+use Rattle.keep_token.specs.Blocks.{ends_run, is_plain}
 use Rattle.keep_token.proofs.ClassLaws.{same, same_is}
 
 -- ---- the mask of a block
@@ -25,9 +28,6 @@ other a b = cond (not (eqb a b)) 255 0
 abbrev equal : ℕ → ℕ → ℕ
 equal a b = cond (eqb a b) 255 0
 
-abbrev lane : ℕ → ℕ
-lane x = bit_or (bit_and (below x 0x20) (other x 9)) (equal x 0x7F)
-
 -- the test holds of each number below n
 abbrev upto : (ℕ → Bool) → ℕ → Bool
 upto p zero = true
@@ -41,22 +41,69 @@ upto_sound p (suc n) i h lt = by (eqb i n) refl (λ (less : i < n). upto_sound p
     by true e more = ap p (eqb-true i n e) ∙ (and_parts (p n) (upto p n) h).0
     by false e more = more (omega (arith, eqb-false i n e))
 
-abbrev right_lane : ℕ → Bool
-right_lane x = same (top 7 (lane x)) (ends_comment x)
+-- a control character but for the tab
+abbrev control : ℕ → Bool
+control x = (ltb x 0x20 && not (eqb x 9)) || eqb x 0x7F
 
-right_lanes : upto right_lane 256 ≡ true
-right_lanes = refl
+abbrev right_control : ℕ → Bool
+right_control x = same (control x) (not (is_comment x))
 
-each_lane : (v : List ℕ) → Each1 (Fits w8) v → map (top 7) (map lane v) ≡ map ends_comment v
-each_lane [] fits = refl
-each_lane (x ∷ xs) fits = ap₂ (λ (a : Bool) (b : List Bool). a ∷ b) (same_is _ _ (upto_sound right_lane 256 x right_lanes fits.0.fits)) (each_lane xs fits.1)
+right_controls : upto right_control 256 ≡ true
+right_controls = refl
 
-pub block_ends : (v : List ℕ) → length v ≡ 16 → Each1 (Fits w8) v
-    → mask_l (map (top 7) (zip2 bit_or (zip2 bit_and (zip2 below v (replicate 16 0x20)) (zip2 other v (replicate 16 9))) (zip2 equal v (replicate 16 0x7F)))) % 2 ^ 64 ≡ mask_l (map ends_comment v)
-block_ends v long fits =
+-- a lane that a test sets
+abbrev set_by : Bool → ℕ
+set_by b = cond b 255 0
+
+top_set : (a : Bool) → top 7 (set_by a) ≡ a
+top_set true = refl
+top_set false = refl
+
+or_set : (a b : Bool) → bit_or (set_by a) (set_by b) ≡ set_by (a || b)
+or_set true true = refl
+or_set true false = refl
+or_set false true = refl
+or_set false false = refl
+
+and_set : (a b : Bool) → bit_and (set_by a) (set_by b) ≡ set_by (a && b)
+and_set true true = refl
+and_set true false = refl
+and_set false true = refl
+and_set false false = refl
+
+-- the lane of a byte, by its five tests
+abbrev lane : Bool → Bool → Bool → Bool → Bool → ℕ
+lane low tab del a b = bit_or (bit_or (bit_and (set_by low) (set_by (not tab))) (set_by del)) (bit_or (set_by a) (set_by b))
+
+lane_is : (low tab del a b : Bool) → top 7 (lane low tab del a b) ≡ (((low && not tab) || del) || (a || b))
+lane_is low tab del a b =
+    let one = ap (λ (n : ℕ). bit_or n (set_by del)) (and_set low (not tab)) ∙ or_set (low && not tab) del in
+    let both = ap₂ bit_or one (or_set a b) ∙ or_set ((low && not tab) || del) (a || b) in
+    ap (top 7) both ∙ top_set (((low && not tab) || del) || (a || b))
+
+not_plain : (c m : Bool) → (not c || m) ≡ not (c && not m)
+not_plain true true = refl
+not_plain true false = refl
+not_plain false m = refl
+
+abbrev lane_of : ℕ → ℕ → ℕ → ℕ
+lane_of a b x = lane (ltb x 0x20) (eqb x 9) (eqb x 0x7F) (eqb x a) (eqb x b)
+
+each_lane : (a b : ℕ) (v : List ℕ) → Each1 (Fits w8) v → map (top 7) (map (lane_of a b) v) ≡ map (ends_run a b) v
+each_lane a b [] fits = refl
+each_lane a b (x ∷ xs) fits =
+    let is : control x ≡ not (is_comment x) = same_is _ _ (upto_sound right_control 256 x right_controls fits.0.fits) in
+    let here : top 7 (lane_of a b x) ≡ ends_run a b x = lane_is (ltb x 0x20) (eqb x 9) (eqb x 0x7F) (eqb x a) (eqb x b) ∙ ap (λ (c : Bool). c || (eqb x a || eqb x b)) is ∙ not_plain (is_comment x) (eqb x a || eqb x b) in
+    ap₂ (λ (c : Bool) (cs : List Bool). c ∷ cs) here (each_lane a b xs fits.1)
+
+pub block_ends : (a b : ℕ) (v : List ℕ) → length v ≡ 16 → Each1 (Fits w8) v
+    → mask_l (map (top 7) (zip2 bit_or (zip2 bit_or (zip2 bit_and (zip2 below v (replicate 16 0x20)) (zip2 other v (replicate 16 9))) (zip2 equal v (replicate 16 0x7F))) (zip2 bit_or (zip2 equal v (replicate 16 a)) (zip2 equal v (replicate 16 b))))) % 2 ^ 64 ≡ mask_l (map (ends_run a b) v)
+block_ends a b v long fits =
     let low = ap₂ (zip2 bit_and) (zip2_splat below v 16 0x20 long) (zip2_splat other v 16 9 long) ∙ zip2-map bit_and (λ x. below x 0x20) (λ x. other x 9) v in
-    let lanes = ap₂ (zip2 bit_or) low (zip2_splat equal v 16 0x7F long) ∙ zip2-map bit_or (λ x. bit_and (below x 0x20) (other x 9)) (λ x. equal x 0x7F) v in
-    ap (λ (l : List ℕ). mask_l (map (top 7) l) % 2 ^ 64) lanes ∙ ap (λ (l : List Bool). mask_l l % 2 ^ 64) (each_lane v fits) ∙ mask_l-mod (map ends_comment v) 64 (omega (arith, length-map v ends_comment))
+    let control = ap₂ (zip2 bit_or) low (zip2_splat equal v 16 0x7F long) ∙ zip2-map bit_or (λ x. bit_and (below x 0x20) (other x 9)) (λ x. equal x 0x7F) v in
+    let marks = ap₂ (zip2 bit_or) (zip2_splat equal v 16 a long) (zip2_splat equal v 16 b long) ∙ zip2-map bit_or (λ x. equal x a) (λ x. equal x b) v in
+    let lanes = ap₂ (zip2 bit_or) control marks ∙ zip2-map bit_or (λ x. bit_or (bit_and (below x 0x20) (other x 9)) (equal x 0x7F)) (λ x. bit_or (equal x a) (equal x b)) v in
+    ap (λ (l : List ℕ). mask_l (map (top 7) l) % 2 ^ 64) lanes ∙ ap (λ (l : List Bool). mask_l l % 2 ^ 64) (each_lane a b v fits) ∙ mask_l-mod (map (ends_run a b) v) 64 (omega (arith, length-map v (ends_run a b)))
 
 -- ---- a run, block by block
 
@@ -90,6 +137,20 @@ module _ (p q : ℕ → Bool) (opposite : (x : ℕ) → q x ≡ not (p x)) where
       split d i n ∙ ap (λ b. cond b (length c + prefix_len q (drop (i + n) d)) (prefix_len q c)) (ne_eqb _ _ (λ (e : prefix_len q c ≡ length c). omega (arith, all_pass c (sym (same_run c) ∙ e))))
       ∙ same_run c ∙ sym (trailing_mask_l p 64 c (omega (arith, length-chunk i n d room)) some)
 
+-- after a whole run comes none
+after_run : (p : ℕ → Bool) (xs : List ℕ) → prefix_len p (drop (prefix_len p xs) xs) ≡ 0
+after_run p xs = elim (cases_lt (prefix_len p xs) (length xs)) [
+  | inl within ↦ prefix_len-drop_no p xs (prefix_len p xs) 0 within (prefix_len_stops p xs 0 within)
+  | inr past ↦ prefix_len-drop_all p xs (prefix_len p xs) past
+]
+
+-- a run that goes through so many bytes, and then through n to its end
+pub run_whole : (p : ℕ → Bool) (d : List ℕ) (at n : ℕ) → prefix_len p d ≡ at + prefix_len p (drop at d) → prefix_len p (drop at d) ≡ n → prefix_len p d ≡ at + n + prefix_len p (drop (at + n) d)
+run_whole p d at n run is =
+    let none : prefix_len p (drop n (drop at d)) ≡ 0 = subst (λ (k : ℕ). prefix_len p (drop k (drop at d)) ≡ 0) is (after_run p (drop at d)) in
+    let rest : prefix_len p (drop (at + n) d) ≡ 0 = ap (prefix_len p) (sym (drop-drop n at d)) ∙ none in
+    omega (arith, run, is, rest)
+
 pub run_bound : (q : ℕ → Bool) (d : List ℕ) (i : ℕ) → i ≤ length d → i + prefix_len q (drop i d) ≤ length d
 run_bound q d i h = omega (arith, prefix_len-le-length q (drop i d), length-drop i d)
 
@@ -99,3 +160,56 @@ not_not false = refl
 
 pub opposite_class : (q : ℕ → Bool) (x : ℕ) → q x ≡ not (not (q x))
 opposite_class q x = not_not (q x)
+
+-- ---- the classes of bytes that runs are of
+
+and_none : (b : Bool) → (b && false) ≡ false
+and_none true = refl
+and_none false = refl
+
+eq_over : (k c : ℕ) → k < c → eqb c k ≡ false
+eq_over k c h = ne_eqb c k (λ (e : c ≡ k). omega arith)
+
+between_over : (from to c : ℕ) → to < c → between from to c ≡ false
+between_over from to c h = elim (leb_tells c to) [ inl p ↦ absurd (let le = p.1 in omega arith) | inr p ↦ rw p.0 (and_none (nat_le from c)) ]
+
+comment_over : (c : ℕ) → 256 ≤ c → is_comment c ≡ false
+comment_over c h = rw (eq_over 9 c (omega arith), between_over 0x20 0x7E c (omega arith), between_over 0x80 0xFF c (omega arith)) refl
+
+plain_over : (a b c : ℕ) → 256 ≤ c → is_plain a b c ≡ false
+plain_over a b c h = rw (comment_over c h) refl
+
+basic_over : (c : ℕ) → 256 ≤ c → is_basic c ≡ false
+basic_over c h =
+    rw (eq_over 0x20 c (omega arith), eq_over 9 c (omega arith), eq_over 0x21 c (omega arith), between_over 0x23 0x5B c (omega arith), between_over 0x5D 0x7E c (omega arith), between_over 0x80 0xFF c (omega arith)) refl
+
+literal_over : (c : ℕ) → 256 ≤ c → is_literal c ≡ false
+literal_over c h = rw (eq_over 9 c (omega arith), between_over 0x20 0x26 c (omega arith), between_over 0x28 0x7E c (omega arith), between_over 0x80 0xFF c (omega arith)) refl
+
+-- two classes that agree on bytes, and have nothing else
+module _ (p q : ℕ → Bool) (bytes : upto (λ x. same (p x) (q x)) 256 ≡ true) (p_none : (x : ℕ) → 256 ≤ x → p x ≡ false) (q_none : (x : ℕ) → 256 ≤ x → q x ≡ false) where
+  one_class : (x : ℕ) → p x ≡ q x
+  one_class x = elim (leb_tells 256 x) [
+    | inl far ↦ p_none x far.1 ∙ sym (q_none x far.1)
+    | inr near ↦ same_is (p x) (q x) (upto_sound (λ y. same (p y) (q y)) 256 x bytes near.1)
+  ]
+
+  pub one_run : (xs : List ℕ) → prefix_len p xs ≡ prefix_len q xs
+  one_run [] = refl
+  one_run (x ∷ xs) = ap₂ (λ b n. cond b (1 + n) 0) (one_class x) (one_run xs)
+
+-- a run of a class goes on after as many bytes as a run of plain bytes is known to have
+module _ (q : ℕ → Bool) (a b : ℕ) (bytes : upto (λ x. same (is_plain a b x) (q x)) 256 ≡ true) (none : (x : ℕ) → 256 ≤ x → q x ≡ false) where
+  pub class_run : (d : List ℕ) (i : ℕ) → prefix_len (is_plain a b) d ≡ i + prefix_len (is_plain a b) (drop i d) → prefix_len q d ≡ i + prefix_len q (drop i d)
+  class_run d i run =
+      let same_run : (xs : List ℕ) → prefix_len (is_plain a b) xs ≡ prefix_len q xs = one_run (is_plain a b) q bytes (plain_over a b) none in
+      sym (same_run d) ∙ run ∙ ap (λ (n : ℕ). i + n) (same_run (drop i d))
+
+pub comment_class : (d : List ℕ) (i : ℕ) → prefix_len (is_plain 0x7F 0x7F) d ≡ i + prefix_len (is_plain 0x7F 0x7F) (drop i d) → prefix_len is_comment d ≡ i + prefix_len is_comment (drop i d)
+comment_class = class_run is_comment 0x7F 0x7F refl comment_over
+
+pub basic_class : (d : List ℕ) (i : ℕ) → prefix_len (is_plain 0x22 0x5C) d ≡ i + prefix_len (is_plain 0x22 0x5C) (drop i d) → prefix_len is_basic d ≡ i + prefix_len is_basic (drop i d)
+basic_class = class_run is_basic 0x22 0x5C refl basic_over
+
+pub literal_class : (d : List ℕ) (i : ℕ) → prefix_len (is_plain 0x27 0x27) d ≡ i + prefix_len (is_plain 0x27 0x27) (drop i d) → prefix_len is_literal d ≡ i + prefix_len is_literal (drop i d)
+literal_class = class_run is_literal 0x27 0x27 refl literal_over

@@ -1,7 +1,11 @@
 -- Bytes that are looked at together. Only private clauses cite this.
-use Rattle.std.specs.Prelude.{ℕ, Bool, not}
+use Rattle.std.specs.Prelude.{ℕ, Bool, not, ◌&&◌, ◌||◌, ◌==◌}
 use Rattle.keep_token.specs.Abnf.{is_comment}
 
--- a byte at which a comment has ended
-abbrev pub ends_comment : ℕ → Bool
-ends_comment c = not (is_comment c)
+-- a byte of a comment that is none of two marks
+abbrev pub is_plain : ℕ → ℕ → ℕ → Bool
+is_plain a b c = is_comment c && not (c == a || c == b)
+
+-- a byte at which a run of the others has ended
+abbrev pub ends_run : ℕ → ℕ → ℕ → Bool
+ends_run a b c = not (is_plain a b c)

@@ -7,6 +7,8 @@ ghost use Rattle.keep_token.specs.Numbers as numbers;
 ghost use Rattle.keep_token.specs.Strings as strings;
 ghost use Rattle.keep_token.specs.Words as words;
 
+use crate::blocks::run_in_blocks;
+
 const COMMENT: u8 = 1;
 
 const BARE: u8 = 2;
@@ -143,12 +145,29 @@ pub(crate) fn word_run(bytes: &[u8]) -> usize
     bytes.iter().take_while(|byte| is_word(**byte)).count()
 }
 
+/// How many bytes at the start stand for themselves in a basic string, byte by byte.
+fn basic_tail(bytes: &[u8]) -> usize
+    ensures len { result ≡ prefix_len strings.is_basic bytes.now }
+    ensures within { result ≤ length bytes.now }
+{
+    bytes.iter().take_while(|byte| is_basic(**byte)).count()
+}
+
 /// How many bytes at the start stand for themselves in a basic string.
 pub(crate) fn basic_run(bytes: &[u8]) -> usize
     ensures len { result ≡ prefix_len strings.is_basic bytes.now }
     ensures within { result ≤ length bytes.now }
 {
-    bytes.iter().take_while(|byte| is_basic(**byte)).count()
+    let at = run_in_blocks(bytes, b'"', b'\\');
+    at + basic_tail(&bytes[at..])
+}
+
+/// How many bytes at the start stand for themselves in a literal string, byte by byte.
+fn literal_tail(bytes: &[u8]) -> usize
+    ensures len { result ≡ prefix_len strings.is_literal bytes.now }
+    ensures within { result ≤ length bytes.now }
+{
+    bytes.iter().take_while(|byte| is_literal(**byte)).count()
 }
 
 /// How many bytes at the start stand for themselves in a literal string.
@@ -156,5 +175,6 @@ pub(crate) fn literal_run(bytes: &[u8]) -> usize
     ensures len { result ≡ prefix_len strings.is_literal bytes.now }
     ensures within { result ≤ length bytes.now }
 {
-    bytes.iter().take_while(|byte| is_literal(**byte)).count()
+    let at = run_in_blocks(bytes, b'\'', b'\'');
+    at + literal_tail(&bytes[at..])
 }

@@ -1,23 +1,10 @@
-//! How far a comment goes, sixteen bytes at a time. (TOML v1.0.0, "Comment"; toml.abnf: `non-eol`)
-ghost use Rattle.std.specs.Prelude.{◌≡◌, ◌≤◌, length, map};
+//! How far a comment goes. (TOML v1.0.0, "Comment"; toml.abnf: `non-eol`)
+ghost use Rattle.std.specs.Prelude.{◌≡◌, ◌≤◌, length};
 ghost use Rattle.std.specs.List.{prefix_len};
-ghost use Rattle.std.specs.Simd.Lanes.{mask_l};
 ghost use Rattle.keep_token.specs.Abnf.{is_comment};
-ghost use Rattle.keep_token.specs.Blocks.{ends_comment};
 
+use crate::blocks::run_in_blocks;
 use crate::bytes::comment_run;
-use std::simd::prelude::*;
-
-/// How many bytes are looked at together.
-const BLOCK: usize = 16;
-
-/// A bit for each byte that no comment has: a control character but for the tab.
-fn ends(block: u8x16) -> u64
-    ensures { result ≡ mask_l (map ends_comment block) }
-{
-    let low = block.simd_lt(u8x16::splat(0x20)) & block.simd_ne(u8x16::splat(b'\t'));
-    (low | block.simd_eq(u8x16::splat(0x7F))).to_bitmask()
-}
 
 /// How many bytes of a comment come first.
 #[inline(never)]
@@ -25,13 +12,7 @@ pub(crate) fn comment_len(bytes: &[u8]) -> usize
     ensures len { result ≡ prefix_len is_comment bytes.now }
     ensures within { result ≤ length bytes.now }
 {
-    let mut at = 0;
-    while bytes.len() - at >= BLOCK {
-        let found = ends(u8x16::from_slice(&bytes[at..]));
-        if found != 0 {
-            return at + found.trailing_zeros() as usize;
-        }
-        at += BLOCK;
-    }
+    // 0x7F ends a comment without being a mark
+    let at = run_in_blocks(bytes, 0x7F, 0x7F);
     at + comment_run(&bytes[at..])
 }

@@ -2,6 +2,7 @@
 #![tactic(auto)]
 
 mod basic;
+mod blocks;
 mod bytes;
 mod comment;
 mod dates;

@@ -1,5 +1,0 @@
-use Rattle.keep_token.proofs.BlockLaws.{block_ends}
-use Rattle.keep_token.proofs.comment.ends.Goals as goal
-
-pub returns : goal.returns
-returns c = block_ends c.args.block c.fits-block.0 c.fits-block.1
