@@ -14,13 +14,13 @@ use Rattle.keep_token.specs.Numbers.{is_underscore, is_digits, sum_of_digits, di
 
 -- ---- decimal texts are numerals
 
-in_range : (c : ℕ) → is_ascii_digit c ≡ true → IsInRange 48 57 c
+pub in_range : (c : ℕ) → is_ascii_digit c ≡ true → IsInRange 48 57 c
 in_range c h = grind (arith, nat_tests)
 
 digit_in_range : (c : ℕ) → IsInRange 48 57 c → is_ascii_digit c ≡ true
 digit_in_range c h = grind (arith, nat_tests)
 
-digit_is : (c : ℕ) → IsInRange 48 57 c → digit_value c ≡ c - 48
+pub digit_is : (c : ℕ) → IsInRange 48 57 c → digit_value c ≡ c - 48
 digit_is c h = grind (arith, nat_tests)
 
 no_underscore : (c : ℕ) → is_ascii_digit c ≡ true → is_underscore c ≡ false
@@ -121,7 +121,7 @@ plain_decimal n h =
 
 -- ---- what `encode_int` writes
 
-decimal_at : (n d : ℕ) (ds : List ℕ) → list_all is_ascii_digit (d ∷ ds) ≡ true → sum_of_digits 10 (d ∷ ds) ≡ n → (ds ≡ []) ⊎ (48 < d)
+pub decimal_at : (n d : ℕ) (ds : List ℕ) → list_all is_ascii_digit (d ∷ ds) ≡ true → sum_of_digits 10 (d ∷ ds) ≡ n → (ds ≡ []) ⊎ (48 < d)
     → FitsSigned w64 (pos n) → Integer (d ∷ ds) × (integer_value (d ∷ ds) ≡ pos n)
 decimal_at n d ds digits value leading fits =
     let is : integer_value (d ∷ ds) ≡ pos n = unsigned_value d ds digits leading ∙ ap pos (value_is (d ∷ ds) digits ∙ value) in

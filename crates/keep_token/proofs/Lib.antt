@@ -37,6 +37,7 @@ pub mod DateCode
 mod DateVectors
 pub mod DateNumbers
 pub mod DecimalLaws
+pub mod ShortDecimals
 pub mod EncodedLaws
 pub mod ProfileLaws
 pub mod ScalarLaws

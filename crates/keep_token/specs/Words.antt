@@ -27,6 +27,11 @@ is_integer_text t = is_decimal t || (is_prefixed 16 0x78 t || (is_prefixed 8 0x6
 abbrev pub is_integer : List ℕ → Bool
 is_integer t = is_integer_text t && nat_lt (mag (integer_value t)) 0x8000_0000_0000_0000
 
+-- a decimal number of at most 18 digits without underscores, the first of them no 0
+abbrev pub is_short_decimal : List ℕ → Bool
+is_short_decimal [] = false
+is_short_decimal (d ∷ ds) = not (d == 0x30) && (nat_le (length (d ∷ ds)) 18 && list_all is_ascii_digit (d ∷ ds))
+
 -- ---- floats
 
 abbrev pub is_e : ℕ → Bool

@@ -6,7 +6,7 @@ ghost use Rattle.std.specs.Char.{is_ascii_digit};
 ghost use Rattle.keep_token.specs.Numbers as numbers;
 ghost use Rattle.keep_token.specs.Words as words;
 
-use crate::bytes::{is_e, is_sign};
+use crate::bytes::{are_digits, is_e, is_sign};
 
 /// The number that digits of a base write, with an underscore at most between two of them, where it is below 2^64.
 fn digits_value(digits: &[u8], base: u32) -> Option<u64>
@@ -100,10 +100,23 @@ pub fn integer_of(text: &str) -> Option<i64>
     integer_value(text.as_bytes())
 }
 
+/// Whether it is a decimal number of so few digits, the first of them no 0, that it fits into 64 bits. Most are.
+fn is_short_decimal(bytes: &[u8]) -> bool
+    ensures { result ≡ words.is_short_decimal bytes.now }
+{
+    match bytes {
+        [] => false,
+        [first, ..] => *first != b'0' && bytes.len() <= 18 && are_digits(bytes),
+    }
+}
+
 /// TOML v1.0.0, "Integer": in 64 bits with a sign.
 pub(crate) fn is_integer(bytes: &[u8]) -> bool
     ensures { result ≡ words.is_integer bytes.now }
 {
+    if is_short_decimal(bytes) {
+        return true;
+    }
     integer_value(bytes).is_some()
 }
 
