@@ -97,6 +97,7 @@ impl Parts {
     }
 
     /// Stores a key part.
+    #[inline(always)]
     pub fn push_key(&mut self, part: KeyPart) -> Result<(), AllocError>
         ensures ok { OnOk result (spec.flat self.new ≡ spec.with_key part (spec.flat self.old)) }
     {
@@ -105,6 +106,7 @@ impl Parts {
     }
 
     /// Stores a statement.
+    #[inline(always)]
     pub fn push_statement(&mut self, statement: Statement) -> Result<(), AllocError>
         ensures ok { OnOk result (spec.flat self.new ≡ spec.with_statement statement (spec.flat self.old)) }
     {
@@ -150,6 +152,7 @@ impl Parts {
 
     /// Stores a value that begins at the byte `at`, with so many key parts of its own before it, in entries that begin
     /// at `start`. The bytes `at..end` are known to be its own.
+    #[inline(always)]
     pub fn push_value(
         &mut self,
         leaf: Leaf,
