@@ -45,7 +45,7 @@ READ_BY = {
     "after_each": [DOCUMENT + "apply_all"],
     "apply_all": [],
     # what reads the touched lines (`reread` is also a function of the syntax that makes another one)
-    "put_lines": ["keep_edit changes::reread"],
+    "put_lines": ["keep_edit planned::reread"],
     "reread": [DOCUMENT + "replaced"],
 }
 NAME = re.compile(r"\b(?:" + "|".join(READ_BY) + r")\b")

@@ -1,7 +1,7 @@
 -- What is answered where a command is made of one edit, or a fault is passed up.
 use Rattle.std.proofs.Common.{◌≡◌, ◌⊎◌, ◌∷◌, [], inl, inr, subst, sym, Vec, Global}
 use Rattle.std.specs.Prelude.{Result, Ok, Err, MatchResult, IsErrAnd}
-use Rattle.keep_edit.specs.declared.edits.Edit.{Edit}
+use Rattle.keep_edit_plan.specs.declared.edit.Edit.{Edit}
 use Rattle.keep_commands.specs.declared.command.Command.{Command}
 use Rattle.keep_commands.specs.declared.command.Command.TheVariants as command
 use Rattle.keep_cli.specs.declared.fault.UseFault.{UseFault}

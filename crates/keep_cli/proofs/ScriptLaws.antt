@@ -7,14 +7,14 @@ use Rattle.keep_types.specs.declared.leaf.Profile.TheVariants.{Strict}
 use Rattle.keep_syntax.specs.Tree.{Document}
 use Rattle.keep_path.specs.Path.{Part, key}
 use Rattle.keep_path.specs.PathText.{AreKeys}
-use Rattle.keep_edit.specs.declared.edits.Edit.{Edit}
+use Rattle.keep_edit_plan.specs.declared.edit.Edit.{Edit}
 use Rattle.keep_edit.specs.Reading.{ProfiledText, IsAccepted, IsAcceptedValue, IsTextOfTree, text_in}
 use Rattle.keep_cli.specs.declared.fault.UseFault.{UseFault}
 use Rattle.keep_cli.specs.declared.fault.UseFault.TheVariants as fault
 use Rattle.keep_cli.specs.PathWords.{IsKeysText}
 use Rattle.keep_cli.specs.declared.script.Op.{Op}
 use Rattle.keep_cli.specs.declared.script.Op.TheVariants as op
-use Rattle.keep_edit.specs.declared.edits.Edit.TheVariants as edit
+use Rattle.keep_edit_plan.specs.declared.edit.Edit.TheVariants as edit
 use Rattle.keep_commands.specs.OwnValues.{AreStrict, IsStrictEdit}
 use Rattle.keep_cli.specs.Script.{Makes, AreEntries, IsEntry, IsNoEntry, IsScript, IsScriptFault, IsTreeFault, element_count}
 use Rattle.keep_cli.specs.Scripting.{IsFaultAt, IsKeysIn, IsOnlyPath, StatesEdits}

@@ -15,8 +15,8 @@ use Rattle.keep_edit.specs.Answers.{kind_of, str_value_of}
 use Rattle.keep_edit.specs.Children.{child_count_of}
 use Rattle.keep_edit.specs.Headers.{key_texts}
 use Rattle.keep_edit.specs.Reading.{limit, text_in, IsAcceptedValue, IsTextOfTree}
-use Rattle.keep_edit.specs.declared.edits.Edit.{Edit}
-use Rattle.keep_edit.specs.declared.edits.Edit.TheVariants as edit
+use Rattle.keep_edit_plan.specs.declared.edit.Edit.{Edit}
+use Rattle.keep_edit_plan.specs.declared.edit.Edit.TheVariants as edit
 use Rattle.keep_cli.specs.declared.fault.EntryWhy.{EntryWhy}
 use Rattle.keep_cli.specs.declared.fault.EntryWhy.TheVariants as why
 use Rattle.keep_cli.specs.declared.fault.UseFault.{UseFault}

@@ -7,7 +7,7 @@ use Rattle.keep_path.specs.Path.{Part, key}
 use Rattle.keep_path.specs.PathText.{AreKeys, IsPathText}
 use Rattle.keep_edit.specs.Headers.{key_texts}
 use Rattle.keep_edit.specs.Reading.{IsAcceptedValue}
-use Rattle.keep_edit.specs.declared.edits.Edit.{Edit}
+use Rattle.keep_edit_plan.specs.declared.edit.Edit.{Edit}
 use Rattle.keep_cli.specs.declared.fault.EntryWhy.{EntryWhy}
 use Rattle.keep_cli.specs.declared.fault.EntryWhy.TheVariants as why
 use Rattle.keep_cli.specs.declared.fault.UseFault.{UseFault}

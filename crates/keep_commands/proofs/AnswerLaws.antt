@@ -28,7 +28,7 @@ use Rattle.keep_edit.specs.Reading.{limit, ProfiledText, text_in, IsAccepted, Is
 use Rattle.keep_edit.specs.declared.document.Counts.{Counts}
 use Rattle.keep_commands.specs.declared.command.Command.{Command}
 use Rattle.keep_commands.specs.declared.command.Command.TheVariants.{Apply, ApplyWide, Check, CheckWide, Get, List as Listing, Text}
-use Rattle.keep_edit.specs.declared.edits.Edit.{Edit}
+use Rattle.keep_edit_plan.specs.declared.edit.Edit.{Edit}
 use Rattle.keep_commands.specs.declared.fault.RunFault.{RunFault}
 use Rattle.keep_commands.specs.declared.fault.RunFault.TheVariants as run
 use Rattle.keep_edit.specs.Lists.{IsEdit}

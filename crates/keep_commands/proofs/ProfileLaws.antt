@@ -26,8 +26,8 @@ use Rattle.keep_commands.specs.Answer.{IsEditRefusal, IsProfileFault, IsRefusal,
 use Rattle.keep_commands.specs.OwnValues.{AreStrict, HasOwnValues, IsStrictEdit}
 use Rattle.keep_commands.specs.declared.command.Command.{Command}
 use Rattle.keep_commands.specs.declared.command.Command.TheVariants as command
-use Rattle.keep_edit.specs.declared.edits.Edit.{Edit}
-use Rattle.keep_edit.specs.declared.edits.Edit.TheVariants as edit
+use Rattle.keep_edit_plan.specs.declared.edit.Edit.{Edit}
+use Rattle.keep_edit_plan.specs.declared.edit.Edit.TheVariants as edit
 use Rattle.keep_commands.specs.declared.fault.RunFault.{RunFault}
 use Rattle.keep_commands.specs.declared.fault.RunFault.TheVariants as run
 

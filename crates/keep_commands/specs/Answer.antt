@@ -20,7 +20,7 @@ use Rattle.keep_edit.specs.Reading.{limit, ProfiledText, IsTextOfTree}
 use Rattle.keep_edit.specs.Answers.{counts_of, entries_of}
 use Rattle.keep_commands.specs.declared.command.Command.{Command}
 use Rattle.keep_commands.specs.declared.command.Command.TheVariants as command
-use Rattle.keep_edit.specs.declared.edits.Edit.{Edit}
+use Rattle.keep_edit_plan.specs.declared.edit.Edit.{Edit}
 use Rattle.keep_edit.specs.Lists.{IsEdit}
 use Rattle.keep_commands.specs.declared.fault.RunFault.{RunFault}
 use Rattle.keep_commands.specs.declared.fault.RunFault.TheVariants as run

@@ -2,8 +2,8 @@
 use Rattle.std.specs.Prelude.{⊤, List, [], ◌∷◌}
 use Rattle.keep_types.specs.declared.leaf.Profile.TheVariants.{Strict}
 use Rattle.keep_edit.specs.Reading.{IsAcceptedValue}
-use Rattle.keep_edit.specs.declared.edits.Edit.{Edit}
-use Rattle.keep_edit.specs.declared.edits.Edit.TheVariants as edit
+use Rattle.keep_edit_plan.specs.declared.edit.Edit.{Edit}
+use Rattle.keep_edit_plan.specs.declared.edit.Edit.TheVariants as edit
 use Rattle.keep_commands.specs.declared.command.Command.{Command}
 use Rattle.keep_commands.specs.declared.command.Command.TheVariants as command
 

@@ -21,8 +21,8 @@ use Rattle.keep_edit_spec.specs.Refusals.{refusal}
 use Rattle.keep_edit.specs.Answers.{EditDone, IsDone, IsEdited, refusal_in}
 use Rattle.keep_edit.specs.Lists.{IsEdit, size_of, growth_of, AreMade, IsRefusedAt, IsOutOfMemoryAt, IsNotCopied, StopsAt}
 use Rattle.keep_edit.specs.Reading.{limit, ProfiledText, IsTextOfTree, IsTextOfValue}
-use Rattle.keep_edit.specs.declared.edits.Edit.{Edit}
-use Rattle.keep_edit.specs.declared.edits.Edit.TheVariants.{Set, Insert, Rename, Remove, Table, Element}
+use Rattle.keep_edit_plan.specs.declared.edit.Edit.{Edit}
+use Rattle.keep_edit_plan.specs.declared.edit.Edit.TheVariants.{Set, Insert, Rename, Remove, Table, Element}
 
 -- ---- the definitions' fold
 
@@ -78,10 +78,6 @@ size_is (Rename path name) e same = ap given_size same
 size_is (Remove path) e same = ap given_size same
 size_is (Table keys) e same = ap given_size same
 size_is (Element keys) e same = ap given_size same
-
--- what holds of the edit of a value's text holds of the edit that is given
-pub by_value : (make : List Part → Value → law.Edit) (path : List Part) (value : List ℕ) (e : law.Edit) (P : law.Edit → Type 0) → ((v : Value) → IsTextOfValue value v → P (make path v)) → ((v : Value) × IsTextOfValue value v × (e ≡ make path v)) → P e
-by_value make path value e P h (v, is, same) = subst P (sym same) (h v is)
 
 -- ---- one after another
 

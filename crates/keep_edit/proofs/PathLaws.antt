@@ -1,37 +1,23 @@
 -- What is at a path: its kind, and the text of its value.
-use Rattle.std.proofs.Common.{◌≡◌, ℕ, ◌<◌, Bool, true, false, ◌||◌, List, [], ◌∷◌, length, slice_get, refl, sym, ap, subst, ◌∙◌, arith, Option, Some, None, Result, Ok, Err}
-use Rattle.std.specs.Prelude.{IsCharBoundary}
-use Rattle.std.specs.List.{list_any}
-use Rattle.std.specs.Option.{option_map}
-use Rattle.std.proofs.lemmas.Option.{slice_get_within}
+use Rattle.std.proofs.Common.{◌≡◌, ℕ, Bool, true, false, List, refl, sym, ap, subst, ◌∙◌, Option, Some, None, Result, Ok, Err}
 use Rattle.keep_types.specs.declared.leaf.Profile.{Profile}
 use Rattle.keep_types.specs.declared.syntax.ValueInfo.{ValueInfo}
-use Rattle.keep_syntax.specs.declared.syntax.Syntax.{Syntax}
-use Rattle.keep_syntax.specs.Tree.{Document, text, value_text}
-use Rattle.keep_syntax.specs.Contract.{values_of}
-use Rattle.keep_syntax.specs.Numbered as numbered
-use Rattle.keep_rules.specs.declared.index.NodeId.{NodeId}
+use Rattle.keep_syntax.specs.Tree.{Document, text}
 use Rattle.keep_types.specs.declared.node.NodeInfo.{NodeInfo}
-use Rattle.keep_types.specs.declared.node.Origin.TheVariants as origin
-use Rattle.keep_meaning.specs.Counts.{Numbered, is_value, numbered_in}
-use Rattle.keep_meaning.specs.Fact.{Fact}
 use Rattle.keep_meaning.specs.KeyText.{text_at}
-use Rattle.keep_rules.specs.Lookup.{number_of}
-use Rattle.keep_meaning.specs.Marks.{Mention, marks}
+use Rattle.keep_meaning.specs.Marks.{marks}
 use Rattle.keep_meaning.specs.Meaning.{body_fact, mentions_in}
-use Rattle.keep_meaning.specs.Nodes.{is_at, is_root, is_node, fact_at, node_number, node_paths, is_element, is_begun, is_define, is_dotted, is_through, numbered_at, last_number, value_number, statement_number, first_that_fits, mentioned_origin}
+use Rattle.keep_meaning.specs.Nodes.{is_node}
 use Rattle.keep_path.specs.Path.{Part}
 use Rattle.keep_meaning.specs.Rules.{ObeysRules}
-use Rattle.keep_path.specs.NodeInfos.{NodeInfos}
-use Rattle.keep_meaning.proofs.Shared.{paths-nodes_in, IsPart, part_ends}
 use Rattle.keep_edit_spec.specs.declared.fault.EditFault.{EditFault}
 use Rattle.keep_edit_spec.specs.declared.fault.EditFault.TheVariants as fault
 use Rattle.keep_edit_spec.specs.Answers.{get, or_not_value, value_at}
 use Rattle.keep_edit_spec.specs.Laws.{GivesText}
 use Rattle.keep_edit_spec.specs.Refusals.{has_value}
-use Rattle.keep_edit_spec.proofs.Shared.{get_is_right, IsValueOf, value_of_number, none_of_number, fact_past}
-use Rattle.keep_edit.specs.Reading.{ProfiledText, IsTextOfTree, Holds}
-use Rattle.keep_edit.specs.Answers.{kind_of, value_number_of, HasNoValue, IsSpanOf}
+use Rattle.keep_edit_spec.proofs.Shared.{get_is_right, IsValueOf}
+use Rattle.keep_edit.specs.Reading.{ProfiledText, IsTextOfTree}
+use Rattle.keep_edit.specs.Answers.{kind_of, HasNoValue}
 use Rattle.keep_edit_plan.proofs.Shared.{kind_stated, fact_node, IsStated, IsValueThere}
 
 -- ---- its kind

@@ -13,7 +13,7 @@ use Rattle.keep_syntax.specs.Contract.{IsSyntaxOf}
 use Rattle.keep_syntax.proofs.Shared.{one_document}
 use Rattle.keep_rules.specs.ReadDocuments.{WasRead, IsIndexOf, IsRefusal}
 use Rattle.keep_path.specs.NodeInfos.{NodeInfos}
-use Rattle.keep_edit.specs.Reading.{limit, ProfiledText, text_in, IsRefused, IsSyntaxIn, IsTextOfTree, ReportsNoText, Holds}
+use Rattle.keep_edit.specs.Reading.{limit, text_in, IsRefused, IsSyntaxIn, IsTextOfTree, ReportsNoText, Holds}
 
 pub was_read : {profile : Profile} {bytes : List ℕ} {syntax : Syntax} {d : Document} → Reads profile limit bytes d → IsSyntaxOf syntax d → WasRead bytes syntax d
 was_read {profile} reads is = record { profile = profile; limit = limit; reads = reads; is = is }

@@ -23,12 +23,13 @@ use Rattle.keep_meaning.specs.Meaning.{mentions_in}
 use Rattle.keep_path.specs.NodeInfos.{NodeInfos}
 use Rattle.keep_edit_plan.specs.Answers.{IsMadeAt, text_after}
 use Rattle.keep_edit_plan.specs.declared.text_edit.TextEdit.{TextEdit}
-use Rattle.keep_edit.specs.IndexChanges.{CanChange, changed_index}
-use Rattle.keep_edit.specs.declared.index_change.IndexChange.{IndexChange}
+use Rattle.keep_edit_plan.specs.IndexChanges.{CanChange, changed_index}
+use Rattle.keep_edit_plan.specs.declared.plan.IndexChange.{IndexChange}
 use Rattle.keep_edit_plan.proofs.Shared.{one_tree, stated_is, text_seen, profile_seen}
 use Rattle.keep_rules.specs.Nested.{AreNested}
 use Rattle.keep_rules.specs.ReadDocuments.{WasRead, IsIndexOf}
-use Rattle.keep_edit.specs.Places.{after, end_by, IsOfEdit, IsIndexChanged, IsPatched, IsScanned}
+use Rattle.keep_edit_plan.specs.Plans.{IsIndexChanged}
+use Rattle.keep_edit.specs.Places.{after, end_by, IsOfEdit, IsPatched, IsScanned}
 use Rattle.keep_edit.specs.Reading.{limit, ProfiledText, Holds, IsSyntaxIn, IsTextOfTree, telling_in, text_in}
 use Rattle.keep_edit.proofs.ReadLaws.{read_once}
 

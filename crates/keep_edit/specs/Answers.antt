@@ -19,7 +19,7 @@ use Rattle.keep_edit_spec.specs.Edits.{Edit}
 use Rattle.keep_edit.specs.Reading.{ProfiledText, text_in}
 use Rattle.keep_edit.specs.declared.document.Counts.{Counts}
 use Rattle.keep_edit.specs.declared.document.Entry.{Entry}
-pub use Rattle.keep_edit_plan.specs.Answers.{refusal_in, splice_of, value_number_of, EditMade, HasNoValue, IsDone}
+pub use Rattle.keep_edit_plan.specs.Answers.{refusal_in, splice_of, value_number_of, HasNoValue, IsDone}
 pub use Rattle.keep_edit_plan.specs.Answers.{IsEdited, IsFound, IsMade, IsSpanOf, IsTextAfter}
 
 -- ---- the whole

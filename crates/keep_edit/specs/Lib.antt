@@ -5,4 +5,3 @@ pub mod Patches
 pub mod Lists
 pub mod Headers
 pub mod Children
-pub mod IndexChanges

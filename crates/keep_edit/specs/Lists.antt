@@ -12,19 +12,11 @@ use Rattle.keep_edit_spec.specs.declared.fault.EditFault.TheVariants.{Memory}
 use Rattle.keep_edit_spec.specs.Answers.{applied_edits}
 use Rattle.keep_edit_spec.specs.Edits as law
 use Rattle.keep_edit.specs.Reading.{limit, ProfiledText, IsTextOfTree, IsTextOfValue}
-use Rattle.keep_edit.specs.declared.edits.Edit.{Edit}
-use Rattle.keep_edit.specs.declared.edits.Edit.TheVariants.{Set, Insert, Rename, Remove, Table, Element}
+pub use Rattle.keep_edit_plan.specs.Given.{IsEdit}
+use Rattle.keep_edit_plan.specs.declared.edit.Edit.{Edit}
+use Rattle.keep_edit_plan.specs.declared.edit.Edit.TheVariants.{Set, Insert, Rename, Remove, Table, Element}
 
 -- ---- one edit
-
--- the edit of the definitions, with the value of its text
-abbrev pub IsEdit : Edit → law.Edit → Type 0
-IsEdit (Set path value) e = (v : Value) × IsTextOfValue value v × (e ≡ law.set path v)
-IsEdit (Insert path value) e = (v : Value) × IsTextOfValue value v × (e ≡ law.insert path v)
-IsEdit (Rename path name) e = e ≡ law.rename path (string_bytes name)
-IsEdit (Remove path) e = e ≡ law.remove path
-IsEdit (Table keys) e = e ≡ law.append_table (map string_bytes keys.items)
-IsEdit (Element keys) e = e ≡ law.append_element (map string_bytes keys.items)
 
 -- how many bytes it gives, as they are written: its path and its value, or its new key
 abbrev pub size_of : Edit → ℕ

@@ -13,8 +13,6 @@ use Rattle.keep_edit_spec.specs.TouchedLines as touched
 use Rattle.keep_path.specs.NodeInfos.{NodeInfos}
 use Rattle.keep_edit_plan.specs.Answers.{IsMadeAt, splice_of, text_after}
 use Rattle.keep_edit_plan.specs.declared.text_edit.TextEdit.{TextEdit}
-use Rattle.keep_edit.specs.IndexChanges.{IsIndexChange}
-use Rattle.keep_edit.specs.declared.index_change.IndexChange.{IndexChange}
 use Rattle.keep_edit.specs.Reading.{ProfiledText, Holds, IsTextOfTree, text_in}
 pub use Rattle.keep_edit_plan.specs.Places.{IsOfEdit}
 
@@ -50,14 +48,6 @@ IsTaken old made syntax index (Ok scanned) =
     Holds (after old made) syntax index
     × ((s : Document) (p : Place) → IsTextOfTree old s → IsMadeAt p made → scanned ≡ touched.scanned s p)
 IsTaken old made syntax index (Err f) = (f ≡ Memory) × Holds old syntax index
-
--- All that the edit changes of the index is this.
-pub record IsIndexChanged (old : ProfiledText) (made : TextEdit) (change : IndexChange) : Type 0 where
-  pub from : Document
-  pub to : Document
-  pub read : IsTextOfTree old from
-  pub new : IsTextOfTree (after old made) to
-  pub is : IsIndexChange from to change
 
 -- The document has the text after the edit, and the splice is that of its place; or memory ran out and it is as before.
 abbrev pub IsMovedIn : TextEdit → ProfiledText → ProfiledText → Result Splice EditFault → Type 0

@@ -228,6 +228,11 @@ impl Document {
     {
         DocumentRef::new(self.text.as_str(), self.profile, &self.syntax, &self.index)
     }
+
+    /// The allocator of the text, which gives the memory that an edit takes.
+    pub(crate) fn alloc(&self) -> Global {
+        *self.text.allocator()
+    }
 }
 
 impl Document {

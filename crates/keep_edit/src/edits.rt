@@ -1,4 +1,4 @@
-//! Edits as values: one, and lists of them.
+//! Edits that are given as values: one, and lists of them.
 ghost use Rattle.std.specs.Prelude.{◌≡◌, ◌⊎◌, ◌+◌, ◌<◌, ◌≤◌, length, IfErr, IfOk, MatchResult, OnErr};
 ghost use Rattle.keep_syntax.specs.Tree as tree;
 ghost use Rattle.keep_edit_spec.specs.Edits as law;
@@ -7,25 +7,8 @@ ghost use Rattle.keep_edit.specs.Answers.{EditDone, EditReported};
 ghost use Rattle.keep_edit.specs.Lists.{IsEdit, AllDone, AreMade, EachDone, IsNotCopied, StopsAt, growth_of};
 
 use crate::document::Document;
+use keep_edit_plan::Edit;
 use keep_edit_spec::{EditFault, Splice};
-use keep_rules::{Path, ValueText};
-
-/// An edit of a document, with what it is given.
-#[derive(Debug, Drop)]
-pub enum Edit {
-    /// `Document::set`: a value in place of the one at a path.
-    Set(Path, ValueText),
-    /// `Document::insert`: a value at a path that names no node, or before an item of an array.
-    Insert(Path, ValueText),
-    /// `Document::rename`: another key in place of the last key of a path.
-    Rename(Path, String),
-    /// `Document::remove`: the node of a path goes.
-    Remove(Path),
-    /// `Document::append_table`: the header of a table at the end.
-    Table(Vec<String>),
-    /// `Document::append_element`: the header of an element of an array of tables at the end.
-    Element(Vec<String>),
-}
 
 impl Document {
     /// Makes an edit. After a refusal the document is as before. The document's own allocator gives the memory.
@@ -41,14 +24,7 @@ impl Document {
         ensures read { IsAccepted self.new }
         ensures refused { OnErr result (self.new ≡ self.old) }
     {
-        match edit {
-            Edit::Set(path, value) => self.set(path, value),
-            Edit::Insert(path, value) => self.insert(path, value),
-            Edit::Rename(path, key) => self.rename(path, key.as_str()),
-            Edit::Remove(path) => self.remove(path),
-            Edit::Table(keys) => self.append_table(keys.as_slice()),
-            Edit::Element(keys) => self.append_element(keys.as_slice()),
-        }
+        self.apply_plan(self.as_ref().plan(self.alloc(), edit))
     }
 
     /// The text that the document has after `apply`. The document stays as it is, and nothing is read anew.
@@ -62,14 +38,7 @@ impl Document {
         ensures accepted { IsAccepted self.now }
         ensures edit { (e : law.Edit) × IsEdit edit.now e }
     {
-        match edit {
-            Edit::Set(path, value) => self.text_with(path, value),
-            Edit::Insert(path, value) => self.text_inserted(path, value),
-            Edit::Rename(path, key) => self.text_renamed(path, key.as_str()),
-            Edit::Remove(path) => self.text_removed(path),
-            Edit::Table(keys) => self.text_with_table(keys.as_slice()),
-            Edit::Element(keys) => self.text_with_element(keys.as_slice()),
-        }
+        self.text_by_plan(self.as_ref().plan(self.alloc(), edit))
     }
 
     /// Makes all edits in their order, each on the document after those before it; or none of them: after a refusal the

@@ -46,9 +46,10 @@ mod edits;
 mod index_change;
 mod lines;
 mod patch;
+mod planned;
 
 pub use document::{Counts, Document, Entry};
-pub use edits::Edit;
+pub use keep_edit_plan::Edit;
 pub use keep_edit_spec::{EditFault, Splice};
 pub use keep_rules::{Kind, Path, PathFault, Step, ValueText, Why};
 pub use keep_syntax::{ReadFault, Token, Tokens};

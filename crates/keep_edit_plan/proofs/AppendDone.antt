@@ -25,7 +25,9 @@ use Rattle.keep_edit_spec.proofs.Shared.{append_place, append_table_lawful, appe
 use Rattle.keep_edit_plan.specs.Headers.{role_of, edit_of, key_texts, conflict_from, keys_text, header_text}
 use Rattle.keep_edit_plan.specs.declared.header.Header.{Header}
 use Rattle.keep_edit_plan.specs.declared.header.Header.TheVariants.{Table, Element}
-use Rattle.keep_edit_plan.specs.Places.{place_at, IsDoneAt, IsPatchAt}
+use Rattle.keep_edit_plan.specs.Answers.{IsMadeAt}
+use Rattle.keep_edit_plan.specs.Places.{place_at, IsDoneAt}
+use Rattle.keep_edit_plan.specs.Plans.{ChangesKindOrKey}
 use Rattle.keep_edit_plan.specs.Reading.{limit, ProfiledText, IsTextOfTree}
 use Rattle.keep_edit_plan.proofs.AppendLaws.{further_key}
 use Rattle.keep_edit_plan.proofs.EditedLaws.{editable}
@@ -116,9 +118,9 @@ pub some_keys : (keys : List (String Global)) → (length keys == 0) ≡ false �
 some_keys keys e none = let k : false ≡ true = sym e ∙ ap (λ (l : List (String Global)). length l == 0) none in absurd cc
 
 -- what was made is written at the end
-pub patch_as : (d : ProfiledText) (at : ℕ) (t given : List ℕ) (new : String Global) → at ≡ length t → t ≡ d.text → string_bytes new ≡ given
-    → IsPatchAt (end_span d) given (Ok (record { place = record { start = at; end = at }; new = new }))
-patch_as d at t given new e whole is =
+pub written_as : (d : ProfiledText) (at : ℕ) (t given : List ℕ) (new : String Global) → at ≡ length t → t ≡ d.text → string_bytes new ≡ given
+    → IsMadeAt (place_at (end_span d) given) (record { place = record { start = at; end = at }; new = new })
+written_as d at t given new e whole is =
     let there : at ≡ length d.text = e ∙ ap length whole in
     (ap (λ (n : ℕ). span n n) there, is)
 
@@ -126,3 +128,8 @@ pub given_as : (d : ProfiledText) (s : Document) (header : Header) (keys : List 
     → header_at_end t newline (header_text header (key_texts keys)) ≡ given_text d s header keys
 given_as d s header keys t newline e f =
     ap (λ (x : List ℕ). header_at_end x newline (header_text header (key_texts keys))) e ∙ ap (λ (x : List ℕ). header_at_end d.text x (header_text header (key_texts keys))) f
+
+-- it changes more of the index than a kind or a key
+pub rebuilds : (s : Document) (header : Header) (keys : List (List ℕ)) → ChangesKindOrKey s (edit_of header keys) → ⊥
+rebuilds s Table keys one = one
+rebuilds s Element keys one = one

@@ -1,6 +1,6 @@
--- What an edit makes of a document: from where it is done, and from its law.
-use Rattle.std.proofs.Common.{◌≡◌, ℕ, List, ◌++◌, take, drop, length, sym, ap, ap₂, subst, ◌∙◌, arith, Option, Result, Ok, Err, refl}
-use Rattle.std.specs.Prelude.{IsUtf8, IfOk, string_bytes}
+-- The plan of an edit: from where it is done, from its law, and from what it changes of the index.
+use Rattle.std.proofs.Common.{◌≡◌, ℕ, List, ◌++◌, take, drop, length, sym, ap, ap₂, subst, ◌∙◌, arith, Option, Some, None, Result, Ok, Err, refl}
+use Rattle.std.specs.Prelude.{IsUtf8, IfOk, IfSome, is_some, string_bytes, true}
 use Rattle.std.proofs.lemmas.Str.{IsUtf8-append, IsUtf8-drop, IsUtf8-string_bytes, IsUtf8-take}
 use Rattle.keep_types.specs.declared.syntax.Span.{Span}
 use Rattle.keep_syntax.specs.Tree.{Document}
@@ -11,8 +11,12 @@ use Rattle.keep_edit_spec.specs.Changed.{Changed, Place, place_of, put}
 use Rattle.keep_edit_spec.specs.Edits.{Edit, changed_or_same, place, edited_document}
 use Rattle.keep_edit_spec.specs.Laws.{IsEditable, IsLawfulEdit}
 use Rattle.keep_edit_plan.specs.Reading.{limit, ProfiledText, text_in, IsTextOfTree}
-use Rattle.keep_edit_plan.specs.Answers.{IsMade, IsMadeAt, IsSpanOf, IsTextAfter, IsDone, EditMade, text_after}
-use Rattle.keep_edit_plan.specs.Places.{place_at, IsDoneAt, IsOfEdit, IsPatchAt}
+use Rattle.keep_edit_plan.specs.Answers.{IsMadeAt, IsSpanOf, IsTextAfter, IsDone, text_after}
+use Rattle.keep_edit_plan.specs.IndexChanges.{IsIndexChange}
+use Rattle.keep_edit_plan.specs.Places.{place_at, IsDoneAt, IsOfEdit}
+use Rattle.keep_edit_plan.specs.Plans.{ChangesKindOrKey, EditPlanned, IsIndexChanged, IsPlan, IsPlanAt, IsPlanOf}
+use Rattle.keep_edit_plan.specs.declared.plan.IndexChange.{IndexChange}
+use Rattle.keep_edit_plan.specs.declared.plan.Plan.{Plan}
 use Rattle.keep_edit_plan.specs.declared.text_edit.TextEdit.{TextEdit}
 
 -- a document that was read is one of which the laws speak
@@ -20,8 +24,8 @@ pub editable : (d : ProfiledText) (s : Document) → IsTextOfTree d s → IsEdit
 editable d s read = record { valid = read.reads.valid; shallow = read.reads.shallow; obeys = read.obeys }
 
 -- what an edit answers that is refused
-pub refused_made : (s : Document) (e : Edit) (old : ProfiledText) (given : List ℕ) (f : EditFault) → IsDoneAt s e old given (Err f) → EditMade s e old (Err f)
-refused_made s e old given f h = subst (λ (r : Option EditFault). IsDone (IsMade s e old) r (Err f)) (sym h) refl
+pub refused_planned : (s : Document) (e : Edit) (old : ProfiledText) (given : List ℕ) (f : EditFault) → IsDoneAt s e old given (Err f) → EditPlanned s e old (Err f)
+refused_planned s e old given f h = subst (λ (r : Option EditFault). IsDone (IsPlan s e old) r (Err f)) (sym h) refl
 
 -- a text stays one where whole characters of it are replaced by a text
 put_utf8 : (text : List ℕ) (span : Span) (given : List ℕ) → IsUtf8 text → IsSpanOf text span → IsUtf8 given → IsUtf8 (put text (place_at span given))
@@ -45,8 +49,8 @@ module _ (d : ProfiledText) (s : Document) (e : Edit) (span : Span) (given : Lis
         growth = omega (arith, law.growth, ap length reads.spelled, ap length read.reads.spelled);
       }
 
-  pub full_made : EditMade s e d (Err fault.Memory)
-  full_made = subst (λ (r : Option EditFault). IsDone (IsMade s e d) r (Err fault.Memory)) (sym at.0) refl
+  pub full_planned : EditPlanned s e d (Err fault.Memory)
+  full_planned = subst (λ (r : Option EditFault). IsDone (IsPlan s e d) r (Err fault.Memory)) (sym at.0) refl
 
   within_text : (made : TextEdit) → IsMadeAt (place_at span given) made → IsSpanOf d.text made.place
   within_text made there = subst (λ (x : Span). IsSpanOf d.text x) (sym there.0) at.2
@@ -56,13 +60,7 @@ module _ (d : ProfiledText) (s : Document) (e : Edit) (span : Span) (given : Lis
       edited (text_after d.text made) (put_utf8 d.text made.place (string_bytes made.new) read.utf8 (within_text made there) (IsUtf8-string_bytes made.new))
       (ap₂ (λ (x : Span) (g : List ℕ). put d.text (place_at x g)) there.0 there.1)
 
-  pub patch_made : (result : Result TextEdit EditFault) → IsPatchAt span given result → EditMade s e d result
-  patch_made (Err f) h = subst (λ (g : EditFault). EditMade s e d (Err g)) (sym h) full_made
-  patch_made (Ok made) there =
-      subst (λ (r : Option EditFault). IsDone (IsMade s e d) r (Ok made)) (sym at.0)
-      (subst (λ (p : Place). IsMadeAt p made) (sym at.1) there, after made there)
-
-  pub of_edit : (made : TextEdit) → IsMadeAt (place_at span given) made → IsOfEdit d made
+  of_edit : (made : TextEdit) → IsMadeAt (place_at span given) made → IsOfEdit d made
   of_edit made there = record {
     tree = s;
     edit = e;
@@ -74,6 +72,28 @@ module _ (d : ProfiledText) (s : Document) (e : Edit) (span : Span) (given : Lis
     within = within_text made there;
   }
 
-  pub patch_of_edit : (result : Result TextEdit EditFault) → IsPatchAt span given result → IfOk result (IsOfEdit d)
-  patch_of_edit (Err f) h = tt
-  patch_of_edit (Ok made) there = of_edit made there
+  index_changed : (made : TextEdit) → IsMadeAt (place_at span given) made → (change : Option IndexChange) → IfSome change (IsIndexChange s (edited_document s e)) → IfSome change (IsIndexChanged d made)
+  index_changed made there None is = tt
+  index_changed made there (Some k) is = record { from = s; to = edited_document s e; read = read; new = (after made there).tree; is = is }
+
+  -- the plan, with a change of the index or none
+  module _ (change : Option IndexChange) (is : IfSome change (IsIndexChange s (edited_document s e))) where
+    pub planned : (ChangesKindOrKey s e → is_some change ≡ true) → (result : Result Plan EditFault) → IsPlanAt span given change result → EditPlanned s e d result
+    planned some (Err f) h = subst (λ (g : EditFault). EditPlanned s e d (Err g)) (sym h) full_planned
+    planned some (Ok plan) (there, same) =
+        subst (λ (r : Option EditFault). IsDone (IsPlan s e d) r (Ok plan)) (sym at.0)
+        (record {
+          made = (subst (λ (p : Place). IsMadeAt p plan.text_edit) (sym at.1) there, after plan.text_edit there);
+          change = subst (λ (c : Option IndexChange). IfSome c (IsIndexChange s (edited_document s e))) (sym same) is;
+          some = λ one. subst (λ (c : Option IndexChange). is_some c ≡ true) (sym same) (some one);
+        })
+
+    -- whatever the edit
+    pub of_plan : (made : TextEdit) → IsMadeAt (place_at span given) made → IsOfEdit d made × IfSome change (IsIndexChanged d made)
+    of_plan made there = (of_edit made there, index_changed made there change is)
+
+    pub plan_of_edit : (result : Result Plan EditFault) → IsPlanAt span given change result → IfOk result (IsPlanOf d)
+    plan_of_edit (Err f) h = tt
+    plan_of_edit (Ok plan) (there, same) =
+        let (edit, changed) = of_plan plan.text_edit there in
+        (edit, subst (λ (c : Option IndexChange). IfSome c (IsIndexChanged d plan.text_edit)) (sym same) changed)

@@ -23,6 +23,7 @@ use Rattle.keep_path.specs.NodeInfos.{NodeInfos}
 use Rattle.keep_meaning.proofs.Shared.{paths-nodes_in, IsPart, part_ends}
 use Rattle.keep_edit_spec.specs.declared.fault.EditFault.TheVariants as fault
 use Rattle.keep_edit_spec.proofs.Shared.{IsValueOf, value_of_number, none_of_number, fact_past}
+use Rattle.keep_edit_plan.specs.Plans.{IsNodeOf}
 use Rattle.keep_edit_plan.specs.Reading.{ProfiledText, IsTextOfTree, Holds}
 use Rattle.keep_edit_plan.specs.Answers.{value_number_of, HasNoValue, IsSpanOf}
 use Rattle.keep_edit_plan.proofs.AnswerLaws.{tree_is, stated_is}
@@ -43,16 +44,20 @@ module _ (d : ProfiledText) (syntax : Syntax) (index : NodeInfos) (path : List P
   pub none_found : (o : Option NodeId) → o ≡ None → number_of o ≡ node_number index.paths path → is_node path (mentions_in s) ≡ false
   none_found o none found = no_node path (mentions_in s) (ap (λ (ps : List (List Part)). node_number ps path) (sym paths_are) ∙ sym found ∙ ap number_of none)
 
+  -- the node with that number is the path's
+  pub number_found_at : (id : NodeId) (o : Option NodeId) → o ≡ Some id → number_of o ≡ node_number index.paths path → IsNodeOf path s id
+  number_found_at id o one found = ap (λ (ps : List (List Part)). node_number ps path) (sym paths_are) ∙ sym found ∙ ap number_of one
+
   pub one_found : (id : NodeId) (info : NodeInfo) (o : Option NodeId) → o ≡ Some id → number_of o ≡ node_number index.paths path → slice_get index.infos id.0 ≡ Some info → IsStated path s info
   one_found id info o one found there =
-      let number : node_number (node_paths (mentions_in s)) path ≡ Some id.0 = ap (λ (ps : List (List Part)). node_number ps path) (sym paths_are) ∙ sym found ∙ ap number_of one in
+      let number : node_number (node_paths (mentions_in s)) path ≡ Some id.0 = number_found_at id o one found in
       let same : Some info ≡ Some (info_at path s) =
       sym there ∙ ap (λ (t : NodeInfos). slice_get t.infos id.0) (stated_is d syntax index s holds read) ∙ info_of_number path s id.0 number in
       record { node = a_node path (mentions_in s) id.0 number; is = cc }
 
   -- the node itself
   pub node_found : (id : NodeId) (o : Option NodeId) → o ≡ Some id → number_of o ≡ node_number index.paths path → slice_get (nodes_in s) id.0 ≡ Some (node_at (numbered_in s) path)
-  node_found id o one found = node_of_number path s id.0 (ap (λ (ps : List (List Part)). node_number ps path) (sym paths_are) ∙ sym found ∙ ap number_of one)
+  node_found id o one found = node_of_number path s id.0 (number_found_at id o one found)
 
 -- ---- its value
 

@@ -9,7 +9,7 @@
 --
 -- Theorems: `inserted_at`: what was written is the edit; `before_put`, `after_put`, `empty_put`, `body_put`,
 -- `line_put`, `section_put`: the place of each spot.
-use Rattle.std.proofs.Common.{◌≡◌, ℕ, suc, ◌<◌, ◌≤◌, false, List, [], ◌++◌, length, take, drop, slice_get, refl, sym, ap, subst, ◌∙◌, append_assoc, arith, Option, Some, None, Ok, Err, inl, inr}
+use Rattle.std.proofs.Common.{◌≡◌, ℕ, suc, ◌<◌, ◌≤◌, false, List, [], ◌++◌, length, take, drop, slice_get, refl, sym, ap, subst, ◌∙◌, append_assoc, arith, Option, Some, None, Ok, inl, inr}
 use Rattle.std.specs.Prelude.{IsCharBoundary, codes}
 use Rattle.std.specs.List.{list_any}
 use Rattle.std.specs.Option.{option_map}
@@ -23,8 +23,6 @@ use Rattle.keep_syntax.specs.Numbered as syntax_of
 use Rattle.keep_path.specs.Path.{Part, AreUtf8}
 use Rattle.keep_meaning.specs.Meaning.{mentions_in}
 use Rattle.keep_path.specs.NodeInfos.{NodeInfos}
-use Rattle.keep_edit_spec.specs.declared.fault.EditFault.{EditFault}
-use Rattle.keep_edit_spec.specs.declared.fault.EditFault.TheVariants as fault
 use Rattle.keep_edit_spec.specs.Changed as changed
 use Rattle.keep_edit_spec.specs.Edits.{insert}
 use Rattle.keep_edit_spec.specs.Insertion.{before_item, after_entry, in_empty, put_in, keyed_text}
@@ -34,7 +32,7 @@ use Rattle.keep_edit_spec.specs.Values.{text_of_value}
 use Rattle.keep_edit_spec.specs.Refusals.{refusal}
 use Rattle.keep_edit_spec.proofs.Shared.{IsLowPlace, insert_lawful, plain_rest, holder_prefix}
 use Rattle.keep_edit_plan.specs.Reading.{limit, ProfiledText, IsTextOfTree, IsTextOfValue, Holds}
-use Rattle.keep_edit_plan.specs.Answers.{IsDone, IsMade, IsSpanOf, EditMade}
+use Rattle.keep_edit_plan.specs.Answers.{IsSpanOf}
 use Rattle.keep_edit_plan.specs.Places.{IsDoneAt}
 use Rattle.keep_edit_plan.specs.PutLines.{body_end_of, keyval_end_of, new_section_at}
 use Rattle.keep_edit_plan.specs.Inserting.{IsInsertionOf, IsItemSpot, IsKeyvalSpot, IsPutIn, new_line_at, spot_place}
@@ -272,6 +270,3 @@ module _ (d : ProfiledText) (syntax : Syntax) (index_of : NodeInfos) (path : Lis
   inserted_at at old new none (fresh, is, placed, span) =
       let same : fresh ≡ new = sym (is ∙ ap (λ (t : List ℕ). t ++ fresh) none) in
       (allowed, placed ∙ ap (put_in at) same, span)
-
-  pub full_there : EditMade s (insert path v) d (Err fault.Memory)
-  full_there = subst (λ (r : Option EditFault). IsDone (IsMade s (insert path v) d) r (Err fault.Memory)) (sym allowed) refl

@@ -3,9 +3,8 @@
 -- The law of the edit says so of all that is numbered (`nodes_renamed`). So at a changed path the same is told as at the old one
 -- (`told_there`), and the list of what is told of the nodes is the same but for the paths (`told_moved`). The nodes are nested as
 -- before (`nested_moved`).
-use Rattle.std.proofs.Common.{◌≡◌, ℕ, ◌+◌, Bool, true, false, cond, ◌||◌, List, [], ◌∷◌, map, refl, sym, ap, ap₂, subst, ◌∙◌, Option, Some, None, IsUtf8}
+use Rattle.std.proofs.Common.{◌≡◌, ℕ, ◌+◌, Bool, Bor, true, false, cond, ◌||◌, List, [], ◌∷◌, map, refl, sym, ap, ap₂, subst, ◌∙◌, Option, Some, None, IsUtf8}
 use Rattle.std.specs.List.{list_any, count_by}
-use Rattle.std.specs.Option.{IfSome, is_some}
 use Rattle.std.proofs.lemmas.List.Folds.{fold-map}
 use Rattle.std.proofs.lemmas.List.Sums.{sum_by-cons}
 use Rattle.keep_syntax.specs.declared.syntax.Syntax.{Syntax}
@@ -20,24 +19,23 @@ use Rattle.keep_meaning.specs.Marks.{MentionKind, Mention, start, reading_after}
 use Rattle.keep_meaning.specs.Meaning.{mentions_in}
 use Rattle.keep_meaning.specs.Nodes.{is_begun, is_define, is_dotted, is_element, is_node, is_passed, is_through, last_number, first_number, key_number, mention_kind_of, mention_of, mentioned_kind, mentioned_node, mentioned_origin, node_at, node_info, node_number, node_paths, numbered_at, statement_number, value_number, infos_in}
 use Rattle.keep_meaning.proofs.Shared.{mentions-numbered_in, paths-nodes_in}
-use Rattle.keep_path.specs.NodeInfos.{NodeInfos}
+use Rattle.keep_path.specs.NodeInfos.{NodeInfos, with_path}
 use Rattle.keep_rules.specs.declared.index.NodeId.{NodeId}
-use Rattle.keep_rules.specs.Lookup.{number_of}
 use Rattle.keep_rules.specs.Nested.{AreNested}
-use Rattle.keep_edit_spec.specs.declared.fault.EditFault.TheVariants as fault
+use Rattle.keep_rules.proofs.Shared.{number_is}
 use Rattle.keep_edit_spec.specs.Edits.{rename, edited_document}
 use Rattle.keep_edit_spec.proofs.Shared.{AllOf, EndsInKey, IsClear, IsNodeRenamed, KeepsSteps, last_part-snoc, moved, moved_numbered, nodes_renamed}
 use Rattle.keep_edit_plan.specs.Answers.{refusal_in}
-use Rattle.keep_edit_plan.specs.Keys.{IsKeyChange}
+use Rattle.keep_edit_plan.specs.IndexChanges.{IsIndexChange}
+use Rattle.keep_edit_plan.specs.Plans.{IsNodeOf}
+use Rattle.keep_edit_plan.specs.declared.plan.IndexChange.TheVariants as change
 use Rattle.keep_edit_plan.specs.Reading.{limit, ProfiledText, Holds, IsTextOfTree, telling_in}
-use Rattle.keep_edit_plan.proofs.AnswerLaws.{stated_is, tree_is}
+use Rattle.keep_edit_plan.proofs.AnswerLaws.{tree_is}
 use Rattle.keep_edit_plan.proofs.EditedLaws.{editable}
-use Rattle.keep_edit_plan.proofs.FoundLaws.{none_found}
 use Rattle.keep_edit_plan.proofs.KindLaws.{info_in, infos_by_path}
 use Rattle.keep_edit_plan.proofs.MovedNested.{nested_moved}
 use Rattle.keep_edit_plan.proofs.MovedNodes.{all_paths, paths_moved, same_moved}
 use Rattle.keep_edit_plan.proofs.NodeLaws.{a_node}
-use Rattle.keep_edit_plan.proofs.RenameLaws.{not_found}
 
 -- ---- what is told does not depend on paths
 
@@ -139,35 +137,24 @@ no_number path ms none = by (node_number (node_paths ms) path) refl
 last_key : (path : List Part) → EndsInKey path → path_of.EndsInKey path
 last_key path (prefix, last, e) = (last, ap last_part e ∙ last_part-snoc prefix (key last))
 
-module _ (d : ProfiledText) (syntax : Syntax) (index : NodeInfos) (path : List Part) (s : Document) (holds : Holds d syntax index) (read : IsTextOfTree d s) where
-  key_changed : (id : NodeId) (o : Option NodeId) → o ≡ Some id → number_of o ≡ node_number index.paths path → (text : List ℕ) → IsUtf8 text → refusal_in d s (rename path text) ≡ None
-      → IsKeyChange s (edited_document s (rename path text)) path text id
-  key_changed id o one found text utf8 allowed =
-      let b : List Part = beside path text in
-      let new : Document = edited_document s (rename path text) in
-      let f : List Part → List Part = moved_path path b in
-      let e = editable d s read in
-      let h : IsNodeRenamed path b s new = nodes_renamed d.profile limit s path text e.valid e.obeys utf8 allowed in
-      let nested : AreNested (mentions_in s) (reading_after start (statements_in s)).tables =
-      subst (λ (u : Document). AreNested (mentions_in u) (reading_after start (statements_in u)).tables) (tree_is d syntax index s holds read) holds.nested in
-      record {
-        here = ap (λ (t : NodeInfos). node_number t.paths path) (sym (stated_is d syntax index s holds read)) ∙ sym found ∙ ap number_of one;
-        keyed = last_key path h.ends;
-        free = ap (λ (ps : List (List Part)). node_number ps b) (paths-nodes_in s) ∙ no_number b (mentions_in s) h.fresh;
-        told = told_moved (IsClear b) f h.steps s new h.moved.numbered h.moved.mentioned h.clear;
-        nested = subst (λ (ms : List Mention). AreNested ms (reading_after start (statements_in new)).tables) (sym h.moved.mentioned)
-            (subst (λ (ts : List (List Part)). AreNested (map (moved f) (mentions_in s)) ts) (sym h.moved.tables)
-            (nested_moved (IsClear b) f h.steps (mentions_in s) (reading_after start (statements_in s)).tables h.clear h.tables_clear nested));
-      }
-
-  -- what is found is the node, and where the edit is not refused it is found
-  pub change_found : (o : Option NodeId) → number_of o ≡ node_number index.paths path → (text : List ℕ) → IsUtf8 text → refusal_in d s (rename path text) ≡ None
-      → IfSome o (IsKeyChange s (edited_document s (rename path text)) path text)
-  change_found None found text utf8 allowed = tt
-  change_found (Some id) found text utf8 allowed = key_changed id (Some id) refl found text utf8 allowed
-
-  pub some_found : (o : Option NodeId) → number_of o ≡ node_number index.paths path → (text : List ℕ) → refusal_in d s (rename path text) ≡ None → is_some o ≡ true
-  some_found None found text allowed =
-      let refused : refusal_in d s (rename path text) ≡ Some fault.NotFound = not_found d.profile s path text (none_found d syntax index path s holds read None refl found) in
-      absurd cc
-  some_found (Some id) found text allowed = refl
+-- the node of the path, with another key
+pub key_changed : (d : ProfiledText) (syntax : Syntax) (index : NodeInfos) (path : List Part) (s : Document) → Holds d syntax index → IsTextOfTree d s → (id : NodeId) → IsNodeOf path s id → (text : Bor (List ℕ)) → IsUtf8 text.now
+    → refusal_in d s (rename path text.now) ≡ None → IsIndexChange s (edited_document s (rename path text.now)) (change.Key id text)
+key_changed d syntax index path s holds read id its_number text utf8 allowed =
+    let b : List Part = beside path text.now in
+    let new : Document = edited_document s (rename path text.now) in
+    let f : List Part → List Part = moved_path path b in
+    let e = editable d s read in
+    let h : IsNodeRenamed path b s new = nodes_renamed d.profile limit s path text.now e.valid e.obeys utf8 allowed in
+    let nested : AreNested (mentions_in s) (reading_after start (statements_in s)).tables =
+    subst (λ (u : Document). AreNested (mentions_in u) (reading_after start (statements_in u)).tables) (tree_is d syntax index s holds read) holds.nested in
+    let here : node_number (telling_in s).paths path ≡ Some id.0 = ap (λ (ps : List (List Part)). node_number ps path) (paths-nodes_in s) ∙ its_number in
+    let (within, at) = number_is (telling_in s).paths path id.0 here in
+    let free : node_number (telling_in s).paths b ≡ None = ap (λ (ps : List (List Part)). node_number ps b) (paths-nodes_in s) ∙ no_number b (mentions_in s) h.fresh in
+    record {
+      can = (within, subst path_of.EndsInKey (sym at) (last_key path h.ends), ap (λ (p : List Part). node_number (telling_in s).paths (beside p text.now)) at ∙ free);
+      told = told_moved (IsClear b) f h.steps s new h.moved.numbered h.moved.mentioned h.clear ∙ ap (λ (p : List Part). with_path (telling_in s) p (beside p text.now)) (sym at);
+      nested = subst (λ (ms : List Mention). AreNested ms (reading_after start (statements_in new)).tables) (sym h.moved.mentioned)
+          (subst (λ (ts : List (List Part)). AreNested (map (moved f) (mentions_in s)) ts) (sym h.moved.tables)
+          (nested_moved (IsClear b) f h.steps (mentions_in s) (reading_after start (statements_in s)).tables h.clear h.tables_clear nested));
+    }

@@ -2,8 +2,8 @@
 --
 -- The law of the edit says so of each node by its path (`kind_set`). Here it is said of the list of what is told of the nodes
 -- (`told_again`), and the nodes are nested as before (`nested_again`).
-use Rattle.std.proofs.Common.{◌≡◌, ◌≢◌, ℕ, ◌-◌, ◌<◌, ◌≤◌, Bool, true, false, List, [], ◌∷◌, ◌++◌, length, get_or, map, refl, sym, ap, ap₂, subst, ◌∙◌, arith, inl, inr, Option, Some, None, slice_get, set}
-use Rattle.std.specs.Prelude.{fold, not, AllPairs}
+use Rattle.std.proofs.Common.{◌≡◌, ◌≢◌, ℕ, ◌-◌, ◌<◌, ◌≤◌, false, List, [], ◌∷◌, ◌++◌, length, get_or, map, refl, sym, ap, ap₂, subst, ◌∙◌, arith, inl, inr, Option, Some, None, slice_get, set}
+use Rattle.std.specs.Prelude.{fold, AllPairs}
 use Rattle.std.specs.List.{list_all}
 use Rattle.std.specs.Option.{option_and_then}
 use Rattle.std.proofs.lemmas.List.{get_or-map}
@@ -11,7 +11,6 @@ use Rattle.std.proofs.lemmas.Bool.{cases_Bool}
 use Rattle.keep_types.specs.declared.leaf.Profile.TheVariants.{Wide}
 use Rattle.keep_syntax.specs.declared.syntax.Syntax.{Syntax}
 use Rattle.keep_syntax.specs.Tree.{Body, scalar, array, inline, Entries, none, entry, Value, Document, value_depth}
-use Rattle.keep_syntax.specs.Profiles.{is_allowed_in}
 use Rattle.keep_syntax.specs.Grammar.{place_in, AreEntries}
 use Rattle.keep_path.specs.Path.{Part, key, same_path}
 use Rattle.keep_path.proofs.Shared.{path_decides}
@@ -21,23 +20,23 @@ use Rattle.keep_types.specs.declared.role.Role.TheVariants.{Element}
 use Rattle.keep_meaning.specs.Counts.{numbered_in, statements_in}
 use Rattle.keep_meaning.specs.Marks.{Mention, start, reading_after, elements_of, entered_path}
 use Rattle.keep_meaning.specs.Meaning.{body_fact, mentions_in}
-use Rattle.keep_meaning.specs.Nodes.{children, fact_kind, is_node, node_at, node_info, node_number, node_paths, infos_in, mention_of, paths_with}
+use Rattle.keep_meaning.specs.Nodes.{children, fact_kind, node_at, node_info, node_number, node_paths, infos_in, mention_of, paths_with}
 use Rattle.keep_meaning.specs.Rules.{allows}
 use Rattle.keep_meaning.proofs.Shared.{mentions-numbered_in, paths-nodes_in}
 use Rattle.keep_path.specs.NodeInfos.{NodeInfos, no_info, with_kind}
 use Rattle.keep_rules.specs.declared.index.NodeId.{NodeId}
-use Rattle.keep_rules.specs.Lookup.{number_of, children_numbered}
+use Rattle.keep_rules.specs.Lookup.{children_numbered}
 use Rattle.keep_rules.specs.Nested.{AreNested}
 use Rattle.keep_rules.specs.RoleStates.{mention_roles}
 use Rattle.keep_rules.proofs.Shared.{number_is, node_paths-distinct, infos_set, infos_of, one_place}
-use Rattle.keep_edit_spec.specs.declared.fault.EditFault.TheVariants as fault
 use Rattle.keep_edit_spec.specs.Changed.{Changed}
-use Rattle.keep_edit_spec.specs.Refusals.{first_that_holds, has_value, is_too_deep}
 use Rattle.keep_edit_spec.specs.Edits.{set as set_edit, changed_or_same, edited_document}
 use Rattle.keep_edit_spec.specs.Laws.{IsLawfulEdit}
 use Rattle.keep_edit_spec.proofs.Shared.{set_lawful, rules_of_document, IsKindSet, kind_set}
 use Rattle.keep_edit_plan.specs.Answers.{refusal_in}
-use Rattle.keep_edit_plan.specs.Kinds.{IsKindChange}
+use Rattle.keep_edit_plan.specs.IndexChanges.{IsIndexChange}
+use Rattle.keep_edit_plan.specs.Plans.{IsNodeOf}
+use Rattle.keep_edit_plan.specs.declared.plan.IndexChange.TheVariants as change
 use Rattle.keep_edit_plan.specs.Reading.{limit, ProfiledText, Holds, IsTextOfTree, IsTextOfValue, telling_in}
 use Rattle.keep_edit_plan.proofs.AnswerLaws.{tree_is, stated_is}
 use Rattle.keep_edit_plan.proofs.EditedLaws.{editable}
@@ -115,21 +114,14 @@ module _ (path : List Part) (k : Kind) (s s' : Document) (h : IsKindSet path k s
 
 -- ---- the edit
 
--- what is not refused names a node
-allowed_node : (x y z u : Bool) → first_that_holds ((not x, fault.NotFound) ∷ (not y, fault.NotValue) ∷ (z, fault.TooDeep) ∷ (not u, fault.Profile) ∷ []) ≡ None → x ≡ true
-allowed_node true y z u e = refl
-allowed_node false y z u e = absurd cc
-
-pub node_there : (d : ProfiledText) (s : Document) (path : List Part) (v : Value) → refusal_in d s (set_edit path v) ≡ None → is_node path (mentions_in s) ≡ true
-node_there d s path v allowed = allowed_node (is_node path (mentions_in s)) (has_value path (mentions_in s)) (is_too_deep limit path v (mentions_in s)) (is_allowed_in d.profile v) allowed
-
-module _ (d : ProfiledText) (syntax : Syntax) (index : NodeInfos) (path : List Part) (s : Document) (holds : Holds d syntax index) (read : IsTextOfTree d s) (id : NodeId) (o : Option NodeId) (one : o ≡ Some id)
-    (found : number_of o ≡ node_number index.paths path) where
+module _ (d : ProfiledText) (syntax : Syntax) (index : NodeInfos) (path : List Part) (s : Document) (holds : Holds d syntax index) (read : IsTextOfTree d s) (id : NodeId)
+    (its_number : IsNodeOf path s id) where
   paths_are : index.paths ≡ node_paths (mentions_in s)
   paths_are = ap (λ (t : NodeInfos). t.paths) (stated_is d syntax index s holds read) ∙ paths-nodes_in s
 
-  its_number : node_number (node_paths (mentions_in s)) path ≡ Some id.0
-  its_number = ap (λ (ps : List (List Part)). node_number ps path) (sym paths_are) ∙ sym found ∙ ap number_of one
+  -- it is in the index
+  pub node_within : id.0 < length index.paths
+  node_within = omega (arith, (number_is (node_paths (mentions_in s)) path id.0 its_number).0, ap length paths_are)
 
   its_children : children_numbered index id.0 ≡ children path (node_paths (mentions_in s))
   its_children =
@@ -148,7 +140,7 @@ module _ (d : ProfiledText) (syntax : Syntax) (index : NodeInfos) (path : List P
       no_length (x ∷ xs) low = absurd (omega (arith, low))
 
   pub kind_changed : (given : List ℕ) (v : Value) → IsTextOfValue given v → refusal_in d s (set_edit path v) ≡ None → (count : ℕ) → count ≡ length (children_numbered index id.0) → count ≤ 0
-      → value_depth v ≤ 0 → (k : Kind) → k ≡ fact_kind (body_fact v.body) → IsKindChange s (edited_document s (set_edit path v)) (record { node = id; kind = k })
+      → value_depth v ≤ 0 → (k : Kind) → k ≡ fact_kind (body_fact v.body) → IsIndexChange s (edited_document s (set_edit path v)) (change.Kind id k)
   kind_changed given v value allowed count is few flat k kind_is =
       let law : IsLawfulEdit d.profile limit s (set_edit path v) = set_lawful d.profile limit s path v (editable d s read) (record { valid = value.reads.valid; obeys = value.obeys }) allowed in
       let empty : v.nested ≡ none = no_entries v.body v.nested value.reads.valid.nested (omega (arith, flat)) in
@@ -160,7 +152,7 @@ module _ (d : ProfiledText) (syntax : Syntax) (index : NodeInfos) (path : List P
       let nested : AreNested (mentions_in s) (reading_after start (statements_in s)).tables =
       subst (λ (u : Document). AreNested (mentions_in u) (reading_after start (statements_in u)).tables) (tree_is d syntax index s holds read) holds.nested in
       record {
-        within = omega (arith, (number_is (node_paths (mentions_in s)) path id.0 its_number).0, ap length (paths-nodes_in s));
+        can = omega (arith, (number_is (node_paths (mentions_in s)) path id.0 its_number).0, ap length (paths-nodes_in s));
         told = told_again path k s (edited_document s (set_edit path v)) h id.0 its_number;
         nested = nested_again (mentions_in s) (mentions_in (edited_document s (set_edit path v))) _ _ (same_paths path k s (edited_document s (set_edit path v)) h id.0 its_number) h.roles h.tables nested;
       }

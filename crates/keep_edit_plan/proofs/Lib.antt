@@ -29,4 +29,5 @@ pub mod LineWriting
 pub mod BracketPlaces
 pub mod KeysLaws
 pub mod InsertedLaws
+pub mod GivenLaws
 pub mod Shared

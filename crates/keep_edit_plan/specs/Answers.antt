@@ -86,7 +86,3 @@ text_after old made = put old (record { start = made.place.start; end = made.pla
 -- It is of the edit's place, and the text with it is what it is after the edit.
 abbrev pub IsMade : Document → Edit → ProfiledText → TextEdit → Type 0
 IsMade s e old made = IsMadeAt (place s e) made × IsTextAfter s e (text_in old.profile (text_after old.text made)) old
-
--- the edit is decided
-abbrev pub EditMade : Document → Edit → ProfiledText → Result TextEdit EditFault → Type 0
-EditMade s e old result = IsDone (IsMade s e old) (refusal_in old s e) result

@@ -6,8 +6,9 @@ pub mod Inserting
 pub mod Holding
 pub mod Newlines
 pub mod Headers
-pub mod Kinds
-pub mod Keys
+pub mod IndexChanges
+pub mod Plans
+pub mod Given
 pub mod Writing
 pub mod Aiming
 pub mod PutLines

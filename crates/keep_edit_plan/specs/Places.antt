@@ -3,7 +3,6 @@ use Rattle.std.specs.Prelude.{◌≡◌, ℕ, List, Some, None, Result, Ok, Err}
 use Rattle.keep_syntax.specs.Tree.{Document}
 use Rattle.keep_types.specs.declared.syntax.Span.{Span}
 use Rattle.keep_edit_spec.specs.declared.fault.EditFault.{EditFault}
-use Rattle.keep_edit_spec.specs.declared.fault.EditFault.TheVariants.{Memory}
 use Rattle.keep_edit_spec.specs.Changed.{Changed, Place, place_of}
 use Rattle.keep_edit_spec.specs.Edits.{Edit, change, place}
 use Rattle.keep_edit_plan.specs.Reading.{ProfiledText, IsTextOfTree, text_in}
@@ -19,11 +18,6 @@ abbrev pub IsDoneAt : Document → Edit → ProfiledText → List ℕ → Result
 IsDoneAt s e old given (Ok span) =
     (refusal_in old s e ≡ None) × (place s e ≡ place_at span given) × IsSpanOf old.text span
 IsDoneAt s e old given (Err f) = refusal_in old s e ≡ Some f
-
--- These bytes are to replace the span; or memory ran out.
-abbrev pub IsPatchAt : Span → List ℕ → Result TextEdit EditFault → Type 0
-IsPatchAt span given (Ok made) = IsMadeAt (place_at span given) made
-IsPatchAt span given (Err f) = f ≡ Memory
 
 -- It was made by an edit that changes the document of the old text: the text with it is read as the new document.
 pub record IsOfEdit (old : ProfiledText) (made : TextEdit) : Type 0 where

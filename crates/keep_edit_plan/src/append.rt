@@ -4,13 +4,13 @@ ghost use Rattle.std.specs.List.{flat_map};
 ghost use Rattle.keep_token.specs.Encoded.{encoded_key};
 ghost use Rattle.keep_syntax.specs.Tree as tree;
 ghost use Rattle.keep_edit_spec.specs.TextEnds as text_ends;
-ghost use Rattle.keep_edit_plan.specs.Answers.{EditMade};
 ghost use Rattle.keep_edit_plan.specs.Headers.{edit_of, key_texts, keys_text, header_text, opening, closing};
-ghost use Rattle.keep_edit_plan.specs.Places.{IsOfEdit};
+ghost use Rattle.keep_edit_plan.specs.Plans.{EditPlanned, IsPlanOf};
 ghost use Rattle.keep_edit_plan.specs.Reading.{IsAccepted, IsTextOfTree};
 
 use crate::document::DocumentRef;
 use crate::header::{Header, check_header};
+use crate::plan::Plan;
 use crate::text_edit::TextEdit;
 use keep_edit_spec::EditFault;
 use keep_syntax::Span;
@@ -18,20 +18,20 @@ use keep_token::encode_key;
 use std::alloc::{AllocError, Global};
 
 impl<'a> DocumentRef<'a> {
-    /// A header at the end of the text: what is written, and where.
+    /// The plan by which a header comes at the end of the text.
     ///
     /// # Errors
     ///
     /// The refusal of the edit, whatever memory there is; else `Memory` if memory was refused.
-    pub fn append_edit(
+    pub fn append_plan(
         &self,
         alloc: Global,
         keys: &[String],
         header: Header,
-    ) -> Result<TextEdit, EditFault>
-        ensures made { (s : tree.Document) → IsTextOfTree self.now s
-            → EditMade s (edit_of header (key_texts keys.now)) self.now result }
-        ensures of_edit { IfOk result (IsOfEdit self.now) }
+    ) -> Result<Plan<'static>, EditFault>
+        ensures planned { (s : tree.Document) → IsTextOfTree self.now s
+            → EditPlanned s (edit_of header (key_texts keys.now)) self.now result }
+        ensures of_edit { IfOk result (IsPlanOf self.now) }
         ensures of { IsAccepted self.now }
     {
         let text = self.text;
@@ -45,9 +45,10 @@ impl<'a> DocumentRef<'a> {
             return Err(EditFault::Memory);
         };
         let end = text.len();
-        Ok(TextEdit {
-            place: Span { start: end, end },
-            new,
+        let place = Span { start: end, end };
+        Ok(Plan {
+            text_edit: TextEdit { place, new },
+            index_change: None,
         })
     }
 }

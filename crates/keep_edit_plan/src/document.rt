@@ -2,10 +2,11 @@
 ghost use Rattle.std.specs.Prelude.{◌≡◌};
 ghost use Rattle.keep_syntax.specs.Tree as tree;
 ghost use Rattle.keep_edit_plan.specs.Answers.{IsFound};
+ghost use Rattle.keep_edit_plan.specs.Plans.{IsValueFound};
 ghost use Rattle.keep_edit_plan.specs.Reading.{Holds, IsTextOfTree, text_in};
 
 use keep_edit_spec::EditFault;
-use keep_rules::{Index, Origin, Path};
+use keep_rules::{Index, NodeId, Origin, Path};
 use keep_syntax::Syntax;
 use keep_token::Profile;
 use std::marker::Model;
@@ -57,11 +58,25 @@ impl<'a> DocumentRef<'a> {
     pub fn value_number(&self, path: &Path) -> Result<usize, EditFault>
         ensures { (s : tree.Document) → IsTextOfTree self.now s → IsFound path.now s result }
     {
-        let Some(id) = self.index.find(path) else {
+        // The invariant of a document is known to the proof from where a field of it is looked at.
+        let _text = self.text;
+        let (_, number) = self.value_node(path)?;
+        Ok(number)
+    }
+
+    /// The node of a path, and the number of its value. It takes no memory.
+    ///
+    /// # Errors
+    ///
+    /// Those of `value_number`.
+    pub(crate) fn value_node(&self, path: &Path) -> Result<(NodeId, usize), EditFault>
+        ensures { (s : tree.Document) → IsTextOfTree self.now s → IsValueFound path.now s result }
+    {
+        let Some(node) = self.index.find(path) else {
             return Err(EditFault::NotFound);
         };
-        match self.index.node(id).origin {
-            Origin::Value(number) => Ok(number),
+        match self.index.node(node).origin {
+            Origin::Value(number) => Ok((node, number)),
             _ => Err(EditFault::NotValue),
         }
     }

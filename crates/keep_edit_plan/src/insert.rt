@@ -10,9 +10,9 @@ ghost use Rattle.keep_meaning.specs.Meaning.{mentions_in};
 ghost use Rattle.keep_meaning.specs.Nodes.{node_number, node_paths};
 ghost use Rattle.keep_edit_spec.specs.Edits.{insert};
 ghost use Rattle.keep_edit_spec.specs.Look.{is_index, item_number};
-ghost use Rattle.keep_edit_plan.specs.Places.{IsOfEdit};
+ghost use Rattle.keep_edit_plan.specs.Plans.{EditPlanned, IsPlanOf};
 ghost use Rattle.keep_edit_plan.specs.Reading.{IsAccepted, IsAcceptedValue, IsTextOfTree, IsTextOfValue};
-ghost use Rattle.keep_edit_plan.specs.Answers.{EditMade, value_number_of};
+ghost use Rattle.keep_edit_plan.specs.Answers.{value_number_of};
 ghost use Rattle.keep_edit_plan.specs.Aiming.{IsAimed, IsItemAimed, IsItemOf, IsKeyvalAimed, longest_prefix};
 ghost use Rattle.keep_edit_plan.specs.Aiming.{spot_in_braces};
 ghost use Rattle.keep_edit_plan.specs.Holding.{IsHolder};
@@ -24,6 +24,7 @@ mod lines;
 use crate::document::DocumentRef;
 use crate::holder::Holder;
 use crate::insert::keys::push_keyed;
+use crate::plan::Plan;
 use crate::text_edit::TextEdit;
 use keep_edit_spec::EditFault;
 use keep_rules::{Kind, NodeId, Origin, Path, Step, ValueText};
@@ -55,20 +56,20 @@ pub(crate) struct Insertion {
 }
 
 impl<'a> DocumentRef<'a> {
-    /// A value at a new path: what is written, and where.
+    /// The plan by which a value comes to a new path.
     ///
     /// # Errors
     ///
     /// The refusal of the edit, whatever memory there is; else `Memory` if memory was refused.
-    pub fn insert_edit(
+    pub fn insert_plan(
         &self,
         alloc: Global,
         path: &Path,
         value: &ValueText,
-    ) -> Result<TextEdit, EditFault>
-        ensures made { (s : tree.Document) → IsTextOfTree self.now s → (v : tree.Value) → IsTextOfValue value.now v
-            → EditMade s (insert path.now v) self.now result }
-        ensures of_edit { IfOk result (IsOfEdit self.now) }
+    ) -> Result<Plan<'static>, EditFault>
+        ensures planned { (s : tree.Document) → IsTextOfTree self.now s → (v : tree.Value) → IsTextOfValue value.now v
+            → EditPlanned s (insert path.now v) self.now result }
+        ensures of_edit { IfOk result (IsPlanOf self.now) }
         ensures of { IsAccepted self.now }
         ensures value { IsAcceptedValue Wide value.now }
     {
@@ -82,9 +83,10 @@ impl<'a> DocumentRef<'a> {
         let Ok(at) = self.push_insertion(alloc, &mut new, path, insertion, value) else {
             return Err(EditFault::Memory);
         };
-        Ok(TextEdit {
-            place: Span { start: at, end: at },
-            new,
+        let place = Span { start: at, end: at };
+        Ok(Plan {
+            text_edit: TextEdit { place, new },
+            index_change: None,
         })
     }
 

@@ -1,20 +1,23 @@
-//! For each edit of a document, decided from what was read of it: the refusal, or else the text after it and its
-//! splice. Nothing is changed here, and the new text is not read. Where an edit is done is found from the index and the
-//! syntax, and the bytes round that place.
+//! For each edit of a document, decided from what was read of it: the refusal, or else its plan, which is what it writes
+//! and where, and what that changes of the index. Nothing is changed here, and the new text is not read. Where an edit is
+//! done is found from the index and the syntax, and the bytes round that place.
 #![tactic(auto)]
 
 mod append;
 mod document;
+mod edit;
 mod header;
 mod holder;
 mod insert;
 mod newline;
+mod plan;
 mod remove;
 mod rename;
 mod set;
 mod text_edit;
 
 pub use document::DocumentRef;
+pub use edit::Edit;
 pub use header::Header;
-pub use set::KindChange;
+pub use plan::{IndexChange, Plan};
 pub use text_edit::{TextEdit, part_at};

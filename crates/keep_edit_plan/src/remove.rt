@@ -10,13 +10,13 @@ ghost use Rattle.keep_path.specs.Path.{Part};
 ghost use Rattle.keep_edit_spec.specs.Edits.{remove};
 ghost use Rattle.keep_edit_spec.specs.Insertion as insertion;
 ghost use Rattle.keep_edit_spec.specs.Removal as removal;
-ghost use Rattle.keep_edit_plan.specs.Answers.{EditMade};
-ghost use Rattle.keep_edit_plan.specs.Places.{IsOfEdit};
+ghost use Rattle.keep_edit_plan.specs.Plans.{EditPlanned, IsPlanOf};
 ghost use Rattle.keep_edit_plan.specs.Reading.{IsAccepted, IsTextOfTree};
 ghost use Rattle.keep_edit_plan.specs.Removing.{cut_place, KeepsNothing, KeepsGap, IsEntryIn, IsCutAt, IsRemovalOf};
 
 use crate::document::DocumentRef;
-use crate::text_edit::{TextEdit, part_at, text_edit_at};
+use crate::plan::{Plan, plan_at};
+use crate::text_edit::part_at;
 use keep_edit_spec::EditFault;
 use keep_rules::{Origin, Path};
 use keep_syntax::{Owner, Span, Statement, StatementKind, Syntax, ValueInfo};
@@ -39,20 +39,21 @@ pub(crate) struct Cut {
 }
 
 impl<'a> DocumentRef<'a> {
-    /// The text without the node of a path: where it is cut, and what is put back there.
+    /// The plan by which the node of a path goes: where the text is cut, and what is put back there.
     ///
     /// # Errors
     ///
     /// The refusal of the edit, whatever memory there is; else `Memory` if memory was refused.
-    pub fn remove_edit(&self, alloc: Global, path: &Path) -> Result<TextEdit, EditFault>
-        ensures made { (s : tree.Document) → IsTextOfTree self.now s → EditMade s (remove path.now) self.now result }
-        ensures of_edit { IfOk result (IsOfEdit self.now) }
+    pub fn remove_plan(&self, alloc: Global, path: &Path) -> Result<Plan<'static>, EditFault>
+        ensures planned { (s : tree.Document) → IsTextOfTree self.now s
+            → EditPlanned s (remove path.now) self.now result }
+        ensures of_edit { IfOk result (IsPlanOf self.now) }
         ensures of { IsAccepted self.now }
     {
         let text = self.text;
         let piece = self.piece(path)?;
         let cut = self.cut(piece);
-        text_edit_at(alloc, cut.span, part_at(text, cut.preserved))
+        plan_at(alloc, cut.span, part_at(text, cut.preserved), None)
     }
 
     /// What goes with the node of a path, or why it can't be removed. It takes no memory.

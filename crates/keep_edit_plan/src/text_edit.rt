@@ -2,9 +2,7 @@
 ghost use Rattle.std.specs.Prelude.{◌≡◌, IfOk, string_bytes};
 ghost use Rattle.keep_meaning.specs.KeyText.{text_at};
 ghost use Rattle.keep_edit_plan.specs.Answers.{IsSpanOf, text_after};
-ghost use Rattle.keep_edit_plan.specs.Places.{IsPatchAt};
 
-use keep_edit_spec::EditFault;
 use keep_syntax::Span;
 use std::alloc::{AllocError, Global};
 
@@ -42,14 +40,4 @@ pub fn part_at(text: &str, span: Span) -> &str
     ensures { result.now ≡ text_at text.now span }
 {
     &text[span.start..span.end]
-}
-
-/// That these bytes are to replace those of a span. The only error is out of memory.
-pub(crate) fn text_edit_at(alloc: Global, place: Span, new: &str) -> Result<TextEdit, EditFault>
-    ensures { IsPatchAt place new.now result }
-{
-    let Ok(new) = String::from_str(alloc, new) else {
-        return Err(EditFault::Memory);
-    };
-    Ok(TextEdit { place, new })
 }

@@ -1,14 +1,9 @@
-use Rattle.std.proofs.lemmas.Result.{err_from_is_err_and}
 use Rattle.keep_edit_spec.specs.Edits.{append_table}
 use Rattle.keep_edit.specs.Headers.{key_texts}
-use Rattle.keep_edit.proofs.EditedLaws.{made_of, moved_done, undone_of}
 use Rattle.keep_edit.proofs.document.Document.append_table.Goals as goal
 
-pub returns-in_err-appended-clause-done : goal.returns-in_err-appended-clause-done
-returns-in_err-appended-clause-done c = λ s read.
-    let p = err_from_is_err_and c.from_residual.result c.from_residual.ensures.1 in
-    rw (p.1, p.2) (undone_of s (append_table (key_texts c.args.keys.now)) c.args.self.now _ _ (made_of s (append_table (key_texts c.args.keys.now)) _ c.as_ref.ensures (λ k. c.in_err-appended.ensures.made s k) read))
+pub apply_plan-requires : goal.apply_plan-requires
+apply_plan-requires c = rw c.as_ref.ensures at c.append_plan.ensures.of_edit
 
 pub returns-clause-done : goal.returns-clause-done
-returns-clause-done c = λ s read.
-    moved_done s (append_table (key_texts c.args.keys.now)) c.args.self.now _ c.in_ok-appended.appended _ read (made_of s (append_table (key_texts c.args.keys.now)) _ c.as_ref.ensures (λ k. c.in_ok-appended.ensures.made s k) read) c.replaced.ensures.moved
+returns-clause-done c = λ s read. c.apply_plan.ensures.done s read (append_table (key_texts c.args.keys.now)) ((rw c.as_ref.ensures at c.append_plan.ensures.planned) s read)

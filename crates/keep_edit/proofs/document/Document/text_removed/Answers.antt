@@ -1,12 +1,8 @@
-use Rattle.std.proofs.lemmas.Result.{err_from_is_err_and}
 use Rattle.keep_edit_spec.specs.Edits.{remove}
-use Rattle.keep_edit.proofs.EditedLaws.{made_of, report_of, untold_of}
 use Rattle.keep_edit.proofs.document.Document.text_removed.Goals as goal
 
-pub returns-in_err-removed-clause-stated : goal.returns-in_err-removed-clause-stated
-returns-in_err-removed-clause-stated c = λ s read.
-    let p = err_from_is_err_and c.from_residual.result c.from_residual.ensures.1 in
-    rw (p.1, p.2) (untold_of s (remove c.args.path.now) c.args.self.now _ (made_of s (remove c.args.path.now) _ c.as_ref.ensures (λ k. c.in_err-removed.ensures.made s k) read))
+pub text_by_plan-requires : goal.text_by_plan-requires
+text_by_plan-requires c = rw c.as_ref.ensures at c.remove_plan.ensures.of_edit
 
 pub returns-clause-stated : goal.returns-clause-stated
-returns-clause-stated c = λ s read. report_of s (remove c.args.path.now) c.args.self.now c.in_ok-removed.removed _ (made_of s (remove c.args.path.now) _ c.as_ref.ensures (λ k. c.in_ok-removed.ensures.made s k) read) c.text_after.ensures
+returns-clause-stated c = λ s read. c.text_by_plan.ensures s read (remove c.args.path.now) ((rw c.as_ref.ensures at c.remove_plan.ensures.planned) s read)

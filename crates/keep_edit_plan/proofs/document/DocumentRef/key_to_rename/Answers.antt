@@ -1,7 +1,7 @@
 use Rattle.std.proofs.Common.{◌∙◌, ap, sym}
 use Rattle.std.specs.Prelude.{is_some}
 use Rattle.keep_edit_plan.proofs.AnswerLaws.{seen}
-use Rattle.keep_edit_plan.proofs.FoundLaws.{none_found, one_found}
+use Rattle.keep_edit_plan.proofs.FoundLaws.{none_found, one_found, number_found_at}
 use Rattle.keep_edit_plan.proofs.RenameLaws.{not_found, not_key, exists_there, node_test, beside_test, IsOneKey, key_found, scattered, has_span, renamed_there}
 use Rattle.keep_edit_plan.proofs.document.DocumentRef.key_to_rename.Goals as goal
 
@@ -25,7 +25,7 @@ returns-in-Some-key_span c = λ s read.
     let stated = one_found _ _ _ _ s (seen c.self.view_is c.self.invariant) read _ _ _ c.in-Some.is c.find.ensures.found c.node-node.ensures in
     let there = beside_test _ _ _ c.args.path.now c.args.key.now s (seen c.self.view_is c.self.invariant) read c.sibling.result c.sibling.ensures.found in
     let one : IsOneKey c.args.self.now c.args.key.now c.args.path.now s c.node-node.result c.key_span.result = record { read = read; utf8 = c.utf8.key; stated = stated; key_is = key_found _ _ _ _ s (seen c.self.view_is c.self.invariant) read _ _ c.in-Some.is c.find.ensures.found _ c.key_span.ensures; by_key = sym c.ends_in_key.ensures ∙ c.if-not-ends_in_key.false; fresh = there ∙ sym c.is_some.ensures ∙ c.if-is_some.false } in
-    renamed_there c.args.self.now c.args.key.now c.args.path.now s c.node-node.result _ one c.in-Some-key_span.span c.if-node-eq1.true c.in-Some-key_span.is
+    (number_found_at _ _ _ _ s (seen c.self.view_is c.self.invariant) read _ _ c.in-Some.is c.find.ensures.found, renamed_there c.args.self.now c.args.key.now c.args.path.now s c.node-node.result _ one c.in-Some-key_span.span c.if-node-eq1.true c.in-Some-key_span.is)
 
 pub returns-in_default-key_span : goal.returns-in_default-key_span
 returns-in_default-key_span c = λ s read.

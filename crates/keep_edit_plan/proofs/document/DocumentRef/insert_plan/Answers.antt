@@ -1,15 +1,15 @@
-use Rattle.std.proofs.Common.{[], refl}
+use Rattle.std.proofs.Common.{[], None, refl}
 use Rattle.std.proofs.lemmas.Result.{err_from_is_err_and}
 use Rattle.keep_edit_spec.specs.Edits.{insert}
 use Rattle.keep_edit_plan.proofs.AnswerLaws.{seen}
-use Rattle.keep_edit_plan.proofs.EditedLaws.{refused_made, patch_made, of_edit}
+use Rattle.keep_edit_plan.proofs.EditedLaws.{refused_planned, planned, of_plan}
 use Rattle.keep_edit_plan.proofs.InsertedLaws.{insert_law, inserted_at}
-use Rattle.keep_edit_plan.proofs.document.DocumentRef.insert_edit.Goals as goal
+use Rattle.keep_edit_plan.proofs.document.DocumentRef.insert_plan.Goals as goal
 
-pub returns-in_err-insertion-clause-made : goal.returns-in_err-insertion-clause-made
-returns-in_err-insertion-clause-made c = λ s read v value.
+pub returns-in_err-insertion-clause-planned : goal.returns-in_err-insertion-clause-planned
+returns-in_err-insertion-clause-planned c = λ s read v value.
     let p = err_from_is_err_and c.from_residual.result c.from_residual.ensures.1 in
-    rw (p.1, p.2) (refused_made s (insert c.args.path.now v) c.args.self.now [] _ (c.in_err-insertion.ensures.insertion s read v value))
+    rw (p.1, p.2) (refused_planned s (insert c.args.path.now v) c.args.self.now [] _ (c.in_err-insertion.ensures.insertion s read v value))
 
 pub push_insertion-requires-clause-aimed : goal.push_insertion-requires-clause-aimed
 push_insertion-requires-clause-aimed c =
@@ -17,12 +17,12 @@ push_insertion-requires-clause-aimed c =
     let (v, value) = c.as_str-given.ensures.accepted in
     (h.tree, h.read, (v, value, c.in_ok-insertion.ensures.insertion h.tree h.read v value))
 
-pub returns-clause-made : goal.returns-clause-made
-returns-clause-made c = λ s read v value.
+pub returns-clause-planned : goal.returns-clause-planned
+returns-clause-planned c = λ s read v value.
     let h = seen c.self.view_is c.self.invariant in
     let at = inserted_at _ _ _ c.args.path.now s v c.args.value.now _ h read value (c.in_ok-insertion.ensures.insertion s read v value) c.insertion.ensures.utf8 c.in-Ok-push_insertion.at _ _ c.in-Ok.ensures.bytes
     (c.in-Ok-push_insertion.ensures s read v value (c.in_ok-insertion.ensures.insertion s read v value)) in
-    patch_made c.args.self.now s (insert c.args.path.now v) _ _ read at (insert_law _ _ _ c.args.path.now s v c.args.value.now _ h read value (c.in_ok-insertion.ensures.insertion s read v value) c.insertion.ensures.utf8) _ (refl, refl)
+    planned c.args.self.now s (insert c.args.path.now v) _ _ read at (insert_law _ _ _ c.args.path.now s v c.args.value.now _ h read value (c.in_ok-insertion.ensures.insertion s read v value) c.insertion.ensures.utf8) None tt (λ one. absurd one) _ ((refl, refl), refl)
 
 pub returns-clause-of_edit : goal.returns-clause-of_edit
 returns-clause-of_edit c =
@@ -30,4 +30,4 @@ returns-clause-of_edit c =
     let (v, value) = c.as_str-given.ensures.accepted in
     let at = inserted_at _ _ _ c.args.path.now h.tree v c.args.value.now _ h h.read value (c.in_ok-insertion.ensures.insertion h.tree h.read v value) c.insertion.ensures.utf8 c.in-Ok-push_insertion.at _ _ c.in-Ok.ensures.bytes
     (c.in-Ok-push_insertion.ensures h.tree h.read v value (c.in_ok-insertion.ensures.insertion h.tree h.read v value)) in
-    of_edit c.args.self.now h.tree (insert c.args.path.now v) _ _ h.read at (insert_law _ _ _ c.args.path.now h.tree v c.args.value.now _ h h.read value (c.in_ok-insertion.ensures.insertion h.tree h.read v value) c.insertion.ensures.utf8) _ (refl, refl)
+    of_plan c.args.self.now h.tree (insert c.args.path.now v) _ _ h.read at (insert_law _ _ _ c.args.path.now h.tree v c.args.value.now _ h h.read value (c.in_ok-insertion.ensures.insertion h.tree h.read v value) c.insertion.ensures.utf8) None tt _ (refl, refl)

@@ -1,7 +1,7 @@
 use Rattle.std.proofs.Common.{ap, arith, length, refl}
 use Rattle.keep_edit_plan.proofs.Shared.{text_seen}
 use Rattle.keep_edit.proofs.TakeLaws.{in_text, high, cut, scanned_as, scanned_is, holds_after, read_after, change_told, change_can, holds_same}
-use Rattle.keep_edit.proofs.changes.reread.Goals as goal
+use Rattle.keep_edit.proofs.planned.reread.Goals as goal
 
 pub lines-whole-requires : goal.lines-whole-requires
 lines-whole-requires c =

@@ -10,18 +10,18 @@ use Rattle.keep_path.specs.Path.{EndsInKey, beside}
 use Rattle.keep_rules.specs.Lookup.{path_numbered}
 use Rattle.keep_rules.specs.Nested.{AreNested}
 use Rattle.keep_edit_plan.specs.Reading.{telling_in}
-use Rattle.keep_edit.specs.declared.index_change.IndexChange.{IndexChange}
-use Rattle.keep_edit.specs.declared.index_change.IndexChange.TheVariants.{Kind, Key}
+use Rattle.keep_edit_plan.specs.declared.plan.IndexChange.{IndexChange}
+use Rattle.keep_edit_plan.specs.declared.plan.IndexChange.TheVariants.{Kind, Key}
 
 -- The node is there. Where another key is its path's last one, the path ends in a key, and no node is at the new one.
 abbrev pub CanChange : NodeInfos → IndexChange → Type 0
-CanChange t (Kind k) = k.node.0 < length t.paths
+CanChange t (Kind node kind) = node.0 < length t.paths
 CanChange t (Key node text) =
     (node.0 < length t.paths) × EndsInKey (path_numbered t node.0)
     × (node_number t.paths (beside (path_numbered t node.0) text.now) ≡ None)
 
 abbrev pub changed_index : NodeInfos → IndexChange → NodeInfos
-changed_index t (Kind k) = with_kind t k.node.0 k.kind
+changed_index t (Kind node kind) = with_kind t node.0 kind
 changed_index t (Key node text) = with_path t (path_numbered t node.0) (beside (path_numbered t node.0) text.now)
 
 -- What is told of the nodes of the new document is what is told of those of the old one, with this change. They are

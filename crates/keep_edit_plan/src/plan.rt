@@ -1,0 +1,43 @@
+//! What is decided of an edit: what it writes, and what it changes of the index.
+ghost use Rattle.keep_edit_plan.specs.Plans.{IsPlanAt};
+
+use crate::text_edit::TextEdit;
+use keep_edit_spec::EditFault;
+use keep_rules::{Kind, NodeId};
+use keep_syntax::Span;
+use std::alloc::Global;
+
+/// A change of an index that leaves its nodes, their order and all numbers.
+#[derive(Clone, Copy)]
+pub enum IndexChange<'a> {
+    /// One node has another kind.
+    Kind { node: NodeId, kind: Kind },
+    /// The path of one node has another last key, and so do the paths of all nodes below it.
+    Key { node: NodeId, key: &'a str },
+}
+
+/// What an edit does to a document.
+#[derive(Drop)]
+pub struct Plan<'a> {
+    pub text_edit: TextEdit,
+    /// All that changes of the index; None if the index has to be built anew.
+    pub index_change: Option<IndexChange<'a>>,
+}
+
+/// The plan by which these bytes replace those of a span. The only error is out of memory.
+pub(crate) fn plan_at<'a>(
+    alloc: Global,
+    place: Span,
+    new: &str,
+    index_change: Option<IndexChange<'a>>,
+) -> Result<Plan<'a>, EditFault>
+    ensures { IsPlanAt place new.now index_change.entry result }
+{
+    let Ok(new) = String::from_str(alloc, new) else {
+        return Err(EditFault::Memory);
+    };
+    Ok(Plan {
+        text_edit: TextEdit { place, new },
+        index_change,
+    })
+}
