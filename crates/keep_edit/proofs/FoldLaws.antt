@@ -1,16 +1,12 @@
 -- Edits that are made one after another: the fold of those before a number, and one more.
-use Rattle.std.proofs.Common.{◌≡◌, ◌∙◌, ◌+◌, ◌<◌, ◌≤◌, ◌++◌, ◌⊎◌, ℕ, zero, suc, Bool, true, List, [], ◌∷◌, length, map, take, get_or, Option, Some, None, refl, sym, ap, subst, inl, inr, arith, length-take}
+use Rattle.std.proofs.Common.{◌≡◌, ◌∙◌, ◌+◌, ◌<◌, ◌++◌, ℕ, zero, suc, true, List, [], ◌∷◌, length, take, get_or, Option, Some, None, refl, sym, ap, subst, inl, inr, arith, length-take}
 use Rattle.std.proofs.Math.Nat.{add-zero}
 use Rattle.std.proofs.lemmas.Bool.{eqb-true}
-use Rattle.std.proofs.lemmas.List.{take_all}
-use Rattle.std.specs.Prelude.{◌==◌, Result, Ok, Err, string_bytes}
+use Rattle.std.specs.Prelude.{◌==◌, Result, Ok, Err}
 use Rattle.std.specs.List.{AllZip}
 use Rattle.keep_types.specs.declared.leaf.Profile.{Profile}
-use Rattle.keep_syntax.specs.Tree.{Value, Document, value_text}
-use Rattle.keep_path.specs.Path.{Part}
-use Rattle.keep_path.specs.PathText.{encoded_path}
+use Rattle.keep_syntax.specs.Tree.{Document}
 use Rattle.keep_edit_spec.specs.declared.fault.EditFault.{EditFault}
-use Rattle.keep_edit_spec.specs.declared.fault.EditFault.TheVariants as fault
 use Rattle.keep_edit_spec.specs.declared.splice.Splice.{Splice}
 use Rattle.keep_edit_spec.specs.Answers as answers
 use Rattle.keep_edit_spec.specs.Answers.{applied_from}
@@ -19,10 +15,9 @@ use Rattle.keep_edit_spec.specs.Edits.{edited_document}
 use Rattle.keep_edit_spec.specs.Laws.{given_size}
 use Rattle.keep_edit_spec.specs.Refusals.{refusal}
 use Rattle.keep_edit.specs.Answers.{EditDone, IsDone, IsEdited, refusal_in}
-use Rattle.keep_edit.specs.Lists.{IsEdit, size_of, growth_of, AreMade, IsRefusedAt, IsOutOfMemoryAt, IsNotCopied, StopsAt}
-use Rattle.keep_edit.specs.Reading.{limit, ProfiledText, IsTextOfTree, IsTextOfValue}
+use Rattle.keep_edit.specs.Lists.{IsEdit, growth_of, AreMade, StopsAt}
+use Rattle.keep_edit.specs.Reading.{limit, ProfiledText, IsTextOfTree}
 use Rattle.keep_edit_plan.specs.declared.edit.Edit.{Edit}
-use Rattle.keep_edit_plan.specs.declared.edit.Edit.TheVariants.{Set, Insert, Rename, Remove, Table, Element}
 
 -- ---- the definitions' fold
 
@@ -65,25 +60,15 @@ zip_more (y ∷ ys) zero d x (z ∷ zs) e lt is h r = absurd h
 zip_more (y ∷ ys) (suc i) d x [] e lt is h r = absurd h
 zip_more (y ∷ ys) (suc i) d x (z ∷ zs) e lt is h r = (h.0, zip_more ys i d x zs e (omega arith) is h.1 r)
 
-growth_more : (edits : List Edit) (i : ℕ) (d x : Edit) → i < length edits → get_or edits i d ≡ x → growth_of (take (suc i) edits) ≡ growth_of (take i edits) + size_of x + 12
-growth_more [] i d x lt is = absurd (omega arith)
-growth_more (y ∷ ys) zero d x lt is = omega (arith, ap size_of is)
-growth_more (y ∷ ys) (suc i) d x lt is = omega (arith, growth_more ys i d x (omega arith) is)
-
--- an edit gives as many bytes as its values have
-size_is : (x : Edit) (e : law.Edit) → IsEdit x e → given_size e ≡ size_of x
-size_is (Set path value) e (v, is, same) = rw same (ap (λ (t : List ℕ). length (encoded_path path) + length t) (sym is.reads.spelled))
-size_is (Insert path value) e (v, is, same) = rw same (ap (λ (t : List ℕ). length (encoded_path path) + length t) (sym is.reads.spelled))
-size_is (Rename path name) e same = ap given_size same
-size_is (Remove path) e same = ap given_size same
-size_is (Table keys) e same = ap given_size same
-size_is (Element keys) e same = ap given_size same
+growth_more : (es : List law.Edit) (e : law.Edit) → growth_of (es ++ e ∷ []) ≡ growth_of es + given_size e + 12
+growth_more [] e = omega arith
+growth_more (x ∷ es) e = omega (arith, growth_more es e)
 
 -- ---- one after another
 
 -- none yet
 pub none_made : (s : Document) (d : ProfiledText) → IsTextOfTree d s → AreMade s [] d d
-none_made s d h = record { es = []; are = tt; tree = s; made = refl; read = h; profile = refl }
+none_made s d h = record { es = []; are = tt; tree = s; made = refl; read = h; profile = refl; growth = omega arith }
 
 -- the edit of a number, which answers so on the document after those before it
 module _ (s : Document) (edits : List Edit) (first old new : ProfiledText) (i : ℕ) (d x : Edit) (e : law.Edit) (lt : i < length edits) (is : get_or edits i d ≡ x) (given : IsEdit x e) (h : AreMade s (take i edits) first old) where
@@ -106,6 +91,7 @@ module _ (s : Document) (edits : List Edit) (first old new : ProfiledText) (i : 
         made = applied_more first.profile 0 h.es e s h.tree h.made r;
         read = done.1.tree;
         profile = done.1.profile ∙ h.profile;
+        growth = omega (arith, h.growth, done.1.growth, growth_more h.es e);
       }
 
   -- it is refused, or memory ran out
@@ -134,15 +120,6 @@ module _ (s : Document) (edits : List Edit) (first old new : ProfiledText) (i : 
         tree = edited_document h.tree e;
         allowed = applied_more first.profile 0 h.es e s h.tree h.made r;
       })
-
--- an edit that is made lets the text grow by what it gives, and 12 bytes
-pub grown : (edits : List Edit) (i n : ℕ) (d x : Edit) (e : law.Edit) (u : Document) (old new : ProfiledText) (splice : Splice) → i < length edits → get_or edits i d ≡ x → IsEdit x e → EditDone u e old new (Ok splice)
-    → length old.text ≤ n + growth_of (take i edits) → length new.text ≤ n + growth_of (take (suc i) edits)
-grown edits i n d x e u old new splice lt is given k le = by (refusal_in old u e) k
-  where
-    by : (o : Option EditFault) → IsDone (IsEdited u e new old) o (Ok splice) → length new.text ≤ n + growth_of (take (suc i) edits)
-    by (Some f) done = absurd (let no : Ok splice ≡ Err f = done in cc)
-    by None done = omega (arith, le, done.1.growth, size_is x e given, growth_more edits i d x lt is)
 
 -- ---- the whole list
 

@@ -1,41 +1,26 @@
 -- Edits that are given as values, and what a list of them answers.
-use Rattle.std.specs.Prelude.{◌≡◌, ◌⊎◌, ℕ, suc, ◌+◌, ◌<◌, List, [], ◌∷◌, length, map, take, Result, Ok, Err}
-use Rattle.std.specs.Prelude.{string_bytes}
+use Rattle.std.specs.Prelude.{◌≡◌, ◌⊎◌, ℕ, suc, ◌+◌, ◌<◌, ◌≤◌, List, [], ◌∷◌, length, take, Result, Ok, Err}
 use Rattle.std.specs.List.{AllZip}
 use Rattle.keep_types.specs.declared.leaf.Profile.{Profile}
-use Rattle.keep_token.specs.Encoded.{encoded_key}
-use Rattle.keep_syntax.specs.Tree.{Value, Document}
-use Rattle.keep_path.specs.Path.{key}
-use Rattle.keep_path.specs.PathText.{encoded_path}
+use Rattle.keep_syntax.specs.Tree.{Document}
 use Rattle.keep_edit_spec.specs.declared.fault.EditFault.{EditFault}
 use Rattle.keep_edit_spec.specs.declared.fault.EditFault.TheVariants.{Memory}
 use Rattle.keep_edit_spec.specs.Answers.{applied_edits}
 use Rattle.keep_edit_spec.specs.Edits as law
-use Rattle.keep_edit.specs.Reading.{limit, ProfiledText, IsTextOfTree, IsTextOfValue}
+use Rattle.keep_edit_spec.specs.Laws.{given_size}
+use Rattle.keep_edit.specs.Reading.{limit, ProfiledText, IsTextOfTree}
 pub use Rattle.keep_edit_plan.specs.Given.{IsEdit}
 use Rattle.keep_edit_plan.specs.declared.edit.Edit.{Edit}
-use Rattle.keep_edit_plan.specs.declared.edit.Edit.TheVariants.{Set, Insert, Rename, Remove, Table, Element}
-
--- ---- one edit
-
--- how many bytes it gives, as they are written: its path and its value, or its new key
-abbrev pub size_of : Edit → ℕ
-size_of (Set path value) = length (encoded_path path) + length value
-size_of (Insert path value) = length (encoded_path path) + length value
-size_of (Rename path name) = length (encoded_key (string_bytes name))
-size_of (Remove path) = 0
-size_of (Table keys) = length (encoded_path (map key (map string_bytes keys.items)))
-size_of (Element keys) = length (encoded_path (map key (map string_bytes keys.items)))
 
 -- ---- a list of edits
 
 -- the sum of what they give, and 12 bytes each
-abbrev pub growth_of : List Edit → ℕ
+abbrev pub growth_of : List law.Edit → ℕ
 growth_of [] = 0
-growth_of (e ∷ es) = size_of e + 12 + growth_of es
+growth_of (e ∷ es) = given_size e + 12 + growth_of es
 
 -- All edits are made in their order, each on the document after those before it, and the new text is that of the last
--- document.
+-- document. It has grown by no more than what they give, as it is written, and 12 bytes each.
 pub record AreMade (s : Document) (edits : List Edit) (old : ProfiledText) (new : ProfiledText) : Type 0 where
   pub es : List law.Edit
   pub are : AllZip IsEdit edits es
@@ -43,6 +28,7 @@ pub record AreMade (s : Document) (edits : List Edit) (old : ProfiledText) (new 
   pub made : applied_edits old.profile limit es s ≡ Ok tree
   pub read : IsTextOfTree new tree
   pub profile : new.profile ≡ old.profile
+  pub growth : length new.text ≤ length old.text + growth_of es
 
 -- The edit with this number, from 0, is the first that is refused, on the document after those before it, and this is
 -- why.

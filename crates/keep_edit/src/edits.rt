@@ -1,10 +1,10 @@
 //! Edits that are given as values: one, and lists of them.
-ghost use Rattle.std.specs.Prelude.{◌≡◌, ◌⊎◌, ◌+◌, ◌<◌, ◌≤◌, length, IfErr, IfOk, MatchResult, OnErr};
+ghost use Rattle.std.specs.Prelude.{◌≡◌, ◌⊎◌, ◌<◌, length, IfErr, MatchResult, OnErr};
 ghost use Rattle.keep_syntax.specs.Tree as tree;
 ghost use Rattle.keep_edit_spec.specs.Edits as law;
 ghost use Rattle.keep_edit.specs.Reading.{IsAccepted, IsTextOfTree};
 ghost use Rattle.keep_edit.specs.Answers.{EditDone, EditReported};
-ghost use Rattle.keep_edit.specs.Lists.{IsEdit, AllDone, AreMade, EachDone, IsNotCopied, StopsAt, growth_of};
+ghost use Rattle.keep_edit.specs.Lists.{IsEdit, AllDone, AreMade, EachDone, IsNotCopied, StopsAt};
 
 use crate::document::Document;
 use keep_edit_plan::Edit;
@@ -55,7 +55,6 @@ impl Document {
         ensures done { (s : tree.Document) → IsTextOfTree self.old s → AllDone s edits.now self.old self.new result }
         ensures accepted { IsAccepted self.old }
         ensures read { IsAccepted self.new }
-        ensures growth { IfOk result (λ done. length self.new.text ≤ length self.old.text + growth_of edits.now) }
         ensures refused { OnErr result (self.new ≡ self.old) }
         ensures number { IfErr result (λ stop. stop.0 < length edits.now) }
     {
@@ -73,7 +72,6 @@ impl Document {
         requires { 0 < length edits.now }
         ensures done { (s : tree.Document) → IsTextOfTree self.now s → MatchResult result (AreMade s edits.now self.now)
             (λ stop. StopsAt s edits.now self.now.profile stop.0 stop.1 ⊎ IsNotCopied edits.now stop.0 stop.1) }
-        ensures growth { IfOk result (λ new. length new.text ≤ length self.now.text + growth_of edits.now) }
         ensures number { IfErr result (λ stop. stop.0 < length edits.now) }
         ensures of { IsAccepted self.now }
     {
@@ -88,7 +86,6 @@ impl Document {
     /// Makes the edits in their order, up to the first that is refused.
     fn apply_each(&mut self, edits: &[Edit]) -> Result<(), (usize, EditFault)>
         ensures done { (s : tree.Document) → IsTextOfTree self.old s → EachDone s edits.now self.old self.new result }
-        ensures growth { IfOk result (λ done. length self.new.text ≤ length self.old.text + growth_of edits.now) }
         ensures number { IfErr result (λ stop. stop.0 < length edits.now) }
     {
         for index in 0..edits.len() {

@@ -1,14 +1,14 @@
-use Rattle.std.proofs.Common.{ℕ, ◌≡◌, ◌<◌, ◌≤◌, ◌+◌, suc, sym, subst, take, length, arith}
-use Rattle.keep_edit.specs.Lists.{AreMade, growth_of}
-use Rattle.keep_edit.proofs.FoldLaws.{none_made, one_made, one_stopped, grown}
+use Rattle.std.proofs.Common.{ℕ, ◌≡◌, ◌<◌, ◌+◌, suc, sym, subst, take, length, arith}
+use Rattle.keep_edit.specs.Lists.{AreMade}
+use Rattle.keep_edit.proofs.FoldLaws.{none_made, one_made, one_stopped}
 use Rattle.keep_edit.proofs.document.Document.apply_each.Goals as goal
 
 pub loop-index-init : goal.loop-index-init
-loop-index-init c = (λ s h. none_made s c.args.self.now h, omega arith)
+loop-index-init c = λ s h. none_made s c.args.self.now h
 
 pub returns-in-Err-clause-done : goal.returns-in-Err-clause-done
 returns-in-Err-clause-done c = λ s h.
-    let before = c.loop-index.invariant.0 s h in
+    let before = c.loop-index.invariant s h in
     let (e, given) = c.in-Err.ensures.edit in
     one_stopped s c.args.edits.now c.args.self.now c.loop-index.self c.apply.new.self c.loop-index.index c.index-edits-index.result c.index-edits-index.result e
     (omega (arith, c.loop-index-test.true)) (sym c.index-edits-index.is) given before c.in-Err.fault (c.in-Err.ensures.done before.tree before.read e given)
@@ -22,11 +22,7 @@ loop-index-preserved c =
     let lt : c.loop-index.index < length c.args.edits.now = omega (arith, c.loop-index-test.true) in
     let one : suc c.loop-index.index ≡ c.loop-index.index + 1 = omega arith in
     let (e, given) = c.in_default.ensures.edit in
-    let (u, read) = c.in_default.ensures.accepted in (
-      λ s h. (
-          let before = c.loop-index.invariant.0 s h in
-          subst (λ (n : ℕ). AreMade s (take n edits) first new) one
-          (one_made s edits first c.loop-index.self new i c.index-edits-index.result c.index-edits-index.result e lt (sym c.index-edits-index.is) given before c.in_default.field-0 (c.in_default.ensures.done before.tree before.read e given))),
-      subst (λ (n : ℕ). length new.text ≤ length first.text + growth_of (take n edits)) one
-          (grown edits i (length first.text) c.index-edits-index.result c.index-edits-index.result e u c.loop-index.self new c.in_default.field-0 lt (sym c.index-edits-index.is) given (c.in_default.ensures.done u read e given) c.loop-index.invariant.1),
-    )
+    λ s h.
+    let before = c.loop-index.invariant s h in
+    subst (λ (n : ℕ). AreMade s (take n edits) first new) one
+    (one_made s edits first c.loop-index.self new i c.index-edits-index.result c.index-edits-index.result e lt (sym c.index-edits-index.is) given before c.in_default.field-0 (c.in_default.ensures.done before.tree before.read e given))

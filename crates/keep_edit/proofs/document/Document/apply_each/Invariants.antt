@@ -1,10 +1,8 @@
-use Rattle.std.proofs.Common.{◌≤◌, ◌+◌, length, take}
+use Rattle.std.proofs.Common.{take}
 use Rattle.keep_syntax.specs.Tree.{Document}
-use Rattle.keep_edit.specs.Lists.{AreMade, growth_of}
+use Rattle.keep_edit.specs.Lists.{AreMade}
 use Rattle.keep_edit.specs.Reading.{IsTextOfTree}
 use Rattle.keep_edit.proofs.document.Document.apply_each.Given as goal
 
 abbrev pub invariant-loop-index : goal.invariant-loop-index
-invariant-loop-index l =
-    ((s : Document) → IsTextOfTree l.fn.self s → AreMade s (take l.index l.edits) l.fn.self l.self)
-    × (length l.self.text ≤ length l.fn.self.text + growth_of (take l.index l.edits))
+invariant-loop-index l = (s : Document) → IsTextOfTree l.fn.self s → AreMade s (take l.index l.edits) l.fn.self l.self
