@@ -1,5 +1,5 @@
 -- Reading and changing nodes whose parent links are stored in a separate vector.
-use Rattle.std.proofs.Common.{◌≡◌, ℕ, zero, suc, ◌<◌, List, [], ◌∷◌, ◌++◌, length, get_or, set, refl, sym, ◌∙◌, ap, arith, Some}
+use Rattle.std.proofs.Common.{◌≡◌, ℕ, zero, suc, ◌<◌, List, [], ◌∷◌, ◌++◌, length, get_or, set, take, refl, sym, ◌∙◌, ap, arith, Some}
 use Rattle.std.specs.Prelude.{slice_get}
 use Rattle.std.proofs.lemmas.Option.{get_or_from_slice_get}
 use Rattle.keep_index_store.specs.declared.links.ParentLink.{ParentLink}
@@ -36,6 +36,12 @@ rows_set [] links i n e paired = refl
 rows_set (m ∷ nodes) [] i n e paired = absurd (omega (arith, paired))
 rows_set (m ∷ nodes) (h ∷ links) zero n e paired = refl
 rows_set (m ∷ nodes) (h ∷ links) (suc i) n e paired = ap (λ (xs : List Node). node_row m h ∷ xs) (rows_set nodes links i n e (omega (arith, paired)))
+
+rows_take : (nodes : List StoredNode) (links : List ParentLink) (n : ℕ) → node_rows (take n nodes) (take n links) ≡ take n (node_rows nodes links)
+rows_take nodes links zero = refl
+rows_take [] links (suc n) = refl
+rows_take (m ∷ nodes) [] (suc n) = refl
+rows_take (m ∷ nodes) (h ∷ links) (suc n) = ap (λ (xs : List Node). node_row m h ∷ xs) (rows_take nodes links n)
 
 -- in place of a node or a link that is not there
 nowhere : ParentLink
@@ -89,6 +95,10 @@ module _ (nodes : List StoredNode) (links : List ParentLink) (all : AllNodes) (v
         rows_set nodes links i (record n { facts = facts }) nowhere paired
         ∙ ap (λ (x : AllNodes). set x.items i (node_row (record n { facts = facts }) (get_or links i nowhere))) view
         ∙ ap (λ (x : Node). let r : Node = record x { facts = facts } in set all.items i r) (node_read n own)
+
+  -- the first of them
+  pub nodes_cut : (n : ℕ) → node_rows (take n nodes) (take n links) ≡ take n all.items
+  nodes_cut n = rows_take nodes links n ∙ ap (λ (x : AllNodes). take n x.items) view
 
   -- one more
   pub node_pushed : (n : StoredNode) (h : ParentLink) → node_rows (nodes ++ n ∷ []) (links ++ h ∷ []) ≡ all.items ++ node_row n h ∷ []

@@ -1,14 +1,14 @@
 -- The stored nodes, with one more, and with another role at one.
-use Rattle.std.proofs.Common.{◌≡◌, ℕ, zero, suc, ◌+◌, ◌<◌, true, false, cond, List, [], ◌∷◌, ◌++◌, length, get_or, set, map, refl, sym, ◌∙◌, ap, subst, arith, length-append, inl, inr, Option, Some, None}
+use Rattle.std.proofs.Common.{◌≡◌, ℕ, zero, suc, ◌+◌, ◌-◌, ◌<◌, true, false, cond, List, [], ◌∷◌, ◌++◌, length, get_or, set, take, map, refl, sym, ◌∙◌, ap, subst, arith, length-append, inl, inr, Option, Some, None}
 use Rattle.std.specs.Prelude.{Contains, IfSome, IfNone, slice_get}
 use Rattle.std.specs.Str.{bytes_eq}
 use Rattle.std.specs.Map.{lookup}
-use Rattle.std.proofs.lemmas.List.{get_or_append_left, get_or_push, get_or-set_same, get_or-set_other, get_or-map, get_or_default, length-set, length-map, map-append, map-set}
+use Rattle.std.proofs.lemmas.List.{get_or_append_left, get_or_push, get_or-set_same, get_or-set_other, get_or-map, get_or_default, length-set, length-map, map-append, map-set, set-append_left}
 use Rattle.std.proofs.lemmas.Bool.{cases_lt, cases_eq}
 use Rattle.std.proofs.lemmas.Option.{slice_get-get_or, slice_get_past}
 use Rattle.std.proofs.lemmas.Simd.{map-map}
 use Rattle.std.proofs.lemmas.Slice.Eq.{bytes_eq-Decides}
-use Rattle.std.proofs.Math.Seq.{map-set_same}
+use Rattle.std.proofs.Math.Seq.{map-set_same, take-append_seam}
 use Rattle.keep_index_store.specs.AllNodes.{Node, and_key}
 use Rattle.keep_types.specs.declared.node.NodeInfo.{NodeInfo}
 use Rattle.keep_types.specs.declared.role.Role.{Role}
@@ -238,6 +238,26 @@ child_path nodes stored parent d text (Some id) h keyed is = (child_found nodes 
 -- the nodes with other children at one, and one more after them
 abbrev pub with_one : List Node → ℕ → Node → ChildList → Node → List Node
 with_one nodes parent d kids new = set nodes parent (record (get_or nodes parent d) { children = kids }) ++ new ∷ []
+
+-- a node more, before it is a child: the others are as they were
+pub above_pushed : (nodes items : List Node) (parent : ℕ) (d new : Node) → parent < length nodes → items ≡ nodes ++ new ∷ [] → get_or items parent d ≡ get_or nodes parent d
+above_pushed nodes items parent d new within is = ap (λ ns. get_or ns parent d) is ∙ get_or_append_left nodes (new ∷ []) d parent within
+
+pub within_pushed : (nodes items : List Node) (parent : ℕ) (new : Node) → parent < length nodes → items ≡ nodes ++ new ∷ [] → parent < length items
+within_pushed nodes items parent new within is = omega (arith, within, ap length is, length-append nodes (new ∷ []))
+
+pub linked : (nodes items : List Node) (parent : ℕ) (d : Node) (kids : ChildList) (new : Node) → parent < length nodes → items ≡ nodes ++ new ∷ []
+    → set items parent (record (get_or items parent d) { children = kids }) ≡ with_one nodes parent d kids new
+linked nodes items parent d kids new within is =
+    let changed : Node = record (get_or nodes parent d) { children = kids } in
+    ap (λ (n : Node). let r : Node = record n { children = kids } in set items parent r) (above_pushed nodes items parent d new within is)
+    ∙ ap (λ ns. set ns parent changed) is ∙ set-append_left nodes (new ∷ []) parent changed within
+
+-- and taken away again
+pub popped : (nodes items : List Node) (new : Node) → items ≡ nodes ++ new ∷ [] → take (length items - 1) items ≡ nodes
+popped nodes items new is =
+    let last : length items - 1 ≡ length nodes = omega (arith, ap length is, length-append nodes (new ∷ [])) in
+    ap (λ k. take k items) last ∙ ap (take (length nodes)) is ∙ take-append_seam nodes (new ∷ [])
 
 -- the new node is the last child of the other, by this step
 pub record IsAdded (nodes : List Node) (parent : ℕ) (d : Node) (kids : ChildList) (new : Node) (part : Part) : Type 0 where

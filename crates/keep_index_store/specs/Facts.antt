@@ -1,6 +1,6 @@
 -- The facts about the nodes so far, and how more facts are joined with them.
-use Rattle.std.specs.Prelude.{ℕ, ◌+◌, ◌==◌, true, false, ◌||◌, nat_le, min, ◌^◌, ◌-◌, if◌then◌else◌, List, [], ◌∷◌, map}
-use Rattle.std.specs.Prelude.{Some, None, slice_set, slice_index_or}
+use Rattle.std.specs.Prelude.{ℕ, ◌+◌, ◌==◌, true, false, ◌||◌, nat_le, min, ◌^◌, ◌-◌, if◌then◌else◌}
+use Rattle.std.specs.Prelude.{Some, None}
 use Rattle.keep_types.specs.declared.node.Kind.{Kind}
 use Rattle.keep_types.specs.declared.node.Kind.TheVariants as kind
 use Rattle.keep_types.specs.declared.node.Origin.{Origin}
@@ -9,7 +9,6 @@ use Rattle.keep_types.specs.declared.node.NodeInfo.{NodeInfo}
 use Rattle.keep_index_store.specs.declared.facts.OriginKind.{OriginKind}
 use Rattle.keep_index_store.specs.declared.facts.OriginKind.TheVariants as origin_kind
 use Rattle.keep_index_store.specs.declared.facts.NodeFacts.{NodeFacts}
-use Rattle.keep_path.specs.Path.{Part, moved_path}
 
 -- ---- one node
 

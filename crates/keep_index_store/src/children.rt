@@ -15,7 +15,6 @@ use crate::seed::Seed;
 use crate::stored_key::StoredKey;
 use std::alloc::{AllocError, Global};
 use std::marker::Model;
-use std::mem;
 
 /// What children a node may have.
 #[derive(Clone, Copy)]
@@ -55,87 +54,35 @@ pub enum Form {
     Items(Box<Vec<usize>>),
 }
 
-impl Form {
-    /// A table's children and one more, by a key that has none yet.
-    fn with_key(
-        self,
-        alloc: Global,
-        seed: Seed,
-        key: StoredKey,
-        child: usize,
-    ) -> Result<Form, AllocError>
-        requires holds { holds_of (children_in self) ≡ by_key }
-        requires fresh { child_named (children_in self) key ≡ None }
-        ensures { IfOk result (λ form. children_in form ≡ and_key (children_in self) key child) }
-    {
-        match self {
-            Form::NoKeys => Form::one_key(alloc, key, child),
-            Form::OneKey(only) => Form::two_keys(alloc, Box::into_inner(only), key, child),
-            Form::FewKeys(keys) => Form::more_keys(alloc, seed, keys, key, child),
-            Form::Keys(keys) => Form::many_keys(keys, key, child),
-            _ => unreachable!(),
-        }
-    }
+/// A table's only key and its child.
+fn one_key(alloc: Global, key: StoredKey, child: usize) -> Result<Form, AllocError>
+    ensures { IfOk result (λ form. children_in form ≡ Keyed ((key, child) ∷ [])) }
+{
+    let only = OnlyKey { key, child };
+    Ok(Form::OneKey(Box::new(alloc, only)?))
+}
 
-    /// One key and its child.
-    fn one_key(alloc: Global, key: StoredKey, child: usize) -> Result<Form, AllocError>
-        ensures { IfOk result (λ form. children_in form ≡ Keyed ((key, child) ∷ [])) }
-    {
-        let only = OnlyKey { key, child };
-        Ok(Form::OneKey(Box::new(alloc, only)?))
-    }
-
-    /// The only key so far and another one, each with its child.
-    fn two_keys(
-        alloc: Global,
-        only: OnlyKey,
-        key: StoredKey,
-        child: usize,
-    ) -> Result<Form, AllocError>
-        requires { bytes_eq key only.key ≡ false }
-        ensures { IfOk result (λ form. children_in form ≡ Keyed ((only.key, only.child) ∷ (key, child) ∷ [])) }
-    {
-        let keys = FewKeys::two(alloc, (only.key, only.child), (key, child))?;
-        Ok(Form::FewKeys(Box::new(alloc, keys)?))
-    }
-
-    /// A few keys and another one: if they are then too many to compare one after another, in a map.
-    fn more_keys(
-        alloc: Global,
-        seed: Seed,
-        keys: Box<FewKeys>,
-        key: StoredKey,
-        child: usize,
-    ) -> Result<Form, AllocError>
-        requires { lookup (bytes_eq key) keys.value ≡ None }
-        ensures { IfOk result (λ form. children_in form ≡ Keyed (keys.value ++ (key, child) ∷ [])) }
-    {
-        if keys.len() < MOST_KEYS {
-            return Form::few_keys(keys, key, child);
-        }
-        let mut map = Box::new(alloc, KeyMap::new(alloc, seed))?;
-        Box::into_inner(keys).move_into(&mut map)?;
-        Form::many_keys(map, key, child)
-    }
-
-    /// A few keys and another one, which are still few.
-    fn few_keys(mut keys: Box<FewKeys>, key: StoredKey, child: usize) -> Result<Form, AllocError>
-        requires few { length keys.value < MOST_KEYS }
-        requires fresh { lookup (bytes_eq key) keys.value ≡ None }
-        ensures { IfOk result (λ form. children_in form ≡ Keyed (keys.value ++ (key, child) ∷ [])) }
-    {
+/// A few keys and another one, in a form of their own where this one has no room for it. If memory runs out, nothing is
+/// changed.
+fn add_to_few(
+    alloc: Global,
+    seed: Seed,
+    keys: &mut FewKeys,
+    key: StoredKey,
+    child: usize,
+) -> Result<Option<Form>, AllocError>
+    requires { lookup (bytes_eq key) keys.old ≡ None }
+    ensures few { IfOk result (λ form. IfNone form (keys.new ≡ keys.old ++ (key, child) ∷ [])) }
+    ensures many { IfOk result
+        (λ form. IfSome form (λ form. children_in form ≡ Keyed (keys.old ++ (key, child) ∷ []))) }
+    ensures err { OnErr result (keys.new ≡ keys.old) }
+{
+    if keys.len() < MOST_KEYS {
         keys.add(key, child)?;
-        Ok(Form::FewKeys(keys))
+        return Ok(None);
     }
-
-    /// The keys of a map and another one.
-    fn many_keys(mut map: Box<KeyMap>, key: StoredKey, child: usize) -> Result<Form, AllocError>
-        requires { lookup (bytes_eq key) map.value ≡ None }
-        ensures { IfOk result (λ form. children_in form ≡ Keyed (map.value ++ (key, child) ∷ [])) }
-    {
-        map.add(key, child)?;
-        Ok(Form::Keys(map))
-    }
+    let map = keys.to_map(alloc, seed, key, child)?;
+    Ok(Some(Form::Keys(map)))
 }
 
 /// The children of a node, each by the number of its node, in the order of first meeting.
@@ -181,7 +128,8 @@ impl Children {
         }
     }
 
-    /// Adds a child by a key that has none yet. If memory runs out, the children are lost.
+    /// Adds a child by a key that has none yet. The next form is made before the keys are taken from this one, so that
+    /// nothing is changed if memory runs out.
     pub fn add_key(
         &mut self,
         alloc: Global,
@@ -191,11 +139,25 @@ impl Children {
     ) -> Result<(), AllocError>
         requires holds { holds_of self.old ≡ by_key }
         requires fresh { child_named self.old text.now ≡ None }
-        ensures { OnOk result (self.new ≡ and_key self.old text.now child) }
+        ensures ok { OnOk result (self.new ≡ and_key self.old text.now child) }
+        ensures err { OnErr result (self.new ≡ self.old) }
     {
         let key = StoredKey::of(alloc, text)?;
-        let form = mem::replace(&mut self.form, Form::NoKeys);
-        self.form = form.with_key(alloc, seed, key, child)?;
+        match &mut self.form {
+            Form::NoKeys => self.form = one_key(alloc, key, child)?,
+            Form::OneKey(only) => {
+                let first_child = only.child;
+                let keys = FewKeys::two(alloc, &mut only.key, first_child, key, child)?;
+                self.form = Form::FewKeys(keys);
+            }
+            Form::FewKeys(keys) => {
+                if let Some(form) = add_to_few(alloc, seed, keys, key, child)? {
+                    self.form = form;
+                }
+            }
+            Form::Keys(keys) => keys.add(key, child)?,
+            _ => unreachable!(),
+        }
         Ok(())
     }
 
@@ -217,10 +179,11 @@ impl Children {
         Ok(())
     }
 
-    /// Adds an item or an element.
+    /// Adds an item or an element. If memory runs out, nothing is changed.
     pub fn add_item(&mut self, alloc: Global, child: usize) -> Result<(), AllocError>
         requires { holds_of self.old ≡ by_index }
-        ensures { OnOk result (self.new ≡ and_item self.old child) }
+        ensures ok { OnOk result (self.new ≡ and_item self.old child) }
+        ensures err { OnErr result (self.new ≡ self.old) }
     {
         match &mut self.form {
             Form::Run { len, first } => {

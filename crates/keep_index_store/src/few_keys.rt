@@ -5,9 +5,11 @@ ghost use Rattle.std.specs.Map.{lookup};
 ghost use Rattle.keep_index_store.specs.KeyMaps.{with_key_at};
 
 use crate::key_map::KeyMap;
+use crate::seed::Seed;
 use crate::stored_key::StoredKey;
 use std::alloc::{AllocError, Global};
 use std::marker::Model;
+use std::mem;
 
 /// How many keys are compared one after another at most.
 pub const MOST_KEYS: usize = 8;
@@ -32,19 +34,35 @@ impl Model for FewKeys {
 }
 
 impl FewKeys {
-    /// The children of two keys.
+    /// No child yet. It takes no memory.
+    fn none(alloc: Global) -> FewKeys
+        ensures { result ≡ [] }
+    {
+        FewKeys {
+            entries: Vec::new(alloc),
+        }
+    }
+
+    /// The children of two keys. The first key is taken from where it is, and an empty one stays there. If memory runs
+    /// out, it is not taken.
     pub fn two(
         alloc: Global,
-        first: (StoredKey, usize),
-        second: (StoredKey, usize),
-    ) -> Result<FewKeys, AllocError>
-        requires { bytes_eq second.0 first.0 ≡ false }
-        ensures { IfOk result (λ keys. keys ≡ first ∷ second ∷ []) }
+        first: &mut StoredKey,
+        first_child: usize,
+        key: StoredKey,
+        child: usize,
+    ) -> Result<Box<FewKeys>, AllocError>
+        requires { bytes_eq key first.old ≡ false }
+        ensures ok { IfOk result (λ keys. keys.value ≡ (first.old, first_child) ∷ (key, child) ∷ []) }
+        ensures err { OnErr result (first.new ≡ first.old) }
     {
+        let mut keys = Box::new(alloc, FewKeys::none(alloc))?;
         let mut entries = Vec::with_capacity(alloc, 2)?;
-        entries.push_reserved(first);
-        entries.push_reserved(second);
-        Ok(FewKeys { entries })
+        let first = mem::replace(first, StoredKey::empty());
+        entries.push_reserved((first, first_child));
+        entries.push_reserved((key, child));
+        *keys = FewKeys { entries };
+        Ok(keys)
     }
 
     /// How many children there are.
@@ -102,15 +120,20 @@ impl FewKeys {
         entry.0 = key;
     }
 
-    /// Moves these children into a map that has none yet. If memory runs out, some are lost.
-    pub fn move_into(self, map: &mut KeyMap) -> Result<(), AllocError>
-        requires { map.old ≡ [] }
-        ensures { OnOk result (map.new ≡ self) }
+    /// These children and one more, in a map, where they are not few any longer: they are taken from here. If memory
+    /// runs out, none is taken.
+    pub fn to_map(
+        &mut self,
+        alloc: Global,
+        seed: Seed,
+        key: StoredKey,
+        child: usize,
+    ) -> Result<Box<KeyMap>, AllocError>
+        requires { lookup (bytes_eq key) self.old ≡ None }
+        ensures ok { IfOk result (λ map. map.value ≡ self.old ++ (key, child) ∷ []) }
+        ensures err { OnErr result (self.new ≡ self.old) }
     {
-        for (key, child) in self.entries {
-            map.add(key, child)?;
-        }
-        Ok(())
+        KeyMap::of(alloc, seed, &mut self.entries, key, child)
     }
 }
 

@@ -1,14 +1,16 @@
 //! The children of a table by their keys.
-ghost use Rattle.std.specs.Prelude.{◌≡◌, ◌<◌, ◌∷◌, ◌++◌, [], None, OnErr, OnOk, bytes_eq, length, map, option_copied};
-ghost use Rattle.std.specs.Prelude.{option_map, slice_get};
+ghost use Rattle.std.specs.Prelude.{◌≡◌, ◌<◌, ◌≤◌, ◌+◌, ◌∷◌, ◌++◌, [], None, IfOk, OnErr, OnOk, bytes_eq, length, map};
+ghost use Rattle.std.specs.Prelude.{option_copied, option_map, slice_get};
 ghost use Rattle.std.specs.Map.{lookup};
-ghost use Rattle.keep_index_store.specs.KeyMaps.{with_key_at};
+ghost use Rattle.indexmap.specs.IndexMap.{spare};
+ghost use Rattle.keep_index_store.specs.KeyMaps.{HasOwnKeys, with_key_at};
 
 use crate::seed::Seed;
 use crate::stored_key::StoredKey;
 use indexmap::IndexMap;
 use std::alloc::{AllocError, Global};
 use std::marker::Model;
+use std::mem;
 
 /// The children of a table by their keys, decoded, in the order in which they were added.
 #[derive(Drop)]
@@ -32,6 +34,28 @@ impl KeyMap {
         KeyMap {
             table: IndexMap::with_hasher(alloc, seed),
         }
+    }
+
+    /// The children of a few keys, which are taken from there, and one more. If memory runs out, none is taken.
+    pub fn of(
+        alloc: Global,
+        seed: Seed,
+        few: &mut Vec<(StoredKey, usize)>,
+        key: StoredKey,
+        child: usize,
+    ) -> Result<Box<KeyMap>, AllocError>
+        requires own { HasOwnKeys [] few.old.items }
+        requires fresh { lookup (bytes_eq key) few.old.items ≡ None }
+        ensures ok { IfOk result (λ map. map.value ≡ few.old.items ++ (key, child) ∷ []) }
+        ensures taken { OnOk result (few.new.items ≡ []) }
+        ensures err { OnErr result (few.new.items ≡ few.old.items) }
+    {
+        let mut map = Box::new(alloc, KeyMap::new(alloc, seed))?;
+        let mut table = IndexMap::with_capacity_and_hasher(alloc, few.len() + 1, seed)?;
+        move_all(mem::replace(few, Vec::new(alloc)), &mut table);
+        push_reserved(&mut table, key, child);
+        *map = KeyMap { table };
+        Ok(map)
     }
 
     /// How many children there are.
@@ -86,6 +110,31 @@ impl KeyMap {
         self.table.insert(key, node)?;
         self.table.swap_remove_index(number);
         Ok(())
+    }
+}
+
+/// Adds a key that is not there yet, and its child, where there is room: it takes no memory.
+fn push_reserved(table: &mut IndexMap<StoredKey, usize, Seed>, key: StoredKey, child: usize)
+    requires fresh { lookup (bytes_eq key) table.old.entries ≡ None }
+    requires room { 0 < spare table.old }
+    ensures pushed { table.new.entries ≡ table.old.entries ++ (key, child) ∷ [] }
+    ensures room { spare table.old ≤ spare table.new + 1 }
+{
+    let Ok(_) = table.insert(key, child) else {
+        unreachable!()
+    };
+}
+
+/// Moves the children of keys to where there is none yet, and room for all and one more: it takes no memory.
+fn move_all(few: Vec<(StoredKey, usize)>, table: &mut IndexMap<StoredKey, usize, Seed>)
+    requires empty { table.old.entries ≡ [] }
+    requires own { HasOwnKeys [] few.items }
+    requires room { length few.items < spare table.old }
+    ensures moved { table.new.entries ≡ few.items }
+    ensures room { 0 < spare table.new }
+{
+    for (key, child) in few {
+        push_reserved(table, key, child);
     }
 }
 

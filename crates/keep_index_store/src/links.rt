@@ -1,6 +1,6 @@
 //! The parent links of the nodes, in as few bytes as the numbers allow.
 ghost use Rattle.std.specs.Prelude.{◌≡◌, ◌≤◌, ◌<◌, ◌^◌, ◌++◌, ◌∷◌, [], length, max, slice_get, IfSome, OnOk, OnErr};
-ghost use Rattle.std.specs.Prelude.{None, Some};
+ghost use Rattle.std.specs.Prelude.{◌-◌, None, Some, take};
 ghost use Rattle.keep_index_store.specs.Links.{link_of};
 
 use std::alloc::{AllocError, Global};
@@ -91,5 +91,14 @@ impl ParentLinks {
         }
         self.unpacked.push(link)?;
         Ok(())
+    }
+
+    /// Takes away the parent link of the last node.
+    pub fn pop(&mut self)
+        ensures { self.new ≡ take (length self.old - 1) self.old }
+    {
+        if self.unpacked.pop().is_none() {
+            self.packed.pop();
+        }
     }
 }

@@ -1,6 +1,6 @@
 //! The nodes, in the order in which they are first met.
 ghost use Rattle.std.specs.Prelude.{◌≡◌, ◌<◌, ◌-◌, ◌∷◌, ◌++◌, [], length, None, Some, IfNone, IfSome, IfOk, OnErr};
-ghost use Rattle.std.specs.Prelude.{OnOk, Contains, slice_get, slice_index_or, slice_set, option_copied, option_map};
+ghost use Rattle.std.specs.Prelude.{OnOk, Contains, slice_get, slice_index_or, slice_set, option_copied, option_map, take};
 ghost use Rattle.keep_index_store.specs.AllNodes.{node_at, with_children, with_facts, and_key, and_item, with_key};
 ghost use Rattle.keep_index_store.specs.Children.{holding, no_children, holds_of, named, child_ids, child_named};
 ghost use Rattle.keep_index_store.specs.Children.{child_numbered};
@@ -186,7 +186,8 @@ impl Nodes {
         self.list[id].children.key_at(number)
     }
 
-    /// Adds a node with no children, which is not yet among the children of its parent.
+    /// Adds a node with no children, which is not yet among the children of its parent. If memory runs out, nothing is
+    /// changed.
     #[inline(always)]
     pub fn push(
         &mut self,
@@ -195,9 +196,10 @@ impl Nodes {
         facts: NodeFacts,
         holds: Holds,
     ) -> Result<(), AllocError>
-        ensures { OnOk result (self.new.items ≡ self.old.items
+        ensures ok { OnOk result (self.new.items ≡ self.old.items
             ++ record { parent = parent; number = number; children = no_children (holding holds); facts = facts }
             ∷ []) }
+        ensures err { OnErr result (self.new.items ≡ self.old.items) }
     {
         let alloc = self.allocator();
         self.list.reserve(1)?;
@@ -207,13 +209,22 @@ impl Nodes {
         Ok(())
     }
 
-    /// Adds a node to the children of a table, by a key that is not there yet.
+    /// Takes away the last node, which is not among the children of its parent.
+    fn pop(&mut self)
+        ensures { self.new.items ≡ take (length self.old.items - 1) self.old.items }
+    {
+        self.list.pop();
+        self.links.pop();
+    }
+
+    /// Adds a node to the children of a table, by a key that is not there yet. If memory runs out, nothing is changed.
     fn link_key(&mut self, id: usize, text: &str, child: usize) -> Result<(), AllocError>
         requires within { id < length self.old.items }
         requires holds { holds_of (node_at self.old.items id).children ≡ by_key }
         requires fresh { child_named (node_at self.old.items id).children text.now ≡ None }
-        ensures { OnOk result (self.new.items ≡ with_children self.old.items id
+        ensures ok { OnOk result (self.new.items ≡ with_children self.old.items id
             (and_key (node_at self.old.items id).children text.now child)) }
+        ensures err { OnErr result (self.new.items ≡ self.old.items) }
     {
         let alloc = self.allocator();
         let above = &mut self.list[id];
@@ -235,19 +246,21 @@ impl Nodes {
         above.children.set_key(alloc, number, text)
     }
 
-    /// Adds a node to the children of an array or an array of tables.
+    /// Adds a node to the children of an array or an array of tables. If memory runs out, nothing is changed.
     fn link_item(&mut self, id: usize, child: usize) -> Result<(), AllocError>
         requires within { id < length self.old.items }
         requires holds { holds_of (node_at self.old.items id).children ≡ by_index }
-        ensures { OnOk result (self.new.items ≡ with_children self.old.items id
+        ensures ok { OnOk result (self.new.items ≡ with_children self.old.items id
             (and_item (node_at self.old.items id).children child)) }
+        ensures err { OnErr result (self.new.items ≡ self.old.items) }
     {
         let alloc = self.allocator();
         let above = &mut self.list[id];
         above.children.add_item(alloc, child)
     }
 
-    /// Joins the facts from one more mention of a node to its own; its role is now this one.
+    /// Joins the facts from one more mention of a node to its own; its role is now this one. If memory runs out, nothing
+    /// is changed.
     fn join_facts(
         &mut self,
         id: usize,
@@ -255,8 +268,9 @@ impl Nodes {
         more: NodeFacts,
     ) -> Result<(), AllocError>
         requires { id < length self.old.items }
-        ensures { OnOk result (self.new.items ≡ with_facts self.old.items id
+        ensures ok { OnOk result (self.new.items ≡ with_facts self.old.items id
             (record (joined_facts (node_at self.old.items id).facts more) { role = role })) }
+        ensures err { OnErr result (self.new.items ≡ self.old.items) }
     {
         let alloc = self.allocator();
         let node = &mut self.list[id];
@@ -290,7 +304,7 @@ pub fn child_of(nodes: &Nodes, parent: usize, text: &str) -> Option<usize>
     nodes.child(parent, text)
 }
 
-/// Adds a new node below a table, where no node has its path yet.
+/// Adds a new node below a table, where no node has its path yet. If memory runs out, nothing is changed.
 pub fn add_key(
     nodes: &mut Nodes,
     parent: usize,
@@ -309,16 +323,21 @@ pub fn add_key(
     ensures stored { OnOk result (IsStored nodes.new.items) }
     ensures infos { OnOk result (infos_of nodes.new.items ≡ infos_of nodes.old.items ++ info_of facts ∷ []) }
     ensures last { IfOk result (λ id. id ≡ length nodes.old.items) }
+    ensures refused { OnErr result (nodes.new.items ≡ nodes.old.items) }
 {
     let id = nodes.len();
     let number = nodes.child_count(parent);
-    nodes.link_key(parent, text, id)?;
     let role = Some(role);
     nodes.push(parent, number, NodeFacts { role, ..facts }, holds)?;
+    if let Err(refused) = nodes.link_key(parent, text, id) {
+        nodes.pop();
+        return Err(refused);
+    }
     Ok(id)
 }
 
-/// Adds a new item to an array, or a new element to an array of tables, after those that are there.
+/// Adds a new item to an array, or a new element to an array of tables, after those that are there. If memory runs out,
+/// nothing is changed.
 pub fn add_item(
     nodes: &mut Nodes,
     parent: usize,
@@ -337,16 +356,21 @@ pub fn add_item(
     ensures stored { OnOk result (IsStored nodes.new.items) }
     ensures infos { OnOk result (infos_of nodes.new.items ≡ infos_of nodes.old.items ++ info_of facts ∷ []) }
     ensures last { IfOk result (λ id. id ≡ length nodes.old.items) }
+    ensures refused { OnErr result (nodes.new.items ≡ nodes.old.items) }
 {
     let id = nodes.len();
     let number = nodes.child_count(parent);
-    nodes.link_item(parent, id)?;
     let role = None;
     nodes.push(parent, number, NodeFacts { role, ..facts }, holds)?;
+    if let Err(refused) = nodes.link_item(parent, id) {
+        nodes.pop();
+        return Err(refused);
+    }
     Ok(id)
 }
 
-/// Gives a node another role, and joins the facts from one more mention to its own.
+/// Gives a node another role, and joins the facts from one more mention to its own. If memory runs out, nothing is
+/// changed.
 pub fn set_role(nodes: &mut Nodes, id: usize, role: Role, more: NodeFacts) -> Result<(), AllocError>
     requires stored { IsStored nodes.old.items }
     requires within { id < length nodes.old.items }
@@ -354,11 +378,12 @@ pub fn set_role(nodes: &mut Nodes, id: usize, role: Role, more: NodeFacts) -> Re
     ensures stored { OnOk result (IsStored nodes.new.items) }
     ensures infos { OnOk result (infos_of nodes.new.items
         ≡ slice_set (infos_of nodes.old.items) id (joined_info (info_at nodes.old.items id) (info_of more))) }
+    ensures refused { OnErr result (nodes.new.items ≡ nodes.old.items) }
 {
     nodes.join_facts(id, Some(role), more)
 }
 
-/// Joins the facts from one more mention of a node to its own; its role stays.
+/// Joins the facts from one more mention of a node to its own; its role stays. If memory runs out, nothing is changed.
 pub fn add_facts(nodes: &mut Nodes, id: usize, more: NodeFacts) -> Result<(), AllocError>
     requires stored { IsStored nodes.old.items }
     requires within { id < length nodes.old.items }
@@ -366,6 +391,7 @@ pub fn add_facts(nodes: &mut Nodes, id: usize, more: NodeFacts) -> Result<(), Al
     ensures stored { OnOk result (IsStored nodes.new.items) }
     ensures infos { OnOk result (infos_of nodes.new.items
         ≡ slice_set (infos_of nodes.old.items) id (joined_info (info_at nodes.old.items id) (info_of more))) }
+    ensures refused { OnErr result (nodes.new.items ≡ nodes.old.items) }
 {
     let role = nodes.role(id);
     nodes.join_facts(id, role, more)

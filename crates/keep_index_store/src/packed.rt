@@ -1,5 +1,5 @@
 //! The facts about a node, in as few bytes as its numbers allow.
-ghost use Rattle.std.specs.Prelude.{◌≡◌, IfNone, IfOk, IfSome, None, OnOk};
+ghost use Rattle.std.specs.Prelude.{◌≡◌, IfNone, IfOk, IfSome, None, OnErr, OnOk};
 ghost use Rattle.keep_index_store.specs.Packed.{Fits, facts_in, short_facts, joined_short};
 ghost use Rattle.keep_index_store.specs.Facts.{joined_facts};
 
@@ -134,15 +134,16 @@ impl PackedFacts {
         }
     }
 
-    /// Joins the facts from one more mention of the node to these; its role is now this one. The only error is out of
-    /// memory.
+    /// Joins the facts from one more mention of the node to these; its role is now this one. If memory runs out, nothing
+    /// is changed.
     pub fn join(
         &mut self,
         alloc: Global,
         role: Option<Role>,
         more: NodeFacts,
     ) -> Result<(), AllocError>
-        ensures { OnOk result (self.new ≡ record (joined_facts self.old more) { role = role }) }
+        ensures ok { OnOk result (self.new ≡ record (joined_facts self.old more) { role = role }) }
+        ensures err { OnErr result (self.new ≡ self.old) }
     {
         match self.join_packed(role, &more) {
             Some(()) => Ok(()),
@@ -170,7 +171,8 @@ impl PackedFacts {
         Some(())
     }
 
-    /// Joins further facts by unpacking these. A function of its own, since it is rare.
+    /// Joins further facts by unpacking these. A function of its own, since it is rare. If memory runs out, nothing is
+    /// changed.
     #[inline(never)]
     fn join_unpacked(
         &mut self,
@@ -178,15 +180,17 @@ impl PackedFacts {
         role: Option<Role>,
         more: NodeFacts,
     ) -> Result<(), AllocError>
-        ensures { OnOk result (self.new ≡ record (joined_facts self.old more) { role = role }) }
+        ensures ok { OnOk result (self.new ≡ record (joined_facts self.old more) { role = role }) }
+        ensures err { OnErr result (self.new ≡ self.old) }
     {
         let joined = self.unpack().joined_with(more);
         self.set(alloc, NodeFacts { role, ..joined })
     }
 
-    /// Stores these facts in place of the old ones, in the box if there is one.
+    /// Stores these facts in place of the old ones, in the box if there is one. If memory runs out, nothing is changed.
     fn set(&mut self, alloc: Global, facts: NodeFacts) -> Result<(), AllocError>
-        ensures { OnOk result (self.new ≡ facts) }
+        ensures ok { OnOk result (self.new ≡ facts) }
+        ensures err { OnErr result (self.new ≡ self.old) }
     {
         if let Form::Boxed(old) = &mut self.form {
             **old = facts;

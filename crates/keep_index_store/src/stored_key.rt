@@ -1,5 +1,5 @@
 //! The text of a key as it is stored.
-ghost use Rattle.std.specs.Prelude.{◌≡◌, ◌≤◌, IfOk, IsOk, bytes_eq, length};
+ghost use Rattle.std.specs.Prelude.{◌≡◌, ◌≤◌, [], IfOk, IsOk, bytes_eq, length};
 ghost use Rattle.std.specs.Cmp.{partial_equiv_from_equiv};
 ghost use Rattle.std.specs.Cmp.Lexicographic.{bytes_decides, nat_list_eq_equiv};
 ghost use Rattle.std.specs.Hash as fed;
@@ -39,6 +39,15 @@ impl Model for StoredKey {
 }
 
 impl StoredKey {
+    /// The empty key. It takes no memory.
+    pub fn empty() -> StoredKey
+        ensures { result ≡ [] }
+    {
+        StoredKey {
+            form: Form::Short(ArrayString::new()),
+        }
+    }
+
     /// Stores a text. The only error is out of memory, and a short text takes none.
     pub fn of(alloc: Global, text: &str) -> Result<StoredKey, AllocError>
         ensures stored { IfOk result (λ key. key ≡ text.now) }

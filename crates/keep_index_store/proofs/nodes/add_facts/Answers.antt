@@ -20,13 +20,13 @@ is_changed c = record { stored = c.requires.stored; within = c.requires.within; 
 
 pub returns-clause-same : goal.returns-clause-same
 unfolding old changed
-returns-clause-same c = OnOk-map c.join_facts.result _ _ (λ is. ap trie_of is ∙ trie_of_preserved c.args.nodes.now.items c.args.id no_node (changed c) (is_changed c) c.role-role.ensures) c.join_facts.ensures
+returns-clause-same c = OnOk-map c.join_facts.result _ _ (λ is. ap trie_of is ∙ trie_of_preserved c.args.nodes.now.items c.args.id no_node (changed c) (is_changed c) c.role-role.ensures) c.join_facts.ensures.ok
 
 pub returns-clause-stored : goal.returns-clause-stored
 unfolding old changed
-returns-clause-stored c = OnOk-map c.join_facts.result _ _ (λ is. subst IsStored (sym is) (stored_preserved c.args.nodes.now.items c.args.id no_node (changed c) (is_changed c) c.role-role.ensures)) c.join_facts.ensures
+returns-clause-stored c = OnOk-map c.join_facts.result _ _ (λ is. subst IsStored (sym is) (stored_preserved c.args.nodes.now.items c.args.id no_node (changed c) (is_changed c) c.role-role.ensures)) c.join_facts.ensures.ok
 
 pub returns-clause-infos : goal.returns-clause-infos
 unfolding old changed
 returns-clause-infos c =
-    OnOk-map c.join_facts.result _ _ (λ is. ap infos_of is ∙ infos_changed (λ (i : NodeInfo). joined_info i (info_of c.args.more)) c.args.nodes.now.items c.args.id no_node (changed c) c.requires.within (info_joined (old c).facts c.args.more)) c.join_facts.ensures
+    OnOk-map c.join_facts.result _ _ (λ is. ap infos_of is ∙ infos_changed (λ (i : NodeInfo). joined_info i (info_of c.args.more)) c.args.nodes.now.items c.args.id no_node (changed c) c.requires.within (info_joined (old c).facts c.args.more)) c.join_facts.ensures.ok

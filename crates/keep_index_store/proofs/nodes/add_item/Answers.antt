@@ -1,22 +1,24 @@
 use Rattle.std.proofs.Common.{◌≡◌, ◌∷◌, ◌++◌, [], List, length, ap, sym, refl, ◌∙◌, subst, None}
-use Rattle.keep_index_store.specs.AllNodes.{Node, no_node, node_at, and_item}
+use Rattle.keep_index_store.specs.AllNodes.{Node, no_node, node_at, with_children, and_item}
 use Rattle.keep_path.specs.Path.{index}
 use Rattle.keep_index_store.specs.Children.{ChildList, holding, no_children, holds_of, child_ids}
 use Rattle.keep_index_store.specs.Trie.{by_index, children_of}
 use Rattle.keep_index_store.specs.Stored.{trie_of, IsStored, infos_of}
-use Rattle.keep_index_store.proofs.StoredLemmas.{holds_read, IsAdded, with_one, no_names, item_step, none_ids, none_holds, grows_with, stored_added, infos_added}
+use Rattle.keep_index_store.proofs.StoredLemmas.{holds_read, IsAdded, above_pushed, linked, with_one, no_names, item_step, none_ids, none_holds, grows_with, stored_added, infos_added}
 use Rattle.keep_index_store.proofs.nodes.add_item.Goals as goal
 
 pub link_item-requires-clause-holds : goal.link_item-requires-clause-holds
-link_item-requires-clause-holds c = holds_read c.args.nodes.now.items c.args.parent no_node by_index c.requires.within c.requires.listed
+link_item-requires-clause-holds c =
+    let nodes : List Node = c.args.nodes.now.items in
+    ap (λ (x : Node). holds_of x.children) (above_pushed nodes c.push.new.self.items c.args.parent no_node _ c.requires.within c.in_ok-push.ensures.ok) ∙ holds_read nodes c.args.parent no_node by_index c.requires.within c.requires.listed
 
-new : goal.In_ok-push → Node
+new : goal.In_default → Node
 new c = record { parent = c.args.parent; number = c.child_count-number.result; children = no_children (holding c.args.holds); facts = record c.args.facts { role = None } }
 
-kids : goal.In_ok-push → ChildList
+kids : goal.In_default → ChildList
 kids c = and_item (node_at c.args.nodes.now.items c.args.parent).children c.len-id.result
 
-added : (c : goal.In_ok-push) → IsAdded c.args.nodes.now.items c.args.parent no_node (kids c) (new c) (index (length (children_of (trie_of c.args.nodes.now.items) c.args.parent)))
+added : (c : goal.In_default) → IsAdded c.args.nodes.now.items c.args.parent no_node (kids c) (new c) (index (length (children_of (trie_of c.args.nodes.now.items) c.args.parent)))
 unfolding new kids
 added c =
     let nodes : List Node = c.args.nodes.now.items in
@@ -35,9 +37,14 @@ added c =
       bare = none_ids (holding c.args.holds);
     }
 
-items : (c : goal.In_ok-push) → c.push.new.self.items ≡ with_one c.args.nodes.now.items c.args.parent no_node (kids c) (new c)
+items : (c : goal.In_default) → c.link_item.new.self.items ≡ with_one c.args.nodes.now.items c.args.parent no_node (kids c) (new c)
 unfolding new kids
-items c = c.in_ok-push.ensures ∙ ap (λ (ns : List Node). ns ++ new c ∷ []) c.in_ok-link_item.ensures
+items c =
+    let nodes : List Node = c.args.nodes.now.items in
+    let pushed : List Node = c.push.new.self.items in
+    c.in_default.ensures.ok
+    ∙ ap (λ (x : Node). with_children pushed c.args.parent (and_item x.children c.len-id.result)) (above_pushed nodes pushed c.args.parent no_node (new c) c.requires.within c.in_ok-push.ensures.ok)
+    ∙ linked nodes pushed c.args.parent no_node (kids c) (new c) c.requires.within c.in_ok-push.ensures.ok
 
 pub returns-clause-grows : goal.returns-clause-grows
 unfolding new kids

@@ -1,26 +1,30 @@
 use Rattle.std.proofs.Common.{◌≡◌, ◌∷◌, ◌++◌, [], List, ap, sym, refl, ◌∙◌, subst, Some}
-use Rattle.keep_index_store.specs.AllNodes.{Node, no_node, node_at, and_key}
+use Rattle.keep_index_store.specs.AllNodes.{Node, no_node, node_at, with_children, and_key}
 use Rattle.keep_path.specs.Path.{key}
-use Rattle.keep_index_store.specs.Children.{ChildList, holding, no_children, holds_of, child_ids}
+use Rattle.keep_index_store.specs.Children.{ChildList, holding, no_children, holds_of, child_ids, child_named}
 use Rattle.keep_index_store.specs.Trie.{by_key}
 use Rattle.keep_index_store.specs.Stored.{IsStored, infos_of}
-use Rattle.keep_index_store.proofs.StoredLemmas.{holds_read, not_named, IsAdded, with_one, key_ids, key_step, none_ids, none_holds, grows_with, stored_added, infos_added}
+use Rattle.keep_index_store.proofs.StoredLemmas.{holds_read, not_named, IsAdded, above_pushed, linked, with_one, key_ids, key_step, none_ids, none_holds, grows_with, stored_added, infos_added}
 use Rattle.keep_index_store.proofs.nodes.add_key.Goals as goal
 
 pub link_key-requires-clause-holds : goal.link_key-requires-clause-holds
-link_key-requires-clause-holds c = holds_read c.args.nodes.now.items c.args.parent no_node by_key c.requires.within c.requires.keyed
+link_key-requires-clause-holds c =
+    let nodes : List Node = c.args.nodes.now.items in
+    ap (λ (x : Node). holds_of x.children) (above_pushed nodes c.push.new.self.items c.args.parent no_node _ c.requires.within c.in_ok-push.ensures.ok) ∙ holds_read nodes c.args.parent no_node by_key c.requires.within c.requires.keyed
 
 pub link_key-requires-clause-fresh : goal.link_key-requires-clause-fresh
 link_key-requires-clause-fresh c =
-    not_named c.args.nodes.now.items c.requires.stored c.args.parent no_node c.args.text.now c.requires.within (holds_read c.args.nodes.now.items c.args.parent no_node by_key c.requires.within c.requires.keyed) c.requires.fresh
+    let nodes : List Node = c.args.nodes.now.items in
+    ap (λ (x : Node). child_named x.children c.args.text.now) (above_pushed nodes c.push.new.self.items c.args.parent no_node _ c.requires.within c.in_ok-push.ensures.ok)
+    ∙ not_named nodes c.requires.stored c.args.parent no_node c.args.text.now c.requires.within (holds_read nodes c.args.parent no_node by_key c.requires.within c.requires.keyed) c.requires.fresh
 
-new : goal.In_ok-push → Node
+new : goal.In_default → Node
 new c = record { parent = c.args.parent; number = c.child_count-number.result; children = no_children (holding c.args.holds); facts = record c.args.facts { role = Some c.args.role } }
 
-kids : goal.In_ok-push → ChildList
+kids : goal.In_default → ChildList
 kids c = and_key (node_at c.args.nodes.now.items c.args.parent).children c.args.text.now c.len-id.result
 
-added : (c : goal.In_ok-push) → IsAdded c.args.nodes.now.items c.args.parent no_node (kids c) (new c) (key c.args.text.now)
+added : (c : goal.In_default) → IsAdded c.args.nodes.now.items c.args.parent no_node (kids c) (new c) (key c.args.text.now)
 unfolding new kids
 added c =
     let nodes : List Node = c.args.nodes.now.items in
@@ -39,9 +43,14 @@ added c =
       bare = none_ids (holding c.args.holds);
     }
 
-items : (c : goal.In_ok-push) → c.push.new.self.items ≡ with_one c.args.nodes.now.items c.args.parent no_node (kids c) (new c)
+items : (c : goal.In_default) → c.link_key.new.self.items ≡ with_one c.args.nodes.now.items c.args.parent no_node (kids c) (new c)
 unfolding new kids
-items c = c.in_ok-push.ensures ∙ ap (λ (ns : List Node). ns ++ new c ∷ []) c.in_ok-link_key.ensures
+items c =
+    let nodes : List Node = c.args.nodes.now.items in
+    let pushed : List Node = c.push.new.self.items in
+    c.in_default.ensures.ok
+    ∙ ap (λ (x : Node). with_children pushed c.args.parent (and_key x.children c.args.text.now c.len-id.result)) (above_pushed nodes pushed c.args.parent no_node (new c) c.requires.within c.in_ok-push.ensures.ok)
+    ∙ linked nodes pushed c.args.parent no_node (kids c) (new c) c.requires.within c.in_ok-push.ensures.ok
 
 pub returns-clause-grows : goal.returns-clause-grows
 unfolding new kids

@@ -24,14 +24,14 @@ unfolding old changed
 returns-clause-restates c =
     let nodes = c.args.nodes.now.items in
     OnOk-map c.join_facts.result _ _
-    (λ is. subst (λ (ns : List Node). Restates (trie_of nodes) (trie_of ns) c.args.id c.args.role) (sym is) (restates_changed nodes c.args.id no_node (changed c) c.args.role (is_changed c) refl)) c.join_facts.ensures
+    (λ is. subst (λ (ns : List Node). Restates (trie_of nodes) (trie_of ns) c.args.id c.args.role) (sym is) (restates_changed nodes c.args.id no_node (changed c) c.args.role (is_changed c) refl)) c.join_facts.ensures.ok
 
 pub returns-clause-stored : goal.returns-clause-stored
 unfolding old changed
 returns-clause-stored c =
-    OnOk-map c.join_facts.result _ _ (λ is. subst IsStored (sym is) (stored_changed c.args.nodes.now.items c.args.id no_node (changed c) c.args.role (is_changed c) refl)) c.join_facts.ensures
+    OnOk-map c.join_facts.result _ _ (λ is. subst IsStored (sym is) (stored_changed c.args.nodes.now.items c.args.id no_node (changed c) c.args.role (is_changed c) refl)) c.join_facts.ensures.ok
 
 pub returns-clause-infos : goal.returns-clause-infos
 unfolding old changed
 returns-clause-infos c =
-    OnOk-map c.join_facts.result _ _ (λ is. ap infos_of is ∙ infos_changed (λ (i : NodeInfo). joined_info i (info_of c.args.more)) c.args.nodes.now.items c.args.id no_node (changed c) c.requires.within (info_joined (old c).facts c.args.more)) c.join_facts.ensures
+    OnOk-map c.join_facts.result _ _ (λ is. ap infos_of is ∙ infos_changed (λ (i : NodeInfo). joined_info i (info_of c.args.more)) c.args.nodes.now.items c.args.id no_node (changed c) c.requires.within (info_joined (old c).facts c.args.more)) c.join_facts.ensures.ok

@@ -18,10 +18,10 @@ add_key-requires-clause-fresh c = ap (λ (x : ChildList). child_named x c.args.t
 pub invariant_of-self : goal.invariant_of-self
 invariant_of-self c = omega (arith, c.self.invariant, length-set c.self.inside.list.items c.args.id (record c.index_mut-above.result.now { children = c.add_key.new.self }))
 
-pub returns : goal.returns
-returns c =
+pub returns-clause-ok : goal.returns-clause-ok
+returns-clause-ok c =
     let above = c.index_mut-above.result.now in
     OnOk-map c.add_key.result _ _ (λ added.
     children_set _ _ _ c.self.view_is c.self.invariant c.args.id c.requires.within above c.add_key.new.self c.index_mut-above.ensures.value
     ∙ ap (λ (x : ChildList). with_children c.args.self.now.items c.args.id x) (added ∙ ap (λ (x : ChildList). and_key x c.args.text.now c.args.child) (children_read _ _ _ c.self.view_is c.self.invariant c.args.id c.requires.within above c.index_mut-above.ensures.value)))
-    c.add_key.ensures
+    c.add_key.ensures.ok

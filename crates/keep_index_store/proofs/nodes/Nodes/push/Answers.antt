@@ -24,9 +24,9 @@ pub invariant_of-self-2 : goal.invariant_of-self-2
 invariant_of-self-2 c =
     omega (arith, c.self.invariant, ap (λ (ns : List StoredNode). length ns) (nodes c), ap (λ (hs : List ParentLink). length hs) (links c), length-append c.self.inside.list.items (c.in_ok-node.node ∷ []), length-append c.self.inside.links (link c ∷ []))
 
-pub returns : goal.returns
+pub returns-clause-ok : goal.returns-clause-ok
 unfolding link
-returns c =
+returns-clause-ok c =
     ap (λ (ns : List StoredNode). node_rows ns c.push.new.self) (nodes c) ∙ ap (node_rows (c.self.inside.list.items ++ c.in_ok-node.node ∷ [])) (links c)
     ∙ node_pushed _ _ _ c.self.view_is c.self.invariant c.in_ok-node.node (link c)
     ∙ ap (λ (k : ChildList). let r : Node = record { parent = c.args.parent; number = c.args.number; children = k; facts = c.in_ok-node.node.facts } in c.args.self.now.items ++ r ∷ []) c.in_ok-node.ensures.children
