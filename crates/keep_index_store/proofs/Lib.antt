@@ -6,6 +6,8 @@ pub mod SetKeyLemmas
 pub mod KeyMapLemmas
 pub mod NodeRowLemmas
 pub mod StoredLemmas
+pub mod ChildLemmas
+pub mod TreeLemmas
 pub mod PackedLemmas
 pub mod RunLemmas
 pub mod Shared

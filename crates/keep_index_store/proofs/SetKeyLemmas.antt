@@ -11,7 +11,8 @@ use Rattle.keep_index_store.specs.Children.{ChildList, holds_of, named, child_id
 use Rattle.keep_path.specs.NodeInfos.{NodeInfos, with_path}
 use Rattle.keep_index_store.specs.Facts.{info_of}
 use Rattle.keep_index_store.specs.Trie.{TrieNode, Holding, nothing, by_key, by_index, holdings_of, paths_of, path_at}
-use Rattle.keep_index_store.specs.Stored.{step_at, step_in, trie_node_in, trie_of, IsStored, infos_of, node_infos}
+use Rattle.keep_index_store.specs.Stored.{step_at, step_in, trie_node_in, trie_of, IsStored, infos_of}
+use Rattle.keep_index_store.specs.Tree.{tree_of, node_infos}
 use Rattle.keep_index_store.proofs.TrieLemmas.{path_at-root}
 use Rattle.keep_index_store.proofs.NewKeyLemmas.{IsRenamed, from, to, own_path as own_path_of, beside_is, paths_moved, children_stay, trie_renamed}
 use Rattle.keep_index_store.proofs.StoredLemmas.{IsPlaced, IsStoredChild, count_named, here, holdings_are, ids_named, length_trie_of, node_placed, not_named, preserved_changed, step_below, stored_child}
@@ -195,7 +196,7 @@ module _ (nodes : List Node) (id : ℕ) (d : Node) (text : List ℕ) (k : IsKeye
   to_is : to (trie_of nodes) (trie_of all) id (key text) top renamed ≡ beside (path_at (trie_of nodes) id) text
   to_is = beside_is (trie_of nodes) (trie_of all) id (key text) top renamed text refl
 
-  pub infos_moved : node_infos all ≡ with_path (node_infos nodes) (path_at (trie_of nodes) id) (beside (path_at (trie_of nodes) id) text)
+  pub infos_moved : node_infos (tree_of all) ≡ with_path (node_infos (tree_of nodes)) (path_at (trie_of nodes) id) (beside (path_at (trie_of nodes) id) text)
   unfolding all changed
   infos_moved =
       ap (λ ps. let t : NodeInfos = record { paths = ps; infos = infos_of all } in t) (paths_moved (trie_of nodes) (trie_of all) id (key text) top renamed)

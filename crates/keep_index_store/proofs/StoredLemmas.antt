@@ -18,7 +18,8 @@ use Rattle.keep_index_store.specs.Facts.{info_of}
 use Rattle.keep_index_store.specs.Children.{ChildList, Bare, Keyed, Listed, no_children, holds_of, named, child_ids, child_named}
 use Rattle.keep_index_store.specs.Trie.{TrieNode, Holding, nothing, by_key, by_index, IsTrie, state_at, holds_at, states_of, holdings_of, paths_of, path_at, children_of}
 use Rattle.keep_index_store.specs.Growth.{Grows, Restates}
-use Rattle.keep_index_store.specs.Stored.{step_at, step_in, trie_node_in, trie_of, AreNumbered, IsStored, infos_of, info_at}
+use Rattle.keep_index_store.specs.Stored.{step_at, step_in, trie_node_in, trie_of, AreNumbered, IsStored, infos_of}
+use Rattle.keep_index_store.specs.Tree.{tree_of, info_at}
 use Rattle.keep_index_store.proofs.TrieLemmas.{child_at, IsChildOf, child_placed, IsAmongChildren, no_child, no_children_past_end, path_met}
 use Rattle.keep_index_store.proofs.NewNodeLemmas.{children_here, children_other}
 use Rattle.keep_index_store.proofs.GrowthLemmas.{IsAlike, rest_same, grows_alike, grows_pushed, restates_set}
@@ -242,9 +243,6 @@ with_one nodes parent d kids new = set nodes parent (record (get_or nodes parent
 -- a node more, before it is a child: the others are as they were
 pub above_pushed : (nodes items : List Node) (parent : ℕ) (d new : Node) → parent < length nodes → items ≡ nodes ++ new ∷ [] → get_or items parent d ≡ get_or nodes parent d
 above_pushed nodes items parent d new within is = ap (λ ns. get_or ns parent d) is ∙ get_or_append_left nodes (new ∷ []) d parent within
-
-pub within_pushed : (nodes items : List Node) (parent : ℕ) (new : Node) → parent < length nodes → items ≡ nodes ++ new ∷ [] → parent < length items
-within_pushed nodes items parent new within is = omega (arith, within, ap length is, length-append nodes (new ∷ []))
 
 pub linked : (nodes items : List Node) (parent : ℕ) (d : Node) (kids : ChildList) (new : Node) → parent < length nodes → items ≡ nodes ++ new ∷ []
     → set items parent (record (get_or items parent d) { children = kids }) ≡ with_one nodes parent d kids new
@@ -572,7 +570,7 @@ stored_preserved nodes id d changed is role_is =
 
 -- the facts of one node, changed in one way
 pub infos_changed : (f : NodeInfo → NodeInfo) (nodes : List Node) (id : ℕ) (d changed : Node) → id < length nodes → info_of changed.facts ≡ f (info_of (get_or nodes id d).facts)
-    → infos_of (set nodes id changed) ≡ set (infos_of nodes) id (f (info_at nodes id))
+    → infos_of (set nodes id changed) ≡ set (infos_of nodes) id (f (info_at (tree_of nodes) id))
 infos_changed f nodes id d changed h facts =
     map-set (λ (n : Node). info_of n.facts) nodes id changed
     ∙ ap (λ i. set (infos_of nodes) id i) (facts ∙ ap f (sym (get_or-map (λ (n : Node). info_of n.facts) nodes id d no_info h)))

@@ -12,4 +12,5 @@ pub mod NodeRows
 pub mod Facts
 pub mod Packed
 pub mod Stored
+pub mod Tree
 pub use Rattle.keep_path.specs.Path

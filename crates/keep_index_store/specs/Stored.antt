@@ -4,8 +4,7 @@ use Rattle.keep_index_store.specs.AllNodes.{Node}
 use Rattle.keep_types.specs.declared.node.NodeInfo.{NodeInfo}
 use Rattle.keep_path.specs.Path.{Part, key, index}
 use Rattle.keep_index_store.specs.Children.{holds_of, named, child_ids}
-use Rattle.keep_index_store.specs.Trie.{TrieNode, Holding, by_key, IsTrie, paths_of, children_of}
-use Rattle.keep_path.specs.NodeInfos.{NodeInfos, no_info}
+use Rattle.keep_index_store.specs.Trie.{TrieNode, Holding, by_key, IsTrie, children_of}
 use Rattle.keep_index_store.specs.Facts.{info_of}
 
 -- the step of the child with that number: its key, or the number
@@ -46,9 +45,3 @@ pub record IsStored (nodes : List Node) : Type 0 where
 
 abbrev pub infos_of : List Node → List NodeInfo
 infos_of nodes = map (λ n. info_of n.facts) nodes
-
-abbrev pub info_at : List Node → ℕ → NodeInfo
-info_at nodes i = slice_index_or (infos_of nodes) i no_info
-
-abbrev pub node_infos : List Node → NodeInfos
-node_infos nodes = record { paths = paths_of (trie_of nodes); infos = infos_of nodes }

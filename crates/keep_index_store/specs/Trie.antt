@@ -3,7 +3,7 @@
 use Rattle.std.specs.Prelude.{◌≢◌, ℕ, ◌+◌, ◌<◌, ◌==◌, if◌then◌else◌, List, [], ◌∷◌, ◌++◌, length, drop, map, fold}
 use Rattle.std.specs.Prelude.{slice_index_or, AllPairs, Option, None}
 use Rattle.keep_types.specs.declared.role.Role.{Role}
-use Rattle.keep_path.specs.Path.{Part}
+use Rattle.keep_path.specs.Path.{Part, index}
 
 -- what children a node may have: none at a scalar, by keys at a table, by numbers at an array and an array of tables
 pub data Holding : Type 0 where
@@ -29,6 +29,13 @@ paths_of nodes = fold path_after ([] ∷ []) (drop 1 (map link nodes))
 
 abbrev pub path_at : List TrieNode → ℕ → List Part
 path_at nodes i = slice_index_or (paths_of nodes) i []
+
+-- the parent of a node, and its step there
+abbrev pub parent_at : List TrieNode → ℕ → ℕ
+parent_at nodes i = slice_index_or (map (λ n. n.parent) nodes) i 0
+
+abbrev pub part_at : List TrieNode → ℕ → Part
+part_at nodes i = slice_index_or (map (λ n. n.part) nodes) i (index 0)
 
 -- the role that represents those at each node
 abbrev pub states_of : List TrieNode → List (Option Role)

@@ -1,6 +1,6 @@
 //! The children of a node.
 ghost use Rattle.std.specs.Prelude.{◌≡◌, ◌<◌, ◌-◌, ◌∷◌, ◌++◌, [], None, OnErr, OnOk, IfOk, IfSome, IfNone, bytes_eq};
-ghost use Rattle.std.specs.Prelude.{false, length, option_copied, option_map, slice_get, slice_index_or};
+ghost use Rattle.std.specs.Prelude.{length, option_copied, option_map, slice_get, slice_index_or};
 ghost use Rattle.std.specs.Map.{lookup};
 ghost use Rattle.keep_index_store.specs.AllNodes.{and_key, and_item, with_key};
 ghost use Rattle.keep_index_store.specs.ChildForms.{children_in};

@@ -11,7 +11,8 @@ mod packed;
 mod run;
 mod seed;
 mod stored_key;
+mod tree;
 
 pub use children::Holds;
 pub use facts::{NodeFacts, OriginKind};
-pub use nodes::{Nodes, add_facts, add_item, add_key, child_of, set_key, set_kind, set_role};
+pub use tree::Tree;

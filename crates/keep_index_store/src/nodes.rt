@@ -1,15 +1,11 @@
 //! The nodes, in the order in which they are first met.
-ghost use Rattle.std.specs.Prelude.{◌≡◌, ◌<◌, ◌-◌, ◌∷◌, ◌++◌, [], length, None, Some, IfNone, IfSome, IfOk, OnErr};
-ghost use Rattle.std.specs.Prelude.{OnOk, Contains, slice_get, slice_index_or, slice_set, option_copied, option_map, take};
+ghost use Rattle.std.specs.Prelude.{◌≡◌, ◌<◌, ◌-◌, ◌∷◌, ◌++◌, [], length, None, IfNone, IfSome, IfOk, OnErr, OnOk};
+ghost use Rattle.std.specs.Prelude.{slice_get, slice_index_or, option_copied, option_map, take};
 ghost use Rattle.keep_index_store.specs.AllNodes.{node_at, with_children, with_facts, and_key, and_item, with_key};
 ghost use Rattle.keep_index_store.specs.Children.{holding, no_children, holds_of, named, child_ids, child_named};
 ghost use Rattle.keep_index_store.specs.Children.{child_numbered};
-ghost use Rattle.keep_index_store.specs.Growth.{Grows, Restates};
-ghost use Rattle.keep_path.specs.Path.{EndsInKey, beside, key, index};
-ghost use Rattle.keep_index_store.specs.Stored.{IsStored, trie_of, infos_of, info_at, node_infos};
-ghost use Rattle.keep_path.specs.NodeInfos.{with_path};
-ghost use Rattle.keep_index_store.specs.Facts.{joined_info, joined_facts, info_of};
-ghost use Rattle.keep_index_store.specs.Trie.{by_key, by_index, children_of, holds_at, holdings_of, paths_of, path_at};
+ghost use Rattle.keep_index_store.specs.Facts.{joined_facts};
+ghost use Rattle.keep_index_store.specs.Trie.{by_key, by_index};
 
 use crate::children::{Children, Holds};
 use crate::facts::NodeFacts;
@@ -210,7 +206,7 @@ impl Nodes {
     }
 
     /// Takes away the last node, which is not among the children of its parent.
-    fn pop(&mut self)
+    pub fn pop(&mut self)
         ensures { self.new.items ≡ take (length self.old.items - 1) self.old.items }
     {
         self.list.pop();
@@ -218,7 +214,7 @@ impl Nodes {
     }
 
     /// Adds a node to the children of a table, by a key that is not there yet. If memory runs out, nothing is changed.
-    fn link_key(&mut self, id: usize, text: &str, child: usize) -> Result<(), AllocError>
+    pub fn link_key(&mut self, id: usize, text: &str, child: usize) -> Result<(), AllocError>
         requires within { id < length self.old.items }
         requires holds { holds_of (node_at self.old.items id).children ≡ by_key }
         requires fresh { child_named (node_at self.old.items id).children text.now ≡ None }
@@ -232,7 +228,7 @@ impl Nodes {
     }
 
     /// Gives a child of a table another key, which no child there has yet.
-    fn set_child_key(&mut self, id: usize, number: usize, text: &str) -> Result<(), AllocError>
+    pub fn set_child_key(&mut self, id: usize, number: usize, text: &str) -> Result<(), AllocError>
         requires within { id < length self.old.items }
         requires holds { holds_of (node_at self.old.items id).children ≡ by_key }
         requires counted { number < length (named (node_at self.old.items id).children) }
@@ -247,7 +243,7 @@ impl Nodes {
     }
 
     /// Adds a node to the children of an array or an array of tables. If memory runs out, nothing is changed.
-    fn link_item(&mut self, id: usize, child: usize) -> Result<(), AllocError>
+    pub fn link_item(&mut self, id: usize, child: usize) -> Result<(), AllocError>
         requires within { id < length self.old.items }
         requires holds { holds_of (node_at self.old.items id).children ≡ by_index }
         ensures ok { OnOk result (self.new.items ≡ with_children self.old.items id
@@ -261,7 +257,7 @@ impl Nodes {
 
     /// Joins the facts from one more mention of a node to its own; its role is now this one. If memory runs out, nothing
     /// is changed.
-    fn join_facts(
+    pub fn join_facts(
         &mut self,
         id: usize,
         role: Option<Role>,
@@ -278,7 +274,7 @@ impl Nodes {
     }
 
     /// Gives a node another kind.
-    fn set_kind(&mut self, id: usize, kind: Kind)
+    pub fn set_kind(&mut self, id: usize, kind: Kind)
         requires { id < length self.old.items }
         ensures { self.new.items ≡ with_facts self.old.items id
             (record (node_at self.old.items id).facts { kind = kind }) }
@@ -286,146 +282,4 @@ impl Nodes {
         let node = &mut self.list[id];
         node.facts.set_kind(kind);
     }
-}
-
-/// The child of a table by a key.
-pub fn child_of(nodes: &Nodes, parent: usize, text: &str) -> Option<usize>
-    requires stored { IsStored nodes.now.items }
-    requires within { parent < length nodes.now.items }
-    requires keyed { holds_at (trie_of nodes.now.items) parent ≡ by_key }
-    ensures none { IfNone result
-        (Contains (paths_of (trie_of nodes.now.items)) (path_at (trie_of nodes.now.items) parent ++ key text.now ∷ [])
-        → ⊥) }
-    ensures nested { IfSome result (λ child. child < length nodes.now.items) }
-    ensures found { IfSome result
-        (λ child. path_at (trie_of nodes.now.items) child
-        ≡ path_at (trie_of nodes.now.items) parent ++ key text.now ∷ []) }
-{
-    nodes.child(parent, text)
-}
-
-/// Adds a new node below a table, where no node has its path yet. If memory runs out, nothing is changed.
-pub fn add_key(
-    nodes: &mut Nodes,
-    parent: usize,
-    text: &str,
-    role: Role,
-    facts: NodeFacts,
-    holds: Holds,
-) -> Result<usize, AllocError>
-    requires stored { IsStored nodes.old.items }
-    requires within { parent < length nodes.old.items }
-    requires keyed { holds_at (trie_of nodes.old.items) parent ≡ by_key }
-    requires fresh { Contains (paths_of (trie_of nodes.old.items))
-        (path_at (trie_of nodes.old.items) parent ++ key text.now ∷ []) → ⊥ }
-    ensures grows { OnOk result (Grows (trie_of nodes.old.items) (trie_of nodes.new.items) parent
-        (path_at (trie_of nodes.old.items) parent ++ key text.now ∷ []) (Some role) (holding holds)) }
-    ensures stored { OnOk result (IsStored nodes.new.items) }
-    ensures infos { OnOk result (infos_of nodes.new.items ≡ infos_of nodes.old.items ++ info_of facts ∷ []) }
-    ensures last { IfOk result (λ id. id ≡ length nodes.old.items) }
-    ensures refused { OnErr result (nodes.new.items ≡ nodes.old.items) }
-{
-    let id = nodes.len();
-    let number = nodes.child_count(parent);
-    let role = Some(role);
-    nodes.push(parent, number, NodeFacts { role, ..facts }, holds)?;
-    if let Err(refused) = nodes.link_key(parent, text, id) {
-        nodes.pop();
-        return Err(refused);
-    }
-    Ok(id)
-}
-
-/// Adds a new item to an array, or a new element to an array of tables, after those that are there. If memory runs out,
-/// nothing is changed.
-pub fn add_item(
-    nodes: &mut Nodes,
-    parent: usize,
-    facts: NodeFacts,
-    holds: Holds,
-) -> Result<usize, AllocError>
-    requires stored { IsStored nodes.old.items }
-    requires within { parent < length nodes.old.items }
-    requires listed { holds_at (trie_of nodes.old.items) parent ≡ by_index }
-    requires fresh { Contains (paths_of (trie_of nodes.old.items))
-        (path_at (trie_of nodes.old.items) parent ++ index (length (children_of (trie_of nodes.old.items) parent)) ∷ [])
-        → ⊥ }
-    ensures grows { OnOk result (Grows (trie_of nodes.old.items) (trie_of nodes.new.items) parent
-        (path_at (trie_of nodes.old.items) parent ++ index (length (children_of (trie_of nodes.old.items) parent))
-        ∷ []) None (holding holds)) }
-    ensures stored { OnOk result (IsStored nodes.new.items) }
-    ensures infos { OnOk result (infos_of nodes.new.items ≡ infos_of nodes.old.items ++ info_of facts ∷ []) }
-    ensures last { IfOk result (λ id. id ≡ length nodes.old.items) }
-    ensures refused { OnErr result (nodes.new.items ≡ nodes.old.items) }
-{
-    let id = nodes.len();
-    let number = nodes.child_count(parent);
-    let role = None;
-    nodes.push(parent, number, NodeFacts { role, ..facts }, holds)?;
-    if let Err(refused) = nodes.link_item(parent, id) {
-        nodes.pop();
-        return Err(refused);
-    }
-    Ok(id)
-}
-
-/// Gives a node another role, and joins the facts from one more mention to its own. If memory runs out, nothing is
-/// changed.
-pub fn set_role(nodes: &mut Nodes, id: usize, role: Role, more: NodeFacts) -> Result<(), AllocError>
-    requires stored { IsStored nodes.old.items }
-    requires within { id < length nodes.old.items }
-    ensures restates { OnOk result (Restates (trie_of nodes.old.items) (trie_of nodes.new.items) id role) }
-    ensures stored { OnOk result (IsStored nodes.new.items) }
-    ensures infos { OnOk result (infos_of nodes.new.items
-        ≡ slice_set (infos_of nodes.old.items) id (joined_info (info_at nodes.old.items id) (info_of more))) }
-    ensures refused { OnErr result (nodes.new.items ≡ nodes.old.items) }
-{
-    nodes.join_facts(id, Some(role), more)
-}
-
-/// Joins the facts from one more mention of a node to its own; its role stays. If memory runs out, nothing is changed.
-pub fn add_facts(nodes: &mut Nodes, id: usize, more: NodeFacts) -> Result<(), AllocError>
-    requires stored { IsStored nodes.old.items }
-    requires within { id < length nodes.old.items }
-    ensures same { OnOk result (trie_of nodes.new.items ≡ trie_of nodes.old.items) }
-    ensures stored { OnOk result (IsStored nodes.new.items) }
-    ensures infos { OnOk result (infos_of nodes.new.items
-        ≡ slice_set (infos_of nodes.old.items) id (joined_info (info_at nodes.old.items id) (info_of more))) }
-    ensures refused { OnErr result (nodes.new.items ≡ nodes.old.items) }
-{
-    let role = nodes.role(id);
-    nodes.join_facts(id, role, more)
-}
-
-/// Gives a node another kind, and leaves all else as it is. It takes no memory.
-pub fn set_kind(nodes: &mut Nodes, id: usize, kind: Kind)
-    requires stored { IsStored nodes.old.items }
-    requires within { id < length nodes.old.items }
-    ensures same { trie_of nodes.new.items ≡ trie_of nodes.old.items }
-    ensures stored { IsStored nodes.new.items }
-    ensures infos { infos_of nodes.new.items
-        ≡ slice_set (infos_of nodes.old.items) id (record (info_at nodes.old.items id) { kind = kind }) }
-{
-    nodes.set_kind(id, kind);
-}
-
-/// Gives a node another key in place of its last one, where no node has that path yet: so the path of each node below
-/// it changes too, and nothing else does. It takes memory for the key, and a map may grow as for one key more; if
-/// memory runs out, nothing is changed.
-pub fn set_key(nodes: &mut Nodes, id: usize, text: &str) -> Result<(), AllocError>
-    requires stored { IsStored nodes.old.items }
-    requires within { id < length nodes.old.items }
-    requires keyed { EndsInKey (path_at (trie_of nodes.old.items) id) }
-    requires fresh { Contains (paths_of (trie_of nodes.old.items))
-        (beside (path_at (trie_of nodes.old.items) id) text.now) → ⊥ }
-    ensures moved { OnOk result (node_infos nodes.new.items
-        ≡ with_path (node_infos nodes.old.items) (path_at (trie_of nodes.old.items) id)
-        (beside (path_at (trie_of nodes.old.items) id) text.now)) }
-    ensures stored { OnOk result (IsStored nodes.new.items) }
-    ensures holdings { OnOk result (holdings_of (trie_of nodes.new.items) ≡ holdings_of (trie_of nodes.old.items)) }
-    ensures refused { OnErr result (nodes.new.items ≡ nodes.old.items) }
-{
-    let parent = nodes.parent(id);
-    let number = nodes.number(id);
-    nodes.set_child_key(parent, number, text)
 }

@@ -6,7 +6,6 @@ use Rattle.std.proofs.lemmas.List.Elements.{Contains-get_or}
 use Rattle.std.proofs.lemmas.List.Sums.{position_or_len_is}
 use Rattle.std.proofs.lemmas.Bool.Decides.{nat_tests}
 use Rattle.keep_types.specs.declared.node.NodeInfo.{NodeInfo}
-use Rattle.keep_index_store.specs.AllNodes.{Node}
 use Rattle.keep_types.specs.declared.role.Role.{Role}
 use Rattle.keep_path.specs.Path.{Part, same_path}
 use Rattle.keep_meaning.specs.Counts.{Numbered}
@@ -16,7 +15,7 @@ use Rattle.keep_index_store.specs.Facts.{joined_info}
 use Rattle.keep_rules.specs.MentionInfos.{with_info, with_info_at, with_mentions, mention_info, paths_after}
 use Rattle.keep_index_store.specs.Trie.{Holding, IsTrie, paths_of, path_at}
 use Rattle.keep_index_store.specs.Growth.{Grows}
-use Rattle.keep_index_store.specs.Stored.{trie_of, infos_of, info_at, node_infos}
+use Rattle.keep_index_store.specs.Tree.{TrieInfos, info_at, node_infos}
 use Rattle.keep_rules.specs.AddedInfos.{AddsInfo}
 use Rattle.keep_path.proofs.Shared.{path_decides}
 use Rattle.keep_rules.proofs.RoleStateLemmas.{false_ne}
@@ -54,17 +53,17 @@ pub with_info_there : (t : NodeInfos) (p : List Part) (more : NodeInfo) (i : ℕ
 with_info_there t p more i distinct h is = ap (λ o. with_info_at t o p more) (met_number t.paths p i distinct h is)
 
 -- of a new node
-pub added_at_new : (old new : List Node) (parent : ℕ) (p : List Part) (state : Option Role) (holds : Holding) (more : NodeInfo) → Grows (trie_of old) (trie_of new) parent p state holds
-    → infos_of new ≡ infos_of old ++ more ∷ [] → AddsInfo old new p more
+pub added_at_new : (old new : TrieInfos) (parent : ℕ) (p : List Part) (state : Option Role) (holds : Holding) (more : NodeInfo) → Grows old.trie new.trie parent p state holds
+    → new.infos ≡ old.infos ++ more ∷ [] → AddsInfo old new p more
 added_at_new old new parent p state holds more g infos =
-    ap (λ ps. record { paths = ps; infos = infos_of new }) g.paths ∙ ap (λ is. record { paths = paths_of (trie_of old) ++ p ∷ []; infos = is }) infos ∙ sym (with_info_fresh (node_infos old) p more g.fresh)
+    ap (λ ps. record { paths = ps; infos = new.infos }) g.paths ∙ ap (λ is. record { paths = paths_of old.trie ++ p ∷ []; infos = is }) infos ∙ sym (with_info_fresh (node_infos old) p more g.fresh)
 
 -- of one that is there
-pub added_at_existing : (old new : List Node) (id : ℕ) (p : List Part) (more : NodeInfo) → IsTrie (trie_of old) → id < length (trie_of old) → path_at (trie_of old) id ≡ p → paths_of (trie_of new) ≡ paths_of (trie_of old)
-    → infos_of new ≡ set (infos_of old) id (joined_info (info_at old id) more) → AddsInfo old new p more
+pub added_at_existing : (old new : TrieInfos) (id : ℕ) (p : List Part) (more : NodeInfo) → IsTrie old.trie → id < length old.trie → path_at old.trie id ≡ p → paths_of new.trie ≡ paths_of old.trie
+    → new.infos ≡ set old.infos id (joined_info (info_at old id) more) → AddsInfo old new p more
 added_at_existing old new id p more trie h here paths infos =
-    ap (λ ps. record { paths = ps; infos = infos_of new }) paths ∙ ap (λ is. record { paths = paths_of (trie_of old); infos = is }) infos
-    ∙ sym (with_info_there (node_infos old) p more id trie.distinct (omega (arith, h, length-paths_of (trie_of old) trie.root)) here)
+    ap (λ ps. record { paths = ps; infos = new.infos }) paths ∙ ap (λ is. record { paths = paths_of old.trie; infos = is }) infos
+    ∙ sym (with_info_there (node_infos old) p more id trie.distinct (omega (arith, h, length-paths_of old.trie trie.root)) here)
 
 -- ---- the paths after it
 

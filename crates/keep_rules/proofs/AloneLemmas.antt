@@ -12,7 +12,6 @@ use Rattle.keep_syntax_store.specs.Flat.{Flat}
 use Rattle.keep_syntax.specs.Grammar.{IsValue}
 use Rattle.keep_syntax.specs.Tree.{Value, value_text}
 use Rattle.keep_syntax.specs.Numbered.{info, nested_of, entries_values}
-use Rattle.keep_index_store.specs.AllNodes.{Node}
 use Rattle.keep_rules.specs.declared.key_walk.Fault.{Fault}
 use Rattle.keep_meaning.specs.Fact.{Fact}
 use Rattle.keep_meaning.specs.Rules.{ObeysRules, IsFirstFaulty}
@@ -23,9 +22,8 @@ use Rattle.keep_meaning.specs.Faults.{parts_in}
 use Rattle.keep_rules.specs.NestedValues.{NestedValue, nested_values, holding_of, all_nested_mentions, value_nesting}
 use Rattle.keep_index_store.specs.Trie.{TrieNode, Holding}
 use Rattle.keep_rules.specs.Tables.{is_tables}
-use Rattle.keep_index_store.specs.Stored.{trie_of}
+use Rattle.keep_index_store.specs.Tree.{TrieInfos, IsRoot}
 use Rattle.keep_rules.specs.Reads.{IsValueNode, AreValueNodes}
-use Rattle.keep_rules.specs.Roots.{IsRoot}
 use Rattle.keep_rules.specs.Stops.{FaultMeets}
 use Rattle.keep_rules.specs.FlatValues.{leaf_holding, MatchesNested, MatchAlone}
 use Rattle.keep_rules.specs.Plans.{EndsAt, AreNext, NestedValuesRead, NestedValuesFault}
@@ -58,8 +56,8 @@ root_nesting t f state holds = record {
     one (suc j) low = absurd (omega (arith, low))
 
 module _ (bytes : List ℕ) (profile : Profile) (v : Value) (is : IsValue profile v) (spelled : bytes ≡ value_text v) (f : Flat) (keys : f.keys ≡ parts_alone v) (values : f.values ≡ values_alone v)
-    (nodes : List Node) (first : ValueInfo) (here : slice_get f.values 0 ≡ Some first) (h : Holding) (holds : h ≡ leaf_holding first.leaf) (root : IsRoot nodes h) where
-  pub alone_next : AreNext bytes f (trie_of nodes) (0 ∷ []) 1 1 0 (value_nesting (body_fact v.body)) (nested_values 0 1 v.nested)
+    (nodes : TrieInfos) (first : ValueInfo) (here : slice_get f.values 0 ≡ Some first) (h : Holding) (holds : h ≡ leaf_holding first.leaf) (root : IsRoot h nodes) where
+  pub alone_next : AreNext bytes f nodes.trie (0 ∷ []) 1 1 0 (value_nesting (body_fact v.body)) (nested_values 0 1 v.nested)
   alone_next =
       let matches : MatchAlone bytes (parts_alone v) v (values_alone v) = alone_matches bytes profile v is spelled in
       let own : ValueInfo = info alone 0 0 v.body v.nested None in
@@ -78,7 +76,7 @@ module _ (bytes : List ℕ) (profile : Profile) (v : Value) (is : IsValue profil
   mentions_nested : all_nested_mentions (value_nesting (body_fact v.body)) (nested_values 0 1 v.nested) ≡ entries_mentions 0 v.nested
   mentions_nested = value_nested-mentions v
 
-  pub alone_obeys : (new : List Node) (ids : List ℕ) → NestedValuesRead bytes f 1 1 nodes (0 ∷ []) new ids → ValueObeys v
+  pub alone_obeys : (new : TrieInfos) (ids : List ℕ) → NestedValuesRead bytes f 1 1 nodes (0 ∷ []) new ids → ValueObeys v
   alone_obeys new ids was_read =
       let all = was_read (value_nesting (body_fact v.body)) (nested_values 0 1 v.nested) 0 alone_next in
       subst (λ (ms : List Mention). ObeysRules (marks.marks ms)) mentions_nested (all.represents [] [] (rooted_represents nodes h root)).index.states_represent.obeys

@@ -12,14 +12,13 @@ use Rattle.keep_types.specs.declared.role.Role.TheVariants.{Define, Element, Val
 use Rattle.keep_meaning.specs.Rules.{why_of}
 use Rattle.keep_types.specs.declared.node.Kind.{Kind}
 use Rattle.keep_types.specs.declared.node.Origin.TheVariants as origin
-use Rattle.keep_index_store.specs.AllNodes.{Node}
 use Rattle.keep_meaning.specs.Fact.{Fact}
 use Rattle.keep_path.specs.Path.{Part, key}
 use Rattle.keep_rules.specs.Keys.{AreKeys, key_texts, leading_texts, last_text}
 use Rattle.keep_meaning.specs.Marks.{Mention, define, header, element_header}
 use Rattle.keep_index_store.specs.Facts.{named_info}
 use Rattle.keep_index_store.specs.Trie.{TrieNode, Holding, by_key, path_at}
-use Rattle.keep_index_store.specs.Stored.{trie_of}
+use Rattle.keep_index_store.specs.Tree.{TrieInfos}
 use Rattle.keep_rules.specs.Represents.{Represents, IsMarked, Begins, StopsAt, FaultIn, WasRefused}
 use Rattle.keep_rules.specs.Steps.{Walks, Dots, Gives}
 use Rattle.keep_rules.specs.KeyWalks.{walk_mentions, dotted_mentions}
@@ -107,37 +106,37 @@ module _ (k : Keys) (are : AreKeys k) (text : List ℕ) (is : text ≡ last_text
   -- ---- the facts that are added
 
   -- by the number of the last key
-  last_adds : (mid new : List Node) (statement : ℕ) (mentioned : List (List Part) → List Mention) → HeaderAdds mid new (k.first + (k.count - 1)) statement mentioned → HeaderAdds mid new (k.first + length (leading_texts k)) statement mentioned
+  last_adds : (mid new : TrieInfos) (statement : ℕ) (mentioned : List (List Part) → List Mention) → HeaderAdds mid new (k.first + (k.count - 1)) statement mentioned → HeaderAdds mid new (k.first + length (leading_texts k)) statement mentioned
   last_adds mid new statement mentioned last = subst (λ (n : ℕ). HeaderAdds mid new (k.first + n) statement mentioned) (sym (length-leading_texts k are)) last
 
-  pub header_all_added : (old mid new : List Node) (at statement : ℕ) → Walks (trie_of old) (trie_of mid) at (leading_texts k)
+  pub header_all_added : (old mid new : TrieInfos) (at statement : ℕ) → Walks old.trie mid.trie at (leading_texts k)
       → HeaderAdds old mid k.first statement (λ tables. walk_mentions tables [] (leading_texts k))
-      → HeaderAdds mid new (k.first + (k.count - 1)) statement (λ tables. record { path = path_at (trie_of mid) at ++ key text ∷ []; kind = define } ∷ [])
+      → HeaderAdds mid new (k.first + (k.count - 1)) statement (λ tables. record { path = path_at mid.trie at ++ key text ∷ []; kind = define } ∷ [])
       → StatementAdds old new k.first statement (header (key_texts k))
   header_all_added old mid new at statement walked leading last =
       subst (λ (ks : List (List ℕ)). StatementAdds old new k.first statement (header ks)) (texts_split k are)
       (header_added old new (leading_texts k) (last_text k) k.first statement
       (header_adds old mid new at (leading_texts k) (last_text k) k.first statement (λ tables p. record { path = p; kind = define } ∷ []) walked leading
-      (subst (λ (t : List ℕ). HeaderAdds mid new (k.first + length (leading_texts k)) statement (λ tables. record { path = path_at (trie_of mid) at ++ key t ∷ []; kind = define } ∷ [])) is
-      (last_adds mid new statement (λ tables. record { path = path_at (trie_of mid) at ++ key text ∷ []; kind = define } ∷ []) last))))
+      (subst (λ (t : List ℕ). HeaderAdds mid new (k.first + length (leading_texts k)) statement (λ tables. record { path = path_at mid.trie at ++ key t ∷ []; kind = define } ∷ [])) is
+      (last_adds mid new statement (λ tables. record { path = path_at mid.trie at ++ key text ∷ []; kind = define } ∷ []) last))))
 
-  pub element_all_added : (old mid new : List Node) (at statement : ℕ) → Walks (trie_of old) (trie_of mid) at (leading_texts k)
+  pub element_all_added : (old mid new : TrieInfos) (at statement : ℕ) → Walks old.trie mid.trie at (leading_texts k)
       → HeaderAdds old mid k.first statement (λ tables. walk_mentions tables [] (leading_texts k))
-      → HeaderAdds mid new (k.first + (k.count - 1)) statement (begin_mentions (path_at (trie_of mid) at ++ key text ∷ []))
+      → HeaderAdds mid new (k.first + (k.count - 1)) statement (begin_mentions (path_at mid.trie at ++ key text ∷ []))
       → StatementAdds old new k.first statement (element_header (key_texts k))
   element_all_added old mid new at statement walked leading last =
       subst (λ (ks : List (List ℕ)). StatementAdds old new k.first statement (element_header ks)) (texts_split k are)
       (element_added old new (leading_texts k) (last_text k) k.first statement
       (header_adds old mid new at (leading_texts k) (last_text k) k.first statement (λ tables p. begin_mentions p tables) walked leading
-      (subst (λ (t : List ℕ). HeaderAdds mid new (k.first + length (leading_texts k)) statement (begin_mentions (path_at (trie_of mid) at ++ key t ∷ []))) is
-      (last_adds mid new statement (begin_mentions (path_at (trie_of mid) at ++ key text ∷ [])) last))))
+      (subst (λ (t : List ℕ). HeaderAdds mid new (k.first + length (leading_texts k)) statement (begin_mentions (path_at mid.trie at ++ key t ∷ []))) is
+      (last_adds mid new statement (begin_mentions (path_at mid.trie at ++ key text ∷ [])) last))))
 
-  pub keyed_all_added : (old mid new : List Node) (from at id number : ℕ) (what : Kind) (holds : Holding) → Dots (trie_of old) (trie_of mid) from at (leading_texts k)
-      → DottedAdds old mid k.first number (dotted_mentions (path_at (trie_of old) from) (leading_texts k)) → IsMarked (trie_of mid) (trie_of new) (path_at (trie_of mid) at ++ key text ∷ []) Value holds id
-      → AddsInfo mid new (path_at (trie_of mid) at ++ key text ∷ []) (named_info what (k.first + (k.count - 1)) (origin.Value number)) → KeyedAdds old new from k.first (key_texts k) number what
+  pub keyed_all_added : (old mid new : TrieInfos) (from at id number : ℕ) (what : Kind) (holds : Holding) → Dots old.trie mid.trie from at (leading_texts k)
+      → DottedAdds old mid k.first number (dotted_mentions (path_at old.trie from) (leading_texts k)) → IsMarked mid.trie new.trie (path_at mid.trie at ++ key text ∷ []) Value holds id
+      → AddsInfo mid new (path_at mid.trie at ++ key text ∷ []) (named_info what (k.first + (k.count - 1)) (origin.Value number)) → KeyedAdds old new from k.first (key_texts k) number what
   keyed_all_added old mid new from at id number what holds gone leading marked one =
       subst (λ (ks : List (List ℕ)). KeyedAdds old new from k.first ks number what) (texts_split k are)
       (keyed_added old mid new from at id (leading_texts k) (last_text k) k.first number what holds gone leading
-      (subst (λ (t : List ℕ). IsMarked (trie_of mid) (trie_of new) (path_at (trie_of mid) at ++ key t ∷ []) Value holds id) is marked)
-      (subst (λ (n : ℕ). AddsInfo mid new (path_at (trie_of mid) at ++ key (last_text k) ∷ []) (named_info what (k.first + n) (origin.Value number))) (sym (length-leading_texts k are))
-      (subst (λ (t : List ℕ). AddsInfo mid new (path_at (trie_of mid) at ++ key t ∷ []) (named_info what (k.first + (k.count - 1)) (origin.Value number))) is one)))
+      (subst (λ (t : List ℕ). IsMarked mid.trie new.trie (path_at mid.trie at ++ key t ∷ []) Value holds id) is marked)
+      (subst (λ (n : ℕ). AddsInfo mid new (path_at mid.trie at ++ key (last_text k) ∷ []) (named_info what (k.first + n) (origin.Value number))) (sym (length-leading_texts k are))
+      (subst (λ (t : List ℕ). AddsInfo mid new (path_at mid.trie at ++ key t ∷ []) (named_info what (k.first + (k.count - 1)) (origin.Value number))) is one)))

@@ -12,7 +12,6 @@ use Rattle.keep_syntax.specs.Contract.{statements_of}
 use Rattle.keep_syntax_store.specs.Flat.{Flat}
 use Rattle.keep_syntax.specs.Numbered as syntax
 use Rattle.keep_syntax.specs.Tree.{Document}
-use Rattle.keep_index_store.specs.AllNodes.{Node, no_node}
 use Rattle.keep_rules.specs.declared.key_walk.Fault.{Fault}
 use Rattle.keep_path.specs.Path.{Part}
 use Rattle.keep_meaning.specs.Rules.{ObeysRules, IsFirstFaulty}
@@ -22,18 +21,18 @@ use Rattle.keep_meaning.specs.Meaning.{mentions_in}
 use Rattle.keep_meaning.specs.Counts.{Count, Numbered, numbered_mentions, numbered_from, count_from, no_count, statements_in, numbered_in}
 use Rattle.keep_meaning.specs.Nodes.{node_path, nodes_in, infos_in}
 use Rattle.keep_index_store.specs.Trie.{TrieNode, by_key}
-use Rattle.keep_index_store.specs.Stored.{trie_node_in, trie_of, node_infos}
+use Rattle.keep_index_store.specs.Tree.{TrieInfos, IsRoot, node_infos}
 use Rattle.keep_path.specs.NodeInfos.{NodeInfos, root_infos}
 use Rattle.keep_rules.specs.MentionInfos.{with_mentions, ValuesAreNew}
 use Rattle.keep_rules.specs.AddedInfos.{AddsValue}
 use Rattle.keep_rules.specs.Reads.{IsReading}
-use Rattle.keep_rules.specs.Roots.{IsRoot}
 use Rattle.keep_rules.specs.Stops.{FaultMeets}
 use Rattle.keep_rules.specs.FlatStatements.{MatchesStatement, IsCountBefore}
 use Rattle.keep_rules.specs.ReadStatements.{IsRead, IsReadAsMatched, BreaksAsMatched}
 use Rattle.keep_rules.specs.ReadDocuments.{WasRead, IsIndexOf, IsRefusal, IsFaultAt}
 use Rattle.keep_meaning.proofs.Shared.{nodes_few, mentions_in-statements, paths-nodes_in, count_from-keys, numbered_from-append, statements-count, marked-parts}
 use Rattle.keep_rules.specs.Nested.{AreNested}
+use Rattle.keep_index_store.proofs.Shared.{first}
 use Rattle.keep_rules.proofs.NestedLemmas.{nested_represents}
 use Rattle.keep_rules.proofs.FlatCountLemmas.{document_counts}
 use Rattle.keep_rules.proofs.FlatLineLemmas.{document_matches}
@@ -53,12 +52,12 @@ abbrev pub numbered_before : Document → ℕ → List Numbered
 numbered_before d number = numbered_from no_count start (before d number)
 
 -- The nodes represent so many statements of the document, and have the facts from these.
-pub record IsReadUpTo (d : Document) (nodes : List Node) (body number : ℕ) : Type 0 where
-  pub reading : IsReadTo (trie_of nodes) body (before d number)
+pub record IsReadUpTo (d : Document) (nodes : TrieInfos) (body number : ℕ) : Type 0 where
+  pub reading : IsReadTo nodes.trie body (before d number)
   pub facts : node_infos nodes ≡ with_mentions root_infos (numbered_before d number)
   pub fresh : ValuesAreNew ([] ∷ []) (numbered_before d number)
 
-pub begin_read : (d : Document) (nodes : List Node) → IsRoot nodes by_key → IsReadUpTo d nodes 0 0
+pub begin_read : (d : Document) (nodes : TrieInfos) → IsRoot by_key nodes → IsReadUpTo d nodes 0 0
 begin_read d nodes root = record {
   reading = subst (λ (ts : List TrieNode). IsReading ts 0 [] start) (sym root.alone) (root_reads root.root root.state root.holds);
   facts = root.facts;
@@ -95,7 +94,7 @@ module _ (bytes : List ℕ) (s : Syntax) (d : Document) (was : WasRead bytes s d
       ∙ ap (λ ns. numbered_before d number ++ ns) (one_numbered (count_from no_count start (before d number)) (reading_after start (before d number)) (statement_at d number))
 
   -- one statement more
-  pub read_next : (old new : List Node) (body to : ℕ) → IsReadUpTo d old body number → IsReadAsMatched bytes f number st old body new to → IsReadUpTo d new to (number + 1)
+  pub read_next : (old new : TrieInfos) (body to : ℕ) → IsReadUpTo d old body number → IsReadAsMatched bytes f number st old body new to → IsReadUpTo d new to (number + 1)
   read_next old new body to up read =
       let next : marks.Statement = statement_at d number in
       let c : Count = count_from no_count start (before d number) in
@@ -104,7 +103,7 @@ module _ (bytes : List ℕ) (s : Syntax) (d : Document) (was : WasRead bytes s d
       let one : IsRead number st old body new to next = read next mentions_at in
       let added : AddsValue old new c (statement_mentions r next) = one.joined (mentions_from start (before d number)) r up.reading c (document_counts d number st listed) in
       record {
-        reading = subst (λ (ss : List marks.Statement). IsReadTo (trie_of new) to ss) (sym next_before) (read_more (trie_of old) (trie_of new) body to (before d number) next up.reading one.reads);
+        reading = subst (λ (ss : List marks.Statement). IsReadTo new.trie to ss) (sym next_before) (read_more old.trie new.trie body to (before d number) next up.reading one.reads);
         facts = added.joined
             ∙ ap (λ t. with_mentions t more) up.facts
             ∙ sym (with_mentions-append root_infos (numbered_before d number) more)
@@ -115,7 +114,7 @@ module _ (bytes : List ℕ) (s : Syntax) (d : Document) (was : WasRead bytes s d
       }
 
   -- a fault in it is the document's first
-  break_first : (old : List Node) (body at : ℕ) (why : Why) → IsReadUpTo d old body number → BreaksAsMatched bytes f st old body at why → IsFirstFaulty (marks.marks (mentions_in d)) at why
+  break_first : (old : TrieInfos) (body at : ℕ) (why : Why) → IsReadUpTo d old body number → BreaksAsMatched bytes f st old body at why → IsFirstFaulty (marks.marks (mentions_in d)) at why
   break_first old body at why up breaks =
       let next : marks.Statement = statement_at d number in
       let r : Reading = reading_after start (before d number) in
@@ -130,29 +129,29 @@ module _ (bytes : List ℕ) (s : Syntax) (d : Document) (was : WasRead bytes s d
       subst (λ (l : List Mention). IsFirstFaulty (marks.marks l) at why) (sym mentioned)
       (subst (λ (n : ℕ). IsFirstFaulty (marks.marks (ms ++ (statement_mentions r next ++ later))) n why) place (fault_is_first ms (statement_mentions r next) later one.within why one.fault))
 
-  pub break_within : (old : List Node) (body : ℕ) (g : Fault) → IsReadUpTo d old body number → FaultMeets g (BreaksAsMatched bytes f st old body) → FaultMeets g (λ n w. n < length f.keys)
+  pub break_within : (old : TrieInfos) (body : ℕ) (g : Fault) → IsReadUpTo d old body number → FaultMeets g (BreaksAsMatched bytes f st old body) → FaultMeets g (λ n w. n < length f.keys)
   break_within old body g up meets =
       meets_weaker g (BreaksAsMatched bytes f st old body) (λ n w. n < length f.keys)
       (λ n w breaks. let low = first_low (marks.marks (mentions_in d)) n w (break_first old body n w up breaks) in omega (arith, low, marked-parts d, ap length keys)) meets
 
-  pub break_refused : (old : List Node) (body : ℕ) (g : Fault) (r : ReadFault) → IsReadUpTo d old body number → IsFaultAt f.keys g r → FaultMeets g (BreaksAsMatched bytes f st old body) → IsRefusal d r
+  pub break_refused : (old : TrieInfos) (body : ℕ) (g : Fault) (r : ReadFault) → IsReadUpTo d old body number → IsFaultAt f.keys g r → FaultMeets g (BreaksAsMatched bytes f st old body) → IsRefusal d r
   break_refused old body g r up at meets =
       fault_placed (syntax.parts d) (marks.marks (mentions_in d)) (IsRefusal d) g r (subst (λ (ks : List KeyPart). IsFaultAt ks g r) keys at)
       (meets_weaker g (BreaksAsMatched bytes f st old body) (λ n w. IsFirstFaulty (marks.marks (mentions_in d)) n w) (λ n w breaks. break_first old body n w up breaks) meets) (λ place why fault. fault) tt
 
 -- ---- all statements
 
-pub whole_read : (d : Document) (nodes : List Node) (body number : ℕ) → length (syntax.statements d) ≤ number → length (syntax.parts d) < 2 ^ 64 → IsReadUpTo d nodes body number → IsIndexOf d (node_infos nodes)
+pub whole_read : (d : Document) (nodes : TrieInfos) (body number : ℕ) → length (syntax.statements d) ≤ number → length (syntax.parts d) < 2 ^ 64 → IsReadUpTo d nodes body number → IsIndexOf d (node_infos nodes)
 whole_read d nodes body number past few up =
     let all : before d number ≡ statements_in d = take_all number (statements_in d) (omega (arith, past, statements-count d)) in
     let fresh : ValuesAreNew ([] ∷ []) (numbered_in d) = subst (λ (ss : List marks.Statement). ValuesAreNew ([] ∷ []) (numbered_from no_count start ss)) all up.fresh in
     let mentioned : mentions_from start (before d number) ≡ mentions_in d = ap mentions all ∙ sym (mentions_in-statements d) in
     let nested : AreNested (mentions_from start (before d number)) (reading_after start (before d number)).tables =
-    nested_represents (trie_of nodes) (mentions_from start (before d number)) (reading_after start (before d number)).tables up.reading.represents (trie_node_in nodes no_node) in
+    nested_represents nodes.trie (mentions_from start (before d number)) (reading_after start (before d number)).tables up.reading.represents (first nodes.trie up.reading.represents.index.trie) in
     record {
       nested = subst (λ (ms : List Mention). AreNested ms (reading_after start (statements_in d)).tables) mentioned
           (subst (λ (ss : List marks.Statement). AreNested (mentions_from start (before d number)) (reading_after start ss).tables) all nested);
-      obeys = subst (λ (ms : List Mention). ObeysRules (marks.marks ms)) (ap mentions all ∙ sym (mentions_in-statements d)) (read_obeys (trie_of nodes) body (before d number) up.reading);
+      obeys = subst (λ (ms : List Mention). ObeysRules (marks.marks ms)) (ap mentions all ∙ sym (mentions_in-statements d)) (read_obeys nodes.trie body (before d number) up.reading);
       facts = up.facts ∙ ap (λ ss. with_mentions root_infos (numbered_from no_count start ss)) all ∙ values_new_in d (omega (arith, few, marked-parts d)) fresh
           ∙ ap (λ ps. let t : NodeInfos = record { paths = ps; infos = infos_in d } in t) (sym (paths-nodes_in d));
     }

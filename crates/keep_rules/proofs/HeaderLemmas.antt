@@ -8,7 +8,6 @@ use Rattle.keep_types.specs.declared.syntax.StatementKind.TheVariants.{KeyVal, H
 use Rattle.keep_types.specs.declared.syntax.ValueInfo.{ValueInfo}
 use Rattle.keep_syntax_store.specs.Flat.{Flat}
 use Rattle.keep_rules.specs.declared.keys.Keys.{Keys}
-use Rattle.keep_index_store.specs.AllNodes.{Node}
 use Rattle.keep_rules.specs.declared.key_walk.Fault.{Fault}
 use Rattle.keep_path.specs.Path.{Part, key, index}
 use Rattle.keep_meaning.specs.Marks as marks
@@ -17,7 +16,7 @@ use Rattle.keep_meaning.specs.Counts.{Count, is_value, numbered_mentions, count_
 use Rattle.keep_meaning.specs.Nodes.{paths_with}
 use Rattle.keep_rules.specs.Keys.{AreKeysAt, key_texts}
 use Rattle.keep_meaning.specs.KeyText.{keys_in}
-use Rattle.keep_index_store.specs.Stored.{trie_of}
+use Rattle.keep_index_store.specs.Tree.{TrieInfos}
 use Rattle.keep_rules.specs.Reads.{Reads, FaultsIn}
 use Rattle.keep_rules.specs.Represents.{FaultIn}
 use Rattle.keep_rules.specs.Statements.{header_of}
@@ -88,8 +87,8 @@ head_none Element k r = none-append (header_prefixes r.tables [] (key_texts k)) 
 
 -- ---- read, with its facts added
 
-pub head_is_read : (bytes : List ℕ) (f : Flat) (number : ℕ) (st : Statement) (k : Keys) (old new : List Node) (to : ℕ) → key_texts k ≡ keys_in bytes f.keys st.first_key st.keys → st.value ≡ None
-    → ((body : ℕ) → Reads (trie_of old) body (trie_of new) to (head_of st.kind k)) → StatementAdds old new st.first_key number (head_of st.kind k)
+pub head_is_read : (bytes : List ℕ) (f : Flat) (number : ℕ) (st : Statement) (k : Keys) (old new : TrieInfos) (to : ℕ) → key_texts k ≡ keys_in bytes f.keys st.first_key st.keys → st.value ≡ None
+    → ((body : ℕ) → Reads old.trie body new.trie to (head_of st.kind k)) → StatementAdds old new st.first_key number (head_of st.kind k)
     → (body : ℕ) → IsReadAsMatched bytes f number st old body new to
 head_is_read bytes f number st k old new to texts none reads joined body s matches =
     subst (IsRead number st old body new to) (mentions_head bytes f st k s texts none matches) (record {
@@ -113,20 +112,20 @@ head_marks Element k r some =
     let path : List Part = header_path r.tables [] (key_texts k) in
     omega (arith, marked-append (header_prefixes r.tables [] (key_texts k)) (record { path = path; kind = element } ∷ record { path = path ++ index (elements_of path r.tables) ∷ []; kind = begun } ∷ []), leading_marks r.tables [] (key_texts k) some)
 
-pub head_fault_fits : (bytes : List ℕ) (parts : List KeyPart) (st : Statement) (k : Keys) (old : List Node) (most : ℕ) (f : Fault) → key_texts k ≡ keys_in bytes parts st.first_key st.keys → AreKeysAt bytes parts st.first_key st.keys
-    → (body : ℕ) × HasReading (trie_of old) body → length parts ≤ most → FaultMeets f (λ at why. (body : ℕ) → FaultsIn (trie_of old) body (head_of st.kind k) at why) → FaultMeets f (λ at why. st.first_key + at ≤ most)
+pub head_fault_fits : (bytes : List ℕ) (parts : List KeyPart) (st : Statement) (k : Keys) (old : TrieInfos) (most : ℕ) (f : Fault) → key_texts k ≡ keys_in bytes parts st.first_key st.keys → AreKeysAt bytes parts st.first_key st.keys
+    → (body : ℕ) × HasReading old.trie body → length parts ≤ most → FaultMeets f (λ at why. (body : ℕ) → FaultsIn old.trie body (head_of st.kind k) at why) → FaultMeets f (λ at why. st.first_key + at ≤ most)
 head_fault_fits bytes parts st k old most f texts keys reading fits matches =
-    meets_weaker f (λ at why. (body : ℕ) → FaultsIn (trie_of old) body (head_of st.kind k) at why) (λ at why. st.first_key + at ≤ most)
+    meets_weaker f (λ at why. (body : ℕ) → FaultsIn old.trie body (head_of st.kind k) at why) (λ at why. st.first_key + at ≤ most)
     (λ at why faults.
     let many : length (key_texts k) ≡ st.keys = ap length texts ∙ length-keys_in bytes parts st.first_key st.keys keys.within in
     let low = fault_low (faults reading.0 reading.1.0 reading.1.1 reading.1.2) in
     omega (arith, low, head_marks st.kind k reading.1.1 (omega (arith, many, keys.some)), many, keys.within, fits)) matches
 
-pub head_breaks : (bytes : List ℕ) (f : Flat) (st : Statement) (k : Keys) (old : List Node) (g h : Fault) → key_texts k ≡ keys_in bytes f.keys st.first_key st.keys → st.value ≡ None → h ≡ fault_from g st.first_key
-    → FaultMeets g (λ at why. (body : ℕ) → FaultsIn (trie_of old) body (head_of st.kind k) at why) → FaultMeets h (λ at why. (body : ℕ) → BreaksAsMatched bytes f st old body at why)
+pub head_breaks : (bytes : List ℕ) (f : Flat) (st : Statement) (k : Keys) (old : TrieInfos) (g h : Fault) → key_texts k ≡ keys_in bytes f.keys st.first_key st.keys → st.value ≡ None → h ≡ fault_from g st.first_key
+    → FaultMeets g (λ at why. (body : ℕ) → FaultsIn old.trie body (head_of st.kind k) at why) → FaultMeets h (λ at why. (body : ℕ) → BreaksAsMatched bytes f st old body at why)
 head_breaks bytes f st k old g h texts none from matches =
     meets_from g st.first_key h (λ at why. (body : ℕ) → BreaksAsMatched bytes f st old body at why) from
-    (meets_weaker g (λ at why. (body : ℕ) → FaultsIn (trie_of old) body (head_of st.kind k) at why) (λ at why. (body : ℕ) → BreaksAsMatched bytes f st old body (st.first_key + at) why)
+    (meets_weaker g (λ at why. (body : ℕ) → FaultsIn old.trie body (head_of st.kind k) at why) (λ at why. (body : ℕ) → BreaksAsMatched bytes f st old body (st.first_key + at) why)
     (λ at why faults body s mentioned ms r reading. record {
       within = at;
       sum = refl;

@@ -13,18 +13,22 @@ use Rattle.keep_rules.specs.Keys.{AreKeys, parts_of, key_texts, key_text_at, lea
 use Rattle.keep_meaning.specs.KeyText.{keys_in}
 use Rattle.keep_types.specs.declared.node.Kind.TheVariants as kind
 use Rattle.keep_types.specs.declared.node.Origin.TheVariants as origin
-use Rattle.keep_index_store.specs.AllNodes.{Node}
 use Rattle.keep_meaning.specs.Marks.{Mention, passing_mentions}
 use Rattle.keep_index_store.specs.Facts.{named_info}
-use Rattle.keep_index_store.specs.Stored.{trie_of}
+use Rattle.keep_index_store.specs.Tree.{TrieInfos}
 use Rattle.keep_rules.specs.AddedInfos.{AddsInfo, HeaderAdds, DottedAdds}
-use Rattle.keep_index_store.specs.Trie.{TrieNode, by_key, path_at}
+use Rattle.keep_index_store.specs.Trie.{TrieNode, by_key, holds_at, path_at}
 use Rattle.keep_rules.specs.Represents.{Represents, IsMarked, Passes, WasRefused, HasNoElement, FaultIn}
 use Rattle.keep_rules.specs.Steps.{Walks, Dots}
 use Rattle.keep_rules.specs.KeyWalks.{walk_mentions, dotted_mentions}
 use Rattle.keep_rules.proofs.StepLemmas.{walks_more, dots_more}
 use Rattle.keep_rules.proofs.StopLemmas.{walk_fault, dots_fault}
 use Rattle.keep_rules.proofs.KeyWalkInfoLemmas.{walk_adds, dot_adds}
+
+-- a table's node is there
+pub root_within : (nodes : List TrieNode) → holds_at nodes 0 ≡ by_key → 0 < length nodes
+root_within [] keyed = absurd cc
+root_within (n ∷ nodes) keyed = omega arith
 
 -- ---- the texts
 
@@ -106,21 +110,21 @@ dots_stop old mid at by k are i text h is gone was ms ts represents =
 
 -- ---- the facts from the leading keys
 
-module _ (old mid new : List Node) (k : Keys) (are : AreKeys k) (i : ℕ) (text : List ℕ) where
-  pub walked_added : (at statement : ℕ) → i < k.count → text ≡ key_text_at k i → Walks (trie_of old) (trie_of mid) at (take i (key_texts k))
+module _ (old mid new : TrieInfos) (k : Keys) (are : AreKeys k) (i : ℕ) (text : List ℕ) where
+  pub walked_added : (at statement : ℕ) → i < k.count → text ≡ key_text_at k i → Walks old.trie mid.trie at (take i (key_texts k))
       → HeaderAdds old mid k.first statement (λ tables. walk_mentions tables [] (take i (key_texts k)))
-      → HeaderAdds mid new (k.first + i) statement (λ tables. passing_mentions tables (path_at (trie_of mid) at ++ key text ∷ []))
+      → HeaderAdds mid new (k.first + i) statement (λ tables. passing_mentions tables (path_at mid.trie at ++ key text ∷ []))
       → HeaderAdds old new k.first statement (λ tables. walk_mentions tables [] (take (i + 1) (key_texts k)))
   walked_added at statement h is walked facts last =
       subst (λ (ks : List (List ℕ)). HeaderAdds old new k.first statement (λ tables. walk_mentions tables [] ks)) (sym (leading_more k are i text h is))
       (walk_adds old mid new at (take i (key_texts k)) text k.first statement walked facts
-      (subst (λ (n : ℕ). HeaderAdds mid new (k.first + n) statement (λ tables. passing_mentions tables (path_at (trie_of mid) at ++ key text ∷ []))) (sym (so_many k are i h)) last))
+      (subst (λ (n : ℕ). HeaderAdds mid new (k.first + n) statement (λ tables. passing_mentions tables (path_at mid.trie at ++ key text ∷ []))) (sym (so_many k are i h)) last))
 
-  pub dotted_added : (from at number : ℕ) → i < k.count → text ≡ key_text_at k i → Dots (trie_of old) (trie_of mid) from at (take i (key_texts k))
-      → DottedAdds old mid k.first number (dotted_mentions (path_at (trie_of old) from) (take i (key_texts k)))
-      → AddsInfo mid new (path_at (trie_of mid) at ++ key text ∷ []) (named_info kind.Table (k.first + i) (origin.Dotted number))
-      → DottedAdds old new k.first number (dotted_mentions (path_at (trie_of old) from) (take (i + 1) (key_texts k)))
+  pub dotted_added : (from at number : ℕ) → i < k.count → text ≡ key_text_at k i → Dots old.trie mid.trie from at (take i (key_texts k))
+      → DottedAdds old mid k.first number (dotted_mentions (path_at old.trie from) (take i (key_texts k)))
+      → AddsInfo mid new (path_at mid.trie at ++ key text ∷ []) (named_info kind.Table (k.first + i) (origin.Dotted number))
+      → DottedAdds old new k.first number (dotted_mentions (path_at old.trie from) (take (i + 1) (key_texts k)))
   dotted_added from at number h is gone facts one =
-      subst (λ (ks : List (List ℕ)). DottedAdds old new k.first number (dotted_mentions (path_at (trie_of old) from) ks)) (sym (leading_more k are i text h is))
+      subst (λ (ks : List (List ℕ)). DottedAdds old new k.first number (dotted_mentions (path_at old.trie from) ks)) (sym (leading_more k are i text h is))
       (dot_adds old mid new from at (take i (key_texts k)) text k.first number gone facts
-      (subst (λ (n : ℕ). AddsInfo mid new (path_at (trie_of mid) at ++ key text ∷ []) (named_info kind.Table (k.first + n) (origin.Dotted number))) (sym (so_many k are i h)) one))
+      (subst (λ (n : ℕ). AddsInfo mid new (path_at mid.trie at ++ key text ∷ []) (named_info kind.Table (k.first + n) (origin.Dotted number))) (sym (so_many k are i h)) one))

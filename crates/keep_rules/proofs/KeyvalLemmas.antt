@@ -19,7 +19,6 @@ use Rattle.keep_syntax.specs.Tree.{Name, Value}
 use Rattle.keep_syntax.specs.Numbered.{value_count}
 use Rattle.keep_rules.specs.declared.keys.Keys.{Keys}
 use Rattle.keep_types.specs.declared.node.Kind.{Kind}
-use Rattle.keep_index_store.specs.AllNodes.{Node}
 use Rattle.keep_types.specs.declared.role.Role.{Role}
 use Rattle.keep_types.specs.declared.role.Role.TheVariants.{Element}
 use Rattle.keep_rules.specs.declared.key_walk.Fault.{Fault}
@@ -35,7 +34,7 @@ use Rattle.keep_meaning.specs.KeyText.{keys_in}
 use Rattle.keep_rules.specs.NestedValues.{NestingState, NestedValue, nested_keyed, nested_values, nested_mentions, all_nested_mentions, next_nesting, body_nesting, keyval_nested}
 use Rattle.keep_index_store.specs.Trie.{TrieNode, Holding, by_key, by_index, path_at, state_at}
 use Rattle.keep_rules.specs.Tables.{is_tables, IsShaped}
-use Rattle.keep_index_store.specs.Stored.{trie_of, node_infos}
+use Rattle.keep_index_store.specs.Tree.{TrieInfos, node_infos}
 use Rattle.keep_rules.specs.Represents.{Represents, IsOpen, FaultIn}
 use Rattle.keep_rules.specs.Steps.{Gives}
 use Rattle.keep_rules.specs.Reads.{IsValueNode, AreValueNodes}
@@ -97,12 +96,12 @@ some_info a b e = cc
 mentions_in_body : (r : Reading) (path : List Part) (name : Name) (v : Value) → path ≡ r.body → all_nested_mentions (body_nesting path) (keyval_nested name v) ≡ statement_mentions r (marks.keyval (keyval_mentions name v))
 mentions_in_body r path name v e = ap (λ q. all_nested_mentions (body_nesting q) (keyval_nested name v)) e ∙ keyval_nested-mentions r.body name v
 
-module _ (bytes : List ℕ) (f : Flat) (st : Statement) (old mid : List Node) (body top number : ℕ) (k : Keys) (info : ValueInfo) (kind : Kind) (holds : Holding)
+module _ (bytes : List ℕ) (f : Flat) (st : Statement) (old mid : TrieInfos) (body top number : ℕ) (k : Keys) (info : ValueInfo) (kind : Kind) (holds : Holding)
     (texts : key_texts k ≡ keys_in bytes f.keys st.first_key st.keys) (are : AreKeys k) (listed : slice_get f.values number ≡ Some info) (valued : st.value ≡ Some number)
     (kind_is : kind ≡ leaf_kind info.leaf) (holds_is : holds ≡ leaf_holding info.leaf)
-    (gives : Gives (trie_of old) (trie_of mid) body top (leading_texts k) (last_text k) holds) (joined : KeyedAdds old mid body st.first_key (key_texts k) number kind) where
+    (gives : Gives old.trie mid.trie body top (leading_texts k) (last_text k) holds) (joined : KeyedAdds old mid body st.first_key (key_texts k) number kind) where
   -- the keyval's own value was read
-  pub top_read : (mentioned : List Mention) (path : List Part) (matches : MatchesKeyvalOf bytes f.keys f.values st mentioned) → IsShaped (trie_of old) → IsOpen (trie_of old) body path
+  pub top_read : (mentioned : List Mention) (path : List Part) (matches : MatchesKeyvalOf bytes f.keys f.values st mentioned) → IsShaped old.trie → IsOpen old.trie body path
       → NestedRead (nodes_so_far old (body ∷ [])) (nodes_so_far mid (body ∷ top ∷ [])) number st.first_key (body_nesting path) (nested_keyed 0 (keys_of matches.name.key) (body_fact matches.value.body) ∷ [])
   top_read mentioned path matches shaped open_ =
       let fact : Fact = body_fact matches.value.body in
@@ -112,14 +111,14 @@ module _ (bytes : List ℕ) (f : Flat) (st : Statement) (old mid : List Node) (b
       subst (λ (x : List (List ℕ)). AddsValue old mid c (nested_mentions s (nested_keyed 0 x fact))) (sym (texts_split k are))
       (joined s 0 fact open_.here (matches.valued.kind ∙ ap (λ (i : ValueInfo). leaf_kind i.leaf) same ∙ sym kind_is) c v first) in
       subst (λ (x : List (List ℕ)). NestedRead (nodes_so_far old (body ∷ [])) (nodes_so_far mid (body ∷ top ∷ [])) number st.first_key s (nested_keyed 0 x fact ∷ [])) (texts_split k are ∙ texts ∙ matches.keys.keys)
-      (nested_read_keyed (nodes_so_far old (body ∷ [])) (trie_of mid) (node_infos mid) top number st.first_key s 0 (leading_texts k) (last_text k) fact (open_nesting (trie_of old) body path shaped open_) (omega arith) refl
-      (subst (λ (x : Holding). Gives (trie_of old) (trie_of mid) body top (leading_texts k) (last_text k) x) (holds_is ∙ ap (λ (i : ValueInfo). leaf_holding i.leaf) (sym same) ∙ sym matches.valued.holds) gives)
+      (nested_read_keyed (nodes_so_far old (body ∷ [])) mid.trie (node_infos mid) top number st.first_key s 0 (leading_texts k) (last_text k) fact (open_nesting old.trie body path shaped open_) (omega arith) refl
+      (subst (λ (x : Holding). Gives old.trie mid.trie body top (leading_texts k) (last_text k) x) (holds_is ∙ ap (λ (i : ValueInfo). leaf_holding i.leaf) (sym same) ∙ sym matches.valued.holds) gives)
       (λ c v first. (facts c v first).joined)
       (λ c v first. (facts c v first).fresh))
 
   -- the values in it come next
-  pub nested_next : (mentioned : List Mention) (path : List Part) (matches : MatchesKeyvalOf bytes f.keys f.values st mentioned) → IsShaped (trie_of old) → IsOpen (trie_of old) body path
-      → AreNext bytes f (trie_of mid) (body ∷ top ∷ []) number (number + 1) (st.first_key + st.keys) (next_nesting (body_nesting path) (nested_keyed 0 (keys_of matches.name.key) (body_fact matches.value.body))) (nested_values 1 2 matches.value.nested)
+  pub nested_next : (mentioned : List Mention) (path : List Part) (matches : MatchesKeyvalOf bytes f.keys f.values st mentioned) → IsShaped old.trie → IsOpen old.trie body path
+      → AreNext bytes f mid.trie (body ∷ top ∷ []) number (number + 1) (st.first_key + st.keys) (next_nesting (body_nesting path) (nested_keyed 0 (keys_of matches.name.key) (body_fact matches.value.body))) (nested_values 1 2 matches.value.nested)
   nested_next mentioned path matches shaped open_ =
       let at : matches.valued.first ≡ number = some_value matches.valued.first number (sym matches.valued.valued ∙ valued) in
       let n : ℕ = value_count matches.value.nested in
@@ -143,7 +142,7 @@ module _ (bytes : List ℕ) (f : Flat) (st : Statement) (old mid : List Node) (b
       ap (λ w. length (marks.marks w)) (append-nil (nested_mentions (body_nesting path) t)) ∙ nested_marks (body_nesting path) t (omega (arith, own_keys mentioned matches, matches.keys.some)) ∙ own_keys mentioned matches
 
   -- all its values were read
-  pub keyval_all_read : (new : List Node) (ids : List ℕ) → NestedValuesRead bytes f number (number + 1) mid (body ∷ top ∷ []) new ids → (mentioned : List Mention) (path : List Part) (matches : MatchesKeyvalOf bytes f.keys f.values st mentioned) → IsShaped (trie_of old) → IsOpen (trie_of old) body path
+  pub keyval_all_read : (new : TrieInfos) (ids : List ℕ) → NestedValuesRead bytes f number (number + 1) mid (body ∷ top ∷ []) new ids → (mentioned : List Mention) (path : List Part) (matches : MatchesKeyvalOf bytes f.keys f.values st mentioned) → IsShaped old.trie → IsOpen old.trie body path
       → NestedRead (nodes_so_far old (body ∷ [])) (nodes_so_far new ids) number st.first_key (body_nesting path) (keyval_nested matches.name matches.value)
   keyval_all_read new ids was_read mentioned path matches shaped open_ =
       let t : NestedValue = nested_keyed 0 (keys_of matches.name.key) (body_fact matches.value.body) in
@@ -153,31 +152,31 @@ module _ (bytes : List ℕ) (f : Flat) (st : Statement) (old mid : List Node) (b
       (subst (λ (n : ℕ). NestedRead (nodes_so_far mid (body ∷ top ∷ [])) (nodes_so_far new ids) (number + 1) (st.first_key + n) (next_nesting s t) (nested_values 1 2 matches.value.nested)) (sym (own_marks mentioned path matches)) rest)
 
   -- so the keyval was read
-  keyval_read : (new : List Node) (ids : List ℕ) → NestedValuesRead bytes f number (number + 1) mid (body ∷ top ∷ []) new ids → HasReading (trie_of old) body → (n : ℕ) (mentioned : List Mention) → MatchesKeyvalOf bytes f.keys f.values st mentioned → IsRead n st old body new body (marks.keyval mentioned)
+  keyval_read : (new : TrieInfos) (ids : List ℕ) → NestedValuesRead bytes f number (number + 1) mid (body ∷ top ∷ []) new ids → HasReading old.trie body → (n : ℕ) (mentioned : List Mention) → MatchesKeyvalOf bytes f.keys f.values st mentioned → IsRead n st old body new body (marks.keyval mentioned)
   keyval_read new ids was_read reading n mentioned matches =
-      let path : List Part = path_at (trie_of old) body in
-      let open_ : IsOpen (trie_of old) body path = record { nested = reading.2.is_open.nested; here = refl; open_to = reading.2.is_open.open_to } in
+      let path : List Part = path_at old.trie body in
+      let open_ : IsOpen old.trie body path = record { nested = reading.2.is_open.nested; here = refl; open_to = reading.2.is_open.open_to } in
       let all = keyval_all_read new ids was_read mentioned path matches reading.2.represents.shaped open_ in
       let ts : List NestedValue = keyval_nested matches.name matches.value in
       subst (λ (l : List Mention). IsRead n st old body new body (marks.keyval l)) (sym matches.mentions) (record {
-        reads = keyval_reads (trie_of old) (trie_of new) body matches.name matches.value all.keeps
-            (λ ms r now. subst (λ (q : List Part). Represents (trie_of new) (ms ++ all_nested_mentions (body_nesting q) ts) r.tables) now.is_open.here (all.represents ms r.tables now.represents));
+        reads = keyval_reads old.trie new.trie body matches.name matches.value all.keeps
+            (λ ms r now. subst (λ (q : List Part). Represents new.trie (ms ++ all_nested_mentions (body_nesting q) ts) r.tables) now.is_open.here (all.represents ms r.tables now.represents));
         joined = λ ms r now c counted. record {
           joined = all.facts c (counted.values number valued) counted.keys ∙ ap (λ w. with_mentions (node_infos old) (numbered_mentions c w)) (mentions_in_body r path matches.name matches.value now.is_open.here);
           fresh = subst (λ (w : List Mention). ValuesAreNew (node_infos old).paths (numbered_mentions c w)) (mentions_in_body r path matches.name matches.value now.is_open.here) (all.fresh c (counted.values number valued) counted.keys);
         };
       })
 
-  pub keyval_is_read : (new : List Node) (ids : List ℕ) → NestedValuesRead bytes f number (number + 1) mid (body ∷ top ∷ []) new ids → HasReading (trie_of old) body → (n : ℕ) → IsReadAsMatched bytes f n st old body new body
+  pub keyval_is_read : (new : TrieInfos) (ids : List ℕ) → NestedValuesRead bytes f number (number + 1) mid (body ∷ top ∷ []) new ids → HasReading old.trie body → (n : ℕ) → IsReadAsMatched bytes f n st old body new body
   keyval_is_read new ids was_read reading n (marks.header ks) matches = absurd (let no : None ≡ Some number = sym matches.1 ∙ valued in cc)
   keyval_is_read new ids was_read reading n (marks.element_header ks) matches = absurd (let no : None ≡ Some number = sym matches.1 ∙ valued in cc)
   keyval_is_read new ids was_read reading n (marks.keyval mentioned) matches = keyval_read new ids was_read reading n mentioned matches
 
   -- what may come next, of some statement that it is
-  pub some_nested_next : (s : marks.Statement) × MatchesStatement bytes f.keys f.values st s → HasReading (trie_of old) body → (s : NestingState) × (ts : List NestedValue) × (first : ℕ) × AreNext bytes f (trie_of mid) (body ∷ top ∷ []) number (number + 1) first s ts
+  pub some_nested_next : (s : marks.Statement) × MatchesStatement bytes f.keys f.values st s → HasReading old.trie body → (s : NestingState) × (ts : List NestedValue) × (first : ℕ) × AreNext bytes f mid.trie (body ∷ top ∷ []) number (number + 1) first s ts
   some_nested_next matches reading = mentions_next matches.0 matches.1 reading
     where
-      mentions_next : (s : marks.Statement) → MatchesStatement bytes f.keys f.values st s → HasReading (trie_of old) body → (s : NestingState) × (ts : List NestedValue) × (first : ℕ) × AreNext bytes f (trie_of mid) (body ∷ top ∷ []) number (number + 1) first s ts
+      mentions_next : (s : marks.Statement) → MatchesStatement bytes f.keys f.values st s → HasReading old.trie body → (s : NestingState) × (ts : List NestedValue) × (first : ℕ) × AreNext bytes f mid.trie (body ∷ top ∷ []) number (number + 1) first s ts
       mentions_next (marks.header ks) matches reading = absurd (let no : None ≡ Some number = sym matches.1 ∙ valued in cc)
       mentions_next (marks.element_header ks) matches reading = absurd (let no : None ≡ Some number = sym matches.1 ∙ valued in cc)
       mentions_next (marks.keyval mentioned) matches reading = (
@@ -187,10 +186,10 @@ module _ (bytes : List ℕ) (f : Flat) (st : Statement) (old mid : List Node) (b
         nested_next mentioned reading.1.body matches reading.2.represents.shaped reading.2.is_open,
       )
 
-  pub some_top_represents : (s : marks.Statement) × MatchesStatement bytes f.keys f.values st s → HasReading (trie_of old) body → RepresentsSome (trie_of mid)
+  pub some_top_represents : (s : marks.Statement) × MatchesStatement bytes f.keys f.values st s → HasReading old.trie body → RepresentsSome mid.trie
   some_top_represents matches reading = mentions_represented matches.0 matches.1 reading
     where
-      mentions_represented : (s : marks.Statement) → MatchesStatement bytes f.keys f.values st s → HasReading (trie_of old) body → RepresentsSome (trie_of mid)
+      mentions_represented : (s : marks.Statement) → MatchesStatement bytes f.keys f.values st s → HasReading old.trie body → RepresentsSome mid.trie
       mentions_represented (marks.header ks) matches reading = absurd (let no : None ≡ Some number = sym matches.1 ∙ valued in cc)
       mentions_represented (marks.element_header ks) matches reading = absurd (let no : None ≡ Some number = sym matches.1 ∙ valued in cc)
       mentions_represented (marks.keyval mentioned) matches reading =
@@ -223,8 +222,8 @@ module _ (bytes : List ℕ) (f : Flat) (st : Statement) (old mid : List Node) (b
 
 -- ---- a fault in its own keys
 
-module _ (bytes : List ℕ) (f : Flat) (st : Statement) (old : List Node) (body number : ℕ) (keys : List (List ℕ)) (texts : keys ≡ keys_in bytes f.keys st.first_key st.keys) (valued : st.value ≡ Some number) where
-  keys_break : (at : ℕ) (why : Why) → KeyedFaults (trie_of old) body keys at why → BreaksAsMatched bytes f st old body (st.first_key + at) why
+module _ (bytes : List ℕ) (f : Flat) (st : Statement) (old : TrieInfos) (body number : ℕ) (keys : List (List ℕ)) (texts : keys ≡ keys_in bytes f.keys st.first_key st.keys) (valued : st.value ≡ Some number) where
+  keys_break : (at : ℕ) (why : Why) → KeyedFaults old.trie body keys at why → BreaksAsMatched bytes f st old body (st.first_key + at) why
   keys_break at why faults (marks.header ks) matches = absurd (let no : None ≡ Some number = sym matches.1 ∙ valued in cc)
   keys_break at why faults (marks.element_header ks) matches = absurd (let no : None ≡ Some number = sym matches.1 ∙ valued in cc)
   keys_break at why faults (marks.keyval mentioned) matches = λ ms r reading.
@@ -239,13 +238,13 @@ module _ (bytes : List ℕ) (f : Flat) (st : Statement) (old : List Node) (body 
         fault = subst (λ (w : List Mention). FaultIn ms w at why) whole (fault_more ms (nested_mentions s t) (all_nested_mentions (next_nesting s t) (nested_values 1 2 matches.value.nested)) at why one);
       }
 
-  pub keys_break_as_matched : (g h : Fault) → h ≡ fault_from g st.first_key → FaultMeets g (KeyedFaults (trie_of old) body keys) → FaultMeets h (BreaksAsMatched bytes f st old body)
+  pub keys_break_as_matched : (g h : Fault) → h ≡ fault_from g st.first_key → FaultMeets g (KeyedFaults old.trie body keys) → FaultMeets h (BreaksAsMatched bytes f st old body)
   keys_break_as_matched g h from faults =
-      meets_from g st.first_key h (BreaksAsMatched bytes f st old body) from (meets_weaker g (KeyedFaults (trie_of old) body keys) (λ at why. BreaksAsMatched bytes f st old body (st.first_key + at) why) (λ at why fault s matches. keys_break at why fault s matches) faults)
+      meets_from g st.first_key h (BreaksAsMatched bytes f st old body) from (meets_weaker g (KeyedFaults old.trie body keys) (λ at why. BreaksAsMatched bytes f st old body (st.first_key + at) why) (λ at why fault s matches. keys_break at why fault s matches) faults)
 
-  pub keys_fault_fits : (most : ℕ) (g : Fault) → AreKeysAt bytes f.keys st.first_key st.keys → HasReading (trie_of old) body → length f.keys ≤ most → FaultMeets g (KeyedFaults (trie_of old) body keys) → FaultMeets g (λ at why. st.first_key + at ≤ most)
+  pub keys_fault_fits : (most : ℕ) (g : Fault) → AreKeysAt bytes f.keys st.first_key st.keys → HasReading old.trie body → length f.keys ≤ most → FaultMeets g (KeyedFaults old.trie body keys) → FaultMeets g (λ at why. st.first_key + at ≤ most)
   keys_fault_fits most g are reading fits faults =
-      meets_weaker g (KeyedFaults (trie_of old) body keys) (λ at why. st.first_key + at ≤ most)
+      meets_weaker g (KeyedFaults old.trie body keys) (λ at why. st.first_key + at ≤ most)
       (λ at why fault.
       let s : NestingState = body_nesting reading.1.body in
       let many : length keys ≡ st.keys = ap length texts ∙ length-keys_in bytes f.keys st.first_key st.keys are.within in

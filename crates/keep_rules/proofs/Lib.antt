@@ -10,13 +10,11 @@ mod NextValueLemmas
 mod StopLemmas
 mod ReadLemmas
 mod LookupLemmas
-mod ChildLemmas
 mod ClimbLemmas
 mod PathStepLemmas
 mod AddedTexts
 mod QueryLemmas
 mod OutcomeLemmas
-mod ElementLemmas
 mod SuitLemmas
 mod MentionInfoLemmas
 mod NodeInfoLemmas

@@ -11,7 +11,7 @@
 use Rattle.std.proofs.Common.{◌≡◌, ℕ, ◌-◌, ◌<◌, Bool, true, false, cond, ◌&&◌, List, [], ◌∷◌, ◌++◌, length, refl, sym, ◌∙◌, ap, subst, arith, Option, Some, None, Ok, Err, inl, inr}
 use Rattle.std.specs.Prelude.{Contains, ◌==◌, Result, IfOk, OnOk}
 use Rattle.std.specs.List.{list_all}
-use Rattle.std.proofs.lemmas.List.{append-nil, append_assoc, length-map}
+use Rattle.std.proofs.lemmas.List.{append-nil, append_assoc}
 use Rattle.std.proofs.lemmas.List.Folds.{list_all-append}
 use Rattle.std.proofs.lemmas.Bool.Decides.{Decides-eqb}
 use Rattle.std.proofs.lemmas.Bool.{cases_Bool}
@@ -22,8 +22,7 @@ use Rattle.keep_meaning.specs.Rules.{allows}
 use Rattle.keep_meaning.specs.Marks.{through, past, passed, Mention, elements_of, passing_mentions, entered_path}
 use Rattle.keep_index_store.specs.Trie.{TrieNode, Holding, by_key, by_index, IsTrie, paths_of, path_at, states_of, state_at, holds_at, children_of}
 use Rattle.keep_meaning.specs.State.{IsState}
-use Rattle.keep_index_store.specs.AllNodes.{Node}
-use Rattle.keep_index_store.specs.Stored.{trie_node_in, trie_of}
+use Rattle.keep_index_store.specs.Tree.{TrieInfos}
 use Rattle.keep_rules.specs.declared.mark.Stop.{Stop}
 use Rattle.keep_rules.specs.Tables.{is_tables, Fits, IsShaped}
 use Rattle.keep_rules.specs.RoleStates.{mention_roles, StatesRepresent, IsIndexOf}
@@ -208,29 +207,24 @@ pub fits_value : (h : Holding) → Fits Value h
 fits_value h = record { listed = λ t. absurd cc; opened = λ t. absurd cc }
 
 -- the element is a table
-pub element_nested : (nodes : List TrieNode) (path : List Part) (child to : ℕ) → IsTrie nodes → IsLastElement nodes path child to → to < length nodes
-element_nested nodes path child to trie last =
-    let low : length (children_of nodes child) - 1 < length (children_of nodes child) = omega (arith, last.some) in
-    subst (λ (x : ℕ). x < length nodes) (sym last.last) (child_at nodes trie child (length (children_of nodes child) - 1) (first nodes trie) last.nested low).nested
-
 pub element_keyed : (nodes : List TrieNode) (path : List Part) (child to : ℕ) → IsShaped nodes → IsLastElement nodes path child to → holds_at nodes to ≡ by_key
 element_keyed nodes path child to shaped last =
     let low : length (children_of nodes child) - 1 < length (children_of nodes child) = omega (arith, last.some) in
     ap (holds_at nodes) last.last ∙ (shaped.plain child (length (children_of nodes child) - 1) last.nested last.tables low).1
 
 -- what the mark of a key without elements gives a header that goes past it
-pub record Went (r : Result ℕ Stop) (old new : List Node) (parent : ℕ) (k : List ℕ) : Type 0 where
-  pub shaped : OnOk r (IsShaped (trie_of new))
-  pub nested : IfOk r (λ to. to < length new)
-  pub keyed : IfOk r (λ to. holds_at (trie_of new) to ≡ by_key)
-  pub passes : IfOk r (λ to. Passes (trie_of old) (trie_of new) parent to k)
+pub record Went (r : Result ℕ Stop) (old new : TrieInfos) (parent : ℕ) (k : List ℕ) : Type 0 where
+  pub shaped : OnOk r (IsShaped new.trie)
+  pub nested : IfOk r (λ to. to < length new.trie)
+  pub keyed : IfOk r (λ to. holds_at new.trie to ≡ by_key)
+  pub passes : IfOk r (λ to. Passes old.trie new.trie parent to k)
 
-pub went : (r : Result ℕ Stop) (old new : List Node) (parent : ℕ) (k : List ℕ) → HasNoElement (trie_of old) (path_at (trie_of old) parent ++ key k ∷ [])
-    → IfOk r (λ id. IsMarked (trie_of old) (trie_of new) (path_at (trie_of old) parent ++ key k ∷ []) Through by_key id) → Went r old new parent k
+pub went : (r : Result ℕ Stop) (old new : TrieInfos) (parent : ℕ) (k : List ℕ) → HasNoElement old.trie (path_at old.trie parent ++ key k ∷ [])
+    → IfOk r (λ id. IsMarked old.trie new.trie (path_at old.trie parent ++ key k ∷ []) Through by_key id) → Went r old new parent k
 went (Ok id) old new parent k none marked = record {
   shaped = marked.shaped;
-  nested = omega (arith, marked.nested, length-map new (trie_node_in new));
+  nested = marked.nested;
   keyed = marked.opened refl;
-  passes = passes_marked (trie_of old) (trie_of new) parent id k marked none;
+  passes = passes_marked old.trie new.trie parent id k marked none;
 }
 went (Err stop) old new parent k none marked = record { shaped = tt; nested = tt; keyed = tt; passes = tt }

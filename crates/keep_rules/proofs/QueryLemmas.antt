@@ -2,58 +2,55 @@
 use Rattle.std.proofs.Common.{◌≡◌, ℕ, suc, ◌+◌, ◌<◌, ◌≤◌, true, false, if◌then◌else◌, List, [], ◌∷◌, ◌++◌, length, set, take, drop, take-take, refl, sym, ◌∙◌, ap, arith, Option, Some, None}
 use Rattle.std.specs.Prelude.{Contains, IfSome, IsNone, slice_get, nat_lt, min}
 use Rattle.std.proofs.lemmas.Bool.Decides.{Decides-ltb}
-use Rattle.std.proofs.lemmas.List.{length-map, get_or-map, take-append-drop, take_min}
+use Rattle.std.proofs.lemmas.List.{take-append-drop, take_min}
 use Rattle.std.proofs.lemmas.Option.{slice_get-get_or, slice_get_within, get_or_from_slice_get, option_and_then_some}
 use Rattle.std.proofs.Math.Seq.{take-suc}
 use Rattle.keep_rules.specs.declared.index.NodeId.{NodeId}
-use Rattle.keep_index_store.specs.AllNodes.{Node, no_node, node_at}
 use Rattle.keep_types.specs.declared.node.Kind.{Kind}
 use Rattle.keep_types.specs.declared.node.NodeInfo.{NodeInfo}
 use Rattle.keep_path.specs.Path.{EndsInKey, Part, beside, index, last_part}
 use Rattle.keep_meaning.specs.Nodes.{node_number}
-use Rattle.keep_index_store.specs.Children.{child_ids}
 use Rattle.keep_rules.specs.Lookup.{number_of, path_numbered, children_numbered, nth_child}
-use Rattle.keep_index_store.specs.Stored.{trie_node_in, trie_of, node_infos, infos_of, info_at, IsStored}
+use Rattle.keep_index_store.specs.Tree.{TrieInfos, IsChild, info_at, node_infos}
 use Rattle.keep_path.specs.NodeInfos.{NodeInfos, with_kind}
-use Rattle.keep_index_store.specs.Facts.{info_of}
-use Rattle.keep_index_store.specs.Trie.{TrieNode, path_at, paths_of}
-use Rattle.keep_index_store.proofs.Shared.{length-paths_of, path_at-root, length_trie_of}
-use Rattle.keep_rules.proofs.LookupLemmas.{number_is, number_some, none_longer, none_there, nth_is, count_is}
-use Rattle.keep_rules.proofs.ChildLemmas.{child_by, stepped, index_is_place}
+use Rattle.keep_index_store.specs.Trie.{TrieNode, IsTrie, children_of, path_at, paths_of}
+use Rattle.keep_index_store.proofs.Shared.{first, length-paths_of, path_at-root}
+use Rattle.keep_rules.proofs.LookupLemmas.{number_is, number_none, number_some, none_longer, none_there, nth_is, count_is}
 
 -- a node, and the facts about all
-pub record IsNode (nodes : List Node) (t : NodeInfos) (i : ℕ) : Type 0 where
-  pub stored : IsStored nodes
+pub record IsNode (nodes : TrieInfos) (t : NodeInfos) (i : ℕ) : Type 0 where
+  pub trie : IsTrie nodes.trie
   pub view : node_infos nodes ≡ t
   pub nested : i < length t.paths
 
-pub count_paths : (nodes : List Node) (t : NodeInfos) → IsStored nodes → node_infos nodes ≡ t → length t.paths ≡ length nodes
-count_paths nodes t stored view = ap (λ (x : NodeInfos). length x.paths) (sym view) ∙ length-paths_of (trie_of nodes) stored.trie.root ∙ length_trie_of nodes
+pub count_paths : (nodes : TrieInfos) (t : NodeInfos) → IsTrie nodes.trie → node_infos nodes ≡ t → length t.paths ≡ length nodes.trie
+count_paths nodes t trie view = ap (λ (x : NodeInfos). length x.paths) (sym view) ∙ length-paths_of nodes.trie trie.root
 
-pub low_node : (nodes : List Node) (t : NodeInfos) (i : ℕ) → IsNode nodes t i → i < length nodes
-low_node nodes t i r = omega (arith, r.nested, count_paths nodes t r.stored r.view)
+pub low_node : (nodes : TrieInfos) (t : NodeInfos) (i : ℕ) → IsNode nodes t i → i < length nodes.trie
+low_node nodes t i r = omega (arith, r.nested, count_paths nodes t r.trie r.view)
 
-pub child_answer : (nodes : List Node) (t : NodeInfos) (i : ℕ) (p : Part) → IsNode nodes t i → child_by (node_at nodes i).children p ≡ node_number t.paths (path_numbered t i ++ p ∷ [])
-child_answer nodes t i p r = stepped nodes r.stored i no_node p (low_node nodes t i r) ∙ ap (λ (x : NodeInfos). node_number x.paths (path_numbered x i ++ p ∷ [])) r.view
+-- the child by a step has the number of the longer path
+child_number : (ts : List TrieNode) → IsTrie ts → (i : ℕ) (p : Part) (o : Option ℕ) → IsChild ts i p o → o ≡ node_number (paths_of ts) (path_at ts i ++ p ∷ [])
+child_number ts trie i p None none = sym (number_none (paths_of ts) (path_at ts i ++ p ∷ []) none)
+child_number ts trie i p (Some id) there = sym (number_some ts trie id there.0) ∙ ap (node_number (paths_of ts)) there.1
 
-pub count_answer : (nodes : List Node) (t : NodeInfos) (i : ℕ) → IsNode nodes t i → length (child_ids (node_at nodes i).children) ≡ length (children_numbered t i)
+pub child_answer : (nodes : TrieInfos) (t : NodeInfos) (i : ℕ) (p : Part) (o : Option ℕ) → IsNode nodes t i → IsChild nodes.trie i p o → o ≡ node_number t.paths (path_numbered t i ++ p ∷ [])
+child_answer nodes t i p o r is = child_number nodes.trie r.trie i p o is ∙ ap (λ (x : NodeInfos). node_number x.paths (path_numbered x i ++ p ∷ [])) r.view
+
+pub count_answer : (nodes : TrieInfos) (t : NodeInfos) (i : ℕ) → IsNode nodes t i → length (children_of nodes.trie i) ≡ length (children_numbered t i)
 count_answer nodes t i r =
-    ap length (r.stored.kids i no_node (low_node nodes t i r)) ∙ sym (count_is (trie_of nodes) r.stored.trie i (trie_node_in nodes no_node) (omega (arith, low_node nodes t i r, length_trie_of nodes)))
-    ∙ ap (λ (x : NodeInfos). length (children_numbered x i)) r.view
+    sym (count_is nodes.trie r.trie i (first nodes.trie r.trie) (low_node nodes t i r)) ∙ ap (λ (x : NodeInfos). length (children_numbered x i)) r.view
 
-pub nth_answer : (nodes : List Node) (t : NodeInfos) (i k : ℕ) → IsNode nodes t i → slice_get (child_ids (node_at nodes i).children) k ≡ nth_child t i k
-nth_answer nodes t i k r =
-    ap (λ ids. slice_get ids k) (r.stored.kids i no_node (low_node nodes t i r)) ∙ sym (nth_is (trie_of nodes) r.stored.trie i k (trie_node_in nodes no_node) (omega (arith, low_node nodes t i r, length_trie_of nodes)))
-    ∙ ap (λ (x : NodeInfos). nth_child x i k) r.view
+pub nth_answer : (nodes : TrieInfos) (t : NodeInfos) (i k : ℕ) → IsNode nodes t i → slice_get (children_of nodes.trie i) k ≡ nth_child t i k
+nth_answer nodes t i k r = sym (nth_is nodes.trie r.trie i k (first nodes.trie r.trie) (low_node nodes t i r)) ∙ ap (λ (x : NodeInfos). nth_child x i k) r.view
 
-pub indexed_answer : (nodes : List Node) (t : NodeInfos) (i k id : ℕ) → IsNode nodes t i → node_number t.paths (path_numbered t i ++ index k ∷ []) ≡ Some id → slice_get (child_ids (node_at nodes i).children) k ≡ Some id
-indexed_answer nodes t i k id r is = index_is_place (node_at nodes i).children k id (child_answer nodes t i (index k) r ∙ is)
+pub indexed_answer : (nodes : TrieInfos) (t : NodeInfos) (i k id : ℕ) → IsNode nodes t i → node_number t.paths (path_numbered t i ++ index k ∷ []) ≡ Some id → IsChild nodes.trie i (index k) (Some id)
+indexed_answer nodes t i k id r is =
+    let n = number_is (paths_of nodes.trie) (path_at nodes.trie i ++ index k ∷ []) id (ap (λ (x : NodeInfos). node_number x.paths (path_numbered x i ++ index k ∷ [])) r.view ∙ is) in
+    (omega (arith, n.0, length-paths_of nodes.trie r.trie.root), n.1)
 
-pub info_answer : (nodes : List Node) (t : NodeInfos) (i : ℕ) → IsNode nodes t i → slice_get t.infos i ≡ Some (info_of (node_at nodes i).facts)
-info_answer nodes t i r =
-    let facts : NodeInfo = info_of (node_at nodes i).facts in
-    ap (λ (x : NodeInfos). slice_get x.infos i) (sym r.view) ∙ slice_get-get_or (infos_of nodes) i facts (omega (arith, low_node nodes t i r, length-map nodes (λ (x : Node). info_of x.facts)))
-    ∙ ap Some (get_or-map (λ (x : Node). info_of x.facts) nodes i no_node facts (low_node nodes t i r))
+pub info_answer : (nodes : TrieInfos) (t : NodeInfos) (i : ℕ) (info : NodeInfo) → node_infos nodes ≡ t → slice_get nodes.infos i ≡ Some info → slice_get t.infos i ≡ Some info
+info_answer nodes t i info view is = ap (λ (x : NodeInfos). slice_get x.infos i) (sym view) ∙ is
 
 -- ---- a number that was found is a node's
 
@@ -83,27 +80,27 @@ node_past n m h = (elim (nat_lt n m) as (λ b. nat_lt n m ≡ b → None ≡ (if
 -- ---- step by step
 
 -- all nodes, and the facts about them
-pub record IsSeen (nodes : List Node) (t : NodeInfos) : Type 0 where
-  pub stored : IsStored nodes
+pub record IsSeen (nodes : TrieInfos) (t : NodeInfos) : Type 0 where
+  pub trie : IsTrie nodes.trie
   pub view : node_infos nodes ≡ t
 
-seen_root : (nodes : List Node) (t : NodeInfos) → IsSeen nodes t → (0 < length t.paths) × (path_numbered t 0 ≡ [])
-seen_root nodes t s = (omega (arith, count_paths nodes t s.stored s.view, s.stored.trie.root, length_trie_of nodes), ap (λ (x : NodeInfos). path_numbered x 0) (sym s.view) ∙ path_at-root (trie_of nodes))
+seen_root : (nodes : TrieInfos) (t : NodeInfos) → IsSeen nodes t → (0 < length t.paths) × (path_numbered t 0 ≡ [])
+seen_root nodes t s = (omega (arith, count_paths nodes t s.trie s.view, s.trie.root), ap (λ (x : NodeInfos). path_numbered x 0) (sym s.view) ∙ path_at-root nodes.trie)
 
-seen_number : (nodes : List Node) (t : NodeInfos) → IsSeen nodes t → (i : ℕ) → i < length t.paths → node_number t.paths (path_numbered t i) ≡ Some i
+seen_number : (nodes : TrieInfos) (t : NodeInfos) → IsSeen nodes t → (i : ℕ) → i < length t.paths → node_number t.paths (path_numbered t i) ≡ Some i
 seen_number nodes t s i h =
-    ap (λ (x : NodeInfos). node_number x.paths (path_numbered x i)) (sym s.view) ∙ number_some (trie_of nodes) s.stored.trie i (omega (arith, h, count_paths nodes t s.stored s.view, length_trie_of nodes))
+    ap (λ (x : NodeInfos). node_number x.paths (path_numbered x i)) (sym s.view) ∙ number_some nodes.trie s.trie i (omega (arith, h, count_paths nodes t s.trie s.view))
 
-pub seen_longer : (nodes : List Node) (t : NodeInfos) → IsSeen nodes t → (path more : List Part) → node_number t.paths path ≡ None → node_number t.paths (path ++ more) ≡ None
+pub seen_longer : (nodes : TrieInfos) (t : NodeInfos) → IsSeen nodes t → (path more : List Part) → node_number t.paths path ≡ None → node_number t.paths (path ++ more) ≡ None
 seen_longer nodes t s path more is =
-    ap (λ (x : NodeInfos). node_number x.paths (path ++ more)) (sym s.view) ∙ none_longer (trie_of nodes) s.stored.trie path more (ap (λ (x : NodeInfos). node_number x.paths path) s.view ∙ is)
+    ap (λ (x : NodeInfos). node_number x.paths (path ++ more)) (sym s.view) ∙ none_longer nodes.trie s.trie path more (ap (λ (x : NodeInfos). node_number x.paths path) s.view ∙ is)
 
 -- after some steps: the node to which they lead
 pub record IsAt (t : NodeInfos) (path : List Part) (done id : ℕ) : Type 0 where
   pub nested : id < length t.paths
   pub led : path_numbered t id ≡ take done path
 
-pub at_root : (nodes : List Node) (t : NodeInfos) → IsSeen nodes t → (path : List Part) → IsAt t path 0 0
+pub at_root : (nodes : TrieInfos) (t : NodeInfos) → IsSeen nodes t → (path : List Part) → IsAt t path 0 0
 at_root nodes t s path = record { nested = (seen_root nodes t s).0; led = (seen_root nodes t s).1 }
 
 step_taken : (path : List Part) (done : ℕ) (p : Part) → slice_get path done ≡ Some p → take (done + 1) path ≡ take done path ++ p ∷ []
@@ -118,7 +115,7 @@ at_next t path done id next p at step is =
     record { nested = r.0; led = r.1 ∙ ap (λ q. q ++ p ∷ []) at.led ∙ sym (step_taken path done p step) }
 
 -- or to no node, and so do all steps
-pub at_none : (nodes : List Node) (t : NodeInfos) → IsSeen nodes t → (path : List Part) (done id n : ℕ) (p : Part) → IsAt t path done id → slice_get path done ≡ Some p → done < n
+pub at_none : (nodes : TrieInfos) (t : NodeInfos) → IsSeen nodes t → (path : List Part) (done id n : ℕ) (p : Part) → IsAt t path done id → slice_get path done ≡ Some p → done < n
     → None ≡ node_number t.paths (path_numbered t id ++ p ∷ []) → None ≡ node_number t.paths (take n path)
 at_none nodes t s path done id n p at step more is =
     let prefix : take n path ≡ (path_numbered t id ++ p ∷ []) ++ drop (done + 1) (take n path) =
@@ -130,24 +127,24 @@ pub step_there : (path : List Part) (done : ℕ) → done < length path → slic
 step_there path done h is = let there = slice_get-get_or path done (index 0) h in absurd cc
 
 -- all steps are done
-pub at_end : (nodes : List Node) (t : NodeInfos) → IsSeen nodes t → (path : List Part) (done n id : ℕ) → IsAt t path done id → done ≡ min n (length path) → Some id ≡ node_number t.paths (take n path)
+pub at_end : (nodes : TrieInfos) (t : NodeInfos) → IsSeen nodes t → (path : List Part) (done n id : ℕ) → IsAt t path done id → done ≡ min n (length path) → Some id ≡ node_number t.paths (take n path)
 at_end nodes t s path done n id at is =
     sym (seen_number nodes t s id at.nested) ∙ ap (node_number t.paths) (at.led ∙ ap (λ k. take k path) is ∙ take_min n path)
 
 -- ---- another kind
 
-pub kind_set : (old new : List Node) (t : NodeInfos) (i : ℕ) (k : Kind) → node_infos old ≡ t → trie_of new ≡ trie_of old → infos_of new ≡ set (infos_of old) i (record (info_at old i) { kind = k }) → node_infos new ≡ with_kind t i k
+pub kind_set : (old new : TrieInfos) (t : NodeInfos) (i : ℕ) (k : Kind) → node_infos old ≡ t → new.trie ≡ old.trie → new.infos ≡ set old.infos i (record (info_at old i) { kind = k }) → node_infos new ≡ with_kind t i k
 kind_set old new t i k view same infos =
-    ap (λ (ts : List TrieNode). let changed : NodeInfos = record { paths = paths_of ts; infos = infos_of new } in changed) same
-    ∙ ap (λ is. let changed : NodeInfos = record { paths = paths_of (trie_of old); infos = is } in changed) infos
+    ap (λ (ts : List TrieNode). let changed : NodeInfos = record { paths = paths_of ts; infos = new.infos } in changed) same
+    ∙ ap (λ is. let changed : NodeInfos = record { paths = paths_of old.trie; infos = is } in changed) infos
     ∙ ap (λ (x : NodeInfos). with_kind x i k) view
 
 -- ---- another key
 
-pub ends_seen : (nodes : List Node) (t : NodeInfos) (i : ℕ) → node_infos nodes ≡ t → EndsInKey (path_numbered t i) → EndsInKey (path_at (trie_of nodes) i)
+pub ends_seen : (nodes : TrieInfos) (t : NodeInfos) (i : ℕ) → node_infos nodes ≡ t → EndsInKey (path_numbered t i) → EndsInKey (path_at nodes.trie i)
 ends_seen nodes t i view ends = (ends.0, ap (λ (x : NodeInfos). last_part (path_numbered x i)) view ∙ ends.1)
 
-pub fresh_seen : (nodes : List Node) (t : NodeInfos) (i : ℕ) (text : List ℕ) → node_infos nodes ≡ t → node_number t.paths (beside (path_numbered t i) text) ≡ None
-    → Contains (paths_of (trie_of nodes)) (beside (path_at (trie_of nodes) i) text) → ⊥
+pub fresh_seen : (nodes : TrieInfos) (t : NodeInfos) (i : ℕ) (text : List ℕ) → node_infos nodes ≡ t → node_number t.paths (beside (path_numbered t i) text) ≡ None
+    → Contains (paths_of nodes.trie) (beside (path_at nodes.trie i) text) → ⊥
 fresh_seen nodes t i text view is =
-    none_there (paths_of (trie_of nodes)) (beside (path_at (trie_of nodes) i) text) (ap (λ (x : NodeInfos). node_number x.paths (beside (path_numbered x i) text)) view ∙ is)
+    none_there (paths_of nodes.trie) (beside (path_at nodes.trie i) text) (ap (λ (x : NodeInfos). node_number x.paths (beside (path_numbered x i) text)) view ∙ is)

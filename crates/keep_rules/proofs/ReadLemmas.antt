@@ -1,30 +1,27 @@
 -- Statements, one after another.
-use Rattle.std.proofs.Common.{◌≡◌, ℕ, zero, suc, ◌+◌, ◌<◌, false, List, [], ◌∷◌, ◌++◌, length, get_or, take, drop, refl, sym, ◌∙◌, ap, subst, arith, length-append, true, cond, Option, Some, None}
-use Rattle.std.proofs.lemmas.List.{append_assoc, append-nil, take-append-drop, drop_more}
+use Rattle.std.proofs.Common.{◌≡◌, ℕ, zero, suc, ◌<◌, false, List, [], ◌∷◌, ◌++◌, length, get_or, refl, sym, ◌∙◌, ap, subst, arith, length-append, true, cond, Option, Some, None}
+use Rattle.std.proofs.lemmas.List.{append_assoc, append-nil}
 use Rattle.keep_syntax.specs.Tree.{Name, Value}
-use Rattle.keep_syntax.specs.declared.fault.Why.{Why}
 use Rattle.keep_types.specs.declared.role.Role.{Role}
 use Rattle.keep_types.specs.declared.role.Role.TheVariants.{Define}
 use Rattle.keep_path.specs.Path.{Part, key, index}
-use Rattle.keep_meaning.specs.Rules.{IsFirstFaulty, ObeysRules}
+use Rattle.keep_meaning.specs.Rules.{ObeysRules}
 use Rattle.keep_meaning.specs.Marks as marks
 use Rattle.keep_meaning.specs.Marks.{Mention, Statement, Reading, statement_mentions, next_reading, mentions_from, reading_after, mentions, start, elements_of, header, element_header, keyval, define}
 use Rattle.keep_meaning.specs.Meaning.{keyval_mentions}
-use Rattle.keep_meaning.specs.Nodes.{node_paths}
-use Rattle.keep_index_store.specs.Trie.{TrieNode, by_key, paths_of, path_at, state_at, children_of}
+use Rattle.keep_index_store.specs.Trie.{TrieNode, by_key, path_at, state_at, children_of}
 use Rattle.keep_meaning.specs.State.{IsState}
 use Rattle.keep_rules.specs.RoleStates.{IsIndexOf}
 use Rattle.keep_rules.specs.Tables.{is_tables, IsShaped}
-use Rattle.keep_rules.specs.Represents.{Keeps, IsMarked, Represents, IsOpen, Begins, FaultIn}
+use Rattle.keep_rules.specs.Represents.{Keeps, IsMarked, Represents, IsOpen, Begins}
 use Rattle.keep_rules.specs.KeyWalks.{walk_path, walk_mentions}
 use Rattle.keep_rules.specs.Steps.{Walks}
-use Rattle.keep_rules.specs.NestedValues.{NestedValue, NestingState, nested_mentions, all_nested_mentions, nesting_after, next_nesting, body_nesting, keyval_nested}
-use Rattle.keep_rules.specs.Reads.{IsReading, Reads, FaultsIn}
+use Rattle.keep_rules.specs.NestedValues.{all_nested_mentions, body_nesting, keyval_nested}
+use Rattle.keep_rules.specs.Reads.{IsReading, Reads}
 use Rattle.keep_rules.proofs.KeyWalkLemmas.{header_prefixes-split, header_path-split}
 use Rattle.keep_rules.proofs.PassLemmas.{represents_marked}
 use Rattle.keep_rules.proofs.StepLemmas.{keeps_then, stays_open}
-use Rattle.keep_rules.proofs.NestedValueLemmas.{all_nested_mentions-append, keyval_nested-mentions}
-use Rattle.keep_rules.proofs.StopLemmas.{fault_within, fault_is_first}
+use Rattle.keep_rules.proofs.NestedValueLemmas.{keyval_nested-mentions}
 
 -- `[..]`
 pub header_reads : (old mid new : List TrieNode) (at to : ℕ) (leading : List (List ℕ)) (last : List ℕ) → Walks old mid at leading → IsMarked mid new (path_at mid at ++ key last ∷ []) Define by_key to

@@ -19,13 +19,13 @@ use Rattle.keep_types.specs.declared.role.Role.TheVariants.{Through, Past, Defin
 use Rattle.keep_path.specs.Path.{Part, key, index, same_path}
 use Rattle.keep_meaning.specs.Rules.{allows}
 use Rattle.keep_meaning.specs.Marks.{elements_of}
-use Rattle.keep_index_store.specs.Trie.{TrieNode, Holding, nothing, by_key, by_index, IsTrie, paths_of, path_at, states_of, state_at, holds_at, children_of}
+use Rattle.keep_index_store.specs.Trie.{TrieNode, Holding, nothing, by_key, by_index, paths_of, path_at, states_of, state_at, holds_at, children_of}
 use Rattle.keep_index_store.specs.Growth.{Grows, Restates}
 use Rattle.keep_meaning.specs.State.{IsState}
 use Rattle.keep_rules.specs.Tables.{is_tables, Fits, IsShaped, AreTables, AllBegun}
 use Rattle.keep_path.proofs.Shared.{path_decides}
 use Rattle.keep_rules.proofs.RoleStateLemmas.{false_ne}
-use Rattle.keep_index_store.proofs.Shared.{child_at, push_same, one_node, no_child, many, first, longer, path_below, path_last, state_below, state_last, holds_below, holds_last, children_other, children_here, children_last}
+use Rattle.keep_index_store.proofs.Shared.{child_at, push_same, one_node, many, first, longer, path_below, path_last, state_below, state_last, holds_below, holds_last, children_other, children_here, children_last}
 
 -- ---- what a node is
 
@@ -299,18 +299,6 @@ shaped_restated {old = old} {new = new} {id = id} {next = next} before name name
 pub begun_existing : {old new : List TrieNode} {id : ℕ} {next : Role} → Restates old new id next → allows next Element ≡ is_tables (state_at old id) → AllBegun old → AllBegun new
 begun_existing g kind begun =
     λ i h t. omega (arith, begun i (omega (arith, g.many)) (sym (kind_same g kind i) ∙ t), ap length (g.children i))
-
--- what is numbered has no item or element of the next number yet
-pub next_fresh : (nodes : List TrieNode) (id : ℕ) → IsTrie nodes → IsShaped nodes → id < length nodes → holds_at nodes id ≡ by_index
-    → Contains (paths_of nodes) (path_at nodes id ++ index (length (children_of nodes id)) ∷ []) → ⊥
-next_fresh nodes id trie are h listed =
-    no_child nodes trie id (index (length (children_of nodes id))) (first nodes trie) h (λ k low same.
-    let child = child_at nodes trie id k (first nodes trie) h low in
-    let two : path_at nodes id ++ index k ∷ [] ≡ path_at nodes id ++ index (length (children_of nodes id)) ∷ [] =
-    sym (are.elements id k h listed low) ∙ child.path (first nodes trie) ∙ ap (λ x. path_at nodes id ++ x ∷ []) same in
-    let ends : index k ≡ index (length (children_of nodes id)) = (push_same _ _ _ _ two).1 in
-    let numbers : k ≡ length (children_of nodes id) = cc in
-    absurd (omega arith))
 
 -- an allowed mark does not make an array of tables of something else
 and_true : (b : Bool) → b ≡ (b && true)

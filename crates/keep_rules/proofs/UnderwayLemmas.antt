@@ -17,12 +17,11 @@ use Rattle.keep_types.specs.declared.syntax.Owner.{Owner}
 use Rattle.keep_types.specs.declared.syntax.Owner.TheVariants as owner
 use Rattle.keep_types.specs.declared.syntax.ValueInfo.{ValueInfo}
 use Rattle.keep_syntax_store.specs.Flat.{Flat}
-use Rattle.keep_index_store.specs.AllNodes.{Node}
 use Rattle.keep_rules.specs.declared.key_walk.Fault.{Fault}
 use Rattle.keep_meaning.specs.Marks as marks
 use Rattle.keep_meaning.specs.Marks.{Mention, mark_of}
 use Rattle.keep_rules.specs.NestedValues.{NestingState, NestedValue, nested_item, nested_keyed, AllSuit, nested_mentions, all_nested_mentions, nesting_after, next_nesting}
-use Rattle.keep_index_store.specs.Stored.{trie_of}
+use Rattle.keep_index_store.specs.Tree.{TrieInfos}
 use Rattle.keep_rules.specs.Tables.{IsShaped}
 use Rattle.keep_rules.specs.Represents.{FaultIn}
 use Rattle.keep_rules.specs.Reads.{AreValueNodes}
@@ -37,7 +36,7 @@ use Rattle.keep_rules.proofs.PlanLemmas.{meets_weaker}
 use Rattle.keep_rules.proofs.NestedReadLemmas.{nested_read_none, nested_read_then, nested_marks}
 
 -- the first of the nested values are read, and the next has this number
-pub record Underway (bytes : List ℕ) (f : Flat) (base from first : ℕ) (old : List Node) (ids : List ℕ) (now : List Node) (ids' : List ℕ) (number : ℕ) (s : NestingState) (ts : List NestedValue) : Type 0 where
+pub record Underway (bytes : List ℕ) (f : Flat) (base from first : ℕ) (old : TrieInfos) (ids : List ℕ) (now : TrieInfos) (ids' : List ℕ) (number : ℕ) (s : NestingState) (ts : List NestedValue) : Type 0 where
   pub done : List NestedValue
   pub left : List NestedValue
   pub whole : ts ≡ done ++ left
@@ -48,17 +47,17 @@ pub record Underway (bytes : List ℕ) (f : Flat) (base from first : ℕ) (old :
   pub matches : MatchNested bytes f base number (first + all_nested_keys done) left
 
 -- of all nested values that the values may be
-abbrev pub AreUnderway : List ℕ → Flat → ℕ → ℕ → List Node → List ℕ → List Node → List ℕ → ℕ → Type 0
+abbrev pub AreUnderway : List ℕ → Flat → ℕ → ℕ → TrieInfos → List ℕ → TrieInfos → List ℕ → ℕ → Type 0
 AreUnderway bytes f base from old ids now ids' number =
-    (s : NestingState) (ts : List NestedValue) (first : ℕ) → AreNext bytes f (trie_of old) ids base from first s ts → Underway bytes f base from first old ids now ids' number s ts
+    (s : NestingState) (ts : List NestedValue) (first : ℕ) → AreNext bytes f old.trie ids base from first s ts → Underway bytes f base from first old ids now ids' number s ts
 
-pub begin_underway : (bytes : List ℕ) (f : Flat) (base from : ℕ) (old : List Node) (ids : List ℕ) → IsShaped (trie_of old) → AreUnderway bytes f base from old ids old ids from
+pub begin_underway : (bytes : List ℕ) (f : Flat) (base from : ℕ) (old : TrieInfos) (ids : List ℕ) → IsShaped old.trie → AreUnderway bytes f base from old ids old ids from
 begin_underway bytes f base from old ids shaped s ts first next = record {
   done = [];
   left = ts;
   whole = refl;
   here = omega arith;
-  was_read = nested_read_none (nodes_so_far old ids) from first s shaped (keeps_same (trie_of old)) next.nested;
+  was_read = nested_read_none (nodes_so_far old ids) from first s shaped (keeps_same old.trie) next.nested;
   keys = refl;
   suit = next.suit;
   matches = subst (λ (n : ℕ). MatchNested bytes f base from n ts) (let e : first ≡ first + 0 = omega arith in e) next.matches;
@@ -72,11 +71,11 @@ pub record IsThere (values : List ValueInfo) (number : ℕ) (info : ValueInfo) :
   pub nested : IsNested info.owner
 
 -- the next nested value, with those after it
-pub record HasNext (bytes : List ℕ) (f : Flat) (base first : ℕ) (now : List Node) (ids' : List ℕ) (number : ℕ) (info : ValueInfo) (s : NestingState) (left : List NestedValue) : Type 0 where
+pub record HasNext (bytes : List ℕ) (f : Flat) (base first : ℕ) (now : TrieInfos) (ids' : List ℕ) (number : ℕ) (info : ValueInfo) (s : NestingState) (left : List NestedValue) : Type 0 where
   pub nested : NestedValue
   pub rest : List NestedValue
   pub split : left ≡ nested ∷ rest
-  pub next : IsNext bytes f.keys (trie_of now) ids' base info s nested
+  pub next : IsNext bytes f.keys now.trie ids' base info s nested
   pub first_is : info.first_key ≡ first
   pub suit : AllSuit (next_nesting s nested) rest
   pub matches : MatchNested bytes f base (number + 1) (first + nested_keys nested) rest
@@ -84,8 +83,8 @@ pub record HasNext (bytes : List ℕ) (f : Flat) (base first : ℕ) (now : List 
 same_info : (a b : ValueInfo) → Some a ≡ Some b → a ≡ b
 same_info a b e = cc
 
-has_next : (bytes : List ℕ) (f : Flat) (base first : ℕ) (now : List Node) (ids' : List ℕ) (number : ℕ) (info : ValueInfo) (s : NestingState) (left : List NestedValue)
-    → IsThere f.values number info → AreValueNodes (trie_of now) ids' s → AllSuit s left → MatchNested bytes f base number first left → HasNext bytes f base first now ids' number info s left
+has_next : (bytes : List ℕ) (f : Flat) (base first : ℕ) (now : TrieInfos) (ids' : List ℕ) (number : ℕ) (info : ValueInfo) (s : NestingState) (left : List NestedValue)
+    → IsThere f.values number info → AreValueNodes now.trie ids' s → AllSuit s left → MatchNested bytes f base number first left → HasNext bytes f base first now ids' number info s left
 has_next bytes f base first now ids' number info s [] there are suit matches = absurd (matches info there.listed there.nested)
 has_next bytes f base first now ids' number info s (t ∷ ts) there are suit matches =
     let same : matches.0 ≡ info = same_info matches.0 info (sym matches.1 ∙ there.listed) in
@@ -99,25 +98,25 @@ has_next bytes f base first now ids' number info s (t ∷ ts) there are suit mat
       matches = matches.5;
     }
 
-underway_next : (bytes : List ℕ) (f : Flat) (base from first : ℕ) (old : List Node) (ids : List ℕ) (now : List Node) (ids' : List ℕ) (number : ℕ) (info : ValueInfo) (s : NestingState) (ts : List NestedValue)
+underway_next : (bytes : List ℕ) (f : Flat) (base from first : ℕ) (old : TrieInfos) (ids : List ℕ) (now : TrieInfos) (ids' : List ℕ) (number : ℕ) (info : ValueInfo) (s : NestingState) (ts : List NestedValue)
     → IsThere f.values number info → (u : Underway bytes f base from first old ids now ids' number s ts) → HasNext bytes f base (first + all_nested_keys u.done) now ids' number info (nesting_after s u.done) u.left
 underway_next bytes f base from first old ids now ids' number info s ts there u =
     has_next bytes f base (first + all_nested_keys u.done) now ids' number info (nesting_after s u.done) u.left there u.was_read.nested u.suit u.matches
 
-pub some_next : (bytes : List ℕ) (f : Flat) (base from : ℕ) (old : List Node) (ids : List ℕ) (now : List Node) (ids' : List ℕ) (number : ℕ) (info : ValueInfo)
-    → IsThere f.values number info → AreUnderway bytes f base from old ids now ids' number → (s : NestingState) × (ts : List NestedValue) × (first : ℕ) × AreNext bytes f (trie_of old) ids base from first s ts
-    → (s : NestingState) × (t : NestedValue) × IsNext bytes f.keys (trie_of now) ids' base info s t
+pub some_next : (bytes : List ℕ) (f : Flat) (base from : ℕ) (old : TrieInfos) (ids : List ℕ) (now : TrieInfos) (ids' : List ℕ) (number : ℕ) (info : ValueInfo)
+    → IsThere f.values number info → AreUnderway bytes f base from old ids now ids' number → (s : NestingState) × (ts : List NestedValue) × (first : ℕ) × AreNext bytes f old.trie ids base from first s ts
+    → (s : NestingState) × (t : NestedValue) × IsNext bytes f.keys now.trie ids' base info s t
 some_next bytes f base from old ids now ids' number info there under next =
     let u = under next.0 next.1 next.2 next.3 in
     let n = underway_next bytes f base from next.2 old ids now ids' number info next.0 next.1 there u in
     (nesting_after next.0 u.done, n.nested, n.next)
 
-pub some_shaped : (bytes : List ℕ) (f : Flat) (base from : ℕ) (old : List Node) (ids : List ℕ) (now : List Node) (ids' : List ℕ) (number : ℕ)
-    → AreUnderway bytes f base from old ids now ids' number → (s : NestingState) × (ts : List NestedValue) × (first : ℕ) × AreNext bytes f (trie_of old) ids base from first s ts → IsShaped (trie_of now)
+pub some_shaped : (bytes : List ℕ) (f : Flat) (base from : ℕ) (old : TrieInfos) (ids : List ℕ) (now : TrieInfos) (ids' : List ℕ) (number : ℕ)
+    → AreUnderway bytes f base from old ids now ids' number → (s : NestingState) × (ts : List NestedValue) × (first : ℕ) × AreNext bytes f old.trie ids base from first s ts → IsShaped now.trie
 some_shaped bytes f base from old ids now ids' number under next = (under next.0 next.1 next.2 next.3).was_read.shaped
 
-pub represents_some : (bytes : List ℕ) (f : Flat) (base from : ℕ) (old : List Node) (ids : List ℕ) (now : List Node) (ids' : List ℕ) (number : ℕ)
-    → AreUnderway bytes f base from old ids now ids' number → (s : NestingState) × (ts : List NestedValue) × (first : ℕ) × AreNext bytes f (trie_of old) ids base from first s ts → RepresentsSome (trie_of old) → RepresentsSome (trie_of now)
+pub represents_some : (bytes : List ℕ) (f : Flat) (base from : ℕ) (old : TrieInfos) (ids : List ℕ) (now : TrieInfos) (ids' : List ℕ) (number : ℕ)
+    → AreUnderway bytes f base from old ids now ids' number → (s : NestingState) × (ts : List NestedValue) × (first : ℕ) × AreNext bytes f old.trie ids base from first s ts → RepresentsSome old.trie → RepresentsSome now.trie
 represents_some bytes f base from old ids now ids' number under next represents =
     let u = under next.0 next.1 next.2 next.3 in
     (represents.0 ++ all_nested_mentions next.0 u.done, represents.1, u.was_read.represents represents.0 represents.1 represents.2)
@@ -134,7 +133,7 @@ marks-push s ts t has e =
     ap (λ w. length (marks.marks w)) mentioned ∙ ap length (filter_map-append mark_of (all_nested_mentions s ts) (nested_mentions (nesting_after s ts) t))
     ∙ length-append (marks.marks (all_nested_mentions s ts)) (marks.marks (nested_mentions (nesting_after s ts) t)) ∙ omega (arith, e, nested_marks (nesting_after s ts) t has, all_nested_keys-push ts t)
 
-pub underway_more : (bytes : List ℕ) (f : Flat) (base from : ℕ) (old : List Node) (ids : List ℕ) (now : List Node) (ids' : List ℕ) (new : List Node) (ids'' : List ℕ) (number : ℕ) (info : ValueInfo)
+pub underway_more : (bytes : List ℕ) (f : Flat) (base from : ℕ) (old : TrieInfos) (ids : List ℕ) (now : TrieInfos) (ids' : List ℕ) (new : TrieInfos) (ids'' : List ℕ) (number : ℕ) (info : ValueInfo)
     → IsThere f.values number info → AreUnderway bytes f base from old ids now ids' number → NestedValueRead bytes f base info now ids' new ids'' number → AreUnderway bytes f base from old ids new ids'' (number + 1)
 underway_more bytes f base from old ids now ids' new ids'' number info there under was_read s ts first next =
     let u = under s ts first next in
@@ -165,7 +164,7 @@ none_left : (bytes : List ℕ) (f : Flat) (base first number : ℕ) (left : List
 none_left bytes f base first number [] ends matches = refl
 none_left bytes f base first number (t ∷ ts) ends matches = absurd (ends matches.0 matches.1 (not_nested bytes f base t matches.0 matches.2))
 
-pub underway_ends : (bytes : List ℕ) (f : Flat) (base from : ℕ) (old : List Node) (ids : List ℕ) (now : List Node) (ids' : List ℕ) (number : ℕ)
+pub underway_ends : (bytes : List ℕ) (f : Flat) (base from : ℕ) (old : TrieInfos) (ids : List ℕ) (now : TrieInfos) (ids' : List ℕ) (number : ℕ)
     → EndsAt f.values number → AreUnderway bytes f base from old ids now ids' number → NestedValuesRead bytes f base from old ids now ids'
 underway_ends bytes f base from old ids now ids' number ends under s ts first next =
     let u = under s ts first next in
@@ -191,7 +190,7 @@ other_nested (owner.Item g) other = tt
 
 -- ---- a fault
 
-pub underway_fault : (bytes : List ℕ) (f : Flat) (base from : ℕ) (old : List Node) (ids : List ℕ) (now : List Node) (ids' : List ℕ) (number : ℕ) (info : ValueInfo) (at : ℕ) (why : Why)
+pub underway_fault : (bytes : List ℕ) (f : Flat) (base from : ℕ) (old : TrieInfos) (ids : List ℕ) (now : TrieInfos) (ids' : List ℕ) (number : ℕ) (info : ValueInfo) (at : ℕ) (why : Why)
     → IsThere f.values number info → AreUnderway bytes f base from old ids now ids' number → NestedValueFaults bytes f base info now ids' at why → NestedValuesFault bytes f base from old ids at why
 underway_fault bytes f base from old ids now ids' number info at why there under faults s ts first next ms tables represents =
     let u = under s ts first next in
@@ -207,7 +206,7 @@ underway_fault bytes f base from old ids now ids' number info at why there under
           (fault_within ms (all_nested_mentions s u.done) (nested_mentions (nesting_after s u.done) n.nested) rest one.within why one.fault);
     }
 
-pub underway_faults : (bytes : List ℕ) (f : Flat) (base from : ℕ) (old : List Node) (ids : List ℕ) (now : List Node) (ids' : List ℕ) (number : ℕ) (info : ValueInfo) (g : Fault)
+pub underway_faults : (bytes : List ℕ) (f : Flat) (base from : ℕ) (old : TrieInfos) (ids : List ℕ) (now : TrieInfos) (ids' : List ℕ) (number : ℕ) (info : ValueInfo) (g : Fault)
     → IsThere f.values number info → AreUnderway bytes f base from old ids now ids' number → FaultMeets g (NestedValueFaults bytes f base info now ids') → FaultMeets g (NestedValuesFault bytes f base from old ids)
 underway_faults bytes f base from old ids now ids' number info g there under meets =
     meets_weaker g (NestedValueFaults bytes f base info now ids') (NestedValuesFault bytes f base from old ids)
@@ -215,19 +214,19 @@ underway_faults bytes f base from old ids now ids' number info g there under mee
 
 -- ---- these laws, where the nodes of the values so far are lent as a slice
 
-pub some_next_seen : (bytes : List ℕ) (f : Flat) (base from : ℕ) (old : List Node) (ids : List ℕ) (now : List Node) (ids' seen : List ℕ) (number : ℕ) (info : ValueInfo) → seen ≡ ids'
-    → IsThere f.values number info → AreUnderway bytes f base from old ids now ids' number → (s : NestingState) × (ts : List NestedValue) × (first : ℕ) × AreNext bytes f (trie_of old) ids base from first s ts
-    → (s : NestingState) × (t : NestedValue) × IsNext bytes f.keys (trie_of now) seen base info s t
+pub some_next_seen : (bytes : List ℕ) (f : Flat) (base from : ℕ) (old : TrieInfos) (ids : List ℕ) (now : TrieInfos) (ids' seen : List ℕ) (number : ℕ) (info : ValueInfo) → seen ≡ ids'
+    → IsThere f.values number info → AreUnderway bytes f base from old ids now ids' number → (s : NestingState) × (ts : List NestedValue) × (first : ℕ) × AreNext bytes f old.trie ids base from first s ts
+    → (s : NestingState) × (t : NestedValue) × IsNext bytes f.keys now.trie seen base info s t
 some_next_seen bytes f base from old ids now ids' seen number info same there under next =
-    subst (λ (l : List ℕ). (s : NestingState) × (t : NestedValue) × IsNext bytes f.keys (trie_of now) l base info s t) (sym same) (some_next bytes f base from old ids now ids' number info there under next)
+    subst (λ (l : List ℕ). (s : NestingState) × (t : NestedValue) × IsNext bytes f.keys now.trie l base info s t) (sym same) (some_next bytes f base from old ids now ids' number info there under next)
 
-pub underway_more_seen : (bytes : List ℕ) (f : Flat) (base from : ℕ) (old : List Node) (ids : List ℕ) (now : List Node) (ids' seen : List ℕ) (new : List Node) (ids'' : List ℕ) (to number : ℕ) (info : ValueInfo) → seen ≡ ids' → ids'' ≡ ids' ++ to ∷ []
+pub underway_more_seen : (bytes : List ℕ) (f : Flat) (base from : ℕ) (old : TrieInfos) (ids : List ℕ) (now : TrieInfos) (ids' seen : List ℕ) (new : TrieInfos) (ids'' : List ℕ) (to number : ℕ) (info : ValueInfo) → seen ≡ ids' → ids'' ≡ ids' ++ to ∷ []
     → IsThere f.values number info → AreUnderway bytes f base from old ids now ids' number → NestedValueRead bytes f base info now seen new (seen ++ to ∷ []) number → AreUnderway bytes f base from old ids new ids'' (number + 1)
 underway_more_seen bytes f base from old ids now ids' seen new ids'' to number info same pushed there under was_read =
     underway_more bytes f base from old ids now ids' new ids'' number info there under
     (subst (λ (l : List ℕ). NestedValueRead bytes f base info now ids' new l number) (sym pushed) (subst (λ (l : List ℕ). NestedValueRead bytes f base info now l new (l ++ to ∷ []) number) same was_read))
 
-pub underway_faults_seen : (bytes : List ℕ) (f : Flat) (base from : ℕ) (old : List Node) (ids : List ℕ) (now : List Node) (ids' seen : List ℕ) (number : ℕ) (info : ValueInfo) (g : Fault) → seen ≡ ids'
+pub underway_faults_seen : (bytes : List ℕ) (f : Flat) (base from : ℕ) (old : TrieInfos) (ids : List ℕ) (now : TrieInfos) (ids' seen : List ℕ) (number : ℕ) (info : ValueInfo) (g : Fault) → seen ≡ ids'
     → IsThere f.values number info → AreUnderway bytes f base from old ids now ids' number → FaultMeets g (NestedValueFaults bytes f base info now seen) → FaultMeets g (NestedValuesFault bytes f base from old ids)
 underway_faults_seen bytes f base from old ids now ids' seen number info g same there under meets =
     underway_faults bytes f base from old ids now ids' number info g there under (subst (λ (l : List ℕ). FaultMeets g (NestedValueFaults bytes f base info now l)) same meets)

@@ -19,13 +19,12 @@ pub mod Plans
 pub mod ReadStatements
 pub mod Nested
 pub mod ReadDocuments
-pub mod Roots
 pub mod ValueTexts
 pub use Rattle.keep_meaning.specs.Marks
 pub use Rattle.keep_meaning.specs.Meaning
 pub use Rattle.keep_meaning.specs.Nodes
 pub use Rattle.keep_meaning.specs.Rules
-pub use Rattle.keep_index_store.specs.Stored
+pub use Rattle.keep_index_store.specs.Tree
 pub use Rattle.keep_index_store.specs.Facts
 pub use Rattle.keep_index_store.specs.Trie
 pub use Rattle.keep_path.specs.Path

@@ -1,8 +1,8 @@
 -- What is asked of the nodes: the number of a path, the path of a number, and the nodes one step below.
-use Rattle.std.specs.Prelude.{◌≡◌, ℕ, ◌<◌, List, [], ◌∷◌, length, map, Option, slice_index_or, slice_get}
+use Rattle.std.specs.Prelude.{◌≡◌, ℕ, ◌<◌, List, [], ◌∷◌, length, Option, slice_index_or, slice_get}
 use Rattle.std.specs.Option.{option_map, option_and_then}
 use Rattle.keep_rules.specs.declared.index.NodeId.{NodeId}
-use Rattle.keep_index_store.specs.AllNodes.{Node}
+use Rattle.keep_index_store.specs.Trie.{TrieNode, parent_at}
 use Rattle.keep_path.specs.Path.{Part}
 use Rattle.keep_meaning.specs.Nodes.{node_number, children}
 use Rattle.keep_path.specs.NodeInfos.{NodeInfos}
@@ -25,11 +25,8 @@ nth_child t i n = option_and_then (node_number t.paths) (slice_get (children_num
 
 -- ---- the nodes up to the root
 
-abbrev pub parent_at : List Node → ℕ → ℕ
-parent_at nodes i = slice_index_or (map (λ n. n.parent) nodes) i 0
-
 -- a node, its parent and so on, up to below another
-abbrev pub AreAncestors : List Node → ℕ → List ℕ → ℕ → Type 0
+abbrev pub AreAncestors : List TrieNode → ℕ → List ℕ → ℕ → Type 0
 AreAncestors nodes id [] top = id ≡ top
 AreAncestors nodes id (n ∷ ancestors) top =
     (id ≡ n) × (0 < n) × (n < length nodes) × AreAncestors nodes (parent_at nodes n) ancestors top

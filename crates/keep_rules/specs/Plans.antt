@@ -4,7 +4,6 @@ use Rattle.keep_syntax.specs.declared.fault.Why.{Why}
 use Rattle.keep_types.specs.declared.syntax.KeyPart.{KeyPart}
 use Rattle.keep_types.specs.declared.syntax.ValueInfo.{ValueInfo}
 use Rattle.keep_syntax_store.specs.Flat.{Flat}
-use Rattle.keep_index_store.specs.AllNodes.{Node}
 use Rattle.keep_rules.specs.declared.key_walk.Fault.{Fault}
 use Rattle.keep_rules.specs.declared.key_walk.Fault.TheVariants.{Define, Memory}
 use Rattle.keep_meaning.specs.KeyText.{IsKeyAt}
@@ -13,7 +12,7 @@ use Rattle.keep_meaning.specs.Marks.{Mention}
 use Rattle.keep_rules.specs.NestedValues.{NestingState, NestedValue, Suits, AllSuit, nested_mentions}
 use Rattle.keep_rules.specs.NestedValues.{all_nested_mentions}
 use Rattle.keep_index_store.specs.Trie.{TrieNode}
-use Rattle.keep_index_store.specs.Stored.{trie_of, node_infos}
+use Rattle.keep_index_store.specs.Tree.{TrieInfos, node_infos}
 use Rattle.keep_rules.specs.Represents.{Represents, FaultIn}
 use Rattle.keep_rules.specs.Reads.{AreValueNodes}
 use Rattle.keep_rules.specs.NestedReads.{nested_keys, HasKeys, NodesSoFar, NestedRead}
@@ -24,8 +23,8 @@ abbrev pub AreReadable : List ℕ → List KeyPart → Type 0
 AreReadable bytes parts = (n : ℕ) (p : KeyPart) → slice_get parts n ≡ Some p → IsKeyAt bytes p
 
 -- the stored nodes, with the nodes of the values so far
-abbrev pub nodes_so_far : List Node → List ℕ → NodesSoFar
-nodes_so_far nodes ids = record { trie = trie_of nodes; node_infos = node_infos nodes; ids = ids }
+abbrev pub nodes_so_far : TrieInfos → List ℕ → NodesSoFar
+nodes_so_far nodes ids = record { trie = nodes.trie; node_infos = node_infos nodes; ids = ids }
 
 -- the value with that number is in no value
 abbrev pub EndsAt : List ValueInfo → ℕ → Type 0
@@ -65,29 +64,29 @@ pub record FaultFrom (ms more : List Mention) (first number : ℕ) (why : Why) :
   pub fault : FaultIn ms more within why
 
 -- the value was read as each nested value that it may be
-abbrev pub NestedValueRead : List ℕ → Flat → ℕ → ValueInfo → List Node → List ℕ → List Node → List ℕ → ℕ → Type 0
+abbrev pub NestedValueRead : List ℕ → Flat → ℕ → ValueInfo → TrieInfos → List ℕ → TrieInfos → List ℕ → ℕ → Type 0
 NestedValueRead bytes f base info old ids new ids' number =
-    (s : NestingState) (t : NestedValue) → IsNext bytes f.keys (trie_of old) ids base info s t
+    (s : NestingState) (t : NestedValue) → IsNext bytes f.keys old.trie ids base info s t
     → NestedRead (nodes_so_far old ids) (nodes_so_far new ids') number info.first_key s (t ∷ [])
 
 -- it breaks the rules there
-abbrev pub NestedValueFaults : List ℕ → Flat → ℕ → ValueInfo → List Node → List ℕ → ℕ → Why → Type 0
+abbrev pub NestedValueFaults : List ℕ → Flat → ℕ → ValueInfo → TrieInfos → List ℕ → ℕ → Why → Type 0
 NestedValueFaults bytes f base info old ids number why =
-    (s : NestingState) (t : NestedValue) → IsNext bytes f.keys (trie_of old) ids base info s t
-    → (ms : List Mention) (tables : List (List Part)) → Represents (trie_of old) ms tables
+    (s : NestingState) (t : NestedValue) → IsNext bytes f.keys old.trie ids base info s t
+    → (ms : List Mention) (tables : List (List Part)) → Represents old.trie ms tables
     → FaultFrom ms (nested_mentions s t) info.first_key number why
 
 -- the values from a number on were read as all nested values that they may be
-abbrev pub NestedValuesRead : List ℕ → Flat → ℕ → ℕ → List Node → List ℕ → List Node → List ℕ → Type 0
+abbrev pub NestedValuesRead : List ℕ → Flat → ℕ → ℕ → TrieInfos → List ℕ → TrieInfos → List ℕ → Type 0
 NestedValuesRead bytes f base from old ids new ids' =
-    (s : NestingState) (ts : List NestedValue) (first : ℕ) → AreNext bytes f (trie_of old) ids base from first s ts
+    (s : NestingState) (ts : List NestedValue) (first : ℕ) → AreNext bytes f old.trie ids base from first s ts
     → NestedRead (nodes_so_far old ids) (nodes_so_far new ids') from first s ts
 
 -- one of them breaks the rules there
-abbrev pub NestedValuesFault : List ℕ → Flat → ℕ → ℕ → List Node → List ℕ → ℕ → Why → Type 0
+abbrev pub NestedValuesFault : List ℕ → Flat → ℕ → ℕ → TrieInfos → List ℕ → ℕ → Why → Type 0
 NestedValuesFault bytes f base from old ids number why =
-    (s : NestingState) (ts : List NestedValue) (first : ℕ) → AreNext bytes f (trie_of old) ids base from first s ts
-    → (ms : List Mention) (tables : List (List Part)) → Represents (trie_of old) ms tables
+    (s : NestingState) (ts : List NestedValue) (first : ℕ) → AreNext bytes f old.trie ids base from first s ts
+    → (ms : List Mention) (tables : List (List Part)) → Represents old.trie ms tables
     → FaultFrom ms (all_nested_mentions s ts) first number why
 
 -- the fault by its number after so many key parts

@@ -11,30 +11,26 @@ ghost use Rattle.keep_rules.specs.Represents.{Begins, Represents, StopsAt, Fault
 ghost use Rattle.keep_rules.specs.Statements.{header_of, element_of};
 ghost use Rattle.keep_rules.specs.Steps.{Gives};
 ghost use Rattle.keep_rules.specs.Stops.{FaultMeets};
-ghost use Rattle.keep_index_store.specs.Stored.{IsStored, trie_of};
 ghost use Rattle.keep_rules.specs.Tables.{IsShaped};
 ghost use Rattle.keep_rules.specs.AddedInfos.{HeaderAdds, StatementAdds, KeyedAdds, begin_mentions};
 ghost use Rattle.keep_index_store.specs.Trie.{by_key, holds_at, path_at};
 
 use crate::key_walk::{Fault, mark_key, walk_dotted, walk_header};
 use crate::keys::Keys;
-use keep_index_store::{Holds, NodeFacts, Nodes, add_item};
+use keep_index_store::{Holds, NodeFacts, Tree};
 use keep_types::{Kind, Origin, Role};
 
 /// Reads the header `[..]` of that statement, and gives the node of the table that it defines.
-pub fn header(nodes: &mut Nodes, keys: Keys<'_>, statement: usize) -> Result<usize, Fault>
-    requires stored { IsStored nodes.old.items }
-    requires shaped { IsShaped (trie_of nodes.old.items) }
-    requires rooted { holds_at (trie_of nodes.old.items) 0 ≡ by_key }
+pub fn header(nodes: &mut Tree, keys: Keys<'_>, statement: usize) -> Result<usize, Fault>
+    requires shaped { IsShaped nodes.old.trie }
+    requires rooted { holds_at nodes.old.trie 0 ≡ by_key }
     requires keys { AreKeys keys }
-    ensures stored { OnOk result (IsStored nodes.new.items) }
-    ensures ok { IfOk result (λ to. (body : ℕ)
-        → Reads (trie_of nodes.old.items) body (trie_of nodes.new.items) to (header_of keys.entry)) }
-    ensures facts { IfOk result (λ to. StatementAdds nodes.old.items nodes.new.items keys.entry.first statement
+    ensures ok { IfOk result (λ to. (body : ℕ) → Reads nodes.old.trie body nodes.new.trie to (header_of keys.entry)) }
+    ensures facts { IfOk result (λ to. StatementAdds nodes.old nodes.new keys.entry.first statement
         (header_of keys.entry)) }
     ensures define { IfErr result
         (λ fault. FaultMeets fault (λ number why. (body : ℕ)
-        → FaultsIn (trie_of nodes.old.items) body (header_of keys.entry) number why)) }
+        → FaultsIn nodes.old.trie body (header_of keys.entry) number why)) }
 {
     let parent = walk_header(nodes, keys, statement)?;
     let number = keys.count - 1;
@@ -52,21 +48,18 @@ pub fn header(nodes: &mut Nodes, keys: Keys<'_>, statement: usize) -> Result<usi
 }
 
 /// Begins an element of the array of tables that the last of the keys names in a table.
-fn begin(nodes: &mut Nodes, parent: usize, keys: Keys<'_>, statement: usize) -> Result<usize, Fault>
-    requires stored { IsStored nodes.old.items }
-    requires shaped { IsShaped (trie_of nodes.old.items) }
-    requires within { parent < length nodes.old.items }
-    requires keyed { holds_at (trie_of nodes.old.items) parent ≡ by_key }
+fn begin(nodes: &mut Tree, parent: usize, keys: Keys<'_>, statement: usize) -> Result<usize, Fault>
+    requires shaped { IsShaped nodes.old.trie }
+    requires within { parent < length nodes.old.trie }
+    requires keyed { holds_at nodes.old.trie parent ≡ by_key }
     requires keys { AreKeys keys }
-    ensures stored { OnOk result (IsStored nodes.new.items) }
-    ensures ok { IfOk result (λ to. Begins (trie_of nodes.old.items) (trie_of nodes.new.items) parent to
-        (last_text keys.entry)) }
-    ensures facts { OnOk result (HeaderAdds nodes.old.items nodes.new.items
+    ensures ok { IfOk result (λ to. Begins nodes.old.trie nodes.new.trie parent to (last_text keys.entry)) }
+    ensures facts { OnOk result (HeaderAdds nodes.old nodes.new
         (keys.entry.first + (keys.entry.count - 1)) statement
-        (begin_mentions (path_at (trie_of nodes.old.items) parent ++ key (last_text keys.entry) ∷ []))) }
+        (begin_mentions (path_at nodes.old.trie parent ++ key (last_text keys.entry) ∷ []))) }
     ensures define { IfErr result
-        (λ fault. FaultMeets fault (StopsAt (trie_of nodes.old.items)
-        (path_at (trie_of nodes.old.items) parent ++ key (last_text keys.entry) ∷ []) Role.Element
+        (λ fault. FaultMeets fault (StopsAt nodes.old.trie
+        (path_at nodes.old.trie parent ++ key (last_text keys.entry) ∷ []) Role.Element
         (keys.entry.count - 1))) }
 {
     let number = keys.count - 1;
@@ -82,23 +75,20 @@ fn begin(nodes: &mut Nodes, parent: usize, keys: Keys<'_>, statement: usize) -> 
         Holds::Items,
     )?;
     let element = NodeFacts::unnamed(Kind::Table, Origin::Element(statement));
-    Ok(add_item(nodes, id, element, Holds::Keys)?)
+    Ok(nodes.add_item(id, element, Holds::Keys)?)
 }
 
 /// Reads the element header `[[..]]` of that statement, and gives the node of the element that it begins.
-pub fn element(nodes: &mut Nodes, keys: Keys<'_>, statement: usize) -> Result<usize, Fault>
-    requires stored { IsStored nodes.old.items }
-    requires shaped { IsShaped (trie_of nodes.old.items) }
-    requires rooted { holds_at (trie_of nodes.old.items) 0 ≡ by_key }
+pub fn element(nodes: &mut Tree, keys: Keys<'_>, statement: usize) -> Result<usize, Fault>
+    requires shaped { IsShaped nodes.old.trie }
+    requires rooted { holds_at nodes.old.trie 0 ≡ by_key }
     requires keys { AreKeys keys }
-    ensures stored { OnOk result (IsStored nodes.new.items) }
-    ensures ok { IfOk result (λ to. (body : ℕ)
-        → Reads (trie_of nodes.old.items) body (trie_of nodes.new.items) to (element_of keys.entry)) }
-    ensures facts { IfOk result (λ to. StatementAdds nodes.old.items nodes.new.items keys.entry.first statement
+    ensures ok { IfOk result (λ to. (body : ℕ) → Reads nodes.old.trie body nodes.new.trie to (element_of keys.entry)) }
+    ensures facts { IfOk result (λ to. StatementAdds nodes.old nodes.new keys.entry.first statement
         (element_of keys.entry)) }
     ensures define { IfErr result
         (λ fault. FaultMeets fault (λ number why. (body : ℕ)
-        → FaultsIn (trie_of nodes.old.items) body (element_of keys.entry) number why)) }
+        → FaultsIn nodes.old.trie body (element_of keys.entry) number why)) }
 {
     let parent = walk_header(nodes, keys, statement)?;
     begin(nodes, parent, keys, statement)
@@ -106,27 +96,25 @@ pub fn element(nodes: &mut Nodes, keys: Keys<'_>, statement: usize) -> Result<us
 
 /// Gives a value with a key to the table at a node: the value with that number and kind, which may have these children.
 pub fn give_value(
-    nodes: &mut Nodes,
+    nodes: &mut Tree,
     from: usize,
     keys: Keys<'_>,
     value: usize,
     kind: Kind,
     holds: Holds,
 ) -> Result<usize, Fault>
-    requires stored { IsStored nodes.old.items }
-    requires shaped { IsShaped (trie_of nodes.old.items) }
-    requires within { from < length nodes.old.items }
-    requires keyed { holds_at (trie_of nodes.old.items) from ≡ by_key }
+    requires shaped { IsShaped nodes.old.trie }
+    requires within { from < length nodes.old.trie }
+    requires keyed { holds_at nodes.old.trie from ≡ by_key }
     requires keys { AreKeys keys }
-    ensures stored { OnOk result (IsStored nodes.new.items) }
-    ensures ok { IfOk result (λ to. Gives (trie_of nodes.old.items) (trie_of nodes.new.items) from to
+    ensures ok { IfOk result (λ to. Gives nodes.old.trie nodes.new.trie from to
         (leading_texts keys.entry) (last_text keys.entry) (holding holds)) }
-    ensures facts { IfOk result (λ to. KeyedAdds nodes.old.items nodes.new.items from keys.entry.first
+    ensures facts { IfOk result (λ to. KeyedAdds nodes.old nodes.new from keys.entry.first
         (key_texts keys.entry) value kind) }
     ensures define { IfErr result
         (λ fault. FaultMeets fault (λ number why. (s : NestingState) (o : ℕ) (f : Fact)
-        → path_at (trie_of nodes.old.items) from ≡ path_of_value s o → (ms : List Mention) (tables : List (List Part))
-        → Represents (trie_of nodes.old.items) ms tables
+        → path_at nodes.old.trie from ≡ path_of_value s o → (ms : List Mention) (tables : List (List Part))
+        → Represents nodes.old.trie ms tables
         → FaultIn ms (nested_mentions s (nested_keyed o (key_texts keys.entry) f)) number why)) }
 {
     let parent = walk_dotted(nodes, from, keys, value)?;

@@ -2,35 +2,22 @@
 ghost use Rattle.std.specs.Prelude.{◌≡◌, ◌<◌, ◌∷◌, ℕ, [], List, length, IfOk, OnOk, IfErr};
 ghost use Rattle.keep_syntax_store.specs.Flat.{flat};
 ghost use Rattle.keep_syntax.specs.Tree.{Document, Value};
-ghost use Rattle.keep_index_store.specs.Children.{holding};
 ghost use Rattle.keep_rules.specs.NestedValues.{NestingState, NestedValue};
 ghost use Rattle.keep_rules.specs.Plans.{AreReadable, AreNext, RepresentsSome, NestedValuesRead, NestedValuesFault};
 ghost use Rattle.keep_rules.specs.ReadDocuments.{WasRead, WasReadAlone, IsIndexOf, ValueObeys, IsRefusal};
 ghost use Rattle.keep_rules.specs.ReadDocuments.{IsValueRefusal, IsFaultAt};
-ghost use Rattle.keep_rules.specs.Roots.{IsRoot};
 ghost use Rattle.keep_rules.specs.Stops.{FaultMeets};
 ghost use Rattle.keep_rules.specs.Tables.{IsShaped};
-ghost use Rattle.keep_index_store.specs.Stored.{IsStored, node_infos, trie_of};
+ghost use Rattle.keep_index_store.specs.Tree.{IsRoot, node_infos};
 ghost use Rattle.keep_index_store.specs.Trie.{by_key, holds_at};
 
 use crate::key_walk::Fault;
 use crate::kinds::holds_of_leaf;
 use crate::nested_values::{push_id, read_nested};
 use crate::statement::read_statement;
-use keep_index_store::{Holds, NodeFacts, Nodes};
+use keep_index_store::Tree;
 use keep_syntax::{Parts, ReadFault, Syntax, ValueSyntax};
-use keep_types::{Kind, Origin};
 use std::alloc::{AllocError, Global};
-
-/// Adds the root of a document or of a value alone, which may have these children, where there is no node yet.
-fn root(mut nodes: Nodes, holds: Holds) -> Result<Nodes, AllocError>
-    requires { nodes.items ≡ [] }
-    ensures { IfOk result (λ nodes. IsRoot nodes.items (holding holds)) }
-{
-    let facts = NodeFacts::unnamed(Kind::Table, Origin::Root);
-    nodes.push(0, 0, facts, holds)?;
-    Ok(nodes)
-}
 
 /// The fault, with the place of its key part in the text.
 fn read_fault(parts: &Parts, fault: Fault) -> ReadFault
@@ -46,18 +33,17 @@ fn read_fault(parts: &Parts, fault: Fault) -> ReadFault
     }
 }
 
-/// Reads the statements of a document, and gives its nodes, where there is no node yet.
-pub fn read_document(empty: Nodes, text: &str, syntax: &Syntax) -> Result<Nodes, ReadFault>
+/// Reads the statements of a document, and gives its nodes, where the root is the only node so far.
+pub fn read_document(root: Tree, text: &str, syntax: &Syntax) -> Result<Tree, ReadFault>
     requires read { (d : Document) × WasRead text.now syntax.now d }
-    requires empty { empty.items ≡ [] }
-    ensures stored { IfOk result (λ nodes. IsStored nodes.items) }
-    ensures rooted { IfOk result (λ nodes. holds_at (trie_of nodes.items) 0 ≡ by_key) }
+    requires root { IsRoot by_key root }
+    ensures rooted { IfOk result (λ nodes. holds_at nodes.trie 0 ≡ by_key) }
     ensures ok { IfOk result (λ nodes. (d : Document) → WasRead text.now syntax.now d
-        → IsIndexOf d (node_infos nodes.items)) }
+        → IsIndexOf d (node_infos nodes)) }
     ensures faults { IfErr result (λ fault. (d : Document) → WasRead text.now syntax.now d → IsRefusal d fault) }
 {
     let parts = syntax.parts();
-    let mut nodes = root(empty, Holds::Keys)?;
+    let mut nodes = root;
     let mut ids = Vec::new(nodes.allocator());
     let mut body = 0;
     for number in 0..syntax.statement_count() {
@@ -71,17 +57,16 @@ pub fn read_document(empty: Nodes, text: &str, syntax: &Syntax) -> Result<Nodes,
 }
 
 /// Reads the values in a value alone, of which the root is the only node so far.
-fn read_inside(nodes: &mut Nodes, text: &str, parts: &Parts) -> Result<(), Fault>
-    requires stored { IsStored nodes.old.items }
-    requires shaped { IsShaped (trie_of nodes.old.items) }
+fn read_inside(nodes: &mut Tree, text: &str, parts: &Parts) -> Result<(), Fault>
+    requires shaped { IsShaped nodes.old.trie }
     requires readable { AreReadable text.now (flat parts.now).keys }
     requires next { (s : NestingState) × (ts : List NestedValue) × (first : ℕ)
-        × AreNext text.now (flat parts.now) (trie_of nodes.old.items) (0 ∷ []) 1 1 first s ts }
-    requires represents { RepresentsSome (trie_of nodes.old.items) }
+        × AreNext text.now (flat parts.now) nodes.old.trie (0 ∷ []) 1 1 first s ts }
+    requires represents { RepresentsSome nodes.old.trie }
     ensures was_read { OnOk result
-        ((ids : List ℕ) × NestedValuesRead text.now (flat parts.now) 1 1 nodes.old.items (0 ∷ []) nodes.new.items ids) }
+        ((ids : List ℕ) × NestedValuesRead text.now (flat parts.now) 1 1 nodes.old (0 ∷ []) nodes.new ids) }
     ensures define { IfErr result
-        (λ fault. FaultMeets fault (NestedValuesFault text.now (flat parts.now) 1 1 nodes.old.items (0 ∷ []))) }
+        (λ fault. FaultMeets fault (NestedValuesFault text.now (flat parts.now) 1 1 nodes.old (0 ∷ []))) }
 {
     let mut ids = Vec::new(nodes.allocator());
     push_id(&mut ids, 0)?;
@@ -96,7 +81,7 @@ pub fn read_alone(alloc: Global, text: &str, syntax: &ValueSyntax) -> Result<(),
 {
     let parts = syntax.parts();
     let holds = holds_of_leaf(syntax.value(0).leaf);
-    let mut nodes = root(Nodes::new(alloc, text), holds)?;
+    let mut nodes = Tree::new(alloc, text, holds)?;
     match read_inside(&mut nodes, text, parts) {
         Ok(()) => Ok(()),
         Err(fault) => Err(read_fault(parts, fault)),

@@ -12,6 +12,8 @@ ghost use Rattle.keep_rules.specs.Lookup.{number_of, path_numbered, children_num
 ghost use Rattle.keep_meaning.specs.Marks.{marks};
 ghost use Rattle.keep_meaning.specs.Meaning.{mentions_in};
 ghost use Rattle.keep_meaning.specs.Nodes.{node_number, nodes_in, key_span_of, value_span_of};
+ghost use Rattle.keep_index_store.specs.Tree.{IsRoot};
+ghost use Rattle.keep_index_store.specs.Trie.{by_key};
 ghost use Rattle.keep_path.specs.NodeInfos.{with_kind, with_path};
 ghost use Rattle.keep_path.specs.Path.{EndsInKey, Part, beside, key, index};
 ghost use Rattle.keep_path.specs.Step.{part_of};
@@ -24,7 +26,7 @@ use crate::document::{read_alone, read_document};
 use crate::path_text::push_path;
 use crate::queries::{child_by, path_to};
 use crate::spans::{key_span_at, value_span_at};
-use keep_index_store::{Nodes, set_key, set_kind};
+use keep_index_store::{Holds, Tree};
 use keep_path::{Path, Step};
 use keep_syntax::{ReadFault, Span, Syntax, ValueSyntax};
 use keep_types::{Kind, NodeInfo, Origin};
@@ -40,7 +42,7 @@ pub struct NodeId(pub usize);
 /// them: a key part that only leads on to further ones meets its table too. So each comes after its parent.
 #[derive(Drop)]
 pub struct Index {
-    nodes: Nodes,
+    nodes: Tree,
 }
 
 impl Model for Index {
@@ -49,12 +51,12 @@ impl Model for Index {
 
     ghost Value = { NodeInfos };
 
-    ghost use Rattle.keep_index_store.specs.Stored.{IsStored, node_infos, trie_of};
-    ghost use Rattle.keep_index_store.specs.Trie.{by_key, holds_at};
+    ghost use Rattle.keep_index_store.specs.Tree.{node_infos};
+    ghost use Rattle.keep_index_store.specs.Trie.{IsTrie, by_key, holds_at};
 
-    ghost view = { λ i. node_infos i.nodes.items };
+    ghost view = { λ i. node_infos i.nodes };
 
-    ghost invariant = { λ i. IsStored i.nodes.items × (holds_at (trie_of i.nodes.items) 0 ≡ by_key) };
+    ghost invariant = { λ i. IsTrie i.nodes.trie × (holds_at i.nodes.trie 0 ≡ by_key) };
 }
 
 impl Index {
@@ -74,7 +76,8 @@ impl Index {
         ensures faults { (d : Document) → WasRead text.now syntax.now d → IfErr result (IsRefusal d) }
         ensures few { IfOk result (λ index. length index.paths ≤ length text.now + 1) }
     {
-        Index::read(Nodes::new(alloc, text), text, syntax)
+        let root = Tree::new(alloc, text, Holds::Keys)?;
+        Index::read(root, text, syntax)
     }
 
     /// Reads the definitions of a document as `build` does, where this is the index of the same document with other
@@ -98,20 +101,21 @@ impl Index {
         ensures faults { (d : Document) → WasRead text.now syntax.now d → IfErr result (IsRefusal d) }
         ensures few { IfOk result (λ index. length index.paths ≤ length text.now + 1) }
     {
-        Index::read(self.nodes.renewed(alloc, lines), text, syntax)
+        let root = self.nodes.renewed(alloc, lines, Holds::Keys)?;
+        Index::read(root, text, syntax)
     }
 
-    /// Reads the definitions of a document as `build` promises, where there is no node yet.
-    fn read(empty: Nodes, text: &str, syntax: &Syntax) -> Result<Index, ReadFault>
+    /// Reads the definitions of a document as `build` promises, where the root is the only node so far.
+    fn read(root: Tree, text: &str, syntax: &Syntax) -> Result<Index, ReadFault>
         requires read { (d : Document) × WasRead text.now syntax.now d }
-        requires empty { empty.items ≡ [] }
+        requires root { IsRoot by_key root }
         ensures ok { (d : Document) → WasRead text.now syntax.now d → IfOk result (IsIndexOf d) }
         ensures read { (d : Document) → WasRead text.now syntax.now d → ObeysRules (marks (mentions_in d))
             → IsOkUnless result Memory }
         ensures faults { (d : Document) → WasRead text.now syntax.now d → IfErr result (IsRefusal d) }
         ensures few { IfOk result (λ index. length index.paths ≤ length text.now + 1) }
     {
-        let nodes = read_document(empty, text, syntax)?;
+        let nodes = read_document(root, text, syntax)?;
         Ok(Index { nodes })
     }
 
@@ -256,7 +260,7 @@ impl Index {
         requires { id.0 < length self.now.paths }
         ensures { slice_get self.now.infos id.0 ≡ Some result }
     {
-        self.nodes.facts(id.0).info()
+        self.nodes.info(id.0)
     }
 
     /// Where the first key part that names the node is, in bytes from the start of the text; None for the root, an item
@@ -289,7 +293,7 @@ impl Index {
         requires within { id.0 < length self.old.paths }
         ensures { self.new ≡ with_kind self.old id.0 kind }
     {
-        set_kind(&mut self.nodes, id.0, kind);
+        self.nodes.set_kind(id.0, kind);
     }
 
     /// The last key of the node's path is this one from now on, decoded. The paths of the nodes below it change too;
@@ -307,6 +311,6 @@ impl Index {
             (beside (path_numbered self.old id.0) text.now)) }
         ensures refused { OnErr result (self.new ≡ self.old) }
     {
-        set_key(&mut self.nodes, id.0, text)
+        self.nodes.set_key(id.0, text)
     }
 }

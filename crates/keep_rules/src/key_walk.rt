@@ -6,7 +6,6 @@ ghost use Rattle.keep_path.specs.Path.{Part, key};
 ghost use Rattle.keep_rules.specs.Represents.{IsMarked, Represents, StopsAt, FaultIn};
 ghost use Rattle.keep_rules.specs.Steps.{Walks, Dots};
 ghost use Rattle.keep_rules.specs.Stops.{FaultMeets, fault_of_key};
-ghost use Rattle.keep_index_store.specs.Stored.{IsStored, trie_of};
 ghost use Rattle.keep_rules.specs.Tables.{Fits, IsShaped};
 ghost use Rattle.keep_rules.specs.AddedInfos.{AddsInfo, HeaderAdds, DottedAdds};
 ghost use Rattle.keep_index_store.specs.Children.{holding};
@@ -16,7 +15,7 @@ ghost use Rattle.keep_rules.specs.KeyWalks.{walk_mentions, dotted_mentions};
 
 use crate::keys::Keys;
 use crate::mark::{Stop, mark, pass};
-use keep_index_store::{Holds, NodeFacts, Nodes};
+use keep_index_store::{Holds, NodeFacts, Tree};
 use keep_meaning::why_of;
 use keep_syntax::Why;
 use keep_types::{Kind, Origin, Role};
@@ -57,7 +56,7 @@ fn fault_of(stop: Stop, number: usize, why: Why) -> Fault
 /// these children if it is new.
 #[inline(always)]
 pub fn mark_key(
-    nodes: &mut Nodes,
+    nodes: &mut Tree,
     parent: usize,
     keys: Keys<'_>,
     number: usize,
@@ -65,22 +64,20 @@ pub fn mark_key(
     facts: NodeFacts,
     holds: Holds,
 ) -> Result<usize, Fault>
-    requires stored { IsStored nodes.old.items }
-    requires shaped { IsShaped (trie_of nodes.old.items) }
-    requires within { parent < length nodes.old.items }
-    requires keyed { holds_at (trie_of nodes.old.items) parent ≡ by_key }
+    requires shaped { IsShaped nodes.old.trie }
+    requires within { parent < length nodes.old.trie }
+    requires keyed { holds_at nodes.old.trie parent ≡ by_key }
     requires keys { AreKeys keys }
     requires low { number < keys.count }
     requires fits { Fits role (holding holds) }
-    ensures stored { OnOk result (IsStored nodes.new.items) }
-    ensures ok { IfOk result (λ to. IsMarked (trie_of nodes.old.items) (trie_of nodes.new.items)
-        (path_at (trie_of nodes.old.items) parent ++ key (key_text_at keys.entry number) ∷ []) role
+    ensures ok { IfOk result (λ to. IsMarked nodes.old.trie nodes.new.trie
+        (path_at nodes.old.trie parent ++ key (key_text_at keys.entry number) ∷ []) role
         (holding holds) to) }
-    ensures facts { OnOk result (AddsInfo nodes.old.items nodes.new.items
-        (path_at (trie_of nodes.old.items) parent ++ key (key_text_at keys.entry number) ∷ []) (info_of facts)) }
+    ensures facts { OnOk result (AddsInfo nodes.old nodes.new
+        (path_at nodes.old.trie parent ++ key (key_text_at keys.entry number) ∷ []) (info_of facts)) }
     ensures define { IfErr result
-        (λ fault. FaultMeets fault (StopsAt (trie_of nodes.old.items)
-        (path_at (trie_of nodes.old.items) parent ++ key (key_text_at keys.entry number) ∷ []) role number)) }
+        (λ fault. FaultMeets fault (StopsAt nodes.old.trie
+        (path_at nodes.old.trie parent ++ key (key_text_at keys.entry number) ∷ []) role number)) }
 {
     let text = keys.part_text(nodes.allocator(), number)?;
     match mark(nodes, parent, text.as_str(), role, facts, holds) {
@@ -90,22 +87,19 @@ pub fn mark_key(
 }
 
 /// Goes along a header's keys but the last, from the root.
-pub fn walk_header(nodes: &mut Nodes, keys: Keys<'_>, statement: usize) -> Result<usize, Fault>
-    requires stored { IsStored nodes.old.items }
-    requires shaped { IsShaped (trie_of nodes.old.items) }
-    requires rooted { holds_at (trie_of nodes.old.items) 0 ≡ by_key }
+pub fn walk_header(nodes: &mut Tree, keys: Keys<'_>, statement: usize) -> Result<usize, Fault>
+    requires shaped { IsShaped nodes.old.trie }
+    requires rooted { holds_at nodes.old.trie 0 ≡ by_key }
     requires keys { AreKeys keys }
-    ensures stored { OnOk result (IsStored nodes.new.items) }
-    ensures shaped { OnOk result (IsShaped (trie_of nodes.new.items)) }
-    ensures nested { IfOk result (λ to. to < length nodes.new.items) }
-    ensures keyed { IfOk result (λ to. holds_at (trie_of nodes.new.items) to ≡ by_key) }
-    ensures ok { IfOk result (λ to. Walks (trie_of nodes.old.items) (trie_of nodes.new.items) to
-        (leading_texts keys.entry)) }
-    ensures facts { IfOk result (λ to. HeaderAdds nodes.old.items nodes.new.items keys.entry.first statement
+    ensures shaped { OnOk result (IsShaped nodes.new.trie) }
+    ensures nested { IfOk result (λ to. to < length nodes.new.trie) }
+    ensures keyed { IfOk result (λ to. holds_at nodes.new.trie to ≡ by_key) }
+    ensures ok { IfOk result (λ to. Walks nodes.old.trie nodes.new.trie to (leading_texts keys.entry)) }
+    ensures facts { IfOk result (λ to. HeaderAdds nodes.old nodes.new keys.entry.first statement
         (λ tables. walk_mentions tables [] (leading_texts keys.entry))) }
     ensures define { IfErr result
         (λ fault. FaultMeets fault (λ number why. (ms : List Mention) (tables : List (List Part))
-        → Represents (trie_of nodes.old.items) ms tables
+        → Represents nodes.old.trie ms tables
         → FaultIn ms (walk_mentions tables [] (leading_texts keys.entry)) number why)) }
 {
     let mut at = 0;
@@ -122,27 +116,24 @@ pub fn walk_header(nodes: &mut Nodes, keys: Keys<'_>, statement: usize) -> Resul
 
 /// Goes along the keys but the last of the value with that number, from the table that it is in.
 pub fn walk_dotted(
-    nodes: &mut Nodes,
+    nodes: &mut Tree,
     from: usize,
     keys: Keys<'_>,
     value: usize,
 ) -> Result<usize, Fault>
-    requires stored { IsStored nodes.old.items }
-    requires shaped { IsShaped (trie_of nodes.old.items) }
-    requires within { from < length nodes.old.items }
-    requires keyed { holds_at (trie_of nodes.old.items) from ≡ by_key }
+    requires shaped { IsShaped nodes.old.trie }
+    requires within { from < length nodes.old.trie }
+    requires keyed { holds_at nodes.old.trie from ≡ by_key }
     requires keys { AreKeys keys }
-    ensures stored { OnOk result (IsStored nodes.new.items) }
-    ensures shaped { OnOk result (IsShaped (trie_of nodes.new.items)) }
-    ensures nested { IfOk result (λ to. to < length nodes.new.items) }
-    ensures ok { IfOk result (λ to. Dots (trie_of nodes.old.items) (trie_of nodes.new.items) from to
-        (leading_texts keys.entry)) }
-    ensures facts { IfOk result (λ to. DottedAdds nodes.old.items nodes.new.items keys.entry.first value
-        (dotted_mentions (path_at (trie_of nodes.old.items) from) (leading_texts keys.entry))) }
+    ensures shaped { OnOk result (IsShaped nodes.new.trie) }
+    ensures nested { IfOk result (λ to. to < length nodes.new.trie) }
+    ensures ok { IfOk result (λ to. Dots nodes.old.trie nodes.new.trie from to (leading_texts keys.entry)) }
+    ensures facts { IfOk result (λ to. DottedAdds nodes.old nodes.new keys.entry.first value
+        (dotted_mentions (path_at nodes.old.trie from) (leading_texts keys.entry))) }
     ensures define { IfErr result
         (λ fault. FaultMeets fault (λ number why. (ms : List Mention) (tables : List (List Part))
-        → Represents (trie_of nodes.old.items) ms tables
-        → FaultIn ms (dotted_mentions (path_at (trie_of nodes.old.items) from)
+        → Represents nodes.old.trie ms tables
+        → FaultIn ms (dotted_mentions (path_at nodes.old.trie from)
         (leading_texts keys.entry)) number why)) }
 {
     let mut at = from;

@@ -5,7 +5,6 @@ ghost use Rattle.keep_rules.specs.NestedValues.{NestingState, NestedValue};
 ghost use Rattle.keep_rules.specs.Plans.{AreReadable, IsNext, AreNext, RepresentsSome, NestedValueRead};
 ghost use Rattle.keep_rules.specs.Plans.{NestedValueFaults, NestedValuesRead, NestedValuesFault, fault_from};
 ghost use Rattle.keep_rules.specs.Stops.{FaultMeets};
-ghost use Rattle.keep_index_store.specs.Stored.{IsStored, trie_of};
 ghost use Rattle.keep_rules.specs.Tables.{IsShaped};
 
 use crate::build::give_value;
@@ -13,7 +12,7 @@ use crate::key_walk::Fault;
 use crate::keys::Keys;
 use crate::kinds::holds_of_leaf;
 use crate::mark::give_item;
-use keep_index_store::Nodes;
+use keep_index_store::Tree;
 use keep_syntax::{Owner, Parts, ValueInfo};
 use keep_types::kind_of;
 use std::alloc::AllocError;
@@ -43,7 +42,7 @@ pub fn push_id(ids: &mut Vec<usize>, id: usize) -> Result<(), AllocError>
 /// Reads the value with that number, which is in an array or an inline table, and gives its node. `ids` are the nodes
 /// of the values so far; the second is that of the value number `base`.
 fn read_value(
-    nodes: &mut Nodes,
+    nodes: &mut Tree,
     ids: &[usize],
     text: &str,
     parts: &Parts,
@@ -51,19 +50,17 @@ fn read_value(
     number: usize,
     value: ValueInfo,
 ) -> Result<usize, Fault>
-    requires stored { IsStored nodes.old.items }
-    requires shaped { IsShaped (trie_of nodes.old.items) }
+    requires shaped { IsShaped nodes.old.trie }
     requires readable { AreReadable text.now (flat parts.now).keys }
     requires numbered { base + length ids.now ≡ number + 1 }
     requires next { (s : NestingState) × (t : NestedValue)
-        × IsNext text.now (flat parts.now).keys (trie_of nodes.old.items) ids.now base value s t }
-    requires represents { RepresentsSome (trie_of nodes.old.items) }
-    ensures stored { OnOk result (IsStored nodes.new.items) }
+        × IsNext text.now (flat parts.now).keys nodes.old.trie ids.now base value s t }
+    requires represents { RepresentsSome nodes.old.trie }
     ensures was_read { IfOk result
-        (λ id. NestedValueRead text.now (flat parts.now) base value nodes.old.items ids.now nodes.new.items
+        (λ id. NestedValueRead text.now (flat parts.now) base value nodes.old ids.now nodes.new
         (ids.now ++ id ∷ []) number) }
     ensures define { IfErr result
-        (λ fault. FaultMeets fault (NestedValueFaults text.now (flat parts.now) base value nodes.old.items ids.now)) }
+        (λ fault. FaultMeets fault (NestedValueFaults text.now (flat parts.now) base value nodes.old ids.now)) }
 {
     let kind = kind_of(value.leaf);
     let holds = holds_of_leaf(value.leaf);
@@ -92,27 +89,25 @@ fn read_value(
 /// Reads the values from the number `from` on, up to the next that is the value of a line, and adds their nodes to
 /// those of the values so far, of which the second is that of the value number `base`.
 pub fn read_nested(
-    nodes: &mut Nodes,
+    nodes: &mut Tree,
     ids: &mut Vec<usize>,
     text: &str,
     parts: &Parts,
     base: usize,
     from: usize,
 ) -> Result<(), Fault>
-    requires stored { IsStored nodes.old.items }
-    requires shaped { IsShaped (trie_of nodes.old.items) }
+    requires shaped { IsShaped nodes.old.trie }
     requires readable { AreReadable text.now (flat parts.now).keys }
     requires numbered { base + length ids.old.items ≡ from + 1 }
     requires next { (s : NestingState) × (ts : List NestedValue) × (first : ℕ)
-        × AreNext text.now (flat parts.now) (trie_of nodes.old.items) ids.old.items base from first s ts }
-    requires represents { RepresentsSome (trie_of nodes.old.items) }
-    ensures stored { OnOk result (IsStored nodes.new.items) }
+        × AreNext text.now (flat parts.now) nodes.old.trie ids.old.items base from first s ts }
+    requires represents { RepresentsSome nodes.old.trie }
     ensures was_read { OnOk result
         (NestedValuesRead text.now
-        (flat parts.now) base from nodes.old.items ids.old.items nodes.new.items ids.new.items) }
+        (flat parts.now) base from nodes.old ids.old.items nodes.new ids.new.items) }
     ensures define { IfErr result
         (λ fault. FaultMeets fault (NestedValuesFault text.now
-        (flat parts.now) base from nodes.old.items ids.old.items)) }
+        (flat parts.now) base from nodes.old ids.old.items)) }
 {
     for number in from..parts.value_count() {
         let value = parts.value(number);

@@ -2,24 +2,21 @@
 ghost use Rattle.std.specs.Prelude.{◌≡◌, ◌<◌, ◌∷◌, ◌++◌, List, ℕ, OnErr, OnOk, if◌then◌else◌, length, string_bytes};
 ghost use Rattle.std.specs.Prelude.{take};
 ghost use Rattle.keep_token.specs.Encoded.{encoded_key};
-ghost use Rattle.keep_rules.specs.Lookup.{parent_at};
 ghost use Rattle.keep_path.specs.PathText.{encoded_path};
-ghost use Rattle.keep_index_store.specs.Stored.{IsStored, trie_of};
-ghost use Rattle.keep_index_store.specs.Trie.{path_at};
+ghost use Rattle.keep_index_store.specs.Trie.{parent_at, path_at};
 
 use crate::queries::ancestors_of;
-use keep_index_store::Nodes;
+use keep_index_store::Tree;
 use keep_path::Step;
 use keep_token::encode_key;
 use std::alloc::{AllocError, Global};
 
 /// Adds the text of a node's path. It takes the memory of the node numbers up to the root: no path is made. If memory
 /// runs out, the text is unchanged.
-pub fn push_path(out: &mut String, nodes: &Nodes, id: usize) -> Result<(), AllocError>
-    requires stored { IsStored nodes.now.items }
-    requires within { id < length nodes.now.items }
+pub fn push_path(out: &mut String, nodes: &Tree, id: usize) -> Result<(), AllocError>
+    requires { id < length nodes.now.trie }
     ensures pushed { OnOk result
-        (string_bytes out.new ≡ string_bytes out.old ++ encoded_path (path_at (trie_of nodes.now.items) id)) }
+        (string_bytes out.new ≡ string_bytes out.old ++ encoded_path (path_at nodes.now.trie id)) }
     ensures refused { OnErr result (string_bytes out.new ≡ string_bytes out.old) }
 {
     let len = out.len();
@@ -31,11 +28,10 @@ pub fn push_path(out: &mut String, nodes: &Nodes, id: usize) -> Result<(), Alloc
 }
 
 /// Adds the text of a node's path, step by step. If memory runs out, the text has grown by the first steps.
-fn push_steps(out: &mut String, nodes: &Nodes, id: usize) -> Result<(), AllocError>
-    requires stored { IsStored nodes.now.items }
-    requires within { id < length nodes.now.items }
+fn push_steps(out: &mut String, nodes: &Tree, id: usize) -> Result<(), AllocError>
+    requires { id < length nodes.now.trie }
     ensures pushed { OnOk result
-        (string_bytes out.new ≡ string_bytes out.old ++ encoded_path (path_at (trie_of nodes.now.items) id)) }
+        (string_bytes out.new ≡ string_bytes out.old ++ encoded_path (path_at nodes.now.trie id)) }
     ensures grown { take (length (string_bytes out.old)) (string_bytes out.new) ≡ string_bytes out.old }
 {
     let alloc = *out.allocator();
@@ -50,23 +46,20 @@ fn push_steps(out: &mut String, nodes: &Nodes, id: usize) -> Result<(), AllocErr
 fn push_last_step(
     alloc: Global,
     out: &mut String,
-    nodes: &Nodes,
+    nodes: &Tree,
     id: usize,
 ) -> Result<(), AllocError>
-    requires stored { IsStored nodes.now.items }
     requires later { 0 < id }
-    requires within { id < length nodes.now.items }
+    requires within { id < length nodes.now.trie }
     ensures pushed { (before : List ℕ)
         → string_bytes out.old ≡ before ++ encoded_path
-        (path_at (trie_of nodes.now.items) (parent_at nodes.now.items id))
-        → OnOk result (string_bytes out.new ≡ before ++ encoded_path (path_at (trie_of nodes.now.items) id)) }
+        (path_at nodes.now.trie (parent_at nodes.now.trie id))
+        → OnOk result (string_bytes out.new ≡ before ++ encoded_path (path_at nodes.now.trie id)) }
     ensures refused { OnErr result (string_bytes out.new ≡ string_bytes out.old) }
 {
-    let parent = nodes.parent(id);
-    let number = nodes.number(id);
-    match nodes.key_at(parent, number) {
-        Some(key) => push_key(alloc, out, key, parent == 0),
-        None => Step::Index(number).push_first(alloc, out),
+    match nodes.key(id) {
+        Some(key) => push_key(alloc, out, key, nodes.parent(id) == 0),
+        None => Step::Index(nodes.number(id)).push_first(alloc, out),
     }
 }
 

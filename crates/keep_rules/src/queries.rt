@@ -1,21 +1,18 @@
 //! Looking up nodes by steps, and paths by nodes.
-ghost use Rattle.std.specs.Prelude.{◌≡◌, ◌<◌, ◌∷◌, ◌++◌, [], IfOk, OnOk, length};
-ghost use Rattle.keep_rules.specs.Lookup.{parent_at, AreAncestors};
-ghost use Rattle.keep_meaning.specs.Nodes.{node_number};
+ghost use Rattle.std.specs.Prelude.{◌≡◌, ◌<◌, IfOk, OnOk, length};
+ghost use Rattle.keep_rules.specs.Lookup.{AreAncestors};
 ghost use Rattle.keep_path.specs.Step.{part_of};
-ghost use Rattle.keep_index_store.specs.Stored.{IsStored, trie_of};
-ghost use Rattle.keep_index_store.specs.Trie.{by_key, holds_at, path_at, paths_of};
+ghost use Rattle.keep_index_store.specs.Tree.{IsChild};
+ghost use Rattle.keep_index_store.specs.Trie.{by_key, holds_at, parent_at, path_at};
 
-use keep_index_store::Nodes;
+use keep_index_store::Tree;
 use keep_path::{Path, Step};
 use std::alloc::{AllocError, Global};
 
 /// The node below another by one step.
-pub fn child_by(nodes: &Nodes, id: usize, step: &Step) -> Option<usize>
-    requires stored { IsStored nodes.now.items }
-    requires within { id < length nodes.now.items }
-    ensures { result ≡ node_number (paths_of (trie_of nodes.now.items))
-        (path_at (trie_of nodes.now.items) id ++ part_of step.now ∷ []) }
+pub fn child_by(nodes: &Tree, id: usize, step: &Step) -> Option<usize>
+    requires { id < length nodes.now.trie }
+    ensures { IsChild nodes.now.trie id (part_of step.now) result }
 {
     match step {
         Step::Key(text) => nodes.child(id, text.as_str()),
@@ -24,11 +21,10 @@ pub fn child_by(nodes: &Nodes, id: usize, step: &Step) -> Option<usize>
 }
 
 /// The path of a node.
-pub fn path_to(alloc: Global, nodes: &Nodes, id: usize) -> Result<Path, AllocError>
-    requires stored { IsStored nodes.now.items }
-    requires rooted { holds_at (trie_of nodes.now.items) 0 ≡ by_key }
-    requires within { id < length nodes.now.items }
-    ensures { IfOk result (λ path. path ≡ path_at (trie_of nodes.now.items) id) }
+pub fn path_to(alloc: Global, nodes: &Tree, id: usize) -> Result<Path, AllocError>
+    requires rooted { holds_at nodes.now.trie 0 ≡ by_key }
+    requires within { id < length nodes.now.trie }
+    ensures { IfOk result (λ path. path ≡ path_at nodes.now.trie id) }
 {
     let mut path = Path::new(alloc);
     let mut ancestors = ancestors_of(alloc, nodes, id)?;
@@ -39,14 +35,9 @@ pub fn path_to(alloc: Global, nodes: &Nodes, id: usize) -> Result<Path, AllocErr
 }
 
 /// A node and its ancestors, up to below the root.
-pub(crate) fn ancestors_of(
-    alloc: Global,
-    nodes: &Nodes,
-    id: usize,
-) -> Result<Vec<usize>, AllocError>
-    requires stored { IsStored nodes.now.items }
-    requires within { id < length nodes.now.items }
-    ensures { IfOk result (λ ancestors. AreAncestors nodes.now.items id ancestors.items 0) }
+pub(crate) fn ancestors_of(alloc: Global, nodes: &Tree, id: usize) -> Result<Vec<usize>, AllocError>
+    requires { id < length nodes.now.trie }
+    ensures { IfOk result (λ ancestors. AreAncestors nodes.now.trie id ancestors.items 0) }
 {
     let mut ancestors = Vec::new(alloc);
     let mut node = id;
@@ -58,17 +49,15 @@ pub(crate) fn ancestors_of(
 }
 
 /// Adds the last step of a node's path to the path of its parent.
-fn push_step(path: &mut Path, nodes: &Nodes, id: usize) -> Result<(), AllocError>
-    requires stored { IsStored nodes.now.items }
-    requires rooted { holds_at (trie_of nodes.now.items) 0 ≡ by_key }
+fn push_step(path: &mut Path, nodes: &Tree, id: usize) -> Result<(), AllocError>
+    requires rooted { holds_at nodes.now.trie 0 ≡ by_key }
     requires later { 0 < id }
-    requires within { id < length nodes.now.items }
-    requires above { path.old ≡ path_at (trie_of nodes.now.items) (parent_at nodes.now.items id) }
-    ensures { OnOk result (path.new ≡ path_at (trie_of nodes.now.items) id) }
+    requires within { id < length nodes.now.trie }
+    requires above { path.old ≡ path_at nodes.now.trie (parent_at nodes.now.trie id) }
+    ensures { OnOk result (path.new ≡ path_at nodes.now.trie id) }
 {
-    let number = nodes.number(id);
-    match nodes.key_at(nodes.parent(id), number) {
+    match nodes.key(id) {
         Some(key) => path.push_key(key),
-        None => path.push_index(number),
+        None => path.push_index(nodes.number(id)),
     }
 }

@@ -1,5 +1,5 @@
 //! Reading the statements of a document, one after another.
-ghost use Rattle.std.specs.Prelude.{◌≡◌, ℕ, List, Some, None, IfOk, OnOk, IfErr};
+ghost use Rattle.std.specs.Prelude.{◌≡◌, ℕ, Some, None, IfOk, OnOk, IfErr};
 ghost use Rattle.keep_syntax_store.specs.Flat.{flat};
 ghost use Rattle.keep_rules.specs.FlatStatements.{MatchesStatement};
 ghost use Rattle.keep_rules.specs.Keys.{AreKeys};
@@ -8,7 +8,6 @@ ghost use Rattle.keep_rules.specs.Plans.{AreReadable};
 ghost use Rattle.keep_rules.specs.ReadStatements.{HasReading, IsReadAsMatched, BreaksAsMatched, head_of};
 ghost use Rattle.keep_rules.specs.Reads.{Reads, FaultsIn};
 ghost use Rattle.keep_rules.specs.Stops.{FaultMeets};
-ghost use Rattle.keep_index_store.specs.Stored.{IsStored, trie_of};
 ghost use Rattle.keep_rules.specs.Tables.{IsShaped};
 ghost use Rattle.keep_rules.specs.AddedInfos.{StatementAdds};
 ghost use Rattle.keep_index_store.specs.Trie.{by_key, holds_at};
@@ -18,29 +17,27 @@ use crate::key_walk::Fault;
 use crate::keys::Keys;
 use crate::kinds::holds_of_leaf;
 use crate::nested_values::{fault_from, push_id, read_nested};
-use keep_index_store::Nodes;
+use keep_index_store::Tree;
 use keep_syntax::{Parts, Statement, StatementKind};
 use keep_types::kind_of;
 
 /// Reads a header of this kind, the statement with that number, and gives the node that it defines or begins.
 fn read_head(
-    nodes: &mut Nodes,
+    nodes: &mut Tree,
     keys: Keys<'_>,
     kind: StatementKind,
     number: usize,
 ) -> Result<usize, Fault>
-    requires stored { IsStored nodes.old.items }
-    requires shaped { IsShaped (trie_of nodes.old.items) }
-    requires rooted { holds_at (trie_of nodes.old.items) 0 ≡ by_key }
+    requires shaped { IsShaped nodes.old.trie }
+    requires rooted { holds_at nodes.old.trie 0 ≡ by_key }
     requires keys { AreKeys keys }
-    ensures stored { OnOk result (IsStored nodes.new.items) }
     ensures ok { IfOk result (λ to. (body : ℕ)
-        → Reads (trie_of nodes.old.items) body (trie_of nodes.new.items) to (head_of kind keys.entry)) }
-    ensures facts { IfOk result (λ to. StatementAdds nodes.old.items nodes.new.items keys.entry.first number
+        → Reads nodes.old.trie body nodes.new.trie to (head_of kind keys.entry)) }
+    ensures facts { IfOk result (λ to. StatementAdds nodes.old nodes.new keys.entry.first number
         (head_of kind keys.entry)) }
     ensures define { IfErr result
         (λ fault. FaultMeets fault (λ at why. (body : ℕ)
-        → FaultsIn (trie_of nodes.old.items) body (head_of kind keys.entry) at why)) }
+        → FaultsIn nodes.old.trie body (head_of kind keys.entry) at why)) }
 {
     match kind {
         StatementKind::Element => element(nodes, keys, number),
@@ -50,24 +47,22 @@ fn read_head(
 
 /// Reads the header with that number, and gives the node that it defines or begins.
 fn read_header(
-    nodes: &mut Nodes,
+    nodes: &mut Tree,
     text: &str,
     parts: &Parts,
     number: usize,
     statement: Statement,
 ) -> Result<usize, Fault>
-    requires stored { IsStored nodes.old.items }
     requires readable { AreReadable text.now (flat parts.now).keys }
     requires matches { (s : marks.Statement)
         × MatchesStatement text.now (flat parts.now).keys (flat parts.now).values statement s }
-    requires reading { (body : ℕ) × HasReading (trie_of nodes.old.items) body }
+    requires reading { (body : ℕ) × HasReading nodes.old.trie body }
     requires head { statement.value ≡ None }
-    ensures stored { OnOk result (IsStored nodes.new.items) }
     ensures read { IfOk result (λ to. (body : ℕ)
-        → IsReadAsMatched text.now (flat parts.now) number statement nodes.old.items body nodes.new.items to) }
+        → IsReadAsMatched text.now (flat parts.now) number statement nodes.old body nodes.new to) }
     ensures define { IfErr result
         (λ fault. FaultMeets fault (λ at why. (body : ℕ)
-        → BreaksAsMatched text.now (flat parts.now) statement nodes.old.items body at why)) }
+        → BreaksAsMatched text.now (flat parts.now) statement nodes.old body at why)) }
 {
     let keys = Keys {
         text,
@@ -84,7 +79,7 @@ fn read_header(
 /// Reads a keyval of the body at that node, whose value has the number `number`. `ids` is a buffer for the nodes of the
 /// values in it.
 fn read_keyval(
-    nodes: &mut Nodes,
+    nodes: &mut Tree,
     ids: &mut Vec<usize>,
     text: &str,
     parts: &Parts,
@@ -92,17 +87,15 @@ fn read_keyval(
     number: usize,
     statement: Statement,
 ) -> Result<(), Fault>
-    requires stored { IsStored nodes.old.items }
     requires readable { AreReadable text.now (flat parts.now).keys }
     requires matches { (s : marks.Statement)
         × MatchesStatement text.now (flat parts.now).keys (flat parts.now).values statement s }
-    requires reading { HasReading (trie_of nodes.old.items) body }
+    requires reading { HasReading nodes.old.trie body }
     requires valued { statement.value ≡ Some number }
-    ensures stored { OnOk result (IsStored nodes.new.items) }
     ensures read { OnOk result ((n : ℕ) → IsReadAsMatched text.now
-        (flat parts.now) n statement nodes.old.items body nodes.new.items body) }
+        (flat parts.now) n statement nodes.old body nodes.new body) }
     ensures define { IfErr result
-        (λ fault. FaultMeets fault (BreaksAsMatched text.now (flat parts.now) statement nodes.old.items body)) }
+        (λ fault. FaultMeets fault (BreaksAsMatched text.now (flat parts.now) statement nodes.old body)) }
 {
     let value = parts.value(number);
     let keys = Keys {
@@ -126,7 +119,7 @@ fn read_keyval(
 /// Reads the statement with that number in the body at that node, and gives the node of the body after it. `ids` is a
 /// buffer for the nodes of the values in one statement.
 pub fn read_statement(
-    nodes: &mut Nodes,
+    nodes: &mut Tree,
     ids: &mut Vec<usize>,
     text: &str,
     parts: &Parts,
@@ -134,16 +127,14 @@ pub fn read_statement(
     number: usize,
     statement: Statement,
 ) -> Result<usize, Fault>
-    requires stored { IsStored nodes.old.items }
     requires readable { AreReadable text.now (flat parts.now).keys }
     requires matches { (s : marks.Statement)
         × MatchesStatement text.now (flat parts.now).keys (flat parts.now).values statement s }
-    requires reading { HasReading (trie_of nodes.old.items) body }
-    ensures stored { OnOk result (IsStored nodes.new.items) }
+    requires reading { HasReading nodes.old.trie body }
     ensures read { IfOk result (λ to. IsReadAsMatched text.now
-        (flat parts.now) number statement nodes.old.items body nodes.new.items to) }
+        (flat parts.now) number statement nodes.old body nodes.new to) }
     ensures define { IfErr result
-        (λ fault. FaultMeets fault (BreaksAsMatched text.now (flat parts.now) statement nodes.old.items body)) }
+        (λ fault. FaultMeets fault (BreaksAsMatched text.now (flat parts.now) statement nodes.old body)) }
 {
     match statement.value {
         Some(value) => {

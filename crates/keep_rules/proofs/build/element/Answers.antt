@@ -9,18 +9,16 @@ use Rattle.keep_rules.specs.Reads.{Reads, FaultsIn}
 use Rattle.keep_rules.specs.Represents.{Begins, StopsAt}
 use Rattle.keep_rules.specs.Statements.{element_of}
 use Rattle.keep_rules.specs.Stops.{FaultMeets}
-use Rattle.keep_index_store.specs.Stored.{trie_of}
 use Rattle.keep_rules.proofs.BuildLemmas.{stops_weaker, element_walk_stops, element_read, element_stops, element_all_added}
 use Rattle.keep_rules.proofs.build.element.Goals as goal
 
 pub returns-in_err-parent : goal.returns-in_err-parent
 returns-in_err-parent c =
     let p = err_from_is_err_and c.from_residual.result c.from_residual.ensures.1 in
-    rw (p.1, p.2) (record { stored = tt; ok = tt; facts = tt; define = element_walk_stops c.args.keys c.requires.keys (trie_of c.args.nodes.now.items) _ c.in_err-parent.ensures.define })
+    rw (p.1, p.2) (record { ok = tt; facts = tt; define = element_walk_stops c.args.keys c.requires.keys c.args.nodes.now.trie _ c.in_err-parent.ensures.define })
 
 pub begin-requires : goal.begin-requires
 begin-requires c = record {
-  stored = c.in_ok-parent.ensures.stored;
   shaped = c.in_ok-parent.ensures.shaped;
   within = c.in_ok-parent.ensures.nested;
   keyed = c.in_ok-parent.ensures.keyed;
@@ -29,19 +27,18 @@ begin-requires c = record {
 
 pub returns : goal.returns
 returns c =
-    let old = c.args.nodes.now.items in
-    let mid = c.walk_header.new.nodes.items in
-    let new = c.begin.new.nodes.items in
+    let old = c.args.nodes.now in
+    let mid = c.walk_header.new.nodes in
+    let new = c.begin.new.nodes in
     let keys = c.args.keys in
     let parent = c.in_ok-parent.parent in
-    let p = path_at (trie_of mid) parent ++ key (last_text keys) ∷ [] in
+    let p = path_at mid.trie parent ++ key (last_text keys) ∷ [] in
     record {
-      stored = c.begin.ensures.stored;
-      ok = IfOk-weaker c.begin.result (λ to. Begins (trie_of mid) (trie_of new) parent to (last_text keys)) (λ to. (body : ℕ) → Reads (trie_of old) body (trie_of new) to (element_of keys))
-          (λ to begun. element_read keys c.requires.keys (last_text keys) refl (trie_of old) (trie_of mid) (trie_of new) parent to c.in_ok-parent.ensures.ok begun) c.begin.ensures.ok;
+      ok = IfOk-weaker c.begin.result (λ to. Begins mid.trie new.trie parent to (last_text keys)) (λ to. (body : ℕ) → Reads old.trie body new.trie to (element_of keys))
+          (λ to begun. element_read keys c.requires.keys (last_text keys) refl old.trie mid.trie new.trie parent to c.in_ok-parent.ensures.ok begun) c.begin.ensures.ok;
       facts = on_ok_weaker c.begin.result (λ (last : HeaderAdds mid new (keys.first + (keys.count - 1)) c.args.statement (begin_mentions p)). element_all_added keys c.requires.keys (last_text keys) refl old mid new parent c.args.statement
           c.in_ok-parent.ensures.ok c.in_ok-parent.ensures.facts last) c.begin.ensures.facts;
-      define = IfErr-weaker c.begin.result (λ fault. FaultMeets fault (StopsAt (trie_of mid) p Element (keys.count - 1))) (λ fault. FaultMeets fault (λ n w. (body : ℕ) → FaultsIn (trie_of old) body (element_of keys) n w))
-          (λ fault stop. stops_weaker fault (trie_of mid) p Element (keys.count - 1) (λ n w. (body : ℕ) → FaultsIn (trie_of old) body (element_of keys) n w)
-          (λ was. element_stops keys c.requires.keys (last_text keys) refl (trie_of old) (trie_of mid) parent c.in_ok-parent.ensures.ok was) stop) c.begin.ensures.define;
+      define = IfErr-weaker c.begin.result (λ fault. FaultMeets fault (StopsAt mid.trie p Element (keys.count - 1))) (λ fault. FaultMeets fault (λ n w. (body : ℕ) → FaultsIn old.trie body (element_of keys) n w))
+          (λ fault stop. stops_weaker fault mid.trie p Element (keys.count - 1) (λ n w. (body : ℕ) → FaultsIn old.trie body (element_of keys) n w)
+          (λ was. element_stops keys c.requires.keys (last_text keys) refl old.trie mid.trie parent c.in_ok-parent.ensures.ok was) stop) c.begin.ensures.define;
     }

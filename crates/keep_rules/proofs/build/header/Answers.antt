@@ -11,7 +11,6 @@ use Rattle.keep_rules.specs.Reads.{Reads, FaultsIn}
 use Rattle.keep_rules.specs.Represents.{IsMarked, StopsAt}
 use Rattle.keep_rules.specs.Statements.{header_of}
 use Rattle.keep_rules.specs.Stops.{FaultMeets}
-use Rattle.keep_index_store.specs.Stored.{trie_of}
 use Rattle.keep_rules.specs.AddedInfos.{AddsInfo}
 use Rattle.keep_index_store.specs.Trie.{by_key, path_at}
 use Rattle.keep_rules.proofs.BuildLemmas.{stops_weaker, header_walk_stops, header_read, header_stops, header_all_added}
@@ -22,11 +21,10 @@ use Rattle.keep_rules.proofs.build.header.Goals as goal
 pub returns-in_err-parent : goal.returns-in_err-parent
 returns-in_err-parent c =
     let p = err_from_is_err_and c.from_residual.result c.from_residual.ensures.1 in
-    rw (p.1, p.2) (record { stored = tt; ok = tt; facts = tt; define = header_walk_stops c.args.keys c.requires.keys (trie_of c.args.nodes.now.items) _ c.in_err-parent.ensures.define })
+    rw (p.1, p.2) (record { ok = tt; facts = tt; define = header_walk_stops c.args.keys c.requires.keys c.args.nodes.now.trie _ c.in_err-parent.ensures.define })
 
 pub mark_key-requires : goal.mark_key-requires
 mark_key-requires c = record {
-  stored = c.in_ok-parent.ensures.stored;
   shaped = c.in_ok-parent.ensures.shaped;
   within = c.in_ok-parent.ensures.nested;
   keyed = c.in_ok-parent.ensures.keyed;
@@ -37,20 +35,19 @@ mark_key-requires c = record {
 
 pub returns : goal.returns
 returns c =
-    let old = c.args.nodes.now.items in
-    let mid = c.walk_header.new.nodes.items in
-    let new = c.mark_key.new.nodes.items in
+    let old = c.args.nodes.now in
+    let mid = c.walk_header.new.nodes in
+    let new = c.mark_key.new.nodes in
     let keys = c.args.keys in
     let parent = c.in_ok-parent.parent in
-    let p = path_at (trie_of mid) parent ++ key (last_text keys) ∷ [] in
+    let p = path_at mid.trie parent ++ key (last_text keys) ∷ [] in
     record {
-      stored = c.mark_key.ensures.stored;
-      ok = IfOk-weaker c.mark_key.result (λ to. IsMarked (trie_of mid) (trie_of new) p Define by_key to) (λ to. (body : ℕ) → Reads (trie_of old) body (trie_of new) to (header_of keys))
-          (λ to marked. header_read keys c.requires.keys (last_text keys) refl (trie_of old) (trie_of mid) (trie_of new) parent to c.in_ok-parent.ensures.ok marked) c.mark_key.ensures.ok;
+      ok = IfOk-weaker c.mark_key.result (λ to. IsMarked mid.trie new.trie p Define by_key to) (λ to. (body : ℕ) → Reads old.trie body new.trie to (header_of keys))
+          (λ to marked. header_read keys c.requires.keys (last_text keys) refl old.trie mid.trie new.trie parent to c.in_ok-parent.ensures.ok marked) c.mark_key.ensures.ok;
       facts = on_ok_weaker c.mark_key.result (λ (one : AddsInfo mid new p (info_of c.named-facts.result)). header_all_added keys c.requires.keys (last_text keys) refl old mid new parent c.args.statement c.in_ok-parent.ensures.ok c.in_ok-parent.ensures.facts
           (define_added mid new p (keys.first + (keys.count - 1)) c.args.statement
           (subst (λ (i : NodeInfo). AddsInfo mid new p i) (c.named-facts.ensures ∙ ap (λ n. named_info kind.Table n (origin.Header c.args.statement)) c.part_number-part.ensures) one))) c.mark_key.ensures.facts;
-      define = IfErr-weaker c.mark_key.result (λ fault. FaultMeets fault (StopsAt (trie_of mid) p Define (keys.count - 1))) (λ fault. FaultMeets fault (λ n w. (body : ℕ) → FaultsIn (trie_of old) body (header_of keys) n w))
-          (λ fault stop. stops_weaker fault (trie_of mid) p Define (keys.count - 1) (λ n w. (body : ℕ) → FaultsIn (trie_of old) body (header_of keys) n w)
-          (λ was. header_stops keys c.requires.keys (last_text keys) refl (trie_of old) (trie_of mid) parent c.in_ok-parent.ensures.ok was) stop) c.mark_key.ensures.define;
+      define = IfErr-weaker c.mark_key.result (λ fault. FaultMeets fault (StopsAt mid.trie p Define (keys.count - 1))) (λ fault. FaultMeets fault (λ n w. (body : ℕ) → FaultsIn old.trie body (header_of keys) n w))
+          (λ fault stop. stops_weaker fault mid.trie p Define (keys.count - 1) (λ n w. (body : ℕ) → FaultsIn old.trie body (header_of keys) n w)
+          (λ was. header_stops keys c.requires.keys (last_text keys) refl old.trie mid.trie parent c.in_ok-parent.ensures.ok was) stop) c.mark_key.ensures.define;
     }

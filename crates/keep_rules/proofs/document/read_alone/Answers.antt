@@ -15,9 +15,8 @@ use Rattle.keep_rules.proofs.document.read_alone.Goals as goal
 
 pub read_inside-requires : goal.read_inside-requires
 read_inside-requires c =
-    let root = c.in_ok-nodes.nodes.items in
+    let root = c.in_ok-nodes.nodes in
     record {
-      stored = c.in_ok-nodes.ensures.stored;
       shaped = (rooted_represents root _ c.in_ok-nodes.ensures).shaped;
       readable = λ n p at.
           value_syntax_readable c.args.syntax.now c.args.text.now c.requires.1.profile c.requires.0 c.utf8.text c.requires.1.reads.valid c.requires.1.reads.spelled c.requires.1.is n p
@@ -39,18 +38,18 @@ returns-in_err-nodes c =
 pub returns-in-Ok : goal.returns-in-Ok
 returns-in-Ok c = record {
   ok = λ (v : Value) (was : WasReadAlone c.args.text.now c.args.syntax.now v).
-      alone_obeys c.args.text.now was.profile v was.reads.valid was.reads.spelled (flat c.parts-parts.result.now) (ap (λ p. (flat p).keys) c.parts-parts.ensures ∙ was.is.parts) (ap (λ p. (flat p).values) c.parts-parts.ensures ∙ was.is.values) c.in_ok-nodes.nodes.items c.value.result (ap (λ p. slice_get (flat p).values 0) c.parts-parts.ensures ∙ c.value.ensures.stored) _ c.holds_of_leaf-holds.ensures c.in_ok-nodes.ensures c.read_inside.new.nodes.items c.in-Ok.ensures.was_read.0
+      alone_obeys c.args.text.now was.profile v was.reads.valid was.reads.spelled (flat c.parts-parts.result.now) (ap (λ p. (flat p).keys) c.parts-parts.ensures ∙ was.is.parts) (ap (λ p. (flat p).values) c.parts-parts.ensures ∙ was.is.values) c.in_ok-nodes.nodes c.value.result (ap (λ p. slice_get (flat p).values 0) c.parts-parts.ensures ∙ c.value.ensures.stored) _ c.holds_of_leaf-holds.ensures c.in_ok-nodes.ensures c.read_inside.new.nodes c.in-Ok.ensures.was_read.0
       c.in-Ok.ensures.was_read.1;
   faults = tt;
 }
 
 pub read_fault-requires : goal.read_fault-requires
 read_fault-requires c =
-    alone_within c.args.text.now c.requires.1.profile c.requires.0 c.requires.1.reads.valid c.requires.1.reads.spelled (flat c.parts-parts.result.now) (ap (λ p. (flat p).keys) c.parts-parts.ensures ∙ c.requires.1.is.parts) (ap (λ p. (flat p).values) c.parts-parts.ensures ∙ c.requires.1.is.values) c.in_ok-nodes.nodes.items c.value.result (ap (λ p. slice_get (flat p).values 0) c.parts-parts.ensures ∙ c.value.ensures.stored) _ c.holds_of_leaf-holds.ensures c.in_ok-nodes.ensures c.in-Err.fault c.in-Err.ensures.define
+    alone_within c.args.text.now c.requires.1.profile c.requires.0 c.requires.1.reads.valid c.requires.1.reads.spelled (flat c.parts-parts.result.now) (ap (λ p. (flat p).keys) c.parts-parts.ensures ∙ c.requires.1.is.parts) (ap (λ p. (flat p).values) c.parts-parts.ensures ∙ c.requires.1.is.values) c.in_ok-nodes.nodes c.value.result (ap (λ p. slice_get (flat p).values 0) c.parts-parts.ensures ∙ c.value.ensures.stored) _ c.holds_of_leaf-holds.ensures c.in_ok-nodes.ensures c.in-Err.fault c.in-Err.ensures.define
 
 pub returns : goal.returns
 returns c = record {
   ok = tt;
   faults = λ (v : Value) (was : WasReadAlone c.args.text.now c.args.syntax.now v).
-      alone_refused c.args.text.now was.profile v was.reads.valid was.reads.spelled (flat c.parts-parts.result.now) (ap (λ p. (flat p).keys) c.parts-parts.ensures ∙ was.is.parts) (ap (λ p. (flat p).values) c.parts-parts.ensures ∙ was.is.values) c.in_ok-nodes.nodes.items c.value.result (ap (λ p. slice_get (flat p).values 0) c.parts-parts.ensures ∙ c.value.ensures.stored) _ c.holds_of_leaf-holds.ensures c.in_ok-nodes.ensures c.in-Err.fault c.read_fault.result c.read_fault.ensures c.in-Err.ensures.define;
+      alone_refused c.args.text.now was.profile v was.reads.valid was.reads.spelled (flat c.parts-parts.result.now) (ap (λ p. (flat p).keys) c.parts-parts.ensures ∙ was.is.parts) (ap (λ p. (flat p).values) c.parts-parts.ensures ∙ was.is.values) c.in_ok-nodes.nodes c.value.result (ap (λ p. slice_get (flat p).values 0) c.parts-parts.ensures ∙ c.value.ensures.stored) _ c.holds_of_leaf-holds.ensures c.in_ok-nodes.ensures c.in-Err.fault c.read_fault.result c.read_fault.ensures c.in-Err.ensures.define;
 }

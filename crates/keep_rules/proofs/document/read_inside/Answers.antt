@@ -3,7 +3,6 @@ use Rattle.std.proofs.Common.{◌≡◌, ℕ, ◌+◌, List, [], ◌∷◌, ◌+
 use Rattle.std.specs.Prelude.{IfErr}
 use Rattle.std.proofs.lemmas.Result.{err_from_is_err_and, on_ok_weaker}
 use Rattle.keep_syntax_store.specs.Flat.{flat}
-use Rattle.keep_index_store.specs.Stored.{trie_of}
 use Rattle.keep_rules.specs.NestedValues.{NestingState, NestedValue}
 use Rattle.keep_rules.specs.Plans.{AreNext, NestedValuesRead, NestedValuesFault}
 use Rattle.keep_rules.specs.Stops.{FaultMeets}
@@ -20,21 +19,20 @@ returns-in_err-push_id c =
 
 pub read_nested-requires : goal.read_nested-requires
 read_nested-requires c = record {
-  stored = c.requires.stored;
   shaped = c.requires.shaped;
   readable = c.requires.readable;
   numbered = ap (λ (ids : List ℕ). 1 + length ids) (sym (one (goal.at.read_nested-requires c).In_ok-push_id));
-  next = subst (λ (ids : List ℕ). (s : NestingState) × (ts : List NestedValue) × (first : ℕ) × AreNext c.args.text.now (flat c.args.parts.now) (trie_of c.args.nodes.now.items) ids 1 1 first s ts) (one (goal.at.read_nested-requires c).In_ok-push_id) c.requires.next;
+  next = subst (λ (ids : List ℕ). (s : NestingState) × (ts : List NestedValue) × (first : ℕ) × AreNext c.args.text.now (flat c.args.parts.now) c.args.nodes.now.trie ids 1 1 first s ts) (one (goal.at.read_nested-requires c).In_ok-push_id) c.requires.next;
   represents = c.requires.represents;
 }
 
 pub returns : goal.returns
 returns c =
-    let old = c.args.nodes.now.items in
+    let old = c.args.nodes.now in
     let text = c.args.text.now in
     let f = flat c.args.parts.now in
     record {
-      was_read = on_ok_weaker c.read_nested.result (λ (was : NestedValuesRead text f 1 1 old c.push_id.new.ids.items c.read_nested.new.nodes.items c.read_nested.new.ids.items).
-          (c.read_nested.new.ids.items, subst (λ (ids : List ℕ). NestedValuesRead text f 1 1 old ids c.read_nested.new.nodes.items c.read_nested.new.ids.items) (sym (one (goal.at.returns c).In_ok-push_id)) was)) c.read_nested.ensures.was_read;
+      was_read = on_ok_weaker c.read_nested.result (λ (was : NestedValuesRead text f 1 1 old c.push_id.new.ids.items c.read_nested.new.nodes c.read_nested.new.ids.items).
+          (c.read_nested.new.ids.items, subst (λ (ids : List ℕ). NestedValuesRead text f 1 1 old ids c.read_nested.new.nodes c.read_nested.new.ids.items) (sym (one (goal.at.returns c).In_ok-push_id)) was)) c.read_nested.ensures.was_read;
       define = subst (λ (ids : List ℕ). IfErr c.read_nested.result (λ fault. FaultMeets fault (NestedValuesFault text f 1 1 old ids))) (sym (one (goal.at.returns c).In_ok-push_id)) c.read_nested.ensures.define;
     }

@@ -4,7 +4,6 @@ use Rattle.std.proofs.lemmas.Result.{err_from_is_err_and}
 use Rattle.keep_path.specs.Path.{key}
 use Rattle.keep_index_store.specs.Children.{holding}
 use Rattle.keep_index_store.specs.Facts.{info_of}
-use Rattle.keep_index_store.specs.Stored.{trie_of}
 use Rattle.keep_index_store.specs.Trie.{path_at}
 use Rattle.keep_rules.specs.AddedInfos.{AddsInfo}
 use Rattle.keep_rules.specs.Keys.{key_text_at}
@@ -15,30 +14,28 @@ use Rattle.keep_rules.proofs.key_walk.mark_key.Goals as goal
 pub returns-in_err-text : goal.returns-in_err-text
 returns-in_err-text c =
     let p = err_from_is_err_and c.from_residual.result c.from_residual.ensures.1 in
-    rw (p.1, p.2) (record { stored = tt; ok = tt; facts = tt; define = tt })
+    rw (p.1, p.2) (record { ok = tt; facts = tt; define = tt })
 
 pub mark-requires : goal.mark-requires
-mark-requires c = record { stored = c.requires.stored; shaped = c.requires.shaped; within = c.requires.within; keyed = c.requires.keyed; fits = c.requires.fits }
+mark-requires c = record { shaped = c.requires.shaped; within = c.requires.within; keyed = c.requires.keyed; fits = c.requires.fits }
 
 pub returns-in-Ok : goal.returns-in-Ok
 returns-in-Ok c =
-    let old = c.args.nodes.now.items in
-    let new = c.mark.new.nodes.items in
+    let old = c.args.nodes.now in
+    let new = c.mark.new.nodes in
     let is : c.as_str.result.now ≡ key_text_at c.args.keys c.args.number = c.as_str.ensures ∙ c.in_ok-text.ensures in
     record {
-      stored = c.in-Ok.ensures.stored;
-      ok = subst (λ (t : List ℕ). IsMarked (trie_of old) (trie_of new) (path_at (trie_of old) c.args.parent ++ key t ∷ []) c.args.role (holding c.args.holds) c.in-Ok.to) is c.in-Ok.ensures.ok;
-      facts = subst (λ (t : List ℕ). AddsInfo old new (path_at (trie_of old) c.args.parent ++ key t ∷ []) (info_of c.args.facts)) is c.in-Ok.ensures.facts;
+      ok = subst (λ (t : List ℕ). IsMarked old.trie new.trie (path_at old.trie c.args.parent ++ key t ∷ []) c.args.role (holding c.args.holds) c.in-Ok.to) is c.in-Ok.ensures.ok;
+      facts = subst (λ (t : List ℕ). AddsInfo old new (path_at old.trie c.args.parent ++ key t ∷ []) (info_of c.args.facts)) is c.in-Ok.ensures.facts;
       define = tt;
     }
 
 pub returns : goal.returns
 returns c =
-    let old = trie_of c.args.nodes.now.items in
+    let old = c.args.nodes.now.trie in
     let p = path_at old c.args.parent ++ key (key_text_at c.args.keys c.args.number) ∷ [] in
     let is : c.as_str.result.now ≡ key_text_at c.args.keys c.args.number = c.as_str.ensures ∙ c.in_ok-text.ensures in
     record {
-      stored = tt;
       ok = tt;
       facts = tt;
       define = meets_fault c.in-Err.stop c.args.number c.why_of.result c.fault_of.result (StopsAt old p c.args.role c.args.number) c.fault_of.ensures (λ stops. record {

@@ -7,9 +7,8 @@ use Rattle.keep_rules.proofs.nested_values.read_nested.Goals as goal
 
 pub loop-number-init : goal.loop-number-init
 loop-number-init c = record {
-  stored = c.requires.stored;
   numbered = c.requires.numbered;
-  underway = begin_underway c.args.text.now (flat c.args.parts.now) c.args.base c.args.from c.args.nodes.now.items c.args.ids.now.items c.requires.shaped;
+  underway = begin_underway c.args.text.now (flat c.args.parts.now) c.args.base c.args.from c.args.nodes.now c.args.ids.now.items c.requires.shaped;
 }
 
 pub returns-in-Line-clause-was_read : goal.returns-in-Line-clause-was_read
@@ -21,13 +20,12 @@ pub read_value-requires : goal.read_value-requires
 read_value-requires c =
     let there : IsThere (flat c.args.parts.now).values c.loop-number.number c.value-value.result = record { listed = c.value-value.ensures; nested = other_nested c.value-value.result.owner c.in_default.not-Line } in
     record {
-      stored = c.loop-number.invariant.stored;
-      shaped = some_shaped c.args.text.now (flat c.args.parts.now) c.args.base c.args.from _ _ c.loop-number.nodes.items c.loop-number.ids.items c.loop-number.number c.loop-number.invariant.underway c.requires.next;
+      shaped = some_shaped c.args.text.now (flat c.args.parts.now) c.args.base c.args.from _ _ c.loop-number.nodes c.loop-number.ids.items c.loop-number.number c.loop-number.invariant.underway c.requires.next;
       readable = c.requires.readable;
       numbered = ap (λ l. c.args.base + length l) c.as_slice.ensures.value ∙ c.loop-number.invariant.numbered;
-      next = some_next_seen c.args.text.now (flat c.args.parts.now) c.args.base c.args.from _ _ c.loop-number.nodes.items c.loop-number.ids.items c.as_slice.result.now c.loop-number.number c.value-value.result c.as_slice.ensures.value there
+      next = some_next_seen c.args.text.now (flat c.args.parts.now) c.args.base c.args.from _ _ c.loop-number.nodes c.loop-number.ids.items c.as_slice.result.now c.loop-number.number c.value-value.result c.as_slice.ensures.value there
           c.loop-number.invariant.underway c.requires.next;
-      represents = represents_some c.args.text.now (flat c.args.parts.now) c.args.base c.args.from _ _ c.loop-number.nodes.items c.loop-number.ids.items c.loop-number.number c.loop-number.invariant.underway c.requires.next c.requires.represents;
+      represents = represents_some c.args.text.now (flat c.args.parts.now) c.args.base c.args.from _ _ c.loop-number.nodes c.loop-number.ids.items c.loop-number.number c.loop-number.invariant.underway c.requires.next c.requires.represents;
     }
 
 pub returns-in_err-id : goal.returns-in_err-id
@@ -35,9 +33,8 @@ returns-in_err-id c =
     let p = err_from_is_err_and c.from_residual.result c.from_residual.ensures.1 in
     let there : IsThere (flat c.args.parts.now).values c.loop-number.number c.value-value.result = record { listed = c.value-value.ensures; nested = other_nested c.value-value.result.owner c.in_default.not-Line } in
     rw (p.1, p.2) (record {
-      stored = tt;
       was_read = tt;
-      define = underway_faults_seen c.args.text.now (flat c.args.parts.now) c.args.base c.args.from c.args.nodes.now.items c.args.ids.now.items c.loop-number.nodes.items c.loop-number.ids.items c.as_slice.result.now c.loop-number.number
+      define = underway_faults_seen c.args.text.now (flat c.args.parts.now) c.args.base c.args.from c.args.nodes.now c.args.ids.now.items c.loop-number.nodes c.loop-number.ids.items c.as_slice.result.now c.loop-number.number
           c.value-value.result _ c.as_slice.ensures.value there c.loop-number.invariant.underway c.in_err-id.ensures.define;
     })
 
@@ -45,10 +42,9 @@ pub loop-number-preserved : goal.loop-number-preserved
 loop-number-preserved c =
     let there : IsThere (flat c.args.parts.now).values c.loop-number.number c.value-value.result = record { listed = c.value-value.ensures; nested = other_nested c.value-value.result.owner c.in_default.not-Line } in
     record {
-      stored = c.in_ok-id.ensures.stored;
       numbered = omega (arith, c.loop-number.invariant.numbered, ap length c.in_ok-push_id.ensures, length-append c.loop-number.ids.items (c.in_ok-id.id ∷ []));
-      underway = underway_more_seen c.args.text.now (flat c.args.parts.now) c.args.base c.args.from c.args.nodes.now.items c.args.ids.now.items c.loop-number.nodes.items c.loop-number.ids.items c.as_slice.result.now
-          c.read_value.new.nodes.items c.push_id.new.ids.items c.in_ok-id.id c.loop-number.number c.value-value.result c.as_slice.ensures.value c.in_ok-push_id.ensures there c.loop-number.invariant.underway c.in_ok-id.ensures.was_read;
+      underway = underway_more_seen c.args.text.now (flat c.args.parts.now) c.args.base c.args.from c.args.nodes.now c.args.ids.now.items c.loop-number.nodes c.loop-number.ids.items c.as_slice.result.now
+          c.read_value.new.nodes c.push_id.new.ids.items c.in_ok-id.id c.loop-number.number c.value-value.result c.as_slice.ensures.value c.in_ok-push_id.ensures there c.loop-number.invariant.underway c.in_ok-id.ensures.was_read;
     }
 
 pub returns-clause-was_read : goal.returns-clause-was_read

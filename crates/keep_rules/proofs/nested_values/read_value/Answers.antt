@@ -12,9 +12,9 @@ use Rattle.keep_rules.proofs.nested_values.read_value.Goals.{In-Item, In-Inline}
 
 -- the node that the value is in
 
-array_place : (c : In-Item) → IsPlace c.args.nodes.now.items c.args.ids.now c.args.base c.in-Item.array by_index
+array_place : (c : In-Item) → IsPlace c.args.nodes.now c.args.ids.now c.args.base c.in-Item.array by_index
 array_place c =
-    some_item_place c.args.text.now (flat c.args.parts.now).keys c.args.nodes.now.items c.args.ids.now c.args.base c.args.value c.in-Item.array c.in-Item.is c.requires.next
+    some_item_place c.args.text.now (flat c.args.parts.now).keys c.args.nodes.now c.args.ids.now c.args.base c.args.value c.in-Item.array c.in-Item.is c.requires.next
 
 pub overflow_add-at : goal.overflow_add-at
 overflow_add-at c = let place = array_place (goal.at.overflow_add-at c).In-Item in omega (arith, place.high, c.requires.numbered)
@@ -28,11 +28,11 @@ bounds-ids-array c = let place = array_place (goal.at.bounds-ids-array c).In-Ite
 pub give_item-requires : goal.give_item-requires
 give_item-requires c =
     let place = array_place (goal.at.give_item-requires c).In-Item in
-    record { stored = c.requires.stored; shaped = c.requires.shaped; within = place.within; listed = place.held; plain = place.plain }
+    record { shaped = c.requires.shaped; within = place.within; listed = place.held; plain = place.plain }
 
-table_place : (c : In-Inline) → IsPlace c.args.nodes.now.items c.args.ids.now c.args.base c.in-Inline.table by_key
+table_place : (c : In-Inline) → IsPlace c.args.nodes.now c.args.ids.now c.args.base c.in-Inline.table by_key
 table_place c =
-    some_keyed_place c.args.text.now (flat c.args.parts.now).keys c.args.nodes.now.items c.args.ids.now c.args.base c.args.value c.in-Inline.table c.in-Inline.is c.requires.next
+    some_keyed_place c.args.text.now (flat c.args.parts.now).keys c.args.nodes.now c.args.ids.now c.args.base c.args.value c.in-Inline.table c.in-Inline.is c.requires.next
 
 pub overflow_add-at-in-Inline : goal.overflow_add-at-in-Inline
 overflow_add-at-in-Inline c = let place = table_place (goal.at.overflow_add-at-in-Inline c).In-Inline in omega (arith, place.high, c.requires.numbered)
@@ -47,7 +47,6 @@ pub give_value-requires : goal.give_value-requires
 give_value-requires c =
     let place = table_place (goal.at.give_value-requires c).In-Inline in
     record {
-      stored = c.requires.stored;
       shaped = c.requires.shaped;
       within = place.within;
       keyed = place.held;
@@ -59,7 +58,7 @@ give_value-requires c =
 pub returns-in_err-give_item-in-Item : goal.returns-in_err-give_item-in-Item
 returns-in_err-give_item-in-Item c =
     let p = err_from_is_err_and c.from_residual.result c.from_residual.ensures.1 in
-    rw (p.1, p.2) (record { stored = tt; was_read = tt; define = tt })
+    rw (p.1, p.2) (record { was_read = tt; define = tt })
 
 own_keys : In-Inline → Keys
 own_keys c = record { text = c.args.text; parts = c.args.parts; first = c.args.value.first_key; count = c.args.value.keys }
@@ -86,5 +85,5 @@ returns-in-Ok-clause-was_read c =
 pub returns-in-Err-clause-define : goal.returns-in-Err-clause-define
 unfolding own_keys
 returns-in-Err-clause-define c =
-    keyed_fault_meets c.args.text.now (flat c.args.parts.now) c.args.base c.args.value c.args.nodes.now.items c.args.ids.now (key_texts (own_keys (goal.at.returns-in-Err-clause-define c).In-Inline)) c.in-Inline.table _ c.in-Err.fault c.fault_from.result
+    keyed_fault_meets c.args.text.now (flat c.args.parts.now) c.args.base c.args.value c.args.nodes.now c.args.ids.now (key_texts (own_keys (goal.at.returns-in-Err-clause-define c).In-Inline)) c.in-Inline.table _ c.in-Err.fault c.fault_from.result
     c.in-Inline.is refl refl c.fault_from.ensures c.in-Err.ensures.define

@@ -2,13 +2,12 @@
 use Rattle.std.proofs.Common.{◌≡◌, ℕ, ◌++◌, vec_len, string_bytes}
 use Rattle.keep_rules.specs.Lookup.{AreAncestors}
 use Rattle.keep_path.specs.PathText.{encoded_path}
-use Rattle.keep_index_store.specs.Stored.{trie_of}
 use Rattle.keep_index_store.specs.Trie.{path_at}
 use Rattle.keep_rules.proofs.path_text.push_steps.Given as goal
 
 abbrev pub invariant-loop-node : goal.invariant-loop-node
 invariant-loop-node l =
-    (top : ℕ) × AreAncestors l.nodes.items l.id l.ancestors.items top × (string_bytes l.out ≡ string_bytes l.fn.out ++ encoded_path (path_at (trie_of l.nodes.items) top))
+    (top : ℕ) × AreAncestors l.nodes.trie l.id l.ancestors.items top × (string_bytes l.out ≡ string_bytes l.fn.out ++ encoded_path (path_at l.nodes.trie top))
 
 abbrev pub decreases-loop-node : goal.decreases-loop-node
 decreases-loop-node l = vec_len l.ancestors

@@ -7,7 +7,6 @@ use Rattle.keep_rules.proofs.statement.read_header.Goals as goal
 
 pub read_head-requires : goal.read_head-requires
 read_head-requires c = record {
-  stored = c.requires.stored;
   shaped = c.requires.reading.1.2.represents.shaped;
   rooted = c.requires.reading.1.2.rooted;
   keys = statement_keys c.args.text.now (flat c.args.parts.now).keys (flat c.args.parts.now).values c.args.statement c.requires.matches.0 c.requires.readable c.requires.matches.1;
@@ -15,7 +14,7 @@ read_head-requires c = record {
 
 pub fault_from-requires : goal.fault_from-requires
 fault_from-requires c =
-    head_fault_fits c.args.text.now (flat c.args.parts.now).keys c.args.statement (record { text = c.args.text; parts = c.args.parts; first = c.args.statement.first_key; count = c.args.statement.keys }) c.args.nodes.now.items (2 ^ 64 - 1)
+    head_fault_fits c.args.text.now (flat c.args.parts.now).keys c.args.statement (record { text = c.args.text; parts = c.args.parts; first = c.args.statement.first_key; count = c.args.statement.keys }) c.args.nodes.now (2 ^ 64 - 1)
     c.in-Err.fault refl (statement_keys c.args.text.now (flat c.args.parts.now).keys (flat c.args.parts.now).values c.args.statement c.requires.matches.0 c.requires.readable c.requires.matches.1) c.requires.reading (few_keys c.args.parts.now) c.in-Err.ensures.define
 
 pub returns-in-Ok-clause-read : goal.returns-in-Ok-clause-read
@@ -25,5 +24,5 @@ returns-in-Ok-clause-read c =
 
 pub returns-in-Err-clause-define : goal.returns-in-Err-clause-define
 returns-in-Err-clause-define c =
-    head_breaks c.args.text.now (flat c.args.parts.now) c.args.statement (record { text = c.args.text; parts = c.args.parts; first = c.args.statement.first_key; count = c.args.statement.keys }) c.args.nodes.now.items c.in-Err.fault
+    head_breaks c.args.text.now (flat c.args.parts.now) c.args.statement (record { text = c.args.text; parts = c.args.parts; first = c.args.statement.first_key; count = c.args.statement.keys }) c.args.nodes.now c.in-Err.fault
     c.fault_from.result refl c.requires.head c.fault_from.ensures c.in-Err.ensures.define

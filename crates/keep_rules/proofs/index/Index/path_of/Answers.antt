@@ -4,4 +4,4 @@ use Rattle.keep_rules.proofs.index.Index.path_of.Goals as goal
 
 pub path_to-requires-clause-within : goal.path_to-requires-clause-within
 path_to-requires-clause-within c =
-    omega (arith, count_paths c.self.inside.nodes.items c.args.self.now c.self.invariant.0 c.self.view_is)
+    omega (arith, count_paths c.self.inside.nodes c.args.self.now c.self.invariant.0 c.self.view_is)

@@ -5,7 +5,7 @@ use Rattle.keep_meaning.specs.Marks.{marks}
 use Rattle.keep_meaning.specs.Meaning.{mentions_in}
 use Rattle.keep_rules.specs.ReadDocuments.{WasRead}
 use Rattle.keep_meaning.specs.Rules.{ObeysRules}
-use Rattle.keep_index_store.specs.Stored.{node_infos}
+use Rattle.keep_index_store.specs.Tree.{node_infos}
 use Rattle.keep_rules.proofs.DocumentLemmas.{index_few}
 use Rattle.keep_rules.proofs.RefusalLaws.{refused_memory}
 use Rattle.keep_rules.proofs.index.Index.read.Goals as goal
@@ -21,4 +21,4 @@ returns-in_err-nodes-clause-faults c = λ (d : Document) (was : WasRead c.args.t
     rw (p.1, p.2) (c.in_err-nodes.ensures.faults d was)
 
 pub returns-clause-few : goal.returns-clause-few
-returns-clause-few c = index_few c.args.text.now c.args.syntax.now c.requires.read.0 (node_infos c.in_ok-nodes.nodes.items) c.requires.read.1 (c.in_ok-nodes.ensures.ok c.requires.read.0 c.requires.read.1)
+returns-clause-few c = index_few c.args.text.now c.args.syntax.now c.requires.read.0 (node_infos c.in_ok-nodes.nodes) c.requires.read.1 (c.in_ok-nodes.ensures.ok c.requires.read.0 c.requires.read.1)

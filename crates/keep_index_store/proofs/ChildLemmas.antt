@@ -1,16 +1,16 @@
 -- The child of a node by a step, and the last step of a node's path.
 use Rattle.std.proofs.Common.{◌≡◌, ◌≢◌, ℕ, suc, zero, ◌<◌, List, [], ◌∷◌, ◌++◌, length, get_or, refl, sym, ◌∙◌, ap, subst, arith, Option, Some, None}
-use Rattle.std.specs.Prelude.{slice_get}
+use Rattle.std.specs.Prelude.{Contains, slice_get}
 use Rattle.std.specs.Option.{option_map}
 use Rattle.std.proofs.lemmas.Option.{slice_get-get_or, slice_get_within, get_or_from_slice_get}
 use Rattle.keep_index_store.specs.AllNodes.{Node}
 use Rattle.keep_path.specs.Path.{Part, key, index}
-use Rattle.keep_meaning.specs.Nodes.{node_number}
 use Rattle.keep_index_store.specs.Children.{ChildList, Bare, Keyed, Listed, holds_of, named, child_ids, child_named, child_numbered}
 use Rattle.keep_index_store.specs.Trie.{TrieNode, paths_of, path_at, children_of, by_key}
 use Rattle.keep_index_store.specs.Stored.{step_at, trie_node_in, trie_of, IsStored}
-use Rattle.keep_index_store.proofs.Shared.{no_child, length_trie_of, keyed_step, count_named, key_found, key_missing, IsStoredChild, stored_child, node_placed}
-use Rattle.keep_rules.proofs.LookupLemmas.{number_none, number_some}
+use Rattle.keep_index_store.specs.Tree.{IsChild}
+use Rattle.keep_index_store.proofs.TrieLemmas.{no_child, one_node, path_met}
+use Rattle.keep_index_store.proofs.StoredLemmas.{length_trie_of, keyed_step, count_named, key_found, key_missing, IsStoredChild, stored_child}
 
 -- ---- the children of one node
 
@@ -87,33 +87,27 @@ no_key_step (Listed ids) n low h = (λ e. cc, refl)
 -- ---- among the nodes
 
 -- a step leads to the node of the longer path, or to none
-pub stepped : (nodes : List Node) → IsStored nodes → (i : ℕ) (d : Node) (p : Part) → i < length nodes
-    → child_by (get_or nodes i d).children p ≡ node_number (paths_of (trie_of nodes)) (path_at (trie_of nodes) i ++ p ∷ [])
-stepped nodes stored i d p h =
+pub child_met : (nodes : List Node) → IsStored nodes → (i : ℕ) (d : Node) (p : Part) (o : Option ℕ) → i < length nodes → o ≡ child_by (get_or nodes i d).children p → IsChild (trie_of nodes) i p o
+child_met nodes stored i d p None h is =
     let c : ChildList = (get_or nodes i d).children in
     let ts : List TrieNode = trie_of nodes in
     let u : TrieNode = trie_node_in nodes d in
     let kids : child_ids c ≡ children_of ts i = stored.kids i d h in
-    let i_low : i < length ts = omega (arith, h, length_trie_of nodes) in
-    (elim (child_by c p) as (λ o. child_by c p ≡ o → o ≡ node_number (paths_of ts) (path_at ts i ++ p ∷ [])) [
-      | None ↦ λ is.
-          sym (number_none (paths_of ts) (path_at ts i ++ p ∷ []) (no_child ts stored.trie i p u i_low (λ k low same.
-          let nested : k < length (child_ids c) = omega (arith, low, ap length kids) in
-          step_missing c p k is nested (sym ((stored_child nodes stored i k d h nested).part u) ∙ ap (λ ks. (get_or ts (get_or ks k 0) u).part) kids ∙ same))))
-      | Some id ↦ λ is.
-          let r = step_found c p id is in
-          let own : IsStoredChild nodes i r.place id d = subst (λ (n : ℕ). IsStoredChild nodes i r.place n d) r.number (stored_child nodes stored i r.place d h r.nested) in
-          let path : path_at ts id ≡ path_at ts i ++ p ∷ [] = own.path ∙ ap (λ x. path_at ts i ++ x ∷ []) r.step in
-          sym (number_some ts stored.trie id (omega (arith, own.nested, length_trie_of nodes))) ∙ ap (node_number (paths_of ts)) path
-    ]) refl
+    no_child ts stored.trie i p u (omega (arith, h, length_trie_of nodes)) (λ k low same.
+    let nested : k < length (child_ids c) = omega (arith, low, ap length kids) in
+    step_missing c p k (sym is) nested (sym ((stored_child nodes stored i k d h nested).part u) ∙ ap (λ ks. (get_or ts (get_or ks k 0) u).part) kids ∙ same))
+child_met nodes stored i d p (Some id) h is =
+    let c : ChildList = (get_or nodes i d).children in
+    let r = step_found c p id (sym is) in
+    let own : IsStoredChild nodes i r.place id d = subst (λ (n : ℕ). IsStoredChild nodes i r.place n d) r.number (stored_child nodes stored i r.place d h r.nested) in
+    (omega (arith, own.nested, length_trie_of nodes), own.path ∙ ap (λ x. path_at (trie_of nodes) i ++ x ∷ []) r.step)
 
--- the path of a node by its parent's
-pub path_placed : (nodes : List Node) → IsStored nodes → (id : ℕ) (d : Node) → 0 < id → id < length nodes
-    → path_at (trie_of nodes) id ≡ path_at (trie_of nodes) (get_or nodes id d).parent
-    ++ step_at (named (get_or nodes (get_or nodes id d).parent d).children) (holds_of (get_or nodes (get_or nodes id d).parent d).children) (get_or nodes id d).number ∷ []
-path_placed nodes stored id d low h =
-    let up : ℕ = (get_or nodes id d).parent in
-    let r = node_placed nodes stored id d low h in
-    let own : IsStoredChild nodes up (get_or nodes id d).number id d =
-    subst (λ (n : ℕ). IsStoredChild nodes up (get_or nodes id d).number n d) r.found (stored_child nodes stored up (get_or nodes id d).number d (omega (arith, r.earlier, h)) r.low) in
-    own.path
+-- the only node of that path is the child by the step
+pub child_only : (nodes : List Node) → IsStored nodes → (i : ℕ) (d : Node) (p : Part) (k : ℕ) → i < length nodes → IsChild (trie_of nodes) i p (Some k) → child_by (get_or nodes i d).children p ≡ Some k
+child_only nodes stored i d p k h there = by_case (child_by (get_or nodes i d).children p) refl
+  where
+    by_case : (o : Option ℕ) → o ≡ child_by (get_or nodes i d).children p → o ≡ Some k
+    by_case None is = absurd (child_met nodes stored i d p None h is (subst (Contains (paths_of (trie_of nodes))) there.1 (path_met (trie_of nodes) stored.trie k there.0)))
+    by_case (Some id) is =
+        let met = child_met nodes stored i d p (Some id) h is in
+        ap Some (one_node (trie_of nodes) stored.trie id k met.0 there.0 (met.1 ∙ sym there.1))
