@@ -106,7 +106,6 @@ impl Parts {
     }
 
     /// Stores a statement.
-    #[inline(always)]
     pub fn push_statement(&mut self, statement: Statement) -> Result<(), AllocError>
         ensures ok { OnOk result (spec.flat self.new ≡ spec.with_statement statement (spec.flat self.old)) }
     {
