@@ -1,6 +1,6 @@
-//! For each edit of a document, decided from what was read of it: the refusal, or else its plan, which is what it writes
-//! and where, and what that changes of the index. Nothing is changed here, and the new text is not read. Where an edit is
-//! done is found from the index and the syntax, and the bytes round that place.
+//! For each edit of a document, decided from what was read of it: the refusal, or else its plan, which is what it
+//! writes and where, and what that changes of the index. Nothing is changed here, and the new text is not read. Where
+//! an edit is done is found from the index and the syntax, and the bytes round that place.
 #![tactic(auto)]
 
 mod append;
