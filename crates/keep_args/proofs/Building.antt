@@ -1,13 +1,14 @@
 -- The program's command, as it is built row by row and word by word.
-use Rattle.std.proofs.Common.{◌≡◌, ◌∙◌, ◌+◌, ◌<◌, ℕ, zero, suc, false, refl, sym, ap, arith, List, [], ◌∷◌, ◌++◌, map, length, take, drop, get_or, inl, inr, min, Bor}
+use Rattle.std.proofs.Common.{◌≡◌, ◌∙◌, ◌+◌, ◌<◌, ℕ, zero, suc, false, refl, sym, ap, arith, List, [], ◌∷◌, ◌++◌, map, length, take, drop, get_or, inl, inr, min, Bor, Option, None, Some, unwrap_or}
+use Rattle.std.specs.Prelude.{option_and_then}
 use Rattle.std.proofs.lemmas.Bool.Decides.{eqb_tells}
 use Rattle.std.proofs.lemmas.List.{drop_more, map-append, take_more}
 use Rattle.clap.specs.Walk.{Rule, Text, is_empty}
 use Rattle.clap.specs.Simple.{App, Shape, new_shape, with_rule, with_subcommand}
 use Rattle.keep_args.specs.App.{app_with, leaf_of, word_ids, word_rule}
 use Rattle.std.specs.Str.{bytes_eq}
-use Rattle.keep_args.specs.Table.{Row}
-use Rattle.keep_args.specs.Wanted.{row_named}
+use Rattle.keep_args.specs.Table.{Row, first_row}
+use Rattle.keep_args.specs.Wanted.{op_in, row_named}
 
 -- the place's name
 pub id_at : (first second d : Bor Text) (place : ℕ) → place < 2 → (get_or (first ∷ second ∷ []) place d).now ≡ get_or (first.now ∷ second.now ∷ []) place []
@@ -53,3 +54,8 @@ next_row rows number d row name lt at other before =
     let rest : drop number rows ≡ row ∷ drop (number + 1) rows = drop_more rows number d lt ∙ ap (λ (r : Row). r ∷ drop (number + 1) rows) (sym at) in
     let past : row_named name (row ∷ drop (number + 1) rows) ≡ row_named name (drop (number + 1) rows) = rw other refl in
     sym past ∙ (ap (row_named name) (sym rest) ∙ before)
+
+-- the row that stands for a name without one asks for no edit
+pub op_met : (found : Option Row) → op_in (unwrap_or found first_row).ask ≡ option_and_then (λ row. op_in row.ask) found
+op_met None = refl
+op_met (Some row) = refl

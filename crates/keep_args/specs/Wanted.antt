@@ -3,6 +3,9 @@ use Rattle.std.specs.Prelude.{◌≡◌, ◌==◌, ◌||◌, List, [], ◌∷◌
 use Rattle.std.specs.Prelude.{length, find, option_and_then, option_map, Contains}
 use Rattle.std.specs.Str.{bytes_eq}
 use Rattle.clap.specs.Lexer.{is_long_word, is_short_word}
+use Rattle.keep_args.specs.declared.subcommand.Ask.{Ask}
+use Rattle.keep_args.specs.declared.subcommand.Ask.TheVariants as ask
+use Rattle.keep_args.specs.declared.subcommand.Op.{Op}
 use Rattle.keep_args.specs.Table.{Row, table}
 
 -- a subcommand and the texts of its words
@@ -18,6 +21,15 @@ pub record IsWhole (wanted : Wanted) : Type 0 where
 -- the subcommand of a name
 abbrev pub row_named : List ℕ → List Row → Option Row
 row_named name rows = find (λ row. bytes_eq row.name name) rows
+
+-- the operation of an edit, where one is asked
+abbrev pub op_in : Ask → Option Op
+op_in (ask.Edit op) = Some op
+op_in _ = None
+
+-- the operation of the edit that the subcommand of this name makes
+abbrev pub op_named : List ℕ → Option Op
+op_named name = option_and_then (λ row. op_in row.ask) (row_named name table)
 
 -- the word is `--`
 abbrev pub is_dashes : List ℕ → Bool

@@ -9,5 +9,5 @@ mod words;
 
 pub use fault::{ChoiceFault, ClapError};
 pub use given::{GivenFault, given_words};
-pub use subcommand::{Ask, SUBCOMMANDS, Subcommand, Word};
-pub use words::{Chosen, chosen_of};
+pub use subcommand::{Ask, Op, SUBCOMMANDS, Subcommand, Word};
+pub use words::{Chosen, chosen_of, op_named};

@@ -11,14 +11,20 @@ pub enum Ask {
     List,
     Get,
     Text,
+    Edit(Op),
+    Apply,
+    ApplyWide,
+}
+
+/// The operation of an edit. A script names it as its subcommand is named.
+#[derive(Clone, Copy)]
+pub enum Op {
     Set,
     Insert,
     Rename,
     Remove,
     Table,
     Element,
-    Apply,
-    ApplyWide,
 }
 
 /// What a word of a subcommand is.
@@ -49,22 +55,32 @@ pub static SUBCOMMANDS: [Subcommand; 13] = [
     ("list", Ask::List, &[], help::LIST),
     ("get", Ask::Get, &[Word::Path], help::GET),
     ("text", Ask::Text, &[Word::Path], help::TEXT),
-    ("set", Ask::Set, &[Word::Path, Word::Value], help::SET),
+    (
+        "set",
+        Ask::Edit(Op::Set),
+        &[Word::Path, Word::Value],
+        help::SET,
+    ),
     (
         "insert",
-        Ask::Insert,
+        Ask::Edit(Op::Insert),
         &[Word::Path, Word::Value],
         help::INSERT,
     ),
     (
         "rename",
-        Ask::Rename,
+        Ask::Edit(Op::Rename),
         &[Word::Path, Word::Key],
         help::RENAME,
     ),
-    ("remove", Ask::Remove, &[Word::Path], help::REMOVE),
-    ("table", Ask::Table, &[Word::Keys], help::TABLE),
-    ("element", Ask::Element, &[Word::Keys], help::ELEMENT),
+    ("remove", Ask::Edit(Op::Remove), &[Word::Path], help::REMOVE),
+    ("table", Ask::Edit(Op::Table), &[Word::Keys], help::TABLE),
+    (
+        "element",
+        Ask::Edit(Op::Element),
+        &[Word::Keys],
+        help::ELEMENT,
+    ),
     ("apply", Ask::Apply, &[Word::Script], help::APPLY),
     (
         "apply-wide",

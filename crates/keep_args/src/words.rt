@@ -8,12 +8,13 @@ ghost use Rattle.keep_args.specs.App.{program_app, app_with, leaf_of, word_rule}
 ghost use Rattle.keep_args.specs.Table.{first_row, row_of, table};
 ghost use Rattle.keep_args.specs.Chosen.{IsChosen, IsUnchosen, read_rows, row_or_first, wanted_of_chosen, wanted_with};
 ghost use Rattle.keep_args.specs.Chosen.{word_in, words_in};
+ghost use Rattle.keep_args.specs.Wanted as spec;
 ghost use Rattle.keep_args.specs.Wanted.{IsWhole, wanted_of};
 
 use crate::fault::ChoiceFault;
 use crate::help;
 use crate::help::PROGRAM;
-use crate::subcommand::{SUBCOMMANDS, Subcommand, Word};
+use crate::subcommand::{Ask, Op, SUBCOMMANDS, Subcommand, Word};
 use clap::error::ErrorKind;
 use clap::{Arg, ArgMatches, Command};
 use std::alloc::{AllocError, Global};
@@ -159,6 +160,24 @@ fn row_named(name: &str) -> &'static Subcommand
         }
     }
     row_at(0)
+}
+
+/// The operation of the edit that the subcommand of this name makes; None where no subcommand has the name, or it makes
+/// no edit.
+pub fn op_named(name: &str) -> Option<Op>
+    ensures { result ≡ spec.op_named name.now }
+{
+    op_in(row_named(name).1)
+}
+
+// The operation of an edit; None where no edit is asked.
+fn op_in(ask: Ask) -> Option<Op>
+    ensures { result ≡ spec.op_in ask }
+{
+    match ask {
+        Ask::Edit(op) => Some(op),
+        _ => None,
+    }
 }
 
 fn chosen_with(

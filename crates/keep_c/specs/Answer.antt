@@ -12,7 +12,7 @@ use Rattle.keep_commands.specs.declared.fault.RunFault.TheVariants as run
 use Rattle.keep_commands.specs.Answer.{IsRefusal, IsText}
 use Rattle.keep_cli.specs.declared.fault.UseFault.{UseFault}
 use Rattle.keep_cli.specs.declared.fault.UseFault.TheVariants as use_fault
-use Rattle.keep_cli.specs.Uses.{IsCommand, IsWordFault, kinds_of}
+use Rattle.keep_cli.specs.Uses.{IsCommand, IsWordFault}
 use Rattle.keep_c.specs.declared.fault.Fault.{Fault}
 use Rattle.keep_c.specs.declared.fault.Fault.TheVariants as fault
 use Rattle.keep_c.specs.declared.numbers.KeepTomlFault.{KeepTomlFault}
@@ -37,7 +37,7 @@ HasNoText (word ∷ words) = (IsUtf8 word → ⊥) ⊎ HasNoText words
 -- The call fails by this fault: a word is no text; or it is the first that can't be read; or the command is refused so.
 abbrev pub IsFault : Ask → List (List ℕ) → ProfiledText → Fault → Type 0
 IsFault ask words input fault.NotText = HasNoText words
-IsFault ask words input (fault.Use f) = IsWordFault input.profile (kinds_of ask) words f
+IsFault ask words input (fault.Use f) = IsWordFault input.profile ask words f
 IsFault ask words input (fault.Run f) = (c : Command) × IsCommand input.profile ask words c × IsRefusal c input f
 IsFault ask words input fault.Memory = ⊤
 

@@ -1,6 +1,6 @@
 //! The calls: what the program answers to these words and this document.
 ghost use Rattle.std.specs.Prelude.{◌≡◌, ◌∷◌, [], MatchResult, length, map, string_bytes};
-ghost use Rattle.keep_cli.specs.Uses.{kinds_of};
+ghost use Rattle.keep_args.specs.Table.{words_of};
 ghost use Rattle.keep_edit.specs.Reading.{text_in};
 ghost use Rattle.keep_c.specs.Answer.{Answers, IsNoWord, profile_named};
 
@@ -37,7 +37,7 @@ fn answer_of(
     document: &[u8],
     words: Vec<String>,
 ) -> Result<String, Fault>
-    requires { length words.items ≡ length (kinds_of ask) }
+    requires { length words.items ≡ length (words_of ask) }
     ensures { Answers ask (map string_bytes words.items) (text_in profile document.now) result }
 {
     let command = match command_by(alloc, profile, ask, words.as_slice()) {
@@ -58,7 +58,7 @@ pub fn answer_without(
     profile: u8,
     document: &[u8],
 ) -> Result<String, Fault>
-    requires { length (kinds_of ask) ≡ 0 }
+    requires { length (words_of ask) ≡ 0 }
     ensures { Answers ask [] (text_in (profile_named profile) document.now) result }
 {
     answer_of(alloc, ask, profile_of(profile), document, Vec::new(alloc))
@@ -72,7 +72,7 @@ pub fn answer_with(
     document: &[u8],
     word: &[u8],
 ) -> Result<String, Fault>
-    requires { length (kinds_of ask) ≡ 1 }
+    requires { length (words_of ask) ≡ 1 }
     ensures { Answers ask (word.now ∷ []) (text_in (profile_named profile) document.now) result }
 {
     let word = word_of(alloc, word)?;
@@ -91,7 +91,7 @@ pub fn answer_with_two(
     first: &[u8],
     second: &[u8],
 ) -> Result<String, Fault>
-    requires { length (kinds_of ask) ≡ 2 }
+    requires { length (words_of ask) ≡ 2 }
     ensures { Answers ask (first.now ∷ second.now ∷ []) (text_in (profile_named profile) document.now) result }
 {
     let first = word_of(alloc, first)?;

@@ -18,6 +18,7 @@
 ghost use Rattle.std.specs.Prelude.{◌≡◌, ◌∷◌, []};
 ghost use Rattle.keep_edit.specs.Reading.{text_in};
 ghost use Rattle.keep_args.specs.declared.subcommand.Ask.TheVariants as ask;
+ghost use Rattle.keep_args.specs.declared.subcommand.Op.TheVariants as op;
 ghost use Rattle.keep_c.specs.Answer.{IsAnswer, profile_named};
 
 mod answer;
@@ -27,7 +28,7 @@ mod numbers;
 
 use answer::put;
 use call::{answer_with, answer_with_two, answer_without};
-use keep_cli::Ask;
+use keep_cli::{Ask, Op};
 use numbers::KeepTomlFault;
 use std::alloc::Global;
 
@@ -141,12 +142,12 @@ pub extern "C" fn keep_toml_set(
     size: &mut usize,
     fault: &mut KeepTomlFault,
 ) -> u8
-    ensures { IsAnswer ask.Set (path.now ∷ value.now ∷ []) (text_in (profile_named profile) document.now)
+    ensures { IsAnswer (ask.Edit op.Set) (path.now ∷ value.now ∷ []) (text_in (profile_named profile) document.now)
         out.old out.new size.new fault.new result }
 {
     put(
         alloc,
-        answer_with_two(alloc, Ask::Set, profile, document, path, value),
+        answer_with_two(alloc, Ask::Edit(Op::Set), profile, document, path, value),
         out,
         size,
         fault,
@@ -165,12 +166,12 @@ pub extern "C" fn keep_toml_insert(
     size: &mut usize,
     fault: &mut KeepTomlFault,
 ) -> u8
-    ensures { IsAnswer ask.Insert (path.now ∷ value.now ∷ []) (text_in (profile_named profile) document.now)
+    ensures { IsAnswer (ask.Edit op.Insert) (path.now ∷ value.now ∷ []) (text_in (profile_named profile) document.now)
         out.old out.new size.new fault.new result }
 {
     put(
         alloc,
-        answer_with_two(alloc, Ask::Insert, profile, document, path, value),
+        answer_with_two(alloc, Ask::Edit(Op::Insert), profile, document, path, value),
         out,
         size,
         fault,
@@ -189,12 +190,12 @@ pub extern "C" fn keep_toml_rename(
     size: &mut usize,
     fault: &mut KeepTomlFault,
 ) -> u8
-    ensures { IsAnswer ask.Rename (path.now ∷ key.now ∷ []) (text_in (profile_named profile) document.now)
+    ensures { IsAnswer (ask.Edit op.Rename) (path.now ∷ key.now ∷ []) (text_in (profile_named profile) document.now)
         out.old out.new size.new fault.new result }
 {
     put(
         alloc,
-        answer_with_two(alloc, Ask::Rename, profile, document, path, key),
+        answer_with_two(alloc, Ask::Edit(Op::Rename), profile, document, path, key),
         out,
         size,
         fault,
@@ -212,12 +213,12 @@ pub extern "C" fn keep_toml_remove(
     size: &mut usize,
     fault: &mut KeepTomlFault,
 ) -> u8
-    ensures { IsAnswer ask.Remove (path.now ∷ []) (text_in (profile_named profile) document.now)
+    ensures { IsAnswer (ask.Edit op.Remove) (path.now ∷ []) (text_in (profile_named profile) document.now)
         out.old out.new size.new fault.new result }
 {
     put(
         alloc,
-        answer_with(alloc, Ask::Remove, profile, document, path),
+        answer_with(alloc, Ask::Edit(Op::Remove), profile, document, path),
         out,
         size,
         fault,
@@ -235,12 +236,12 @@ pub extern "C" fn keep_toml_table(
     size: &mut usize,
     fault: &mut KeepTomlFault,
 ) -> u8
-    ensures { IsAnswer ask.Table (keys.now ∷ []) (text_in (profile_named profile) document.now)
+    ensures { IsAnswer (ask.Edit op.Table) (keys.now ∷ []) (text_in (profile_named profile) document.now)
         out.old out.new size.new fault.new result }
 {
     put(
         alloc,
-        answer_with(alloc, Ask::Table, profile, document, keys),
+        answer_with(alloc, Ask::Edit(Op::Table), profile, document, keys),
         out,
         size,
         fault,
@@ -258,12 +259,12 @@ pub extern "C" fn keep_toml_element(
     size: &mut usize,
     fault: &mut KeepTomlFault,
 ) -> u8
-    ensures { IsAnswer ask.Element (keys.now ∷ []) (text_in (profile_named profile) document.now)
+    ensures { IsAnswer (ask.Edit op.Element) (keys.now ∷ []) (text_in (profile_named profile) document.now)
         out.old out.new size.new fault.new result }
 {
     put(
         alloc,
-        answer_with(alloc, Ask::Element, profile, document, keys),
+        answer_with(alloc, Ask::Edit(Op::Element), profile, document, keys),
         out,
         size,
         fault,

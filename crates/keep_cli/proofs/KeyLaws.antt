@@ -1,11 +1,11 @@
 -- The keys of a path, taken one by one.
-use Rattle.std.proofs.Common.{◌≡◌, ◌∙◌, ◌+◌, ◌<◌, ℕ, zero, suc, List, [], ◌∷◌, ◌++◌, map, length, take, get_or, Option, Some, None, refl, ap, arith}
+use Rattle.std.proofs.Common.{◌≡◌, ◌∙◌, ◌+◌, ◌<◌, ℕ, zero, suc, List, [], ◌∷◌, ◌++◌, map, length, take, get_or, Option, Some, None, refl, ap, arith, subst, sym, Vec, Global, String}
 use Rattle.std.specs.Prelude.{slice_get}
 use Rattle.std.proofs.lemmas.List.{map-append, take_more}
 use Rattle.std.proofs.lemmas.Option.{get_or_from_slice_get}
 use Rattle.keep_path.specs.Path.{Part, key, index}
 use Rattle.keep_path.specs.PathText.{AreKeys}
-use Rattle.keep_cli.specs.Uses.{key_in}
+use Rattle.keep_cli.specs.EditWords.{key_in, IsKeysIn, IsKeysText, IsOnlyPath}
 
 abbrev pub as_path : List (List ℕ) → List Part
 as_path keys = map (λ text. key text) keys
@@ -26,3 +26,14 @@ pub one_more : (path : List Part) (n : ℕ) (text : List ℕ) (keys : List (List
 one_more path n text keys lt before is =
     let at : get_or path n (key []) ≡ key text = get_or_from_slice_get path n (key text) (key []) (key_found (slice_get path n) text is) in
     take_more path n (key []) lt ∙ rw (before, at, map-append) refl
+
+are_keys : (keys : List (List ℕ)) → AreKeys (as_path keys)
+are_keys [] = tt
+are_keys (k ∷ ks) = are_keys ks
+
+-- a text whose only path has an index is that of no keys
+pub no_keys : (text : List ℕ) (path : List Part) (found : Option (Vec (String Global) Global)) → found ≡ None → IsOnlyPath text path → IsKeysIn path found
+    → (keys : List (List ℕ)) × IsKeysText text keys → ⊥
+no_keys text path found none only there (keys, is) =
+    let bad : AreKeys path → ⊥ = subst (λ (o : Option (Vec (String Global) Global)). IsKeysIn path o) none there in
+    bad (subst AreKeys (sym (only.1 (as_path keys) is)) (are_keys keys))

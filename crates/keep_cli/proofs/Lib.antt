@@ -1,3 +1,4 @@
 pub mod CommandLaws
+pub mod EditLaws
 pub mod KeyLaws
 pub mod ScriptLaws

@@ -1,23 +1,25 @@
 -- The edits of a script, element by element.
-use Rattle.std.proofs.Common.{◌≡◌, ◌+◌, ◌∙◌, ◌⊎◌, ℕ, suc, List, [], ◌∷◌, ◌++◌, map, length, Option, None, Some, ◌<◌, refl, sym, ap, subst, inl, inr, arith, Vec, Global, String}
-use Rattle.std.specs.Prelude.{Result, Ok, Err, IsErrAnd, MatchResult}
+use Rattle.std.proofs.Common.{◌≡◌, ◌+◌, ◌∙◌, ◌⊎◌, ℕ, suc, List, [], ◌∷◌, ◌++◌, length, Option, None, Some, ◌<◌, codes, string_bytes, refl, sym, ap, subst, inl, inr, arith, Vec, Global}
+use Rattle.std.specs.Prelude.{Result, Ok, Err, IfOk, IsErrAnd, MatchResult}
 use Rattle.std.proofs.Math.Nat.{add-zero}
 use Rattle.keep_types.specs.declared.leaf.Profile.{Profile}
 use Rattle.keep_types.specs.declared.leaf.Profile.TheVariants.{Strict}
 use Rattle.keep_syntax.specs.Tree.{Document}
-use Rattle.keep_path.specs.Path.{Part, key}
-use Rattle.keep_path.specs.PathText.{AreKeys}
 use Rattle.keep_edit_plan.specs.declared.edit.Edit.{Edit}
-use Rattle.keep_edit.specs.Reading.{ProfiledText, IsAccepted, IsAcceptedValue, IsTextOfTree, text_in}
+use Rattle.keep_edit.specs.Reading.{ProfiledText, IsAccepted, IsTextOfTree, text_in}
 use Rattle.keep_cli.specs.declared.fault.UseFault.{UseFault}
 use Rattle.keep_cli.specs.declared.fault.UseFault.TheVariants as fault
-use Rattle.keep_cli.specs.PathWords.{IsKeysText}
-use Rattle.keep_cli.specs.declared.script.Op.{Op}
-use Rattle.keep_cli.specs.declared.script.Op.TheVariants as op
-use Rattle.keep_edit_plan.specs.declared.edit.Edit.TheVariants as edit
-use Rattle.keep_commands.specs.OwnValues.{AreStrict, IsStrictEdit}
-use Rattle.keep_cli.specs.Script.{Makes, AreEntries, IsEntry, IsNoEntry, IsScript, IsScriptFault, IsTreeFault, element_count}
-use Rattle.keep_cli.specs.Scripting.{IsFaultAt, IsKeysIn, IsOnlyPath, StatesEdits}
+use Rattle.keep_args.specs.declared.subcommand.Op.{Op}
+use Rattle.keep_args.specs.declared.subcommand.Op.TheVariants as op
+use Rattle.keep_args.specs.declared.subcommand.Word.{Word}
+use Rattle.keep_args.specs.declared.subcommand.Word.TheVariants as word
+use Rattle.keep_args.specs.Table.{edit_words}
+use Rattle.keep_commands.specs.OwnValues.{AreStrict}
+use Rattle.keep_cli.specs.declared.script.Texts.{Texts}
+use Rattle.keep_cli.specs.Script.{AreEntries, HasWords, IsEntry, IsNoEntry, IsScript, IsScriptFault, IsTreeFault, element_count}
+use Rattle.keep_cli.specs.Script.{given, word_key}
+use Rattle.keep_cli.specs.Scripting.{AreTexts, AreTextsOf, IsFaultAt, StatesEdits, third_key}
+use Rattle.keep_cli.proofs.EditLaws.{strict_edit}
 
 -- one element more tells one edit more
 entries_more : (profile : Profile) (s : Document) (n : ℕ) (es : List Edit) (e : Edit) → AreEntries profile s n es → IsEntry profile s (n + length es) e → AreEntries profile s n (es ++ e ∷ [])
@@ -58,16 +60,40 @@ pub stops : (profile : Profile) (s : Document) (count n : ℕ) (es : List Edit) 
 stops profile s count n es f (Ok edits) same is lt many are h = absurd same
 stops profile s count n es f (Err e) same is lt many are h = subst (λ (x : UseFault). (x ≡ fault.Memory) ⊎ IsTreeFault profile s x) (sym same) (stopped profile s count n es f is lt many are h)
 
--- ---- paths without an index
+-- ---- one element
 
-are_keys : (keys : List (List ℕ)) → AreKeys (map (λ text. key text) keys)
-are_keys [] = tt
-are_keys (k ∷ ks) = are_keys ks
+-- two words are at `path` and the third key
+two_texts : (s : Document) (n : ℕ) (second : Word) (found : Option Texts) → AreTexts s n (Some (word_key second)) found → AreTextsOf s n (word.Path ∷ second ∷ []) found
+two_texts s n second (Some texts) (many, path, third) = (many, (path, (third, tt)))
+two_texts s n second None none = no
+  where
+    no : (words : List (List ℕ)) → HasWords s n (word.Path ∷ second ∷ []) words → ⊥
+    no [] (many, given) = given
+    no (a ∷ []) (many, given) = given.1
+    no (a ∷ b ∷ []) (many, given) = none a b (many, given.0, given.1.0)
+    no (a ∷ b ∷ c ∷ more) (many, given) = given.1.1
 
-pub no_keys : (text : List ℕ) (path : List Part) (found : Option (Vec (String Global) Global)) → found ≡ None → IsOnlyPath text path → IsKeysIn path found → (keys : List (List ℕ)) → IsKeysText text keys → ⊥
-no_keys text path found none only there keys is =
-    let bad : AreKeys path → ⊥ = subst (λ (o : Option (Vec (String Global) Global)). IsKeysIn path o) none there in
-    bad (subst AreKeys (sym (only.1 (map (λ text. key text) keys) is)) (are_keys keys))
+-- one word is at `path`
+one_text : (s : Document) (n : ℕ) (first : Word) (found : Option Texts) → word_key first ≡ codes "path" → AreTexts s n None found → AreTextsOf s n (first ∷ []) found
+one_text s n first (Some texts) at (many, path) = (many, (subst (λ (k : List ℕ). given s n k ≡ Some (string_bytes texts.path)) (sym at) path, tt))
+one_text s n first None at none = no
+  where
+    no : (words : List (List ℕ)) → HasWords s n (first ∷ []) words → ⊥
+    no [] (many, is) = is
+    no (a ∷ []) (many, is) = none a [] (many, subst (λ (k : List ℕ). given s n k ≡ Some a) at is.0)
+    no (a ∷ b ∷ more) (many, is) = is.1
+
+texts_are : (s : Document) (n : ℕ) (o : Op) (found : Option Texts) → AreTexts s n (third_key (edit_words o)) found → AreTextsOf s n (edit_words o) found
+texts_are s n op.Set found h = two_texts s n word.Value found h
+texts_are s n op.Insert found h = two_texts s n word.Value found h
+texts_are s n op.Rename found h = two_texts s n word.Key found h
+texts_are s n op.Remove found h = one_text s n word.Path found refl h
+texts_are s n op.Table found h = one_text s n word.Keys found refl h
+texts_are s n op.Element found h = one_text s n word.Keys found refl h
+
+pub texts_ok : {E : Type 0} (s : Document) (n : ℕ) (o : Op) (r : Result (Option Texts) E) → IfOk r (AreTexts s n (third_key (edit_words o))) → IfOk r (AreTextsOf s n (edit_words o))
+texts_ok s n o (Ok found) h = texts_are s n o found h
+texts_ok s n o (Err e) h = h
 
 -- ---- the whole
 
@@ -94,27 +120,9 @@ script_stated profile bytes d r same (s, h) k = of_tree profile bytes s r (subst
 
 -- ---- the profile of the values
 
-strict_edit : (o : Op) (path third : List ℕ) (e : Edit) → Makes Strict o path third e → IsStrictEdit e
-strict_edit o path third (edit.Rename p name) made = tt
-strict_edit o path third (edit.Remove p) made = tt
-strict_edit o path third (edit.Table keys) made = tt
-strict_edit o path third (edit.Element keys) made = tt
-strict_edit op.Set path third (edit.Set p value) (at, same, accepted) = subst (λ (t : List ℕ). IsAcceptedValue Strict t) (sym same) accepted
-strict_edit op.Insert path third (edit.Set p value) made = absurd made
-strict_edit op.Rename path third (edit.Set p value) made = absurd made
-strict_edit op.Remove path third (edit.Set p value) made = absurd made
-strict_edit op.Table path third (edit.Set p value) made = absurd made
-strict_edit op.Element path third (edit.Set p value) made = absurd made
-strict_edit op.Set path third (edit.Insert p value) made = absurd made
-strict_edit op.Insert path third (edit.Insert p value) (at, same, accepted) = subst (λ (t : List ℕ). IsAcceptedValue Strict t) (sym same) accepted
-strict_edit op.Rename path third (edit.Insert p value) made = absurd made
-strict_edit op.Remove path third (edit.Insert p value) made = absurd made
-strict_edit op.Table path third (edit.Insert p value) made = absurd made
-strict_edit op.Element path third (edit.Insert p value) made = absurd made
-
 strict_entries : (s : Document) (n : ℕ) (es : List Edit) → AreEntries Strict s n es → AreStrict es
 strict_entries s n [] are = tt
-strict_entries s n (e ∷ es) ((o, is, (path, third, keys, made)), more) = (strict_edit o path third e made, strict_entries s (suc n) es more)
+strict_entries s n (e ∷ es) ((o, is, (words, has, made)), more) = (strict_edit o words e made, strict_entries s (suc n) es more)
 
 pub strict_script : (bytes : List ℕ) (edits : List Edit) → IsScript Strict bytes edits → AreStrict edits
 strict_script bytes edits script = strict_entries script.tree 0 edits script.entries

@@ -1,4 +1,4 @@
-pub mod PathWords
+pub mod EditWords
 pub mod Script
 pub mod Scripting
 pub mod Status

@@ -1,5 +1,7 @@
 -- Why the words ask for nothing, and the exit statuses.
 use Rattle.std.specs.Prelude.{ℕ}
+use Rattle.keep_cli.specs.declared.edit.WordFault.{WordFault}
+use Rattle.keep_cli.specs.declared.edit.WordFault.TheVariants as word_fault
 use Rattle.keep_cli.specs.declared.fault.UseFault.{UseFault}
 use Rattle.keep_cli.specs.declared.fault.UseFault.TheVariants as use_fault
 use Rattle.keep_args.specs.declared.fault.ChoiceFault.{ChoiceFault}
@@ -9,6 +11,12 @@ use Rattle.keep_args.specs.declared.fault.ChoiceFault.TheVariants as choice_faul
 abbrev pub use_fault_of : ChoiceFault → UseFault
 use_fault_of (choice_fault.Words error) = use_fault.Words error
 use_fault_of choice_fault.Memory = use_fault.Memory
+
+-- a word that can't be read is reported as it is
+abbrev pub of_word : WordFault → UseFault
+of_word (word_fault.Path at) = use_fault.Path at
+of_word (word_fault.Value fault) = use_fault.Value fault
+of_word word_fault.Memory = use_fault.Memory
 
 abbrev pub use_status : UseFault → ℕ
 use_status (use_fault.Words error) = 2

@@ -1,8 +1,9 @@
 //! Why the words of the command line ask for nothing.
 ghost use Rattle.std.specs.Prelude.{◌≡◌};
-ghost use Rattle.keep_cli.specs.Status.{use_fault_of, use_status};
+ghost use Rattle.keep_cli.specs.Status.{of_word, use_fault_of, use_status};
 ghost use Rattle.keep_cli.specs.declared.fault.UseFault.TheVariants as use_fault;
 
+use crate::edit::WordFault;
 use keep_args::{ChoiceFault, ClapError};
 use keep_edit::ReadFault;
 use std::alloc::AllocError;
@@ -71,6 +72,18 @@ impl From<ChoiceFault> for UseFault {
         match fault {
             ChoiceFault::Words(error) => UseFault::Words(error),
             ChoiceFault::Memory => UseFault::Memory,
+        }
+    }
+}
+
+impl From<WordFault> for UseFault {
+    ghost from_gives = { λ from fault. fault ≡ of_word from };
+
+    fn from(fault: WordFault) -> UseFault {
+        match fault {
+            WordFault::Path { at } => UseFault::Path { at },
+            WordFault::Value(given) => UseFault::Value(given),
+            WordFault::Memory => UseFault::Memory,
         }
     }
 }

@@ -3,12 +3,13 @@
 #![tactic(auto)]
 
 mod command;
+mod edit;
 mod fault;
 mod script;
 
 pub use command::{command_by, command_of};
 pub use fault::{EntryWhy, UseFault};
-pub use keep_args::{Ask, GivenFault, given_words};
+pub use keep_args::{Ask, GivenFault, Op, given_words};
 pub use keep_commands::answer::{Rest, answer_in};
 pub use keep_commands::command::Command;
 pub use keep_commands::counted::Counted;

@@ -1,29 +1,19 @@
 //! Scripts: lists of edits as a document.
-ghost use Rattle.std.specs.Prelude.{◌≡◌, ◌⊎◌, None, Some, IfOk, MatchResult, option_map, string_bytes};
+ghost use Rattle.std.specs.Prelude.{◌≡◌, ◌⊎◌, IfOk, MatchResult, option_map, string_bytes};
 ghost use Rattle.keep_syntax.specs.Tree as tree;
-ghost use Rattle.keep_edit.specs.Headers.{key_texts};
 ghost use Rattle.keep_edit.specs.Reading.{IsTextOfTree};
+ghost use Rattle.keep_args.specs.Table.{edit_words};
+ghost use Rattle.keep_cli.specs.EditWords.{words_for, Makes};
 ghost use Rattle.keep_cli.specs.Script as spec;
-ghost use Rattle.keep_cli.specs.Script.{IsEntry, IsScript, IsScriptFault, IsTreeFault, Makes};
-ghost use Rattle.keep_cli.specs.Scripting.{AreTexts, IsFaultAt, IsGiven, IsKeysIn, IsNoKeys, IsNoPath, IsNoValue};
-ghost use Rattle.keep_cli.specs.Scripting.{IsOnlyPath, IsTextsFault, StatesEdits};
-ghost use Rattle.keep_cli.specs.PathWords.{IsKeysText};
+ghost use Rattle.keep_cli.specs.Script.{IsEntry, IsScript, IsScriptFault, IsTreeFault};
+ghost use Rattle.keep_cli.specs.Scripting as steps;
+ghost use Rattle.keep_cli.specs.Scripting.{AreTexts, AreTextsOf, IsFaultAt, IsTextsFault, StatesEdits};
 
-use crate::command::key_at;
+use crate::edit::{WordFault, edit_of};
 use crate::fault::{EntryWhy, UseFault};
-use keep_edit::{Document, Edit, Kind, Path, PathFault, Profile, ReadFault, ValueText};
+use keep_args::{Op, op_named};
+use keep_edit::{Document, Edit, Kind, Path, Profile, ReadFault};
 use std::alloc::{AllocError, Global};
-
-/// What an element of a script asks.
-#[derive(Clone, Copy)]
-enum Op {
-    Set,
-    Insert,
-    Rename,
-    Remove,
-    Table,
-    Element,
-}
 
 // The texts of an element beside its op's. The third is empty where the op asks for none.
 #[derive(Drop)]
@@ -65,7 +55,7 @@ fn edits_of(alloc: Global, document: &Document, profile: Profile) -> Result<Vec<
     };
     let mut edits = Vec::new(alloc);
     for index in 0..count {
-        let edit = edit_of(alloc, document, index, profile)?;
+        let edit = entry_of(alloc, document, index, profile)?;
         match edits.push(edit) {
             Ok(()) => {}
             Err(_) => return Err(UseFault::Memory),
@@ -99,7 +89,7 @@ fn counted(keys: Option<usize>, kind: Option<Kind>, elements: Option<usize>) -> 
 }
 
 // The edit of an element.
-fn edit_of(
+fn entry_of(
     alloc: Global,
     document: &Document,
     index: usize,
@@ -117,7 +107,7 @@ fn edit_of(
         let why = EntryWhy::Keys;
         return Err(UseFault::Entry { index, why });
     };
-    edit_from(alloc, index, op, texts, profile)
+    edit_from(alloc, index, profile, op, &texts)
 }
 
 // The op of an element; None where it has no string `op`, or an unknown one.
@@ -130,29 +120,9 @@ fn op_of(alloc: Global, document: &Document, index: usize) -> Result<Option<Op>,
     }
 }
 
-fn op_named(name: &str) -> Option<Op>
-    ensures { result ≡ spec.op_named name.now }
-{
-    if name == "set" {
-        Some(Op::Set)
-    } else if name == "insert" {
-        Some(Op::Insert)
-    } else if name == "rename" {
-        Some(Op::Rename)
-    } else if name == "remove" {
-        Some(Op::Remove)
-    } else if name == "table" {
-        Some(Op::Table)
-    } else if name == "element" {
-        Some(Op::Element)
-    } else {
-        None
-    }
-}
-
-// The key that an op asks for, beside `op` and `path`.
+// The key at which an element has the second word of its op, beside `op` and `path`.
 fn third_key(op: Op) -> Option<&'static str>
-    ensures { option_map (λ name. name.now) result ≡ spec.third_key op }
+    ensures { option_map (λ name. name.now) result ≡ steps.third_key (edit_words op) }
 {
     match op {
         Op::Set | Op::Insert => Some("value"),
@@ -161,14 +131,28 @@ fn third_key(op: Op) -> Option<&'static str>
     }
 }
 
-// The texts of an element; None where its keys are not those that its op asks for, or no strings.
+// The words of an element as its op takes them; None where its keys are not those of its op, or no strings.
 fn texts_of(
     alloc: Global,
     document: &Document,
     index: usize,
     op: Op,
 ) -> Result<Option<Texts>, AllocError>
-    ensures { (s : tree.Document) → IsTextOfTree document.now s → IfOk result (AreTexts s index (spec.third_key op)) }
+    ensures { (s : tree.Document) → IsTextOfTree document.now s → IfOk result (AreTextsOf s index (edit_words op)) }
+{
+    texts_at(alloc, document, index, op)
+}
+
+// The texts at `path` and at the third key of an op, if it has one; None where these are not the keys beside `op`, or
+// no strings.
+fn texts_at(
+    alloc: Global,
+    document: &Document,
+    index: usize,
+    op: Op,
+) -> Result<Option<Texts>, AllocError>
+    ensures { (s : tree.Document) → IsTextOfTree document.now s
+        → IfOk result (AreTexts s index (steps.third_key (edit_words op))) }
 {
     let third = third_key(op);
     let many = if third.is_some() { 3 } else { 2 };
@@ -213,91 +197,37 @@ fn given(
 fn edit_from(
     alloc: Global,
     index: usize,
+    profile: Profile,
     op: Op,
-    texts: Texts,
-    profile: Profile,
+    texts: &Texts,
 ) -> Result<Edit, UseFault>
-    ensures { MatchResult result (Makes profile op (string_bytes texts.path) (string_bytes texts.third))
-        (λ fault. (fault ≡ UseFault.Memory)
-        ⊎ IsTextsFault profile op index (string_bytes texts.path) (string_bytes texts.third) fault) }
+    ensures { MatchResult result
+        (Makes profile op (words_for op (string_bytes texts.now.path) (string_bytes texts.now.third)))
+        (λ fault. (fault ≡ UseFault.Memory) ⊎ IsTextsFault profile op index
+        (words_for op (string_bytes texts.now.path) (string_bytes texts.now.third)) fault) }
 {
-    let Texts { path, third } = texts;
-    match op {
-        Op::Set => {
-            let path = path_of(alloc, index, path.as_str())?;
-            let value = value_of(alloc, index, third.as_str(), profile)?;
-            Ok(Edit::Set(path, value))
-        }
-        Op::Insert => {
-            let path = path_of(alloc, index, path.as_str())?;
-            let value = value_of(alloc, index, third.as_str(), profile)?;
-            Ok(Edit::Insert(path, value))
-        }
-        Op::Rename => Ok(Edit::Rename(path_of(alloc, index, path.as_str())?, third)),
-        Op::Remove => Ok(Edit::Remove(path_of(alloc, index, path.as_str())?)),
-        Op::Table => Ok(Edit::Table(keys_of(alloc, index, path.as_str())?)),
-        Op::Element => Ok(Edit::Element(keys_of(alloc, index, path.as_str())?)),
+    match edit_of(
+        alloc,
+        profile,
+        op,
+        texts.path.as_str(),
+        texts.third.as_str(),
+    ) {
+        Ok(edit) => Ok(edit),
+        Err(fault) => match why_of(fault) {
+            Some(why) => Err(UseFault::Entry { index, why }),
+            None => Err(UseFault::Memory),
+        },
     }
 }
 
-fn path_of(alloc: Global, index: usize, text: &str) -> Result<Path, UseFault>
-    ensures { MatchResult result (IsOnlyPath text.now)
-        (λ fault. (fault ≡ UseFault.Memory) ⊎ IsNoPath index text.now fault) }
+// The reason that a word is for an element.
+fn why_of(fault: WordFault) -> Option<EntryWhy>
+    ensures { result ≡ spec.why_of fault }
 {
-    match Path::read(alloc, text) {
-        Ok(path) => Ok(path),
-        Err(PathFault::BadPath { .. }) => {
-            let why = EntryWhy::Path;
-            Err(UseFault::Entry { index, why })
-        }
-        Err(PathFault::Memory) => Err(UseFault::Memory),
+    match fault {
+        WordFault::Path { .. } => Some(EntryWhy::Path),
+        WordFault::Value(_) => Some(EntryWhy::Value),
+        WordFault::Memory => None,
     }
-}
-
-fn value_of(
-    alloc: Global,
-    index: usize,
-    text: &str,
-    profile: Profile,
-) -> Result<ValueText, UseFault>
-    ensures { MatchResult result (IsGiven profile text.now)
-        (λ fault. (fault ≡ UseFault.Memory) ⊎ IsNoValue profile index text.now fault) }
-{
-    match ValueText::read_in(alloc, text, profile) {
-        Ok(value) => Ok(value),
-        Err(ReadFault::Memory) => Err(UseFault::Memory),
-        Err(_) => {
-            let why = EntryWhy::Value;
-            Err(UseFault::Entry { index, why })
-        }
-    }
-}
-
-// The keys of a path without an index.
-fn keys_of(alloc: Global, index: usize, text: &str) -> Result<Vec<String>, UseFault>
-    ensures { MatchResult result (λ keys. IsKeysText text.now (key_texts keys.items))
-        (λ fault. (fault ≡ UseFault.Memory) ⊎ IsNoKeys index text.now fault) }
-{
-    let path = path_of(alloc, index, text)?;
-    match keys_in(alloc, &path)? {
-        Some(keys) => Ok(keys),
-        None => {
-            let why = EntryWhy::Path;
-            Err(UseFault::Entry { index, why })
-        }
-    }
-}
-
-// The keys of a path; None where it has an index.
-fn keys_in(alloc: Global, path: &Path) -> Result<Option<Vec<String>>, AllocError>
-    ensures { IfOk result (IsKeysIn path.now) }
-{
-    let mut keys = Vec::new(alloc);
-    for number in 0..path.len() {
-        let Some(text) = key_at(path, number) else {
-            return Ok(None);
-        };
-        keys.push(String::from_str(alloc, text)?)?;
-    }
-    Ok(Some(keys))
 }

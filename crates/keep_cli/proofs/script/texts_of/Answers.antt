@@ -1,8 +1,5 @@
-use Rattle.std.proofs.Common.{rules}
+use Rattle.keep_cli.proofs.ScriptLaws.{texts_ok}
 use Rattle.keep_cli.proofs.script.texts_of.Goals as goal
 
-pub returns-in_default-third : goal.returns-in_default-third
-returns-in_default-third c = search rules
-
-pub returns-in-Some-3 : goal.returns-in-Some-3
-returns-in-Some-3 c = search rules
+pub returns : goal.returns
+returns c = λ s read. texts_ok s c.args.index c.args.op c.texts_at.result (c.texts_at.ensures s read)

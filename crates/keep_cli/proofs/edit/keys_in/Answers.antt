@@ -2,7 +2,7 @@ use Rattle.std.proofs.Common.{◌≡◌, ◌<◌, ◌∙◌, ◌++◌, ◌∷◌
 use Rattle.std.specs.Prelude.{string_bytes}
 use Rattle.std.proofs.lemmas.List.{map-append}
 use Rattle.keep_cli.proofs.KeyLaws.{as_path, no_index, one_more}
-use Rattle.keep_cli.proofs.script.keys_in.Goals as goal
+use Rattle.keep_cli.proofs.edit.keys_in.Goals as goal
 
 pub returns-in_default : goal.returns-in_default
 returns-in_default c = λ keys. no_index c.args.path.now c.loop-number.number (omega (arith, c.loop-number-test.true, c.len-number-end.ensures.count)) keys (sym c.in_default.ensures)
