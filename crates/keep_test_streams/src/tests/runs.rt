@@ -230,7 +230,7 @@ fn inputs_may_be_as_long_as_the_limit(rt: HostRuntime) -> Result<(), Fail> {
         (None, TOO_LONG),
         (
             Some(16_777_216),
-            "wrote 20; 257 false; 1 false; ok tokens=2 nodes=1\n",
+            "wrote 20; 258 false; 1 false; ok tokens=2 nodes=1\n",
         ),
         (Some(16_777_217), TOO_LONG),
     ];
