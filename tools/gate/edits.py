@@ -236,6 +236,11 @@ def built_here(name):
     return ROOT / "crates" / name / "out/rlib"
 
 
+def top_of(crate):
+    """The file of a crate that its check begins with: that of a library, else of a program."""
+    return "src/lib.rt" if (ROOT / "crates" / crate / "src/lib.rt").exists() else "src/main.rt"
+
+
 def words_for(crate, built):
     """The words of a check of a crate, as `rt` gives them, over libraries each of which is built in a folder that is told by name."""
     kit = Path(os.path.realpath(shutil.which("rt"))).parent.parent
@@ -244,7 +249,7 @@ def words_for(crate, built):
     named = re.search(rf"^{crate}(?: staticlib)?:([^#\n]*)", (ROOT / "crates.txt").read_text(), re.M)[1].split()
     # (the more crates are below it, the later its edits begin, and the less is there to run beside them at the end)
     level = max(10, 19 - len(below))
-    words = ["setpriv", "--pdeathsig", "TERM", "nice", "-n", str(level), f"{kit}/bin/rattle", "check", "--crate-name", crate, "src/lib.rt"]
+    words = ["setpriv", "--pdeathsig", "TERM", "nice", "-n", str(level), f"{kit}/bin/rattle", "check", "--crate-name", crate, top_of(crate)]
     for name in ["std", *(it for it in named if it not in own)]:
         words += ["--extern", f"{name}={kit}/rlibs/{name}.rlib"]
     words += ["-L", f"dependency={kit}/rlibs"]
