@@ -185,13 +185,18 @@ class Files(unittest.TestCase):
         self.assertEqual(File(self.path).get("a"), "3")
         self.assertEqual(sorted(os.listdir(self.folder.name)), ["a.toml", "link"])
 
+    def written(self):
+        """What a write changes of the file; not when it was read, which reads change."""
+        it = self.path.stat()
+        return it.st_ino, it.st_size, it.st_mode, it.st_mtime_ns, it.st_ctime_ns, self.path.read_bytes()
+
     def test_nothing_written(self):
-        before = self.path.stat()
+        before = self.written()
         with self.assertRaises(Refused), File(self.path) as file:
             file.set("a", 2)
             file.remove("q")
         File(self.path).set("a", 1)
-        self.assertEqual(before, self.path.stat())
+        self.assertEqual(before, self.written())
         self.assertEqual(os.listdir(self.folder.name), ["a.toml"])
 
     def test_blocks_in_one_another(self):
