@@ -50,7 +50,7 @@ none_here q xs n disjoint = rw disjoint (append-nil (numbered_at q xs))
 pub node_at-elsewhere : (q : List Part) (xs : List Numbered) (n : Numbered) → is_at q n.mention ≡ false → node_at (xs ++ n ∷ []) q ≡ node_at xs q
 node_at-elsewhere q xs n disjoint = ap (mentioned_node q) (filter-append (is_numbered_at q) xs (n ∷ []) ∙ none_here q xs n disjoint)
 
-paths-nodes : (ns : List Numbered) (ps : List (List Part)) → map node_path (map (node_at ns) ps) ≡ ps
+pub paths-nodes : (ns : List Numbered) (ps : List (List Part)) → map node_path (map (node_at ns) ps) ≡ ps
 paths-nodes ns [] = refl
 paths-nodes ns (p ∷ ps) = ap (λ qs. p ∷ qs) (paths-nodes ns ps)
 

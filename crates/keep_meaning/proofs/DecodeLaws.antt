@@ -1,4 +1,11 @@
 -- What a string means by its pieces is what is read from its text from the left to the right.
+--
+-- By induction over the pieces (`unescaped`): a plain byte is read as itself, an escape as the character that it names
+-- (`letter_read`, `number_read`), and a backslash at a line's end takes all blanks after it, since the piece that
+-- follows begins with none (`no_more_blank`). Over many lines the first newline is left out (`ml_basic_read`). The text
+-- between the quotation marks is found by their number (`one_between`, `three_between`).
+--
+-- Theorem: `means_value`.
 use Rattle.std.proofs.Common.{◌≡◌, ℕ, ◌-◌, ◌<◌, Bool, true, false, not, ◌||◌, ◌==◌, IsTrue, List, [], ◌∷◌, ◌++◌, length, refl, sym, ap, ◌∙◌, arith, inl, inr, length-append, take_at}
 use Rattle.std.specs.Prelude.{slice_index, encode_utf8}
 use Rattle.std.specs.List.{prefix_len, list_all}

@@ -8,7 +8,7 @@ use Rattle.std.proofs.lemmas.List.Folds.{list_any_at, Any-from_list_any}
 use Rattle.std.proofs.lemmas.List.Quantifiers.{all_pairs_push}
 use Rattle.keep_path.specs.Path.{same_path}
 use Rattle.keep_meaning.specs.Rules.{Mark, allows, Allows, why_of, ObeysRules, IsRefused, IsFirstFaulty}
-use Rattle.keep_meaning.specs.Faults.{Fault, refuses, first_fault_after, first_fault}
+use Rattle.keep_meaning.specs.Faults.{Fault, refuses, first_fault_after}
 use Rattle.keep_path.proofs.Shared.{path_decides}
 
 -- what the computed fault tells of the marks
@@ -56,10 +56,6 @@ pub first_fault_after-states : (earlier more : List Mark) → ObeysRules earlier
 first_fault_after-states earlier [] obeys = subst ObeysRules (sym (append-nil earlier)) obeys
 first_fault_after-states earlier (m ∷ ms) obeys =
     step earlier m ms (list_any (refuses m) earlier) refl obeys (λ free. first_fault_after-states (earlier ++ m ∷ []) ms (pushed earlier m obeys free))
-
--- None exactly where the rules hold, else the first faulty mark
-pub first_fault-states : (ms : List Mark) → StatesEdits ms (first_fault ms)
-first_fault-states ms = first_fault_after-states [] ms (λ i j d lt within. absurd (omega arith))
 
 -- a document with a first faulty mark does not obey the rules
 pub not_both : (ms : List Mark) (n : ℕ) (why : Why) → IsFirstFaulty ms n why → ObeysRules ms → ⊥

@@ -5,8 +5,8 @@ use Rattle.std.proofs.lemmas.List.{length-append, append-nil}
 use Rattle.std.proofs.lemmas.List.Concat.{flat_map-append}
 use Rattle.keep_types.specs.declared.leaf.Leaf.TheVariants as leaf
 use Rattle.keep_types.specs.declared.syntax.KeyPart.{KeyPart}
-use Rattle.keep_syntax.specs.Tree.{Written, Gap, Further, Key, header, element, token, further_leaves, key_leaves, content_leaves, text_of}
-use Rattle.keep_syntax.specs.Numbered.{width, part_at, further_parts, key_parts, key_count, content_parts}
+use Rattle.keep_syntax.specs.Tree.{Written, Further, Key, token, further_leaves, key_leaves, text_of}
+use Rattle.keep_syntax.specs.Numbered.{width, part_at, further_parts, key_parts, key_count}
 use Rattle.keep_meaning.specs.Meaning.{key_value, further_value, keys_of, string_value}
 use Rattle.keep_meaning.specs.KeyText.{part_text}
 use Rattle.keep_meaning.specs.KeyText.{keys_in}

@@ -11,4 +11,14 @@ pub mod KeyTextLemmas
 pub mod LinePlaceLemmas
 pub mod KeyPlaceLemmas
 pub mod MeaningLaws
+pub mod MetLemmas
+pub mod LineNumberLemmas
+pub mod LineNodeLemmas
+pub mod NamedLemmas
+pub mod ElementLemmas
+pub mod FoundLemmas
+pub mod MetLineLemmas
+pub mod LineLaws
+pub mod LineFoundLaws
+pub mod BodyLaws
 pub mod Shared

@@ -1,17 +1,23 @@
 -- The numbers are those that keep_syntax gives to statements, values and key parts.
+--
+-- The numbers of mentions are counted along the statements; keep_syntax counts along the lines of the tree. A statement
+-- is one statement, each key part is one mark, and each value one mention that states a value, so both counts go up by
+-- the same at each entry and each line. So by induction over entries, content and lines they agree.
+--
+-- Theorems: `count_from-keys`, `valued-entries`, `valued-content` and `statements-count`.
 use Rattle.std.proofs.Common.{◌≡◌, ℕ, suc, ◌+◌, Bool, true, false, if◌then◌else◌, List, [], ◌∷◌, ◌++◌, length, map, refl, sym, ap, ◌∙◌, arith, Option, Some, None}
 use Rattle.std.specs.Prelude.{◌==◌}
 use Rattle.std.specs.List.{filter_map, cons_option}
 use Rattle.std.proofs.lemmas.List.{length-append, append_assoc}
 use Rattle.keep_syntax.specs.Tree.{Name, Entries, none, entry, Content, blank, keyval, header, element, Line, Ended, Document, name_leaves, line_leaves, ended_leaves}
 use Rattle.keep_syntax.specs.Numbered as syntax
-use Rattle.keep_syntax.specs.Numbered.{over_lines, line_values, line_statements, content_values, content_statements, line_start, next_line, first_line, entries_values, value_count, nested_of, rest_of}
+use Rattle.keep_syntax.specs.Numbered.{over_lines, line_statements, content_values, content_statements, next_line, first_line, entries_values, value_count, nested_of, rest_of}
 use Rattle.keep_types.specs.declared.syntax.Start.{Start}
 use Rattle.keep_path.specs.Path.{Part, key, index}
 use Rattle.keep_meaning.specs.Fact.{Fact}
 use Rattle.keep_meaning.specs.Rules.{Mark}
-use Rattle.keep_meaning.specs.Marks.{MentionKind, through, past, define, element as kinds_element, dotted, value as mentions_value, begun, passed, item, Mention, Statement, below, Reading, statement_mentions, next_reading, reading_after, mentions_from, marks, with_path, role_of, elements_of, entered_path, passing_mentions, header_prefixes, header_path, start}
-use Rattle.keep_meaning.specs.Meaning.{key_value, further_value, keys_of, body_fact, keyed_mentions, entry_mentions, entries_mentions, statement_of, line_mentions, after_line, lines_mentions, line_of, mentions_in}
+use Rattle.keep_meaning.specs.Marks.{MentionKind, through, past, define, element as kinds_element, dotted, value as mentions_value, begun, passed, item, Mention, Statement, below, Reading, statement_mentions, next_reading, reading_after, mentions_from, marks, with_path, role_of, elements_of, entered_path, passing_mentions, header_prefixes, header_path}
+use Rattle.keep_meaning.specs.Meaning.{key_value, further_value, keys_of, body_fact, keyed_mentions, entry_mentions, entries_mentions, statement_of, line_of}
 use Rattle.keep_meaning.specs.Counts.{Count, is_value, is_mark, one_if, count_with_mention, numbered_mentions, count_after, next_count, count_from, numbered_from, line_statement, statements_in}
 use Rattle.keep_meaning.proofs.PlaceLemmas.{marked-append}
 

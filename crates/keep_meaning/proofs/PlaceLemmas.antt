@@ -1,22 +1,25 @@
--- Each mark has its key part, so that the computed fault and its place are those of the definition.
-use Rattle.std.proofs.Common.{◌≡◌, ℕ, zero, suc, ◌+◌, ◌<◌, Bool, true, false, if◌then◌else◌, List, [], ◌∷◌, ◌++◌, length, map, refl, sym, ap, ◌∙◌, arith, Option, Some, None}
-use Rattle.std.specs.Prelude.{slice_get, ◌==◌}
+-- A document has as many marks as key parts, so each mark has its key part.
+--
+-- `marked` counts the mentions that are key parts. By induction over keys, entries, content and lines it is the number
+-- of key parts that keep_syntax lists of them: each key of a header and each part of a keyval's key is one of both, and
+-- items have none.
+--
+-- Theorem: `marked-parts`.
+use Rattle.std.proofs.Common.{◌≡◌, ℕ, suc, ◌+◌, Bool, true, false, if◌then◌else◌, List, [], ◌∷◌, ◌++◌, length, map, refl, sym, ap, ◌∙◌, arith, Option, Some, None}
+use Rattle.std.specs.Prelude.{◌==◌}
 use Rattle.std.specs.List.{cons_option}
 use Rattle.std.proofs.lemmas.List.{length-append}
 use Rattle.std.proofs.lemmas.List.Elements.{filter_map-append}
-use Rattle.keep_syntax.specs.declared.fault.Why.{Why}
-use Rattle.keep_types.specs.declared.syntax.KeyPart.{KeyPart}
 use Rattle.keep_syntax.specs.Tree.{Further, Name, Entries, none, entry, Value, Content, blank, keyval, header, element, Line, Ended, Document, name_leaves}
 use Rattle.keep_syntax.specs.Numbered as syntax
 use Rattle.keep_syntax.specs.Numbered.{Count, over_lines, line_parts, content_parts, content_start, next_line, first_line, key_parts, further_parts, named_parts, name_count, part_count, entries_parts}
 use Rattle.keep_types.specs.declared.role.Role.{Role}
 use Rattle.keep_path.specs.Path.{Part, key, index}
 use Rattle.keep_meaning.specs.Fact.{Fact}
-use Rattle.keep_meaning.specs.Rules.{Mark, ObeysRules, IsFirstFaulty}
+use Rattle.keep_meaning.specs.Rules.{Mark}
 use Rattle.keep_meaning.specs.Marks.{Mention, below, Reading, statement_mentions, mark_of, marks, with_path, role_of, elements_of, entered_path, passing_mentions, header_prefixes, header_path, start, define, begun, element as kinds_element, value as marks_value}
 use Rattle.keep_meaning.specs.Meaning.{keys_of, further_value, key_value, body_fact, keyed_mentions, entry_mentions, entries_mentions, mentions_of_value, statement_of, line_mentions, after_line, lines_mentions, line_of, mentions_in}
-use Rattle.keep_meaning.specs.Faults.{Fault, FaultAt, first_fault, IsFirstFaultAt, at_part, fault_at, fault_in, fault_in_value, parts_in}
-use Rattle.keep_meaning.proofs.FaultLemmas.{StatesEdits, first_fault-states}
+use Rattle.keep_meaning.specs.Faults.{parts_in}
 
 -- how many marks there are
 abbrev pub marked : List Mention → ℕ
@@ -151,22 +154,3 @@ marked-parts s = marked-lines start (first_line s) s.ended s.last
 -- so has a value
 pub marked-parts_in : (v : Value) → length (marks (mentions_of_value v)) ≡ length (parts_in v)
 marked-parts_in v = marked-entries 0 v.nested ∙ sym (length-entries_parts (syntax.nested_start 0 v.body) v.nested)
-
--- ---- the computed fault
-
--- what it tells: where and why, or that the rules hold
-abbrev pub StatesPlace : List Mark → List KeyPart → Option FaultAt → Type 0
-StatesPlace ms parts None = ObeysRules ms
-StatesPlace ms parts (Some f) = IsFirstFaultAt ms parts f.at f.why
-
-short : (ms : List Mark) (n : ℕ) (why : Why) → IsFirstFaulty ms n why → n < length ms
-short ms n why first = omega (arith, ap length first.here, length-append first.before (first.mark ∷ first.after), first.number)
-
-stated : (ms : List Mark) (parts : List KeyPart) (f : Fault) (o : Option KeyPart) → IsFirstFaulty ms f.number f.why → slice_get parts f.number ≡ o → (o ≡ None → ⊥) → StatesPlace ms parts (at_part f.why o)
-stated ms parts f None first here nested = absurd (nested refl)
-stated ms parts f (Some part) first here nested = record { number = f.number; part = part; first = first; occurs = here; here = refl }
-
-there : (parts : List KeyPart) (n : ℕ) → n < length parts → slice_get parts n ≡ None → ⊥
-there [] n lt e = absurd (omega arith)
-there (p ∷ ps) zero lt e = absurd cc
-there (p ∷ ps) (suc n) lt e = there ps n (omega arith) e

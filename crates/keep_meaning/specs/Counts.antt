@@ -13,7 +13,7 @@ pub record Count : Type 0 where
   pub values : ℕ
   pub keys : ℕ
 
--- A mention, with what comes before it. So the three numbers are those of its statement, of the value that it tells
+-- A mention, with what comes before it. So the three numbers are those of its statement, of the value that it states
 -- (for a keyval on its way the keyval's value), and of the key part that makes it.
 pub record Numbered : Type 0 where
   pub mention : Mention

@@ -1,5 +1,5 @@
 -- The decoded texts of the key parts of a document.
-use Rattle.std.specs.Prelude.{ℕ, ◌≤◌, IsTrue, IsCharBoundary, List, slice_range, string_bytes, ◌-◌, map, take, drop}
+use Rattle.std.specs.Prelude.{ℕ, ◌≤◌, IsTrue, IsCharBoundary, List, slice_range, string_bytes, map, take, drop}
 use Rattle.keep_types.specs.declared.leaf.Profile.TheVariants.{Wide}
 use Rattle.keep_token.specs.Leaves.{IsLeaf, is_key_leaf}
 use Rattle.keep_types.specs.declared.syntax.KeyPart.{KeyPart}

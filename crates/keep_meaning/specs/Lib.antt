@@ -4,6 +4,7 @@ pub mod Marks
 pub mod Meaning
 pub mod Counts
 pub mod Nodes
+pub mod LinesMore
 pub mod Faults
 pub mod ReadText
 pub mod Laws

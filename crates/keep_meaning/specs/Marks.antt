@@ -140,18 +140,3 @@ fact_of (item fact) = Some fact
 fact_of define = Some table
 fact_of begun = Some table
 fact_of _ = None
-
-pub record Pair : Type 0 where
-  pub path : List Part
-  pub fact : Fact
-
-abbrev pub with_fact : List Part → Option Fact → Option Pair
-with_fact path None = None
-with_fact path (Some fact) = Some (record { path = path; fact = fact })
-
-abbrev pub pair_of : Mention → Option Pair
-pair_of m = with_fact m.path (fact_of m.kind)
-
--- The tree: the pairs of path and fact, in the order of the text.
-abbrev pub tree : List Mention → List Pair
-tree = filter_map pair_of

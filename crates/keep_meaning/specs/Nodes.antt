@@ -119,7 +119,7 @@ fact_kind fact.array = kind.Array
 fact_kind fact.inline = kind.Inline
 fact_kind fact.table = kind.Table
 
--- a node of which neither a value nor a header tells is a table
+-- a node that neither a value nor a header names is a table
 abbrev pub kind_or_table : Option Fact → Kind
 kind_or_table None = kind.Table
 kind_or_table (Some f) = fact_kind f

@@ -1,12 +1,12 @@
 -- The definition rules, as a table over pairs of marks. (TOML 1.0.0: Keys, Table, Inline Table, Array of Tables. That
 -- dotted keys may pass a table that is there only because a header went through it is this project's own choice.)
-use Rattle.std.specs.Prelude.{◌≡◌, ℕ, Bool, true, false, IsTrue, List, ◌∷◌, ◌++◌, length, AllPairs, Any, map, filter}
+use Rattle.std.specs.Prelude.{◌≡◌, ℕ, Bool, true, false, IsTrue, List, ◌∷◌, ◌++◌, length, AllPairs, Any}
 use Rattle.keep_types.specs.declared.role.Role.{Role}
 use Rattle.keep_types.specs.declared.role.Role.TheVariants.{Through, Past, Define, Element, Dotted, Value}
 use Rattle.keep_syntax.specs.declared.fault.Why.{Why}
 use Rattle.keep_syntax.specs.declared.fault.Why.TheVariants.{NotATable, DefinedTwice, NotAnArray, NotByDots}
 use Rattle.keep_syntax.specs.declared.fault.Why.TheVariants.{DuplicateKey}
-use Rattle.keep_path.specs.Path.{Part, same_path}
+use Rattle.keep_path.specs.Path.{Part}
 
 -- A mark: a key part with its role and its full path.
 pub record Mark : Type 0 where
@@ -58,7 +58,3 @@ pub record IsFirstFaulty (marks : List Mark) (n : ℕ) (why : Why) : Type 0 wher
   pub obeys : ObeysRules before
   pub refused : IsRefused before mark
   pub reason : why ≡ why_of mark.role
-
--- the roles of the marks at a path
-abbrev pub roles_at : List Part → List Mark → List Role
-roles_at path marks = map (λ m. m.role) (filter (λ m. same_path m.path path) marks)

@@ -12,7 +12,7 @@ use std::alloc::{AllocError, Global};
 /// The decoded text of a key part: as it is written in the document, or a copy with its escapes replaced.
 #[derive(Drop)]
 pub enum KeyText<'a> {
-    /// The bytes of the document, without marks.
+    /// The bytes of the document, without quotation marks.
     Plain(&'a str),
     /// A copy.
     Decoded(String),

@@ -1,4 +1,4 @@
-//! Laws of what strings mean and of how many nodes there are, each the contract of a function that does nothing.
+//! Laws of what strings mean and of which nodes there are, each the contract of a function that does nothing.
 ghost use Rattle.keep_meaning.specs.Laws as spec;
 
 /// A string or a key part means, by the pieces that it is made of, what is computed from its text byte by byte.
@@ -10,4 +10,17 @@ pub fn string_value_is_meaning()
 pub fn node_bound()
     ensures few { spec.NodesAreFew }
     ensures reached { spec.NodesReachBound }
+{}
+
+/// Of a document with one line more, a keyval with one key part and a value in which nothing is said, the facts about
+/// all nodes are those of the document without it, and one node more: the numbers from the line's on grow by one.
+pub fn line_more()
+    ensures added { spec.LineAddsNode }
+    ensures taken { spec.LineTakesNode }
+{}
+
+/// The facts about the nodes state where the node of such a line is among them: of a document that obeys the definition
+/// rules, those from its place on, and no others, are first met after the line.
+pub fn line_found()
+    ensures { spec.LineIsFound }
 {}

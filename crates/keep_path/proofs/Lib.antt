@@ -1,6 +1,7 @@
 mod ByteLaws
 mod PathLemmas
 mod MovedLemmas
+mod RenumberedLaws
 mod PathTextLaws
 mod PathReadLaws
 mod FirstIndexLaws

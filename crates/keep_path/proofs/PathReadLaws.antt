@@ -1,4 +1,12 @@
 -- A path text is read step by step: what is found is a step of it, and each of its steps is found.
+--
+-- `SoFar` is kept at each step: the bytes that were read are the text of the path so far, and each path that has the
+-- whole text continues from that path with the bytes that are left. A step that is read keeps it (`so_far_more`), for a
+-- key after a dot (`key_step`), the first key and an index in brackets (`index_step`): the text of a step ends where
+-- the scan of it ends, as what follows a step can't be part of it (`steps_stop`). At the end of the text the path is
+-- its only one.
+--
+-- Theorems: `so_far_more`, `so_far_first` and `so_far_done`; `dot_stuck` for a dot without a key.
 use Rattle.std.proofs.Common.{◌≡◌, ℕ, suc, ◌+◌, ◌<◌, ◌≤◌, true, false, List, [], ◌∷◌, ◌++◌, length, take, drop, refl, sym, ap, ◌∙◌, subst, arith, append_assoc, append-nil, length-drop, length-append, Option, Some, None}
 use Rattle.std.proofs.lemmas.List.{drop-drop, drop-take, drop_all, drop_at, take-append-drop, take-take, take_all, take_at}
 use Rattle.keep_types.specs.declared.leaf.Leaf.{Leaf}
@@ -49,11 +57,6 @@ strict_means _ t value k h m = absurd cc
 
 pub key_stated_of : (l : Leaf) (t value : List ℕ) → is_key_leaf l ≡ true → IsLeaf Strict l t → Means Wide l t value → KeyText value t
 key_stated_of l t value k h m = (l, k, h, strict_means l t value k h m)
-
--- a key part before steps is the one that is found
-pub record KeyIsFound (value rest : List ℕ) (parts : List Part) (l : Leaf) (n : ℕ) (text : List ℕ) : Type 0 where
-  pub means : Means Strict l (take n text) value
-  pub after : StepsText parts (drop n text)
 
 pub key_at_start : (value : List ℕ) (parts : List Part) (text : List ℕ) → (a b : List ℕ) → text ≡ a ++ b → KeyText value a → StepsText parts b
     → (l : Leaf) × (key_at Strict text ≡ Some (l, length a)) × Means Strict l a value

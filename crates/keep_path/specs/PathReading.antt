@@ -33,7 +33,7 @@ StepsGoOn text n =
 abbrev pub NoSteps : List ℕ → Type 0
 NoSteps text = (k : ℕ) → 0 < k → k ≤ length text → SomeSteps (take k text) → ⊥
 
--- a step of n bytes, with which all steps that the text tells begin
+-- a step of n bytes, with which all steps that have this text begin
 pub record StepRead (text : List ℕ) (part : Part) (n : ℕ) : Type 0 where
   pub some : 0 < n
   pub within : n ≤ length text

@@ -46,7 +46,7 @@ abbrev pub StepsText : List Part → Language
 StepsText [] = Just []
 StepsText (part ∷ parts) = StepText part ⨾ StepsText parts
 
--- the text tells the path
+-- the text is the text of the path
 abbrev pub IsPathText : List ℕ → List Part → Type 0
 IsPathText text [] = text ≡ []
 IsPathText text (key value ∷ parts) = (KeyText value ⨾ StepsText parts) text

@@ -9,4 +9,4 @@ mod step;
 
 pub use fault::PathFault;
 pub use path::Path;
-pub use step::Step;
+pub use step::{Step, push_index};

@@ -1,5 +1,6 @@
 //! The steps of paths, and their texts.
-ghost use Rattle.std.specs.Prelude.{◌≡◌, ◌++◌, ◌↔◌, IsTrue, OnErr, OnOk, length, map, min, string_bytes};
+ghost use Rattle.std.specs.Prelude.{◌≡◌, ◌+◌, ◌++◌, ◌<◌, ◌≤◌, ◌↔◌, IsTrue, OnErr, OnOk, length, map, min, string_bytes};
+ghost use Rattle.std.specs.Prelude.{string_capacity};
 ghost use Rattle.std.specs.List.{flat_map};
 ghost use Rattle.keep_path.specs.Path.{key};
 ghost use Rattle.keep_path.specs.PathText.{first_text, index_text, part_text};
@@ -85,10 +86,14 @@ impl Step {
     }
 }
 
-/// Adds an index in brackets. All memory is taken before the text changes: if it runs out, the text is unchanged.
-fn push_index(out: &mut String, index: usize) -> Result<(), AllocError>
+/// Adds an index in brackets, as the text of a path has it, and takes no memory but for the room of `out`. All of it is
+/// taken before the text changes: if it runs out, the text is unchanged.
+pub fn push_index(out: &mut String, index: usize) -> Result<(), AllocError>
     ensures pushed { OnOk result (string_bytes out.new ≡ string_bytes out.old ++ index_text index) }
     ensures preserved { OnErr result (string_bytes out.new ≡ string_bytes out.old) }
+    ensures room { string_capacity out.old ≤ string_capacity out.new }
+    ensures full { OnErr result
+        (string_capacity out.old < length (string_bytes out.old) + length (index_text index)) }
 {
     let mut buffer = itoa::Buffer::new();
     let digits = buffer.format(index);

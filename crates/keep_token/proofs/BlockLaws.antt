@@ -1,8 +1,15 @@
 -- A run of bytes that pass a test, seen sixteen at a time by the mask of those that fail it.
+--
+-- A block's lanes are compared all at once: what a lane is set to is what the tests say of its byte (`lane_is`, by
+-- cases of five truth values), so the mask's bits are those of the bytes that end a run (`block_ends`). Where the mask
+-- is 0 the run goes through the block (`run_through`); else it ends at the lowest bit (`run_stops`). The classes of
+-- bytes that the code tests are those of the grammar, which is computed for each of the 256 bytes (`upto`).
+--
+-- Theorems: `block_ends`, `run_through`, `run_stops`, and `comment_class`, `basic_class` and `literal_class`.
 use Rattle.std.proofs.Common.{◌≡◌, ℕ, zero, suc, ◌+◌, ◌*◌, ◌%◌, ◌^◌, ◌<◌, ◌≤◌, Bool, true, false, not, cond, eqb, ltb, List, [], ◌∷◌, map, length, drop, replicate, bit_and, inl, inr, subst, refl, sym, ap, ap₂, ◌∙◌, arith, w8, Fits}
-use Rattle.std.specs.Prelude.{◌&&◌, ◌||◌, nat_le}
+use Rattle.std.specs.Prelude.{◌&&◌, ◌||◌, ◌==◌, nat_le}
 use Rattle.std.specs.List.{prefix_len}
-use Rattle.std.proofs.lemmas.Bool.{and_parts, cases_lt, eq-eqb, ne_eqb, eqb-true, eqb-false}
+use Rattle.std.proofs.lemmas.Bool.{and_parts, cases_Bool, cases_lt, eq-eqb, ne_eqb, eqb-true, eqb-false}
 use Rattle.std.proofs.lemmas.Bool.Decides.{leb_tells}
 use Rattle.std.proofs.lemmas.List.{length-map, length-drop, drop-drop}
 use Rattle.std.proofs.lemmas.List.Folds.{prefix_len-append}
@@ -71,39 +78,43 @@ and_set true false = refl
 and_set false true = refl
 and_set false false = refl
 
--- the lane of a byte, by its five tests
-abbrev lane : Bool → Bool → Bool → Bool → Bool → ℕ
-lane low tab del a b = bit_or (bit_or (bit_and (set_by low) (set_by (not tab))) (set_by del)) (bit_or (set_by a) (set_by b))
+-- the lane of a byte, by its six tests
+abbrev lane : Bool → Bool → Bool → Bool → Bool → Bool → ℕ
+lane low tab del also a b = bit_or (bit_and (bit_or (bit_and (set_by low) (set_by (not tab))) (set_by del)) (set_by (not also))) (bit_or (set_by a) (set_by b))
 
-lane_is : (low tab del a b : Bool) → top 7 (lane low tab del a b) ≡ (((low && not tab) || del) || (a || b))
-lane_is low tab del a b =
+lane_is : (low tab del also a b : Bool) → top 7 (lane low tab del also a b) ≡ ((((low && not tab) || del) && not also) || (a || b))
+lane_is low tab del also a b =
     let one = ap (λ (n : ℕ). bit_or n (set_by del)) (and_set low (not tab)) ∙ or_set (low && not tab) del in
-    let both = ap₂ bit_or one (or_set a b) ∙ or_set ((low && not tab) || del) (a || b) in
-    ap (top 7) both ∙ top_set (((low && not tab) || del) || (a || b))
+    let two = ap (λ (n : ℕ). bit_and n (set_by (not also))) one ∙ and_set ((low && not tab) || del) (not also) in
+    let both = ap₂ bit_or two (or_set a b) ∙ or_set (((low && not tab) || del) && not also) (a || b) in
+    ap (top 7) both ∙ top_set ((((low && not tab) || del) && not also) || (a || b))
 
-not_plain : (c m : Bool) → (not c || m) ≡ not (c && not m)
-not_plain true true = refl
-not_plain true false = refl
-not_plain false m = refl
+not_plain : (c also m : Bool) → ((not c && not also) || m) ≡ not ((c || also) && not m)
+not_plain true also true = refl
+not_plain true also false = refl
+not_plain false true true = refl
+not_plain false true false = refl
+not_plain false false m = refl
 
-abbrev lane_of : ℕ → ℕ → ℕ → ℕ
-lane_of a b x = lane (ltb x 0x20) (eqb x 9) (eqb x 0x7F) (eqb x a) (eqb x b)
+abbrev lane_of : ℕ → ℕ → ℕ → ℕ → ℕ
+lane_of also a b x = lane (ltb x 0x20) (eqb x 9) (eqb x 0x7F) (eqb x also) (eqb x a) (eqb x b)
 
-each_lane : (a b : ℕ) (v : List ℕ) → Each1 (Fits w8) v → map (top 7) (map (lane_of a b) v) ≡ map (ends_run a b) v
-each_lane a b [] fits = refl
-each_lane a b (x ∷ xs) fits =
+each_lane : (also a b : ℕ) (v : List ℕ) → Each1 (Fits w8) v → map (top 7) (map (lane_of also a b) v) ≡ map (ends_run also a b) v
+each_lane also a b [] fits = refl
+each_lane also a b (x ∷ xs) fits =
     let is : control x ≡ not (is_comment x) = same_is _ _ (upto_sound right_control 256 x right_controls fits.0.fits) in
-    let here : top 7 (lane_of a b x) ≡ ends_run a b x = lane_is (ltb x 0x20) (eqb x 9) (eqb x 0x7F) (eqb x a) (eqb x b) ∙ ap (λ (c : Bool). c || (eqb x a || eqb x b)) is ∙ not_plain (is_comment x) (eqb x a || eqb x b) in
-    ap₂ (λ (c : Bool) (cs : List Bool). c ∷ cs) here (each_lane a b xs fits.1)
+    let here : top 7 (lane_of also a b x) ≡ ends_run also a b x = lane_is (ltb x 0x20) (eqb x 9) (eqb x 0x7F) (eqb x also) (eqb x a) (eqb x b) ∙ ap (λ (c : Bool). (c && not (eqb x also)) || (eqb x a || eqb x b)) is ∙ not_plain (is_comment x) (eqb x also) (eqb x a || eqb x b) in
+    ap₂ (λ (c : Bool) (cs : List Bool). c ∷ cs) here (each_lane also a b xs fits.1)
 
-pub block_ends : (a b : ℕ) (v : List ℕ) → length v ≡ 16 → Each1 (Fits w8) v
-    → mask_l (map (top 7) (zip2 bit_or (zip2 bit_or (zip2 bit_and (zip2 below v (replicate 16 0x20)) (zip2 other v (replicate 16 9))) (zip2 equal v (replicate 16 0x7F))) (zip2 bit_or (zip2 equal v (replicate 16 a)) (zip2 equal v (replicate 16 b))))) % 2 ^ 64 ≡ mask_l (map (ends_run a b) v)
-block_ends a b v long fits =
+pub block_ends : (also a b : ℕ) (v : List ℕ) → length v ≡ 16 → Each1 (Fits w8) v
+    → mask_l (map (top 7) (zip2 bit_or (zip2 bit_and (zip2 bit_or (zip2 bit_and (zip2 below v (replicate 16 0x20)) (zip2 other v (replicate 16 9))) (zip2 equal v (replicate 16 0x7F))) (zip2 other v (replicate 16 also))) (zip2 bit_or (zip2 equal v (replicate 16 a)) (zip2 equal v (replicate 16 b))))) % 2 ^ 64 ≡ mask_l (map (ends_run also a b) v)
+block_ends also a b v long fits =
     let low = ap₂ (zip2 bit_and) (zip2_splat below v 16 0x20 long) (zip2_splat other v 16 9 long) ∙ zip2-map bit_and (λ x. below x 0x20) (λ x. other x 9) v in
-    let control = ap₂ (zip2 bit_or) low (zip2_splat equal v 16 0x7F long) ∙ zip2-map bit_or (λ x. bit_and (below x 0x20) (other x 9)) (λ x. equal x 0x7F) v in
+    let some = ap₂ (zip2 bit_or) low (zip2_splat equal v 16 0x7F long) ∙ zip2-map bit_or (λ x. bit_and (below x 0x20) (other x 9)) (λ x. equal x 0x7F) v in
+    let control = ap₂ (zip2 bit_and) some (zip2_splat other v 16 also long) ∙ zip2-map bit_and (λ x. bit_or (bit_and (below x 0x20) (other x 9)) (equal x 0x7F)) (λ x. other x also) v in
     let marks = ap₂ (zip2 bit_or) (zip2_splat equal v 16 a long) (zip2_splat equal v 16 b long) ∙ zip2-map bit_or (λ x. equal x a) (λ x. equal x b) v in
-    let lanes = ap₂ (zip2 bit_or) control marks ∙ zip2-map bit_or (λ x. bit_or (bit_and (below x 0x20) (other x 9)) (equal x 0x7F)) (λ x. bit_or (equal x a) (equal x b)) v in
-    ap (λ (l : List ℕ). mask_l (map (top 7) l) % 2 ^ 64) lanes ∙ ap (λ (l : List Bool). mask_l l % 2 ^ 64) (each_lane a b v fits) ∙ mask_l-mod (map (ends_run a b) v) 64 (omega (arith, length-map v (ends_run a b)))
+    let lanes = ap₂ (zip2 bit_or) control marks ∙ zip2-map bit_or (λ x. bit_and (bit_or (bit_and (below x 0x20) (other x 9)) (equal x 0x7F)) (other x also)) (λ x. bit_or (equal x a) (equal x b)) v in
+    ap (λ (l : List ℕ). mask_l (map (top 7) l) % 2 ^ 64) lanes ∙ ap (λ (l : List Bool). mask_l l % 2 ^ 64) (each_lane also a b v fits) ∙ mask_l-mod (map (ends_run also a b) v) 64 (omega (arith, length-map v (ends_run also a b)))
 
 -- ---- a run, block by block
 
@@ -176,8 +187,8 @@ between_over from to c h = elim (leb_tells c to) [ inl p ↦ absurd (let le = p.
 comment_over : (c : ℕ) → 256 ≤ c → is_comment c ≡ false
 comment_over c h = rw (eq_over 9 c (omega arith), between_over 0x20 0x7E c (omega arith), between_over 0x80 0xFF c (omega arith)) refl
 
-plain_over : (a b c : ℕ) → 256 ≤ c → is_plain a b c ≡ false
-plain_over a b c h = rw (comment_over c h) refl
+plain_over : (also a b c : ℕ) → also < 256 → 256 ≤ c → is_plain also a b c ≡ false
+plain_over also a b c small h = rw (comment_over c h, eq_over also c (omega arith)) refl
 
 basic_over : (c : ℕ) → 256 ≤ c → is_basic c ≡ false
 basic_over c h =
@@ -198,18 +209,39 @@ module _ (p q : ℕ → Bool) (bytes : upto (λ x. same (p x) (q x)) 256 ≡ tru
   one_run [] = refl
   one_run (x ∷ xs) = ap₂ (λ b n. cond b (1 + n) 0) (one_class x) (one_run xs)
 
--- a run of a class goes on after as many bytes as a run of plain bytes is known to have
-module _ (q : ℕ → Bool) (a b : ℕ) (bytes : upto (λ x. same (is_plain a b x) (q x)) 256 ≡ true) (none : (x : ℕ) → 256 ≤ x → q x ≡ false) where
-  pub class_run : (d : List ℕ) (i : ℕ) → prefix_len (is_plain a b) d ≡ i + prefix_len (is_plain a b) (drop i d) → prefix_len q d ≡ i + prefix_len q (drop i d)
+-- a run of a class goes on after as many bytes as a run of plain bytes, with no control character but the tab, is known
+-- to have
+module _ (q : ℕ → Bool) (a b : ℕ) (bytes : upto (λ x. same (is_plain 9 a b x) (q x)) 256 ≡ true) (none : (x : ℕ) → 256 ≤ x → q x ≡ false) where
+  pub class_is : (x : ℕ) → is_plain 9 a b x ≡ q x
+  class_is = one_class (is_plain 9 a b) q bytes (λ x far. plain_over 9 a b x (omega arith) far) none
+
+  pub class_run : (d : List ℕ) (i : ℕ) → prefix_len (is_plain 9 a b) d ≡ i + prefix_len (is_plain 9 a b) (drop i d) → prefix_len q d ≡ i + prefix_len q (drop i d)
   class_run d i run =
-      let same_run : (xs : List ℕ) → prefix_len (is_plain a b) xs ≡ prefix_len q xs = one_run (is_plain a b) q bytes (plain_over a b) none in
+      let same_run : (xs : List ℕ) → prefix_len (is_plain 9 a b) xs ≡ prefix_len q xs = one_run (is_plain 9 a b) q bytes (λ x far. plain_over 9 a b x (omega arith) far) none in
       sym (same_run d) ∙ run ∙ ap (λ (n : ℕ). i + n) (same_run (drop i d))
 
-pub comment_class : (d : List ℕ) (i : ℕ) → prefix_len (is_plain 0x7F 0x7F) d ≡ i + prefix_len (is_plain 0x7F 0x7F) (drop i d) → prefix_len is_comment d ≡ i + prefix_len is_comment (drop i d)
+pub comment_class : (d : List ℕ) (i : ℕ) → prefix_len (is_plain 9 0x7F 0x7F) d ≡ i + prefix_len (is_plain 9 0x7F 0x7F) (drop i d) → prefix_len is_comment d ≡ i + prefix_len is_comment (drop i d)
 comment_class = class_run is_comment 0x7F 0x7F refl comment_over
 
-pub basic_class : (d : List ℕ) (i : ℕ) → prefix_len (is_plain 0x22 0x5C) d ≡ i + prefix_len (is_plain 0x22 0x5C) (drop i d) → prefix_len is_basic d ≡ i + prefix_len is_basic (drop i d)
+pub basic_class : (d : List ℕ) (i : ℕ) → prefix_len (is_plain 9 0x22 0x5C) d ≡ i + prefix_len (is_plain 9 0x22 0x5C) (drop i d) → prefix_len is_basic d ≡ i + prefix_len is_basic (drop i d)
 basic_class = class_run is_basic 0x22 0x5C refl basic_over
 
-pub literal_class : (d : List ℕ) (i : ℕ) → prefix_len (is_plain 0x27 0x27) d ≡ i + prefix_len (is_plain 0x27 0x27) (drop i d) → prefix_len is_literal d ≡ i + prefix_len is_literal (drop i d)
+pub literal_class : (d : List ℕ) (i : ℕ) → prefix_len (is_plain 9 0x27 0x27) d ≡ i + prefix_len (is_plain 9 0x27 0x27) (drop i d) → prefix_len is_literal d ≡ i + prefix_len is_literal (drop i d)
 literal_class = class_run is_literal 0x27 0x27 refl literal_over
+
+-- ---- over many lines
+
+-- a plain byte but for the one more
+other_plain : (also a b c : ℕ) → (c == also) ≡ false → is_plain also a b c ≡ true → is_plain 9 a b c ≡ true
+other_plain also a b c other e =
+    let plain : (is_comment c || false) && not (c == a || c == b) ≡ true = rw other at e in
+    elim (cases_Bool (is_comment c)) [
+      | inl f ↦ rw f (rw f at plain)
+      | inr f ↦ absurd (let never = rw f at plain in cc)
+    ]
+
+pub basic_or_line_feed : (c : ℕ) → (c == 0x0A) ≡ false → is_plain 0x0A 0x22 0x5C c ≡ true → is_basic c ≡ true
+basic_or_line_feed c other e = sym (class_is is_basic 0x22 0x5C refl basic_over c) ∙ other_plain 0x0A 0x22 0x5C c other e
+
+pub literal_or_line_feed : (c : ℕ) → (c == 0x0A) ≡ false → is_plain 0x0A 0x27 0x27 c ≡ true → is_literal c ≡ true
+literal_or_line_feed c other e = sym (class_is is_literal 0x27 0x27 refl literal_over c) ∙ other_plain 0x0A 0x27 0x27 c other e

@@ -1,4 +1,11 @@
 -- No date and no time is an integer, a float or a truth value, so that a word of one of these kinds is found as it.
+--
+-- Each date and time begins with two or more digits and then a dash or a colon (`BeginsAsDate`). Digits of a number end
+-- there, and no number goes on with such a byte: so the test of integers and that of floats fail (`no_integer`,
+-- `no_float`), and a truth value begins with a letter (`no_boolean`). Then of the tests that `word_leaf` makes in turn
+-- the first that passes is that of the date or the time itself.
+--
+-- Theorems: `word_leaf_date`, `word_leaf_time`, `word_leaf_date_time` and `word_leaf_offset_date_time`.
 use Rattle.std.proofs.Common.{◌≡◌, ℕ, suc, ◌+◌, ◌<◌, Bool, true, false, ◌&&◌, ◌||◌, ◌==◌, List, [], ◌∷◌, ◌++◌, length, take, drop, refl, ap, ◌∙◌, arith, Some}
 use Rattle.std.specs.Prelude.{slice_index}
 use Rattle.std.proofs.lemmas.Bool.{and_parts}

@@ -99,10 +99,6 @@ record IsPlainDecimal (n : ℕ) (text : List ℕ) : Type 0 where
   value : sum_of_digits 10 (first ∷ more) ≡ n
   leading : (more ≡ []) ⊎ (48 < first)
 
-empty_of : (xs : List ℕ) → length xs ≡ 0 → xs ≡ []
-empty_of [] h = refl
-empty_of (x ∷ xs) h = absurd (omega arith)
-
 plain_of : (n : ℕ) (text : List ℕ) → 0 < length text → list_all is_ascii_digit text ≡ true → sum_of_digits 10 text ≡ n
     → (0 < n → 48 < get_or text 0 0) → (n ≡ 0 → text ≡ 48 ∷ []) → IsPlainDecimal n text
 plain_of n [] some digits value above nought = absurd (omega arith)

@@ -1,6 +1,9 @@
 -- What the steps of writing a string or a key give is the encoded text, and the encoded text means the text.
-use Rattle.std.proofs.Common.{◌≡◌, ℕ, ◌+◌, ◌<◌, Bool, true, false, List, [], ◌∷◌, ◌++◌, length, take, drop, get_or, refl, sym, ◌∙◌, ap, arith, append_assoc, add-one, one-add, append-nil, inl, inr, ◌⊎◌, drop-cons}
+use Rattle.std.proofs.Common.{◌≡◌, ℕ, ◌+◌, ◌<◌, Bool, true, false, List, [], ◌∷◌, ◌++◌, length, length-append, length-take, take, drop, get_or, refl, sym, ◌∙◌, ap, arith, append_assoc, ◌≤◌, add-one, one-add, append-nil, inl, inr, ◌⊎◌, drop-cons, rules, String, string_bytes, string_len}
+use Rattle.std.proofs.Math.Seq.{take-append_seam}
+use Rattle.std.proofs.lemmas.List.{take-take}
 use Rattle.std.proofs.lemmas.List.Sums.{prefix_len-le-length, prefix_len_stops}
+use Rattle.std.specs.Prelude.{Result, Ok, Err, OnErr}
 use Rattle.std.specs.Str.{IsUtf8, IsCharBoundary}
 use Rattle.std.proofs.lemmas.Str.{IsCharBoundary-after_ascii}
 use Rattle.std.proofs.lemmas.Bool.Decides.{nat_tests}
@@ -70,6 +73,42 @@ encoded_more text before now next whole n e more so_far now_is next_is =
     let rest : flat_map encoded_byte text ≡ take n text ++ (encoded_byte (get_or text n 0) ++ flat_map encoded_byte (drop (n + 1) text)) =
     rw e (plain_run text) ∙ ap (λ (t : List ℕ). take n text ++ t) (escape_next text n more) in
     rw (next_is, now_is) (simp append_assoc (ap (λ (t : List ℕ). before ++ t) (sym rest) ∙ so_far))
+
+-- ---- what was added to
+
+-- it is a prefix
+pub grown : (old new more : List ℕ) → new ≡ old ++ more → take (length old) new ≡ old
+grown old new more e = ap (take (length old)) e ∙ take-append_seam old more
+
+-- also where more was added in two steps
+pub grown_then : (old mid new : List ℕ) → take (length old) mid ≡ old → take (length mid) new ≡ mid → take (length old) new ≡ old
+grown_then old mid new h k =
+    let fits : length old ≤ length mid = omega (arith, length-take (length old) mid, ap length h) in
+    sym (take-take (length old) (length mid) new fits) ∙ (ap (take (length old)) k ∙ h)
+
+pub len_is : {Z : Type 0} (s : String Z) → string_len s ≡ length (string_bytes s)
+len_is s = first_of (search rules, grind (arith, common_steps))
+
+pub on_err : {T E P : Type 0} (r : Result T E) → P → OnErr r P
+on_err (Ok x) p = tt
+on_err (Err e) p = p
+
+-- where a part of the rest has no room, the whole has none
+pub no_room : (before now rest whole : List ℕ) (old_room room n : ℕ) → now ++ rest ≡ before ++ whole → old_room ≤ room → room < length now + n → n ≤ length rest → old_room < length before + length whole
+no_room before now rest whole old_room room n e more less part = omega (arith, more, less, part, ap length e, length-append now rest, length-append before whole)
+
+-- a run of plain bytes, and with it the escape of the byte after it, are no longer than the text as it is written
+pub plain_part : (text : List ℕ) (n : ℕ) → n ≡ prefix_len is_plain text → length (take n text) ≤ length (flat_map encoded_byte text)
+plain_part text n e =
+    let run : flat_map encoded_byte text ≡ take n text ++ flat_map encoded_byte (drop n text) = rw e (plain_run text) in
+    omega (arith, ap length run, length-append (take n text) (flat_map encoded_byte (drop n text)))
+
+pub escape_part : (text : List ℕ) (n : ℕ) → n ≡ prefix_len is_plain text → n < length text → length (take n text) + length (encoded_byte (get_or text n 0)) ≤ length (flat_map encoded_byte text)
+escape_part text n e more =
+    let after = flat_map encoded_byte (drop (n + 1) text) in
+    let run : flat_map encoded_byte text ≡ take n text ++ (encoded_byte (get_or text n 0) ++ after) =
+    rw e (plain_run text) ∙ ap (λ (t : List ℕ). take n text ++ t) (escape_next text n more) in
+    omega (arith, ap length run, length-append (take n text) (encoded_byte (get_or text n 0) ++ after), length-append (encoded_byte (get_or text n 0)) after)
 
 -- a text with a byte or more is bare where each byte is
 pub bare_text_of : (text : List ℕ) → 0 < length text → is_bare_text text ≡ list_all is_bare text

@@ -1,4 +1,10 @@
 -- The test of floats decides their language.
+--
+-- The test goes along the ABNF of `float`, part by part: an exponent, a fraction, a number with one of these, and `inf`
+-- and `nan` with a sign. For each part there is a pair of lemmas: a text of the language passes the test (`.._to`), and
+-- a text that passes is one of the language (`.._from`), by cutting it where the test cuts it.
+--
+-- Theorems: `float_to` and `float_from`.
 use Rattle.std.proofs.Common.{◌≡◌, ℕ, Bool, true, false, cond, ◌&&◌, ◌||◌, ◌==◌, List, [], ◌∷◌, ◌++◌, length, take, drop, refl, sym, subst, ap, inl, inr, arith, eqb-true, take_at, drop_at}
 use Rattle.std.proofs.lemmas.List.{append-nil, take-append-drop}
 use Rattle.std.proofs.lemmas.Bool.{and_parts, or_left, or_right, or_cases}

@@ -1,4 +1,10 @@
 -- What a scan of a gap finds is the leaf at the place, and where it finds none there is none.
+--
+-- The first byte tells the kind, of a newline the first two (`GapKinds`), both for the scan and for each leaf of the
+-- grammar (`gap_kind`). For each kind the scan takes the longest run that the grammar allows: of white space, of a
+-- comment's bytes, or one newline. There is one longest leaf (`longest_one`), so the two agree.
+--
+-- Theorems: `gap_found` and `gap_one`.
 use Rattle.std.proofs.Common.{◌≡◌, ℕ, zero, suc, ◌+◌, ◌<◌, ◌≤◌, Bool, true, false, ◌&&◌, ◌==◌, List, [], ◌∷◌, ◌++◌, length, get_or, take, drop, Option, Some, None, refl, ap, ◌∙◌, subst, inl, inr, arith, eqb-true}
 use Rattle.std.proofs.lemmas.Bool.{cases_lt, and_parts}
 use Rattle.std.proofs.lemmas.List.{get_or-take, length-take}

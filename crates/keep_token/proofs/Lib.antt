@@ -23,6 +23,7 @@ pub mod StringMeans
 pub mod RunLaws
 pub mod NumberLaws
 pub mod FloatLaws
+pub mod FractionLaws
 pub mod ValueLaws
 pub mod IntegerLaws
 pub mod FirstBytes

@@ -3,7 +3,7 @@ use Rattle.std.proofs.Common.{◌≡◌, ℕ, zero, suc, ◌+◌, ◌<◌, ◌�
 use Rattle.std.specs.List.{prefix_len}
 use Rattle.std.proofs.lemmas.Bool.{cases_Bool}
 use Rattle.std.proofs.lemmas.List.{drop-drop}
-use Rattle.keep_token.specs.Strings.{Piece, Plain, piece_text, text_of}
+use Rattle.keep_token.specs.Strings.{Piece, piece_text, text_of}
 use Rattle.keep_token.specs.Pieces.{before, closes, first_of, onward, pieces_by, pieces_of}
 
 -- each piece takes a byte or more of the text that it is found in
@@ -82,12 +82,12 @@ reach_piece piece takes many mark bytes at n p still e len =
     ∙ ap (λ m. end_of (at + m) (pieces_of piece many mark (drop m (drop at bytes)))) (sym len)
     ∙ ap (λ t. end_of (at + n) (pieces_of piece many mark t)) (drop-drop n at bytes)
 
--- ---- a run of bytes that stand for themselves
+-- ---- a run of bytes that are pieces
 
--- bytes of the class close no string, and stand for themselves
+-- bytes of the class close no string, and each is a piece
 pub record IsPlain (piece : List ℕ → Option Piece) (many : Bool) (mark : ℕ) (class : ℕ → Bool) : Type 0 where
   pub still : (c : ℕ) (cs : List ℕ) → class c ≡ true → closes many mark (c ∷ cs) ≡ None
-  pub plain : (c : ℕ) (cs : List ℕ) → class c ≡ true → piece (c ∷ cs) ≡ Some (Plain c)
+  pub plain : (c : ℕ) (cs : List ℕ) → class c ≡ true → (p : Piece) × (piece (c ∷ cs) ≡ Some p) × (length (piece_text p) ≡ 1)
 
 end_run : (piece : List ℕ → Option Piece) → TakesSome piece → (many : Bool) (mark : ℕ) (class : ℕ → Bool) → IsPlain piece many mark class → (n at : ℕ) (text : List ℕ)
     → n ≤ prefix_len class text → end_of at (pieces_of piece many mark text) ≡ end_of (at + n) (pieces_of piece many mark (drop n text))
@@ -97,13 +97,15 @@ end_run piece takes many mark class plain (suc n) at (c ∷ cs) h =
     elim (cases_Bool (class c)) [
       | inl e ↦
           let less : n ≤ prefix_len class cs = (let f = rw e at h in omega arith) in
-          end_step piece takes many mark at (c ∷ cs) (Plain c) (plain.still c cs e) (plain.plain c cs e)
+          let p = plain.plain c cs e in
+          end_step piece takes many mark at (c ∷ cs) p.0 (plain.still c cs e) p.1
+          ∙ ap (λ m. end_of (at + m) (pieces_of piece many mark (drop m (c ∷ cs)))) p.2
           ∙ end_run piece takes many mark class plain n (at + 1) cs less
           ∙ ap (λ m. end_of m (pieces_of piece many mark (drop n cs))) (omega arith)
       | inr e ↦ absurd (let f = rw e at h in omega arith)
     ]
 
 pub reach_run : (piece : List ℕ → Option Piece) → TakesSome piece → (many : Bool) (mark : ℕ) (class : ℕ → Bool) → IsPlain piece many mark class → (bytes : List ℕ) (at n : ℕ)
-    → n ≡ prefix_len class (drop at bytes) → reach piece many mark bytes at ≡ reach piece many mark bytes (at + n)
+    → n ≤ prefix_len class (drop at bytes) → reach piece many mark bytes at ≡ reach piece many mark bytes (at + n)
 reach_run piece takes many mark class plain bytes at n e =
-    end_run piece takes many mark class plain n at (drop at bytes) (omega arith) ∙ ap (λ t. end_of (at + n) (pieces_of piece many mark t)) (drop-drop n at bytes)
+    end_run piece takes many mark class plain n at (drop at bytes) e ∙ ap (λ t. end_of (at + n) (pieces_of piece many mark t)) (drop-drop n at bytes)

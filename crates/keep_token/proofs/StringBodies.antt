@@ -1,4 +1,12 @@
--- What is between the marks of a string, where a text may be cut there, and what it means.
+-- What is between the quotation marks of a string, where a text may be cut there, and what it means.
+--
+-- A string is its opening, the text of its pieces, and its closing mark or marks. The opening and the closing are
+-- ASCII, so the text may be cut where the pieces begin and end (`start_cut`, `end_cut`). Over many lines a newline
+-- right after the opening belongs to the opening; without it, the pieces that are left mean what the string means
+-- (`Parts`, `parts`). A literal string means its own text (`literal_value`), and the pieces of one line are among those
+-- of many (`all_of_many`).
+--
+-- Theorems: `basic_body`, `ml_basic_parts`, `ml_literal_parts` and `ml_basic_body`.
 use Rattle.std.proofs.Common.{◌≡◌, ℕ, ◌+◌, ◌-◌, ◌<◌, true, false, ◌==◌, List, [], ◌∷◌, ◌++◌, length, take, drop, Option, refl, sym, ap, ◌∙◌, subst, arith, inl, inr, append_assoc, length-append, drop_at, take_at}
 use Rattle.std.specs.List.{slice_range}
 use Rattle.std.specs.Str.{IsUtf8, IsAscii, IsCharBoundary}

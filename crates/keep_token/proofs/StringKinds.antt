@@ -14,7 +14,6 @@ use Rattle.std.proofs.lemmas.Bool.{and_parts}
 use Rattle.keep_types.specs.declared.leaf.Profile.{Profile}
 use Rattle.keep_token.specs.Strings.{Piece, Plain, Letter, Number, Break, LineEnd, basic_text, literal_text, ml_basic_text, ml_literal_text, Each, takes_all, IsBasicPiece, IsLiteralPiece, IsMlBasicPiece, IsMlLiteralPiece, IsBasicOf, IsLiteralOf, IsMlBasicOf, IsMlLiteralOf, Basic, Literal, MlBasic, MlLiteral}
 use Rattle.keep_token.specs.Pieces.{first, basic_piece, literal_piece, ml_basic_piece, ml_literal_piece, pieces_of, len_of, basic_at, literal_at, ml_basic_at, ml_literal_at}
-use Rattle.keep_token.specs.Abnf.{Longest}
 use Rattle.keep_token.specs.Scanning.{are_three}
 use Rattle.keep_token.proofs.StringOneLine.{prefix_one, again_one}
 use Rattle.keep_token.proofs.StringManyLines.{AgainMany, prefix_many, again_many}
@@ -56,13 +55,6 @@ longest_from at text n m e le again =
     let found : Some n ≡ Some a.0 = sym e ∙ ap at (sym (take-append-drop m text)) ∙ a.1 in
     let same : n ≡ a.0 = cc in
     omega (arith, same, a.2, length-take m text)
-
-none_from : (at : List ℕ → Option ℕ) (text : List ℕ) (m : ℕ) → at text ≡ None
-    → ((rest : List ℕ) → (k : ℕ) × (at (take m text ++ rest) ≡ Some k) × (length (take m text) ≤ k)) → ⊥
-none_from at text m e again =
-    let a = again (drop m text) in
-    let found : None ≡ Some a.0 = sym e ∙ ap at (sym (take-append-drop m text)) ∙ a.1 in
-    cc
 
 pub three_open : (mark : ℕ) (text : List ℕ) → (0 == mark) ≡ false → are_three mark text ≡ true → text ≡ mark ∷ mark ∷ mark ∷ drop 3 text
 three_open mark [] not_zero h = absurd (let f = rw not_zero at h in cc)
@@ -230,25 +222,3 @@ ml_literal_prefix t rest (ps, h) =
 
 pub ml_literal_longest : (text : List ℕ) (n : ℕ) → ml_literal_at text ≡ Some n → (m : ℕ) → m ≤ length text → MlLiteral (take m text) → m ≤ n
 ml_literal_longest text n e m le h = longest_from ml_literal_at text n m e le (λ rest. ml_literal_prefix (take m text) rest h)
-
--- ---- the longest prefix, as the definitions say it
-
-pub basic_leaf : (profile : Profile) (text : List ℕ) (n : ℕ) → (first text == 0x22) ≡ true → basic_at profile text ≡ Some n → Longest (Basic profile) text n
-basic_leaf profile text n opening e =
-    let f = basic_found profile text n opening e in
-    record { within = f.1; belongs = f.2; longest = basic_longest profile text n e }
-
-pub literal_leaf : (text : List ℕ) (n : ℕ) → (first text == 0x27) ≡ true → literal_at text ≡ Some n → Longest Literal text n
-literal_leaf text n opening e =
-    let f = literal_found text n opening e in
-    record { within = f.1; belongs = f.2; longest = literal_longest text n e }
-
-pub ml_basic_leaf : (profile : Profile) (text : List ℕ) (n : ℕ) → are_three 0x22 text ≡ true → ml_basic_at profile text ≡ Some n → Longest (MlBasic profile) text n
-ml_basic_leaf profile text n opening e =
-    let f = ml_basic_found profile text n opening e in
-    record { within = f.1; belongs = f.2; longest = ml_basic_longest profile text n e }
-
-pub ml_literal_leaf : (text : List ℕ) (n : ℕ) → are_three 0x27 text ≡ true → ml_literal_at text ≡ Some n → Longest MlLiteral text n
-ml_literal_leaf text n opening e =
-    let f = ml_literal_found text n opening e in
-    record { within = f.1; belongs = f.2; longest = ml_literal_longest text n e }

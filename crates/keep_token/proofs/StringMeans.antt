@@ -1,12 +1,11 @@
 -- A string means one list of bytes, in UTF-8 where the text is.
-use Rattle.std.proofs.Common.{◌≡◌, ℕ, List, sym, ap, ◌∙◌, subst, IsUtf8}
+use Rattle.std.proofs.Common.{◌≡◌, ℕ, List, sym, ap, ◌∙◌}
 use Rattle.keep_types.specs.declared.leaf.Profile.{Profile}
 use Rattle.keep_types.specs.declared.leaf.Leaf.{Leaf}
 use Rattle.keep_types.specs.declared.leaf.Leaf.TheVariants as leaf
 use Rattle.keep_token.specs.Strings.{value_of, ml_value_of}
 use Rattle.keep_token.specs.Leaves.{Means}
 use Rattle.keep_token.proofs.StringKinds.{basic_pieces_one, literal_pieces_one, ml_basic_pieces_one, ml_literal_pieces_one}
-use Rattle.keep_token.proofs.StringUtf8.{basic_value_utf8, literal_value_utf8, ml_basic_value_utf8, ml_literal_value_utf8}
 
 -- ---- one meaning
 
@@ -17,5 +16,3 @@ means_one profile leaf.Literal text v w (ps, h, a) (qs, k, b) = a ∙ ap value_o
 means_one profile leaf.MlBasic text v w (ps, h, a) (qs, k, b) = a ∙ ap ml_value_of (ml_basic_pieces_one profile text ps qs h k) ∙ sym b
 means_one profile leaf.MlLiteral text v w (ps, h, a) (qs, k, b) = a ∙ ap ml_value_of (ml_literal_pieces_one text ps qs h k) ∙ sym b
 means_one profile _ text v w a b = absurd a
-
--- ---- in UTF-8

@@ -1,12 +1,10 @@
 -- What each kind of string begins with: one mark and not three, or three.
-use Rattle.std.proofs.Common.{◌≡◌, ℕ, true, false, ◌==◌, List, [], ◌∷◌, ◌++◌, length, take, slice_index, refl, sym, ap, ◌∙◌, inl, inr, append_assoc, eq-eqb, true≢false}
+use Rattle.std.proofs.Common.{◌≡◌, ℕ, true, false, ◌==◌, List, [], ◌∷◌, ◌++◌, slice_index, refl, sym, ap, ◌∙◌, inl, inr, append_assoc, eq-eqb}
 use Rattle.std.proofs.lemmas.Bool.{cases_Bool}
 use Rattle.keep_types.specs.declared.leaf.Profile.{Profile}
 use Rattle.keep_token.specs.Strings.{Piece, piece_text, text_of, IsBasicPiece, IsLiteralPiece, Basic, Literal, MlBasic, MlLiteral}
 use Rattle.keep_token.specs.Pieces.{first}
-use Rattle.keep_token.specs.Leaves.{opens_many_lines}
 use Rattle.keep_token.specs.Scanning.{are_three}
-use Rattle.keep_token.proofs.StringKinds.{three_open}
 use Rattle.keep_token.proofs.StringOneLine.{one_line}
 use Rattle.keep_token.proofs.StringPieces.{basic_not_mark, literal_not_mark}
 
@@ -76,15 +74,3 @@ pub literal_not_three : (t rest : List ℕ) → Literal t → (first rest == 0x2
 literal_not_three t rest ([], h) stop = ap (λ s. are_three 0x27 (s ++ rest)) h.spelled ∙ empty_three 0x27 rest ∙ stop
 literal_not_three t rest (p ∷ ps, h) stop =
     ap (λ s. are_three 0x27 (s ++ rest)) h.spelled ∙ not_three IsLiteralPiece 0x27 literal_not_mark p ps rest h.each.0
-
--- ---- `opens_many_lines`, as a test
-
-three_taken : (mark : ℕ) (text : List ℕ) → take 3 text ≡ mark ∷ mark ∷ mark ∷ [] → are_three mark text ≡ true
-three_taken mark [] e = absurd cc
-three_taken mark (a ∷ []) e = absurd cc
-three_taken mark (a ∷ b ∷ []) e = absurd cc
-three_taken mark (a ∷ b ∷ c ∷ cs) e =
-    let one : a ≡ mark = cc in
-    let two : b ≡ mark = cc in
-    let three : c ≡ mark = cc in
-    rw (eq-eqb a mark one, eq-eqb b mark two, eq-eqb c mark three) refl

@@ -9,17 +9,21 @@
 --
 -- Theorems: `basic_ends` and `basic_stops`, and the same two of the other kinds: where the scan ends, its answer is the
 -- string's.
-use Rattle.std.proofs.Common.{◌≡◌, ℕ, zero, suc, ◌+◌, ◌-◌, ◌<◌, ◌≤◌, min, Bool, true, false, ◌==◌, List, [], ◌∷◌, ◌++◌, length, get_or, take, drop, Option, Some, None, refl, sym, ap, ◌∙◌, arith, inl, inr, add-zero, get_or-drop, length-append, length-drop, eq-eqb}
-use Rattle.std.specs.Prelude.{nat_le}
+use Rattle.std.proofs.Common.{◌≡◌, ℕ, zero, suc, ◌+◌, ◌-◌, ◌<◌, ◌≤◌, min, Bool, true, false, not, ◌==◌, List, [], ◌∷◌, ◌++◌, length, get_or, take, drop, Option, Some, None, refl, sym, ap, ◌∙◌, arith, inl, inr, add-zero, get_or-drop, length-append, length-drop, eq-eqb}
+use Rattle.std.specs.Prelude.{◌||◌, nat_le}
 use Rattle.std.specs.List.{prefix_len}
-use Rattle.std.proofs.lemmas.Bool.{cases_lt, ne_eqb, le-leb, lt-leb}
+use Rattle.std.proofs.lemmas.Bool.{and_parts, cases_lt, eqb-true, ne_eqb, le-leb, lt-leb}
 use Rattle.std.proofs.lemmas.Bool.Decides.{nat_tests}
 use Rattle.std.proofs.lemmas.List.{drop-drop, get_or_past, take_rest}
 use Rattle.std.proofs.lemmas.List.Sums.{prefix_len_stops}
 use Rattle.keep_types.specs.declared.leaf.Profile.{Profile}
-use Rattle.keep_token.specs.Strings.{Piece, Plain, piece_text, text_of, is_basic, is_literal, basic_text, literal_text, ml_basic_text, ml_literal_text}
+use Rattle.keep_token.specs.Strings.{Piece, Plain, Break, piece_text, text_of, is_basic, is_literal, basic_text, literal_text, ml_basic_text, ml_literal_text}
 use Rattle.keep_token.specs.Pieces.{first, escape_at, line_end_at, basic_piece, literal_piece, ml_basic_piece, ml_literal_piece, some_of, closes, pieces_of, len_of, basic_at, literal_at, ml_basic_at, ml_literal_at}
 use Rattle.keep_token.specs.PieceLens.{piece_len}
+use Rattle.keep_token.specs.Abnf.{is_comment}
+use Rattle.keep_token.specs.Blocks.{is_plain}
+use Rattle.keep_token.proofs.BlockLaws.{basic_or_line_feed, literal_or_line_feed}
+use Rattle.keep_token.proofs.RunLaws.{tested}
 use Rattle.keep_token.proofs.StringSteps.{PieceLaws}
 use Rattle.keep_token.proofs.StringPieces.{basic_laws, literal_laws, ml_basic_laws, ml_literal_laws}
 use Rattle.keep_token.proofs.Reaching.{TakesSome, IsPlain, end_of, reach, reach_closed, reach_none, reach_piece, reach_run}
@@ -130,7 +134,7 @@ not_backslash c e = grind (arith, nat_tests)
 basic_plain : (profile : Profile) → IsPlain (basic_piece profile) false 0x22 is_basic
 basic_plain profile = record {
   still = λ c cs e. let f = not_quote c e in rw f refl;
-  plain = λ c cs e. let f = not_backslash c e in rw (f, e) refl;
+  plain = λ c cs e. let f = not_backslash c e in (Plain c, rw (f, e) refl, refl);
 }
 
 -- how far the body of a basic string reaches from a place on
@@ -139,7 +143,7 @@ basic_reach profile bytes at = reach (basic_piece profile) false 0x22 bytes at
 
 pub basic_run : (profile : Profile) (bytes : List ℕ) (at n : ℕ) → n ≡ prefix_len is_basic (drop at bytes) → basic_reach profile bytes at ≡ basic_reach profile bytes (at + n)
 unfolding basic_reach
-basic_run profile bytes at n e = reach_run (basic_piece profile) (basic_takes profile) false 0x22 is_basic (basic_plain profile) bytes at n e
+basic_run profile bytes at n e = reach_run (basic_piece profile) (basic_takes profile) false 0x22 is_basic (basic_plain profile) bytes at n (omega arith)
 
 pub basic_ends : (profile : Profile) (bytes : List ℕ) (at : ℕ) → get_or bytes at 0 ≡ 0x22 → basic_reach profile bytes 1 ≡ basic_reach profile bytes at → basic_at profile bytes ≡ Some (at + 1)
 unfolding basic_reach
@@ -182,11 +186,11 @@ not_apostrophe c e = grind (arith, nat_tests)
 literal_plain : IsPlain literal_piece false 0x27 is_literal
 literal_plain = record {
   still = λ c cs e. let f = not_apostrophe c e in rw f refl;
-  plain = λ c cs e. rw e refl;
+  plain = λ c cs e. (Plain c, rw e refl, refl);
 }
 
 literal_run : (bytes : List ℕ) (n : ℕ) → n ≡ prefix_len is_literal (drop 1 bytes) → reach literal_piece false 0x27 bytes 1 ≡ reach literal_piece false 0x27 bytes (1 + n)
-literal_run bytes n e = reach_run literal_piece literal_takes false 0x27 is_literal literal_plain bytes 1 n e
+literal_run bytes n e = reach_run literal_piece literal_takes false 0x27 is_literal literal_plain bytes 1 n (omega arith)
 
 pub literal_ends : (bytes : List ℕ) (n : ℕ) → n ≡ prefix_len is_literal (drop 1 bytes) → get_or bytes (1 + n) 0 ≡ 0x27 → literal_at bytes ≡ Some (1 + n + 1)
 literal_ends bytes n e quote =
@@ -210,12 +214,20 @@ piece_len_none : (o : Option Piece) → piece_len o ≡ None → o ≡ None
 piece_len_none None e = refl
 piece_len_none (Some p) e = absurd cc
 
-many_plain : (piece : List ℕ → Option Piece) (mark : ℕ) (class : ℕ → Bool) → ((c : ℕ) → class c ≡ true → (c == mark) ≡ false) → ((c : ℕ) (cs : List ℕ) → class c ≡ true → piece (c ∷ cs) ≡ Some (Plain c))
+many_plain : (piece : List ℕ → Option Piece) (mark : ℕ) (class : ℕ → Bool) → ((c : ℕ) → class c ≡ true → (c == mark) ≡ false) → ((c : ℕ) (cs : List ℕ) → class c ≡ true → (p : Piece) × (piece (c ∷ cs) ≡ Some p) × (length (piece_text p) ≡ 1))
     → IsPlain piece true mark class
 many_plain piece mark class not_mark plain = record {
   still = λ c cs e. let f = not_mark c e in rw f refl;
   plain = plain;
 }
+
+-- a byte that is plain beside two marks is not the first of them
+no_mark : (also a b c : ℕ) → is_plain also a b c ≡ true → (c == a) ≡ false
+no_mark also a b c e =
+    elim (tested (c == a)) [
+      | inl f ↦ absurd (let never = (and_parts (is_comment c || c == also) (not (c == a || c == b)) e).1 in let no = rw f at never in cc)
+      | inr f ↦ f
+    ]
 
 -- ---- basic strings over many lines
 
@@ -225,16 +237,19 @@ ml_basic_line_end profile text h none =
     let f : (first text == 0x5C) ≡ true = eq-eqb (first text) 0x5C h in
     rw (f, none) refl
 
-ml_basic_plain : (profile : Profile) → IsPlain (ml_basic_piece profile) true 0x22 is_basic
-ml_basic_plain profile = many_plain (ml_basic_piece profile) 0x22 is_basic not_quote (λ c cs e. let f = not_backslash c e in rw (f, e) refl)
+ml_basic_plain : (profile : Profile) → IsPlain (ml_basic_piece profile) true 0x22 (is_plain 0x0A 0x22 0x5C)
+ml_basic_plain profile = many_plain (ml_basic_piece profile) 0x22 (is_plain 0x0A 0x22 0x5C) (λ c e. no_mark 0x0A 0x22 0x5C c e) (λ c cs e. elim (tested (c == 0x0A)) [
+  | inl f ↦ rw (eqb-true c 0x0A f) (Break (0x0A ∷ []), refl, refl)
+  | inr f ↦ let basic = basic_or_line_feed c f e in let g = not_backslash c basic in (Plain c, rw (g, basic) refl, refl)
+])
 
 -- how far the body of a basic string over many lines reaches from a place on
 pub ml_basic_reach : Profile → List ℕ → ℕ → Option ℕ
 ml_basic_reach profile bytes at = reach (ml_basic_piece profile) true 0x22 bytes at
 
-pub ml_basic_run : (profile : Profile) (bytes : List ℕ) (at n : ℕ) → n ≡ prefix_len is_basic (drop at bytes) → ml_basic_reach profile bytes at ≡ ml_basic_reach profile bytes (at + n)
+pub ml_basic_run : (profile : Profile) (bytes : List ℕ) (at n : ℕ) → n ≤ prefix_len (is_plain 0x0A 0x22 0x5C) (drop at bytes) → ml_basic_reach profile bytes at ≡ ml_basic_reach profile bytes (at + n)
 unfolding ml_basic_reach
-ml_basic_run profile bytes at n e = reach_run (ml_basic_piece profile) (ml_basic_takes profile) true 0x22 is_basic (ml_basic_plain profile) bytes at n e
+ml_basic_run profile bytes at n e = reach_run (ml_basic_piece profile) (ml_basic_takes profile) true 0x22 (is_plain 0x0A 0x22 0x5C) (ml_basic_plain profile) bytes at n e
 
 pub ml_basic_ends : (profile : Profile) (bytes : List ℕ) (at n : ℕ) → n ≡ marks 0x22 (drop at bytes) → 3 ≤ n → ml_basic_reach profile bytes 3 ≡ ml_basic_reach profile bytes at → ml_basic_at profile bytes ≡ Some (at + min n 5)
 unfolding ml_basic_reach
@@ -260,16 +275,19 @@ ml_basic_stops profile bytes at n e few none preserved =
 
 -- ---- literal strings over many lines
 
-ml_literal_plain : IsPlain ml_literal_piece true 0x27 is_literal
-ml_literal_plain = many_plain ml_literal_piece 0x27 is_literal not_apostrophe (λ c cs e. rw e refl)
+ml_literal_plain : IsPlain ml_literal_piece true 0x27 (is_plain 0x0A 0x27 0x27)
+ml_literal_plain = many_plain ml_literal_piece 0x27 (is_plain 0x0A 0x27 0x27) (λ c e. no_mark 0x0A 0x27 0x27 c e) (λ c cs e. elim (tested (c == 0x0A)) [
+  | inl f ↦ rw (eqb-true c 0x0A f) (Break (0x0A ∷ []), refl, refl)
+  | inr f ↦ let literal = literal_or_line_feed c f e in (Plain c, rw literal refl, refl)
+])
 
 -- how far the body of a literal string over many lines reaches from a place on
 pub ml_literal_reach : List ℕ → ℕ → Option ℕ
 ml_literal_reach bytes at = reach ml_literal_piece true 0x27 bytes at
 
-pub ml_literal_run : (bytes : List ℕ) (at n : ℕ) → n ≡ prefix_len is_literal (drop at bytes) → ml_literal_reach bytes at ≡ ml_literal_reach bytes (at + n)
+pub ml_literal_run : (bytes : List ℕ) (at n : ℕ) → n ≤ prefix_len (is_plain 0x0A 0x27 0x27) (drop at bytes) → ml_literal_reach bytes at ≡ ml_literal_reach bytes (at + n)
 unfolding ml_literal_reach
-ml_literal_run bytes at n e = reach_run ml_literal_piece ml_literal_takes true 0x27 is_literal ml_literal_plain bytes at n e
+ml_literal_run bytes at n e = reach_run ml_literal_piece ml_literal_takes true 0x27 (is_plain 0x0A 0x27 0x27) ml_literal_plain bytes at n e
 
 pub ml_literal_ends : (bytes : List ℕ) (at n : ℕ) → n ≡ marks 0x27 (drop at bytes) → 3 ≤ n → ml_literal_reach bytes 3 ≡ ml_literal_reach bytes at → ml_literal_at bytes ≡ Some (at + min n 5)
 unfolding ml_literal_reach

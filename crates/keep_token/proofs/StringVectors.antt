@@ -1,5 +1,11 @@
 -- Strings with the bytes that they mean, and texts that are no strings. The texts of TOML v1.0.0's examples are among
 -- them.
+--
+-- Each row is a lemma over the definitions alone: a string's pieces are given, and their text and meaning are computed.
+-- That a text is no string is shown by the test of its kind: `Basic` has the text only if the scan finds all of it, and
+-- the scan, computed, finds less or nothing.
+--
+-- Theorems: all are rows, which nothing cites.
 use Rattle.std.proofs.Common.{◌≡◌, ℕ, List, [], ◌∷◌, length, Option, Some, None, refl, sym, ap, ◌∙◌, inl, inr, arith, append-nil}
 use Rattle.keep_types.specs.declared.leaf.Profile.{Profile}
 use Rattle.keep_types.specs.declared.leaf.Profile.TheVariants.{Strict, Wide}

@@ -2,10 +2,10 @@
 use Rattle.std.specs.Prelude.{ℕ, Bool, not, ◌&&◌, ◌||◌, ◌==◌}
 use Rattle.keep_token.specs.Abnf.{is_comment}
 
--- a byte of a comment that is none of two marks
-abbrev pub is_plain : ℕ → ℕ → ℕ → Bool
-is_plain a b c = is_comment c && not (c == a || c == b)
+-- a byte of a comment, or one more, that is none of two marks
+abbrev pub is_plain : ℕ → ℕ → ℕ → ℕ → Bool
+is_plain also a b c = (is_comment c || c == also) && not (c == a || c == b)
 
 -- a byte at which a run of the others has ended
-abbrev pub ends_run : ℕ → ℕ → ℕ → Bool
-ends_run a b c = not (is_plain a b c)
+abbrev pub ends_run : ℕ → ℕ → ℕ → ℕ → Bool
+ends_run also a b c = not (is_plain also a b c)

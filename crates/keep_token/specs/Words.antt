@@ -56,6 +56,11 @@ abbrev pub is_maybe_exponent : List ℕ → Bool
 is_maybe_exponent [] = true
 is_maybe_exponent (c ∷ cs) = is_exponent (c ∷ cs)
 
+-- digits and an exponent
+abbrev pub has_exponent : List ℕ → Bool
+has_exponent t =
+    is_digits is_ascii_digit (take (prefix_len is_part t) t) && is_exponent (drop (prefix_len is_part t) t)
+
 abbrev pub is_fraction : List ℕ → Bool
 is_fraction [] = false
 is_fraction (c ∷ cs) =

@@ -3,6 +3,7 @@ ghost use Rattle.std.specs.Prelude.{◌≡◌, ◌<◌, ◌≤◌, length, Some,
 ghost use Rattle.keep_token.specs.PieceLens.{piece_len};
 ghost use Rattle.keep_token.specs.Pieces as pieces;
 
+use crate::blocks::run_in_blocks;
 use crate::bytes::{basic_run, byte_at, is_basic};
 use crate::escape::{line_end_len, read_escape};
 use crate::fault::LeafFault;
@@ -58,7 +59,7 @@ pub(crate) fn ml_basic_len(bytes: &[u8], profile: Profile) -> Result<usize, Leaf
 {
     let mut at = 3;
     loop {
-        at += basic_run(&bytes[at..]);
+        at += run_in_blocks(&bytes[at..], b'\n', b'"', b'\\');
         let marks = marks_run(&bytes[at..], b'"');
         if marks >= 3 {
             return Ok(at + marks.min(5));

@@ -9,27 +9,28 @@ use std::simd::prelude::*;
 /// How many bytes are looked at together.
 const BLOCK: usize = 16;
 
-/// A bit for each byte that ends a run: a control character but for the tab, or one of two marks.
+/// A bit for each byte that ends a run: a control character but for the tab and `also`, or one of two marks.
 #[inline(always)]
-fn ends(block: u8x16, a: u8, b: u8) -> u64
-    ensures { result ≡ mask_l (map (ends_run a b) block) }
+fn ends(block: u8x16, also: u8, a: u8, b: u8) -> u64
+    ensures { result ≡ mask_l (map (ends_run also a b) block) }
 {
     let low = block.simd_lt(u8x16::splat(0x20)) & block.simd_ne(u8x16::splat(b'\t'));
-    let control = low | block.simd_eq(u8x16::splat(0x7F));
+    let control = (low | block.simd_eq(u8x16::splat(0x7F))) & block.simd_ne(u8x16::splat(also));
     let marks = block.simd_eq(u8x16::splat(a)) | block.simd_eq(u8x16::splat(b));
     (control | marks).to_bitmask()
 }
 
-/// How many bytes come before a control character but for the tab, or before one of two marks, as far as whole blocks
-/// go.
+/// How many bytes come before a control character but for the tab and `also`, or before one of two marks, as far as
+/// whole blocks go.
 #[inline(always)]
-pub(crate) fn run_in_blocks(bytes: &[u8], a: u8, b: u8) -> usize
-    ensures run { prefix_len (is_plain a b) bytes.now ≡ result + prefix_len (is_plain a b) (drop result bytes.now) }
+pub(crate) fn run_in_blocks(bytes: &[u8], also: u8, a: u8, b: u8) -> usize
+    ensures run { prefix_len (is_plain also a b) bytes.now
+        ≡ result + prefix_len (is_plain also a b) (drop result bytes.now) }
     ensures within { result ≤ length bytes.now }
 {
     let mut at = 0;
     while bytes.len() - at >= BLOCK {
-        let found = ends(u8x16::from_slice(&bytes[at..]), a, b);
+        let found = ends(u8x16::from_slice(&bytes[at..]), also, a, b);
         if found != 0 {
             return at + found.trailing_zeros() as usize;
         }

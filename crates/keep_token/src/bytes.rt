@@ -158,7 +158,7 @@ pub(crate) fn basic_run(bytes: &[u8]) -> usize
     ensures len { result ≡ prefix_len strings.is_basic bytes.now }
     ensures within { result ≤ length bytes.now }
 {
-    let at = run_in_blocks(bytes, b'"', b'\\');
+    let at = run_in_blocks(bytes, b'\t', b'"', b'\\');
     at + basic_tail(&bytes[at..])
 }
 
@@ -175,6 +175,6 @@ pub(crate) fn literal_run(bytes: &[u8]) -> usize
     ensures len { result ≡ prefix_len strings.is_literal bytes.now }
     ensures within { result ≤ length bytes.now }
 {
-    let at = run_in_blocks(bytes, b'\'', b'\'');
+    let at = run_in_blocks(bytes, b'\t', b'\'', b'\'');
     at + literal_tail(&bytes[at..])
 }

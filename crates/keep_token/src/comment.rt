@@ -12,7 +12,7 @@ pub(crate) fn comment_len(bytes: &[u8]) -> usize
     ensures len { result ≡ prefix_len is_comment bytes.now }
     ensures within { result ≤ length bytes.now }
 {
-    // 0x7F ends a comment without being a mark
-    let at = run_in_blocks(bytes, 0x7F, 0x7F);
+    // 0x7F ends a comment too
+    let at = run_in_blocks(bytes, b'\t', 0x7F, 0x7F);
     at + comment_run(&bytes[at..])
 }

@@ -13,7 +13,8 @@ use crate::strings::newline_len;
 use keep_types::{Leaf, Profile};
 use std::alloc::{AllocError, Global};
 
-/// What a string leaf or a key part means: its text without the marks, with each escape replaced by its character.
+/// What a string leaf or a key part means: its text without the quotation marks, with each escape replaced by its
+/// character.
 ///
 /// TOML v1.0.0, "String". It allocates once, at most as many bytes as the text has.
 ///

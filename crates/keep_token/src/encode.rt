@@ -1,5 +1,6 @@
 //! How strings, keys and whole numbers are written.
-ghost use Rattle.std.specs.Prelude.{◌≡◌, ◌++◌, ◌<◌, false, length, min, option_copied, IfOk, OnOk, string_bytes};
+ghost use Rattle.std.specs.Prelude.{◌≡◌, ◌+◌, ◌++◌, ◌<◌, ◌≤◌, false, length, min, option_copied, take, IfOk, OnErr};
+ghost use Rattle.std.specs.Prelude.{OnOk, string_bytes, string_capacity};
 ghost use Rattle.std.specs.Fmt.{signed_decimal};
 ghost use Rattle.std.specs.List.{flat_map, list_all, prefix_len};
 ghost use Rattle.keep_token.specs.Abnf.{is_bare};
@@ -44,6 +45,25 @@ pub fn encode_key(alloc: Global, text: &str) -> Result<String, AllocError>
     }
 }
 
+/// Adds the text as a key, as `encode_key` writes it, and takes no memory but for the room of `out`.
+///
+/// TOML v1.0.0, "Keys". The only error is out of memory: `out` has no room for the key, and has grown by a prefix
+/// of it.
+pub fn push_key(out: &mut String, text: &str) -> Result<(), AllocError>
+    ensures pushed { OnOk result (string_bytes out.new ≡ string_bytes out.old ++ encoded_key text.now) }
+    ensures grown { take (length (string_bytes out.old)) (string_bytes out.new) ≡ string_bytes out.old }
+    ensures room { string_capacity out.old ≤ string_capacity out.new }
+    ensures full { OnErr result
+        (string_capacity out.old < length (string_bytes out.old) + length (encoded_key text.now)) }
+{
+    if can_be_bare(text) {
+        return out.push_str(text);
+    }
+    out.push_str("\"")?;
+    push_escaped(out, text)?;
+    out.push_str("\"")
+}
+
 /// The number in decimal digits, after `-` where it is below 0.
 ///
 /// TOML v1.0.0, "Integer". The only error is out of memory.
@@ -84,7 +104,11 @@ fn all_bare(bytes: &[u8]) -> bool
 
 /// Adds the text with its escapes. Runs of plain bytes are copied whole.
 fn push_escaped(out: &mut String, text: &str) -> Result<(), AllocError>
-    ensures { OnOk result (string_bytes out.new ≡ string_bytes out.old ++ flat_map encoded_byte text.now) }
+    ensures pushed { OnOk result (string_bytes out.new ≡ string_bytes out.old ++ flat_map encoded_byte text.now) }
+    ensures grown { take (length (string_bytes out.old)) (string_bytes out.new) ≡ string_bytes out.old }
+    ensures room { string_capacity out.old ≤ string_capacity out.new }
+    ensures full { OnErr result
+        (string_capacity out.old < length (string_bytes out.old) + length (flat_map encoded_byte text.now)) }
 {
     let mut rest = text;
     'rest: loop {
@@ -115,7 +139,11 @@ fn is_plain(byte: u8) -> bool
 /// Adds the escape of a byte.
 fn push_escape(out: &mut String, byte: u8) -> Result<(), AllocError>
     requires { is_plain byte ≡ false }
-    ensures { OnOk result (string_bytes out.new ≡ string_bytes out.old ++ encoded_byte byte) }
+    ensures pushed { OnOk result (string_bytes out.new ≡ string_bytes out.old ++ encoded_byte byte) }
+    ensures grown { take (length (string_bytes out.old)) (string_bytes out.new) ≡ string_bytes out.old }
+    ensures room { string_capacity out.old ≤ string_capacity out.new }
+    ensures full { OnErr result
+        (string_capacity out.old < length (string_bytes out.old) + length (encoded_byte byte)) }
 {
     match short_escape(byte) {
         Some(escape) => out.push_str(escape),
@@ -142,7 +170,10 @@ fn short_escape(byte: u8) -> Option<&'static str>
 /// Adds the escape by a byte's number, `\u00XX`.
 fn push_number(out: &mut String, byte: u8) -> Result<(), AllocError>
     requires { byte < 128 }
-    ensures { OnOk result (string_bytes out.new ≡ string_bytes out.old ++ escape_by_number byte) }
+    ensures pushed { OnOk result (string_bytes out.new ≡ string_bytes out.old ++ escape_by_number byte) }
+    ensures grown { take (length (string_bytes out.old)) (string_bytes out.new) ≡ string_bytes out.old }
+    ensures room { string_capacity out.old ≤ string_capacity out.new }
+    ensures full { OnErr result (string_capacity out.old < length (string_bytes out.old) + 6) }
 {
     out.push_str("\\u00")?;
     out.push(hex_digit(byte / 16))?;

@@ -1,7 +1,10 @@
 //! What is between the parts: white space, newlines and comments. (TOML v1.0.0, "Comment"; toml.abnf: `ws`,
 //! `newline`, `comment`)
-ghost use Rattle.std.specs.Prelude.{◌≡◌, ℕ, ◌+◌, ◌-◌, ◌<◌, ◌≤◌, length, drop, IfSome, IsCharBoundary};
+ghost use Rattle.std.specs.Prelude.{◌≡◌, ℕ, ◌+◌, ◌-◌, ◌<◌, ◌≤◌, true, length, drop, slice_index, Some, IfSome};
+ghost use Rattle.std.specs.Prelude.{IsCharBoundary};
 ghost use Rattle.keep_types.specs.declared.leaf.Leaf.{Leaf};
+ghost use Rattle.keep_types.specs.declared.leaf.Leaf.TheVariants as leaf;
+ghost use Rattle.keep_token.specs.Abnf as abnf;
 ghost use Rattle.keep_token.specs.Leaves.{GapLeaf};
 ghost use Rattle.keep_token.specs.Scanning.{gap_at, moved};
 
@@ -47,4 +50,17 @@ pub fn scan_gap(text: &str, at: usize) -> Option<(Leaf, usize)>
 {
     let (leaf, len) = gap_of(&text.as_bytes()[at..])?;
     Some((leaf, at + len))
+}
+
+/// The byte at which white space ends that begins at the byte `at`.
+#[inline(always)]
+pub fn ws_end(text: &str, at: usize) -> usize
+    requires bound { IsCharBoundary text.now at }
+    requires begins { abnf.is_ws (slice_index text.now at) ≡ true }
+    ensures leaf { GapLeaf (drop at text.now) leaf.Ws (result - at) }
+    ensures ends { IsCharBoundary text.now result }
+    // the result by the function on lists, for proofs above
+    ensures value { moved at (gap_at (drop at text.now)) ≡ Some (leaf.Ws, result) }
+{
+    at + ws_run(&text.as_bytes()[at..])
 }

@@ -1,7 +1,7 @@
 //! Laws of leaves. Each function does nothing: its contract is the law, proved for all texts.
 ghost use Rattle.keep_token.specs.Laws as laws;
 
-/// No text is of two kinds of scalars, so a scan tells the kind of a text and not of a choice.
+/// No text is of two kinds of scalars, so a scan finds the kind of the text, and chooses nothing.
 pub fn scalars_share_no_text()
     ensures { laws.ScalarsShareNoText }
 {}

@@ -21,9 +21,9 @@ mod text;
 mod word;
 
 pub use decode::decode_string;
-pub use encode::{encode_int, encode_key, encode_string, encoded_key_len};
+pub use encode::{encode_int, encode_key, encode_string, encoded_key_len, push_key};
 pub use fault::{LeafFault, What};
-pub use gap::scan_gap;
+pub use gap::{scan_gap, ws_end};
 pub use keep_types::{Leaf, Profile};
 pub use key::scan_key;
 pub use laws::{means_one_text, scalars_share_no_text, wide_has_strict};

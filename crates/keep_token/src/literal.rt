@@ -3,6 +3,7 @@ ghost use Rattle.std.specs.Prelude.{◌≡◌, ◌<◌, ◌≤◌, length, Some,
 ghost use Rattle.keep_token.specs.PieceLens.{piece_len};
 ghost use Rattle.keep_token.specs.Pieces as pieces;
 
+use crate::blocks::run_in_blocks;
 use crate::bytes::{byte_at, is_literal, literal_run};
 use crate::fault::LeafFault;
 use crate::strings::{fault_at, marks_run, newline_len};
@@ -47,7 +48,7 @@ pub(crate) fn ml_literal_len(bytes: &[u8]) -> Result<usize, LeafFault>
 {
     let mut at = 3;
     loop {
-        at += literal_run(&bytes[at..]);
+        at += run_in_blocks(&bytes[at..], b'\n', b'\'', b'\'');
         let marks = marks_run(&bytes[at..], b'\'');
         if marks >= 3 {
             return Ok(at + marks.min(5));

@@ -198,13 +198,16 @@ fn is_fraction(bytes: &[u8]) -> bool
 {
     match bytes {
         [] => false,
-        [point, part @ ..] => {
-            let len = part_run(part);
-            *point == b'.'
-                && is_digits(&part[..len])
-                && (part.len() == len || is_exponent(&part[len..]))
-        }
+        [point, part @ ..] => *point == b'.' && (is_digits(part) || has_exponent(part)),
     }
+}
+
+/// Digits and an exponent.
+fn has_exponent(bytes: &[u8]) -> bool
+    ensures { result ≡ words.has_exponent bytes.now }
+{
+    let len = part_run(bytes);
+    is_digits(&bytes[..len]) && is_exponent(&bytes[len..])
 }
 
 /// How many bytes come before an exponent.

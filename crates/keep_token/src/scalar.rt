@@ -13,7 +13,7 @@ use crate::strings::fault_here;
 use crate::word::{word_fault, word_leaf, word_len};
 use keep_types::{Leaf, Profile};
 
-// Whether three of the mark come first.
+// Whether three of the quotation mark come first.
 fn begins_with_three(bytes: &[u8], mark: u8) -> bool
     ensures { result ≡ are_three mark bytes.now }
 {

@@ -1,4 +1,4 @@
-//! What the four kinds of strings share: marks, newlines, and the fault where no piece begins.
+//! What the four kinds of strings share: quotation marks, newlines, and the fault where no piece begins.
 ghost use Rattle.std.specs.Prelude.{◌≡◌, ◌≤◌, ◌==◌, length};
 ghost use Rattle.std.specs.List.{prefix_len};
 ghost use Rattle.keep_token.specs.Pieces as pieces;

@@ -31,7 +31,7 @@ pub enum Origin {
 
 /// The facts about a node, by the numbers of the syntax and not by places, which move with every edit before them.
 /// `key` is the number of the first key part that names it, and `origin` has that of its value, if it has one; `passed`
-/// means that it is an element and that some header goes past it.
+/// means that it is an element and that some header passes it.
 #[derive(Clone, Copy, Debug, PartialEq, Eq)]
 pub struct NodeInfo {
     pub kind: Kind,
