@@ -24,7 +24,7 @@ use Rattle.keep_token.specs.Scanning.{first}
 use Rattle.keep_syntax.specs.declared.info.Brackets.{Brackets}
 use Rattle.keep_syntax.specs.declared.info.Brackets.TheVariants as brackets
 use Rattle.keep_syntax.specs.Tree.{Written, Gap, Further, Key, Name, Body, scalar, array, inline, Entries, none, entry, Value, Content, blank, keyval, header, element, Line, Ended, Document, text_of, token, further_leaves, key_leaves, name_leaves, named_leaves, opening, closing, comma_leaves, entries_leaves, value_leaves, content_leaves, comment_leaves, line_leaves, ended_leaves, bom_leaves, leaves}
-use Rattle.keep_syntax.specs.Grammar.{IsSpace, IsBlank, IsKeyPart, IsFurther, IsKey, IsName, place_in, IsNamed, IsBody, AreEntries, IsValue, IsContent, IsAfter, IsComment, IsLine, IsEnded, IsDocument, Reads, ReadsValue}
+use Rattle.keep_syntax.specs.Grammar.{IsSpace, IsBlank, IsKeyPart, IsFurther, IsKey, IsName, place_in, IsNamed, IsBody, AreEntries, IsValue, IsContent, IsAfter, IsComment, IsLine, IsEnded, IsDocument, Reads}
 use Rattle.keep_syntax.specs.Numbered.{width, token_places}
 use Rattle.keep_syntax.specs.Reading.{Item}
 use Rattle.keep_syntax.proofs.SpaceLaws.{text_of-append, place_of, gap_blank, space_blank}

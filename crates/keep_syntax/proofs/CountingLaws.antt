@@ -9,16 +9,16 @@
 -- Theorem: `counts_found`: the counts that the code finds are those of the lines before the place.
 use Rattle.std.proofs.Common.{◌≡◌, ℕ, suc, ◌+◌, ◌<◌, ◌≤◌, List, [], ◌∷◌, ◌++◌, length, refl, sym, ap, subst, ◌∙◌, arith}
 use Rattle.std.specs.List.{flat_map, AllByRecursion}
-use Rattle.std.proofs.lemmas.List.{length-append}
+use Rattle.std.proofs.lemmas.List.{append-nil, length-append}
 use Rattle.std.proofs.lemmas.Grind.{flat_map-append}
 use Rattle.keep_types.specs.declared.leaf.Profile.{Profile}
 use Rattle.keep_types.specs.declared.syntax.Statement.{Statement}
 use Rattle.keep_syntax.specs.Tree.{Written, Content, blank, keyval, header, element, Line, Ended, Document, text_of, line_leaves, ended_leaves, bom_leaves}
 use Rattle.keep_syntax.specs.Grammar.{IsEnded, IsDocument}
-use Rattle.keep_syntax.specs.Numbered.{width, Count, first_line, line_statements, content_statements, next_line, after_lines}
+use Rattle.keep_syntax.specs.Numbered.{width, Count, first_line, line_statements, content_statements, next_line, over_lines, after_lines}
 use Rattle.keep_syntax_store.specs.Flat.{Flat}
 use Rattle.keep_syntax.specs.Growth.{kinds, starts}
-use Rattle.keep_syntax_store.specs.Rereading.{count_at, counts_at, counts_before, joined}
+use Rattle.keep_syntax_store.specs.Rereading.{LinesAscend, count_at, counts_at, counts_before, joined}
 use Rattle.keep_syntax.specs.FlatLines.{flat_of}
 use Rattle.keep_syntax.proofs.CountLaws.{BeginsChar, AreSome, document_some}
 use Rattle.keep_syntax.proofs.GrowthLaws.{width-append}
@@ -57,6 +57,23 @@ lines_begin c (e ∷ es) place h k =
     let size = width-append (ended_leaves e) (flat_map ended_leaves es) in
     all_append (λ (s : Statement). s.line.start < place) (line_statements c e.line (c.at + width (ended_leaves e))) (over_ended line_statements (next_line c e) es)
     (line_begins c e.line (c.at + width (ended_leaves e)) place (omega (arith, h.0, k, size))) (lines_begin (next_line c e) es place h.1 (omega (arith, k, size)))
+
+-- a line has at most one statement, which begins where it begins
+line_ascends : (low : ℕ) (c : Count) (l : Line) (end : ℕ) (rest : List Statement) → low ≤ c.at → ((n : ℕ) → n ≤ c.at → LinesAscend n rest) → LinesAscend low (line_statements c l end ++ rest)
+line_ascends low c l end rest h others = by l.content
+  where
+    by : (k : Content) → LinesAscend low (content_statements c l end k ++ rest)
+    by blank = others low h
+    by (keyval name value) = (h, others c.at (omega arith))
+    by (header before key after) = (h, others c.at (omega arith))
+    by (element before key after) = (h, others c.at (omega arith))
+
+pub lines_ascend : (low : ℕ) (c : Count) (es : List Ended) (last : Line) → low ≤ c.at → LinesAscend low (over_lines line_statements c es last)
+lines_ascend low c [] last h =
+    let all = line_statements c last (c.at + width (line_leaves last)) in
+    subst (LinesAscend low) (append-nil all) (line_ascends low c last (c.at + width (line_leaves last)) [] h (λ n le. tt))
+lines_ascend low c (e ∷ es) last h =
+    line_ascends low c e.line (c.at + width (ended_leaves e)) (over_lines line_statements (next_line c e) es last) h (λ n le. lines_ascend n (next_line c e) es last (omega (arith, le)))
 
 -- ---- all of it
 

@@ -1,4 +1,12 @@
 -- Where a bracket is one too many, some value continues after it.
+--
+-- Each leaf opens a bracket, closes one, or does neither, so a run of leaves has a number of brackets that it leaves
+-- open and a greatest number that are open within it (`Opens`), and the two add up over runs (`opens-append`). A value
+-- closes what it opens, and its depth is that greatest number (`value_opens`). Where the reading stops at a bracket for
+-- which no depth is left, a value is built that has the text up to there and goes on (`Leads`), by induction over the
+-- depth that is left. It is deeper than the limit there, and so is every other value with that text.
+--
+-- Theorems: `value_opens` and `value_deep`.
 use Rattle.std.proofs.Common.{◌≡◌, ℕ, zero, suc, ◌+◌, ◌≤◌, max, Bool, true, false, cond, not, ◌&&◌, ◌==◌, List, [], ◌∷◌, ◌++◌, length, drop, Option, Some, None, Ok, Err, refl, sym, ap, ◌∙◌, subst, inl, inr, arith, append_assoc}
 use Rattle.std.specs.Prelude.{IsTrue}
 use Rattle.std.specs.List.{flat_map, AllByRecursion}

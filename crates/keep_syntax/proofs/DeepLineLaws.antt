@@ -1,4 +1,11 @@
 -- Where a bracket is one too many, some document continues after it.
+--
+-- The brackets of a line are those of its content, since a header and what comes after a value open none
+-- (`line_opens`). Where the reading stops in a line, it stops in the value of a keyval, of which `DeepLaws` gives a
+-- value that goes on; the line with this value (`line_deep`), after the lines that were read (`lines_deep`), is a
+-- document that goes on.
+--
+-- Theorem: `document_deep`.
 use Rattle.std.proofs.Common.{◌≡◌, ℕ, suc, ◌≤◌, Bool, true, false, cond, ◌&&◌, ◌==◌, List, [], ◌∷◌, ◌++◌, length, slice_index, drop, Option, Some, None, Ok, Err, refl, sym, ap, ◌∙◌, subst, inl, inr, arith, append_assoc}
 use Rattle.std.specs.List.{flat_map, AllByRecursion}
 use Rattle.std.proofs.lemmas.List.{append-nil}

@@ -1,18 +1,26 @@
 -- What the code stores of gaps, and how a fault goes through.
-use Rattle.std.proofs.Common.{◌≡◌, ℕ, ◌+◌, ◌<◌, ◌≤◌, true, false, List, [], ◌∷◌, ◌++◌, length, get_or, take, drop, Option, Some, None, Result, Ok, Err, refl, sym, ap, ◌∙◌, arith, add-zero, append_assoc, IsCharBoundary}
+--
+-- A scan gives a leaf and its end; the definitions have a leaf and its length (`moved_some`). What is stored grows by
+-- that leaf (`leaf_grows`). White space is one leaf or none, by the first byte; a gap over lines is a loop, whose
+-- leaves so far and what is left make the gap (`BlankSoFar`). A fault of a part is a fault of what it is part of
+-- (`fails_through`).
+--
+-- Theorems: `white_leaf` and `other_byte`; `blank_more` and `blank_done`; `fails_through`.
+use Rattle.std.proofs.Common.{◌≡◌, ℕ, ◌+◌, ◌<◌, ◌≤◌, ◌==◌, Bool, true, false, List, [], ◌∷◌, ◌++◌, length, get_or, take, drop, Option, Some, None, Result, Ok, Err, refl, sym, ap, ◌∙◌, inl, inr, arith, add-zero, append_assoc, IsCharBoundary}
 use Rattle.std.proofs.lemmas.List.{append-nil, drop-drop, get_or-drop, length-drop, length-take}
 use Rattle.keep_types.specs.declared.leaf.Leaf.{Leaf}
 use Rattle.keep_types.specs.declared.leaf.Leaf.TheVariants as leaf
 use Rattle.keep_token.specs.Scanning.{first, gap_at, moved}
-use Rattle.keep_token.proofs.Shared.{white, line, comment, nothing, gap_cases, ws_found}
-use Rattle.std.specs.List.{prefix_len}
+use Rattle.keep_types.specs.declared.leaf.Profile.{Profile}
+use Rattle.keep_token.proofs.Shared.{white, line, comment, nothing, gap_cases, tested}
 use Rattle.keep_token.specs.Abnf.{is_ws}
 use Rattle.keep_syntax.specs.declared.fault.ReadFault.{ReadFault}
 use Rattle.keep_syntax.specs.declared.fault.ReadFault.TheVariants as faults
+use Rattle.keep_syntax.specs.declared.info.Brackets.{Brackets}
 use Rattle.keep_syntax.specs.Tree.{Gap, token}
-use Rattle.keep_syntax.specs.Reading.{Fault, Bad, Deep, written, space_at, blank_at, prepended}
+use Rattle.keep_syntax.specs.Reading.{Fault, Bad, Deep, begins_gap, written, space_at, blank_at, prepended, is_free, gap_if}
 use Rattle.keep_syntax_store.specs.Flat.{Flat, with_token}
-use Rattle.keep_syntax.specs.Growth.{only, Grows, Fails, PunctuationIs, SpaceRead, BlankRead, IsSyntax}
+use Rattle.keep_syntax.specs.Growth.{only, Grows, Fails, PunctuationIs, SpaceRead, BlankRead, GapRead, IsSyntax}
 use Rattle.keep_syntax.proofs.LoopLaws.{done}
 use Rattle.keep_syntax.proofs.SpaceLaws.{blank_step, blank_stop}
 use Rattle.keep_syntax.proofs.GrowthLaws.{grows_nothing, grows_then, grows_token}
@@ -105,12 +113,6 @@ no_space text at f bound e = record { part = []; bound = bound; forward = omega 
 pub other_byte : (text : List ℕ) (at : ℕ) (f : Flat) → IsCharBoundary text at → is_ws (get_or text at 0) ≡ false → SpaceRead text at f f (Ok at)
 other_byte text at f bound other = no_space text at f bound (space_other (drop at text) (rw (first-drop text at) other))
 
-pub no_leaf : (text : List ℕ) (at : ℕ) (f : Flat) → IsCharBoundary text at → None ≡ moved at (gap_at (drop at text)) → SpaceRead text at f f (Ok at)
-no_leaf text at f bound e = no_space text at f bound (space_nothing (drop at text) (moved_none at (gap_at (drop at text)) e))
-
-pub white_kind : (text : List ℕ) (at : ℕ) (l : Leaf) (end : ℕ) → is_ws (get_or text at 0) ≡ true → Some (l, end) ≡ moved at (gap_at (drop at text)) → Some (leaf.Ws, end) ≡ moved at (gap_at (drop at text))
-white_kind text at l end is e = moved_kind at (prefix_len is_ws (drop at text)) (gap_at (drop at text)) leaf.Ws l end (ws_found (drop at text) (rw (first-drop text at) is)).0 e
-
 pub white_leaf : (text : List ℕ) (at : ℕ) (old new : Flat) (end : ℕ) → IsCharBoundary text at → IsCharBoundary text end → Some (leaf.Ws, end) ≡ moved at (gap_at (drop at text)) → new ≡ with_token leaf.Ws at old → SpaceRead text at old new (Ok end)
 white_leaf text at old new end bound bound' e is =
     let m = moved_some at (gap_at (drop at text)) leaf.Ws end e in
@@ -161,3 +163,29 @@ blank_done text at here old now s e =
     }
 
 -- ---- the gap that a place allows
+
+gap_none : (text : List ℕ) → begins_gap (first text) ≡ false → gap_at text ≡ None
+unfolding gap_at
+gap_none text other =
+    elim (tested (is_ws (first text))) [
+      | inl e ↦ absurd (let no = rw e at other in cc)
+      | inr e ↦ elim (tested (first text == 0x0A)) [
+        | inl f ↦ absurd (let no = rw (e, f) at other in cc)
+        | inr f ↦ elim (tested (first text == 0x0D)) [
+          | inl g ↦ absurd (let no = rw (e, f, g) at other in cc)
+          | inr g ↦ let h : (first text == 0x23) ≡ false = rw (e, f, g) at other in rw (e, f, g, h) refl
+        ]
+      ]
+    ]
+
+-- no gap begins with this byte
+pub no_gap : (profile : Profile) (b : Brackets) (text : List ℕ) (at : ℕ) (f : Flat) → IsCharBoundary text at → begins_gap (get_or text at 0) ≡ false → GapRead profile b text at f f (Ok at)
+no_gap profile b text at f bound other =
+    record { part = []; bound = bound; forward = omega arith; is_read = ap done (by (is_free profile b)); grows = grows_nothing text f at }
+  where
+    none : gap_at (drop at text) ≡ None
+    none = gap_none (drop at text) (rw (first-drop text at) other)
+
+    by : (free : Bool) → gap_if free (drop at text) ≡ ([], drop at text)
+    by true = blank_stop (drop at text) none
+    by false = space_nothing (drop at text) none

@@ -8,7 +8,7 @@ use Rattle.keep_types.specs.declared.syntax.KeyPart.{KeyPart}
 use Rattle.keep_types.specs.declared.syntax.ValueInfo.{ValueInfo}
 use Rattle.keep_syntax.specs.Tree.{Written, token, text_of}
 use Rattle.keep_syntax.specs.Numbered.{width}
-use Rattle.keep_syntax_store.specs.Flat.{Flat, with_token, with_statement, with_key, with_value, ChangesValue}
+use Rattle.keep_syntax_store.specs.Flat.{Flat, with_token, with_key, with_value, ChangesValue}
 use Rattle.keep_syntax.specs.Growth.{Taken, only, both, kinds, starts, add_at, Grows}
 use Rattle.keep_syntax_store.proofs.Shared.{same_flat}
 use Rattle.keep_syntax.proofs.SpaceLaws.{text_of-append}
@@ -81,9 +81,6 @@ one_key k = record { leaves = []; statements = []; keys = k ∷ []; values = [] 
 abbrev pub one_value : ValueInfo → Taken
 one_value v = record { leaves = []; statements = []; keys = []; values = v ∷ [] }
 
-abbrev pub one_statement : Statement → Taken
-one_statement s = record { leaves = []; statements = s ∷ []; keys = []; values = [] }
-
 pub grows_key : (text : List ℕ) (k : KeyPart) (old new : Flat) (at : ℕ) → new ≡ with_key k old → Grows text old new at at (one_key k)
 unfolding add_at
 grows_key text k old new at e = record {
@@ -97,14 +94,6 @@ unfolding add_at
 grows_value text v old new at e = record {
   place = omega arith;
   stored = e ∙ same_flat (with_value v old) (add_at old at (one_value v)) (sym (append-nil old.kinds)) (sym (append-nil old.starts)) (sym (append-nil old.statements)) (sym (append-nil old.keys)) refl;
-  bounds = tt;
-}
-
-pub grows_statement : (text : List ℕ) (s : Statement) (old new : Flat) (at : ℕ) → new ≡ with_statement s old → Grows text old new at at (one_statement s)
-unfolding add_at
-grows_statement text s old new at e = record {
-  place = omega arith;
-  stored = e ∙ same_flat (with_statement s old) (add_at old at (one_statement s)) (sym (append-nil old.kinds)) (sym (append-nil old.starts)) refl (sym (append-nil old.keys)) (sym (append-nil old.values));
   bounds = tt;
 }
 

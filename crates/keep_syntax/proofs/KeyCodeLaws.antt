@@ -1,4 +1,11 @@
 -- What the code stores of keys.
+--
+-- A key part is a leaf and an entry of the list of key parts. The further parts are read in a loop: the parts so far
+-- and the reading from there make the reading of the whole (`FurtherSoFar`), and each iteration adds a dot, white space
+-- and a part (`further_more`). A key and its `=` are put together of these: the growths are joined, and a fault of any
+-- part is the key's fault.
+--
+-- Theorems: `part_is`, `further_more`, `further_done`, `key_is` and `name_is`.
 use Rattle.std.proofs.Common.{◌≡◌, ℕ, ◌+◌, ◌<◌, false, ◌==◌, List, [], ◌∷◌, ◌++◌, length, get_or, drop, Some, Result, Ok, Err, refl, sym, ap, ◌∙◌, arith, append_assoc, IsCharBoundary}
 use Rattle.std.specs.List.{flat_map}
 use Rattle.std.proofs.lemmas.List.{append-nil, length-append}

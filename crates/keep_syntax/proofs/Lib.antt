@@ -27,6 +27,7 @@ pub mod DeepestLaws
 pub mod LawLaws
 pub mod ReadLaws
 pub mod LineCodeLaws
+pub mod LineEndLaws
 pub mod LineContentLaws
 pub mod LineLoopLaws
 pub mod NumberLaws
@@ -43,6 +44,7 @@ pub mod PieceLaws
 pub mod SplitLaws
 pub mod CountingLaws
 pub mod RereadLaws
+mod AfterLaws
 pub mod ReplacedTextLaws
 pub mod SameLaws
 pub mod Shared

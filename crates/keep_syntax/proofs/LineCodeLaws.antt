@@ -1,4 +1,11 @@
 -- What the code stores of comments, newlines and lines.
+--
+-- Each function of the code has a definition of what it reads and stores (`CommentRead`, `NewlineRead`, and `line_at`
+-- for a line). The first byte tells what a gap scan finds there: `#` a comment, a line feed a newline, `\r` and a line
+-- feed a newline of two bytes. A line is put together of its white space, its content and its comment: their growths
+-- are joined, and the statement gets its end, which is known only now (`stated_is`).
+--
+-- Theorems: `some_comment`, `some_newline`, `line_blank` and `line_is`, one for each way that a call returns.
 use Rattle.std.proofs.Common.{◌≡◌, ℕ, ◌+◌, ◌<◌, ◌==◌, ◌&&◌, true, false, List, [], ◌∷◌, length, get_or, drop, Option, Some, None, Result, Ok, Err, inl, inr, refl, sym, ap, ◌∙◌, subst, arith, IsCharBoundary}
 use Rattle.std.proofs.lemmas.List.{append-nil, get_or-drop}
 use Rattle.std.specs.List.{prefix_len}
@@ -18,11 +25,11 @@ use Rattle.keep_syntax.specs.Tree.{Written, Gap, Content, blank, keyval, header,
 use Rattle.keep_syntax.specs.Numbered.{width, span, key_count, content_parts, content_values, Count, line_start, line_statements}
 use Rattle.keep_syntax.specs.Reading.{Bad, written, space_at, is_line_end, content_at, after_of, comment_at, line_at}
 use Rattle.keep_syntax_store.specs.Flat.{Flat, with_token}
-use Rattle.keep_syntax.specs.Growth.{Taken, only, Grows, Fails, IsSyntax, PunctuationRead, SpaceRead}
+use Rattle.keep_syntax.specs.Growth.{Taken, Grows, Fails, IsSyntax, PunctuationRead, SpaceRead}
 use Rattle.keep_syntax_store.specs.Rereading.{count_at}
 use Rattle.keep_syntax.specs.FlatLines.{content_head, content_taken, ContentIs, CommentRead, line_taken, LineIs, newline_by, NewlineRead}
 use Rattle.keep_syntax.proofs.LoopLaws.{done, ok_is}
-use Rattle.keep_syntax.proofs.GrowthLaws.{same_taken, grows_nothing, grows_then, grows_as, grown_keys, grown_values}
+use Rattle.keep_syntax.proofs.GrowthLaws.{same_taken, grows_nothing, grows_then, grows_as}
 use Rattle.keep_syntax.proofs.GapCodeLaws.{moved_some, moved_none, moved_kind, first-drop, after_leaf, leaf_grows, fails_bad, fails_memory, fails_through}
 
 -- ---- a comment
@@ -131,10 +138,6 @@ newline_2 text at old new r e f p = newline_by_len text at 2 old new r (newline_
 
 -- ---- a line
 
--- white space adds no value and no key part
-pub space_grown : (text : List ℕ) (at begin : ℕ) (old new : Flat) → SpaceRead text at old new (Ok begin) → (length new.values ≡ length old.values) × (length new.keys ≡ length old.keys)
-space_grown text at begin old new s = (omega (arith, grown_values (only s.part) s.grows), omega (arith, grown_keys (only s.part) s.grows))
-
 pub line_fails : (profile : Profile) (depth_left : ℕ) (text : List ℕ) (at begin : ℕ) (old new : Flat) (e : ReadFault) → SpaceRead text at old new (Ok begin) → Fails text e (content_at profile depth_left (drop begin text)) → Fails text e (line_at profile depth_left (drop at text))
 unfolding line_at
 line_fails profile depth_left text at begin old new e s k =
@@ -145,7 +148,7 @@ line_reads : (profile : Profile) (depth_left : ℕ) (text : List ℕ) (at begin 
 unfolding line_at
 line_reads profile depth_left text at begin close after end g a c k e1 e2 e3 e4 = rw (e1, e2, e3, e4) refl
 
-blank_content : (profile : Profile) (depth_left : ℕ) (text : List ℕ) (at : ℕ) → is_line_end (get_or text at 0) ≡ true → content_at profile depth_left (drop at text) ≡ Ok (blank, drop at text)
+pub blank_content : (profile : Profile) (depth_left : ℕ) (text : List ℕ) (at : ℕ) → is_line_end (get_or text at 0) ≡ true → content_at profile depth_left (drop at text) ≡ Ok (blank, drop at text)
 unfolding content_at
 blank_content profile depth_left text at e = rw (first-drop text at, e) refl
 
@@ -165,13 +168,13 @@ line_blank profile depth_left text at begin end old f1 new s e k =
     }
 
 -- white space may follow what is not blank
-after_space : (p : Start) (c : Content) (h : Head) (text : List ℕ) → content_head p c ≡ Some h → after_of c text ≡ space_at text
+pub after_space : (p : Start) (c : Content) (h : Head) (text : List ℕ) → content_head p c ≡ Some h → after_of c text ≡ space_at text
 after_space p blank h text e = absurd cc
 after_space p (keyval name value) h text e = refl
 after_space p (header before key after) h text e = refl
 after_space p (element before key after) h text e = refl
 
-abbrev stated_by : Head → ℕ → ℕ → ℕ → ℕ → ℕ → Statement
+abbrev pub stated_by : Head → ℕ → ℕ → ℕ → ℕ → ℕ → Statement
 stated_by h begin close at end parts = record { kind = h.kind; span = span begin close; line = span at end; first_key = parts; keys = h.keys; value = h.value }
 
 -- the statement of a line with this content
@@ -197,8 +200,12 @@ stated_is p (element before key after) h n g a k begin close end e e1 e2 e3 =
     let stated : ℕ → ℕ → Head → List Statement = λ b x q. stated_by q b x n.at end n.parts ∷ [] in
     ap (stated begin close) (sym is) ∙ ap (λ (x : ℕ). stated begin x head) e2 ∙ ap (λ (b : ℕ). stated b (b + w) head) e1
 
+-- where the content of a line begins, after what is stored
+abbrev pub start_of : ℕ → Flat → Start
+start_of begin old = record { at = begin; values = length old.values; parts = length old.keys; owner = owner.Line (length old.statements); depth = 0; comma = None }
+
 pub line_is : (profile : Profile) (depth_left : ℕ) (text : List ℕ) (at begin close after end : ℕ) (old f1 f2 f3 new : Flat) (p : Start) (h : Head) → SpaceRead text at old f1 (Ok begin)
-    → p ≡ record { at = begin; values = length old.values; parts = length old.keys; owner = owner.Line (length old.statements); depth = 0; comma = None } → ContentIs profile depth_left text p f1 f2 close h
+    → p ≡ start_of begin old → ContentIs profile depth_left text p f1 f2 close h
     → SpaceRead text close f2 f3 (Ok after) → CommentRead text after f3 new (Ok end) → LineIs profile depth_left text at old new end (Some (stated_by h begin close at end (length old.keys)))
 line_is profile depth_left text at begin close after end old f1 f2 f3 new p h s pe con a k =
     let n = count_at at old in
@@ -206,7 +213,7 @@ line_is profile depth_left text at begin close after end old f1 f2 f3 new p h s 
     let c = r.part in
     let l : Line = record { before = s.part; content = c; after = a.part; comment = k.part } in
     let pat : p.at ≡ begin = ap (λ (q : Start). q.at) pe in
-    let ps : p ≡ line_start n l = pe ∙ ap (λ (m : ℕ). let q : Start = record { at = m; values = length old.values; parts = length old.keys; owner = owner.Line (length old.statements); depth = 0; comma = None } in q) s.grows.place in
+    let ps : p ≡ line_start n l = pe ∙ ap (λ (m : ℕ). start_of m old) s.grows.place in
     let grown : Grows text f1 f2 begin close (content_taken p c) = subst (λ (m : ℕ). Grows text f1 f2 m close (content_taken p c)) pat r.grows in
     let g = grows_then s.grows (grows_then grown (grows_then a.grows k.grows)) in
     let taken : Start → Taken = λ q. record { leaves = line_leaves l; statements = []; keys = content_parts q.at c; values = content_values q c } in

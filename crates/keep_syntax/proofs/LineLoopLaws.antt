@@ -4,38 +4,35 @@
 -- reading the rest of the text completes the reading of all. It holds before the first line (`lines_none`), and after
 -- one more (`lines_more`). A line's statement is pushed with the end of its line, which is known only after its newline
 -- (`ended_is`). What is stored says how much comes before the next line (`count_is`). The loop ends at the last line
--- (`lines_stated`), or at a fault: in a line (`lines_fail`), or where neither a newline nor the end follows it
--- (`lines_refuse`).
+-- (`lines_end`), or at a fault (`lines_fail`).
 --
--- Theorems: `lines_none`, `lines_more`, `lines_stated`: the invariant holds, and at the end all lines are stored;
--- `lines_fail` and `lines_refuse` for faults.
-use Rattle.std.proofs.Common.{◌≡◌, ℕ, ◌+◌, ◌<◌, List, [], ◌∷◌, ◌++◌, length, drop, Option, Some, None, Result, Ok, Err, refl, sym, ap, ◌∙◌, subst, arith, append_assoc, IsCharBoundary}
-use Rattle.std.specs.Prelude.{OnOk, IsOkUnless}
+-- Theorems: `lines_none`, `lines_more`, `lines_end`: the invariant holds, and at the end all lines are stored;
+-- `lines_fail` for faults.
+use Rattle.std.proofs.Common.{◌≡◌, ℕ, ◌+◌, List, [], ◌∷◌, ◌++◌, length, drop, Option, Some, None, Ok, refl, sym, ap, ◌∙◌, arith, append_assoc, IsCharBoundary}
 use Rattle.std.specs.List.{flat_map}
-use Rattle.std.proofs.lemmas.List.{append-nil, drop_all, length-drop}
+use Rattle.std.proofs.lemmas.List.{append-nil, drop_all}
 use Rattle.std.proofs.lemmas.Grind.{flat_map-append}
 use Rattle.keep_types.specs.declared.leaf.Leaf.TheVariants as leaf
 use Rattle.keep_types.specs.declared.leaf.Profile.{Profile}
 use Rattle.keep_token.specs.Scanning.{gap_at}
 use Rattle.keep_token.proofs.Shared.{Gaps, white, line, comment, nothing, gap_cases}
 use Rattle.keep_syntax.specs.declared.fault.ReadFault.{ReadFault}
-use Rattle.keep_syntax.specs.declared.fault.ReadFault.TheVariants as faults
 use Rattle.keep_types.specs.declared.syntax.Statement.{Statement}
 use Rattle.keep_syntax.specs.Tree.{Written, Content, blank, keyval, header, element, Line, Ended, line_leaves, ended_leaves}
 use Rattle.keep_syntax.specs.Numbered.{width, Count, line_parts, line_values, line_statements, content_statements, after_lines}
-use Rattle.keep_syntax.specs.Reading.{Fault, Bad, written, line_at, lines_of}
+use Rattle.keep_syntax.specs.Reading.{written, ended_at, lines_of}
 use Rattle.keep_syntax_store.specs.Flat.{Flat}
-use Rattle.keep_syntax.specs.Growth.{Taken, only, both, add_at, Grows, Fails}
+use Rattle.keep_syntax.specs.Growth.{Taken, both, add_at, Grows, Fails}
 use Rattle.keep_syntax_store.specs.Rereading.{count_at, with_statements}
-use Rattle.keep_syntax.specs.FlatLines.{statement_list, LineIs, newline_by, NewlineRead, ended_list, lines_taken, LinesAre, LinesRead}
+use Rattle.keep_syntax.specs.FlatLines.{statement_list, newline_by, ended_list, EndedIs, LastIs, lines_taken, LinesAre}
 use Rattle.keep_syntax.specs.WholeLines.{line_starts}
 use Rattle.keep_syntax.proofs.LoopLaws.{done}
 use Rattle.keep_syntax.proofs.GrowthLaws.{width-append}
-use Rattle.keep_syntax.proofs.StepLaws.{lines_newline, lines_last, lines_err, lines_bad}
+use Rattle.keep_syntax.proofs.StepLaws.{lines_newline, lines_last, lines_err}
 use Rattle.keep_syntax.proofs.LineNumberingLaws.{over_ended, ended-snoc, over-last, after_lines-at, after_lines-statements, after_lines-parts, after_lines-values}
 use Rattle.keep_syntax_store.proofs.Shared.{same_count, same_flat}
 use Rattle.keep_syntax.proofs.GrowthLaws.{same_taken, grows_nothing, grows_then, grows_as, grown_keys, grown_values, grown_statements}
-use Rattle.keep_syntax.proofs.GapCodeLaws.{fails_memory, fails_through}
+use Rattle.keep_syntax.proofs.GapCodeLaws.{fails_through}
 
 -- ---- a newline
 
@@ -50,18 +47,6 @@ newline_found text w rest e = by (gap_cases text)
         (n, r, sym (ap (λ (p : Written × List ℕ). p.0) pair), sym (ap (λ (p : Written × List ℕ). p.1) pair))
     by (comment n r f found stop) = absurd (let never = rw r at e in cc)
     by (nothing r f) = absurd (let never = rw r at e in cc)
-
-newline_bad : (text : List ℕ) (d : Fault) → newline_by text (gap_at text) ≡ Err d → d ≡ Bad
-newline_bad text d e = by (gap_cases text)
-  where
-    by : Gaps text (gap_at text) → d ≡ Bad
-    by (white r f) = let is = rw r at e in cc
-    by (line n r f found) = absurd (let never = rw r at e in cc)
-    by (comment n r f found stop) = let is = rw r at e in cc
-    by (nothing r f) = let is = rw r at e in cc
-
-newline_not : (text : List ℕ) (d : Fault) (n : ℕ) → newline_by text (gap_at text) ≡ Err d → gap_at text ≡ Some (leaf.Newline, n) → ⊥
-newline_not text d n e g = let never = rw g at e in absurd cc
 
 -- ---- a line's statement, with another end of the line
 
@@ -164,21 +149,17 @@ pub lines_none : (profile : Profile) (depth_left : ℕ) (text : List ℕ) (begin
     → LinesSoFar profile depth_left text begin begin old old before after
 lines_none profile depth_left text begin old before after bound first = record { prefix = []; bound = bound; read = refl; grows = grows_nothing text old begin; starts = first }
 
-pub lines_fail : (profile : Profile) (depth_left : ℕ) (text : List ℕ) (begin here : ℕ) (old now : Flat) (before after : List ℕ) (e : ReadFault) → LinesSoFar profile depth_left text begin here old now before after → Fails text e (line_at profile depth_left (drop here text)) → Fails text e (lines_of profile depth_left [] (drop begin text))
+pub lines_fail : (profile : Profile) (depth_left : ℕ) (text : List ℕ) (begin here : ℕ) (old now : Flat) (before after : List ℕ) (e : ReadFault) → LinesSoFar profile depth_left text begin here old now before after → ((prefix : List Ended) → Fails text e (ended_at profile depth_left prefix (drop here text))) → Fails text e (lines_of profile depth_left [] (drop begin text))
 lines_fail profile depth_left text begin here old now before after e s k =
-    fails_through text e (line_at profile depth_left (drop here text)) (lines_of profile depth_left [] (drop begin text)) (λ d h. s.read ∙ lines_err profile depth_left s.prefix (drop here text) d h) k
+    fails_through text e (ended_at profile depth_left s.prefix (drop here text)) (lines_of profile depth_left [] (drop begin text)) (λ d h. s.read ∙ lines_err profile depth_left s.prefix (drop here text) d h) (k s.prefix)
 
-pub lines_refuse : (profile : Profile) (depth_left : ℕ) (text : List ℕ) (begin here close : ℕ) (st : Option Statement) (old now f1 f2 : Flat) (before after : List ℕ) (e : ReadFault) → LinesSoFar profile depth_left text begin here old now before after → LineIs profile depth_left text here now f1 close st → (close ≡ length text → ⊥)
-    → NewlineRead text close f1 f2 (Err e) → Fails text e (lines_of profile depth_left [] (drop begin text))
-lines_refuse profile depth_left text begin here close st old now f1 f2 before after e s i more k =
-    let rest = drop close text in
-    let some : 0 < length rest = omega (arith, length-drop close text, i.read.bound.0, more) in
-    fails_through text e (newline_by rest (gap_at rest)) (lines_of profile depth_left [] (drop begin text))
-    (λ d h. s.read ∙ lines_bad profile depth_left s.prefix (drop here text) i.read.part rest i.read.is_read some (λ n g. newline_not rest d n h g) ∙ ap Err (sym (newline_bad rest d h))) k
-
-pub lines_more : (profile : Profile) (depth_left : ℕ) (text : List ℕ) (begin here close end : ℕ) (st : Option Statement) (old now f1 f2 new : Flat) (before after later : List ℕ) → LinesSoFar profile depth_left text begin here old now before after → LineIs profile depth_left text here now f1 close st
-    → NewlineRead text close f1 f2 (Ok end) → new ≡ with_statements (ended_list end st) f2 → later ≡ after ++ (end ∷ []) → LinesSoFar profile depth_left text begin end old new before later
-lines_more profile depth_left text begin here close end st old now f1 f2 new before after later s i nl is next =
+pub lines_more : (profile : Profile) (depth_left : ℕ) (text : List ℕ) (begin here end : ℕ) (old now new : Flat) (before after later : List ℕ) → LinesSoFar profile depth_left text begin here old now before after → EndedIs profile depth_left text here now new end
+    → later ≡ after ++ (end ∷ []) → LinesSoFar profile depth_left text begin end old new before later
+lines_more profile depth_left text begin here end old now new before after later s one_more next =
+    let close = one_more.close in
+    let st = one_more.statement in
+    let i = one_more.line in
+    let nl = one_more.newline in
     let c = count_at begin old in
     let n = count_at here now in
     let l = i.read.part in
@@ -186,7 +167,7 @@ lines_more profile depth_left text begin here close end st old now f1 f2 new bef
     let e : Ended = record { line = l; newline = w } in
     let found = newline_found (drop close text) w (drop end text) nl.is_read in
     let ss = ended_list end st in
-    let g = grows_then i.read.grows (grows_then nl.grows (grows_stated text ss f2 new end is)) in
+    let g = grows_then i.read.grows (grows_then nl.grows (grows_stated text ss one_more.ended new end one_more.stored)) in
     let stated : ss ≡ line_statements n l (n.at + width (ended_leaves e)) = ended_is n l st close end i.stated ∙ ap (line_statements n l) g.place in
     let one : Grows text now new here end (one_taken n e) = grows_as (one_taken n e) (same_taken _ (one_taken n e) refl stated (append-nil (line_parts n l)) (append-nil (line_values n l))) g in
     let counted : Grows text now new here end (one_taken (after_lines c s.prefix) e) = grows_as (one_taken (after_lines c s.prefix) e) (ap (λ (m : Count). one_taken m e) (count_is text begin here old now s.prefix s.grows)) one in
@@ -202,32 +183,29 @@ lines_more profile depth_left text begin here close end st old now f1 f2 new bef
           ∙ ap (λ (ns : List ℕ). before ++ ns) (sym (line_starts-snoc begin s.prefix e end all.place));
     }
 
-lines_end : (profile : Profile) (depth_left : ℕ) (text : List ℕ) (begin here close : ℕ) (st : Option Statement) (old now f1 new : Flat) (before after : List ℕ) → LinesSoFar profile depth_left text begin here old now before after → LineIs profile depth_left text here now f1 close st
-    → new ≡ with_statements (ended_list close st) f1 → close ≡ length text → LinesAre profile depth_left text begin old new before after
-lines_end profile depth_left text begin here close st old now f1 new before after s i is at_end =
+pub lines_end : (profile : Profile) (depth_left : ℕ) (text : List ℕ) (begin here : ℕ) (old now new : Flat) (before after : List ℕ) → LinesSoFar profile depth_left text begin here old now before after → LastIs profile depth_left text here now new
+    → LinesAre profile depth_left text begin old new before after
+lines_end profile depth_left text begin here old now new before after s last =
+    let close = length text in
+    let st = last.statement in
+    let i = last.line in
     let c = count_at begin old in
     let n = count_at here now in
     let l = i.read.part in
     let ss = ended_list close st in
-    let g = grows_then i.read.grows (grows_stated text ss f1 new close is) in
+    let g = grows_then i.read.grows (grows_stated text ss last.mid new close last.stored) in
     let stated : ss ≡ line_statements n l (n.at + width (line_leaves l)) = ended_is n l st close close i.stated ∙ ap (line_statements n l) i.read.grows.place in
     let one : Grows text now new here close (last_taken n l) = grows_as (last_taken n l) (same_taken _ (last_taken n l) (append-nil (line_leaves l)) stated (append-nil (line_parts n l)) (append-nil (line_values n l))) g in
     let counted : Grows text now new here close (last_taken (after_lines c s.prefix) l) = grows_as (last_taken (after_lines c s.prefix) l) (ap (λ (m : Count). last_taken m l) (count_is text begin here old now s.prefix s.grows)) one in
     let whole : Grows text old new begin close (lines_taken c (s.prefix, l)) = grows_as (lines_taken c (s.prefix, l)) (all_last c s.prefix l) (grows_then s.grows counted) in
-    let nothing_left : drop close text ≡ [] = drop_all close text (omega (arith, at_end)) in
-    let nothing_after : drop (length text) text ≡ [] = drop_all (length text) text (omega arith) in
+    let nothing_left : drop close text ≡ [] = drop_all close text (omega arith) in
     record {
       read = record {
         part = (s.prefix, l);
-        bound = subst (λ (m : ℕ). IsCharBoundary text m) at_end i.read.bound;
-        forward = omega (arith, s.grows.place, i.read.forward, at_end);
-        is_read = s.read ∙ lines_last profile depth_left s.prefix (drop here text) l (i.read.is_read ∙ ap (λ (t : List ℕ). done (l, t)) nothing_left) ∙ ap (λ (t : List ℕ). done ((s.prefix, l), t)) (sym nothing_after);
-        grows = subst (λ (m : ℕ). Grows text old new begin m (lines_taken c (s.prefix, l))) at_end whole;
+        bound = i.read.bound;
+        forward = omega (arith, s.grows.place, i.read.forward);
+        is_read = s.read ∙ lines_last profile depth_left s.prefix (drop here text) l (i.read.is_read ∙ ap (λ (t : List ℕ). done (l, t)) nothing_left) ∙ ap (λ (t : List ℕ). done ((s.prefix, l), t)) (sym nothing_left);
+        grows = whole;
       };
       starts = s.starts;
     }
-
-pub lines_stated : {A : Type 0} (profile : Profile) (depth_left : ℕ) (text : List ℕ) (begin here close : ℕ) (st : Option Statement) (old now f1 new : Flat) (before after : List ℕ) (r : Result A ReadFault) → LinesSoFar profile depth_left text begin here old now before after → LineIs profile depth_left text here now f1 close st
-    → OnOk r (new ≡ with_statements (ended_list close st) f1) → IsOkUnless r faults.Memory → close ≡ length text → LinesRead profile depth_left text begin old new before after r
-lines_stated profile depth_left text begin here close st old now f1 new before after (Ok x) s i is only at_end = lines_end profile depth_left text begin here close st old now f1 new before after s i is at_end
-lines_stated profile depth_left text begin here close st old now f1 new before after (Err e) s i is only at_end = fails_memory text e (lines_of profile depth_left [] (drop begin text)) only

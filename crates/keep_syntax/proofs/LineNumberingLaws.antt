@@ -2,10 +2,8 @@
 use Rattle.std.proofs.Common.{◌≡◌, ℕ, ◌+◌, List, [], ◌∷◌, ◌++◌, length, refl, sym, ap, ◌∙◌, arith, append_assoc}
 use Rattle.std.specs.List.{flat_map}
 use Rattle.std.proofs.lemmas.List.{append-nil, length-append}
-use Rattle.keep_types.specs.declared.leaf.Leaf.TheVariants as leaf
-use Rattle.keep_types.specs.declared.syntax.KeyPart.{KeyPart}
-use Rattle.keep_syntax.specs.Tree.{Written, Further, Content, blank, keyval, header, element, Line, Ended, further_leaves, line_leaves, ended_leaves}
-use Rattle.keep_syntax.specs.Numbered.{width, part_at, further_parts, Count, line_parts, line_values, line_statements, content_statements, next_line, over_lines, after_lines}
+use Rattle.keep_syntax.specs.Tree.{Content, blank, keyval, header, element, Line, Ended, line_leaves, ended_leaves}
+use Rattle.keep_syntax.specs.Numbered.{width, Count, line_parts, line_values, line_statements, content_statements, next_line, over_lines, after_lines}
 use Rattle.keep_syntax.proofs.GrowthLaws.{width-append}
 
 -- ---- key parts

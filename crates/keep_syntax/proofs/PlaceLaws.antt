@@ -1,13 +1,8 @@
 -- Tokens are one after the other, and their texts joined are the text.
-use Rattle.std.proofs.Common.{◌≡◌, ℕ, suc, ◌+◌, List, [], ◌∷◌, ◌++◌, length, take, drop, refl, sym, ap, ◌∙◌, arith, append_assoc, take_at, drop_at}
+use Rattle.std.proofs.Common.{◌≡◌, ℕ, suc, ◌+◌, List, [], ◌∷◌, ◌++◌, length, refl, ap}
 use Rattle.std.specs.List.{flat_map}
-use Rattle.std.proofs.lemmas.List.{length-append}
-use Rattle.keep_types.specs.declared.leaf.Leaf.TheVariants as leaf
-use Rattle.keep_syntax.specs.Tree.{Written, Document, text_of, token, leaves, text}
-use Rattle.keep_syntax.specs.Numbered.{width, Placed, placed, token_places, tokens}
-use Rattle.keep_syntax.proofs.SpaceLaws.{text_of-append}
-use Rattle.keep_syntax.proofs.GrowthLaws.{width-append}
-use Rattle.keep_syntax.proofs.CountLaws.{inner_leaves, leaves_end}
+use Rattle.keep_syntax.specs.Tree.{Written, Document, text_of, leaves, text}
+use Rattle.keep_syntax.specs.Numbered.{Placed, placed, token_places, tokens}
 
 -- the texts of tokens, joined
 pub placed_text : (at : ℕ) (ws : List Written) → flat_map (λ (p : Placed). p.text) (placed at ws) ≡ text_of ws

@@ -1,4 +1,12 @@
--- What was stored of a text is the syntax of its document, or of its value, and a fault tells what the grammar says.
+-- What was stored of a text is the syntax of its document, or of its value, and a fault means what the grammar says.
+--
+-- The code's lemmas end in `DocumentIs`: the stored lists are those of a document that has the text. The reading
+-- function finds each document of a text, and no other, so this document is the only one (`found`, `only`), and each
+-- fault of the reading is a fault by the grammar (`is_fault`): `Syntax` where no document has the text, `TooDeep` where
+-- one goes on deeper. A text that has a document leaves no fault but out of memory (`only_memory`). The second half
+-- says this of a value alone.
+--
+-- Theorems: `is_syntax`, `of_text` and `is_fault`; `is_value_syntax` and `is_value_fault`.
 use Rattle.std.proofs.Common.{◌≡◌, ℕ, ◌+◌, ◌≤◌, List, [], ◌∷◌, ◌++◌, length, slice_get, Some, Result, Ok, Err, refl, sym, ap, ◌∙◌, subst, arith, add-one, IsCharBoundary}
 use Rattle.std.specs.List.{AllByRecursion}
 use Rattle.std.proofs.lemmas.List.{append-nil}

@@ -19,9 +19,9 @@ use Rattle.keep_syntax_store.specs.declared.parts.Parts.{Parts}
 use Rattle.keep_syntax.specs.declared.syntax.Syntax.{Syntax}
 use Rattle.keep_syntax.specs.Tree.{Line, Ended, Document, line_leaves, ended_leaves, bom_leaves, text}
 use Rattle.keep_syntax.specs.Grammar.{IsEnded, IsDocument, Reads}
-use Rattle.keep_syntax.specs.Numbered.{span, width, Count, first_line, next_line, after_lines}
+use Rattle.keep_syntax.specs.Numbered.{width, Count, first_line, next_line, after_lines}
 use Rattle.keep_syntax_store.specs.Flat.{Flat, flat, empty}
-use Rattle.keep_syntax_store.specs.Rereading.{count_at, nothing, counts_at, counts_before, places_before, IsPart, part_of, moved_flat, joined, appended, with_prefix, with_new, with_back, replaced_flat, CanMove, prefix_starts, back_starts, replaced_starts}
+use Rattle.keep_syntax_store.specs.Rereading.{LinesAscend, count_at, nothing, counts_at, counts_before, places_before, IsPart, part_of, moved_flat, joined, appended, with_prefix, with_new, with_back, replaced_flat, CanMove, prefix_starts, back_starts, replaced_starts}
 use Rattle.keep_syntax.specs.FlatLines.{flat_of, DocumentIs}
 use Rattle.keep_syntax.specs.WholeLines.{empty_line, line_starts, lines_from, begin, starts_of, replaced}
 use Rattle.keep_syntax_store.specs.Lifted.{origin, moved}
@@ -37,7 +37,7 @@ use Rattle.keep_syntax.proofs.LineNumberingLaws.{after_lines-at, after_lines-sta
 use Rattle.keep_syntax.proofs.LineStartLaws.{HaveBytes}
 use Rattle.keep_syntax.proofs.SplitLaws.{bytes_of, have_bytes, Split, document_split, text_length}
 use Rattle.keep_syntax.proofs.PieceLaws.{bom_piece, ended_piece, lines_piece, flat_pieces, flat_lines, lines_replaced, lines_replaced_last, lines_moved, lines_ended}
-use Rattle.keep_syntax.proofs.CountingLaws.{before_piece, before_even, before_count, flat_before, counts_found, lines_even}
+use Rattle.keep_syntax.proofs.CountingLaws.{lines_ascend, before_piece, before_even, before_count, flat_before, counts_found, lines_even}
 
 -- ---- what can be replaced
 
@@ -351,6 +351,7 @@ can_move {profile} {limit} {d} {whole} {bytes} {m} h len long =
     let rest = lines_piece (after_lines c0 (s.prefix ++ s.gone)) s.back d.last in
     let e2 : d.ended ≡ (s.prefix ++ s.gone) ++ s.back = s.all ∙ sym (append_assoc s.prefix s.gone s.back) in
     record {
+      order = subst (λ (f : Flat). LinesAscend 0 f.statements) (sym (flat_pieces d)) (lines_ascend 0 c0 d.ended d.last (omega arith));
       prefix = subst (λ (k : Counts). IsPart nothing k (flat_of d)) (sym start)
           (subst (λ (f : Flat). IsPart nothing (counts_at whole.start x) f) (sym (flat_before d s.prefix (s.gone ++ s.back) s.all)) (part_before x y whole.start));
       back = λ more.

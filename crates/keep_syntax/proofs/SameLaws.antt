@@ -1,15 +1,11 @@
 -- A syntax in which the same is stored is that of the same document and the same text.
-use Rattle.std.proofs.Common.{ℕ, ◌+◌, ◌≤◌, List, refl, sym, ap, subst, ◌∙◌, IsCharBoundary}
-use Rattle.keep_types.specs.declared.syntax.Span.{Span}
+use Rattle.std.proofs.Common.{ℕ, ◌+◌, ◌≤◌, List, sym, ap, subst, ◌∙◌, IsCharBoundary}
 use Rattle.keep_syntax.specs.declared.syntax.Syntax.{Syntax}
 use Rattle.keep_syntax.specs.Tree.{Document, text}
 use Rattle.keep_syntax_store.specs.Flat.{Flat}
 use Rattle.keep_syntax.specs.Cut.{start_in, cut_by}
-use Rattle.keep_syntax.specs.Contract.{IsSyntaxOf, IsTextOf, IsSpanIn}
+use Rattle.keep_syntax.specs.Contract.{IsSyntaxOf, IsTextOf}
 use Rattle.keep_syntax.specs.Undoing.{IsSame}
-
-pub same_refl : (a : Syntax) → IsSame a a
-same_refl a = record { stored = refl; lines = refl; len = refl }
 
 pub same_syntax : {a b : Syntax} {d : Document} → IsSame a b → IsSyntaxOf b d → IsSyntaxOf a d
 same_syntax {d = d} h is = record {

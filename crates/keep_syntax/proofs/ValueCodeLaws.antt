@@ -2,13 +2,12 @@
 --
 -- The code and the function on lists look at the same byte, so for each branch of the code there is a lemma that gives
 -- the branch of the function: by the first byte of a value (`value_array`, `value_inline`, `value_scalar`), and by the
--- byte after a value (`after_none`, `after_comma`, `after_bad`, `after_last`). What is stored is what the parts store,
--- one after the other (`scalar_is`, `after_comma`). The hard one is a bracket (`bracket_is`): its value is pushed
--- before its entries, and its end is set after them, so the value with that number has to be still there
--- (`bracket_number`).
+-- comma after it (`after_comma`). What is stored is what the parts store, one after the other (`scalar_is`,
+-- `after_comma`). The hard one is a bracket (`bracket_is`): its value is pushed before its entries, and its end is set
+-- after them, so the value with that number has to be still there (`bracket_number`).
 --
 -- Theorems: `scalar_is`, `bracket_is` and `after_comma`: what is stored is what the definition has.
-use Rattle.std.proofs.Common.{◌≡◌, ℕ, zero, suc, ◌+◌, ◌<◌, true, false, not, ◌&&◌, ◌==◌, List, [], ◌∷◌, ◌++◌, length, get_or, drop, Option, Some, None, Result, Ok, Err, refl, sym, ap, ◌∙◌, subst, arith, IsCharBoundary}
+use Rattle.std.proofs.Common.{◌≡◌, ℕ, zero, suc, ◌+◌, ◌<◌, false, not, ◌&&◌, ◌==◌, List, [], ◌∷◌, ◌++◌, length, get_or, drop, Option, Some, None, Result, Ok, Err, refl, sym, ap, ◌∙◌, subst, arith, IsCharBoundary}
 use Rattle.std.proofs.lemmas.List.{append-nil, length-append}
 use Rattle.keep_types.specs.declared.leaf.Leaf.{Leaf}
 use Rattle.keep_types.specs.declared.leaf.Leaf.TheVariants as leaf
@@ -21,9 +20,9 @@ use Rattle.keep_syntax.specs.declared.info.Brackets.{Brackets}
 use Rattle.keep_syntax.specs.declared.info.Brackets.TheVariants as brackets
 use Rattle.keep_types.specs.declared.syntax.ValueInfo.{ValueInfo}
 use Rattle.keep_syntax.specs.Tree.{Gap, Name, scalar, Entries, none, Value, token, entries_leaves, value_leaves}
-use Rattle.keep_syntax.specs.Numbered.{width, span, entries_parts, entries_values, value_values, info, nested_of, nested_start, value_end, leaf_of}
+use Rattle.keep_syntax.specs.Numbered.{width, entries_parts, entries_values, nested_of, nested_start, value_end, leaf_of}
 use Rattle.keep_syntax.specs.Numbered as numbered
-use Rattle.keep_syntax.specs.Reading.{Bad, Read, written, scalar_of, value_by, value_of, entries_by, body_in, open_byte, close_byte, gap_in, is_free, named_in, name_of, after_by, comma_by}
+use Rattle.keep_syntax.specs.Reading.{Read, written, scalar_of, value_by, value_of, entries_by, body_in, open_byte, close_byte, gap_in, is_free, named_in, name_of, after_by, comma_by}
 use Rattle.keep_syntax_store.specs.Flat.{Flat, with_token, with_value, begun, with_end, with_comma, ChangesValue}
 use Rattle.keep_syntax.specs.Growth.{Taken, only, both, Grows, PartRead, Fails, PunctuationIs, GapRead, NameRead, NamedRead, ScalarRead, BracketRead, bracket_of, open_leaf, close_leaf, owner_in, value_taken, entries_taken, AfterIs, EntriesAre}
 use Rattle.keep_syntax.proofs.LoopLaws.{done, ok_is}
@@ -92,11 +91,6 @@ gap_after_comma : (profile : Profile) (b : Brackets) (text : List ℕ) (at end a
 gap_after_comma profile b text at end after next old f1 f3 new g comma e h name v =
     let s : gap_in profile b (drop 1 (drop end text)) ≡ (h.part, drop next text) = ap (gap_in profile b) (after_sign text end after e) ∙ gap_is profile b text after next f3 new h in
     rw (gap_is profile b text at end old f1 g, first-drop text end, comma, s) refl
-
-pub after_last : (profile : Profile) (b : Brackets) (text : List ℕ) (at end after next : ℕ) (old f1 f3 new : Flat) → GapRead profile b text at old f1 (Ok end) → get_or text end 0 ≡ 0x2C → after ≡ end + 1 → GapRead profile b text after f3 new (Ok next)
-    → is_free profile b ≡ false → (get_or text next 0 == close_byte b) ≡ true → (name : Option Name) (v : Value) → after_by profile b name v (gap_in profile b (drop at text)) ≡ Err Bad
-after_last profile b text at end after next old f1 f3 new g comma e h tight closed name v =
-    gap_after_comma profile b text at end after next old f1 f3 new g comma e h name v ∙ rw (tight, first-drop text next, closed) refl
 
 pub after_comma : (profile : Profile) (b : Brackets) (text : List ℕ) (at number end after next : ℕ) (old f1 f2 f3 new : Flat) → GapRead profile b text at old f1 (Ok end) → get_or text end 0 ≡ 0x2C → PunctuationIs text end 1 leaf.Comma f1 f2 after
     → ChangesValue (with_comma end) number f2 f3 → GapRead profile b text after f3 new (Ok next) → (not (is_free profile b) && (get_or text next 0 == close_byte b)) ≡ false → AfterIs profile b text at number old new next (Some end)

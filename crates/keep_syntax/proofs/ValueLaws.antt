@@ -178,9 +178,6 @@ pub record TookNamed (profile : Profile) (b : Brackets) (text : List ℕ) (n : O
   pub shorter : length rest ≤ length text
   pub begins : is_solid (first rest) ≡ true → is_solid (first text) ≡ true
 
-no_name : Option Name
-no_name = None
-
 pub named_takes : (profile : Profile) (b : Brackets) (text : List ℕ) (n : Option Name) (rest : List ℕ) → named_in profile b text ≡ Ok (n, rest) → TookNamed profile b text n rest
 named_takes profile brackets.Array text n rest h =
     let made : Option Name × List ℕ = (None, text) in

@@ -9,10 +9,10 @@ use Rattle.keep_types.specs.declared.leaf.Leaf.TheVariants as leaf
 use Rattle.keep_types.specs.declared.leaf.Profile.{Profile}
 use Rattle.keep_syntax.specs.declared.fault.ReadFault.{ReadFault}
 use Rattle.keep_syntax.specs.Tree.{Value, Document, bom_leaves}
-use Rattle.keep_syntax.specs.Numbered.{Count, first_line, statements, parts, values}
+use Rattle.keep_syntax.specs.Numbered.{Count, first_line}
 use Rattle.keep_syntax.specs.Reading.{Fault, ◌>>=◌, lines_of, has_bom, after_bom, read_document, value_of, read_one_value}
 use Rattle.keep_syntax_store.specs.Flat.{Flat, empty, with_token}
-use Rattle.keep_syntax.specs.Growth.{only, both, kinds, starts, add_at, Grows, Fails, IsSyntax, value_taken, ValueRead}
+use Rattle.keep_syntax.specs.Growth.{only, both, starts, Grows, Fails, IsSyntax, value_taken, ValueRead}
 use Rattle.keep_syntax_store.specs.Rereading.{count_at}
 use Rattle.keep_syntax.specs.FlatLines.{lines_taken, LinesAre, BomRead, document_taken, DocumentIs, alone, OneIs}
 use Rattle.keep_syntax.specs.WholeLines.{line_starts}
@@ -82,12 +82,6 @@ document_is profile limit text begin old mid new none starts e nothing b all =
       grows = subst (λ (f : Flat). Grows text f new 0 (length text) (document_taken d)) e g;
       lines = all.starts ∙ ap (λ (ns : List ℕ). ns ++ line_starts begin ls.part.0) nothing ∙ ap (λ (n : ℕ). line_starts n ls.part.0) (omega (arith, b.grows.place));
     }
-
--- the lists that are stored are those of the document
-pub document_stored : (profile : Profile) (limit : ℕ) (text : List ℕ) (new : Flat) (places : List ℕ) (h : DocumentIs profile limit text new places)
-    → new ≡ record { kinds = kinds (document_taken h.document).leaves; starts = starts 0 (document_taken h.document).leaves; statements = statements h.document; keys = parts h.document; values = values h.document }
-unfolding add_at
-document_stored profile limit text new places h = h.grows.stored
 
 -- ---- one value
 

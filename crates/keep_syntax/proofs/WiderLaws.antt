@@ -1,14 +1,11 @@
 -- What Strict accepts Wide accepts, with the same tree.
-use Rattle.std.proofs.Common.{◌≡◌, ℕ, List, [], ◌∷◌, Option, Some, None, Ok}
+use Rattle.std.proofs.Common.{ℕ, List, [], ◌∷◌, Option, Some, None}
 use Rattle.std.specs.List.{AllByRecursion}
 use Rattle.keep_types.specs.declared.leaf.Profile.TheVariants.{Strict, Wide}
 use Rattle.keep_token.proofs.Shared.{leaf_wider}
 use Rattle.keep_syntax.proofs.SpaceLaws.{space_blank}
-use Rattle.keep_syntax.specs.Reading.{read_document, read_one_value}
-use Rattle.keep_syntax.proofs.WholeLaws.{value_found, value_read}
-use Rattle.keep_syntax.proofs.DocumentLaws.{document_found, document_read}
 use Rattle.keep_syntax.specs.Tree.{Written, Gap, Further, Key, Name, Body, scalar, array, inline, Entries, none, entry, Value, Content, blank, keyval, header, element, Line, Ended, Document}
-use Rattle.keep_syntax.specs.Grammar.{IsKeyPart, IsFurther, IsKey, IsName, Place, in_scalar, in_array, in_inline, place_in, IsGap, IsNamed, IsBody, MayEndInComma, IsComma, AreEntries, IsValue, IsContent, IsLine, IsEnded, IsDocument, Reads, IsAccepted, ReadsValue}
+use Rattle.keep_syntax.specs.Grammar.{IsKeyPart, IsFurther, IsKey, IsName, Place, in_scalar, in_array, in_inline, place_in, IsGap, IsNamed, IsBody, MayEndInComma, IsComma, AreEntries, IsValue, IsContent, IsLine, IsEnded, IsDocument, Reads, ReadsValue}
 
 part_wider : (w : Written) → IsKeyPart Strict w → IsKeyPart Wide w
 part_wider w h = (h.0, leaf_wider w.leaf w.text h.1)

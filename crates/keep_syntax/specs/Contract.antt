@@ -1,4 +1,4 @@
--- What the public functions ensure: which document, or which value, was read of a text, and what a fault tells.
+-- What the public functions ensure: which document, or which value, was read of a text, and what a fault means.
 use Rattle.std.specs.Prelude.{◌≡◌, ℕ, ◌+◌, ◌≤◌, ◌⊎◌, false, List, ◌++◌, length, take, drop, None, ⊤, IsCharBoundary}
 use Rattle.keep_types.specs.declared.leaf.Profile.{Profile}
 use Rattle.keep_syntax.specs.declared.fault.ReadFault.{ReadFault}

@@ -23,6 +23,6 @@ cut text (l ∷ ls) starts =
 abbrev pub all_kinds : Flat → List Leaf
 all_kinds f = f.kinds ++ (leaf.End ∷ [])
 
--- the tokens that what is stored tells of a text
+-- the tokens of a text, by what is stored of it
 abbrev pub cut_by : Flat → List ℕ → List Placed
 cut_by f text = cut text (all_kinds f) f.starts

@@ -12,7 +12,7 @@ use Rattle.keep_types.specs.declared.syntax.Statement.{Statement}
 use Rattle.keep_types.specs.declared.syntax.StatementKind.TheVariants.{KeyVal, Header, Element}
 use Rattle.keep_syntax.specs.declared.line.Head.{Head}
 use Rattle.keep_syntax_store.specs.declared.parts.Parts.{Parts}
-use Rattle.keep_syntax.specs.Tree.{Written, Content, blank, keyval, header, element, Value, Line, Document}
+use Rattle.keep_syntax.specs.Tree.{Written, Content, blank, keyval, header, element, Value, Line, Ended, Document}
 use Rattle.keep_syntax.specs.Tree.{content_leaves, comment_leaves, line_leaves, ended_leaves, bom_leaves}
 use Rattle.keep_syntax_store.specs.Rereading.{count_at}
 pub use Rattle.keep_syntax_store.specs.Rereading.{with_statements}
@@ -20,7 +20,7 @@ use Rattle.keep_syntax.specs.WholeLines.{line_starts, starts_of}
 use Rattle.keep_syntax.specs.Numbered.{span, key_count, content_parts, content_values, Count, line_parts, line_values}
 use Rattle.keep_syntax.specs.Numbered.{line_statements, over_lines, statements, parts, values}
 use Rattle.keep_syntax.specs.Reading.{Bad, Read, written, content_at, comment_at, line_at, Lines, lines_of, has_bom}
-use Rattle.keep_syntax.specs.Reading.{after_bom, read_document, read_one_value}
+use Rattle.keep_syntax.specs.Reading.{after_line, ended_at, after_bom, read_document, read_one_value}
 use Rattle.keep_syntax_store.specs.Flat.{Flat, flat, empty}
 use Rattle.keep_syntax.specs.Growth.{add_at, Taken, only, Grows, Fails, PartIs, PartRead, value_taken}
 
@@ -67,10 +67,6 @@ pub record LineIs (profile : Profile) (depth_left : ℕ) (text : List ℕ) (at :
   pub read : PartIs text at 0 (line_at profile depth_left (drop at text)) (line_taken (count_at at old)) old new end
   pub stated : statement_list s ≡ line_statements (count_at at old) read.part end
 
-abbrev pub LineRead : Profile → ℕ → List ℕ → ℕ → Flat → Flat → Result (ℕ × Option Statement) ReadFault → Type 0
-LineRead profile depth_left text at old new (Ok r) = LineIs profile depth_left text at old new r.0 r.1
-LineRead profile depth_left text at old new (Err e) = Fails text e (line_at profile depth_left (drop at text))
-
 abbrev pub newline_by : List ℕ → Option (Leaf × ℕ) → Read Written
 newline_by text (Some (leaf.Newline, n)) = Ok (written leaf.Newline n text, drop n text)
 newline_by text _ = Err Bad
@@ -79,10 +75,49 @@ abbrev pub NewlineRead : List ℕ → ℕ → Flat → Flat → Result ℕ ReadF
 NewlineRead text at old new r =
     PartRead text at 1 (newline_by (drop at text) (gap_at (drop at text))) (λ w. only (w ∷ [])) old new r
 
+-- a comment, if there is one, and the newline after it
+pub record EndIs (text : List ℕ) (at : ℕ) (old new : Flat) (next : ℕ) : Type 0 where
+  pub close : ℕ
+  pub mid : Flat
+  pub comment : CommentRead text at old mid (Ok close)
+  pub newline : NewlineRead text close mid new (Ok next)
+
+-- what ends a line, and where the next one begins, if one does
+abbrev pub EndRead : List ℕ → ℕ → Flat → Flat → Result (Option ℕ) ReadFault → Type 0
+EndRead text at old new (Ok (Some next)) = EndIs text at old new next
+EndRead text at old new (Ok None) = CommentRead text at old new (Ok (length text))
+EndRead text at old new (Err e) =
+    (prefix : List Ended) (l : Line) → Fails text e (after_line prefix l (comment_at (drop at text)).1)
+
 -- a line's statement, now that the line's end is known
 abbrev pub ended_list : ℕ → Option Statement → List Statement
 ended_list end None = []
 ended_list end (Some s) = record s { line = span s.line.start end } ∷ []
+
+-- a line and its newline, and its statement
+pub record EndedIs (profile : Profile) (depth_left : ℕ) (text : List ℕ) (at : ℕ) (old new : Flat) (next : ℕ)
+    : Type 0 where
+  pub close : ℕ
+  pub statement : Option Statement
+  pub mid : Flat
+  pub ended : Flat
+  pub line : LineIs profile depth_left text at old mid close statement
+  pub newline : NewlineRead text close mid ended (Ok next)
+  pub stored : new ≡ with_statements (ended_list next statement) ended
+
+-- the last line, and its statement
+pub record LastIs (profile : Profile) (depth_left : ℕ) (text : List ℕ) (at : ℕ) (old new : Flat) : Type 0 where
+  pub statement : Option Statement
+  pub mid : Flat
+  pub line : LineIs profile depth_left text at old mid (length text) statement
+  pub stored : new ≡ with_statements (ended_list (length text) statement) mid
+
+-- a line, and where the next one begins, if one does
+abbrev pub LineRead : Profile → ℕ → List ℕ → ℕ → Flat → Flat → Result (Option ℕ) ReadFault → Type 0
+LineRead profile depth_left text at old new (Ok (Some next)) = EndedIs profile depth_left text at old new next
+LineRead profile depth_left text at old new (Ok None) = LastIs profile depth_left text at old new
+LineRead profile depth_left text at old new (Err e) =
+    (prefix : List Ended) → Fails text e (ended_at profile depth_left prefix (drop at text))
 
 abbrev pub lines_taken : Count → Lines → Taken
 lines_taken c ls = record {

@@ -142,10 +142,6 @@ pub record Reads (profile : Profile) (limit : ℕ) (bytes : List ℕ) (s : Docum
   pub spelled : bytes ≡ text s
   pub shallow : depth s ≤ limit
 
--- accepted by the grammar, within the limit
-abbrev pub IsAccepted : Profile → ℕ → List ℕ → Type 0
-IsAccepted profile limit bytes = (s : Document) × Reads profile limit bytes s
-
 -- A value of the grammar within the limit has the text, with nothing before or after it.
 pub record ReadsValue (profile : Profile) (limit : ℕ) (bytes : List ℕ) (v : Value) : Type 0 where
   pub valid : IsValue profile v

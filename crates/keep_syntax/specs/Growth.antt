@@ -201,7 +201,7 @@ abbrev pub NamedRead : Profile → Brackets → List ℕ → ℕ → Flat → Fl
 NamedRead profile b text at old new r =
     PartRead text at 0 (named_in profile b (drop at text)) (named_taken at) old new r
 
--- what follows a value is stored, and the value with this number is told its comma
+-- what follows a value is stored, and the value with this number gets its comma
 abbrev pub AfterStored : List ℕ → ℕ → ℕ → Flat → Flat → ℕ → Gap → Option Gap → Type 0
 AfterStored text at number old new end after None = Grows text old new at end (only after)
 AfterStored text at number old new end after (Some next_gap) =

@@ -7,6 +7,7 @@ use Rattle.keep_types.specs.declared.leaf.Profile.{Profile}
 use Rattle.keep_types.specs.declared.leaf.Profile.TheVariants.{Strict, Wide}
 use Rattle.keep_types.specs.declared.leaf.Leaf.{Leaf}
 use Rattle.keep_types.specs.declared.leaf.Leaf.TheVariants as leaf
+use Rattle.keep_token.specs.Abnf.{is_ws}
 use Rattle.keep_token.specs.Scanning.{first, gap_at, key_at, scalar_at}
 use Rattle.keep_syntax.specs.declared.info.Brackets.{Brackets}
 use Rattle.keep_syntax.specs.declared.info.Brackets.TheVariants as brackets
@@ -222,6 +223,10 @@ value_of profile zero text = value_by profile (λ b t. Err (Deep t)) text
 value_of profile (suc depth_left) text = value_by profile (bracket_by profile (value_of profile depth_left)) text
 
 -- ---- lines
+
+-- white space, a newline or a comment may begin with this byte
+abbrev pub begins_gap : ℕ → Bool
+begins_gap c = ((is_ws c || c == 0x0A) || c == 0x0D) || c == 0x23
 
 -- where a line's content cannot begin: the end, a newline or a comment
 abbrev pub is_line_end : ℕ → Bool

@@ -5,8 +5,8 @@ use Rattle.keep_syntax.specs.declared.syntax.rereading.Replaced.{Replaced}
 use Rattle.keep_syntax_store.specs.Flat.{flat}
 use Rattle.keep_syntax_store.specs.InPlace.{UndoesParts}
 
--- The same is stored: tokens, statements, key parts, values, where lines begin, and how long the text is. How it is
--- packed may differ.
+-- Both store the same tokens, statements, key parts, values, line starts and length of the text. How these are packed
+-- may differ.
 pub record IsSame (a b : Syntax) : Type 0 where
   pub stored : flat a.parts ≡ flat b.parts
   pub lines : a.lines ≡ b.lines

@@ -74,6 +74,7 @@ impl ValueSyntax {
 
     /// The value with this number, from 0. A value comes before those inside it. Its depth is at most the limit to
     /// which the text was read, and less than the limit for an array or an inline table.
+    #[inline(always)]
     pub fn value(&self, number: usize) -> ValueInfo
         requires { number < length (spec.value_values_of self.now) }
         ensures stored { slice_get (spec.value_values_of self.now) number ≡ Some result }

@@ -2,13 +2,13 @@
 ghost use Rattle.std.specs.Prelude.{◌≡◌, IsCharBoundary};
 ghost use Rattle.keep_token.specs.Abnf as abnf;
 ghost use Rattle.keep_syntax.specs.Growth as spec;
-ghost use Rattle.keep_syntax.specs.Reading.{is_free};
+ghost use Rattle.keep_syntax.specs.Reading.{begins_gap, is_free};
 
 use crate::fault::ReadFault;
 use crate::info::Brackets;
 use crate::text::byte_at;
 use keep_syntax_store::Parts;
-use keep_token::{Leaf, Profile, scan_gap};
+use keep_token::{Leaf, Profile, scan_gap, ws_end};
 
 /// `wschar`
 fn is_ws(byte: u8) -> bool
@@ -26,13 +26,9 @@ pub fn space(text: &str, at: usize, out: &mut Parts) -> Result<usize, ReadFault>
     if !is_ws(byte_at(text, at)) {
         return Ok(at);
     }
-    match scan_gap(text, at) {
-        Some((_, end)) => {
-            out.push_token(Leaf::Ws, at)?;
-            Ok(end)
-        }
-        None => Ok(at),
-    }
+    let end = ws_end(text, at);
+    out.push_token(Leaf::Ws, at)?;
+    Ok(end)
 }
 
 /// `ws-comment-newline`: white space, newlines and comments from the byte `at` on, and where they end.
@@ -61,7 +57,15 @@ pub fn is_free(profile: Profile, brackets: Brackets) -> bool
     }
 }
 
+/// Whether white space, a newline or a comment may begin with this byte.
+fn begins_gap(byte: u8) -> bool
+    ensures { result ≡ begins_gap byte }
+{
+    is_ws(byte) || byte == b'\n' || byte == b'\r' || byte == b'#'
+}
+
 /// The gap between two parts of an array or an inline table, from the byte `at` on, and where it ends.
+#[inline(always)]
 pub fn gap_in(
     text: &str,
     at: usize,
@@ -72,6 +76,9 @@ pub fn gap_in(
     requires { IsCharBoundary text.now at }
     ensures { spec.GapRead profile brackets text.now at (spec.flat out.old) (spec.flat out.new) result }
 {
+    if !begins_gap(byte_at(text, at)) {
+        return Ok(at);
+    }
     if is_free(profile, brackets) {
         blank(text, at, out)
     } else {

@@ -1,10 +1,10 @@
 //! Keys. (TOML v1.0.0, "Keys"; toml.abnf: `key`, `keyval-sep`)
-ghost use Rattle.std.specs.Prelude.{◌≡◌, IsCharBoundary};
+ghost use Rattle.std.specs.Prelude.{IsCharBoundary};
 ghost use Rattle.keep_syntax.specs.Growth as spec;
 
 use crate::fault::ReadFault;
 use crate::gap::space;
-use crate::text::{byte_at, misplaced, punctuation};
+use crate::text::{byte_at, punctuation, syntax_fault_at};
 use keep_syntax_store::Parts;
 use keep_token::{Leaf, Profile, scan_key};
 use keep_types::{KeyPart, Span};
@@ -60,7 +60,7 @@ pub fn key_and_equals(
 {
     let equals = key(text, at, profile, out)?;
     if byte_at(text, equals) != b'=' {
-        return Err(misplaced(text, equals));
+        return Err(syntax_fault_at(text, equals));
     }
     let after = punctuation(text, equals, 1, Leaf::Equals, out)?;
     space(text, after, out)

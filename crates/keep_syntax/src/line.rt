@@ -1,8 +1,9 @@
 //! Lines: keyvals, headers, comments and newlines. (TOML v1.0.0, "Key/Value Pair", "Table", "Array of Tables";
 //! toml.abnf: `expression`)
-ghost use Rattle.std.specs.Prelude.{◌≡◌, ◌+◌, ◌==◌, false, length, slice_index, IsCharBoundary, OnOk, IsOkUnless};
-ghost use Rattle.keep_syntax.specs.declared.fault.ReadFault.TheVariants.{Memory};
+ghost use Rattle.std.specs.Prelude.{◌≡◌, ◌+◌, ◌==◌, false, length, slice_index, IsCharBoundary, Ok};
 ghost use Rattle.keep_syntax_store.specs.Flat as spec;
+ghost use Rattle.keep_syntax_store.specs.Flat.{Flat};
+ghost use Rattle.keep_syntax.specs.Growth.{SpaceRead};
 ghost use Rattle.keep_syntax.specs.FlatLines as lines_spec;
 ghost use Rattle.keep_syntax.specs.Reading.{is_line_end};
 
@@ -10,7 +11,7 @@ use crate::fault::ReadFault;
 use crate::gap::space;
 use crate::info::Limits;
 use crate::key::{key, key_and_equals};
-use crate::text::{byte_at, misplaced, punctuation};
+use crate::text::{byte_at, punctuation, syntax_fault_at};
 use crate::value::value;
 use keep_syntax_store::{Parts, Starts};
 use keep_token::{Leaf, scan_gap};
@@ -76,7 +77,7 @@ fn header(
     let begin = space(text, after, out)?;
     let close = key(text, begin, limits.profile, out)?;
     if byte_at(text, close) != b']' {
-        return Err(misplaced(text, close));
+        return Err(syntax_fault_at(text, close));
     }
     let head = Head {
         kind: StatementKind::Header,
@@ -105,7 +106,7 @@ fn element(
     let begin = space(text, after, out)?;
     let close = key(text, begin, limits.profile, out)?;
     if byte_at(text, close) != b']' || byte_at(text, close + 1) != b']' {
-        return Err(misplaced(text, close));
+        return Err(syntax_fault_at(text, close));
     }
     let head = Head {
         kind: StatementKind::Element,
@@ -141,6 +142,7 @@ fn statement_head(
 }
 
 /// `comment` at the byte `at`, if there is one, and where it ends.
+#[inline(always)]
 fn comment(text: &str, at: usize, out: &mut Parts) -> Result<usize, ReadFault>
     requires { IsCharBoundary text.now at }
     ensures { lines_spec.CommentRead text.now at (spec.flat out.old) (spec.flat out.new) result }
@@ -157,52 +159,8 @@ fn comment(text: &str, at: usize, out: &mut Parts) -> Result<usize, ReadFault>
     }
 }
 
-/// `expression`: the line at the byte `at` without its newline, where it ends, and its statement as if the line ended
-/// there.
-fn line(
-    text: &str,
-    at: usize,
-    limits: Limits,
-    out: &mut Parts,
-) -> Result<(usize, Option<Statement>), ReadFault>
-    requires { IsCharBoundary text.now at }
-    ensures { lines_spec.LineRead limits.profile limits.depth text.now at (spec.flat out.old)
-        (spec.flat out.new) result }
-{
-    let number = out.statement_count();
-    let first_key = out.key_count();
-    let values = out.value_count();
-    let begin = space(text, at, out)?;
-    if is_line_end(byte_at(text, begin)) {
-        let end = comment(text, begin, out)?;
-        return Ok((end, None));
-    }
-    let start = Start {
-        at: begin,
-        values,
-        parts: first_key,
-        owner: Owner::Line(number),
-        depth: 0,
-        comma: None,
-    };
-    let (close, head) = statement_head(text, limits, &start, out)?;
-    let after = space(text, close, out)?;
-    let end = comment(text, after, out)?;
-    let statement = Statement {
-        kind: head.kind,
-        span: Span {
-            start: begin,
-            end: close,
-        },
-        line: Span { start: at, end },
-        first_key,
-        keys: head.keys,
-        value: head.value,
-    };
-    Ok((end, Some(statement)))
-}
-
 /// `newline` at the byte `at`, and where it ends.
+#[inline(always)]
 fn newline(text: &str, at: usize, out: &mut Parts) -> Result<usize, ReadFault>
     requires { IsCharBoundary text.now at }
     ensures { lines_spec.NewlineRead text.now at (spec.flat out.old) (spec.flat out.new) result }
@@ -213,26 +171,79 @@ fn newline(text: &str, at: usize, out: &mut Parts) -> Result<usize, ReadFault>
     } else if byte == b'\r' && byte_at(text, at + 1) == b'\n' {
         punctuation(text, at, 2, Leaf::Newline, out)
     } else {
-        Err(misplaced(text, at))
+        Err(syntax_fault_at(text, at))
     }
 }
 
-/// Stores a line's statement, now that the line's end is known.
-fn tell(out: &mut Parts, statement: Option<Statement>, end: usize) -> Result<(), ReadFault>
-    ensures ok { OnOk result (spec.flat out.new
-        ≡ lines_spec.with_statements (lines_spec.ended_list end statement) (spec.flat out.old)) }
-    ensures err { IsOkUnless result Memory }
+/// `[ comment ]` at the byte `at`, and the newline after it. Where the next line begins, or `None` if the text ends.
+#[inline(always)]
+fn line_end(text: &str, at: usize, out: &mut Parts) -> Result<Option<usize>, ReadFault>
+    requires { IsCharBoundary text.now at }
+    ensures { lines_spec.EndRead text.now at (spec.flat out.old) (spec.flat out.new) result }
 {
-    match statement {
-        Some(found) => {
-            let line = Span {
-                start: found.line.start,
-                end,
-            };
-            out.push_statement(Statement { line, ..found })?;
-            Ok(())
-        }
-        None => Ok(()),
+    let end = comment(text, at, out)?;
+    if end == text.len() {
+        return Ok(None);
+    }
+    let next = newline(text, end, out)?;
+    Ok(Some(next))
+}
+
+/// The statement at the byte `begin` of a line that begins at the byte `at`, and the rest of the line. Where the next
+/// line begins, or `None` if the text ends.
+fn statement(
+    text: &str,
+    at: usize,
+    begin: usize,
+    limits: Limits,
+    out: &mut Parts,
+) -> Result<Option<usize>, ReadFault>
+    requires bound { IsCharBoundary text.now begin }
+    requires begins { is_line_end (slice_index text.now begin) ≡ false }
+    ensures { (first : Flat) → SpaceRead text.now at first (spec.flat out.old) (Ok begin)
+        → lines_spec.LineRead limits.profile limits.depth text.now at first (spec.flat out.new) result }
+{
+    let first_key = out.key_count();
+    let start = Start {
+        at: begin,
+        values: out.value_count(),
+        parts: first_key,
+        owner: Owner::Line(out.statement_count()),
+        depth: 0,
+        comma: None,
+    };
+    let (close, head) = statement_head(text, limits, &start, out)?;
+    let after = space(text, close, out)?;
+    let next = line_end(text, after, out)?;
+    out.push_statement(Statement {
+        kind: head.kind,
+        span: Span {
+            start: begin,
+            end: close,
+        },
+        line: Span {
+            start: at,
+            end: next.unwrap_or(text.len()),
+        },
+        first_key,
+        keys: head.keys,
+        value: head.value,
+    })?;
+    Ok(next)
+}
+
+/// `expression` and its newline: the line at the byte `at`. Where the next line begins, or `None` if the text ends.
+#[inline(always)]
+fn line(text: &str, at: usize, limits: Limits, out: &mut Parts) -> Result<Option<usize>, ReadFault>
+    requires { IsCharBoundary text.now at }
+    ensures { lines_spec.LineRead limits.profile limits.depth text.now at (spec.flat out.old)
+        (spec.flat out.new) result }
+{
+    let begin = space(text, at, out)?;
+    if is_line_end(byte_at(text, begin)) {
+        line_end(text, begin, out)
+    } else {
+        statement(text, at, begin, limits, out)
     }
 }
 
@@ -250,14 +261,9 @@ pub fn lines(
 {
     let mut at = begin;
     starts.push(at)?;
-    'lines: loop {
-        let (close, statement) = line(text, at, limits, out)?;
-        if close == text.len() {
-            return tell(out, statement, close);
-        }
-        let end = newline(text, close, out)?;
-        tell(out, statement, end)?;
-        starts.push(end)?;
-        at = end;
+    'lines: while let Some(next) = line(text, at, limits, out)? {
+        starts.push(next)?;
+        at = next;
     }
+    Ok(())
 }

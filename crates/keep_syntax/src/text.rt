@@ -1,5 +1,5 @@
 //! Single bytes of a text.
-ghost use Rattle.std.specs.Prelude.{◌≡◌, ℕ, ◌+◌, ◌-◌, ◌<◌, ◌≤◌, List, length, slice_index, IsCharBoundary};
+ghost use Rattle.std.specs.Prelude.{◌≡◌, ◌+◌, ◌-◌, ◌<◌, ◌≤◌, length, slice_index, IsCharBoundary};
 ghost use Rattle.keep_syntax.specs.Growth as spec;
 
 use crate::fault::ReadFault;
@@ -41,7 +41,7 @@ fn is_control(byte: u8) -> bool {
 }
 
 /// The fault of a text that fits no rule of the grammar from the byte `at` on.
-pub fn misplaced(text: &str, at: usize) -> ReadFault
+pub fn syntax_fault_at(text: &str, at: usize) -> ReadFault
     ensures { spec.IsSyntax result }
 {
     let byte = byte_at(text, at);

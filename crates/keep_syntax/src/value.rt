@@ -2,7 +2,7 @@
 //!
 //! A loop goes along the entries of an array or an inline table, and a recursion down into it, so a document's depth
 //! alone bounds the native stack.
-ghost use Rattle.std.specs.Prelude.{◌≡◌, ◌+◌, ◌≤◌, ◌<◌, ◌^◌, length, slice_index, IsCharBoundary};
+ghost use Rattle.std.specs.Prelude.{◌≡◌, ◌+◌, ◌<◌, ◌^◌, length, slice_index, IsCharBoundary};
 ghost use Rattle.keep_syntax.specs.Growth as spec;
 ghost use Rattle.keep_syntax.specs.Reading.{open_byte, close_byte};
 
@@ -10,7 +10,7 @@ use crate::fault::ReadFault;
 use crate::gap::{gap_in, is_free};
 use crate::info::{Brackets, Limits};
 use crate::key::key_and_equals;
-use crate::text::{byte_at, misplaced, punctuation};
+use crate::text::{byte_at, punctuation, syntax_fault_at};
 use keep_syntax_store::Parts;
 use keep_token::{Leaf, Profile, What, scan_scalar};
 use keep_types::{Owner, Start};
@@ -117,12 +117,12 @@ fn after_entry(
     } else if byte == close_byte(brackets) {
         Ok((end, None))
     } else {
-        Err(misplaced(text, end))
+        Err(syntax_fault_at(text, end))
     }
 }
 
 /// `val`: the value at the byte `at`, and where it ends. It has `keys` key parts of its own, and is in entries that
-/// begin at `start`; `limits` tells how many more brackets may be opened.
+/// begin at `start`; `limits` says how many more brackets may be opened.
 #[cycle(nesting)]
 pub fn value(
     text: &str,

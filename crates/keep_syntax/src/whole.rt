@@ -7,7 +7,7 @@ ghost use Rattle.keep_syntax.specs.Reading.{has_bom};
 use crate::fault::ReadFault;
 use crate::info::Limits;
 use crate::line::lines;
-use crate::text::{byte_at, misplaced};
+use crate::text::{byte_at, syntax_fault_at};
 use crate::value::value;
 use keep_syntax_store::{Parts, Starts};
 use keep_token::Leaf;
@@ -59,7 +59,7 @@ pub fn read_one(alloc: Global, text: &str, limits: Limits) -> Result<Parts, Read
     };
     let end = value(text, 0, limits, 0, &start, &mut out)?;
     if end < text.len() {
-        return Err(misplaced(text, end));
+        return Err(syntax_fault_at(text, end));
     }
     Ok(out)
 }

@@ -14,6 +14,7 @@ use Rattle.keep_syntax_store.specs.declared.moves.Counts.{Counts}
 use Rattle.keep_syntax_store.specs.Counts.{Count}
 use Rattle.keep_syntax_store.specs.Flat.{Flat}
 use Rattle.keep_syntax_store.specs.Rereading.{counts_at, places_before, statements_before, first_key, value_or, first_value, counts_before, joined}
+pub use Rattle.keep_syntax_store.specs.Starts.{Before}
 use Rattle.keep_syntax_store.proofs.TestLaws.{if_true, if_false}
 use Rattle.keep_syntax_store.proofs.JoinLaws.{IsEven}
 
@@ -32,9 +33,6 @@ all_back P [] ys h = h
 all_back P (x ∷ xs) ys h = all_back P xs ys h.1
 
 -- ---- places
-
-abbrev pub Before : ℕ → List ℕ → Type 0
-Before place ns = AllByRecursion (λ (n : ℕ). n < place) ns
 
 -- the first of them is not before a place
 abbrev pub From : ℕ → List ℕ → Type 0

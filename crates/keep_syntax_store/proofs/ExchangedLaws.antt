@@ -3,16 +3,16 @@ use Rattle.std.proofs.Common.{◌≡◌, ℕ, zero, suc, ◌+◌, ◌≤◌, Lis
 use Rattle.std.specs.Prelude.{slice_range}
 use Rattle.std.specs.List.{AllByRecursion}
 use Rattle.std.proofs.lemmas.List.{length-append, map-append}
-use Rattle.keep_syntax_store.specs.Exchanging.{HasRoom, Exchanged}
+use Rattle.keep_syntax_store.specs.Exchanging.{Exchanged}
 use Rattle.keep_syntax_store.proofs.ExchangeLaws.{three, take_prefix, drop_prefix, take_length}
 use Rattle.keep_syntax_store.proofs.ShiftLaws.{map_is, map_back}
 
-map_take : {A B : Type 0} (f : A → B) (n : ℕ) (xs : List A) → map f (take n xs) ≡ take n (map f xs)
+pub map_take : {A B : Type 0} (f : A → B) (n : ℕ) (xs : List A) → map f (take n xs) ≡ take n (map f xs)
 map_take f zero xs = refl
 map_take f (suc n) [] = refl
 map_take f (suc n) (x ∷ xs) = ap (λ ys. f x ∷ ys) (map_take f n xs)
 
-map_drop : {A B : Type 0} (f : A → B) (n : ℕ) (xs : List A) → map f (drop n xs) ≡ drop n (map f xs)
+pub map_drop : {A B : Type 0} (f : A → B) (n : ℕ) (xs : List A) → map f (drop n xs) ≡ drop n (map f xs)
 map_drop f zero xs = refl
 map_drop f (suc n) [] = refl
 map_drop f (suc n) (x ∷ xs) = map_drop f n xs
@@ -40,17 +40,7 @@ same_exchanged f from to p p1 run run1 q gone e r h = record {
   room_for_run = omega (arith, h.room_for_run, ap length r, run.ok.0, run1.ok.0);
 }
 
--- they can change places again
-pub room_again : {A Z : Type 0} (f : A → A) (from to until : ℕ) (p run q gone : Vec A Z) → from ≤ to → to ≤ vec_len p → until ≡ from + vec_len run
-    → Exchanged f from to p run q gone → HasRoom from until q gone
-room_again f from to until p run q gone order within count h = record {
-  order = omega (arith, count);
-  within = omega (arith, count, h.len, order, within);
-  room = h.room;
-  room_for_run = omega (arith, count, h.room_for_run);
-}
-
--- and then the first is as before
+-- once they change places again, the first is as before
 pub exchanged_back : {A Z : Type 0} (f g : A → A) (P : A → Type 0) → ((x : A) → P x → g (f x) ≡ x) → (from to until : ℕ) (p run q gone r rest : Vec A Z)
     → from ≤ to → to ≤ vec_len p → until ≡ from + vec_len run → AllByRecursion P (drop to p.items)
     → Exchanged f from to p run q gone → Exchanged g from until q gone r rest → r.items ≡ p.items

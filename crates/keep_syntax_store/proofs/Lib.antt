@@ -1,5 +1,8 @@
+pub mod AscendLaws
 pub mod StartLaws
 pub mod RunLaws
+pub mod MilestoneLaws
+pub mod PastLaws
 pub mod CountLaws
 pub mod TestLaws
 pub mod FlatLaws
@@ -13,3 +16,7 @@ pub mod JoinLaws
 pub mod BeforeLaws
 pub mod ReplacingLaws
 pub mod Shared
+pub mod BlockLaws
+pub mod RaiseLaws
+pub mod EntryLaws
+pub mod PatchLaws

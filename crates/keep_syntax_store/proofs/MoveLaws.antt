@@ -1,10 +1,10 @@
 -- Lists that grow by the next of another list, and what comes before a place, counted one by one.
-use Rattle.std.proofs.Common.{◌≡◌, ℕ, zero, suc, ◌+◌, ◌-◌, ◌<◌, ◌≤◌, Bool, true, false, List, [], ◌∷◌, ◌++◌, length, map, take, drop, refl, sym, ap, ◌∙◌, arith, append_assoc, Some, None, slice_get, le-ltb, lt-ltb}
+use Rattle.std.proofs.Common.{◌≡◌, ℕ, zero, suc, ◌+◌, ◌-◌, ◌<◌, ◌≤◌, Bool, true, false, List, [], ◌∷◌, ◌++◌, length, map, take, drop, refl, sym, ap, ◌∙◌, subst, arith, append_assoc, Some, None, slice_get, le-ltb, lt-ltb}
 use Rattle.std.specs.Prelude.{slice_range, get_or, ltb, if◌then◌else◌}
-use Rattle.std.proofs.lemmas.List.{map-append, take_more, take_all, length-drop}
+use Rattle.std.proofs.lemmas.List.{map-append, take_more, length-drop}
 use Rattle.std.proofs.lemmas.Option.{get_or_from_slice_get, slice_get_within}
 use Rattle.keep_types.specs.declared.syntax.Statement.{Statement}
-use Rattle.keep_syntax_store.specs.Rereading.{statements_before, first_key, value_or, first_value}
+use Rattle.keep_syntax_store.specs.Rereading.{LinesAscend, statements_before, first_key, value_or, first_value}
 use Rattle.keep_syntax_store.proofs.TestLaws.{if_true, if_false}
 
 get_drop : {A : Type 0} (xs : List A) (n i : ℕ) (d : A) → get_or (drop n xs) i d ≡ get_or xs (n + i) d
@@ -38,13 +38,6 @@ moved_next f out xs from n x order e =
     append_assoc out (map f (slice_range xs from n)) (f x ∷ [])
     ∙ ap (λ ys. out ++ ys) (sym (map-append f (slice_range xs from n) (x ∷ [])) ∙ sym (ap (map f) (range_next xs from n x order e)))
 
--- ---- by what is left of a list
-
-pub range_end : {A : Type 0} (xs : List A) (from n m : ℕ) → drop n xs ≡ [] → n ≤ m → slice_range xs from m ≡ slice_range xs from n
-range_end xs from n m e h =
-    let short : length xs ≤ n = omega (arith, ap length e, length-drop n xs) in
-    take_all (m - from) (drop from xs) (omega (arith, short, h, length-drop from xs)) ∙ sym (take_all (n - from) (drop from xs) (omega (arith, short, length-drop from xs)))
-
 -- ---- counting
 
 pub statements_within : (place : ℕ) (ss : List Statement) → statements_before place ss ≤ length ss
@@ -55,15 +48,37 @@ statements_within place (s ∷ ss) = by (ltb s.line.start place) (statements_wit
     by true h = omega (arith, h)
     by false h = omega arith
 
-pub statements_stop : (place : ℕ) (ss : List Statement) (n : ℕ) (s : Statement) → slice_get ss n ≡ Some s → place ≤ s.line.start → statements_before place (drop n ss) ≡ 0
-statements_stop place ss n s e h = ap (statements_before place) (drop_next ss n s e) ∙ if_false (ltb s.line.start place) _ _ (le-ltb s.line.start place h)
+-- no more than come before one that does not begin before the place
+pub statements_stop : (place : ℕ) (ss : List Statement) (n : ℕ) (s : Statement) → slice_get ss n ≡ Some s → place ≤ s.line.start → statements_before place ss ≤ n
+statements_stop place ss n s e h = stop ss n (slice_get_within ss n s e) (subst (λ (t : Statement). place ≤ t.line.start) (sym (get_or_from_slice_get ss n s s e)) h)
+  where
+    by : (b : Bool) (k n : ℕ) → k ≤ n → (if b then suc k else 0) ≤ suc n
+    by true k n le = omega (arith, le)
+    by false k n le = omega arith
 
-pub statements_more : (place : ℕ) (ss : List Statement) (n : ℕ) (s : Statement) → slice_get ss n ≡ Some s → s.line.start < place
-    → n + statements_before place (drop n ss) ≡ n + 1 + statements_before place (drop (n + 1) ss)
-statements_more place ss n s e h =
-    let one : statements_before place (drop n ss) ≡ suc (statements_before place (drop (n + 1) ss)) =
-    ap (statements_before place) (drop_next ss n s e) ∙ if_true (ltb s.line.start place) _ _ (lt-ltb s.line.start place h) in
-    omega (arith, one)
+    stop : (ss : List Statement) (n : ℕ) → n < length ss → place ≤ (get_or ss n s).line.start → statements_before place ss ≤ n
+    stop [] n within h = absurd (omega (arith, within))
+    stop (x ∷ xs) zero within h = omega (arith, if_false (ltb x.line.start place) (suc (statements_before place xs)) 0 (le-ltb x.line.start place h))
+    stop (x ∷ xs) (suc n) within h = by (ltb x.line.start place) (statements_before place xs) n (stop xs n (omega (arith, within)) h)
+
+-- more than one of ascending lines that begins before the place
+pub statements_more : (place : ℕ) (ss : List Statement) (n : ℕ) (s : Statement) → LinesAscend 0 ss → slice_get ss n ≡ Some s → s.line.start < place → n + 1 ≤ statements_before place ss
+statements_more place ss n s order e h = omega (arith, more 0 ss n order (slice_get_within ss n s e) (subst (λ (t : Statement). t.line.start < place) (sym (get_or_from_slice_get ss n s s e)) h))
+  where
+    low_at : (low : ℕ) (ss : List Statement) (n : ℕ) → LinesAscend low ss → n < length ss → low ≤ (get_or ss n s).line.start
+    low_at low [] n order within = absurd (omega (arith, within))
+    low_at low (x ∷ xs) zero order within = order.0
+    low_at low (x ∷ xs) (suc n) order within = omega (arith, order.0, low_at x.line.start xs n order.1 (omega (arith, within)))
+
+    more : (low : ℕ) (ss : List Statement) (n : ℕ) → LinesAscend low ss → n < length ss → (get_or ss n s).line.start < place → n < statements_before place ss
+    more low [] n order within h = absurd (omega (arith, within))
+    more low (x ∷ xs) zero order within h = omega (arith, if_true (ltb x.line.start place) (suc (statements_before place xs)) 0 (lt-ltb x.line.start place h))
+    more low (x ∷ xs) (suc n) order within h =
+        omega (
+          arith,
+          if_true (ltb x.line.start place) (suc (statements_before place xs)) 0 (lt-ltb x.line.start place (omega (arith, h, low_at x.line.start xs n order.1 (omega (arith, within))))),
+          more x.line.start xs n order.1 (omega (arith, within)) h,
+        )
 
 pub key_found : (all : ℕ) (ss : List Statement) (n : ℕ) (s : Statement) → slice_get ss n ≡ Some s → s.first_key ≡ first_key all (drop n ss)
 key_found all ss n s e = sym (ap (first_key all) (drop_next ss n s e))

@@ -25,6 +25,8 @@ use Rattle.keep_syntax_store.specs.Rereading.{count_at, count_of, nothing, count
 use Rattle.keep_syntax_store.specs.Lifted.{origin, moved, moved_key, moved_statement, moved_value}
 use Rattle.keep_syntax_store.specs.Shifting.{shifted_key, CanShiftKey, shifted_statement, CanShiftStatement, shifted_value, CanShiftValue}
 use Rattle.keep_syntax_store.specs.InPlace.{IsPacked, CanShift, IsRun, IsShifted, IsAsBefore, same, IsExchanged, replaced_places, placed, counts_after, counts_through, UndoesRun}
+use Rattle.keep_syntax_store.specs.Blocks.{raise_key, raise_statement, raise_value}
+use Rattle.keep_syntax_store.proofs.EntryLaws.{all_packed, same_entries, same_rest, still_packed}
 use Rattle.keep_syntax_store.proofs.FlatLaws.{same_flat}
 use Rattle.keep_syntax_store.proofs.TestLaws.{if_true, if_false}
 use Rattle.keep_syntax_store.proofs.ExchangeLaws.{range_length}
@@ -44,7 +46,7 @@ take_short [] (suc n) h = refl
 take_short (x ∷ xs) zero h = absurd (omega (arith, h))
 take_short (x ∷ xs) (suc n) h = ap (λ ys. x ∷ ys) (take_short xs n (omega (arith, h)))
 
-range_whole : {A : Type 0} (xs : List A) → slice_range xs 0 (length xs) ≡ xs
+pub range_whole : {A : Type 0} (xs : List A) → slice_range xs 0 (length xs) ≡ xs
 range_whole xs = range_first xs (length xs) ∙ take_short xs (length xs) (omega arith)
 
 range_rest : {A : Type 0} (xs : List A) (n : ℕ) → slice_range xs n (length xs) ≡ drop n xs
@@ -163,16 +165,18 @@ module _ (f g : Flat) (whole : Span) (len size end : ℕ) (can : CanMove f whole
       by false t =
           if_false (ltb whole.end len) _ _ t ∙ new_placed ∙ ap (λ (k : Counts). placed f g from k until end) (sym (if_false (ltb whole.end len) (counts_before f whole.end) (counts_at len f) t))
 
+-- by the counts that are computed
+pub placed_replaced : (f g : Flat) (whole : Span) (len size end : ℕ) → CanMove f whole len → (from to until all : Counts) → from ≡ counts_before f whole.start → to ≡ counts_through f whole len
+    → all ≡ counts_at size g → until ≡ counts_after from all end → placed f g from to until until.at ≡ replaced_flat f g whole len size end
+placed_replaced f g whole len size end can from to until all is_from is_to is_all is =
+    let e : until ≡ counts_after (counts_before f whole.start) (counts_at size g) end =
+    is ∙ ap (λ (k : Counts). counts_after k all end) is_from ∙ ap (λ (k : Counts). counts_after (counts_before f whole.start) k end) is_all in
+    ap (λ (k : Counts). placed f g k to until until.at) is_from
+    ∙ ap (λ (k : Counts). placed f g (counts_before f whole.start) k until until.at) is_to
+    ∙ ap (λ (k : Counts). placed f g (counts_before f whole.start) (counts_through f whole len) k k.at) e
+    ∙ sym (replaced_placed f g whole len size end can)
+
 -- ---- what is packed
-
-packed_statements : (p : Parts) → p.statements.unpacked.items ≡ [] → statements_in p.statements ≡ map unpacked_statement p.statements.packed.items
-packed_statements p e = ap (λ xs. map unpacked_statement p.statements.packed.items ++ xs) e ∙ append-nil (map unpacked_statement p.statements.packed.items)
-
-packed_keys : (p : Parts) → p.keys.unpacked.items ≡ [] → key_parts_in p.keys ≡ map unpacked_key_part p.keys.packed.items
-packed_keys p e = ap (λ xs. map unpacked_key_part p.keys.packed.items ++ xs) e ∙ append-nil (map unpacked_key_part p.keys.packed.items)
-
-packed_values : (p : Parts) → p.values.unpacked.items ≡ [] → values_in p.values ≡ map unpacked_value p.values.packed.items
-packed_values p e = ap (λ xs. map unpacked_value p.values.packed.items ++ xs) e ∙ append-nil (map unpacked_value p.values.packed.items)
 
 map_id : {A : Type 0} (xs : List A) → map same xs ≡ xs
 map_id xs = map_same same (λ x. refl) xs
@@ -193,33 +197,33 @@ exchanged_flat p fresh run q gone from to until end pp pf can new shift starts h
     ∙ ap (λ xs. take from.tokens p.kinds.items ++ (xs ++ map same (drop to.tokens p.kinds.items))) shift.kinds
     ∙ ap (λ xs. take from.tokens p.kinds.items ++ (fresh.kinds.items ++ xs)) (map_id (drop to.tokens p.kinds.items)))
     (h.starts ∙ starts)
-    (packed_statements q (h.unpacked_statements ∙ pp.statements)
+    (all_packed unpacked_statement raise_statement q.statements (still_packed p.statements q.statements h.rest_of_statements pp.statements)
     ∙ unpacked_exchanged unpacked_statement (shifted_statement to until) m (CanShiftStatement to until) (statement_is to until) from.statements to.statements p.statements.packed run.statements.packed q.statements.packed gone.statements.packed h.statements can.statements
-    ∙ ap (λ (xs : List Statement). take from.statements xs ++ (map unpacked_statement run.statements.packed.items ++ map m (drop to.statements xs))) (sym (packed_statements p pp.statements))
+    ∙ ap (λ (xs : List Statement). take from.statements xs ++ (map unpacked_statement run.statements.packed.items ++ map m (drop to.statements xs))) (sym (all_packed unpacked_statement raise_statement p.statements pp.statements))
     ∙ ap (λ (xs : List Statement). take from.statements (statements_in p.statements) ++ (xs ++ map m (drop to.statements (statements_in p.statements))))
     (ap (map unpacked_statement) shift.statements ∙ map_is unpacked_statement (shifted_statement nothing from) m1 (CanShiftStatement nothing from) (statement_is nothing from) fresh.statements.packed.items new.statements
-    ∙ ap (map m1) (sym (packed_statements fresh pf.statements))))
-    (packed_keys q (h.unpacked_keys ∙ pp.keys)
+    ∙ ap (map m1) (sym (all_packed unpacked_statement raise_statement fresh.statements pf.statements))))
+    (all_packed unpacked_key_part raise_key q.keys (still_packed p.keys q.keys h.rest_of_keys pp.keys)
     ∙ unpacked_exchanged unpacked_key_part (shifted_key to until) k (CanShiftKey to until) (key_is to until) from.keys to.keys p.keys.packed run.keys.packed q.keys.packed gone.keys.packed h.keys can.keys
-    ∙ ap (λ (xs : List KeyPart). take from.keys xs ++ (map unpacked_key_part run.keys.packed.items ++ map k (drop to.keys xs))) (sym (packed_keys p pp.keys))
+    ∙ ap (λ (xs : List KeyPart). take from.keys xs ++ (map unpacked_key_part run.keys.packed.items ++ map k (drop to.keys xs))) (sym (all_packed unpacked_key_part raise_key p.keys pp.keys))
     ∙ ap (λ (xs : List KeyPart). take from.keys (key_parts_in p.keys) ++ (xs ++ map k (drop to.keys (key_parts_in p.keys))))
     (ap (map unpacked_key_part) shift.keys ∙ map_is unpacked_key_part (shifted_key nothing from) k1 (CanShiftKey nothing from) (key_is nothing from) fresh.keys.packed.items new.keys
-    ∙ ap (map k1) (sym (packed_keys fresh pf.keys))))
-    (packed_values q (h.unpacked_values ∙ pp.values)
+    ∙ ap (map k1) (sym (all_packed unpacked_key_part raise_key fresh.keys pf.keys))))
+    (all_packed unpacked_value raise_value q.values (still_packed p.values q.values h.rest_of_values pp.values)
     ∙ unpacked_exchanged unpacked_value (shifted_value to until) v (CanShiftValue to until) (value_is to until) from.values to.values p.values.packed run.values.packed q.values.packed gone.values.packed h.values can.values
-    ∙ ap (λ (xs : List ValueInfo). take from.values xs ++ (map unpacked_value run.values.packed.items ++ map v (drop to.values xs))) (sym (packed_values p pp.values))
+    ∙ ap (λ (xs : List ValueInfo). take from.values xs ++ (map unpacked_value run.values.packed.items ++ map v (drop to.values xs))) (sym (all_packed unpacked_value raise_value p.values pp.values))
     ∙ ap (λ (xs : List ValueInfo). take from.values (values_in p.values) ++ (xs ++ map v (drop to.values (values_in p.values))))
     (ap (map unpacked_value) shift.values ∙ map_is unpacked_value (shifted_value nothing from) v1 (CanShiftValue nothing from) (value_is nothing from) fresh.values.packed.items new.values
-    ∙ ap (map v1) (sym (packed_values fresh pf.values))))
+    ∙ ap (map v1) (sym (all_packed unpacked_value raise_value fresh.values pf.values))))
 
 -- ---- before and after taking memory
 
 pub before_is : (p q : Parts) → IsAsBefore p q → flat q ≡ flat p
 before_is p q h =
     same_flat (flat q) (flat p) h.kinds h.starts
-    (ap (λ xs. map unpacked_statement xs ++ q.statements.unpacked.items) h.statements ∙ ap (λ xs. map unpacked_statement p.statements.packed.items ++ xs) h.unpacked_statements)
-    (ap (λ xs. map unpacked_key_part xs ++ q.keys.unpacked.items) h.keys ∙ ap (λ xs. map unpacked_key_part p.keys.packed.items ++ xs) h.unpacked_keys)
-    (ap (λ xs. map unpacked_value xs ++ q.values.unpacked.items) h.values ∙ ap (λ xs. map unpacked_value p.values.packed.items ++ xs) h.unpacked_values)
+    (same_entries unpacked_statement raise_statement p.statements q.statements h.statements h.rest_of_statements)
+    (same_entries unpacked_key_part raise_key p.keys q.keys h.keys h.rest_of_keys)
+    (same_entries unpacked_value raise_value p.values q.values h.values h.rest_of_values)
 
 pub exchanged_before : (p p1 run run1 q gone : Parts) (from to old new : Counts) → IsAsBefore p p1 → IsAsBefore run run1
     → IsExchanged from to old new p1 run1 q gone → IsExchanged from to old new p run q gone
@@ -230,9 +234,9 @@ exchanged_before p p1 run run1 q gone from to old new e r h = record {
   values = same_exchanged (shifted_value old new) from.values to.values p.values.packed p1.values.packed run.values.packed run1.values.packed q.values.packed gone.values.packed e.values r.values h.values;
   starts = h.starts ∙ r.starts;
   gone_starts = h.gone_starts ∙ e.starts;
-  unpacked_statements = h.unpacked_statements ∙ e.unpacked_statements;
-  unpacked_keys = h.unpacked_keys ∙ e.unpacked_keys;
-  unpacked_values = h.unpacked_values ∙ e.unpacked_values;
+  rest_of_statements = same_rest p.statements p1.statements q.statements e.rest_of_statements h.rest_of_statements;
+  rest_of_keys = same_rest p.keys p1.keys q.keys e.rest_of_keys h.rest_of_keys;
+  rest_of_values = same_rest p.values p1.values q.values e.rest_of_values h.rest_of_values;
 }
 
 -- ---- going back
@@ -256,9 +260,9 @@ went_back gone from to until before after r rest u h = before_is before r (recor
   values = exchanged_back (shifted_value to until) (shifted_value until to) (CanShiftValue to until) (value_back to until) from.values to.values until.values
       before.values.packed u.run.values.packed after.values.packed gone.values.packed r.values.packed rest.values.packed
       u.is_run.values.order u.is_run.values.within u.values u.can.values u.now.values h.values;
-  unpacked_statements = h.unpacked_statements ∙ u.now.unpacked_statements;
-  unpacked_keys = h.unpacked_keys ∙ u.now.unpacked_keys;
-  unpacked_values = h.unpacked_values ∙ u.now.unpacked_values;
+  rest_of_statements = same_rest before.statements after.statements r.statements u.now.rest_of_statements h.rest_of_statements;
+  rest_of_keys = same_rest before.keys after.keys r.keys u.now.rest_of_keys h.rest_of_keys;
+  rest_of_values = same_rest before.values after.values r.values u.now.rest_of_values h.rest_of_values;
 })
 
 -- ---- a run that is replaced
@@ -278,7 +282,7 @@ run_undone p fresh run q gone from to until size end is pf can shift u h = recor
     ap length shift.statements,
     length-map fresh.statements.packed.items (shifted_statement nothing from),
     run.statements.packed.ok.0,
-    ap length (packed_statements fresh pf.statements),
+    ap length (all_packed unpacked_statement raise_statement fresh.statements pf.statements),
     length-map fresh.statements.packed.items unpacked_statement,
   );
   keys = omega (
@@ -287,7 +291,7 @@ run_undone p fresh run q gone from to until size end is pf can shift u h = recor
     ap length shift.keys,
     length-map fresh.keys.packed.items (shifted_key nothing from),
     run.keys.packed.ok.0,
-    ap length (packed_keys fresh pf.keys),
+    ap length (all_packed unpacked_key_part raise_key fresh.keys pf.keys),
     length-map fresh.keys.packed.items unpacked_key_part,
   );
   values = omega (
@@ -296,7 +300,7 @@ run_undone p fresh run q gone from to until size end is pf can shift u h = recor
     ap length shift.values,
     length-map fresh.values.packed.items (shifted_value nothing from),
     run.values.packed.ok.0,
-    ap length (packed_values fresh pf.values),
+    ap length (all_packed unpacked_value raise_value fresh.values pf.values),
     length-map fresh.values.packed.items unpacked_value,
   );
 }

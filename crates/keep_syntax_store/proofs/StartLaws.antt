@@ -1,10 +1,11 @@
 -- Stored places: the next of them, and one more after them.
-use Rattle.std.proofs.Common.{◌≡◌, ℕ, zero, suc, ◌+◌, ◌<◌, ◌^◌, Bool, true, false, cond, ◌==◌, List, [], ◌∷◌, ◌++◌, length, get_or, refl, sym, ap, ◌∙◌, subst, inl, inr, arith}
+use Rattle.std.proofs.Common.{◌≡◌, ℕ, zero, suc, ◌+◌, ◌<◌, ◌≤◌, ◌^◌, Bool, true, false, cond, ◌==◌, List, [], ◌∷◌, ◌++◌, length, get_or, refl, sym, ap, ◌∙◌, subst, inl, inr, arith}
 use Rattle.std.proofs.lemmas.List.{append-nil, length-append}
 use Rattle.std.proofs.lemmas.List.Sums.{sum_by-cons, sum_by_push}
 use Rattle.std.proofs.lemmas.Bool.Decides.{eqb_tells}
 use Rattle.keep_syntax_store.specs.declared.starts.TheConstants.{FAR}
-use Rattle.keep_syntax_store.specs.Starts.{places_at, last_of, AllSmall, fars, StepsAreStored}
+use Rattle.keep_syntax_store.specs.Starts.{places_at, last_of, AllSmall, Ascend, fars, StepsAreStored}
+use Rattle.keep_syntax_store.proofs.AscendLaws.{ascend_join}
 
 -- ---- the next
 
@@ -15,7 +16,7 @@ pub near_step : (at step : ℕ) (steps far : List ℕ) → (step == FAR) ≡ fal
 near_step at step steps [] is = rw is
 near_step at step steps (place ∷ far) is = rw is
 
-far_step : (at step : ℕ) (steps : List ℕ) (place : ℕ) (far : List ℕ) → (step == FAR) ≡ true → places_at at (step ∷ steps) (place ∷ far) ≡ place ∷ places_at place steps far
+pub far_step : (at step : ℕ) (steps : List ℕ) (place : ℕ) (far : List ℕ) → (step == FAR) ≡ true → places_at at (step ∷ steps) (place ∷ far) ≡ place ∷ places_at place steps far
 far_step at step steps place far is = rw is
 
 small_tail : (place : ℕ) (places : List ℕ) → AllSmall (place ∷ places) → AllSmall places
@@ -42,6 +43,13 @@ far_rest at step place all steps all_far far is there first small =
 -- how many of the steps lead to a far place, by the first step and by the last
 pub fars_after : (step : ℕ) (steps : List ℕ) (test : Bool) → (step == FAR) ≡ test → fars (step ∷ steps) ≡ cond test 1 0 + fars steps
 fars_after step steps test is = sum_by-cons (λ (s : ℕ). cond (s == FAR) 1 0) step steps ∙ ap (λ (b : Bool). cond b 1 0 + fars steps) is
+
+pub near_matched : (step : ℕ) (all steps far : List ℕ) → all ≡ step ∷ steps → (step ≡ FAR → ⊥) → length far ≡ fars all → length far ≡ fars steps
+near_matched step all steps far is other even = omega (arith, even, ap fars is, fars_after step steps false (near_test step other))
+
+pub far_matched : (step place : ℕ) (all steps all_far far : List ℕ) → all ≡ step ∷ steps → step ≡ FAR → all_far ≡ place ∷ far → length all_far ≡ fars all → length far ≡ fars steps
+far_matched step place all steps all_far far is there first even =
+    omega (arith, even, ap length first, ap fars is, ap (λ (s : ℕ). fars (s ∷ steps)) there, fars_after FAR steps true refl)
 
 fars_more : (steps : List ℕ) (step : ℕ) → fars (steps ++ step ∷ []) ≡ fars steps + cond (step == FAR) 1 0
 fars_more steps step = sum_by_push (λ (s : ℕ). cond (s == FAR) 1 0) steps step
@@ -103,11 +111,12 @@ last_more : (from : ℕ) (places : List ℕ) (at : ℕ) → last_of from (places
 last_more from [] at = refl
 last_more from (place ∷ places) at = last_more place places at
 
-pub stored_more : (steps far new new_far : List ℕ) (last at : ℕ) → StepsAreStored steps far last → IsMore steps far new new_far at → at < 2 ^ 64 → StepsAreStored new new_far at
-stored_more steps far new new_far last at stored is le = record {
+pub stored_more : (steps far new new_far : List ℕ) (last at : ℕ) → StepsAreStored steps far last → IsMore steps far new new_far at → last ≤ at → at < 2 ^ 64 → StepsAreStored new new_far at
+stored_more steps far new new_far last at stored is order le = record {
   matched = is.matched;
   small = subst AllSmall (sym is.more) (small_more (places_at 0 steps far) at stored.small le);
   last_is = sym (ap (last_of 0) is.more ∙ last_more 0 (places_at 0 steps far) at);
+  ascends = subst (Ascend 0) (sym is.more) (ascend_join 0 (places_at 0 steps far) (at ∷ []) stored.ascends (omega (arith, order, stored.last_is), tt));
 }
 
 -- ---- how many

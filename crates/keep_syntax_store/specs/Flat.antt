@@ -1,22 +1,22 @@
 -- What is stored of a text, as lists.
-use Rattle.std.specs.Prelude.{◌≡◌, ℕ, ◌+◌, List, [], ◌∷◌, ◌++◌, length, map, Bool, if◌then◌else◌, Option, Some, None}
+use Rattle.std.specs.Prelude.{◌≡◌, ℕ, ◌+◌, List, [], ◌∷◌, ◌++◌, length, Bool, if◌then◌else◌, Option, Some, None}
 use Rattle.keep_types.specs.declared.leaf.Leaf.{Leaf}
 use Rattle.keep_types.specs.declared.syntax.Statement.{Statement}
 use Rattle.keep_types.specs.declared.syntax.KeyPart.{KeyPart}
 use Rattle.keep_types.specs.declared.syntax.ValueInfo.{ValueInfo}
 use Rattle.keep_types.specs.declared.syntax.Start.{Start}
 use Rattle.keep_syntax_store.specs.declared.statements.PackedStatement.{PackedStatement}
-use Rattle.keep_syntax_store.specs.declared.statements.Statements.{Statements}
 use Rattle.keep_syntax_store.specs.declared.keys.PackedKeyPart.{PackedKeyPart}
-use Rattle.keep_syntax_store.specs.declared.keys.KeyParts.{KeyParts}
 use Rattle.keep_syntax_store.specs.declared.values.Within.{Within}
 use Rattle.keep_syntax_store.specs.declared.values.Within.TheVariants as within
 use Rattle.keep_syntax_store.specs.declared.values.PackedValue.{PackedValue}
-use Rattle.keep_syntax_store.specs.declared.values.Values.{Values}
+use Rattle.keep_syntax_store.specs.declared.packed_vec.PackedVec.{PackedVec}
 use Rattle.keep_syntax_store.specs.declared.parts.Parts.{Parts}
 use Rattle.keep_types.specs.declared.syntax.Owner.{Owner}
 use Rattle.keep_types.specs.declared.syntax.Owner.TheVariants as owner
 use Rattle.keep_syntax_store.specs.Counts.{span}
+use Rattle.keep_syntax_store.specs.Blocks.{raise_key, raise_statement, raise_value}
+use Rattle.keep_syntax_store.specs.PackedVec.{entries}
 
 -- the kinds of the tokens, their places, and the other lists, each in text order
 pub record Flat : Type 0 where
@@ -47,17 +47,15 @@ unpacked_statement s = record {
   value = if_there s.has_value s.value;
 }
 
--- those in 24 bytes, then the others
-abbrev pub statements_in : Statements → List Statement
-statements_in ss = map unpacked_statement ss.packed.items ++ ss.unpacked.items
+abbrev pub statements_in : PackedVec Statement PackedStatement → List Statement
+statements_in ss = entries unpacked_statement raise_statement ss
 
 -- the key part that was packed
 abbrev pub unpacked_key_part : PackedKeyPart → KeyPart
 unpacked_key_part k = record { leaf = k.leaf; span = span k.start (k.start + k.len) }
 
--- those in 8 bytes, then the others
-abbrev pub key_parts_in : KeyParts → List KeyPart
-key_parts_in ks = map unpacked_key_part ks.packed.items ++ ks.unpacked.items
+abbrev pub key_parts_in : PackedVec KeyPart PackedKeyPart → List KeyPart
+key_parts_in ks = entries unpacked_key_part raise_key ks
 
 -- the value that was packed
 abbrev pub unpacked_value : PackedValue → ValueInfo
@@ -73,9 +71,8 @@ unpacked_value s = record {
   comma_after = if_there s.has_after s.after;
 }
 
--- those in 40 bytes, then the others
-abbrev pub values_in : Values → List ValueInfo
-values_in vs = map unpacked_value vs.packed.items ++ vs.unpacked.items
+abbrev pub values_in : PackedVec ValueInfo PackedValue → List ValueInfo
+values_in vs = entries unpacked_value raise_value vs
 
 abbrev pub flat : Parts → Flat
 flat p =

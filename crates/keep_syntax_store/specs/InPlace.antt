@@ -1,24 +1,30 @@
 -- What is stored of some lines changes places with what is stored of others, in place.
-use Rattle.std.specs.Prelude.{◌≡◌, ℕ, ◌+◌, ◌<◌, ◌≤◌, ◌^◌, ltb, if◌then◌else◌, List, [], ◌++◌, length, map, take, drop}
+use Rattle.std.specs.Prelude.{◌≡◌, ℕ, ◌+◌, ◌<◌, ◌≤◌, ◌^◌, ltb, if◌then◌else◌, List, ◌++◌, length, map, take, drop}
 use Rattle.std.specs.Prelude.{slice_range, vec_len}
 use Rattle.std.specs.List.{AllByRecursion}
 use Rattle.keep_types.specs.declared.syntax.Span.{Span}
 use Rattle.keep_syntax_store.specs.declared.moves.Counts.{Counts}
+use Rattle.keep_syntax_store.specs.declared.moves.RunCounts.{RunCounts}
+use Rattle.keep_syntax_store.specs.declared.parts.patching.PartsPatch.{PartsPatch}
 use Rattle.keep_syntax_store.specs.declared.parts.Parts.{Parts}
 use Rattle.keep_syntax_store.specs.declared.replacing.Gone.{Gone}
 use Rattle.keep_syntax_store.specs.declared.replacing.Gone.TheVariants as gone
-use Rattle.keep_syntax_store.specs.Flat.{Flat, flat}
+use Rattle.keep_syntax_store.specs.Flat.{Flat, flat, unpacked_statement, unpacked_key_part, unpacked_value}
+use Rattle.keep_syntax_store.specs.Flat.{statements_in, key_parts_in, values_in}
+use Rattle.keep_syntax_store.specs.Blocks.{raise_key, raise_statement, raise_value}
+use Rattle.keep_syntax_store.specs.Moving.{OnlyPlacesMove}
 use Rattle.keep_syntax_store.specs.Lifted.{origin, moved, moved_statement, moved_key, moved_value}
 use Rattle.keep_syntax_store.specs.Rereading.{count_of, nothing, counts_before, counts_at}
 use Rattle.keep_syntax_store.specs.Shifting.{shifted_statement, shifted_key, shifted_value, CanShiftStatement}
 use Rattle.keep_syntax_store.specs.Shifting.{CanShiftKey, CanShiftValue}
 use Rattle.keep_syntax_store.specs.Exchanging.{HasRoom, Exchanged}
+use Rattle.keep_syntax_store.specs.PackedVec.{IsAllPacked, HasSameRest, IsRunOfPacked, Gives, IsWithin, IsPatched}
 
 -- all is packed
 pub record IsPacked (p : Parts) : Type 0 where
-  pub statements : p.statements.unpacked.items ≡ []
-  pub keys : p.keys.unpacked.items ≡ []
-  pub values : p.values.unpacked.items ≡ []
+  pub statements : IsAllPacked p.statements
+  pub keys : IsAllPacked p.keys
+  pub values : IsAllPacked p.values
 
 -- what is stored from a count on can be moved in place from after a count to after another
 pub record CanShift (from old new : Counts) (p : Parts) : Type 0 where
@@ -44,9 +50,9 @@ pub record IsShifted (old new : Counts) (p q : Parts) : Type 0 where
   pub statements : q.statements.packed.items ≡ map (shifted_statement old new) p.statements.packed.items
   pub keys : q.keys.packed.items ≡ map (shifted_key old new) p.keys.packed.items
   pub values : q.values.packed.items ≡ map (shifted_value old new) p.values.packed.items
-  pub unpacked_statements : q.statements.unpacked.items ≡ p.statements.unpacked.items
-  pub unpacked_keys : q.keys.unpacked.items ≡ p.keys.unpacked.items
-  pub unpacked_values : q.values.unpacked.items ≡ p.values.unpacked.items
+  pub rest_of_statements : HasSameRest p.statements q.statements
+  pub rest_of_keys : HasSameRest p.keys q.keys
+  pub rest_of_values : HasSameRest p.values q.values
 
 -- the same is stored, as lists
 pub record IsAsBefore (p q : Parts) : Type 0 where
@@ -55,9 +61,9 @@ pub record IsAsBefore (p q : Parts) : Type 0 where
   pub statements : q.statements.packed.items ≡ p.statements.packed.items
   pub keys : q.keys.packed.items ≡ p.keys.packed.items
   pub values : q.values.packed.items ≡ p.values.packed.items
-  pub unpacked_statements : q.statements.unpacked.items ≡ p.statements.unpacked.items
-  pub unpacked_keys : q.keys.unpacked.items ≡ p.keys.unpacked.items
-  pub unpacked_values : q.values.unpacked.items ≡ p.values.unpacked.items
+  pub rest_of_statements : HasSameRest p.statements q.statements
+  pub rest_of_keys : HasSameRest p.keys q.keys
+  pub rest_of_values : HasSameRest p.values q.values
 
 -- there is memory for the run and for all that takes its place
 pub record CanExchange (from to : Counts) (p run : Parts) : Type 0 where
@@ -82,9 +88,9 @@ pub record IsExchanged (from to old new : Counts) (p run q gone : Parts) : Type 
       (shifted_value old new) from.values to.values p.values.packed run.values.packed q.values.packed gone.values.packed
   pub starts : q.starts ≡ run.starts
   pub gone_starts : gone.starts ≡ p.starts
-  pub unpacked_statements : q.statements.unpacked.items ≡ p.statements.unpacked.items
-  pub unpacked_keys : q.keys.unpacked.items ≡ p.keys.unpacked.items
-  pub unpacked_values : q.values.unpacked.items ≡ p.values.unpacked.items
+  pub rest_of_statements : HasSameRest p.statements q.statements
+  pub rest_of_keys : HasSameRest p.keys q.keys
+  pub rest_of_values : HasSameRest p.values q.values
 
 -- where the tokens begin after the exchange: those before, the new ones, and those after
 abbrev pub replaced_places : Flat → Flat → Counts → Counts → ℕ → List ℕ
@@ -139,7 +145,46 @@ pub record IsInPlace (from to until : Counts) (p fresh : Parts) : Type 0 where
   pub can : CanShift to to until p
   pub fresh_can : CanShift nothing nothing from fresh
 
+-- ---- as many entries as there were
+
+-- as many entries take the place of the run, so what comes after it moves by its places alone; all is packed
+pub record KeepsCounts (c : RunCounts) (p fresh : Parts) : Type 0 where
+  pub places : OnlyPlacesMove c.len c.to c.until
+  pub statements : IsRunOfPacked
+      c.from.statements c.to.statements (length (statements_in fresh.statements)) p.statements
+  pub keys : IsRunOfPacked c.from.keys c.to.keys (length (key_parts_in fresh.keys)) p.keys
+  pub values : IsRunOfPacked c.from.values c.to.values (length (values_in fresh.values)) p.values
+
+-- what is stored is f once it changed places with the patch
+pub record GivesParts (p : Parts) (c : PartsPatch) (f : Flat) : Type 0 where
+  pub kinds : c.kinds.items ≡ f.kinds
+  pub starts : c.starts ≡ f.starts
+  pub statements : Gives unpacked_statement raise_statement p.statements c.statements f.statements
+  pub keys : Gives unpacked_key_part raise_key p.keys c.keys f.keys
+  pub values : Gives unpacked_value raise_value p.values c.values f.values
+
+-- the entries of a patch are in the place of as many
+pub record FitsParts (p : Parts) (c : PartsPatch) : Type 0 where
+  pub statements : IsWithin p.statements c.statements
+  pub keys : IsWithin p.keys c.keys
+  pub values : IsWithin p.values c.values
+
+-- what is stored and the patch changed places
+pub record ArePatched (p : Parts) (c : PartsPatch) (q : Parts) (d : PartsPatch) : Type 0 where
+  pub kinds : q.kinds.items ≡ c.kinds.items
+  pub kinds_back : d.kinds.items ≡ p.kinds.items
+  pub starts : q.starts ≡ c.starts
+  pub starts_back : d.starts ≡ p.starts
+  pub statements : IsPatched p.statements c.statements q.statements d.statements
+  pub keys : IsPatched p.keys c.keys q.keys d.keys
+  pub values : IsPatched p.values c.values q.values d.values
+
 -- ---- going back
+
+-- what is stored before is stored again once the patch changes places with what is stored after
+pub record UndoesPatch (d : PartsPatch) (before after : Parts) : Type 0 where
+  pub fits : FitsParts after d
+  pub undone : (r : Parts) (e : PartsPatch) → ArePatched after d r e → flat r ≡ flat before
 
 -- a run that was put in the place of another: what was there is put back by exchanging them again
 pub record UndoesRun (gone : Parts) (from to until : Counts) (before after : Parts) : Type 0 where
@@ -154,7 +199,9 @@ pub record UndoesRun (gone : Parts) (from to until : Counts) (before after : Par
 
 -- putting it back in the second gives what is stored in the first
 abbrev pub UndoesParts : Gone → Parts → Parts → Type 0
-UndoesParts (gone.Run run from to until) before after = UndoesRun run from to until before after
+UndoesParts (gone.Lines patch) before after = UndoesPatch patch before after
+UndoesParts (gone.Run run from to until) before after =
+    (settled : Parts) × (flat settled ≡ flat before) × UndoesRun run from to until settled after
 UndoesParts (gone.Whole parts) before after = flat parts ≡ flat before
 
 abbrev pub CanUndoParts : Gone → Parts → Type 0

@@ -9,3 +9,7 @@ pub mod Rereading
 pub mod Exchanging
 pub mod Shifting
 pub mod InPlace
+pub mod PackedVec
+pub mod Blocks
+pub mod Moving
+pub mod After

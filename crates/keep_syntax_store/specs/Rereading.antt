@@ -1,12 +1,10 @@
 -- What rereading lines stores: that of the lines before unchanged, that of the new lines lifted, that of the lines
 -- after moved.
 use Rattle.std.specs.Prelude.{ℕ, suc, ◌<◌, ◌≤◌, ltb, if◌then◌else◌, List, [], ◌∷◌, ◌++◌, length, map, drop, slice_range}
-use Rattle.std.specs.Prelude.{Option, Some, None}
+use Rattle.std.specs.Prelude.{Option, Some, None, ⊤}
 use Rattle.keep_types.specs.declared.leaf.Leaf.{Leaf}
-use Rattle.keep_types.specs.declared.syntax.KeyPart.{KeyPart}
 use Rattle.keep_types.specs.declared.syntax.Span.{Span}
 use Rattle.keep_types.specs.declared.syntax.Statement.{Statement}
-use Rattle.keep_types.specs.declared.syntax.ValueInfo.{ValueInfo}
 use Rattle.keep_syntax_store.specs.declared.moves.Counts.{Counts}
 use Rattle.keep_syntax_store.specs.Counts.{Count}
 use Rattle.keep_syntax_store.specs.Flat.{Flat, empty}
@@ -43,6 +41,11 @@ places_before place (x ∷ xs) = if ltb x place then suc (places_before place xs
 abbrev pub statements_before : ℕ → List Statement → ℕ
 statements_before place [] = 0
 statements_before place (s ∷ ss) = if ltb s.line.start place then suc (statements_before place ss) else 0
+
+-- no line of a statement begins before that of the one before it, the first not before `low`
+abbrev pub LinesAscend : ℕ → List Statement → Type 0
+LinesAscend low [] = ⊤
+LinesAscend low (s ∷ ss) = (low ≤ s.line.start) × LinesAscend s.line.start ss
 
 -- The number of the first key part from these statements on: the first statement has it. Without one it is the number
 -- of all.
@@ -134,8 +137,9 @@ abbrev pub replaced_flat : Flat → Flat → Span → ℕ → ℕ → ℕ → Fl
 replaced_flat f g whole len size end =
     if ltb whole.end len then with_back f g whole len size end else with_new f g whole.start size
 
--- what is before the span and after it can be taken
+-- what is before the span and after it can be sought, and taken
 pub record CanMove (f : Flat) (whole : Span) (len : ℕ) : Type 0 where
+  pub order : LinesAscend 0 f.statements
   pub prefix : IsPart nothing (counts_before f whole.start) f
   pub back : whole.end < len → IsPart (counts_before f whole.end) (counts_at len f) f
 
@@ -159,8 +163,7 @@ with_tokens ls ns f = record f { kinds = f.kinds ++ ls; starts = f.starts ++ ns 
 abbrev pub with_statements : List Statement → Flat → Flat
 with_statements ss f = record f { statements = f.statements ++ ss }
 
-abbrev pub with_keys : List KeyPart → Flat → Flat
-with_keys ks f = record f { keys = f.keys ++ ks }
-
-abbrev pub with_values : List ValueInfo → Flat → Flat
-with_values vs f = record f { values = f.values ++ vs }
+-- the statements, key parts and values of g
+abbrev pub with_entries : Flat → Flat → Flat
+with_entries g f =
+    record f { statements = f.statements ++ g.statements; keys = f.keys ++ g.keys; values = f.values ++ g.values }

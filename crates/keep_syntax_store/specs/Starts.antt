@@ -1,6 +1,9 @@
 -- Where tokens begin, as it is stored.
-use Rattle.std.specs.Prelude.{◌≡◌, ℕ, ◌+◌, ◌<◌, ◌^◌, ◌==◌, leb, if◌then◌else◌, List, [], ◌∷◌, length, get_or, count_by}
+use Rattle.std.specs.Prelude.{◌≡◌, ℕ, ◌+◌, ◌<◌, ◌≤◌, ◌^◌, ◌==◌, leb, if◌then◌else◌, List, [], ◌∷◌, length, get_or}
+use Rattle.std.specs.Prelude.{take, drop, count_by, ⊤}
+use Rattle.std.specs.List.{AllByRecursion}
 use Rattle.keep_syntax_store.specs.declared.starts.TheConstants.{FAR}
+use Rattle.keep_syntax_store.specs.declared.starts.Milestone.{Milestone}
 
 -- The places that steps lead to: each is so far after the one before, or is the next of the far ones.
 abbrev pub places_at : ℕ → List ℕ → List ℕ → List ℕ
@@ -22,11 +25,39 @@ AllSmall places = (k : ℕ) → get_or places k 0 < 2 ^ 64
 abbrev pub fars : List ℕ → ℕ
 fars steps = count_by (λ step. step == FAR) steps
 
+-- no place is before the one before it, the first not before `low`
+abbrev pub Ascend : ℕ → List ℕ → Type 0
+Ascend low [] = ⊤
+Ascend low (place ∷ places) = (low ≤ place) × Ascend place places
+
 -- Steps and far places that tell of places: each far step has its place, and the last place is known.
 pub record StepsAreStored (steps far : List ℕ) (last : ℕ) : Type 0 where
   pub matched : length far ≡ fars steps
   pub small : AllSmall (places_at 0 steps far)
   pub last_is : last ≡ last_of 0 (places_at 0 steps far)
+  pub ascends : Ascend 0 (places_at 0 steps far)
+
+-- so many steps, of which so many are far, lead to this place
+pub record IsMilestone (steps far : List ℕ) (m : Milestone) : Type 0 where
+  pub within : m.steps ≤ length steps
+  pub counted : m.far ≡ fars (take m.steps steps)
+  pub leads : m.place ≡ last_of 0 (places_at 0 (take m.steps steps) (take m.far far))
+
+-- the steps after a milestone, and the far places after it, tell of places too
+pub record CanGoOn (steps far : List ℕ) (m : Milestone) : Type 0 where
+  pub within : m.steps ≤ length steps
+  pub far_within : m.far ≤ length far
+  pub matched : length (drop m.far far) ≡ fars (drop m.steps steps)
+  pub small : AllSmall (places_at m.place (drop m.steps steps) (drop m.far far))
+
+-- what is stored, and what is known without summing the steps
+pub record AreStarts (steps far : List ℕ) (last : ℕ) (milestones : List Milestone) : Type 0 where
+  pub stored : StepsAreStored steps far last
+  pub known : AllByRecursion (IsMilestone steps far) milestones
+
+-- all are before a place
+abbrev pub Before : ℕ → List ℕ → Type 0
+Before place ns = AllByRecursion (λ (n : ℕ). n < place) ns
 
 -- ---- looked up by a place
 

@@ -1,13 +1,11 @@
-//! The key parts of a text as they are stored, in text order.
-ghost use Rattle.std.specs.Prelude.{◌≡◌, ◌<◌, None, ◌++◌, ◌∷◌, [], length, slice_get, IfSome, OnOk, Some};
-ghost use Rattle.keep_syntax_store.specs.Fits.{FitsKey};
-ghost use Rattle.keep_syntax_store.specs.Flat as spec;
-
+//! Key parts as entries of a list: packed into 8 bytes, and moved.
 mod shifting;
 
+use crate::moves::{Counts, moved_key};
+use crate::packed_vec::Entry;
+use crate::places::raised_span;
 use crate::widths::{LONG, SHORT, distance};
 use keep_types::{KeyPart, Leaf, Span};
-use std::alloc::{AllocError, Global};
 
 /// A key part in 8 bytes: where it starts, and how many bytes it has.
 #[derive(Clone, Copy)]
@@ -17,89 +15,62 @@ pub struct PackedKeyPart {
     leaf: Leaf,
 }
 
-/// The key parts of a text, in text order: those before the first whose numbers do not fit into 8 bytes, then the
-/// others.
-#[derive(Drop)]
-pub struct KeyParts {
-    pub(super) packed: Vec<PackedKeyPart>,
-    pub(super) unpacked: Vec<KeyPart>,
-}
+impl Entry for KeyPart {
+    ghost use Rattle.keep_syntax_store.specs.Fits.{FitsKey};
+    ghost use Rattle.keep_syntax_store.specs.Flat.{unpacked_key_part};
+    ghost use Rattle.keep_syntax_store.specs.After as after;
+    ghost use Rattle.keep_syntax_store.specs.Held as held;
+    ghost use Rattle.keep_syntax_store.specs.Lifted as lifted;
+    ghost use Rattle.keep_syntax_store.specs.Rereading.{count_of};
+    ghost use Rattle.keep_syntax_store.specs.Blocks.{raise_key};
 
-/// The key part in 8 bytes, if its numbers fit.
-#[inline(always)]
-fn packed(part: KeyPart) -> Option<PackedKeyPart>
-    ensures stored { IfSome result (λ stored. spec.unpacked_key_part stored ≡ part) }
-    ensures unpacked { result ≡ None → FitsKey part → ⊥ }
-{
-    let start = part.span.start;
-    let len = distance(start, part.span.end);
-    if len > SHORT || start > LONG {
-        return None;
-    }
-    Some(PackedKeyPart {
-        start: start as u32,
-        len: len as u16,
-        leaf: part.leaf,
-    })
-}
+    type Packed = PackedKeyPart;
 
-/// The key part that was packed.
-fn unpacked_key_part(stored: &PackedKeyPart) -> KeyPart
-    ensures { result ≡ spec.unpacked_key_part stored.now }
-{
-    let start = stored.start as usize;
-    KeyPart {
-        leaf: stored.leaf,
-        span: Span {
-            start,
-            end: start + stored.len as usize,
-        },
-    }
-}
+    ghost unpacked = { unpacked_key_part };
 
-impl KeyParts {
-    /// None yet.
-    pub fn new(alloc: Global) -> KeyParts
-        ensures { spec.key_parts_in result ≡ [] }
-    {
-        KeyParts {
-            packed: Vec::new(alloc),
-            unpacked: Vec::new(alloc),
-        }
-    }
+    ghost Fits = { FitsKey };
 
-    /// How many there are.
-    pub fn len(&self) -> usize
-        ensures { result ≡ length (spec.key_parts_in self.now) }
-    {
-        self.packed.len() + self.unpacked.len()
-    }
+    ghost IsHeld = { λ old new. held.IsHeldKey (count_of old) (count_of new) };
 
-    /// The key part with this number.
-    pub fn get(&self, number: usize) -> KeyPart
-        requires { number < length (spec.key_parts_in self.now) }
-        ensures { slice_get (spec.key_parts_in self.now) number ≡ Some result }
-    {
-        let packed = self.packed.len();
-        if number < packed {
-            unpacked_key_part(&self.packed[number])
-        } else {
-            self.unpacked[number - packed]
-        }
-    }
+    ghost moved = { λ old new. lifted.moved_key (count_of old) (count_of new) };
 
-    /// Adds one more.
+    ghost IsAfter = { λ c. after.IsAfterKey (count_of c) };
+
+    ghost raise = { raise_key };
+
     #[inline(always)]
-    pub fn push(&mut self, part: KeyPart) -> Result<(), AllocError>
-        ensures { OnOk result (spec.key_parts_in self.new ≡ spec.key_parts_in self.old ++ part ∷ []) }
-    {
-        if self.unpacked.is_empty() {
-            if let Some(stored) = packed(part) {
-                self.packed.push(stored)?;
-                return Ok(());
-            }
+    fn packed(&self) -> Option<PackedKeyPart> {
+        let start = self.span.start;
+        let len = distance(start, self.span.end);
+        if len > SHORT || start > LONG {
+            return None;
         }
-        self.unpacked.push(part)?;
-        Ok(())
+        Some(PackedKeyPart {
+            start: start as u32,
+            len: len as u16,
+            leaf: self.leaf,
+        })
+    }
+
+    fn unpacked(stored: &PackedKeyPart) -> KeyPart {
+        let start = stored.start as usize;
+        KeyPart {
+            leaf: stored.leaf,
+            span: Span {
+                start,
+                end: start + stored.len as usize,
+            },
+        }
+    }
+
+    fn moved(&self, old: &Counts, new: &Counts) -> Option<KeyPart> {
+        moved_key(*self, old, new)
+    }
+
+    fn raised(self, by: usize) -> KeyPart {
+        KeyPart {
+            leaf: self.leaf,
+            span: raised_span(self.span, by),
+        }
     }
 }

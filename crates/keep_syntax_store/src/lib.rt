@@ -4,7 +4,10 @@
 mod exchange;
 mod keys;
 mod moves;
+mod packed_vec;
 mod parts;
+mod patch;
+mod places;
 mod replacing;
 mod rereading;
 mod shift;

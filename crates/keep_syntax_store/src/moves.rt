@@ -17,6 +17,16 @@ pub struct Counts {
     pub values: usize,
 }
 
+/// What comes before a run, before what is after it, and before that once others are in the place of the run; and how
+/// many bytes the text has.
+#[derive(Clone, Copy)]
+pub struct RunCounts {
+    pub from: Counts,
+    pub to: Counts,
+    pub until: Counts,
+    pub len: usize,
+}
+
 /// A number after `old`, moved to after `new`.
 pub fn moved(number: usize, old: usize, new: usize) -> Option<usize>
     ensures { SomeIff result (held.IsHeld old new number) (spec.moved old new number) }

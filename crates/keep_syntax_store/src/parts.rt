@@ -6,12 +6,14 @@ ghost use Rattle.keep_syntax_store.specs.Rereading as rereading;
 ghost use Rattle.keep_syntax_store.specs.Flat as spec;
 
 pub mod exchanging;
+pub mod patching;
 
-use crate::keys::KeyParts;
+use crate::keys::PackedKeyPart;
 use crate::moves::Counts;
+use crate::packed_vec::PackedVec;
 use crate::starts::{Places, Starts};
-use crate::statements::Statements;
-use crate::values::Values;
+use crate::statements::PackedStatement;
+use crate::values::PackedValue;
 use keep_types::{KeyPart, Leaf, Span, Start, Statement, ValueInfo};
 use std::alloc::{AllocError, Global};
 
@@ -20,9 +22,9 @@ use std::alloc::{AllocError, Global};
 pub struct Parts {
     kinds: Vec<Leaf>,
     starts: Starts,
-    statements: Statements,
-    keys: KeyParts,
-    values: Values,
+    statements: PackedVec<Statement, PackedStatement>,
+    keys: PackedVec<KeyPart, PackedKeyPart>,
+    values: PackedVec<ValueInfo, PackedValue>,
 }
 
 /// A number that may be missing: whether it is there, and which.
@@ -50,9 +52,9 @@ impl Parts {
         Parts {
             kinds: Vec::new(alloc),
             starts: Starts::new(alloc),
-            statements: Statements::new(alloc),
-            keys: KeyParts::new(alloc),
-            values: Values::new(alloc),
+            statements: PackedVec::new(alloc),
+            keys: PackedVec::new(alloc),
+            values: PackedVec::new(alloc),
         }
     }
 
@@ -79,6 +81,7 @@ impl Parts {
     }
 
     /// The value with this number.
+    #[inline(always)]
     pub fn value(&self, number: usize) -> ValueInfo
         requires { number < length (spec.flat self.now).values }
         ensures { slice_get (spec.flat self.now).values number ≡ Some result }
@@ -113,13 +116,6 @@ impl Parts {
         Ok(())
     }
 
-    /// Stores a value of which all is known.
-    pub(crate) fn push_info(&mut self, value: ValueInfo) -> Result<(), AllocError>
-        ensures { OnOk result (spec.flat self.new ≡ spec.with_value value (spec.flat self.old)) }
-    {
-        self.values.push(value)
-    }
-
     /// Stores the tokens of another list from one count to another, moved to begin at the byte `at`.
     pub(crate) fn append_tokens(
         &mut self,
@@ -140,6 +136,26 @@ impl Parts {
         self.starts
             .append_moved(&other.starts, from.tokens, to.tokens, from.at, at)?;
         Ok(())
+    }
+
+    /// Stores the statements, key parts and values of another list from one count to another, moved to after `new`.
+    pub(crate) fn append_entries(
+        &mut self,
+        other: &Parts,
+        from: &Counts,
+        to: &Counts,
+        new: &Counts,
+    ) -> Result<(), AllocError>
+        requires { rereading.IsPart from.now to.now (spec.flat other.now) }
+        ensures { OnOk result (spec.flat self.new ≡ rereading.with_entries (rereading.moved_flat
+            (rereading.count_of from.now) (rereading.count_of new.now)
+            (rereading.part_of from.now to.now (spec.flat other.now))) (spec.flat self.old)) }
+    {
+        self.statements.append_moved(&other.statements, from.statements, to.statements, from, new)?;
+        self.keys
+            .append_moved(&other.keys, from.keys, to.keys, from, new)?;
+        self.values
+            .append_moved(&other.values, from.values, to.values, from, new)
     }
 
     /// How many tokens begin before a place.

@@ -1,12 +1,14 @@
 //! Lines replaced in place: what is stored of them, and what was there before, to be put back.
-ghost use Rattle.std.specs.Prelude.{◌≡◌, ℕ, SomeIff, OnOk, OnErr, IfOk};
+ghost use Rattle.std.specs.Prelude.{◌≡◌, ℕ, SomeIff, OnOk, OnErr, IfOk, IfSome, Ok, None};
 ghost use Rattle.std.specs.Bool.{Decides};
 ghost use Rattle.keep_syntax_store.specs.Flat.{flat};
+ghost use Rattle.keep_syntax_store.specs.After.{AreAfter};
 ghost use Rattle.keep_syntax_store.specs.InPlace as spec;
 ghost use Rattle.keep_syntax_store.specs.Rereading as rereading;
 
-use crate::moves::Counts;
+use crate::moves::{Counts, RunCounts};
 use crate::parts::Parts;
+use crate::parts::patching::PartsPatch;
 use crate::rereading::{counts_at, counts_before, nothing, replaced_parts};
 use keep_types::Span;
 use std::alloc::{AllocError, Global};
@@ -15,6 +17,8 @@ use std::mem;
 /// What was stored of lines that others replaced.
 #[derive(Drop)]
 pub enum Gone {
+    /// As many statements, key parts and values were in its place.
+    Lines(PartsPatch),
     /// It was there between the counts `from` and `to`; what replaced it ends at `until`.
     Run {
         run: Parts,
@@ -41,6 +45,7 @@ fn counts_after(from: &Counts, all: &Counts, end: usize) -> Option<Counts>
 
 /// How much comes before what is after a span.
 fn counts_through(parts: &Parts, whole: Span, len: usize) -> Counts
+    requires { rereading.LinesAscend 0 (flat parts.now).statements }
     ensures { result ≡ spec.counts_through (flat parts.now) whole len }
 {
     if whole.end < len {
@@ -60,6 +65,31 @@ fn can_replace(parts: &Parts, fresh: &Parts, from: &Counts, to: &Counts, until: 
         && parts.is_run(from, to)
         && parts.can_shift(to, to, until)
         && fresh.can_shift(&zero, &zero, from)
+}
+
+/// Puts other parts in place of a run of as many statements, key parts and values; what is after it is moved a block at
+/// a time. None if their numbers differ, or not all is packed; then the same is stored.
+fn replace_lines(
+    alloc: Global,
+    parts: &mut Parts,
+    fresh: &Parts,
+    counts: &RunCounts,
+) -> Result<Option<Gone>, AllocError>
+    requires { AreAfter counts.now.to counts.now.len (flat parts.old) }
+    ensures done { IfOk result (λ made. IfSome made (λ _. flat parts.new ≡ spec.placed (flat parts.old)
+        (flat fresh.now) counts.now.from counts.now.to counts.now.until counts.now.until.at)) }
+    ensures undo { IfOk result (λ made. IfSome made (λ gone. spec.UndoesParts gone parts.old parts.new)) }
+    ensures none { result ≡ Ok None → flat parts.new ≡ flat parts.old }
+    ensures refused { OnErr result (flat parts.new ≡ flat parts.old) }
+{
+    if !parts.has_tokens(&counts.from, &counts.to) || !parts.keeps_counts(fresh, counts) {
+        return Ok(None);
+    }
+    let Some(mut patch) = parts.patch(alloc, fresh, counts)? else {
+        return Ok(None);
+    };
+    parts.exchange_patch(&mut patch);
+    Ok(Some(Gone::Lines(patch)))
 }
 
 /// Puts other parts in place of a run, after which it ends at `until`.
@@ -89,6 +119,26 @@ fn replace_run(
     })
 }
 
+/// Stores anew what is stored with new lines in place of those of a span.
+fn replace_whole(
+    alloc: Global,
+    parts: &mut Parts,
+    fresh: &Parts,
+    whole: Span,
+    len: usize,
+    size: usize,
+    end: usize,
+) -> Result<Gone, AllocError>
+    requires { rereading.CanMove (flat parts.old) whole len }
+    ensures done { OnOk result (flat parts.new
+        ≡ rereading.replaced_flat (flat parts.old) (flat fresh.now) whole len size end) }
+    ensures undo { IfOk result (λ gone. spec.UndoesParts gone parts.old parts.new) }
+    ensures refused { OnErr result (flat parts.new ≡ flat parts.old) }
+{
+    let new = replaced_parts(alloc, parts, whole, len, fresh, size, end)?;
+    Ok(Gone::Whole(mem::replace(parts, new)))
+}
+
 /// Puts the parts of new lines in place of those of a span, in a text of `len` bytes. The new lines have `size` bytes
 /// and end at the byte `end`. After a refusal what is stored is the same.
 pub fn replace_parts(
@@ -100,7 +150,8 @@ pub fn replace_parts(
     size: usize,
     end: usize,
 ) -> Result<Gone, AllocError>
-    requires { rereading.CanMove (flat parts.old) whole len }
+    requires can { rereading.CanMove (flat parts.old) whole len }
+    requires after { AreAfter (spec.counts_through (flat parts.old) whole len) len (flat parts.old) }
     ensures done { OnOk result (flat parts.new
         ≡ rereading.replaced_flat (flat parts.old) (flat fresh) whole len size end) }
     ensures undo { IfOk result (λ gone. spec.UndoesParts gone parts.old parts.new) }
@@ -108,13 +159,27 @@ pub fn replace_parts(
 {
     let from = counts_before(parts, whole.start);
     let to = counts_through(parts, whole, len);
-    if let Some(until) = counts_after(&from, &counts_at(&fresh, size), end) {
-        if can_replace(parts, &fresh, &from, &to, &until) {
-            return replace_run(alloc, parts, fresh, from, to, until);
-        }
+    let Some(until) = counts_after(&from, &counts_at(&fresh, size), end) else {
+        return replace_whole(alloc, parts, &fresh, whole, len, size, end);
+    };
+    if let Some(gone) = replace_lines(
+        alloc,
+        parts,
+        &fresh,
+        &RunCounts {
+            from,
+            to,
+            until,
+            len,
+        },
+    )? {
+        return Ok(gone);
     }
-    let new = replaced_parts(alloc, parts, whole, len, &fresh, size, end)?;
-    Ok(Gone::Whole(mem::replace(parts, new)))
+    parts.settle(alloc)?;
+    if can_replace(parts, &fresh, &from, &to, &until) {
+        return replace_run(alloc, parts, fresh, from, to, until);
+    }
+    replace_whole(alloc, parts, &fresh, whole, len, size, end)
 }
 
 /// Puts back what was replaced. It takes no memory.
@@ -123,6 +188,7 @@ pub fn restore_parts(parts: &mut Parts, gone: Gone)
     ensures { (before : Parts) → spec.UndoesParts gone before parts.old → flat parts.new ≡ flat before }
 {
     match gone {
+        Gone::Lines(mut patch) => parts.exchange_patch(&mut patch),
         Gone::Run {
             mut run,
             from,

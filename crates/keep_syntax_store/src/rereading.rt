@@ -1,12 +1,11 @@
-//! What is stored of a text with lines replaced: that of the lines before, of the new lines, and of the lines after, each
-//! stored again. What comes before a place shows in the statements after it.
-ghost use Rattle.std.specs.Prelude.{◌≡◌, ◌≤◌, length, map, drop, slice_range, OnOk, IfOk};
+//! What is stored of a text with lines replaced: that of the lines before, of the new lines, and of the lines after,
+//! each stored again. What comes before a place shows in the statements after it.
+ghost use Rattle.std.specs.Prelude.{◌≡◌, ◌≤◌, length, drop, OnOk, IfOk};
 ghost use Rattle.keep_syntax_store.specs.Flat.{flat};
-ghost use Rattle.keep_syntax_store.specs.Rereading.{count_at, with_statements};
-ghost use Rattle.keep_syntax_store.specs.Lifted as lifted;
+ghost use Rattle.keep_syntax_store.specs.Rereading.{count_at};
 ghost use Rattle.keep_syntax_store.specs.Rereading as spec;
 
-use crate::moves::{Counts, moved_key, moved_statement, moved_value};
+use crate::moves::Counts;
 use crate::parts::Parts;
 use crate::starts::Starts;
 use keep_types::Span;
@@ -14,15 +13,20 @@ use std::alloc::{AllocError, Global};
 
 /// How many statements have a line that begins before a place.
 fn statements_before(parts: &Parts, place: usize) -> usize
+    requires { spec.LinesAscend 0 (flat parts.now).statements }
     ensures { result ≡ spec.statements_before place (flat parts.now).statements }
 {
-    let count = parts.statement_count();
-    'statements: for number in 0..count {
-        if place <= parts.statement_at(number).line.start {
-            return number;
+    let mut low = 0;
+    let mut high = parts.statement_count();
+    'halves: while low < high {
+        let middle = low + (high - low) / 2;
+        if parts.statement_at(middle).line.start < place {
+            low = middle + 1;
+        } else {
+            high = middle;
         }
     }
-    count
+    low
 }
 
 /// The number of the first value from a statement on.
@@ -53,6 +57,7 @@ fn first_key(parts: &Parts, from: usize) -> usize
 
 /// How much comes before the line that begins at a place.
 pub fn counts_before(parts: &Parts, place: usize) -> Counts
+    requires { spec.LinesAscend 0 (flat parts.now).statements }
     ensures { result ≡ spec.counts_before (flat parts.now) place }
 {
     let statements = statements_before(parts, place);
@@ -78,72 +83,6 @@ pub fn counts_at(parts: &Parts, at: usize) -> Counts
     }
 }
 
-fn append_statements(
-    out: &mut Parts,
-    other: &Parts,
-    from: &Counts,
-    to: &Counts,
-    new: &Counts,
-) -> Result<(), AllocError>
-    requires order { from.now.statements ≤ to.now.statements }
-    requires within { to.now.statements ≤ length (flat other.now).statements }
-    ensures { OnOk result (flat out.new ≡ with_statements
-        (map (lifted.moved_statement (spec.count_of from.now) (spec.count_of new.now))
-        (slice_range (flat other.now).statements from.now.statements to.now.statements)) (flat out.old)) }
-{
-    'statements: for number in from.statements..to.statements {
-        let Some(statement) = moved_statement(other.statement_at(number), from, new) else {
-            return Err(AllocError);
-        };
-        out.push_statement(statement)?;
-    }
-    Ok(())
-}
-
-fn append_keys(
-    out: &mut Parts,
-    other: &Parts,
-    from: &Counts,
-    to: &Counts,
-    new: &Counts,
-) -> Result<(), AllocError>
-    requires order { from.now.keys ≤ to.now.keys }
-    requires within { to.now.keys ≤ length (flat other.now).keys }
-    ensures { OnOk result (flat out.new ≡ spec.with_keys
-        (map (lifted.moved_key (spec.count_of from.now) (spec.count_of new.now))
-        (slice_range (flat other.now).keys from.now.keys to.now.keys)) (flat out.old)) }
-{
-    'keys: for number in from.keys..to.keys {
-        let Some(part) = moved_key(other.key_part(number), from, new) else {
-            return Err(AllocError);
-        };
-        out.push_key(part)?;
-    }
-    Ok(())
-}
-
-fn append_values(
-    out: &mut Parts,
-    other: &Parts,
-    from: &Counts,
-    to: &Counts,
-    new: &Counts,
-) -> Result<(), AllocError>
-    requires order { from.now.values ≤ to.now.values }
-    requires within { to.now.values ≤ length (flat other.now).values }
-    ensures { OnOk result (flat out.new ≡ spec.with_values
-        (map (lifted.moved_value (spec.count_of from.now) (spec.count_of new.now))
-        (slice_range (flat other.now).values from.now.values to.now.values)) (flat out.old)) }
-{
-    'values: for number in from.values..to.values {
-        let Some(value) = moved_value(other.value(number), from, new) else {
-            return Err(AllocError);
-        };
-        out.push_info(value)?;
-    }
-    Ok(())
-}
-
 /// Stores also what is stored of other lines from one count to another, moved to after all that is stored. These lines
 /// begin at the byte `at`.
 pub fn append_moved(
@@ -160,9 +99,7 @@ pub fn append_moved(
 {
     let new = counts_at(out, at);
     out.append_tokens(other, from, to, at)?;
-    append_statements(out, other, from, to, &new)?;
-    append_keys(out, other, from, to, &new)?;
-    append_values(out, other, from, to, &new)
+    out.append_entries(other, from, to, &new)
 }
 
 /// What comes before everything.

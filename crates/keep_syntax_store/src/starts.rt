@@ -1,8 +1,11 @@
 //! Where each token begins, or each line, stored in one byte each.
-ghost use Rattle.std.specs.Prelude.{◌≡◌, ◌≢◌, ◌≤◌, ◌+◌, ◌++◌, [], ◌∷◌, length, map, sum, take, slice_range, IfSome};
-ghost use Rattle.std.specs.Prelude.{OnOk, OnErr};
+ghost use Rattle.std.specs.Prelude.{◌≡◌, ℕ, ◌≢◌, ◌<◌, ◌≤◌, ◌+◌, ◌++◌, [], ◌∷◌, List, length, map, sum, take, drop};
+ghost use Rattle.std.specs.Prelude.{slice_range, IfSome, IsNone, IfOk, OnOk, OnErr};
+ghost use Rattle.std.specs.List.{AllByRecursion};
 ghost use Rattle.keep_syntax_store.specs.declared.starts.TheConstants.{FAR};
-ghost use Rattle.keep_syntax_store.specs.Starts.{AllSmall, fars, last_of, places_at};
+ghost use Rattle.keep_syntax_store.specs.Lifted as lifted;
+ghost use Rattle.keep_syntax_store.specs.Starts.{AllSmall, Ascend, Before, CanGoOn, IsMilestone, fars, last_of};
+ghost use Rattle.keep_syntax_store.specs.Starts.{places_at};
 
 use crate::moves::moved;
 use memchr::memchr;
@@ -15,25 +18,37 @@ const FAR: u8 = 255;
 /// How many near steps are taken at once. So few lead less far than 2 ^ 16, and numbers of 16 bits are summed fastest.
 const MOST_NEAR: usize = 256;
 
-/// Places in a text, as byte offsets. Each is stored as its step: how far it comes after the one before, the first
-/// after 0. Where that is 255 bytes or more, or back, the step is `FAR`, and the place itself is in `far`. `last` is
-/// the last place, or 0.
+/// How many steps are copied at once, and about how many there are from one milestone to the next.
+const BLOCK: usize = 1024;
+
+/// A place that is known without the steps before it: so many `steps` lead to it, `far` of them far.
+#[derive(Clone, Copy)]
+struct Milestone {
+    steps: usize,
+    far: usize,
+    place: usize,
+}
+
+/// Ascending places in a text, as byte offsets. Each is stored as its step: how far it comes after the one before, the
+/// first after 0. Where that is 255 bytes or more, the step is `FAR`, and the place itself is in `far`. `last` is the
+/// last place, or 0. Milestones ascend; those of a text that was read are missing, and each edit makes them.
 #[derive(Drop)]
 pub struct Starts {
     steps: Vec<u8>,
     far: Vec<usize>,
     last: usize,
+    milestones: Vec<Milestone>,
 }
 
 impl Model for Starts {
     ghost use Rattle.std.specs.Prelude.{ℕ, List};
-    ghost use Rattle.keep_syntax_store.specs.Starts.{StepsAreStored, places_at};
+    ghost use Rattle.keep_syntax_store.specs.Starts.{AreStarts, places_at};
 
     ghost Value = { List ℕ };
 
     ghost view = { λ s. places_at 0 s.steps.items s.far.items };
 
-    ghost invariant = { λ s. StepsAreStored s.steps.items s.far.items s.last };
+    ghost invariant = { λ s. AreStarts s.steps.items s.far.items s.last s.milestones.items };
 }
 
 /// Stored places one after another; `at` is the one before them. The result of [`Starts::iter`].
@@ -43,6 +58,7 @@ pub struct Places<'a> {
     steps: &'a [u8],
     far: &'a [usize],
     ghost small: { AllSmall (places_at at steps.now far.now) },
+    ghost matched: { length far.now ≡ fars steps.now },
 }
 
 /// Near steps, each told by its byte, and how far they lead together.
@@ -62,6 +78,19 @@ fn count_near(steps: &[u8]) -> usize
     memchr(FAR, steps).unwrap_or(steps.len())
 }
 
+// how many steps are far
+fn count_far(steps: &[u8]) -> usize
+    ensures { result ≡ fars steps.now }
+{
+    let mut count = 0;
+    let mut left = steps;
+    'steps: while let Some(at) = memchr(FAR, left) {
+        count += 1;
+        left = &left[at + 1..];
+    }
+    count
+}
+
 // how far so few steps lead together
 fn sum_of(steps: &[u8]) -> u16
     requires { length steps.now ≤ MOST_NEAR }
@@ -74,20 +103,58 @@ fn sum_of(steps: &[u8]) -> u16
     distance
 }
 
-// the step from a place to a place
-fn step_to(from: usize, to: usize) -> u8
-    ensures { result ≢ FAR → from + result ≡ to }
+// the step from a place to a place; None exactly where that is before it
+fn step_to(from: usize, to: usize) -> Option<u8>
+    ensures step { IfSome result (λ step. step ≢ FAR → from + step ≡ to) }
+    ensures order { IfSome result (λ _. from ≤ to) }
+    ensures none { IsNone result → to < from }
 {
-    match to.checked_sub(from) {
-        Some(distance) if distance < FAR as usize => distance as u8,
-        _ => FAR,
+    let distance = to.checked_sub(from)?;
+    Some(if distance < FAR as usize {
+        distance as u8
+    } else {
+        FAR
+    })
+}
+
+// places, moved from after `old` to after `new`; a place before `old` is refused
+fn moved_places(
+    alloc: Global,
+    places: &[usize],
+    old: usize,
+    new: usize,
+) -> Result<Vec<usize>, AllocError>
+    ensures { IfOk result (λ out. out.items ≡ map (lifted.moved old new) places.now) }
+{
+    let mut out = Vec::new(alloc);
+    'places: for at in places {
+        let Some(place) = moved(*at, old, new) else {
+            return Err(AllocError);
+        };
+        out.push(place)?;
+    }
+    Ok(out)
+}
+
+// the milestone with a number, counted from 1, or else the beginning
+fn milestone_at(milestones: &[Milestone], number: usize) -> Milestone
+    ensures { (steps far : List ℕ) → AllByRecursion (IsMilestone steps far) milestones.now
+        → IsMilestone steps far result }
+{
+    if number > 0 && number <= milestones.len() {
+        milestones[number - 1]
+    } else {
+        Milestone {
+            steps: 0,
+            far: 0,
+            place: 0,
+        }
     }
 }
 
 impl Starts {
-    ghost use Rattle.keep_syntax_store.specs.Left.{places_left};
+    ghost use Rattle.keep_syntax_store.specs.Left.{IsPast, places_left};
     ghost use Rattle.keep_syntax_store.specs.Starts.{first_from, last_to};
-    ghost use Rattle.keep_syntax_store.specs.Lifted as lifted;
     ghost use Rattle.keep_syntax_store.specs.Rereading.{places_before};
 
     /// No place yet.
@@ -98,15 +165,19 @@ impl Starts {
             steps: Vec::new(alloc),
             far: Vec::new(alloc),
             last: 0,
+            milestones: Vec::new(alloc),
         }
     }
 
-    /// Stores one more place. After a refusal those before are stored.
+    /// Stores one more place. After a refusal those before are stored. A place before the last one is refused: a text
+    /// that is read from its start on has none.
     pub fn push(&mut self, at: usize) -> Result<(), AllocError>
         ensures ok { OnOk result (self.new ≡ self.old ++ at ∷ []) }
         ensures err { OnErr result (self.new ≡ self.old) }
     {
-        let step = step_to(self.last, at);
+        let Some(step) = step_to(self.last, at) else {
+            return Err(AllocError);
+        };
         self.steps.push(step)?;
         if step == FAR {
             if let Err(refused) = self.far.push(at) {
@@ -121,7 +192,8 @@ impl Starts {
 
     /// All places.
     pub(crate) fn iter(&self) -> Places<'_>
-        ensures { places_left result ≡ self.now }
+        ensures left { places_left result ≡ self.now }
+        ensures start { result.at ≡ 0 }
     {
         Places {
             at: 0,
@@ -130,12 +202,81 @@ impl Starts {
         }
     }
 
+    /// How many places lead up to the milestone with a number, counted from 1, and those after it. Without such a
+    /// milestone it is the beginning.
+    fn after_milestone(&self, number: usize) -> (usize, Places<'_>)
+        ensures past { IsPast self.now result.0 result.1 }
+        ensures within { result.0 ≤ length self.now }
+    {
+        let milestone = milestone_at(self.milestones.as_slice(), number);
+        let left = Places::after(self.steps.as_slice(), self.far.as_slice(), milestone);
+        (milestone.steps, left)
+    }
+
+    /// A number up to which all places are before `place`, and the places from there on.
+    fn near_place(&self, place: usize) -> (usize, Places<'_>)
+        ensures past { IsPast self.now result.0 result.1 }
+        ensures within { result.0 ≤ length self.now }
+        ensures before { Before place (take result.0 self.now) }
+    {
+        let passed = self
+            .milestones
+            .as_slice()
+            .partition_point(|milestone| milestone.place < place);
+        let (number, left) = self.after_milestone(passed);
+        if left.at < place {
+            (number, left)
+        } else {
+            (0, self.iter())
+        }
+    }
+
+    /// The places from a number on.
+    fn places_from(&self, number: usize) -> Places<'_>
+        ensures past { IsPast self.now number result }
+        ensures ascend { Ascend 0 self.now }
+    {
+        let passed = self
+            .milestones
+            .as_slice()
+            .partition_point(|milestone| milestone.steps <= number);
+        let (count, left) = self.after_milestone(passed);
+        if count <= number {
+            left.without(number - count)
+        } else {
+            self.iter().without(number)
+        }
+    }
+
+    /// A later number, at most `to`, and the places from there on: the next milestone, or a block further where there
+    /// is none so near.
+    fn next_block<'a>(&'a self, left: &Places<'a>, number: usize, to: usize) -> (usize, Places<'a>)
+        requires past { IsPast self.now number left.now }
+        requires order { number < to }
+        ensures past { IsPast self.now result.0 result.1 }
+        ensures further { number < result.0 }
+        ensures within { result.0 ≤ to }
+    {
+        let passed = self
+            .milestones
+            .as_slice()
+            .partition_point(|milestone| milestone.steps <= number);
+        let (next, after) = self.after_milestone(passed + 1);
+        if number < next && next <= to && next - number <= 2 * BLOCK {
+            (next, after)
+        } else {
+            let count = BLOCK.min(to - number);
+            (number + count, left.without(count))
+        }
+    }
+
     /// The last of ascending places that is at most `place`, or else `low`.
     pub fn last_to(&self, place: usize, low: usize) -> usize
         ensures { result ≡ last_to place low self.now }
     {
-        let mut last = low;
-        'places: for at in self.iter() {
+        let (number, left) = self.near_place(place);
+        let mut last = if number == 0 { low } else { left.at };
+        'places: for at in left {
             if place < at {
                 return last;
             }
@@ -148,7 +289,8 @@ impl Starts {
     pub fn first_from(&self, place: usize, high: usize) -> usize
         ensures { result ≡ first_from place high self.now }
     {
-        'places: for at in self.iter() {
+        let (_, left) = self.near_place(place);
+        'places: for at in left {
             if place <= at {
                 return at;
             }
@@ -169,8 +311,7 @@ impl Starts {
         ensures { result ≡ places_before place self.now }
     {
         let count = self.len();
-        let mut left = self.iter();
-        let mut number = 0;
+        let (mut number, mut left) = self.near_place(place);
         'runs: while let Some(at) = left.advance() {
             if place <= at {
                 return number;
@@ -198,21 +339,81 @@ impl Starts {
         }
     }
 
-    /// Stores also the places that near steps lead to from the last place.
-    fn push_near(&mut self, near: Near<'_>) -> Result<(), AllocError>
-        ensures { OnOk result (self.new ≡ self.old ++ places_at (last_of 0 self.old) near.entry.steps.now []) }
+    /// Stores also places after the last one, moved with it from after `old` to after `new`. The steps are copied as
+    /// they are, since two places are as far from one another when both are moved. The last of them is `last`.
+    fn push_run(
+        &mut self,
+        run: &Places<'_>,
+        last: usize,
+        old: usize,
+        new: usize,
+    ) -> Result<(), AllocError>
+        requires joins { last_of 0 self.old ≡ lifted.moved old new run.now.at }
+        requires after { old ≤ run.now.at }
+        requires ascend { Ascend run.now.at (places_left run.now) }
+        requires last { last ≡ last_of run.now.at (places_left run.now) }
+        ensures { OnOk result (self.new ≡ self.old ++ map (lifted.moved old new) (places_left run.now)) }
     {
-        let Some(last) = self.last.checked_add(near.distance) else {
+        let Some(last) = moved(last, old, new) else {
             return Err(AllocError);
         };
-        self.steps.extend_from_slice(near.steps)?;
+        let mut far = moved_places(*self.far.allocator(), run.far, old, new)?;
+        let count = self.steps.len();
+        self.steps.extend_from_slice(run.steps)?;
+        if let Err(refused) = self.far.append(&mut far) {
+            // no far step without its place
+            self.steps.truncate(count);
+            return Err(refused.into());
+        }
         self.last = last;
         Ok(())
     }
 
+    /// Stores also the next `count` places that are left, moved from after `old` to after `new`. The last of them is
+    /// `last`.
+    fn append_block(
+        &mut self,
+        left: &Places<'_>,
+        count: usize,
+        last: usize,
+        old: usize,
+        new: usize,
+    ) -> Result<(), AllocError>
+        requires some { 0 < count }
+        requires ascend { Ascend left.now.at (places_left left.now) }
+        requires last { last ≡ last_of left.now.at (take count (places_left left.now)) }
+        ensures { OnOk result (self.new ≡ self.old ++ map (lifted.moved old new) (take count (places_left left.now))) }
+    {
+        let mut left = *left;
+        let Some(at) = left.advance() else {
+            return Ok(());
+        };
+        self.push_moved(at, old, new)?;
+        self.push_run(&left.first(count - 1), last, old, new)?;
+        Ok(())
+    }
+
+    /// Stores the last place as a milestone, where there is none near it.
+    fn push_milestone(&mut self) -> Result<(), AllocError>
+        ensures { self.new ≡ self.old }
+    {
+        let passed = match self.milestones.last() {
+            Some(milestone) => milestone.steps,
+            None => 0,
+        };
+        if self.steps.len().saturating_sub(passed) < BLOCK / 2 {
+            return Ok(());
+        }
+        self.milestones.push(Milestone {
+            steps: self.steps.len(),
+            far: self.far.len(),
+            place: self.last,
+        })?;
+        Ok(())
+    }
+
     /// Stores also the places of another list from number `from` up to number `to`, moved from after `old` to after
-    /// `new`. A place that is not far from the one before is as far from it when both are moved, so the steps between
-    /// are stored as they are.
+    /// `new`, a block of them after another.
     pub(crate) fn append_moved(
         &mut self,
         other: &Starts,
@@ -223,33 +424,43 @@ impl Starts {
     ) -> Result<(), AllocError>
         ensures { OnOk result (self.new ≡ self.old ++ map (lifted.moved old new) (slice_range other.now from to)) }
     {
-        let mut left = other.iter();
-        left.skip_places(from);
+        let mut left = other.places_from(from);
         let mut number = from;
         'runs: while number < to {
-            let Some(at) = left.advance() else {
-                return Ok(());
-            };
-            self.push_moved(at, old, new)?;
-            number += 1;
-            let near = left.take_near(to - number);
-            self.push_near(near)?;
-            number += near.steps.len();
+            let (next, after) = other.next_block(&left, number, to);
+            self.append_block(&left, next - number, after.at, old, new)?;
+            self.push_milestone()?;
+            left = after;
+            number = next;
         }
         Ok(())
     }
 }
 
 impl<'a> Places<'a> {
-    ghost use Rattle.std.specs.Prelude.{drop};
     ghost use Rattle.std.specs.Iterator.{YieldsFirst};
     ghost use Rattle.keep_syntax_store.specs.Left.{places_left};
     ghost use Rattle.keep_syntax_store.specs.Rereading.{places_before};
+
+    /// Those after a milestone.
+    fn after(steps: &'a [u8], far: &'a [usize], milestone: Milestone) -> Places<'a>
+        requires { CanGoOn steps.now far.now milestone }
+        ensures at { result.at ≡ milestone.place }
+        ensures left { places_left result
+            ≡ places_at milestone.place (drop milestone.steps steps.now) (drop milestone.far far.now) }
+    {
+        Places {
+            at: milestone.place,
+            steps: &steps[milestone.steps..],
+            far: &far[milestone.far..],
+        }
+    }
 
     /// The next place, from which the near steps after it are counted.
     fn advance(&mut self) -> Option<usize>
         ensures first { YieldsFirst places_left self.old result self.new }
         ensures at { IfSome result (λ place. place ≡ self.new.at) }
+        ensures none { IsNone result → self.new.at ≡ self.old.at }
     {
         let (step, steps) = self.steps.split_first()?;
         if *step == FAR {
@@ -265,7 +476,8 @@ impl<'a> Places<'a> {
 
     /// Goes past `count` places, or all where there are fewer.
     fn skip_places(&mut self, count: usize)
-        ensures { places_left self.new ≡ drop count (places_left self.old) }
+        ensures left { places_left self.new ≡ drop count (places_left self.old) }
+        ensures last { self.new.at ≡ last_of self.old.at (take count (places_left self.old)) }
     {
         let mut number = 0;
         'runs: while number < count {
@@ -275,6 +487,29 @@ impl<'a> Places<'a> {
             number += 1;
             let near = self.take_near(count - number);
             number += near.steps.len();
+        }
+    }
+
+    /// Without the next `count` places.
+    fn without(&self, count: usize) -> Places<'a>
+        ensures left { places_left result ≡ drop count (places_left self.now) }
+        ensures last { result.at ≡ last_of self.now.at (take count (places_left self.now)) }
+    {
+        let mut left = *self;
+        left.skip_places(count);
+        left
+    }
+
+    /// The next `count` places alone, or all where there are fewer.
+    fn first(&self, count: usize) -> Places<'a>
+        ensures at { result.at ≡ self.now.at }
+        ensures first { places_left result ≡ take count (places_left self.now) }
+    {
+        let steps = &self.steps[..count.min(self.steps.len())];
+        Places {
+            at: self.at,
+            steps,
+            far: &self.far[..count_far(steps)],
         }
     }
 
@@ -312,6 +547,7 @@ impl<'a> Places<'a> {
     fn take_near(&mut self, most: usize) -> Near<'a>
         ensures most { length result.steps.now ≤ most }
         ensures left { places_left self.old ≡ places_at self.old.at result.steps.now [] ++ places_left self.new }
+        ensures at { self.new.at ≡ self.old.at + sum result.steps.now }
     {
         let near = self.near(most);
         self.at += near.distance;

@@ -1,14 +1,17 @@
-//! The values of a text as they are stored, in text order.
-ghost use Rattle.std.specs.Prelude.{◌≡◌, ◌<◌, ◌+◌, ◌++◌, ◌∷◌, [], length, slice_get, IfSome, OnOk, None, Some};
-ghost use Rattle.keep_syntax_store.specs.Fits.{FitsValue};
+//! Values as entries of a list: packed into 40 bytes, moved, and changed as more of them is known.
+ghost use Rattle.std.specs.Prelude.{◌≡◌, ◌<◌, ◌+◌, length};
+ghost use Rattle.keep_syntax_store.specs.Blocks.{raise_value};
+ghost use Rattle.keep_syntax_store.specs.PackedVec.{entries};
 ghost use Rattle.keep_syntax_store.specs.Flat as spec;
 
 mod shifting;
 
+use crate::moves::{Counts, moved_value};
+use crate::packed_vec::{BLOCK, Entry, PackedVec, block_move};
 use crate::parts::{flag_and_number, if_there};
+use crate::places::{lowered, raised_span, raised_there};
 use crate::widths::{LONG, SHORT, distance, either};
 use keep_types::{Leaf, Owner, Span, ValueInfo};
-use std::alloc::{AllocError, Global};
 
 /// What a value is in, without its number.
 #[derive(Clone, Copy)]
@@ -39,13 +42,6 @@ pub struct PackedValue {
     after: usize,
 }
 
-/// The values of a text, in text order: those before the first that does not fit into 40 bytes, then the others.
-#[derive(Drop)]
-pub struct Values {
-    pub(super) packed: Vec<PackedValue>,
-    pub(super) unpacked: Vec<ValueInfo>,
-}
-
 /// What a value is in, and the number of that.
 fn owner_parts(owner: Owner) -> (Within, usize)
     ensures { spec.owner_of result.0 result.1 ≡ owner }
@@ -68,124 +64,118 @@ fn owner_of(within: Within, number: usize) -> Owner
     }
 }
 
-/// The value in 40 bytes, if its numbers fit and it ends with its keyval.
-#[inline(always)]
-fn packed_value(value: &ValueInfo) -> Option<PackedValue>
-    ensures stored { IfSome result (λ packed. spec.unpacked_value packed ≡ value.now) }
-    ensures unpacked { result ≡ None → FitsValue value.now → ⊥ }
-{
-    if value.span.end != value.whole.end {
-        return None;
-    }
-    let (within, owner) = owner_parts(value.owner);
-    let (has_after, after) = flag_and_number(value.comma_after);
-    let anchor = value.comma_before.unwrap_or(value.whole.start);
-    let gap = distance(anchor, value.whole.start);
-    let lead = distance(value.whole.start, value.span.start);
-    if either(value.keys, either(gap, lead)) > SHORT {
-        return None;
-    }
-    if either(anchor, either(owner, value.first_key)) > LONG {
-        return None;
-    }
-    Some(PackedValue {
-        leaf: value.leaf,
-        within,
-        depth: value.depth,
-        has_before: value.comma_before.is_some(),
-        has_after,
-        keys: value.keys as u16,
-        anchor: anchor as u32,
-        owner: owner as u32,
-        first_key: value.first_key as u32,
-        gap: gap as u16,
-        lead: lead as u16,
-        end: value.span.end,
-        after,
-    })
-}
+impl Entry for ValueInfo {
+    ghost use Rattle.keep_syntax_store.specs.Fits.{FitsValue};
+    ghost use Rattle.keep_syntax_store.specs.Flat.{unpacked_value};
+    ghost use Rattle.keep_syntax_store.specs.After as after;
+    ghost use Rattle.keep_syntax_store.specs.Held as held;
+    ghost use Rattle.keep_syntax_store.specs.Lifted as lifted;
+    ghost use Rattle.keep_syntax_store.specs.Rereading.{count_of};
+    ghost use Rattle.keep_syntax_store.specs.Blocks.{raise_value};
 
-/// The value that was packed.
-fn unpacked_value(value: &PackedValue) -> ValueInfo
-    ensures { result ≡ spec.unpacked_value value.now }
-{
-    let anchor = value.anchor as usize;
-    let start = anchor + value.gap as usize;
-    ValueInfo {
-        leaf: value.leaf,
-        span: Span {
-            start: start + value.lead as usize,
-            end: value.end,
-        },
-        whole: Span {
-            start,
-            end: value.end,
-        },
-        owner: owner_of(value.within, value.owner as usize),
-        depth: value.depth,
-        first_key: value.first_key as usize,
-        keys: value.keys as usize,
-        comma_before: if_there(value.has_before, anchor),
-        comma_after: if_there(value.has_after, value.after),
-    }
-}
+    type Packed = PackedValue;
 
-impl Values {
-    /// Nothing yet.
-    pub fn new(alloc: Global) -> Values
-        ensures { spec.values_in result ≡ [] }
-    {
-        Values {
-            packed: Vec::new(alloc),
-            unpacked: Vec::new(alloc),
-        }
-    }
+    ghost unpacked = { unpacked_value };
 
-    /// How many there are.
-    pub fn len(&self) -> usize
-        ensures { result ≡ length (spec.values_in self.now) }
-    {
-        self.packed.len() + self.unpacked.len()
-    }
+    ghost Fits = { FitsValue };
 
-    /// The value with this number.
-    pub fn get(&self, number: usize) -> ValueInfo
-        requires { number < length (spec.values_in self.now) }
-        ensures { slice_get (spec.values_in self.now) number ≡ Some result }
-    {
-        let packed = self.packed.len();
-        if number < packed {
-            unpacked_value(&self.packed[number])
-        } else {
-            self.unpacked[number - packed]
-        }
-    }
+    ghost IsHeld = { λ old new. held.IsHeldValue (count_of old) (count_of new) };
 
-    /// One more.
+    ghost moved = { λ old new. lifted.moved_value (count_of old) (count_of new) };
+
+    ghost IsAfter = { λ c. after.IsAfterValue (count_of c) };
+
+    ghost raise = { raise_value };
+
+    /// The value in 40 bytes, if its numbers fit and it ends with its keyval.
     #[inline(always)]
-    pub fn push(&mut self, value: ValueInfo) -> Result<(), AllocError>
-        ensures ok { OnOk result (spec.values_in self.new ≡ spec.values_in self.old ++ value ∷ []) }
-    {
-        if self.unpacked.is_empty() {
-            if let Some(packed) = packed_value(&value) {
-                self.packed.push(packed)?;
-                return Ok(());
-            }
+    fn packed(&self) -> Option<PackedValue> {
+        if self.span.end != self.whole.end {
+            return None;
         }
-        self.unpacked.push(value)?;
-        Ok(())
+        let (within, owner) = owner_parts(self.owner);
+        let (has_after, after) = flag_and_number(self.comma_after);
+        let anchor = self.comma_before.unwrap_or(self.whole.start);
+        let gap = distance(anchor, self.whole.start);
+        let lead = distance(self.whole.start, self.span.start);
+        if either(self.keys, either(gap, lead)) > SHORT {
+            return None;
+        }
+        if either(anchor, either(owner, self.first_key)) > LONG {
+            return None;
+        }
+        Some(PackedValue {
+            leaf: self.leaf,
+            within,
+            depth: self.depth,
+            has_before: self.comma_before.is_some(),
+            has_after,
+            keys: self.keys as u16,
+            anchor: anchor as u32,
+            owner: owner as u32,
+            first_key: self.first_key as u32,
+            gap: gap as u16,
+            lead: lead as u16,
+            end: self.span.end,
+            after,
+        })
     }
 
+    fn unpacked(stored: &PackedValue) -> ValueInfo {
+        let anchor = stored.anchor as usize;
+        let start = anchor + stored.gap as usize;
+        ValueInfo {
+            leaf: stored.leaf,
+            span: Span {
+                start: start + stored.lead as usize,
+                end: stored.end,
+            },
+            whole: Span {
+                start,
+                end: stored.end,
+            },
+            owner: owner_of(stored.within, stored.owner as usize),
+            depth: stored.depth,
+            first_key: stored.first_key as usize,
+            keys: stored.keys as usize,
+            comma_before: if_there(stored.has_before, anchor),
+            comma_after: if_there(stored.has_after, stored.after),
+        }
+    }
+
+    fn moved(&self, old: &Counts, new: &Counts) -> Option<ValueInfo> {
+        moved_value(*self, old, new)
+    }
+
+    fn raised(self, by: usize) -> ValueInfo {
+        ValueInfo {
+            leaf: self.leaf,
+            span: raised_span(self.span, by),
+            whole: raised_span(self.whole, by),
+            owner: self.owner,
+            depth: self.depth,
+            first_key: self.first_key,
+            keys: self.keys,
+            comma_before: raised_there(self.comma_before, by),
+            comma_after: raised_there(self.comma_after, by),
+        }
+    }
+}
+
+/// Only values are changed once they are stored, so these are not of every list.
+impl PackedVec<ValueInfo, PackedValue> {
     /// Stores where the comma after a value is.
     pub fn set_comma(&mut self, number: usize, at: usize)
-        requires { number < length (spec.values_in self.old) }
-        ensures change { spec.Changes (spec.with_comma at) number (spec.values_in self.old) (spec.values_in self.new) }
+        requires { number < length (entries spec.unpacked_value raise_value self.old) }
+        ensures change { spec.Changes (spec.with_comma at) number (entries spec.unpacked_value raise_value self.old)
+            (entries spec.unpacked_value raise_value self.new) }
     {
         let packed = self.packed.len();
         if number < packed {
+            let after = lowered(at, block_move(&self.moves, number / BLOCK));
             let value = &mut self.packed[number];
             value.has_after = true;
-            value.after = at;
+            value.after = after;
         } else {
             self.unpacked[number - packed].comma_after = Some(at);
         }
@@ -193,12 +183,13 @@ impl Values {
 
     /// Stores where a value ends.
     pub fn set_end(&mut self, number: usize, end: usize)
-        requires { number < length (spec.values_in self.old) }
-        ensures change { spec.Changes (spec.with_end end) number (spec.values_in self.old) (spec.values_in self.new) }
+        requires { number < length (entries spec.unpacked_value raise_value self.old) }
+        ensures change { spec.Changes (spec.with_end end) number (entries spec.unpacked_value raise_value self.old)
+            (entries spec.unpacked_value raise_value self.new) }
     {
         let packed = self.packed.len();
         if number < packed {
-            self.packed[number].end = end;
+            self.packed[number].end = lowered(end, block_move(&self.moves, number / BLOCK));
         } else {
             let value = &mut self.unpacked[number - packed];
             value.span.end = end;

@@ -1,5 +1,5 @@
 //! Lines of a syntax replaced in place, and put back.
-ghost use Rattle.std.specs.Prelude.{◌≡◌, OnOk, OnErr, IfOk};
+ghost use Rattle.std.specs.Prelude.{OnOk, OnErr, IfOk};
 ghost use Rattle.keep_syntax.specs.Tree.{Document, text};
 ghost use Rattle.keep_syntax.specs.WholeLines.{replaced};
 ghost use Rattle.keep_syntax.specs.Contract as spec;

@@ -1,5 +1,5 @@
 //! What is stored of some lines changes places with what is stored of others, in place.
-ghost use Rattle.std.specs.Prelude.{◌≡◌, ◌+◌, ◌≤◌, OnOk, IfOk, vec_len, vec_capacity};
+ghost use Rattle.std.specs.Prelude.{◌≡◌, ◌+◌, ◌≤◌, length, OnOk, IfOk, vec_len, vec_capacity};
 ghost use Rattle.std.specs.Bool.{Decides};
 ghost use Rattle.keep_syntax_store.specs.Flat.{flat};
 ghost use Rattle.keep_syntax_store.specs.InPlace as spec;
@@ -58,9 +58,7 @@ impl Parts {
     pub(crate) fn is_packed(&self) -> bool
         ensures { Decides result (spec.IsPacked self.now) }
     {
-        self.statements.unpacked.is_empty()
-            && self.keys.unpacked.is_empty()
-            && self.values.unpacked.is_empty()
+        self.statements.is_packed() && self.keys.is_packed() && self.values.is_packed()
     }
 
     /// Whether the numbers of all packed parts from a count on can be moved in place.
@@ -80,6 +78,13 @@ impl Parts {
             && is_range(from.statements, to.statements, self.statements.packed.len())
             && is_range(from.keys, to.keys, self.keys.packed.len())
             && is_range(from.values, to.values, self.values.packed.len())
+    }
+
+    /// Whether there are tokens from one count to another.
+    pub(crate) fn has_tokens(&self, from: &Counts, to: &Counts) -> bool
+        ensures { Decides result (spec.IsRange from.now.tokens to.now.tokens (length (flat self.now).kinds)) }
+    {
+        is_range(from.tokens, to.tokens, self.kinds.len())
     }
 
     /// Moves all numbers, and puts other places of tokens there.

@@ -14,7 +14,7 @@ returns-in_err-equals c =
 pub returns-then-byte_at-ne61 : goal.returns-then-byte_at-ne61
 returns-then-byte_at-ne61 c =
     let other : (get_or c.args.text.now c.in_ok-equals.equals 0 == 61) ≡ false = grind (arith, nat_tests, c.byte_at.ensures) in
-    fails_bad c.args.text.now c.misplaced.result _ c.misplaced.ensures (name_bad c.args.profile c.args.text.now c.args.at c.in_ok-equals.equals (flat c.args.out.now) (flat c.key.new.out) c.in_ok-equals.ensures other)
+    fails_bad c.args.text.now c.syntax_fault_at.result _ c.syntax_fault_at.ensures (name_bad c.args.profile c.args.text.now c.args.at c.in_ok-equals.equals (flat c.args.out.now) (flat c.key.new.out) c.in_ok-equals.ensures other)
 
 pub returns : goal.returns
 returns c =

@@ -21,8 +21,8 @@ returns-then-byte_at-ne93 c =
       | then-byte_at-ne93-via-then-byte_at-ne93 w ↦ let h : (a == 93) ≡ false = grind (arith, nat_tests, c.byte_at.ensures, w.if-byte_at-ne93.true) in rw h refl
       | then-byte_at-ne93-via-else-byte_at-ne93+then-byte_at-ne93-2 w ↦ let e : a ≡ 93 = omega (arith, c.byte_at.ensures, w.if-byte_at-ne93.false) in let h : (b == 93) ≡ false = grind (arith, nat_tests, w.byte_at-else-byte_at-ne93.ensures, w.if-byte_at-ne93-2.true) in rw (e, h) refl
     ] in
-    element_bad c.args.limits.profile c.args.limits.depth c.args.text.now c.args.start.now.at c.in_ok-after.after c.in_ok-begin.begin c.in_ok-close.close (flat c.punctuation.new.out) (flat c.space.new.out) (flat c.key.new.out) c.misplaced.result
-    c.requires.opens c.requires.twice c.in_ok-after.ensures.end_is c.in_ok-begin.ensures c.in_ok-close.ensures other c.misplaced.ensures
+    element_bad c.args.limits.profile c.args.limits.depth c.args.text.now c.args.start.now.at c.in_ok-after.after c.in_ok-begin.begin c.in_ok-close.close (flat c.punctuation.new.out) (flat c.space.new.out) (flat c.key.new.out) c.syntax_fault_at.result
+    c.requires.opens c.requires.twice c.in_ok-after.ensures.end_is c.in_ok-begin.ensures c.in_ok-close.ensures other c.syntax_fault_at.ensures
 
 pub overflow_sub-head : goal.overflow_sub-head
 overflow_sub-head c =

@@ -15,8 +15,8 @@ returns-in_err-close c =
 pub returns-then-byte_at-ne93 : goal.returns-then-byte_at-ne93
 returns-then-byte_at-ne93 c =
     let other : (get_or c.args.text.now c.in_ok-close.close 0 == 93) ≡ false = grind (arith, nat_tests, c.byte_at.ensures) in
-    header_bad c.args.limits.profile c.args.limits.depth c.args.text.now c.args.start.now.at c.in_ok-after.after c.in_ok-begin.begin c.in_ok-close.close (flat c.punctuation.new.out) (flat c.space.new.out) (flat c.key.new.out) c.misplaced.result
-    c.requires.opens c.requires.once c.in_ok-after.ensures.end_is c.in_ok-begin.ensures c.in_ok-close.ensures other c.misplaced.ensures
+    header_bad c.args.limits.profile c.args.limits.depth c.args.text.now c.args.start.now.at c.in_ok-after.after c.in_ok-begin.begin c.in_ok-close.close (flat c.punctuation.new.out) (flat c.space.new.out) (flat c.key.new.out) c.syntax_fault_at.result
+    c.requires.opens c.requires.once c.in_ok-after.ensures.end_is c.in_ok-begin.ensures c.in_ok-close.ensures other c.syntax_fault_at.ensures
 
 pub overflow_sub-head : goal.overflow_sub-head
 overflow_sub-head c =

@@ -23,4 +23,4 @@ returns-else-byte-eq13 c =
       | else-byte-eq13-via-then-byte-eq13+else-byte_at-eq10 w ↦ let e : a ≡ 13 = omega (arith, c.byte_at-byte.ensures, w.if-byte-eq13.true) in let h : (b == 10) ≡ false = grind (arith, nat_tests, w.byte_at.ensures, w.if-byte_at-eq10.false) in rw (e, h) refl
       | else-byte-eq13-via-else-byte-eq13 w ↦ let h : (a == 13) ≡ false = grind (arith, nat_tests, c.byte_at-byte.ensures, w.if-byte-eq13.false) in rw h refl
     ] in
-    other_newline c.args.text.now c.args.at (flat c.args.out.now) c.misplaced.result one two c.misplaced.ensures
+    other_newline c.args.text.now c.args.at (flat c.args.out.now) c.syntax_fault_at.result one two c.syntax_fault_at.ensures

@@ -14,7 +14,7 @@ returns-in_err-end c =
     rw (p.1, p.2) (one_fails c.args.limits.profile c.args.limits.depth c.args.text.now c.in_err-end.field-0.0 c.in_err-end.ensures)
 
 pub returns-then-end-text : goal.returns-then-end-text
-returns-then-end-text c = one_bad c.args.limits.profile c.args.limits.depth c.args.text.now c.in_ok-end.end (flat c.new-out.result) (flat c.value.new.out) c.misplaced.result c.in_ok-end.ensures c.if-end-text.true c.misplaced.ensures
+returns-then-end-text c = one_bad c.args.limits.profile c.args.limits.depth c.args.text.now c.in_ok-end.end (flat c.new-out.result) (flat c.value.new.out) c.syntax_fault_at.result c.in_ok-end.ensures c.if-end-text.true c.syntax_fault_at.ensures
 
 pub returns : goal.returns
 returns c = one_is c.args.limits.profile c.args.limits.depth c.args.text.now c.in_ok-end.end (flat c.new-out.result) (flat c.value.new.out) c.new-out.ensures c.in_ok-end.ensures (omega (arith, c.if-end-text.false))

@@ -1,4 +1,4 @@
-use Rattle.std.proofs.Common.{subst, ◌∙◌}
+use Rattle.std.proofs.Common.{subst, refl, ◌∙◌}
 use Rattle.keep_syntax_store.specs.declared.moves.Counts.{Counts}
 use Rattle.keep_syntax_store.specs.Rereading.{nothing}
 use Rattle.keep_syntax_store.specs.InPlace.{IsShifted, IsExchanged}
@@ -22,6 +22,9 @@ returns-clause-done c =
     (fresh_shifted c) (c.shift_all.ensures.starts ∙ c.in_ok-places.ensures) (exchanged c)
 
 pub returns-clause-undo : goal.returns-clause-undo
-returns-clause-undo c =
-    run_undone c.args.parts.now c.args.fresh c.shift_all.new.self c.exchange.new.self c.exchange.new.run c.args.from c.args.to c.args.until c.requires.until.0 c.args.until.at
-    c.requires.in_place.is_run c.requires.in_place.fresh_packed c.requires.in_place.can (fresh_shifted c) c.requires.until.1 (exchanged c)
+returns-clause-undo c = (
+  c.args.parts.now,
+  refl,
+  run_undone c.args.parts.now c.args.fresh c.shift_all.new.self c.exchange.new.self c.exchange.new.run c.args.from c.args.to c.args.until c.requires.until.0 c.args.until.at
+      c.requires.in_place.is_run c.requires.in_place.fresh_packed c.requires.in_place.can (fresh_shifted c) c.requires.until.1 (exchanged c),
+)

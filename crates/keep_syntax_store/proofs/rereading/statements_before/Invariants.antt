@@ -1,7 +1,14 @@
-use Rattle.std.proofs.Common.{◌≡◌, ◌+◌, drop}
+use Rattle.std.proofs.Common.{◌≤◌, ◌-◌, length}
 use Rattle.keep_syntax_store.specs.Flat.{flat}
 use Rattle.keep_syntax_store.specs.Rereading as spec
 use Rattle.keep_syntax_store.proofs.rereading.statements_before.Given as goal
 
-abbrev pub invariant-statements : goal.invariant-statements
-invariant-statements l = spec.statements_before l.place (flat l.parts).statements ≡ l.number + spec.statements_before l.place (drop l.number (flat l.parts).statements)
+abbrev pub invariant-halves : goal.invariant-halves
+invariant-halves l = record {
+  low : l.low ≤ spec.statements_before l.place (flat l.parts).statements;
+  high : spec.statements_before l.place (flat l.parts).statements ≤ l.high;
+  within : l.high ≤ length (flat l.parts).statements;
+}
+
+abbrev pub decreases-halves : goal.decreases-halves
+decreases-halves l = l.high - l.low

@@ -1,7 +1,19 @@
 use Rattle.std.proofs.Common.{length, ap, arith}
 use Rattle.keep_syntax_store.specs.Left.{places_left}
+use Rattle.std.proofs.lemmas.List.{length-drop}
+use Rattle.keep_syntax_store.specs.Rereading.{places_before}
+use Rattle.keep_syntax_store.proofs.AscendLaws.{count_after}
 use Rattle.keep_syntax_store.proofs.CountLaws.{before_within, run_counted, run_within}
 use Rattle.keep_syntax_store.proofs.starts.Starts.count_before.Goals as goal
+
+pub runs-init : goal.runs-init
+runs-init c =
+    let near = c.near_place-number in
+    let all = c.args.self.now in
+    record {
+      counted = omega (arith, count_after c.args.place all near.result.0 near.ensures.within near.ensures.before, ap (places_before c.args.place) near.ensures.past.left);
+      bounded = omega (arith, near.ensures.within, ap length near.ensures.past.left, length-drop near.result.0 all, c.len-count.ensures);
+    }
 
 pub overflow_add-result : goal.overflow_add-result
 overflow_add-result c =

@@ -1,0 +1,180 @@
+//! Lists of a text's entries, stored in few bytes as far as they fit.
+ghost use Rattle.std.specs.Prelude.{◌≡◌, ◌<◌, ◌≤◌, ◌++◌, ◌∷◌, [], None, Some, length, map, get_or, slice_get};
+ghost use Rattle.std.specs.Prelude.{slice_range, IfSome, OnOk, SomeIff};
+ghost use Rattle.std.specs.Bool.{Decides};
+ghost use Rattle.keep_syntax_store.specs.Moving.{MovesRight};
+ghost use Rattle.keep_syntax_store.specs.PackedVec.{IsAllPacked, IsRunOfPacked, entries};
+
+use crate::moves::Counts;
+use crate::rereading::nothing;
+use crate::shift::Shift;
+use std::alloc::{AllocError, Global};
+
+/// How many packed entries are in a block.
+pub const BLOCK: usize = 64;
+
+/// An entry of such a list: how it is packed into few bytes, and how it is moved.
+pub trait Entry: Copy {
+    ghost use Rattle.std.specs.Prelude.{ℕ};
+    ghost use Rattle.keep_syntax_store.specs.declared.moves.Counts.{Counts};
+
+    /// The entry in few bytes.
+    type Packed: Shift;
+
+    ghost unpacked: { Self.Packed → Self };
+
+    ghost Fits: { Self → Type 0 };
+
+    ghost IsHeld: { Counts → Counts → Self → Type 0 };
+
+    ghost moved: { Counts → Counts → Self → Self };
+
+    ghost IsAfter: { Counts → ℕ → Self → Type 0 };
+
+    ghost raise: { ℕ → Self → Self };
+
+    /// The entry in few bytes, if it fits.
+    fn packed(&self) -> Option<Self::Packed>
+        ensures stored { IfSome result (λ stored. unpacked stored ≡ self.now) }
+        ensures unpacked { result ≡ None → Fits self.now → ⊥ };
+
+    /// The entry that was packed.
+    fn unpacked(stored: &Self::Packed) -> Self
+        ensures { result ≡ unpacked stored.now };
+
+    /// The entry moved from after one count to after another; None exactly where machine words don't hold its numbers.
+    fn moved(&self, old: &Counts, new: &Counts) -> Option<Self>
+        ensures { SomeIff result (IsHeld old.now new.now self.now) (moved old.now new.now self.now) };
+
+    /// The entry with its places moved on; its numbers stay.
+    fn raised(self, by: usize) -> Self
+        ensures { result ≡ raise by self };
+}
+
+/// Entries in text order: those before the first that doesn't fit into few bytes, then the others. No number is too
+/// large to be stored. The places of packed entries are moved a block at a time: `moves` has a number for each block
+/// that is moved, and is empty while nothing was replaced.
+#[derive(Drop)]
+pub struct PackedVec<T, P> {
+    pub(crate) packed: Vec<P>,
+    pub(crate) unpacked: Vec<T>,
+    pub(crate) moves: Vec<Option<usize>>,
+}
+
+impl<T: Entry> PackedVec<T, T::Packed> {
+    /// None yet.
+    pub fn new(alloc: Global) -> Self
+        ensures { entries T.unpacked T.raise result ≡ [] }
+    {
+        PackedVec {
+            packed: Vec::new(alloc),
+            unpacked: Vec::new(alloc),
+            moves: Vec::new(alloc),
+        }
+    }
+
+    /// How many there are.
+    pub fn len(&self) -> usize
+        ensures { result ≡ length (entries T.unpacked T.raise self.now) }
+    {
+        self.packed.len() + self.unpacked.len()
+    }
+
+    /// The entry with this number.
+    #[inline(always)]
+    pub fn get(&self, number: usize) -> T
+        requires { number < length (entries T.unpacked T.raise self.now) }
+        ensures { slice_get (entries T.unpacked T.raise self.now) number ≡ Some result }
+    {
+        let packed = self.packed.len();
+        if number < packed {
+            let entry = T::unpacked(&self.packed[number]);
+            match block_move(&self.moves, number / BLOCK) {
+                Some(by) => entry.raised(by),
+                None => entry,
+            }
+        } else {
+            self.unpacked[number - packed]
+        }
+    }
+
+    /// Adds one more.
+    #[inline(always)]
+    pub fn push(&mut self, entry: T) -> Result<(), AllocError>
+        ensures { OnOk result (entries T.unpacked T.raise self.new
+            ≡ entries T.unpacked T.raise self.old ++ entry ∷ []) }
+    {
+        if self.is_packed() {
+            if let Some(stored) = entry.packed() {
+                self.packed.push(stored)?;
+                return Ok(());
+            }
+        }
+        self.unpacked.push(entry)?;
+        Ok(())
+    }
+
+    /// Adds the entries of another list from number `from` up to number `to`, moved from after `old` to after `new`.
+    pub fn append_moved(
+        &mut self,
+        other: &Self,
+        from: usize,
+        to: usize,
+        old: &Counts,
+        new: &Counts,
+    ) -> Result<(), AllocError>
+        requires order { from ≤ to }
+        requires within { to ≤ length (entries T.unpacked T.raise other.now) }
+        ensures { OnOk result (entries T.unpacked T.raise self.new ≡ entries T.unpacked T.raise self.old
+            ++ map (T.moved old.now new.now) (slice_range (entries T.unpacked T.raise other.now) from to)) }
+    {
+        'entries: for number in from..to {
+            let Some(entry) = other.get(number).moved(old, new) else {
+                return Err(AllocError);
+            };
+            self.push(entry)?;
+        }
+        Ok(())
+    }
+
+    /// Whether all are packed, and the entries from a number up to another are so many.
+    pub fn is_run(&self, from: usize, to: usize, count: usize) -> bool
+        ensures { Decides result (IsRunOfPacked from to count self.now) }
+    {
+        from <= to && to - from == count && to <= self.packed.len() && self.unpacked.is_empty()
+    }
+
+    /// Whether all are packed, and no block is moved.
+    #[inline(always)]
+    pub fn is_packed(&self) -> bool
+        ensures { Decides result (IsAllPacked self.now) }
+    {
+        self.unpacked.is_empty() && self.moves.is_empty()
+    }
+
+    /// Brings the moves of blocks into the entries. After a refusal the same is stored.
+    pub fn settle(&mut self, alloc: Global) -> Result<(), AllocError>
+        ensures { MovesRight T.IsAfter T.moved T.raise
+            → entries T.unpacked T.raise self.new ≡ entries T.unpacked T.raise self.old }
+    {
+        if !self.moves.is_empty() {
+            let mut all = PackedVec::new(alloc);
+            let zero = nothing();
+            all.append_moved(self, 0, self.len(), &zero, &zero)?;
+            *self = all;
+        }
+        Ok(())
+    }
+}
+
+/// By how much a block is moved.
+#[inline(always)]
+pub fn block_move(moves: &Vec<Option<usize>>, block: usize) -> Option<usize>
+    ensures { result ≡ get_or moves.now.items block None }
+{
+    if block < moves.len() {
+        moves[block]
+    } else {
+        None
+    }
+}

@@ -1,0 +1,125 @@
+//! Entries of a list that change places with as many others; the blocks after them are moved.
+ghost use Rattle.std.specs.Prelude.{◌≡◌, ℕ, ◌+◌, ◌<◌, ◌≤◌, ◌++◌, None, length, map, take, drop, get_or};
+ghost use Rattle.std.specs.Prelude.{slice_range, IfOk, IfSome};
+ghost use Rattle.std.specs.List.{AllByRecursion};
+ghost use Rattle.keep_syntax_store.specs.Blocks as blocks;
+ghost use Rattle.keep_syntax_store.specs.Moving.{MovesRight, OnlyPlacesMove};
+ghost use Rattle.keep_syntax_store.specs.Rereading as rereading;
+ghost use Rattle.keep_syntax_store.specs.PackedVec as spec;
+
+use crate::moves::RunCounts;
+use crate::packed_vec::{BLOCK, Entry, PackedVec, block_move};
+use crate::rereading::nothing;
+use std::alloc::{AllocError, Global};
+use std::mem;
+
+/// Packed entries for the place of as many from a number on, and what each block is moved by then.
+#[derive(Drop)]
+pub struct Patch<P> {
+    from: usize,
+    run: Vec<P>,
+    moves: Vec<Option<usize>>,
+}
+
+/// What a block is moved by that is moved once more.
+fn moved_on(by: usize, block: Option<usize>) -> Option<usize>
+    ensures { result ≡ blocks.moved_on by block }
+{
+    Some(match block {
+        Some(more) => more.wrapping_add(by),
+        None => by,
+    })
+}
+
+/// What blocks are moved by after an edit that rewrites the entries of those from `first` up to `after`.
+fn next_moves(
+    alloc: Global,
+    moves: &Vec<Option<usize>>,
+    first: usize,
+    after: usize,
+    count: usize,
+    by: usize,
+) -> Result<Vec<Option<usize>>, AllocError>
+    ensures { IfOk result (λ next. (block : ℕ) → block < count
+        → get_or next.items block None ≡ blocks.move_after first after by moves.now.items block) }
+{
+    let mut next = Vec::new(alloc);
+    'blocks: for block in 0..count {
+        let now = block_move(moves, block);
+        next.push(if block < first {
+            now
+        } else if block < after {
+            None
+        } else {
+            moved_on(by, now)
+        })?;
+    }
+    Ok(next)
+}
+
+/// The elements from a number on and as many others change places.
+fn swap_range<T>(items: &mut [T], from: usize, run: &mut [T])
+    requires { from + length run.old ≤ length items.old }
+    ensures items { items.new ≡ spec.with_run items.old from run.old }
+    ensures run { run.new ≡ slice_range items.old from (from + length run.old) }
+    ensures len { length run.new ≡ length run.old }
+{
+    let to = from + run.len();
+    items[from..to].swap_with_slice(run);
+}
+
+impl<T: Entry> PackedVec<T, T::Packed> {
+    /// The entries of the blocks that a run is in, with other entries in the place of the run, and all blocks after
+    /// them moved. None if they aren't all packed.
+    pub fn patch(
+        &self,
+        alloc: Global,
+        fresh: &Self,
+        run: (usize, usize),
+        counts: &RunCounts,
+    ) -> Result<Option<Patch<T::Packed>>, AllocError>
+        requires run { spec.IsRunOfPacked run.0 run.1 (length (spec.entries T.unpacked T.raise fresh.now)) self.now }
+        requires places { OnlyPlacesMove counts.now.len counts.now.to counts.now.until }
+        requires after { AllByRecursion (T.IsAfter counts.now.to counts.now.len)
+            (drop run.1 (spec.entries T.unpacked T.raise self.now)) }
+        ensures { MovesRight T.IsAfter T.moved T.raise → IfOk result (λ made. IfSome made (λ c.
+            spec.Gives T.unpacked T.raise self.now c (take run.0 (spec.entries T.unpacked T.raise self.now)
+            ++ (map (T.moved rereading.nothing counts.now.from) (spec.entries T.unpacked T.raise fresh.now)
+            ++ map (T.moved counts.now.to counts.now.until)
+            (drop run.1 (spec.entries T.unpacked T.raise self.now)))))) }
+    {
+        let (from, to) = run;
+        let first = from / BLOCK;
+        let after = to / BLOCK + 1;
+        let count = self.packed.len();
+        let end = to + (count - to).min(BLOCK - to % BLOCK);
+        let zero = nothing();
+        let mut all = PackedVec::new(alloc);
+        all.append_moved(self, first * BLOCK, from, &zero, &zero)?;
+        all.append_moved(fresh, 0, fresh.len(), &zero, &counts.from)?;
+        all.append_moved(self, to, end, &counts.to, &counts.until)?;
+        if !all.is_packed() {
+            return Ok(None);
+        }
+        let by = counts.until.at.wrapping_sub(counts.to.at);
+        let moves = next_moves(alloc, &self.moves, first, after, count / BLOCK + 1, by)?;
+        Ok(Some(Patch {
+            from: first * BLOCK,
+            run: all.packed,
+            moves,
+        }))
+    }
+
+    /// The entries of a patch and those in their place change places, and so do the moves of all blocks.
+    pub fn exchange_patch(&mut self, patch: &mut Patch<T::Packed>)
+        requires { spec.IsWithin self.old patch.old }
+        ensures { spec.IsPatched self.old patch.old self.new patch.new }
+    {
+        swap_range(
+            self.packed.as_mut_slice(),
+            patch.from,
+            patch.run.as_mut_slice(),
+        );
+        mem::swap(&mut self.moves, &mut patch.moves);
+    }
+}
