@@ -16,7 +16,7 @@ use Rattle.keep_index_store.proofs.TrieLemmas.{children-push}
 drop_pushed : (old : List TrieNode) (t : TrieNode) → 0 < length old → drop 1 (map link (old ++ t ∷ [])) ≡ drop 1 (map link old) ++ link t ∷ []
 drop_pushed old t root = ap (drop 1) (map-append link old (t ∷ [])) ∙ drop-append-le 1 (map link old) (link t ∷ []) (omega (arith, length-map old link))
 
-paths_pushed : (old : List TrieNode) (t : TrieNode) → 0 < length old → paths_of (old ++ t ∷ []) ≡ paths_of old ++ (path_at old t.parent ++ t.part ∷ []) ∷ []
+pub paths_pushed : (old : List TrieNode) (t : TrieNode) → 0 < length old → paths_of (old ++ t ∷ []) ≡ paths_of old ++ (path_at old t.parent ++ t.part ∷ []) ∷ []
 paths_pushed old t root = ap (fold path_after ([] ∷ [])) (drop_pushed old t root) ∙ fold-append path_after ([] ∷ []) (drop 1 (map link old)) (link t ∷ [])
 
 children_pushed : (old : List TrieNode) (t : TrieNode) → 0 < length old → (i : ℕ) → children_of (old ++ t ∷ []) i ≡ children_of old i ++ cond (t.parent == i) (length old ∷ []) []
@@ -72,16 +72,16 @@ rest_same [] (t ∷ ts) many same = absurd (omega arith)
 rest_same (u ∷ us) [] many same = absurd (omega arith)
 rest_same (u ∷ us) (t ∷ ts) many same = ext_get_or u us ts (omega arith) (λ i h. same (suc i) u (omega arith) (omega arith))
 
-links_alike : {us ts : List TrieNode} → IsAlike us ts → drop 1 (map link us) ≡ drop 1 (map link ts)
+pub links_alike : {us ts : List TrieNode} → IsAlike us ts → drop 1 (map link us) ≡ drop 1 (map link ts)
 links_alike {us = us} {ts = ts} alike = drop-map link 1 us ∙ ap (map link) alike.rest ∙ sym (drop-map link 1 ts)
 
-paths_alike : {us ts : List TrieNode} → IsAlike us ts → paths_of us ≡ paths_of ts
+pub paths_alike : {us ts : List TrieNode} → IsAlike us ts → paths_of us ≡ paths_of ts
 paths_alike alike = ap (fold path_after ([] ∷ [])) (links_alike alike)
 
 after_root : (us : List TrieNode) (i : ℕ) (u : TrieNode) → 0 < i → get_or us i u ≡ get_or (drop 1 us) (i - 1) u
 after_root us i u low = sym (get_or-drop 1 us (i - 1) u ∙ ap (λ k. get_or us k u) (let k : 1 + (i - 1) ≡ i = omega arith in k))
 
-trie_alike : {us ts : List TrieNode} → IsAlike us ts → IsTrie ts → IsTrie us
+pub trie_alike : {us ts : List TrieNode} → IsAlike us ts → IsTrie ts → IsTrie us
 trie_alike {us = us} {ts = ts} alike trie = record {
   root = omega (arith, alike.many, trie.root);
   parents = λ i u low h.

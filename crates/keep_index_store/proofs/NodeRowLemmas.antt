@@ -11,12 +11,12 @@ use Rattle.keep_index_store.specs.NodeRows.{node_row, node_rows, all_nodes}
 
 -- ---- two lists of one length
 
-rows_count : (nodes : List StoredNode) (links : List ParentLink) → length links ≡ length nodes → length (node_rows nodes links) ≡ length nodes
+pub rows_count : (nodes : List StoredNode) (links : List ParentLink) → length links ≡ length nodes → length (node_rows nodes links) ≡ length nodes
 rows_count [] links paired = refl
 rows_count (n ∷ nodes) [] paired = absurd (omega (arith, paired))
 rows_count (n ∷ nodes) (h ∷ links) paired = ap suc (rows_count nodes links (omega (arith, paired)))
 
-rows_at : (nodes : List StoredNode) (links : List ParentLink) (i : ℕ) (d : StoredNode) (e : ParentLink) → length links ≡ length nodes → i < length nodes
+pub rows_at : (nodes : List StoredNode) (links : List ParentLink) (i : ℕ) (d : StoredNode) (e : ParentLink) → length links ≡ length nodes → i < length nodes
     → node_at (node_rows nodes links) i ≡ node_row (get_or nodes i d) (get_or links i e)
 rows_at [] links i d e paired within = absurd (omega (arith, within))
 rows_at (n ∷ nodes) [] i d e paired within = absurd (omega (arith, paired))
@@ -30,7 +30,7 @@ rows_push [] (g ∷ links) n h paired = absurd (omega (arith, paired))
 rows_push (m ∷ nodes) [] n h paired = absurd (omega (arith, paired))
 rows_push (m ∷ nodes) (g ∷ links) n h paired = ap (λ (xs : List Node). node_row m g ∷ xs) (rows_push nodes links n h (omega (arith, paired)))
 
-rows_set : (nodes : List StoredNode) (links : List ParentLink) (i : ℕ) (n : StoredNode) (e : ParentLink) → length links ≡ length nodes
+pub rows_set : (nodes : List StoredNode) (links : List ParentLink) (i : ℕ) (n : StoredNode) (e : ParentLink) → length links ≡ length nodes
     → node_rows (set nodes i n) links ≡ set (node_rows nodes links) i (node_row n (get_or links i e))
 rows_set [] links i n e paired = refl
 rows_set (m ∷ nodes) [] i n e paired = absurd (omega (arith, paired))
@@ -44,10 +44,10 @@ rows_take (m ∷ nodes) [] (suc n) = refl
 rows_take (m ∷ nodes) (h ∷ links) (suc n) = ap (λ (xs : List Node). node_row m h ∷ xs) (rows_take nodes links n)
 
 -- in place of a node or a link that is not there
-nowhere : ParentLink
+abbrev pub nowhere : ParentLink
 nowhere = record { parent = 0; number = 0 }
 
-nothing : StoredNode
+abbrev pub nothing : StoredNode
 nothing = record { children = Bare; facts = no_node.facts }
 
 -- ---- the nodes that are read

@@ -1,4 +1,12 @@
 -- The stored nodes, with another key of one.
+--
+-- The key of a node is stored with the children of its parent, so the parent alone is written: its children have the
+-- other key at the number of the node (`changed`). The parents and numbers of all nodes stay. So do the steps of all
+-- nodes but this one, since it alone has that number there (`own_number`, `part_stays`), and its own step is the new
+-- key (`part_own`): the tree is renamed at one node (`renamed`). That the paths below it move with it, and that no two
+-- are the same if the new path is none of the others, is known of such a tree (NewKeyLemmas).
+--
+-- Theorems: `infos_moved`, `holdings_stay` and `stored_moved`; `key_fresh` and `as_written`.
 use Rattle.std.proofs.Common.{◌≡◌, ℕ, ◌<◌, List, [], ◌∷◌, ◌++◌, length, get_or, set, map, refl, sym, ◌∙◌, ap, subst, arith, inl, inr, Some, None}
 use Rattle.std.specs.Prelude.{Contains, slice_get}
 use Rattle.std.proofs.lemmas.List.{get_or-set_same, get_or-set_other, length-set}

@@ -1,6 +1,16 @@
 -- The stored nodes, with one more, and with another role at one.
-use Rattle.std.proofs.Common.{◌≡◌, ℕ, zero, suc, ◌+◌, ◌-◌, ◌<◌, true, false, cond, List, [], ◌∷◌, ◌++◌, length, get_or, set, take, map, refl, sym, ◌∙◌, ap, subst, arith, length-append, inl, inr, Option, Some, None}
-use Rattle.std.specs.Prelude.{Contains, IfSome, IfNone, slice_get}
+--
+-- A stored node has its parent, its number there and its own children. The step to it is read from the parent: the key
+-- of the child with that number, or the number (`step_in`); `trie_of` is the tree with these steps. So what a parent
+-- lists and what a child says of itself agree (`stored_child`, `node_placed`), and a key that no path has is not among
+-- the children (`not_named`). One node more (`IsAdded`) comes after all others and last among the children of its
+-- parent: the other steps stay, so the tree is the old one with a node at its end (`alike_added`). One node changed
+-- (`IsChanged`) has its parent, number and children as before: all steps stay, and at most a role is another.
+--
+-- Theorems: `stored_child`, `node_placed` and `not_named`; `grows_with` and `stored_added`; `stored_changed` and
+-- `stored_preserved`.
+use Rattle.std.proofs.Common.{◌≡◌, ℕ, zero, suc, ◌+◌, ◌<◌, true, false, cond, List, [], ◌∷◌, ◌++◌, length, get_or, set, map, refl, sym, ◌∙◌, ap, subst, arith, length-append, inl, inr, Option, Some, None}
+use Rattle.std.specs.Prelude.{Contains, slice_get}
 use Rattle.std.specs.Str.{bytes_eq}
 use Rattle.std.specs.Map.{lookup}
 use Rattle.std.proofs.lemmas.List.{get_or_append_left, get_or_push, get_or-set_same, get_or-set_other, get_or-map, get_or_default, length-set, length-map, map-append, map-set, set-append_left}
@@ -8,7 +18,7 @@ use Rattle.std.proofs.lemmas.Bool.{cases_lt, cases_eq}
 use Rattle.std.proofs.lemmas.Option.{slice_get-get_or, slice_get_past}
 use Rattle.std.proofs.lemmas.Simd.{map-map}
 use Rattle.std.proofs.lemmas.Slice.Eq.{bytes_eq-Decides}
-use Rattle.std.proofs.Math.Seq.{map-set_same, take-append_seam}
+use Rattle.std.proofs.Math.Seq.{map-set_same}
 use Rattle.keep_index_store.specs.AllNodes.{Node, and_key}
 use Rattle.keep_types.specs.declared.node.NodeInfo.{NodeInfo}
 use Rattle.keep_types.specs.declared.role.Role.{Role}
@@ -20,7 +30,7 @@ use Rattle.keep_index_store.specs.Trie.{TrieNode, Holding, nothing, by_key, by_i
 use Rattle.keep_index_store.specs.Growth.{Grows, Restates}
 use Rattle.keep_index_store.specs.Stored.{step_at, step_in, trie_node_in, trie_of, AreNumbered, IsStored, infos_of}
 use Rattle.keep_index_store.specs.Tree.{tree_of, info_at}
-use Rattle.keep_index_store.proofs.TrieLemmas.{child_at, IsChildOf, child_placed, IsAmongChildren, no_child, no_children_past_end, path_met}
+use Rattle.keep_index_store.proofs.TrieLemmas.{child_at, IsChildOf, child_placed, IsAmongChildren, no_children_past_end, path_met}
 use Rattle.keep_index_store.proofs.NewNodeLemmas.{children_here, children_other}
 use Rattle.keep_index_store.proofs.GrowthLemmas.{IsAlike, rest_same, grows_alike, grows_pushed, restates_set}
 
@@ -102,9 +112,6 @@ pub keyed_node : (nodes : List Node) (i : ℕ) (d : Node) → i < length nodes �
 keyed_node nodes i d h =
     let u : TrieNode = trie_node_in nodes d in
     get_or-map (λ (t : TrieNode). t.holds) (trie_of nodes) i u nothing (omega (arith, h, length_trie_of nodes)) ∙ ap (λ (t : TrieNode). t.holds) (here nodes i d u h)
-
-pub holds_read : (nodes : List Node) (i : ℕ) (d : Node) (holds : Holding) → i < length nodes → holds_at (trie_of nodes) i ≡ holds → holds_of (get_or nodes i d).children ≡ holds
-holds_read nodes i d holds h is = sym (keyed_node nodes i d h) ∙ is
 
 -- the role of a node that was read
 pub role_read : (nodes : List Node) (id : ℕ) (d : Node) → id < length nodes → state_at (trie_of nodes) id ≡ (get_or nodes id d).facts.role
@@ -190,22 +197,6 @@ child_found nodes stored parent id d text h keyed is =
       path = child.path ∙ ap (λ p. path_at (trie_of nodes) parent ++ p ∷ []) (keyed_step (named c) (holds_of c) f.place keyed ∙ ap key f.name);
     }
 
-same_key : (a b : List ℕ) → key a ≡ key b → a ≡ b
-same_key a b e = cc
-
-pub child_missing : (nodes : List Node) → IsStored nodes → (parent : ℕ) (d : Node) (text : List ℕ) → parent < length nodes → holds_of (get_or nodes parent d).children ≡ by_key
-    → child_named (get_or nodes parent d).children text ≡ None → Contains (paths_of (trie_of nodes)) (path_at (trie_of nodes) parent ++ key text ∷ []) → ⊥
-child_missing nodes stored parent d text h keyed is =
-    let c : ChildList = (get_or nodes parent d).children in
-    let kids : child_ids c ≡ children_of (trie_of nodes) parent = stored.kids parent d h in
-    let u : TrieNode = trie_node_in nodes d in
-    let e : List ℕ × ℕ = ([], 0) in
-    no_child (trie_of nodes) stored.trie parent (key text) u (omega (arith, h, length_trie_of nodes)) (λ k low same.
-    let nested : k < length (child_ids c) = omega (arith, low, ap length kids) in
-    let own : (get_or (trie_of nodes) (get_or (child_ids c) k 0) u).part ≡ key (get_or (named c) k e).0 = (stored_child nodes stored parent k d h nested).part u ∙ keyed_step (named c) (holds_of c) k keyed in
-    let name : key (get_or (named c) k e).0 ≡ key text = sym own ∙ ap (λ ks. (get_or (trie_of nodes) (get_or ks k 0) u).part) kids ∙ same in
-    key_missing c text k keyed is nested (same_key _ text name))
-
 -- a key that no path has is not among the children
 pub not_named : (nodes : List Node) → IsStored nodes → (parent : ℕ) (d : Node) (text : List ℕ) → parent < length nodes → holds_of (get_or nodes parent d).children ≡ by_key
     → (Contains (paths_of (trie_of nodes)) (path_at (trie_of nodes) parent ++ key text ∷ []) → ⊥) → child_named (get_or nodes parent d).children text ≡ None
@@ -217,22 +208,6 @@ not_named nodes stored parent d text h keyed fresh = by_case (child_named (get_o
     by_case : (o : Option ℕ) → child_named (get_or nodes parent d).children text ≡ o → o ≡ None
     by_case None e = refl
     by_case (Some id) e = absurd (fresh (met id (child_found nodes stored parent id d text h keyed e)))
-
--- what a look-up answers
-pub child_none : (nodes : List Node) → IsStored nodes → (parent : ℕ) (d : Node) (text : List ℕ) (o : Option ℕ) → parent < length nodes → holds_at (trie_of nodes) parent ≡ by_key
-    → o ≡ child_named (get_or nodes parent d).children text → IfNone o (Contains (paths_of (trie_of nodes)) (path_at (trie_of nodes) parent ++ key text ∷ []) → ⊥)
-child_none nodes stored parent d text None h keyed is = child_missing nodes stored parent d text h (holds_read nodes parent d by_key h keyed) (sym is)
-child_none nodes stored parent d text (Some id) h keyed is = tt
-
-pub child_nested : (nodes : List Node) → IsStored nodes → (parent : ℕ) (d : Node) (text : List ℕ) (o : Option ℕ) → parent < length nodes → holds_at (trie_of nodes) parent ≡ by_key
-    → o ≡ child_named (get_or nodes parent d).children text → IfSome o (λ id. id < length nodes)
-child_nested nodes stored parent d text None h keyed is = tt
-child_nested nodes stored parent d text (Some id) h keyed is = (child_found nodes stored parent id d text h (holds_read nodes parent d by_key h keyed) (sym is)).nested
-
-pub child_path : (nodes : List Node) → IsStored nodes → (parent : ℕ) (d : Node) (text : List ℕ) (o : Option ℕ) → parent < length nodes → holds_at (trie_of nodes) parent ≡ by_key
-    → o ≡ child_named (get_or nodes parent d).children text → IfSome o (λ id. path_at (trie_of nodes) id ≡ path_at (trie_of nodes) parent ++ key text ∷ [])
-child_path nodes stored parent d text None h keyed is = tt
-child_path nodes stored parent d text (Some id) h keyed is = (child_found nodes stored parent id d text h (holds_read nodes parent d by_key h keyed) (sym is)).path
 
 -- ---- one node more
 
@@ -251,12 +226,6 @@ linked nodes items parent d kids new within is =
     ap (λ (n : Node). let r : Node = record n { children = kids } in set items parent r) (above_pushed nodes items parent d new within is)
     ∙ ap (λ ns. set ns parent changed) is ∙ set-append_left nodes (new ∷ []) parent changed within
 
--- and taken away again
-pub popped : (nodes items : List Node) (new : Node) → items ≡ nodes ++ new ∷ [] → take (length items - 1) items ≡ nodes
-popped nodes items new is =
-    let last : length items - 1 ≡ length nodes = omega (arith, ap length is, length-append nodes (new ∷ [])) in
-    ap (λ k. take k items) last ∙ ap (take (length nodes)) is ∙ take-append_seam nodes (new ∷ [])
-
 -- the new node is the last child of the other, by this step
 pub record IsAdded (nodes : List Node) (parent : ℕ) (d : Node) (kids : ChildList) (new : Node) (part : Part) : Type 0 where
   pub stored : IsStored nodes
@@ -273,10 +242,10 @@ pub record IsAdded (nodes : List Node) (parent : ℕ) (d : Node) (kids : ChildLi
 below_added : (nodes : List Node) (parent : ℕ) (changed new : Node) (i : ℕ) (e : Node) → i < length nodes → get_or (set nodes parent changed ++ new ∷ []) i e ≡ get_or (set nodes parent changed) i e
 below_added nodes parent changed new i e h = get_or_append_left (set nodes parent changed) (new ∷ []) e i (omega (arith, length-set nodes parent changed))
 
-length_added : (nodes : List Node) (parent : ℕ) (changed new : Node) → length (set nodes parent changed ++ new ∷ []) ≡ length nodes + 1
+pub length_added : (nodes : List Node) (parent : ℕ) (changed new : Node) → length (set nodes parent changed ++ new ∷ []) ≡ length nodes + 1
 length_added nodes parent changed new = omega (arith, length-append (set nodes parent changed) (new ∷ []), length-set nodes parent changed)
 
-last_added : (nodes : List Node) (parent : ℕ) (changed new : Node) (i : ℕ) (e : Node) → i ≡ length nodes → get_or (set nodes parent changed ++ new ∷ []) i e ≡ new
+pub last_added : (nodes : List Node) (parent : ℕ) (changed new : Node) (i : ℕ) (e : Node) → i ≡ length nodes → get_or (set nodes parent changed ++ new ∷ []) i e ≡ new
 last_added nodes parent changed new i e is = get_or_push (set nodes parent changed) new e i (omega (arith, is, length-set nodes parent changed))
 
 at_added : (nodes : List Node) (parent : ℕ) (changed new : Node) (e : Node) → parent < length nodes → get_or (set nodes parent changed ++ new ∷ []) parent e ≡ changed
@@ -286,7 +255,7 @@ other_added : (nodes : List Node) (parent : ℕ) (changed new : Node) (i : ℕ) 
 other_added nodes parent changed new i e h other = below_added nodes parent changed new i e h ∙ get_or-set_other nodes parent i changed e other
 
 -- what the change leaves as it was
-preserved_added : {X : Type 0} (f : Node → X) (nodes : List Node) (parent : ℕ) (d changed new : Node) → parent < length nodes → f changed ≡ f (get_or nodes parent d) → (i : ℕ) (e : Node) → i < length nodes
+pub preserved_added : {X : Type 0} (f : Node → X) (nodes : List Node) (parent : ℕ) (d changed new : Node) → parent < length nodes → f changed ≡ f (get_or nodes parent d) → (i : ℕ) (e : Node) → i < length nodes
     → f (get_or (set nodes parent changed ++ new ∷ []) i e) ≡ f (get_or nodes i e)
 preserved_added f nodes parent d changed new within same i e h = elim (cases_eq i parent) [
   | inl at ↦ ap (λ k. f (get_or (set nodes parent changed ++ new ∷ []) k e)) at ∙ ap f (at_added nodes parent changed new e within) ∙ same ∙ ap f (get_or_default nodes parent d e within) ∙ ap (λ k. f (get_or nodes k e)) (sym at)
@@ -316,7 +285,7 @@ step_preserved nodes parent d kids new part added p n h low =
       | inr other ↦ ap (λ (x : Node). step_at (named x.children) (holds_of x.children) n) (other_added nodes parent changed new p d h other)
     ]) ∙ sym (step_below nodes p d n h)
 
-same_trie_node : {a b : ℕ} {p q : Part} {s t : Option Role} {h k : Holding} → a ≡ b → p ≡ q → s ≡ t → h ≡ k
+pub same_trie_node : {a b : ℕ} {p q : Part} {s t : Option Role} {h k : Holding} → a ≡ b → p ≡ q → s ≡ t → h ≡ k
     → ◌≡◌ {A = TrieNode} (record { parent = a; part = p; state = s; holds = h }) (record { parent = b; part = q; state = t; holds = k })
 same_trie_node e f g i = cc
 
@@ -348,7 +317,7 @@ trie_node_last nodes parent d kids new part added =
     ∙ ap (λ (x : Node). step_at (named x.children) (holds_of x.children) new.number) (at_added nodes parent changed new d added.within) ∙ added.step)
     refl refl
 
-states_are : (nodes : List Node) → states_of (trie_of nodes) ≡ map (λ (n : Node). n.facts.role) nodes
+pub states_are : (nodes : List Node) → states_of (trie_of nodes) ≡ map (λ (n : Node). n.facts.role) nodes
 states_are nodes = map-map (λ (t : TrieNode). t.state) (trie_node_in nodes) nodes
 
 pub holdings_are : (nodes : List Node) → holdings_of (trie_of nodes) ≡ map (λ (n : Node). holds_of n.children) nodes

@@ -1,4 +1,12 @@
 -- Facts about a list of nodes as paths.
+--
+-- The paths are built from the links, parent and step, in the order of the nodes. What is built later changes no path
+-- before it (`preserved`), and a parent is before its children; so the path of a node is that of its parent and its own
+-- step (`path_at-link`). The children of a node are the numbers of the links that name it, in order: each of them has
+-- it as its parent (`child_at`), and each node is among the children of its parent (`child_placed`). As no two paths
+-- are the same (`one_node`), a path that ends in a step belongs to a child by that step, or to no node (`no_child`).
+--
+-- Theorems: `path_at-link`, `child_at`, `child_placed`, `one_node`, `no_child` and `closed`.
 use Rattle.std.proofs.Common.{◌≡◌, ◌≢◌, ℕ, suc, zero, ◌+◌, ◌-◌, ◌<◌, ◌≤◌, true, false, cond, List, [], ◌∷◌, ◌++◌, length, get_or, drop, map, refl, sym, ◌∙◌, ap, subst, arith, length-append, inl, inr}
 use Rattle.std.specs.Prelude.{fold, ◌==◌, Contains}
 use Rattle.std.proofs.lemmas.List.{get_or_append_left, length-map, length-drop, get_or-map, get_or-drop, get_or_default, append-nil, append_assoc}
@@ -10,13 +18,13 @@ use Rattle.keep_path.specs.Path.{Part}
 use Rattle.keep_index_store.specs.Trie.{TrieNode, link, path_after, paths_of, path_at, children_from, children_of, IsTrie}
 
 -- the paths of a list of links
-length-paths : (ps : List (List Part)) (ls : List (ℕ × Part)) → length (fold path_after ps ls) ≡ length ps + length ls
+pub length-paths : (ps : List (List Part)) (ls : List (ℕ × Part)) → length (fold path_after ps ls) ≡ length ps + length ls
 length-paths ps [] = omega arith
 length-paths ps (l ∷ ls) =
     let p : List Part = get_or ps l.0 [] ++ l.1 ∷ [] in
     omega (arith, length-paths (path_after ps l) ls, length-append ps (p ∷ []))
 
-preserved : (ps : List (List Part)) (ls : List (ℕ × Part)) (i : ℕ) (d : List Part) → i < length ps → get_or (fold path_after ps ls) i d ≡ get_or ps i d
+pub preserved : (ps : List (List Part)) (ls : List (ℕ × Part)) (i : ℕ) (d : List Part) → i < length ps → get_or (fold path_after ps ls) i d ≡ get_or ps i d
 preserved ps [] i d h = refl
 preserved ps (l ∷ ls) i d h =
     let p : List Part = get_or ps l.0 [] ++ l.1 ∷ [] in
@@ -50,7 +58,7 @@ children_first n i l ls rest e more is (suc k) h =
     let r = more k (omega arith) in
     record { place = suc r.place; nested = omega arith; number = omega arith; parent = r.parent }
 
-children_at : (n i : ℕ) (ls : List (ℕ × Part)) (e : ℕ × Part) (k : ℕ) → k < length (children_from n i ls) → IsChildLink n i (children_from n i ls) ls k e
+pub children_at : (n i : ℕ) (ls : List (ℕ × Part)) (e : ℕ × Part) (k : ℕ) → k < length (children_from n i ls) → IsChildLink n i (children_from n i ls) ls k e
 children_at n i [] e k h = absurd (omega arith)
 children_at n i (l ∷ ls) e k h =
     (elim (l.0 == i) as (λ b. (l.0 == i) ≡ b → k < length (cond b (n ∷ children_from (n + 1) i ls) (children_from (n + 1) i ls))

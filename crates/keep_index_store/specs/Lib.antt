@@ -11,6 +11,9 @@ pub mod Links
 pub mod NodeRows
 pub mod Facts
 pub mod Packed
+pub mod Renumbering
 pub mod Stored
 pub mod Tree
+pub mod Moved
+pub mod Inserted
 pub use Rattle.keep_path.specs.Path

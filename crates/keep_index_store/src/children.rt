@@ -1,15 +1,16 @@
 //! The children of a node.
-ghost use Rattle.std.specs.Prelude.{◌≡◌, ◌<◌, ◌-◌, ◌∷◌, ◌++◌, [], None, OnErr, OnOk, IfOk, IfSome, IfNone, bytes_eq};
+ghost use Rattle.std.specs.Prelude.{◌≡◌, ◌<◌, ◌-◌, ◌∷◌, [], None, OnErr, OnOk, IfOk, IfSome, IfNone};
 ghost use Rattle.std.specs.Prelude.{length, option_copied, option_map, slice_get, slice_index_or};
-ghost use Rattle.std.specs.Map.{lookup};
+ghost use Rattle.std.specs.Bool.{Decides};
 ghost use Rattle.keep_index_store.specs.AllNodes.{and_key, and_item, with_key};
 ghost use Rattle.keep_index_store.specs.ChildForms.{children_in};
 ghost use Rattle.keep_index_store.specs.Children.{Keyed, holding, no_children, holds_of, named, child_ids, child_named};
 ghost use Rattle.keep_index_store.specs.Children.{child_numbered};
+ghost use Rattle.keep_index_store.specs.Moved.{CanMove, moved_children, with_last_at};
 ghost use Rattle.keep_index_store.specs.Trie.{by_key, by_index};
 
-use crate::few_keys::{FewKeys, MOST_KEYS};
 use crate::key_map::KeyMap;
+use crate::moved::{number_then, renumber_all};
 use crate::run;
 use crate::seed::Seed;
 use crate::stored_key::StoredKey;
@@ -43,8 +44,6 @@ pub enum Form {
     NoKeys,
     /// At a table with one key, with which a look-up compares.
     OneKey(Box<OnlyKey>),
-    /// At a table with a few keys, with each of which a look-up compares.
-    FewKeys(Box<FewKeys>),
     /// At a table with more keys.
     Keys(Box<KeyMap>),
     /// At an array or an array of tables whose items are consecutive nodes, as they are while none but the last has a
@@ -60,29 +59,6 @@ fn one_key(alloc: Global, key: StoredKey, child: usize) -> Result<Form, AllocErr
 {
     let only = OnlyKey { key, child };
     Ok(Form::OneKey(Box::new(alloc, only)?))
-}
-
-/// A few keys and another one, in a form of their own where this one has no room for it. If memory runs out, nothing is
-/// changed.
-fn add_to_few(
-    alloc: Global,
-    seed: Seed,
-    keys: &mut FewKeys,
-    key: StoredKey,
-    child: usize,
-) -> Result<Option<Form>, AllocError>
-    requires { lookup (bytes_eq key) keys.old ≡ None }
-    ensures few { IfOk result (λ form. IfNone form (keys.new ≡ keys.old ++ (key, child) ∷ [])) }
-    ensures many { IfOk result
-        (λ form. IfSome form (λ form. children_in form ≡ Keyed (keys.old ++ (key, child) ∷ []))) }
-    ensures err { OnErr result (keys.new ≡ keys.old) }
-{
-    if keys.len() < MOST_KEYS {
-        keys.add(key, child)?;
-        return Ok(None);
-    }
-    let map = keys.to_map(alloc, seed, key, child)?;
-    Ok(Some(Form::Keys(map)))
 }
 
 /// The children of a node, each by the number of its node, in the order of first meeting.
@@ -116,13 +92,19 @@ impl Children {
         Children { form }
     }
 
+    /// Whether the children are by keys, if there are any.
+    pub fn takes_keys(&self) -> bool
+        ensures { Decides result (holds_of self.now ≡ by_key) }
+    {
+        matches!(self.form, Form::NoKeys | Form::OneKey(_) | Form::Keys(_))
+    }
+
     /// The child of that key.
     pub fn child(&self, text: &str) -> Option<usize>
         ensures { result ≡ child_named self.now text.now }
     {
         match &self.form {
             Form::OneKey(only) => (text == only.key.as_str()).then_some(only.child),
-            Form::FewKeys(keys) => keys.child(text),
             Form::Keys(keys) => keys.child(text),
             _ => None,
         }
@@ -147,13 +129,8 @@ impl Children {
             Form::NoKeys => self.form = one_key(alloc, key, child)?,
             Form::OneKey(only) => {
                 let first_child = only.child;
-                let keys = FewKeys::two(alloc, &mut only.key, first_child, key, child)?;
-                self.form = Form::FewKeys(keys);
-            }
-            Form::FewKeys(keys) => {
-                if let Some(form) = add_to_few(alloc, seed, keys, key, child)? {
-                    self.form = form;
-                }
+                let keys = KeyMap::two(alloc, seed, &mut only.key, first_child, key, child)?;
+                self.form = Form::Keys(keys);
             }
             Form::Keys(keys) => keys.add(key, child)?,
             _ => unreachable!(),
@@ -172,7 +149,6 @@ impl Children {
         let key = StoredKey::of(alloc, text)?;
         match &mut self.form {
             Form::OneKey(only) => only.key = key,
-            Form::FewKeys(keys) => keys.set_key(number, key),
             Form::Keys(keys) => keys.set_key(number, key)?,
             _ => unreachable!(),
         }
@@ -207,7 +183,6 @@ impl Children {
         match &self.form {
             Form::Nothing | Form::NoKeys => 0,
             Form::OneKey(_) => 1,
-            Form::FewKeys(keys) => keys.len(),
             Form::Keys(keys) => keys.len(),
             Form::Run { len, .. } => *len as usize,
             Form::Items(items) => items.len(),
@@ -246,7 +221,6 @@ impl Children {
         match &self.form {
             Form::Nothing | Form::NoKeys => None,
             Form::OneKey(only) => (number == 0).then_some(only.child),
-            Form::FewKeys(keys) => keys.child_at(number),
             Form::Keys(keys) => keys.child_at(number),
             Form::Run { len, first } => run::child_at(*len, *first, number),
             Form::Items(items) => items.get(number).copied(),
@@ -259,9 +233,34 @@ impl Children {
     {
         match &self.form {
             Form::OneKey(only) => (number == 0).then_some(only.key.as_str()),
-            Form::FewKeys(keys) => keys.key_at(number),
             Form::Keys(keys) => keys.key_at(number),
             _ => None,
+        }
+    }
+
+    /// Moves the child of the last key to that number among the children. It takes no memory.
+    pub fn move_last_key(&mut self, to: usize)
+        requires holds { holds_of self.old ≡ by_key }
+        requires within { to < length (named self.old) }
+        ensures { self.new ≡ Keyed (with_last_at ([], 0) (named self.old) to) }
+    {
+        if let Form::Keys(keys) = &mut self.form {
+            keys.move_last(to);
+        }
+    }
+
+    /// Gives each child the number that it has once the last node, which is `last`, has the number `at`. It takes no
+    /// memory.
+    pub fn renumber(&mut self, last: usize, at: usize)
+        requires { CanMove last at self.old }
+        ensures { self.new ≡ moved_children last at self.old }
+    {
+        match &mut self.form {
+            Form::Nothing | Form::NoKeys => {}
+            Form::OneKey(only) => only.child = number_then(only.child, last, at),
+            Form::Keys(keys) => keys.renumber(last, at),
+            Form::Run { len, first } => *first = run::first_then(*len, *first, last, at),
+            Form::Items(items) => renumber_all(items.as_mut_slice(), last, at),
         }
     }
 }

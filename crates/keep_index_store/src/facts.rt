@@ -39,7 +39,8 @@ pub struct NodeFacts {
 impl NodeFacts {
     /// The facts from the key part with that number, which names a node.
     pub fn named(kind: Kind, key: usize, origin: Origin) -> NodeFacts
-        ensures { info_of result ≡ named_info kind key origin }
+        ensures info { info_of result ≡ named_info kind key origin }
+        ensures key { result.key ≡ key }
     {
         let (origin, number) = origin_parts(origin);
         NodeFacts {

@@ -1,10 +1,12 @@
 //! The children of a table by their keys.
-ghost use Rattle.std.specs.Prelude.{◌≡◌, ◌<◌, ◌≤◌, ◌+◌, ◌∷◌, ◌++◌, [], None, IfOk, OnErr, OnOk, bytes_eq, length, map};
-ghost use Rattle.std.specs.Prelude.{option_copied, option_map, slice_get};
+ghost use Rattle.std.specs.Prelude.{◌≡◌, ◌<◌, ◌≤◌, ◌+◌, ◌∷◌, ◌++◌, [], None, IfOk, OnErr, OnOk, bytes_eq, false};
+ghost use Rattle.std.specs.Prelude.{All, length, map, option_copied, option_map, slice_get};
 ghost use Rattle.std.specs.Map.{lookup};
 ghost use Rattle.indexmap.specs.IndexMap.{spare};
-ghost use Rattle.keep_index_store.specs.KeyMaps.{HasOwnKeys, with_key_at};
+ghost use Rattle.keep_index_store.specs.KeyMaps.{with_key_at};
+ghost use Rattle.keep_index_store.specs.Moved.{moved_number, with_last_at};
 
+use crate::moved::number_then;
 use crate::seed::Seed;
 use crate::stored_key::StoredKey;
 use indexmap::IndexMap;
@@ -36,23 +38,24 @@ impl KeyMap {
         }
     }
 
-    /// The children of a few keys, which are taken from there, and one more. If memory runs out, none is taken.
-    pub fn of(
+    /// The children of two keys. The first key is taken from where it is, and an empty one stays there. If memory runs
+    /// out, it is not taken.
+    pub fn two(
         alloc: Global,
         seed: Seed,
-        few: &mut Vec<(StoredKey, usize)>,
+        first: &mut StoredKey,
+        first_child: usize,
         key: StoredKey,
         child: usize,
     ) -> Result<Box<KeyMap>, AllocError>
-        requires own { HasOwnKeys [] few.old.items }
-        requires fresh { lookup (bytes_eq key) few.old.items ≡ None }
-        ensures ok { IfOk result (λ map. map.value ≡ few.old.items ++ (key, child) ∷ []) }
-        ensures taken { OnOk result (few.new.items ≡ []) }
-        ensures err { OnErr result (few.new.items ≡ few.old.items) }
+        requires { bytes_eq key first.old ≡ false }
+        ensures ok { IfOk result (λ map. map.value ≡ (first.old, first_child) ∷ (key, child) ∷ []) }
+        ensures err { OnErr result (first.new ≡ first.old) }
     {
         let mut map = Box::new(alloc, KeyMap::new(alloc, seed))?;
-        let mut table = IndexMap::with_capacity_and_hasher(alloc, few.len() + 1, seed)?;
-        move_all(mem::replace(few, Vec::new(alloc)), &mut table);
+        let mut table = IndexMap::with_capacity_and_hasher(alloc, 2, seed)?;
+        let first = mem::replace(first, StoredKey::empty());
+        push_reserved(&mut table, first, first_child);
         push_reserved(&mut table, key, child);
         *map = KeyMap { table };
         Ok(map)
@@ -111,6 +114,26 @@ impl KeyMap {
         self.table.swap_remove_index(number);
         Ok(())
     }
+
+    /// Moves the last child to that number. It takes no memory.
+    pub fn move_last(&mut self, to: usize)
+        requires { to < length self.old }
+        ensures { self.new ≡ with_last_at ([], 0) self.old to }
+    {
+        let last = self.table.len() - 1;
+        self.table.move_index(last, to);
+    }
+
+    /// Gives each child the number that it has once the last node has the number `at`.
+    pub fn renumber(&mut self, last: usize, at: usize)
+        requires { All (λ e. e.1 ≤ last) self.old }
+        ensures { self.new ≡ map (λ e. (e.0, moved_number last at e.1)) self.old }
+    {
+        for number in 0..self.table.len() {
+            let child = &mut self.table[number];
+            *child = number_then(*child, last, at);
+        }
+    }
 }
 
 /// Adds a key that is not there yet, and its child, where there is room: it takes no memory.
@@ -123,19 +146,6 @@ fn push_reserved(table: &mut IndexMap<StoredKey, usize, Seed>, key: StoredKey, c
     let Ok(_) = table.insert(key, child) else {
         unreachable!()
     };
-}
-
-/// Moves the children of keys to where there is none yet, and room for all and one more: it takes no memory.
-fn move_all(few: Vec<(StoredKey, usize)>, table: &mut IndexMap<StoredKey, usize, Seed>)
-    requires empty { table.old.entries ≡ [] }
-    requires own { HasOwnKeys [] few.items }
-    requires room { length few.items < spare table.old }
-    ensures moved { table.new.entries ≡ few.items }
-    ensures room { 0 < spare table.new }
-{
-    for (key, child) in few {
-        push_reserved(table, key, child);
-    }
 }
 
 /// The child of the key with that number.

@@ -3,11 +3,12 @@
 
 mod children;
 mod facts;
-mod few_keys;
 mod key_map;
 mod links;
+mod moved;
 mod nodes;
 mod packed;
+mod renumbering;
 mod run;
 mod seed;
 mod stored_key;
@@ -15,4 +16,5 @@ mod tree;
 
 pub use children::Holds;
 pub use facts::{NodeFacts, OriginKind};
-pub use tree::Tree;
+pub use renumbering::LineNumbers;
+pub use tree::{NotInPlace, Tree};

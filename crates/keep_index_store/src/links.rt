@@ -1,8 +1,11 @@
 //! The parent links of the nodes, in as few bytes as the numbers allow.
 ghost use Rattle.std.specs.Prelude.{◌≡◌, ◌≤◌, ◌<◌, ◌^◌, ◌++◌, ◌∷◌, [], length, max, slice_get, IfSome, OnOk, OnErr};
-ghost use Rattle.std.specs.Prelude.{◌-◌, None, Some, take};
-ghost use Rattle.keep_index_store.specs.Links.{link_of};
+ghost use Rattle.std.specs.Prelude.{◌-◌, ℕ, All, None, Some, false, map, take, true};
+ghost use Rattle.keep_index_store.specs.Links.{IsSmall, link_of};
+ghost use Rattle.keep_index_store.specs.Moved.{moved_link, moved_number, with_last_at};
+ghost use Rattle.keep_path.specs.NodeInfos.{later_number};
 
+use crate::moved::move_last_to;
 use std::alloc::{AllocError, Global};
 use std::marker::Model;
 
@@ -11,6 +14,16 @@ use std::marker::Model;
 pub struct ParentLink {
     pub parent: usize,
     /// Its number among the children of its parent: its step is the key that the parent has there, or that number.
+    pub number: usize,
+}
+
+/// Where the last node goes: it takes the number `at`, and among the children of `above`, where it came after `before`
+/// others, it comes after `number`.
+#[derive(Clone, Copy)]
+pub struct NewPlace {
+    pub at: usize,
+    pub above: usize,
+    pub before: usize,
     pub number: usize,
 }
 
@@ -36,7 +49,11 @@ impl Model for ParentLinks {
 
     ghost Value = { List ParentLink };
 
+    ghost use Rattle.keep_index_store.specs.Links.{StartsLarge};
+
     ghost view = { λ h. links_in h.packed.items h.unpacked.items };
+
+    ghost invariant = { λ h. StartsLarge h.unpacked.items };
 }
 
 /// The link in 8 bytes, if both numbers fit.
@@ -48,6 +65,82 @@ fn packed_link(link: ParentLink) -> Option<PackedLink>
         parent: u32::try_from(link.parent).ok()?,
         number: u32::try_from(link.number).ok()?,
     })
+}
+
+/// Whether each number can grow by one where it is.
+fn can_grow(links: &[PackedLink]) -> bool
+    ensures { result ≡ true → All (λ h. (h.parent < 2 ^ 32 - 1) × (h.number < 2 ^ 32 - 1)) links.now }
+{
+    links
+        .iter()
+        .all(|link| link.parent < u32::MAX && link.number < u32::MAX)
+}
+
+/// The link once the last node is there.
+fn link_then(link: PackedLink, place: NewPlace) -> PackedLink
+    requires grows { (link.parent < 2 ^ 32 - 1) × (link.number < 2 ^ 32 - 1) }
+    requires order { place.number ≤ place.before }
+    ensures { link_of result ≡ moved_link place (link_of link) }
+{
+    let parent = later_parent(link.parent, place.at);
+    if link.parent as usize != place.above {
+        return PackedLink {
+            parent,
+            number: link.number,
+        };
+    }
+    let number = later_sibling(link.number, place.before, place.number);
+    PackedLink { parent, number }
+}
+
+/// The number of a parent once a node has the number `at`.
+fn later_parent(parent: u32, at: usize) -> u32
+    requires { parent < 2 ^ 32 - 1 }
+    ensures { result ≡ later_number at parent }
+{
+    if (parent as usize) < at {
+        parent
+    } else {
+        parent + 1
+    }
+}
+
+/// The number of a child once the one that came after `before` others comes after `number`.
+fn later_sibling(child: u32, before: usize, number: usize) -> u32
+    requires grows { child < 2 ^ 32 - 1 }
+    requires order { number ≤ before }
+    ensures { result ≡ moved_number before number child }
+{
+    if child as usize == before {
+        number as u32
+    } else if (child as usize) < number {
+        child
+    } else {
+        child + 1
+    }
+}
+
+/// Gives each link the numbers that it has then.
+fn renumber(links: &mut [PackedLink], place: NewPlace)
+    requires grows { All (λ h. (h.parent < 2 ^ 32 - 1) × (h.number < 2 ^ 32 - 1)) links.old }
+    requires order { place.number ≤ place.before }
+    ensures { map link_of links.new ≡ map (moved_link place) (map link_of links.old) }
+{
+    for link in links.iter_mut() {
+        *link = link_then(*link, place);
+    }
+}
+
+/// Moves the last link to where its node goes, and gives each the numbers that it has then.
+fn move_last_link(links: &mut [PackedLink], place: NewPlace)
+    requires grows { All (λ h. (h.parent < 2 ^ 32 - 1) × (h.number < 2 ^ 32 - 1)) links.old }
+    requires order { place.number ≤ place.before }
+    requires within { place.at < length links.old }
+    ensures { (none : ParentLink)
+        → map link_of links.new ≡ map (moved_link place) (with_last_at none (map link_of links.old) place.at) }
+{
+    renumber(links, place);
+    move_last_to(links, place.at);
 }
 
 impl ParentLinks {
@@ -100,5 +193,22 @@ impl ParentLinks {
         if self.unpacked.pop().is_none() {
             self.packed.pop();
         }
+    }
+
+    /// Whether both numbers of each link can be greater by one in 32 bits.
+    pub fn can_grow(&self) -> bool
+        ensures { result ≡ true → All IsSmall self.now }
+    {
+        self.unpacked.is_empty() && can_grow(&self.packed)
+    }
+
+    /// Moves the last link to where its node goes, and gives each the numbers that it has then. It takes no memory.
+    pub fn move_last(&mut self, place: NewPlace)
+        requires small { All IsSmall self.old }
+        requires within { place.at < length self.old }
+        requires order { place.number ≤ place.before }
+        ensures { (none : ParentLink) → self.new ≡ map (moved_link place) (with_last_at none self.old place.at) }
+    {
+        move_last_link(self.packed.as_mut_slice(), place);
     }
 }

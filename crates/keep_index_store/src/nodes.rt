@@ -1,15 +1,24 @@
 //! The nodes, in the order in which they are first met.
 ghost use Rattle.std.specs.Prelude.{◌≡◌, ◌<◌, ◌-◌, ◌∷◌, ◌++◌, [], length, None, IfNone, IfSome, IfOk, OnErr, OnOk};
 ghost use Rattle.std.specs.Prelude.{slice_get, slice_index_or, option_copied, option_map, take};
+ghost use Rattle.std.specs.Bool.{Decides};
 ghost use Rattle.keep_index_store.specs.AllNodes.{node_at, with_children, with_facts, and_key, and_item, with_key};
+ghost use Rattle.keep_index_store.specs.AllNodes.{HasSmallLink, with_key_below};
 ghost use Rattle.keep_index_store.specs.Children.{holding, no_children, holds_of, named, child_ids, child_named};
 ghost use Rattle.keep_index_store.specs.Children.{child_numbered};
 ghost use Rattle.keep_index_store.specs.Facts.{joined_facts};
+ghost use Rattle.std.specs.Prelude.{◌+◌, ◌≤◌, ◌^◌, ℕ, All, map, true};
+ghost use Rattle.keep_index_store.specs.Moved.{CanMove, IsLast, moved_nodes, reordered};
+ghost use Rattle.keep_index_store.specs.Moved.{stored_at, with_last_at, with_last_key, with_moved_children};
+ghost use Rattle.keep_index_store.specs.declared.nodes.Node.{Node as StoredNode};
 ghost use Rattle.keep_index_store.specs.Trie.{by_key, by_index};
+
+mod renumbering;
 
 use crate::children::{Children, Holds};
 use crate::facts::NodeFacts;
-use crate::links::{ParentLink, ParentLinks};
+use crate::links::{NewPlace, ParentLink, ParentLinks};
+use crate::moved::move_last_to;
 use crate::packed::PackedFacts;
 use crate::seed::Seed;
 use keep_types::{Kind, Role};
@@ -35,6 +44,33 @@ impl Node {
             facts: PackedFacts::of(alloc, facts)?,
         })
     }
+}
+
+/// Gives the children of each node the numbers that they have once the last node has the number `at`.
+fn renumber_children(list: &mut [Node], last: usize, at: usize)
+    requires { All (λ n. CanMove last at n.children) list.old }
+    ensures { list.new ≡ map (with_moved_children last at) list.old }
+{
+    for node in list.iter_mut() {
+        node.children.renumber(last, at);
+    }
+}
+
+/// Moves the last node, and the last key of its parent, to where they go, and gives the children of each node the
+/// numbers that they have then.
+fn move_last_node(list: &mut [Node], place: NewPlace)
+    requires within { (place.above < length list.old) × (place.at < length list.old) }
+    requires holds { holds_of (stored_at list.old place.above).children ≡ by_key }
+    requires place { place.number < length (named (stored_at list.old place.above).children) }
+    requires each { All (λ n. CanMove (length list.old - 1) place.at n.children) (with_last_key list.old place) }
+    ensures { (none : StoredNode) → list.new ≡ map (with_moved_children (length list.old - 1) place.at)
+        (with_last_at none (with_last_key list.old place) place.at) }
+{
+    let last = list.len() - 1;
+    let above = &mut list[place.above];
+    above.children.move_last_key(place.number);
+    renumber_children(list, last, place.at);
+    move_last_to(list, place.at);
 }
 
 /// All nodes. Their parent links are stored in a separate vector, since marks and look-ups never ask for them; the
@@ -127,6 +163,14 @@ impl Nodes {
         self.list[id].facts.role()
     }
 
+    /// Whether the children of a node are by keys, if there are any.
+    pub fn takes_keys(&self, id: usize) -> bool
+        requires { id < length self.now.items }
+        ensures { Decides result (holds_of (node_at self.now.items id).children ≡ by_key) }
+    {
+        self.list[id].children.takes_keys()
+    }
+
     /// The child of a node by a key.
     pub fn child(&self, id: usize, text: &str) -> Option<usize>
         requires { id < length self.now.items }
@@ -213,6 +257,43 @@ impl Nodes {
         self.links.pop();
     }
 
+    /// Whether both numbers of each parent link can be greater by one in 32 bits, and those of one more child.
+    pub fn can_grow_below(&self, parent: usize) -> bool
+        requires { parent < length self.now.items }
+        ensures each { result ≡ true → All HasSmallLink self.now.items }
+        ensures next { result ≡ true → (parent < 2 ^ 32 - 1)
+            × (length (child_ids (node_at self.now.items parent).children) < 2 ^ 32 - 1) }
+    {
+        let max = u32::MAX as usize;
+        parent < max && self.child_count(parent) < max && self.links.can_grow()
+    }
+
+    /// Adds a node with no children below a table, by a key that is not there yet. If memory runs out, nothing is
+    /// changed.
+    pub fn add_key(
+        &mut self,
+        parent: usize,
+        text: &str,
+        facts: NodeFacts,
+        holds: Holds,
+    ) -> Result<(), AllocError>
+        requires within { parent < length self.old.items }
+        requires keyed { holds_of (node_at self.old.items parent).children ≡ by_key }
+        requires fresh { child_named (node_at self.old.items parent).children text.now ≡ None }
+        ensures ok { OnOk result
+            (self.new.items ≡ with_key_below self.old.items parent text.now (holding holds) facts) }
+        ensures err { OnErr result (self.new.items ≡ self.old.items) }
+    {
+        let id = self.len();
+        let number = self.child_count(parent);
+        self.push(parent, number, facts, holds)?;
+        if let Err(refused) = self.link_key(parent, text, id) {
+            self.pop();
+            return Err(refused);
+        }
+        Ok(())
+    }
+
     /// Adds a node to the children of a table, by a key that is not there yet. If memory runs out, nothing is changed.
     pub fn link_key(&mut self, id: usize, text: &str, child: usize) -> Result<(), AllocError>
         requires within { id < length self.old.items }
@@ -255,8 +336,50 @@ impl Nodes {
         above.children.add_item(alloc, child)
     }
 
-    /// Joins the facts from one more mention of a node to its own; its role is now this one. If memory runs out, nothing
-    /// is changed.
+    /// How many children of a node that has one come before the first from `at` on, of all but the last.
+    pub fn children_before(&self, id: usize, at: usize) -> usize
+        requires within { id < length self.now.items }
+        requires some { 0 < length (child_ids (node_at self.now.items id).children) }
+        ensures within { result < length (child_ids (node_at self.now.items id).children) }
+        ensures before { (k : ℕ) → k < result
+            → slice_index_or (child_ids (node_at self.now.items id).children) k 0 < at }
+        ensures stops { result + 1 < length (child_ids (node_at self.now.items id).children)
+            → at ≤ slice_index_or (child_ids (node_at self.now.items id).children) result 0 }
+    {
+        let others = self.child_count(id) - 1;
+        let mut count = 0;
+        while count < others {
+            let Some(child) = self.child_at(id, count) else {
+                unreachable!()
+            };
+            if child >= at {
+                return count;
+            }
+            count += 1;
+        }
+        count
+    }
+
+    /// Gives the last node the number `at`, and each from there on the next number; among the children of its parent it
+    /// comes after `place` others. It takes no memory.
+    pub fn move_last(&mut self, at: usize, place: usize)
+        requires last { IsLast self.old.items at place }
+        requires small { All HasSmallLink self.old.items }
+        ensures { self.new.items ≡ moved_nodes (reordered self.old.items place) at }
+    {
+        let link = self.links.get(self.list.len() - 1);
+        let place = NewPlace {
+            at,
+            above: link.parent,
+            before: link.number,
+            number: place,
+        };
+        self.links.move_last(place);
+        move_last_node(self.list.as_mut_slice(), place);
+    }
+
+    /// Joins the facts from one more mention of a node to its own; its role is now this one. If memory runs out,
+    /// nothing is changed.
     pub fn join_facts(
         &mut self,
         id: usize,
@@ -271,6 +394,46 @@ impl Nodes {
         let alloc = self.allocator();
         let node = &mut self.list[id];
         node.facts.join(alloc, role, more)
+    }
+
+    /// Joins the facts from one more mention of each of two nodes to their own; their roles stay. The second's are made
+    /// before the first's change, so if memory runs out, nothing is changed.
+    pub fn join_both(
+        &mut self,
+        first: usize,
+        more: NodeFacts,
+        second: usize,
+        further: NodeFacts,
+    ) -> Result<(), AllocError>
+        requires first { first < length self.old.items }
+        requires second { second < length self.old.items }
+        ensures ok { OnOk result (self.new.items ≡ with_facts
+            (with_facts self.old.items first (joined_facts (node_at self.old.items first).facts more)) second
+            (joined_facts (node_at self.old.items second).facts further)) }
+        ensures err { OnErr result (self.new.items ≡ self.old.items) }
+    {
+        let role = self.role(first);
+        let joined = self.joined_facts(second, further)?;
+        self.join_facts(first, role, more)?;
+        self.set_facts(second, joined);
+        Ok(())
+    }
+
+    /// The facts of a node, joined with those from one more mention of it. The only error is out of memory.
+    fn joined_facts(&self, id: usize, more: NodeFacts) -> Result<PackedFacts, AllocError>
+        requires { id < length self.now.items }
+        ensures { IfOk result (λ joined. joined ≡ joined_facts (node_at self.now.items id).facts more) }
+    {
+        self.list[id].facts.joined(self.allocator(), more)
+    }
+
+    /// Gives a node these facts in place of its own.
+    fn set_facts(&mut self, id: usize, facts: PackedFacts)
+        requires { id < length self.old.items }
+        ensures { self.new.items ≡ with_facts self.old.items id facts }
+    {
+        let node = &mut self.list[id];
+        node.facts = facts;
     }
 
     /// Gives a node another kind.

@@ -1,5 +1,5 @@
 //! The facts about a node, in as few bytes as its numbers allow.
-ghost use Rattle.std.specs.Prelude.{◌≡◌, IfNone, IfOk, IfSome, None, OnErr, OnOk};
+ghost use Rattle.std.specs.Prelude.{◌≡◌, ◌<◌, ◌^◌, IfNone, IfOk, IfSome, None, OnErr, OnOk};
 ghost use Rattle.keep_index_store.specs.Packed.{Fits, facts_in, short_facts, joined_short};
 ghost use Rattle.keep_index_store.specs.Facts.{joined_facts};
 
@@ -88,6 +88,20 @@ impl ShortFacts {
             number: later.number,
         })
     }
+
+    /// These facts with other numbers of the key part and of the place, which have no more than 32 bits if these don't.
+    #[inline(always)]
+    fn with_numbers(self, key: usize, number: usize) -> ShortFacts
+        requires key { self.key < 2 ^ 32 → key < 2 ^ 32 }
+        requires number { self.number < 2 ^ 32 → number < 2 ^ 32 }
+        ensures { result ≡ record self { key = key; number = number } }
+    {
+        ShortFacts {
+            key: key as u32,
+            number: number as u32,
+            ..self
+        }
+    }
 }
 
 /// The packed form, if the numbers fit.
@@ -134,8 +148,8 @@ impl PackedFacts {
         }
     }
 
-    /// Joins the facts from one more mention of the node to these; its role is now this one. If memory runs out, nothing
-    /// is changed.
+    /// Joins the facts from one more mention of the node to these; its role is now this one. If memory runs out,
+    /// nothing is changed.
     pub fn join(
         &mut self,
         alloc: Global,
@@ -149,6 +163,14 @@ impl PackedFacts {
             Some(()) => Ok(()),
             None => self.join_unpacked(alloc, role, more),
         }
+    }
+
+    /// These facts joined with those from one more mention of the node, as they are stored. The only error is out of
+    /// memory.
+    pub fn joined(&self, alloc: Global, more: NodeFacts) -> Result<PackedFacts, AllocError>
+        ensures { IfOk result (λ joined. joined ≡ joined_facts self.now more) }
+    {
+        PackedFacts::of(alloc, self.unpack().joined_with(more))
     }
 
     /// Joins further facts in the packed form, in place; None, if a number does not fit: then nothing is changed.
@@ -207,6 +229,23 @@ impl PackedFacts {
         match &mut self.form {
             Form::Packed { kind: stored, .. } => *stored = kind,
             Form::Boxed(facts) => facts.kind = kind,
+        }
+    }
+
+    /// Stores other numbers of the key part and of the place, in the form that is there, so that it takes no memory. A
+    /// number of 32 bits has to stay one.
+    #[inline(always)]
+    pub fn set_numbers(&mut self, key: usize, number: usize)
+        requires key { self.old.key < 2 ^ 32 → key < 2 ^ 32 }
+        requires number { self.old.number < 2 ^ 32 → number < 2 ^ 32 }
+        ensures { self.new ≡ record self.old { key = key; number = number } }
+    {
+        match &mut self.form {
+            Form::Packed { short, .. } => *short = short.with_numbers(key, number),
+            Form::Boxed(facts) => {
+                facts.key = key;
+                facts.number = number;
+            }
         }
     }
 

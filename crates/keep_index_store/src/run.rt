@@ -1,6 +1,7 @@
 //! Runs: children whose numbers are consecutive, stored as how many they are and the first of them.
 ghost use Rattle.std.specs.Prelude.{◌≡◌, ◌≤◌, ◌<◌, ◌+◌, ◌-◌, ◌^◌, ◌++◌, ◌∷◌, [], IfNone, IfOk, IfSome, IsSome};
-ghost use Rattle.std.specs.Prelude.{slice_get, slice_index_or};
+ghost use Rattle.std.specs.Prelude.{map, slice_get, slice_index_or};
+ghost use Rattle.keep_index_store.specs.Moved.{IsApart, moved_number};
 ghost use Rattle.keep_index_store.specs.Runs.{consecutive};
 
 use std::alloc::{AllocError, Global};
@@ -63,4 +64,20 @@ pub fn last_child(len: u32, first: usize) -> Option<usize>
         return None;
     }
     Some(first + (len as usize - 1))
+}
+
+/// The first child of a run once the last node, which is `last`, has the number `at`. No child is the node before that
+/// where the next child is that one, so the run stays a run.
+pub fn first_then(len: u32, first: usize, last: usize, at: usize) -> usize
+    requires within { 0 < len → first + len ≤ last }
+    requires fits { first + len ≤ 2 ^ 64 }
+    requires apart { IsApart at (consecutive first len) }
+    ensures run { consecutive result len ≡ map (moved_number last at) (consecutive first len) }
+    ensures fits { result + len ≤ 2 ^ 64 }
+{
+    if len > 0 && first >= at {
+        first + 1
+    } else {
+        first
+    }
 }

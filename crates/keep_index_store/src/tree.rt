@@ -1,6 +1,7 @@
 //! The tree of the nodes.
-ghost use Rattle.std.specs.Prelude.{◌≡◌, ◌≢◌, ◌<◌, ◌-◌, ◌∷◌, ◌++◌, [], ℕ, length, None, Some, IfNone, IfSome, IfOk, OnErr};
-ghost use Rattle.std.specs.Prelude.{OnOk, Contains, slice_get, slice_index_or, slice_set};
+ghost use Rattle.std.specs.Prelude.{◌≡◌, ◌≢◌, ◌<◌, ◌-◌, ◌∷◌, ◌++◌, [], ℕ, length, None, Some, IfNone, IfSome, IfOk};
+ghost use Rattle.std.specs.Prelude.{OnErr, OnOk, Contains, slice_get, slice_index_or, slice_set};
+ghost use Rattle.std.specs.Bool.{Decides};
 ghost use Rattle.keep_index_store.specs.Children.{holding};
 ghost use Rattle.keep_index_store.specs.Facts.{joined_info, info_of};
 ghost use Rattle.keep_index_store.specs.Growth.{Grows, Restates};
@@ -10,9 +11,13 @@ ghost use Rattle.keep_index_store.specs.Trie.{part_at, paths_of, path_at, state_
 ghost use Rattle.keep_path.specs.NodeInfos.{with_path};
 ghost use Rattle.keep_path.specs.Path.{EndsInKey, beside, key, index};
 
+mod inserting;
+mod renumbering;
+
 use crate::children::Holds;
 use crate::facts::NodeFacts;
 use crate::nodes::Nodes;
+pub use inserting::NotInPlace;
 use keep_types::{Kind, NodeInfo, Origin, Role};
 use std::alloc::{AllocError, Global};
 use std::marker::Model;
@@ -65,7 +70,8 @@ impl Tree {
 
     /// How many nodes there are.
     pub fn len(&self) -> usize
-        ensures { result ≡ length self.now.trie }
+        ensures nodes { result ≡ length self.now.trie }
+        ensures facts { result ≡ length self.now.infos }
     {
         self.nodes.len()
     }
@@ -120,6 +126,14 @@ impl Tree {
         ensures { result ≡ state_at self.now.trie id }
     {
         self.nodes.role(id)
+    }
+
+    /// Whether the children of a node are by keys, if there are any.
+    pub fn takes_keys(&self, id: usize) -> bool
+        requires { id < length self.now.trie }
+        ensures { Decides result (holds_at self.now.trie id ≡ by_key) }
+    {
+        self.nodes.takes_keys(id)
     }
 
     /// The child of a node by a key.
@@ -189,14 +203,9 @@ impl Tree {
         ensures refused { OnErr result (self.new ≡ self.old) }
     {
         let id = self.nodes.len();
-        let number = self.nodes.child_count(parent);
         let role = Some(role);
         self.nodes
-            .push(parent, number, NodeFacts { role, ..facts }, holds)?;
-        if let Err(refused) = self.nodes.link_key(parent, text, id) {
-            self.nodes.pop();
-            return Err(refused);
-        }
+            .add_key(parent, text, NodeFacts { role, ..facts }, holds)?;
         Ok(id)
     }
 
@@ -241,17 +250,24 @@ impl Tree {
         self.nodes.join_facts(id, Some(role), more)
     }
 
-    /// Joins the facts from one more mention of a node to its own; its role stays. If memory runs out, nothing is
-    /// changed.
-    pub fn add_facts(&mut self, id: usize, more: NodeFacts) -> Result<(), AllocError>
-        requires { id < length self.old.trie }
+    /// Joins the facts from one more mention of each of two nodes to their own; their roles stay. If memory runs out,
+    /// nothing is changed.
+    pub fn add_facts_to_both(
+        &mut self,
+        first: usize,
+        more: NodeFacts,
+        second: usize,
+        further: NodeFacts,
+    ) -> Result<(), AllocError>
+        requires first { first < length self.old.trie }
+        requires second { second < length self.old.trie }
         ensures same { OnOk result (self.new.trie ≡ self.old.trie) }
-        ensures infos { OnOk result
-            (self.new.infos ≡ slice_set self.old.infos id (joined_info (info_at self.old id) (info_of more))) }
+        ensures infos { OnOk result (self.new.infos ≡ slice_set
+            (slice_set self.old.infos first (joined_info (info_at self.old first) (info_of more))) second
+            (joined_info (info_at self.old second) (info_of further))) }
         ensures refused { OnErr result (self.new ≡ self.old) }
     {
-        let role = self.nodes.role(id);
-        self.nodes.join_facts(id, role, more)
+        self.nodes.join_both(first, more, second, further)
     }
 
     /// Gives a node another kind, and leaves all else as it is. It takes no memory.

@@ -1,0 +1,14 @@
+use Rattle.std.proofs.Common.{arith, ◌∙◌, ap}
+use Rattle.std.proofs.lemmas.Result.{IfOk-weaker}
+use Rattle.keep_index_store.specs.declared.facts.NodeFacts.{NodeFacts}
+use Rattle.keep_index_store.specs.Facts.{joined_facts}
+use Rattle.keep_index_store.proofs.NodeRowLemmas.{count_seen, facts_read}
+use Rattle.keep_index_store.proofs.nodes.Nodes.joined_facts.Goals as goal
+
+pub index-requires : goal.index-requires
+index-requires c = omega (arith, c.requires, count_seen _ _ _ c.self.view_is c.self.invariant, c.self.inside.list.ok.0)
+
+pub returns : goal.returns
+returns c =
+    let joined : NodeFacts → NodeFacts = λ t. joined_facts t c.args.more in
+    IfOk-weaker c.joined.result _ _ (λ packed is. is ∙ ap joined (facts_read _ _ _ c.self.view_is c.self.invariant c.args.id c.requires c.index.result.now c.index.ensures)) c.joined.ensures

@@ -1,0 +1,36 @@
+//! The numbers of the nodes once the last one takes the number of an earlier one.
+ghost use Rattle.std.specs.Prelude.{◌≡◌, ◌≤◌, ◌<◌, All, length, map};
+ghost use Rattle.keep_index_store.specs.Moved.{moved_number, with_last_at};
+
+/// The number of the node `id` once the last node, which is `last`, has the number `at`: each from there on has one
+/// more.
+pub fn number_then(id: usize, last: usize, at: usize) -> usize
+    requires { id ≤ last }
+    ensures { result ≡ moved_number last at id }
+{
+    if id == last {
+        at
+    } else if id < at {
+        id
+    } else {
+        id + 1
+    }
+}
+
+/// Gives each of these nodes the number that it has then.
+pub fn renumber_all(ids: &mut [usize], last: usize, at: usize)
+    requires { All (λ id. id ≤ last) ids.old }
+    ensures { ids.new ≡ map (moved_number last at) ids.old }
+{
+    for id in ids.iter_mut() {
+        *id = number_then(*id, last, at);
+    }
+}
+
+/// Moves the last element to that place. It takes no memory.
+pub fn move_last_to<T>(items: &mut [T], at: usize)
+    requires { at < length items.old }
+    ensures { (none : T) → items.new ≡ with_last_at none items.old at }
+{
+    items[at..].rotate_right(1);
+}
