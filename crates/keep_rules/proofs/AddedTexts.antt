@@ -2,6 +2,7 @@
 use Rattle.std.proofs.Common.{◌≡◌, ℕ, ◌≤◌, List, ◌++◌, length, take, sym, ap, ◌∙◌, subst, arith, length-take}
 use Rattle.std.specs.Prelude.{IsUtf8}
 use Rattle.std.proofs.Math.Seq.{take-length, take-append_seam}
+use Rattle.std.proofs.lemmas.List.{take-take}
 use Rattle.std.proofs.lemmas.Str.{IsCharBoundary-from_take}
 use Rattle.std.specs.String.Boundary.{IsSplitPoint}
 
@@ -10,6 +11,12 @@ grown_none old = take-length old
 
 pub grown : (old new more : List ℕ) → new ≡ old ++ more → take (length old) new ≡ old
 grown old new more e = ap (take (length old)) e ∙ take-append_seam old more
+
+-- what was added to in two steps
+pub grown_then : (old mid new : List ℕ) → take (length old) mid ≡ old → take (length mid) new ≡ mid → take (length old) new ≡ old
+grown_then old mid new h k =
+    let fits : length old ≤ length mid = omega (arith, length-take (length old) mid, ap length h) in
+    sym (take-take (length old) (length mid) new fits) ∙ (ap (take (length old)) k ∙ h)
 
 -- the old text ends where a character does
 pub old_ends : (old new : List ℕ) → IsUtf8 old → IsUtf8 new → take (length old) new ≡ old → IsSplitPoint new (length old)

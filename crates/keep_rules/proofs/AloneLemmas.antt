@@ -12,7 +12,7 @@ use Rattle.keep_syntax_store.specs.Flat.{Flat}
 use Rattle.keep_syntax.specs.Grammar.{IsValue}
 use Rattle.keep_syntax.specs.Tree.{Value, value_text}
 use Rattle.keep_syntax.specs.Numbered.{info, nested_of, entries_values}
-use Rattle.keep_rules.specs.declared.key_walk.Fault.{Fault}
+use Rattle.keep_rules.specs.declared.definitions.DefineFault.{DefineFault}
 use Rattle.keep_meaning.specs.Fact.{Fact}
 use Rattle.keep_meaning.specs.Rules.{ObeysRules, IsFirstFaulty}
 use Rattle.keep_meaning.specs.Marks as marks
@@ -24,7 +24,7 @@ use Rattle.keep_index_store.specs.Trie.{TrieNode, Holding}
 use Rattle.keep_rules.specs.Tables.{is_tables}
 use Rattle.keep_index_store.specs.Tree.{TrieInfos, IsRoot}
 use Rattle.keep_rules.specs.Reads.{IsValueNode, AreValueNodes}
-use Rattle.keep_rules.specs.Stops.{FaultMeets}
+use Rattle.keep_rules.specs.DefineFaults.{FaultMeets}
 use Rattle.keep_rules.specs.FlatValues.{leaf_holding, MatchesNested, MatchAlone}
 use Rattle.keep_rules.specs.Plans.{EndsAt, AreNext, NestedValuesRead, NestedValuesFault}
 use Rattle.keep_rules.specs.ReadDocuments.{ValueObeys, IsValueRefusal, IsFaultAt}
@@ -32,7 +32,7 @@ use Rattle.keep_rules.proofs.FirstKeyLemmas.{nested_count, first_keys, AreFrom, 
 use Rattle.keep_rules.proofs.FlatValueLemmas.{alone_matches}
 use Rattle.keep_rules.proofs.NestedValueLemmas.{value_nested-mentions}
 use Rattle.keep_meaning.proofs.Shared.{length-entries_values, marked-parts_in}
-use Rattle.keep_rules.proofs.PlanLemmas.{meets_weaker}
+use Rattle.keep_rules.proofs.BuildLemmas.{meets_weaker}
 use Rattle.keep_rules.proofs.RootLemmas.{rooted_represents, first_low, fault_placed}
 use Rattle.keep_rules.proofs.StopLemmas.{fault_is_first}
 use Rattle.keep_rules.proofs.SuitLemmas.{value_suits}
@@ -88,12 +88,12 @@ module _ (bytes : List ℕ) (profile : Profile) (v : Value) (is : IsValue profil
       subst (λ (ms : List Mention). IsFirstFaulty (marks.marks ms) at why) (append-nil more ∙ mentions_nested)
       (subst (λ (n : ℕ). IsFirstFaulty (marks.marks (more ++ [])) n why) (let e : 0 + one.within ≡ at = omega (arith, one.sum) in e) (fault_is_first [] more [] one.within why one.fault))
 
-  pub alone_within : (g : Fault) → FaultMeets g (NestedValuesFault bytes f 1 1 nodes (0 ∷ [])) → FaultMeets g (λ n w. n < length f.keys)
+  pub alone_within : (g : DefineFault) → FaultMeets g (NestedValuesFault bytes f 1 1 nodes (0 ∷ [])) → FaultMeets g (λ n w. n < length f.keys)
   alone_within g meets =
       meets_weaker g (NestedValuesFault bytes f 1 1 nodes (0 ∷ [])) (λ n w. n < length f.keys)
       (λ n w faults. let low = first_low (marks.marks (mentions_of_value v)) n w (alone_breaks n w faults) in omega (arith, low, marked-parts_in v, ap length keys)) meets
 
-  pub alone_refused : (g : Fault) (r : ReadFault) → IsFaultAt f.keys g r → FaultMeets g (NestedValuesFault bytes f 1 1 nodes (0 ∷ [])) → IsValueRefusal v r
+  pub alone_refused : (g : DefineFault) (r : ReadFault) → IsFaultAt f.keys g r → FaultMeets g (NestedValuesFault bytes f 1 1 nodes (0 ∷ [])) → IsValueRefusal v r
   alone_refused g r at meets =
       fault_placed (parts_in v) (marks.marks (mentions_of_value v)) (IsValueRefusal v) g r (subst (λ (ks : List KeyPart). IsFaultAt ks g r) keys at)
       (meets_weaker g (NestedValuesFault bytes f 1 1 nodes (0 ∷ [])) (λ n w. IsFirstFaulty (marks.marks (mentions_of_value v)) n w) alone_breaks meets) (λ place why fault. fault) tt

@@ -1,4 +1,12 @@
 -- A document, statement by statement.
+--
+-- The statements of the flat list are those of the document, by number (`mentions_at`). While they are read, the nodes
+-- represent the statements before the next one and have the facts from them (`IsReadUpTo`). This holds of the root
+-- alone (`begin_read`) and still holds after one statement more (`read_next`): the facts of a statement are added after
+-- those of the earlier ones. Since the earlier statements obey the rules, the fault of a statement that is refused is
+-- the first of the document. After the last statement the nodes and their facts are those of the document.
+--
+-- Theorems: `whole_read`: the nodes are the document's index; `break_refused`: a refusal is at its first fault.
 use Rattle.std.proofs.Common.{◌≡◌, ℕ, ◌+◌, ◌^◌, ◌<◌, ◌≤◌, List, [], ◌∷◌, ◌++◌, length, get_or, take, drop, slice_get, sym, ◌∙◌, ap, subst, arith, Some}
 use Rattle.std.proofs.lemmas.List.{append-nil, length-map, take_all, take_more, take-append-drop, drop_more}
 use Rattle.std.proofs.lemmas.Option.{slice_get_within, slice_get-get_or}
@@ -12,7 +20,7 @@ use Rattle.keep_syntax.specs.Contract.{statements_of}
 use Rattle.keep_syntax_store.specs.Flat.{Flat}
 use Rattle.keep_syntax.specs.Numbered as syntax
 use Rattle.keep_syntax.specs.Tree.{Document}
-use Rattle.keep_rules.specs.declared.key_walk.Fault.{Fault}
+use Rattle.keep_rules.specs.declared.definitions.DefineFault.{DefineFault}
 use Rattle.keep_path.specs.Path.{Part}
 use Rattle.keep_meaning.specs.Rules.{ObeysRules, IsFirstFaulty}
 use Rattle.keep_meaning.specs.Marks as marks
@@ -26,7 +34,7 @@ use Rattle.keep_path.specs.NodeInfos.{NodeInfos, root_infos}
 use Rattle.keep_rules.specs.MentionInfos.{with_mentions, ValuesAreNew}
 use Rattle.keep_rules.specs.AddedInfos.{AddsValue}
 use Rattle.keep_rules.specs.Reads.{IsReading}
-use Rattle.keep_rules.specs.Stops.{FaultMeets}
+use Rattle.keep_rules.specs.DefineFaults.{FaultMeets}
 use Rattle.keep_rules.specs.FlatStatements.{MatchesStatement, IsCountBefore}
 use Rattle.keep_rules.specs.ReadStatements.{IsRead, IsReadAsMatched, BreaksAsMatched}
 use Rattle.keep_rules.specs.ReadDocuments.{WasRead, IsIndexOf, IsRefusal, IsFaultAt}
@@ -36,7 +44,7 @@ use Rattle.keep_index_store.proofs.Shared.{first}
 use Rattle.keep_rules.proofs.NestedLemmas.{nested_represents}
 use Rattle.keep_rules.proofs.FlatCountLemmas.{document_counts}
 use Rattle.keep_rules.proofs.FlatLineLemmas.{document_matches}
-use Rattle.keep_rules.proofs.PlanLemmas.{meets_weaker}
+use Rattle.keep_rules.proofs.BuildLemmas.{meets_weaker}
 use Rattle.keep_rules.proofs.ReadLemmas.{IsReadTo, read_more, read_obeys, root_reads, mentions_from-append}
 use Rattle.keep_rules.proofs.RootLemmas.{first_low, fault_placed}
 use Rattle.keep_rules.proofs.StopLemmas.{fault_is_first}
@@ -129,12 +137,12 @@ module _ (bytes : List ℕ) (s : Syntax) (d : Document) (was : WasRead bytes s d
       subst (λ (l : List Mention). IsFirstFaulty (marks.marks l) at why) (sym mentioned)
       (subst (λ (n : ℕ). IsFirstFaulty (marks.marks (ms ++ (statement_mentions r next ++ later))) n why) place (fault_is_first ms (statement_mentions r next) later one.within why one.fault))
 
-  pub break_within : (old : TrieInfos) (body : ℕ) (g : Fault) → IsReadUpTo d old body number → FaultMeets g (BreaksAsMatched bytes f st old body) → FaultMeets g (λ n w. n < length f.keys)
+  pub break_within : (old : TrieInfos) (body : ℕ) (g : DefineFault) → IsReadUpTo d old body number → FaultMeets g (BreaksAsMatched bytes f st old body) → FaultMeets g (λ n w. n < length f.keys)
   break_within old body g up meets =
       meets_weaker g (BreaksAsMatched bytes f st old body) (λ n w. n < length f.keys)
       (λ n w breaks. let low = first_low (marks.marks (mentions_in d)) n w (break_first old body n w up breaks) in omega (arith, low, marked-parts d, ap length keys)) meets
 
-  pub break_refused : (old : TrieInfos) (body : ℕ) (g : Fault) (r : ReadFault) → IsReadUpTo d old body number → IsFaultAt f.keys g r → FaultMeets g (BreaksAsMatched bytes f st old body) → IsRefusal d r
+  pub break_refused : (old : TrieInfos) (body : ℕ) (g : DefineFault) (r : ReadFault) → IsReadUpTo d old body number → IsFaultAt f.keys g r → FaultMeets g (BreaksAsMatched bytes f st old body) → IsRefusal d r
   break_refused old body g r up at meets =
       fault_placed (syntax.parts d) (marks.marks (mentions_in d)) (IsRefusal d) g r (subst (λ (ks : List KeyPart). IsFaultAt ks g r) keys at)
       (meets_weaker g (BreaksAsMatched bytes f st old body) (λ n w. IsFirstFaulty (marks.marks (mentions_in d)) n w) (λ n w breaks. break_first old body n w up breaks) meets) (λ place why fault. fault) tt

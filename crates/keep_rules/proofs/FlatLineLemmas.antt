@@ -1,4 +1,13 @@
 -- The flat list of a document's statements matches its lines, one after another.
+--
+-- The lists of statements, key parts and values of a document are the lists of its lines, joined. So what a line stores
+-- is a range of the whole list, with the ranges of later lines after it (`IsRangeBefore`); it is cut off from the left,
+-- line by line (`range_left`, `range_right`). A keyval's values end where the next line's values begin, since the first
+-- value there is a line's own (`content_starts`, `lines_start`). One line's statement matches its content
+-- (`content_matches`), by induction all statements match (`lines_match`), and the one of a number is found in both
+-- lists (`zip_at`).
+--
+-- Theorems: `statements_match`, and by number `document_matches`.
 use Rattle.std.proofs.Common.{◌≡◌, ℕ, zero, suc, ◌+◌, List, [], ◌∷◌, ◌++◌, length, map, slice_get, refl, sym, ◌∙◌, ap, subst, arith, append_assoc, Some, None}
 use Rattle.std.specs.List.{filter_map, cons_option, AllZip, AllByRecursion}
 use Rattle.std.proofs.lemmas.List.{append-nil, length-append}

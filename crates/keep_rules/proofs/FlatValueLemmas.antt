@@ -1,14 +1,21 @@
 -- The flat list of a document's values matches its tree.
+--
+-- The tree of a value is walked entry by entry, in the order in which its values are stored. Of each entry three things
+-- are shown: its leaf has the kind and the children of what the value means (`body_matches`), it is in the value that
+-- it is stored with (`body_owns`, `entry_owned`), and its key parts are those that the text has there. The text of an
+-- entry is what is left of its parent's after the entries before it, and so are its key parts; `entries_match` cuts
+-- both down step by step, first for the values in the entry and then for the later entries.
+--
+-- Theorems: `keyval_matches`: of the value of a line; `alone_matches`: of a value alone.
 use Rattle.std.proofs.Common.{◌≡◌, ℕ, suc, ◌+◌, IsTrue, List, [], ◌∷◌, ◌++◌, length, refl, sym, ap, subst, arith, Option, Some, None}
 use Rattle.std.proofs.lemmas.Bool.{false≢true}
-use Rattle.std.specs.List.{AllZip, AllByRecursion}
+use Rattle.std.specs.List.{AllZip}
 use Rattle.keep_types.specs.declared.leaf.Profile.{Profile}
 use Rattle.keep_types.specs.declared.leaf.Leaf.{Leaf}
 use Rattle.keep_types.specs.declared.leaf.Leaf.TheVariants as leaf
 use Rattle.keep_token.specs.Leaves.{is_scalar_leaf}
 use Rattle.keep_types.specs.declared.syntax.KeyPart.{KeyPart}
 use Rattle.keep_types.specs.declared.syntax.Start.{Start}
-use Rattle.keep_types.specs.declared.syntax.ValueInfo.{ValueInfo}
 use Rattle.keep_syntax.specs.Tree.{Written, Name, token, key_leaves, Body, scalar, array, inline, Entries, none, entry, Value, keyval, name_leaves, named_leaves, opening, closing, comma_leaves, entries_leaves, content_leaves, value_text}
 use Rattle.keep_syntax.specs.Grammar.{Place, in_scalar, in_array, in_inline, place_in, IsNamed, IsBody, AreEntries, IsValue}
 use Rattle.keep_syntax.specs.Contract.{alone, parts_alone, values_alone}
@@ -18,7 +25,7 @@ use Rattle.keep_meaning.specs.Meaning.{scalar_fact, body_fact}
 use Rattle.keep_meaning.specs.Nodes.{fact_kind}
 use Rattle.keep_rules.specs.NestedValues.{nested_fact, entry_nested, nested_values}
 use Rattle.keep_types.specs.Kinds.{leaf_kind}
-use Rattle.keep_rules.specs.FlatValues.{LeafMatches, MatchesNested, IsOwned, OwnsEntries, IsNested, MatchKeyval, MatchAlone}
+use Rattle.keep_rules.specs.FlatValues.{LeafMatches, MatchesNested, IsOwned, OwnsEntries, MatchKeyval, MatchAlone}
 use Rattle.keep_rules.proofs.NestedValueLemmas.{fact_is}
 use Rattle.keep_meaning.proofs.Shared.{length-named, length-entries_parts, IsPart, part_whole, part_left, part_right, part_placed, Spelled, spelled_left, spelled_right, keys_mention, keys_within, length-key_parts}
 
@@ -148,21 +155,3 @@ alone_matches bytes profile v is e =
       body_matches profile v.body is.body,
       entries_match bytes (parts_alone v) 1 profile (place_in v.body) 0 1 i v.nested is.nested (body_owns v.body 1 0 0 refl) refl (spelled_left bytes i.at (entries_leaves v.nested) (closing v.body) at_nested) (part_whole (parts_alone v)),
     )
-
--- ---- what is in a value is no line's value
-
-all-append : (xs ys : List ValueInfo) → AllByRecursion (λ (i : ValueInfo). IsNested i.owner) xs → AllByRecursion (λ (i : ValueInfo). IsNested i.owner) ys → AllByRecursion (λ (i : ValueInfo). IsNested i.owner) (xs ++ ys)
-all-append [] ys h g = g
-all-append (x ∷ xs) ys h g = (h.0, all-append xs ys h.1 g)
-
-body_nested : (body : Body) (g : ℕ) → IsNested (owner_in body g)
-body_nested (scalar w) g = tt
-body_nested (array first) g = tt
-body_nested (inline first) g = tt
-
-pub entries_nested : (p : Start) (es : Entries) → IsNested p.owner → AllByRecursion (λ (i : ValueInfo). IsNested i.owner) (entries_values p es)
-entries_nested p none h = tt
-entries_nested p (entry name body nested after comma rest) h =
-    let i : Start = nested_of p (value_start p.at name) (name_count name) body in
-    let r : Start = rest_of p name body nested after comma in
-    (h, all-append (entries_values i nested) (entries_values r rest) (entries_nested i nested (body_nested body p.values)) (entries_nested r rest h))

@@ -19,7 +19,7 @@ use Rattle.keep_types.specs.declared.node.NodeInfo.{NodeInfo}
 use Rattle.keep_types.specs.declared.role.Role.TheVariants.{Element, Value}
 use Rattle.keep_path.specs.Path.{Part, key, index}
 use Rattle.keep_meaning.specs.Marks as marks
-use Rattle.keep_meaning.specs.Marks.{Mention, through, past, passed, define, element, begun, dotted, value, item, elements_of, passing_mentions, entered_path, statement_mentions, header, element_header}
+use Rattle.keep_meaning.specs.Marks.{Mention, through, past, passed, define, element, begun, dotted, value, item, elements_of, passing_mentions, entered_path, header, element_header}
 use Rattle.keep_meaning.specs.Counts.{Count, Numbered, count_with_mention, numbered_mentions, count_after}
 use Rattle.keep_meaning.specs.Nodes.{fact_kind}
 use Rattle.keep_index_store.specs.Facts.{named_info, unnamed_info, passed_info}
@@ -27,15 +27,15 @@ use Rattle.keep_rules.specs.MentionInfos.{with_info, with_mentions, mention_info
 use Rattle.keep_index_store.specs.Trie.{Holding, by_key, by_index, paths_of, path_at, children_of}
 use Rattle.keep_index_store.specs.Growth.{Grows}
 use Rattle.keep_index_store.specs.Tree.{TrieInfos, node_infos}
-use Rattle.keep_rules.specs.Represents.{IsMarked, IsLastElement, HasNoElement}
-use Rattle.keep_rules.specs.Steps.{Walks, Dots}
-use Rattle.keep_rules.specs.KeyWalks.{walk_path, walk_mentions, dotted_mentions}
+use Rattle.keep_rules.specs.Represents.{IsDefined, IsLastElement, HasNoElement}
+use Rattle.keep_rules.specs.Steps.{HeaderDescent, DottedDescent}
+use Rattle.keep_rules.specs.Descents.{descent_path, descent_mentions, dotted_mentions}
 use Rattle.keep_rules.specs.NestedValues.{path_of_value, entries_of_value}
 use Rattle.keep_rules.specs.AddedInfos.{AddsInfo, AddsMentions, HeaderAdds, DottedAdds, StatementAdds, AddsValue, KeyedAdds, ItemAdds, begin_mentions}
 use Rattle.keep_meaning.proofs.Shared.{numbered_mentions-append}
 use Rattle.keep_index_store.proofs.Shared.{length-paths_of, one_node}
 use Rattle.keep_rules.proofs.PassLemmas.{passing-none, passing-some, element_place, elements_there}
-use Rattle.keep_rules.proofs.KeyWalkLemmas.{walk_mentions-append, header_prefixes-split, header_path-split, dotted_mentions-append}
+use Rattle.keep_rules.proofs.KeyWalkLemmas.{descent_mentions-append, header_prefixes-split, header_path-split, dotted_mentions-append}
 use Rattle.keep_rules.proofs.NextValueLemmas.{keyed_mentions_are}
 use Rattle.keep_rules.proofs.MentionInfoLemmas.{with_mentions-append, values_new-append, through_info, past_info, define_info, element_info, dotted_info, value_info, begun_info, passed_is_info, item_info}
 use Rattle.keep_rules.proofs.AddedInfoLemmas.{added_at_new, with_mentions-paths}
@@ -79,7 +79,7 @@ define_added old new p number statement one ms tables represents c keys statemen
     ∙ ap (λ i. with_info (node_infos old) p i) (sym (define_info n number refl keys))
 
 -- `[[..]]` begins an element
-pub begin_added : (old mid new : TrieInfos) (p : List Part) (id number statement : ℕ) → IsMarked old.trie mid.trie p Element by_index id
+pub begin_added : (old mid new : TrieInfos) (p : List Part) (id number statement : ℕ) → IsDefined old.trie mid.trie p Element by_index id
     → AddsInfo old mid p (named_info kind.Tables number origin.Tables) → Grows mid.trie new.trie id (path_at mid.trie id ++ index (length (children_of mid.trie id)) ∷ []) None by_key
     → new.infos ≡ mid.infos ++ unnamed_info kind.Table (origin.Element statement) ∷ [] → HeaderAdds old new number statement (begin_mentions p)
 begin_added old mid new p id number statement marked one grows infos ms tables represents c keys statements =
@@ -151,11 +151,11 @@ counts_then c ms ns m n f g = record {
   values = ap (λ (d : Count). d.values) (count-append c ms ns) ∙ g.values ∙ f.values;
 }
 
-pub header_counts : (tables : List (List Part)) (at : List Part) (ks : List (List ℕ)) (c : Count) → CountsKeys c (walk_mentions tables at ks) (length ks)
+pub header_counts : (tables : List (List Part)) (at : List Part) (ks : List (List ℕ)) (c : Count) → CountsKeys c (descent_mentions tables at ks) (length ks)
 header_counts tables at [] c = record { keys = omega arith; statements = refl; values = refl }
 header_counts tables at (k ∷ ks) c =
     let p : List Part = at ++ key k ∷ [] in
-    let all = counts_then c (passing_mentions tables p) (walk_mentions tables (entered_path tables p) ks) 1 (length ks) (passing_counts tables p c) (header_counts tables (entered_path tables p) ks (count_after c (passing_mentions tables p))) in
+    let all = counts_then c (passing_mentions tables p) (descent_mentions tables (entered_path tables p) ks) 1 (length ks) (passing_counts tables p c) (header_counts tables (entered_path tables p) ks (count_after c (passing_mentions tables p))) in
     record { keys = omega (arith, all.keys); statements = all.statements; values = all.values }
 
 pub dotted_counts : (at : List Part) (ks : List (List ℕ)) (c : Count) → CountsKeys c (dotted_mentions at ks) (length ks)
@@ -170,50 +170,50 @@ dotted_counts at (k ∷ ks) c =
 
 -- one key more, with these mentions at its path
 pub header_adds : (old mid new : TrieInfos) (at : ℕ) (ks : List (List ℕ)) (x : List ℕ) (first statement : ℕ) (mentioned : List (List Part) → List Part → List Mention)
-    → Walks old.trie mid.trie at ks → HeaderAdds old mid first statement (λ tables. walk_mentions tables [] ks)
+    → HeaderDescent old.trie mid.trie at ks → HeaderAdds old mid first statement (λ tables. descent_mentions tables [] ks)
     → HeaderAdds mid new (first + length ks) statement (λ tables. mentioned tables (path_at mid.trie at ++ key x ∷ []))
-    → HeaderAdds old new first statement (λ tables. walk_mentions tables [] ks ++ mentioned tables (walk_path tables [] ks ++ key x ∷ []))
+    → HeaderAdds old new first statement (λ tables. descent_mentions tables [] ks ++ mentioned tables (descent_path tables [] ks ++ key x ∷ []))
 header_adds old mid new at ks x first statement mentioned walked leading last ms tables represents c keys statements =
-    let d : Count = count_after c (walk_mentions tables [] ks) in
+    let d : Count = count_after c (descent_mentions tables [] ks) in
     let counts = header_counts tables [] ks c in
-    adds_then old mid new c (walk_mentions tables [] ks) (mentioned tables (walk_path tables [] ks ++ key x ∷ [])) (leading ms tables represents c keys statements)
+    adds_then old mid new c (descent_mentions tables [] ks) (mentioned tables (descent_path tables [] ks ++ key x ∷ [])) (leading ms tables represents c keys statements)
     (subst (λ (q : List Part). AddsMentions mid new d (mentioned tables (q ++ key x ∷ []))) (walked.is_open ms tables represents).here
-    (last (ms ++ walk_mentions tables [] ks) tables (walked.represents ms tables represents) d (counts.keys ∙ ap (λ k. k + length ks) keys) (counts.statements ∙ statements)))
+    (last (ms ++ descent_mentions tables [] ks) tables (walked.represents ms tables represents) d (counts.keys ∙ ap (λ k. k + length ks) keys) (counts.statements ∙ statements)))
 
 pub walk_adds : (old mid new : TrieInfos) (at : ℕ) (ks : List (List ℕ)) (x : List ℕ) (first statement : ℕ)
-    → Walks old.trie mid.trie at ks → HeaderAdds old mid first statement (λ tables. walk_mentions tables [] ks)
+    → HeaderDescent old.trie mid.trie at ks → HeaderAdds old mid first statement (λ tables. descent_mentions tables [] ks)
     → HeaderAdds mid new (first + length ks) statement (λ tables. passing_mentions tables (path_at mid.trie at ++ key x ∷ []))
-    → HeaderAdds old new first statement (λ tables. walk_mentions tables [] (ks ++ x ∷ []))
+    → HeaderAdds old new first statement (λ tables. descent_mentions tables [] (ks ++ x ∷ []))
 walk_adds old mid new at ks x first statement walked leading last ms tables represents c keys statements =
-    let p : List Part = walk_path tables [] ks ++ key x ∷ [] in
-    subst (λ (w : List Mention). AddsMentions old new c w) (ap (λ w. walk_mentions tables [] ks ++ w) (sym (append-nil (passing_mentions tables p))) ∙ sym (walk_mentions-append tables [] ks (x ∷ [])))
+    let p : List Part = descent_path tables [] ks ++ key x ∷ [] in
+    subst (λ (w : List Mention). AddsMentions old new c w) (ap (λ w. descent_mentions tables [] ks ++ w) (sym (append-nil (passing_mentions tables p))) ∙ sym (descent_mentions-append tables [] ks (x ∷ [])))
     (header_adds old mid new at ks x first statement passing_mentions walked leading last ms tables represents c keys statements)
 
 -- a header with all its keys
 pub header_added : (old new : TrieInfos) (ks : List (List ℕ)) (x : List ℕ) (first statement : ℕ)
-    → HeaderAdds old new first statement (λ tables. walk_mentions tables [] ks ++ record { path = walk_path tables [] ks ++ key x ∷ []; kind = define } ∷ [])
+    → HeaderAdds old new first statement (λ tables. descent_mentions tables [] ks ++ record { path = descent_path tables [] ks ++ key x ∷ []; kind = define } ∷ [])
     → StatementAdds old new first statement (header (ks ++ x ∷ []))
 header_added old new ks x first statement joined ms r body reading c keys statements =
     let ts : List (List Part) = r.tables in
     subst (λ (w : List Mention). AddsMentions old new c w)
-    (ap (λ w. w ++ record { path = walk_path ts [] ks ++ key x ∷ []; kind = define } ∷ []) (sym (header_prefixes-split ts [] ks x))
+    (ap (λ w. w ++ record { path = descent_path ts [] ks ++ key x ∷ []; kind = define } ∷ []) (sym (header_prefixes-split ts [] ks x))
     ∙ ap (λ p. marks.header_prefixes ts [] (ks ++ x ∷ []) ++ record { path = p; kind = define } ∷ []) (sym (header_path-split ts [] ks x)))
     (joined ms ts reading.represents c keys statements)
 
 pub element_added : (old new : TrieInfos) (ks : List (List ℕ)) (x : List ℕ) (first statement : ℕ)
-    → HeaderAdds old new first statement (λ tables. walk_mentions tables [] ks ++ begin_mentions (walk_path tables [] ks ++ key x ∷ []) tables)
+    → HeaderAdds old new first statement (λ tables. descent_mentions tables [] ks ++ begin_mentions (descent_path tables [] ks ++ key x ∷ []) tables)
     → StatementAdds old new first statement (element_header (ks ++ x ∷ []))
 element_added old new ks x first statement joined ms r body reading c keys statements =
     let ts : List (List Part) = r.tables in
     subst (λ (w : List Mention). AddsMentions old new c w)
-    (ap (λ w. w ++ begin_mentions (walk_path ts [] ks ++ key x ∷ []) ts) (sym (header_prefixes-split ts [] ks x))
+    (ap (λ w. w ++ begin_mentions (descent_path ts [] ks ++ key x ∷ []) ts) (sym (header_prefixes-split ts [] ks x))
     ∙ ap (λ p. marks.header_prefixes ts [] (ks ++ x ∷ []) ++ begin_mentions p ts) (sym (header_path-split ts [] ks x)))
     (joined ms ts reading.represents c keys statements)
 
 -- ---- values with keys
 
 pub dot_adds : (old mid new : TrieInfos) (from at : ℕ) (ks : List (List ℕ)) (x : List ℕ) (first number : ℕ)
-    → Dots old.trie mid.trie from at ks → DottedAdds old mid first number (dotted_mentions (path_at old.trie from) ks)
+    → DottedDescent old.trie mid.trie from at ks → DottedAdds old mid first number (dotted_mentions (path_at old.trie from) ks)
     → AddsInfo mid new (path_at mid.trie at ++ key x ∷ []) (named_info kind.Table (first + length ks) (origin.Dotted number))
     → DottedAdds old new first number (dotted_mentions (path_at old.trie from) (ks ++ x ∷ []))
 dot_adds old mid new from at ks x first number gone leading one c keys number_is =
@@ -235,7 +235,7 @@ leading_new [] paths at c = tt
 leading_new (k ∷ ks) paths at c = (λ t. absurd cc, leading_new ks _ (at ++ key k ∷ []) _)
 
 -- the path of a value's mark is new
-value_fresh : (old new : TrieInfos) (p : List Part) (holds : Holding) (id : ℕ) → IsMarked old.trie new.trie p Value holds id → (trie : 0 < length old.trie) → Contains (paths_of old.trie) p → ⊥
+value_fresh : (old new : TrieInfos) (p : List Part) (holds : Holding) (id : ℕ) → IsDefined old.trie new.trie p Value holds id → (trie : 0 < length old.trie) → Contains (paths_of old.trie) p → ⊥
 value_fresh old new p holds id marked root there =
     let j : ℕ = there.0 in
     let low : j < length old.trie = omega (arith, there.1, length-paths_of old.trie root) in
@@ -244,8 +244,8 @@ value_fresh old new p holds id marked root there =
     omega (arith, one, low, (marked.valued refl).2)
 
 pub keyed_added : (old mid new : TrieInfos) (from at id : ℕ) (ks : List (List ℕ)) (x : List ℕ) (first number : ℕ) (k : Kind) (holds : Holding)
-    → Dots old.trie mid.trie from at ks → DottedAdds old mid first number (dotted_mentions (path_at old.trie from) ks)
-    → IsMarked mid.trie new.trie (path_at mid.trie at ++ key x ∷ []) Value holds id
+    → DottedDescent old.trie mid.trie from at ks → DottedAdds old mid first number (dotted_mentions (path_at old.trie from) ks)
+    → IsDefined mid.trie new.trie (path_at mid.trie at ++ key x ∷ []) Value holds id
     → AddsInfo mid new (path_at mid.trie at ++ key x ∷ []) (named_info k (first + length ks) (origin.Value number))
     → KeyedAdds old new from first (ks ++ x ∷ []) number k
 keyed_added old mid new from at id ks x first number k holds gone leading marked one s o f here is c number_is keys =

@@ -6,25 +6,25 @@ use Rattle.std.proofs.lemmas.List.Elements.{filter_map-append}
 use Rattle.keep_path.specs.Path.{Part, key}
 use Rattle.keep_meaning.specs.Marks.{Mention, below, through, past, passed, dotted, passing_mentions, entered_path, header_prefixes, header_path, marks, mark_of, elements_of}
 use Rattle.keep_meaning.specs.Meaning.{keyed_mentions}
-use Rattle.keep_rules.specs.KeyWalks.{walk_path, walk_mentions, dotted_mentions}
+use Rattle.keep_rules.specs.Descents.{descent_path, descent_mentions, dotted_mentions}
 
-pub walk_mentions-append : (ts : List (List Part)) (at : List Part) (ks ls : List (List ℕ)) → walk_mentions ts at (ks ++ ls) ≡ walk_mentions ts at ks ++ walk_mentions ts (walk_path ts at ks) ls
-walk_mentions-append ts at [] ls = refl
-walk_mentions-append ts at (k ∷ ks) ls =
-    ap (λ w. passing_mentions ts (at ++ key k ∷ []) ++ w) (walk_mentions-append ts (entered_path ts (at ++ key k ∷ [])) ks ls)
-    ∙ sym (append_assoc (passing_mentions ts (at ++ key k ∷ [])) (walk_mentions ts (entered_path ts (at ++ key k ∷ [])) ks) (walk_mentions ts (walk_path ts (entered_path ts (at ++ key k ∷ [])) ks) ls))
+pub descent_mentions-append : (ts : List (List Part)) (at : List Part) (ks ls : List (List ℕ)) → descent_mentions ts at (ks ++ ls) ≡ descent_mentions ts at ks ++ descent_mentions ts (descent_path ts at ks) ls
+descent_mentions-append ts at [] ls = refl
+descent_mentions-append ts at (k ∷ ks) ls =
+    ap (λ w. passing_mentions ts (at ++ key k ∷ []) ++ w) (descent_mentions-append ts (entered_path ts (at ++ key k ∷ [])) ks ls)
+    ∙ sym (append_assoc (passing_mentions ts (at ++ key k ∷ [])) (descent_mentions ts (entered_path ts (at ++ key k ∷ [])) ks) (descent_mentions ts (descent_path ts (entered_path ts (at ++ key k ∷ [])) ks) ls))
 
-pub walk_path-append : (ts : List (List Part)) (at : List Part) (ks ls : List (List ℕ)) → walk_path ts at (ks ++ ls) ≡ walk_path ts (walk_path ts at ks) ls
-walk_path-append ts at [] ls = refl
-walk_path-append ts at (k ∷ ks) ls = walk_path-append ts (entered_path ts (at ++ key k ∷ [])) ks ls
+pub descent_path-append : (ts : List (List Part)) (at : List Part) (ks ls : List (List ℕ)) → descent_path ts at (ks ++ ls) ≡ descent_path ts (descent_path ts at ks) ls
+descent_path-append ts at [] ls = refl
+descent_path-append ts at (k ∷ ks) ls = descent_path-append ts (entered_path ts (at ++ key k ∷ [])) ks ls
 
 -- the leading keys of a header
-pub header_prefixes-split : (ts : List (List Part)) (at : List Part) (leading : List (List ℕ)) (k : List ℕ) → header_prefixes ts at (leading ++ k ∷ []) ≡ walk_mentions ts at leading
+pub header_prefixes-split : (ts : List (List Part)) (at : List Part) (leading : List (List ℕ)) (k : List ℕ) → header_prefixes ts at (leading ++ k ∷ []) ≡ descent_mentions ts at leading
 header_prefixes-split ts at [] k = refl
 header_prefixes-split ts at (w ∷ []) k = refl
 header_prefixes-split ts at (w ∷ x ∷ leading) k = ap (λ ms. passing_mentions ts (at ++ key w ∷ []) ++ ms) (header_prefixes-split ts (entered_path ts (at ++ key w ∷ [])) (x ∷ leading) k)
 
-pub header_path-split : (ts : List (List Part)) (at : List Part) (leading : List (List ℕ)) (k : List ℕ) → header_path ts at (leading ++ k ∷ []) ≡ walk_path ts at leading ++ key k ∷ []
+pub header_path-split : (ts : List (List Part)) (at : List Part) (leading : List (List ℕ)) (k : List ℕ) → header_path ts at (leading ++ k ∷ []) ≡ descent_path ts at leading ++ key k ∷ []
 header_path-split ts at [] k = refl
 header_path-split ts at (w ∷ []) k = refl
 header_path-split ts at (w ∷ x ∷ leading) k = header_path-split ts (entered_path ts (at ++ key w ∷ [])) (x ∷ leading) k
@@ -33,16 +33,16 @@ marks-passing : (ts : List (List Part)) (p : List Part) → length (marks (passi
 marks-passing ts p =
     elim (0 == elements_of p ts) as (λ b. length (marks (cond b (record { path = p; kind = through } ∷ []) (record { path = p; kind = past } ∷ record { path = entered_path ts p; kind = passed } ∷ []))) ≡ 1) [ true ↦ refl | false ↦ refl ]
 
-pub marks-walk_mentions : (ts : List (List Part)) (at : List Part) (ks : List (List ℕ)) → length (marks (walk_mentions ts at ks)) ≡ length ks
-marks-walk_mentions ts at [] = refl
-marks-walk_mentions ts at (k ∷ ks) =
+pub marks-descent_mentions : (ts : List (List Part)) (at : List Part) (ks : List (List ℕ)) → length (marks (descent_mentions ts at ks)) ≡ length ks
+marks-descent_mentions ts at [] = refl
+marks-descent_mentions ts at (k ∷ ks) =
     let p : List Part = at ++ key k ∷ [] in
     omega (
       arith,
       marks-passing ts p,
-      marks-walk_mentions ts (entered_path ts p) ks,
-      ap length (filter_map-append mark_of (passing_mentions ts p) (walk_mentions ts (entered_path ts p) ks)),
-      length-append (marks (passing_mentions ts p)) (marks (walk_mentions ts (entered_path ts p) ks)),
+      marks-descent_mentions ts (entered_path ts p) ks,
+      ap length (filter_map-append mark_of (passing_mentions ts p) (descent_mentions ts (entered_path ts p) ks)),
+      length-append (marks (passing_mentions ts p)) (marks (descent_mentions ts (entered_path ts p) ks)),
     )
 
 -- ---- keyvals

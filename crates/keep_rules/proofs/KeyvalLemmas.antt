@@ -8,7 +8,7 @@
 --
 -- Theorems: `keyval_is_read`: the keyval is read as its statement; `keys_break_as_matched` and
 -- `nested_breaks_as_matched`: its faults.
-use Rattle.std.proofs.Common.{◌≡◌, ℕ, zero, suc, ◌+◌, ◌<◌, ◌≤◌, false, List, [], ◌∷◌, ◌++◌, length, get_or, map, take, drop, slice_get, refl, sym, ◌∙◌, ap, subst, arith, inl, inr, Option, Some, None}
+use Rattle.std.proofs.Common.{◌≡◌, ℕ, zero, suc, ◌+◌, ◌<◌, false, List, [], ◌∷◌, ◌++◌, length, get_or, map, take, drop, slice_get, refl, sym, ◌∙◌, ap, subst, arith, inl, inr, Option, Some, None}
 use Rattle.std.proofs.lemmas.Bool.{cases_Bool}
 use Rattle.std.proofs.lemmas.List.{append-nil}
 use Rattle.keep_syntax.specs.declared.fault.Why.{Why}
@@ -17,41 +17,40 @@ use Rattle.keep_types.specs.declared.syntax.ValueInfo.{ValueInfo}
 use Rattle.keep_syntax_store.specs.Flat.{Flat}
 use Rattle.keep_syntax.specs.Tree.{Name, Value}
 use Rattle.keep_syntax.specs.Numbered.{value_count}
-use Rattle.keep_rules.specs.declared.keys.Keys.{Keys}
 use Rattle.keep_types.specs.declared.node.Kind.{Kind}
 use Rattle.keep_types.specs.declared.role.Role.{Role}
 use Rattle.keep_types.specs.declared.role.Role.TheVariants.{Element}
-use Rattle.keep_rules.specs.declared.key_walk.Fault.{Fault}
-use Rattle.keep_meaning.specs.Fact.{Fact, array}
+use Rattle.keep_rules.specs.declared.definitions.DefineFault.{DefineFault}
+use Rattle.keep_meaning.specs.Fact.{Fact}
 use Rattle.keep_path.specs.Path.{Part}
 use Rattle.keep_meaning.specs.Rules.{allows}
 use Rattle.keep_meaning.specs.Marks as marks
 use Rattle.keep_meaning.specs.Marks.{Mention, Reading, statement_mentions, below}
 use Rattle.keep_meaning.specs.Meaning.{keys_of, body_fact, keyval_mentions}
 use Rattle.keep_meaning.specs.Counts.{Count, numbered_mentions}
-use Rattle.keep_rules.specs.Keys.{AreKeysAt, AreKeys, key_texts, leading_texts, last_text}
+use Rattle.keep_rules.specs.Keys.{Key, leading_texts, last_text}
 use Rattle.keep_meaning.specs.KeyText.{keys_in}
 use Rattle.keep_rules.specs.NestedValues.{NestingState, NestedValue, nested_keyed, nested_values, nested_mentions, all_nested_mentions, next_nesting, body_nesting, keyval_nested}
 use Rattle.keep_index_store.specs.Trie.{TrieNode, Holding, by_key, by_index, path_at, state_at}
 use Rattle.keep_rules.specs.Tables.{is_tables, IsShaped}
 use Rattle.keep_index_store.specs.Tree.{TrieInfos, node_infos}
-use Rattle.keep_rules.specs.Represents.{Represents, IsOpen, FaultIn}
-use Rattle.keep_rules.specs.Steps.{Gives}
-use Rattle.keep_rules.specs.Reads.{IsValueNode, AreValueNodes}
-use Rattle.keep_rules.specs.Stops.{FaultMeets}
+use Rattle.keep_rules.specs.Represents.{Represents, IsOpen, FaultIn, FaultFrom}
+use Rattle.keep_rules.specs.Steps.{HasNewValue}
+use Rattle.keep_rules.specs.Reads.{IsValueNode, AreValueNodes, KeyedFaults}
+use Rattle.keep_rules.specs.DefineFaults.{FaultMeets}
 use Rattle.keep_rules.specs.AddedInfos.{KeyedAdds, AddsValue}
 use Rattle.keep_rules.specs.MentionInfos.{with_mentions, ValuesAreNew}
 use Rattle.keep_rules.specs.NestedReads.{NestedRead}
 use Rattle.keep_types.specs.Kinds.{leaf_kind}
 use Rattle.keep_rules.specs.FlatValues.{leaf_holding}
 use Rattle.keep_rules.specs.FlatStatements.{MatchesKeyvalOf, MatchesStatement}
-use Rattle.keep_rules.specs.Plans.{nodes_so_far, EndsAt, MatchNested, AreNext, RepresentsSome, NestedValuesRead, NestedValuesFault, fault_from}
+use Rattle.keep_rules.specs.Plans.{nodes_so_far, EndsAt, MatchNested, AreNext, NestedValuesRead, NestedValuesFault}
 use Rattle.keep_rules.specs.ReadStatements.{HasReading, IsRead, Breaks, IsReadAsMatched, BreaksAsMatched}
 use Rattle.keep_rules.proofs.NestedValueLemmas.{all_nested_mentions-append, keyval_nested-mentions}
 use Rattle.keep_rules.proofs.SuitLemmas.{keyval_suits}
 use Rattle.keep_rules.proofs.ReadLemmas.{keyval_reads}
-use Rattle.keep_rules.proofs.StopLemmas.{fault_more, fault_within}
-use Rattle.keep_rules.proofs.PlanLemmas.{meets_weaker, meets_from, fault_low, KeyedFaults}
+use Rattle.keep_rules.proofs.StopLemmas.{fault_from_more, fault_within}
+use Rattle.keep_rules.proofs.BuildLemmas.{meets_weaker}
 use Rattle.keep_rules.proofs.UnderwayLemmas.{line_nested}
 use Rattle.keep_rules.proofs.FirstKeyLemmas.{nested_count, match_nested, taken_from}
 use Rattle.keep_rules.proofs.KeyLemmas.{texts_split, length-keys_in}
@@ -96,10 +95,10 @@ some_info a b e = cc
 mentions_in_body : (r : Reading) (path : List Part) (name : Name) (v : Value) → path ≡ r.body → all_nested_mentions (body_nesting path) (keyval_nested name v) ≡ statement_mentions r (marks.keyval (keyval_mentions name v))
 mentions_in_body r path name v e = ap (λ q. all_nested_mentions (body_nesting q) (keyval_nested name v)) e ∙ keyval_nested-mentions r.body name v
 
-module _ (bytes : List ℕ) (f : Flat) (st : Statement) (old mid : TrieInfos) (body top number : ℕ) (k : Keys) (info : ValueInfo) (kind : Kind) (holds : Holding)
-    (texts : key_texts k ≡ keys_in bytes f.keys st.first_key st.keys) (are : AreKeys k) (listed : slice_get f.values number ≡ Some info) (valued : st.value ≡ Some number)
+module _ (bytes : List ℕ) (f : Flat) (st : Statement) (old mid : TrieInfos) (body top number : ℕ) (k : Key) (info : ValueInfo) (kind : Kind) (holds : Holding)
+    (texts : k.texts ≡ keys_in bytes f.keys st.first_key st.keys) (some : 0 < length k.texts) (listed : slice_get f.values number ≡ Some info) (valued : st.value ≡ Some number)
     (kind_is : kind ≡ leaf_kind info.leaf) (holds_is : holds ≡ leaf_holding info.leaf)
-    (gives : Gives old.trie mid.trie body top (leading_texts k) (last_text k) holds) (joined : KeyedAdds old mid body st.first_key (key_texts k) number kind) where
+    (gives : HasNewValue old.trie mid.trie body top (leading_texts k) (last_text k) holds) (joined : KeyedAdds old mid body st.first_key k.texts number kind) where
   -- the keyval's own value was read
   pub top_read : (mentioned : List Mention) (path : List Part) (matches : MatchesKeyvalOf bytes f.keys f.values st mentioned) → IsShaped old.trie → IsOpen old.trie body path
       → NestedRead (nodes_so_far old (body ∷ [])) (nodes_so_far mid (body ∷ top ∷ [])) number st.first_key (body_nesting path) (nested_keyed 0 (keys_of matches.name.key) (body_fact matches.value.body) ∷ [])
@@ -108,11 +107,11 @@ module _ (bytes : List ℕ) (f : Flat) (st : Statement) (old mid : TrieInfos) (b
       let s : NestingState = body_nesting path in
       let same : matches.valued.own ≡ info = some_info matches.valued.own info (sym matches.valued.here ∙ ap (slice_get f.values) (some_value matches.valued.first number (sym matches.valued.valued ∙ valued)) ∙ listed) in
       let facts : (c : Count) → c.values ≡ number → c.keys ≡ st.first_key → AddsValue old mid c (nested_mentions s (nested_keyed 0 (leading_texts k ++ last_text k ∷ []) fact)) = λ c v first.
-      subst (λ (x : List (List ℕ)). AddsValue old mid c (nested_mentions s (nested_keyed 0 x fact))) (sym (texts_split k are))
+      subst (λ (x : List (List ℕ)). AddsValue old mid c (nested_mentions s (nested_keyed 0 x fact))) (sym (texts_split k some))
       (joined s 0 fact open_.here (matches.valued.kind ∙ ap (λ (i : ValueInfo). leaf_kind i.leaf) same ∙ sym kind_is) c v first) in
-      subst (λ (x : List (List ℕ)). NestedRead (nodes_so_far old (body ∷ [])) (nodes_so_far mid (body ∷ top ∷ [])) number st.first_key s (nested_keyed 0 x fact ∷ [])) (texts_split k are ∙ texts ∙ matches.keys.keys)
+      subst (λ (x : List (List ℕ)). NestedRead (nodes_so_far old (body ∷ [])) (nodes_so_far mid (body ∷ top ∷ [])) number st.first_key s (nested_keyed 0 x fact ∷ [])) (texts_split k some ∙ texts ∙ matches.keys.keys)
       (nested_read_keyed (nodes_so_far old (body ∷ [])) mid.trie (node_infos mid) top number st.first_key s 0 (leading_texts k) (last_text k) fact (open_nesting old.trie body path shaped open_) (omega arith) refl
-      (subst (λ (x : Holding). Gives old.trie mid.trie body top (leading_texts k) (last_text k) x) (holds_is ∙ ap (λ (i : ValueInfo). leaf_holding i.leaf) (sym same) ∙ sym matches.valued.holds) gives)
+      (subst (λ (x : Holding). HasNewValue old.trie mid.trie body top (leading_texts k) (last_text k) x) (holds_is ∙ ap (λ (i : ValueInfo). leaf_holding i.leaf) (sym same) ∙ sym matches.valued.holds) gives)
       (λ c v first. (facts c v first).joined)
       (λ c v first. (facts c v first).fresh))
 
@@ -186,15 +185,6 @@ module _ (bytes : List ℕ) (f : Flat) (st : Statement) (old mid : TrieInfos) (b
         nested_next mentioned reading.1.body matches reading.2.represents.shaped reading.2.is_open,
       )
 
-  pub some_top_represents : (s : marks.Statement) × MatchesStatement bytes f.keys f.values st s → HasReading old.trie body → RepresentsSome mid.trie
-  some_top_represents matches reading = mentions_represented matches.0 matches.1 reading
-    where
-      mentions_represented : (s : marks.Statement) → MatchesStatement bytes f.keys f.values st s → HasReading old.trie body → RepresentsSome mid.trie
-      mentions_represented (marks.header ks) matches reading = absurd (let no : None ≡ Some number = sym matches.1 ∙ valued in cc)
-      mentions_represented (marks.element_header ks) matches reading = absurd (let no : None ≡ Some number = sym matches.1 ∙ valued in cc)
-      mentions_represented (marks.keyval mentioned) matches reading =
-          (_, reading.1.tables, (top_read mentioned reading.1.body matches reading.2.represents.shaped reading.2.is_open).represents reading.0 reading.1.tables reading.2.represents)
-
   -- a fault in the values in it
   nested_breaks : (at : ℕ) (why : Why) → NestedValuesFault bytes f number (number + 1) mid (body ∷ top ∷ []) at why → (mentioned : List Mention) → MatchesKeyvalOf bytes f.keys f.values st mentioned → Breaks st old body (marks.keyval mentioned) at why
   nested_breaks at why faults mentioned matches ms r reading =
@@ -212,7 +202,7 @@ module _ (bytes : List ℕ) (f : Flat) (st : Statement) (old mid : TrieInfos) (b
         fault = subst (λ (w : List Mention). FaultIn ms w (length (marks.marks (all_nested_mentions s (t ∷ []))) + one.within) why) whole (fault_within ms (all_nested_mentions s (t ∷ [])) more [] one.within why one.fault);
       }
 
-  pub nested_breaks_as_matched : (g : Fault) → FaultMeets g (NestedValuesFault bytes f number (number + 1) mid (body ∷ top ∷ [])) → FaultMeets g (BreaksAsMatched bytes f st old body)
+  pub nested_breaks_as_matched : (g : DefineFault) → FaultMeets g (NestedValuesFault bytes f number (number + 1) mid (body ∷ top ∷ [])) → FaultMeets g (BreaksAsMatched bytes f st old body)
   nested_breaks_as_matched g faults = meets_weaker g (NestedValuesFault bytes f number (number + 1) mid (body ∷ top ∷ [])) (BreaksAsMatched bytes f st old body) (λ at why fault s matches. mentions_break at why fault s matches) faults
     where
       mentions_break : (at : ℕ) (why : Why) → NestedValuesFault bytes f number (number + 1) mid (body ∷ top ∷ []) at why → BreaksAsMatched bytes f st old body at why
@@ -223,33 +213,20 @@ module _ (bytes : List ℕ) (f : Flat) (st : Statement) (old mid : TrieInfos) (b
 -- ---- a fault in its own keys
 
 module _ (bytes : List ℕ) (f : Flat) (st : Statement) (old : TrieInfos) (body number : ℕ) (keys : List (List ℕ)) (texts : keys ≡ keys_in bytes f.keys st.first_key st.keys) (valued : st.value ≡ Some number) where
-  keys_break : (at : ℕ) (why : Why) → KeyedFaults old.trie body keys at why → BreaksAsMatched bytes f st old body (st.first_key + at) why
+  keys_break : (at : ℕ) (why : Why) → KeyedFaults old.trie body st.first_key keys at why → BreaksAsMatched bytes f st old body at why
   keys_break at why faults (marks.header ks) matches = absurd (let no : None ≡ Some number = sym matches.1 ∙ valued in cc)
   keys_break at why faults (marks.element_header ks) matches = absurd (let no : None ≡ Some number = sym matches.1 ∙ valued in cc)
   keys_break at why faults (marks.keyval mentioned) matches = λ ms r reading.
       let s : NestingState = body_nesting r.body in
       let fact : Fact = body_fact matches.value.body in
       let t : NestedValue = nested_keyed 0 (keys_of matches.name.key) fact in
-      let one : FaultIn ms (nested_mentions s t) at why = subst (λ (x : List (List ℕ)). FaultIn ms (nested_mentions s (nested_keyed 0 x fact)) at why) (texts ∙ matches.keys.keys) (faults s 0 fact reading.is_open.here ms r.tables reading.represents) in
+      let one : FaultFrom ms (nested_mentions s t) st.first_key at why = subst (λ (x : List (List ℕ)). FaultFrom ms (nested_mentions s (nested_keyed 0 x fact)) st.first_key at why) (texts ∙ matches.keys.keys) (faults s 0 fact reading.is_open.here ms r.tables reading.represents) in
       let whole : all_nested_mentions s (keyval_nested matches.name matches.value) ≡ statement_mentions r (marks.keyval mentioned) = keyval_nested-mentions r.body matches.name matches.value ∙ ap (map (below r.body)) (sym matches.mentions) in
-      record {
-        within = at;
-        sum = refl;
-        fault = subst (λ (w : List Mention). FaultIn ms w at why) whole (fault_more ms (nested_mentions s t) (all_nested_mentions (next_nesting s t) (nested_values 1 2 matches.value.nested)) at why one);
-      }
+      subst (λ (w : List Mention). FaultFrom ms w st.first_key at why) whole
+      (fault_from_more ms (nested_mentions s t) (all_nested_mentions (next_nesting s t) (nested_values 1 2 matches.value.nested)) st.first_key at why one)
 
-  pub keys_break_as_matched : (g h : Fault) → h ≡ fault_from g st.first_key → FaultMeets g (KeyedFaults old.trie body keys) → FaultMeets h (BreaksAsMatched bytes f st old body)
-  keys_break_as_matched g h from faults =
-      meets_from g st.first_key h (BreaksAsMatched bytes f st old body) from (meets_weaker g (KeyedFaults old.trie body keys) (λ at why. BreaksAsMatched bytes f st old body (st.first_key + at) why) (λ at why fault s matches. keys_break at why fault s matches) faults)
-
-  pub keys_fault_fits : (most : ℕ) (g : Fault) → AreKeysAt bytes f.keys st.first_key st.keys → HasReading old.trie body → length f.keys ≤ most → FaultMeets g (KeyedFaults old.trie body keys) → FaultMeets g (λ at why. st.first_key + at ≤ most)
-  keys_fault_fits most g are reading fits faults =
-      meets_weaker g (KeyedFaults old.trie body keys) (λ at why. st.first_key + at ≤ most)
-      (λ at why fault.
-      let s : NestingState = body_nesting reading.1.body in
-      let many : length keys ≡ st.keys = ap length texts ∙ length-keys_in bytes f.keys st.first_key st.keys are.within in
-      let low = fault_low (fault s 0 array reading.2.is_open.here reading.0 reading.1.tables reading.2.represents) in
-      omega (arith, low, nested_marks s (nested_keyed 0 keys array) (omega (arith, many, are.some)), many, are.within, fits)) faults
+  pub keys_break_as_matched : (g : DefineFault) → FaultMeets g (KeyedFaults old.trie body st.first_key keys) → FaultMeets g (BreaksAsMatched bytes f st old body)
+  keys_break_as_matched g faults = meets_weaker g (KeyedFaults old.trie body st.first_key keys) (BreaksAsMatched bytes f st old body) (λ at why fault s matches. keys_break at why fault s matches) faults
 
 -- the nodes of the body and of the keyval's own value
 pub two_ids : (a b c : List ℕ) (body top : ℕ) → a ≡ [] → b ≡ a ++ body ∷ [] → c ≡ b ++ top ∷ [] → c ≡ body ∷ top ∷ []

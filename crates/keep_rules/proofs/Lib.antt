@@ -36,7 +36,11 @@ mod KeyvalLemmas
 mod RootLemmas
 mod AloneLemmas
 mod NestedLemmas
+mod PutLemmas
+mod LineNestedLaws
+pub mod LinePlaceLemmas
 mod DocumentLemmas
 mod RefusalLaws
 mod ValueLaws
 pub mod Shared
+pub mod PathRoomLemmas

@@ -8,8 +8,8 @@
 -- roles).
 --
 -- Theorems: `marked_new` and `marked_existing`: the mark is in the nodes; `was_refused`: the rules refuse it.
-use Rattle.std.proofs.Common.{◌≡◌, ℕ, ◌<◌, Bool, true, false, ◌&&◌, List, [], ◌∷◌, ◌++◌, length, get_or, refl, sym, ◌∙◌, ap, subst, arith, Option, Some, None, Ok, Err}
-use Rattle.std.specs.Prelude.{IsSome, IfOk, Result}
+use Rattle.std.proofs.Common.{◌≡◌, ℕ, ◌<◌, Bool, true, false, ◌&&◌, List, [], ◌∷◌, ◌++◌, length, get_or, refl, sym, ◌∙◌, ap, subst, arith, Option, Some, None}
+use Rattle.std.specs.Prelude.{IsSome}
 use Rattle.std.specs.List.{list_all, cons_option}
 use Rattle.keep_types.specs.declared.role.Role.{Role}
 use Rattle.keep_types.specs.declared.role.Role.TheVariants.{Through, Past, Define, Element, Dotted, Value}
@@ -19,10 +19,9 @@ use Rattle.keep_meaning.specs.Marks.{Mention}
 use Rattle.keep_index_store.specs.Trie.{TrieNode, Holding, by_key, by_index, paths_of, path_at, states_of, state_at, holds_at, children_of}
 use Rattle.keep_index_store.specs.Growth.{Grows, Restates}
 use Rattle.keep_meaning.specs.State.{IsState}
-use Rattle.keep_rules.specs.declared.mark.Stop.{Stop}
 use Rattle.keep_rules.specs.RoleStates.{mention_roles, StatesRepresent, IsIndexOf}
 use Rattle.keep_rules.specs.Tables.{is_tables, Fits, IsShaped}
-use Rattle.keep_rules.specs.Represents.{Keeps, KeepsItems, IsMarked, WasRefused}
+use Rattle.keep_rules.specs.Represents.{Keeps, KeepsItems, IsDefined, WasRefused}
 use Rattle.keep_index_store.proofs.Shared.{length-paths_of, no_children_past_end, first, longer, path_below, path_last, state_below, state_last, holds_below, holds_last, children_other}
 use Rattle.keep_rules.proofs.TablesLemmas.{Joins, key_plain, shaped_grown, tables_joined, begun_joined, begun_others, state_same, kind_same, holds_same, tables_restated, shaped_restated, begun_existing, kind_preserved, kind_made}
 use Rattle.keep_rules.proofs.RoleStateLemmas.{represented_new, represented_existing, refused, obeys_push}
@@ -63,7 +62,7 @@ key_joins old parent k role holds shaped h keyed fits = record {
 }
 
 pub marked_new : (old new : List TrieNode) (parent : ℕ) (k : List ℕ) (role : Role) (holds : Holding) (id : ℕ) → Grows old new parent (path_at old parent ++ key k ∷ []) (Some role) holds → IsShaped old → holds_at old parent ≡ by_key → Fits role holds
-    → id ≡ length old → IsMarked old new (path_at old parent ++ key k ∷ []) role holds id
+    → id ≡ length old → IsDefined old new (path_at old parent ++ key k ∷ []) role holds id
 marked_new old new parent k role holds id g shaped keyed fits last =
     let path : List Part = path_at old parent ++ key k ∷ [] in
     let plain : is_tables (state_at old parent) ≡ false = key_plain old shaped parent g.within keyed in
@@ -138,10 +137,7 @@ still_fits s next role holds h same fits = record {
     left true b e = refl
     left false b e = cc
 
--- the state of a node that a key names
-pub record IsNamed (old : List TrieNode) (id : ℕ) (state : Role) : Type 0 where
-  pub is : state_at old id ≡ Some state
-
+-- a node that a key names has a state
 pub named_state : (old : List TrieNode) → IsShaped old → (id : ℕ) (before : List Part) (k : List ℕ) → id < length old → path_at old id ≡ before ++ key k ∷ [] → (s : Role) × (state_at old id ≡ Some s)
 named_state old shaped id before k h here = by_state (state_at old id) refl (shaped.marked id before k h here)
   where
@@ -169,7 +165,7 @@ keeps_restated g kind = record {
 pub marked_existing : (old new : List TrieNode) (before : List Part) (k : List ℕ) (role next : Role) (holds : Holding) (id : ℕ) → Restates old new id next → IsShaped old → path_at old id ≡ before ++ key k ∷ []
     → ((roles : List Role) → IsState (state_at old id) roles → list_all (λ e. allows e role) roles ≡ true)
     → ((roles : List Role) → IsState (state_at old id) roles → IsState (Some next) (roles ++ role ∷ []))
-    → IsMarked old new (before ++ key k ∷ []) role holds id
+    → IsDefined old new (before ++ key k ∷ []) role holds id
 marked_existing old new before k role next holds id g shaped here allowed then =
     let path : List Part = before ++ key k ∷ [] in
     let named = named_state old shaped id before k g.within here in
@@ -206,9 +202,3 @@ pub was_refused : (old : List TrieNode) (path : List Part) (role : Role) (id : �
     → ((roles : List Role) → IsState (state_at old id) roles → list_all (λ e. allows e role) roles ≡ false) → WasRefused old path role
 was_refused old path role id h here none =
     λ ms known. refused ms path role (none (mention_roles path ms) (state_represents old ms known id path h here))
-
--- a mark at a node that is there is one at its path
-pub marked_at : (r : Result ℕ Stop) (old new : List TrieNode) (id : ℕ) (role : Role) (before : List Part) (k : List ℕ) (holds : Holding) → path_at old id ≡ before ++ key k ∷ []
-    → IfOk r (λ to. (b : List Part) (l : List ℕ) (h : Holding) → path_at old id ≡ b ++ key l ∷ [] → IsMarked old new (b ++ key l ∷ []) role h to) → IfOk r (IsMarked old new (before ++ key k ∷ []) role holds)
-marked_at (Ok to) old new id role before k holds here marked = marked before k holds here
-marked_at (Err stop) old new id role before k holds here marked = tt

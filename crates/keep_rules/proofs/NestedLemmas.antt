@@ -23,7 +23,7 @@ use Rattle.keep_rules.proofs.MarkLemmas.{state_represents}
 use Rattle.keep_rules.proofs.TablesLemmas.{tables_listed}
 
 -- where a header enters that goes past an array of tables
-enters : (tables : List (List Part)) (path : List Part) (m : ℕ) → elements_of path tables ≡ m → 0 < m → entered_path tables path ≡ path ++ index (m - 1) ∷ []
+pub enters : (tables : List (List Part)) (path : List Part) (m : ℕ) → elements_of path tables ≡ m → 0 < m → entered_path tables path ≡ path ++ index (m - 1) ∷ []
 enters tables path zero e some = absurd (omega arith)
 enters tables path (suc m) e some =
     let more : (0 == suc m) ≡ false = grind (arith, nat_tests) in

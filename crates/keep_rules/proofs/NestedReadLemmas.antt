@@ -12,7 +12,7 @@ use Rattle.keep_rules.specs.NestedValues.{NestingState, NestedValue, nested_item
 use Rattle.keep_index_store.specs.Trie.{TrieNode, by_key, by_index}
 use Rattle.keep_rules.specs.Tables.{IsShaped}
 use Rattle.keep_rules.specs.Represents.{Represents, Keeps}
-use Rattle.keep_rules.specs.Steps.{Gives, AddsItem}
+use Rattle.keep_rules.specs.Steps.{HasNewValue, AddsItem}
 use Rattle.keep_rules.specs.Reads.{AreValueNodes}
 use Rattle.keep_path.specs.NodeInfos.{NodeInfos}
 use Rattle.keep_rules.specs.MentionInfos.{with_info, with_info_at, with_mentions, mention_info, paths_after, ValuesAreNew}
@@ -118,7 +118,7 @@ nested_read_item a new node_infos to from first s o f are low listed added facts
 
 pub nested_read_keyed : (a : NodesSoFar) (new : List TrieNode) (node_infos : NodeInfos) (to from first : ℕ) (s : NestingState) (o : ℕ) (leading : List (List ℕ)) (last : List ℕ) (f : Fact)
     → AreValueNodes a.trie a.ids s → o < length a.ids → holding_of_value s o ≡ by_key
-    → Gives a.trie new (get_or a.ids o 0) to leading last (holding_of f)
+    → HasNewValue a.trie new (get_or a.ids o 0) to leading last (holding_of f)
     → ((c : Count) → c.values ≡ from → c.keys ≡ first → node_infos ≡ with_mentions a.node_infos (numbered_mentions c (nested_mentions s (nested_keyed o (leading ++ last ∷ []) f))))
     → ((c : Count) → c.values ≡ from → c.keys ≡ first → ValuesAreNew a.node_infos.paths (numbered_mentions c (nested_mentions s (nested_keyed o (leading ++ last ∷ []) f))))
     → NestedRead a (record { trie = new; node_infos = node_infos; ids = a.ids ++ to ∷ [] }) from first s (nested_keyed o (leading ++ last ∷ []) f ∷ [])

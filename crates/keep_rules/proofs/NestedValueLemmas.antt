@@ -1,4 +1,12 @@
 -- The mentions of the nested values, one after another, are those of the value's entries.
+--
+-- A nested value is read with nothing but the nesting state: the path, the children and the number of entries of each
+-- value so far. The state only grows: one value more is added at its end and counted in its parent, and all else stays
+-- (`Stays`, `next_stays`). So after the values inside an entry, the parent has its path still and one entry more
+-- (`stays_through`, `nested_stay`). An entry's mentions are those of its key, of itself and of what is inside it
+-- (`entry_split`), and by induction over the entries these are the mentions that its meaning gives, put below the path.
+--
+-- Theorems: `nested_mentions_are`; of a keyval `keyval_nested-mentions`, of a value alone `value_nested-mentions`.
 use Rattle.std.proofs.Common.{◌≡◌, ℕ, suc, ◌+◌, ◌<◌, List, [], ◌∷◌, ◌++◌, length, set, map, refl, sym, ◌∙◌, ap, subst, arith, length-append, Option, Some, None}
 use Rattle.std.proofs.lemmas.List.{append_assoc, append-nil, map-append, get_or_append_left, get_or_push, get_or-set_same, get_or-set_other, length-set}
 use Rattle.keep_syntax.specs.Tree.{Name, Entries, none, entry, Value}

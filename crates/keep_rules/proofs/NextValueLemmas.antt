@@ -9,8 +9,8 @@ use Rattle.keep_meaning.specs.Marks.{Mention, below}
 use Rattle.keep_meaning.specs.Meaning.{keyed_mentions}
 use Rattle.keep_index_store.specs.Trie.{TrieNode, by_key, by_index, path_at, holds_at, children_of}
 use Rattle.keep_rules.specs.Represents.{Keeps, Represents}
-use Rattle.keep_rules.specs.KeyWalks.{dotted_mentions}
-use Rattle.keep_rules.specs.Steps.{IsMade, Gives, AddsItem}
+use Rattle.keep_rules.specs.Descents.{dotted_mentions}
+use Rattle.keep_rules.specs.Steps.{IsMade, HasNewValue, AddsItem}
 use Rattle.keep_rules.specs.NestedValues.{NestedValue, nested_item, nested_keyed, holding_of, NestingState, path_of_value, entries_of_value, holding_of_value, nested_mentions, nested_path, nested_owner, nested_fact, next_nesting}
 use Rattle.keep_rules.specs.Reads.{IsValueNode, AreValueNodes}
 use Rattle.keep_rules.proofs.KeyWalkLemmas.{keyed-split}
@@ -107,7 +107,7 @@ distinct_kinds : by_key ≡ by_index → ⊥
 distinct_kinds e = cc
 
 pub keyed_taken : (old new : List TrieNode) (ids : List ℕ) (to : ℕ) (s : NestingState) (o : ℕ) (leading : List (List ℕ)) (last : List ℕ) (f : Fact) → AreValueNodes old ids s → o < length ids → holding_of_value s o ≡ by_key
-    → Gives old new (get_or ids o 0) to leading last (holding_of f) → AreValueNodes new (ids ++ to ∷ []) (next_nesting s (nested_keyed o (leading ++ last ∷ []) f))
+    → HasNewValue old new (get_or ids o 0) to leading last (holding_of f) → AreValueNodes new (ids ++ to ∷ []) (next_nesting s (nested_keyed o (leading ++ last ∷ []) f))
 keyed_taken old new ids to s o leading last f are low keyed given =
     let own = are.each o low in
     nested_taken old new ids to s (nested_keyed o (leading ++ last ∷ []) f) are given.keeps low
@@ -127,7 +127,7 @@ keyed_mentions_are p leading last f =
     whole (x ∷ q) = ap (λ r. x ∷ r) (whole q)
 
 pub keyed_represents : (old new : List TrieNode) (ids : List ℕ) (to : ℕ) (s : NestingState) (o : ℕ) (leading : List (List ℕ)) (last : List ℕ) (f : Fact) → AreValueNodes old ids s → o < length ids
-    → Gives old new (get_or ids o 0) to leading last (holding_of f) → (ms : List Mention) (ts : List (List Part)) → Represents old ms ts → Represents new (ms ++ nested_mentions s (nested_keyed o (leading ++ last ∷ []) f)) ts
+    → HasNewValue old new (get_or ids o 0) to leading last (holding_of f) → (ms : List Mention) (ts : List (List Part)) → Represents old ms ts → Represents new (ms ++ nested_mentions s (nested_keyed o (leading ++ last ∷ []) f)) ts
 keyed_represents old new ids to s o leading last f are low given ms ts represents =
     let own = are.each o low in
     subst (λ (w : List Mention). Represents new (ms ++ w) ts) (ap (λ p. dotted_mentions p leading ++ record { path = (p ++ map key leading) ++ key last ∷ []; kind = marks.value f } ∷ []) own.here ∙ sym (keyed_mentions_are (path_of_value s o) leading last f))

@@ -1,12 +1,13 @@
 -- How many key parts a text can have.
-use Rattle.std.proofs.Common.{◌≤◌, ◌-◌, ◌^◌, length, map, arith}
-use Rattle.std.proofs.lemmas.List.{length-append, length-map}
+use Rattle.std.proofs.Common.{◌≤◌, ◌-◌, ◌^◌, length, arith}
 use Rattle.keep_syntax_store.specs.declared.parts.Parts.{Parts}
+use Rattle.keep_syntax_store.specs.Blocks.{raise_key}
 use Rattle.keep_syntax_store.specs.Flat.{flat, unpacked_key_part}
+use Rattle.keep_syntax_store.proofs.EntryLaws.{entries_length}
 
 -- a machine word counts them, since each of the two vectors has less than 2 ^ 63
 pub few_keys : (parts : Parts) → length (flat parts).keys ≤ 2 ^ 64 - 1
 few_keys parts =
     let packed = parts.keys.packed in
     let unpacked = parts.keys.unpacked in
-    omega (arith, packed.ok.0, packed.ok.1, packed.small, unpacked.ok.0, unpacked.ok.1, unpacked.small, length-append (map unpacked_key_part packed.items) unpacked.items, length-map packed.items unpacked_key_part)
+    omega (arith, packed.ok.0, packed.ok.1, packed.small, unpacked.ok.0, unpacked.ok.1, unpacked.small, entries_length unpacked_key_part raise_key parts.keys)

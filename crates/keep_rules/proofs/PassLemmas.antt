@@ -8,25 +8,28 @@
 -- (`element_place`).
 --
 -- Theorems: `passes_marked` and `passes_element`: where the header goes on, and with which mentions.
-use Rattle.std.proofs.Common.{◌≡◌, ℕ, ◌-◌, ◌<◌, Bool, true, false, cond, ◌&&◌, List, [], ◌∷◌, ◌++◌, length, refl, sym, ◌∙◌, ap, subst, arith, Option, Some, None, Ok, Err, inl, inr}
-use Rattle.std.specs.Prelude.{Contains, ◌==◌, Result, IfOk, OnOk}
+use Rattle.std.proofs.Common.{◌≡◌, ℕ, ◌-◌, ◌<◌, Bool, true, false, cond, ◌&&◌, List, [], ◌∷◌, ◌++◌, length, get_or, refl, sym, ◌∙◌, ap, subst, arith, Option, Some, None, inl, inr}
+use Rattle.std.specs.Prelude.{Contains, ◌==◌}
 use Rattle.std.specs.List.{list_all}
 use Rattle.std.proofs.lemmas.List.{append-nil, append_assoc}
 use Rattle.std.proofs.lemmas.List.Folds.{list_all-append}
 use Rattle.std.proofs.lemmas.Bool.Decides.{Decides-eqb}
 use Rattle.std.proofs.lemmas.Bool.{cases_Bool}
+use Rattle.keep_syntax.specs.declared.fault.Why.{Why}
+use Rattle.keep_syntax.specs.declared.fault.Why.TheVariants.{NotATable}
 use Rattle.keep_types.specs.declared.role.Role.{Role}
 use Rattle.keep_types.specs.declared.role.Role.TheVariants.{Through, Past, Define, Element, Dotted, Value}
 use Rattle.keep_path.specs.Path.{Part, key, index}
 use Rattle.keep_meaning.specs.Rules.{allows}
 use Rattle.keep_meaning.specs.Marks.{through, past, passed, Mention, elements_of, passing_mentions, entered_path}
-use Rattle.keep_index_store.specs.Trie.{TrieNode, Holding, by_key, by_index, IsTrie, paths_of, path_at, states_of, state_at, holds_at, children_of}
+use Rattle.keep_index_store.specs.Trie.{TrieNode, Holding, by_key, IsTrie, paths_of, path_at, states_of, state_at, holds_at, children_of}
 use Rattle.keep_meaning.specs.State.{IsState}
-use Rattle.keep_index_store.specs.Tree.{TrieInfos}
-use Rattle.keep_rules.specs.declared.mark.Stop.{Stop}
-use Rattle.keep_rules.specs.Tables.{is_tables, Fits, IsShaped}
+use Rattle.keep_rules.specs.declared.definitions.DefineFault.{DefineFault}
+use Rattle.keep_rules.specs.declared.definitions.DefineFault.TheVariants as fault
+use Rattle.keep_rules.specs.DefineFaults.{FaultMeets}
+use Rattle.keep_rules.specs.Tables.{is_tables, IsShaped, IsTable}
 use Rattle.keep_rules.specs.RoleStates.{mention_roles, StatesRepresent, IsIndexOf}
-use Rattle.keep_rules.specs.Represents.{Keeps, IsMarked, Represents, Passes, IsLastElement, HasNoElement}
+use Rattle.keep_rules.specs.Represents.{Keeps, IsDefined, Represents, Enters, IsLastElement, HasNoElement, IsRefusedAt, IsEntryRefusedAt, WasRefused}
 use Rattle.keep_index_store.proofs.Shared.{length-paths_of, child_at, first}
 use Rattle.keep_rules.proofs.RoleStateLemmas.{represented_same, obeys_push, obeys_bare, false_ne}
 use Rattle.keep_rules.proofs.TablesLemmas.{tables_listed}
@@ -49,7 +52,7 @@ pub entered-some : (tables : List (List Part)) (path : List Part) → 0 < elemen
 entered-some tables path some = ap (λ b. cond b path (path ++ index (elements_of path tables - 1) ∷ [])) (not_zero _ some)
 
 -- a mark that names no array of tables
-pub represents_marked : {old new : List TrieNode} {path : List Part} {role : Role} {holds : Holding} {id : ℕ} → IsMarked old new path role holds id → allows role Element ≡ false
+pub represents_marked : {old new : List TrieNode} {path : List Part} {role : Role} {holds : Holding} {id : ℕ} → IsDefined old new path role holds id → allows role Element ≡ false
     → (ms w : List Mention) (tables : List (List Part)) → IsIndexOf new (ms ++ w) → Represents old ms tables → Represents new (ms ++ w) tables
 represents_marked marked other ms w tables known represents = record {
   index = known;
@@ -59,11 +62,12 @@ represents_marked marked other ms w tables known represents = record {
 }
 
 -- a key without elements
-pub passes_marked : (old new : List TrieNode) (parent id : ℕ) (k : List ℕ) → IsMarked old new (path_at old parent ++ key k ∷ []) Through by_key id → HasNoElement old (path_at old parent ++ key k ∷ []) → Passes old new parent id k
+pub passes_marked : (old new : List TrieNode) (parent id : ℕ) (k : List ℕ) → IsDefined old new (path_at old parent ++ key k ∷ []) Through by_key id → HasNoElement old (path_at old parent ++ key k ∷ []) → Enters old new parent id k
 passes_marked old new parent id k marked none =
     let p : List Part = path_at old parent ++ key k ∷ [] in
     record {
       keeps = marked.keeps;
+      table = record { within = marked.nested; keyed = marked.opened refl };
       represents = λ ms tables represents.
           let zero : elements_of p tables ≡ 0 = none tables represents.tables_are represents.begun in
           let grown : IsIndexOf new (ms ++ record { path = p; kind = through } ∷ []) = marked.index ms through refl represents.index in
@@ -134,18 +138,23 @@ element_place nodes p child to last ms tables represents =
     ap (path_at nodes) last.last ∙ represents.shaped.elements child (kids - 1) last.nested (tables_listed nodes represents.shaped child last.nested last.tables) low
     ∙ ap (λ q. q ++ index (kids - 1) ∷ []) last.here ∙ ap (λ c. p ++ index (c - 1) ∷ []) (sym counted) ∙ sym (entered-some tables p (omega (arith, last.some, counted)))
 
+-- the last element comes after the array of tables
+pub element_later : (nodes : List TrieNode) → IsTrie nodes → (p : List Part) (child to : ℕ) → IsLastElement nodes p child to → child < to
+element_later nodes trie p child to last =
+    let d : TrieNode = first nodes trie in
+    let one = child_at nodes trie child (length (children_of nodes child) - 1) d last.nested (omega (arith, last.some)) in
+    subst (λ (x : ℕ). child < x) (sym last.last) (omega (arith, one.parent d, trie.parents _ d one.later one.nested))
+
 -- past an array of tables to its last element
-pub passes_element : (nodes : List TrieNode) (parent child to : ℕ) (k : List ℕ) → IsLastElement nodes (path_at nodes parent ++ key k ∷ []) child to → Passes nodes nodes parent to k
+pub passes_element : (nodes : List TrieNode) (parent child to : ℕ) (k : List ℕ) → IsLastElement nodes (path_at nodes parent ++ key k ∷ []) child to → Enters nodes nodes parent to k
 passes_element nodes parent child to k last =
     let kids : ℕ = length (children_of nodes child) in
     let p : List Part = path_at nodes parent ++ key k ∷ [] in
-    let low : kids - 1 < kids = omega (arith, last.some) in
     let counted : (tables : List (List Part)) (ms : List Mention) → Represents nodes ms tables → elements_of p tables ≡ kids = λ tables ms represents. elements_there nodes p child to last ms tables represents in
     let placed : (tables : List (List Part)) (ms : List Mention) → Represents nodes ms tables → path_at nodes to ≡ entered_path tables p = λ tables ms represents. element_place nodes p child to last ms tables represents in
-    let in_place : (trie : IsTrie nodes) → to < length nodes = λ trie.
-    subst (λ (x : ℕ). x < length nodes) (sym last.last) (child_at nodes trie child (kids - 1) (first nodes trie) last.nested low).nested in
     record {
       keeps = keeps_same nodes;
+      table = last.table;
       represents = λ ms tables represents.
           let trie : IsTrie nodes = represents.index.trie in
           let some : 0 < elements_of p tables = omega (arith, last.some, counted tables ms represents) in
@@ -159,9 +168,9 @@ passes_element nodes parent child to k last =
           (state_past (state_at nodes child) (mention_roles p ms) last.tables own)
           (obeys_push ms m1 Past refl (all_past (state_at nodes child) (mention_roles p ms) last.tables own) represents.index.states_represent.obeys) in
           let rest : IsState (state_at nodes to) (mention_roles (entered_path tables p) (ms ++ m1 ∷ [])) =
-          subst (λ (q : List Part). IsState (state_at nodes to) (mention_roles q (ms ++ m1 ∷ []))) goal_path (one.states_are to (omega (arith, in_place trie))) in
+          subst (λ (q : List Part). IsState (state_at nodes to) (mention_roles q (ms ++ m1 ∷ []))) goal_path (one.states_are to (omega (arith, last.table.within))) in
           let two : StatesRepresent (paths_of nodes) (states_of nodes) ((ms ++ m1 ∷ []) ++ m2 ∷ []) =
-          represented_same (paths_of nodes) (states_of nodes) (ms ++ m1 ∷ []) m2 to one trie.distinct (omega (arith, in_place trie)) (sym goal_path)
+          represented_same (paths_of nodes) (states_of nodes) (ms ++ m1 ∷ []) m2 to one trie.distinct (omega (arith, last.table.within)) (sym goal_path)
           (subst (λ (rs : List Role). IsState (state_at nodes to) rs) (sym (append-nil (mention_roles (entered_path tables p) (ms ++ m1 ∷ [])))) rest)
           (obeys_bare (ms ++ m1 ∷ []) m2 refl one.obeys) in
           let whole : (ms ++ m1 ∷ []) ++ m2 ∷ [] ≡ ms ++ passing_mentions tables p = append_assoc ms (m1 ∷ []) (m2 ∷ []) ∙ ap (λ w. ms ++ w) (sym (passing-some tables p some)) in
@@ -172,12 +181,7 @@ passes_element nodes parent child to k last =
             begun = represents.begun;
           };
       is_open = λ ms tables represents.
-          let bare = represents.shaped.plain child (kids - 1) last.nested last.tables low in
-          record {
-            nested = in_place represents.index.trie;
-            here = placed tables ms represents;
-            open_to = ap (holds_at nodes) last.last ∙ bare.1;
-          };
+          record { nested = last.table.within; here = placed tables ms represents; open_to = last.table.keyed };
     }
 
 pub none_unmet : (nodes : List TrieNode) (path : List Part) → (Contains (paths_of nodes) path → ⊥) → HasNoElement nodes path
@@ -194,37 +198,20 @@ none_empty nodes path child h here empty = λ ts are begun.
       | inr f ↦ none_plain nodes path child h here f ts are begun
     ]
 
-pub fits_dotted : (h : Holding) → h ≡ by_key → Fits Dotted h
-fits_dotted h e = record { listed = λ t. absurd cc; opened = λ t. e }
+-- the last element is a table
+pub element_table : (nodes : List TrieNode) → IsShaped nodes → (child to : ℕ) → child < length nodes → is_tables (state_at nodes child) ≡ true → 0 < length (children_of nodes child)
+    → to ≡ get_or (children_of nodes child) (length (children_of nodes child) - 1) 0 → to < length nodes → IsTable nodes to
+element_table nodes shaped child to h tables some last within =
+    let low : length (children_of nodes child) - 1 < length (children_of nodes child) = omega (arith, some) in
+    record { within = within; keyed = ap (holds_at nodes) last ∙ (shaped.plain child (length (children_of nodes child) - 1) h tables low).1 }
 
-pub fits_define : (h : Holding) → h ≡ by_key → Fits Define h
-fits_define h e = record { listed = λ t. absurd cc; opened = λ t. e }
+-- the key part at which it stops
+pub entry_stops : (f : DefineFault) (nodes : List TrieNode) (path : List Part) (part : ℕ) → HasNoElement nodes path → FaultMeets f (IsRefusedAt nodes path Through part) → FaultMeets f (IsEntryRefusedAt nodes path part)
+entry_stops (fault.Refused n w) nodes path part plain stops = record { stops = stops; plain = plain }
+entry_stops fault.Memory nodes path part plain stops = tt
 
-pub fits_element : (h : Holding) → h ≡ by_index → Fits Element h
-fits_element h e = record { listed = λ t. e; opened = λ t. absurd cc }
-
-pub fits_value : (h : Holding) → Fits Value h
-fits_value h = record { listed = λ t. absurd cc; opened = λ t. absurd cc }
-
--- the element is a table
-pub element_keyed : (nodes : List TrieNode) (path : List Part) (child to : ℕ) → IsShaped nodes → IsLastElement nodes path child to → holds_at nodes to ≡ by_key
-element_keyed nodes path child to shaped last =
-    let low : length (children_of nodes child) - 1 < length (children_of nodes child) = omega (arith, last.some) in
-    ap (holds_at nodes) last.last ∙ (shaped.plain child (length (children_of nodes child) - 1) last.nested last.tables low).1
-
--- what the mark of a key without elements gives a header that goes past it
-pub record Went (r : Result ℕ Stop) (old new : TrieInfos) (parent : ℕ) (k : List ℕ) : Type 0 where
-  pub shaped : OnOk r (IsShaped new.trie)
-  pub nested : IfOk r (λ to. to < length new.trie)
-  pub keyed : IfOk r (λ to. holds_at new.trie to ≡ by_key)
-  pub passes : IfOk r (λ to. Passes old.trie new.trie parent to k)
-
-pub went : (r : Result ℕ Stop) (old new : TrieInfos) (parent : ℕ) (k : List ℕ) → HasNoElement old.trie (path_at old.trie parent ++ key k ∷ [])
-    → IfOk r (λ id. IsMarked old.trie new.trie (path_at old.trie parent ++ key k ∷ []) Through by_key id) → Went r old new parent k
-went (Ok id) old new parent k none marked = record {
-  shaped = marked.shaped;
-  nested = marked.nested;
-  keyed = marked.opened refl;
-  passes = passes_marked old.trie new.trie parent id k marked none;
-}
-went (Err stop) old new parent k none marked = record { shaped = tt; nested = tt; keyed = tt; passes = tt }
+-- what follows where a header's key part stops
+pub entry_weaker : (f : DefineFault) (nodes : List TrieNode) (path : List Part) (part at : ℕ) (P : ℕ → Why → Type 0) → part ≡ at → (WasRefused nodes path Through → HasNoElement nodes path → P at NotATable) → FaultMeets f (IsEntryRefusedAt nodes path part) → FaultMeets f P
+entry_weaker (fault.Refused n w) nodes path part at P is h stop =
+    subst (λ (m : ℕ). P m w) (sym (stop.stops.place ∙ is)) (subst (λ (y : Why). P at y) (sym stop.stops.reason) (h stop.stops.refused stop.plain))
+entry_weaker fault.Memory nodes path part at P is h stop = tt

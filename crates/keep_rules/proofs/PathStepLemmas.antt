@@ -1,5 +1,5 @@
 -- A node's path as it is written: the text of its parent's path, and the node's own step after it.
-use Rattle.std.proofs.Common.{◌≡◌, ◌≢◌, ℕ, ◌<◌, List, [], ◌∷◌, ◌++◌, length, refl, sym, ◌∙◌, ap, append_assoc, append-nil, inl, inr}
+use Rattle.std.proofs.Common.{◌≡◌, ◌≢◌, ℕ, ◌+◌, ◌<◌, List, [], ◌∷◌, ◌++◌, length, length-append, refl, sym, ◌∙◌, ap, append_assoc, append-nil, inl, inr}
 use Rattle.std.specs.Prelude.{◌==◌, if◌then◌else◌}
 use Rattle.std.specs.List.{flat_map}
 use Rattle.std.proofs.lemmas.Bool.Decides.{eqb_tells}
@@ -12,7 +12,7 @@ use Rattle.keep_rules.proofs.ClimbLemmas.{root_alone, step_last}
 use Rattle.keep_index_store.proofs.Shared.{path_at-root}
 
 -- a step as it is written after a path
-abbrev step_text : List Part → Part → List ℕ
+abbrev pub step_text : List Part → Part → List ℕ
 step_text [] part = first_text part
 step_text (p ∷ ps) part = part_text part
 
@@ -24,7 +24,7 @@ step_of_index : (path : List Part) (n : ℕ) → step_text path (index n) ≡ in
 step_of_index [] n = refl
 step_of_index (p ∷ ps) n = refl
 
-encoded_more : (path : List Part) (part : Part) → encoded_path (path ++ part ∷ []) ≡ encoded_path path ++ step_text path part
+pub encoded_more : (path : List Part) (part : Part) → encoded_path (path ++ part ∷ []) ≡ encoded_path path ++ step_text path part
 encoded_more [] part = append-nil (first_text part)
 encoded_more (p ∷ ps) part =
     ap (λ t. first_text p ++ t) (flat_map-append part_text ps (part ∷ []) ∙ ap (λ t. flat_map part_text ps ++ t) (append-nil (part_text part)))
@@ -71,3 +71,17 @@ module _ (nodes : List TrieNode) (trie : IsTrie nodes) (id : ℕ) (later : 0 < i
   index_added number before old new part o n =
       added before old new (path_at nodes (parent_at nodes id)) (path_at nodes id) (index number) (index_text number)
       (step_last nodes trie id later within (path_at nodes (parent_at nodes id)) (index number) part refl) (step_of_index (path_at nodes (parent_at nodes id)) number) o n
+
+  -- how long the text is then
+  pub key_size : (up : ℕ) (text before old : List ℕ) → up ≡ parent_at nodes id → part_at nodes id ≡ key text
+      → old ≡ before ++ encoded_path (path_at nodes (parent_at nodes id))
+      → length old + length (if up == 0 then encoded_key text else 0x2E ∷ encoded_key text) ≡ length before + length (encoded_path (path_at nodes id))
+  key_size up text before old is part o =
+      let step : List ℕ = if up == 0 then encoded_key text else 0x2E ∷ encoded_key text in
+      sym (length-append old step) ∙ (ap length (key_added up text before old (old ++ step) is part o refl) ∙ length-append before (encoded_path (path_at nodes id)))
+
+  pub index_size : (number : ℕ) (before old : List ℕ) → part_at nodes id ≡ index number
+      → old ≡ before ++ encoded_path (path_at nodes (parent_at nodes id))
+      → length old + length (index_text number) ≡ length before + length (encoded_path (path_at nodes id))
+  index_size number before old part o =
+      sym (length-append old (index_text number)) ∙ (ap length (index_added number before old (old ++ index_text number) part o refl) ∙ length-append before (encoded_path (path_at nodes id)))

@@ -10,7 +10,7 @@ use Rattle.keep_types.specs.declared.node.Kind.{Kind}
 use Rattle.keep_types.specs.declared.node.NodeInfo.{NodeInfo}
 use Rattle.keep_path.specs.Path.{EndsInKey, Part, beside, index, last_part}
 use Rattle.keep_meaning.specs.Nodes.{node_number}
-use Rattle.keep_rules.specs.Lookup.{number_of, path_numbered, children_numbered, nth_child}
+use Rattle.keep_rules.specs.Lookup.{FindsNode, number_of, path_numbered, children_numbered, nth_child}
 use Rattle.keep_index_store.specs.Tree.{TrieInfos, IsChild, info_at, node_infos}
 use Rattle.keep_path.specs.NodeInfos.{NodeInfos, with_kind}
 use Rattle.keep_index_store.specs.Trie.{TrieNode, IsTrie, children_of, path_at, paths_of}
@@ -57,6 +57,9 @@ info_answer nodes t i info view is = ap (λ (x : NodeInfos). slice_get x.infos i
 pub number_within : (t : NodeInfos) (path : List Part) (o : Option NodeId) → number_of o ≡ node_number t.paths path → IfSome o (λ id. id.0 < length t.paths)
 number_within t path None is = tt
 number_within t path (Some id) is = (number_is t.paths path id.0 (sym is)).0
+
+pub finds : (t : NodeInfos) (path : List Part) (o : Option NodeId) → number_of o ≡ node_number t.paths path → FindsNode t (node_number t.paths path) o
+finds t path o is = record { found = is; within = number_within t path o is }
 
 pub none_number : (o : Option NodeId) → IsNone o → number_of o ≡ None
 none_number None h = refl

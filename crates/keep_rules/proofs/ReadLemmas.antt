@@ -1,4 +1,12 @@
 -- Statements, one after another.
+--
+-- What a call does for the keys of a statement is put together to what the statement does: the keys but the last are a
+-- descent, and then the last one defines a table or begins an element. The mentions of a header are those of the
+-- descent and that of the last key, so the nodes represent one statement more (`header_reads`, `element_reads`,
+-- `keyval_reads`). From there on it is an induction over the list of statements, with one more at its end
+-- (`read_more`), which begins with the root alone, where no mention is represented (`root_represents`).
+--
+-- Theorems: `read_more`: one statement more; `root_reads`: none yet; `read_obeys`: what was read obeys the rules.
 use Rattle.std.proofs.Common.{◌≡◌, ℕ, zero, suc, ◌<◌, false, List, [], ◌∷◌, ◌++◌, length, get_or, refl, sym, ◌∙◌, ap, subst, arith, length-append, true, cond, Option, Some, None}
 use Rattle.std.proofs.lemmas.List.{append_assoc, append-nil}
 use Rattle.keep_syntax.specs.Tree.{Name, Value}
@@ -13,9 +21,9 @@ use Rattle.keep_index_store.specs.Trie.{TrieNode, by_key, path_at, state_at, chi
 use Rattle.keep_meaning.specs.State.{IsState}
 use Rattle.keep_rules.specs.RoleStates.{IsIndexOf}
 use Rattle.keep_rules.specs.Tables.{is_tables, IsShaped}
-use Rattle.keep_rules.specs.Represents.{Keeps, IsMarked, Represents, IsOpen, Begins}
-use Rattle.keep_rules.specs.KeyWalks.{walk_path, walk_mentions}
-use Rattle.keep_rules.specs.Steps.{Walks}
+use Rattle.keep_rules.specs.Represents.{Keeps, IsDefined, Represents, IsOpen, Begins}
+use Rattle.keep_rules.specs.Descents.{descent_path, descent_mentions}
+use Rattle.keep_rules.specs.Steps.{HeaderDescent}
 use Rattle.keep_rules.specs.NestedValues.{all_nested_mentions, body_nesting, keyval_nested}
 use Rattle.keep_rules.specs.Reads.{IsReading, Reads}
 use Rattle.keep_rules.proofs.KeyWalkLemmas.{header_prefixes-split, header_path-split}
@@ -24,22 +32,22 @@ use Rattle.keep_rules.proofs.StepLemmas.{keeps_then, stays_open}
 use Rattle.keep_rules.proofs.NestedValueLemmas.{keyval_nested-mentions}
 
 -- `[..]`
-pub header_reads : (old mid new : List TrieNode) (at to : ℕ) (leading : List (List ℕ)) (last : List ℕ) → Walks old mid at leading → IsMarked mid new (path_at mid at ++ key last ∷ []) Define by_key to
+pub header_reads : (old mid new : List TrieNode) (at to : ℕ) (leading : List (List ℕ)) (last : List ℕ) → HeaderDescent old mid at leading → IsDefined mid new (path_at mid at ++ key last ∷ []) Define by_key to
     → (body : ℕ) → Reads old body new to (header (leading ++ last ∷ []))
 header_reads old mid new at to leading last walked marked body ms r reading =
     let ts : List (List Part) = r.tables in
-    let p : List Part = walk_path ts [] leading ++ key last ∷ [] in
+    let p : List Part = descent_path ts [] leading ++ key last ∷ [] in
     let before = walked.represents ms ts reading.represents in
     let full : path_at mid at ++ key last ∷ [] ≡ p = ap (λ q. q ++ key last ∷ []) (walked.is_open ms ts reading.represents).here in
     let full' : p ≡ marks.header_path ts [] (leading ++ last ∷ []) = sym (header_path-split ts [] leading last) in
-    let step : IsIndexOf new ((ms ++ walk_mentions ts [] leading) ++ record { path = p; kind = define } ∷ []) =
-    subst (λ (q : List Part). IsIndexOf new ((ms ++ walk_mentions ts [] leading) ++ record { path = q; kind = define } ∷ [])) full (marked.index (ms ++ walk_mentions ts [] leading) define refl before.index) in
-    let whole : (ms ++ walk_mentions ts [] leading) ++ record { path = p; kind = define } ∷ [] ≡ ms ++ statement_mentions r (header (leading ++ last ∷ [])) =
-    append_assoc ms (walk_mentions ts [] leading) (record { path = p; kind = define } ∷ [])
+    let step : IsIndexOf new ((ms ++ descent_mentions ts [] leading) ++ record { path = p; kind = define } ∷ []) =
+    subst (λ (q : List Part). IsIndexOf new ((ms ++ descent_mentions ts [] leading) ++ record { path = q; kind = define } ∷ [])) full (marked.index (ms ++ descent_mentions ts [] leading) define refl before.index) in
+    let whole : (ms ++ descent_mentions ts [] leading) ++ record { path = p; kind = define } ∷ [] ≡ ms ++ statement_mentions r (header (leading ++ last ∷ [])) =
+    append_assoc ms (descent_mentions ts [] leading) (record { path = p; kind = define } ∷ [])
     ∙ ap (λ w. ms ++ (w ++ record { path = p; kind = define } ∷ [])) (sym (header_prefixes-split ts [] leading last))
     ∙ ap (λ q. ms ++ (marks.header_prefixes ts [] (leading ++ last ∷ []) ++ record { path = q; kind = define } ∷ [])) full' in
     record {
-      represents = subst (λ (w : List Mention). Represents new w ts) whole (represents_marked marked refl (ms ++ walk_mentions ts [] leading) (record { path = p; kind = define } ∷ []) ts step before);
+      represents = subst (λ (w : List Mention). Represents new w ts) whole (represents_marked marked refl (ms ++ descent_mentions ts [] leading) (record { path = p; kind = define } ∷ []) ts step before);
       rooted = (keeps_then walked.keeps marked.keeps).holdings 0 reading.represents.index.trie.root ∙ reading.rooted;
       is_open = record {
         nested = marked.nested;
@@ -49,23 +57,23 @@ header_reads old mid new at to leading last walked marked body ms r reading =
     }
 
 -- `[[..]]`
-pub element_reads : (old mid new : List TrieNode) (at to : ℕ) (leading : List (List ℕ)) (last : List ℕ) → Walks old mid at leading → Begins mid new at to last
+pub element_reads : (old mid new : List TrieNode) (at to : ℕ) (leading : List (List ℕ)) (last : List ℕ) → HeaderDescent old mid at leading → Begins mid new at to last
     → (body : ℕ) → Reads old body new to (element_header (leading ++ last ∷ []))
 element_reads old mid new at to leading last walked begun body ms r reading =
     let ts : List (List Part) = r.tables in
-    let p : List Part = walk_path ts [] leading ++ key last ∷ [] in
+    let p : List Part = descent_path ts [] leading ++ key last ∷ [] in
     let hp : List Part = marks.header_path ts [] (leading ++ last ∷ []) in
     let before = walked.represents ms ts reading.represents in
     let full : path_at mid at ++ key last ∷ [] ≡ hp = ap (λ q. q ++ key last ∷ []) (walked.is_open ms ts reading.represents).here ∙ sym (header_path-split ts [] leading last) in
     let two : List Part → List Mention = λ q. record { path = q; kind = marks.element } ∷ record { path = q ++ index (elements_of q ts) ∷ []; kind = marks.begun } ∷ [] in
-    let step : Represents new ((ms ++ walk_mentions ts [] leading) ++ two hp) (ts ++ hp ∷ []) =
-    subst (λ (q : List Part). Represents new ((ms ++ walk_mentions ts [] leading) ++ two q) (ts ++ q ∷ [])) full (begun.represents (ms ++ walk_mentions ts [] leading) ts before) in
-    let whole : (ms ++ walk_mentions ts [] leading) ++ two hp ≡ ms ++ statement_mentions r (element_header (leading ++ last ∷ [])) =
-    append_assoc ms (walk_mentions ts [] leading) (two hp) ∙ ap (λ w. ms ++ (w ++ two hp)) (sym (header_prefixes-split ts [] leading last)) in
+    let step : Represents new ((ms ++ descent_mentions ts [] leading) ++ two hp) (ts ++ hp ∷ []) =
+    subst (λ (q : List Part). Represents new ((ms ++ descent_mentions ts [] leading) ++ two q) (ts ++ q ∷ [])) full (begun.represents (ms ++ descent_mentions ts [] leading) ts before) in
+    let whole : (ms ++ descent_mentions ts [] leading) ++ two hp ≡ ms ++ statement_mentions r (element_header (leading ++ last ∷ [])) =
+    append_assoc ms (descent_mentions ts [] leading) (two hp) ∙ ap (λ w. ms ++ (w ++ two hp)) (sym (header_prefixes-split ts [] leading last)) in
     record {
       represents = subst (λ (w : List Mention). Represents new w (ts ++ hp ∷ [])) whole step;
       rooted = (keeps_then walked.keeps begun.keeps).holdings 0 reading.represents.index.trie.root ∙ reading.rooted;
-      is_open = subst (λ (q : List Part). IsOpen new to (q ++ index (elements_of q ts) ∷ [])) full (begun.is_open (ms ++ walk_mentions ts [] leading) ts before);
+      is_open = subst (λ (q : List Part). IsOpen new to (q ++ index (elements_of q ts) ∷ [])) full (begun.is_open (ms ++ descent_mentions ts [] leading) ts before);
     }
 
 -- a keyval, whose values were all read

@@ -1,4 +1,12 @@
 -- One more mark.
+--
+-- The state of a node stands for the roles of all marks at its path. One mention more changes the roles at its own path
+-- and at no other (`kinds_at-push`, `roles-here`, `roles-other`). Whether it obeys the rules depends on these roles
+-- alone: the marks that could forbid it are those at the path (`lets_all`). If all of them allow its role the marks
+-- still obey the rules (`obeys_push`), and if one does not, the mark is refused (`refused`). So states that represent
+-- the mentions represent one more: at a new path with a state of its own, at a known path with the state after it.
+--
+-- Theorems: `represented_new`, `represented_existing`, `represented_same`; `refused`.
 use Rattle.std.proofs.Common.{◌≡◌, ◌≢◌, ℕ, suc, zero, ◌<◌, Bool, true, false, cond, not, ◌&&◌, ◌||◌, List, [], ◌∷◌, ◌++◌, length, get_or, set, map, filter, refl, sym, ◌∙◌, ap, subst, arith, length-append, inl, inr, Option, Some, None}
 use Rattle.std.specs.Prelude.{fold, Contains, AllPairs}
 use Rattle.std.specs.List.{list_all, list_any, filter_map, cons_option}

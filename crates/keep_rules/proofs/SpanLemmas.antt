@@ -4,7 +4,6 @@ use Rattle.std.specs.Prelude.{slice_get}
 use Rattle.std.specs.Option.{option_map, option_and_then}
 use Rattle.std.proofs.lemmas.List.{get_or-map, length-map}
 use Rattle.std.proofs.lemmas.Option.{slice_get-map, slice_get_within, get_or_from_slice_get}
-use Rattle.keep_types.specs.declared.syntax.KeyPart.{KeyPart}
 use Rattle.keep_types.specs.declared.syntax.ValueInfo.{ValueInfo}
 use Rattle.keep_syntax.specs.Tree.{Document}
 use Rattle.keep_types.specs.declared.node.NodeInfo.{NodeInfo}
@@ -12,7 +11,7 @@ use Rattle.keep_types.specs.declared.node.Origin.{Origin}
 use Rattle.keep_types.specs.declared.node.Origin.TheVariants as origin
 use Rattle.keep_path.specs.Path.{Part}
 use Rattle.keep_meaning.specs.Counts.{Numbered, is_value, numbered_in}
-use Rattle.keep_meaning.specs.Nodes.{Node, is_through, is_define, is_element, is_dotted, is_begun, last_number, statement_number, value_number, mention_of, node_paths, numbered_at, node_at, node_info, nodes_in, key_span, value_span, key_span_of, value_span_of}
+use Rattle.keep_meaning.specs.Nodes.{Node, is_through, is_define, is_element, is_dotted, is_begun, last_number, statement_number, value_number, mention_of, node_paths, numbered_at, node_at, node_info, nodes_in, value_span, value_span_of}
 use Rattle.keep_path.specs.NodeInfos.{NodeInfos}
 use Rattle.keep_rules.specs.ReadDocuments.{IsIndexOf}
 use Rattle.keep_rules.proofs.NodeInfoLemmas.{placed}
@@ -59,10 +58,6 @@ node_value d i n is =
 node_known : (d : Document) (t : NodeInfos) (i : ℕ) (info : NodeInfo) → IsIndexOf d t → slice_get t.infos i ≡ Some info → option_map node_info (slice_get (nodes_in d) i) ≡ Some info
 node_known d t i info is here = sym (slice_get-map node_info (nodes_in d) i) ∙ ap (λ (x : NodeInfos). slice_get x.infos i) (sym is.facts) ∙ here
 
-keyed : (parts : List KeyPart) (o : Option Node) (info : NodeInfo) → option_map node_info o ≡ Some info → option_and_then (key_span parts) info.key ≡ option_and_then (key_span_of parts) o
-keyed parts None info is = absurd cc
-keyed parts (Some n) info is = let same : info ≡ node_info n = cc in ap (λ (i : NodeInfo). option_and_then (key_span parts) i.key) same
-
 valued : (values : List ValueInfo) (o : Option Node) (info : NodeInfo) → ((n : Node) → o ≡ Some n → n.value ≡ origin_value n.origin) → option_map node_info o ≡ Some info
     → option_and_then (value_span values) (origin_value info.origin) ≡ option_and_then (value_span_of values) o
 valued values None info numbered is = absurd cc
@@ -71,12 +66,7 @@ valued values (Some n) info numbered is =
     ap (λ (i : NodeInfo). option_and_then (value_span values) (origin_value i.origin)) same ∙ ap (option_and_then (value_span values)) (sym (numbered n refl))
 
 module _ (d : Document) (t : NodeInfos) (i : ℕ) (info : NodeInfo) (is : IsIndexOf d t) (here : slice_get t.infos i ≡ Some info) where
-  -- the key part that the facts name is the node's
-  pub key_placed : (known parts : List KeyPart) → known ≡ parts → option_and_then (key_span known) info.key ≡ option_and_then (key_span_of parts) (slice_get (nodes_in d) i)
-  key_placed known parts same =
-      ap (λ ks. option_and_then (key_span ks) info.key) same ∙ keyed parts (slice_get (nodes_in d) i) info (node_known d t i info is here)
-
-  -- and so is the value
+  -- the value that the facts name is the node's
   pub value_placed_at : (known values : List ValueInfo) → known ≡ values → option_and_then (value_span known) (origin_value info.origin) ≡ option_and_then (value_span_of values) (slice_get (nodes_in d) i)
   value_placed_at known values same =
       ap (λ vs. option_and_then (value_span vs) (origin_value info.origin)) same ∙ valued values (slice_get (nodes_in d) i) info (node_value d i) (node_known d t i info is here)

@@ -1,4 +1,12 @@
 -- Elements, items, and keys one by one.
+--
+-- Each step keeps the nodes that were there, and two such changes one after the other are one (`keeps_then`,
+-- `items_then`). A `[[..]]` and an item are one new node in an array: its path is the array's with the count so far,
+-- and the count is one more afterwards (`begins`, `adds_item`). A key is a step along a path: no steps lead to where
+-- they begin (`walks_none`, `dots_none`), and one step more leads on from where the others led, so that the mentions of
+-- the step are added after theirs (`walks_more`, `dots_more`). The last key of a value then defines it (`gives`).
+--
+-- Theorems: `begins`, `adds_item`, `walks_more`, `dots_more`, `gives`.
 use Rattle.std.proofs.Common.{◌≡◌, ℕ, ◌<◌, true, false, cond, List, [], ◌∷◌, ◌++◌, length, map, refl, sym, ◌∙◌, ap, subst, arith, None}
 use Rattle.std.specs.Prelude.{Contains}
 use Rattle.std.proofs.lemmas.List.{append_assoc, append-nil, map-append}
@@ -9,15 +17,15 @@ use Rattle.keep_index_store.specs.Trie.{TrieNode, Holding, by_key, by_index, pat
 use Rattle.keep_index_store.specs.Growth.{Grows}
 use Rattle.keep_rules.specs.RoleStates.{StatesRepresent, IsIndexOf}
 use Rattle.keep_rules.specs.Tables.{is_tables, IsShaped, AreTables}
-use Rattle.keep_rules.specs.Represents.{Keeps, KeepsItems, IsMarked, Represents, IsOpen, Passes, Begins}
-use Rattle.keep_rules.specs.KeyWalks.{walk_path, walk_mentions, dotted_mentions}
-use Rattle.keep_rules.specs.Steps.{Walks, Dots, Gives, AddsItem}
+use Rattle.keep_rules.specs.Represents.{Keeps, KeepsItems, IsDefined, Represents, IsOpen, Enters, Begins}
+use Rattle.keep_rules.specs.Descents.{descent_path, descent_mentions, dotted_mentions}
+use Rattle.keep_rules.specs.Steps.{HeaderDescent, DottedDescent, HasNewValue, AddsItem}
 use Rattle.keep_index_store.proofs.Shared.{path_at-root, push_same, no_children_past_end, first, longer, path_last, state_last, holds_last, children_other, children_here}
 use Rattle.keep_rules.proofs.RoleStateLemmas.{represented_new}
 use Rattle.keep_rules.proofs.TablesLemmas.{Joins, tables_begun, begun_begun, element_joins, shaped_grown, tables_joined, begun_joined}
 use Rattle.keep_rules.proofs.MarkLemmas.{represented_along, keeps_grown}
 use Rattle.keep_rules.proofs.PassLemmas.{represents_marked, keeps_same}
-use Rattle.keep_rules.proofs.KeyWalkLemmas.{walk_mentions-append, walk_path-append, dotted_mentions-append}
+use Rattle.keep_rules.proofs.KeyWalkLemmas.{descent_mentions-append, descent_path-append, dotted_mentions-append}
 
 -- ---- two changes that keep the nodes, one after the other
 
@@ -41,7 +49,7 @@ stays_open {at = at} k o = record {
 
 -- ---- a `[[..]]` begins an element
 
-pub begins : (old mid new : List TrieNode) (parent id to : ℕ) (k : List ℕ) → IsMarked old mid (path_at old parent ++ key k ∷ []) Element by_index id
+pub begins : (old mid new : List TrieNode) (parent id to : ℕ) (k : List ℕ) → IsDefined old mid (path_at old parent ++ key k ∷ []) Element by_index id
     → Grows mid new id (path_at mid id ++ index (length (children_of mid id)) ∷ []) None by_key → to ≡ length mid → Begins old new parent to k
 begins old mid new parent id to k marked g last =
     let p : List Part = path_at old parent ++ key k ∷ [] in
@@ -118,34 +126,36 @@ adds_item old new at to holds g shaped plain last =
 
 -- ---- along a header's keys
 
-pub walks_none : (nodes : List TrieNode) → 0 < length nodes → holds_at nodes 0 ≡ by_key → Walks nodes nodes 0 []
+pub walks_none : (nodes : List TrieNode) → 0 < length nodes → holds_at nodes 0 ≡ by_key → HeaderDescent nodes nodes 0 []
 walks_none nodes root keyed = record {
   keeps = keeps_same nodes;
+  table = record { within = root; keyed = keyed };
   represents = λ ms ts represents. subst (λ (w : List Mention). Represents nodes w ts) (sym (append-nil ms)) represents;
   is_open = λ ms ts represents. record { nested = root; here = path_at-root nodes; open_to = keyed };
 }
 
-pub walks_more : (old mid new : List TrieNode) (at to : ℕ) (ks : List (List ℕ)) (k : List ℕ) → Walks old mid at ks → Passes mid new at to k → Walks old new to (ks ++ k ∷ [])
+pub walks_more : (old mid new : List TrieNode) (at to : ℕ) (ks : List (List ℕ)) (k : List ℕ) → HeaderDescent old mid at ks → Enters mid new at to k → HeaderDescent old new to (ks ++ k ∷ [])
 walks_more old mid new at to ks k walked pass = record {
   keeps = keeps_then walked.keeps pass.keeps;
+  table = pass.table;
   represents = λ ms ts represents.
       let here = (walked.is_open ms ts represents).here in
-      let step = pass.represents (ms ++ walk_mentions ts [] ks) ts (walked.represents ms ts represents) in
-      let p : List Part = walk_path ts [] ks ++ key k ∷ [] in
-      let leading : (ms ++ walk_mentions ts [] ks) ++ passing_mentions ts (path_at mid at ++ key k ∷ []) ≡ ms ++ walk_mentions ts [] (ks ++ k ∷ []) =
-      ap (λ q. (ms ++ walk_mentions ts [] ks) ++ passing_mentions ts (q ++ key k ∷ [])) here
-      ∙ append_assoc ms (walk_mentions ts [] ks) (passing_mentions ts p)
-      ∙ ap (λ w. ms ++ w) (ap (λ w. walk_mentions ts [] ks ++ w) (sym (append-nil (passing_mentions ts p))) ∙ sym (walk_mentions-append ts [] ks (k ∷ []))) in
+      let step = pass.represents (ms ++ descent_mentions ts [] ks) ts (walked.represents ms ts represents) in
+      let p : List Part = descent_path ts [] ks ++ key k ∷ [] in
+      let leading : (ms ++ descent_mentions ts [] ks) ++ passing_mentions ts (path_at mid at ++ key k ∷ []) ≡ ms ++ descent_mentions ts [] (ks ++ k ∷ []) =
+      ap (λ q. (ms ++ descent_mentions ts [] ks) ++ passing_mentions ts (q ++ key k ∷ [])) here
+      ∙ append_assoc ms (descent_mentions ts [] ks) (passing_mentions ts p)
+      ∙ ap (λ w. ms ++ w) (ap (λ w. descent_mentions ts [] ks ++ w) (sym (append-nil (passing_mentions ts p))) ∙ sym (descent_mentions-append ts [] ks (k ∷ []))) in
       subst (λ (w : List Mention). Represents new w ts) leading step;
   is_open = λ ms ts represents.
       let here = (walked.is_open ms ts represents).here in
-      let step = pass.is_open (ms ++ walk_mentions ts [] ks) ts (walked.represents ms ts represents) in
-      subst (λ (q : List Part). IsOpen new to q) (ap (λ q. entered_path ts (q ++ key k ∷ [])) here ∙ sym (walk_path-append ts [] ks (k ∷ []))) step;
+      let step = pass.is_open (ms ++ descent_mentions ts [] ks) ts (walked.represents ms ts represents) in
+      subst (λ (q : List Part). IsOpen new to q) (ap (λ q. entered_path ts (q ++ key k ∷ [])) here ∙ sym (descent_path-append ts [] ks (k ∷ []))) step;
 }
 
 -- ---- along a keyval's keys
 
-pub dots_none : (nodes : List TrieNode) (at : ℕ) → at < length nodes → holds_at nodes at ≡ by_key → Dots nodes nodes at at []
+pub dots_none : (nodes : List TrieNode) (at : ℕ) → at < length nodes → holds_at nodes at ≡ by_key → DottedDescent nodes nodes at at []
 dots_none nodes at h keyed = record {
   keeps = keeps_same nodes;
   items = λ i h listed. refl;
@@ -153,7 +163,7 @@ dots_none nodes at h keyed = record {
   is_open = record { nested = h; here = sym (append-nil (path_at nodes at)); open_to = keyed };
 }
 
-pub dots_more : (old mid new : List TrieNode) (at by to : ℕ) (ks : List (List ℕ)) (k : List ℕ) → Dots old mid at by ks → IsMarked mid new (path_at mid by ++ key k ∷ []) Dotted by_key to → Dots old new at to (ks ++ k ∷ [])
+pub dots_more : (old mid new : List TrieNode) (at by to : ℕ) (ks : List (List ℕ)) (k : List ℕ) → DottedDescent old mid at by ks → IsDefined mid new (path_at mid by ++ key k ∷ []) Dotted by_key to → DottedDescent old new at to (ks ++ k ∷ [])
 dots_more old mid new at by to ks k dots marked =
     let p : List Part = path_at old at in
     let q : List Part = (p ++ map key ks) ++ key k ∷ [] in
@@ -175,7 +185,7 @@ dots_more old mid new at by to ks k dots marked =
       };
     }
 
-pub gives : (old mid new : List TrieNode) (at by to : ℕ) (leading : List (List ℕ)) (last : List ℕ) (holds : Holding) → Dots old mid at by leading → IsMarked mid new (path_at mid by ++ key last ∷ []) Value holds to → Gives old new at to leading last holds
+pub gives : (old mid new : List TrieNode) (at by to : ℕ) (leading : List (List ℕ)) (last : List ℕ) (holds : Holding) → DottedDescent old mid at by leading → IsDefined mid new (path_at mid by ++ key last ∷ []) Value holds to → HasNewValue old new at to leading last holds
 gives old mid new at by to leading last holds dots marked =
     let p : List Part = path_at old at in
     let q : List Part = (p ++ map key leading) ++ key last ∷ [] in

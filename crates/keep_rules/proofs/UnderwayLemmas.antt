@@ -17,7 +17,7 @@ use Rattle.keep_types.specs.declared.syntax.Owner.{Owner}
 use Rattle.keep_types.specs.declared.syntax.Owner.TheVariants as owner
 use Rattle.keep_types.specs.declared.syntax.ValueInfo.{ValueInfo}
 use Rattle.keep_syntax_store.specs.Flat.{Flat}
-use Rattle.keep_rules.specs.declared.key_walk.Fault.{Fault}
+use Rattle.keep_rules.specs.declared.definitions.DefineFault.{DefineFault}
 use Rattle.keep_meaning.specs.Marks as marks
 use Rattle.keep_meaning.specs.Marks.{Mention, mark_of}
 use Rattle.keep_rules.specs.NestedValues.{NestingState, NestedValue, nested_item, nested_keyed, AllSuit, nested_mentions, all_nested_mentions, nesting_after, next_nesting}
@@ -25,14 +25,14 @@ use Rattle.keep_index_store.specs.Tree.{TrieInfos}
 use Rattle.keep_rules.specs.Tables.{IsShaped}
 use Rattle.keep_rules.specs.Represents.{FaultIn}
 use Rattle.keep_rules.specs.Reads.{AreValueNodes}
-use Rattle.keep_rules.specs.Stops.{FaultMeets}
+use Rattle.keep_rules.specs.DefineFaults.{FaultMeets}
 use Rattle.keep_rules.specs.NestedReads.{nested_keys, all_nested_keys, HasKeys, NestedRead}
 use Rattle.keep_rules.specs.FlatValues.{MatchesNested, IsNested}
-use Rattle.keep_rules.specs.Plans.{nodes_so_far, EndsAt, MatchNested, IsNext, AreNext, RepresentsSome, NestedValueRead, NestedValueFaults, NestedValuesRead, NestedValuesFault}
+use Rattle.keep_rules.specs.Plans.{nodes_so_far, EndsAt, MatchNested, IsNext, AreNext, NestedValueRead, NestedValueFaults, NestedValuesRead, NestedValuesFault}
 use Rattle.keep_rules.proofs.NestedValueLemmas.{all_nested_mentions-append, nesting_after-append}
 use Rattle.keep_rules.proofs.PassLemmas.{keeps_same}
 use Rattle.keep_rules.proofs.StopLemmas.{fault_within}
-use Rattle.keep_rules.proofs.PlanLemmas.{meets_weaker}
+use Rattle.keep_rules.proofs.BuildLemmas.{meets_weaker}
 use Rattle.keep_rules.proofs.NestedReadLemmas.{nested_read_none, nested_read_then, nested_marks}
 
 -- the first of the nested values are read, and the next has this number
@@ -110,16 +110,6 @@ some_next bytes f base from old ids now ids' number info there under next =
     let u = under next.0 next.1 next.2 next.3 in
     let n = underway_next bytes f base from next.2 old ids now ids' number info next.0 next.1 there u in
     (nesting_after next.0 u.done, n.nested, n.next)
-
-pub some_shaped : (bytes : List ℕ) (f : Flat) (base from : ℕ) (old : TrieInfos) (ids : List ℕ) (now : TrieInfos) (ids' : List ℕ) (number : ℕ)
-    → AreUnderway bytes f base from old ids now ids' number → (s : NestingState) × (ts : List NestedValue) × (first : ℕ) × AreNext bytes f old.trie ids base from first s ts → IsShaped now.trie
-some_shaped bytes f base from old ids now ids' number under next = (under next.0 next.1 next.2 next.3).was_read.shaped
-
-pub represents_some : (bytes : List ℕ) (f : Flat) (base from : ℕ) (old : TrieInfos) (ids : List ℕ) (now : TrieInfos) (ids' : List ℕ) (number : ℕ)
-    → AreUnderway bytes f base from old ids now ids' number → (s : NestingState) × (ts : List NestedValue) × (first : ℕ) × AreNext bytes f old.trie ids base from first s ts → RepresentsSome old.trie → RepresentsSome now.trie
-represents_some bytes f base from old ids now ids' number under next represents =
-    let u = under next.0 next.1 next.2 next.3 in
-    (represents.0 ++ all_nested_mentions next.0 u.done, represents.1, u.was_read.represents represents.0 represents.1 represents.2)
 
 -- ---- one more
 
@@ -206,7 +196,7 @@ underway_fault bytes f base from old ids now ids' number info at why there under
           (fault_within ms (all_nested_mentions s u.done) (nested_mentions (nesting_after s u.done) n.nested) rest one.within why one.fault);
     }
 
-pub underway_faults : (bytes : List ℕ) (f : Flat) (base from : ℕ) (old : TrieInfos) (ids : List ℕ) (now : TrieInfos) (ids' : List ℕ) (number : ℕ) (info : ValueInfo) (g : Fault)
+pub underway_faults : (bytes : List ℕ) (f : Flat) (base from : ℕ) (old : TrieInfos) (ids : List ℕ) (now : TrieInfos) (ids' : List ℕ) (number : ℕ) (info : ValueInfo) (g : DefineFault)
     → IsThere f.values number info → AreUnderway bytes f base from old ids now ids' number → FaultMeets g (NestedValueFaults bytes f base info now ids') → FaultMeets g (NestedValuesFault bytes f base from old ids)
 underway_faults bytes f base from old ids now ids' number info g there under meets =
     meets_weaker g (NestedValueFaults bytes f base info now ids') (NestedValuesFault bytes f base from old ids)
@@ -226,7 +216,7 @@ underway_more_seen bytes f base from old ids now ids' seen new ids'' to number i
     underway_more bytes f base from old ids now ids' new ids'' number info there under
     (subst (λ (l : List ℕ). NestedValueRead bytes f base info now ids' new l number) (sym pushed) (subst (λ (l : List ℕ). NestedValueRead bytes f base info now l new (l ++ to ∷ []) number) same was_read))
 
-pub underway_faults_seen : (bytes : List ℕ) (f : Flat) (base from : ℕ) (old : TrieInfos) (ids : List ℕ) (now : TrieInfos) (ids' seen : List ℕ) (number : ℕ) (info : ValueInfo) (g : Fault) → seen ≡ ids'
+pub underway_faults_seen : (bytes : List ℕ) (f : Flat) (base from : ℕ) (old : TrieInfos) (ids : List ℕ) (now : TrieInfos) (ids' seen : List ℕ) (number : ℕ) (info : ValueInfo) (g : DefineFault) → seen ≡ ids'
     → IsThere f.values number info → AreUnderway bytes f base from old ids now ids' number → FaultMeets g (NestedValueFaults bytes f base info now seen) → FaultMeets g (NestedValuesFault bytes f base from old ids)
 underway_faults_seen bytes f base from old ids now ids' seen number info g same there under meets =
     underway_faults bytes f base from old ids now ids' number info g there under (subst (λ (l : List ℕ). FaultMeets g (NestedValueFaults bytes f base info now l)) same meets)

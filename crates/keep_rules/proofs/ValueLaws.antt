@@ -1,4 +1,12 @@
 -- Reading a value alone: what is known of it then, and why it is refused.
+--
+-- A text has one value, whatever profile it is read in (`one_tree`, `in_wide`). So what is stored of the value that was
+-- read, its kind, depth and profile, is that of each value that the text may be said to have (`kind_is`, `depth_is`,
+-- `in_strict`, `strict_of`). The profile is Strict exactly if Strict's grammar has the value, since a text is read in
+-- Wide only where Strict refuses it (`strict_is`). A text of a single leaf is a value of this leaf, and what the leaf
+-- means is what the value means (`scalar_read`, `scalar_means`).
+--
+-- Theorems: `holds`: what is known of a value that was read; `no_value`: why there is none; `strict_value`.
 use Rattle.std.proofs.Common.{◌≡◌, ℕ, ℤ, Bool, true, false, List, refl, sym, subst, ◌∙◌, ap, inl, inr, arith, slice_get, Some, None}
 use Rattle.std.specs.Prelude.{◌↔◌, IsTrue, codes}
 use Rattle.std.proofs.lemmas.List.{append-nil}

@@ -1,13 +1,14 @@
 pub mod RoleStates
 pub mod Tables
 pub mod Represents
-pub mod KeyWalks
+pub mod Descents
 pub mod Steps
 pub mod NestedValues
 pub mod Reads
 pub mod MentionInfos
 pub mod AddedInfos
-pub mod Stops
+pub mod DefineFaults
+pub mod Defines
 pub mod Statements
 pub mod Keys
 pub mod FlatValues
@@ -17,7 +18,10 @@ pub mod Lookup
 pub mod FirstKeys
 pub mod Plans
 pub mod ReadStatements
+pub mod Outcomes
 pub mod Nested
+pub mod LinesNested
+pub mod LinePlaces
 pub mod ReadDocuments
 pub mod ValueTexts
 pub use Rattle.keep_meaning.specs.Marks
@@ -29,3 +33,4 @@ pub use Rattle.keep_index_store.specs.Facts
 pub use Rattle.keep_index_store.specs.Trie
 pub use Rattle.keep_path.specs.Path
 pub use Rattle.keep_path.specs.PathText
+pub mod PathRooms

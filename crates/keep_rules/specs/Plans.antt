@@ -1,26 +1,20 @@
 -- The nested values in the flat list from a number on, and what reading them does.
-use Rattle.std.specs.Prelude.{◌≡◌, ℕ, ◌+◌, List, [], ◌∷◌, Some, slice_get}
+use Rattle.std.specs.Prelude.{◌≡◌, ℕ, ◌+◌, List, [], ◌∷◌, length, Some, slice_get}
 use Rattle.keep_syntax.specs.declared.fault.Why.{Why}
 use Rattle.keep_types.specs.declared.syntax.KeyPart.{KeyPart}
 use Rattle.keep_types.specs.declared.syntax.ValueInfo.{ValueInfo}
 use Rattle.keep_syntax_store.specs.Flat.{Flat}
-use Rattle.keep_rules.specs.declared.key_walk.Fault.{Fault}
-use Rattle.keep_rules.specs.declared.key_walk.Fault.TheVariants.{Define, Memory}
-use Rattle.keep_meaning.specs.KeyText.{IsKeyAt}
 use Rattle.keep_path.specs.Path.{Part}
 use Rattle.keep_meaning.specs.Marks.{Mention}
 use Rattle.keep_rules.specs.NestedValues.{NestingState, NestedValue, Suits, AllSuit, nested_mentions}
 use Rattle.keep_rules.specs.NestedValues.{all_nested_mentions}
+use Rattle.keep_rules.specs.Keys.{AreReadable}
 use Rattle.keep_index_store.specs.Trie.{TrieNode}
 use Rattle.keep_index_store.specs.Tree.{TrieInfos, node_infos}
-use Rattle.keep_rules.specs.Represents.{Represents, FaultIn}
+use Rattle.keep_rules.specs.Represents.{Represents, FaultFrom}
 use Rattle.keep_rules.specs.Reads.{AreValueNodes}
 use Rattle.keep_rules.specs.NestedReads.{nested_keys, HasKeys, NodesSoFar, NestedRead}
 use Rattle.keep_rules.specs.FlatValues.{MatchesNested, IsNested}
-
--- each key part can be read in the text
-abbrev pub AreReadable : List ℕ → List KeyPart → Type 0
-AreReadable bytes parts = (n : ℕ) (p : KeyPart) → slice_get parts n ≡ Some p → IsKeyAt bytes p
 
 -- the stored nodes, with the nodes of the values so far
 abbrev pub nodes_so_far : TrieInfos → List ℕ → NodesSoFar
@@ -52,16 +46,20 @@ pub record AreNext (bytes : List ℕ) (f : Flat) (nodes : List TrieNode) (ids : 
   pub suit : AllSuit s ts
   pub matches : MatchNested bytes f base from first ts
 
--- The nodes represent some mentions.
-abbrev pub RepresentsSome : List TrieNode → Type 0
-RepresentsSome nodes = (ms : List Mention) × (tables : List (List Part)) × Represents nodes ms tables
+-- The value with that number can be read as some nested value that may come next. `ids` are the nodes of those so far,
+-- of which the second is that of the value number `base`.
+pub record IsNextValue (bytes : List ℕ) (parts : List KeyPart) (nodes : List TrieNode) (ids : List ℕ) (base number : ℕ)
+    (info : ValueInfo) : Type 0 where
+  pub readable : AreReadable bytes parts
+  pub numbered : base + length ids ≡ number + 1
+  pub next : (s : NestingState) × (t : NestedValue) × IsNext bytes parts nodes ids base info s t
 
--- Among these mentions, which have the key parts from `first` on, the key part with that number makes the first faulty
--- mark.
-pub record FaultFrom (ms more : List Mention) (first number : ℕ) (why : Why) : Type 0 where
-  pub within : ℕ
-  pub sum : number ≡ first + within
-  pub fault : FaultIn ms more within why
+-- the values from a number on can be read as some nested values that may come next
+pub record AreNextValues (bytes : List ℕ) (f : Flat) (nodes : List TrieNode) (ids : List ℕ) (base from : ℕ)
+    : Type 0 where
+  pub readable : AreReadable bytes f.keys
+  pub numbered : base + length ids ≡ from + 1
+  pub next : (s : NestingState) × (ts : List NestedValue) × (first : ℕ) × AreNext bytes f nodes ids base from first s ts
 
 -- the value was read as each nested value that it may be
 abbrev pub NestedValueRead : List ℕ → Flat → ℕ → ValueInfo → TrieInfos → List ℕ → TrieInfos → List ℕ → ℕ → Type 0
@@ -88,8 +86,3 @@ NestedValuesFault bytes f base from old ids number why =
     (s : NestingState) (ts : List NestedValue) (first : ℕ) → AreNext bytes f old.trie ids base from first s ts
     → (ms : List Mention) (tables : List (List Part)) → Represents old.trie ms tables
     → FaultFrom ms (all_nested_mentions s ts) first number why
-
--- the fault by its number after so many key parts
-abbrev pub fault_from : Fault → ℕ → Fault
-fault_from (Define number why) first = Define (first + number) why
-fault_from Memory first = Memory

@@ -1,5 +1,6 @@
 -- The index of a document, and where a document breaks the definition rules.
-use Rattle.std.specs.Prelude.{◌≡◌, ℕ, List, map, Some, slice_get}
+use Rattle.std.specs.Prelude.{◌≡◌, ℕ, ◌+◌, ◌≤◌, List, length, map, Some, slice_get, IfErr, IfOk, IsOkUnless, OnOk}
+use Rattle.std.specs.Prelude.{Result}
 use Rattle.keep_types.specs.declared.leaf.Profile.{Profile}
 use Rattle.keep_syntax.specs.declared.alone.ValueSyntax.{ValueSyntax}
 use Rattle.keep_syntax.specs.declared.fault.ReadFault.{ReadFault}
@@ -9,8 +10,8 @@ use Rattle.keep_syntax.specs.declared.syntax.Syntax.{Syntax}
 use Rattle.keep_syntax.specs.Contract.{IsSyntaxOf, IsValueSyntaxOf}
 use Rattle.keep_syntax.specs.Grammar.{Reads, ReadsValue}
 use Rattle.keep_syntax.specs.Tree.{Value, Document}
-use Rattle.keep_rules.specs.declared.key_walk.Fault.{Fault}
-use Rattle.keep_rules.specs.declared.key_walk.Fault.TheVariants.{Define, Memory}
+use Rattle.keep_rules.specs.declared.definitions.DefineFault.{DefineFault}
+use Rattle.keep_rules.specs.declared.definitions.DefineFault.TheVariants.{Refused, Memory}
 use Rattle.keep_meaning.specs.Faults.{IsFaultIn, IsFaultInValue}
 use Rattle.keep_meaning.specs.Counts.{statements_in}
 use Rattle.keep_meaning.specs.Marks.{marks, start, reading_after}
@@ -18,6 +19,8 @@ use Rattle.keep_meaning.specs.Meaning.{mentions_in, mentions_of_value}
 use Rattle.keep_meaning.specs.Nodes.{node_path, nodes_in, infos_in}
 use Rattle.keep_meaning.specs.Rules.{ObeysRules}
 use Rattle.keep_path.specs.NodeInfos.{NodeInfos}
+use Rattle.keep_index_store.specs.Tree.{TrieInfos, node_infos}
+use Rattle.keep_rules.specs.Tables.{RootIsTable}
 use Rattle.keep_rules.specs.Nested.{AreNested}
 
 -- The text was read as this document, in some profile and to some depth, and the syntax is that of the document.
@@ -54,8 +57,28 @@ IsValueRefusal v (faults.Define at why) = IsFaultInValue v at why
 IsValueRefusal v faults.Memory = Unit {0}
 IsValueRefusal v _ = ⊥
 
+-- What reading the document by the rules answers. It is the document's index exactly if the document obeys the rules,
+-- unless memory runs out, with no more nodes than the text has bytes and one.
+pub record IsBuilt (bytes : List ℕ) (s : Syntax) (r : Result NodeInfos ReadFault) : Type 0 where
+  pub ok : (d : Document) → WasRead bytes s d → IfOk r (IsIndexOf d)
+  pub read : (d : Document) → WasRead bytes s d → ObeysRules (marks (mentions_in d)) → IsOkUnless r faults.Memory
+  pub few : IfOk r (λ t. length t.paths ≤ length bytes + 1)
+  pub faults : (d : Document) → WasRead bytes s d → IfErr r (IsRefusal d)
+
+-- what reading the statements of a document answers: its nodes, of which the root is a table, or the first fault
+pub record IsReadDocument (bytes : List ℕ) (s : Syntax) (r : Result TrieInfos ReadFault) : Type 0 where
+  pub rooted : IfOk r (λ nodes. RootIsTable nodes.trie)
+  pub ok : IfOk r (λ nodes. (d : Document) → WasRead bytes s d → IsIndexOf d (node_infos nodes))
+  pub faults : IfErr r (λ fault. (d : Document) → WasRead bytes s d → IsRefusal d fault)
+
+-- Whether a value alone obeys the rules: Ok exactly if it does, unless memory runs out, and else its first fault.
+pub record IsChecked (bytes : List ℕ) (s : ValueSyntax) (r : Result Unit ReadFault) : Type 0 where
+  pub ok : (v : Value) → WasReadAlone bytes s v → OnOk r (ValueObeys v)
+  pub read : (v : Value) → WasReadAlone bytes s v → ValueObeys v → IsOkUnless r faults.Memory
+  pub faults : (v : Value) → WasReadAlone bytes s v → IfErr r (IsValueRefusal v)
+
 -- the fault, with the start of its key part
-abbrev pub IsFaultAt : List KeyPart → Fault → ReadFault → Type 0
-IsFaultAt parts (Define number why) fault =
+abbrev pub IsFaultAt : List KeyPart → DefineFault → ReadFault → Type 0
+IsFaultAt parts (Refused number why) fault =
     (part : KeyPart) × (slice_get parts number ≡ Some part) × (fault ≡ faults.Define part.span.start why)
 IsFaultAt parts Memory fault = fault ≡ faults.Memory

@@ -5,7 +5,7 @@ use Rattle.keep_types.specs.declared.syntax.Statement.{Statement}
 use Rattle.keep_types.specs.declared.syntax.StatementKind.{StatementKind}
 use Rattle.keep_types.specs.declared.syntax.StatementKind.TheVariants.{Element}
 use Rattle.keep_syntax_store.specs.Flat.{Flat}
-use Rattle.keep_rules.specs.declared.keys.Keys.{Keys}
+use Rattle.keep_rules.specs.Keys.{AreReadable, Key}
 use Rattle.keep_meaning.specs.Marks as marks
 use Rattle.keep_meaning.specs.Marks.{Mention, Reading, statement_mentions}
 use Rattle.keep_meaning.specs.Counts.{Count}
@@ -15,12 +15,18 @@ use Rattle.keep_rules.specs.Reads.{IsReading, Reads}
 use Rattle.keep_rules.specs.AddedInfos.{AddsValue}
 use Rattle.keep_rules.specs.Statements.{header_of, element_of}
 use Rattle.keep_rules.specs.FlatStatements.{MatchesStatement, IsCountBefore}
-use Rattle.keep_rules.specs.Plans.{FaultFrom}
+use Rattle.keep_rules.specs.Represents.{FaultFrom}
 
 -- the header with these keys
-abbrev pub head_of : StatementKind → Keys → marks.Statement
+abbrev pub head_of : StatementKind → Key → marks.Statement
 head_of Element k = element_of k
 head_of _ k = header_of k
+
+-- The statement of the flat list is some statement, whose key parts can be read in the text.
+pub record HasStatement (bytes : List ℕ) (f : Flat) (st : Statement) : Type 0 where
+  pub readable : AreReadable bytes f.keys
+  pub statement : marks.Statement
+  pub matches : MatchesStatement bytes f.keys f.values st statement
 
 -- The nodes represent some mentions, with the body at that node.
 abbrev pub HasReading : List TrieNode → ℕ → Type 0

@@ -1,11 +1,14 @@
 -- What reading a statement, or a value in it, does to the nodes.
 use Rattle.std.specs.Prelude.{◌≡◌, ℕ, ◌<◌, false, List, ◌++◌, length, slice_index_or}
 use Rattle.keep_syntax.specs.declared.fault.Why.{Why}
+use Rattle.keep_meaning.specs.Fact.{Fact}
+use Rattle.keep_path.specs.Path.{Part}
 use Rattle.keep_meaning.specs.Marks.{Mention, Reading, Statement, statement_mentions, next_reading}
 use Rattle.keep_index_store.specs.Trie.{TrieNode, by_key, by_index, path_at, state_at, holds_at, children_of}
 use Rattle.keep_rules.specs.Tables.{is_tables}
-use Rattle.keep_rules.specs.Represents.{Represents, IsOpen, FaultIn}
+use Rattle.keep_rules.specs.Represents.{Represents, IsOpen, FaultFrom}
 use Rattle.keep_rules.specs.NestedValues.{NestingState, path_of_value, holding_of_value, entries_of_value}
+use Rattle.keep_rules.specs.NestedValues.{nested_keyed, nested_mentions}
 
 -- the nodes represent the mentions so far, and the node `body` is that of the reading's body
 pub record IsReading (nodes : List TrieNode) (body : ℕ) (ms : List Mention) (r : Reading) : Type 0 where
@@ -19,10 +22,17 @@ Reads old body new to s =
     (ms : List Mention) (r : Reading) → IsReading old body ms r
     → IsReading new to (ms ++ statement_mentions r s) (next_reading r s)
 
--- the statement has the first faulty mark, after so many of its marks
-abbrev pub FaultsIn : List TrieNode → ℕ → Statement → ℕ → Why → Type 0
-FaultsIn old body s number why =
-    (ms : List Mention) (r : Reading) → IsReading old body ms r → FaultIn ms (statement_mentions r s) number why
+-- the statement has the first faulty mark, at the key part with that number: its key parts are those from `first` on
+abbrev pub FaultsIn : List TrieNode → ℕ → Statement → ℕ → ℕ → Why → Type 0
+FaultsIn old body s first number why =
+    (ms : List Mention) (r : Reading) → IsReading old body ms r → FaultFrom ms (statement_mentions r s) first number why
+
+-- the keys of a value in the table at a node have the first faulty mark
+abbrev pub KeyedFaults : List TrieNode → ℕ → ℕ → List (List ℕ) → ℕ → Why → Type 0
+KeyedFaults nodes table first keys number why =
+    (s : NestingState) (o : ℕ) (f : Fact) → path_at nodes table ≡ path_of_value s o
+    → (ms : List Mention) (tables : List (List Part)) → Represents nodes ms tables
+    → FaultFrom ms (nested_mentions s (nested_keyed o keys f)) first number why
 
 -- the node of the value number j
 pub record IsValueNode (nodes : List TrieNode) (id : ℕ) (s : NestingState) (j : ℕ) : Type 0 where

@@ -4,20 +4,21 @@ use Rattle.keep_path.specs.Path.{Part, key, index}
 use Rattle.keep_meaning.specs.Fact.{Fact}
 use Rattle.keep_meaning.specs.Marks.{Mention, value, item}
 use Rattle.keep_index_store.specs.Trie.{TrieNode, Holding, path_at, state_at, holds_at, children_of}
-use Rattle.keep_rules.specs.Tables.{is_tables, IsShaped}
+use Rattle.keep_rules.specs.Tables.{is_tables, IsShaped, IsTable}
 use Rattle.keep_rules.specs.Represents.{Keeps, KeepsItems, Represents, IsOpen}
-use Rattle.keep_rules.specs.KeyWalks.{walk_path, walk_mentions, dotted_mentions}
+use Rattle.keep_rules.specs.Descents.{descent_path, descent_mentions, dotted_mentions}
 
--- a header went along these keys, from the root to the node `to`
-pub record Walks (old new : List TrieNode) (to : ℕ) (ks : List (List ℕ)) : Type 0 where
+-- a header went down these keys, from the root to the node `to`
+pub record HeaderDescent (old new : List TrieNode) (to : ℕ) (ks : List (List ℕ)) : Type 0 where
   pub keeps : Keeps old new
+  pub table : IsTable new to
   pub represents : (ms : List Mention) (tables : List (List Part)) → Represents old ms tables
-      → Represents new (ms ++ walk_mentions tables [] ks) tables
+      → Represents new (ms ++ descent_mentions tables [] ks) tables
   pub is_open : (ms : List Mention) (tables : List (List Part)) → Represents old ms tables
-      → IsOpen new to (walk_path tables [] ks)
+      → IsOpen new to (descent_path tables [] ks)
 
--- a keyval went along these keys, from a node to the node `to`
-pub record Dots (old new : List TrieNode) (at to : ℕ) (ks : List (List ℕ)) : Type 0 where
+-- a keyval went down these keys, from a node to the node `to`
+pub record DottedDescent (old new : List TrieNode) (at to : ℕ) (ks : List (List ℕ)) : Type 0 where
   pub keeps : Keeps old new
   pub items : KeepsItems old new
   pub represents : (ms : List Mention) (tables : List (List Part)) → Represents old ms tables
@@ -33,8 +34,8 @@ pub record IsMade (old new : List TrieNode) (to : ℕ) (path : List Part) (holds
   pub held : holds_at new to ≡ holds
   pub bare : children_of new to ≡ []
 
--- a keyval with these keys gave a value to the node `to`, which may have these children
-pub record Gives (old new : List TrieNode) (at to : ℕ) (leading : List (List ℕ)) (last : List ℕ) (holds : Holding)
+-- a keyval with these keys defined a value as the node `to`, which may have these children
+pub record HasNewValue (old new : List TrieNode) (at to : ℕ) (leading : List (List ℕ)) (last : List ℕ) (holds : Holding)
     : Type 0 where
   pub keeps : Keeps old new
   pub shaped : IsShaped new

@@ -19,6 +19,21 @@ pub record Fits (role : Role) (holds : Holding) : Type 0 where
   pub listed : allows role Element ≡ true → holds ≡ by_index
   pub opened : allows role Through ≡ true → holds ≡ by_key
 
+-- the node is a table: it may have children by keys
+pub record IsTable (nodes : List TrieNode) (i : ℕ) : Type 0 where
+  pub within : i < length nodes
+  pub keyed : holds_at nodes i ≡ by_key
+
+-- the root is a table
+abbrev pub RootIsTable : List TrieNode → Type 0
+RootIsTable nodes = holds_at nodes 0 ≡ by_key
+
+-- the node is an array
+pub record IsArray (nodes : List TrieNode) (i : ℕ) : Type 0 where
+  pub within : i < length nodes
+  pub listed : holds_at nodes i ≡ by_index
+  pub plain : is_tables (state_at nodes i) ≡ false
+
 -- the children of arrays are their items, and those of arrays of tables their elements, in order
 pub record IsShaped (nodes : List TrieNode) : Type 0 where
   pub elements : (i k : ℕ) → i < length nodes → holds_at nodes i ≡ by_index → k < length (children_of nodes i)

@@ -1,16 +1,14 @@
 //! The nodes of a document, and what can be asked of them.
-ghost use Rattle.std.specs.Prelude.{◌≡◌, ℕ, ◌+◌, ◌-◌, ◌<◌, ◌≤◌, ◌∷◌, ◌++◌, [], None, Some, IfOk, IfErr, IfSome, IsNone};
-ghost use Rattle.std.specs.Prelude.{IsOkUnless, OnErr, OnOk, if◌then◌else◌, List, length, nat_lt, slice_get};
-ghost use Rattle.std.specs.Prelude.{string_bytes, take};
+ghost use Rattle.std.specs.Prelude.{◌≡◌, ℕ, ◌+◌, ◌-◌, ◌<◌, ◌≤◌, ◌∷◌, ◌++◌, [], None, Some, IfOk, IsNone};
+ghost use Rattle.std.specs.Prelude.{OnErr, OnOk, if◌then◌else◌, List, length, nat_lt, slice_get};
+ghost use Rattle.std.specs.Prelude.{string_bytes, string_capacity, take, IsOk};
 ghost use Rattle.std.specs.Option.{option_and_then};
 ghost use Rattle.keep_syntax.specs.declared.syntax.Syntax as syntax;
 ghost use Rattle.keep_syntax.specs.Contract.{IsSyntaxOf};
 ghost use Rattle.keep_syntax.specs.Numbered as numbered;
 ghost use Rattle.keep_syntax.specs.Tree.{Document, Value};
-ghost use Rattle.keep_syntax.specs.declared.fault.ReadFault.TheVariants.{Memory};
-ghost use Rattle.keep_rules.specs.Lookup.{number_of, path_numbered, children_numbered, nth_child};
-ghost use Rattle.keep_meaning.specs.Marks.{marks};
-ghost use Rattle.keep_meaning.specs.Meaning.{mentions_in};
+ghost use Rattle.keep_rules.specs.Lookup.{FindsNode, children_numbered, nth_child, number_of, path_numbered};
+ghost use Rattle.keep_rules.specs.PathRooms.{HasRoom};
 ghost use Rattle.keep_meaning.specs.Nodes.{node_number, nodes_in, key_span_of, value_span_of};
 ghost use Rattle.keep_index_store.specs.Tree.{IsRoot};
 ghost use Rattle.keep_index_store.specs.Trie.{by_key};
@@ -18,13 +16,13 @@ ghost use Rattle.keep_path.specs.NodeInfos.{with_kind, with_path};
 ghost use Rattle.keep_path.specs.Path.{EndsInKey, Part, beside, key, index};
 ghost use Rattle.keep_path.specs.Step.{part_of};
 ghost use Rattle.keep_path.specs.PathText.{encoded_path};
-ghost use Rattle.keep_rules.specs.ReadDocuments.{WasRead, WasReadAlone, IsIndexOf, ValueObeys, IsRefusal};
-ghost use Rattle.keep_rules.specs.ReadDocuments.{IsValueRefusal};
-ghost use Rattle.keep_meaning.specs.Rules.{ObeysRules};
+ghost use Rattle.keep_rules.specs.ReadDocuments.{IsBuilt, IsChecked, IsIndexOf, WasRead, WasReadAlone};
 
-use crate::document::{read_alone, read_document};
-use crate::path_text::push_path;
+mod lines;
+
+use crate::path_text::{PathRoom, push_path};
 use crate::queries::{child_by, path_to};
+use crate::read::{read_document, read_value_alone};
 use crate::spans::{key_span_at, value_span_at};
 use keep_index_store::{Holds, Tree};
 use keep_path::{Path, Step};
@@ -70,11 +68,7 @@ impl Index {
     /// allow, in bytes from the start of the text, and the reason. `Memory` where memory was refused. No other.
     pub fn build(alloc: Global, text: &str, syntax: &Syntax) -> Result<Index, ReadFault>
         requires { (d : Document) × WasRead text.now syntax.now d }
-        ensures ok { (d : Document) → WasRead text.now syntax.now d → IfOk result (IsIndexOf d) }
-        ensures read { (d : Document) → WasRead text.now syntax.now d → ObeysRules (marks (mentions_in d))
-            → IsOkUnless result Memory }
-        ensures faults { (d : Document) → WasRead text.now syntax.now d → IfErr result (IsRefusal d) }
-        ensures few { IfOk result (λ index. length index.paths ≤ length text.now + 1) }
+        ensures { IsBuilt text.now syntax.now result }
     {
         let root = Tree::new(alloc, text, Holds::Keys)?;
         Index::read(root, text, syntax)
@@ -95,11 +89,7 @@ impl Index {
         syntax: &Syntax,
     ) -> Result<Index, ReadFault>
         requires { (d : Document) × WasRead text.now syntax.now d }
-        ensures ok { (d : Document) → WasRead text.now syntax.now d → IfOk result (IsIndexOf d) }
-        ensures read { (d : Document) → WasRead text.now syntax.now d → ObeysRules (marks (mentions_in d))
-            → IsOkUnless result Memory }
-        ensures faults { (d : Document) → WasRead text.now syntax.now d → IfErr result (IsRefusal d) }
-        ensures few { IfOk result (λ index. length index.paths ≤ length text.now + 1) }
+        ensures { IsBuilt text.now syntax.now result }
     {
         let root = self.nodes.renewed(alloc, lines, Holds::Keys)?;
         Index::read(root, text, syntax)
@@ -109,11 +99,7 @@ impl Index {
     fn read(root: Tree, text: &str, syntax: &Syntax) -> Result<Index, ReadFault>
         requires read { (d : Document) × WasRead text.now syntax.now d }
         requires root { IsRoot by_key root }
-        ensures ok { (d : Document) → WasRead text.now syntax.now d → IfOk result (IsIndexOf d) }
-        ensures read { (d : Document) → WasRead text.now syntax.now d → ObeysRules (marks (mentions_in d))
-            → IsOkUnless result Memory }
-        ensures faults { (d : Document) → WasRead text.now syntax.now d → IfErr result (IsRefusal d) }
-        ensures few { IfOk result (λ index. length index.paths ≤ length text.now + 1) }
+        ensures { IsBuilt text.now syntax.now result }
     {
         let nodes = read_document(root, text, syntax)?;
         Ok(Index { nodes })
@@ -128,11 +114,9 @@ impl Index {
     /// allow, in bytes from the start of the text, and the reason. `Memory` where memory was refused. No other.
     pub fn check_value(alloc: Global, text: &str, syntax: &ValueSyntax) -> Result<(), ReadFault>
         requires { (v : Value) × WasReadAlone text.now syntax.now v }
-        ensures ok { (v : Value) → WasReadAlone text.now syntax.now v → OnOk result (ValueObeys v) }
-        ensures read { (v : Value) → WasReadAlone text.now syntax.now v → ValueObeys v → IsOkUnless result Memory }
-        ensures faults { (v : Value) → WasReadAlone text.now syntax.now v → IfErr result (IsValueRefusal v) }
+        ensures { IsChecked text.now syntax.now result }
     {
-        read_alone(alloc, text, syntax)
+        read_value_alone(alloc, text, syntax)
     }
 
     /// How many nodes there are: one at least, the root table, and at most one more than the text that was read has
@@ -147,8 +131,7 @@ impl Index {
 
     /// The node with that number; None from `node_count()` on.
     pub fn node_at(&self, number: usize) -> Option<NodeId>
-        ensures numbered { number_of result ≡ (if nat_lt number (length self.now.paths) then Some number else None) }
-        ensures within { IfSome result (λ id. id.0 < length self.now.paths) }
+        ensures { FindsNode self.now (if nat_lt number (length self.now.paths) then Some number else None) result }
     {
         if number < self.nodes.len() {
             Some(NodeId(number))
@@ -174,14 +157,33 @@ impl Index {
             (string_bytes out.new ≡ string_bytes out.old ++ encoded_path (path_numbered self.now id.0)) }
         ensures refused { OnErr result (string_bytes out.new ≡ string_bytes out.old) }
     {
-        push_path(out, &self.nodes, id.0)
+        let mut room = PathRoom::new(*out.allocator());
+        self.push_path_within(id, &mut room, out)
+    }
+
+    /// Adds the text of the node's path as `push_path_text` does, and takes memory only where `room` and `out` have no
+    /// room for it.
+    pub fn push_path_within(
+        &self,
+        id: NodeId,
+        room: &mut PathRoom,
+        out: &mut String,
+    ) -> Result<(), AllocError>
+        requires { id.0 < length self.now.paths }
+        ensures pushed { OnOk result
+            (string_bytes out.new ≡ string_bytes out.old ++ encoded_path (path_numbered self.now id.0)) }
+        ensures refused { OnErr result (string_bytes out.new ≡ string_bytes out.old) }
+        ensures grown { (string_capacity out.old ≤ string_capacity out.new) × (room.old ≤ room.new) }
+        ensures enough { OnOk result (length (path_numbered self.now id.0) ≤ room.new) }
+        ensures fits { HasRoom room.old out.old (path_numbered self.now id.0) → IsOk result }
+    {
+        push_path(out, room, &self.nodes, id.0)
     }
 
     /// The node of that path; None where the document has none there. It takes no memory, and one look-up for each
     /// step.
     pub fn find(&self, path: &Path) -> Option<NodeId>
-        ensures found { number_of result ≡ node_number self.now.paths path.now }
-        ensures within { IfSome result (λ id. id.0 < length self.now.paths) }
+        ensures { FindsNode self.now (node_number self.now.paths path.now) result }
     {
         self.find_first(path, path.len())
     }
@@ -189,8 +191,7 @@ impl Index {
     /// The node to which the first `n` steps of the path lead, or all where it has fewer; None where the document has
     /// none there.
     pub fn find_first(&self, path: &Path, n: usize) -> Option<NodeId>
-        ensures found { number_of result ≡ node_number self.now.paths (take n path.now) }
-        ensures within { IfSome result (λ id. id.0 < length self.now.paths) }
+        ensures { FindsNode self.now (node_number self.now.paths (take n path.now)) result }
     {
         let mut id = 0;
         for number in 0..n.min(path.len()) {
@@ -203,11 +204,10 @@ impl Index {
     /// longer path that begins so.
     pub fn step(&self, id: NodeId, step: &Step) -> Option<NodeId>
         requires { id.0 < length self.now.paths }
-        ensures found { number_of result
-            ≡ node_number self.now.paths (path_numbered self.now id.0 ++ part_of step.now ∷ []) }
+        ensures node { FindsNode self.now
+            (node_number self.now.paths (path_numbered self.now id.0 ++ part_of step.now ∷ [])) result }
         ensures none { IsNone result → (more : List Part)
             → node_number self.now.paths (path_numbered self.now id.0 ++ part_of step.now ∷ more) ≡ None }
-        ensures within { IfSome result (λ id. id.0 < length self.now.paths) }
     {
         child_by(&self.nodes, id.0, step).map(NodeId)
     }
@@ -215,9 +215,8 @@ impl Index {
     /// The node of a table's key, decoded; None where the table has no such key, or where the node is no table.
     pub fn child(&self, id: NodeId, text: &str) -> Option<NodeId>
         requires { id.0 < length self.now.paths }
-        ensures found { number_of result
-            ≡ node_number self.now.paths (path_numbered self.now id.0 ++ key text.now ∷ []) }
-        ensures within { IfSome result (λ id. id.0 < length self.now.paths) }
+        ensures { FindsNode self.now
+            (node_number self.now.paths (path_numbered self.now id.0 ++ key text.now ∷ [])) result }
     {
         self.nodes.child(id.0, text).map(NodeId)
     }
@@ -225,9 +224,8 @@ impl Index {
     /// The node of a path with this key, decoded, in place of its last step; None if the document has none there. For
     /// the root's path it is a key of the root.
     pub fn sibling(&self, path: &Path, text: &str) -> Option<NodeId>
-        ensures found { number_of result
-            ≡ node_number self.now.paths (take (length path.now - 1) path.now ++ key text.now ∷ []) }
-        ensures within { IfSome result (λ id. id.0 < length self.now.paths) }
+        ensures { FindsNode self.now
+            (node_number self.now.paths (take (length path.now - 1) path.now ++ key text.now ∷ [])) result }
     {
         let nodes = &self.nodes;
         let parent = self.find_first(path, path.len().saturating_sub(1))?;
@@ -247,10 +245,9 @@ impl Index {
     /// array of tables it is the item or element of index `n`.
     pub fn child_at(&self, id: NodeId, n: usize) -> Option<NodeId>
         requires { id.0 < length self.now.paths }
-        ensures met { number_of result ≡ nth_child self.now id.0 n }
+        ensures node { FindsNode self.now (nth_child self.now id.0 n) result }
         ensures indexed { (k : ℕ) → node_number self.now.paths (path_numbered self.now id.0 ++ index n ∷ []) ≡ Some k
             → number_of result ≡ Some k }
-        ensures within { IfSome result (λ child. child.0 < length self.now.paths) }
     {
         self.nodes.child_at(id.0, n).map(NodeId)
     }

@@ -2,22 +2,22 @@
 //! nodes there are.
 #![tactic(auto)]
 
-mod build;
-mod document;
+mod define;
+mod definitions;
+mod descend;
 mod index;
-mod key_walk;
 mod keys;
-mod kinds;
-mod mark;
-mod nested_values;
+pub mod laws;
 mod path_text;
 mod queries;
+mod read;
 mod spans;
-mod statement;
 mod value;
 
 pub use index::{Index, NodeId};
+pub use keep_index_store::{LineNumbers, NotInPlace};
 pub use keep_path::{Path, PathFault, Step};
 pub use keep_syntax::Why;
 pub use keep_types::{Kind, NodeInfo, Origin, Role, kind_of};
+pub use path_text::PathRoom;
 pub use value::ValueText;

@@ -1,10 +1,11 @@
 //! Looking up nodes by steps, and paths by nodes.
 ghost use Rattle.std.specs.Prelude.{◌≡◌, ◌<◌, IfOk, OnOk, length};
-ghost use Rattle.keep_rules.specs.Lookup.{AreAncestors};
+ghost use Rattle.keep_rules.specs.Lookup.{HasNode, IsBelowRoot};
 ghost use Rattle.keep_path.specs.Step.{part_of};
 ghost use Rattle.keep_index_store.specs.Tree.{IsChild};
 ghost use Rattle.keep_index_store.specs.Trie.{by_key, holds_at, parent_at, path_at};
 
+use crate::path_text::climb;
 use keep_index_store::Tree;
 use keep_path::{Path, Step};
 use std::alloc::{AllocError, Global};
@@ -23,36 +24,22 @@ pub fn child_by(nodes: &Tree, id: usize, step: &Step) -> Option<usize>
 /// The path of a node.
 pub fn path_to(alloc: Global, nodes: &Tree, id: usize) -> Result<Path, AllocError>
     requires rooted { holds_at nodes.now.trie 0 ≡ by_key }
-    requires within { id < length nodes.now.trie }
+    requires node { HasNode nodes.now.trie id }
     ensures { IfOk result (λ path. path ≡ path_at nodes.now.trie id) }
 {
     let mut path = Path::new(alloc);
-    let mut ancestors = ancestors_of(alloc, nodes, id)?;
+    let mut ancestors = Vec::new(alloc);
+    climb(&mut ancestors, nodes, id)?;
     while let Some(node) = ancestors.pop() {
         push_step(&mut path, nodes, node)?;
     }
     Ok(path)
 }
 
-/// A node and its ancestors, up to below the root.
-pub(crate) fn ancestors_of(alloc: Global, nodes: &Tree, id: usize) -> Result<Vec<usize>, AllocError>
-    requires { id < length nodes.now.trie }
-    ensures { IfOk result (λ ancestors. AreAncestors nodes.now.trie id ancestors.items 0) }
-{
-    let mut ancestors = Vec::new(alloc);
-    let mut node = id;
-    while node != 0 {
-        ancestors.push(node)?;
-        node = nodes.parent(node);
-    }
-    Ok(ancestors)
-}
-
 /// Adds the last step of a node's path to the path of its parent.
 fn push_step(path: &mut Path, nodes: &Tree, id: usize) -> Result<(), AllocError>
     requires rooted { holds_at nodes.now.trie 0 ≡ by_key }
-    requires later { 0 < id }
-    requires within { id < length nodes.now.trie }
+    requires node { IsBelowRoot nodes.now.trie id }
     requires above { path.old ≡ path_at nodes.now.trie (parent_at nodes.now.trie id) }
     ensures { OnOk result (path.new ≡ path_at nodes.now.trie id) }
 {

@@ -5,15 +5,12 @@ use Rattle.keep_rules.proofs.ClimbLemmas.{ancestors_left}
 use Rattle.keep_rules.proofs.queries.path_to.Goals as goal
 
 pub loop-node-init : goal.loop-node-init
-loop-node-init c = (0, c.in_ok-ancestors.ensures, c.new-path.ensures ∙ sym (path_at-root c.args.nodes.now.trie))
+loop-node-init c = (0, c.in_ok-climb.ensures.ancestors, c.new-path.ensures ∙ sym (path_at-root c.args.nodes.now.trie))
 
-pub push_step-requires-clause-later : goal.push_step-requires-clause-later
-push_step-requires-clause-later c =
-    (ancestors_left c.args.nodes.now.trie c.args.id c.loop-node.ancestors.items c.pop.new.self.items c.in-Some.node c.loop-node.invariant.0 c.in-Some.ensures.items c.loop-node.invariant.1).later
-
-pub push_step-requires-clause-within : goal.push_step-requires-clause-within
-push_step-requires-clause-within c =
-    (ancestors_left c.args.nodes.now.trie c.args.id c.loop-node.ancestors.items c.pop.new.self.items c.in-Some.node c.loop-node.invariant.0 c.in-Some.ensures.items c.loop-node.invariant.1).nested
+pub push_step-requires-clause-node : goal.push_step-requires-clause-node
+push_step-requires-clause-node c =
+    let left = ancestors_left c.args.nodes.now.trie c.args.id c.loop-node.ancestors.items c.pop.new.self.items c.in-Some.node c.loop-node.invariant.0 c.in-Some.ensures.items c.loop-node.invariant.1 in
+    record { later = left.later; within = left.nested }
 
 pub push_step-requires-clause-above : goal.push_step-requires-clause-above
 push_step-requires-clause-above c =

@@ -1,7 +1,0 @@
-use Rattle.std.proofs.Common.{arith}
-use Rattle.keep_rules.proofs.QueryLemmas.{count_paths}
-use Rattle.keep_rules.proofs.index.Index.push_path_text.Goals as goal
-
-pub push_path-requires : goal.push_path-requires
-push_path-requires c =
-    omega (arith, count_paths c.self.inside.nodes c.args.self.now c.self.invariant.0 c.self.view_is)

@@ -1,0 +1,23 @@
+use Rattle.std.proofs.Common.{◌∙◌, arith, sym}
+use Rattle.keep_index_store.specs.Renumbering.{numbers_of}
+use Rattle.keep_rules.proofs.LinePlaceLemmas.{is_before, is_from}
+use Rattle.keep_rules.proofs.index.lines.first_met_from.Goals as goal
+
+pub loop-low-preserved-then-is_met_from : goal.loop-low-preserved-then-is_met_from
+loop-low-preserved-then-is_met_from c = (
+  omega (arith, c.loop-low.invariant.0),
+  λ at from. ((c.loop-low.invariant.1 at from).0, is_from _ (numbers_of c.args.line) at _ c.info.result from c.info.ensures (sym c.is_met_from.ensures ∙ c.if-is_met_from.true)),
+)
+
+pub loop-low-preserved : goal.loop-low-preserved
+loop-low-preserved c = (
+  c.loop-low.invariant.0,
+  λ at from.
+      let past = is_before _ (numbers_of c.args.line) at _ c.info.result from c.info.ensures (sym c.is_met_from.ensures ∙ c.if-is_met_from.false) in
+      (omega (arith, past), (c.loop-low.invariant.1 at from).1),
+)
+
+pub returns : goal.returns
+returns c at from =
+    let between = c.loop-low.invariant.1 at from in
+    omega (arith, between.0, between.1)
