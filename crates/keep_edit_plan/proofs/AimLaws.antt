@@ -8,7 +8,7 @@
 --
 -- Theorems: `before_item`, `after_item`, `in_empty_array` and `no_item_there`: where an item is put in, or that it is
 -- refused.
-use Rattle.std.proofs.Common.{◌≡◌, ℕ, zero, suc, ◌-◌, ◌<◌, ◌≤◌, Bool, true, false, List, [], ◌∷◌, ◌++◌, length, take, slice_get, refl, sym, ap, subst, ◌∙◌, arith, Option, Some, None, Ok, Err, inl, inr}
+use Rattle.std.proofs.Common.{◌≡◌, ℕ, zero, suc, ◌-◌, ◌<◌, ◌≤◌, Bool, true, false, List, [], ◌∷◌, ◌++◌, length, take, slice_get, refl, sym, ap, ◌∙◌, arith, Option, Some, None, Ok, Err, inl, inr}
 use Rattle.std.specs.Prelude.{if◌then◌else◌}
 use Rattle.std.proofs.lemmas.Bool.{cases_lt}
 use Rattle.std.proofs.lemmas.Option.{slice_get_within}
@@ -148,18 +148,6 @@ module _ (path : List Part) (s : Document) (h : Holder) (held : IsHolder path s 
       no_item path (mentions_in s)
       (ap (λ (q : List Part). is_array_at q (mentions_in s)) (without_last-is path (omega (arith, far)))
       ∙ array_unless (take (length path - 1) path) (mentions_in s) (held.beyond far (length path - 1) (omega (arith, far)) (omega arith)))
-
-  -- the root has no last step
-  pub root_item : slice_get path h.len ≡ None → item_number path (mentions_in s) ≡ None
-  root_item none = elim held.proper [
-    | inl e ↦ (subst (λ (q : List Part). item_number q (mentions_in s) ≡ None) (sym e) refl)
-    | inr more ↦ absurd (there path h.len more none)
-  ]
-    where
-      there : (l : List Part) (n : ℕ) → n < length l → slice_get l n ≡ None → ⊥
-      there [] n low e = omega (arith, low)
-      there (x ∷ l) zero low e = cc
-      there (x ∷ l) (suc n) low e = there l n (omega (arith, low)) e
 
   pub key_item : (k : List ℕ) → slice_get path h.len ≡ Some (key k) → item_number path (mentions_in s) ≡ None
   key_item k is = elim (cases_lt (suc h.len) (length path)) [

@@ -1,5 +1,5 @@
 -- Appending a header: when it is refused, and where it is written.
-use Rattle.std.proofs.Common.{◌≡◌, ℕ, true, false, ◌==◌, List, [], ◌∷◌, ◌++◌, length, map, refl, sym, ap, ◌∙◌, arith, Some, None, Ok}
+use Rattle.std.proofs.Common.{◌≡◌, ℕ, true, false, ◌==◌, List, [], ◌∷◌, ◌++◌, length, map, refl, sym, ap, ◌∙◌, arith, None, Ok}
 use Rattle.std.specs.Prelude.{String, string_bytes, codes, IsUtf8}
 use Rattle.std.specs.Global.{Global}
 use Rattle.std.specs.List.{flat_map, AllByRecursion}
@@ -33,10 +33,6 @@ use Rattle.keep_edit_plan.proofs.AppendLaws.{further_key}
 use Rattle.keep_edit_plan.proofs.EditedLaws.{editable}
 
 -- ---- the refusal
-
-pub no_key : (profile : Profile) (s : Document) (header : Header) → refusal profile limit s (edit_of header []) ≡ Some fault.NotKey
-no_key profile s Table = refl
-no_key profile s Element = refl
 
 met : (profile : Profile) (s : Document) (header : Header) (d : ProfiledText) (k : List ℕ) (ks : List (List ℕ)) → IsTextOfTree d s
     → refusal profile limit s (edit_of header (k ∷ ks)) ≡ option_map fault.Conflict (conflict_from s [] (k ∷ ks) (role_of header))

@@ -1,4 +1,11 @@
 -- What is found at a path: the number of its value, and where the value is.
+--
+-- The index has the paths of the nodes in order, so what a look-up finds is the number of the path among them, and what
+-- is stored with that number is what the document states of the path (`node_found`). The node's origin is a value
+-- exactly where a value is the last thing that names it, since the origins have an order (`origin_of_value`,
+-- `value_of_origin`). The number of the value is then its number in the syntax, which has its span (`value_there`).
+--
+-- Theorems: `node_found`, `number_found`, `no_number_found` and `value_there`.
 use Rattle.std.proofs.Common.{◌≡◌, ℕ, ◌<◌, Bool, true, false, ◌||◌, List, [], ◌∷◌, length, slice_get, refl, sym, ap, subst, ◌∙◌, arith, Option, Some, None}
 use Rattle.std.specs.Prelude.{IsCharBoundary}
 use Rattle.std.specs.List.{list_any}

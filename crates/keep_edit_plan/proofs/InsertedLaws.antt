@@ -154,9 +154,6 @@ module _ (d : ProfiledText) (syntax : Syntax) (index_of : NodeInfos) (path : Lis
 
   -- ---- after an entry
 
-  abbrev keys : List (List ℕ)
-  keys = keys_in (drop i.from path)
-
   after_there : (w : ℕ) → i.spot ≡ spot.AfterEntry w → IsThere (λ (x : ValueInfo). after_entry x (keys_in (drop i.from path)) v) w
   after_there w e = find (λ (x : ValueInfo). after_entry x (keys_in (drop i.from path)) v) w (subst IsInBrackets (sym e) tt)
       (ap (λ (x : Spot). spot_place s path v (record { spot = x; from = i.from })) e)
@@ -199,7 +196,7 @@ module _ (d : ProfiledText) (syntax : Syntax) (index_of : NodeInfos) (path : Lis
 
   -- ---- lines
 
-  keyval_only : (at : Spot) → i.spot ≡ at → ((n : ℕ) → IsItemSpot path n s at → ⊥) → (item_number path (mentions_in s) ≡ None) × IsKeyvalSpot (holder path (mentions_in s)) s i.from at
+  pub keyval_only : (at : Spot) → i.spot ≡ at → ((n : ℕ) → IsItemSpot path n s at → ⊥) → (item_number path (mentions_in s) ≡ None) × IsKeyvalSpot (holder path (mentions_in s)) s i.from at
   keyval_only at e never = by (item_number path (mentions_in s)) refl there.1
     where
       by : (o : Option ℕ) → item_number path (mentions_in s) ≡ o → SpotBy o → (item_number path (mentions_in s) ≡ None) × IsKeyvalSpot (holder path (mentions_in s)) s i.from at

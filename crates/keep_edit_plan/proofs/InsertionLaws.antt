@@ -1,25 +1,24 @@
 -- The refusals of an insert, in their order, and where it goes if none holds.
-use Rattle.std.proofs.Common.{◌≡◌, ℕ, suc, ◌+◌, ◌-◌, ◌<◌, ◌≤◌, Bool, true, false, not, ◌&&◌, List, [], ◌∷◌, length, take, drop, refl, sym, ap, subst, ◌∙◌, arith, Option, Some, None, Ok, Err, inl, inr}
+use Rattle.std.proofs.Common.{◌≡◌, ℕ, suc, ◌-◌, ◌<◌, Bool, true, false, not, ◌&&◌, List, [], ◌∷◌, length, take, drop, refl, sym, ap, subst, ◌∙◌, arith, Option, Some, None, Ok, Err, inl, inr}
 use Rattle.std.specs.Prelude.{nat_lt}
 use Rattle.std.specs.List.{list_any}
 use Rattle.std.proofs.lemmas.Bool.{cases_lt, lt-ltb, le-ltb}
 use Rattle.std.proofs.lemmas.List.{length-take-le}
 use Rattle.keep_types.specs.declared.leaf.Profile.{Profile}
-use Rattle.keep_syntax.specs.Tree.{Value, Document, value_depth}
-use Rattle.keep_syntax.specs.Profiles.{is_allowed_in}
+use Rattle.keep_syntax.specs.Tree.{Value, Document}
 use Rattle.keep_path.specs.Path.{Part}
 use Rattle.keep_meaning.specs.Meaning.{mentions_in}
 use Rattle.keep_meaning.specs.Nodes.{is_node, node_number, node_paths}
 use Rattle.keep_edit_spec.specs.declared.fault.EditFault.{EditFault}
 use Rattle.keep_edit_spec.specs.declared.fault.EditFault.TheVariants as fault
 use Rattle.keep_edit_spec.specs.Edits.{insert}
-use Rattle.keep_edit_spec.specs.Look.{holder, enclosing, is_index, is_table, item_number, item_count, without_last}
+use Rattle.keep_edit_spec.specs.Look.{holder, is_index, is_table, item_number, item_count, without_last}
 use Rattle.keep_edit_spec.specs.Refusals.{refusal, refusal_by, first_that_holds, is_too_deep, is_foreign}
 use Rattle.keep_edit_spec.proofs.Shared.{IsItemPath, item_at}
 use Rattle.keep_edit_plan.specs.Reading.{limit}
 use Rattle.keep_edit_plan.specs.Aiming.{IsAimed, IsItemAimed, IsItemOf, IsKeyvalAimed}
 use Rattle.keep_edit_plan.specs.Holding.{IsHolder}
-use Rattle.keep_edit_plan.specs.Inserting.{IsInsertionOf, IsItemSpot, IsKeyvalSpot, IsSpotOf}
+use Rattle.keep_edit_plan.specs.Inserting.{IsItemSpot, IsKeyvalSpot, IsSpotOf}
 use Rattle.keep_edit_plan.specs.declared.holder.Holder.{Holder}
 use Rattle.keep_edit_plan.specs.declared.insert.Insertion.{Insertion}
 use Rattle.keep_edit_plan.specs.declared.insert.Spot.{Spot}
@@ -130,24 +129,3 @@ module _ (path : List Part) (s : Document) (none : item_number path (mentions_in
 
     pub keyval_unaimed : (f : EditFault) → false ≡ list_any is_index (drop h.len path) → IsKeyvalAimed (holder path (mentions_in s)) s h.base (Err f) → IsAimed path s (Err f)
     keyval_unaimed f e (is, no_table) = λ profile v. tests profile v false false (sym e) no_table ∙ ap Some (sym is)
-
--- ---- the value
-
-module _ (profile : Profile) (path : List Part) (v : Value) (s : Document) (i : Insertion) (aim : IsAimed path s (Ok i)) (h : Holder) (held : IsHolder path s h) (deep : ℕ) (deep_is : deep ≡ value_depth v) where
-  value_tests : (a b : Bool) → is_too_deep limit path v (mentions_in s) ≡ a → is_allowed_in profile v ≡ b → refusal profile limit s (insert path v) ≡ first_that_holds ((a, fault.TooDeep) ∷ (not b, fault.Profile) ∷ [])
-  value_tests a b e f =
-      aim.0 profile v
-      ∙ ap (λ (x : Bool). first_that_holds ((x, fault.TooDeep) ∷ (is_foreign profile v, fault.Profile) ∷ [])) e
-      ∙ ap (λ (x : Bool). first_that_holds ((a, fault.TooDeep) ∷ (not x, fault.Profile) ∷ [])) f
-
-  pub too_deep : limit < h.depth + deep → IsInsertionOf profile path v s (Err fault.TooDeep)
-  too_deep high = value_tests true (is_allowed_in profile v) (lt-ltb limit (enclosing path (mentions_in s) + value_depth v) (omega (arith, high, held.depth, deep_is))) refl
-
-  low_enough : h.depth + deep ≤ limit → is_too_deep limit path v (mentions_in s) ≡ false
-  low_enough low = le-ltb limit (enclosing path (mentions_in s) + value_depth v) (omega (arith, low, held.depth, deep_is))
-
-  pub foreign : h.depth + deep ≤ limit → is_allowed_in profile v ≡ false → IsInsertionOf profile path v s (Err fault.Profile)
-  foreign low f = value_tests false false (low_enough low) f
-
-  pub inserted_there : h.depth + deep ≤ limit → is_allowed_in profile v ≡ true → IsInsertionOf profile path v s (Ok i)
-  inserted_there low f = (value_tests false true (low_enough low) f, aim.1)

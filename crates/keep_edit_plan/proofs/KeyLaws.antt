@@ -127,7 +127,7 @@ module _ (P : List Part → Type 0) (f : List Part → List Part) (keeps : Keeps
 
 -- ---- the edit
 
-no_number : (path : List Part) (ms : List Mention) → is_node path ms ≡ false → node_number (node_paths ms) path ≡ None
+pub no_number : (path : List Part) (ms : List Mention) → is_node path ms ≡ false → node_number (node_paths ms) path ≡ None
 no_number path ms none = by (node_number (node_paths ms) path) refl
   where
     by : (o : Option ℕ) → node_number (node_paths ms) path ≡ o → o ≡ None

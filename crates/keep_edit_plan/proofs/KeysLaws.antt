@@ -20,7 +20,7 @@ last_snoc [] x = refl
 last_snoc (a ∷ []) x = refl
 last_snoc (a ∷ b ∷ q) x = last_snoc (b ∷ q) x
 
-dotted_of : (p : Origin) → is_dotted_origin p ≡ true → (n : ℕ) × (p ≡ origin.Dotted n)
+pub dotted_of : (p : Origin) → is_dotted_origin p ≡ true → (n : ℕ) × (p ≡ origin.Dotted n)
 dotted_of (origin.Dotted n) h = (n, refl)
 dotted_of origin.Root h = absurd cc
 dotted_of (origin.Value n) h = absurd cc

@@ -28,7 +28,7 @@ use Rattle.keep_meaning.specs.Fact as fact
 use Rattle.keep_meaning.specs.Fact.{Fact}
 use Rattle.keep_path.specs.Path.{Part}
 use Rattle.keep_meaning.specs.Marks as mention_kind
-use Rattle.keep_meaning.specs.Marks.{MentionKind, Mention, marks}
+use Rattle.keep_meaning.specs.Marks.{MentionKind, Mention}
 use Rattle.keep_meaning.specs.Meaning.{mentions_in}
 use Rattle.keep_meaning.specs.Nodes.{is_node, has, is_element, is_begun, is_define, is_dotted, is_through, fact_at, kind_at, kind_or_table, moment_kind, numbered_at, last_number, value_number, statement_number, first_that_fits}
 use Rattle.keep_edit_spec.specs.declared.fault.EditFault.TheVariants as fault

@@ -43,7 +43,7 @@ use Rattle.keep_edit_plan.proofs.EditedLaws.{editable}
 
 -- ---- a scalar has nothing in it
 
-no_entries : (w : Body) (es : Entries) → AreEntries Wide (place_in w) es → value_depth (record { body = w; nested = es }) ≡ 0 → es ≡ none
+pub no_entries : (w : Body) (es : Entries) → AreEntries Wide (place_in w) es → value_depth (record { body = w; nested = es }) ≡ 0 → es ≡ none
 no_entries (scalar w) none are e = refl
 no_entries (scalar w) (entry name body nested after comma rest) are e = absurd are.0
 no_entries (array first) es are e = absurd cc

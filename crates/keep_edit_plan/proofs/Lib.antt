@@ -25,9 +25,11 @@ pub mod KeyvalSteps
 pub mod KeyvalSpots
 pub mod InsertionLaws
 pub mod LineSpots
+pub mod LineNumberLaws
 pub mod LineWriting
 pub mod BracketPlaces
 pub mod KeysLaws
 pub mod InsertedLaws
+pub mod LineChangeLaws
 pub mod GivenLaws
 pub mod Shared

@@ -25,6 +25,7 @@ use Rattle.keep_edit_plan.specs.Inserting.{IsBase, IsKeyvalSpot, is_dotted_origi
 use Rattle.keep_edit_plan.specs.PutLines.{body_end_of, keyval_end_of, new_section_at}
 use Rattle.keep_edit_plan.specs.declared.insert.Spot.TheVariants.{AfterBody, AfterLine, NewSection}
 use Rattle.keep_edit_plan.proofs.RemoveCut.{low_boundary}
+use Rattle.keep_edit_plan.proofs.KeysLaws.{dotted_of}
 
 -- ---- what holds where lines are put in
 
@@ -61,15 +62,6 @@ pub record IsSectionReady (path : List Part) (v : Value) (s : Document) (from he
   pub more : List (List ℕ)
   pub table : keys_in (take from path) ≡ first ∷ more
   pub put : IsPutAt path v s from (body_end_of s (Some header)) (new_section_at s (body_end_of s (Some header)) (keys_in (take from path)) (keys_in (drop from path)) v)
-
-dotted_of : (p : Origin) → is_dotted_origin p ≡ true → (n : ℕ) × (p ≡ origin.Dotted n)
-dotted_of (origin.Dotted n) h = (n, refl)
-dotted_of origin.Root h = absurd cc
-dotted_of (origin.Value n) h = absurd cc
-dotted_of (origin.Header n) h = absurd cc
-dotted_of (origin.Element n) h = absurd cc
-dotted_of (origin.Through n) h = absurd cc
-dotted_of origin.Tables h = absurd cc
 
 not_dotted : (p : Origin) (n : ℕ) → is_dotted_origin p ≡ false → p ≡ origin.Dotted n → ⊥
 not_dotted p n h e = let k : is_dotted_origin p ≡ true = ap is_dotted_origin e in absurd cc

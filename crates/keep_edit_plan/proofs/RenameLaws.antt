@@ -1,4 +1,12 @@
 -- Renaming a key: when it is refused, and where the key is.
+--
+-- The refusal is the first of five tests that holds: no node, no key at the end, a node of the new name, more than one
+-- mention. The code asks in this order, and each answer decides its test (`not_found`, `not_key`, `exists_there`): a
+-- look-up finds a node exactly where there is one (`node_test`), and the last step tells whether the path ends in a
+-- key. Where the index says that the node has one mention (`IsOneKey`), the last test passes, and the span that it
+-- gives is that of the key part (`key_found`); so the edit is done there (`renamed_there`).
+--
+-- Theorems: `scattered`, `allowed`, `renamed_there` and `law_of`.
 use Rattle.std.proofs.Common.{◌≡◌, ℕ, suc, ◌-◌, Bool, true, false, List, [], ◌∷◌, ◌++◌, length, take, slice_get, refl, sym, ap, subst, ◌∙◌, arith, Option, Some, None, Ok}
 use Rattle.std.specs.Prelude.{not, ◌&&◌, ◌||◌, ◌==◌, ◌++◌, IsUtf8, is_some}
 use Rattle.std.specs.Option.{option_and_then}

@@ -3,7 +3,7 @@ use Rattle.std.proofs.Common.{◌≡◌, ℕ, ◌-◌, ◌==◌, Bool, true, fal
 use Rattle.keep_syntax.specs.Tree.{Content, blank, keyval, header, element, Line, Document}
 use Rattle.keep_path.specs.Path.{Part, key, index}
 use Rattle.keep_meaning.specs.Marks as marks
-use Rattle.keep_meaning.specs.Marks.{MentionKind, Mention, Reading, start, below, elements_of, entered_path, passing_mentions, header_path, header_prefixes}
+use Rattle.keep_meaning.specs.Marks.{Mention, Reading, start, below, elements_of, entered_path, passing_mentions, header_path, header_prefixes}
 use Rattle.keep_meaning.specs.Meaning.{key_value, further_value, keys_of, keyed_mentions, statement_of, line_mentions, after_line, lines_mentions, lines}
 use Rattle.keep_meaning.specs.Counts.{Numbered, numbered_in}
 use Rattle.keep_meaning.specs.Nodes.{mention_of, numbered_at}

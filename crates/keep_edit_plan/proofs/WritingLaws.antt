@@ -29,15 +29,6 @@ drop_none (suc n) [] h = refl
 drop_none zero (x ∷ l) h = absurd (omega (arith, h))
 drop_none (suc n) (x ∷ l) h = drop_none n l (omega (arith, h))
 
-few : (to : ℕ) (path : List Part) → length (take to path) ≤ to
-few zero [] = omega arith
-few zero (x ∷ path) = omega arith
-few (suc to) [] = omega arith
-few (suc to) (x ∷ path) = let h : length (take to path) ≤ to = few to path in omega (arith, h)
-
-keys_done : (n to : ℕ) (path : List Part) → to ≤ n → keys_between n to path ≡ []
-keys_done n to path h = ap keys_in (drop_none n (take to path) (omega (arith, h, few to path)))
-
 beyond : (n to : ℕ) (path : List Part) → slice_get path n ≡ None → drop n (take to path) ≡ []
 beyond zero zero [] e = refl
 beyond (suc n) zero [] e = refl
@@ -67,9 +58,6 @@ step_preserved dot further (index i) n m to path old new whole less next e h was
 -- and at the end nothing is left
 none_left : (dot : Bool) (old whole : List ℕ) (ks : List (List ℕ)) → ks ≡ [] → old ++ keys_text dot ks ≡ whole → old ≡ whole
 none_left dot old whole ks e was = sym (append-nil old) ∙ ap (λ (l : List (List ℕ)). old ++ keys_text dot l) (sym e) ∙ was
-
-pub all_written : (dot : Bool) (n to : ℕ) (path : List Part) (old whole : List ℕ) → to ≤ n → old ++ keys_text dot (keys_between n to path) ≡ whole → old ≡ whole
-all_written dot n to path old whole h was = none_left dot old whole (keys_between n to path) (keys_done n to path h) was
 
 pub path_written : (dot : Bool) (n to : ℕ) (path : List Part) (old whole : List ℕ) → slice_get path n ≡ None → old ++ keys_text dot (keys_between n to path) ≡ whole → old ≡ whole
 path_written dot n to path old whole e was = none_left dot old whole (keys_between n to path) (ap keys_in (beyond n to path e)) was

@@ -1,30 +1,39 @@
 -- What an edit changes of the index, where it need not be built anew.
-use Rattle.std.specs.Prelude.{◌≡◌, ◌<◌, None, length}
+use Rattle.std.specs.Prelude.{◌≡◌, ◌<◌, [], ◌∷◌, ◌++◌, None, length}
 use Rattle.keep_syntax.specs.Tree.{Document}
 use Rattle.keep_meaning.specs.Counts.{statements_in}
 use Rattle.keep_meaning.specs.Marks.{start, reading_after}
 use Rattle.keep_meaning.specs.Meaning.{mentions_in}
 use Rattle.keep_meaning.specs.Nodes.{node_number}
-use Rattle.keep_path.specs.NodeInfos.{NodeInfos, with_kind, with_path}
-use Rattle.keep_path.specs.Path.{EndsInKey, beside}
+use Rattle.keep_path.specs.NodeInfos.{NodeInfos, with_kind, with_node, with_path}
+use Rattle.keep_path.specs.Path.{EndsInKey, beside, key}
+use Rattle.keep_index_store.specs.Renumbering.{numbers_of}
+use Rattle.keep_rules.specs.LinePlaces.{IsPlaceOf, met_before}
 use Rattle.keep_rules.specs.Lookup.{path_numbered}
 use Rattle.keep_rules.specs.Nested.{AreNested}
 use Rattle.keep_edit_plan.specs.Reading.{telling_in}
 use Rattle.keep_edit_plan.specs.declared.plan.IndexChange.{IndexChange}
-use Rattle.keep_edit_plan.specs.declared.plan.IndexChange.TheVariants.{Kind, Key}
+use Rattle.keep_edit_plan.specs.declared.plan.IndexChange.TheVariants.{Kind, Key, Line}
 
 -- The node is there. Where another key is its path's last one, the path ends in a key, and no node is at the new one.
+-- No node is at the path of a line's key, and the nodes that are met before the line come first.
 abbrev pub CanChange : NodeInfos → IndexChange → Type 0
 CanChange t (Kind node kind) = node.0 < length t.paths
 CanChange t (Key node text) =
     (node.0 < length t.paths) × EndsInKey (path_numbered t node.0)
     × (node_number t.paths (beside (path_numbered t node.0) text.now) ≡ None)
+CanChange t (Line parent text line kind) =
+    (parent.0 < length t.paths) × (node_number t.paths (path_numbered t parent.0 ++ key text.now ∷ []) ≡ None)
+    × IsPlaceOf (numbers_of line) t.infos (met_before (numbers_of line) t.infos)
 
 abbrev pub changed_index : NodeInfos → IndexChange → NodeInfos
 changed_index t (Kind node kind) = with_kind t node.0 kind
 changed_index t (Key node text) = with_path t (path_numbered t node.0) (beside (path_numbered t node.0) text.now)
+changed_index t (Line parent text line kind) =
+    with_node t (met_before (numbers_of line) t.infos) (numbers_of line) (path_numbered t parent.0 ++ key text.now ∷ [])
+    kind
 
--- What is told of the nodes of the new document is what is told of those of the old one, with this change. They are
+-- What is known of the nodes of the new document is what is known of those of the old one, with this change. They are
 -- nested as its headers say.
 pub record IsIndexChange (old new : Document) (change : IndexChange) : Type 0 where
   pub can : CanChange (telling_in old) change

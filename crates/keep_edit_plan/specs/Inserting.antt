@@ -80,14 +80,14 @@ IsKeyvalSpot a s from (AfterLine v) =
 IsKeyvalSpot a s from (NewSection h) = (origin_of a s ≡ origin.Through h) × (from ≡ length a)
 IsKeyvalSpot a s from (BeforeItem v) = ⊥
 
--- What is inserted for the path goes there, and its steps from number `from` on are written as keys.
+-- What is inserted for the path is put there, and its steps from number `from` on are written as keys.
 abbrev pub IsSpotOf : List Part → Document → Insertion → Type 0
 IsSpotOf path s i = elim (item_number path (mentions_in s)) [
   | Some n ↦ (i.from ≡ length path) × IsItemSpot path n s i.spot
   | None ↦ IsKeyvalSpot (holder path (mentions_in s)) s i.from i.spot
 ]
 
--- where it goes, or why it is refused
+-- where it is put, or why it is refused
 abbrev pub IsInsertionOf : Profile → List Part → Value → Document → Result Insertion EditFault → Type 0
 IsInsertionOf profile path v s (Ok i) = (refusal profile limit s (insert path v) ≡ None) × IsSpotOf path s i
 IsInsertionOf profile path v s (Err f) = refusal profile limit s (insert path v) ≡ Some f
@@ -128,10 +128,6 @@ spot_place s path value i =
           Some (section_at (text s) (newline_of s).text (lines_start s) (section_end (drop h (syntax.statements s)))
           (keys_in (take i.from path)) keys value)
     ]
-
--- The edit's place is the place of the insertion.
-abbrev pub IsPlacedAt : List Part → Document → Value → Insertion → Type 0
-IsPlacedAt path s v i = spot_place s path v i ≡ Some (place s (insert path v))
 
 -- Bytes were added that the edit puts in at this byte of the text, between characters.
 abbrev pub IsPutIn : List Part → Value → Document → List ℕ → ℕ → List ℕ → List ℕ → Type 0

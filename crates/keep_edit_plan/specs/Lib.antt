@@ -12,3 +12,4 @@ pub mod Given
 pub mod Writing
 pub mod Aiming
 pub mod PutLines
+pub mod LineNumbers

@@ -1,5 +1,5 @@
 //! Edits as values, and the plan of each.
-ghost use Rattle.std.specs.Prelude.{◌≡◌, IfOk};
+ghost use Rattle.std.specs.Prelude.{IfOk};
 ghost use Rattle.keep_syntax.specs.Tree as tree;
 ghost use Rattle.keep_edit_spec.specs.Edits as law;
 ghost use Rattle.keep_edit_plan.specs.Given.{IsEdit};
@@ -22,7 +22,7 @@ pub enum Edit {
     Insert(Path, ValueText),
     /// Another key in place of the last key of a path.
     Rename(Path, String),
-    /// The node of a path goes.
+    /// The node of a path is removed.
     Remove(Path),
     /// The header of a table at the end.
     Table(Vec<String>),

@@ -1,5 +1,5 @@
 //! Headers at the end of a document: whether the definition rules let them be there.
-ghost use Rattle.std.specs.Prelude.{◌≡◌, ◌<◌, ◌∷◌, ◌++◌, [], length, MatchResult};
+ghost use Rattle.std.specs.Prelude.{◌≡◌, ◌<◌, ◌∷◌, ◌++◌, [], length};
 ghost use Rattle.keep_syntax.specs.Tree as tree;
 ghost use Rattle.keep_rules.specs.Lookup.{path_numbered};
 ghost use Rattle.keep_rules.specs.ReadDocuments.{IsIndexOf};

@@ -18,8 +18,10 @@ ghost use Rattle.keep_edit_plan.specs.Aiming.{spot_in_braces};
 ghost use Rattle.keep_edit_plan.specs.Holding.{IsHolder};
 ghost use Rattle.keep_edit_plan.specs.Inserting.{IsInsertionOf, IsPutIn, last_keyval_among};
 
+mod change;
 mod keys;
 mod lines;
+mod numbers;
 
 use crate::document::DocumentRef;
 use crate::holder::Holder;
@@ -61,12 +63,12 @@ impl<'a> DocumentRef<'a> {
     /// # Errors
     ///
     /// The refusal of the edit, whatever memory there is; else `Memory` if memory was refused.
-    pub fn insert_plan(
+    pub fn insert_plan<'p>(
         &self,
         alloc: Global,
-        path: &Path,
+        path: &'p Path,
         value: &ValueText,
-    ) -> Result<Plan<'static>, EditFault>
+    ) -> Result<Plan<'p>, EditFault>
         ensures planned { (s : tree.Document) → IsTextOfTree self.now s → (v : tree.Value) → IsTextOfValue value.now v
             → EditPlanned s (insert path.now v) self.now result }
         ensures of_edit { IfOk result (IsPlanOf self.now) }
@@ -86,7 +88,7 @@ impl<'a> DocumentRef<'a> {
         let place = Span { start: at, end: at };
         Ok(Plan {
             text_edit: TextEdit { place, new },
-            index_change: None,
+            index_change: self.line_change(path, insertion, value),
         })
     }
 
@@ -204,7 +206,7 @@ impl<'a> DocumentRef<'a> {
         }
     }
 
-    /// Where an item goes in a static array.
+    /// Where an item is put in a static array.
     fn item_spot(&self, array: NodeId, number: usize) -> Result<Spot, EditFault>
         requires { (path : List Part) × (s : tree.Document) × IsTextOfTree self.now s × IsItemOf path number s array.0 }
         ensures { (path : List Part) (s : tree.Document) → IsTextOfTree self.now s → IsItemOf path number s array.0
@@ -240,7 +242,7 @@ impl<'a> DocumentRef<'a> {
         }
     }
 
-    /// Where a keyval goes below a node, with the keys from the node's base on.
+    /// Where a keyval is put below a node, with the keys from the node's base on.
     fn keyval_spot(&self, holder: Holder) -> Result<Spot, EditFault>
         requires { (path : List Part) × (s : tree.Document) × IsTextOfTree self.now s × IsHolder path s holder }
         ensures { (path : List Part) (s : tree.Document) → IsTextOfTree self.now s → IsHolder path s holder
@@ -276,7 +278,7 @@ fn after_bracket(text: &str, at: usize) -> usize
     at + 1
 }
 
-/// Where a keyval goes in braces: after the last that is there.
+/// Where a keyval is put in braces: after the last that is there.
 fn braces_spot(syntax: &Syntax, braces: usize) -> Spot
     requires { braces < length (values_of syntax.now) }
     ensures { result ≡ spot_in_braces braces (last_keyval_among braces (values_of syntax.now)) }

@@ -3,17 +3,30 @@ ghost use Rattle.keep_edit_plan.specs.Plans.{IsPlanAt};
 
 use crate::text_edit::TextEdit;
 use keep_edit_spec::EditFault;
-use keep_rules::{Kind, NodeId};
+use keep_rules::{Kind, LineNumbers, NodeId};
 use keep_syntax::Span;
 use std::alloc::Global;
 
-/// A change of an index that leaves its nodes, their order and all numbers.
+/// A change of an index that can be made where it is.
 #[derive(Clone, Copy)]
 pub enum IndexChange<'a> {
     /// One node has another kind.
-    Kind { node: NodeId, kind: Kind },
+    Kind {
+        node: NodeId,
+        kind: Kind,
+    },
     /// The path of one node has another last key, and so do the paths of all nodes below it.
-    Key { node: NodeId, key: &'a str },
+    Key {
+        node: NodeId,
+        key: &'a str,
+    },
+    /// A line comes with these numbers: below a table there is one node more, by this key, with nothing below it.
+    Line {
+        parent: NodeId,
+        key: &'a str,
+        line: LineNumbers,
+        kind: Kind,
+    },
 }
 
 /// What an edit does to a document.

@@ -1,5 +1,5 @@
 //! Removing nodes.
-ghost use Rattle.std.specs.Prelude.{◌≡◌, ◌⊎◌, ℕ, suc, ◌≤◌, ◌<◌, List, length, drop, Ok, IfOk};
+ghost use Rattle.std.specs.Prelude.{◌≡◌, ◌⊎◌, ℕ, ◌≤◌, ◌<◌, List, length, drop, Ok, IfOk};
 ghost use Rattle.std.specs.List.{prefix_len};
 ghost use Rattle.keep_token.specs.Abnf as abnf;
 ghost use Rattle.keep_syntax.specs.Numbered.{span};
@@ -22,7 +22,7 @@ use keep_rules::{Origin, Path};
 use keep_syntax::{Owner, Span, Statement, StatementKind, Syntax, ValueInfo};
 use std::alloc::Global;
 
-/// What goes with a node.
+/// What is removed with a node.
 #[derive(Clone, Copy)]
 pub(crate) enum Piece {
     /// The value with this number, with its key.
@@ -39,7 +39,7 @@ pub(crate) struct Cut {
 }
 
 impl<'a> DocumentRef<'a> {
-    /// The plan by which the node of a path goes: where the text is cut, and what is put back there.
+    /// The plan that removes the node of a path: where the text is cut, and what is put back there.
     ///
     /// # Errors
     ///
@@ -56,7 +56,7 @@ impl<'a> DocumentRef<'a> {
         plan_at(alloc, cut.span, part_at(text, cut.preserved), None)
     }
 
-    /// What goes with the node of a path, or why it can't be removed. It takes no memory.
+    /// What is removed with the node of a path, or why it can't be. It takes no memory.
     fn piece(&self, path: &Path) -> Result<Piece, EditFault>
         ensures { (s : tree.Document) → IsTextOfTree self.now s → IsRemovalOf self.now.profile path.now s result }
     {

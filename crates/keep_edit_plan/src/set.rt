@@ -1,8 +1,7 @@
 //! Setting values.
-ghost use Rattle.std.specs.Prelude.{◌≡◌, [], IfOk, IfSome, List, None, is_some, true};
+ghost use Rattle.std.specs.Prelude.{◌≡◌, IfOk, IfSome, List, None, is_some, true};
 ghost use Rattle.keep_types.specs.declared.leaf.Profile.TheVariants.{Wide};
 ghost use Rattle.keep_syntax.specs.Tree as tree;
-ghost use Rattle.keep_syntax.specs.Tree.{value_depth};
 ghost use Rattle.keep_path.specs.Path.{Part};
 ghost use Rattle.keep_edit_spec.specs.Edits.{set, edited_document};
 ghost use Rattle.keep_edit_plan.specs.Answers.{refusal_in};

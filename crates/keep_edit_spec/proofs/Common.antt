@@ -33,3 +33,4 @@ pub mod TableThere
 pub mod ActDepth
 pub mod ThroughAlone
 pub mod LineEnds
+pub mod LineStatements

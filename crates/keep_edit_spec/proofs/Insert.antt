@@ -38,6 +38,7 @@ pub mod EntryEdges
 pub mod ItemPlaces
 pub mod LinesPut
 pub mod LineBefore
+pub mod BodyStatements
 pub mod BodyPlaces
 pub mod Origins
 pub mod InsertPlaces
@@ -51,3 +52,4 @@ pub mod BraceDotted
 pub mod KeyvalPlaces
 pub mod DottedPlace
 pub mod InsertDottedPlace
+pub mod InsertAddsLine

@@ -22,3 +22,4 @@ pub mod RemovePlace
 pub mod RemoveLinePlace
 pub mod RemoveSectionPlace
 pub mod RemovePlaces
+pub mod RemoveTakesLine

@@ -45,7 +45,9 @@ pub use Rattle.keep_edit_spec.proofs.Insert.LineBefore.{IsLowPlace, lines_low}
 pub use Rattle.keep_edit_spec.proofs.Insert.ItemPlaces.{IsItemLaw, item_law}
 pub use Rattle.keep_edit_spec.proofs.Insert.BracePlaces.{IsPutAfter}
 pub use Rattle.keep_edit_spec.proofs.Insert.KeyvalPlaces.{IsInlineLaw, dots_placed, inline_placed}
-pub use Rattle.keep_edit_spec.proofs.Insert.InsertPlaces.{IsThroughHeader, element_placed, header_placed, headed_within, holder_prefix, plain_rest, root_placed, through_header, through_placed}
+pub use Rattle.keep_edit_spec.proofs.Insert.BodyStatements.{count_few}
+pub use Rattle.keep_edit_spec.proofs.Insert.InsertPlaces.{EndsBefore, IsThroughHeader, element_placed, header_ends, header_placed, headed_within, holder_prefix, plain_rest, root_ends, root_placed, through_header, through_placed}
+pub use Rattle.keep_edit_spec.proofs.Insert.InsertAddsLine.{insert_adds_line}
 pub use Rattle.keep_edit_spec.proofs.Insert.InsertDottedPlace.{IsBaseAt, IsDottedPlaced, dotted_placed}
 pub use Rattle.keep_edit_spec.proofs.Common.Texts.{text_of-append}
 pub use Rattle.keep_edit_spec.proofs.Touched.FitLaws.{touched_lines_are_lines}

@@ -1,7 +1,9 @@
 -- Where `insert` writes and what, by the lists of all statements and values, and the bytes of the text.
-use Rattle.std.specs.Prelude.{ℕ, suc, ◌==◌, nat_lt, Bool, true, false, not, if◌then◌else◌, List, [], ◌∷◌, ◌++◌, take}
+use Rattle.std.specs.Prelude.{ℕ, suc, ◌+◌, ◌==◌, nat_lt, Bool, true, false, not, if◌then◌else◌, List, [], ◌∷◌, ◌++◌}
+use Rattle.std.specs.Prelude.{take}
 use Rattle.std.specs.Prelude.{drop, codes, Option, Some, None}
 use Rattle.keep_types.specs.declared.syntax.Statement.{Statement}
+use Rattle.keep_types.specs.declared.syntax.StatementKind.TheVariants.{KeyVal}
 use Rattle.keep_types.specs.declared.syntax.ValueInfo.{ValueInfo}
 use Rattle.keep_syntax.specs.Tree.{Name, Value, named_leaves, text_of}
 use Rattle.keep_edit_spec.specs.Changed.{Place}
@@ -74,3 +76,16 @@ section_at bytes newline start at table keys value =
 abbrev pub section_end : List Statement → ℕ
 section_end [] = 0
 section_end (s ∷ ss) = body_end s.line.end ss
+
+-- how many keyvals there are before the next header
+abbrev pub body_count : List Statement → ℕ
+body_count [] = 0
+body_count (s ∷ ss) = elim s.kind [
+  | KeyVal ↦ suc (body_count ss)
+  | _ ↦ 0
+]
+
+-- the number of the statement after the body of the header with that number, or of the root
+abbrev pub next_statement : Option ℕ → List Statement → ℕ
+next_statement None ss = body_count ss
+next_statement (Some h) ss = suc h + body_count (drop (suc h) ss)

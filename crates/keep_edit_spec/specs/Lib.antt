@@ -8,6 +8,7 @@ pub mod Trees
 pub mod Answers
 pub mod TouchedLines
 pub mod Laws
+pub mod KeyvalLines
 pub mod Removal
 pub mod Insertion
 pub mod TextEnds

@@ -159,10 +159,6 @@ drop_lines i n (e ∷ es) last = elim i [
 
 -- ---- the numbers of lines
 
-abbrev pub option_suc : Option ℕ → Option ℕ
-option_suc None = None
-option_suc (Some n) = Some (suc n)
-
 -- the number of the last line that passes
 abbrev pub last_line : (Reading → Line → Bool) → Reading → List Line → Option ℕ
 last_line test r [] = None

@@ -2,7 +2,7 @@
 use Rattle.std.specs.Prelude.{ℕ, Bool, true, false, not, ◌&&◌, if◌then◌else◌, List, [], ◌∷◌, map, Option, Some, None}
 use Rattle.std.specs.List.{filter_map, count_by}
 use Rattle.keep_meaning.specs.Fact as fact
-use Rattle.keep_meaning.specs.Fact.{Fact, table, array, is_value_fact, is_bracket}
+use Rattle.keep_meaning.specs.Fact.{Fact, table, array, is_bracket}
 use Rattle.keep_meaning.specs.Nodes.{is_node, fact_at, is_element, has}
 use Rattle.keep_path.specs.Path.{Part, key, index, same_path}
 pub use Rattle.keep_path.specs.Path.{last_part, without_last, strip}

@@ -1,4 +1,5 @@
 //! Laws of the edits, each the contract of a function that does nothing.
+ghost use Rattle.keep_edit_spec.specs.KeyvalLines as keyvals;
 ghost use Rattle.keep_edit_spec.specs.Laws as spec;
 ghost use Rattle.keep_edit_spec.specs.TouchedLines as touched;
 
@@ -56,4 +57,14 @@ pub fn growth_bound_is_reached()
 /// needs to scan only those.
 pub fn touched_lines_are_lines()
     ensures { touched.TouchedLinesAreLines }
+{}
+
+/// An `insert` of one key, with nothing inside its value, at the end of a body gives a document with one line more.
+pub fn insert_adds_line()
+    ensures { keyvals.InsertAddsLine }
+{}
+
+/// A `remove` of such a line gives a document of which the old one has one line more, if the old one obeys the rules.
+pub fn remove_takes_line()
+    ensures { keyvals.RemoveTakesLine }
 {}

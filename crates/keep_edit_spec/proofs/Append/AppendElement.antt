@@ -1,4 +1,11 @@
 -- `append_element`: a `[[..]]` appended begins an element where there could be nothing but a table.
+--
+-- The header that is appended is allowed by all mentions of the document (`HeaderConflict`). At the path of its new
+-- element there could already be a mention only if a keyval's value had it, since elements are counted (`lines_held`):
+-- but then that keyval would be alone at a path on the header's way, against the rules (`never_held`). So the element
+-- is new, and its fact is that of a table.
+--
+-- Theorem: `append_element_is_right`.
 use Rattle.std.proofs.Common.{◌≡◌, ℕ, Bool, true, false, cond, List, [], ◌∷◌, ◌++◌, map, refl, sym, ap, subst, ◌∙◌, append_assoc, Option, None, inl, inr}
 use Rattle.std.proofs.lemmas.List.{map-append}
 use Rattle.keep_types.specs.declared.leaf.Profile.{Profile}

@@ -30,7 +30,7 @@ use Rattle.keep_edit_spec.specs.Lines.{plain_line, is_empty}
 use Rattle.keep_edit_spec.specs.Refusals.{element_path, tables_in, end_reading, conflict, refusal}
 use Rattle.keep_edit_spec.specs.Edits.{append_table, append, at_line, change, key_with}
 use Rattle.keep_edit_spec.specs.Trees as trees
-use Rattle.keep_edit_spec.specs.Trees.{IsTreeOf, fact_from, source}
+use Rattle.keep_edit_spec.specs.Trees.{fact_from}
 use Rattle.keep_edit_spec.proofs.Common.Runs.{AllOf, Across, all_join, all_right, pairs_split, Rules, Allowed, kinds_allow, same_path-sound, same_path-refl, kinds_at-append}
 use Rattle.keep_edit_spec.proofs.Common.SetLaw.{EachTo}
 use Rattle.keep_edit_spec.proofs.Common.SetDocument.{IsLawful, each_to}

@@ -2,7 +2,7 @@
 --
 -- Each mark of a header has a longer path than those before it (`none_own`), so only the document's marks can refuse it. A mark
 -- that goes past an array of tables is never refused (`LetsPass`). Theorems: `table_met` and `element_met`.
-use Rattle.std.proofs.Common.{◌≡◌, ℕ, zero, suc, ◌-◌, ◌<◌, ◌≤◌, Bool, true, false, cond, not, ◌&&◌, ◌||◌, ◌==◌, List, [], ◌∷◌, ◌++◌, length, refl, sym, ap, ◌∙◌, append_assoc, length-append, arith, Option, Some, None}
+use Rattle.std.proofs.Common.{◌≡◌, ℕ, ◌-◌, ◌<◌, ◌≤◌, Bool, true, false, cond, not, ◌&&◌, ◌||◌, ◌==◌, List, [], ◌∷◌, ◌++◌, length, refl, sym, ap, ◌∙◌, append_assoc, length-append, arith, Option, Some, None}
 use Rattle.std.specs.List.{list_any}
 use Rattle.std.specs.Option.{option_map}
 use Rattle.std.proofs.lemmas.List.{append-nil}
@@ -19,6 +19,7 @@ use Rattle.keep_path.specs.Path.{Part, key, index, same_path}
 use Rattle.keep_edit_spec.specs.Headers.{is_refused, header_conflict}
 use Rattle.keep_edit_spec.specs.Refusals.{first_conflict, end_reading, tables_in}
 use Rattle.keep_edit_spec.proofs.Common.Runs.{AllOf, all_join, same_path-sound}
+use Rattle.keep_edit_spec.proofs.Insert.LinesNamed.{some_elements}
 
 -- ---- its own marks
 
@@ -76,10 +77,6 @@ one_more earlier m more false e = ap (λ (b : Bool). option_map (λ (f : Fault).
 -- an array of tables lets headers go past it
 abbrev pub LetsPass : List Mark → List (List Part) → Type 0
 LetsPass earlier tables = (q : List Part) → 0 < elements_of q tables → is_refused earlier Past q ≡ false
-
-some_elements : (n : ℕ) → (0 == n) ≡ false → 0 < n
-some_elements zero e = absurd cc
-some_elements (suc n) e = omega arith
 
 -- what a header says of one path on its way
 abbrev passing : List (List Part) → List Part → Bool → List Mention

@@ -1,10 +1,10 @@
 -- What the marks at a key's path let a header do there: by what is said of the path.
 --
--- The marks at one path let one another follow, so one of them tells of all: if headers may go through one, they may go
--- through each (`all_through`), and if an element may come after one, it may after each (`all_listed`). What the marks
--- refuse is what their roles refuse (`refused_roles`); so one thing that is said of the path decides, as
--- `define_continues` or `value_refuses` say. Where nothing but headers that go through it are said, a table may be
--- defined (`through_defines`).
+-- The marks at one path let one another follow, so one of them decides for all: if headers may go through one, they may
+-- go through each, and if an element may come after one, it may after each (`all_in`, whose premise is computed from the
+-- table of pairs of roles). What the marks refuse is what their roles refuse (`refused_roles`); so one mention of the path
+-- decides by the role that it has (`role_any`), as `define_continues` or `value_refuses` say. Where headers only go
+-- through the path, a table may be defined there (`through_defines`).
 --
 -- Theorems: `refused_roles`; and for each kind of mention what a header meets at its path, as `define_continues`,
 -- `define_twice`, `define_unlisted`.
@@ -30,87 +30,53 @@ use Rattle.keep_edit_spec.proofs.Append.HeaderConflict.{LetsPass}
 
 -- ---- roles that let one another follow
 
-through_after : (x y : Role) → allows x Through ≡ true → allows x y ≡ true → allows y Through ≡ true
-through_after Through Through h g = refl
-through_after Through Past h g = cc
-through_after Through Define h g = refl
-through_after Through Element h g = cc
-through_after Through Dotted h g = refl
-through_after Through Value h g = cc
-through_after Past y h g = cc
-through_after Define Through h g = refl
-through_after Define Past h g = cc
-through_after Define Define h g = refl
-through_after Define Element h g = cc
-through_after Define Dotted h g = refl
-through_after Define Value h g = cc
-through_after Element y h g = cc
-through_after Dotted Through h g = refl
-through_after Dotted Past h g = cc
-through_after Dotted Define h g = refl
-through_after Dotted Element h g = cc
-through_after Dotted Dotted h g = refl
-through_after Dotted Value h g = cc
-through_after Value y h g = cc
+both : (a b : Bool) → (a && b) ≡ true → (a ≡ true) × (b ≡ true)
+both true b h = (refl, h)
+both false b h = absurd cc
 
-through_before : (x y : Role) → allows x Through ≡ true → allows y x ≡ true → allows y Through ≡ true
-through_before Through Through h g = refl
-through_before Through Past h g = cc
-through_before Through Define h g = refl
-through_before Through Element h g = cc
-through_before Through Dotted h g = refl
-through_before Through Value h g = cc
-through_before Past y h g = cc
-through_before Define Through h g = refl
-through_before Define Past h g = cc
-through_before Define Define h g = refl
-through_before Define Element h g = cc
-through_before Define Dotted h g = refl
-through_before Define Value h g = cc
-through_before Element y h g = cc
-through_before Dotted Through h g = refl
-through_before Dotted Past h g = cc
-through_before Dotted Define h g = refl
-through_before Dotted Element h g = cc
-through_before Dotted Dotted h g = refl
-through_before Dotted Value h g = cc
-through_before Value y h g = cc
+abbrev same : Bool → Bool → Bool
+same true b = b
+same false b = not b
 
-listed_after : (x y : Role) → allows x Element ≡ true → allows x y ≡ true → allows y Element ≡ true
-listed_after Through y h g = cc
-listed_after Past Through h g = cc
-listed_after Past Past h g = refl
-listed_after Past Define h g = cc
-listed_after Past Element h g = refl
-listed_after Past Dotted h g = cc
-listed_after Past Value h g = cc
-listed_after Define y h g = cc
-listed_after Element Through h g = cc
-listed_after Element Past h g = refl
-listed_after Element Define h g = cc
-listed_after Element Element h g = refl
-listed_after Element Dotted h g = cc
-listed_after Element Value h g = cc
-listed_after Dotted y h g = cc
-listed_after Value y h g = cc
+same_is : (a b : Bool) → same a b ≡ true → a ≡ b
+same_is true true h = refl
+same_is true false h = cc
+same_is false true h = cc
+same_is false false h = refl
 
-listed_before : (x y : Role) → allows x Element ≡ true → allows y x ≡ true → allows y Element ≡ true
-listed_before Through y h g = cc
-listed_before Past Through h g = cc
-listed_before Past Past h g = refl
-listed_before Past Define h g = cc
-listed_before Past Element h g = refl
-listed_before Past Dotted h g = cc
-listed_before Past Value h g = cc
-listed_before Define y h g = cc
-listed_before Element Through h g = cc
-listed_before Element Past h g = refl
-listed_before Element Define h g = cc
-listed_before Element Element h g = refl
-listed_before Element Dotted h g = cc
-listed_before Element Value h g = cc
-listed_before Dotted y h g = cc
-listed_before Value y h g = cc
+-- a test that is decided role by role
+abbrev each_role : (Role → Bool) → Bool
+each_role t = t Through && (t Past && (t Define && (t Element && (t Dotted && t Value))))
+
+parts_of : (t : Role → Bool) → each_role t ≡ true → (t Through ≡ true) × (t Past ≡ true) × (t Define ≡ true)
+    × (t Element ≡ true) × (t Dotted ≡ true) × (t Value ≡ true)
+parts_of t h =
+    let p = both (t Through) (t Past && (t Define && (t Element && (t Dotted && t Value)))) h in
+    let q = both (t Past) (t Define && (t Element && (t Dotted && t Value))) p.1 in
+    let r = both (t Define) (t Element && (t Dotted && t Value)) q.1 in
+    let s = both (t Element) (t Dotted && t Value) r.1 in
+    let u = both (t Dotted) (t Value) s.1 in
+    (p.0, q.0, r.0, s.0, u.0, u.1)
+
+of_each : (t : Role → Bool) → each_role t ≡ true → (r : Role) → t r ≡ true
+of_each t h Through = (parts_of t h).0
+of_each t h Past = (parts_of t h).1
+of_each t h Define = (parts_of t h).2
+of_each t h Element = (parts_of t h).3
+of_each t h Dotted = (parts_of t h).4
+of_each t h Value = (parts_of t h).5
+
+-- a test has one answer for two roles of which one lets the other follow; for "may `Through` follow?" and "may `Element`
+-- follow?" this is computed from the table of all pairs
+abbrev alike : (Role → Bool) → Role → Role → Bool
+alike c x y = not (allows x y) || same (c x) (c y)
+
+kept : (c : Role → Bool) → each_role (λ (x : Role). each_role (alike c x)) ≡ true
+    → (x y : Role) → allows x y ≡ true → c x ≡ c y
+kept c h x y lets =
+    let row : each_role (alike c x) ≡ true = of_each (λ (x : Role). each_role (alike c x)) h x in
+    let cell : (not (allows x y) || same (c x) (c y)) ≡ true = of_each (alike c x) row y in
+    same_is (c x) (c y) (sym (ap (λ (b : Bool). not b || same (c x) (c y)) lets) ∙ cell)
 
 -- the roles of what is said of a path
 abbrev pub roles_of : List MentionKind → List Role
@@ -119,17 +85,18 @@ roles_of mention_kind = filter_map role_of mention_kind
 abbrev pub Lets : Role → Role → Type 0
 Lets a b = allows a b ≡ true
 
-module _ (c : Role → Bool) (after : (x y : Role) → c x ≡ true → allows x y ≡ true → c y ≡ true) (before : (x y : Role) → c x ≡ true → allows y x ≡ true → c y ≡ true) where
+module _ (c : Role → Bool) (table : each_role (λ (x : Role). each_role (alike c x)) ≡ true) where
   all_after : (x : Role) (rs : List Role) → c x ≡ true → AllOf (Lets x) rs → list_all c rs ≡ true
   all_after x [] h lets = refl
-  all_after x (r ∷ rs) h lets = ap (λ (b : Bool). b && list_all c rs) (after x r h lets.0) ∙ all_after x rs h lets.1
+  all_after x (r ∷ rs) h lets =
+      ap (λ (b : Bool). b && list_all c rs) (sym (kept c table x r lets.0) ∙ h) ∙ all_after x rs h lets.1
 
   one_before : (x : Role) (rs : List Role) → AllOf (Lets x) rs → list_any c rs ≡ true → c x ≡ true
   one_before x [] lets some = absurd cc
   one_before x (r ∷ rs) lets some = by (c r) refl (one_before x rs lets.1) some
     where
       by : (b : Bool) → c r ≡ b → (list_any c rs ≡ true → c x ≡ true) → (b || list_any c rs) ≡ true → c x ≡ true
-      by true e more some = before r x e lets.0
+      by true e more some = kept c table x r lets.0 ∙ e
       by false e more some = more some
 
   -- a class that one of them is in, all are in
@@ -137,15 +104,11 @@ module _ (c : Role → Bool) (after : (x y : Role) → c x ≡ true → allows x
   all_in [] lets some = refl
   all_in (r ∷ rs) lets some = by (c r) refl (all_in rs lets.1) some
     where
-      by : (b : Bool) → c r ≡ b → (list_any c rs ≡ true → list_all c rs ≡ true) → (b || list_any c rs) ≡ true → (c r && list_all c rs) ≡ true
+      by : (b : Bool) → c r ≡ b → (list_any c rs ≡ true → list_all c rs ≡ true) → (b || list_any c rs) ≡ true
+          → (c r && list_all c rs) ≡ true
       by true e more some = ap (λ (b : Bool). b && list_all c rs) e ∙ all_after r rs e lets.0
-      by false e more some = ap (λ (b : Bool). b && list_all c rs) (one_before r rs lets.0 some) ∙ more some
-
-all_through : (rs : List Role) → Pairs Lets rs → list_any (λ (r : Role). allows r Through) rs ≡ true → list_all (λ (r : Role). allows r Through) rs ≡ true
-all_through rs lets some = all_in (λ (r : Role). allows r Through) through_after through_before rs lets some
-
-all_listed : (rs : List Role) → Pairs Lets rs → list_any (λ (r : Role). allows r Element) rs ≡ true → list_all (λ (r : Role). allows r Element) rs ≡ true
-all_listed rs lets some = all_in (λ (r : Role). allows r Element) listed_after listed_before rs lets some
+      by false e more some =
+          ap (λ (b : Bool). b && list_all c rs) (one_before r rs lets.0 some) ∙ more some
 
 -- ---- the marks at a path
 
@@ -195,151 +158,54 @@ roles_let path (m ∷ ms) h = by (role_of m.kind) refl (is_at path m) refl h (ro
 
 -- ---- by what is said of the path
 
-abbrev role_test : (Role → Bool) → Option Role → Bool
-role_test c None = false
-role_test c (Some r) = c r
-
-role_any : (is : MentionKind → Bool) (c : Role → Bool) → ((a : MentionKind) → is a ≡ true → role_test c (role_of a) ≡ true) → (mention_kind : List MentionKind) → list_any is mention_kind ≡ true → list_any c (roles_of mention_kind) ≡ true
-role_any is c test [] h = absurd cc
-role_any is c test (a ∷ mention_kind) h = by (role_of a) refl (is a) refl (test a) h (role_any is c test mention_kind)
+-- where a kind of mention that has one role is said, that role is one of them
+role_any : (is : MentionKind → Bool) (role : Role) → ((a : MentionKind) → is a ≡ true → role_of a ≡ Some role)
+    → (c : Role → Bool) → c role ≡ true
+    → (kinds : List MentionKind) → list_any is kinds ≡ true → list_any c (roles_of kinds) ≡ true
+role_any is role one c at [] h = absurd cc
+role_any is role one c at (a ∷ kinds) h = by (is a) refl h (role_any is role one c at kinds) (role_of a) refl
   where
-    by : (o : Option Role) → role_of a ≡ o → (b : Bool) → is a ≡ b → (is a ≡ true → role_test c (role_of a) ≡ true) → (b || list_any is mention_kind) ≡ true
-        → (list_any is mention_kind ≡ true → list_any c (roles_of mention_kind) ≡ true) → list_any c (cons_option (role_of a) (roles_of mention_kind)) ≡ true
-    by None o true b test h more = let k : false ≡ true = sym (ap (role_test c) o) ∙ test b in absurd cc
-    by None o false b test h more = ap (λ (x : Option Role). list_any c (cons_option x (roles_of mention_kind))) o ∙ more h
-    by (Some r) o true b test h more =
-        ap (λ (x : Option Role). list_any c (cons_option x (roles_of mention_kind))) o ∙ ap (λ (x : Bool). x || list_any c (roles_of mention_kind)) (sym (ap (role_test c) o) ∙ test b)
-    by (Some r) o false b test h more = ap (λ (x : Option Role). list_any c (cons_option x (roles_of mention_kind))) o ∙ ap (λ (x : Bool). c r || x) (more h) ∙ or_true (c r)
-      where
-        or_true : (b : Bool) → (b || true) ≡ true
-        or_true true = refl
-        or_true false = refl
+    or_true : (b : Bool) → (b || true) ≡ true
+    or_true true = refl
+    or_true false = refl
 
-through_open : (a : MentionKind) → is_through a ≡ true → role_test (λ (r : Role). allows r Through) (role_of a) ≡ true
-through_open through h = refl
-through_open past h = cc
-through_open define h = cc
-through_open kinds_element h = cc
-through_open dotted h = cc
-through_open (value f) h = cc
-through_open begun h = cc
-through_open passed h = cc
-through_open (item f) h = cc
+    with_first : (o : Option Role) → role_of a ≡ o
+        → list_any c (cons_option (role_of a) (roles_of kinds)) ≡ list_any c (cons_option o (roles_of kinds))
+    with_first o is_o = ap (λ (o : Option Role). list_any c (cons_option o (roles_of kinds))) is_o
 
-define_open : (a : MentionKind) → is_define a ≡ true → role_test (λ (r : Role). allows r Through) (role_of a) ≡ true
-define_open through h = cc
-define_open past h = cc
-define_open define h = refl
-define_open kinds_element h = cc
-define_open dotted h = cc
-define_open (value f) h = cc
-define_open begun h = cc
-define_open passed h = cc
-define_open (item f) h = cc
+    by : (b : Bool) → is a ≡ b → (b || list_any is kinds) ≡ true
+        → (list_any is kinds ≡ true → list_any c (roles_of kinds) ≡ true)
+        → (o : Option Role) → role_of a ≡ o → list_any c (cons_option (role_of a) (roles_of kinds)) ≡ true
+    by true e h more o is_o =
+        with_first (Some role) (one a e) ∙ ap (λ (b : Bool). b || list_any c (roles_of kinds)) at
+    by false e h more None is_o = with_first None is_o ∙ more h
+    by false e h more (Some r) is_o =
+        with_first (Some r) is_o ∙ ap (λ (b : Bool). c r || b) (more h) ∙ or_true (c r)
 
-dotted_open : (a : MentionKind) → is_dotted a ≡ true → role_test (λ (r : Role). allows r Through) (role_of a) ≡ true
-dotted_open through h = cc
-dotted_open past h = cc
-dotted_open define h = cc
-dotted_open kinds_element h = cc
-dotted_open dotted h = refl
-dotted_open (value f) h = cc
-dotted_open begun h = cc
-dotted_open passed h = cc
-dotted_open (item f) h = cc
+through_role : (a : MentionKind) → is_through a ≡ true → role_of a ≡ Some Through
+through_role through h = refl
+through_role a h = cc
 
-element_listed : (a : MentionKind) → is_element a ≡ true → role_test (λ (r : Role). allows r Element) (role_of a) ≡ true
-element_listed through h = cc
-element_listed past h = cc
-element_listed define h = cc
-element_listed kinds_element h = refl
-element_listed dotted h = cc
-element_listed (value f) h = cc
-element_listed begun h = cc
-element_listed passed h = cc
-element_listed (item f) h = cc
+define_role : (a : MentionKind) → is_define a ≡ true → role_of a ≡ Some Define
+define_role define h = refl
+define_role a h = cc
 
-through_closed : (a : MentionKind) → is_through a ≡ true → role_test (λ (r : Role). not (allows r Element)) (role_of a) ≡ true
-through_closed through h = refl
-through_closed past h = cc
-through_closed define h = cc
-through_closed kinds_element h = cc
-through_closed dotted h = cc
-through_closed (value f) h = cc
-through_closed begun h = cc
-through_closed passed h = cc
-through_closed (item f) h = cc
+element_role : (a : MentionKind) → is_element a ≡ true → role_of a ≡ Some Element
+element_role kinds_element h = refl
+element_role a h = cc
 
-define_closed : (a : MentionKind) → is_define a ≡ true → role_test (λ (r : Role). not (allows r Element)) (role_of a) ≡ true
-define_closed through h = cc
-define_closed past h = cc
-define_closed define h = refl
-define_closed kinds_element h = cc
-define_closed dotted h = cc
-define_closed (value f) h = cc
-define_closed begun h = cc
-define_closed passed h = cc
-define_closed (item f) h = cc
-
-define_undefined : (a : MentionKind) → is_define a ≡ true → role_test (λ (r : Role). not (allows r Define)) (role_of a) ≡ true
-define_undefined through h = cc
-define_undefined past h = cc
-define_undefined define h = refl
-define_undefined kinds_element h = cc
-define_undefined dotted h = cc
-define_undefined (value f) h = cc
-define_undefined begun h = cc
-define_undefined passed h = cc
-define_undefined (item f) h = cc
-
-dotted_closed : (a : MentionKind) → is_dotted a ≡ true → role_test (λ (r : Role). not (allows r Element)) (role_of a) ≡ true
-dotted_closed through h = cc
-dotted_closed past h = cc
-dotted_closed define h = cc
-dotted_closed kinds_element h = cc
-dotted_closed dotted h = refl
-dotted_closed (value f) h = cc
-dotted_closed begun h = cc
-dotted_closed passed h = cc
-dotted_closed (item f) h = cc
-
-dotted_undefined : (a : MentionKind) → is_dotted a ≡ true → role_test (λ (r : Role). not (allows r Define)) (role_of a) ≡ true
-dotted_undefined through h = cc
-dotted_undefined past h = cc
-dotted_undefined define h = cc
-dotted_undefined kinds_element h = cc
-dotted_undefined dotted h = refl
-dotted_undefined (value f) h = cc
-dotted_undefined begun h = cc
-dotted_undefined passed h = cc
-dotted_undefined (item f) h = cc
-
-element_undefined : (a : MentionKind) → is_element a ≡ true → role_test (λ (r : Role). not (allows r Define)) (role_of a) ≡ true
-element_undefined through h = cc
-element_undefined past h = cc
-element_undefined define h = cc
-element_undefined kinds_element h = refl
-element_undefined dotted h = cc
-element_undefined (value f) h = cc
-element_undefined begun h = cc
-element_undefined passed h = cc
-element_undefined (item f) h = cc
+dotted_role : (a : MentionKind) → is_dotted a ≡ true → role_of a ≡ Some Dotted
+dotted_role dotted h = refl
+dotted_role a h = cc
 
 -- a value, and no item
 abbrev is_held : MentionKind → Bool
 is_held (value f) = true
 is_held _ = false
 
-held_closed : (role : Role) (a : MentionKind) → is_held a ≡ true → role_test (λ (r : Role). not (allows r role)) (role_of a) ≡ true
-held_closed role through h = cc
-held_closed role past h = cc
-held_closed role define h = cc
-held_closed role kinds_element h = cc
-held_closed role dotted h = cc
-held_closed role (value f) h = refl
-held_closed role begun h = cc
-held_closed role passed h = cc
-held_closed role (item f) h = cc
+held_role : (a : MentionKind) → is_held a ≡ true → role_of a ≡ Some Value
+held_role (value f) h = refl
+held_role a h = cc
 
 -- no item is at a key
 value_held : (path : List Part) (ms : List Mention) → EndsInKey path → AllOf Formed ms → list_any is_value (kinds_at path ms) ≡ true → list_any is_held (kinds_at path ms) ≡ true
@@ -354,105 +220,113 @@ value_held path (m ∷ ms) ends formed h = by m.kind refl (is_at path m) refl h 
     by (item f) e true b h more =
         let index_end : EndsInIndex path = subst EndsInIndex (same_path-sound m.path path b) (let k : IsFormed m.kind m.path = formed.0 in subst (λ (a : MentionKind). IsFormed a m.path) e k) in
         absurd (ends_disjoint path path ends index_end refl)
-    by through e true b h more = rw (b, e) (more (rw (b, e) at h))
-    by past e true b h more = rw (b, e) (more (rw (b, e) at h))
-    by define e true b h more = rw (b, e) (more (rw (b, e) at h))
-    by kinds_element e true b h more = rw (b, e) (more (rw (b, e) at h))
-    by dotted e true b h more = rw (b, e) (more (rw (b, e) at h))
-    by begun e true b h more = rw (b, e) (more (rw (b, e) at h))
-    by passed e true b h more = rw (b, e) (more (rw (b, e) at h))
+    by a e true b h more = rw (b, e) (more (rw (b, e) at h))
 
 -- headers go through it alone
 through_alone : (mention_kind : List MentionKind) → list_any is_define mention_kind ≡ false → list_any is_dotted mention_kind ≡ false → list_all (λ (r : Role). allows r Through) (roles_of mention_kind) ≡ true → list_any (λ (r : Role). not (allows r Define)) (roles_of mention_kind) ≡ false
 through_alone [] d t h = refl
 through_alone (through ∷ mention_kind) d t h = through_alone mention_kind d t h
-through_alone (past ∷ mention_kind) d t h = absurd cc
-through_alone (define ∷ mention_kind) d t h = absurd cc
-through_alone (kinds_element ∷ mention_kind) d t h = absurd cc
-through_alone (dotted ∷ mention_kind) d t h = absurd cc
-through_alone ((value f) ∷ mention_kind) d t h = absurd cc
 through_alone (begun ∷ mention_kind) d t h = through_alone mention_kind d t h
 through_alone (passed ∷ mention_kind) d t h = through_alone mention_kind d t h
 through_alone ((item f) ∷ mention_kind) d t h = through_alone mention_kind d t h
+through_alone (a ∷ mention_kind) d t h = absurd cc
 
 -- headers go past it at most
 past_alone : (mention_kind : List MentionKind) → list_any is_value mention_kind ≡ false → list_any is_define mention_kind ≡ false → list_any is_dotted mention_kind ≡ false → list_any is_through mention_kind ≡ false → list_all (λ (r : Role). allows r Element) (roles_of mention_kind) ≡ true
 past_alone [] v d t g = refl
-past_alone (through ∷ mention_kind) v d t g = absurd cc
 past_alone (past ∷ mention_kind) v d t g = past_alone mention_kind v d t g
-past_alone (define ∷ mention_kind) v d t g = absurd cc
 past_alone (kinds_element ∷ mention_kind) v d t g = past_alone mention_kind v d t g
-past_alone (dotted ∷ mention_kind) v d t g = absurd cc
-past_alone ((value f) ∷ mention_kind) v d t g = absurd cc
 past_alone (begun ∷ mention_kind) v d t g = past_alone mention_kind v d t g
 past_alone (passed ∷ mention_kind) v d t g = past_alone mention_kind v d t g
-past_alone ((item f) ∷ mention_kind) v d t g = absurd cc
+past_alone (a ∷ mention_kind) v d t g = absurd cc
 
-past_same : (rs : List Role) → list_any (λ (r : Role). not (allows r Past)) rs ≡ list_any (λ (r : Role). not (allows r Element)) rs
+past_same : (rs : List Role)
+    → list_any (λ (r : Role). not (allows r Past)) rs ≡ list_any (λ (r : Role). not (allows r Element)) rs
 past_same [] = refl
-past_same (Through ∷ rs) = ap (λ (b : Bool). true || b) (past_same rs)
-past_same (Past ∷ rs) = ap (λ (b : Bool). false || b) (past_same rs)
-past_same (Define ∷ rs) = ap (λ (b : Bool). true || b) (past_same rs)
-past_same (Element ∷ rs) = ap (λ (b : Bool). false || b) (past_same rs)
-past_same (Dotted ∷ rs) = ap (λ (b : Bool). true || b) (past_same rs)
-past_same (Value ∷ rs) = ap (λ (b : Bool). true || b) (past_same rs)
+past_same (r ∷ rs) =
+    ap (λ (b : Bool). not b || list_any (λ (r : Role). not (allows r Past)) rs)
+    (same_is (allows r Past) (allows r Element)
+    (of_each (λ (r : Role). same (allows r Past) (allows r Element)) refl r))
+    ∙ ap (λ (b : Bool). not (allows r Element) || b) (past_same rs)
 
 -- ---- what a header meets at a path
 
 module _ (path : List Part) (ms : List Mention) (lets : Pairs Allows (marks ms)) where
-  refused_by : (role : Role) (is : MentionKind → Bool) → ((a : MentionKind) → is a ≡ true → role_test (λ (r : Role). not (allows r role)) (role_of a) ≡ true) → has is path ms ≡ true → is_refused (marks ms) role path ≡ true
-  refused_by role is test h = refused_roles role path ms ∙ role_any is (λ (r : Role). not (allows r role)) test (kinds_at path ms) h
+  refused_by : (role : Role) (is : MentionKind → Bool) (said : Role)
+      → ((a : MentionKind) → is a ≡ true → role_of a ≡ Some said) → allows said role ≡ false
+      → has is path ms ≡ true → is_refused (marks ms) role path ≡ true
+  refused_by role is said one not_allowed h =
+      refused_roles role path ms
+      ∙ role_any is said one (λ (r : Role). not (allows r role)) (ap not not_allowed) (kinds_at path ms) h
 
-  open_by : (is : MentionKind → Bool) → ((a : MentionKind) → is a ≡ true → role_test (λ (r : Role). allows r Through) (role_of a) ≡ true) → has is path ms ≡ true → list_all (λ (r : Role). allows r Through) (roles_of (kinds_at path ms)) ≡ true
-  open_by is test h = all_through (roles_of (kinds_at path ms)) (roles_let path ms lets) (role_any is (λ (r : Role). allows r Through) test (kinds_at path ms) h)
+  open_by : (is : MentionKind → Bool) (said : Role)
+      → ((a : MentionKind) → is a ≡ true → role_of a ≡ Some said) → allows said Through ≡ true
+      → has is path ms ≡ true → list_all (λ (r : Role). allows r Through) (roles_of (kinds_at path ms)) ≡ true
+  open_by is said one allowed h =
+      all_in (λ (r : Role). allows r Through) refl (roles_of (kinds_at path ms)) (roles_let path ms lets)
+      (role_any is said one (λ (r : Role). allows r Through) allowed (kinds_at path ms) h)
 
-  continues : (is : MentionKind → Bool) → ((a : MentionKind) → is a ≡ true → role_test (λ (r : Role). allows r Through) (role_of a) ≡ true) → has is path ms ≡ true → is_refused (marks ms) Through path ≡ false
-  continues is test h = refused_roles Through path ms ∙ no_other (λ (r : Role). allows r Through) (roles_of (kinds_at path ms)) (open_by is test h)
+  continues : (is : MentionKind → Bool) (said : Role)
+      → ((a : MentionKind) → is a ≡ true → role_of a ≡ Some said) → allows said Through ≡ true
+      → has is path ms ≡ true → is_refused (marks ms) Through path ≡ false
+  continues is said one allowed h =
+      refused_roles Through path ms
+      ∙ no_other (λ (r : Role). allows r Through) (roles_of (kinds_at path ms)) (open_by is said one allowed h)
 
   pub through_continues : has is_through path ms ≡ true → is_refused (marks ms) Through path ≡ false
-  through_continues h = continues is_through through_open h
+  through_continues h = continues is_through Through through_role refl h
 
   pub define_continues : has is_define path ms ≡ true → is_refused (marks ms) Through path ≡ false
-  define_continues h = continues is_define define_open h
+  define_continues h = continues is_define Define define_role refl h
 
   pub dotted_continues : has is_dotted path ms ≡ true → is_refused (marks ms) Through path ≡ false
-  dotted_continues h = continues is_dotted dotted_open h
+  dotted_continues h = continues is_dotted Dotted dotted_role refl h
 
-  pub all_element : has is_element path ms ≡ true → list_all (λ (r : Role). allows r Element) (roles_of (kinds_at path ms)) ≡ true
-  all_element h = all_listed (roles_of (kinds_at path ms)) (roles_let path ms lets) (role_any is_element (λ (r : Role). allows r Element) element_listed (kinds_at path ms) h)
+  pub all_element : has is_element path ms ≡ true
+      → list_all (λ (r : Role). allows r Element) (roles_of (kinds_at path ms)) ≡ true
+  all_element h =
+      all_in (λ (r : Role). allows r Element) refl (roles_of (kinds_at path ms)) (roles_let path ms lets)
+      (role_any is_element Element element_role (λ (r : Role). allows r Element) refl (kinds_at path ms) h)
 
   pub element_again : has is_element path ms ≡ true → is_refused (marks ms) Element path ≡ false
-  element_again h = refused_roles Element path ms ∙ no_other (λ (r : Role). allows r Element) (roles_of (kinds_at path ms)) (all_element h)
+  element_again h =
+      refused_roles Element path ms
+      ∙ no_other (λ (r : Role). allows r Element) (roles_of (kinds_at path ms)) (all_element h)
 
   pub element_past : has is_element path ms ≡ true → is_refused (marks ms) Past path ≡ false
-  element_past h = refused_roles Past path ms ∙ past_same (roles_of (kinds_at path ms)) ∙ no_other (λ (r : Role). allows r Element) (roles_of (kinds_at path ms)) (all_element h)
+  element_past h =
+      refused_roles Past path ms ∙ past_same (roles_of (kinds_at path ms))
+      ∙ no_other (λ (r : Role). allows r Element) (roles_of (kinds_at path ms)) (all_element h)
 
   pub element_undefines : has is_element path ms ≡ true → is_refused (marks ms) Define path ≡ true
-  element_undefines h = refused_by Define is_element element_undefined h
+  element_undefines h = refused_by Define is_element Element element_role refl h
 
   pub define_twice : has is_define path ms ≡ true → is_refused (marks ms) Define path ≡ true
-  define_twice h = refused_by Define is_define define_undefined h
+  define_twice h = refused_by Define is_define Define define_role refl h
 
   pub define_unlisted : has is_define path ms ≡ true → is_refused (marks ms) Element path ≡ true
-  define_unlisted h = refused_by Element is_define define_closed h
+  define_unlisted h = refused_by Element is_define Define define_role refl h
 
   pub dotted_undefines : has is_dotted path ms ≡ true → is_refused (marks ms) Define path ≡ true
-  dotted_undefines h = refused_by Define is_dotted dotted_undefined h
+  dotted_undefines h = refused_by Define is_dotted Dotted dotted_role refl h
 
   pub dotted_unlisted : has is_dotted path ms ≡ true → is_refused (marks ms) Element path ≡ true
-  dotted_unlisted h = refused_by Element is_dotted dotted_closed h
+  dotted_unlisted h = refused_by Element is_dotted Dotted dotted_role refl h
 
   pub through_unlisted : has is_through path ms ≡ true → is_refused (marks ms) Element path ≡ true
-  through_unlisted h = refused_by Element is_through through_closed h
+  through_unlisted h = refused_by Element is_through Through through_role refl h
 
-  pub through_defines : has is_through path ms ≡ true → has is_define path ms ≡ false → has is_dotted path ms ≡ false → is_refused (marks ms) Define path ≡ false
-  through_defines h d t = refused_roles Define path ms ∙ through_alone (kinds_at path ms) d t (open_by is_through through_open h)
+  pub through_defines : has is_through path ms ≡ true → has is_define path ms ≡ false → has is_dotted path ms ≡ false
+      → is_refused (marks ms) Define path ≡ false
+  through_defines h d t =
+      refused_roles Define path ms
+      ∙ through_alone (kinds_at path ms) d t (open_by is_through Through through_role refl h)
 
   pub past_listed : has is_value path ms ≡ false → has is_define path ms ≡ false → has is_dotted path ms ≡ false → has is_through path ms ≡ false → list_all (λ (r : Role). allows r Element) (roles_of (kinds_at path ms)) ≡ true
   past_listed v d t g = past_alone (kinds_at path ms) v d t g
 
   pub value_refuses : (role : Role) → EndsInKey path → AllOf Formed ms → has is_value path ms ≡ true → is_refused (marks ms) role path ≡ true
-  value_refuses role ends formed h = refused_by role is_held (held_closed role) (value_held path ms ends formed h)
+  value_refuses role ends formed h = refused_by role is_held Value held_role refl (value_held path ms ends formed h)
 
   -- no array of tables is where a value is
   pub value_unlisted : EndsInKey path → AllOf Formed ms → has is_value path ms ≡ true → has is_element path ms ≡ false

@@ -1,4 +1,10 @@
 -- The line at which a body ends: there the reading is still in the body.
+--
+-- The line that begins a body is the last that passes a test (`last_found`), and the body is the lines after it up to
+-- the next header (`body_few`), which leave the reading's body as it is (`reading_beyond`). So at the end of those
+-- lines the reading is in that body. That the body began says that its path is a table (`begins_stated`).
+--
+-- Theorems: `last_found` and `end_is`.
 use Rattle.std.proofs.Common.{◌≡◌, ℕ, zero, suc, ◌+◌, ◌≤◌, Bool, true, false, cond, ◌||◌, List, [], ◌∷◌, ◌++◌, length, take, drop, refl, sym, ap, subst, ◌∙◌, length-append, arith, Option, Some, None, ◌⊎◌, inl, inr}
 use Rattle.std.specs.Prelude.{⊤}
 use Rattle.std.specs.List.{list_any}

@@ -8,11 +8,11 @@ use Rattle.keep_meaning.specs.Nodes.{fact_at, first_of}
 use Rattle.keep_edit_spec.specs.Look.{strip, last_part, without_last}
 use Rattle.keep_edit_spec.specs.Edits.{remove}
 use Rattle.keep_edit_spec.specs.Trees.{Source, IsTreeOf, fact_from, from as from_path, nothing, put_out}
-use Rattle.keep_edit_spec.proofs.Common.Runs.{AllOf, all_join, Rules, IsDisjoint, IsUnder, strip_both, kinds_at-disjoint, fact_elsewhere}
+use Rattle.keep_edit_spec.proofs.Common.Runs.{AllOf, all_join, Rules, IsDisjoint, IsUnder, kinds_at-disjoint, fact_elsewhere}
 use Rattle.keep_edit_spec.proofs.Common.SetLaw.{disjoint_below}
 use Rattle.keep_edit_spec.proofs.Common.LineLaws.{EndsInKey}
 use Rattle.keep_edit_spec.proofs.Common.Moves.{rules_taken}
-use Rattle.keep_edit_spec.proofs.Common.InsertLaw.{without_ways, none_below}
+use Rattle.keep_edit_spec.proofs.Common.InsertLaw.{without_ways, none_below, under_both}
 
 pub record IsCut (path : List Part) (from to : List Mention) : Type 0 where
   pub before : List Mention
@@ -25,10 +25,6 @@ pub record IsCut (path : List Part) (from to : List Mention) : Type 0 where
   pub disjoint_after : AllOf (IsDisjoint path) after
   pub silent : AllOf (λ m. fact_of m.kind ≡ None) ways
   pub under : AllOf (IsUnder path) run
-
-pub under_both : (s p : List Part) (ms : List Mention) → AllOf (IsUnder p) ms → AllOf (IsUnder (s ++ p)) (map (below s) ms)
-under_both s p [] h = tt
-under_both s p (m ∷ ms) h = ((h.0.0, strip_both s p m.path ∙ h.0.1), under_both s p ms h.1)
 
 map_four : (s : List Part) (a b c d : List Mention)
     → map (below s) (a ++ ((b ++ c) ++ d)) ≡ map (below s) a ++ ((map (below s) b ++ map (below s) c) ++ map (below s) d)

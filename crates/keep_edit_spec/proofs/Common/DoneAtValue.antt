@@ -9,7 +9,7 @@
 --
 -- Theorems: `done_entries` and `done_value`: the change is the act at the value of the path, with its facts and its
 -- depth.
-use Rattle.std.proofs.Common.{◌≡◌, ℕ, suc, ◌+◌, ◌≤◌, Bool, true, false, cond, List, [], ◌∷◌, ◌++◌, map, refl, sym, ap, subst, ◌∙◌, append_assoc, arith, Option, Some, None, inl, inr}
+use Rattle.std.proofs.Common.{◌≡◌, ℕ, suc, ◌+◌, ◌≤◌, Bool, true, false, cond, List, [], ◌∷◌, ◌++◌, map, refl, sym, ap, subst, ◌∙◌, append_assoc, arith, Option, Some, None}
 use Rattle.std.specs.Prelude.{⊤, max}
 use Rattle.std.specs.List.{filter_map, count_by}
 use Rattle.std.proofs.lemmas.List.{append-nil}
@@ -28,8 +28,8 @@ use Rattle.keep_edit_spec.specs.Look.{strip, is_bracket_at, prefixes, enclosing}
 use Rattle.keep_edit_spec.specs.Changed.{Changed, within, or_else, framed_change}
 use Rattle.keep_edit_spec.specs.Values.{Act, entry_prefix, entry_back, in_entries, in_value}
 use Rattle.keep_edit_spec.specs.Edits.{nested}
-use Rattle.keep_edit_spec.proofs.Common.Runs.{AllOf, SomeOf, pairs_split, Allowed, Rules, IsDisjoint, strip-sound, strip-append, kinds_at-append, kinds_at-disjoint, kinds_at-below, fact_under}
-use Rattle.keep_edit_spec.proofs.Common.SetLaw.{IsSolidAt, IsAloneAt, exclusive_is_solid, closed_named, closed_entries, disjoint_closed, clash_before, keyed_split, keyed_disjoint, rules_named, disjoint_from_entry}
+use Rattle.keep_edit_spec.proofs.Common.Runs.{AllOf, pairs_split, Allowed, Rules, IsDisjoint, strip-sound, strip-append, kinds_at-append, kinds_at-disjoint, kinds_at-below, fact_under}
+use Rattle.keep_edit_spec.proofs.Common.SetLaw.{closed_named, closed_entries, disjoint_closed, clash_before, keyed_split, keyed_disjoint, rules_named, disjoint_from_entry}
 use Rattle.keep_edit_spec.proofs.Common.SetDocument.{valued_facts}
 use Rattle.keep_edit_spec.proofs.Common.ValueThere.{alone_of_fact}
 
@@ -156,7 +156,7 @@ bracket_is_value fact.array h = refl
 bracket_is_value table h = absurd cc
 bracket_is_value _ h = refl
 
-bracket_fact : (o : Option Fact) → bracket_of o ≡ true → (f : Fact) × (o ≡ Some f) × (is_value_fact f ≡ true)
+pub bracket_fact : (o : Option Fact) → bracket_of o ≡ true → (f : Fact) × (o ≡ Some f) × (is_value_fact f ≡ true)
 bracket_fact None h = absurd cc
 bracket_fact (Some f) h = (f, refl, bracket_is_value f h)
 
@@ -173,7 +173,7 @@ count_more : (t u : List Part → Bool) → ((q : List Part) → t q ≡ true �
 count_more t u f [] = omega arith
 count_more t u f (q ∷ l) = omega (arith, count_step t q l, count_step u q l, one_more (t q) (u q) (f q), count_more t u f l)
 
-count_map : (t : List Part → Bool) (f : List Part → List Part) (l : List (List Part)) → count_by t (map f l) ≡ count_by (λ q. t (f q)) l
+pub count_map : (t : List Part → Bool) (f : List Part → List Part) (l : List (List Part)) → count_by t (map f l) ≡ count_by (λ q. t (f q)) l
 count_map t f [] = refl
 count_map t f (q ∷ l) = omega (arith, count_step t (f q) (map f l), count_step (λ q. t (f q)) q l, count_map t f l)
 

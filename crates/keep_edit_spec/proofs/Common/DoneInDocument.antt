@@ -1,4 +1,12 @@
 -- What is done at the value of a path, seen from the document.
+--
+-- An act in a document is an act in the value of the keyval that it finds, whose path the given path begins with.
+-- `DoneAtValue` shows of that value what is done at the path that is left. Around it come the key, the line and the
+-- lines: their text is before and after the change, their depth and their validity stay (`done_content`, `done_line`,
+-- `done_lines`, by induction over the lines). What the document says at and under the keyval's path is what the value
+-- says (`keyval_facts`), as nothing else may be at a value's path.
+--
+-- Theorem: `done_nested`.
 use Rattle.std.proofs.Common.{◌≡◌, ℕ, ◌≤◌, List, [], ◌∷◌, ◌++◌, map, refl, sym, ap, subst, ◌∙◌, append_assoc, arith, Option, Some, None}
 use Rattle.std.specs.Prelude.{max}
 use Rattle.std.specs.List.{filter_map}

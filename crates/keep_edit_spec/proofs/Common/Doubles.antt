@@ -1,4 +1,11 @@
 -- A mark like an earlier one, of a role that allows itself, does no harm: what the earlier one allows, allows it.
+--
+-- Four kinds of mention may be repeated. For each of them the table shows that what it allows also allows it
+-- (`repeat_again`), so a second one may stand anywhere after the first: each mention between them and after them is
+-- allowed by the first, and therefore by the second and the other way round (`double_in`, by induction over the
+-- mentions).
+--
+-- Theorem: `double_in`.
 use Rattle.std.proofs.Common.{◌≡◌, Bool, true, false, List, [], ◌∷◌, ◌++◌, refl, sym, ap, subst, ◌∙◌, append_assoc, inl, inr}
 use Rattle.keep_path.specs.Path.{Part, same_path}
 use Rattle.keep_meaning.specs.Marks.{MentionKind, through, past, define, element, dotted, value, begun, passed, item, Mention}
@@ -18,11 +25,7 @@ repeat_itself through h = refl
 repeat_itself past h = refl
 repeat_itself dotted h = refl
 repeat_itself passed h = refl
-repeat_itself define h = absurd cc
-repeat_itself element h = absurd cc
-repeat_itself begun h = absurd cc
-repeat_itself (value f) h = absurd cc
-repeat_itself (item f) h = absurd cc
+repeat_itself other h = absurd cc
 
 through_again : (x : MentionKind) → kinds_allow through x ≡ true → kinds_allow x through ≡ true
 through_again through h = refl
@@ -30,32 +33,21 @@ through_again define h = refl
 through_again dotted h = refl
 through_again begun h = refl
 through_again passed h = refl
-through_again past h = absurd cc
-through_again element h = absurd cc
-through_again (value f) h = absurd cc
-through_again (item f) h = absurd cc
+through_again other h = absurd cc
 
 dotted_again : (x : MentionKind) → kinds_allow dotted x ≡ true → kinds_allow x dotted ≡ true
 dotted_again through h = refl
-dotted_again define h = absurd cc
 dotted_again dotted h = refl
 dotted_again begun h = refl
 dotted_again passed h = refl
-dotted_again past h = absurd cc
-dotted_again element h = absurd cc
-dotted_again (value f) h = absurd cc
-dotted_again (item f) h = absurd cc
+dotted_again other h = absurd cc
 
 past_again : (x : MentionKind) → kinds_allow past x ≡ true → kinds_allow x past ≡ true
-past_again through h = absurd cc
-past_again define h = absurd cc
-past_again dotted h = absurd cc
 past_again begun h = refl
 past_again passed h = refl
 past_again past h = refl
 past_again element h = refl
-past_again (value f) h = absurd cc
-past_again (item f) h = absurd cc
+past_again other h = absurd cc
 
 passed_again : (x : MentionKind) → kinds_allow x passed ≡ true
 passed_again through = refl
@@ -74,11 +66,7 @@ repeat_again through x h g = through_again x g
 repeat_again past x h g = past_again x g
 repeat_again dotted x h g = dotted_again x g
 repeat_again passed x h g = passed_again x
-repeat_again define x h g = absurd cc
-repeat_again element x h g = absurd cc
-repeat_again begun x h g = absurd cc
-repeat_again (value f) x h g = absurd cc
-repeat_again (item f) x h g = absurd cc
+repeat_again other x h g = absurd cc
 
 -- ---- in a list
 

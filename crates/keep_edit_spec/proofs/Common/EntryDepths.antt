@@ -30,7 +30,7 @@ use Rattle.keep_edit_spec.proofs.Common.Runs.{AllOf, SomeOf, meet, some_left, so
 use Rattle.keep_edit_spec.proofs.Common.SetLaw.{IsAloneAt, some_alone_below, closed_named, closed_entries, clash_before, disjoint_closed, keyed_split, disjoint_from_entry, rules_named, tag_of, tag_stated, tag_alone}
 use Rattle.keep_edit_spec.proofs.Common.SetDocument.{valued_facts}
 use Rattle.keep_edit_spec.proofs.Common.ValueThere.{some_cases, alone_of_fact, entry_beyond}
-use Rattle.keep_edit_spec.proofs.Common.DoneAtValue.{fact_join, fact_keep, entries_root, step_facts}
+use Rattle.keep_edit_spec.proofs.Common.DoneAtValue.{fact_join, fact_keep, entries_root, step_facts, bracket_fact, count_map}
 use Rattle.keep_edit_spec.proofs.Common.ValuesMention.{states_value, value_mentions, zip_join}
 use Rattle.keep_edit_spec.proofs.Common.ValueNumber.{false_unless}
 
@@ -43,20 +43,12 @@ bracket_is_value : (f : Fact) → is_bracket f ≡ true → is_value_fact f ≡ 
 bracket_is_value table h = absurd cc
 bracket_is_value _ h = refl
 
-pub bracket_fact : (o : Option Fact) → bracket_of o ≡ true → (f : Fact) × (o ≡ Some f) × (is_value_fact f ≡ true)
-bracket_fact None h = absurd cc
-bracket_fact (Some f) h = (f, refl, bracket_is_value f h)
-
 -- a bracket at a path is a value that is alone there
 pub alone_of_bracket : (q : List Part) (ms : List Mention) → is_bracket_at ms q ≡ true → SomeOf (IsAloneAt q) ms
 alone_of_bracket q ms h = let (f, e, v) = bracket_fact (fact_at q ms) h in alone_of_fact q ms f e v
 
 count_step : (t : List Part → Bool) (q : List Part) (l : List (List Part)) → count_by t (q ∷ l) ≡ cond (t q) 1 0 + count_by t l
 count_step t q l = omega (arith, sum_by-append (λ x. cond (t x) 1 0) (q ∷ []) l)
-
-count_map : (t : List Part → Bool) (f : List Part → List Part) (l : List (List Part)) → count_by t (map f l) ≡ count_by (λ q. t (f q)) l
-count_map t f [] = refl
-count_map t f (q ∷ l) = omega (arith, count_step t (f q) (map f l), count_step (λ q. t (f q)) q l, count_map t f l)
 
 -- prefixes of which the same holds
 count_same : (t u : List Part → Bool) (path : List Part) → ((q : List Part) (k : Part) (qs : List Part) → path ≡ q ++ k ∷ qs → t q ≡ u q) → count_by t (prefixes path) ≡ count_by u (prefixes path)

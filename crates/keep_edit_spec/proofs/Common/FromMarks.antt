@@ -239,13 +239,7 @@ item_path (item f) p i h e =
     let same : key [] ≡ index h.1 = ap (last_from (key [])) (e ∙ h.2) ∙ last_snoc (key []) (index h.1) h.0 in
     absurd cc
 item_path begun p i h e = absurd cc
-item_path passed p i h e = absurd cc
-item_path through p i h e = absurd cc
-item_path past p i h e = absurd cc
-item_path define p i h e = absurd cc
-item_path element p i h e = absurd cc
-item_path dotted p i h e = absurd cc
-item_path (value f) p i h e = absurd cc
+item_path other p i h e = absurd cc
 
 pub head_disjoint : (mention_kind : MentionKind) (ms : List Mention) → AllOf Formed ms → AllOf (ItemsDisjoint (record { path = []; kind = mention_kind })) ms
 head_disjoint mention_kind [] h = tt

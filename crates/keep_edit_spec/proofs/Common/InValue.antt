@@ -23,14 +23,14 @@ use Rattle.keep_meaning.specs.Meaning.{key_value, further_value, keys_of, body_f
 use Rattle.keep_meaning.specs.Nodes.{fact_at, first_of}
 use Rattle.keep_edit_spec.specs.Look.{strip}
 use Rattle.std.specs.List.{filter_map}
-use Rattle.keep_edit_spec.specs.Changed.{Changed, within, or_else}
+use Rattle.keep_edit_spec.specs.Changed.{within, or_else}
 use Rattle.keep_edit_spec.specs.Values.{Act, entry_prefix, entry_back, in_entries, in_value}
 use Rattle.keep_edit_spec.specs.Lines.{page_text, in_content, in_line, in_lines, with_page}
 use Rattle.keep_edit_spec.specs.Edits.{nested}
 use Rattle.keep_edit_spec.proofs.Common.Runs.{AllOf, SomeOf, pairs_split, all_join, Allowed, Rules, IsDisjoint, strip-sound, some_left, rules_replaced, kinds_at-below, fact_under, fact_elsewhere, exclusive}
 use Rattle.keep_edit_spec.proofs.Common.SetLaw.{IsAloneAt, Held, by_key, by_index, map_twice, map_none, disjoint_below, EachTo, to_within, to_or_else, all_longer, keyed_split, keyed_disjoint, tag_of, tag_stated, tag_alone, disjoint_from_held, disjoint_from_entry, held_entry, held_further, rules_below, rules_named, closed_entries, clash_before, clash_after}
 use Rattle.keep_edit_spec.proofs.Common.LineLaws.{EndsInKey, lines_closed, never_root}
-use Rattle.keep_edit_spec.proofs.Common.SetDocument.{page_lines, whole_mentions, keyval_alone, from_closed, ends_keys, longer, under_below, each_to}
+use Rattle.keep_edit_spec.proofs.Common.SetDocument.{page_lines, whole_mentions, keyval_alone, from_closed, ends_keys, longer, under_below, each_to, later}
 
 -- what a value says of itself, by the mention that tells of it, and what is said in it
 abbrev pub tagged : (Fact → MentionKind) → Value → List Mention
@@ -253,10 +253,6 @@ pub record ContentDone (D : List Part → Value → Value → Type 0) (body path
   pub is : to ≡ keyval name now
   pub place : path ≡ (body ++ step 0 (Some name)) ++ more
   pub changed : Rules (entries_mentions 0 old.nested) → ValueDone D (tag_of (Some name)) more old.body old.nested now
-
-later : {A : Type 0} (R : Type 0) (P : A → Type 0) (o : Option (Changed A)) → (R → EachTo P o) → EachTo (λ x. R → P x) o
-later R P None h = tt
-later R P (Some c) h = h
 
 done_content-by : (profile : Profile) (D : List Part → Value → Value → Type 0) (act : Act) → Does profile D act
     → (body path : List Part) (name : Name) (v : Value) → IsValue profile v → (o : Option (List Part)) → strip (body ++ step 0 (Some name)) path ≡ o

@@ -1,4 +1,11 @@
 -- `insert` of a keyval as a line at a body's end: the rules and the tree.
+--
+-- The new keyval's path names no node, so no mention is at or under it (`fresh_disjoint`), and only the mentions of the
+-- keyval itself are compared with one another: they obey the rules if the value alone does (`rules_keyval`). Of its
+-- facts there are those of the value, under the new path, and tables at the keys before it; where a mention states no
+-- fact, it may be left out of the count (`without_ways`). All other paths have the facts that they had.
+--
+-- Theorems: `rules_keyval` and `keyval_law`.
 use Rattle.std.proofs.Common.{◌≡◌, ℕ, ◌≤◌, Bool, true, false, not, ◌||◌, List, [], ◌∷◌, ◌++◌, length, map, take, refl, sym, ap, subst, ◌∙◌, append_assoc, Option, Some, None, inl, inr}
 use Rattle.std.specs.List.{filter_map, cons_option, list_any}
 use Rattle.std.proofs.lemmas.List.{map-append, append-nil}
@@ -20,7 +27,7 @@ use Rattle.keep_edit_spec.proofs.Common.PutLines.{IsPut, keyval_put, rules_put}
 
 -- ---- a path that names no node has nothing under it
 
-or_true : (a b : Bool) → b ≡ true → (a || b) ≡ true
+pub or_true : (a b : Bool) → b ≡ true → (a || b) ≡ true
 or_true true b h = refl
 or_true false b h = h
 

@@ -7,7 +7,7 @@
 -- choice of several.
 --
 -- Theorem: `change-is`: every edit's change is a cut of the text.
-use Rattle.std.proofs.Common.{◌≡◌, ℕ, zero, suc, Bool, true, false, cond, List, [], ◌∷◌, ◌++◌, length, map, drop, refl, sym, ap, subst, ◌∙◌, append_assoc, Option, Some, None}
+use Rattle.std.proofs.Common.{◌≡◌, ℕ, zero, suc, Bool, true, false, cond, List, [], ◌∷◌, ◌++◌, length, map, drop, refl, sym, ap, ◌∙◌, append_assoc, Option, Some, None}
 use Rattle.std.specs.Prelude.{codes, position}
 use Rattle.std.specs.List.{flat_map}
 use Rattle.std.proofs.lemmas.Grind.{flat_map-append}
@@ -17,12 +17,12 @@ use Rattle.keep_path.specs.Path.{Part, same_path}
 use Rattle.keep_meaning.specs.Marks.{Reading, start}
 use Rattle.keep_meaning.specs.Meaning.{step, after_line, lines, mentions_in}
 use Rattle.keep_edit_spec.specs.Look.{strip, holder, item_number, keys_in}
-use Rattle.keep_edit_spec.specs.Changed.{Changed, IsChangeOf, framed_change, within, or_else, place_of, put}
+use Rattle.keep_edit_spec.specs.Changed.{Changed, IsChangeOf, framed_change, within, or_else}
 use Rattle.keep_edit_spec.specs.Values.{Act, text_of_value, in_value, replacement, put_item, put_named, removal, renaming, rename_part, rename_name}
 use Rattle.keep_edit_spec.specs.Lines.{line_text, ended_text, Page, page_text, with_page, in_document, in_lines, in_content, in_line, rename_content, rename_line, part_paths, put_lines, drop_prefix, drop_lines, last_line, begins, leads_dotted, leads_through, body_length, body_end, reading_at, new_line, newline_of, content_text, is_empty}
 use Rattle.keep_edit_spec.specs.Edits.{Edit, set, insert, rename, remove, append_table, append_element, nested, at_line, without_lines, end_of, insert_line, change_insert, is_own, clear_line, change_remove, change_rename, change, key_with, name_with, new_keyval, new_header}
 use Rattle.keep_edit_spec.specs.Edits.{key_part}
-use Rattle.keep_edit_spec.proofs.Common.Texts.{EachIs, IsAct, within-is, or_else-is, put-place_of, text_of-append, in_value-is, replacement-is, put_item-is, put_named-is, removal-is, renaming-is, rename_part-is, rename_name-is, key_text_of, name_text_of}
+use Rattle.keep_edit_spec.proofs.Common.Texts.{EachIs, IsAct, within-is, or_else-is, text_of-append, in_value-is, replacement-is, put_item-is, put_named-is, removal-is, renaming-is, rename_part-is, rename_name-is, key_text_of, name_text_of}
 
 page-cons : (e : Ended) (y : Page) → page_text (record { ended = e ∷ y.ended; last = y.last }) ≡ text_of (ended_leaves e) ++ (page_text y ++ [])
 page-cons e y = ap (λ t. t ++ line_text y.last) (text_of-append (ended_leaves e) (flat_map ended_leaves y.ended)) ∙ simp (append_assoc, append-nil) refl
@@ -87,40 +87,36 @@ rename_line-by new l (Some n) =
 pub rename_line-is : (new : Written) (path : List Part) (r : Reading) (l : Line) → EachIs line_text l (rename_line new path r l)
 rename_line-is new path r l = rename_line-by new l (position (same_path path) (part_paths r l.content))
 
-clear-by : (l : Line) (c : Written) → l.comment ≡ Some c → (b : Bool) → EachIs line_text l (elim b [
-  | false ↦ None
-  | true ↦ Some (record {
-    to = record { before = l.before; content = blank; after = []; comment = Some c };
-    before = text_of l.before;
-    old = content_text l.content ++ text_of l.after;
-    new = [];
-    after = c.text;
-  })
-])
-clear-by l c e false = tt
-clear-by l c e true = record {
-  was = line-text l l.content ∙ ap (λ (o : Option Written). text_of l.before ++ (content_text l.content ++ (text_of l.after ++ text_of (comment_leaves o)))) e ∙ simp (append_assoc, append-nil) refl;
-  is = simp (text_of-append, append-nil) refl;
+-- a line cleared to its comment
+abbrev pub cleared : Line → Written → Changed Line
+cleared l c = record {
+  to = record { before = l.before; content = blank; after = []; comment = Some c };
+  before = text_of l.before;
+  old = content_text l.content ++ text_of l.after;
+  new = [];
+  after = c.text;
 }
 
-clear-comment : (path : List Part) (r : Reading) (l : Line) (o : Option Written) → l.comment ≡ o → EachIs line_text l (elim o [
-  | None ↦ None
-  | Some c ↦ elim (is_own path r l.content) [
-    | false ↦ None
-    | true ↦ Some (record {
-      to = record { before = l.before; content = blank; after = []; comment = Some c };
-      before = text_of l.before;
-      old = content_text l.content ++ text_of l.after;
-      new = [];
-      after = c.text;
-    })
-  ]
-])
-clear-comment path r l None e = tt
-clear-comment path r l (Some c) e = clear-by l c e (is_own path r l.content)
+-- what holds of no change, and of a keyval's own line cleared to its comment, holds of what `clear_line` does
+pub clear_cases : (P : Option (Changed Line) → Type 0) (path : List Part) (r : Reading) (l : Line) → P None
+    → ((c : Written) → l.comment ≡ Some c → is_own path r l.content ≡ true → P (Some (cleared l c)))
+    → P (clear_line path r l)
+clear_cases P path r l none some = by l.comment refl (is_own path r l.content) refl
+  where
+    by : (o : Option Written) → l.comment ≡ o → (b : Bool) → is_own path r l.content ≡ b
+        → P (elim o [ None ↦ None | Some c ↦ elim b [ false ↦ None | true ↦ Some (cleared l c) ] ])
+    by None e b own = none
+    by (Some c) e false own = none
+    by (Some c) e true own = some c e own
 
 pub clear_line-is : (path : List Part) (r : Reading) (l : Line) → EachIs line_text l (clear_line path r l)
-clear_line-is path r l = clear-comment path r l l.comment refl
+clear_line-is path r l = clear_cases (EachIs line_text l) path r l tt (λ c e own. record {
+  was =
+      line-text l l.content
+      ∙ ap (λ (o : Option Written). text_of l.before ++ (content_text l.content ++ (text_of l.after ++ text_of (comment_leaves o)))) e
+      ∙ simp (append_assoc, append-nil) refl;
+  is = simp (text_of-append, append-nil) refl;
+})
 
 -- ---- whole lines
 

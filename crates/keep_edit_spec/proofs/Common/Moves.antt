@@ -2,27 +2,23 @@
 --
 -- If a function of paths takes different paths to different ones (`IsInjectiveOn`), pairs of mentions that were allowed
 -- stay so when all paths are changed by it (`rules_moved`), and a changed path has the mentions that the old one had
--- (`mentions_moved`). Without a run of mentions the rules hold as well (`rules_taken`). `IsMove` puts these together
--- with a new run: then only the pairs with that run are to be looked at (`rules_move`). The last part is one such
--- change: an item is taken out of an array, and the items after it have numbers one lower (`down`, `entries_after`), by
--- induction over the entries.
+-- (`mentions_moved`). Without a run of mentions the rules hold as well (`rules_taken`). The last part is one such
+-- change: where an item is taken out of an array, the items after it have numbers one lower (`down`, `entries_after`),
+-- by induction over the entries.
 --
 -- Theorems: `rules_moved`, `rules_taken` and `mentions_moved`: the rules, and what is mentioned at a path.
-use Rattle.std.proofs.Common.{◌≡◌, ℕ, ◌+◌, ◌-◌, ◌<◌, ◌≤◌, Bool, true, false, cond, List, [], ◌∷◌, ◌++◌, map, refl, sym, ap, subst, ◌∙◌, append_assoc, arith, Option, Some, None, ◌⊎◌, inl, inr}
-use Rattle.std.specs.Prelude.{⊤, codes, ◌==◌, nat_lt}
+use Rattle.std.proofs.Common.{◌≡◌, ℕ, ◌+◌, ◌-◌, ◌<◌, ◌≤◌, Bool, true, false, cond, List, [], ◌∷◌, ◌++◌, map, refl, sym, ap, subst, ◌∙◌, arith, Option, Some, None, ◌⊎◌, inl, inr}
+use Rattle.std.specs.Prelude.{◌==◌, nat_lt}
 use Rattle.std.proofs.lemmas.List.{map-append}
 use Rattle.std.proofs.lemmas.Bool.{cases_lt, lt-ltb, le-ltb, eq-eqb}
-use Rattle.keep_syntax.specs.Tree.{Gap, Name, Body, Entries, none, entry, text_of}
+use Rattle.keep_syntax.specs.Tree.{Name, Entries, none, entry}
 use Rattle.keep_meaning.specs.Fact.{Fact}
 use Rattle.keep_path.specs.Path.{Part, key, index, same_part, same_path}
 use Rattle.keep_meaning.specs.Marks.{item, value, dotted, Mention, below}
-use Rattle.keep_meaning.specs.Meaning.{body_fact, valued_mentions, keyed_mentions, entry_mentions, entries_mentions, step}
+use Rattle.keep_meaning.specs.Meaning.{body_fact, valued_mentions, keyed_mentions, entry_mentions, entries_mentions}
 use Rattle.keep_edit_spec.specs.Look.{strip}
 use Rattle.keep_meaning.specs.Nodes.{is_at, kinds_at}
-use Rattle.keep_edit_spec.specs.Changed.{Changed, within}
-use Rattle.keep_edit_spec.specs.Values.{Row, take_out, taken_first, taken_only, taken_last, is_last_named, entry_prefix}
-use Rattle.keep_edit_spec.proofs.Common.Runs.{AllOf, pairs_split, pairs_join, all_join, across_right, Across, Allowed, Rules, same_path-sound, same_path-refl}
-use Rattle.keep_edit_spec.proofs.Common.SetLaw.{EachTo, to_within}
+use Rattle.keep_edit_spec.proofs.Common.Runs.{AllOf, pairs_split, pairs_join, across_right, Allowed, Rules, same_path-sound, same_path-refl}
 
 abbrev pub moved : (List Part → List Part) → Mention → Mention
 moved f m = record { path = f m.path; kind = m.kind }
@@ -47,17 +43,6 @@ rules_taken before old after h =
     let outer = pairs_split Allowed before (old ++ after) h in
     let inner = pairs_split Allowed old after outer.right in
     pairs_join Allowed before after (record { left = outer.left; right = inner.right; across = across_right Allowed before old after outer.across })
-
--- The general change: a run is replaced (either may be empty), and the paths of the others are changed by f. P tells
--- which paths those are. Only pairs with the new run are to be looked at.
-pub record IsMove (P : List Part → Type 0) (f : List Part → List Part) (from to new : List Mention) : Type 0 where
-  pub before : List Mention
-  pub old : List Mention
-  pub after : List Mention
-  pub was : from ≡ before ++ (old ++ after)
-  pub is : to ≡ map (moved f) before ++ (new ++ map (moved f) after)
-  pub preserved_before : AllOf (λ m. P m.path) before
-  pub preserved_after : AllOf (λ m. P m.path) after
 
 -- ---- the tree where paths are changed
 
@@ -129,99 +114,6 @@ entries_after n k (entry name body nested after comma rest) h =
     one None = moved_to n (index (k + 1)) (index k) (valued_mentions (item (body_fact body)) (entries_mentions 0 nested))
         (ap (λ b. index (cond b (k + 1 - 1) (k + 1))) (test_lt n (k + 1) (omega arith)) ∙ ap index (let e : k + 1 - 1 ≡ k = omega arith in e))
     one (Some name') = moved_keyed n _ _ (valued_mentions (value (body_fact body)) (entries_mentions 0 nested))
-
--- The run of one entry is gone, and those after it have moved.
-pub record IsTaken (n k : ℕ) (from to : Entries) : Type 0 where
-  pub before : List Mention
-  pub old : List Mention
-  pub after : List Mention
-  pub was : entries_mentions k from ≡ before ++ (old ++ after)
-  pub is : entries_mentions k to ≡ map (moved (down n)) (before ++ after)
-
-abbrev pub Unnamed : Entries → Type 0
-Unnamed none = ⊤
-Unnamed (entry name body nested after comma rest) = (name ≡ None) × Unnamed rest
-
-its_number : (k n : ℕ) (name : Option Name) → same_path (step k name) (index n ∷ []) ≡ true → k ≡ n
-its_number k n None e = let x : index k ∷ [] ≡ index n ∷ [] = same_path-sound (index k ∷ []) (index n ∷ []) e in cc
-its_number k n (Some name) e = absurd cc
-
-next_number : (k n : ℕ) (name : Option Name) → name ≡ None → same_path (step k name) (index n ∷ []) ≡ false → k ≤ n → k + 1 ≤ n
-next_number k n None u e h = elim (cases_lt k n) [
-  | inl below' ↦ omega arith
-  | inr above ↦
-      (let same : k ≡ n = omega arith in
-      let yes : same_path (index k ∷ []) (index n ∷ []) ≡ true = subst (λ m. same_path (index k ∷ []) (index m ∷ []) ≡ true) same (same_path-refl (index k ∷ [])) in
-      absurd cc)
-]
-next_number k n (Some name) u e h = absurd cc
-
-taken_when : (P : Row → Type 0) (b : Bool) (c : Changed Row) → (b ≡ true → P c.to) → EachTo P (elim b [ true ↦ Some c | false ↦ None ])
-taken_when P true c h = h refl
-taken_when P false c h = tt
-
-taken_one : (n k : ℕ) (name : Option Name) (body : Body) (nested : Entries) (after : Gap) (comma : Option Gap) (rest : Entries) → n ≤ k
-    → IsTaken n k (entry name body nested after comma rest) rest
-taken_one n k name body nested after comma rest h = record {
-  before = [];
-  old = entry_mentions k name (body_fact body) (entries_mentions 0 nested);
-  after = entries_mentions (k + 1) rest;
-  was = refl;
-  is = sym (entries_after n k rest h);
-}
-
-taken_two : (n k : ℕ) (gap : Gap) (name : Option Name) (body : Body) (nested : Entries) (after next_gap : Gap)
-    (name' : Option Name) (body' : Body) (nested' : Entries) (after' : Gap) (comma' : Option Gap) (rest' : Entries)
-    (further : Option (Changed Row)) → k ≤ n → name ≡ None → (b c : Bool) → same_path (step k name) (index n ∷ []) ≡ b → is_last_named (index n ∷ []) (k + 1) (entry name' body' nested' after' comma' rest') ≡ c
-    → (k + 1 ≤ n → EachTo (λ r. IsTaken n (k + 1) (entry name' body' nested' after' comma' rest') r.entries) further)
-    → EachTo {A = Row} (λ r. IsTaken n k (entry name body nested after (Some next_gap) (entry name' body' nested' after' comma' rest')) r.entries) (elim b [
-      | true ↦ Some (taken_first gap name body nested after next_gap (entry name' body' nested' after' comma' rest'))
-      | false ↦ elim c [
-        | true ↦ Some (taken_last gap name body nested after next_gap name' body' nested' after')
-        | false ↦ within (λ r. record { gap = gap; entries = entry name body nested after (Some r.gap) r.entries })
-            (text_of gap ++ (entry_prefix name body nested ++ (text_of after ++ codes ","))) [] further
-      ]
-    ])
-taken_two n k gap name body nested after next_gap name' body' nested' after' comma' rest' further h u true c e e' ih =
-    taken_one n k name body nested after (Some next_gap) (entry name' body' nested' after' comma' rest') (let same : k ≡ n = its_number k n name e in omega arith)
-taken_two n k gap name body nested after next_gap name' body' nested' after' None none further h u false true e e' ih = record {
-  before = entry_mentions k name (body_fact body) (entries_mentions 0 nested);
-  old = entry_mentions (k + 1) name' (body_fact body') (entries_mentions 0 nested');
-  after = [];
-  was = refl;
-  is = ap (λ l. l ++ []) (sym (named_before n k name (body_fact body) (entries_mentions 0 nested) h)) ∙ sym (map-append (moved (down n)) (entry_mentions k name (body_fact body) (entries_mentions 0 nested)) []);
-}
-taken_two n k gap name body nested after next_gap name' body' nested' after' (Some g) rest' further h u false true e e' ih = absurd cc
-taken_two n k gap name body nested after next_gap name' body' nested' after' None (entry n2 b2 i2 a2 c2 r2) further h u false true e e' ih = absurd cc
-taken_two n k gap name body nested after next_gap name' body' nested' after' comma' rest' further h u false false e e' ih =
-    let first : List Mention = entry_mentions k name (body_fact body) (entries_mentions 0 nested) in
-    to_within (λ r. IsTaken n (k + 1) (entry name' body' nested' after' comma' rest') r.entries)
-    (λ r. IsTaken n k (entry name body nested after (Some next_gap) (entry name' body' nested' after' comma' rest')) r.entries)
-    (λ r. record { gap = gap; entries = entry name body nested after (Some r.gap) r.entries }) _ [] further
-    (λ r t. record {
-      before = first ++ t.before;
-      old = t.old;
-      after = t.after;
-      was = ap (λ l. first ++ l) t.was ∙ sym (append_assoc first t.before (t.old ++ t.after));
-      is = ap (λ l. first ++ l) t.is ∙ ap (λ l. l ++ map (moved (down n)) (t.before ++ t.after)) (sym (named_before n k name (body_fact body) (entries_mentions 0 nested) h))
-          ∙ sym (map-append (moved (down n)) first (t.before ++ t.after)) ∙ ap (map (moved (down n))) (sym (append_assoc first t.before t.after));
-    }) (ih (next_number k n name u e h))
-
--- Taking an item out of an array: its run is gone, and the items after it have moved down by one.
-pub item_taken : (n k : ℕ) (gap : Gap) (es : Entries) → k ≤ n → Unnamed es → EachTo (λ r. IsTaken n k es r.entries) (take_out (index n ∷ []) k gap es)
-item_taken n k gap none h u = tt
-item_taken n k gap (entry name body nested after None none) h u =
-    taken_when (λ r. IsTaken n k (entry name body nested after None none) r.entries) (same_path (step k name) (index n ∷ [])) (taken_only gap name body nested after)
-    (λ e. taken_one n k name body nested after None none (let same : k ≡ n = its_number k n name e in omega arith))
-item_taken n k gap (entry name body nested after None (entry name' body' nested' after' comma' rest')) h u = tt
-item_taken n k gap (entry name body nested after (Some next_gap) none) h u =
-    taken_when (λ r. IsTaken n k (entry name body nested after (Some next_gap) none) r.entries) (same_path (step k name) (index n ∷ [])) (taken_first gap name body nested after next_gap none)
-    (λ e. taken_one n k name body nested after (Some next_gap) none (let same : k ≡ n = its_number k n name e in omega arith))
-item_taken n k gap (entry name body nested after (Some next_gap) (entry name' body' nested' after' comma' rest')) h u =
-    taken_two n k gap name body nested after next_gap name' body' nested' after' comma' rest'
-    (take_out (index n ∷ []) (k + 1) next_gap (entry name' body' nested' after' comma' rest')) h u.0
-    (same_path (step k name) (index n ∷ [])) (is_last_named (index n ∷ []) (k + 1) (entry name' body' nested' after' comma' rest')) refl refl
-    (λ g. item_taken n (k + 1) next_gap (entry name' body' nested' after' comma' rest') g u.1)
 
 not_it : (n : ℕ) (p : Part) (ps : List Part) (b : Bool) → same_part (index n) p ≡ b → strip (index n ∷ []) (p ∷ ps) ≡ None → same_part (index n) p ≡ false
 not_it n p ps true e h =

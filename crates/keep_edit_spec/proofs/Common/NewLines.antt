@@ -7,7 +7,7 @@
 -- lines before them (`valid_lines_put`). Where they come after a last line that has no newline, that line gets one.
 --
 -- Theorems: `valid_at_line`: lines put into a valid document; `key_means`: a key that was written means its texts.
-use Rattle.std.proofs.Common.{◌≡◌, ℕ, zero, suc, Bool, true, false, List, [], ◌∷◌, ◌++◌, map, refl, sym, ap, subst, ◌∙◌, arith, Option, Some, None, inl}
+use Rattle.std.proofs.Common.{◌≡◌, ℕ, zero, suc, Bool, true, false, List, [], ◌∷◌, ◌++◌, map, refl, sym, subst, ◌∙◌, arith, Option, Some, None, inl}
 use Rattle.std.specs.Prelude.{⊤, IsTrue}
 use Rattle.std.specs.List.{AllByRecursion, flat_map}
 use Rattle.keep_types.specs.declared.leaf.Profile.{Profile}
@@ -15,7 +15,6 @@ use Rattle.keep_types.specs.declared.leaf.Profile.TheVariants.{Strict, Wide}
 use Rattle.keep_types.specs.declared.leaf.Leaf.{Leaf}
 use Rattle.keep_types.specs.declared.leaf.Leaf.TheVariants as leaf
 use Rattle.keep_token.specs.Leaves.{IsLeaf, is_key_leaf, is_scalar_leaf}
-use Rattle.keep_token.specs.Encoded.{is_bare_text}
 use Rattle.keep_syntax.specs.Tree.{Written, Gap, Further, Key, Name, named_leaves, name_leaves, key_leaves, further_leaves, opening, closing, comma_leaves, Body, scalar, array, inline, Entries, none, entry, entries_leaves, Content, blank, keyval, header, element, content_leaves, comment_leaves, Line, line_leaves, Ended, ended_leaves, bom_leaves, Document, leaves}
 use Rattle.keep_syntax.specs.Grammar.{IsSpace, IsBlank, IsGap, IsNamed, IsComma, IsComment, IsKeyPart, IsFurther, IsKey, IsName, IsBody, AreEntries, IsContent, IsAfter, IsLine, IsEnded, IsDocument, Place, in_scalar, in_array, in_inline, place_in}
 use Rattle.keep_edit_spec.specs.Edits.{key_part}

@@ -37,7 +37,7 @@ pub record ContentSet (body path : List Part) (new : Value) (from to : Content) 
   pub place : path ≡ (body ++ step 0 (Some name)) ++ more
   pub changed : Rules (entries_mentions 0 old.nested) → ValueSet (Some name) more new old.body old.nested now
 
-later : {A : Type 0} (R : Type 0) (P : A → Type 0) (o : Option (Changed A)) → (R → EachTo P o) → EachTo (λ x. R → P x) o
+pub later : {A : Type 0} (R : Type 0) (P : A → Type 0) (o : Option (Changed A)) → (R → EachTo P o) → EachTo (λ x. R → P x) o
 later R P None h = tt
 later R P (Some c) h = h
 

@@ -9,7 +9,7 @@
 --
 -- Theorems: `set_entries` and `set_value`: setting a value in entries, or in a value, replaces its run of mentions
 -- alone.
-use Rattle.std.proofs.Common.{◌≡◌, ℕ, ◌+◌, ◌<◌, ◌≤◌, Bool, true, false, List, [], ◌∷◌, ◌++◌, map, refl, sym, ap, subst, ◌∙◌, append_assoc, arith, Option, Some, None, ◌⊎◌, inl, inr}
+use Rattle.std.proofs.Common.{◌≡◌, ℕ, ◌+◌, ◌<◌, ◌≤◌, Bool, true, false, List, [], ◌∷◌, ◌++◌, map, refl, sym, ap, subst, ◌∙◌, append_assoc, arith, Option, Some, None, inl, inr}
 use Rattle.std.specs.Prelude.{⊤, ◌==◌}
 use Rattle.std.proofs.lemmas.List.{map-append, append-nil}
 use Rattle.std.proofs.lemmas.Bool.{eqb-true}
@@ -21,7 +21,7 @@ use Rattle.keep_meaning.specs.Meaning.{key_value, further_value, keys_of, body_f
 use Rattle.keep_edit_spec.specs.Look.{strip}
 use Rattle.keep_edit_spec.specs.Changed.{Changed, within, or_else}
 use Rattle.keep_edit_spec.specs.Values.{Act, entry_prefix, entry_back, in_entries, in_value, replacement}
-use Rattle.keep_edit_spec.proofs.Common.Runs.{AllOf, SomeOf, Pairs, pairs_split, all_join, all_map, meet, some_left, some_right, Allowed, Rules, kinds_allow, exclusive, solid, IsDisjoint, IsUnder, same_part-sound, strip-sound, strip_both, disjoint_longer}
+use Rattle.keep_edit_spec.proofs.Common.Runs.{AllOf, SomeOf, Pairs, pairs_split, all_join, all_map, meet, some_left, some_right, Allowed, Rules, kinds_allow, exclusive, solid, IsDisjoint, IsUnder, same_part-sound, strip-sound, strip_both, disjoint_longer, none_or_some}
 
 -- ---- what is alone
 
@@ -241,10 +241,6 @@ clash_after p xs ys h g rules =
     let no : kinds_allow x.kind y.kind ≡ false = exclusive-solid x.kind y.kind alone_x.kind solid_y.kind in
     absurd cc
 
-none_or_some : (o : Option (List Part)) → (o ≡ None) ⊎ ((r : List Part) × (o ≡ Some r))
-none_or_some None = inl refl
-none_or_some (Some r) = inr (r, refl)
-
 -- where nothing solid is at a path, nothing is under it
 pub disjoint_closed : (p : List Part) (all ms : List Mention) → ClosedAt p all ms → (SomeOf (IsSolidAt p) all → ⊥) → AllOf (IsDisjoint p) ms
 disjoint_closed p all [] h never = tt
@@ -355,11 +351,6 @@ rules_named n (Some name) f nested h =
     let both : Rules (keyed_mentions (keys_of name.key) [] ++ map (below (map key (keys_of name.key))) (valued_mentions (value f) nested)) =
     subst Rules (keyed_split (keys_of name.key) (valued_mentions (value f) nested)) h in
     (rules_below (map key (keys_of name.key)) (valued_mentions (value f) nested) (pairs_split Allowed (keyed_mentions (keys_of name.key) []) (map (below (map key (keys_of name.key))) (valued_mentions (value f) nested)) both).right).1
-
--- the keys on the way, and the value after them
-named_split : (n : ℕ) (name : Option Name) (f : Fact) (nested : List Mention) → List Mention
-named_split n None f nested = []
-named_split n (Some name) f nested = keyed_mentions (keys_of name.key) []
 
 pub set_named : (n : ℕ) (name : Option Name) (f f' : Fact) (nested nested' : List Mention) (more : List Part) (new : Value)
     → IsSet more new (valued_mentions (tag_of name f) nested) (valued_mentions (tag_of name f') nested') → IsSet (step n name ++ more) new (entry_mentions n name f nested) (entry_mentions n name f' nested')

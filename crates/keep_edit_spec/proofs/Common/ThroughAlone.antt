@@ -1,9 +1,16 @@
 -- What may be at a path that a header goes through, where no body is the path's and no keyval's key continues from it.
+--
+-- A mention beside one of a header that goes through must allow it, or be allowed by it: by the table it is such a
+-- mention too, a definition, or one by dots (`all_meet`). A definition would begin a body. One by dots comes from a
+-- keyval: from its own key, which continues from the path, or from a key inside its value, and then the path is at or
+-- under the keyval's (`dotted_lines`).
+--
+-- Theorems: `all_meet`, `none_mentioned` and `dotted_lines`.
 use Rattle.std.proofs.Common.{◌≡◌, ℕ, ◌-◌, Bool, true, false, cond, List, [], ◌∷◌, ◌++◌, map, refl, sym, ap, subst, ◌∙◌, append_assoc, Option, ◌⊎◌, inl, inr}
 use Rattle.std.specs.Prelude.{◌==◌}
 use Rattle.keep_syntax.specs.Tree.{Written, Gap, Content, blank, keyval, header, element, Line}
 use Rattle.keep_path.specs.Path.{Part, key, index}
-use Rattle.keep_meaning.specs.Marks.{MentionKind, through, past, define, dotted, value, begun, passed, item, Mention, Reading, start, below, header_path, header_prefixes, passing_mentions, entered_path, elements_of}
+use Rattle.keep_meaning.specs.Marks.{MentionKind, through, past, define, dotted, value, begun, passed, Mention, Reading, below, header_prefixes, passing_mentions, entered_path, elements_of}
 use Rattle.keep_meaning.specs.Marks as marks_of
 use Rattle.keep_meaning.specs.Meaning.{keys_of, key_value, further_value, keyed_mentions, valued_mentions, entries_mentions, keyval_mentions, body_fact, line_mentions, lines_mentions, after_line}
 use Rattle.keep_meaning.specs.Nodes.{is_through, is_dotted}
@@ -33,10 +40,7 @@ after_through define h = refl
 after_through dotted h = refl
 after_through begun h = refl
 after_through passed h = refl
-after_through past h = absurd cc
-after_through marks_of.element h = absurd cc
-after_through (value f) h = absurd cc
-after_through (item f) h = absurd cc
+after_through other h = absurd cc
 
 before_through : (a : MentionKind) → kinds_allow a through ≡ true → meets a ≡ true
 before_through through h = refl
@@ -44,21 +48,11 @@ before_through define h = refl
 before_through dotted h = refl
 before_through begun h = refl
 before_through passed h = refl
-before_through past h = absurd cc
-before_through marks_of.element h = absurd cc
-before_through (value f) h = absurd cc
-before_through (item f) h = absurd cc
+before_through other h = absurd cc
 
 only_through : (a : MentionKind) → is_through a ≡ true → a ≡ through
 only_through through h = refl
-only_through past h = absurd cc
-only_through define h = absurd cc
-only_through marks_of.element h = absurd cc
-only_through dotted h = absurd cc
-only_through (value f) h = absurd cc
-only_through begun h = absurd cc
-only_through passed h = absurd cc
-only_through (item f) h = absurd cc
+only_through other h = absurd cc
 
 abbrev Meets : List Part → Mention → Type 0
 Meets a x = x.path ≡ a → meets x.kind ≡ true

@@ -15,7 +15,7 @@ use Rattle.std.specs.List.{filter_map, cons_option}
 use Rattle.keep_syntax.specs.Tree.{Document}
 use Rattle.keep_meaning.specs.Fact.{Fact, table, is_value_fact}
 use Rattle.keep_path.specs.Path.{Part, same_path}
-use Rattle.keep_meaning.specs.Marks.{MentionKind, through, past, define, element, dotted, value, begun, passed, item, Mention, Statement, fact_of, Reading, statement_mentions, next_reading, start}
+use Rattle.keep_meaning.specs.Marks.{MentionKind, define, value, begun, item, Mention, Statement, fact_of, Reading, statement_mentions, next_reading, start}
 use Rattle.keep_meaning.specs.Meaning.{mentions_in}
 use Rattle.keep_meaning.specs.Counts.{Count, Numbered, is_value, one_if, count_with_mention, next_count, no_count, numbered_mentions, numbered_from, numbered_in, statements_in}
 use Rattle.keep_meaning.specs.Nodes.{is_at, kinds_at, first_of, fact_at, mention_of, numbered_at, last_number, value_number}
@@ -27,13 +27,7 @@ use Rattle.keep_edit_spec.proofs.Common.ValueThere.{fact_head, fact_past}
 pub value_is_exclusive : (s : MentionKind) → is_value s ≡ true → exclusive s ≡ true
 value_is_exclusive (value f) e = refl
 value_is_exclusive (item f) e = refl
-value_is_exclusive through e = absurd cc
-value_is_exclusive past e = absurd cc
-value_is_exclusive define e = absurd cc
-value_is_exclusive element e = absurd cc
-value_is_exclusive dotted e = absurd cc
-value_is_exclusive begun e = absurd cc
-value_is_exclusive passed e = absurd cc
+value_is_exclusive other e = absurd cc
 
 -- ---- numbered by counting values
 
@@ -191,15 +185,9 @@ number_of_value path s earlier m later rules mentioned place is =
 -- ---- the fact of the path is the one that is said with the value
 
 no_fact : (s : MentionKind) (f : Fact) → is_value s ≡ false → fact_of s ≡ Some f → is_value_fact f ≡ true → ⊥
-no_fact (value g) f n e h = absurd cc
-no_fact (item g) f n e h = absurd cc
 no_fact define f n e h = let t : f ≡ table = cc in let k : is_value_fact table ≡ true = ap is_value_fact (sym t) ∙ h in absurd cc
 no_fact begun f n e h = let t : f ≡ table = cc in let k : is_value_fact table ≡ true = ap is_value_fact (sym t) ∙ h in absurd cc
-no_fact through f n e h = absurd cc
-no_fact past f n e h = absurd cc
-no_fact element f n e h = absurd cc
-no_fact dotted f n e h = absurd cc
-no_fact passed f n e h = absurd cc
+no_fact other f n e h = absurd cc
 
 fact_mentioned : (path : List Part) (earlier : List Mention) (m : Mention) (later : List Mention) (f g : Fact) → AllOf (NoValueAt path) earlier → is_at path m ≡ true → fact_of m.kind ≡ Some g
     → fact_at path (earlier ++ m ∷ later) ≡ Some f → is_value_fact f ≡ true → f ≡ g

@@ -15,7 +15,7 @@ use Rattle.std.proofs.lemmas.List.{append-nil}
 use Rattle.keep_syntax.specs.Tree.{Written, Gap, Name, name_leaves, named_leaves, opening, closing, comma_leaves, comment_leaves, Body, Entries, none, entry, Value, Content, blank, keyval, header, element, Line, Ended, Document, ended_leaves, bom_leaves, text_of}
 use Rattle.keep_meaning.specs.Fact.{Fact, table, is_value_fact}
 use Rattle.keep_path.specs.Path.{Part, key, index}
-use Rattle.keep_meaning.specs.Marks.{MentionKind, through, past, define, element as kinds_element, dotted, value, begun, passed, item, Mention, below, fact_of, Reading, start, entered_path, passing_mentions, header_prefixes}
+use Rattle.keep_meaning.specs.Marks.{MentionKind, through, past, define, dotted, value, begun, passed, item, Mention, below, fact_of, Reading, start, entered_path, passing_mentions, header_prefixes}
 use Rattle.keep_meaning.specs.Meaning.{keys_of, body_fact, valued_mentions, keyed_mentions, entry_mentions, entries_mentions, step, keyval_mentions, line_mentions, after_line, lines_mentions, line_of, mentions_in}
 use Rattle.keep_meaning.specs.Nodes.{is_at, kinds_at, fact_at, first_of}
 use Rattle.keep_edit_spec.specs.Look.{strip}
@@ -64,11 +64,7 @@ stated_alone (value g) f e h = refl
 stated_alone (item g) f e h = refl
 stated_alone define f e h = let t : f ≡ table = cc in let k : is_value_fact table ≡ true = ap is_value_fact (sym t) ∙ h in absurd cc
 stated_alone begun f e h = let t : f ≡ table = cc in let k : is_value_fact table ≡ true = ap is_value_fact (sym t) ∙ h in absurd cc
-stated_alone through f e h = absurd cc
-stated_alone past f e h = absurd cc
-stated_alone kinds_element f e h = absurd cc
-stated_alone dotted f e h = absurd cc
-stated_alone passed f e h = absurd cc
+stated_alone other f e h = absurd cc
 
 pub alone_of_fact : (path : List Part) (ms : List Mention) (f : Fact) → fact_at path ms ≡ Some f → is_value_fact f ≡ true → SomeOf (IsAloneAt path) ms
 alone_of_fact path [] f e h = absurd cc

@@ -19,7 +19,7 @@ use Rattle.keep_types.specs.declared.syntax.ValueInfo.{ValueInfo}
 use Rattle.keep_syntax.specs.Tree.{Written, Name, Body, Entries, none, entry, Value, Content, blank, keyval, header, element, Line, Ended, Document, name_leaves, named_leaves, opening, closing, comma_leaves, entries_leaves, value_leaves, content_leaves, text_of, text, value_text}
 use Rattle.keep_syntax.specs.Grammar.{Place, place_in, AreEntries, IsValue, IsContent, IsLine, IsEnded, IsDocument}
 use Rattle.keep_syntax.specs.Numbered as syntax
-use Rattle.keep_syntax.specs.Numbered.{width, value_start, value_end, key_count, name_count, leaf_of, info, nested_of, rest_of, entries_values, content_start, line_start, content_values, line_values, over_lines, next_line, first_line}
+use Rattle.keep_syntax.specs.Numbered.{width, value_start, value_end, key_count, name_count, leaf_of, nested_of, rest_of, entries_values, content_start, line_start, content_values, line_values, over_lines, next_line, first_line}
 use Rattle.keep_meaning.specs.Fact.{Fact}
 use Rattle.keep_path.specs.Path.{Part, key, index}
 use Rattle.keep_meaning.specs.Marks.{MentionKind, through, past, define, element as kinds_element, value, begun, passed, item, header as header_of, element_header, Mention, below, fact_of, Reading, elements_of, entered_path, passing_mentions, header_prefixes, header_path, statement_mentions, start}

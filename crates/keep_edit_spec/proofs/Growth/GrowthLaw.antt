@@ -1,9 +1,9 @@
 -- The text gets longer by an edit by no more than what the edit gives, and twelve bytes.
-use Rattle.std.proofs.Common.{◌≡◌, ℕ, zero, suc, ◌+◌, ◌≤◌, Bool, true, false, cond, List, [], ◌∷◌, ◌++◌, length, map, drop, refl, ap, subst, length-append, arith, Option, Some, None}
+use Rattle.std.proofs.Common.{◌≡◌, ℕ, zero, suc, ◌+◌, ◌≤◌, Bool, true, false, cond, List, [], ◌∷◌, ◌++◌, length, map, drop, ap, subst, length-append, arith, Option, Some, None}
 use Rattle.std.specs.Prelude.{codes}
 use Rattle.std.specs.List.{list_any}
 use Rattle.keep_types.specs.declared.leaf.Profile.{Profile}
-use Rattle.keep_syntax.specs.Tree.{Written, Gap, Name, Body, scalar, array, inline, Entries, none, entry, blank, Line, Ended, Document, text_of, text, value_text}
+use Rattle.keep_syntax.specs.Tree.{Gap, Name, Body, scalar, array, inline, Entries, none, entry, Line, Ended, Document, text_of, text, value_text}
 use Rattle.keep_syntax.specs.Grammar.{IsDocument}
 use Rattle.keep_path.specs.Path.{Part, key, same_path}
 use Rattle.keep_path.specs.PathText.{encoded_path}
@@ -13,17 +13,18 @@ use Rattle.keep_meaning.specs.Rules.{ObeysRules}
 use Rattle.keep_meaning.specs.Meaning.{step, lines, mentions_in}
 use Rattle.keep_edit_spec.specs.Changed.{Changed}
 use Rattle.keep_edit_spec.specs.Values.{prefix_ws, entry_prefix, taken_first, taken_only, taken_last, is_last_named, take_out, removal, preserved_gap, is_comment_leaf}
-use Rattle.keep_edit_spec.specs.Lines.{in_lines, last_line, drop_prefix, drop_lines, begins, body_length, content_text}
+use Rattle.keep_edit_spec.specs.Lines.{in_lines, last_line, drop_lines, begins, body_length}
 use Rattle.keep_edit_spec.specs.Edits.{Edit, set, insert, rename, remove, append_table, append_element, nested, without_lines, clear_line, is_own, change_remove, change}
 use Rattle.keep_edit_spec.specs.Refusals.{refusal}
 use Rattle.keep_edit_spec.specs.Laws.{given_size}
 use Rattle.keep_edit_spec.proofs.Common.Texts.{EachIs}
-use Rattle.keep_edit_spec.proofs.Common.LineTexts.{change-is}
+use Rattle.keep_edit_spec.proofs.Common.LineTexts.{change-is, clear_cases}
 use Rattle.keep_edit_spec.proofs.Common.Marks.{rules_of_document}
 use Rattle.keep_edit_spec.proofs.Set.SetIsLawful.{set_growth}
 use Rattle.keep_edit_spec.proofs.Growth.Growth.{GrowsBy, grows_within, grows_or_else, longer_text, IsBound, grows_lines, grows_document, grows_nested}
 use Rattle.keep_edit_spec.proofs.Growth.GrowthOfEdits.{insert_grows, rename_grows, append_table_grows, append_element_grows}
 use Rattle.keep_edit_spec.proofs.Growth.NewlineLength.{newline_short}
+use Rattle.keep_edit_spec.proofs.Remove.RemoveLinePlace.{drop_new}
 
 -- ---- remove
 
@@ -72,39 +73,16 @@ removal_bound = record { grows = λ more v. by more v.body v.nested; falls = λ 
     by more (array first) es = grows_within 0 (λ r. record { body = array r.gap; nested = r.entries }) (codes "[") (codes "]") (take_out more 0 first es) (take_out_grows more 0 first es)
     by more (inline first) es = grows_within 0 (λ r. record { body = inline r.gap; nested = r.entries }) (codes "{") (codes "}") (take_out more 0 first es) (take_out_grows more 0 first es)
 
-prefix_gives : (n : ℕ) (es : List Ended) (last : Line) → (drop_prefix n es last).new ≡ []
-prefix_gives zero [] last = refl
-prefix_gives (suc m) [] last = refl
-prefix_gives zero (e ∷ es) last = refl
-prefix_gives (suc m) (e ∷ es) last = prefix_gives m es last
-
 lines_give : (i n : ℕ) (es : List Ended) (last : Line) → (drop_lines i n es last).new ≡ []
-lines_give i n [] last = prefix_gives n [] last
-lines_give zero n (e ∷ es) last = prefix_gives n (e ∷ es) last
+lines_give i n [] last = drop_new n [] last
+lines_give zero n (e ∷ es) last = drop_new n (e ∷ es) last
 lines_give (suc j) n (e ∷ es) last = lines_give j n es last
 
 lines_grow : (s : Document) (i n : ℕ) → GrowsBy 0 (without_lines s i n)
 lines_grow s i n = grows_document 0 s (Some (drop_lines i n s.ended s.last)) (omega (arith, ap (λ (l : List ℕ). length l) (lines_give i n s.ended s.last)))
 
 clear_grows : (path : List Part) (r : Reading) (l : Line) → GrowsBy 0 (clear_line path r l)
-clear_grows path r l = by l.comment (is_own path r l.content)
-  where
-    by : (o : Option Written) (b : Bool) → GrowsBy {A = Line} 0 (elim o [
-      | None ↦ None
-      | Some c ↦ elim b [
-        | false ↦ None
-        | true ↦ Some (record {
-          to = record { before = l.before; content = blank; after = []; comment = Some c };
-          before = text_of l.before;
-          old = content_text l.content ++ text_of l.after;
-          new = [];
-          after = c.text;
-        })
-      ]
-    ])
-    by None b = tt
-    by (Some c) false = tt
-    by (Some c) true = omega arith
+clear_grows path r l = clear_cases (λ (o : Option (Changed Line)). GrowsBy 0 o) path r l tt (λ c e own. omega arith)
 
 number_grows : (f : ℕ → Option (Changed Document)) → ((i : ℕ) → GrowsBy 0 (f i)) → (o : Option ℕ) → GrowsBy 0 (elim o [ None ↦ None | Some i ↦ f i ])
 number_grows f h None = tt

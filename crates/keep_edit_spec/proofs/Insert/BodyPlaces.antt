@@ -5,7 +5,7 @@
 -- statements is that of the node.
 --
 -- Theorems: `root_end`, `headed_at`, `through_at`.
-use Rattle.std.proofs.Common.{◌≡◌, ℕ, zero, suc, ◌+◌, ◌<◌, true, false, List, [], ◌∷◌, ◌++◌, length, map, drop, refl, sym, ap, subst, ◌∙◌, length-append, arith, Option, Some, None, inl, inr, drop_at}
+use Rattle.std.proofs.Common.{◌≡◌, ℕ, zero, suc, ◌+◌, ◌<◌, true, false, List, [], ◌∷◌, ◌++◌, length, map, take, drop, refl, sym, ap, subst, ◌∙◌, length-append, arith, Option, Some, None, inl, inr, drop_at}
 use Rattle.std.proofs.lemmas.Bool.{and_parts}
 use Rattle.keep_types.specs.declared.syntax.Statement.{Statement}
 use Rattle.keep_types.specs.declared.syntax.StatementKind.{StatementKind}
@@ -16,20 +16,22 @@ use Rattle.keep_syntax.specs.Numbered.{Count, key_count, line_statements, conten
 use Rattle.keep_syntax.proofs.Shared.{over_ended, after_lines-statements}
 use Rattle.keep_path.specs.Path.{Part, same_path}
 use Rattle.keep_meaning.specs.Marks as marks_of
-use Rattle.keep_meaning.specs.Marks.{define, begun, Mention, Reading, start, below, statement_mentions, next_reading, header_path}
+use Rattle.keep_meaning.specs.Marks.{Mention, Reading, start, below, statement_mentions, next_reading}
 use Rattle.keep_meaning.specs.Meaning.{keys_of, keyval_mentions, statement_of, line_mentions, after_line, lines_mentions, reading_after_lines, line_of, lines}
-use Rattle.keep_meaning.specs.Counts.{numbered_in}
+use Rattle.keep_meaning.specs.Counts.{numbered_in, statements_in}
 use Rattle.keep_meaning.specs.Nodes.{has, numbered_at, last_number, statement_number, is_through}
-use Rattle.keep_edit_spec.specs.Insertion.{section_end}
+use Rattle.keep_edit_spec.specs.Insertion.{next_statement, section_end}
 use Rattle.keep_edit_spec.specs.Lines.{last_line, begins, leads_through, is_header, body_length, ended_text, body_end as line_end}
 use Rattle.keep_edit_spec.specs.Removal.{body_end}
 use Rattle.keep_edit_spec.proofs.Common.Runs.{AllOf, SomeOf, same_path-sound}
 use Rattle.keep_edit_spec.proofs.Common.Doubles.{IsMentioned, has_some, some_has}
+use Rattle.keep_edit_spec.proofs.Common.LineStatements.{statements_of}
 use Rattle.keep_edit_spec.proofs.Common.RemoveThere.{some_here, some_later}
 use Rattle.keep_edit_spec.proofs.Common.ValueThere.{IsSome, some_cases}
 use Rattle.keep_edit_spec.proofs.Remove.KeyvalMentions.{mentions_keyval, mentioned_below}
 use Rattle.keep_edit_spec.proofs.Remove.RemoveLinePlace.{head_line, tail_lines, head_text, over_tail, over_split, over_head, lines_split, prefix_text, IsPageLine, page_line}
 use Rattle.keep_edit_spec.proofs.Remove.RemoveSectionPlace.{IsHeaded, IsHeaderLine, after_length, body_by, body_ends, header_line, line_number, none_some, tail_ends}
+use Rattle.keep_edit_spec.proofs.Insert.BodyStatements.{header_counted}
 use Rattle.keep_edit_spec.proofs.Insert.LinesPut.{prefix_of, bom_width, line_begins, prefix_none, prefix_past}
 use Rattle.keep_edit_spec.proofs.Insert.LineBefore.{mentions_something, IsLineBefore, body_before}
 
@@ -63,11 +65,13 @@ head (element b k a) h = record { kind = kind.Element; keys = key_count k; state
 abbrev pub number_at : Document → List Ended → ℕ
 number_at s pre = (after_lines (first_line s) pre).statements
 
--- A line with a header: its body ends where the line with this number begins, after a line that says something.
+-- A line with a header: its body ends where the line with this number begins, after a line that says something. The
+-- statements before that line are those up to the last keyval of the body.
 pub record IsBodyBefore (s : Document) (number n : ℕ) : Type 0 where
   pub within : number < length (syntax.statements s)
   pub ends : section_end (drop number (syntax.statements s)) ≡ line_begins s n
   pub before : IsLineBefore s n
+  pub counted : statements_of (take n (lines s)) ≡ take (next_statement (Some number) (syntax.statements s)) (statements_in s)
 
 line_split : (s : Document) (pre rest : List Ended) → s.ended ≡ pre ++ rest → drop (suc (length pre)) (lines s) ≡ tail_lines rest s.last
 line_split s pre rest was =
@@ -100,6 +104,8 @@ body_at s pre rest i was number is =
           ∙ omega (arith, prefix_text s pre, ap (λ (t : List ℕ). length t) far, length-append (ended_text pre) (prefix_of (suc m) rest s.last))
           ∙ ap (line_begins s) (sym same);
       before = subst (IsLineBefore s) (sym same) (body_before s pre rest i was number h.mentions_some);
+      counted = ap (λ (k : ℕ). statements_of (take k (lines s))) same
+          ∙ ap (λ (k : ℕ). statements_of (take (suc k + m) (lines s))) number ∙ header_counted s pre rest was h.stated h.tells st all;
     }
 
 -- ---- the last header that names the path

@@ -26,7 +26,7 @@ use Rattle.keep_edit_spec.specs.Values.{put_after, put_named}
 use Rattle.keep_edit_spec.specs.Edits.{name_with}
 use Rattle.keep_edit_spec.specs.Refusals.{has_value}
 use Rattle.keep_edit_spec.proofs.Common.Runs.{AllOf, SomeOf, same_path-sound}
-use Rattle.keep_edit_spec.proofs.Common.ValueThere.{IsSome, some_cases}
+use Rattle.keep_edit_spec.proofs.Common.ValueThere.{some_cases}
 use Rattle.keep_edit_spec.proofs.Common.ValueNumber.{NoneAt, number_of_last}
 use Rattle.keep_edit_spec.proofs.Common.SetDocument.{cancel}
 use Rattle.keep_edit_spec.proofs.Common.Stops.{stops, keyed_stops}
@@ -40,6 +40,7 @@ use Rattle.keep_types.proofs.Shared.{one_of_two}
 use Rattle.keep_edit_spec.proofs.Insert.EntryPlaces.{own_of}
 use Rattle.keep_edit_spec.proofs.Insert.EntryThere.{infos_before, mentioned_before, here_there, mentioned_there, count_there}
 use Rattle.keep_edit_spec.proofs.Insert.BracePlaces.{IsPutAfter, IsKeyvalFound, rest, begin, RowOutcome, IsAfterKeyval, Placed, keyval_placed}
+use Rattle.keep_edit_spec.proofs.Insert.HolderThere.{never_some}
 
 -- ---- the last stop of a dotted key
 
@@ -73,10 +74,6 @@ longer_never p (m ∷ ms) h (inl e) = h.0 (cancel p m.path [] (e ∙ sym (append
     append_nil [] = refl
     append_nil (x ∷ q) = ap (λ (l : List Part). x ∷ l) (append_nil q)
 longer_never p (m ∷ ms) h (inr s) = longer_never p ms h.1 s
-
-never_some : {A : Type 0} (o : Option A) → o ≡ None → IsSome o → ⊥
-never_some None e s = s
-never_some (Some x) e s = absurd cc
 
 -- ---- the keyval that continues from the table
 

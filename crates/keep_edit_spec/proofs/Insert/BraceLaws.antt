@@ -9,7 +9,7 @@ use Rattle.keep_path.specs.Path.{Part, key}
 use Rattle.keep_meaning.specs.Counts.{is_value, numbered_in}
 use Rattle.keep_meaning.specs.Nodes.{numbered_at, last_number, value_number}
 use Rattle.keep_edit_spec.specs.Look.{keys_in}
-use Rattle.keep_edit_spec.specs.Changed.{within, or_else}
+use Rattle.keep_edit_spec.specs.Changed.{within}
 use Rattle.keep_edit_spec.specs.Values.{put_after, put_named, entry_prefix}
 use Rattle.keep_edit_spec.specs.Edits.{insert, name_with}
 use Rattle.keep_edit_spec.specs.Insertion.{in_empty, last_keyval}
@@ -22,19 +22,16 @@ use Rattle.keep_edit_spec.proofs.Insert.EntryThere.{infos_before, here_there}
 use Rattle.keep_edit_spec.proofs.Insert.LineBefore.{IsLowPlace}
 use Rattle.keep_edit_spec.proofs.Insert.LastKeyval.{last_none, entry_last}
 use Rattle.keep_edit_spec.proofs.Insert.BracePlaces.{IsPutAfter, IsKeyvalFound, begin, RowOutcome, Placed, keyval_placed}
+use Rattle.keep_edit_spec.proofs.Insert.PutIn.{either_none}
 
 abbrev stated_number : List Part → Document → Option ℕ
 stated_number path s = last_number is_value value_number (numbered_at path (numbered_in s))
-
-either_some : {A : Type 0} (o : Option A) (c : A) → or_else o (Some c) ≡ None → ⊥
-either_some None c e = absurd cc
-either_some (Some d) c e = absurd cc
 
 -- after the last entry there is none
 rest_none : (named : Option Name) (new : Value) (es : Entries) → put_after [] named new es ≡ None → es ≡ none
 rest_none named new none e = refl
 rest_none named new (entry name body nested after comma more) e =
-    absurd (either_some (within (entry name body nested after comma) (entry_prefix name body nested ++ (text_of after ++ text_of (comma_leaves comma))) [] (put_after [] named new more)) _ e)
+    absurd (either_none (within (entry name body nested after comma) (entry_prefix name body nested ++ (text_of after ++ text_of (comma_leaves comma))) [] (put_after [] named new more)) _ e)
 
 -- ---- in the braces of the holder itself
 

@@ -24,11 +24,11 @@ use Rattle.keep_edit_spec.specs.Look.{strip, is_table_fact, is_table, keys_in}
 use Rattle.keep_edit_spec.specs.Refusals.{has_value}
 use Rattle.keep_edit_spec.specs.Values.{put_named}
 use Rattle.keep_edit_spec.specs.Edits.{name_with}
-use Rattle.keep_edit_spec.proofs.Common.Runs.{AllOf, SomeOf, Rules, IsDisjoint, kinds_at-disjoint, strip-append, strip-sound}
+use Rattle.keep_edit_spec.proofs.Common.Runs.{AllOf, SomeOf, Rules, IsDisjoint, kinds_at-disjoint, strip-append, strip-sound, none_or_some}
 use Rattle.keep_edit_spec.proofs.Common.SetLaw.{EachTo}
 use Rattle.keep_edit_spec.proofs.Common.LineLaws.{within_first, beyond, prefix_cases}
 use Rattle.keep_edit_spec.proofs.Common.ValueThere.{IsSome}
-use Rattle.keep_edit_spec.proofs.Insert.Gives.{IsNamedAt, Holds, none_or_some}
+use Rattle.keep_edit_spec.proofs.Insert.Gives.{IsNamedAt, Holds}
 use Rattle.keep_edit_spec.proofs.Insert.DoneThere.{IsApt, IsDoneThere, done_there}
 use Rattle.keep_edit_spec.proofs.Insert.PutValue.{LeadsPast, IsNamedPut, named_put, some_named, valid_named, OneDeeper, named_depth}
 use Rattle.keep_edit_spec.proofs.Insert.NamedEntries.{SomeEntry, each_map, some_both, IsNear, at_or_under, further, entries_near, IsStated, entries_stated, none_in_entries, IsLonger, past_entry, past_named}
@@ -80,7 +80,7 @@ pub record IsBracesPlace (s : Document) (at dots : List Part) (k : List ℕ) : T
   pub table : is_table (at ++ dots) (mentions_in s) ≡ true
   pub named : SomeOf (IsNamedAt (at ++ dots)) (mentions_in s)
 
-take_all : (a b : List Part) → take (length a) (a ++ b) ≡ a
+pub take_all : (a b : List Part) → take (length a) (a ++ b) ≡ a
 take_all [] [] = refl
 take_all [] (x ∷ b) = refl
 take_all (p ∷ a) b = ap (λ (l : List Part). p ∷ l) (take_all a b)

@@ -29,7 +29,7 @@ use Rattle.keep_edit_spec.proofs.Common.SetValid.{IsActValid, IsPage, valid_line
 use Rattle.keep_edit_spec.proofs.Common.SetDocument.{valued_facts, rules_outside}
 use Rattle.keep_edit_spec.proofs.Common.ValueThere.{IsSome, the_some, some_cases, some_nested, CanBeDone, alone_of_fact}
 use Rattle.keep_edit_spec.proofs.Common.DoneAtValue as at_value
-use Rattle.keep_edit_spec.proofs.Common.DoneAtValue.{EachOf, IsAtEnd}
+use Rattle.keep_edit_spec.proofs.Common.DoneAtValue.{EachOf}
 use Rattle.keep_edit_spec.proofs.Common.DoneInDocument.{done_nested}
 use Rattle.keep_edit_spec.proofs.Common.InValue.{Does, IsDone, IsDoneAt, tagged, done_document, there_before, there_now, elsewhere_done, rules_there, rules_done}
 use Rattle.keep_edit_spec.proofs.Insert.Gives.{Gives, IsNamedAt, Holds, named_beyond, never_named}

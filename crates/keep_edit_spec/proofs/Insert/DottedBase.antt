@@ -9,7 +9,7 @@ use Rattle.std.proofs.Common.{◌≡◌, ℕ, ◌+◌, true, false, List, [], �
 use Rattle.keep_syntax.specs.Tree.{Written, Gap, Name, Entries, none, entry, Value, Content, blank, keyval, header, element, Line}
 use Rattle.keep_path.specs.Path.{Part, key, index}
 use Rattle.keep_meaning.specs.Marks as marks_of
-use Rattle.keep_meaning.specs.Marks.{MentionKind, through, past, define, dotted, value, begun, passed, item, Mention, Reading, start, below, header_path, header_prefixes}
+use Rattle.keep_meaning.specs.Marks.{MentionKind, define, value, begun, item, Mention, Reading, below, header_prefixes}
 use Rattle.keep_meaning.specs.Meaning.{keys_of, body_fact, valued_mentions, keyed_mentions, entry_mentions, entries_mentions, keyval_mentions, line_mentions, after_line, lines_mentions}
 use Rattle.keep_meaning.specs.Fact.{Fact}
 use Rattle.keep_meaning.specs.Counts.{is_value}

@@ -1,4 +1,11 @@
 -- Where an entry is put in among entries: before one of them, or after the last that goes past a path.
+--
+-- `IsEntryAt` gives the entry that the place is beside: what is said before it, which values are stored before it, and
+-- where its text begins. An entry is the first, or it is one of the later ones, and then what is stored before it has
+-- one entry more (`at_first`, `at_later`). With these the place before an item is the start of that item (`before_at`),
+-- and the place after an entry is the end of its value (`after_at`), both by induction over the entries.
+--
+-- Theorems: `before_at` and `after_at`.
 use Rattle.std.proofs.Common.{◌≡◌, ℕ, zero, suc, ◌+◌, Bool, true, false, List, [], ◌∷◌, ◌++◌, length, refl, sym, ap, ◌∙◌, append_assoc, length-append, arith, Option, Some, None}
 use Rattle.std.specs.Prelude.{codes}
 use Rattle.std.proofs.lemmas.List.{append-nil}
@@ -18,7 +25,7 @@ use Rattle.keep_edit_spec.specs.Values.{entries_text, entry_prefix, entry_back, 
 use Rattle.keep_edit_spec.proofs.Common.DoneAtValue.{EachOf, of_within}
 use Rattle.keep_edit_spec.proofs.Common.FoundValue.{valued-entry, prefix_ends}
 use Rattle.keep_edit_spec.proofs.Remove.RemoveEntry.{prefix_long}
-use Rattle.keep_edit_spec.proofs.Insert.PutIn.{size}
+use Rattle.keep_edit_spec.proofs.Insert.PutIn.{size, within_none}
 use Rattle.keep_edit_spec.proofs.Insert.NamedEntries.{EachEntry}
 
 -- One of these entries: what is said of it, and its value, with those before and after.
@@ -134,10 +141,6 @@ pub record IsAfterEntry (P : ℕ → Option Name → Type 0) (prefix : List Part
 of_either : {A : Type 0} (P : Changed A → Type 0) (o p : Option (Changed A)) → EachOf P o → (o ≡ None → EachOf P p) → EachOf P (or_else o p)
 of_either P None p h g = g refl
 of_either P (Some c) p h g = h
-
-within_none : {A B : Type 0} (outer : A → B) (left right : List ℕ) (o : Option (Changed A)) → within outer left right o ≡ None → o ≡ None
-within_none outer left right None e = refl
-within_none outer left right (Some c) e = absurd cc
 
 pub after_at : (P : ℕ → Option Name → Type 0) (prefix : List Part) (named : Option Name) (new : Value) (k : ℕ) (p : Start) (es : Entries) → EachOf (IsAfterEntry P prefix named new k p es) (put_after prefix named new es)
 unfolding at_first at_later

@@ -8,7 +8,7 @@
 -- (`gives_value-by`).
 --
 -- Theorems: `gives_value` and `gives_entries`.
-use Rattle.std.proofs.Common.{◌≡◌, ℕ, ◌+◌, true, List, [], ◌∷◌, ◌++◌, map, refl, sym, ap, subst, ◌∙◌, append_assoc, Option, Some, None, ◌⊎◌, inl, inr}
+use Rattle.std.proofs.Common.{◌≡◌, ℕ, ◌+◌, true, List, [], ◌∷◌, ◌++◌, map, refl, sym, ap, subst, ◌∙◌, append_assoc, Option, Some, None, inl, inr}
 use Rattle.std.specs.Prelude.{⊤}
 use Rattle.std.specs.List.{filter_map}
 use Rattle.std.proofs.lemmas.List.{append-nil}
@@ -23,7 +23,7 @@ use Rattle.keep_meaning.specs.Nodes.{fact_at, first_of}
 use Rattle.keep_edit_spec.specs.Look.{strip}
 use Rattle.keep_edit_spec.specs.Changed.{Changed, within, or_else}
 use Rattle.keep_edit_spec.specs.Values.{Act, entry_prefix, entry_back, in_entries}
-use Rattle.keep_edit_spec.proofs.Common.Runs.{AllOf, SomeOf, pairs_split, meet, some_right, Allowed, Rules, IsDisjoint, strip-sound, strip-append, kinds_at-under}
+use Rattle.keep_edit_spec.proofs.Common.Runs.{AllOf, SomeOf, pairs_split, meet, some_right, Allowed, Rules, IsDisjoint, strip-sound, strip-append, kinds_at-under, none_or_some}
 use Rattle.keep_edit_spec.proofs.Common.SetLaw.{IsAloneAt, keyed_split, keyed_disjoint, rules_named, disjoint_from_entry, no_entry}
 use Rattle.keep_edit_spec.proofs.Common.SetDocument.{cancel, under_below}
 use Rattle.keep_edit_spec.proofs.Common.LineLaws.{within_first, beyond, prefix_cases}
@@ -44,10 +44,6 @@ pub gives_either : {A : Type 0} (o o' p p' : Option (Changed A)) → Gives o o' 
 gives_either (Some c) o' p p' h g f = ap (λ x. or_else x p') h
 gives_either None o' None p' h g f = tt
 gives_either None o' (Some d) p' h g f = ap (λ x. or_else x p') (f refl tt) ∙ g
-
-pub none_or_some : (o : Option (List Part)) → (o ≡ None) ⊎ ((r : List Part) × (o ≡ Some r))
-none_or_some None = inl refl
-none_or_some (Some r) = inr (r, refl)
 
 pub disjoint_not : (p q x : List Part) → strip p q ≡ None → q ≡ p ++ x → ⊥
 disjoint_not p q x h e = let k : None ≡ Some x = sym h ∙ ap (strip p) e ∙ strip-append p x in cc

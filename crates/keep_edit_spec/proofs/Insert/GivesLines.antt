@@ -1,4 +1,11 @@
 -- What an act does beyond a path where there is a value is what is done at that value: in a document.
+--
+-- The value is that of one keyval: two keyvals whose paths begin one another would both be alone at a path, against the
+-- rules (`two_keyvals`). So an act that goes on from the path finds this line, and in all lines before and after it
+-- nothing. `Gives` of the line's value, which `Gives` shows for entries, is carried to its line and to the lines, by
+-- induction over the lines.
+--
+-- Theorem: `gives_nested`.
 use Rattle.std.proofs.Common.{◌≡◌, ℕ, true, List, [], ◌∷◌, ◌++◌, map, refl, sym, ap, subst, ◌∙◌, append_assoc, Option, Some, None, inl, inr}
 use Rattle.std.specs.List.{AllByRecursion}
 use Rattle.keep_types.specs.declared.leaf.Profile.{Profile}
@@ -14,7 +21,7 @@ use Rattle.keep_edit_spec.specs.Changed.{Changed, within, or_else}
 use Rattle.keep_edit_spec.specs.Values.{Act, in_entries, in_value}
 use Rattle.keep_edit_spec.specs.Lines.{Page, page_text, in_content, in_line, in_lines, with_page}
 use Rattle.keep_edit_spec.specs.Edits.{nested}
-use Rattle.keep_edit_spec.proofs.Common.Runs.{AllOf, SomeOf, some_left, some_right, Rules, IsDisjoint, strip-sound, strip-append}
+use Rattle.keep_edit_spec.proofs.Common.Runs.{AllOf, SomeOf, some_left, some_right, Rules, IsDisjoint, strip-sound, strip-append, none_or_some}
 use Rattle.keep_edit_spec.proofs.Common.SetLaw.{IsAloneAt}
 use Rattle.keep_edit_spec.proofs.Common.SetDocument.{mentions_of, reading_of, keyval_alone, whole_mentions}
 use Rattle.keep_edit_spec.proofs.Common.LineLaws.{within_first, beyond, prefix_cases, lines_mentions-append}
@@ -23,7 +30,7 @@ use Rattle.keep_edit_spec.proofs.Common.InValue.{beside_keyval}
 use Rattle.keep_edit_spec.proofs.Common.ValueThere.{IsSome, some_cases}
 use Rattle.keep_edit_spec.proofs.Common.DoneAtValue.{EachOf, IsAtEnd}
 use Rattle.keep_edit_spec.proofs.Common.DoneInDocument.{IsDoneInLines, done_lines, keyval_facts}
-use Rattle.keep_edit_spec.proofs.Insert.Gives.{Gives, gives_within, gives_either, none_or_some, never_named, never_alone, named_beyond, entry_named, IsNamedAt, Holds, gives_value}
+use Rattle.keep_edit_spec.proofs.Insert.Gives.{Gives, gives_within, gives_either, never_named, never_alone, named_beyond, entry_named, IsNamedAt, Holds, gives_value}
 
 -- ---- two keyvals
 

@@ -1,7 +1,7 @@
 -- What is at a prefix of a path where `insert` puts a value: an array of tables is no value.
 use Rattle.std.proofs.Common.{◌≡◌, true, List, refl}
 use Rattle.keep_path.specs.Path.{Part}
-use Rattle.keep_meaning.specs.Marks.{MentionKind, through, past, define, element, dotted, value, begun, passed, item, Mention}
+use Rattle.keep_meaning.specs.Marks.{MentionKind, element, Mention}
 use Rattle.keep_meaning.specs.Nodes.{has, is_element}
 use Rattle.keep_edit_spec.specs.Look.{is_bracket_at}
 use Rattle.keep_edit_spec.proofs.Common.Runs.{Rules, exclusive, solid}
@@ -11,25 +11,11 @@ use Rattle.keep_edit_spec.proofs.Remove.RemoveRefusal.{IsShared, no_both}
 
 element_solid : (a : MentionKind) → is_element a ≡ true → solid a ≡ true
 element_solid element e = refl
-element_solid through e = absurd cc
-element_solid past e = absurd cc
-element_solid define e = absurd cc
-element_solid dotted e = absurd cc
-element_solid (value f) e = absurd cc
-element_solid begun e = absurd cc
-element_solid passed e = absurd cc
-element_solid (item f) e = absurd cc
+element_solid other e = absurd cc
 
 element_many : (a : MentionKind) → is_element a ≡ true → exclusive a ≡ true → ⊥
 element_many element e g = absurd cc
-element_many through e g = absurd cc
-element_many past e g = absurd cc
-element_many define e g = absurd cc
-element_many dotted e g = absurd cc
-element_many (value f) e g = absurd cc
-element_many begun e g = absurd cc
-element_many passed e g = absurd cc
-element_many (item f) e g = absurd cc
+element_many other e g = absurd cc
 
 shared_element : IsShared is_element
 shared_element = record { firm = element_solid; many = element_many }

@@ -1,9 +1,15 @@
 -- A table that no line begins, passes by dots, or goes through is in a keyval's value.
+--
+-- The table's path is mentioned by some line. By cases of that line and of where in it the mention is made: a header's
+-- last key would begin the path's body, a key on its way would go through it, and a keyval's own key would continue
+-- from it; each of these is excluded. What is left is a keyval whose path the table's path begins with.
+--
+-- Theorem: `holder_keyval`.
 use Rattle.std.proofs.Common.{◌≡◌, ℕ, ◌-◌, ◌<◌, Bool, true, false, List, [], ◌∷◌, ◌++◌, map, refl, sym, ap, subst, ◌∙◌, append_assoc, arith, Option, Some, None, inl, inr}
 use Rattle.std.specs.List.{list_any}
 use Rattle.keep_syntax.specs.Tree.{Written, Gap, Name, Value, Content, blank, keyval, header, element, Line, Document}
 use Rattle.keep_path.specs.Path.{Part, key, index, same_path}
-use Rattle.keep_meaning.specs.Marks.{MentionKind, through, past, define, dotted, value, begun, passed, item, Mention, Reading, start, below, header_path, header_prefixes, passing_mentions, entered_path, elements_of}
+use Rattle.keep_meaning.specs.Marks.{MentionKind, define, value, begun, Mention, Reading, start, below, header_path, header_prefixes, elements_of}
 use Rattle.keep_meaning.specs.Marks as marks_of
 use Rattle.keep_meaning.specs.Meaning.{keys_of, keyed_mentions, valued_mentions, entries_mentions, keyval_mentions, body_fact, line_mentions, lines_mentions, after_line, reading_after_lines, lines, mentions_in}
 use Rattle.keep_meaning.specs.Nodes.{is_at, has, is_through, is_element, is_dotted}
@@ -138,7 +144,7 @@ where_mentioned s h pre before after comment (keyval name v) post was x =
           }))
     ]
 
-never_some : {A : Type 0} (o : Option A) → o ≡ None → IsSome o → ⊥
+pub never_some : {A : Type 0} (o : Option A) → o ≡ None → IsSome o → ⊥
 never_some None e s = s
 never_some (Some x) e s = absurd cc
 

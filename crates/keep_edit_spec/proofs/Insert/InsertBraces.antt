@@ -1,4 +1,11 @@
 -- `insert` of a key into braces: from no refusal there is a change, and the new document is right.
+--
+-- Where no line has to do with the holder (`no_lines`), the holder is in a keyval's value (`HolderThere`), and since it
+-- is a table it is there by braces. The keyval is put after the last entry that goes past the holder's path, or first
+-- in empty braces. What is put into the braces is what `BraceDotted` and `PutIn` say of entries; around them nothing
+-- changes.
+--
+-- Theorem: `insert_braces`.
 use Rattle.std.proofs.Common.{◌≡◌, ℕ, suc, ◌≤◌, Bool, true, false, not, ◌||◌, List, [], ◌∷◌, ◌++◌, length, map, drop, refl, sym, ap, subst, ◌∙◌, append_assoc, arith, Option, Some, None, inl, inr}
 use Rattle.std.specs.List.{list_any}
 use Rattle.std.proofs.lemmas.List.{append-nil}

@@ -1,4 +1,11 @@
 -- `insert` of a keyval after the last line whose dotted key continues from the holder: all that holds of it.
+--
+-- Lines put in after line i leave what is said before them and after them (`mentions_put`), as a keyval does not end a
+-- body. The new key goes by the steps of that line's own key up to the holder, so each mention that it makes on its way
+-- is one that the line makes too (`IsDottedLine.doubles`), and such a double does no harm to the rules. Its first new
+-- key names no node, so the rest is new (`dotted_law`).
+--
+-- Theorems: `dotted_line` and `insert_after_dotted`.
 use Rattle.std.proofs.Common.{◌≡◌, ℕ, suc, ◌≤◌, Bool, true, false, not, ◌&&◌, ◌||◌, List, [], ◌∷◌, ◌++◌, length, map, take, drop, refl, sym, ap, subst, ◌∙◌, append_assoc, length-append, arith, Option, Some, None}
 use Rattle.std.specs.List.{list_any}
 use Rattle.std.proofs.lemmas.List.{map-append, append-nil, take-append-drop, length-map}

@@ -5,7 +5,7 @@ use Rattle.std.proofs.lemmas.Bool.{cases_lt, le-ltb, ltb-false, eqb-true, eq-eqb
 use Rattle.keep_types.specs.declared.leaf.Profile.{Profile}
 use Rattle.keep_syntax.specs.Tree.{Value, Document, value_depth}
 use Rattle.keep_meaning.specs.Fact as fact
-use Rattle.keep_meaning.specs.Fact.{Fact, is_bracket}
+use Rattle.keep_meaning.specs.Fact.{Fact}
 use Rattle.keep_path.specs.Path.{Part, key, index}
 use Rattle.keep_meaning.specs.Marks.{MentionKind, item, Mention, below}
 use Rattle.keep_meaning.specs.Meaning.{body_fact, valued_mentions, entries_mentions, mentions_in, mentions_of_value}

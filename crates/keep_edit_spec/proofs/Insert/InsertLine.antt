@@ -14,7 +14,7 @@ use Rattle.keep_edit_spec.specs.Look.{strip, holder, item_number, keys_in, key_t
 use Rattle.keep_edit_spec.specs.Changed.{Changed}
 use Rattle.keep_edit_spec.specs.Edits.{insert, change, change_insert, insert_line, end_of, at_line, new_keyval, name_with}
 use Rattle.keep_edit_spec.specs.Refusals.{refusal}
-use Rattle.keep_edit_spec.specs.Trees.{IsTreeOf, source, fact_from, has_fact, is_through_alone}
+use Rattle.keep_edit_spec.specs.Trees.{source, fact_from, has_fact, is_through_alone}
 use Rattle.keep_edit_spec.specs.Trees as trees
 use Rattle.keep_edit_spec.proofs.Common.Runs.{AllOf, all_right, Rules, same_path-sound}
 use Rattle.keep_edit_spec.proofs.Common.SetLaw.{EachTo}

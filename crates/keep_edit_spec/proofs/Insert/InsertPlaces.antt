@@ -1,9 +1,10 @@
 -- Where `insert` writes a line, or a section, by the origin of the node of the longest prefix of the new path.
 --
 -- Each law finds the line that `change_insert` looks for from the origin of that node, and puts together where a body ends
--- (`BodyPlaces`) and what new lines are in the text (`LineBefore`).
+-- (`BodyPlaces`) and what new lines are in the text (`LineBefore`). How many statements are before such a line,
+-- `root_ends` and `header_ends` say.
 --
--- Theorems: `root_placed`, `header_placed`, `element_placed`, `through_placed`.
+-- Theorems: `root_ends`, `header_ends`, `root_placed`, `header_placed`, `element_placed`, `through_placed`.
 use Rattle.std.proofs.Common.{◌≡◌, ◌⊎◌, ◌<◌, ℕ, false, arith, List, [], ◌∷◌, ◌++◌, length, map, take, drop, refl, sym, ap, subst, ◌∙◌, Option, Some, None, inl, inr}
 use Rattle.keep_types.proofs.Shared.{one_of_two}
 use Rattle.std.specs.List.{list_any}
@@ -13,19 +14,22 @@ use Rattle.keep_syntax.specs.Grammar.{IsDocument}
 use Rattle.keep_syntax.specs.Numbered as syntax
 use Rattle.keep_path.specs.Path.{Part, key, index}
 use Rattle.keep_types.specs.declared.node.Origin.TheVariants as origin
+use Rattle.keep_meaning.specs.Counts.{statements_in}
 use Rattle.keep_meaning.specs.Marks.{start}
 use Rattle.keep_meaning.specs.Meaning.{lines, mentions_in}
 use Rattle.keep_meaning.specs.Nodes.{statement_number, is_through, is_define, is_begun}
 use Rattle.keep_edit_spec.specs.Changed.{Place}
 use Rattle.keep_edit_spec.specs.Edits.{insert, at_line, end_of, name_with, new_header}
-use Rattle.keep_edit_spec.specs.Insertion.{is_open, line_at, section_at, section_end}
+use Rattle.keep_edit_spec.specs.Insertion.{is_open, line_at, next_statement, section_at, section_end}
 use Rattle.keep_edit_spec.specs.Lines.{newline_of, last_line, begins, leads_dotted, leads_through, body_length, body_end as line_end}
 use Rattle.keep_edit_spec.specs.Look.{holder, is_index, item_number, keys_in}
 use Rattle.keep_edit_spec.specs.Refusals.{refusal}
 use Rattle.keep_edit_spec.specs.Removal.{body_end}
 use Rattle.keep_edit_spec.proofs.Common.LineLaws.{EndsInKey}
+use Rattle.keep_edit_spec.proofs.Common.LineStatements.{statements_of}
 use Rattle.keep_edit_spec.proofs.Common.ValueThere.{the_some}
 use Rattle.keep_edit_spec.proofs.Insert.BodyPlaces.{root_end, IsHeadedAt, headed_at, IsThroughAt, through_at, through_lines}
+use Rattle.keep_edit_spec.proofs.Insert.BodyStatements.{root_counted}
 use Rattle.keep_edit_spec.proofs.Insert.InsertDotted.{dotted_line}
 use Rattle.keep_edit_spec.proofs.Insert.InsertLine.{change_here}
 use Rattle.keep_edit_spec.proofs.Insert.InsertSection.{change_section}
@@ -76,6 +80,30 @@ headed_within a s number h = by (elim h [ inl d ↦ headed_of_header a s number 
         let at : IsHeadedAt a s (line_end i (lines s)) = headed_at a s i found in
         let same : at.number ≡ number = headed_one a s at.number number at.headed headed in
         omega (arith, same, at.body.within)
+
+-- The body at a path ends before this line, and so many statements are before it.
+pub record EndsBefore (s : Document) (a : List Part) (number : ℕ) : Type 0 where
+  pub line : ℕ
+  pub ends : end_of s a ≡ Some line
+  pub counted : statements_of (take line (lines s)) ≡ take number (statements_in s)
+
+pub root_ends : (s : Document) → EndsBefore s [] (next_statement None (syntax.statements s))
+root_ends s = record { line = body_length (lines s); ends = refl; counted = root_counted s }
+
+-- the body of a header that is mentioned
+pub header_ends : (a : List Part) (s : Document) (number : ℕ) → (origin_at a s ≡ origin.Header number) ⊎ (origin_at a s ≡ origin.Element number) → EndsBefore s a (next_statement (Some number) (syntax.statements s))
+header_ends a s number h = by (elim h [ inl d ↦ headed_of_header a s number d | inr b ↦ headed_of_element a s number b ])
+  where
+    by : IsHeaded a s number → EndsBefore s a (next_statement (Some number) (syntax.statements s))
+    by headed =
+        let (i, found) = the_some (last_line (begins a) start (lines s)) (headed_begins a s number headed) in
+        let at : IsHeadedAt a s (line_end i (lines s)) = headed_at a s i found in
+        let same : at.number ≡ number = headed_one a s at.number number at.headed headed in
+        record {
+          line = line_end i (lines s);
+          ends = end_after s a i (λ e. no_root_header s i (subst (λ (x : List Part). last_line (begins x) start (lines s) ≡ Some i) e found)) found;
+          counted = at.body.counted ∙ ap (λ (n : ℕ). take (next_statement (Some n) (syntax.statements s)) (statements_in s)) same;
+        }
 
 -- What the header that goes through a path tells: it is one of the statements, and the path has a key.
 pub record IsThroughHeader (a : List Part) (s : Document) (number : ℕ) : Type 0 where

@@ -1,4 +1,11 @@
 -- `insert` with a new header: from no refusal there is a change, and the new document is right.
+--
+-- A new header is written where the holder's table has no body and headers go through it alone. There each mention at
+-- its path may have a definition after it, which leaves those of headers that go through it: so the path has no fact,
+-- no value and no other origin (`through_alone`). The facts after the edit then come from the new header for the
+-- holder, from the value for the paths under the new key, and from the old document for all others (`source_section`).
+--
+-- Theorem: `insert_section`.
 use Rattle.std.proofs.Common.{◌≡◌, ℕ, Bool, true, false, cond, not, ◌&&◌, ◌||◌, List, [], ◌∷◌, ◌++◌, length, map, drop, refl, sym, ap, subst, ◌∙◌, Option, Some, None, inl, inr}
 use Rattle.std.specs.List.{filter_map, cons_option}
 use Rattle.std.proofs.lemmas.List.Elements.{filter_map-append}
@@ -8,7 +15,7 @@ use Rattle.keep_syntax.specs.Grammar.{IsValue, IsDocument}
 use Rattle.keep_meaning.specs.Fact.{Fact, table}
 use Rattle.keep_path.specs.Path.{Part, key, same_path}
 use Rattle.keep_meaning.specs.Rules.{ObeysRules}
-use Rattle.keep_meaning.specs.Marks.{MentionKind, through, past, define, dotted, value, begun, passed, item, Mention, start, marks, fact_of}
+use Rattle.keep_meaning.specs.Marks.{MentionKind, through, past, define, dotted, passed, Mention, start, marks, fact_of}
 use Rattle.keep_meaning.specs.Marks as marks_of
 use Rattle.keep_meaning.specs.Meaning.{lines, mentions_in, mentions_of_value}
 use Rattle.keep_meaning.specs.Nodes.{kinds_at, first_of, is_at, is_root, fact_at, has, is_define, is_begun, is_dotted}
@@ -17,7 +24,7 @@ use Rattle.keep_edit_spec.specs.Changed.{Changed}
 use Rattle.keep_edit_spec.specs.Lines.{last_line, begins, leads_through, leads_dotted, body_end}
 use Rattle.keep_edit_spec.specs.Edits.{insert, change, change_insert, insert_line, end_of, at_line, new_header, new_keyval, name_with}
 use Rattle.keep_edit_spec.specs.Refusals.{refusal}
-use Rattle.keep_edit_spec.specs.Trees.{source, fact_from, has_fact, is_through_alone}
+use Rattle.keep_edit_spec.specs.Trees.{source, fact_from, is_through_alone}
 use Rattle.keep_edit_spec.specs.Trees as trees
 use Rattle.keep_edit_spec.proofs.Common.Runs.{AllOf, SomeOf, Rules, kinds_allow, all_left, same_path-sound}
 use Rattle.keep_edit_spec.proofs.Common.LineTexts.{change-is}
@@ -42,13 +49,10 @@ use Rattle.keep_edit_spec.proofs.Insert.SectionPlace.{Lets, IsSection, section_a
 plain_fact : (a : MentionKind) → kinds_allow a define ≡ true → is_begun a ≡ false → fact_of a ≡ None
 plain_fact through h b = refl
 plain_fact past h b = refl
-plain_fact define h b = absurd cc
 plain_fact marks_of.element h b = refl
 plain_fact dotted h b = refl
-plain_fact (value f) h b = absurd cc
-plain_fact begun h b = absurd cc
 plain_fact passed h b = refl
-plain_fact (item f) h b = absurd cc
+plain_fact other h b = absurd cc
 
 no_fact : (a : List Part) (ms : List Mention) → AllOf (Lets a) ms → AllOf (NotBegun a) ms → fact_at a ms ≡ None
 no_fact a [] h g = refl
@@ -74,25 +78,11 @@ never_mentioned is a ms never h g = by (has is a ms) refl
 
 not_defined : (a : MentionKind) → is_define a ≡ true → kinds_allow a define ≡ true → ⊥
 not_defined define e h = absurd cc
-not_defined through e h = absurd cc
-not_defined past e h = absurd cc
-not_defined marks_of.element e h = absurd cc
-not_defined dotted e h = absurd cc
-not_defined (value f) e h = absurd cc
-not_defined begun e h = absurd cc
-not_defined passed e h = absurd cc
-not_defined (item f) e h = absurd cc
+not_defined other e h = absurd cc
 
 not_dotted : (a : MentionKind) → is_dotted a ≡ true → kinds_allow a define ≡ true → ⊥
 not_dotted dotted e h = absurd cc
-not_dotted define e h = absurd cc
-not_dotted through e h = absurd cc
-not_dotted past e h = absurd cc
-not_dotted marks_of.element e h = absurd cc
-not_dotted (value f) e h = absurd cc
-not_dotted begun e h = absurd cc
-not_dotted passed e h = absurd cc
-not_dotted (item f) e h = absurd cc
+not_dotted other e h = absurd cc
 
 alone_by : (r d b o : Bool) (f : Option Fact) → r ≡ false → d ≡ false → b ≡ false → o ≡ false → f ≡ None → (not r && not ((d || b) || (o || (elim f [ None ↦ false | Some x ↦ true ])))) ≡ true
 alone_by false false false false None h1 h2 h3 h4 h5 = refl

@@ -1,4 +1,11 @@
 -- An array has as many items as are counted of its path.
+--
+-- An item of a path is a mention one index further. Of the entries of the array, each makes one such mention, and what
+-- is in its value is two or more steps further (`longer_entries`), so nothing else is counted: no more than the array's
+-- entries (`items_few`), and no fewer (`items_many`), by induction over them. No other line of the document has a path
+-- at or under the array's.
+--
+-- Theorems: `item_count_few` and `item_count_many`.
 use Rattle.std.proofs.Common.{◌≡◌, ℕ, ◌+◌, ◌≤◌, Bool, true, false, cond, List, [], ◌∷◌, ◌++◌, map, refl, sym, ap, ◌∙◌, arith, Option, Some, None}
 use Rattle.std.specs.List.{count_by}
 use Rattle.std.proofs.lemmas.List.{map-append}

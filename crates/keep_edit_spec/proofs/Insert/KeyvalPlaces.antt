@@ -26,6 +26,7 @@ use Rattle.keep_edit_spec.proofs.Insert.NewPath.{IsNewPath, drop_prefix_parts}
 use Rattle.keep_edit_spec.proofs.Insert.BracePlaces.{IsPutAfter, fresh_path, keyval_found}
 use Rattle.keep_edit_spec.proofs.Insert.BraceLaws.{into_empty, after_last}
 use Rattle.keep_edit_spec.proofs.Insert.BraceDotted.{after_dotted}
+use Rattle.keep_edit_spec.proofs.Insert.BracesPlace.{take_all}
 
 -- the number of the value at a path
 abbrev stated_number : List Part → Document → Option ℕ
@@ -35,11 +36,6 @@ stated_number path s = last_number is_value value_number (numbered_at path (numb
 pub record IsInlineLaw (path : List Part) (s : Document) (new : Value) (v : ℕ) (own : ValueInfo) : Type 0 where
   pub empty : last_keyval (suc v) own.depth (drop (suc v) (syntax.values s)) ≡ None → IsLowPlace s (insert path new) (in_empty own (keys_in (drop (length (holder path (mentions_in s))) path)) new)
   pub after : (w : ℕ) → last_keyval (suc v) own.depth (drop (suc v) (syntax.values s)) ≡ Some w → IsPutAfter path s new (keys_in (drop (length (holder path (mentions_in s))) path)) w
-
-take_prefix : (a b : List Part) → take (length a) (a ++ b) ≡ a
-take_prefix [] [] = refl
-take_prefix [] (x ∷ b) = refl
-take_prefix (p ∷ a) b = ap (λ (l : List Part). p ∷ l) (take_prefix a b)
 
 module _ (profile : Profile) (limit : ℕ) (s : Document) (path : List Part) (new : Value) (editable : IsEditable profile limit s) (given : IsGivenValue Wide new) (utf8 : AllByRecursion IsUtf8 (keys_in path))
     (no_item : item_number path (mentions_in s) ≡ None) (allowed : refusal profile limit s (insert path new) ≡ None) where
@@ -86,7 +82,7 @@ module _ (profile : Profile) (limit : ℕ) (s : Document) (path : List Part) (ne
           let free : (p : Part) (ps r : List Part) → d ∷ ds ≡ (p ∷ ps) ++ r → has_value (at ++ p ∷ ps) (mentions_in s) ≡ false = λ p ps r f.
           (let split : a ≡ (at ++ p ∷ ps) ++ r = whole ∙ ap (λ (l : List Part). at ++ l) f ∙ sym (append_assoc at (p ∷ ps) r) in
           let n : ℕ = length (at ++ p ∷ ps) in
-          let prefix : take n a ≡ at ++ p ∷ ps = ap (take n) split ∙ take_prefix (at ++ p ∷ ps) r in
+          let prefix : take n a ≡ at ++ p ∷ ps = ap (take n) split ∙ take_all (at ++ p ∷ ps) r in
           let more : from < n = omega (arith, long, length-append at (p ∷ ps)) in
           let few : n ≤ length a = omega (arith, ap (λ (l : List Part). length l) split, length-append (at ++ p ∷ ps) r) in
           none_of_number (at ++ p ∷ ps) s editable.obeys (ap (λ (q : List Part). stated_number q s) (sym prefix) ∙ nones n more few)) in

@@ -24,7 +24,7 @@ use Rattle.keep_edit_spec.proofs.Common.LineTexts.{at_line-is}
 use Rattle.keep_edit_spec.proofs.Common.Texts.{text_of-append}
 use Rattle.keep_edit_spec.proofs.Insert.LineDepths.{line_change}
 use Rattle.keep_edit_spec.proofs.Insert.LinesPut.{is_past, newline_if, prefix_of, bom_width, line_begins, AreLinesPut, lines_put, lines_place, prefix_none, prefix_past, past_past, prefix_one}
-use Rattle.keep_edit_spec.proofs.Remove.RemoveLinePlace.{head_line, tail_lines, head_text, is_high, drop_low}
+use Rattle.keep_edit_spec.proofs.Remove.RemoveLinePlace.{head_line, tail_lines, head_text, is_high, drop_low, rest_valid}
 
 -- ---- a line that says something
 
@@ -69,10 +69,6 @@ open_head profile [] last all is h = (line_some profile last is (not_empty last 
 open_head profile (e ∷ es) last all is h =
     let end = ended_ends profile e all.0 in
     (end.0, end.1 ∙ ap not (sym (past_none es)))
-
-rest_valid : (profile : Profile) (pre rest : List Ended) → AllByRecursion (IsEnded profile) (pre ++ rest) → AllByRecursion (IsEnded profile) rest
-rest_valid profile [] rest h = h
-rest_valid profile (e ∷ pre) rest h = rest_valid profile pre rest h.1
 
 twice : (b : Bool) → not (not b) ≡ b
 twice true = refl

@@ -1,4 +1,11 @@
 -- Which line names a path, and what a header says on its way.
+--
+-- A mention of a document is one of some line (`line_of_some`), and a test that this line passes has a last line that
+-- passes (`some_among`). Each element that is counted so far was begun by a line (`tables_begin`, by induction over the
+-- lines). What a header says on its way of a path is that it goes through it, or past its last element, or that this
+-- element is passed (`way_case`, by induction over the keys).
+--
+-- Theorems: `line_of_some`, `tables_begin`, `counted` and `way_case`.
 use Rattle.std.proofs.Common.{◌≡◌, ℕ, zero, suc, ◌+◌, ◌-◌, ◌<◌, ◌≤◌, Bool, true, false, cond, List, [], ◌∷◌, ◌++◌, map, refl, sym, ap, subst, ◌∙◌, arith, Option, Some, None, inl, inr}
 use Rattle.std.specs.Prelude.{◌==◌}
 use Rattle.std.specs.List.{list_any, cons_option}
@@ -120,7 +127,7 @@ pub data WayCase (tables : List (List Part)) (h : List Part) (ms : List Mention)
   beyond_element : 0 < elements_of h tables → WayCase tables h ms
   at_element : (q : List Part) → h ≡ q ++ index (elements_of q tables - 1) ∷ [] → 0 < elements_of q tables → WayCase tables h ms
 
-some_elements : (n : ℕ) → (0 == n) ≡ false → 0 < n
+pub some_elements : (n : ℕ) → (0 == n) ≡ false → 0 < n
 some_elements zero e = absurd cc
 some_elements (suc n) e = omega arith
 

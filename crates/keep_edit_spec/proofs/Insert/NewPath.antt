@@ -1,4 +1,11 @@
 -- A path that is to be new: its longest prefix that names a node, and the keys after that.
+--
+-- The holder of a path is the longest proper prefix that passes the test for nodes; the prefix one step longer does not
+-- (`longest`, by induction over the path). Of an insert that is not refused each condition fails: so the path names no
+-- node, the holder is a table, and no index comes after it. Then what comes after the holder are keys (`all_keys`), of
+-- which the first names no node.
+--
+-- Theorems: `held` and `new_path`.
 use Rattle.std.proofs.Common.{◌≡◌, ℕ, Bool, true, false, not, cond, ◌||◌, ◌&&◌, List, [], ◌∷◌, ◌++◌, length, map, drop, refl, sym, ap, subst, ◌∙◌, Option, Some, None, ◌⊎◌, inl, inr}
 use Rattle.std.specs.List.{list_any}
 use Rattle.keep_types.specs.declared.leaf.Profile.{Profile}

@@ -1,4 +1,11 @@
 -- Where a value is, no line begins a body at or under its path, and no line's key or header continues from there.
+--
+-- Each of the three tests of a line that an insert makes means that the line says something at the path: a body that
+-- begins there, a header that goes through it, a dotted key that continues from it. But a value is alone at its path,
+-- and nothing else is under it. So no line passes (`disjoint_fail`), apart from the line of the value itself, whose own
+-- key and value are looked at one by one.
+--
+-- Theorem: `value_no_lines`.
 use Rattle.std.proofs.Common.{◌≡◌, ℕ, Bool, true, false, List, [], ◌∷◌, ◌++◌, map, refl, sym, ap, subst, ◌∙◌, append_assoc, Option, Some, None, inl, inr}
 use Rattle.std.specs.Prelude.{⊤}
 use Rattle.std.proofs.lemmas.Bool.{and_parts}

@@ -11,7 +11,7 @@ use Rattle.std.proofs.lemmas.List.{append-nil}
 use Rattle.keep_syntax.specs.Tree.{Written, Gap, Content, blank, keyval, header, element, Line, Document}
 use Rattle.keep_path.specs.Path.{Part, key, index}
 use Rattle.keep_meaning.specs.Marks as marks_of
-use Rattle.keep_meaning.specs.Marks.{MentionKind, through, past, define, dotted, value, begun, passed, item, Mention, Reading, start, below}
+use Rattle.keep_meaning.specs.Marks.{MentionKind, through, define, dotted, value, item, Mention, Reading, start, below}
 use Rattle.keep_meaning.specs.Meaning.{keys_of, body_fact, valued_mentions, keyed_mentions, entries_mentions, line_mentions, after_line, lines_mentions, reading_after_lines, lines, mentions_in}
 use Rattle.keep_meaning.specs.Counts.{is_value}
 use Rattle.keep_meaning.specs.Nodes.{is_define, is_begun, is_dotted, is_element}
@@ -62,63 +62,25 @@ dots_disjoint dotted (value f) h g = (refl, refl)
 dots_disjoint dotted (item f) h g = (refl, refl)
 dots_disjoint dotted define h g = (refl, refl)
 dots_disjoint dotted marks_of.element h g = (refl, refl)
-dots_disjoint dotted through h g = absurd cc
-dots_disjoint dotted past h g = absurd cc
-dots_disjoint dotted dotted h g = absurd cc
-dots_disjoint dotted begun h g = absurd cc
-dots_disjoint dotted passed h g = absurd cc
-dots_disjoint through b h g = absurd cc
-dots_disjoint past b h g = absurd cc
-dots_disjoint define b h g = absurd cc
-dots_disjoint marks_of.element b h g = absurd cc
-dots_disjoint (value f) b h g = absurd cc
-dots_disjoint begun b h g = absurd cc
-dots_disjoint passed b h g = absurd cc
-dots_disjoint (item f) b h g = absurd cc
+dots_disjoint dotted other h g = absurd cc
+dots_disjoint other b h g = absurd cc
 
 dots_not : (a : MentionKind) → is_dotted a ≡ true → no_dots a ≡ true → ⊥
 dots_not dotted h g = absurd cc
-dots_not through h g = absurd cc
-dots_not past h g = absurd cc
-dots_not define h g = absurd cc
-dots_not marks_of.element h g = absurd cc
-dots_not (value f) h g = absurd cc
-dots_not begun h g = absurd cc
-dots_not passed h g = absurd cc
-dots_not (item f) h g = absurd cc
+dots_not other h g = absurd cc
 
 value_no_dots : (a : MentionKind) → is_value a ≡ true → (no_dots a ≡ true) × (exclusive a ≡ true)
 value_no_dots (value f) h = (refl, refl)
 value_no_dots (item f) h = (refl, refl)
-value_no_dots through h = absurd cc
-value_no_dots past h = absurd cc
-value_no_dots define h = absurd cc
-value_no_dots marks_of.element h = absurd cc
-value_no_dots dotted h = absurd cc
-value_no_dots begun h = absurd cc
-value_no_dots passed h = absurd cc
+value_no_dots other h = absurd cc
 
 define_no_dots : (a : MentionKind) → is_define a ≡ true → no_dots a ≡ true
 define_no_dots define h = refl
-define_no_dots through h = absurd cc
-define_no_dots past h = absurd cc
-define_no_dots marks_of.element h = absurd cc
-define_no_dots dotted h = absurd cc
-define_no_dots (value f) h = absurd cc
-define_no_dots begun h = absurd cc
-define_no_dots passed h = absurd cc
-define_no_dots (item f) h = absurd cc
+define_no_dots other h = absurd cc
 
 element_no_dots : (a : MentionKind) → is_element a ≡ true → no_dots a ≡ true
 element_no_dots marks_of.element h = refl
-element_no_dots through h = absurd cc
-element_no_dots past h = absurd cc
-element_no_dots define h = absurd cc
-element_no_dots dotted h = absurd cc
-element_no_dots (value f) h = absurd cc
-element_no_dots begun h = absurd cc
-element_no_dots passed h = absurd cc
-element_no_dots (item f) h = absurd cc
+element_no_dots other h = absurd cc
 
 some_as : (P Q : MentionKind → Bool) → ((a : MentionKind) → P a ≡ true → Q a ≡ true) → (p : List Part) (ms : List Mention) → SomeOf (IsMentioned P p) ms → SomeOf (IsMentioned Q p) ms
 some_as P Q f p [] s = s
@@ -272,12 +234,7 @@ formed_value (item f) p h g e = longer_index g.0 g.1 (sym g.2 ∙ e)
     longer_index [] n e = absurd cc
     longer_index (x ∷ prefix) n e = absurd cc
 formed_value through p h g e = absurd cc
-formed_value past p h g e = absurd cc
-formed_value define p h g e = absurd cc
-formed_value marks_of.element p h g e = absurd cc
-formed_value dotted p h g e = absurd cc
-formed_value begun p h g e = absurd cc
-formed_value passed p h g e = absurd cc
+formed_value other p h g e = absurd cc
 
 no_root_value : (ms : List Mention) → AllOf Formed ms → SomeOf (IsMentioned is_value []) ms → ⊥
 no_root_value [] f s = s
@@ -292,32 +249,12 @@ alone_of_value p (m ∷ ms) (inr s) = inr (alone_of_value p ms s)
 define_disjoint : (a b : MentionKind) → is_define a ≡ true → is_value b ≡ true → (kinds_allow a b ≡ false) × (kinds_allow b a ≡ false)
 define_disjoint define (value f) h g = (refl, refl)
 define_disjoint define (item f) h g = (refl, refl)
-define_disjoint define through h g = absurd cc
-define_disjoint define past h g = absurd cc
-define_disjoint define define h g = absurd cc
-define_disjoint define marks_of.element h g = absurd cc
-define_disjoint define dotted h g = absurd cc
-define_disjoint define begun h g = absurd cc
-define_disjoint define passed h g = absurd cc
-define_disjoint through b h g = absurd cc
-define_disjoint past b h g = absurd cc
-define_disjoint dotted b h g = absurd cc
-define_disjoint marks_of.element b h g = absurd cc
-define_disjoint (value f) b h g = absurd cc
-define_disjoint begun b h g = absurd cc
-define_disjoint passed b h g = absurd cc
-define_disjoint (item f) b h g = absurd cc
+define_disjoint define other h g = absurd cc
+define_disjoint other b h g = absurd cc
 
 define_not : (a : MentionKind) → is_define a ≡ true → is_value a ≡ true → ⊥
 define_not define h g = absurd cc
-define_not through h g = absurd cc
-define_not past h g = absurd cc
-define_not dotted h g = absurd cc
-define_not marks_of.element h g = absurd cc
-define_not (value f) h g = absurd cc
-define_not begun h g = absurd cc
-define_not passed h g = absurd cc
-define_not (item f) h g = absurd cc
+define_not other h g = absurd cc
 
 -- a body's path has no value
 pub body_no_value : (s : Document) (b : List Part) → Rules (mentions_in s) → IsBody b (mentions_in s) → SomeOf (IsMentioned is_value b) (mentions_in s) → ⊥

@@ -14,8 +14,7 @@ use Rattle.keep_syntax.specs.Tree.{Written, Gap, Content, blank, keyval, header,
 use Rattle.keep_path.specs.Path.{Part, index, same_path}
 use Rattle.keep_types.specs.declared.node.Origin.{Origin}
 use Rattle.keep_types.specs.declared.node.Origin.TheVariants as origin
-use Rattle.keep_meaning.specs.Marks as marks_of
-use Rattle.keep_meaning.specs.Marks.{MentionKind, through, past, define, dotted, value, begun, passed, item, Mention, Reading, start, header_path, elements_of}
+use Rattle.keep_meaning.specs.Marks.{MentionKind, through, define, dotted, value, Mention, Reading, start, header_path, elements_of}
 use Rattle.keep_meaning.specs.Meaning.{keys_of, key_value, further_value, after_line, lines, mentions_in}
 use Rattle.keep_meaning.specs.Counts.{Count, Numbered, is_value, numbered_in}
 use Rattle.keep_meaning.specs.Nodes.{is_at, numbered_at, mention_of, last_number, statement_number, value_number, first_that_fits, mentioned_origin, is_define, is_begun, is_dotted, is_element, is_through}
@@ -211,12 +210,7 @@ formed_ends : (a : MentionKind) (p : List Part) → by_key a ≡ true → IsForm
 formed_ends through p h f = f
 formed_ends define p h f = f
 formed_ends dotted p h f = f
-formed_ends past p h f = absurd cc
-formed_ends marks_of.element p h f = absurd cc
-formed_ends (value x) p h f = absurd cc
-formed_ends begun p h f = absurd cc
-formed_ends passed p h f = absurd cc
-formed_ends (item x) p h f = absurd cc
+formed_ends other p h f = absurd cc
 
 some_ends : (is : MentionKind → Bool) → ((a : MentionKind) → is a ≡ true → by_key a ≡ true) → (p : List Part) (ms : List Mention) → AllOf Formed ms → SomeOf (IsMentioned is p) ms → EndsInKey p
 some_ends is keyed p [] f s = absurd s
@@ -225,25 +219,11 @@ some_ends is keyed p (m ∷ ms) f (inr s) = some_ends is keyed p ms f.1 s
 
 dotted_keyed : (a : MentionKind) → is_dotted a ≡ true → by_key a ≡ true
 dotted_keyed dotted h = refl
-dotted_keyed through h = absurd cc
-dotted_keyed past h = absurd cc
-dotted_keyed define h = absurd cc
-dotted_keyed marks_of.element h = absurd cc
-dotted_keyed (value x) h = absurd cc
-dotted_keyed begun h = absurd cc
-dotted_keyed passed h = absurd cc
-dotted_keyed (item x) h = absurd cc
+dotted_keyed other h = absurd cc
 
 through_keyed : (a : MentionKind) → is_through a ≡ true → by_key a ≡ true
 through_keyed through h = refl
-through_keyed dotted h = absurd cc
-through_keyed past h = absurd cc
-through_keyed define h = absurd cc
-through_keyed marks_of.element h = absurd cc
-through_keyed (value x) h = absurd cc
-through_keyed begun h = absurd cc
-through_keyed passed h = absurd cc
-through_keyed (item x) h = absurd cc
+through_keyed other h = absurd cc
 
 pub dotted_ends : (p : List Part) (s : Document) → SomeOf (IsMentioned is_dotted p) (mentions_in s) → EndsInKey p
 dotted_ends p s h = some_ends is_dotted dotted_keyed p (mentions_in s) (formed_lines start (lines s)) h

@@ -1,4 +1,11 @@
 -- Putting an entry into an array or into braces: which mentions come, and which stay.
+--
+-- `IsPutIn` says where: after some mentions, with a number, before the entries that are left, whose numbers go up by
+-- one. It holds of an entry put before the item of a number (`item_before`, by induction over the number), and after
+-- the last entry whose key goes past a path (`entry_after`, by induction over the entries). The entries before stay at
+-- their numbers, and none of them is at the new one's.
+--
+-- Theorems: `item_before` and `entry_after`; `few_items` and `none_after` where there is no such place.
 use Rattle.std.proofs.Common.{◌≡◌, ℕ, zero, suc, ◌+◌, ◌<◌, ◌≤◌, Bool, true, false, List, [], ◌∷◌, ◌++◌, map, refl, sym, ap, subst, ◌∙◌, append_assoc, arith, Option, Some, None}
 use Rattle.std.specs.Prelude.{codes}
 use Rattle.std.proofs.lemmas.List.{map-append}
@@ -81,7 +88,7 @@ item_before new k (suc m) (entry name body nested after comma rest) =
     (λ es t. record { put = put_more None new k name body nested after comma rest after comma es t.put; at = omega (arith, t.at) })
     (item_before new (k + 1) m rest)
 
-within_none : {A B : Type 0} (outer : A → B) (left right : List ℕ) (o : Option (Changed A)) → within outer left right o ≡ None → o ≡ None
+pub within_none : {A B : Type 0} (outer : A → B) (left right : List ℕ) (o : Option (Changed A)) → within outer left right o ≡ None → o ≡ None
 within_none outer left right None e = refl
 within_none outer left right (Some c) e = absurd cc
 
@@ -113,7 +120,7 @@ pub to_either : {A : Type 0} (P : A → Type 0) (o p : Option (Changed A)) → E
 to_either P None p h g = g refl
 to_either P (Some c) p h g = h
 
-either_none : {A : Type 0} (o : Option A) (c : A) → or_else o (Some c) ≡ None → ⊥
+pub either_none : {A : Type 0} (o : Option A) (c : A) → or_else o (Some c) ≡ None → ⊥
 either_none None c e = absurd cc
 either_none (Some d) c e = absurd cc
 

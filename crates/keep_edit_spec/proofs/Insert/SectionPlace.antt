@@ -13,7 +13,7 @@ use Rattle.std.proofs.lemmas.Bool.{and_parts}
 use Rattle.std.proofs.lemmas.List.{length-map}
 use Rattle.keep_syntax.specs.Tree.{Written, Gap, Content, blank, keyval, header, element, Line, Document}
 use Rattle.keep_path.specs.Path.{Part, index}
-use Rattle.keep_meaning.specs.Marks.{MentionKind, through, past, define, dotted, value, begun, passed, item, Mention, Reading, start, header_path, header_prefixes, elements_of}
+use Rattle.keep_meaning.specs.Marks.{MentionKind, through, define, begun, passed, Mention, Reading, start, header_path, header_prefixes, elements_of}
 use Rattle.keep_meaning.specs.Marks as marks_of
 use Rattle.keep_meaning.specs.Meaning.{keys_of, line_mentions, lines_mentions, after_line, reading_after_lines, lines, line_of, mentions_in}
 use Rattle.keep_meaning.specs.Nodes.{has, is_through, is_define, is_dotted}
@@ -56,14 +56,7 @@ firm_at p (m ∷ ms) h (inr s) = inr (firm_at p ms h.1 s)
 
 through_firm : (a : MentionKind) → is_through a ≡ true → firm a ≡ true
 through_firm through h = refl
-through_firm past h = absurd cc
-through_firm define h = absurd cc
-through_firm marks_of.element h = absurd cc
-through_firm dotted h = absurd cc
-through_firm (value f) h = absurd cc
-through_firm begun h = absurd cc
-through_firm passed h = absurd cc
-through_firm (item f) h = absurd cc
+through_firm other h = absurd cc
 
 some_firm : (p : List Part) (ms : List Mention) → SomeOf (IsMentioned is_through p) ms → SomeOf (IsMentioned firm p) ms
 some_firm p [] s = s
@@ -130,12 +123,7 @@ silent : (a : MentionKind) → meets a ≡ true → is_define a ≡ false → is
 silent through m d o = (refl, refl)
 silent begun m d o = (refl, refl)
 silent passed m d o = (refl, refl)
-silent define m d o = absurd cc
-silent dotted m d o = absurd cc
-silent past m d o = absurd cc
-silent marks_of.element m d o = absurd cc
-silent (value f) m d o = absurd cc
-silent (item f) m d o = absurd cc
+silent other m d o = absurd cc
 
 abbrev pub Lets : List Part → Mention → Type 0
 Lets a x = x.path ≡ a → (kinds_allow x.kind define ≡ true) × (kinds_allow define x.kind ≡ true)

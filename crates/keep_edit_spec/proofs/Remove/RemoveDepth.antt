@@ -1,14 +1,15 @@
 -- By `remove` a document gets no deeper.
 use Rattle.std.proofs.Common.{ℕ, zero, suc, ◌+◌, ◌≤◌, Bool, true, false, List, [], ◌∷◌, ◌++◌, arith, Option, Some, None}
 use Rattle.std.specs.Prelude.{codes, drop}
-use Rattle.keep_syntax.specs.Tree.{Written, Gap, Name, Body, scalar, array, inline, Entries, none, entry, text_of, entries_depth, depth, blank, Line, Ended, Document}
+use Rattle.keep_syntax.specs.Tree.{Gap, Name, Body, scalar, array, inline, Entries, none, entry, text_of, entries_depth, depth, Line, Ended, Document}
 use Rattle.keep_path.specs.Path.{Part, same_path}
 use Rattle.keep_meaning.specs.Marks.{Reading, start}
 use Rattle.keep_meaning.specs.Meaning.{step, lines}
 use Rattle.keep_edit_spec.specs.Changed.{Changed, within}
 use Rattle.keep_edit_spec.specs.Values.{entry_prefix, take_out, taken_only, taken_first, taken_last, is_last_named, removal, Row}
-use Rattle.keep_edit_spec.specs.Lines.{in_line, in_lines, last_line, begins, drop_prefix, drop_lines, body_length, content_text}
+use Rattle.keep_edit_spec.specs.Lines.{in_line, in_lines, last_line, begins, drop_prefix, drop_lines, body_length}
 use Rattle.keep_edit_spec.specs.Edits.{remove, change, nested, is_own, clear_line, without_lines}
+use Rattle.keep_edit_spec.proofs.Common.LineTexts.{clear_cases}
 use Rattle.keep_edit_spec.proofs.Common.SetLaw.{EachTo, to_within, to_or_else}
 use Rattle.keep_edit_spec.proofs.Common.DoneInDocument.{page_depth}
 use Rattle.keep_edit_spec.proofs.Common.ActDepth.{NoDeeper, NoDeeperLine, line_depths, pages_depth, in_document_depth}
@@ -60,24 +61,7 @@ removal_depth path (inline first) es =
 -- ---- in lines
 
 clear_depth : (path : List Part) (r : Reading) (l : Line) → EachTo (NoDeeperLine l) (clear_line path r l)
-clear_depth path r l = by l.comment (is_own path r l.content)
-  where
-    by : (o : Option Written) (b : Bool) → EachTo {A = Line} (NoDeeperLine l) (elim o [
-      | None ↦ None
-      | Some c ↦ elim b [
-        | false ↦ None
-        | true ↦ Some (record {
-          to = record { before = l.before; content = blank; after = []; comment = Some c };
-          before = text_of l.before;
-          old = content_text l.content ++ text_of l.after;
-          new = [];
-          after = c.text;
-        })
-      ]
-    ])
-    by None b = tt
-    by (Some c) false = tt
-    by (Some c) true = omega arith
+clear_depth path r l = clear_cases (EachTo (NoDeeperLine l)) path r l tt (λ c e own. omega arith)
 
 prefix_depth : (n : ℕ) (es : List Ended) (last : Line) → page_depth (drop_prefix n es last).to ≤ page_depth (record { ended = es; last = last })
 prefix_depth zero [] last = omega arith

@@ -12,7 +12,7 @@ use Rattle.std.proofs.Common.{◌≡◌, ℕ, suc, ◌+◌, Bool, true, false, c
 use Rattle.std.proofs.lemmas.List.{map-append, append-nil, take-append-drop}
 use Rattle.keep_syntax.specs.Tree.{Written, Gap, Key, Content, blank, keyval, header, element, Line, Document}
 use Rattle.keep_path.specs.Path.{Part, same_path}
-use Rattle.keep_meaning.specs.Marks.{MentionKind, through, past, define, dotted, value, begun, passed, item, element as kinds_element, Mention, fact_of, Reading, start, elements_of, header_path, header_prefixes}
+use Rattle.keep_meaning.specs.Marks.{MentionKind, past, begun, passed, element as kinds_element, Mention, fact_of, Reading, start, elements_of, header_path, header_prefixes}
 use Rattle.keep_meaning.specs.Meaning.{key_value, further_value, keys_of, lines_mentions, reading_after_lines, lines, mentions_in}
 use Rattle.keep_meaning.specs.Nodes.{has, is_begun, is_passed}
 use Rattle.keep_edit_spec.specs.Look.{strip}
@@ -41,26 +41,18 @@ use Rattle.keep_edit_spec.proofs.Remove.ElementTree.{element_removal}
 -- ---- beside the line of an element
 
 array_before : (a : MentionKind) → kinds_allow a kinds_element ≡ true → array_mentions a ≡ true
-array_before through e = absurd cc
 array_before past e = refl
-array_before define e = absurd cc
 array_before kinds_element e = refl
-array_before dotted e = absurd cc
-array_before (value f) e = absurd cc
 array_before begun e = refl
 array_before passed e = refl
-array_before (item f) e = absurd cc
+array_before other e = absurd cc
 
 array_after : (a : MentionKind) → kinds_allow kinds_element a ≡ true → array_mentions a ≡ true
-array_after through e = absurd cc
 array_after past e = refl
-array_after define e = absurd cc
 array_after kinds_element e = refl
-array_after dotted e = absurd cc
-array_after (value f) e = absurd cc
 array_after begun e = refl
 array_after passed e = refl
-array_after (item f) e = absurd cc
+array_after other e = absurd cc
 
 abbrev IsOfArray : List Part → Mention → Type 0
 IsOfArray p m = m.path ≡ p → array_mentions m.kind ≡ true

@@ -7,7 +7,7 @@
 -- takes a cut among the later entries to one among all of them.
 --
 -- Theorem: `entry_out`: the cut takes one value of the row and one comma, or no comma where it is alone.
-use Rattle.std.proofs.Common.{◌≡◌, ℕ, suc, ◌+◌, Bool, true, false, cond, List, [], ◌∷◌, ◌++◌, length, map, refl, sym, ap, subst, ◌∙◌, append_assoc, length-append, arith, Option, Some, None, ◌⊎◌, inl, inr}
+use Rattle.std.proofs.Common.{◌≡◌, ℕ, ◌+◌, Bool, true, false, cond, List, [], ◌∷◌, ◌++◌, length, map, refl, sym, ap, subst, ◌∙◌, append_assoc, length-append, arith, Option, Some, None, ◌⊎◌, inl, inr}
 use Rattle.std.specs.Prelude.{codes, IsTrue, not, ◌==◌}
 use Rattle.std.specs.List.{list_all}
 use Rattle.std.proofs.lemmas.List.{append-nil}
@@ -29,7 +29,7 @@ use Rattle.keep_syntax.specs.Reading.{close_byte}
 use Rattle.keep_syntax.proofs.Shared.{entries_begin, value_begins, key_first_solid, name_begins, value_first_solid, is_solid, text_of-append, solid_no_ws, newline_class, comment_class, place_of, gap_blank}
 use Rattle.keep_meaning.specs.Fact.{Fact}
 use Rattle.keep_path.specs.Path.{Part, key, index, same_path}
-use Rattle.keep_meaning.specs.Marks.{MentionKind, value, item, Mention, below}
+use Rattle.keep_meaning.specs.Marks.{value, item, Mention, below}
 use Rattle.keep_meaning.specs.Meaning.{key_value, further_value, keys_of, body_fact, valued_mentions, keyed_mentions, entry_mentions, entries_mentions, step}
 use Rattle.keep_meaning.specs.Counts.{is_value}
 use Rattle.keep_meaning.proofs.Shared.{valued, valued-append, valued-keyed, valued-entries, length-entries_values}
@@ -38,7 +38,7 @@ use Rattle.keep_edit_spec.specs.Values.{entries_text, entry_prefix, preserved_ga
 use Rattle.keep_edit_spec.proofs.Common.Runs.{same_path-sound}
 use Rattle.keep_edit_spec.proofs.Common.SetLaw.{keyed_split}
 use Rattle.keep_edit_spec.proofs.Common.DoneAtValue.{EachOf, of_within}
-use Rattle.keep_edit_spec.proofs.Common.ValuesMention.{length-mention_kinds, mention_kinds-entry}
+use Rattle.keep_edit_spec.proofs.Common.FoundValue.{valued-entry}
 
 -- ---- the cut
 
@@ -239,10 +239,6 @@ out_here b path n begin p name body nested after comma rest d named cut =
       owner = refl;
       cut = cut;
     }
-
-valued-entry : (n : ℕ) (name : Option Name) (f : Fact) (nested : List Mention) → valued (entry_mentions n name f nested) ≡ suc (valued nested)
-valued-entry n name f nested =
-    sym (length-mention_kinds (entry_mentions n name f nested)) ∙ ap (λ (l : List MentionKind). length l) (mention_kinds-entry n name f nested) ∙ ap suc (length-mention_kinds nested)
 
 -- one after the first; the row that it is in begins after the first one's comma
 out_later : (b : Brackets) (path : List Part) (n begin further : ℕ) (p : Start) (name : Option Name) (body : Body) (nested : Entries) (after : Gap) (comma : Option Gap) (rest : Entries) (d e : Changed Row)

@@ -26,7 +26,7 @@ use Rattle.keep_types.specs.declared.syntax.ValueInfo.{ValueInfo}
 use Rattle.keep_syntax.specs.Tree.{Written, Gap, Name, Value, Content, blank, keyval, header, element, Line, Ended, Document, name_leaves, value_leaves, content_leaves, line_leaves, comment_leaves, ended_leaves, bom_leaves, text_of, text}
 use Rattle.keep_syntax.specs.Grammar.{IsSpace, IsAfter, IsComment, IsLine, IsEnded, IsDocument, IsName, IsContent}
 use Rattle.keep_syntax.specs.Numbered as syntax
-use Rattle.keep_syntax.specs.Numbered.{span, width, Count, key_count, info, nested_of, entries_values, value_end, content_start, line_start, line_values, line_statements, over_lines, next_line, first_line, after_lines, statement}
+use Rattle.keep_syntax.specs.Numbered.{span, width, Count, key_count, info, nested_of, entries_values, value_end, line_start, line_values, line_statements, over_lines, next_line, first_line, after_lines, statement}
 use Rattle.keep_syntax.proofs.Shared.{over_ended, after_lines-at, after_lines-statements, key_first_solid, name_begins, is_solid, space_class, newline_class, comment_class}
 use Rattle.keep_path.specs.Path.{Part}
 use Rattle.keep_meaning.specs.Marks.{Mention, Reading, start, below}
@@ -39,12 +39,13 @@ use Rattle.keep_edit_spec.specs.Removal.{past_space, is_hash, line_place}
 use Rattle.keep_edit_spec.proofs.Common.Runs.{Rules, same_path-sound}
 use Rattle.keep_edit_spec.proofs.Common.Texts.{text_of-append}
 use Rattle.keep_edit_spec.proofs.Common.LineLaws.{lines_mentions-append}
-use Rattle.keep_edit_spec.proofs.Common.LineTexts.{drop_prefix-is}
+use Rattle.keep_edit_spec.proofs.Common.LineTexts.{clear_cases, drop_prefix-is}
 use Rattle.keep_edit_spec.proofs.Common.SetDocument.{mentions_of}
 use Rattle.keep_edit_spec.proofs.Common.ValuesMention.{value_ends}
 use Rattle.keep_edit_spec.proofs.Common.DoneAtValue.{EachOf, of_within, of_or_else}
 use Rattle.keep_edit_spec.proofs.Remove.RemoveEntry.{named_split}
 use Rattle.keep_edit_spec.proofs.Remove.RemovePlace.{run_ends, same_place, IsValueAt, value_at_split}
+use Rattle.keep_edit_spec.proofs.Values.ValuePlace.{get_here}
 
 -- ---- a line among lines
 
@@ -131,11 +132,6 @@ pub record IsLineValue (path : List Part) (s : Document) (pre rest : List Ended)
   pub begins : statement.span.start ≡ statement.line.start + length (text_of (head_line rest s.last).before)
   pub ends : own.span.end ≡ statement.span.start + length (content_text (head_line rest s.last).content)
 
-get_prefix : {A : Type 0} (prefix : List A) (x : A) (after : List A) (n : ℕ) → n ≡ length prefix → slice_get (prefix ++ x ∷ after) n ≡ Some x
-get_prefix [] x after n e = ap (slice_get (x ∷ after)) e
-get_prefix (y ∷ prefix) x after zero e = absurd (omega arith)
-get_prefix (y ∷ prefix) x after (suc n) e = get_prefix prefix x after n (omega arith)
-
 width-append : (a b : List Written) → width (a ++ b) ≡ width a + width b
 width-append a b = ap (λ (t : List ℕ). length t) (text_of-append a b) ∙ length-append (text_of a) (text_of b)
 
@@ -181,7 +177,7 @@ module _ (path : List Part) (s : Document) (rules : Rules (mentions_in s)) (pre 
         line = refl;
         statement = st;
         here = ap (λ (x : List Statement). slice_get x c.statements) statements
-            ∙ get_prefix (over_ended line_statements (first_line s) pre) st (over_tail line_statements c rest s.last) c.statements (omega (arith, after_lines-statements (first_line s) pre));
+            ∙ get_here (over_ended line_statements (first_line s) pre) st (over_tail line_statements c rest s.last) c.statements (omega (arith, after_lines-statements (first_line s) pre));
         line_begins = prefix_text s pre;
         line_ends = refl;
         begins = refl;
@@ -282,7 +278,7 @@ page_low profile (e ∷ es) last all is =
         ∙ ap (λ (t : List ℕ). t ++ text_of (flat_map ended_leaves es)) (text_of-append (line_leaves e.line) (e.newline ∷ []) ∙ ap (λ (t : List ℕ). text_of (line_leaves e.line) ++ t) (append-nil e.newline.text)))
         ∙ tidy (text_of (line_leaves e.line)) e.newline.text (text_of (flat_map ended_leaves es)) (text_of (line_leaves last))
 
-rest_valid : (profile : Profile) (pre rest : List Ended) → AllByRecursion (IsEnded profile) (pre ++ rest) → AllByRecursion (IsEnded profile) rest
+pub rest_valid : (profile : Profile) (pre rest : List Ended) → AllByRecursion (IsEnded profile) (pre ++ rest) → AllByRecursion (IsEnded profile) rest
 rest_valid profile [] rest h = h
 rest_valid profile (e ∷ pre) rest h = rest_valid profile pre rest h.1
 
@@ -347,7 +343,7 @@ drop_none : (es : List Ended) (last : Line) → (drop_prefix 0 es last).old ≡ 
 drop_none [] last = refl
 drop_none (e ∷ es) last = refl
 
-drop_new : (n : ℕ) (es : List Ended) (last : Line) → (drop_prefix n es last).new ≡ []
+pub drop_new : (n : ℕ) (es : List Ended) (last : Line) → (drop_prefix n es last).new ≡ []
 drop_new zero [] last = refl
 drop_new (suc m) [] last = refl
 drop_new zero (e ∷ es) last = refl
@@ -452,24 +448,8 @@ record IsClearedLine (path : List Part) (r : Reading) (l : Line) (d : Changed Li
   after : d.after ≡ comment.text
 
 cleared_line : (path : List Part) (r : Reading) (l : Line) → EachOf (IsClearedLine path r l) (clear_line path r l)
-cleared_line path r l = by l.comment refl (is_own path r l.content) refl
-  where
-    by : (o : Option Written) → l.comment ≡ o → (b : Bool) → is_own path r l.content ≡ b → EachOf (IsClearedLine path r l) (elim o [
-      | None ↦ None
-      | Some c ↦ elim b [
-        | false ↦ None
-        | true ↦ Some (record {
-          to = record { before = l.before; content = blank; after = []; comment = Some c };
-          before = text_of l.before;
-          old = content_text l.content ++ text_of l.after;
-          new = [];
-          after = c.text;
-        })
-      ]
-    ])
-    by None e b own = tt
-    by (Some c) e false own = tt
-    by (Some c) e true own = record { comment = c; is = e; own = own; prefix = refl; old = refl; new = refl; after = refl }
+cleared_line path r l = clear_cases (EachOf (IsClearedLine path r l)) path r l tt
+    (λ c e own. record { comment = c; is = e; own = own; prefix = refl; old = refl; new = refl; after = refl })
 
 pub cleared_lines : (path : List Part) (r : Reading) (es : List Ended) (last : Line) → EachOf (IsCleared path r es last) (in_lines (clear_line path) r es last)
 cleared_lines path r [] last =

@@ -36,13 +36,13 @@ pub record IsOwnLine (body path : List Part) (c : Content) : Type 0 where
   pub was : c ≡ keyval name held
   pub place : body ++ step 0 (Some name) ≡ path
 
-own_line : (path : List Part) (r : Reading) (c : Content) → is_own path r c ≡ true → IsOwnLine r.body path c
+pub own_line : (path : List Part) (r : Reading) (c : Content) → is_own path r c ≡ true → IsOwnLine r.body path c
 own_line path r blank e = absurd cc
 own_line path r (keyval name v) e = record { name = name; held = v; was = refl; place = same_path-sound (r.body ++ step 0 (Some name)) path e }
 own_line path r (header b k a) e = absurd cc
 own_line path r (element b k a) e = absurd cc
 
-keyval_run : (body : List Part) (name : Name) (v : Value)
+pub keyval_run : (body : List Part) (name : Name) (v : Value)
     → map (below body) (keyval_mentions name v)
     ≡ map (below body) (keyed_mentions (keys_of name.key) []) ++ map (below (body ++ step 0 (Some name))) (valued_mentions (value (body_fact v.body)) (entries_mentions 0 v.nested))
 keyval_run body name v =
@@ -121,7 +121,7 @@ cleared_by path r before content after (Some w) =
 cleared : (path : List Part) (r : Reading) (l : Line) → EachTo (IsCleared r path l) (clear_line path r l)
 cleared path r l = cleared_by path r l.before l.content l.after l.comment
 
-lines_cleared : (path : List Part) (r : Reading) (es : List Ended) (last : Line)
+pub lines_cleared : (path : List Part) (r : Reading) (es : List Ended) (last : Line)
     → EachTo (λ p. LinesCleared r path (map line_of es ++ last ∷ []) (page_lines p)) (in_lines (clear_line path) r es last)
 lines_cleared path r [] last =
     to_within (IsCleared r path last) (λ p. LinesCleared r path (last ∷ []) (page_lines p)) (λ l. record { ended = []; last = l }) [] [] (clear_line path r last)
@@ -170,11 +170,11 @@ dropped_mentions r zero n (e ∷ es) last h = prefix_mentions r n (e ∷ es) las
 dropped_mentions r (suc i) n (e ∷ es) last h =
     ap (λ l. line_mentions r e.line ++ l) (dropped_mentions (after_line r e.line) i n es last (let k : suc i ≤ suc (length es) = h in omega arith))
 
-take_prefix : (a b : List Line) → take (length a) (a ++ b) ≡ a
+pub take_prefix : (a b : List Line) → take (length a) (a ++ b) ≡ a
 take_prefix [] b = refl
 take_prefix (x ∷ a) b = ap (λ l. x ∷ l) (take_prefix a b)
 
-drop_prefix_of : (a b : List Line) → drop (length a) (a ++ b) ≡ b
+pub drop_prefix_of : (a b : List Line) → drop (length a) (a ++ b) ≡ b
 drop_prefix_of [] b = refl
 drop_prefix_of (x ∷ a) b = drop_prefix_of a b
 

@@ -31,7 +31,7 @@ use Rattle.keep_types.specs.declared.syntax.ValueInfo.{ValueInfo}
 use Rattle.keep_syntax.specs.Tree.{Written, Gap, Body, scalar, array, inline, Entries, Value, Document, text_of, text}
 use Rattle.keep_syntax.specs.Grammar.{IsBlank, AreEntries, IsDocument, place_in}
 use Rattle.keep_syntax.specs.Numbered as syntax
-use Rattle.keep_syntax.specs.Numbered.{span, info, nested_of, owner_in, entries_values}
+use Rattle.keep_syntax.specs.Numbered.{span, nested_of, owner_in}
 use Rattle.keep_syntax.specs.Reading.{close_byte}
 use Rattle.keep_syntax.proofs.Shared.{is_solid}
 use Rattle.keep_meaning.specs.KeyText.{text_at}

@@ -24,15 +24,12 @@ use Rattle.keep_edit_spec.proofs.Common.FoundValue.{IsFoundIn, Valid_document, f
 use Rattle.keep_edit_spec.proofs.Remove.RemovePlace.{IsEntryPlaced, entry_placed}
 use Rattle.keep_edit_spec.proofs.Remove.RemoveLinePlace.{head_line, IsCleared, cleared_lines, cleared_placed, dropped_placed, IsLinePlaced, page_line, without}
 use Rattle.keep_edit_spec.proofs.Remove.RemoveSectionPlace.{IsSectionPlaced, section_placed}
+use Rattle.keep_edit_spec.proofs.Insert.PutIn.{within_none}
 
 abbrev pub IsPlaced : List Part → Document → Changed Document → Type 0
 IsPlaced path s c = IsLinePlaced path s c ⊎ (IsEntryPlaced path s c ⊎ IsSectionPlaced path s c)
 
 -- ---- where no line is cleared, the line that is dropped has no comment
-
-none_within : {A B : Type 0} (outer : A → B) (left right : List ℕ) (o : Option (Changed A)) → within outer left right o ≡ None → o ≡ None
-none_within outer left right None e = refl
-none_within outer left right (Some c) e = absurd cc
 
 none_first : {A : Type 0} (o p : Option A) → or_else o p ≡ None → o ≡ None
 none_first None p e = refl
@@ -43,12 +40,12 @@ none_second None p e = e
 none_second (Some c) p e = absurd cc
 
 none_lines : (f : Reading → Line → Option (Changed Line)) (r : Reading) (pre rest : List Ended) (last : Line) → in_lines f r (pre ++ rest) last ≡ None → f (reading_after_lines r (map line_of pre)) (head_line rest last) ≡ None
-none_lines f r [] [] last e = none_within (λ l. record { ended = []; last = l }) [] [] (f r last) e
+none_lines f r [] [] last e = within_none (λ l. record { ended = []; last = l }) [] [] (f r last) e
 none_lines f r [] (x ∷ es) last e =
-    none_within (λ l. record { ended = record { line = l; newline = x.newline } ∷ es; last = last }) [] (x.newline.text ++ page_text (record { ended = es; last = last })) (f r x.line) (none_first _ _ e)
+    within_none (λ l. record { ended = record { line = l; newline = x.newline } ∷ es; last = last }) [] (x.newline.text ++ page_text (record { ended = es; last = last })) (f r x.line) (none_first _ _ e)
 none_lines f r (x ∷ pre) rest last e =
     none_lines f (after_line r x.line) pre rest last
-    (none_within (λ b. record { ended = x ∷ b.ended; last = b.last }) (text_of (ended_leaves x)) [] (in_lines f (after_line r x.line) (pre ++ rest) last) (none_second _ _ e))
+    (within_none (λ b. record { ended = x ∷ b.ended; last = b.last }) (text_of (ended_leaves x)) [] (in_lines f (after_line r x.line) (pre ++ rest) last) (none_second _ _ e))
 
 abbrev clear_by : Line → Option Written → Bool → Option (Changed Line)
 clear_by l o b = elim o [

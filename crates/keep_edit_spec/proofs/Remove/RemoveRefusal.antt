@@ -1,56 +1,24 @@
--- Where `remove` is not refused, no header goes through a path that ends in a key.
+-- What a path that ends in a key, and that a header goes through, can't be: a value, or an element.
 --
--- A removal is refused unless the path is one piece: a value, a definition that no header goes through, or an element
--- (`pieces`). For a path that ends in a key and that a header goes through, two of these are left to exclude. It is no
--- value: a value is beside nothing that may be shared, as a header's mention may (`no_both`, for any such kind of
--- mention). And it is no element, since an element's path ends in an index: `lines_begun`, by induction over the lines.
+-- A removal is refused unless the path is one piece: a value, a definition that no header goes through, or an element.
+-- For such a path two of these are left to exclude. It is no value: a value is beside nothing that may be shared, as a
+-- header's mention may (`no_both`, for any such kind of mention). And it is no element, since an element's path ends in
+-- an index: `lines_begun`, by induction over the lines.
 --
--- Theorems: `no_both` and `lines_begun`, which other files use; `single_piece`: no header goes through a path that is
--- one piece.
-use Rattle.std.proofs.Common.{◌≡◌, ℕ, ◌+◌, Bool, true, false, not, cond, ◌&&◌, ◌||◌, List, [], ◌∷◌, ◌++◌, map, refl, sym, ap, ◌∙◌, Option, Some, None, ◌⊎◌, inl, inr}
+-- Theorems: `no_both` and `lines_begun`.
+use Rattle.std.proofs.Common.{◌≡◌, ℕ, ◌+◌, Bool, true, false, cond, List, [], ◌∷◌, ◌++◌, map, refl, sym, ap, ◌∙◌, Option, Some, None, inl, inr}
 use Rattle.std.specs.Prelude.{◌==◌}
-use Rattle.keep_types.specs.declared.leaf.Profile.{Profile}
-use Rattle.keep_syntax.specs.Tree.{Written, Gap, Name, Entries, none, entry, Content, blank, keyval, header, element, Line, Document}
-use Rattle.keep_syntax.specs.Grammar.{IsDocument}
-use Rattle.keep_edit_spec.specs.declared.fault.EditFault.{EditFault}
-use Rattle.keep_meaning.specs.Fact.{Fact, table, is_value_fact}
+use Rattle.keep_syntax.specs.Tree.{Written, Gap, Name, Entries, none, entry, Content, blank, keyval, header, element, Line}
+use Rattle.keep_meaning.specs.Fact.{Fact}
 use Rattle.keep_path.specs.Path.{Part, key, index}
-use Rattle.keep_meaning.specs.Rules.{ObeysRules}
-use Rattle.keep_meaning.specs.Marks.{MentionKind, through, past, define, dotted, value, begun, passed, item, element as kinds_element, Mention, below, fact_of, marks, Reading, start, elements_of, entered_path, passing_mentions, header_path, header_prefixes}
-use Rattle.keep_meaning.specs.Meaning.{key_value, further_value, keys_of, body_fact, valued_mentions, keyed_mentions, entry_mentions, entries_mentions, keyval_mentions, line_mentions, after_line, lines_mentions, lines, mentions_in}
-use Rattle.keep_meaning.specs.Nodes.{is_at, fact_at, has, is_through, is_begun, is_define, is_passed, is_node, is_root}
-use Rattle.keep_edit_spec.specs.Edits.{remove, change}
-use Rattle.keep_edit_spec.specs.Refusals.{first_that_holds, has_value, is_one_piece, refusal}
-use Rattle.keep_edit_spec.proofs.Common.Runs.{AllOf, SomeOf, all_join, Allowed, Rules, kinds_allow, solid, exclusive, same_path-sound}
+use Rattle.keep_meaning.specs.Marks.{MentionKind, through, past, define, dotted, value, begun, passed, item, element as kinds_element, Mention, below, Reading, elements_of, entered_path, passing_mentions, header_path, header_prefixes}
+use Rattle.keep_meaning.specs.Meaning.{key_value, further_value, keys_of, body_fact, valued_mentions, keyed_mentions, entry_mentions, entries_mentions, keyval_mentions, line_mentions, after_line, lines_mentions}
+use Rattle.keep_meaning.specs.Nodes.{is_begun}
+use Rattle.keep_edit_spec.proofs.Common.Runs.{AllOf, SomeOf, all_join, Allowed, Rules, kinds_allow, solid, exclusive}
 use Rattle.keep_edit_spec.proofs.Common.SetLaw.{IsAloneAt, exclusive-solid, solid-exclusive}
 use Rattle.keep_edit_spec.proofs.Common.LineLaws.{EndsInKey, last_snoc, last_from}
-use Rattle.keep_edit_spec.proofs.Common.SetWhole.{IsSetWhole, EachChange}
-use Rattle.keep_edit_spec.proofs.Common.Marks.{rules_of_document}
-use Rattle.keep_edit_spec.proofs.Remove.RemoveLaw.{remove_key_is_right}
 
 -- ---- what is at the path
-
-alone_fact : (a : MentionKind) (f : Fact) → fact_of a ≡ Some f → is_value_fact f ≡ true → exclusive a ≡ true
-alone_fact (value g) f e h = refl
-alone_fact (item g) f e h = refl
-alone_fact through f e h = absurd cc
-alone_fact past f e h = absurd cc
-alone_fact dotted f e h = absurd cc
-alone_fact kinds_element f e h = absurd cc
-alone_fact passed f e h = absurd cc
-alone_fact define f e h = let k : is_value_fact (table) ≡ is_value_fact f = (let t : table ≡ f = cc in ap is_value_fact t) in absurd cc
-alone_fact begun f e h = let k : is_value_fact (table) ≡ is_value_fact f = (let t : table ≡ f = cc in ap is_value_fact t) in absurd cc
-
-some_value : (p : List Part) (f : Fact) → is_value_fact f ≡ true → (ms : List Mention) → fact_at p ms ≡ Some f → SomeOf (IsAloneAt p) ms
-some_value p f v [] h = absurd cc
-some_value p f v (m ∷ ms) h = by (λ g. some_value p f v ms g) (is_at p m) refl (fact_of m.kind) refl h
-  where
-    by : (fact_at p ms ≡ Some f → SomeOf (IsAloneAt p) ms) → (b : Bool) → is_at p m ≡ b → (o : Option Fact) → fact_of m.kind ≡ o → fact_at p (m ∷ ms) ≡ Some f → SomeOf (IsAloneAt p) (m ∷ ms)
-    by ih false e o k g = inr (ih (rw e at g))
-    by ih true e None k g = inr (ih (rw (e, k) at g))
-    by ih true e (Some t) k g =
-        let x : Some t ≡ Some f = rw (e, k) at g in
-        inl (record { path = same_path-sound m.path p e; kind = alone_fact m.kind f (k ∙ x) v })
 
 -- a mention that may be beside other such mentions, but beside no value
 pub record IsShared (is : MentionKind → Bool) : Type 0 where
@@ -148,22 +116,3 @@ pub never_begun : (p : List Part) (ms : List Mention) → AllOf (NotBegun p) ms 
 never_begun p [] h s = s
 never_begun p (m ∷ ms) h (inl s) = let no : is_begun m.kind ≡ false = h.0 s.0 in let yes : is_begun m.kind ≡ true = s.1 in absurd cc
 never_begun p (m ∷ ms) h (inr s) = never_begun p ms h.1 s
-
--- ---- the refusal
-
-three : (a b c : Bool) (f g h : EditFault) → first_that_holds ((a, f) ∷ (b, g) ∷ (not c, h) ∷ []) ≡ None → c ≡ true
-three a b true f g h e = refl
-three true b false f g h e = absurd cc
-three false true false f g h e = absurd cc
-three false false false f g h e = absurd cc
-
-value_there : (p : List Part) (ms : List Mention) (o : Option Fact) → fact_at p ms ≡ o → (elim o [ None ↦ false | Some f ↦ is_value_fact f ]) ≡ true → SomeOf (IsAloneAt p) ms
-value_there p ms None e h = absurd cc
-value_there p ms (Some f) e h = some_value p f h ms e
-
-pieces : (v d t b q : Bool) → (v || ((d && not t) || (b && not q))) ≡ true → t ≡ true → (v ≡ true) ⊎ (b ≡ true)
-pieces true d t b q h e = inl refl
-pieces false d t true q h e = inr refl
-pieces false true true false q h e = absurd cc
-pieces false false true false q h e = absurd cc
-pieces false d false false q h e = absurd cc

@@ -7,12 +7,12 @@
 -- and the edit is refused where one does (`has_through`).
 --
 -- Theorem: `section_dropped`: after the section is dropped the rules hold, and the tree has changed as it should.
-use Rattle.std.proofs.Common.{◌≡◌, ℕ, zero, suc, Bool, true, false, cond, ◌||◌, List, [], ◌∷◌, ◌++◌, map, take, drop, refl, sym, ap, subst, ◌∙◌, append_assoc, Option, Some, None, inl, inr}
+use Rattle.std.proofs.Common.{◌≡◌, ℕ, zero, suc, Bool, true, false, cond, List, [], ◌∷◌, ◌++◌, map, take, drop, refl, sym, ap, subst, ◌∙◌, append_assoc, Option, Some, None, inl, inr}
 use Rattle.std.specs.Prelude.{◌==◌}
 use Rattle.std.proofs.lemmas.List.{append-nil, take-append-drop}
 use Rattle.keep_syntax.specs.Tree.{Written, Gap, Key, Content, blank, keyval, header, element, Line, Document}
 use Rattle.keep_path.specs.Path.{Part, key, index, same_path}
-use Rattle.keep_meaning.specs.Marks.{MentionKind, through, past, define, dotted, value, begun, passed, item, element as kinds_element, Mention, below, fact_of, Reading, start, elements_of, entered_path, passing_mentions, header_path, header_prefixes}
+use Rattle.keep_meaning.specs.Marks.{MentionKind, through, past, define, passed, Mention, below, fact_of, Reading, start, elements_of, entered_path, passing_mentions, header_path, header_prefixes}
 use Rattle.keep_meaning.specs.Meaning.{keys_of, keyval_mentions, lines_mentions, reading_after_lines, lines, mentions_in}
 use Rattle.keep_meaning.specs.Nodes.{is_at, has, is_through}
 use Rattle.keep_edit_spec.specs.Look.{strip}
@@ -25,6 +25,7 @@ use Rattle.keep_edit_spec.proofs.Common.LineLaws.{EndsInKey, lines_closed, lines
 use Rattle.keep_edit_spec.proofs.Common.SetDocument.{IsLawful, page_lines, from_closed, under_below}
 use Rattle.keep_edit_spec.proofs.Common.Cuts.{IsCut, rules_cut, tree_cut}
 use Rattle.keep_edit_spec.proofs.Remove.RemoveLines.{IsFound, found, without_mentions, drop_next}
+use Rattle.keep_edit_spec.proofs.Common.InsertLaw.{or_true}
 
 -- ---- the lines of a body
 
@@ -66,25 +67,11 @@ pub record IsThroughAt (p : List Part) (m : Mention) : Type 0 where
 
 through_earlier : (a : MentionKind) → solid a ≡ true → kinds_allow a define ≡ true → is_through a ≡ true
 through_earlier through s e = refl
-through_earlier past s e = absurd cc
-through_earlier define s e = absurd cc
-through_earlier kinds_element s e = absurd cc
-through_earlier dotted s e = absurd cc
-through_earlier (value f) s e = absurd cc
-through_earlier begun s e = absurd cc
-through_earlier passed s e = absurd cc
-through_earlier (item f) s e = absurd cc
+through_earlier other s e = absurd cc
 
 through_later : (a : MentionKind) → solid a ≡ true → kinds_allow define a ≡ true → is_through a ≡ true
 through_later through s e = refl
-through_later past s e = absurd cc
-through_later define s e = absurd cc
-through_later kinds_element s e = absurd cc
-through_later dotted s e = absurd cc
-through_later (value f) s e = absurd cc
-through_later begun s e = absurd cc
-through_later passed s e = absurd cc
-through_later (item f) s e = absurd cc
+through_later other s e = absurd cc
 
 -- of those before it
 solid_before : (p : List Part) (xs ys : List Mention) → SomeOf (IsSolidAt p) xs → Rules (xs ++ record { path = p; kind = define } ∷ ys) → SomeOf (IsThroughAt p) xs
@@ -99,12 +86,8 @@ solid_after p [] s h = absurd s
 solid_after p (y ∷ ys) (inl g) h = inl (record { path = g.path; kind = through_later y.kind g.kind (h.0 (sym g.path)) })
 solid_after p (y ∷ ys) (inr s) h = inr (solid_after p ys s h.1)
 
-or_right : (a b : Bool) → b ≡ true → (a || b) ≡ true
-or_right true b h = refl
-or_right false b h = h
-
 has_step : (p : List Part) (m : Mention) (ms : List Mention) (b : Bool) → is_at p m ≡ b → has is_through p ms ≡ true → has is_through p (m ∷ ms) ≡ true
-has_step p m ms true e h = rw e (or_right (is_through m.kind) (has is_through p ms) h)
+has_step p m ms true e h = rw e (or_true (is_through m.kind) (has is_through p ms) h)
 has_step p m ms false e h = rw e h
 
 has_through : (p : List Part) (ms : List Mention) → SomeOf (IsThroughAt p) ms → has is_through p ms ≡ true

@@ -25,7 +25,7 @@ use Rattle.keep_syntax.specs.Numbered.{width, Count, key_count, line_statements,
 use Rattle.keep_syntax.proofs.Shared.{over_ended, after_lines-statements}
 use Rattle.keep_path.specs.Path.{Part, same_path}
 use Rattle.keep_meaning.specs.Marks as marks_of
-use Rattle.keep_meaning.specs.Marks.{MentionKind, Mention, Reading, start, statement_mentions, next_reading, mentions_from, reading_after, header_prefixes}
+use Rattle.keep_meaning.specs.Marks.{MentionKind, Mention, Reading, start, statement_mentions, next_reading, reading_after, header_prefixes}
 use Rattle.keep_meaning.specs.Meaning.{keys_of, statement_of, after_line, lines_mentions, reading_after_lines, line_of, lines}
 use Rattle.keep_meaning.specs.Counts as counts
 use Rattle.keep_meaning.specs.Counts.{Numbered, count_with_mention, next_count, no_count, numbered_mentions, numbered_from, count_from, line_statement, statements_in, numbered_in}
@@ -127,7 +127,7 @@ line_counts c l line_end (keyval name v) ss = omega arith
 line_counts c l line_end (header b k a) ss = omega arith
 line_counts c l line_end (element b k a) ss = omega arith
 
-prefix_statements : (c : Count) (pre : List Ended) → length (filter_map line_statement (map line_of pre)) ≡ length (over_ended line_statements c pre)
+pub prefix_statements : (c : Count) (pre : List Ended) → length (filter_map line_statement (map line_of pre)) ≡ length (over_ended line_statements c pre)
 prefix_statements c [] = refl
 prefix_statements c (e ∷ pre) =
     omega (

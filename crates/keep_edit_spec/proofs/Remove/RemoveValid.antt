@@ -31,6 +31,7 @@ use Rattle.std.specs.Prelude.{drop}
 use Rattle.keep_edit_spec.specs.Edits.{remove, change, nested, is_own, clear_line, without_lines}
 use Rattle.keep_edit_spec.proofs.Common.SetLaw.{EachTo, to_within, to_or_else}
 use Rattle.keep_edit_spec.proofs.Common.SetValid.{IsActValid, IsPage, valid_lines, valid_line}
+use Rattle.keep_edit_spec.proofs.Remove.TakenOut.{out_when}
 
 -- ---- gaps that meet
 
@@ -163,10 +164,6 @@ pub record IsRow (profile : Profile) (place : Place) (path : List Part) (k : ℕ
   pub entries : AreEntries profile place r.entries
   pub comma : is_last_named path k es ≡ false → IsComma profile place (Some r.gap) r.entries
 
-row_when : (P : Row → Type 0) (b : Bool) (c : Changed Row) → (b ≡ true → P c.to) → EachTo P (elim b [ true ↦ Some c | false ↦ None ])
-row_when P true c h = h refl
-row_when P false c h = tt
-
 first_gap : (profile : Profile) (place : Place) (gap after next_gap : Gap) → IsGap profile place gap → IsGap profile place after → IsGap profile place next_gap
     → IsGap profile place (joined_gap gap (joined_gap (preserved_gap after) (past_ws next_gap)))
 first_gap profile place gap after next_gap hg ha hb =
@@ -205,11 +202,11 @@ valid_row : (profile : Profile) (place : Place) (path : List Part) (k : ℕ) (ga
     → EachTo (IsRow profile place path k es) (take_out path k gap es)
 valid_row profile place path k gap none hg h = tt
 valid_row profile place path k gap (entry name body nested after None none) hg h =
-    row_when (IsRow profile place path k (entry name body nested after None none)) (same_path (step k name) path) (taken_only gap name body nested after)
+    out_when (IsRow profile place path k (entry name body nested after None none)) (same_path (step k name) path) (taken_only gap name body nested after)
     (λ e. record { gap = gap_joined profile place gap after hg h.3; entries = tt; comma = λ e'. absurd cc })
 valid_row profile place path k gap (entry name body nested after None (entry name' body' nested' after' comma' rest')) hg h = tt
 valid_row profile place path k gap (entry name body nested after (Some next_gap) none) hg h =
-    row_when (IsRow profile place path k (entry name body nested after (Some next_gap) none)) (same_path (step k name) path) (taken_first gap name body nested after next_gap none)
+    out_when (IsRow profile place path k (entry name body nested after (Some next_gap) none)) (same_path (step k name) path) (taken_first gap name body nested after next_gap none)
     (λ e. let g = first_gap profile place gap after next_gap hg h.3 h.4.0 in record { gap = g; entries = tt; comma = λ e'. (g, h.4.1) })
 valid_row profile place path k gap (entry name body nested after (Some next_gap) (entry name' body' nested' after' comma' rest')) hg h =
     row_two profile place path k gap name body nested after next_gap name' body' nested' after' comma' rest'

@@ -5,8 +5,7 @@ use Rattle.keep_syntax.specs.Tree.{Document}
 use Rattle.keep_syntax.specs.Grammar.{IsDocument}
 use Rattle.keep_path.specs.Path.{Part}
 use Rattle.keep_meaning.specs.Rules.{ObeysRules}
-use Rattle.keep_meaning.specs.Marks.{MentionKind, through, past, define, dotted, value, begun, passed, item, Mention, start, marks}
-use Rattle.keep_meaning.specs.Marks as marks_of
+use Rattle.keep_meaning.specs.Marks.{MentionKind, define, Mention, start, marks}
 use Rattle.keep_meaning.specs.Meaning.{lines, mentions_in}
 use Rattle.keep_meaning.specs.Nodes.{is_root, is_node, has, is_define, is_through, is_begun, is_passed}
 use Rattle.keep_edit_spec.specs.declared.fault.EditFault.TheVariants as fault
@@ -30,25 +29,11 @@ use Rattle.keep_edit_spec.proofs.Common.TableThere.{defined_ends, some_of_table}
 
 define_solid : (a : MentionKind) → is_define a ≡ true → solid a ≡ true
 define_solid define h = refl
-define_solid through h = absurd cc
-define_solid past h = absurd cc
-define_solid marks_of.element h = absurd cc
-define_solid dotted h = absurd cc
-define_solid (value f) h = absurd cc
-define_solid begun h = absurd cc
-define_solid passed h = absurd cc
-define_solid (item f) h = absurd cc
+define_solid other h = absurd cc
 
 define_many : (a : MentionKind) → is_define a ≡ true → exclusive a ≡ true → ⊥
 define_many define h g = absurd cc
-define_many through h g = absurd cc
-define_many past h g = absurd cc
-define_many marks_of.element h g = absurd cc
-define_many dotted h g = absurd cc
-define_many (value f) h g = absurd cc
-define_many begun h g = absurd cc
-define_many passed h g = absurd cc
-define_many (item f) h g = absurd cc
+define_many other h g = absurd cc
 
 pub shared_define : IsShared is_define
 shared_define = record { firm = define_solid; many = define_many }

@@ -1,4 +1,11 @@
 -- An element is taken out of an array of tables: the paths of the elements after it go down by one.
+--
+-- The change of paths looks at a path's part after the array's path alone: a path elsewhere stays (`shifted_disjoint`),
+-- an index above the element's goes down by one, and one below it stays (`shifted_above`, `shifted_below`). A further
+-- step leaves the steps before it (`shifted_key`, `shifted_index`). Of paths that are not at or under the element,
+-- different ones stay different (`shifted-injective`).
+--
+-- Theorems: `shifted_key`, `shifted_index` and `shifted-injective`.
 use Rattle.std.proofs.Common.{◌≡◌, ℕ, ◌-◌, ◌<◌, ◌≤◌, Bool, true, false, cond, List, [], ◌∷◌, ◌++◌, refl, sym, ap, ◌∙◌, append_assoc, Option, Some, None, ◌⊎◌, inl, inr}
 use Rattle.std.proofs.lemmas.List.{append-nil}
 use Rattle.std.proofs.lemmas.Bool.{lt-ltb, le-ltb}

@@ -1,9 +1,16 @@
 -- What a keyval and a `[[..]]` line say beside an element that is taken out.
+--
+-- A keyval's paths begin with its body's. It says nothing of the array itself, so its paths go where the body goes
+-- (`keyval_shifted`). A `[[..]]` line begins the element after those that earlier lines began: before the element's
+-- lines its number is lesser and stays, after them it is greater and goes down by one, as the count of earlier lines
+-- does (`begun_shift`).
+--
+-- Theorems: `keyval_shifted`, `begun_shift` and `next_shift`.
 use Rattle.std.proofs.Common.{◌≡◌, ℕ, ◌+◌, ◌<◌, ◌≤◌, Bool, true, false, cond, List, [], ◌∷◌, ◌++◌, map, refl, sym, ap, subst, ◌∙◌, append_assoc, arith, Some, None, ◌⊎◌, inl, inr}
 use Rattle.keep_syntax.specs.Tree.{Name, Value, Line}
 use Rattle.keep_path.specs.Path.{Part, key, index, same_part, same_path}
 use Rattle.keep_meaning.specs.Marks as marks_of
-use Rattle.keep_meaning.specs.Marks.{MentionKind, past, define, begun, passed, Mention, below, Reading, elements_of, header_path, header_prefixes}
+use Rattle.keep_meaning.specs.Marks.{MentionKind, past, begun, passed, Mention, below, Reading, elements_of}
 use Rattle.keep_meaning.specs.Meaning.{keyval_mentions, line_mentions}
 use Rattle.keep_edit_spec.specs.Look.{strip}
 use Rattle.keep_edit_spec.proofs.Common.Runs.{AllOf, SomeOf, all_map, meet, IsDisjoint, IsUnder, strip_both, strip_shorter, strip-sound, same_path-sound, same_path-refl}

@@ -1,4 +1,12 @@
 -- What a header after an element that is taken out says: its path and the paths on its way go where the elements go.
+--
+-- `IsShift` compares how many elements each array has in the lines so far, in the old document and in the new: the same
+-- at changed paths, but for the array itself, which has one less after the element's lines. The next step of a header
+-- goes on from a path, or from the last element there. Both are the changed ones of the old document: for the array
+-- itself the last element's number is one less exactly where the change makes it so. By induction over the keys this
+-- holds of the whole header (`way_shift`).
+--
+-- Theorem: `way_shift`.
 use Rattle.std.proofs.Common.{◌≡◌, ℕ, zero, suc, ◌+◌, ◌-◌, ◌<◌, ◌≤◌, Bool, true, false, cond, List, [], ◌∷◌, ◌++◌, map, refl, sym, ap, subst, ◌∙◌, arith, None, ◌⊎◌, inl, inr}
 use Rattle.std.specs.Prelude.{◌==◌}
 use Rattle.std.proofs.lemmas.List.{append-nil, map-append}

@@ -1,4 +1,11 @@
 -- Taking an entry out of an array or of braces: which mentions go, and which stay.
+--
+-- `IsOut` says which entry goes: some mentions before it stay as they are, its own go, and those of the entries after
+-- it have numbers one lower. It holds of the first entry, if the path names it, and else of a later one, with one entry
+-- more before it (`out_one`, `out_more`). Where the last entry goes, the one before it loses its comma; that changes no
+-- mention.
+--
+-- Theorems: `entry_out` and `does_remove`.
 use Rattle.std.proofs.Common.{◌≡◌, ℕ, ◌+◌, ◌≤◌, Bool, true, false, List, [], ◌++◌, map, refl, sym, ap, subst, ◌∙◌, append_assoc, arith, Option, Some, None}
 use Rattle.std.specs.Prelude.{codes}
 use Rattle.std.proofs.lemmas.List.{map-append, append-nil}

@@ -1,4 +1,11 @@
--- What a line says where a key is renamed: the same, with the paths changed.
+-- What a line says where a key is renamed: the same mentions, with their paths changed.
+--
+-- Lines that stay say what they said, but the paths that the tables before them have are the changed ones. The steps of
+-- a header go on from them as before (`way_moved`), since no table has a path at or under the new one (`AreClear`). The
+-- line that is renamed says what it said with one key replaced: for each kind of content `RenamedParts` finds the key
+-- part and changes the paths (`content_renamed`).
+--
+-- Theorems: `content_preserved` and `content_renamed`.
 use Rattle.std.proofs.Common.{◌≡◌, ℕ, List, [], ◌∷◌, ◌++◌, length, map, refl, sym, ap, subst, ◌∙◌, length-append, arith, Some, None, ◌⊎◌, inl, inr}
 use Rattle.std.specs.Prelude.{codes, position}
 use Rattle.std.specs.Option.{is_some}

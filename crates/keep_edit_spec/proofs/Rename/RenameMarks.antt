@@ -1,4 +1,11 @@
 -- Renaming one part of a key: which of the key parts it is, where it is written, and which mention it makes.
+--
+-- `rename_part` goes to the part of a number. By induction over the further parts of a key, the change it makes
+-- replaces the text of the key part with that number (`key_at`, `IsPartAt`): what is before it are the parts before,
+-- their dots and their white space, whose widths add up to the part's start. The mentions of a keyval or a header are
+-- one for each key part in the same order, so the part's mention is the one of that number too (`IsMarkedAt`).
+--
+-- Theorems: `key_at`, `name_at`, and the lemmas on `IsMarkedAt`.
 use Rattle.std.proofs.Common.{◌≡◌, ℕ, zero, suc, ◌+◌, Bool, true, false, cond, List, [], ◌∷◌, ◌++◌, length, map, refl, sym, ap, subst, ◌∙◌, append_assoc, length-append, arith}
 use Rattle.std.specs.Prelude.{codes, ◌==◌}
 use Rattle.keep_types.specs.declared.leaf.Leaf.TheVariants as leaf

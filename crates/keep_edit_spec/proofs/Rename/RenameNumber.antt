@@ -43,20 +43,13 @@ mark_role define e = (role.Define, refl)
 mark_role element e = (role.Element, refl)
 mark_role dotted e = (role.Dotted, refl)
 mark_role (value f) e = (role.Value, refl)
-mark_role begun e = absurd cc
-mark_role passed e = absurd cc
-mark_role (item f) e = absurd cc
+mark_role other e = absurd cc
 
 pub no_role : (s : MentionKind) → is_mark s ≡ false → role_of s ≡ None
 no_role begun e = refl
 no_role passed e = refl
 no_role (item f) e = refl
-no_role through e = absurd cc
-no_role past e = absurd cc
-no_role define e = absurd cc
-no_role element e = absurd cc
-no_role dotted e = absurd cc
-no_role (value f) e = absurd cc
+no_role other e = absurd cc
 
 -- one mark more, if it is one and is at the path
 marks_with : (p : List Part) (m : Mention) (ms : List Mention) (a b : Bool) → is_at p m ≡ a → is_mark m.kind ≡ b → mark_count p (m ∷ ms) ≡ cond b (cond a 1 0) 0 + mark_count p ms

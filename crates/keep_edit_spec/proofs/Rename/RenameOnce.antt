@@ -5,7 +5,7 @@ use Rattle.std.proofs.lemmas.List.Sums.{sum_by-append}
 use Rattle.keep_types.specs.declared.role.Role.{Role}
 use Rattle.keep_path.specs.Path.{Part, same_path}
 use Rattle.keep_meaning.specs.Rules.{Mark}
-use Rattle.keep_meaning.specs.Marks.{MentionKind, through, past, define, element, dotted, value, begun, passed, item, Mention, below, role_of, with_path, marks}
+use Rattle.keep_meaning.specs.Marks.{MentionKind, through, past, define, element, dotted, value, item, Mention, below, role_of, with_path, marks}
 use Rattle.keep_meaning.specs.Nodes.{mark_count}
 use Rattle.keep_edit_spec.proofs.Common.Runs.{AllOf, SomeOf, Pairs, pairs_split, all_map, meet, Allowed, Rules, kinds_allow, exclusive, solid, same_path-sound, same_path-refl}
 use Rattle.keep_edit_spec.proofs.Common.SetLaw.{IsSolidAt, exclusive-solid, solid-exclusive}
@@ -50,20 +50,12 @@ role_solid define r e = refl
 role_solid element r e = refl
 role_solid dotted r e = refl
 role_solid (value f) r e = refl
-role_solid begun r e = absurd cc
-role_solid passed r e = absurd cc
-role_solid (item f) r e = absurd cc
+role_solid other r e = absurd cc
 
 silent_alone : (s : MentionKind) → role_of s ≡ None → solid s ≡ true → exclusive s ≡ true
-silent_alone through e h = absurd cc
-silent_alone past e h = absurd cc
-silent_alone define e h = absurd cc
-silent_alone element e h = absurd cc
-silent_alone dotted e h = absurd cc
 silent_alone (value f) e h = refl
-silent_alone begun e h = absurd cc
-silent_alone passed e h = absurd cc
 silent_alone (item f) e h = refl
+silent_alone other e h = absurd cc
 
 count_cons : (t : Mark → Bool) (m : Mark) (l : List Mark) → count_by t (m ∷ l) ≡ cond (t m) 1 0 + count_by t l
 count_cons t m l = omega (arith, sum_by-append (λ x. cond (t x) 1 0) (m ∷ []) l)

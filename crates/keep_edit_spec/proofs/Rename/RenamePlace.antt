@@ -14,7 +14,7 @@ use Rattle.std.proofs.lemmas.List.{map-append, append-nil, length-map}
 use Rattle.keep_types.specs.declared.syntax.KeyPart.{KeyPart}
 use Rattle.keep_syntax.specs.Tree.{Written, Gap, Key, Name, Body, Entries, none, entry, Value, Content, blank, keyval, header, element, Line, Ended, Document, name_leaves, named_leaves, opening, closing, comma_leaves, comment_leaves, ended_leaves, bom_leaves, text_of}
 use Rattle.keep_syntax.specs.Numbered as syntax
-use Rattle.keep_syntax.specs.Numbered.{value_start, nested_start, entry_end, key_parts, named_parts, name_count, entries_parts, content_start, content_parts, line_parts, over_lines, next_line, first_line}
+use Rattle.keep_syntax.specs.Numbered.{value_start, nested_start, entry_end, key_parts, named_parts, entries_parts, content_start, content_parts, line_parts, over_lines, next_line, first_line}
 use Rattle.keep_meaning.specs.Fact.{Fact}
 use Rattle.keep_path.specs.Path.{Part, key, index, same_path}
 use Rattle.keep_meaning.specs.Marks.{define, element as kinds_element, begun, value, item, Mention, below, Reading, elements_of, header_path, start}

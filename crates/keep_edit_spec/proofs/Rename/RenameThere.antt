@@ -1,4 +1,12 @@
 -- Where a key in braces names a path, `rename` has a change there.
+--
+-- A mention at the path that is made inside a value comes from one entry: from a part of that entry's key, and then the
+-- path is a prefix of its keys, or from what is in its value (`keyed_cases`, `entry_cases`). In the first case that
+-- part of the key can be renamed (`entry_there`); in the second the value's entries have the change (`deeper_there`);
+-- else it is in a later entry (`after_there`). Items of arrays have no key, so nothing is renamed in front of them
+-- (`no_key`).
+--
+-- Theorems: `entry_cases`; `entry_there`, `value_there`, `deeper_there` and `after_there`.
 use Rattle.std.proofs.Common.{◌≡◌, ℕ, zero, suc, ◌+◌, ◌-◌, List, [], ◌∷◌, ◌++◌, length, map, refl, sym, ap, subst, ◌∙◌, append_assoc, arith, Option, Some, None, ◌⊎◌, inl, inr}
 use Rattle.keep_types.specs.declared.leaf.Profile.{Profile}
 use Rattle.keep_syntax.specs.Tree.{Written, Gap, Name, Body, Entries, none, entry, named_leaves, opening, closing, comma_leaves, text_of}

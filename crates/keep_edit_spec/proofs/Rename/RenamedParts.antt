@@ -1,4 +1,12 @@
 -- The key part of a path, by its number among the keys of a header or a keyval.
+--
+-- `IsPart` says that the key of a number leads to the path, `AreRenamed` that the keys are the same but for that one.
+-- From the keys, each path on the way is longer than the one before it (`part_longer`), so only one key leads to the
+-- path, and after it the keys stay (`keys_beyond`). So the mentions of the keyval or the header are the old ones with
+-- changed paths (`keyed_renamed`), and the number of the key part is its place among the prefixes of the keys
+-- (`header_position`, `keyval_position`).
+--
+-- Theorems: `keys_renamed`, `keyed_renamed`, `header_position` and `keyval_position`.
 use Rattle.std.proofs.Common.{◌≡◌, ℕ, zero, suc, ◌-◌, ◌<◌, ◌≤◌, Bool, true, false, cond, List, [], ◌∷◌, ◌++◌, length, map, get_or, refl, sym, ap, subst, ◌∙◌, append_assoc, length-append, arith, Some, inl, inr}
 use Rattle.std.specs.Prelude.{◌==◌, position}
 use Rattle.std.proofs.lemmas.List.{append-nil}

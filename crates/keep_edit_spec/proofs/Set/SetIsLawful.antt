@@ -1,4 +1,12 @@
 -- The law of `set`, whole; and the text that `get` gives.
+--
+-- That nothing is refused means four facts, of the node, its value, the depth and the profile (`settable`). They are
+-- what the parts of the law want: a change exists where there is a value (`set_changes`), it is done at the value of
+-- the path alone (`set_done`), so the depth is that of the new value or of what is beside it (`set_depth`), and the
+-- text grows by no more than the new value's (`set_growth`). The text that `get` gives is what `set` would replace,
+-- since the two cut at the same place (`own_cut`).
+--
+-- Theorems: `set_is_lawful` and `get_is_right`.
 use Rattle.std.proofs.Common.{◌≡◌, ℕ, ◌+◌, ◌≤◌, Bool, true, false, not, List, [], ◌∷◌, ◌++◌, length, refl, sym, ap, subst, ◌∙◌, length-append, arith, Option, Some, None}
 use Rattle.std.proofs.lemmas.Option.{same_Some}
 use Rattle.std.specs.Prelude.{nat_lt}

@@ -1,9 +1,12 @@
--- Where `set` puts a value without entries in place of another such, the numbered mentions stay as they are, but for the
--- fact of the one mention at the path (the theorem is fact_set).
--- A value without entries is one mention, whatever its fact, and all such mentions count alike: each is one value, and one
--- key part if the value has a key. So the counts after it are as before.
--- The document's statements are those of the lines before the changed one, its own, and those of the lines after it. The
--- first and the last are the same in both documents; the changed line's mentions differ in that one fact.
+-- Where `set` puts a value without entries in place of another such, the numbered mentions stay as they are, but for
+-- the fact of the one mention at the path.
+--
+-- The value is one mention of its keyval, and neither value has further mentions. A count does not look at facts
+-- (`one_count`), so the numbers after the mention are what they were (`numbers_split`). The statement of the line gives
+-- the same reading for the lines after it, so these have the numbers that they had too (`lines_fact_set`), and at the
+-- path and under it nothing else is said.
+--
+-- Theorem: `fact_set`.
 use Rattle.std.proofs.Common.{◌≡◌, ◌+◌, List, [], ◌∷◌, ◌++◌, map, refl, sym, ap, subst, ◌∙◌, append_assoc, Option, Some, None}
 use Rattle.std.specs.List.{filter_map}
 use Rattle.std.proofs.lemmas.List.{map-append}

@@ -27,7 +27,7 @@ use Rattle.keep_edit_spec.specs.Values.{Act, in_value, text_of_value, replacemen
 use Rattle.keep_edit_spec.specs.Lines.{line_text, ended_text, Page, with_page, in_document, in_lines, in_content, in_line, rename_content, rename_line, part_paths, put_lines, drop_lines, last_line, begins, leads_dotted, leads_through, body_length, body_end, reading_at, new_line, newline_of, content_text, is_empty}
 use Rattle.keep_edit_spec.specs.Edits.{Edit, set, insert, rename, remove, append_table, append_element, nested, at_line, without_lines, end_of, insert_line, change_insert, is_own, clear_line, change_remove, change_rename, change, key_with, name_with, new_keyval, new_header, key_part}
 use Rattle.keep_edit_spec.proofs.Common.Texts.{EachIs, IsAct, replacement-is, put_item-is, put_named-is, removal-is, renaming-is}
-use Rattle.keep_edit_spec.proofs.Common.LineTexts.{in_line-is, rename_line-is, clear_line-is}
+use Rattle.keep_edit_spec.proofs.Common.LineTexts.{in_line-is, rename_line-is, clear_cases, clear_line-is}
 use Rattle.keep_syntax.specs.WholeLines.{empty_line, begin, touched, replaced}
 use Rattle.keep_edit_spec.proofs.Touched.SwapLaws.{EachSwaps, have_bytes, HaveNewlines, FillPage, EachSolid, swaps_lines, swaps_put, swaps_drop}
 
@@ -174,28 +174,13 @@ some_own path r (keyval name value) h = omega (arith, has_equals name, ap length
 some_own path r (header a b c) h = absurd cc
 some_own path r (element a b c) h = absurd cc
 
-abbrev cleared : Line → Written → Bool → Option (Changed Line)
-cleared l c b = elim b [
-  | false ↦ None
-  | true ↦ Some (record {
-    to = record { before = l.before; content = blank; after = []; comment = Some c };
-    before = text_of l.before;
-    old = content_text l.content ++ text_of l.after;
-    new = [];
-    after = c.text;
-  })
-]
-
-solid_cleared : (path : List Part) (r : Reading) (l : Line) (c : Written) (b : Bool) → is_own path r l.content ≡ b → EachIs line_text l (cleared l c b) → EachSolid l (cleared l c b)
-solid_cleared path r l c false e i = tt
-solid_cleared path r l c true e i = record { is = i; some = omega (arith, some_own path r l.content e, length-append (content_text l.content) (text_of l.after)) }
-
-solid_comment : (path : List Part) (r : Reading) (l : Line) (o : Option Written) → EachIs line_text l (elim o [ None ↦ None | Some c ↦ cleared l c (is_own path r l.content) ]) → EachSolid l (elim o [ None ↦ None | Some c ↦ cleared l c (is_own path r l.content) ])
-solid_comment path r l None i = tt
-solid_comment path r l (Some c) i = solid_cleared path r l c (is_own path r l.content) refl i
-
 solid_clear : (path : List Part) (r : Reading) (l : Line) → EachSolid l (clear_line path r l)
-solid_clear path r l = solid_comment path r l l.comment (clear_line-is path r l)
+solid_clear path r l =
+    clear_cases (λ (o : Option (Changed Line)). EachIs line_text l o → EachSolid l o) path r l (λ i. tt)
+    (λ c e own i. record {
+      is = i;
+      some = omega (arith, some_own path r l.content own, length-append (content_text l.content) (text_of l.after));
+    }) (clear_line-is path r l)
 
 -- ---- documents
 

@@ -23,7 +23,7 @@ use Rattle.keep_syntax.specs.Numbered.{key_count, info, nested_of, entries_value
 use Rattle.keep_meaning.specs.Fact.{Fact}
 use Rattle.keep_path.specs.Path.{Part, same_path}
 use Rattle.keep_meaning.specs.Rules.{ObeysRules}
-use Rattle.keep_meaning.specs.Marks.{MentionKind, through, past, define, element as kinds_element, dotted, value, begun, passed, item, Mention, below, marks, Reading, statement_mentions, start}
+use Rattle.keep_meaning.specs.Marks.{MentionKind, value, item, Mention, below, marks, Reading, statement_mentions, start}
 use Rattle.keep_meaning.specs.Meaning.{key_value, further_value, keys_of, body_fact, valued_mentions, entries_mentions, step, keyval_mentions, statement_of, line_mentions, after_line, lines_mentions, reading_after_lines, line_of, lines, mentions_in}
 use Rattle.keep_meaning.specs.Counts.{is_value, numbered_in}
 use Rattle.keep_meaning.specs.Nodes.{fact_at, numbered_at, last_number, value_number}
@@ -40,19 +40,14 @@ use Rattle.keep_edit_spec.proofs.Common.ValuesMention.{value_mention_kinds, leng
 use Rattle.keep_edit_spec.proofs.Common.ValueNumber.{false_unless}
 use Rattle.keep_edit_spec.proofs.Values.ValuePlace.{zip_at, mention_of_number}
 use Rattle.keep_edit_spec.proofs.Common.EntryDepths.{alone_of_bracket, enclosing_none, enclosing_beyond, disjoint_alone, no_prefix, IsDeep, zip_map, mentions-below, mentions-entry, alone_named, value_deep, entries_deep}
+use Rattle.keep_edit_spec.proofs.Append.AppendLaw.{reading_append}
 
 -- ---- a value's line
 
 exclusive_is_value : (s : MentionKind) → exclusive s ≡ true → is_value s ≡ true
 exclusive_is_value (value f) e = refl
 exclusive_is_value (item f) e = refl
-exclusive_is_value through e = absurd cc
-exclusive_is_value past e = absurd cc
-exclusive_is_value define e = absurd cc
-exclusive_is_value kinds_element e = absurd cc
-exclusive_is_value dotted e = absurd cc
-exclusive_is_value begun e = absurd cc
-exclusive_is_value passed e = absurd cc
+exclusive_is_value other e = absurd cc
 
 -- nothing is alone at its path where no value is said
 none_alone : (q : List Part) (ms : List Mention) → value_mention_kinds ms ≡ [] → SomeOf (IsAloneAt q) ms → ⊥
@@ -145,10 +140,6 @@ keyval_disjoint pre post l name v e rules =
       after = from_closed p r.body right (lines_closed p r post ends) (λ u. longer r.body _ _ u) (λ s. clash_after p mid right alone s outer.right);
     }
 
-reading_after_lines-append : (r : Reading) (a b : List Line) → reading_after_lines r (a ++ b) ≡ reading_after_lines (reading_after_lines r a) b
-reading_after_lines-append r [] b = refl
-reading_after_lines-append r (l ∷ a) b = reading_after_lines-append (after_line r l) a b
-
 -- what a line among lines says
 among_lines : (r : Reading) (pre post : List Line) (l : Line) (p : List Part) → SomeOf (IsAloneAt p) (line_mentions (reading_after_lines r pre) l) → SomeOf (IsAloneAt p) (lines_mentions r (pre ++ l ∷ post))
 among_lines r pre post l p s =
@@ -197,7 +188,7 @@ prefix_open pre post l name v e rules q k qs prefix s =
         let whole : pre ++ l ∷ post ≡ h.pre ++ h.line ∷ (h.post ++ l ∷ post) = ap (λ (x : List Line). x ++ l ∷ post) h.was ∙ append_assoc h.pre (h.line ∷ h.post) (l ∷ post) in
         let disjoint = keyval_disjoint h.pre (h.post ++ l ∷ post) h.line h.here.name h.here.value h.here.content (subst (λ (x : List Line). Rules (lines_mentions start x)) whole rules) in
         let same : reading_after_lines first h.post ≡ r =
-        ap (λ (x : Reading). reading_after_lines x h.post) (sym (reading_of first h.line h.here.name h.here.value h.here.content)) ∙ sym (reading_after_lines-append start h.pre (h.line ∷ h.post)) ∙ ap (reading_after_lines start) (sym h.was) in
+        ap (λ (x : Reading). reading_after_lines x h.post) (sym (reading_of first h.line h.here.name h.here.value h.here.content)) ∙ sym (reading_append start h.pre (h.line ∷ h.post)) ∙ ap (reading_after_lines start) (sym h.was) in
         let mine : SomeOf (IsAloneAt p) (lines_mentions first (h.post ++ l ∷ post)) =
         among_lines first h.post post l p (subst (λ (x : Reading). SomeOf (IsAloneAt p) (line_mentions x l)) (sym same) (own_alone r l name v e)) in
         disjoint_alone o (h.here.more ++ k ∷ qs) p (lines_mentions first (h.post ++ l ∷ post)) (under o h.here.more h.here.place) disjoint.after mine
@@ -209,7 +200,7 @@ prefix_open pre post l name v e rules q k qs prefix s =
         let whole : pre ++ l ∷ post ≡ prefix_lines ++ h.line ∷ h.post = ap (λ (x : List Line). pre ++ l ∷ x) h.was ∙ sym (append_assoc pre (l ∷ h.pre) (h.line ∷ h.post)) in
         let disjoint = keyval_disjoint prefix_lines h.post h.line h.here.name h.here.value h.here.content (subst (λ (x : List Line). Rules (lines_mentions start x)) whole rules) in
         let same : reading_after_lines start prefix_lines ≡ reading_after_lines r h.pre =
-        reading_after_lines-append start pre (l ∷ h.pre) ∙ ap (λ (x : Reading). reading_after_lines x h.pre) (reading_of r l name v e) in
+        reading_append start pre (l ∷ h.pre) ∙ ap (λ (x : Reading). reading_after_lines x h.pre) (reading_of r l name v e) in
         let o : List Part = own_path (reading_after_lines start prefix_lines) h.here.name in
         let place : q ≡ o ++ h.here.more = h.here.place ∙ ap (λ (x : Reading). own_path x h.here.name ++ h.here.more) (sym same) in
         let mine : SomeOf (IsAloneAt p) (lines_mentions start prefix_lines) = among_lines start pre h.pre l p (own_alone r l name v e) in
@@ -291,7 +282,7 @@ lines_deep profile pre c (x ∷ es) last are is whole e rules =
     (content_deep profile pre post c x.line x.line.content refl are.0.line.content (subst (λ (y : List Line). Rules (lines_mentions start y)) e rules)) in
     let further : AllZip (IsDeep 0 ms) (value_mentions (lines_mentions (reading_after_lines start next) post)) more =
     lines_deep profile next (next_line c x) es last are.1 is whole (e ∙ sym (append_assoc pre (x.line ∷ []) post)) rules in
-    let same : reading_after_lines start next ≡ after_line r x.line = reading_after_lines-append start pre (x.line ∷ []) in
+    let same : reading_after_lines start next ≡ after_line r x.line = reading_append start pre (x.line ∷ []) in
     subst (λ (l : List Mention). AllZip (IsDeep 0 ms) l (line_values c x.line ++ more)) (sym (filter-append states_value here rest))
     (zip_join (IsDeep 0 ms) (value_mentions here) (value_mentions rest) (line_values c x.line) more first
     (subst (λ (q : Reading). AllZip (IsDeep 0 ms) (value_mentions (lines_mentions q post)) more) same further))

@@ -1,4 +1,10 @@
--- What a value's leaf and text tell of its path: the fact there, and whether it is an integer or a string.
+-- What a value's leaf and text say of its path: the fact there, and whether it is an integer or a string.
+--
+-- The fact at a path is that of the body of its value. A body that is a scalar means what its leaf and its text mean
+-- (`body_leaf_fact`), and an array or a table is known by its bracket. So the leaf alone tells whether the fact is an
+-- integer (`integer_leaf`) or a string (`string_leaf`), by cases of the leaves.
+--
+-- Theorems: `fact_of_leaf`, `integer_at_leaf`, `leaf_of_integer` and `string_at_leaf`.
 use Rattle.std.proofs.Common.{◌≡◌, ℕ, ℤ, false, List, refl, sym, ap, ◌∙◌, Option, Some, None}
 use Rattle.std.specs.Prelude.{IsTrue}
 use Rattle.std.proofs.lemmas.List.{append-nil}

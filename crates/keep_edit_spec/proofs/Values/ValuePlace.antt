@@ -13,7 +13,7 @@ use Rattle.std.proofs.Common.{◌≡◌, ℕ, zero, suc, ◌+◌, ◌-◌, Bool,
 use Rattle.std.proofs.lemmas.Option.{same_Some}
 use Rattle.keep_types.proofs.Shared.{one_of_two}
 use Rattle.std.specs.List.{AllZip}
-use Rattle.std.specs.Option.{option_map, option_and_then}
+use Rattle.std.specs.Option.{option_map}
 use Rattle.std.proofs.lemmas.List.{append-nil}
 use Rattle.std.proofs.lemmas.List.Elements.{filter-append}
 use Rattle.keep_types.specs.declared.leaf.Profile.{Profile}
@@ -30,7 +30,7 @@ use Rattle.keep_meaning.specs.Rules.{ObeysRules}
 use Rattle.keep_meaning.specs.Marks.{MentionKind, Mention, marks, fact_of}
 use Rattle.keep_meaning.specs.Meaning.{body_fact, mentions_in}
 use Rattle.keep_meaning.specs.Counts.{is_value, numbered_in}
-use Rattle.keep_meaning.specs.Nodes.{fact_at, numbered_at, last_number, value_number, value_span, value_span_of, node_at}
+use Rattle.keep_meaning.specs.Nodes.{fact_at, numbered_at, last_number, value_number}
 use Rattle.keep_meaning.proofs.Shared.{IsPart, part_taken, valued}
 use Rattle.keep_edit_spec.specs.Changed.{Changed, Place, IsChangeOf, place_of}
 use Rattle.keep_edit_spec.specs.Values.{Act, replacement}
@@ -41,7 +41,7 @@ use Rattle.keep_edit_spec.proofs.Common.Runs.{Rules}
 use Rattle.keep_edit_spec.proofs.Common.Texts.{EachIs, IsAct, replacement-is}
 use Rattle.keep_edit_spec.proofs.Common.LineTexts.{nested-is}
 use Rattle.keep_edit_spec.proofs.Common.Marks.{rules_of_document}
-use Rattle.keep_edit_spec.proofs.Common.ValueThere.{the_some, some_nested, alone_of_has}
+use Rattle.keep_edit_spec.proofs.Common.ValueThere.{the_some, some_nested, alone_of_has, fact_of_has}
 use Rattle.keep_edit_spec.proofs.Common.DoneAtValue.{EachOf, IsAtEnd, IsDoneAt, value_fact-body}
 use Rattle.keep_edit_spec.proofs.Common.DoneInDocument.{done_nested}
 use Rattle.keep_edit_spec.proofs.Set.SetIsLawful.{ends_replacement, set_exists}
@@ -164,13 +164,6 @@ replaced new v d e =
     let x : Changed Value = record { to = new; before = []; old = value_text v; new = value_text new; after = [] } in
     let k : x ≡ d = same_Some x d e in
     record { before = sym (ap (λ (c : Changed Value). c.before) k); old = sym (ap (λ (c : Changed Value). c.old) k); fresh = sym (ap (λ (c : Changed Value). c.new) k) }
-
-fact_of_has : (path : List Part) (ms : List Mention) → has_value path ms ≡ true → (f : Fact) × (fact_at path ms ≡ Some f) × (is_value_fact f ≡ true)
-fact_of_has path ms h = by (fact_at path ms) refl h
-  where
-    by : (o : Option Fact) → fact_at path ms ≡ o → elim o [ None ↦ false | Some f ↦ is_value_fact f ] ≡ true → (f : Fact) × (fact_at path ms ≡ Some f) × (is_value_fact f ≡ true)
-    by None e h = absurd cc
-    by (Some f) e h = (f, e, h)
 
 -- a part of the text of that length
 text_here : (bytes : List ℕ) (i : Span) (t : List ℕ) → IsPart bytes i.start t → i.end ≡ i.start + length t → text_at bytes i ≡ t

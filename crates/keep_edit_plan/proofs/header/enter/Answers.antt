@@ -15,7 +15,7 @@ returns-in-Value c = λ s h. (
 pub returns-in-Tables : goal.returns-in-Tables
 returns-in-Tables c = λ s h.
     enters_tables s c.args.index.now h (path_numbered c.args.index.now c.args.at.0) c.args.name.now c.in-Some.id c.node.result c.child.result c.in-Some.is c.child.ensures.found c.node.ensures c.in-Tables.is c.child_at.result
-    (c.child_at.ensures.met ∙ ap (nth_child c.args.index.now c.in-Some.id.0) (c.saturating_sub.ensures ∙ ap (λ n. n - 1) c.child_count-count.ensures))
+    (c.child_at.ensures.node.found ∙ ap (nth_child c.args.index.now c.in-Some.id.0) (c.saturating_sub.ensures ∙ ap (λ n. n - 1) c.child_count-count.ensures))
 
 pub returns-in_default-origin : goal.returns-in_default-origin
 returns-in_default-origin c = λ s h.

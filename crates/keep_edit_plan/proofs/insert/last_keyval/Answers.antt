@@ -1,4 +1,7 @@
 use Rattle.std.proofs.Common.{◌+◌, sym, ◌∙◌, ap, arith}
+use Rattle.keep_syntax_store.specs.Blocks.{raise_value}
+use Rattle.keep_syntax_store.specs.Flat.{unpacked_value}
+use Rattle.keep_syntax_store.proofs.EntryLaws.{entries_length}
 use Rattle.keep_syntax.specs.Contract.{values_of}
 use Rattle.keep_edit_plan.proofs.KeyvalSteps.{last_or, keyval_start, keyval_stop, keyval_end, keyval_own, keyval_inner}
 use Rattle.keep_edit_plan.proofs.insert.last_keyval.Goals as goal
@@ -22,3 +25,8 @@ loop-number-preserved c = elim c.if-value-depth-eq1.branch [
 
 pub returns : goal.returns
 returns c = sym (c.loop-number.invariant ∙ keyval_end (values_of c.args.syntax.now) c.loop-number.number _ _ (omega (arith, c.loop-number-test.false, c.value_count-number-end.ensures)))
+
+pub overflow_step-number : goal.overflow_step-number
+overflow_step-number c =
+    let vs = c.args.syntax.now.parts.values in
+    omega (arith, c.requires, entries_length unpacked_value raise_value vs, vs.packed.ok.0, vs.packed.ok.1, vs.packed.small, vs.unpacked.ok.0, vs.unpacked.ok.1, vs.unpacked.small)

@@ -15,8 +15,8 @@ overflow_add-depth c = let (s, read, walk) = c.requires.walk in omega (arith, wa
 
 pub returns-in-Dotted : goal.returns-in-Dotted
 returns-in-Dotted c = λ s read walk.
-    by_dots _ _ _ _ s (seen c.self.view_is c.self.invariant) read _ walk _ (sym c.in_ok-step.ensures) _ _ c.in_ok-id.was c.step-2.ensures.found _ c.node-node.ensures _ _ c.requires.next c.brackets.ensures.count c.brackets.ensures.few _ c.in-Dotted.is
+    by_dots _ _ _ _ s (seen c.self.view_is c.self.invariant) read _ walk _ (sym c.in_ok-step.ensures) _ _ c.in_ok-id.was c.step-2.ensures.node.found _ c.node-node.ensures _ _ c.requires.next c.brackets.ensures.count c.brackets.ensures.few _ c.in-Dotted.is
 
 pub returns-in_default : goal.returns-in_default
 returns-in_default c = λ s read walk.
-    by_other _ _ _ _ s (seen c.self.view_is c.self.invariant) read _ walk _ (sym c.in_ok-step.ensures) _ _ c.in_ok-id.was c.step-2.ensures.found _ c.node-node.ensures _ _ c.requires.next c.brackets.ensures.count c.brackets.ensures.few _ c.is_value.ensures c.in_default.not-Dotted
+    by_other _ _ _ _ s (seen c.self.view_is c.self.invariant) read _ walk _ (sym c.in_ok-step.ensures) _ _ c.in_ok-id.was c.step-2.ensures.node.found _ c.node-node.ensures _ _ c.requires.next c.brackets.ensures.count c.brackets.ensures.few _ c.is_value.ensures c.in_default.not-Dotted

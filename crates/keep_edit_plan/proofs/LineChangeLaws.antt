@@ -1,0 +1,123 @@
+-- An insert of one key at the end of a body gives the index one node more: that of the line.
+--
+-- The law of the edit says that the new document has one line more, after the statements that are counted for its
+-- numbers. So its node comes where the facts say that the first node is met after the line, and the nodes are nested as
+-- the headers say.
+--
+-- Theorem: `line_changed`.
+use Rattle.std.proofs.Common.{◌≡◌, ℕ, zero, suc, ◌-◌, ◌≤◌, Bor, false, List, [], ◌∷◌, ◌++◌, length, take, drop, slice_get, sym, ap, subst, ◌∙◌, arith, Option, Some, None, Ok}
+use Rattle.std.proofs.lemmas.List.{take-append-drop}
+use Rattle.keep_types.specs.declared.node.Kind.{Kind}
+use Rattle.keep_syntax.specs.declared.syntax.Syntax.{Syntax}
+use Rattle.keep_syntax.specs.Tree.{Value, Document, value_depth}
+use Rattle.keep_path.specs.NodeInfos as node_infos
+use Rattle.keep_path.specs.NodeInfos.{NodeInfos, with_node}
+use Rattle.keep_path.specs.Path.{Part, AreUtf8, key}
+use Rattle.keep_index_store.specs.declared.renumbering.LineNumbers.{LineNumbers}
+use Rattle.keep_index_store.specs.Renumbering.{numbers_of}
+use Rattle.keep_meaning.specs.Counts.{statements_in}
+use Rattle.keep_meaning.specs.LinesMore.{HasLineMore, nodes_after, numbers_after, path_after}
+use Rattle.keep_meaning.specs.Marks.{reading_after, start}
+use Rattle.keep_meaning.specs.Meaning.{body_fact, lines, mentions_in}
+use Rattle.keep_meaning.specs.Nodes.{fact_kind, infos_in, is_node, node_number}
+use Rattle.keep_meaning.proofs.Shared.{line_adds_node, line_is_found, paths-nodes_in}
+use Rattle.keep_rules.specs.declared.index.NodeId.{NodeId}
+use Rattle.keep_rules.specs.LinePlaces.{IsPlaceOf, met_before}
+use Rattle.keep_rules.specs.Lookup.{path_numbered}
+use Rattle.keep_rules.specs.Nested.{AreNested}
+use Rattle.keep_rules.proofs.Shared.{line_is_nested, number_is, place_is}
+use Rattle.keep_edit_spec.specs.Edits.{edited_document, insert}
+use Rattle.keep_edit_spec.specs.KeyvalLines.{HasLineAt}
+use Rattle.keep_edit_spec.specs.Look.{holder, item_number}
+use Rattle.keep_edit_spec.proofs.Shared.{holder_prefix, insert_adds_line}
+use Rattle.keep_edit_plan.specs.IndexChanges.{IsIndexChange}
+use Rattle.keep_edit_plan.specs.Inserting.{IsInsertionOf, IsKeyvalSpot}
+use Rattle.keep_edit_plan.specs.LineNumbers.{AreNumbersAfter}
+use Rattle.keep_edit_plan.specs.Reading.{limit, ProfiledText, Holds, IsTextOfTree, IsTextOfValue, telling_in}
+use Rattle.keep_edit_plan.specs.declared.insert.Insertion.{Insertion}
+use Rattle.keep_edit_plan.specs.declared.insert.Spot.TheVariants.{AfterBody}
+use Rattle.keep_edit_plan.specs.declared.plan.IndexChange.TheVariants as change
+use Rattle.keep_edit_plan.proofs.AnswerLaws.{stated_is, tree_is}
+use Rattle.keep_edit_plan.proofs.InsertedLaws.{keyval_only}
+use Rattle.keep_edit_plan.proofs.KeyLaws.{no_number}
+use Rattle.keep_edit_plan.proofs.KeysLaws.{keys_utf8}
+use Rattle.keep_edit_plan.proofs.KindLaws.{no_entries}
+
+-- the last step
+one_left : (path : List Part) (n : ℕ) (p : Part) → slice_get path n ≡ Some p → length path - n ≡ 1 → drop n path ≡ p ∷ []
+one_left [] n p e few = absurd cc
+one_left (x ∷ []) zero p e few = let same : x ≡ p = cc in ap (λ (q : Part). q ∷ []) same
+one_left (x ∷ y ∷ path) zero p e few = absurd (omega (arith, few))
+one_left (x ∷ path) (suc n) p e few = one_left path n p e (omega (arith, few))
+
+module _ (d : ProfiledText) (syntax : Syntax) (index : NodeInfos) (path : List Part) (s : Document) (v : Value) (bytes : List ℕ) (i : Insertion) (holds : Holds d syntax index) (read : IsTextOfTree d s) (value : IsTextOfValue bytes v)
+    (there : IsInsertionOf d.profile path v s (Ok i)) (utf8 : AreUtf8 path) (header : Option ℕ) (after_body : i.spot ≡ AfterBody header) where
+  abbrev a : List Part
+  a = holder path (mentions_in s)
+
+  abbrev new : Document
+  new = edited_document s (insert path v)
+
+  abbrev old_index : NodeInfos
+  old_index = telling_in s
+
+  spot : (item_number path (mentions_in s) ≡ None) × IsKeyvalSpot a s i.from (AfterBody header)
+  spot = keyval_only d syntax index path s v bytes i holds read value there utf8 (AfterBody header) after_body (λ n h. absurd h)
+
+  pub body_spot : IsKeyvalSpot a s i.from (AfterBody header)
+  body_spot = spot.1
+
+  prefix : take i.from path ≡ a
+  prefix = ap (λ (n : ℕ). take n path) (by header body_spot) ∙ holder_prefix d.profile limit s path v read.reads.valid spot.0 there.0
+    where
+      by : (o : Option ℕ) → IsKeyvalSpot a s i.from (AfterBody o) → i.from ≡ length a
+      by None h = h.1 ∙ sym (ap (λ (p : List Part). length p) h.0)
+      by (Some n) h = h.1
+
+  nested : AreNested (mentions_in s) (reading_after start (statements_in s)).tables
+  nested = subst (λ (u : Document). AreNested (mentions_in u) (reading_after start (statements_in u)).tables) (tree_is d syntax index s holds read) holds.nested
+
+  -- the step after the holder is the last, a key
+  module _ (text : Bor (List ℕ)) (step : slice_get path i.from ≡ Some (key text.now)) (few : length path - i.from ≡ 1) (flat : value_depth v ≤ 0) (parent : NodeId) (found : node_number index.paths (take i.from path) ≡ Some parent.0)
+      (numbers : LineNumbers) (are : AreNumbersAfter a s numbers) (kind : Kind) (kind_is : kind ≡ fact_kind (body_fact v.body)) where
+    whole : path ≡ a ++ key text.now ∷ []
+    whole = sym (take-append-drop i.from path) ∙ ap (λ (p : List Part). p ++ drop i.from path) prefix ∙ ap (λ (p : List Part). a ++ p) (one_left path i.from (key text.now) step few)
+
+    added : HasLineAt s new path (body_fact v.body) (take are.line (lines s))
+    added = insert_adds_line d.profile limit s path text.now v are.line (keys_utf8 path utf8) there.0 whole are.ends (no_entries v.body v.nested value.reads.valid.nested (omega (arith, flat)))
+
+    abbrev line : HasLineMore s new
+    line = added.line
+
+    fresh : is_node (path_after line.before line.text) (mentions_in s) ≡ false
+    fresh = ap (λ (p : List Part). is_node p (mentions_in s)) added.place ∙ added.fresh
+
+    numbers_are : numbers_after line.before ≡ numbers_of numbers
+    numbers_are = ap numbers_after added.after ∙ sym are.counted
+
+    place : IsPlaceOf (numbers_of numbers) (infos_in s) (nodes_after line.before)
+    place =
+        let (within, parts) = line_is_found s new line read.obeys in
+        subst (λ (n : node_infos.LineNumbers). IsPlaceOf n (infos_in s) (nodes_after line.before)) numbers_are (record { within = within; parts = parts })
+
+    at : nodes_after line.before ≡ met_before (numbers_of numbers) (infos_in s)
+    at = place_is (numbers_of numbers) (infos_in s) (nodes_after line.before) place
+
+    pub line_changed : IsIndexChange s new (change.Line parent text numbers kind)
+    line_changed =
+        let here : node_number old_index.paths (take i.from path) ≡ Some parent.0 = ap (λ (t : NodeInfos). node_number t.paths (take i.from path)) (sym (stated_is d syntax index s holds read)) ∙ found in
+        let (low, parent_is) = number_is old_index.paths (take i.from path) parent.0 here in
+        let path_is : path_numbered old_index parent.0 ++ key text.now ∷ [] ≡ path = ap (λ (p : List Part). p ++ key text.now ∷ []) (parent_is ∙ prefix) ∙ sym whole in
+        record {
+          can = (
+            low,
+            ap (node_number old_index.paths) path_is ∙ ap (λ (ps : List (List Part)). node_number ps path) (paths-nodes_in s) ∙ no_number path (mentions_in s) added.fresh,
+            subst (IsPlaceOf (numbers_of numbers) (infos_in s)) at place,
+          );
+          told = line_adds_node s new line fresh
+              ∙ ap (λ (n : ℕ). with_node old_index n (numbers_after line.before) (path_after line.before line.text) (fact_kind line.fact)) at
+              ∙ ap (λ (n : node_infos.LineNumbers). with_node old_index (met_before (numbers_of numbers) (infos_in s)) n (path_after line.before line.text) (fact_kind line.fact)) numbers_are
+              ∙ ap (λ (p : List Part). with_node old_index (met_before (numbers_of numbers) (infos_in s)) (numbers_of numbers) p (fact_kind line.fact)) (added.place ∙ sym path_is)
+              ∙ ap (with_node old_index (met_before (numbers_of numbers) (infos_in s)) (numbers_of numbers) (path_numbered old_index parent.0 ++ key text.now ∷ [])) (ap fact_kind added.gives ∙ sym kind_is);
+          nested = line_is_nested s new line fresh read.obeys nested;
+        }

@@ -1,0 +1,46 @@
+//! What an insertion changes of the index.
+ghost use Rattle.std.specs.Prelude.{IfSome, Ok};
+ghost use Rattle.keep_syntax.specs.Tree as tree;
+ghost use Rattle.keep_edit_spec.specs.Edits.{edited_document, insert};
+ghost use Rattle.keep_edit_plan.specs.IndexChanges.{IsIndexChange};
+ghost use Rattle.keep_edit_plan.specs.Inserting.{IsInsertionOf};
+ghost use Rattle.keep_edit_plan.specs.Reading.{IsTextOfTree, IsTextOfValue};
+
+use super::{Insertion, Spot};
+use crate::document::DocumentRef;
+use crate::plan::IndexChange;
+use keep_rules::{Path, Step, ValueText};
+
+impl<'a> DocumentRef<'a> {
+    /// What an insertion changes of the index, if that is one line more, with one key and a scalar. It takes no memory.
+    pub(crate) fn line_change<'p>(
+        &self,
+        path: &'p Path,
+        insertion: Insertion,
+        value: &ValueText,
+    ) -> Option<IndexChange<'p>>
+        requires { (s : tree.Document) × IsTextOfTree self.now s × ((v : tree.Value) × IsTextOfValue value.now v
+            × IsInsertionOf self.now.profile path.now v s (Ok insertion)) }
+        ensures { (s : tree.Document) → IsTextOfTree self.now s → (v : tree.Value) → IsTextOfValue value.now v
+            → IsInsertionOf self.now.profile path.now v s (Ok insertion)
+            → IfSome result (IsIndexChange s (edited_document s (insert path.now v))) }
+    {
+        let Spot::AfterBody(header) = insertion.spot else {
+            return None;
+        };
+        let from = insertion.from;
+        if value.depth() > 0 || path.len().saturating_sub(from) != 1 {
+            return None;
+        }
+        let Step::Key(key) = path.step(from)? else {
+            return None;
+        };
+        let parent = self.index.find_first(path, from)?;
+        Some(IndexChange::Line {
+            parent,
+            key: key.as_str(),
+            line: self.line_numbers(header),
+            kind: value.kind(),
+        })
+    }
+}

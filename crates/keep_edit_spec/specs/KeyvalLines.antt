@@ -1,0 +1,51 @@
+-- A line with a keyval that an `insert` writes or a `remove` takes: which of the two documents has one line more.
+use Rattle.std.specs.Prelude.{◌≡◌, ℕ, false, List, [], ◌∷◌, ◌++◌, take, Some, None, IsUtf8}
+use Rattle.std.specs.List.{AllByRecursion, filter_map}
+use Rattle.keep_types.specs.declared.leaf.Profile.{Profile}
+use Rattle.keep_syntax.specs.Tree.{Name, Value, Line, Document, keyval, none}
+use Rattle.keep_path.specs.Path.{Part, key}
+use Rattle.keep_meaning.specs.Counts.{line_statement}
+use Rattle.keep_meaning.specs.Fact.{Fact}
+use Rattle.keep_meaning.specs.LinesMore.{HasLineMore, path_after}
+use Rattle.keep_meaning.specs.Marks.{marks, start}
+use Rattle.keep_meaning.specs.Meaning.{body_fact, lines, mentions_in, reading_after_lines, step}
+use Rattle.keep_meaning.specs.Nodes.{is_node}
+use Rattle.keep_meaning.specs.Rules.{ObeysRules}
+use Rattle.keep_edit_spec.specs.Edits.{edited_document, end_of, insert, remove}
+use Rattle.keep_edit_spec.specs.Look.{holder, keys_in}
+use Rattle.keep_edit_spec.specs.Refusals.{refusal}
+
+-- The second document has one line more, after these lines: it gives this path, which the first has not, this fact.
+pub record HasLineAt (d more : Document) (path : List Part) (fact : Fact) (before : List Line) : Type 0 where
+  pub line : HasLineMore d more
+  pub after : line.before ≡ filter_map line_statement before
+  pub place : path_after line.before line.text ≡ path
+  pub gives : line.fact ≡ fact
+  pub fresh : is_node path (mentions_in d) ≡ false
+
+-- After these lines is a keyval of one key part with this path, and in its value there is nothing.
+pub record IsLineOf (s : Document) (path : List Part) (before : List Line) (value : Value) : Type 0 where
+  pub line : Line
+  pub after : List Line
+  pub name : Name
+  pub here : lines s ≡ before ++ line ∷ after
+  pub content : line.content ≡ keyval name value
+  pub place : (reading_after_lines start before).body ++ step 0 (Some name) ≡ path
+  pub one : name.key.more ≡ []
+  pub empty : value.nested ≡ none
+
+-- An insert of one key into the root, a table or an element that is defined adds a line at its end.
+abbrev pub InsertAddsLine : Type 0
+InsertAddsLine =
+    (profile : Profile) (limit : ℕ) (s : Document) (path : List Part) (text : List ℕ) (value : Value) (n : ℕ)
+    → AllByRecursion IsUtf8 (keys_in path) → refusal profile limit s (insert path value) ≡ None
+    → path ≡ holder path (mentions_in s) ++ key text ∷ [] → end_of s (holder path (mentions_in s)) ≡ Some n
+    → value.nested ≡ none
+    → HasLineAt s (edited_document s (insert path value)) path (body_fact value.body) (take n (lines s))
+
+-- A remove of such a line takes it, or what it says.
+abbrev pub RemoveTakesLine : Type 0
+RemoveTakesLine =
+    (s : Document) (path : List Part) (before : List Line) (value : Value) → ObeysRules (marks (mentions_in s))
+    → IsLineOf s path before value
+    → HasLineAt (edited_document s (remove path)) s path (body_fact value.body) before
