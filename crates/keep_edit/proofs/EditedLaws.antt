@@ -10,7 +10,7 @@ use Rattle.keep_edit_plan.specs.declared.plan.Plan.{Plan}
 use Rattle.keep_edit_plan.specs.Answers.{text_after}
 use Rattle.keep_edit_plan.specs.Plans.{EditPlanned, IsPlan}
 use Rattle.keep_edit.specs.Reading.{ProfiledText, text_in, IsTextOfTree}
-use Rattle.keep_edit.specs.Answers.{IsEdited, IsTextAfter, IsDone, EditDone, EditReported, refusal_in}
+use Rattle.keep_edit.specs.Answers.{IsEdited, IsMade, IsTextAfter, IsDone, EditDone, EditReported, EditWritten, refusal_in}
 use Rattle.keep_edit.specs.Places.{IsMovedIn}
 
 -- ---- what is answered, by what was answered before it
@@ -47,6 +47,13 @@ module _ (s : Document) (e : Edit) (old : ProfiledText) where
 
   pub no_text_of : (f : EditFault) → EditPlanned s e old (Err f) → EditReported s e old (Err f)
   no_text_of f h = not_done (IsPlan s e old) is_computed f (refusal_in old s e) h
+
+  -- what is written of it
+  pub written_of : (plan : Plan) → EditPlanned s e old (Ok plan) → EditWritten s e old (Ok plan.text_edit)
+  written_of plan h = done_as (IsPlan s e old) (IsMade s e old) plan plan.text_edit (refusal_in old s e) h (λ (k : IsPlan s e old plan). k.made)
+
+  pub nothing_written : (f : EditFault) → EditPlanned s e old (Err f) → EditWritten s e old (Err f)
+  nothing_written f h = not_done (IsPlan s e old) (IsMade s e old) f (refusal_in old s e) h
 
   -- the document after it
   pub done_of : (new : ProfiledText) (plan : Plan) (result : Result Splice EditFault) → IsTextOfTree old s → EditPlanned s e old (Ok plan) → IsMovedIn plan.text_edit old new result → EditDone s e old new result

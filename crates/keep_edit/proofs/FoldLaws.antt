@@ -1,20 +1,23 @@
 -- Edits that are made one after another: the fold of those before a number, and one more.
-use Rattle.std.proofs.Common.{◌≡◌, ◌∙◌, ◌+◌, ◌<◌, ◌++◌, ℕ, zero, suc, true, List, [], ◌∷◌, length, take, get_or, Option, Some, None, refl, sym, ap, subst, inl, inr, arith, length-take}
+--
+-- The definitions fold over a list of edits as they are stated; the code makes those that it is given, in order. So the list that is
+-- given states the edits one by one, and the fold up to a number goes on by one edit: it is made, or the list stops there.
+use Rattle.std.proofs.Common.{◌≡◌, ◌∙◌, ◌+◌, ◌-◌, ◌<◌, ◌++◌, ℕ, zero, suc, true, List, [], ◌∷◌, length, take, get_or, Option, Some, None, refl, sym, ap, subst, inl, inr, arith, length-take}
 use Rattle.std.proofs.Math.Nat.{add-zero}
 use Rattle.std.proofs.lemmas.Bool.{eqb-true}
+use Rattle.std.proofs.lemmas.List.{take-take, take_all}
 use Rattle.std.specs.Prelude.{◌==◌, Result, Ok, Err}
 use Rattle.std.specs.List.{AllZip}
 use Rattle.keep_types.specs.declared.leaf.Profile.{Profile}
 use Rattle.keep_syntax.specs.Tree.{Document}
 use Rattle.keep_edit_spec.specs.declared.fault.EditFault.{EditFault}
-use Rattle.keep_edit_spec.specs.declared.splice.Splice.{Splice}
 use Rattle.keep_edit_spec.specs.Answers as answers
 use Rattle.keep_edit_spec.specs.Answers.{applied_from}
 use Rattle.keep_edit_spec.specs.Edits as law
 use Rattle.keep_edit_spec.specs.Edits.{edited_document}
 use Rattle.keep_edit_spec.specs.Laws.{given_size}
 use Rattle.keep_edit_spec.specs.Refusals.{refusal}
-use Rattle.keep_edit.specs.Answers.{EditDone, IsDone, IsEdited, refusal_in}
+use Rattle.keep_edit.specs.Answers.{IsDone, IsTextAfter, refusal_in}
 use Rattle.keep_edit.specs.Lists.{IsEdit, growth_of, AreMade, StopsAt}
 use Rattle.keep_edit.specs.Reading.{limit, ProfiledText, IsTextOfTree}
 use Rattle.keep_edit_plan.specs.declared.edit.Edit.{Edit}
@@ -71,32 +74,34 @@ pub none_made : (s : Document) (d : ProfiledText) → IsTextOfTree d s → AreMa
 none_made s d h = record { es = []; are = tt; tree = s; made = refl; read = h; profile = refl; growth = omega arith }
 
 -- the edit of a number, which answers so on the document after those before it
-module _ (s : Document) (edits : List Edit) (first old new : ProfiledText) (i : ℕ) (d x : Edit) (e : law.Edit) (lt : i < length edits) (is : get_or edits i d ≡ x) (given : IsEdit x e) (h : AreMade s (take i edits) first old) where
+module _ {T : Type 0} (good : T → Type 0) (s : Document) (edits : List Edit) (first old : ProfiledText) (i : ℕ) (d x : Edit) (e : law.Edit) (lt : i < length edits) (is : get_or edits i d ≡ x) (given : IsEdit x e) (h : AreMade s (take i edits) first old) where
   abbrev refusal_here : Option EditFault
   refusal_here = refusal first.profile limit h.tree e
 
-  in_profile : {T : Type 0} (good : T → Type 0) (result : Result T EditFault) → IsDone good (refusal_in old h.tree e) result → IsDone good refusal_here result
-  in_profile good result k = subst (λ (p : Profile). IsDone good (refusal p limit h.tree e) result) h.profile k
+  in_profile : (result : Result T EditFault) → IsDone good (refusal_in old h.tree e) result → IsDone good refusal_here result
+  in_profile result k = subst (λ (p : Profile). IsDone good (refusal p limit h.tree e) result) h.profile k
 
-  -- it is made
-  pub one_made : (splice : Splice) → EditDone h.tree e old new (Ok splice) → AreMade s (take (suc i) edits) first new
-  one_made splice k = by refusal_here refl (in_profile (IsEdited h.tree e new old) (Ok splice) k)
+  -- it is done, and the text after it is this
+  pub one_made : (new : ProfiledText) (a : T) → (good a → IsTextAfter h.tree e new old) → IsDone good (refusal_in old h.tree e) (Ok a) → AreMade s (take (suc i) edits) first new
+  one_made new a after k = by refusal_here refl (in_profile (Ok a) k)
     where
-      by : (o : Option EditFault) → refusal_here ≡ o → IsDone (IsEdited h.tree e new old) o (Ok splice) → AreMade s (take (suc i) edits) first new
-      by (Some f) r done = absurd (let no : Ok splice ≡ Err f = done in cc)
-      by None r done = record {
-        es = h.es ++ e ∷ [];
-        are = zip_more edits i d x h.es e lt is h.are given;
-        tree = edited_document h.tree e;
-        made = applied_more first.profile 0 h.es e s h.tree h.made r;
-        read = done.1.tree;
-        profile = done.1.profile ∙ h.profile;
-        growth = omega (arith, h.growth, done.1.growth, growth_more h.es e);
-      }
+      by : (o : Option EditFault) → refusal_here ≡ o → IsDone good o (Ok a) → AreMade s (take (suc i) edits) first new
+      by (Some f) r done = absurd (let no : Ok a ≡ Err f = done in cc)
+      by None r done =
+          let text : IsTextAfter h.tree e new old = after done in
+          record {
+            es = h.es ++ e ∷ [];
+            are = zip_more edits i d x h.es e lt is h.are given;
+            tree = edited_document h.tree e;
+            made = applied_more first.profile 0 h.es e s h.tree h.made r;
+            read = text.tree;
+            profile = text.profile ∙ h.profile;
+            growth = omega (arith, h.growth, text.growth, growth_more h.es e);
+          }
 
   -- it is refused, or memory ran out
-  pub one_stopped : (f : EditFault) → EditDone h.tree e old new (Err f) → StopsAt s edits first.profile i f
-  one_stopped f k = by refusal_here refl (in_profile (IsEdited h.tree e new old) (Err f) k)
+  pub one_stopped : (f : EditFault) → IsDone good (refusal_in old h.tree e) (Err f) → StopsAt s edits first.profile i f
+  one_stopped f k = by refusal_here refl (in_profile (Err f) k)
     where
       many : 0 + length h.es ≡ i
       many = omega (arith, as_many (take i edits) h.es h.are, length-take {A = Edit})
@@ -104,7 +109,7 @@ module _ (s : Document) (edits : List Edit) (first old new : ProfiledText) (i : 
       are : AllZip IsEdit (take (suc i) edits) (h.es ++ e ∷ [])
       are = zip_more edits i d x h.es e lt is h.are given
 
-      by : (o : Option EditFault) → refusal_here ≡ o → IsDone (IsEdited h.tree e new old) o (Err f) → StopsAt s edits first.profile i f
+      by : (o : Option EditFault) → refusal_here ≡ o → IsDone good o (Err f) → StopsAt s edits first.profile i f
       by (Some g) r done =
           let same : g ≡ f = cc in
           inl (record {
@@ -127,3 +132,27 @@ module _ (s : Document) (edits : List Edit) (first old new : ProfiledText) (i : 
 pub nothing_made : (s : Document) (edits : List Edit) (d : ProfiledText) → true ≡ (length edits == 0) → IsTextOfTree d s → AreMade s edits d d
 nothing_made s [] d e h = none_made s d h
 nothing_made s (x ∷ xs) d e h = absurd (omega (arith, eqb-true (length (x ∷ xs)) 0 (sym e)))
+
+-- ---- all but the last
+
+module _ (s : Document) (edits part : List Edit) (m : ℕ) (some : m < length edits) (are : part ≡ take m edits) where
+  -- edits that stop at one of the first stop there with others after them
+  pub stopped_before : (profile : Profile) (n : ℕ) (f : EditFault) → n < length part → StopsAt s part profile n f → StopsAt s edits profile n f
+  stopped_before profile n f lt h = elim h [
+    | inl r ↦ inl (record { es = r.es; are = first r.es r.are; refused = r.refused })
+    | inr r ↦ inr (record { memory = r.memory; here = omega (arith, low, some); es = r.es; are = first r.es r.are; tree = r.tree; allowed = r.allowed })
+  ]
+    where
+      low : n < m
+      low = omega (arith, lt, ap length are, length-take {A = Edit})
+
+      first : (es : List law.Edit) → AllZip IsEdit (take (suc n) part) es → AllZip IsEdit (take (suc n) edits) es
+      first es zip = subst (λ (xs : List Edit). AllZip IsEdit xs es) (ap (take (suc n)) are ∙ take-take (suc n) m edits (omega (arith, low))) zip
+
+  -- the edits before it are made
+  pub made_before : (old new : ProfiledText) → AreMade s part old new → AreMade s (take m edits) old new
+  made_before old new h = subst (λ (xs : List Edit). AreMade s xs old new) are h
+
+-- the last edit is the one after all others
+pub made_all : (s : Document) (edits : List Edit) (old new : ProfiledText) → 0 < length edits → AreMade s (take (suc (length edits - 1)) edits) old new → AreMade s edits old new
+made_all s edits old new some h = subst (λ (xs : List Edit). AreMade s xs old new) (take_all (suc (length edits - 1)) edits (omega (arith, some))) h

@@ -8,3 +8,4 @@ pub mod FoldLaws
 pub mod ChildLaws
 pub mod TakeLaws
 pub mod PatchLaws
+pub mod Shared

@@ -1,6 +1,9 @@
 -- The entries of a document: node by node, each with its path and what is there.
-use Rattle.std.proofs.Common.{◌≡◌, ℕ, ◌+◌, ◌<◌, ◌≤◌, List, [], ◌∷◌, ◌++◌, length, length-drop, map, take, drop, get_or, refl, sym, ap, subst, ◌∙◌, arith, Option, Some, None}
-use Rattle.std.specs.Prelude.{slice_get}
+--
+-- The definitions list the entries of the nodes but the root in the order of first meeting, and the index answers node by node by
+-- its number. So the entry of a number is that of the next node, and a list that has the first of them has all in the end.
+use Rattle.std.proofs.Common.{◌≡◌, ℕ, ◌+◌, ◌<◌, ◌≤◌, List, [], ◌∷◌, ◌++◌, length, length-drop, map, take, drop, get_or, refl, sym, ap, subst, ◌∙◌, arith, false, true, Option, Some, None, String, Global}
+use Rattle.std.specs.Prelude.{slice_get, IfSome, IsErr, OnOk, Result, Ok, Err}
 use Rattle.std.proofs.lemmas.Grind.{get_or_after_one}
 use Rattle.std.specs.Option.{option_map}
 use Rattle.std.proofs.lemmas.List.{map-append, length-map, length-take-le, drop-append-le, take_more, take_all}
@@ -18,7 +21,8 @@ use Rattle.keep_path.specs.PathText.{encoded_path}
 use Rattle.keep_path.specs.NodeInfos.{NodeInfos}
 use Rattle.keep_meaning.proofs.Shared.{mentions-numbered_in, paths-nodes_in}
 use Rattle.keep_edit.specs.declared.document.Entry.{Entry}
-use Rattle.keep_edit.specs.Answers.{entry_at, entries_of, AddsEntryPath}
+use Rattle.keep_rules.specs.PathRooms.{HasRoom}
+use Rattle.keep_edit.specs.Answers.{entry_at, entries_of, AddsEntryPath, HasEntryRoom}
 use Rattle.keep_edit.specs.Reading.{ProfiledText, IsTextOfTree, telling_in, Holds}
 use Rattle.keep_edit_plan.proofs.Shared.{stated_is, kind_stated}
 
@@ -101,6 +105,47 @@ entries_all t parts index s entries n h read so_far past =
 path_of_entry : (paths : List (List Part)) (n : ℕ) → n + 1 < length paths → slice_get (drop 1 paths) n ≡ Some (get_or paths (n + 1) [])
 path_of_entry paths n low =
     slice_get-get_or (drop 1 paths) n [] (omega (arith, length-drop 1 paths)) ∙ ap Some (get_or_after_one paths n [] ∙ ap (λ i. get_or paths i []) (omega arith))
+
+-- what holds of the path of a node holds of that of its entry
+pub entry_has : (P : List Part → Type 0) (t : ProfiledText) (parts : Syntax) (index : NodeInfos) (s : Document) (n : ℕ) → Holds t parts index → IsTextOfTree t s → n + 1 < length index.paths
+    → P (path_numbered index (n + 1)) → IfSome (slice_get (entries_of s) n) (λ e. P e.path)
+entry_has P t parts index s n h read within has =
+    let is : IsStatedOf s index = report_of t parts index s h read in
+    let paths : List (List Part) = node_paths (mentions_in s) in
+    let low : n + 1 < length paths = omega (arith, within, ap (λ (ps : List (List Part)). length ps) is.paths) in
+    let p : List Part = get_or paths (n + 1) [] in
+    let there : slice_get (entries_of s) n ≡ Some (entry_at (mentions_in s) p) =
+    slice_get-map (entry_at (mentions_in s)) (drop 1 paths) n ∙ ap (option_map (entry_at (mentions_in s))) (path_of_entry paths n low) in
+    let same : path_numbered index (n + 1) ≡ p = ap (λ (ps : List (List Part)). get_or ps (n + 1) []) is.paths in
+    subst (λ (o : Option Entry). IfSome o (λ e. P e.path)) (sym there) (subst P same has)
+
+-- room for the text of its path is room for that of the node's
+pub entry_room : (t : ProfiledText) (parts : Syntax) (index : NodeInfos) (s : Document) (n nodes : ℕ) (out : String Global) → Holds t parts index → IsTextOfTree t s → n + 1 < length index.paths
+    → HasEntryRoom nodes out (slice_get (entries_of s) n) → HasRoom nodes out (path_numbered index (n + 1))
+entry_room t parts index s n nodes out h read within room =
+    let is : IsStatedOf s index = report_of t parts index s h read in
+    let paths : List (List Part) = node_paths (mentions_in s) in
+    let low : n + 1 < length paths = omega (arith, within, ap (λ (ps : List (List Part)). length ps) is.paths) in
+    let p : List Part = get_or paths (n + 1) [] in
+    let there : slice_get (entries_of s) n ≡ Some (entry_at (mentions_in s) p) =
+    slice_get-map (entry_at (mentions_in s)) (drop 1 paths) n ∙ ap (option_map (entry_at (mentions_in s))) (path_of_entry paths n low) in
+    let same : path_numbered index (n + 1) ≡ p = ap (λ (ps : List (List Part)). get_or ps (n + 1) []) is.paths in
+    let has : HasRoom nodes out p = subst (λ (o : Option Entry). HasEntryRoom nodes out o) there room in
+    subst (λ (path : List Part). HasRoom nodes out path) (sym same) has
+
+-- where nothing was answered
+pub of_error : {T E : Type 0} (P : Type 0) (r : Result T E) → IsErr r → OnOk r P
+of_error P (Ok x) failed = let no : false ≡ true = failed in absurd cc
+of_error P (Err e) failed = tt
+
+-- there is no entry of which something could hold
+pub none_has : (P : Entry → Type 0) (t : ProfiledText) (parts : Syntax) (index : NodeInfos) (s : Document) (n : ℕ) → Holds t parts index → IsTextOfTree t s → length index.paths ≤ n + 1
+    → IfSome (slice_get (entries_of s) n) P
+none_has P t parts index s n h read past =
+    let is : IsStatedOf s index = report_of t parts index s h read in
+    let paths : List (List Part) = node_paths (mentions_in s) in
+    let few : length (entries_of s) ≤ n = omega (arith, past, ap (λ (ps : List (List Part)). length ps) is.paths, length-map (drop 1 paths) (entry_at (mentions_in s)), length-drop 1 paths) in
+    subst (λ (o : Option Entry). IfSome o P) (sym (slice_get_past (entries_of s) n few)) tt
 
 -- the path that was added and the kind that was reported are those of the entry
 pub entry_added : (t : ProfiledText) (parts : Syntax) (index : NodeInfos) (s : Document) (n : ℕ) (old new : List ℕ) (info : NodeInfo) → Holds t parts index → IsTextOfTree t s

@@ -3,7 +3,7 @@ use Rattle.std.proofs.Common.{◌≡◌, ℕ, ◌+◌, ◌-◌, ◌≤◌, List,
 use Rattle.std.specs.Prelude.{String, string_bytes, slice_range}
 use Rattle.std.specs.Global.{Global}
 use Rattle.std.specs.List.{replace_range}
-use Rattle.std.proofs.lemmas.List.{length-append, length-take-le, length-drop, take-append-drop, drop-drop}
+use Rattle.std.proofs.lemmas.List.{length-append, length-take-le, take-append-drop, drop-drop}
 use Rattle.std.proofs.lemmas.Str.{IsUtf8-append, IsUtf8-drop, IsUtf8-string_bytes, IsCharBoundary-at_seam}
 use Rattle.std.proofs.Math.Seq.{take-append_seam, drop-append_seam}
 use Rattle.keep_types.specs.declared.leaf.Profile.{Profile}
@@ -28,17 +28,6 @@ module _ (before new : List ℕ) (start end : ℕ) (ordered : start ≤ end) (wi
   front_len : length prefix ≡ start
   unfolding prefix
   front_len = length-take-le start before (omega arith)
-
-  pub part_len : length (slice_range before start end) ≡ end - start
-  part_len =
-      let all : length (drop start before) ≡ length before - start = length-drop start before in
-      length-take-le (end - start) (drop start before) (omega (arith, all))
-
-  pub put_len : length (take start before ++ (new ++ drop end before)) ≡ start + (length new + (length before - end))
-  unfolding prefix front_len
-  put_len =
-      length-append prefix (new ++ drop end before)
-      ∙ ap₂ (λ (a b : ℕ). a + b) front_len (length-append new (drop end before) ∙ ap (λ (n : ℕ). length new + n) (length-drop end before))
 
   -- the part with what comes before and after it
   whole : (take start before ++ slice_range before start end) ++ drop end before ≡ before
@@ -67,13 +56,6 @@ module _ (before new : List ℕ) (start end : ℕ) (ordered : start ≤ end) (wi
         subst (λ (n : ℕ). IsCharBoundary (take start before ++ (new ++ drop end before)) n) front_len
         (IsCharBoundary-at_seam (take start before ++ (new ++ drop end before)) prefix (new ++ drop end before) refl (IsUtf8-append new (drop end before) new_utf8 (IsUtf8-drop before end utf8 ends)))
 
-    pub end_cut : IsCharBoundary (take start before ++ (new ++ drop end before)) (start + length new)
-    unfolding prefix front_len
-    end_cut =
-        let size : length (prefix ++ new) ≡ start + length new = length-append prefix new ∙ ap (λ (n : ℕ). n + length new) front_len in
-        subst (λ (n : ℕ). IsCharBoundary (take start before ++ (new ++ drop end before)) n) size
-        (IsCharBoundary-at_seam (take start before ++ (new ++ drop end before)) (prefix ++ new) (drop end before) (sym (append_assoc prefix new (drop end before))) (IsUtf8-drop before end utf8 ends))
-
 -- ---- of an edit
 
 module _ (made : TextEdit) (before replaced_bytes : List ℕ) (text : String Global) (can : CanPutBack made before replaced_bytes text) where
@@ -81,11 +63,6 @@ module _ (made : TextEdit) (before replaced_bytes : List ℕ) (text : String Glo
   starts_there =
       subst (λ (x : List ℕ). IsCharBoundary x made.place.start) (sym can.put)
       (start_cut before (string_bytes made.new) made.place.start made.place.end can.within.ordered can.within.within (IsUtf8-string_bytes made.new) can.utf8 can.within.ends)
-
-  pub ends_there : IsCharBoundary (string_bytes text) (made.place.start + length (string_bytes made.new))
-  ends_there =
-      subst (λ (x : List ℕ). IsCharBoundary x (made.place.start + length (string_bytes made.new))) (sym can.put)
-      (end_cut before (string_bytes made.new) made.place.start made.place.end can.within.ordered can.within.within (IsUtf8-string_bytes made.new) can.utf8 can.within.ends)
 
   pub is_back : (new : List ℕ) → new ≡ replace_range (string_bytes text) made.place.start (made.place.start + length (string_bytes made.new)) replaced_bytes → new ≡ before
   is_back new is =

@@ -1,4 +1,13 @@
 -- What is at a path is determined by the leaf and the text of its value: integers and strings.
+--
+-- The value that was found at a path is one of the tree, with its leaf, and the text at its span is a text of this leaf
+-- (`scalar_spelled`). The document has one tree, so what the tree has at the path is what this leaf and text mean: an
+-- integer exactly at an integer's leaf, read to its number (`integer_read`), and a string exactly at one of the four
+-- leaves of strings, decoded to its text (`string_here`, `quoted_means`). Where nothing was found the path has no fact
+-- of a value, and so neither (`no_value`).
+--
+-- Theorems: `integer_found`, `no_integer_found`, `no_integer_leaf`; `string_found`, `no_string_found`,
+-- `no_string_leaf`.
 use Rattle.std.proofs.Common.{◌≡◌, ℕ, ℤ, Bool, true, false, ◌||◌, List, [], ◌∷◌, refl, sym, ap, ◌∙◌, subst, Option, Some, None, Result, Ok, Err, ◌⊎◌, inl, inr}
 use Rattle.std.specs.Prelude.{◌↔◌, IsTrue, IsSome, IfSome, slice_get}
 use Rattle.std.specs.List.{list_any, filter_map}

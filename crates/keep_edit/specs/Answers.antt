@@ -1,6 +1,6 @@
 -- What a document answers, by its tree.
 use Rattle.std.specs.Prelude.{◌≡◌, ℕ, ℤ, if◌then◌else◌, List, ◌++◌, drop, map, length, Option, Some, None, Result}
-use Rattle.std.specs.Prelude.{String, string_bytes}
+use Rattle.std.specs.Prelude.{⊤, String, string_bytes}
 use Rattle.std.specs.Global.{Global}
 use Rattle.keep_syntax.specs.Tree.{Document}
 use Rattle.keep_syntax.specs.Numbered.{tokens}
@@ -12,6 +12,7 @@ use Rattle.keep_meaning.specs.Meaning.{mentions_in}
 use Rattle.keep_meaning.specs.Nodes.{node_paths, nodes_in, is_node, kind_at, fact_at}
 use Rattle.keep_path.specs.Path.{Part}
 use Rattle.keep_path.specs.PathText.{encoded_path}
+use Rattle.keep_rules.specs.PathRooms.{HasRoom}
 use Rattle.keep_edit_spec.specs.declared.fault.EditFault.{EditFault}
 use Rattle.keep_edit_spec.specs.declared.splice.Splice.{Splice}
 use Rattle.keep_edit_spec.specs.Answers.{string_of}
@@ -19,7 +20,8 @@ use Rattle.keep_edit_spec.specs.Edits.{Edit}
 use Rattle.keep_edit.specs.Reading.{ProfiledText, text_in}
 use Rattle.keep_edit.specs.declared.document.Counts.{Counts}
 use Rattle.keep_edit.specs.declared.document.Entry.{Entry}
-pub use Rattle.keep_edit_plan.specs.Answers.{refusal_in, splice_of, value_number_of, HasNoValue, IsDone}
+use Rattle.keep_edit_plan.specs.declared.text_edit.TextEdit.{TextEdit}
+pub use Rattle.keep_edit_plan.specs.Answers.{refusal_in, splice_of, text_after, value_number_of, HasNoValue, IsDone}
 pub use Rattle.keep_edit_plan.specs.Answers.{IsEdited, IsFound, IsMade, IsSpanOf, IsTextAfter}
 
 -- ---- the whole
@@ -39,6 +41,11 @@ entries_of s = map (entry_at (mentions_in s)) (drop 1 (node_paths (mentions_in s
 abbrev pub AddsEntryPath : Option Entry → Option Kind → List ℕ → List ℕ → Type 0
 AddsEntryPath None kind old new = (kind ≡ None) × (new ≡ old)
 AddsEntryPath (Some e) kind old new = (kind ≡ Some e.kind) × (new ≡ old ++ encoded_path e.path)
+
+-- there is room for the text of its path, if there is an entry
+abbrev pub HasEntryRoom : ℕ → String Global → Option Entry → Type 0
+HasEntryRoom nodes out None = ⊤
+HasEntryRoom nodes out (Some e) = HasRoom nodes out e.path
 
 -- ---- one node
 
@@ -67,3 +74,7 @@ EditDone s e old new result = IsDone (IsEdited s e new old) (refusal_in old s e)
 abbrev pub EditReported : Document → Edit → ProfiledText → Result (String Global) EditFault → Type 0
 EditReported s e old result =
     IsDone (λ text. IsTextAfter s e (text_in old.profile (string_bytes text)) old) (refusal_in old s e) result
+
+-- what is written into the text is given, and where
+abbrev pub EditWritten : Document → Edit → ProfiledText → Result TextEdit EditFault → Type 0
+EditWritten s e old result = IsDone (IsMade s e old) (refusal_in old s e) result

@@ -8,9 +8,11 @@ use Rattle.keep_edit_spec.specs.declared.fault.EditFault.TheVariants.{Memory}
 use Rattle.keep_edit_spec.specs.Answers.{applied_edits}
 use Rattle.keep_edit_spec.specs.Edits as law
 use Rattle.keep_edit_spec.specs.Laws.{given_size}
-use Rattle.keep_edit.specs.Reading.{limit, ProfiledText, IsTextOfTree}
+use Rattle.keep_edit.specs.Answers.{text_after}
+use Rattle.keep_edit.specs.Reading.{limit, ProfiledText, IsTextOfTree, text_in}
 pub use Rattle.keep_edit_plan.specs.Given.{IsEdit}
 use Rattle.keep_edit_plan.specs.declared.edit.Edit.{Edit}
+use Rattle.keep_edit_plan.specs.declared.text_edit.TextEdit.{TextEdit}
 
 -- ---- a list of edits
 
@@ -69,3 +71,8 @@ abbrev pub AllDone : {T : Type 0} → Document → List Edit → ProfiledText �
     → Type 0
 AllDone s edits old new (Ok done) = AreMade s edits old new
 AllDone s edits old new (Err stop) = StopsAt s edits old.profile stop.0 stop.1 ⊎ IsNotCopied edits stop.0 stop.1
+
+-- What edits answer of which all but the last are made: with what the last writes, the text is the one after all edits.
+abbrev pub AllWritten : Document → List Edit → ProfiledText → ProfiledText → Result TextEdit (ℕ × EditFault) → Type 0
+AllWritten s edits old new (Ok made) = AreMade s edits old (text_in new.profile (text_after new.text made))
+AllWritten s edits old new (Err stop) = StopsAt s edits old.profile stop.0 stop.1

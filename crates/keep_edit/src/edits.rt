@@ -1,13 +1,13 @@
 //! Edits that are given as values: one, and lists of them.
-ghost use Rattle.std.specs.Prelude.{◌≡◌, ◌⊎◌, ◌<◌, length, IfErr, MatchResult, OnErr};
+ghost use Rattle.std.specs.Prelude.{◌≡◌, ◌⊎◌, ◌<◌, length, IfErr, IfOk, MatchResult, OnErr};
 ghost use Rattle.keep_syntax.specs.Tree as tree;
 ghost use Rattle.keep_edit_spec.specs.Edits as law;
 ghost use Rattle.keep_edit.specs.Reading.{IsAccepted, IsTextOfTree};
-ghost use Rattle.keep_edit.specs.Answers.{EditDone, EditReported};
-ghost use Rattle.keep_edit.specs.Lists.{IsEdit, AllDone, AreMade, EachDone, IsNotCopied, StopsAt};
+ghost use Rattle.keep_edit.specs.Answers.{EditDone, EditReported, EditWritten, IsSpanOf};
+ghost use Rattle.keep_edit.specs.Lists.{IsEdit, AllDone, AllWritten, AreMade, EachDone, IsNotCopied, StopsAt};
 
 use crate::document::Document;
-use keep_edit_plan::Edit;
+use keep_edit_plan::{Edit, TextEdit};
 use keep_edit_spec::{EditFault, Splice};
 
 impl Document {
@@ -39,6 +39,45 @@ impl Document {
         ensures edit { (e : law.Edit) × IsEdit edit.now e }
     {
         self.text_by_plan(self.as_ref().plan(self.alloc(), edit))
+    }
+
+    /// What `apply` writes into the text, and where. The document stays as it is: the new text is not made, and nothing
+    /// is read anew.
+    ///
+    /// # Errors
+    ///
+    /// Those of `apply`.
+    pub fn text_edit(&self, edit: &Edit) -> Result<TextEdit, EditFault>
+        ensures stated { (s : tree.Document) → IsTextOfTree self.now s → (e : law.Edit) → IsEdit edit.now e
+            → EditWritten s e self.now result }
+        ensures within { IfOk result (λ made. IsSpanOf self.now.text made.place) }
+        ensures accepted { IsAccepted self.now }
+        ensures edit { (e : law.Edit) × IsEdit edit.now e }
+    {
+        let plan = self.as_ref().plan(self.alloc(), edit)?;
+        Ok(plan.text_edit)
+    }
+
+    /// Makes all edits but the last, in their order, each on the document after those before it, and returns what the
+    /// last then writes into the text, and where: that one is not made. After a refusal the edits before the refused
+    /// one are made. The document's own allocator gives the memory.
+    ///
+    /// # Errors
+    ///
+    /// The number, from 0, of the first edit that is refused, and why: as `apply` refuses it on the document after
+    /// those before it.
+    pub fn apply_but_last(&mut self, edits: &[Edit]) -> Result<TextEdit, (usize, EditFault)>
+        requires { 0 < length edits.now }
+        ensures done { (s : tree.Document) → IsTextOfTree self.old s → AllWritten s edits.now self.old self.new result }
+        ensures within { IfOk result (λ made. IsSpanOf self.new.text made.place) }
+        ensures number { IfErr result (λ stop. stop.0 < length edits.now) }
+    {
+        let last = edits.len() - 1;
+        self.apply_each(&edits[..last])?;
+        match self.text_edit(&edits[last]) {
+            Ok(made) => Ok(made),
+            Err(fault) => Err((last, fault)),
+        }
     }
 
     /// Makes all edits in their order, each on the document after those before it; or none of them: after a refusal the

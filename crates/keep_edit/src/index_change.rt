@@ -1,22 +1,28 @@
 //! What an edit changes of the index, where it need not be built anew.
-ghost use Rattle.std.specs.Prelude.{◌≡◌, OnErr, OnOk};
+ghost use Rattle.std.specs.Prelude.{◌≡◌, false, true};
 ghost use Rattle.keep_edit_plan.specs.IndexChanges.{CanChange, changed_index};
 
 use keep_edit_plan::IndexChange;
 use keep_rules::Index;
-use std::alloc::AllocError;
 
-/// Makes a change of an index. The only error is out of memory, and then the index is as before.
-pub(crate) fn change_index(index: &mut Index, change: IndexChange<'_>) -> Result<(), AllocError>
+/// Whether a change of an index was made where it is. If not, the index is as before: memory was refused, or the node
+/// of a line can't come where the others are.
+pub(crate) fn change_index(index: &mut Index, change: IndexChange<'_>) -> bool
     requires { CanChange index.old change }
-    ensures changed { OnOk result (index.new ≡ changed_index index.old change.entry) }
-    ensures refused { OnErr result (index.new ≡ index.old) }
+    ensures changed { result ≡ true → index.new ≡ changed_index index.old change.entry }
+    ensures refused { result ≡ false → index.new ≡ index.old }
 {
     match change {
         IndexChange::Kind { node, kind } => {
             index.set_kind(node, kind);
-            Ok(())
+            true
         }
-        IndexChange::Key { node, key } => index.set_key(node, key),
+        IndexChange::Key { node, key } => index.set_key(node, key).is_ok(),
+        IndexChange::Line {
+            parent,
+            key,
+            line,
+            kind,
+        } => index.insert_line(parent, key, line, kind).is_ok(),
     }
 }

@@ -49,8 +49,8 @@ mod patch;
 mod planned;
 
 pub use document::{Counts, Document, Entry};
-pub use keep_edit_plan::Edit;
+pub use keep_edit_plan::{Edit, TextEdit};
 pub use keep_edit_spec::{EditFault, Splice};
-pub use keep_rules::{Kind, Path, PathFault, Step, ValueText, Why};
-pub use keep_syntax::{ReadFault, Token, Tokens};
+pub use keep_rules::{Kind, Path, PathFault, PathRoom, Step, ValueText, Why};
+pub use keep_syntax::{ReadFault, Span, Token, Tokens};
 pub use keep_token::Profile;

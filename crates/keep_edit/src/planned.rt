@@ -76,8 +76,8 @@ impl Document {
     }
 
     /// Does an edit by its plan, in place. Of the text after it only the lines are scanned that the edit touches. The
-    /// index is built anew, unless the edit changes a kind or a key in it and no more. The only error is out of memory,
-    /// and then the document is as before.
+    /// index is built anew, unless the plan tells what the edit changes in it, and that can be made where it is. The
+    /// only error is out of memory, and then the document is as before.
     fn replaced(&mut self, plan: Plan<'_>) -> Result<Splice, EditFault>
         requires { IsPlanOf self.old plan }
         ensures moved { IsMovedIn plan.entry.text_edit self.old self.new result }
@@ -169,9 +169,9 @@ fn reread(
     }
 }
 
-/// Makes of the index of a document that of the text after an edit, by the new syntax: by the change if there is one,
-/// else it is built anew. `lines` are the lines of the text that are new. The only error is out of memory, and then it
-/// is as before.
+/// Makes of the index of a document that of the text after an edit, by the new syntax: by the change, if there is one
+/// and it can be made where the index is; else it is built anew. `lines` are the lines of the text that are new. The
+/// only error is out of memory, and then it is as before.
 fn renew(
     alloc: Global,
     text: &str,
@@ -189,10 +189,9 @@ fn renew(
     ensures memory { IfErr result (λ f. f ≡ law.Memory) }
 {
     if let Some(change) = change {
-        return match change_index(index, change) {
-            Ok(()) => Ok(()),
-            Err(_) => Err(EditFault::Memory),
-        };
+        if change_index(index, change) {
+            return Ok(());
+        }
     }
     match index.rebuilt(alloc, text, lines, syntax) {
         Ok(built) => {

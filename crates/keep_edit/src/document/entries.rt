@@ -1,12 +1,13 @@
 //! The entries of a document, one by one.
-ghost use Rattle.std.specs.Prelude.{◌≡◌, IfOk, OnErr, slice_get, string_bytes};
+ghost use Rattle.std.specs.Prelude.{◌≡◌, ◌≤◌, length, IfOk, IfSome, IsOk, OnErr, OnOk, slice_get, string_bytes};
+ghost use Rattle.std.specs.Prelude.{string_capacity};
 ghost use Rattle.keep_syntax.specs.Tree as tree;
-ghost use Rattle.keep_edit.specs.Answers.{entries_of, AddsEntryPath};
+ghost use Rattle.keep_edit.specs.Answers.{entries_of, AddsEntryPath, HasEntryRoom};
 ghost use Rattle.keep_edit.specs.Children.{child_count_of};
 ghost use Rattle.keep_edit.specs.Reading.{IsAccepted, IsTextOfTree};
 
 use crate::document::Document;
-use keep_rules::{Kind, NodeId, Path};
+use keep_rules::{Kind, NodeId, Path, PathRoom};
 use std::alloc::AllocError;
 
 impl Document {
@@ -26,13 +27,36 @@ impl Document {
         ensures refused { OnErr result (string_bytes out.new ≡ string_bytes out.old) }
         ensures accepted { IsAccepted self.now }
     {
+        let mut room = PathRoom::new(*out.allocator());
+        self.push_entry_path_within(number, &mut room, out)
+    }
+
+    /// Adds the text of the path of an entry as `push_entry_path` does, and takes memory only where `room` and `out`
+    /// have no room for it.
+    pub fn push_entry_path_within(
+        &self,
+        number: usize,
+        room: &mut PathRoom,
+        out: &mut String,
+    ) -> Result<Option<Kind>, AllocError>
+        ensures entry { (s : tree.Document) → IsTextOfTree self.now s
+            → IfOk result (λ kind. AddsEntryPath (slice_get (entries_of s) number) kind (string_bytes out.old)
+            (string_bytes out.new)) }
+        ensures refused { OnErr result (string_bytes out.new ≡ string_bytes out.old) }
+        ensures accepted { IsAccepted self.now }
+        ensures grown { (string_capacity out.old ≤ string_capacity out.new) × (room.old ≤ room.new) }
+        ensures enough { (s : tree.Document) → IsTextOfTree self.now s
+            → IfSome (slice_get (entries_of s) number) (λ e. OnOk result (length e.path ≤ room.new)) }
+        ensures fits { (s : tree.Document) → IsTextOfTree self.now s
+            → HasEntryRoom room.old out.old (slice_get (entries_of s) number) → IsOk result }
+    {
         let last = self.index.node_count().saturating_sub(1);
         if number >= last {
             return Ok(None);
         }
         // The root is no entry.
         let id = NodeId(number + 1);
-        self.index.push_path_text(id, out)?;
+        self.index.push_path_within(id, room, out)?;
         Ok(Some(self.index.node(id).kind))
     }
 
