@@ -1,5 +1,5 @@
 -- The program's command, as it is built row by row and word by word.
-use Rattle.std.proofs.Common.{◌≡◌, ◌∙◌, ◌+◌, ◌<◌, ℕ, zero, suc, false, refl, sym, ap, arith, List, [], ◌∷◌, ◌++◌, map, length, take, drop, get_or, inl, inr, min, Bor, Option, None, Some, unwrap_or}
+use Rattle.std.proofs.Common.{◌≡◌, ◌∙◌, ◌+◌, ◌<◌, ℕ, zero, suc, Bool, true, false, refl, sym, ap, subst, arith, List, [], ◌∷◌, ◌++◌, map, length, take, drop, get_or, inl, inr, min, Bor, Option, None, Some, unwrap_or}
 use Rattle.std.specs.Prelude.{option_and_then}
 use Rattle.std.proofs.lemmas.Bool.Decides.{eqb_tells}
 use Rattle.std.proofs.lemmas.List.{drop_more, map-append, take_more}
@@ -7,7 +7,11 @@ use Rattle.clap.specs.Walk.{Rule, Text, is_empty}
 use Rattle.clap.specs.Simple.{App, Shape, new_shape, with_rule, with_subcommand}
 use Rattle.keep_args.specs.App.{app_with, leaf_of, word_ids, word_rule}
 use Rattle.std.specs.Str.{bytes_eq}
-use Rattle.keep_args.specs.Table.{Row, first_row}
+use Rattle.keep_args.specs.declared.subcommand.Ask.{Ask}
+use Rattle.keep_args.specs.declared.subcommand.Ask.TheVariants as ask
+use Rattle.keep_args.specs.declared.subcommand.Op.{Op}
+use Rattle.keep_args.specs.Chosen.{row_or_first}
+use Rattle.keep_args.specs.Table.{Row, edit_words, first_row, row, table, words_of}
 use Rattle.keep_args.specs.Wanted.{op_in, row_named}
 
 -- the place's name
@@ -59,3 +63,35 @@ next_row rows number d row name lt at other before =
 pub op_met : (found : Option Row) → op_in (unwrap_or found first_row).ask ≡ option_and_then (λ row. op_in row.ask) found
 op_met None = refl
 op_met (Some row) = refl
+
+-- each row has the words of what it asks
+abbrev IsOwn : Option Row → Type 0
+IsOwn found = (unwrap_or found first_row).words ≡ words_of (unwrap_or found first_row).ask
+
+abbrev made_again : List Row → List Row
+made_again rows = map (λ r. row r.name r.ask) rows
+
+own_found : (name : Text) (rows : List Row) → IsOwn (row_named name (made_again rows))
+own_found name [] = refl
+own_found name (r ∷ rows) = by (bytes_eq r.name name) refl (own_found name rows)
+  where
+    by : (b : Bool) → bytes_eq r.name name ≡ b → IsOwn (row_named name (made_again rows)) → IsOwn (row_named name (made_again (r ∷ rows)))
+    by true e more = rw e refl
+    by false e more = rw e more
+
+own_words : (name : Text) → IsOwn (row_named name table)
+own_words name = own_found name table
+
+words_asked : (asked : Ask) (o : Op) → Some o ≡ op_in asked → words_of asked ≡ edit_words o
+words_asked (ask.Edit op) o is = let same : op ≡ o = cc in ap edit_words same
+words_asked ask.Check o is = absurd cc
+words_asked ask.CheckWide o is = absurd cc
+words_asked ask.List o is = absurd cc
+words_asked ask.Get o is = absurd cc
+words_asked ask.Text o is = absurd cc
+words_asked ask.Apply o is = absurd cc
+words_asked ask.ApplyWide o is = absurd cc
+
+-- the row of an edit has the words of its operation
+pub words_met : (name : Text) (row : Row) (o : Op) → row ≡ row_or_first name → Some o ≡ op_in row.ask → row.words ≡ edit_words o
+words_met name row o at is = subst (λ (r : Row). r.words ≡ words_of r.ask) (sym at) (own_words name) ∙ words_asked row.ask o is

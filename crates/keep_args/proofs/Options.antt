@@ -1,4 +1,12 @@
--- A word that is an option is refused, or asks for help or the version: a parse of it fails, wherever it stands before a `--`.
+-- A word that is an option is refused, or asks for help or the version: a parse of it fails, wherever it stands before
+-- a `--`.
+--
+-- The program's commands have positional arguments and the two requests alone (`AreRequests`), which take no value. So
+-- whatever an option word names, the walk over the words has a fault at it: an unknown option, or the request
+-- (`turn_fails`). Flags after one hyphen are read one by one, and the first of them fails (`flags_fail`). A fault of a
+-- later word is a fault of the parse, whether the words before it pass or not (`fails_after`).
+--
+-- Theorems: `seen` (a word is `--`, plain, or an option), `turn_fails` and `fails_after`.
 use Rattle.std.proofs.Common.{◌≡◌, ◌∙◌, ◌⊎◌, ◌++◌, ◌&&◌, ℕ, Bool, true, false, not, refl, sym, ap, inl, inr, List, [], ◌∷◌, Option, Some, None, is_some, find, fold, length, arith}
 use Rattle.std.specs.Prelude.{◌==◌, ⊤, slice_get, IsUtf8}
 use Rattle.std.specs.Str.{chars}

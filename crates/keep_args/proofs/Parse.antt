@@ -1,6 +1,14 @@
--- What `clap` makes of the program's words, for any table of subcommands with at most two words each. It is computed for each
--- number of words, and each place of the `--` among them; an option fails wherever it is (`Options`).
-use Rattle.std.proofs.Common.{◌≡◌, ◌∙◌, ◌⊎◌, ◌++◌, ◌&&◌, ◌||◌, ℕ, suc, Bool, true, false, refl, sym, ap, ap₂, subst, inl, inr, List, [], ◌∷◌, map, length, Option, Some, None, is_some, option_map, find, fold, append_assoc, append-nil, arith, leb-true, Global, String}
+-- What `clap` makes of the program's words, for any table of subcommands with at most two words each.
+--
+-- The program's command is as building leaves it, so `clap`'s walk over the words computes. It stops at the name of a
+-- subcommand (`walk_named`), and from there the subcommand's own command decides (`fault_named`). Whether that takes
+-- the words is computed for each number of words that a row has, each number that is given, and each place of the `--`
+-- among them; an option fails wherever it is (`Options`). So a row takes the words exactly where they are as many as it
+-- has (`words_decide`), and a name of no row is refused (`name_unknown`).
+--
+-- Theorems: `err_refuses` and `ok_reads`: what an answer of `clap` means; `whole_read`: what is read is a row of the
+-- table with as many words as it has.
+use Rattle.std.proofs.Common.{◌≡◌, ◌∙◌, ◌⊎◌, ◌++◌, ◌&&◌, ℕ, suc, Bool, true, false, refl, sym, ap, ap₂, subst, inl, inr, List, [], ◌∷◌, map, length, Option, Some, None, is_some, option_map, find, fold, append_assoc, append-nil, arith, leb-true, Global, String}
 use Rattle.std.specs.Str.{bytes_eq}
 use Rattle.std.specs.List.{list_all}
 use Rattle.std.specs.Prelude.{◌==◌, ⊤, Contains, IsUtf8, nat_le, option_and_then, string_bytes, unwrap_or}
@@ -35,10 +43,6 @@ subs_under above rows = map built_leaf (map (inherited above) (map leaf_of rows)
 
 abbrev shape_under : Shape → Row → Shape
 shape_under above row = built_leaf (inherited above (leaf_of row))
-
-or_none : (b : Bool) → (b || false) ≡ b
-or_none true = refl
-or_none false = refl
 
 pub met_name : (above : Shape) (rows : List Row) (name : Text) → subcommand_met (map label_of (subs_under above rows)) idle name ≡ option_map (λ row. row.name) (row_named name rows)
 met_name above [] name = refl

@@ -73,7 +73,7 @@ pub const RENAME: Help = (
 );
 
 pub const REMOVE: Help = (
-    "Remove what stands at a path",
+    "Remove what is at a path",
     "Examples:
   keep-toml remove dependencies.clap < Cargo.toml > new.toml
   keep-toml remove 'bin[0]' < Cargo.toml > new.toml",

@@ -10,4 +10,4 @@ mod words;
 pub use fault::{ChoiceFault, ClapError};
 pub use given::{GivenFault, given_words};
 pub use subcommand::{Ask, Op, SUBCOMMANDS, Subcommand, Word};
-pub use words::{Chosen, chosen_of, op_named};
+pub use words::{Chosen, chosen_of, edit_named};

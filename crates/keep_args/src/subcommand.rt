@@ -1,4 +1,4 @@
-//! The table of subcommands: what `clap` is told, what the words ask for, and what help shows. By `rows` of `words.rt`
+//! The table of subcommands: what `clap` is given, what the words ask for, and what help shows. By `rows` of `words.rt`
 //! it is the list of the definitions (`specs/Table`).
 use crate::help;
 use crate::help::Help;

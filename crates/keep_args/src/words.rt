@@ -1,11 +1,11 @@
 //! The words of the command line, read by `clap`.
-ghost use Rattle.std.specs.Prelude.{◌≡◌, ◌⊎◌, ◌<◌, get_or, true, false, IfOk, MatchResult, map, string_bytes, []};
-ghost use Rattle.std.specs.Prelude.{length, take};
+ghost use Rattle.std.specs.Prelude.{◌≡◌, ◌⊎◌, ◌<◌, get_or, true, false, IfOk, IfSome, MatchResult, map, option_map};
+ghost use Rattle.std.specs.Prelude.{[], length, string_bytes, take};
 ghost use Rattle.clap.specs.Words.{app_of, rule_of, found_of, rows_of, subcommand_rows_of};
 ghost use Rattle.clap.specs.Simple.{with_subcommand};
 ghost use Rattle.clap.specs.declared.builder.command.Command.TheViews.{out-Command as fields_of};
 ghost use Rattle.keep_args.specs.App.{program_app, app_with, leaf_of, word_rule};
-ghost use Rattle.keep_args.specs.Table.{first_row, row_of, table};
+ghost use Rattle.keep_args.specs.Table.{edit_words, first_row, row_of, table};
 ghost use Rattle.keep_args.specs.Chosen.{IsChosen, IsUnchosen, read_rows, row_or_first, wanted_of_chosen, wanted_with};
 ghost use Rattle.keep_args.specs.Chosen.{word_in, words_in};
 ghost use Rattle.keep_args.specs.Wanted as spec;
@@ -162,12 +162,17 @@ fn row_named(name: &str) -> &'static Subcommand
     row_at(0)
 }
 
-/// The operation of the edit that the subcommand of this name makes; None where no subcommand has the name, or it makes
-/// no edit.
-pub fn op_named(name: &str) -> Option<Op>
-    ensures { result ≡ spec.op_named name.now }
+/// The operation of the edit that the subcommand of this name makes, and what its words are in their order; None where
+/// no subcommand has the name, or it makes no edit.
+pub fn edit_named(name: &str) -> Option<(Op, &'static [Word])>
+    ensures op { option_map (λ edit. edit.0) result ≡ spec.op_named name.now }
+    ensures words { IfSome result (λ edit. edit.1.now ≡ edit_words edit.0) }
 {
-    op_in(row_named(name).1)
+    let row = row_named(name);
+    match op_in(row.1) {
+        Some(op) => Some((op, row.2)),
+        None => None,
+    }
 }
 
 // The operation of an edit; None where no edit is asked.

@@ -1,9 +1,9 @@
 -- What the calls answer, where a part of it is passed up.
 use Rattle.std.proofs.Common.{◌≡◌, ◌++◌, ◌<◌, ℕ, List, refl, subst, inl, inr, length, drop, Global, String}
-use Rattle.std.specs.Prelude.{Result, Ok, Err, string_bytes}
+use Rattle.std.specs.Prelude.{Result, Ok, string_bytes}
 use Rattle.keep_edit.specs.Reading.{ProfiledText}
 use Rattle.keep_args.specs.declared.subcommand.Ask.{Ask}
-use Rattle.keep_c.specs.Answer.{Answers, IsAnswer, IsReported, numbers_of, status_of}
+use Rattle.keep_c.specs.Answer.{Answers, IsAnswer}
 use Rattle.keep_c.specs.Numbers.{no_fault, no_room}
 use Rattle.keep_c.specs.declared.fault.Fault.{Fault}
 use Rattle.keep_c.specs.declared.numbers.KeepTomlFault.{KeepTomlFault}
@@ -16,8 +16,3 @@ module _ (answer : Result (String Global) Fault) (text : String Global) (is : an
   pub without_room : numbers ≡ no_room → (new ≡ old) × (length old < length (string_bytes text))
       → (ask : Ask) (words : List (List ℕ)) (input : ProfiledText) → Answers ask words input answer → IsAnswer ask words input old new size numbers 3
   without_room full (kept, less) ask words input h = inr (inl (refl, full, (string_bytes text, subst (λ (r : Result (String Global) Fault). Answers ask words input r) is h, sized, rw sized less, kept)))
-
-pub failed : (answer : Result (String Global) Fault) (f : Fault) → answer ≡ Err f → (old new : List ℕ) (size : ℕ) (numbers : KeepTomlFault) (status : ℕ) → numbers ≡ numbers_of f → status ≡ status_of f → IsReported f old new size
-    → (ask : Ask) (words : List (List ℕ)) (input : ProfiledText) → Answers ask words input answer → IsAnswer ask words input old new size numbers status
-failed answer f is old new size numbers status named at reported ask words input h =
-    inr (inr (f, subst (λ (r : Result (String Global) Fault). Answers ask words input r) is h, at, named, reported))

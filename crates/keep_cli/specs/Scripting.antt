@@ -1,6 +1,6 @@
 -- What the reading of a script finds, step by step.
 use Rattle.std.specs.Prelude.{◌≡◌, ℕ, List, [], ◌∷◌, codes, length, take, Option, Some, None}
-use Rattle.std.specs.Prelude.{string_bytes}
+use Rattle.std.specs.Prelude.{option_map, slice_get, string_bytes}
 use Rattle.keep_types.specs.declared.leaf.Profile.{Profile}
 use Rattle.keep_syntax.specs.Tree.{Document}
 use Rattle.keep_edit.specs.Children.{child_count_of}
@@ -21,8 +21,7 @@ pub record StatesEdits (profile : Profile) (s : Document) (edits : List Edit) : 
 
 -- the third key of an element, beside `op` and `path`: that of the second word
 abbrev pub third_key : List Word → Option (List ℕ)
-third_key (first ∷ second ∷ []) = Some (word_key second)
-third_key _ = None
+third_key words = option_map word_key (slice_get words 1)
 
 -- the keys of an element, with this third one or none: the texts at `path` and at that
 abbrev pub HasKeys : Document → ℕ → Option (List ℕ) → List ℕ → List ℕ → Type 0

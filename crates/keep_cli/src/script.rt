@@ -1,5 +1,5 @@
 //! Scripts: lists of edits as a document.
-ghost use Rattle.std.specs.Prelude.{◌≡◌, ◌⊎◌, IfOk, MatchResult, option_map, string_bytes};
+ghost use Rattle.std.specs.Prelude.{◌≡◌, ◌⊎◌, IfOk, IfSome, MatchResult, option_map, string_bytes};
 ghost use Rattle.keep_syntax.specs.Tree as tree;
 ghost use Rattle.keep_edit.specs.Reading.{IsTextOfTree};
 ghost use Rattle.keep_args.specs.Table.{edit_words};
@@ -11,7 +11,7 @@ ghost use Rattle.keep_cli.specs.Scripting.{AreTexts, AreTextsOf, IsFaultAt, IsTe
 
 use crate::edit::{WordFault, edit_of};
 use crate::fault::{EntryWhy, UseFault};
-use keep_args::{Op, op_named};
+use keep_args::{Op, Word, edit_named};
 use keep_edit::{Document, Edit, Kind, Path, Profile, ReadFault};
 use std::alloc::{AllocError, Global};
 
@@ -99,36 +99,49 @@ fn entry_of(
         → MatchResult result (IsEntry profile s index)
         (λ fault. (fault ≡ UseFault.Memory) ⊎ IsFaultAt profile s index fault) }
 {
-    let Some(op) = op_of(alloc, document, index)? else {
+    let Some((op, words)) = op_of(alloc, document, index)? else {
         let why = EntryWhy::Op;
         return Err(UseFault::Entry { index, why });
     };
-    let Some(texts) = texts_of(alloc, document, index, op)? else {
+    let Some(texts) = texts_of(alloc, document, index, op, words)? else {
         let why = EntryWhy::Keys;
         return Err(UseFault::Entry { index, why });
     };
     edit_from(alloc, index, profile, op, &texts)
 }
 
-// The op of an element; None where it has no string `op`, or an unknown one.
-fn op_of(alloc: Global, document: &Document, index: usize) -> Result<Option<Op>, AllocError>
-    ensures { (s : tree.Document) → IsTextOfTree document.now s → IfOk result (λ found. found ≡ spec.op_of s index) }
+// The op of an element, and what its words are; None where it has no string `op`, or an unknown one.
+fn op_of(
+    alloc: Global,
+    document: &Document,
+    index: usize,
+) -> Result<Option<(Op, &'static [Word])>, AllocError>
+    ensures op { (s : tree.Document) → IsTextOfTree document.now s
+        → IfOk result (λ found. option_map (λ edit. edit.0) found ≡ spec.op_of s index) }
+    ensures words { IfOk result (λ found. IfSome found (λ edit. edit.1.now ≡ edit_words edit.0)) }
 {
     match given(alloc, document, index, "op")? {
-        Some(name) => Ok(op_named(name.as_str())),
+        Some(name) => Ok(edit_named(name.as_str())),
         None => Ok(None),
     }
 }
 
-// The key at which an element has the second word of its op, beside `op` and `path`.
-fn third_key(op: Op) -> Option<&'static str>
-    ensures { option_map (λ name. name.now) result ≡ steps.third_key (edit_words op) }
+// The key at which an element has a word of its op.
+fn word_key(word: Word) -> &'static str
+    ensures { result.now ≡ spec.word_key word }
 {
-    match op {
-        Op::Set | Op::Insert => Some("value"),
-        Op::Rename => Some("key"),
-        Op::Remove | Op::Table | Op::Element => None,
+    match word {
+        Word::Value => "value",
+        Word::Key => "key",
+        Word::Path | Word::Keys | Word::Script | Word::WideScript => "path",
     }
+}
+
+// The key at which an element has the second of such words, if there is one.
+fn third_key(words: &[Word]) -> Option<&'static str>
+    ensures { option_map (λ name. name.now) result ≡ steps.third_key words.now }
+{
+    words.get(1).map(|word| word_key(*word))
 }
 
 // The words of an element as its op takes them; None where its keys are not those of its op, or no strings.
@@ -137,24 +150,26 @@ fn texts_of(
     document: &Document,
     index: usize,
     op: Op,
+    words: &[Word],
 ) -> Result<Option<Texts>, AllocError>
+    requires { words.now ≡ edit_words op }
     ensures { (s : tree.Document) → IsTextOfTree document.now s → IfOk result (AreTextsOf s index (edit_words op)) }
 {
-    texts_at(alloc, document, index, op)
+    texts_at(alloc, document, index, words)
 }
 
-// The texts at `path` and at the third key of an op, if it has one; None where these are not the keys beside `op`, or
-// no strings.
+// The texts at `path` and at the key of the second of such words, if there is one; None where these are not the keys
+// beside `op`, or no strings.
 fn texts_at(
     alloc: Global,
     document: &Document,
     index: usize,
-    op: Op,
+    words: &[Word],
 ) -> Result<Option<Texts>, AllocError>
     ensures { (s : tree.Document) → IsTextOfTree document.now s
-        → IfOk result (AreTexts s index (steps.third_key (edit_words op))) }
+        → IfOk result (AreTexts s index (steps.third_key words.now)) }
 {
-    let third = third_key(op);
+    let third = third_key(words);
     let many = if third.is_some() { 3 } else { 2 };
     let mut path = Path::new(alloc);
     path.push_key("edit")?;

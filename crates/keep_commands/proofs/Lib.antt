@@ -3,3 +3,5 @@ pub mod AnswerLaws
 pub mod ProfileLaws
 pub mod ListLines
 pub mod RunLaws
+pub mod Writing
+pub mod ListRooms

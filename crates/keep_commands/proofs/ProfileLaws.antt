@@ -1,4 +1,12 @@
 -- Why no edit is refused for the profile of its value, where that is the profile of the document.
+--
+-- The refusal of an edit is the first condition of a list that holds. Only one condition gives the fault `Profile`, and
+-- it holds only if the profile does not allow the value; no other condition gives that fault (`NeverStates`, with a law
+-- for each length of the list). If the value is allowed, the fault is never given: of one edit (`never_refused`), by
+-- induction of a list of edits (`never_applied`), and then of each command (`never_edit`). A value read in Strict is
+-- allowed in Strict (`strict_allowed`), and Wide allows every value (`wide_allowed`).
+--
+-- Theorem: `never_profile`.
 use Rattle.std.proofs.Common.{◌≡◌, ◌⊎◌, ◌∙◌, ◌&&◌, ◌||◌, ℕ, zero, suc, Bool, true, false, not, List, [], ◌∷◌, take, Option, Some, None, refl, sym, ap, subst, inl, inr, option_map}
 use Rattle.std.specs.Prelude.{◌==◌, drop, length, nat_lt, Result, Ok, Err, IfErr, IsErrAnd}
 use Rattle.std.specs.List.{AllZip, list_any}
@@ -179,8 +187,8 @@ never_edit command.CheckWide bytes n own h = absurd h
 never_edit command.List bytes n own h = absurd h
 never_edit (command.Get path) bytes n own (first, (s, read, got)) = never_at path s (value_at path s) got
 never_edit (command.Text path) bytes n own (first, (s, read, got)) = never_at path s (string_of (fact_at path (mentions_in s))) got
-never_edit (command.Apply edits) bytes n own (s, read, (es, are, refused)) = never_applied Strict es 0 n s (all_strict (take (suc n) edits.items) es (strict_prefix (suc n) edits.items own) are) refused
-never_edit (command.ApplyWide edits) bytes n own (s, read, (es, are, refused)) = never_applied Wide es 0 n s (all_wide es) refused
+never_edit (command.Apply edits) bytes n own (s, read, r) = never_applied Strict r.es 0 n s (all_strict (take (suc n) edits.items) r.es (strict_prefix (suc n) edits.items own) r.are) r.refused
+never_edit (command.ApplyWide edits) bytes n own (s, read, r) = never_applied Wide r.es 0 n s (all_wide r.es) r.refused
 
 -- no command is refused so
 pub never_profile : (c : Command) (bytes : List ℕ) (f : RunFault) → HasOwnValues c → (f ≡ run.Memory) ⊎ IsRefusal c (text_in (profile_of c) bytes) f → IsProfileFault f → ⊥

@@ -1,10 +1,12 @@
 -- What a run comes to, by the bytes that were read and the answer to them.
-use Rattle.std.proofs.Common.{◌≡◌, ◌⊎◌, ℕ, Bool, List, Option, inl, inr, sym, subst}
+use Rattle.std.proofs.Common.{◌≡◌, ◌⊎◌, ℕ, Bool, List, take, Option, inl, inr, sym, subst, arith}
 use Rattle.std.specs.Prelude.{Result, Ok, Err, MatchResult, IsErrAnd}
-use Rattle.std.specs.Io.KnownBytes.{Keeps}
+use Rattle.std.specs.Io.KnownBytes.{Appends, Keeps}
 use Rattle.keep_edit.specs.Reading.{text_in}
-use Rattle.keep_commands.specs.Answer.{IsRefusal, IsText, profile_of}
-use Rattle.keep_commands.specs.Run.{HasWritten, IsInput, StopsRun, WritesAll}
+use Rattle.keep_commands.specs.Answer.{IsRefusal, profile_of}
+use Rattle.keep_commands.specs.Run.{HasWritten, IsInput, StopsRun}
+use Rattle.keep_commands.specs.Written.{AreBytesOf, IsAnswer, WritesAll}
+use Rattle.keep_commands.specs.declared.answer.Answer.{Answer}
 use Rattle.keep_commands.specs.declared.command.Command.{Command}
 use Rattle.keep_commands.specs.declared.fault.RunFault.{RunFault}
 use Rattle.keep_commands.specs.declared.fault.RunFault.TheVariants as run
@@ -30,15 +32,17 @@ pub answer_stops : (command : Command) (input old new : Option (List ℕ)) (byte
 answer_stops command input old new bytes (Ok done) f passed is keeps answer = absurd passed
 answer_stops command input old new bytes (Err e) f passed is keeps answer = subst (StopsRun command input old new) (sym passed) (stopped command input old new bytes f is keeps answer)
 
--- the answer is a text, and all of it was written, or a prefix
-pub answer_written : (command : Command) (input old new : Option (List ℕ)) (bytes text given : List ℕ) (r : Result Done RunFault) (failed : Bool)
-    → IsInput input bytes → IsText command (text_in (profile_of command) bytes) text → given ≡ text → WritesAll old new given r failed
+-- the bytes of the answer were written, or a prefix of them
+pub answer_written : (command : Command) (input old new : Option (List ℕ)) (bytes : List ℕ) (answer : Answer) (r : Result Done RunFault) (failed : Bool)
+    → IsInput input bytes → IsAnswer command (text_in (profile_of command) bytes) answer → (text : List ℕ) × AreBytesOf answer text × WritesAll old new text r failed
     → MatchResult r (λ done. HasWritten command input old new done.written) (StopsRun command input old new)
-answer_written command input old new bytes text given r failed is answer same written = by r (subst (λ (t : List ℕ). WritesAll old new t r failed) same written)
+answer_written command input old new bytes answer r failed is answers (text, are, written) = by r written
   where
     by : (r : Result Done RunFault) → WritesAll old new text r failed → MatchResult r (λ done. HasWritten command input old new done.written) (StopsRun command input old new)
-    by (Ok done) all = (bytes, is, (text, answer, all.1, all.2))
-    by (Err (run.Write n)) prefix = (bytes, is, (text, answer, prefix.1, prefix.2))
+    by (Ok done) all = (bytes, is, (text, answers text are, omega (arith, all.1), all.2))
+    by (Err (run.Write n)) (is_failed, (m, same, less, has)) =
+        let count : m ≡ n = omega (arith, same) in
+        (bytes, is, (text, answers text are, omega (arith, same, less), subst (λ (k : ℕ). Appends old new (take k text)) count has))
     by (Err (run.Document f)) never = absurd never
     by (Err (run.Edit n f)) never = absurd never
     by (Err run.TooLong) never = absurd never

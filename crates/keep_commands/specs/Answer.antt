@@ -1,6 +1,6 @@
 -- What the program answers to a command and the bytes that were read.
-use Rattle.std.specs.Prelude.{◌≡◌, ℕ, List, ◌++◌, suc, take, codes, decimal, Ok, Err, ⊤}
-use Rattle.std.specs.List.{flat_map, AllZip}
+use Rattle.std.specs.Prelude.{◌≡◌, ℕ, List, ◌++◌, codes, decimal, Ok, Err, ⊤}
+use Rattle.std.specs.List.{flat_map}
 use Rattle.keep_types.specs.declared.leaf.Profile.{Profile}
 use Rattle.keep_types.specs.declared.leaf.Profile.TheVariants.{Strict, Wide}
 use Rattle.keep_syntax.specs.declared.fault.ReadFault.{ReadFault}
@@ -12,16 +12,15 @@ use Rattle.keep_path.specs.PathText.{encoded_path}
 use Rattle.keep_meaning.specs.ReadText.{IsReadFault}
 use Rattle.keep_edit_spec.specs.declared.fault.EditFault.{EditFault}
 use Rattle.keep_edit_spec.specs.declared.fault.EditFault.TheVariants as fault
-use Rattle.keep_edit_spec.specs.Edits as law
-use Rattle.keep_edit_spec.specs.Answers.{get, string_at, applied_edits}
+use Rattle.keep_edit_spec.specs.Answers.{get, string_at}
 use Rattle.keep_edit.specs.declared.document.Counts.{Counts}
 use Rattle.keep_edit.specs.declared.document.Entry.{Entry}
-use Rattle.keep_edit.specs.Reading.{limit, ProfiledText, IsTextOfTree}
+use Rattle.keep_edit.specs.Reading.{limit, ProfiledText, IsTextOfTree, text_in}
 use Rattle.keep_edit.specs.Answers.{counts_of, entries_of}
 use Rattle.keep_commands.specs.declared.command.Command.{Command}
 use Rattle.keep_commands.specs.declared.command.Command.TheVariants as command
 use Rattle.keep_edit_plan.specs.declared.edit.Edit.{Edit}
-use Rattle.keep_edit.specs.Lists.{IsEdit}
+use Rattle.keep_edit.specs.Lists.{AreMade, IsRefusedAt}
 use Rattle.keep_commands.specs.declared.fault.RunFault.{RunFault}
 use Rattle.keep_commands.specs.declared.fault.RunFault.TheVariants as run
 
@@ -53,20 +52,6 @@ entry_line e = encoded_path e.path ++ (codes "\t" ++ (kind_word e.kind ++ codes 
 abbrev pub lines_of : List Entry → List ℕ
 lines_of entries = flat_map entry_line entries
 
--- ---- edits
-
--- the text after all edits, in order
-abbrev pub AppliesTo : Profile → List Edit → Document → List ℕ → Type 0
-AppliesTo profile edits s new =
-    (es : List law.Edit) × AllZip IsEdit edits es
-    × ((u : Document) × (applied_edits profile limit es s ≡ Ok u) × (new ≡ text u))
-
--- The edit with this number is the first that is refused, and this is why. (The edits after it are not looked at.)
-abbrev pub RefusesAt : Profile → List Edit → Document → ℕ → EditFault → Type 0
-RefusesAt profile edits s number f =
-    (es : List law.Edit) × AllZip IsEdit (take (suc number) edits) es
-    × (applied_edits profile limit es s ≡ Err (record { number = number; fault = f }))
-
 -- ---- answers
 
 -- the profile that the document is read in
@@ -85,9 +70,9 @@ IsText (command.Get path) input output =
     × ((value : List ℕ) × (get path s ≡ Ok value) × (output ≡ value ++ codes "\n"))
 IsText (command.Text path) input output = (s : Document) × IsTextOfTree input s × (string_at path s ≡ Ok output)
 IsText (command.Apply edits) input output =
-    (s : Document) × IsTextOfTree input s × AppliesTo input.profile edits.items s output
+    (s : Document) × IsTextOfTree input s × AreMade s edits.items input (text_in input.profile output)
 IsText (command.ApplyWide edits) input output =
-    (s : Document) × IsTextOfTree input s × AppliesTo input.profile edits.items s output
+    (s : Document) × IsTextOfTree input s × AreMade s edits.items input (text_in input.profile output)
 
 -- the bytes are a document, and the edit with this number is the first that is refused, by this fault
 unfoldable pub IsEditRefusal : Command → ProfiledText → ℕ → EditFault → Type 0
@@ -99,9 +84,9 @@ IsEditRefusal (command.Get path) input number f =
 IsEditRefusal (command.Text path) input number f =
     (number ≡ 0) × ((s : Document) × IsTextOfTree input s × (string_at path s ≡ Err f))
 IsEditRefusal (command.Apply edits) input number f =
-    (s : Document) × IsTextOfTree input s × RefusesAt input.profile edits.items s number f
+    (s : Document) × IsTextOfTree input s × IsRefusedAt s edits.items input.profile number f
 IsEditRefusal (command.ApplyWide edits) input number f =
-    (s : Document) × IsTextOfTree input s × RefusesAt input.profile edits.items s number f
+    (s : Document) × IsTextOfTree input s × IsRefusedAt s edits.items input.profile number f
 
 -- the fault is the answer; that memory runs out is none
 abbrev pub IsRefusal : Command → ProfiledText → RunFault → Type 0
@@ -126,7 +111,7 @@ of_edit number f = run.Edit number f
 -- the edits are refused so, or memory ran out
 abbrev pub Refused : Profile → List Edit → Document → RunFault → Type 0
 Refused profile edits s run.Memory = ⊤
-Refused profile edits s (run.Edit number f) = RefusesAt profile edits s number f
+Refused profile edits s (run.Edit number f) = IsRefusedAt s edits profile number f
 Refused profile edits s _ = ⊥
 
 -- the fault is that an edit gives a value which the document's profile does not have

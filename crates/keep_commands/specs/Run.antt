@@ -7,7 +7,6 @@ use Rattle.keep_commands.specs.Answer.{IsRefusal, IsText, profile_of}
 use Rattle.keep_commands.specs.declared.command.Command.{Command}
 use Rattle.keep_commands.specs.declared.fault.RunFault.{RunFault}
 use Rattle.keep_commands.specs.declared.fault.RunFault.TheVariants.{Read, TooLong, Write, Memory}
-use Rattle.keep_commands.specs.declared.run.Done.{Done}
 use Rattle.keep_commands.specs.declared.run.TheConstants.{LONGEST_INPUT}
 
 -- The program answers inputs of at most so many bytes, and reads of no input more than one byte more.
@@ -46,17 +45,6 @@ module _ {Z : Type 0} where
       (failed ≡ false) × (length bytes.items ≤ most) × Consumes input rest bytes.items
       × (length bytes.items < most → IsAtEnd rest)
   ReadsUpTo most input rest (Err fault) failed = StopsReading input fault failed × LosesAtMost most input rest
-
--- why writing stopped
-abbrev pub StopsWriting : Option (List ℕ) → Option (List ℕ) → List ℕ → RunFault → Bool → Type 0
-StopsWriting old new bytes (Write written) failed =
-    (failed ≡ true) × (written < length bytes) × Appends old new (take written bytes)
-StopsWriting old new bytes _ failed = ⊥
-
--- all bytes are written, or a prefix
-abbrev pub WritesAll : Option (List ℕ) → Option (List ℕ) → List ℕ → Result Done RunFault → Bool → Type 0
-WritesAll old new bytes (Ok done) failed = (failed ≡ false) × (done.written ≡ length bytes) × Appends old new bytes
-WritesAll old new bytes (Err fault) failed = StopsWriting old new bytes fault failed
 
 -- the fault is one of writing
 abbrev pub is_write : RunFault → Type 0

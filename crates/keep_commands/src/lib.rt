@@ -4,5 +4,8 @@
 pub mod answer;
 pub mod command;
 pub mod counted;
+pub mod edited;
 pub mod fault;
+pub mod lines;
 pub mod run;
+mod write;

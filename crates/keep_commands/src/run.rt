@@ -6,14 +6,16 @@ ghost use Rattle.keep_commands.specs.Counted.{IsFresh, has_failed, inner_of, cal
 ghost use Rattle.keep_commands.specs.Answer.{IsProfileFault};
 ghost use Rattle.keep_commands.specs.OwnValues.{HasOwnValues};
 ghost use Rattle.keep_commands.specs.Run.{HasWritten, IsWithinLimit, LosesAtMost, ReadsAll, ReadsUpTo, StopsRun};
-ghost use Rattle.keep_commands.specs.Run.{WritesAll, is_write};
+ghost use Rattle.keep_commands.specs.Run.{is_write};
 
-use crate::answer::answer;
+use crate::answer::answer_to;
 use crate::command::Command;
 use crate::counted::Counted;
 use crate::fault::RunFault;
+use crate::write::write_answer;
 use std::alloc::Global;
 use std::io::{Read, Write};
+use std::mem;
 
 // The most bytes that the first calls ask for. Few inputs are longer.
 const FIRST_BLOCK: usize = 8_192;
@@ -67,8 +69,11 @@ pub fn run<R: Read, W: Write>(
     ensures output_failed { IsErrAnd result is_write ↔ (has_failed output.new ≡ true) }
 {
     let bytes = read_all(alloc, input)?;
-    let text = answer(alloc, command, bytes)?;
-    write_all(output, text.as_bytes())
+    let mut answer = answer_to(alloc, command, bytes)?;
+    let written = write_answer(output, &mut answer);
+    // The program ends with its answer: to take a document apart piece by piece would only cost time.
+    mem::forget(answer);
+    written
 }
 
 // All bytes of the input.
@@ -136,22 +141,4 @@ fn read_up_to<R: Read>(
         }
     }
     Ok(bytes)
-}
-
-// Writes all of the bytes, or a prefix of them.
-fn write_all<W: Write>(output: &mut Counted<W>, bytes: &[u8]) -> Result<Done, RunFault>
-    requires { IsFresh output.old }
-    ensures writes { WritesAll (W.contents (inner_of output.old)) (W.contents (inner_of output.new)) bytes.now result
-        (has_failed output.new) }
-    ensures silent { IfOk result (λ done. done.written ≡ 0 → calls_of output.new ≡ 0) }
-{
-    let mut at = 0;
-    while at < bytes.len() {
-        match output.write(&bytes[at..]) {
-            Ok(0) => return Err(RunFault::Write { written: at }),
-            Ok(count) => at += count,
-            Err(_) => return Err(RunFault::Write { written: at }),
-        }
-    }
-    Ok(Done { written: at })
 }

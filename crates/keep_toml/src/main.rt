@@ -1,12 +1,15 @@
 //! Reads a TOML document from standard input, and answers on standard output.
 #![tactic(auto)]
 
-ghost use Rattle.std.specs.Prelude.{◌≡◌, ◌≤◌, ◌⊎◌, IfOk};
-ghost use Rattle.keep_commands.specs.Status.{run_status};
+ghost use Rattle.std.specs.Prelude.{◌≡◌, ◌≤◌, IfOk, Result};
+ghost use Rattle.keep_commands.specs.Status.{exit_status, run_status, IsFlushed};
 ghost use Rattle.keep_commands.specs.declared.fault.RunFault as run_fault;
+ghost use Rattle.keep_commands.specs.declared.run.Done as run_done;
 ghost use Rattle.keep_cli.specs.Status.{use_status};
 
-use keep_cli::{Command, Counted, GivenFault, RunFault, UseFault, command_of, given_words, run};
+use keep_cli::{
+    Command, Counted, Done, GivenFault, RunFault, UseFault, command_of, given_words, run,
+};
 use std::io;
 use std::io::Write;
 use std::process::ExitCode;
@@ -49,22 +52,38 @@ fn refused(rt: &HostRuntime, fault: &UseFault) -> io::Result<u8>
     Ok(fault.status())
 }
 
-// A command: 0, or the status of a fault of its run.
+// A command: the status of what came of its run. No clause can name that, which is the system's to decide: so this only
+// hands it on, and what becomes of it is said below.
 fn answered(rt: &HostRuntime, command: &Command) -> io::Result<u8>
-    ensures { IfOk result (λ status. (status ≡ 0) ⊎ ((fault : run_fault.RunFault) × (status ≡ run_status fault))) }
+    ensures { IfOk result (λ status. (ran : Result run_done.Done run_fault.RunFault) × (status ≡ exit_status ran)) }
 {
     let mut input = Counted::new(rt.stdin());
     let mut output = Counted::new(rt.stdout());
-    let fault = match run(rt.alloc(), command, &mut input, &mut output) {
-        Ok(done) => match output.into_inner().flush() {
-            Ok(()) => return Ok(0),
-            Err(_) => RunFault::Write {
-                written: done.written,
-            },
-        },
-        Err(fault) => fault,
-    };
-    stopped(rt, &fault)
+    let ran = run(rt.alloc(), command, &mut input, &mut output);
+    ended(rt, &flushed(ran, &mut output.into_inner()))
+}
+
+// What came of a run once its output is flushed.
+fn flushed<W: Write>(ran: Result<Done, RunFault>, output: &mut W) -> Result<Done, RunFault>
+    ensures { IsFlushed ran result }
+{
+    let done = ran?;
+    match output.flush() {
+        Ok(()) => Ok(done),
+        Err(_) => Err(RunFault::Write {
+            written: done.written,
+        }),
+    }
+}
+
+// The end of a run: 0 if it is done, else the status of its fault, which is reported.
+fn ended(rt: &HostRuntime, ran: &Result<Done, RunFault>) -> io::Result<u8>
+    ensures { IfOk result (λ status. status ≡ exit_status ran.now) }
+{
+    match ran {
+        Ok(_) => Ok(0),
+        Err(fault) => stopped(rt, fault),
+    }
 }
 
 // A run that stops: the status of its fault.

@@ -1,39 +1,38 @@
 use Rattle.std.proofs.Common.{rules}
-use Rattle.std.specs.Prelude.{string_bytes}
 use Rattle.keep_commands.proofs.Appends.{keeps_self}
 use Rattle.keep_commands.proofs.ProfileLaws.{never_profile, passed_up}
 use Rattle.keep_commands.proofs.RunLaws.{answer_stops, answer_written}
 use Rattle.keep_commands.proofs.run.run.Goals as goal
 
-pub returns-in_err-text-clause-profile : goal.returns-in_err-text-clause-profile
-returns-in_err-text-clause-profile g c = λ own.
-    passed_up c.from_residual-in_err-text.result c.in_err-text.field-0.0 c.from_residual-in_err-text.ensures.1 (never_profile c.args.command.now c.in_ok-bytes.bytes.items c.in_err-text.field-0.0 own c.in_err-text.ensures)
+pub returns-in_err-answer-clause-profile : goal.returns-in_err-answer-clause-profile
+returns-in_err-answer-clause-profile g c = λ own.
+    passed_up c.from_residual-in_err-answer.result c.in_err-answer.field-0.0 c.from_residual-in_err-answer.ensures.1 (never_profile c.args.command.now c.in_ok-bytes.bytes.items c.in_err-answer.field-0.0 own c.in_err-answer.ensures)
 
-pub returns-in_err-text-clause-calls : goal.returns-in_err-text-clause-calls
-returns-in_err-text-clause-calls g c = search rules
+pub returns-in_err-answer-clause-calls : goal.returns-in_err-answer-clause-calls
+returns-in_err-answer-clause-calls g c = search rules
 
-pub returns-in_err-text-clause-taken : goal.returns-in_err-text-clause-taken
-returns-in_err-text-clause-taken g c = search rules
+pub returns-in_err-answer-clause-taken : goal.returns-in_err-answer-clause-taken
+returns-in_err-answer-clause-taken g c = search rules
 
-pub returns-in_err-text-clause-answers : goal.returns-in_err-text-clause-answers
-returns-in_err-text-clause-answers g c =
+pub returns-in_err-answer-clause-answers : goal.returns-in_err-answer-clause-answers
+returns-in_err-answer-clause-answers g c =
     answer_stops c.args.command.now (g.R.Read.remaining c.args.input.now.inner) (g.W.Write.contents c.args.output.now.inner) (g.W.Write.contents c.args.output.now.inner) c.in_ok-bytes.bytes.items
-    c.from_residual-in_err-text.result c.in_err-text.field-0.0 c.from_residual-in_err-text.ensures.1 c.in_ok-bytes.ensures.reads.1 (keeps_self _) c.in_err-text.ensures
+    c.from_residual-in_err-answer.result c.in_err-answer.field-0.0 c.from_residual-in_err-answer.ensures.1 c.in_ok-bytes.ensures.reads.1 (keeps_self _) c.in_err-answer.ensures
 
-pub returns-in_err-text-clause-decided : goal.returns-in_err-text-clause-decided
-returns-in_err-text-clause-decided g c = search rules
+pub returns-in_err-answer-clause-decided : goal.returns-in_err-answer-clause-decided
+returns-in_err-answer-clause-decided g c = search rules
 
-pub returns-in_err-text-clause-silent : goal.returns-in_err-text-clause-silent
-returns-in_err-text-clause-silent g c = search rules
+pub returns-in_err-answer-clause-silent : goal.returns-in_err-answer-clause-silent
+returns-in_err-answer-clause-silent g c = search rules
 
-pub returns-in_err-text-clause-input_failed : goal.returns-in_err-text-clause-input_failed
-returns-in_err-text-clause-input_failed g c = search rules
+pub returns-in_err-answer-clause-input_failed : goal.returns-in_err-answer-clause-input_failed
+returns-in_err-answer-clause-input_failed g c = search rules
 
-pub returns-in_err-text-clause-output_failed : goal.returns-in_err-text-clause-output_failed
-returns-in_err-text-clause-output_failed g c = search rules
+pub returns-in_err-answer-clause-output_failed : goal.returns-in_err-answer-clause-output_failed
+returns-in_err-answer-clause-output_failed g c = search rules
 
-pub write_all-requires : goal.write_all-requires
-write_all-requires g c = search rules
+pub write_answer-written-requires : goal.write_answer-written-requires
+write_answer-written-requires g c = search rules
 
 pub returns-clause-calls : goal.returns-clause-calls
 returns-clause-calls g c = search rules
@@ -43,8 +42,8 @@ returns-clause-taken g c = search rules
 
 pub returns-clause-answers : goal.returns-clause-answers
 returns-clause-answers g c =
-    answer_written c.args.command.now (g.R.Read.remaining c.args.input.now.inner) (g.W.Write.contents c.args.output.now.inner) (g.W.Write.contents c.write_all.new.output.inner) c.in_ok-bytes.bytes.items
-    (string_bytes c.in_ok-text.text) c.as_bytes.result.now c.write_all.result c.write_all.new.output.failed c.in_ok-bytes.ensures.reads.1 c.in_ok-text.ensures c.as_bytes.ensures.value c.write_all.ensures.writes
+    answer_written c.args.command.now (g.R.Read.remaining c.args.input.now.inner) (g.W.Write.contents c.args.output.now.inner) (g.W.Write.contents c.write_answer-written.new.output.inner) c.in_ok-bytes.bytes.items
+    c.in_ok-answer.answer c.write_answer-written.result c.write_answer-written.new.output.failed c.in_ok-bytes.ensures.reads.1 c.in_ok-answer.ensures c.write_answer-written.ensures.writes
 
 pub returns-clause-decided : goal.returns-clause-decided
 returns-clause-decided g c = search rules

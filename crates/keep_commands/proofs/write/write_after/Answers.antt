@@ -1,6 +1,6 @@
 use Rattle.std.proofs.Common.{arith, ℕ, ◌∙◌, ◌||◌, Bool, length-drop, length-take, ap₂}
 use Rattle.keep_commands.proofs.Appends.{appends_more, takes_some}
-use Rattle.keep_commands.proofs.run.write_all.Goals as goal
+use Rattle.keep_commands.proofs.write.write_after.Goals as goal
 
 pub loop-at-preserved : goal.loop-at-preserved
 loop-at-preserved g c =
