@@ -8,7 +8,8 @@ with ample memory, where it has to get the wanted answer, and its growths are co
 first growth refused, with the second, and so on up to the last.
 
 The program (subcommands.tsv): each of these runs ends with status 4, one line on standard error and nothing on
-standard output, also where the answer with ample memory is a refusal.
+standard output, also where the answer with ample memory is a refusal. Where the index is refused the memory of a key or of a line's
+node, it is built anew: so a few runs for each edit of a script (CHANGES) may have the wanted answer instead.
 
 The libraries (calls.tsv, asked of keep_test_rows): each of these runs ends out of memory, or answers that the call
 was out of memory. keep_test_rows makes an edit twice, first for the text alone and then in the document, and prints a doubt
@@ -17,8 +18,9 @@ where the two differ. So more is shown of edits:
 - the document has its text, tokens, counts, nodes and values as before. For that, two growths are refused, one of them
   for the text alone: so both are out of memory, and a doubt could only be about the document;
 - an edit that is refused for another reason is never out of memory.
-The same of lists of edits, which keep_test_rows makes first one by one and then at once. Of a push to a path, of a list, and of
-lines that are reread, the questions whose names end in `again` make what was refused once more.
+The same of lists of edits, which keep_test_rows makes first one by one and then at once; of these, too, a few runs for each edit
+may have the wanted answer. Of a push to a path, of a list, and of lines that are reread, the questions whose names end in `again`
+make what was refused once more.
 
 Some calls take no memory: the rows of keep_test_rows in the group `quiet` mark the growths of one call each, and have none.
 """
@@ -38,6 +40,8 @@ OUT_OF_MEMORY = b"out of memory"
 # What keep_test_rows answers where a path or an edit of a row could not be read: the only reason is memory.
 UNREAD = (OUT_OF_MEMORY, b"no path", b"no such edit")
 AGAIN = b"refused and made again: "
+# How many growths the change of an index takes at most: those of a key, of its node, of its parent link, and of a map, which has five.
+CHANGES = 8
 DONE = re.compile(rb"\d+ \d+ \d+$|done$")
 # How keep_test_rows prints that an edit does not agree with the text alone, and a list of edits with the edits one by one;
 # and that the document is not what is read afresh from its text, for which memory may be missing too.
@@ -79,9 +83,12 @@ def program_failure(program, refuse, row):
     ran, growths = asked.ample()
     if why := failure(row, ran):
         return f"with ample memory: {why}"
+    rebuilt, edits = 0, b"".join(row.words).count(b"[[edit]]")
     for refusal, ran in asked.refused(each_of(growths)):
         if why := failure(REFUSED, ran):
-            return f"growth {refusal}: {why}"
+            rebuilt += 1
+            if rebuilt > CHANGES * edits or failure(row, ran):
+                return f"growth {refusal}: {why}"
     return None
 
 
@@ -155,6 +162,12 @@ def unequal(growths, unchanged):
     return None if 0 < growths == unchanged else f"{growths} growths of the edit, {unchanged} of them beside another"
 
 
+def too_often(found, wanted, cells):
+    """The wanted answer more often than the edits of a list may have the index built anew."""
+    times = list(found.values()).count(wanted)
+    return f"{times} times the wanted answer" if times > CHANGES * ((len(cells) - 3) // 3) else None
+
+
 def list_failure(ask, wanted, cells):
     """Of a list of edits: one that is out of memory has changed nothing, and tells at which edit."""
     question, text = ask(cells), cells[2]
@@ -162,9 +175,9 @@ def list_failure(ask, wanted, cells):
         return f"with ample memory: {short(question.ample)}"
     memory = re.compile(rb"\d Memory\n" + re.escape(text) + b"(" + LIST_DOUBT + b")?")
     one_by_one_fails = wanted + LIST_DOUBT
-    is_well = lambda it: it == one_by_one_fails or it.startswith(UNREAD) or bool(memory.fullmatch(it))
+    is_well = lambda it: it in (wanted, one_by_one_fails) or it.startswith(UNREAD) or bool(memory.fullmatch(it))
     found = question.refused()
-    if why := other(found, lambda it: is_well(it) or it == wanted + DOCUMENT_DOUBT):
+    if why := other(found, lambda it: is_well(it) or it == wanted + DOCUMENT_DOUBT) or too_often(found, wanted, cells):
         return why
     # (as growths come later, so do the edits where memory is refused, after the copy, which is told as the first edit)
     numbers = [int(it.partition(b" ")[0]) for it in found.values() if memory.fullmatch(it)]
@@ -187,7 +200,9 @@ def again_failure(ask, wanted, cells):
     if question.ample != wanted:
         return f"with ample memory: {short(question.ample)}"
     found = question.refused()
-    if why := other(found, lambda it: it == AGAIN + wanted or it.startswith(UNREAD)):
+    rebuilt = wanted if cells[0].endswith(b"edits") else AGAIN + wanted
+    is_well = lambda it: it in (rebuilt, AGAIN + wanted) or it.startswith(UNREAD)
+    if why := other(found, is_well) or too_often(found, wanted, cells):
         return why
     return None if AGAIN + wanted in found.values() else "no growth of the call itself is refused"
 

@@ -14,6 +14,7 @@ import re
 import resource
 import subprocess
 import sys
+from itertools import chain
 from pathlib import Path
 from tempfile import TemporaryDirectory
 
@@ -23,6 +24,10 @@ from ask import Count, Row, answer, failure, in_parallel, rows_of, short
 
 HERE = Path(__file__).resolve().parent
 LIMIT = 16_777_216
+# A block of a list ends with the line that reaches this length.
+BLOCK = 65_536
+# The memory in bytes that the program may take for a long list.
+MEMORY = 67_108_864
 TOO_LONG = b"keep-toml: input longer than %d bytes" % LIMIT
 ERRORS = (errno.EINTR, errno.EAGAIN, errno.EIO, errno.EISDIR, errno.ENOMEM, errno.EPIPE, errno.ENOSPC, errno.ECONNRESET)
 # The status of words that can't be read, so that no input is.
@@ -77,6 +82,21 @@ def space_settings():
         calls = TOO_LONG + b"\nreads=%d writes=0" % turns_past
         yield {**settings, "SPACES": LIMIT + 1}, Row("a space too many", [b"check"], b"", 3, b"", calls)
         yield {**settings, "SPACES": -1}, Row("spaces that never end", [b"check"], b"", 3, b"", calls)
+
+
+def block_settings():
+    """A list of several blocks: one write for each, and what is there where the write of each number in turn fails."""
+    names = [b"key_%05d" % it for it in range(12_000)]
+    blocks = [b""]
+    for name in names:
+        blocks += [b""] if len(blocks[-1]) >= BLOCK else []
+        blocks[-1] += name + b"\tinteger\n"
+    given = b"".join(name + b" = 1\n" for name in names)
+    row = Row("a list of several blocks", [b"list"], given, 0, b"".join(blocks))
+    calls = b"reads=%d writes=%d" % (len(given) + 1, len(blocks))
+    yield {"READ_STEP": 1, "CALLS": 1}, Row(row.name, row.words, given, 0, row.output, calls)
+    for call in range(len(blocks)):
+        yield {"WRITE_FAILS": call}, write_failed(row, sum(map(len, blocks[:call])))
 
 
 def run_settings(count, program, streams, cases):
@@ -163,17 +183,37 @@ def run_endless_pipe(count, program):
     count.add(row.name, failure(row, ran))
 
 
+def run_long_list(count, program):
+    """A list of 297 MB in 64 MB of memory: a header of 3,000 keys over 3,000 keys is a document of 123 KB."""
+    path, keys = b".".join(b"%021d" % it for it in range(3_000)), [b"%014d" % it for it in range(3_000)]
+    tables = (path[: 22 * it + 21] + b"\ttable\n" for it in range(3_000))
+    lines = chain(tables, (path + b"." + key + b"\tinteger\n" for key in keys))
+    limit = lambda: resource.setrlimit(resource.RLIMIT_AS, (MEMORY, MEMORY))
+    pipes = {"stdout": subprocess.PIPE, "stderr": subprocess.PIPE, "preexec_fn": limit}
+    with TemporaryDirectory() as folder:
+        file = Path(folder, "long.toml")
+        file.write_bytes(b"[" + path + b"]\n" + b"".join(key + b" = 1\n" for key in keys))
+        with open(file, "rb") as given, subprocess.Popen([program, "list"], stdin=given, **pipes) as ran:
+            is_whole = all(ran.stdout.read(len(line)) == line for line in lines) and not ran.stdout.read(1)
+            ran.stdout.close()
+            error = ran.stderr.read()
+    is_well = is_whole and ran.returncode == 0 and not error
+    count.add("a long list in little memory", None if is_well else f"status {ran.returncode}, {short(error)}")
+
+
 def main(program, streams):
     count = Count()
     run_redirected(count, program)
     run_short_output(count, program)
     run_closing_pipes(count, program)
     run_endless_pipe(count, program)
+    run_long_list(count, program)
     if streams != "-":
         for row in rows_of(HERE / "subcommands.tsv"):
             run_settings(count, program, streams, slow_settings(row))
         run_settings(count, program, streams, error_settings(Row("get", [b"get", b"a"], b"a = 1 # x\n", 0, b"1\n")))
         run_settings(count, program, streams, space_settings())
+        run_settings(count, program, streams, block_settings())
     return count.close("streams")
 
 

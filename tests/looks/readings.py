@@ -32,6 +32,7 @@ READ_BY = {
     "text_of": [DOCUMENT + "read_in", DOCUMENT + "read_owned_in"],
     "check_value": [],
     "scan_gap": [],
+    "ws_end": [],
     "scan_key": [],
     "scan_scalar": [],
     # what reads a document

@@ -78,6 +78,24 @@ impl Write for Sink {
     }
 }
 
+// A writer that takes all, and puts a bar after what it is given in each call.
+#[derive(Drop)]
+struct Bars {
+    taken: Vec<u8>,
+}
+
+impl Write for Bars {
+    fn write(&mut self, buf: &[u8]) -> io::Result<usize> {
+        self.taken.extend_from_slice(buf)?;
+        self.taken.push(b'|')?;
+        Ok(buf.len())
+    }
+
+    fn flush(&mut self) -> io::Result<()> {
+        Ok(())
+    }
+}
+
 fn make_steps(bytes: &[u8], step: usize, fails_at: Option<(u64, ErrorKind)>) -> Counted<Steps<'_>>
     ensures { IsFresh result }
 {
@@ -103,6 +121,14 @@ fn make_sink(alloc: Global, step: usize, fails_at: Option<u64>) -> Counted<Sink>
         step,
         call: 0,
         fails_at,
+    })
+}
+
+fn make_bars(alloc: Global) -> Counted<Bars>
+    ensures { IsFresh result }
+{
+    Counted::new(Bars {
+        taken: Vec::new(alloc),
     })
 }
 
@@ -354,7 +380,7 @@ fn edits_are_made_in_order(rt: HostRuntime) -> Result<(), Fail> {
         (
             "a = 1 # x\nb = 2\n",
             &[("a", "[1, 2]"), ("b", "true"), ("a[1]", "{x = 3}")],
-            "wrote 30; 2 false; 1 false; a = [1, {x = 3}] # x\nb = true\n",
+            "wrote 30; 2 false; 3 false; a = [1, {x = 3}] # x\nb = true\n",
         ),
         (
             "a = 1\n",
@@ -366,6 +392,41 @@ fn edits_are_made_in_order(rt: HostRuntime) -> Result<(), Fail> {
         let input = make_steps(text.as_bytes(), 100, None);
         let output = make_sink(rt.alloc(), 100, None);
         comes_to(rt.alloc(), sets(rt.alloc(), edits), input, output, wanted)?;
+    }
+    Ok(())
+}
+
+// What a run of a command over a text writes, with a bar after each call.
+fn pieces_of(alloc: Global, command: Result<Command, Fail>, text: &str) -> Result<String, Fail> {
+    let command = command?;
+    let mut output = make_bars(alloc);
+    run(
+        alloc,
+        &command,
+        &mut make_steps(text.as_bytes(), 100, None),
+        &mut output,
+    )?;
+    let taken = output.into_inner().taken;
+    Ok(String::from_utf8(taken)?)
+}
+
+// The text before what the last edit writes, that, and the text after it; what is empty is not written.
+#[test]
+fn an_edited_text_is_written_in_pieces(rt: HostRuntime) -> Result<(), Fail> {
+    const CASES: &[(&str, &[(&str, &str)], &str)] = &[
+        ("a = 1 # x\n", &[("a", "[1, 2]")], "a = |[1, 2]| # x\n|"),
+        ("a = 1", &[("a", "true")], "a = |true|"),
+        (
+            "a = 1\nb = 2\nc = 3\n",
+            &[("a", "'x'"), ("b", "{y = 3}")],
+            "a = 'x'\nb = |{y = 3}|\nc = 3\n|",
+        ),
+        ("a = 1 # x\r\n", &[], "a = 1 # x\r\n|"),
+        ("", &[], ""),
+    ];
+    for &(text, edits, wanted) in CASES {
+        let pieces = pieces_of(rt.alloc(), sets(rt.alloc(), edits), text)?;
+        same(pieces.as_str(), wanted)?;
     }
     Ok(())
 }
