@@ -1,11 +1,11 @@
 -- Runs of packed records that changed places: what the records say then, and that they change places back.
-use Rattle.std.proofs.Common.{◌≡◌, ℕ, zero, suc, ◌+◌, ◌≤◌, List, [], ◌∷◌, ◌++◌, length, map, take, drop, refl, sym, ap, ◌∙◌, arith, append_assoc, vec_len, Vec}
+use Rattle.std.proofs.Common.{◌≡◌, ℕ, zero, suc, ◌+◌, ◌≤◌, List, [], ◌∷◌, ◌++◌, length, map, take, drop, refl, sym, ap, ◌∙◌, subst, arith, append_assoc, vec_len, Vec}
 use Rattle.std.specs.Prelude.{slice_range}
 use Rattle.std.specs.List.{AllByRecursion}
 use Rattle.std.proofs.lemmas.List.{length-append, map-append}
 use Rattle.keep_syntax_store.specs.Exchanging.{Exchanged}
 use Rattle.keep_syntax_store.proofs.ExchangeLaws.{three, take_prefix, drop_prefix, take_length}
-use Rattle.keep_syntax_store.proofs.ShiftLaws.{map_is, map_back}
+use Rattle.keep_syntax_store.proofs.ShiftLaws.{map_is, map_back, map_again}
 
 pub map_take : {A B : Type 0} (f : A → B) (n : ℕ) (xs : List A) → map f (take n xs) ≡ take n (map f xs)
 map_take f zero xs = refl
@@ -40,6 +40,17 @@ same_exchanged f from to p p1 run run1 q gone e r h = record {
   room_for_run = omega (arith, h.room_for_run, ap length r, run.ok.0, run1.ok.0);
 }
 
+-- after what took the run's place is what was after the run, changed
+pub after_exchanged : {A Z : Type 0} (f : A → A) (from to until : ℕ) (p run q gone : Vec A Z) → from ≤ to → to ≤ vec_len p → until ≡ from + vec_len run
+    → Exchanged f from to p run q gone → drop until q.items ≡ map f (drop to p.items)
+after_exchanged f from to until p run q gone order within count h =
+    let prefix = take from p.items in
+    let new = run.items in
+    let after = map f (drop to p.items) in
+    let l : length prefix ≡ from = take_length p.items from (omega (arith, order, within, p.ok.0)) in
+    let n : length (prefix ++ new) ≡ until = omega (arith, length-append prefix new, l, count, run.ok.0) in
+    ap (drop until) (h.items_are ∙ sym (append_assoc prefix new after)) ∙ drop_prefix (prefix ++ new) after until n
+
 -- once they change places again, the first is as before
 pub exchanged_back : {A Z : Type 0} (f g : A → A) (P : A → Type 0) → ((x : A) → P x → g (f x) ≡ x) → (from to until : ℕ) (p run q gone r rest : Vec A Z)
     → from ≤ to → to ≤ vec_len p → until ≡ from + vec_len run → AllByRecursion P (drop to p.items)
@@ -50,13 +61,17 @@ exchanged_back f g P back from to until p run q gone r rest order within count a
     let new = run.items in
     let after = map f (drop to xs) in
     let l : length prefix ≡ from = take_length xs from (omega (arith, order, within, p.ok.0)) in
-    let n : length (prefix ++ new) ≡ until = omega (arith, length-append prefix new, l, count, run.ok.0) in
-    let now : q.items ≡ (prefix ++ new) ++ after = h.items_are ∙ sym (append_assoc prefix new after) in
     k.items_are
     ∙ ap (λ ys. take from ys ++ (gone.items ++ map g (drop until q.items))) h.items_are
     ∙ ap (λ ys. ys ++ (gone.items ++ map g (drop until q.items))) (take_prefix prefix (new ++ after) from l)
     ∙ ap (λ ys. prefix ++ (ys ++ map g (drop until q.items))) h.run_is
-    ∙ ap (λ ys. prefix ++ (slice_range xs from to ++ map g (drop until ys))) now
-    ∙ ap (λ ys. prefix ++ (slice_range xs from to ++ map g ys)) (drop_prefix (prefix ++ new) after until n)
+    ∙ ap (λ ys. prefix ++ (slice_range xs from to ++ map g ys)) (after_exchanged f from to until p run q gone order within count h)
     ∙ ap (λ ys. prefix ++ (slice_range xs from to ++ ys)) (map_back f g P back (drop to xs) all)
     ∙ sym (three xs from to order)
+
+-- and they can be changed back
+pub changed_back : {A Z : Type 0} (f : A → A) (P Q : A → Type 0) → ((x : A) → P x → Q (f x)) → (from to until : ℕ) (p run q gone : Vec A Z)
+    → from ≤ to → to ≤ vec_len p → until ≡ from + vec_len run → AllByRecursion P (drop to p.items)
+    → Exchanged f from to p run q gone → AllByRecursion Q (drop until q.items)
+changed_back f P Q again from to until p run q gone order within count all h =
+    subst (AllByRecursion Q) (sym (after_exchanged f from to until p run q gone order within count h)) (map_again f P Q again (drop to p.items) all)

@@ -5,7 +5,7 @@
 -- is that list. Rereading stores it (`replaced_placed`): by `three_moved` where lines follow, by `two_moved` where none
 -- do. Exchanging entries in place stores it too (`exchanged_flat`), where every entry is packed: then a packed entry
 -- that was moved is the moved entry. To go back is one more exchange. What it needs is known after the first
--- (`run_undone`), and what it gives is what was there before (`went_back`). Taking memory changes no entry
+-- (`run_undone`, `can_go_back`), and what it gives is what was there before (`went_back`). Taking memory changes no entry
 -- (`exchanged_before`).
 --
 -- Theorems: `replaced_placed` and `exchanged_flat`: both store the same; `went_back`: putting the lines back.
@@ -30,8 +30,8 @@ use Rattle.keep_syntax_store.proofs.EntryLaws.{all_packed, same_entries, same_re
 use Rattle.keep_syntax_store.proofs.FlatLaws.{same_flat}
 use Rattle.keep_syntax_store.proofs.TestLaws.{if_true, if_false}
 use Rattle.keep_syntax_store.proofs.ExchangeLaws.{range_length}
-use Rattle.keep_syntax_store.proofs.ExchangedLaws.{exchanged_back, same_exchanged, unpacked_exchanged}
-use Rattle.keep_syntax_store.proofs.ShiftLaws.{key_back, key_is, map_is, statement_back, statement_is, value_back, value_is}
+use Rattle.keep_syntax_store.proofs.ExchangedLaws.{changed_back, exchanged_back, same_exchanged, unpacked_exchanged}
+use Rattle.keep_syntax_store.proofs.ShiftLaws.{key_again, key_back, key_is, map_is, statement_again, statement_back, statement_is, value_again, value_back, value_is}
 use Rattle.keep_syntax_store.proofs.LiftedLaws.{same_count}
 use Rattle.keep_syntax_store.proofs.StayLaws.{stays_key, stays_statement, stays_value, map_same}
 
@@ -244,6 +244,19 @@ exchanged_before p p1 run run1 q gone from to old new e r h = record {
 all_same : {A : Type 0} (xs : List A) → AllByRecursion (λ x. x ≡ x) xs
 all_same [] = tt
 all_same (x ∷ xs) = (refl, all_same xs)
+
+pub can_go_back : (gone : Parts) (from to until : Counts) (before after : Parts) → UndoesRun gone from to until before after → CanShift until until to after
+can_go_back gone from to until before after u = record {
+  statements = changed_back (shifted_statement to until) (CanShiftStatement to until) (CanShiftStatement until to) (statement_again to until) from.statements to.statements until.statements
+      before.statements.packed u.run.statements.packed after.statements.packed gone.statements.packed
+      u.is_run.statements.order u.is_run.statements.within u.statements u.can.statements u.now.statements;
+  keys = changed_back (shifted_key to until) (CanShiftKey to until) (CanShiftKey until to) (key_again to until) from.keys to.keys until.keys
+      before.keys.packed u.run.keys.packed after.keys.packed gone.keys.packed
+      u.is_run.keys.order u.is_run.keys.within u.keys u.can.keys u.now.keys;
+  values = changed_back (shifted_value to until) (CanShiftValue to until) (CanShiftValue until to) (value_again to until) from.values to.values until.values
+      before.values.packed u.run.values.packed after.values.packed gone.values.packed
+      u.is_run.values.order u.is_run.values.within u.values u.can.values u.now.values;
+}
 
 pub went_back : (gone : Parts) (from to until : Counts) (before after r rest : Parts) → UndoesRun gone from to until before after
     → IsExchanged from until until to after gone r rest → flat r ≡ flat before

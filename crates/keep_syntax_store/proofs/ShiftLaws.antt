@@ -1,4 +1,4 @@
--- Packed records whose numbers are moved say what the moved records are, and moved back they are as before.
+-- Packed records whose numbers are moved say what the moved records are. They can be moved back, and are as before then.
 use Rattle.std.proofs.Common.{◌≡◌, ℕ, ◌+◌, ◌-◌, Bool, true, false, List, [], ◌∷◌, map, refl, ap, ◌∙◌, arith}
 use Rattle.std.specs.Prelude.{if◌then◌else◌, Option, Some}
 use Rattle.std.specs.List.{AllByRecursion}
@@ -30,6 +30,9 @@ fits_sum last a b n k h = omega (arith, h.fits, h.low)
 pub fits_back : (last a b n : ℕ) → FitsMoved last a b n → shifted_to last b a (shifted_to last a b n) ≡ n
 fits_back last a b n h = omega (arith, h.fits, h.low, h.small)
 
+pub fits_again : (last a b n : ℕ) → FitsMoved last a b n → FitsMoved last b a (shifted_to last a b n)
+fits_again last a b n h = record { low = omega (arith, h.fits); fits = omega (arith, h.fits, h.low, h.small); small = omega arith }
+
 -- a number that is there or not
 pub there_is : (test : Bool) (last a b n : ℕ) → (test ≡ true → FitsMoved last a b n)
     → if_there test (if test then shifted_to last a b n else n) ≡ moved_there a b (if_there test n)
@@ -41,6 +44,10 @@ pub there_back : (test : Bool) (last a b n : ℕ) → (test ≡ true → FitsMov
 there_back true last a b n h = fits_back last a b n (h refl)
 there_back false last a b n h = refl
 
+pub there_again : (test : Bool) (last a b n : ℕ) → (test ≡ true → FitsMoved last a b n) → test ≡ true → FitsMoved last b a (if test then shifted_to last a b n else n)
+there_again true last a b n h e = fits_again last a b n (h refl)
+there_again false last a b n h e = let never : ⊥ = cc in absurd never
+
 -- ---- key parts
 
 pub key_is : (a b : Counts) (k : PackedKeyPart) → CanShiftKey a b k → unpacked_key_part (shifted_key a b k) ≡ moved_key (count_of a) (count_of b) (unpacked_key_part k)
@@ -51,6 +58,9 @@ key_is a b k h =
 
 pub key_back : (a b : Counts) (k : PackedKeyPart) → CanShiftKey a b k → shifted_key b a (shifted_key a b k) ≡ k
 key_back a b k h = ap (λ (n : ℕ). record k { start = n }) (fits_back last_u32 a.at b.at k.start h.start)
+
+pub key_again : (a b : Counts) (k : PackedKeyPart) → CanShiftKey a b k → CanShiftKey b a (shifted_key a b k)
+key_again a b k h = record { start = fits_again last_u32 a.at b.at k.start h.start }
 
 -- ---- statements
 
@@ -83,6 +93,14 @@ statement_back a b s h =
     ∙ ap (λ (n : ℕ). record t { line_start = s.line_start; end = n }) y
     ∙ ap (λ (n : ℕ). record t { line_start = s.line_start; end = s.end; first_key = n }) k
     ∙ ap (λ (n : ℕ). record t { line_start = s.line_start; end = s.end; first_key = s.first_key; value = n }) v
+
+pub statement_again : (a b : Counts) (s : PackedStatement) → CanShiftStatement a b s → CanShiftStatement b a (shifted_statement a b s)
+statement_again a b s h = record {
+  line_start = fits_again last_u32 a.at b.at s.line_start h.line_start;
+  end = fits_again last_u32 a.at b.at s.end h.end;
+  first_key = fits_again last_u32 a.keys b.keys s.first_key h.first_key;
+  value = there_again s.has_value last_u32 a.values b.values s.value h.value;
+}
 
 -- ---- values
 
@@ -128,6 +146,15 @@ value_back a b v h =
     ∙ ap (λ (i : ℕ). record t { anchor = v.anchor; owner = v.owner; first_key = v.first_key; end = i }) y
     ∙ ap (λ (i : ℕ). record t { anchor = v.anchor; owner = v.owner; first_key = v.first_key; end = v.end; after = i }) n
 
+pub value_again : (a b : Counts) (v : PackedValue) → CanShiftValue a b v → CanShiftValue b a (shifted_value a b v)
+value_again a b v h = record {
+  anchor = fits_again last_u32 a.at b.at v.anchor h.anchor;
+  owner = fits_again last_u32 (owners_of v.within a) (owners_of v.within b) v.owner h.owner;
+  first_key = fits_again last_u32 a.keys b.keys v.first_key h.first_key;
+  end = fits_again last_usize a.at b.at v.end h.end;
+  after = there_again v.has_after last_usize a.at b.at v.after h.after;
+}
+
 -- ---- lists of them
 
 pub map_is : {A B : Type 0} (tell : A → B) (f : A → A) (m : B → B) (P : A → Type 0) → ((x : A) → P x → tell (f x) ≡ m (tell x))
@@ -138,3 +165,7 @@ map_is tell f m P one (x ∷ xs) h = ap (λ y. y ∷ map tell (map f xs)) (one x
 pub map_back : {A : Type 0} (f g : A → A) (P : A → Type 0) → ((x : A) → P x → g (f x) ≡ x) → (xs : List A) → AllByRecursion P xs → map g (map f xs) ≡ xs
 map_back f g P one [] h = refl
 map_back f g P one (x ∷ xs) h = ap (λ y. y ∷ map g (map f xs)) (one x h.0) ∙ ap (λ ys. x ∷ ys) (map_back f g P one xs h.1)
+
+pub map_again : {A : Type 0} (f : A → A) (P Q : A → Type 0) → ((x : A) → P x → Q (f x)) → (xs : List A) → AllByRecursion P xs → AllByRecursion Q (map f xs)
+map_again f P Q one [] h = tt
+map_again f P Q one (x ∷ xs) h = (one x h.0, map_again f P Q one xs h.1)

@@ -1,11 +1,13 @@
 -- Packed records with their numbers moved in place, and which of them can be moved.
-use Rattle.std.specs.Prelude.{◌≡◌, ℕ, ◌+◌, ◌-◌, ◌≤◌, min, true, if◌then◌else◌}
+use Rattle.std.specs.Prelude.{◌≡◌, ℕ, ◌+◌, ◌-◌, ◌≤◌, ◌%◌, ◌^◌, min, true, if◌then◌else◌}
 use Rattle.keep_syntax_store.specs.declared.moves.Counts.{Counts}
+use Rattle.keep_syntax_store.specs.declared.shift.Shifts.{Shifts}
 use Rattle.keep_syntax_store.specs.declared.statements.PackedStatement.{PackedStatement}
 use Rattle.keep_syntax_store.specs.declared.keys.PackedKeyPart.{PackedKeyPart}
 use Rattle.keep_syntax_store.specs.declared.values.Within.{Within}
 use Rattle.keep_syntax_store.specs.declared.values.Within.TheVariants as within
 use Rattle.keep_syntax_store.specs.declared.values.PackedValue.{PackedValue}
+use Rattle.keep_syntax_store.specs.Blocks.{step}
 
 abbrev pub last_u32 : ℕ
 last_u32 = 4294967295
@@ -22,6 +24,20 @@ pub record FitsMoved (last old new n : ℕ) : Type 0 where
   pub low : old ≤ n
   pub fits : n - old + new ≤ last
   pub small : n ≤ last
+
+-- what is added to a number to move it, in a word of 32 bits
+abbrev pub step_u32 : ℕ → ℕ → ℕ
+step_u32 old new = step old new % 2 ^ 32
+
+-- and to each number of what comes after a count
+abbrev pub shifts_between : Counts → Counts → Shifts
+shifts_between a b = record {
+  at = step_u32 a.at b.at;
+  at_usize = step a.at b.at;
+  statements = step_u32 a.statements b.statements;
+  keys = step_u32 a.keys b.keys;
+  values = step_u32 a.values b.values;
+}
 
 -- ---- key parts
 
@@ -54,6 +70,12 @@ abbrev pub owners_of : Within → Counts → ℕ
 owners_of within.Line c = c.statements
 owners_of within.Inline c = c.values
 owners_of within.Item c = c.values
+
+-- what is added to the number of what a value is in
+abbrev pub owner_shift : Within → Shifts → ℕ
+owner_shift within.Line by = by.statements
+owner_shift within.Inline by = by.values
+owner_shift within.Item by = by.values
 
 abbrev pub shifted_value : Counts → Counts → PackedValue → PackedValue
 shifted_value a b v = record v {

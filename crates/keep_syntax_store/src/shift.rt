@@ -1,12 +1,46 @@
 //! Packed records whose numbers are moved in place.
-ghost use Rattle.std.specs.Prelude.{◌≡◌, ◌≤◌, ◌++◌, take, drop, map, vec_len, vec_capacity};
+ghost use Rattle.std.specs.Prelude.{◌≡◌, ◌≤◌, ◌++◌, length, take, drop, map, vec_len, vec_capacity};
 ghost use Rattle.std.specs.Bool.{Decides};
 ghost use Rattle.std.specs.List.{AllByRecursion};
 ghost use Rattle.keep_syntax_store.specs.Exchanging.{HasRoom, Exchanged};
+ghost use Rattle.keep_syntax_store.specs.Shifting as spec;
 ghost use Rattle.keep_syntax_store.specs.Shifting.{FitsMoved, shifted_to, last_u32, last_usize};
 
 use crate::exchange::exchange;
 use crate::moves::Counts;
+
+/// What is added to numbers to move them from after one count to after another. A sum past the last number of a word
+/// goes on at 0, so numbers can be moved back too. All are words of 32 bits, and that of places is one of 64 bits too.
+#[derive(Clone, Copy)]
+pub struct Shifts {
+    pub at: u32,
+    pub at_usize: usize,
+    pub statements: u32,
+    pub keys: u32,
+    pub values: u32,
+}
+
+/// What is added to a number after `old` to move it to after `new`, in a word of 32 bits.
+#[inline(always)]
+fn step_u32(old: usize, new: usize) -> u32
+    ensures { result ≡ spec.step_u32 old new }
+{
+    (new.wrapping_sub(old) % (1 << 32)) as u32
+}
+
+/// What is added to numbers after one count to move them to after another.
+#[inline(always)]
+fn shifts_between(old: &Counts, new: &Counts) -> Shifts
+    ensures { result ≡ spec.shifts_between old.now new.now }
+{
+    Shifts {
+        at: step_u32(old.at, new.at),
+        at_usize: new.at.wrapping_sub(old.at),
+        statements: step_u32(old.statements, new.statements),
+        keys: step_u32(old.keys, new.keys),
+        values: step_u32(old.values, new.values),
+    }
+}
 
 /// What has numbers and places that are moved from after one count to after another.
 pub trait Shift: Copy {
@@ -16,9 +50,10 @@ pub trait Shift: Copy {
 
     ghost CanShift: { Counts → Counts → Self → Type 0 };
 
-    /// With its numbers moved.
-    fn shift(self, old: &Counts, new: &Counts) -> Self
-        ensures { result ≡ shifted old.now new.now self };
+    /// With its numbers moved, where they fit.
+    fn shift(self, by: &Shifts) -> Self
+        ensures { (old new : Counts) → by.now ≡ spec.shifts_between old new → CanShift old new self
+            → result ≡ shifted old new self };
 
     /// Whether they fit where they are moved, and can be moved back.
     fn can_shift(self, old: &Counts, new: &Counts) -> bool
@@ -37,17 +72,29 @@ pub fn all_can_shift<T: Shift>(items: &[T], from: usize, old: &Counts, new: &Cou
     true
 }
 
-/// Moves the numbers of all from a number on.
+/// Moves the numbers of all elements of a slice from a number on.
+fn shift_rest<T: Shift>(items: &mut [T], from: usize, old: &Counts, new: &Counts)
+    requires within { from ≤ length items.old }
+    requires can { AllByRecursion (T.CanShift old.now new.now) (drop from items.old) }
+    ensures items { items.new ≡ take from items.old ++ map (T.shifted old.now new.now) (drop from items.old) }
+    ensures len { length items.new ≡ length items.old }
+{
+    let by = shifts_between(old, new);
+    'items: for number in from..items.len() {
+        items[number] = items[number].shift(&by);
+    }
+}
+
+/// Moves the numbers of all from a number on, where they fit.
 pub fn shift_from<T: Shift>(items: &mut Vec<T>, from: usize, old: &Counts, new: &Counts)
-    requires { from ≤ vec_len items.old }
+    requires within { from ≤ vec_len items.old }
+    requires can { AllByRecursion (T.CanShift old.now new.now) (drop from items.old.items) }
     ensures items { items.new.items
         ≡ take from items.old.items ++ map (T.shifted old.now new.now) (drop from items.old.items) }
     ensures len { vec_len items.new ≡ vec_len items.old }
     ensures capacity { vec_capacity items.new ≡ vec_capacity items.old }
 {
-    'items: for number in from..items.len() {
-        items[number] = items[number].shift(old, new);
-    }
+    shift_rest(items.as_mut_slice(), from, old, new);
 }
 
 /// The run `from..to` and another change places, and the numbers after it are moved. It takes no memory.
@@ -59,24 +106,13 @@ pub fn exchange_run<T: Shift>(
     old: &Counts,
     new: &Counts,
 )
-    requires { HasRoom from to items.old run.old }
+    requires room { HasRoom from to items.old run.old }
+    requires can { AllByRecursion (T.CanShift old.now new.now) (drop to items.old.items) }
     ensures { Exchanged (T.shifted old.now new.now) from to items.old run.old items.new run.new }
 {
     let end = from + run.len();
     exchange(items, from, to, run);
     shift_from(items, end, old, new);
-}
-
-/// A number after `old`, moved to after `new`, or the greatest number where it does not fit.
-pub fn shifted_u32(number: u32, old: usize, new: usize) -> u32
-    ensures { result ≡ shifted_to last_u32 old new number }
-{
-    let moved = shifted_usize(number as usize, old, new);
-    if moved < u32::MAX as usize {
-        moved as u32
-    } else {
-        u32::MAX
-    }
 }
 
 /// Whether it fits, and comes after `old`.
@@ -88,7 +124,7 @@ pub fn fits_u32(number: u32, old: usize, new: usize) -> bool
 }
 
 /// A number after `old`, moved to after `new`, or the greatest number where it does not fit.
-pub fn shifted_usize(number: usize, old: usize, new: usize) -> usize
+fn shifted_usize(number: usize, old: usize, new: usize) -> usize
     ensures { result ≡ shifted_to last_usize old new number }
 {
     number.saturating_sub(old).saturating_add(new)

@@ -3,16 +3,17 @@ ghost use Rattle.keep_syntax_store.specs.Shifting as spec;
 
 use super::PackedKeyPart;
 use crate::moves::Counts;
-use crate::shift::{Shift, fits_u32, shifted_u32};
+use crate::shift::{Shift, Shifts, fits_u32};
 
 impl Shift for PackedKeyPart {
     ghost shifted = { spec.shifted_key };
 
     ghost CanShift = { spec.CanShiftKey };
 
-    fn shift(self, old: &Counts, new: &Counts) -> Self {
+    #[inline(always)]
+    fn shift(self, by: &Shifts) -> Self {
         PackedKeyPart {
-            start: shifted_u32(self.start, old.at, new.at),
+            start: self.start.wrapping_add(by.at),
             len: self.len,
             leaf: self.leaf,
         }

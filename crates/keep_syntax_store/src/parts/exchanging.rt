@@ -3,10 +3,11 @@ ghost use Rattle.std.specs.Prelude.{◌≡◌, ◌+◌, ◌≤◌, length, OnOk,
 ghost use Rattle.std.specs.Bool.{Decides};
 ghost use Rattle.keep_syntax_store.specs.Flat.{flat};
 ghost use Rattle.keep_syntax_store.specs.InPlace as spec;
+ghost use Rattle.keep_syntax_store.specs.Rereading.{nothing};
 
 use super::Parts;
 use crate::moves::Counts;
-use crate::shift::{Shift, all_can_shift, exchange_run, shift_from};
+use crate::shift::{Shift, Shifts, all_can_shift, exchange_run, shift_from};
 use crate::starts::Starts;
 use keep_types::Leaf;
 use std::alloc::{AllocError, Global};
@@ -19,7 +20,8 @@ impl Shift for Leaf {
 
     ghost CanShift = { λ old new leaf. ⊤ };
 
-    fn shift(self, _old: &Counts, _new: &Counts) -> Self {
+    #[inline(always)]
+    fn shift(self, _by: &Shifts) -> Self {
         self
     }
 
@@ -89,6 +91,7 @@ impl Parts {
 
     /// Moves all numbers, and puts other places of tokens there.
     pub(crate) fn shift_all(&mut self, old: &Counts, new: &Counts, starts: Starts)
+        requires { spec.CanShift nothing old.now new.now self.old }
         ensures shifted { spec.IsShifted old.now new.now self.old self.new }
         ensures starts { self.new.starts ≡ starts }
     {
@@ -138,7 +141,8 @@ impl Parts {
         old: &Counts,
         new: &Counts,
     )
-        requires { spec.CanExchange from.now to.now self.old run.old }
+        requires room { spec.CanExchange from.now to.now self.old run.old }
+        requires can { spec.CanShift to.now old.now new.now self.old }
         ensures { spec.IsExchanged from.now to.now old.now new.now self.old run.old self.new run.new }
     {
         exchange_run(

@@ -3,25 +3,26 @@ ghost use Rattle.keep_syntax_store.specs.Shifting as spec;
 
 use super::PackedStatement;
 use crate::moves::Counts;
-use crate::shift::{Shift, fits_u32, shifted_u32};
+use crate::shift::{Shift, Shifts, fits_u32};
 
 impl Shift for PackedStatement {
     ghost shifted = { spec.shifted_statement };
 
     ghost CanShift = { spec.CanShiftStatement };
 
-    fn shift(self, old: &Counts, new: &Counts) -> Self {
+    #[inline(always)]
+    fn shift(self, by: &Shifts) -> Self {
         PackedStatement {
             kind: self.kind,
             has_value: self.has_value,
             keys: self.keys,
             before: self.before,
             after: self.after,
-            line_start: shifted_u32(self.line_start, old.at, new.at),
-            end: shifted_u32(self.end, old.at, new.at),
-            first_key: shifted_u32(self.first_key, old.keys, new.keys),
+            line_start: self.line_start.wrapping_add(by.at),
+            end: self.end.wrapping_add(by.at),
+            first_key: self.first_key.wrapping_add(by.keys),
             value: if self.has_value {
-                shifted_u32(self.value, old.values, new.values)
+                self.value.wrapping_add(by.values)
             } else {
                 self.value
             },

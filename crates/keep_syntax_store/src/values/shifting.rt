@@ -4,7 +4,7 @@ ghost use Rattle.keep_syntax_store.specs.Shifting as spec;
 
 use super::{PackedValue, Within};
 use crate::moves::Counts;
-use crate::shift::{Shift, fits_u32, fits_usize, shifted_u32, shifted_usize};
+use crate::shift::{Shift, Shifts, fits_u32, fits_usize};
 
 /// How many of what a value may be in come before.
 fn owners_of(within: Within, counts: &Counts) -> usize
@@ -16,12 +16,24 @@ fn owners_of(within: Within, counts: &Counts) -> usize
     }
 }
 
+/// What is added to the number of what a value is in.
+#[inline(always)]
+fn owner_shift(within: Within, by: &Shifts) -> u32
+    ensures { result ≡ spec.owner_shift within by.now }
+{
+    match within {
+        Within::Line => by.statements,
+        Within::Inline | Within::Item => by.values,
+    }
+}
+
 impl Shift for PackedValue {
     ghost shifted = { spec.shifted_value };
 
     ghost CanShift = { spec.CanShiftValue };
 
-    fn shift(self, old: &Counts, new: &Counts) -> Self {
+    #[inline(always)]
+    fn shift(self, by: &Shifts) -> Self {
         PackedValue {
             leaf: self.leaf,
             within: self.within,
@@ -29,18 +41,14 @@ impl Shift for PackedValue {
             has_before: self.has_before,
             has_after: self.has_after,
             keys: self.keys,
-            anchor: shifted_u32(self.anchor, old.at, new.at),
-            owner: shifted_u32(
-                self.owner,
-                owners_of(self.within, old),
-                owners_of(self.within, new),
-            ),
-            first_key: shifted_u32(self.first_key, old.keys, new.keys),
+            anchor: self.anchor.wrapping_add(by.at),
+            owner: self.owner.wrapping_add(owner_shift(self.within, by)),
+            first_key: self.first_key.wrapping_add(by.keys),
             gap: self.gap,
             lead: self.lead,
-            end: shifted_usize(self.end, old.at, new.at),
+            end: self.end.wrapping_add(by.at_usize),
             after: if self.has_after {
-                shifted_usize(self.after, old.at, new.at)
+                self.after.wrapping_add(by.at_usize)
             } else {
                 self.after
             },

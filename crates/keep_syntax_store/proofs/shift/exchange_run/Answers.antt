@@ -15,7 +15,7 @@ returns g c =
     let prefix = take from xs ++ ns in
     let back = drop to xs in
     let now : c.exchange.new.items.items ≡ prefix ++ back = c.exchange.ensures.items ∙ sym (append_assoc (take from xs) ns back) in
-    let n : length prefix ≡ from + c.len.result = omega (arith, length-append (take from xs) ns, take_length xs from (omega (arith, c.requires.order, c.requires.within, l)), m, c.len.ensures) in
+    let n : length prefix ≡ from + c.len.result = omega (arith, length-append (take from xs) ns, take_length xs from (omega (arith, c.requires.room.order, c.requires.room.within, l)), m, c.len.ensures) in
     record {
       items_are = c.shift_from.ensures.items
           ∙ ap (λ ys. take (from + c.len.result) ys ++ map f (drop (from + c.len.result) ys)) now
@@ -25,6 +25,6 @@ returns g c =
       run_is = c.exchange.ensures.gone;
       len = omega (arith, c.shift_from.ensures.len, c.exchange.ensures.len);
       run_len = c.exchange.ensures.len_gone;
-      room = omega (arith, c.shift_from.ensures.capacity, c.shift_from.ensures.len, c.exchange.ensures.capacity, c.exchange.ensures.len, c.exchange.ensures.len_gone, c.requires.room, c.requires.order);
+      room = omega (arith, c.shift_from.ensures.capacity, c.shift_from.ensures.len, c.exchange.ensures.capacity, c.exchange.ensures.len, c.exchange.ensures.len_gone, c.requires.room.room, c.requires.room.order);
       room_for_run = omega (arith, c.exchange.ensures.capacity_gone, c.args.run.now.ok.1);
     }
