@@ -15,6 +15,7 @@ pub mod LiftedLaws
 pub mod JoinLaws
 pub mod BeforeLaws
 pub mod ReplacingLaws
+pub mod RestLaws
 pub mod Shared
 pub mod BlockLaws
 pub mod RaiseLaws

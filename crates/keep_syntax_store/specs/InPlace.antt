@@ -16,7 +16,8 @@ use Rattle.keep_syntax_store.specs.Moving.{OnlyPlacesMove}
 use Rattle.keep_syntax_store.specs.Lifted.{origin, moved, moved_statement, moved_key, moved_value}
 use Rattle.keep_syntax_store.specs.Rereading.{count_of, nothing, counts_before, counts_at}
 use Rattle.keep_syntax_store.specs.Shifting.{shifted_statement, shifted_key, shifted_value, CanShiftStatement}
-use Rattle.keep_syntax_store.specs.Shifting.{CanShiftKey, CanShiftValue}
+use Rattle.keep_syntax_store.specs.Shifting.{CanShiftKey, CanShiftValue, IsShort, GrowLittle, IsSmallStatement}
+use Rattle.keep_syntax_store.specs.Shifting.{IsSmallValue}
 use Rattle.keep_syntax_store.specs.Exchanging.{HasRoom, Exchanged}
 use Rattle.keep_syntax_store.specs.PackedVec.{IsAllPacked, HasSameRest, IsRunOfPacked, Gives, IsWithin, IsPatched}
 
@@ -31,6 +32,13 @@ pub record CanShift (from old new : Counts) (p : Parts) : Type 0 where
   pub statements : AllByRecursion (CanShiftStatement old new) (drop from.statements p.statements.packed.items)
   pub keys : AllByRecursion (CanShiftKey old new) (drop from.keys p.keys.packed.items)
   pub values : AllByRecursion (CanShiftValue old new) (drop from.values p.values.packed.items)
+
+-- what comes after a run can be moved in place, given that its places are between the run's end and the text's
+pub record CanShiftRest (c : RunCounts) (p : Parts) : Type 0 where
+  pub short : IsShort c.len c.to.at c.until.at
+  pub grow : GrowLittle c.to c.until
+  pub statements : AllByRecursion (IsSmallStatement c.to.at) (drop c.to.statements p.statements.packed.items)
+  pub values : AllByRecursion (IsSmallValue c.to.at) (drop c.to.values p.values.packed.items)
 
 -- a range of a list of some length
 pub record IsRange (from to len : ℕ) : Type 0 where
@@ -144,6 +152,14 @@ pub record IsInPlace (from to until : Counts) (p fresh : Parts) : Type 0 where
   pub is_run : IsRun from to p
   pub can : CanShift to to until p
   pub fresh_can : CanShift nothing nothing from fresh
+
+-- the run can be replaced in place, given that what comes after it is after it (`AreAfter`)
+pub record CanReplace (c : RunCounts) (p fresh : Parts) : Type 0 where
+  pub packed : IsPacked p
+  pub fresh_packed : IsPacked fresh
+  pub is_run : IsRun c.from c.to p
+  pub can : CanShiftRest c p
+  pub fresh_can : CanShift nothing nothing c.from fresh
 
 -- ---- as many entries as there were
 

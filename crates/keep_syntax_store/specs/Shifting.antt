@@ -25,6 +25,21 @@ pub record FitsMoved (last old new n : ℕ) : Type 0 where
   pub fits : n - old + new ≤ last
   pub small : n ≤ last
 
+-- the greatest number of 31 bits
+abbrev pub last_small : ℕ
+last_small = 2147483647
+
+-- a text of `len` bytes is shorter than 4 GiB, also once what is after a place is moved
+pub record IsShort (len old new : ℕ) : Type 0 where
+  pub now : len ≤ last_u32
+  pub moved : len - old + new ≤ last_u32
+
+-- from one count to the other numbers grow by no more than the greatest of 31 bits
+pub record GrowLittle (a b : Counts) : Type 0 where
+  pub statements : b.statements - a.statements ≤ last_small
+  pub keys : b.keys - a.keys ≤ last_small
+  pub values : b.values - a.values ≤ last_small
+
 -- what is added to a number to move it, in a word of 32 bits
 abbrev pub step_u32 : ℕ → ℕ → ℕ
 step_u32 old new = step old new % 2 ^ 32
@@ -63,6 +78,11 @@ pub record CanShiftStatement (a b : Counts) (s : PackedStatement) : Type 0 where
   pub first_key : FitsMoved last_u32 a.keys b.keys s.first_key
   pub value : s.has_value ≡ true → FitsMoved last_u32 a.values b.values s.value
 
+-- its numbers have 31 bits
+pub record IsSmallStatement (at : ℕ) (s : PackedStatement) : Type 0 where
+  pub first_key : s.first_key ≤ last_small
+  pub value : s.value ≤ last_small
+
 -- ---- values
 
 -- how many come before of what a value may be in
@@ -92,3 +112,9 @@ pub record CanShiftValue (a b : Counts) (v : PackedValue) : Type 0 where
   pub first_key : FitsMoved last_u32 a.keys b.keys v.first_key
   pub end : FitsMoved last_usize a.at b.at v.end
   pub after : v.has_after ≡ true → FitsMoved last_usize a.at b.at v.after
+
+-- its numbers have 31 bits, and it is stored with no place before this one
+pub record IsSmallValue (at : ℕ) (v : PackedValue) : Type 0 where
+  pub anchor : at ≤ v.anchor
+  pub owner : v.owner ≤ last_small
+  pub first_key : v.first_key ≤ last_small

@@ -56,15 +56,15 @@ fn counts_through(parts: &Parts, whole: Span, len: usize) -> Counts
 }
 
 /// Whether the run can be replaced in place: all is packed, also after it is moved.
-fn can_replace(parts: &Parts, fresh: &Parts, from: &Counts, to: &Counts, until: &Counts) -> bool
-    ensures { Decides result (spec.IsInPlace from.now to.now until.now parts.now fresh.now) }
+fn can_replace(parts: &Parts, fresh: &Parts, counts: &RunCounts) -> bool
+    ensures { Decides result (spec.CanReplace counts.now parts.now fresh.now) }
 {
     let zero = nothing();
     parts.is_packed()
         && fresh.is_packed()
-        && parts.is_run(from, to)
-        && parts.can_shift(to, to, until)
-        && fresh.can_shift(&zero, &zero, from)
+        && parts.is_run(&counts.from, &counts.to)
+        && parts.can_shift_rest(counts)
+        && fresh.can_shift(&zero, &zero, &counts.from)
 }
 
 /// Puts other parts in place of a run of as many statements, key parts and values; what is after it is moved a block at
@@ -162,21 +162,17 @@ pub fn replace_parts(
     let Some(until) = counts_after(&from, &counts_at(&fresh, size), end) else {
         return replace_whole(alloc, parts, &fresh, whole, len, size, end);
     };
-    if let Some(gone) = replace_lines(
-        alloc,
-        parts,
-        &fresh,
-        &RunCounts {
-            from,
-            to,
-            until,
-            len,
-        },
-    )? {
+    let counts = RunCounts {
+        from,
+        to,
+        until,
+        len,
+    };
+    if let Some(gone) = replace_lines(alloc, parts, &fresh, &counts)? {
         return Ok(gone);
     }
     parts.settle(alloc)?;
-    if can_replace(parts, &fresh, &from, &to, &until) {
+    if can_replace(parts, &fresh, &counts) {
         return replace_run(alloc, parts, fresh, from, to, until);
     }
     replace_whole(alloc, parts, &fresh, whole, len, size, end)

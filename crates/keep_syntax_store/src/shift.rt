@@ -1,5 +1,5 @@
 //! Packed records whose numbers are moved in place.
-ghost use Rattle.std.specs.Prelude.{◌≡◌, ◌≤◌, ◌++◌, length, take, drop, map, vec_len, vec_capacity};
+ghost use Rattle.std.specs.Prelude.{◌≡◌, ℕ, ◌≤◌, ◌++◌, length, take, drop, map, vec_len, vec_capacity};
 ghost use Rattle.std.specs.Bool.{Decides};
 ghost use Rattle.std.specs.List.{AllByRecursion};
 ghost use Rattle.keep_syntax_store.specs.Exchanging.{HasRoom, Exchanged};
@@ -8,6 +8,7 @@ ghost use Rattle.keep_syntax_store.specs.Shifting.{FitsMoved, shifted_to, last_u
 
 use crate::exchange::exchange;
 use crate::moves::Counts;
+use crate::widths::{LONG, SMALL};
 
 /// What is added to numbers to move them from after one count to after another. A sum past the last number of a word
 /// goes on at 0, so numbers can be moved back too. All are words of 32 bits, and that of places is one of 64 bits too.
@@ -121,6 +122,44 @@ pub fn fits_u32(number: u32, old: usize, new: usize) -> bool
 {
     let number = number as usize;
     old <= number && shifted_usize(number, old, new) <= u32::MAX as usize
+}
+
+/// What has numbers of 32 bits that grow as more comes before.
+pub trait Grow: Copy {
+    ghost IsSmallFrom: { ℕ → Self → Type 0 };
+
+    /// Whether its numbers have 31 bits, and it is stored with no place before this one.
+    fn is_small_from(self, at: usize) -> bool
+        ensures { Decides result (IsSmallFrom at self) };
+}
+
+/// Whether all from a number on are small, and stored with no place before this one.
+pub fn all_are_small_from<T: Grow>(items: &[T], from: usize, at: usize) -> bool
+    ensures { Decides result (AllByRecursion (T.IsSmallFrom at) (drop from items.now)) }
+{
+    'items: for number in from..items.len() {
+        if !items[number].is_small_from(at) {
+            return false;
+        }
+    }
+    true
+}
+
+/// Whether a text of `len` bytes is shorter than 4 GiB, also once what is after a place is moved to after another.
+pub fn is_short(len: usize, old: usize, new: usize) -> bool
+    ensures { Decides result (spec.IsShort len old new) }
+{
+    len <= LONG && shifted_usize(len, old, new) <= LONG
+}
+
+/// Whether numbers of 31 bits have 32 at the most once they are moved from after one count to after another.
+pub fn grow_little(old: &Counts, new: &Counts) -> bool
+    ensures { Decides result (spec.GrowLittle old.now new.now) }
+{
+    let most = SMALL as usize;
+    new.statements.saturating_sub(old.statements) <= most
+        && new.keys.saturating_sub(old.keys) <= most
+        && new.values.saturating_sub(old.values) <= most
 }
 
 /// A number after `old`, moved to after `new`, or the greatest number where it does not fit.

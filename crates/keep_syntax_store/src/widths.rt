@@ -8,6 +8,18 @@ pub const SHORT: usize = 0xffff;
 /// The largest number of 32 bits.
 pub const LONG: usize = 0xffff_ffff;
 
+/// The largest number of 31 bits.
+pub const SMALL: u32 = 0x7fff_ffff;
+
+/// A number that has 31 bits exactly if both have.
+#[inline(always)]
+pub fn either_u32(a: u32, b: u32) -> u32
+    ensures most { max a b ≤ result }
+    ensures small { max a b < 2 ^ 31 → result < 2 ^ 31 }
+{
+    a | b
+}
+
 /// A number that has 16 bits, or 32, exactly if both have.
 #[inline(always)]
 pub fn either(a: usize, b: usize) -> usize

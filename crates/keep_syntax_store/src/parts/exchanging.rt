@@ -6,8 +6,11 @@ ghost use Rattle.keep_syntax_store.specs.InPlace as spec;
 ghost use Rattle.keep_syntax_store.specs.Rereading.{nothing};
 
 use super::Parts;
-use crate::moves::Counts;
-use crate::shift::{Shift, Shifts, all_can_shift, exchange_run, shift_from};
+use crate::moves::{Counts, RunCounts};
+use crate::shift::{
+    Shift, Shifts, all_are_small_from, all_can_shift, exchange_run, grow_little, is_short,
+    shift_from,
+};
 use crate::starts::Starts;
 use keep_types::Leaf;
 use std::alloc::{AllocError, Global};
@@ -70,6 +73,20 @@ impl Parts {
         all_can_shift(self.statements.packed.as_slice(), from.statements, old, new)
             && all_can_shift(self.keys.packed.as_slice(), from.keys, old, new)
             && all_can_shift(self.values.packed.as_slice(), from.values, old, new)
+    }
+
+    /// Whether what is after a run can be moved in place, given that its places are in the text: the text is shorter
+    /// than 4 GiB, before and after, and its numbers have 31 bits. They have no more in such a text, where each entry
+    /// takes two bytes or more.
+    pub(crate) fn can_shift_rest(&self, counts: &RunCounts) -> bool
+        ensures { Decides result (spec.CanShiftRest counts.now self.now) }
+    {
+        let old = &counts.to;
+        let new = &counts.until;
+        is_short(counts.len, old.at, new.at)
+            && grow_little(old, new)
+            && all_are_small_from(self.statements.packed.as_slice(), old.statements, old.at)
+            && all_are_small_from(self.values.packed.as_slice(), old.values, old.at)
     }
 
     /// Whether there is so much, and the counts are in order.

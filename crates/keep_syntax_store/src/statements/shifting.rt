@@ -3,7 +3,8 @@ ghost use Rattle.keep_syntax_store.specs.Shifting as spec;
 
 use super::PackedStatement;
 use crate::moves::Counts;
-use crate::shift::{Shift, Shifts, fits_u32};
+use crate::shift::{Grow, Shift, Shifts, fits_u32};
+use crate::widths::{SMALL, either_u32};
 
 impl Shift for PackedStatement {
     ghost shifted = { spec.shifted_statement };
@@ -34,5 +35,14 @@ impl Shift for PackedStatement {
             && fits_u32(self.end, old.at, new.at)
             && fits_u32(self.first_key, old.keys, new.keys)
             && (!self.has_value || fits_u32(self.value, old.values, new.values))
+    }
+}
+
+impl Grow for PackedStatement {
+    ghost IsSmallFrom = { spec.IsSmallStatement };
+
+    #[inline(always)]
+    fn is_small_from(self, _at: usize) -> bool {
+        either_u32(self.first_key, self.value) <= SMALL
     }
 }

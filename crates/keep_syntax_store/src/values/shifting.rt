@@ -4,7 +4,8 @@ ghost use Rattle.keep_syntax_store.specs.Shifting as spec;
 
 use super::{PackedValue, Within};
 use crate::moves::Counts;
-use crate::shift::{Shift, Shifts, fits_u32, fits_usize};
+use crate::shift::{Grow, Shift, Shifts, fits_u32, fits_usize};
+use crate::widths::{SMALL, either_u32};
 
 /// How many of what a value may be in come before.
 fn owners_of(within: Within, counts: &Counts) -> usize
@@ -65,5 +66,14 @@ impl Shift for PackedValue {
             && fits_u32(self.first_key, old.keys, new.keys)
             && fits_usize(self.end, old.at, new.at)
             && (!self.has_after || fits_usize(self.after, old.at, new.at))
+    }
+}
+
+impl Grow for PackedValue {
+    ghost IsSmallFrom = { spec.IsSmallValue };
+
+    #[inline(always)]
+    fn is_small_from(self, at: usize) -> bool {
+        at <= self.anchor as usize && either_u32(self.owner, self.first_key) <= SMALL
     }
 }

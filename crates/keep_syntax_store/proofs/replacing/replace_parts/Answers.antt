@@ -6,9 +6,10 @@ use Rattle.keep_syntax_store.specs.declared.replacing.Gone.{Gone}
 use Rattle.keep_syntax_store.specs.After.{AreAfter}
 use Rattle.keep_syntax_store.specs.Flat.{Flat, flat}
 use Rattle.keep_syntax_store.specs.Rereading.{replaced_flat}
-use Rattle.keep_syntax_store.specs.InPlace.{placed, UndoesParts}
+use Rattle.keep_syntax_store.specs.InPlace.{placed, counts_through, UndoesParts}
 use Rattle.keep_syntax_store.proofs.PatchLaws.{undoes_same}
 use Rattle.keep_syntax_store.proofs.ReplacingLaws.{placed_replaced}
+use Rattle.keep_syntax_store.proofs.RestLaws.{in_place}
 use Rattle.keep_syntax_store.proofs.replacing.replace_parts.Goals as goal
 
 pub returns-in-Some-2-clause-done : goal.returns-in-Some-2-clause-done
@@ -59,3 +60,10 @@ returns-clause-undo c =
 
 pub replace_lines-requires : goal.replace_lines-requires
 replace_lines-requires c = subst (λ (k : Counts). AreAfter k c.args.len (flat c.args.parts.now)) (sym c.counts_through-to.ensures) c.requires.after
+
+pub replace_run-requires-clause-in_place : goal.replace_run-requires-clause-in_place
+replace_run-requires-clause-in_place c =
+    let same : flat c.settle.new.self ≡ flat c.args.parts.now = c.settle.ensures ∙ c.in_ok-gone.ensures.none (ap Ok c.in_default-2.is) in
+    let after : AreAfter c.counts_through-to.result c.args.len (flat c.settle.new.self) =
+    subst (λ (k : Counts). AreAfter k c.args.len (flat c.settle.new.self)) (sym c.counts_through-to.ensures) (subst (λ (x : Flat). AreAfter (counts_through (flat c.args.parts.now) c.args.whole c.args.len) c.args.len x) (sym same) c.requires.after) in
+    in_place _ c.settle.new.self c.args.fresh after (c.can_replace.ensures.0 c.if-can_replace.true)
