@@ -51,10 +51,10 @@ pub trait Shift: Copy {
 
     ghost CanShift: { Counts → Counts → Self → Type 0 };
 
-    /// With its numbers moved, where they fit.
-    fn shift(self, by: &Shifts) -> Self
-        ensures { (old new : Counts) → by.now ≡ spec.shifts_between old new → CanShift old new self
-            → result ≡ shifted old new self };
+    /// Moves its numbers, where they fit.
+    fn shift(&mut self, by: &Shifts)
+        ensures { (old new : Counts) → by.now ≡ spec.shifts_between old new → CanShift old new self.old
+            → self.new ≡ shifted old new self.old };
 
     /// Whether they fit where they are moved, and can be moved back.
     fn can_shift(self, old: &Counts, new: &Counts) -> bool
@@ -82,7 +82,7 @@ fn shift_rest<T: Shift>(items: &mut [T], from: usize, old: &Counts, new: &Counts
 {
     let by = shifts_between(old, new);
     'items: for number in from..items.len() {
-        items[number] = items[number].shift(&by);
+        items[number].shift(&by);
     }
 }
 

@@ -11,12 +11,8 @@ impl Shift for PackedKeyPart {
     ghost CanShift = { spec.CanShiftKey };
 
     #[inline(always)]
-    fn shift(self, by: &Shifts) -> Self {
-        PackedKeyPart {
-            start: self.start.wrapping_add(by.at),
-            len: self.len,
-            leaf: self.leaf,
-        }
+    fn shift(&mut self, by: &Shifts) {
+        self.start = self.start.wrapping_add(by.at);
     }
 
     fn can_shift(self, old: &Counts, new: &Counts) -> bool {

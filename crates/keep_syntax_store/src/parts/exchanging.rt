@@ -24,9 +24,7 @@ impl Shift for Leaf {
     ghost CanShift = { λ old new leaf. ⊤ };
 
     #[inline(always)]
-    fn shift(self, _by: &Shifts) -> Self {
-        self
-    }
+    fn shift(&mut self, _by: &Shifts) {}
 
     fn can_shift(self, _old: &Counts, _new: &Counts) -> bool {
         true

@@ -12,21 +12,12 @@ impl Shift for PackedStatement {
     ghost CanShift = { spec.CanShiftStatement };
 
     #[inline(always)]
-    fn shift(self, by: &Shifts) -> Self {
-        PackedStatement {
-            kind: self.kind,
-            has_value: self.has_value,
-            keys: self.keys,
-            before: self.before,
-            after: self.after,
-            line_start: self.line_start.wrapping_add(by.at),
-            end: self.end.wrapping_add(by.at),
-            first_key: self.first_key.wrapping_add(by.keys),
-            value: if self.has_value {
-                self.value.wrapping_add(by.values)
-            } else {
-                self.value
-            },
+    fn shift(&mut self, by: &Shifts) {
+        self.line_start = self.line_start.wrapping_add(by.at);
+        self.end = self.end.wrapping_add(by.at);
+        self.first_key = self.first_key.wrapping_add(by.keys);
+        if self.has_value {
+            self.value = self.value.wrapping_add(by.values);
         }
     }
 

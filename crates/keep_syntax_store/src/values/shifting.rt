@@ -34,25 +34,13 @@ impl Shift for PackedValue {
     ghost CanShift = { spec.CanShiftValue };
 
     #[inline(always)]
-    fn shift(self, by: &Shifts) -> Self {
-        PackedValue {
-            leaf: self.leaf,
-            within: self.within,
-            depth: self.depth,
-            has_before: self.has_before,
-            has_after: self.has_after,
-            keys: self.keys,
-            anchor: self.anchor.wrapping_add(by.at),
-            owner: self.owner.wrapping_add(owner_shift(self.within, by)),
-            first_key: self.first_key.wrapping_add(by.keys),
-            gap: self.gap,
-            lead: self.lead,
-            end: self.end.wrapping_add(by.at_usize),
-            after: if self.has_after {
-                self.after.wrapping_add(by.at_usize)
-            } else {
-                self.after
-            },
+    fn shift(&mut self, by: &Shifts) {
+        self.anchor = self.anchor.wrapping_add(by.at);
+        self.owner = self.owner.wrapping_add(owner_shift(self.within, by));
+        self.first_key = self.first_key.wrapping_add(by.keys);
+        self.end = self.end.wrapping_add(by.at_usize);
+        if self.has_after {
+            self.after = self.after.wrapping_add(by.at_usize);
         }
     }
 
