@@ -11,6 +11,7 @@ pub mod ChildLemmas
 pub mod TreeLemmas
 pub mod PackedLemmas
 pub mod RenumberingLemmas
+pub mod RenumberedBackLemmas
 pub mod RunLemmas
 pub mod MovedListLemmas
 pub mod MovedTrieLemmas
@@ -20,6 +21,7 @@ pub mod MovedRunLemmas
 pub mod MovedReadyLemmas
 pub mod MovedLinkLemmas
 pub mod MovedRowLemmas
+pub mod SmallLinkLemmas
 pub mod MovedTreeLemmas
 pub mod KeyBelowLemmas
 pub mod InsertedLemmas

@@ -55,12 +55,6 @@ packed_small : (packed : List PackedLink) → All IsSmall (links_in packed []) �
 packed_small packed small k d h =
     subst IsSmall (packed_read packed k d (link_of d) h) (small k (link_of d) (omega (arith, h, length-append (map link_of packed) [], length-map packed link_of)))
 
-pub small_packed : (packed : List PackedLink) → All (λ h. IsSmall (link_of h)) packed → All IsSmall (links_in packed [])
-small_packed packed small k e h =
-    let d : PackedLink = record { parent = 0; number = 0 } in
-    let low : k < length packed = omega (arith, h, length-append (map link_of packed) [], length-map packed link_of) in
-    subst IsSmall (sym (packed_read packed k d e low)) (small k d low)
-
 module _ (packed : List PackedLink) (unpacked all : List ParentLink) (view : links_in packed unpacked ≡ all) (large : StartsLarge unpacked) (small : All IsSmall all) where
   pub none_unpacked : unpacked ≡ []
   none_unpacked = all_packed packed unpacked large (subst (λ (hs : List ParentLink). All IsSmall hs) (sym view) small)

@@ -29,12 +29,6 @@ module _ (list : List StoredNode) (links : List ParentLink) (all : AllNodes) (vi
       subst HasSmallLink (ap (λ (x : AllNodes). node_at x.items k) (sym view) ∙ rows_at list links k nothing d paired low)
       (small k no_node (omega (arith, low, count_seen list links all view paired)))
 
-  pub rows_small : All IsSmall links → All HasSmallLink all.items
-  rows_small small k d h =
-      let low : k < length list = omega (arith, h, count_seen list links all view paired) in
-      subst HasSmallLink (sym (get_or_default all.items k d no_node h ∙ ap (λ (x : AllNodes). node_at x.items k) (sym view) ∙ rows_at list links k nothing nowhere paired low))
-      (small k nowhere (omega (arith, low, paired)))
-
 -- ---- the last node at another place
 
 -- where the last of the nodes goes

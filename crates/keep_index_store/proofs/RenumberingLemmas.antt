@@ -32,11 +32,6 @@ use Rattle.keep_index_store.specs.Trie.{TrieNode, IsTrie, children_of}
 
 -- ---- the nodes, each with its parent link
 
-rows_can_grow : (ns : List StoredNode) (hs : List ParentLink) → StoredCanGrow ns → NodesCanGrow (node_rows ns hs)
-rows_can_grow [] hs can = tt
-rows_can_grow (n ∷ ns) [] can = tt
-rows_can_grow (n ∷ ns) (h ∷ hs) can = (can.0, rows_can_grow ns hs can.1)
-
 rows_could_grow : (ns : List StoredNode) (hs : List ParentLink) → length hs ≡ length ns
     → NodesCanGrow (node_rows ns hs) → StoredCanGrow ns
 rows_could_grow [] hs paired can = tt
@@ -52,9 +47,6 @@ rows_renumbered by line (n ∷ ns) (h ∷ hs) =
     ap (λ (rest : List Node). first ∷ rest) (rows_renumbered by line ns hs)
 
 module _ (nodes : List StoredNode) (links : List ParentLink) (all : AllNodes) (view : all_nodes nodes links ≡ all) where
-  pub all_can_grow : StoredCanGrow nodes → NodesCanGrow all.items
-  all_can_grow can = subst (λ (x : AllNodes). NodesCanGrow x.items) view (rows_can_grow nodes links can)
-
   pub all_could_grow : length links ≡ length nodes → NodesCanGrow all.items → StoredCanGrow nodes
   all_could_grow paired can =
       rows_could_grow nodes links paired (subst (λ (x : AllNodes). NodesCanGrow x.items) (sym view) can)

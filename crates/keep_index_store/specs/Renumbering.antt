@@ -10,9 +10,10 @@ use Rattle.keep_index_store.specs.declared.facts.OriginKind.{OriginKind}
 use Rattle.keep_index_store.specs.declared.facts.OriginKind.TheVariants as origin_kind
 use Rattle.keep_index_store.specs.declared.facts.NodeFacts.{NodeFacts}
 use Rattle.keep_index_store.specs.declared.nodes.Node.{Node as StoredNode}
+use Rattle.keep_index_store.specs.declared.packed.ShortFacts.{ShortFacts}
 use Rattle.keep_index_store.specs.declared.renumbering.LineNumbers.{LineNumbers}
 use Rattle.keep_index_store.specs.AllNodes.{Node}
-use Rattle.keep_index_store.specs.Facts.{info_of}
+use Rattle.keep_index_store.specs.Facts.{info_of, origin_of}
 
 -- the numbers of a line, as the definitions of all layers have them
 abbrev pub numbers_of : LineNumbers → infos.LineNumbers
@@ -44,6 +45,13 @@ renumbered_facts by line t = record t {
   number = renumbered_by by (number_for line t.origin) t.number;
 }
 
+-- the same of packed facts
+abbrev pub renumbered_short : (ℕ → ℕ → ℕ) → LineNumbers → ShortFacts → ShortFacts
+renumbered_short by line s = record s {
+  key = renumbered_by by (key_for line s.marks) s.key;
+  number = renumbered_by by (number_for line s.origin) s.number;
+}
+
 -- a node with these facts, and the same node without its parent link
 abbrev pub renumbered_node : (ℕ → ℕ → ℕ) → LineNumbers → Node → Node
 renumbered_node by line n = record n { facts = renumbered_facts by line n.facts }
@@ -69,6 +77,11 @@ OriginCanGrow origin.Tables = Unit {0}
 -- each number that the facts have
 abbrev pub InfoCanGrow : NodeInfo → Type 0
 InfoCanGrow i = (IfSome i.key CanGrow) × (OriginCanGrow i.origin)
+
+-- each number of packed facts
+abbrev pub ShortCanGrow : ShortFacts → Type 0
+ShortCanGrow s =
+    (IfSome (if s.marks == 0 then None else Some s.key) CanGrow) × (OriginCanGrow (origin_of s.origin s.number))
 
 -- each number of all nodes, and of all nodes without their parent links
 abbrev pub NodesCanGrow : List Node → Type 0

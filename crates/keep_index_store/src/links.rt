@@ -67,30 +67,16 @@ fn packed_link(link: ParentLink) -> Option<PackedLink>
     })
 }
 
-/// Whether each number can grow by one where it is.
-fn can_grow(links: &[PackedLink]) -> bool
-    ensures { result ≡ true → All (λ h. (h.parent < 2 ^ 32 - 1) × (h.number < 2 ^ 32 - 1)) links.now }
-{
-    links
-        .iter()
-        .all(|link| link.parent < u32::MAX && link.number < u32::MAX)
-}
-
-/// The link once the last node is there.
-fn link_then(link: PackedLink, place: NewPlace) -> PackedLink
-    requires grows { (link.parent < 2 ^ 32 - 1) × (link.number < 2 ^ 32 - 1) }
+/// Gives the link the numbers that it has once the last node is there.
+fn renumber_link(link: &mut PackedLink, place: NewPlace)
+    requires grows { (link.old.parent < 2 ^ 32 - 1) × (link.old.number < 2 ^ 32 - 1) }
     requires order { place.number ≤ place.before }
-    ensures { link_of result ≡ moved_link place (link_of link) }
+    ensures { link_of link.new ≡ moved_link place (link_of link.old) }
 {
-    let parent = later_parent(link.parent, place.at);
-    if link.parent as usize != place.above {
-        return PackedLink {
-            parent,
-            number: link.number,
-        };
+    if link.parent as usize == place.above {
+        link.number = later_sibling(link.number, place.before, place.number);
     }
-    let number = later_sibling(link.number, place.before, place.number);
-    PackedLink { parent, number }
+    link.parent = later_parent(link.parent, place.at);
 }
 
 /// The number of a parent once a node has the number `at`.
@@ -127,7 +113,7 @@ fn renumber(links: &mut [PackedLink], place: NewPlace)
     ensures { map link_of links.new ≡ map (moved_link place) (map link_of links.old) }
 {
     for link in links.iter_mut() {
-        *link = link_then(*link, place);
+        renumber_link(link, place);
     }
 }
 
@@ -193,13 +179,6 @@ impl ParentLinks {
         if self.unpacked.pop().is_none() {
             self.packed.pop();
         }
-    }
-
-    /// Whether both numbers of each link can be greater by one in 32 bits.
-    pub fn can_grow(&self) -> bool
-        ensures { result ≡ true → All IsSmall self.now }
-    {
-        self.unpacked.is_empty() && can_grow(&self.packed)
     }
 
     /// Moves the last link to where its node goes, and gives each the numbers that it has then. It takes no memory.

@@ -11,6 +11,7 @@ ghost use Rattle.std.specs.Prelude.{◌+◌, ◌≤◌, ◌^◌, ℕ, All, map, 
 ghost use Rattle.keep_index_store.specs.Moved.{CanMove, IsLast, moved_nodes, reordered};
 ghost use Rattle.keep_index_store.specs.Moved.{stored_at, with_last_at, with_last_key, with_moved_children};
 ghost use Rattle.keep_index_store.specs.declared.nodes.Node.{Node as StoredNode};
+ghost use Rattle.keep_index_store.specs.Stored.{IsStored};
 ghost use Rattle.keep_index_store.specs.Trie.{by_key, by_index};
 
 mod renumbering;
@@ -257,15 +258,17 @@ impl Nodes {
         self.links.pop();
     }
 
-    /// Whether both numbers of each parent link can be greater by one in 32 bits, and those of one more child.
+    /// Whether both numbers of each parent link can be greater by one in 32 bits, and those of one more child. It reads
+    /// the root's link alone: any other parent is an earlier node, and a node has fewer siblings than there are nodes.
     pub fn can_grow_below(&self, parent: usize) -> bool
-        requires { parent < length self.now.items }
+        requires within { parent < length self.now.items }
+        requires stored { IsStored self.now.items }
         ensures each { result ≡ true → All HasSmallLink self.now.items }
         ensures next { result ≡ true → (parent < 2 ^ 32 - 1)
             × (length (child_ids (node_at self.now.items parent).children) < 2 ^ 32 - 1) }
     {
         let max = u32::MAX as usize;
-        parent < max && self.child_count(parent) < max && self.links.can_grow()
+        self.len() < max && self.parent(0) < max && self.number(0) < max
     }
 
     /// Adds a node with no children below a table, by a key that is not there yet. If memory runs out, nothing is

@@ -1,7 +1,9 @@
 //! The facts about a node, in as few bytes as its numbers allow.
-ghost use Rattle.std.specs.Prelude.{◌≡◌, ◌<◌, ◌^◌, IfNone, IfOk, IfSome, None, OnErr, OnOk};
+ghost use Rattle.std.specs.Prelude.{◌≡◌, IfNone, IfOk, IfSome, None, OnErr, OnOk};
 ghost use Rattle.keep_index_store.specs.Packed.{Fits, facts_in, short_facts, joined_short};
 ghost use Rattle.keep_index_store.specs.Facts.{joined_facts};
+
+mod renumbering;
 
 use crate::facts::{NodeFacts, OriginKind, later_kind, yields_to};
 use keep_types::{Kind, Role};
@@ -87,20 +89,6 @@ impl ShortFacts {
             key: if self.marks == 0 { more.key } else { self.key },
             number: later.number,
         })
-    }
-
-    /// These facts with other numbers of the key part and of the place, which have no more than 32 bits if these don't.
-    #[inline(always)]
-    fn with_numbers(self, key: usize, number: usize) -> ShortFacts
-        requires key { self.key < 2 ^ 32 → key < 2 ^ 32 }
-        requires number { self.number < 2 ^ 32 → number < 2 ^ 32 }
-        ensures { result ≡ record self { key = key; number = number } }
-    {
-        ShortFacts {
-            key: key as u32,
-            number: number as u32,
-            ..self
-        }
     }
 }
 
@@ -229,23 +217,6 @@ impl PackedFacts {
         match &mut self.form {
             Form::Packed { kind: stored, .. } => *stored = kind,
             Form::Boxed(facts) => facts.kind = kind,
-        }
-    }
-
-    /// Stores other numbers of the key part and of the place, in the form that is there, so that it takes no memory. A
-    /// number of 32 bits has to stay one.
-    #[inline(always)]
-    pub fn set_numbers(&mut self, key: usize, number: usize)
-        requires key { self.old.key < 2 ^ 32 → key < 2 ^ 32 }
-        requires number { self.old.number < 2 ^ 32 → number < 2 ^ 32 }
-        ensures { self.new ≡ record self.old { key = key; number = number } }
-    {
-        match &mut self.form {
-            Form::Packed { short, .. } => *short = short.with_numbers(key, number),
-            Form::Boxed(facts) => {
-                facts.key = key;
-                facts.number = number;
-            }
         }
     }
 

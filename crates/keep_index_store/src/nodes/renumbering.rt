@@ -1,65 +1,66 @@
 //! The facts about all nodes, where a line comes or goes: their numbers change in place.
-ghost use Rattle.std.specs.Prelude.{◌≡◌, map};
-ghost use Rattle.std.specs.Bool.{Decides};
+ghost use Rattle.std.specs.Prelude.{◌≡◌, ◌<◌, ◌≤◌, ◌++◌, IfNone, IfSome, drop, length, map, take};
 ghost use Rattle.keep_path.specs.NodeInfos.{later_number, earlier_number};
 ghost use Rattle.keep_index_store.specs.Renumbering.{NodesCanGrow, StoredCanGrow, renumbered_node, renumbered_stored};
 
 use super::{Node, Nodes};
 use crate::renumbering::LineNumbers;
 
-/// Whether each number of all nodes can be greater by one where it is stored.
-fn all_can_grow(nodes: &[Node]) -> bool
-    ensures { Decides result (StoredCanGrow nodes.now) }
+/// Changes the numbers of the nodes to those once the line is there, up to the first node that has one which can't be
+/// greater by one. How many are changed.
+fn renumber_first_later(nodes: &mut [Node], line: LineNumbers) -> usize
+    ensures within { result ≤ length nodes.old }
+    ensures changed { nodes.new
+        ≡ map (renumbered_stored later_number line) (take result nodes.old) ++ drop result nodes.old }
+    ensures full { result < length nodes.old → StoredCanGrow nodes.old → ⊥ }
 {
     'nodes: for id in 0..nodes.len() {
-        if !nodes[id].facts.unpack().can_grow() {
-            return false;
+        if nodes[id].facts.renumber_later(line).is_none() {
+            return id;
         }
     }
-    true
+    nodes.len()
 }
 
-/// Changes the numbers of all nodes to those once the line is there.
-fn renumber_all_later(nodes: &mut Vec<Node>, line: LineNumbers)
-    requires { StoredCanGrow nodes.old.items }
-    ensures { nodes.new.items ≡ map (renumbered_stored later_number line) nodes.old.items }
+/// Changes the numbers of all nodes to those once the line is there. None, if one can't be greater by one where it is
+/// stored: then each node before it gets its numbers back.
+fn renumber_all_later(nodes: &mut [Node], line: LineNumbers) -> Option<()>
+    ensures later { IfSome result (λ _. nodes.new ≡ map (renumbered_stored later_number line) nodes.old) }
+    ensures unchanged { IfNone result (nodes.new ≡ nodes.old) }
+    ensures full { IfNone result (StoredCanGrow nodes.old → ⊥) }
 {
-    'nodes: for id in 0..nodes.len() {
-        let facts = nodes[id].facts.unpack().later(line);
-        nodes[id].facts.set_numbers(facts.key, facts.number);
+    let changed = renumber_first_later(nodes, line);
+    if changed < nodes.len() {
+        renumber_all_earlier(&mut nodes[..changed], line);
+        return None;
     }
+    Some(())
 }
 
 /// Changes the numbers of all nodes to those once the line is gone.
-fn renumber_all_earlier(nodes: &mut Vec<Node>, line: LineNumbers)
-    ensures { nodes.new.items ≡ map (renumbered_stored earlier_number line) nodes.old.items }
+fn renumber_all_earlier(nodes: &mut [Node], line: LineNumbers)
+    ensures { nodes.new ≡ map (renumbered_stored earlier_number line) nodes.old }
 {
     'nodes: for id in 0..nodes.len() {
-        let facts = nodes[id].facts.unpack().earlier(line);
-        nodes[id].facts.set_numbers(facts.key, facts.number);
+        nodes[id].facts.renumber_earlier(line);
     }
 }
 
 impl Nodes {
-    /// Whether each number of all nodes can be greater by one where it is stored.
-    pub fn can_grow(&self) -> bool
-        ensures { Decides result (NodesCanGrow self.now.items) }
+    /// Changes the numbers of all nodes to those once the line is there. It takes no memory. None, if one can't be
+    /// greater by one where it is stored: then nothing is changed.
+    pub fn renumber_later(&mut self, line: LineNumbers) -> Option<()>
+        ensures later { IfSome result (λ _. self.new.items ≡ map (renumbered_node later_number line) self.old.items) }
+        ensures unchanged { IfNone result (self.new ≡ self.old) }
+        ensures full { IfNone result (NodesCanGrow self.old.items → ⊥) }
     {
-        all_can_grow(self.list.as_slice())
-    }
-
-    /// Changes the numbers of all nodes to those once the line is there. It takes no memory.
-    pub fn renumber_later(&mut self, line: LineNumbers)
-        requires { NodesCanGrow self.old.items }
-        ensures { self.new.items ≡ map (renumbered_node later_number line) self.old.items }
-    {
-        renumber_all_later(&mut self.list, line);
+        renumber_all_later(self.list.as_mut_slice(), line)
     }
 
     /// Changes the numbers of all nodes to those once the line is gone. It takes no memory.
     pub fn renumber_earlier(&mut self, line: LineNumbers)
         ensures { self.new.items ≡ map (renumbered_node earlier_number line) self.old.items }
     {
-        renumber_all_earlier(&mut self.list, line);
+        renumber_all_earlier(self.list.as_mut_slice(), line);
     }
 }

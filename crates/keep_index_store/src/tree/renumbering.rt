@@ -18,11 +18,7 @@ impl Tree {
         ensures unchanged { IfNone result (self.new ≡ self.old) }
         ensures full { IfNone result (AllByRecursion InfoCanGrow self.old.infos → ⊥) }
     {
-        if !self.nodes.can_grow() {
-            return None;
-        }
-        self.nodes.renumber_later(line);
-        Some(())
+        self.nodes.renumber_later(line)
     }
 
     /// Changes the numbers in the facts about all nodes to those once the line is gone: each that is greater than the

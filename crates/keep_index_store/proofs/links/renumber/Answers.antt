@@ -3,8 +3,8 @@ use Rattle.keep_index_store.specs.declared.links.PackedLink.{PackedLink}
 use Rattle.keep_index_store.proofs.MovedLinkLemmas.{link_same, links_more, rest_more}
 use Rattle.keep_index_store.proofs.links.renumber.Goals as goal
 
-pub link_then-requires-clause-grows : goal.link_then-requires-clause-grows
-link_then-requires-clause-grows c =
+pub renumber_link-requires-clause-grows : goal.renumber_link-requires-clause-grows
+renumber_link-requires-clause-grows c =
     let d : PackedLink = record { parent = 0; number = 0 } in
     subst (λ (h : PackedLink). (h.parent < 4294967295) × (h.number < 4294967295)) (sym (link_same c.args.links.now c.loop-link.links c.loop-link.link-index d c.loop-link.invariant.1))
     (c.requires.grows c.loop-link.link-index d (omega (arith, c.loop-link-test.true)))
@@ -13,6 +13,8 @@ pub loop-link-preserved : goal.loop-link-preserved
 loop-link-preserved c =
     let d : PackedLink = record { parent = 0; number = 0 } in
     let low : c.loop-link.link-index < length c.args.links.now = omega (arith, c.loop-link-test.true) in (
-      links_more c.args.place c.args.links.now c.loop-link.links c.loop-link.link-index c.link_then.result d low c.loop-link.invariant.0 c.link_then.ensures,
-      rest_more c.args.links.now c.loop-link.links c.loop-link.link-index c.link_then.result c.loop-link.invariant.1,
+      links_more c.args.place c.args.links.now c.loop-link.links c.loop-link.link-index c.renumber_link.new.link d low
+          c.loop-link.invariant.0 c.renumber_link.ensures,
+      rest_more c.args.links.now c.loop-link.links c.loop-link.link-index c.renumber_link.new.link
+          c.loop-link.invariant.1,
     )

@@ -1,4 +1,4 @@
-use Rattle.std.proofs.Common.{◌≡◌, ◌++◌, take, drop, map, length}
+use Rattle.std.proofs.Common.{◌≡◌, ◌++◌, take, drop, map}
 use Rattle.keep_path.specs.NodeInfos.{earlier_number}
 use Rattle.keep_index_store.specs.Renumbering.{renumbered_stored}
 use Rattle.keep_index_store.proofs.nodes.renumbering.renumber_all_earlier.Given as goal
@@ -6,6 +6,5 @@ use Rattle.keep_index_store.proofs.nodes.renumbering.renumber_all_earlier.Given 
 -- those before this number are changed
 abbrev pub invariant-nodes : goal.invariant-nodes
 invariant-nodes l =
-    (take l.id l.nodes.items ++ map (renumbered_stored earlier_number l.line) (drop l.id l.nodes.items)
-    ≡ map (renumbered_stored earlier_number l.line) l.fn.nodes.items)
-    × (length l.nodes.items ≡ length l.fn.nodes.items)
+    take l.id l.nodes ++ map (renumbered_stored earlier_number l.line) (drop l.id l.nodes)
+    ≡ map (renumbered_stored earlier_number l.line) l.fn.nodes

@@ -1,0 +1,100 @@
+//! The stored facts about a node, where a line comes or goes: their numbers change in place.
+ghost use Rattle.std.specs.Prelude.{◌≡◌, IfNone, IfSome};
+ghost use Rattle.keep_path.specs.NodeInfos as spec;
+ghost use Rattle.keep_index_store.specs.Facts.{info_of};
+ghost use Rattle.keep_index_store.specs.Renumbering.{InfoCanGrow, ShortCanGrow};
+ghost use Rattle.keep_index_store.specs.Renumbering.{renumbered_facts, renumbered_short};
+
+use super::{Form, LONG, PackedFacts, ShortFacts};
+use crate::renumbering::LineNumbers;
+
+/// What a number of 32 bits is once there is one more at `at`. It may not fit into 32 bits then.
+#[inline(always)]
+fn later_number(at: usize, number: u32) -> usize
+    ensures { result ≡ spec.later_number at number }
+{
+    let number = number as usize;
+    if number < at { number } else { number + 1 }
+}
+
+/// What a number of 32 bits is once that at `at` is gone.
+#[inline(always)]
+fn earlier_number(at: usize, number: u32) -> u32
+    ensures { result ≡ spec.earlier_number at number }
+{
+    if at < number as usize {
+        number - 1
+    } else {
+        number
+    }
+}
+
+impl ShortFacts {
+    /// Changes the numbers to those once the line is there. None, if one can't be greater by one in 32 bits: then
+    /// nothing is changed.
+    #[inline(always)]
+    fn renumber_later(&mut self, line: LineNumbers) -> Option<()>
+        ensures later { IfSome result (λ _. self.new ≡ renumbered_short spec.later_number line self.old) }
+        ensures unchanged { IfNone result (self.new ≡ self.old) }
+        ensures full { IfNone result (ShortCanGrow self.old → ⊥) }
+    {
+        let key = if self.marks == 0 {
+            self.key as usize
+        } else {
+            later_number(line.key, self.key)
+        };
+        let number = match line.number_for(self.origin) {
+            Some(at) => later_number(at, self.number),
+            None => self.number as usize,
+        };
+        if key > LONG || number > LONG {
+            return None;
+        }
+        self.key = key as u32;
+        self.number = number as u32;
+        Some(())
+    }
+
+    /// Changes the numbers to those once the line is gone.
+    #[inline(always)]
+    fn renumber_earlier(&mut self, line: LineNumbers)
+        ensures { self.new ≡ renumbered_short spec.earlier_number line self.old }
+    {
+        if self.marks != 0 {
+            self.key = earlier_number(line.key, self.key);
+        }
+        if let Some(at) = line.number_for(self.origin) {
+            self.number = earlier_number(at, self.number);
+        }
+    }
+}
+
+impl PackedFacts {
+    /// Changes the numbers to those once the line is there, in the form that is there. None, if one can't be greater by
+    /// one where it is stored: then nothing is changed.
+    #[inline(always)]
+    pub fn renumber_later(&mut self, line: LineNumbers) -> Option<()>
+        ensures later { IfSome result (λ _. self.new ≡ renumbered_facts spec.later_number line self.old) }
+        ensures unchanged { IfNone result (self.new ≡ self.old) }
+        ensures full { IfNone result (InfoCanGrow (info_of self.old) → ⊥) }
+    {
+        match &mut self.form {
+            Form::Packed { short, .. } => short.renumber_later(line),
+            Form::Boxed(facts) => {
+                **facts = facts.later(line)?;
+                Some(())
+            }
+        }
+    }
+
+    /// Changes the numbers to those once the line is gone, in the form that is there.
+    #[inline(always)]
+    pub fn renumber_earlier(&mut self, line: LineNumbers)
+        ensures { self.new ≡ renumbered_facts spec.earlier_number line self.old }
+    {
+        match &mut self.form {
+            Form::Packed { short, .. } => short.renumber_earlier(line),
+            Form::Boxed(facts) => **facts = facts.earlier(line),
+        }
+    }
+}
