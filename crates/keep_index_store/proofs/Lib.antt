@@ -23,6 +23,16 @@ pub mod MovedLinkLemmas
 pub mod MovedRowLemmas
 pub mod SmallLinkLemmas
 pub mod MovedTreeLemmas
+pub mod RemovedListLemmas
+pub mod RemovedRunLemmas
+pub mod RemovedKeyLemmas
+pub mod RemovedLinkLemmas
+pub mod RemovedRowLemmas
 pub mod KeyBelowLemmas
 pub mod InsertedLemmas
+pub mod RemovedPathLemmas
+pub mod RemovedTrieLemmas
+pub mod RemovedReadLemmas
+pub mod RemovedNodeLemmas
+pub mod RemovedTreeLemmas
 pub mod Shared

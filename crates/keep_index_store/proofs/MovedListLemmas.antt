@@ -26,6 +26,18 @@ moved_last last at n is = ap (λ (b : Bool). cond b at (later_number at n)) (eq-
 pub moved_other : (last at n : ℕ) → (n ≡ last → ⊥) → moved_number last at n ≡ later_number at n
 moved_other last at n other = ap (λ (b : Bool). cond b at (later_number at n)) (ne_eqb n last other)
 
+pub later_most : (at n : ℕ) → later_number at n ≤ n + 1
+later_most at n = elim (cases_lt n at) [
+  | inl below ↦ omega (arith, later_low at n below)
+  | inr above ↦ omega (arith, later_high at n above)
+]
+
+pub moved_most : (last at n : ℕ) → at ≤ last → moved_number last at n ≤ n + 1
+moved_most last at n order = elim (cases_eq n last) [
+  | inl same ↦ omega (arith, order, same, moved_last last at n same)
+  | inr other ↦ omega (arith, moved_other last at n other, later_most at n)
+]
+
 -- each number but `at` is that of a node which was there, and it grew by one at most
 pub record IsLater (at j : ℕ) : Type 0 where
   pub was : ℕ

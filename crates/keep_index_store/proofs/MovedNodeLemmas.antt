@@ -30,7 +30,7 @@ holds_stay last at Bare = refl
 holds_stay last at (Keyed pairs) = refl
 holds_stay last at (Listed ids) = refl
 
-keys_stay : (f : ℕ → ℕ) (pairs : List (List ℕ × ℕ)) (n : ℕ) → (get_or {A = List ℕ × ℕ} (map (λ (e : List ℕ × ℕ). (e.0, f e.1)) pairs) n ([], 0)).0 ≡ (get_or pairs n ([], 0)).0
+pub keys_stay : (f : ℕ → ℕ) (pairs : List (List ℕ × ℕ)) (n : ℕ) → (get_or {A = List ℕ × ℕ} (map (λ (e : List ℕ × ℕ). (e.0, f e.1)) pairs) n ([], 0)).0 ≡ (get_or pairs n ([], 0)).0
 keys_stay f [] n = refl
 keys_stay f (p ∷ pairs) zero = refl
 keys_stay f (p ∷ pairs) (suc n) = keys_stay f pairs n

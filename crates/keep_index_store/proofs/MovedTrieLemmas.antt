@@ -23,7 +23,7 @@ use Rattle.keep_index_store.proofs.GrowthLemmas.{paths_pushed}
 use Rattle.keep_index_store.proofs.MovedListLemmas.{later_low, later_high, moved_last, moved_other, ends_in, last_inserted, map-inserted, length-last, read_last, from, distinct_last}
 
 -- a link whose parent has its new number
-pub later_link : ℕ → ℕ × Part → ℕ × Part
+unfoldable pub later_link : ℕ → ℕ × Part → ℕ × Part
 later_link at l = (later_number at l.0, l.1)
 
 abbrev pub later_trie_node : ℕ → TrieNode → TrieNode
@@ -54,7 +54,7 @@ links_low at (l ∷ ls) low =
     let more : map (later_link at) ls ≡ ls = links_low at ls (λ j e h. low (suc j) e (omega arith)) in
     ap (λ (n : ℕ). (n, l.1) ∷ map (later_link at) ls) (later_low at l.0 (low 0 l (omega arith))) ∙ ap (λ (ks : List (ℕ × Part)). l ∷ ks) more
 
-fold_inserted : (ls : List (ℕ × Part)) (l : ℕ × Part) (a : ℕ) → a ≤ length ls → l.0 < suc a → ((j : ℕ) (e : ℕ × Part) → j < a → (get_or ls j e).0 < suc a)
+pub fold_inserted : (ls : List (ℕ × Part)) (l : ℕ × Part) (a : ℕ) → a ≤ length ls → l.0 < suc a → ((j : ℕ) (e : ℕ × Part) → j < a → (get_or ls j e).0 < suc a)
     → fold path_after ([] ∷ []) (map (later_link (suc a)) (insert ls a l)) ≡ insert (fold path_after ([] ∷ []) ls) (suc a) (get_or (fold path_after ([] ∷ []) ls) l.0 [] ++ l.1 ∷ [])
 unfolding later_link
 fold_inserted ls l a within up low =
@@ -102,7 +102,7 @@ never_at at a is = elim (cases_lt a at) [
   | inr high ↦ absurd (omega (arith, is, later_high at a high))
 ]
 
-children_later : (at n i : ℕ) (ls : List (ℕ × Part)) → children_from n (later_number at i) (map (later_link at) ls) ≡ children_from n i ls
+pub children_later : (at n i : ℕ) (ls : List (ℕ × Part)) → children_from n (later_number at i) (map (later_link at) ls) ≡ children_from n i ls
 unfolding later_link
 children_later at n i [] = refl
 children_later at n i (l ∷ ls) =
@@ -118,7 +118,7 @@ children_of_new at n (l ∷ ls) =
     let rest : List ℕ = children_from (n + 1) at (map (later_link at) ls) in
     ap (λ b. cond b (n ∷ rest) rest) (ne_eqb (later_number at l.0) at (never_at at l.0)) ∙ children_of_new at (n + 1) ls
 
-children_append : (n i : ℕ) (ls ks : List (ℕ × Part)) (m : ℕ) → n + length ls ≡ m → children_from n i (ls ++ ks) ≡ children_from n i ls ++ children_from m i ks
+pub children_append : (n i : ℕ) (ls ks : List (ℕ × Part)) (m : ℕ) → n + length ls ≡ m → children_from n i (ls ++ ks) ≡ children_from n i ls ++ children_from m i ks
 children_append n i [] ks m is = ap (λ k. children_from k i ks) (let e : n ≡ m = omega arith in e)
 children_append n i (l ∷ ls) ks m is =
     let more = children_append (n + 1) i ls ks m (omega arith) in
@@ -128,7 +128,7 @@ children_append n i (l ∷ ls) ks m is =
       | false ↦ more
     ]
 
-map_cond : (f : ℕ → ℕ) (b : Bool) (n m : ℕ) (xs ys : List ℕ) → f n ≡ m → map f xs ≡ ys → map f (cond b (n ∷ xs) xs) ≡ cond b (m ∷ ys) ys
+pub map_cond : (f : ℕ → ℕ) (b : Bool) (n m : ℕ) (xs ys : List ℕ) → f n ≡ m → map f xs ≡ ys → map f (cond b (n ∷ xs) xs) ≡ cond b (m ∷ ys) ys
 map_cond f true n m xs ys e more = ap (λ (k : ℕ). k ∷ map f xs) e ∙ ap (λ (ks : List ℕ). m ∷ ks) more
 map_cond f false n m xs ys e more = more
 

@@ -15,5 +15,6 @@ pub mod Renumbering
 pub mod Stored
 pub mod Tree
 pub mod Moved
+pub mod Removed
 pub mod Inserted
 pub use Rattle.keep_path.specs.Path

@@ -5,7 +5,7 @@ use Rattle.keep_path.specs.Path.{Part}
 use Rattle.keep_path.specs.NodeInfos.{NodeInfos, no_info, root_infos}
 use Rattle.keep_index_store.specs.AllNodes.{Node}
 use Rattle.keep_index_store.specs.Stored.{trie_of, infos_of}
-use Rattle.keep_index_store.specs.Trie.{TrieNode, Holding, paths_of, path_at}
+use Rattle.keep_index_store.specs.Trie.{TrieNode, Holding, by_key, children_of, holds_at, parent_at, paths_of, path_at}
 
 -- the nodes, each with its step, and the facts about each
 pub record TrieInfos : Type 0 where
@@ -35,3 +35,9 @@ pub record IsRoot (h : Holding) (t : TrieInfos) : Type 0 where
 abbrev pub IsChild : List TrieNode → ℕ → Part → Option ℕ → Type 0
 IsChild nodes id part None = Contains (paths_of nodes) (path_at nodes id ++ part ∷ []) → ⊥
 IsChild nodes id part (Some child) = (child < length nodes) × (path_at nodes child ≡ path_at nodes id ++ part ∷ [])
+
+-- a node is a child by key, and has no children
+pub record IsKeyLeaf (nodes : List TrieNode) (id : ℕ) : Type 0 where
+  pub later : 0 < id
+  pub bare : children_of nodes id ≡ []
+  pub keyed : holds_at nodes (parent_at nodes id) ≡ by_key

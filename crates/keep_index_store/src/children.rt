@@ -2,15 +2,19 @@
 ghost use Rattle.std.specs.Prelude.{◌≡◌, ◌<◌, ◌-◌, ◌∷◌, [], None, OnErr, OnOk, IfOk, IfSome, IfNone};
 ghost use Rattle.std.specs.Prelude.{length, option_copied, option_map, slice_get, slice_index_or};
 ghost use Rattle.std.specs.Bool.{Decides};
+ghost use Rattle.std.specs.List.{remove};
 ghost use Rattle.keep_index_store.specs.AllNodes.{and_key, and_item, with_key};
 ghost use Rattle.keep_index_store.specs.ChildForms.{children_in};
 ghost use Rattle.keep_index_store.specs.Children.{Keyed, holding, no_children, holds_of, named, child_ids, child_named};
 ghost use Rattle.keep_index_store.specs.Children.{child_numbered};
 ghost use Rattle.keep_index_store.specs.Moved.{CanMove, moved_children, with_last_at};
+ghost use Rattle.keep_index_store.specs.Removed.{HasNoItem, earlier_children};
 ghost use Rattle.keep_index_store.specs.Trie.{by_key, by_index};
 
 use crate::key_map::KeyMap;
 use crate::moved::{number_then, renumber_all};
+use crate::removed::renumber_earlier;
+use crate::renumbering::earlier_number;
 use crate::run;
 use crate::seed::Seed;
 use crate::stored_key::StoredKey;
@@ -261,6 +265,33 @@ impl Children {
             Form::Keys(keys) => keys.renumber(last, at),
             Form::Run { len, first } => *first = run::first_then(*len, *first, last, at),
             Form::Items(items) => renumber_all(items.as_mut_slice(), last, at),
+        }
+    }
+
+    /// Takes away a key and its child. The others stay in their order. It takes no memory.
+    pub fn remove_key(&mut self, number: usize)
+        requires holds { holds_of self.old ≡ by_key }
+        requires within { number < length (named self.old) }
+        ensures { self.new ≡ Keyed (remove (named self.old) number) }
+    {
+        match &mut self.form {
+            Form::OneKey(_) => self.form = Form::NoKeys,
+            Form::Keys(keys) => keys.remove(number),
+            _ => unreachable!(),
+        }
+    }
+
+    /// Gives each child the number that it has once the node `at`, which is no item here, is gone. It takes no memory.
+    pub fn renumber_earlier(&mut self, at: usize)
+        requires { HasNoItem at self.old }
+        ensures { self.new ≡ earlier_children at self.old }
+    {
+        match &mut self.form {
+            Form::Nothing | Form::NoKeys => {}
+            Form::OneKey(only) => only.child = earlier_number(at, only.child),
+            Form::Keys(keys) => keys.renumber_earlier(at),
+            Form::Run { len, first } => *first = run::first_earlier(*len, *first, at),
+            Form::Items(items) => renumber_earlier(items.as_mut_slice(), at),
         }
     }
 }

@@ -1,12 +1,15 @@
 //! The children of a table by their keys.
 ghost use Rattle.std.specs.Prelude.{◌≡◌, ◌<◌, ◌≤◌, ◌+◌, ◌∷◌, ◌++◌, [], None, IfOk, OnErr, OnOk, bytes_eq, false};
 ghost use Rattle.std.specs.Prelude.{All, length, map, option_copied, option_map, slice_get};
+ghost use Rattle.std.specs.List.{remove};
 ghost use Rattle.std.specs.Map.{lookup};
 ghost use Rattle.indexmap.specs.IndexMap.{spare};
 ghost use Rattle.keep_index_store.specs.KeyMaps.{with_key_at};
 ghost use Rattle.keep_index_store.specs.Moved.{moved_number, with_last_at};
+ghost use Rattle.keep_path.specs.NodeInfos as spec;
 
 use crate::moved::number_then;
+use crate::renumbering::earlier_number;
 use crate::seed::Seed;
 use crate::stored_key::StoredKey;
 use indexmap::IndexMap;
@@ -132,6 +135,23 @@ impl KeyMap {
         for number in 0..self.table.len() {
             let child = &mut self.table[number];
             *child = number_then(*child, last, at);
+        }
+    }
+
+    /// Takes away the child of that number and its key. The others stay in their order.
+    pub fn remove(&mut self, number: usize)
+        ensures { self.new ≡ remove self.old number }
+    {
+        self.table.shift_remove_index(number);
+    }
+
+    /// Gives each child the number that it has once the node `at` is gone.
+    pub fn renumber_earlier(&mut self, at: usize)
+        ensures { self.new ≡ map (λ e. (e.0, spec.earlier_number at e.1)) self.old }
+    {
+        for number in 0..self.table.len() {
+            let child = &mut self.table[number];
+            *child = earlier_number(at, *child);
         }
     }
 }

@@ -8,6 +8,7 @@ mod links;
 mod moved;
 mod nodes;
 mod packed;
+mod removed;
 mod renumbering;
 mod run;
 mod seed;

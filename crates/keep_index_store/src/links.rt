@@ -1,9 +1,11 @@
 //! The parent links of the nodes, in as few bytes as the numbers allow.
 ghost use Rattle.std.specs.Prelude.{◌≡◌, ◌≤◌, ◌<◌, ◌^◌, ◌++◌, ◌∷◌, [], length, max, slice_get, IfSome, OnOk, OnErr};
 ghost use Rattle.std.specs.Prelude.{◌-◌, ℕ, All, None, Some, false, map, take, true};
-ghost use Rattle.keep_index_store.specs.Links.{IsSmall, link_of};
+ghost use Rattle.std.specs.List.{remove};
+ghost use Rattle.keep_index_store.specs.Links.{FitsIn32Bits, IsSmall, link_of};
 ghost use Rattle.keep_index_store.specs.Moved.{moved_link, moved_number, with_last_at};
-ghost use Rattle.keep_path.specs.NodeInfos.{later_number};
+ghost use Rattle.keep_index_store.specs.Removed.{earlier_link};
+ghost use Rattle.keep_path.specs.NodeInfos.{earlier_number, later_number};
 
 use crate::moved::move_last_to;
 use std::alloc::{AllocError, Global};
@@ -49,16 +51,17 @@ impl Model for ParentLinks {
 
     ghost Value = { List ParentLink };
 
-    ghost use Rattle.keep_index_store.specs.Links.{StartsLarge};
+    ghost use Rattle.keep_index_store.specs.Links.{AreStored};
 
     ghost view = { λ h. links_in h.packed.items h.unpacked.items };
 
-    ghost invariant = { λ h. StartsLarge h.unpacked.items };
+    ghost invariant = { λ h. AreStored h.packed.items h.unpacked.items };
 }
 
 /// The link in 8 bytes, if both numbers fit.
 fn packed_link(link: ParentLink) -> Option<PackedLink>
     ensures packed { IfSome result (λ small. link_of small ≡ link) }
+    ensures fits { IfSome result (λ small. FitsIn32Bits (link_of small)) }
     ensures large { result ≡ None → 2 ^ 32 ≤ max link.parent link.number }
 {
     Some(PackedLink {
@@ -129,6 +132,41 @@ fn move_last_link(links: &mut [PackedLink], place: NewPlace)
     move_last_to(links, place.at);
 }
 
+/// A number of a parent, or of a child, once that at `at` is gone.
+fn earlier(number: u32, at: usize) -> u32
+    ensures { result ≡ earlier_number at number }
+{
+    if at < number as usize {
+        number - 1
+    } else {
+        number
+    }
+}
+
+/// The link once the node `at` is gone, which had the link `gone`.
+fn link_without(link: PackedLink, at: usize, gone: ParentLink) -> PackedLink
+    ensures { link_of result ≡ earlier_link at gone (link_of link) }
+{
+    let parent = earlier(link.parent, at);
+    if link.parent as usize != gone.parent {
+        return PackedLink {
+            parent,
+            number: link.number,
+        };
+    }
+    let number = earlier(link.number, gone.number);
+    PackedLink { parent, number }
+}
+
+/// Gives each link the numbers that it has then.
+fn renumber_earlier(links: &mut [PackedLink], at: usize, gone: ParentLink)
+    ensures { map link_of links.new ≡ map (earlier_link at gone) (map link_of links.old) }
+{
+    for link in links.iter_mut() {
+        *link = link_without(*link, at, gone);
+    }
+}
+
 impl ParentLinks {
     /// No links yet.
     pub fn new(alloc: Global) -> ParentLinks
@@ -189,5 +227,25 @@ impl ParentLinks {
         ensures { (none : ParentLink) → self.new ≡ map (moved_link place) (with_last_at none self.old place.at) }
     {
         move_last_link(self.packed.as_mut_slice(), place);
+    }
+
+    /// Whether both numbers of each link are stored in 32 bits.
+    pub fn is_packed(&self) -> bool
+        ensures { result ≡ true → All FitsIn32Bits self.now }
+    {
+        self.unpacked.is_empty()
+    }
+
+    /// Takes away the link of a node, and gives each other the numbers that it has then. It takes no memory.
+    pub fn remove(&mut self, at: usize) -> ParentLink
+        requires small { All FitsIn32Bits self.old }
+        requires within { at < length self.old }
+        ensures gone { slice_get self.old at ≡ Some result }
+        ensures others { self.new ≡ remove (map (earlier_link at result) self.old) at }
+    {
+        let gone = self.get(at);
+        renumber_earlier(self.packed.as_mut_slice(), at, gone);
+        self.packed.remove(at);
+        gone
     }
 }

@@ -43,7 +43,7 @@ fn later_number(at: usize, number: usize) -> Option<usize>
 
 /// What a number is once that at `at` is gone.
 #[inline(always)]
-fn earlier_number(at: usize, number: usize) -> usize
+pub(crate) fn earlier_number(at: usize, number: usize) -> usize
     ensures { result ≡ spec.earlier_number at number }
 {
     if at < number { number - 1 } else { number }

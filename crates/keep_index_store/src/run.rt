@@ -1,9 +1,11 @@
 //! Runs: children whose numbers are consecutive, stored as how many they are and the first of them.
 ghost use Rattle.std.specs.Prelude.{◌≡◌, ◌≤◌, ◌<◌, ◌+◌, ◌-◌, ◌^◌, ◌++◌, ◌∷◌, [], IfNone, IfOk, IfSome, IsSome};
-ghost use Rattle.std.specs.Prelude.{map, slice_get, slice_index_or};
+ghost use Rattle.std.specs.Prelude.{◌≢◌, All, map, slice_get, slice_index_or};
+ghost use Rattle.keep_path.specs.NodeInfos as spec;
 ghost use Rattle.keep_index_store.specs.Moved.{IsApart, moved_number};
 ghost use Rattle.keep_index_store.specs.Runs.{consecutive};
 
+use crate::renumbering::earlier_number;
 use std::alloc::{AllocError, Global};
 
 /// The run with one child more, if that is still a run: if the child is the next node, or the first child.
@@ -80,4 +82,15 @@ pub fn first_then(len: u32, first: usize, last: usize, at: usize) -> usize
     } else {
         first
     }
+}
+
+/// The first child of a run once the node `at`, which is no child of it, is gone. All children come before that node,
+/// or all after it, so the run stays a run.
+pub fn first_earlier(len: u32, first: usize, at: usize) -> usize
+    requires fits { first + len ≤ 2 ^ 64 }
+    requires apart { All (λ id. id ≢ at) (consecutive first len) }
+    ensures run { consecutive result len ≡ map (spec.earlier_number at) (consecutive first len) }
+    ensures fits { result + len ≤ 2 ^ 64 }
+{
+    earlier_number(at, first)
 }

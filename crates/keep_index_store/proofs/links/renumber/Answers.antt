@@ -1,5 +1,6 @@
 use Rattle.std.proofs.Common.{◌<◌, length, arith, sym, subst}
 use Rattle.keep_index_store.specs.declared.links.PackedLink.{PackedLink}
+use Rattle.keep_index_store.specs.Moved.{moved_link}
 use Rattle.keep_index_store.proofs.MovedLinkLemmas.{link_same, links_more, rest_more}
 use Rattle.keep_index_store.proofs.links.renumber.Goals as goal
 
@@ -13,8 +14,8 @@ pub loop-link-preserved : goal.loop-link-preserved
 loop-link-preserved c =
     let d : PackedLink = record { parent = 0; number = 0 } in
     let low : c.loop-link.link-index < length c.args.links.now = omega (arith, c.loop-link-test.true) in (
-      links_more c.args.place c.args.links.now c.loop-link.links c.loop-link.link-index c.renumber_link.new.link d low
-          c.loop-link.invariant.0 c.renumber_link.ensures,
+      links_more (moved_link c.args.place) c.args.links.now c.loop-link.links c.loop-link.link-index
+          c.renumber_link.new.link d low c.loop-link.invariant.0 c.renumber_link.ensures,
       rest_more c.args.links.now c.loop-link.links c.loop-link.link-index c.renumber_link.new.link
           c.loop-link.invariant.1,
     )

@@ -1,24 +1,57 @@
 -- All links are packed, since all are small.
-use Rattle.std.proofs.Common.{◌∙◌, List, All, ap, arith, length, map, subst, sym}
+use Rattle.std.proofs.Common.{◌≡◌, ◌∙◌, List, All, ap, arith, length, map, subst, sym}
 use Rattle.std.proofs.lemmas.List.{append-nil, length-map, with_items_is}
 use Rattle.keep_index_store.specs.declared.links.PackedLink.{PackedLink}
-use Rattle.keep_index_store.specs.Links.{IsSmall, link_of, links_in}
+use Rattle.keep_index_store.specs.declared.links.ParentLink.{ParentLink}
+use Rattle.keep_index_store.specs.Links.{FitsIn32Bits, IsSmall, link_of, links_in}
 use Rattle.keep_index_store.specs.Moved.{moved_link, with_last_at}
-use Rattle.keep_index_store.proofs.MovedLinkLemmas.{each_small, none_unpacked, packed_seen}
+use Rattle.keep_index_store.proofs.MovedLinkLemmas.{each_small, last_fit, none_unpacked, packed_seen, seen_fit}
 use Rattle.keep_index_store.proofs.links.ParentLinks.move_last.Goals as goal
 
 pub move_last_link-requires-clause-grows : goal.move_last_link-requires-clause-grows
 move_last_link-requires-clause-grows c =
     subst (λ (hs : List PackedLink). All (λ h. IsSmall (link_of h)) hs) (sym c.as_mut_slice.ensures.value)
-    (each_small _ _ _ c.self.view_is c.self.invariant c.requires.small)
+    (each_small _ _ _ c.self.view_is c.self.invariant.large c.requires.small)
 
 pub move_last_link-requires-clause-within : goal.move_last_link-requires-clause-within
 move_last_link-requires-clause-within c =
-    omega (arith, c.requires.within, ap length (packed_seen c.self.inside.packed.items c.self.inside.unpacked.items c.args.self.now c.self.view_is c.self.invariant c.requires.small), length-map c.self.inside.packed.items link_of, ap length c.as_mut_slice.ensures.value)
+    let packed : List PackedLink = c.self.inside.packed.items in
+    let seen = packed_seen packed _ _ c.self.view_is c.self.invariant.large c.requires.small in
+    omega (arith, c.requires.within, ap length seen, length-map packed link_of, ap length c.as_mut_slice.ensures.value)
+
+-- the packed links then, and as links
+same : (c : goal.After-self-1) → map link_of c.as_mut_slice.result.now ≡ c.args.self.now
+same c =
+    ap (map link_of) c.as_mut_slice.ensures.value
+    ∙ packed_seen _ _ _ c.self.view_is c.self.invariant.large c.requires.small
+
+next : (c : goal.After-self-1) (none : ParentLink)
+    → map link_of c.move_last_link.new.links
+    ≡ map (moved_link c.args.place) (with_last_at none c.args.self.now c.args.place.at)
+next c none =
+    c.move_last_link.ensures none
+    ∙ ap (λ hs. map (moved_link c.args.place) (with_last_at none hs c.args.place.at)) (same c)
+
+pub invariant_of-self : goal.invariant_of-self
+invariant_of-self c =
+    let none : ParentLink = record { parent = 0; number = 0 } in
+    let links : List PackedLink = c.move_last_link.new.links in
+    let many = ap length c.as_mut_slice.ensures.value in record {
+      fit =
+          subst (λ (hs : List PackedLink). All (λ h. FitsIn32Bits (link_of h)) hs)
+          (sym (with_items_is c.self.inside.packed links
+          (omega (arith, c.move_last_link.auto.links, many, c.self.inside.packed.ok.0))))
+          (seen_fit links _ (next c none)
+          (last_fit c.args.place c.args.self.now none c.requires.order c.requires.within c.requires.small));
+      large = c.self.invariant.large;
+    }
 
 pub returns : goal.returns
 returns c last =
     let links : List PackedLink = c.move_last_link.new.links in
-    ap (λ hs. links_in hs c.self.inside.unpacked.items) (with_items_is c.self.inside.packed links (omega (arith, c.move_last_link.auto.links, ap length c.as_mut_slice.ensures.value, c.self.inside.packed.ok.0)))
-    ∙ ap (links_in links) (none_unpacked _ _ _ c.self.view_is c.self.invariant c.requires.small) ∙ append-nil (map link_of links) ∙ c.move_last_link.ensures last
-    ∙ ap (λ hs. map (moved_link c.args.place) (with_last_at last hs c.args.place.at)) (ap (map link_of) c.as_mut_slice.ensures.value ∙ packed_seen _ _ _ c.self.view_is c.self.invariant c.requires.small)
+    let many = ap length c.as_mut_slice.ensures.value in
+    ap (λ hs. links_in hs c.self.inside.unpacked.items)
+    (with_items_is c.self.inside.packed links
+    (omega (arith, c.move_last_link.auto.links, many, c.self.inside.packed.ok.0)))
+    ∙ ap (links_in links) (none_unpacked _ _ _ c.self.view_is c.self.invariant.large c.requires.small)
+    ∙ append-nil (map link_of links) ∙ next c last
