@@ -7,6 +7,7 @@ pub mod KeyMapLemmas
 pub mod NodeRowLemmas
 pub mod StoredLemmas
 pub mod BothLemmas
+pub mod JoinedLemmas
 pub mod ChildLemmas
 pub mod TreeLemmas
 pub mod PackedLemmas

@@ -16,5 +16,6 @@ pub mod Stored
 pub mod Tree
 pub mod Moved
 pub mod Removed
+pub mod Joined
 pub mod Inserted
 pub use Rattle.keep_path.specs.Path

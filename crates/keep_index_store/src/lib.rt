@@ -18,4 +18,4 @@ mod tree;
 pub use children::Holds;
 pub use facts::{NodeFacts, OriginKind};
 pub use renumbering::LineNumbers;
-pub use tree::{NotInPlace, Tree};
+pub use tree::{Join, NotInPlace, Tree};

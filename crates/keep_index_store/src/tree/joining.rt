@@ -1,0 +1,91 @@
+//! The tree where a header comes at the end: it goes through nodes that are there, and one node is new.
+ghost use Rattle.std.specs.Prelude.{◌≡◌, ◌<◌, ◌∷◌, ◌++◌, [], Contains, IfOk, OnErr, OnOk, length, None, Some};
+ghost use Rattle.std.specs.List.{AllByRecursion};
+ghost use Rattle.keep_index_store.specs.Children.{holding};
+ghost use Rattle.keep_index_store.specs.Facts.{info_of};
+ghost use Rattle.keep_index_store.specs.Growth.{Grows};
+ghost use Rattle.keep_index_store.specs.Joined.{AreAscending, AreJoined, HasRole, joined_all, with_all_infos};
+ghost use Rattle.keep_index_store.specs.Trie.{by_index, by_key, children_of, holds_at, path_at, paths_of};
+ghost use Rattle.keep_path.specs.Path.{key, index};
+
+use super::Tree;
+use crate::children::Holds;
+use crate::facts::NodeFacts;
+use crate::packed::PackedFacts;
+use keep_types::Role;
+use std::alloc::AllocError;
+
+/// The facts from one more mention of the node `id`.
+#[derive(Clone, Copy)]
+pub struct Join {
+    pub id: usize,
+    pub facts: NodeFacts,
+}
+
+impl Tree {
+    /// Joins these facts to those of their nodes, whose roles stay, and adds a new node below a table, where no node
+    /// has its path yet. If memory runs out, nothing is changed.
+    pub fn join_and_add_key(
+        &mut self,
+        joins: &[Join],
+        parent: usize,
+        text: &str,
+        role: Role,
+        facts: NodeFacts,
+        holds: Holds,
+    ) -> Result<usize, AllocError>
+        requires joins { AreAscending 0 (length self.old.trie) joins.now }
+        requires parent { (parent < length self.old.trie) × (holds_at self.old.trie parent ≡ by_key) }
+        requires fresh { Contains (paths_of self.old.trie) (path_at self.old.trie parent ++ key text.now ∷ []) → ⊥ }
+        ensures grows { OnOk result (Grows self.old.trie self.new.trie parent
+            (path_at self.old.trie parent ++ key text.now ∷ []) (Some role) (holding holds)) }
+        ensures infos { OnOk result (self.new.infos ≡ joined_all self.old.infos joins.now ++ info_of facts ∷ []) }
+        ensures refused { OnErr result (self.new ≡ self.old) }
+    {
+        let joined = self.joined_all(joins)?;
+        let id = self.add_key(parent, text, role, facts, holds)?;
+        self.set_all(joined);
+        Ok(id)
+    }
+
+    /// Joins these facts to those of their nodes, whose roles stay, and adds a new item to an array, or a new element
+    /// to an array of tables, after those that are there. If memory runs out, nothing is changed.
+    pub fn join_and_add_item(
+        &mut self,
+        joins: &[Join],
+        parent: usize,
+        facts: NodeFacts,
+        holds: Holds,
+    ) -> Result<usize, AllocError>
+        requires joins { AreAscending 0 (length self.old.trie) joins.now }
+        requires parent { (parent < length self.old.trie) × (holds_at self.old.trie parent ≡ by_index) }
+        ensures grows { OnOk result (Grows self.old.trie self.new.trie parent
+            (path_at self.old.trie parent ++ index (length (children_of self.old.trie parent)) ∷ []) None
+            (holding holds)) }
+        ensures infos { OnOk result (self.new.infos ≡ joined_all self.old.infos joins.now ++ info_of facts ∷ []) }
+        ensures refused { OnErr result (self.new ≡ self.old) }
+    {
+        let joined = self.joined_all(joins)?;
+        let id = self.add_item(parent, facts, holds)?;
+        self.set_all(joined);
+        Ok(id)
+    }
+
+    /// The joined facts of each of these nodes, with its number. The only error is out of memory.
+    fn joined_all(&self, joins: &[Join]) -> Result<Vec<(usize, PackedFacts)>, AllocError>
+        requires { AreAscending 0 (length self.now.trie) joins.now }
+        ensures roles { IfOk result (λ all. AllByRecursion (HasRole self.now.trie) all.items) }
+        ensures infos { IfOk result (λ all. AreJoined self.now.infos joins.now all.items) }
+    {
+        self.nodes.joined_all(joins)
+    }
+
+    /// Gives each of these nodes those facts in place of its own; its role stays. It takes no memory.
+    fn set_all(&mut self, all: Vec<(usize, PackedFacts)>)
+        requires { AllByRecursion (HasRole self.old.trie) all.items }
+        ensures same { self.new.trie ≡ self.old.trie }
+        ensures infos { self.new.infos ≡ with_all_infos self.old.infos all.items }
+    {
+        self.nodes.set_all(all);
+    }
+}
