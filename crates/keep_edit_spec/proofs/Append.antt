@@ -5,3 +5,4 @@ pub mod AppendElement
 pub mod HeaderConflict
 pub mod HeaderMarks
 pub mod AppendPlace
+pub mod AppendAddsStatement

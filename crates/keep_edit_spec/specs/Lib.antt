@@ -9,6 +9,7 @@ pub mod Answers
 pub mod TouchedLines
 pub mod Laws
 pub mod KeyvalLines
+pub mod AppendedStatements
 pub mod Removal
 pub mod Insertion
 pub mod TextEnds

@@ -1,4 +1,5 @@
 //! Laws of the edits, each the contract of a function that does nothing.
+ghost use Rattle.keep_edit_spec.specs.AppendedStatements as headers;
 ghost use Rattle.keep_edit_spec.specs.KeyvalLines as keyvals;
 ghost use Rattle.keep_edit_spec.specs.Laws as spec;
 ghost use Rattle.keep_edit_spec.specs.TouchedLines as touched;
@@ -67,4 +68,11 @@ pub fn insert_adds_line()
 /// A `remove` of such a line gives a document of which the old one has one line more, if the old one obeys the rules.
 pub fn remove_takes_line()
     ensures { keyvals.RemoveTakesLine }
+{}
+
+/// An `append_table` or an `append_element` that is not refused gives a document with one statement more, as its last:
+/// the header with these keys, which are in UTF-8.
+pub fn append_adds_statement()
+    ensures table { headers.AppendTableAddsStatement }
+    ensures element { headers.AppendElementAddsStatement }
 {}

@@ -5,6 +5,7 @@ pub mod Meaning
 pub mod Counts
 pub mod Nodes
 pub mod LinesMore
+pub mod StatementsMore
 pub mod Faults
 pub mod ReadText
 pub mod Laws

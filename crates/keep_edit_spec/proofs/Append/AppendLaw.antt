@@ -12,7 +12,7 @@ use Rattle.keep_edit_spec.proofs.Common.PutLines.{put_mentions}
 use Rattle.keep_edit_spec.proofs.Common.LineLaws.{lines_mentions-append}
 
 -- a line without leaves is blank
-blank_by : (before after' : Gap) (comment : Option Written) (c : Content) → is_empty (record { before = before; content = c; after = after'; comment = comment }) ≡ true → c ≡ blank
+pub blank_by : (before after' : Gap) (comment : Option Written) (c : Content) → is_empty (record { before = before; content = c; after = after'; comment = comment }) ≡ true → c ≡ blank
 blank_by before after' comment blank h = refl
 blank_by (w ∷ g) after' comment (keyval n v) h = absurd cc
 blank_by [] after' comment (keyval n v) h = absurd cc
@@ -57,10 +57,10 @@ none_silent = record { kind = λ r. refl; reads = λ r. refl }
 last_silent : (l : Line) → is_empty l ≡ true → IsSilent (l ∷ [])
 last_silent l h = record { kind = λ r. append-nil (line_mentions r l) ∙ empty_mentions r l h; reads = λ r. empty_reads r l h }
 
-drop_last : (es : List Ended) (last : Line) → drop (length es) (map line_of es ++ last ∷ []) ≡ last ∷ []
+pub drop_last : (es : List Ended) (last : Line) → drop (length es) (map line_of es ++ last ∷ []) ≡ last ∷ []
 drop_last es last = ap (λ n. drop n (map line_of es ++ last ∷ [])) (sym (length-map es line_of)) ∙ drop-append_seam (map line_of es) (last ∷ [])
 
-drop_all : (es : List Ended) (last : Line) → drop (suc (length es)) (map line_of es ++ last ∷ []) ≡ []
+pub drop_all : (es : List Ended) (last : Line) → drop (suc (length es)) (map line_of es ++ last ∷ []) ≡ []
 drop_all [] last = refl
 drop_all (e ∷ es) last = drop_all es last
 
