@@ -38,6 +38,7 @@ mod AloneLemmas
 mod NestedLemmas
 mod PutLemmas
 mod LineNestedLaws
+mod StatementToldLaws
 pub mod LinePlaceLemmas
 mod DocumentLemmas
 mod RefusalLaws

@@ -21,6 +21,7 @@ pub mod ReadStatements
 pub mod Outcomes
 pub mod Nested
 pub mod LinesNested
+pub mod StatementsTold
 pub mod LinePlaces
 pub mod ReadDocuments
 pub mod ValueTexts

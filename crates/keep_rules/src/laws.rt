@@ -1,5 +1,6 @@
-//! Laws of how nodes are nested, each the contract of a function that does nothing.
+//! Laws of the nodes where a line or a header is more, each the contract of a function that does nothing.
 ghost use Rattle.keep_rules.specs.LinesNested as spec;
+ghost use Rattle.keep_rules.specs.StatementsTold as told;
 
 /// With one line more, a keyval of one key part with a new path and with nothing in its value, the nodes of a document
 /// that obeys the definition rules are nested as its headers say, if those of the document without it are; and back, if
@@ -7,4 +8,10 @@ ghost use Rattle.keep_rules.specs.LinesNested as spec;
 pub fn line_nested()
     ensures nested { spec.LineIsNested }
     ensures left { spec.LineLeavesNested }
+{}
+
+/// With one header more, as the last statement, the facts about the nodes of a document are those of the document
+/// without it, with what the header says. The key parts are fewer than 2^64, as in a text that was read.
+pub fn statement_told()
+    ensures { told.StatementIsTold }
 {}
