@@ -27,7 +27,7 @@ use Rattle.keep_meaning.proofs.NamedLemmas.{Fits, Says, SomeOf, ends, some_left}
 
 -- ---- what is said of one path
 
-some_any : (P : Mention → Type 0) (q : List Part) → ((m : Mention) → P m → m.path ≡ q) → (ms : List Mention) → SomeOf P ms → list_any (is_at q) ms ≡ true
+pub some_any : (P : Mention → Type 0) (q : List Part) → ((m : Mention) → P m → m.path ≡ q) → (ms : List Mention) → SomeOf P ms → list_any (is_at q) ms ≡ true
 some_any P q at [] h = absurd h
 some_any P q at (m ∷ ms) (inl h) = or_left (is_at q m) (list_any (is_at q) ms) ((path_decides m.path q).1 (at m h))
 some_any P q at (m ∷ ms) (inr h) = or_right (is_at q m) (list_any (is_at q) ms) (some_any P q at ms h)
@@ -43,7 +43,7 @@ role_marked begun r h = absurd cc
 role_marked passed r h = absurd cc
 role_marked (item f) r h = absurd cc
 
-said_ends : (r : Role) (q : List Part) (ms : List Mention) → AllOf Fits ms → SomeOf (Says r q) ms → ends q ≡ Some true
+pub said_ends : (r : Role) (q : List Part) (ms : List Mention) → AllOf Fits ms → SomeOf (Says r q) ms → ends q ≡ Some true
 said_ends r q [] f h = absurd h
 said_ends r q (m ∷ ms) f (inl h) = ap ends (sym h.1) ∙ f.0 ∙ ap Some (role_marked m.kind r h.0)
 said_ends r q (m ∷ ms) f (inr h) = said_ends r q ms f.1 h

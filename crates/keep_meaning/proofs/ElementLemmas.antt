@@ -44,7 +44,7 @@ whole_path [] x h = absurd cc
 whole_path (a ∷ []) x h = let one : a ≡ x = cc in ap (λ (y : Part). y ∷ []) one
 whole_path (a ∷ b ∷ p) x h = ap (λ (q : List Part). a ∷ q) (whole_path (b ∷ p) x h)
 
-reached_pushed : (tables : List (List Part)) (q : List Part) (n : ℕ) → is_reached tables (q ++ index n ∷ []) ≡ nat_lt n (elements_of q tables)
+pub reached_pushed : (tables : List (List Part)) (q : List Part) (n : ℕ) → is_reached tables (q ++ index n ∷ []) ≡ nat_lt n (elements_of q tables)
 reached_pushed tables q n = ap₂ (reached_at tables) (without_pushed q (index n)) (last_pushed q (index n))
 
 -- none is there before the first `[[..]]` line
@@ -157,7 +157,7 @@ prefixes_on_way tables at (k ∷ l ∷ ks) =
     all_join (IsOnWay tables) (passing_mentions tables path) (header_prefixes tables (entered_path tables path) (l ∷ ks))
     (passing_on_way tables path (key_ends at k)) (prefixes_on_way tables (entered_path tables path) (l ∷ ks))
 
-header_ends : (tables : List (List Part)) (at : List Part) (k : List ℕ) (ks : List (List ℕ)) → ends (header_path tables at (k ∷ ks)) ≡ Some true
+pub header_ends : (tables : List (List Part)) (at : List Part) (k : List ℕ) (ks : List (List ℕ)) → ends (header_path tables at (k ∷ ks)) ≡ Some true
 header_ends tables at k [] = key_ends at k
 header_ends tables at k (l ∷ ks) = header_ends tables (entered_path tables (at ++ key k ∷ [])) l ks
 

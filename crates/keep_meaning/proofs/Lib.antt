@@ -21,4 +21,5 @@ pub mod MetLineLemmas
 pub mod LineLaws
 pub mod LineFoundLaws
 pub mod BodyLaws
+pub mod HeaderLaws
 pub mod Shared

@@ -38,14 +38,14 @@ use Rattle.keep_rules.proofs.NodeInfoLemmas.{node_joined}
 same_self : (p : List Part) → same_path p p ≡ true
 same_self p = (path_decides p p).1 refl
 
-met_own : (paths : List (List Part)) (p : List Part) → list_any (same_path p) (paths_with paths p) ≡ true
+pub met_own : (paths : List (List Part)) (p : List Part) → list_any (same_path p) (paths_with paths p) ≡ true
 met_own paths p =
     (elim (list_any (same_path p) paths) as (λ b. list_any (same_path p) paths ≡ b → list_any (same_path p) (cond b paths (paths ++ p ∷ [])) ≡ true) [
       | true ↦ λ is. is
       | false ↦ λ is. list_any-append (same_path p) paths (p ∷ []) ∙ ap (λ b. b || list_any (same_path p) (p ∷ [])) is ∙ ap (λ b. b || false) (same_self p)
     ]) refl
 
-met_with : (paths : List (List Part)) (p q : List Part) → list_any (same_path p) paths ≡ true → list_any (same_path p) (paths_with paths q) ≡ true
+pub met_with : (paths : List (List Part)) (p q : List Part) → list_any (same_path p) paths ≡ true → list_any (same_path p) (paths_with paths q) ≡ true
 met_with paths p q met =
     elim (list_any (same_path q) paths) as (λ b. list_any (same_path p) (cond b paths (paths ++ q ∷ [])) ≡ true) [
       | true ↦ met

@@ -39,6 +39,8 @@ mod NestedLemmas
 mod PutLemmas
 mod LineNestedLaws
 mod StatementToldLaws
+mod NestedGrowthLemmas
+mod StatementNestedLaws
 pub mod LinePlaceLemmas
 mod DocumentLemmas
 mod RefusalLaws

@@ -36,16 +36,16 @@ use Rattle.keep_rules.proofs.NestedLemmas.{enters}
 use Rattle.keep_rules.proofs.PutLemmas.{filter_get, filter_put, filter_some, number_put}
 use Rattle.keep_rules.proofs.ReadLemmas.{mentions_from-append}
 
-differ : (b : Bool) → b ≡ true → b ≡ false → ⊥
+pub differ : (b : Bool) → b ≡ true → b ≡ false → ⊥
 differ true h g = cc
 differ false h g = cc
 
-reading_after-append : (r : Reading) (ss ts : List Statement) → reading_after r (ss ++ ts) ≡ reading_after (reading_after r ss) ts
+pub reading_after-append : (r : Reading) (ss ts : List Statement) → reading_after r (ss ++ ts) ≡ reading_after (reading_after r ss) ts
 reading_after-append r [] ts = refl
 reading_after-append r (s ∷ ss) ts = reading_after-append (next_reading r s) ss ts
 
 -- what the last step of a longer path is
-snoc_view : (xs : List Part) → (xs ≡ []) ⊎ ((m : List Part) × (x : Part) × (xs ≡ m ++ x ∷ []))
+pub snoc_view : (xs : List Part) → (xs ≡ []) ⊎ ((m : List Part) × (x : Part) × (xs ≡ m ++ x ∷ []))
 snoc_view [] = inl refl
 snoc_view (a ∷ xs) = inr (by (snoc_view xs))
   where
@@ -62,10 +62,10 @@ map_some f None i h = absurd cc
 map_some f (Some n) i h = (n, refl)
 
 -- of a path with a value, no `[[..]]` line may follow
-abbrev kind_of : Mention → MentionKind
+abbrev pub kind_of : Mention → MentionKind
 kind_of m = m.kind
 
-abbrev may_follow : List Role → Bool
+abbrev pub may_follow : List Role → Bool
 may_follow roles = list_all (λ role. allows role Element) roles
 
 not_open : (p : List Part) (f : Fact) (before after : List Mention) → may_follow (mention_roles p (before ++ record { path = p; kind = value f } ∷ after)) ≡ true → ⊥

@@ -7,7 +7,7 @@ use Rattle.std.proofs.lemmas.Bool.{cases_lt, lt-ltb, le-ltb}
 use Rattle.std.proofs.lemmas.List.Elements.{filter-append}
 use Rattle.keep_path.specs.NodeInfos.{later_number}
 
-low_stays : (at n : ℕ) → n < at → later_number at n ≡ n
+pub low_stays : (at n : ℕ) → n < at → later_number at n ≡ n
 low_stays at n low = ap (λ (b : Bool). cond b n (suc n)) (lt-ltb n at low)
 
 -- the first that passes

@@ -4,10 +4,9 @@
 -- give no value to a path that is mentioned before. A header gives none (`header_gives_none`).
 --
 -- Theorem: `statement_is_told`.
-use Rattle.std.proofs.Common.{◌≡◌, ℕ, ◌^◌, ◌<◌, Bool, true, false, cond, List, [], ◌∷◌, ◌++◌, length, map, refl, sym, ap, subst, ◌∙◌, arith, append-nil}
+use Rattle.std.proofs.Common.{◌≡◌, ℕ, ◌^◌, ◌<◌, Bool, true, false, cond, List, [], ◌∷◌, ◌++◌, length, map, refl, sym, ap, ◌∙◌, arith, append-nil}
 use Rattle.std.specs.Prelude.{◌==◌}
 use Rattle.std.specs.List.{AllByRecursion, count_by}
-use Rattle.keep_syntax.specs.Numbered.{parts}
 use Rattle.keep_syntax.specs.Tree.{Document}
 use Rattle.keep_path.specs.NodeInfos.{NodeInfos}
 use Rattle.keep_path.specs.Path.{Part, key}
@@ -15,7 +14,7 @@ use Rattle.keep_meaning.specs.Counts.{Count, Numbered, count_with_mention, is_ma
 use Rattle.keep_meaning.specs.LinesMore.{node_infos}
 use Rattle.keep_meaning.specs.Marks.{Mention, Reading, Statement, element_header, elements_of, entered_path, header, header_prefixes, keyval, marks, passing_mentions, past, passed, start, statement_mentions, through}
 use Rattle.keep_meaning.specs.Nodes.{infos_in, mention_of, node_paths, paths_with}
-use Rattle.keep_meaning.specs.StatementsMore.{HasStatementMore, reading_at_end, said_next}
+use Rattle.keep_meaning.specs.StatementsMore.{reading_at_end, said_next}
 use Rattle.keep_meaning.proofs.Shared.{marked-parts, mentions-numbered_in, numbered_from-append, paths-nodes_in}
 use Rattle.keep_rules.specs.MentionInfos.{ValuesAreNew, with_mentions}
 use Rattle.keep_rules.specs.StatementsTold.{IsHeader, StatementIsTold}

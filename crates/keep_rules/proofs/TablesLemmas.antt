@@ -161,10 +161,10 @@ tables_joined {old = old} {new = new} {parent = parent} {path = path} g plain ts
 }
 
 -- where the tables have one line more
-elements_here : (path : List Part) (ts : List (List Part)) → elements_of path (ts ++ path ∷ []) ≡ elements_of path ts + 1
+pub elements_here : (path : List Part) (ts : List (List Part)) → elements_of path (ts ++ path ∷ []) ≡ elements_of path ts + 1
 elements_here path ts = fold-append (λ (a : ℕ) (t : List Part). a + cond (same_path t path) 1 0) 0 ts (path ∷ []) ∙ ap (λ b. elements_of path ts + cond b 1 0) ((path_decides path path).1 refl)
 
-elements_other : (path other : List Part) (ts : List (List Part)) → (other ≡ path → ⊥) → elements_of path (ts ++ other ∷ []) ≡ elements_of path ts
+pub elements_other : (path other : List Part) (ts : List (List Part)) → (other ≡ path → ⊥) → elements_of path (ts ++ other ∷ []) ≡ elements_of path ts
 elements_other path other ts ne = fold-append (λ (a : ℕ) (t : List Part). a + cond (same_path t path) 1 0) 0 ts (other ∷ []) ∙ ap (λ b. elements_of path ts + cond b 1 0) (false_ne _ (λ t. ne ((path_decides other path).0 t))) ∙ add-zero (elements_of path ts)
 
 -- the element of an array of tables

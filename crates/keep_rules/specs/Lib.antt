@@ -22,6 +22,7 @@ pub mod Outcomes
 pub mod Nested
 pub mod LinesNested
 pub mod StatementsTold
+pub mod StatementsNested
 pub mod LinePlaces
 pub mod ReadDocuments
 pub mod ValueTexts

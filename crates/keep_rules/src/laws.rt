@@ -1,5 +1,6 @@
 //! Laws of the nodes where a line or a header is more, each the contract of a function that does nothing.
 ghost use Rattle.keep_rules.specs.LinesNested as spec;
+ghost use Rattle.keep_rules.specs.StatementsNested as headers;
 ghost use Rattle.keep_rules.specs.StatementsTold as told;
 
 /// With one line more, a keyval of one key part with a new path and with nothing in its value, the nodes of a document
@@ -14,4 +15,10 @@ pub fn line_nested()
 /// without it, with what the header says. The key parts are fewer than 2^64, as in a text that was read.
 pub fn statement_told()
     ensures { told.StatementIsTold }
+{}
+
+/// With one header more, as the last statement, the nodes of a document that obeys the definition rules are nested as
+/// its headers say, if those of the document without it are.
+pub fn statement_nested()
+    ensures { headers.StatementIsNested }
 {}
